@@ -1,0 +1,48 @@
+//! The jobs of `rdfdelta` in plain Rust with std alone, to measure against.
+//!
+//! `plain nquads` reads an N-Quads document and prints its canonical lines, each once, in byte order;
+//! `plain replay` reads a stream of patches of A and D rows with blocks and prints the lines of its dataset.
+//! Both read standard input, check what they read, and stop with status 3 at a fault.
+
+mod nquads;
+mod replay;
+
+use std::io::{self, Read, Write};
+use std::process::ExitCode;
+
+/// Why a text was refused: its kind, and its place in bytes.
+pub struct Fault {
+    pub at: usize,
+    pub kind: &'static str,
+}
+
+fn run(word: &str) -> Result<Vec<u8>, String> {
+    let mut text = Vec::new();
+    io::stdin()
+        .lock()
+        .read_to_end(&mut text)
+        .map_err(|error| error.to_string())?;
+    let made = match word {
+        "nquads" => nquads::canonical(&text),
+        "replay" => replay::lines(&text),
+        _ => return Err("usage: plain nquads|replay".into()),
+    };
+    made.map_err(|fault| {
+        let line = 1 + text[..fault.at].iter().filter(|b| **b == b'\n').count();
+        format!("line {line} byte {}: {}", fault.at, fault.kind)
+    })
+}
+
+fn main() -> ExitCode {
+    let word = std::env::args().nth(1).unwrap_or_default();
+    match run(&word) {
+        Ok(out) => match io::stdout().lock().write_all(&out) {
+            Ok(()) => ExitCode::SUCCESS,
+            Err(_) => ExitCode::from(4),
+        },
+        Err(message) => {
+            eprintln!("plain: {message}");
+            ExitCode::from(3)
+        }
+    }
+}

@@ -1,0 +1,3 @@
+pub mod Chained
+pub mod Tested
+pub mod Only

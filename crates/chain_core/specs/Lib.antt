@@ -1,0 +1,4 @@
+pub mod Links
+pub mod Chain
+pub mod Breaks
+pub mod Tested

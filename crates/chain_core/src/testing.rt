@@ -1,0 +1,107 @@
+//! The test whether patches are a chain, patch by patch.
+ghost use Rattle.std.specs.Prelude.{◌≡◌, ◌+◌, ◌-◌, ◌<◌, ◌^◌, ◌↔◌, List, [], ◌∷◌, ◌++◌, IsTrue, OnOk, OnErr, IfNone, IfSome};
+ghost use Rattle.chain_core.specs.declared.link.Link.{Link};
+ghost use Rattle.chain_core.specs.Links.{IsChain};
+ghost use Rattle.chain_core.specs.Breaks.{Breaks};
+ghost use Rattle.chain_core.specs.Tested.{IsTested};
+
+use crate::link::Link;
+use delta_base::{Id, OutOfMemory};
+use std::alloc::Global;
+use std::collections::BTreeMap;
+
+/// Why patches are no chain.
+#[derive(Clone, Copy, Debug, PartialEq, Eq)]
+pub enum ChainFault {
+    /// Behind `version` patches, of which the last has the id `have`, one names `found` as the one before it.
+    Diverged {
+        version: u32,
+        have: Option<Id>,
+        found: Option<Id>,
+    },
+    /// The patch of this version has the id already.
+    Repeated {
+        id: Id,
+        version: u32,
+    },
+}
+
+/// What is kept of a chain to test the patch behind it.
+#[derive(Debug, Drop)]
+pub struct ChainTest {
+    /// How many patches it has.
+    version: u32,
+    /// The id of the last one.
+    head: Option<Id>,
+    /// The versions by their ids.
+    versions: BTreeMap<u128, u32>,
+}
+
+impl ChainTest {
+    /// The test behind no patch.
+    pub fn new(alloc: Global) -> ChainTest
+        ensures tested { IsTested [] result }
+    {
+        ChainTest {
+            version: 0,
+            head: None,
+            versions: BTreeMap::new(alloc),
+        }
+    }
+
+    /// Tests a patch: first the previous one that it names, then its id.
+    pub fn fault_of(&self, link: Link) -> Option<ChainFault>
+        ensures follows { IfNone result ((links : List Link) → IsTested links self.now → IsChain (links ++ link ∷ [])) }
+        ensures breaks { IfSome result (λ fault. (links more : List Link) → IsTested links self.now → Breaks (links ++ link ∷ more) fault) }
+    {
+        if !is_same(link.prev, self.head) {
+            return Some(ChainFault::Diverged {
+                version: self.version,
+                have: self.head,
+                found: link.prev,
+            });
+        }
+        match self.version_of(link.id) {
+            Some(version) => Some(ChainFault::Repeated {
+                id: link.id,
+                version,
+            }),
+            None => None,
+        }
+    }
+
+    /// Takes a patch that goes on the chain.
+    pub fn push(&mut self, link: Link) -> Result<(), OutOfMemory>
+        requires room { self.old.version < 2 ^ 32 - 1 }
+        ensures ok { OnOk result ((links : List Link) → IsTested links self.old → IsChain (links ++ link ∷ []) → IsTested (links ++ link ∷ []) self.new) }
+        ensures version { OnOk result (self.new.version ≡ self.old.version + 1) }
+        ensures err { OnErr result ((links : List Link) → IsTested links self.old → IsTested links self.new) }
+    {
+        self.versions.insert(link.id.0, self.version + 1)?;
+        self.version += 1;
+        self.head = Some(link.id);
+        Ok(())
+    }
+
+    ghost use Rattle.std.specs.Ordering.{nat_cmp};
+    ghost use Rattle.std.specs.BTreeMap.{get};
+
+    // The version that has an id.
+    fn version_of(&self, id: Id) -> Option<u32>
+        ensures { result ≡ get nat_cmp self.now.versions id.0 }
+    {
+        self.versions.get(&id.0).copied()
+    }
+}
+
+fn is_same(a: Option<Id>, b: Option<Id>) -> bool
+    ensures { IsTrue result ↔ (a ≡ b) }
+{
+    match a {
+        None => b.is_none(),
+        Some(x) => match b {
+            None => false,
+            Some(y) => x.0 == y.0,
+        },
+    }
+}

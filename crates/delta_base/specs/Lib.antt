@@ -1,0 +1,5 @@
+pub mod Counted
+pub mod Ids
+pub mod Listed
+pub mod Outside
+pub mod Memory

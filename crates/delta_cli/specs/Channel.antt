@@ -1,0 +1,16 @@
+-- What is told of bytes that come and go.
+use Rattle.std.specs.Prelude.{◌≡◌, ℕ, ◌<◌, List, ◌++◌, length, Option, Some, None}
+use Rattle.std.specs.Io.KnownBytes.{Appends}
+
+-- a front of the text was appended
+abbrev pub AppendsFront : Option (List ℕ) → Option (List ℕ) → List ℕ → Type 0
+AppendsFront old new text = (front : List ℕ) × (rest : List ℕ) × (text ≡ front ++ rest) × Appends old new front
+
+-- the text was appended but for this rest
+abbrev pub AppendsFirst : Option (List ℕ) → Option (List ℕ) → List ℕ → List ℕ → Type 0
+AppendsFirst old new text rest = (front : List ℕ) × (text ≡ front ++ rest) × Appends old new front
+
+-- what was left is longer
+abbrev pub IsLonger : Option (List ℕ) → ℕ → Type 0
+IsLonger None limit = Unit {0}
+IsLonger (Some text) limit = limit < length text

@@ -1,0 +1,9 @@
+pub mod Past
+pub mod PastLaws
+pub mod Calls
+pub mod Drawer
+pub mod Replay
+pub mod Memory
+pub mod MemoryShelf
+pub mod Plan
+pub mod Shelf

@@ -1,0 +1,148 @@
+//! A shelf in memory, whose listed calls fail.
+ghost use Rattle.std.specs.Prelude.{◌≡◌, ◌↔◌, ℕ, List, [], Some, IfOk, OnOk, OnErr, None, IsErrOf, IsTrue, Contains, unwrap_or, option_map};
+ghost use Rattle.delta_base.specs.Outside.{Rose};
+ghost use Rattle.disk_model.specs.Drawer.{file_in};
+ghost use Rattle.disk_model.specs.Past.{began};
+ghost use Rattle.disk_model.specs.Shelf.{SameOthers};
+ghost use Rattle.disk_model.specs.Memory.{memory_past, memory_mark};
+
+use crate::disk::Disk;
+use crate::drawer::{Drawer, MemFile, find};
+use crate::memory::MemDisk;
+use crate::shelf::{Shelf, ShelfFault};
+use delta_base::{Calls, Text};
+use std::alloc::Global;
+use std::mem;
+
+/// Files in memory.
+#[derive(Drop)]
+pub struct MemShelf {
+    alloc: Global,
+    files: Drawer,
+    failing: Calls,
+    calls: u64,
+    faults: u64,
+}
+
+// A file without bytes.
+fn empty_file(alloc: Global, dir: &Text, number: u32) -> Result<Box<MemFile>, ShelfFault>
+    ensures value { IfOk result (λ file. (file.value.dir ≡ dir.now) × (file.value.number ≡ number) × (file.value.bytes.items ≡ [])) }
+    ensures memory { IsErrOf result ShelfFault.Failed → ⊥ }
+{
+    Ok(Box::new(
+        alloc,
+        MemFile {
+            dir: dir.copy()?,
+            number,
+            bytes: Vec::new(alloc),
+            behind: Drawer::Empty,
+        },
+    )?)
+}
+
+// Puts a file before the others.
+fn put_in(files: &mut Drawer, mut file: Box<MemFile>, bytes: Vec<u8>)
+    ensures front { file_in files.new file.value.dir file.value.number ≡ Some bytes.items }
+    ensures others { SameOthers (Some (file.value.dir, file.value.number)) (file_in files.old) (file_in files.new) }
+{
+    file.bytes = bytes;
+    file.behind = mem::replace(files, Drawer::Empty);
+    *files = Drawer::Holds(file);
+}
+
+impl MemShelf {
+    ghost use Rattle.disk_model.specs.MemoryShelf.{shelf_files};
+
+    /// A shelf with no files. The calls of `disk` with the numbers in `failing`, from 0, fail.
+    pub fn new(alloc: Global, failing: Calls) -> MemShelf
+        ensures files { (dir : List ℕ) (number : ℕ) → shelf_files result dir number ≡ None }
+    {
+        MemShelf {
+            alloc,
+            files: Drawer::Empty,
+            failing,
+            calls: 0,
+            faults: 0,
+        }
+    }
+
+    /// The bytes of a file, where there is one.
+    pub fn file(&self, dir: &Text, number: u32) -> Option<&[u8]>
+        ensures { option_map (λ bytes. bytes.now) result ≡ shelf_files self.now dir.now number }
+    {
+        find(&self.files, dir, number)
+    }
+
+    // Counts the call, and says whether it is one that fails.
+    fn is_failing_call(&mut self) -> bool
+        ensures kept { self.new ≡ record self.old { calls = self.new.calls } }
+        ensures listed { IsTrue result ↔ Contains self.old.failing.items self.old.calls }
+    {
+        let number = self.calls;
+        self.calls = self.calls.saturating_add(1);
+        self.failing.as_slice().contains(&number)
+    }
+}
+
+// A copy of a file's bytes, or no bytes.
+fn bytes_of(alloc: Global, files: &Drawer, dir: &Text, number: u32) -> Result<Vec<u8>, ShelfFault>
+    ensures value { IfOk result (λ bytes. bytes.items ≡ unwrap_or (file_in files.now dir.now number) []) }
+    ensures memory { IsErrOf result ShelfFault.Failed → ⊥ }
+{
+    match find(files, dir, number) {
+        Some(bytes) => Ok(bytes.to_vec(alloc)?),
+        None => Ok(Vec::new(alloc)),
+    }
+}
+
+// The disk of a file; where there was none, an empty one is put in.
+fn open(alloc: Global, files: &mut Drawer, dir: &Text, number: u32) -> Result<MemDisk, ShelfFault>
+    ensures opened { IfOk result (λ disk. memory_past disk ≡ began (unwrap_or (file_in files.old dir.now number) [])) }
+    ensures mark { IfOk result (λ disk. memory_mark disk ≡ Some (dir.now, number)) }
+    ensures fresh { IfOk result (λ disk. disk.faults ≡ 0) }
+    ensures made { OnOk result (file_in files.new dir.now number ≡ Some (unwrap_or (file_in files.old dir.now number) [])) }
+    ensures refused { OnErr result (files.new ≡ files.old) }
+    ensures others { SameOthers (Some (dir.now, number)) (file_in files.old) (file_in files.new) }
+    ensures memory { IsErrOf result ShelfFault.Failed → ⊥ }
+{
+    let home = empty_file(alloc, dir, number)?;
+    let first = bytes_of(alloc, files, dir, number)?;
+    let bytes = bytes_of(alloc, files, dir, number)?;
+    if find(files, dir, number).is_none() {
+        put_in(files, empty_file(alloc, dir, number)?, Vec::new(alloc));
+    }
+    Ok(MemDisk::of_file(alloc, home, first, bytes))
+}
+
+impl Shelf for MemShelf {
+    ghost use Rattle.disk_model.specs.MemoryShelf.{shelf_files};
+
+    type D = MemDisk;
+
+    ghost tells = { Unit };
+
+    ghost files = { shelf_files };
+
+    ghost faults = { λ shelf. shelf.faults };
+
+    fn faults(&self) -> u64 {
+        self.faults
+    }
+
+    fn disk(&mut self, dir: &Text, number: u32) -> Result<MemDisk, ShelfFault> {
+        if self.is_failing_call() {
+            self.faults = self.faults.saturating_add(1);
+            return Err(ShelfFault::Failed);
+        }
+        open(self.alloc, &mut self.files, dir, number)
+    }
+
+    fn put_back(&mut self, disk: MemDisk) {
+        if disk.faults() > 0 {
+            self.faults = self.faults.saturating_add(1);
+        }
+        if let Some((home, bytes)) = disk.into_file() {
+            put_in(&mut self.files, home, bytes);
+        }
+    }
+}

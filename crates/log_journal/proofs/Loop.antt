@@ -1,0 +1,45 @@
+-- Reading goes on from block to block.
+use Rattle.std.proofs.Common.{◌≡◌, ℕ, ◌+◌, ◌^◌, ◌<◌, ◌≤◌, List, [], ◌∷◌, ◌++◌, length, drop, refl, sym, ◌∙◌, ap, subst, arith, length-append}
+use Rattle.log_journal.specs.File.{front, header, body, block, Holds, journal_length}
+use Rattle.std.specs.List.{flat_map}
+use Rattle.std.specs.Prelude.{sum_by}
+use Rattle.std.proofs.lemmas.List.Sums.{sum_by-cons}
+use Rattle.std.proofs.lemmas.List.Elements.{All-from_recursion}
+use Rattle.log_journal.specs.Reading.{IsRead}
+use Rattle.log_journal.proofs.Steps.{front-push, length-front-push, sized-push}
+
+pub none_read : (file : List ℕ) (number : ℕ) → file ≡ header number ++ drop 8 file → IsRead file number [] 8
+unfolding front
+none_read file number is = record { parts = is; place = refl; sized = All-from_recursion (λ (p : List ℕ). length p < 2 ^ 32) [] tt }
+
+pub one_more : (file : List ℕ) (number gate : ℕ) (payloads : List (List ℕ)) (payload : List ℕ) → IsRead file number payloads gate → length payload < 2 ^ 32
+    → drop gate file ≡ block payload ++ drop (gate + 5 + length payload) file → IsRead file number (payloads ++ payload ∷ []) (gate + (5 + length payload))
+one_more file number gate payloads payload so_far fits is =
+    let next = drop (gate + 5 + length payload) file in
+    let parts : file ≡ front number (payloads ++ payload ∷ []) ++ next =
+    so_far.parts ∙ ap (λ (l : List ℕ). front number payloads ++ l) is ∙ front-push number payloads payload next in
+    record {
+      parts = parts ∙ ap (λ (k : ℕ). front number (payloads ++ payload ∷ []) ++ drop k file) (omega arith);
+      place = omega (arith, so_far.place, length-front-push number payloads payload);
+      sized = sized-push payloads payload so_far.sized fits;
+    }
+
+-- the same for the list with the payload pushed, and its length as it was counted
+pub one_more_of : (file : List ℕ) (number gate size : ℕ) (old new : List (List ℕ)) (payload : List ℕ) → IsRead file number old gate → length payload < 2 ^ 32
+    → drop gate file ≡ block payload ++ drop (gate + 5 + length payload) file → new ≡ old ++ payload ∷ [] → size ≡ length payload → IsRead file number new (gate + (5 + size))
+one_more_of file number gate size old new payload so_far fits is pushed sized =
+    let P : List (List ℕ) → Type 0 = λ ps. IsRead file number ps (gate + (5 + size)) in
+    let Q : ℕ → Type 0 = λ n. IsRead file number (old ++ payload ∷ []) (gate + (5 + n)) in
+    subst P (sym pushed) (subst Q (sym sized) (one_more file number gate old payload so_far fits is))
+
+length-flat_map-block : (payloads : List (List ℕ)) → length (flat_map block payloads) ≡ sum_by (λ payload. 5 + length payload) payloads
+length-flat_map-block [] = refl
+length-flat_map-block (p ∷ payloads) = omega (arith, length-append (block p) (flat_map block payloads), length-flat_map-block payloads, sum_by-cons (λ (payload : List ℕ). 5 + length payload) p payloads)
+
+pub length-front : (number : ℕ) (payloads : List (List ℕ)) → length (front number payloads) + 1 ≡ journal_length payloads
+unfolding front
+length-front number payloads = omega (arith, length-append (header number) (flat_map block payloads), length-flat_map-block payloads)
+
+-- the gate of a file that holds payloads stands in it
+pub gate_within : (image : List ℕ) (number : ℕ) (payloads : List (List ℕ)) → Holds image number payloads → length (front number payloads) + 1 ≤ length image
+gate_within image number payloads holds = omega (arith, holds.has_gate)

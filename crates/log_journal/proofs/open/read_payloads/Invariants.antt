@@ -1,0 +1,18 @@
+use Rattle.std.proofs.Common.{◌≡◌, ◌+◌, ◌-◌, ◌≤◌, length}
+use Rattle.disk_model.specs.Past.{reads}
+use Rattle.log_journal.specs.Reading.{IsRead}
+use Rattle.log_journal.proofs.open.read_payloads.Given as goal
+
+abbrev pub invariant-loop-payloads : goal.invariant-loop-payloads
+invariant-loop-payloads g l = record {
+  past : g.D.Disk.past l.disk ≡ g.D.Disk.past l.fn.disk;
+  read : g.D.Disk.tells → IsRead (reads (g.D.Disk.past l.fn.disk)) l.number l.payloads.items l.gate;
+  file_length : g.D.Disk.tells → l.file_length ≡ length (reads (g.D.Disk.past l.fn.disk));
+  faults : g.D.Disk.faults l.fn.disk ≤ g.D.Disk.faults l.disk;
+  behind : 8 ≤ l.gate;
+  few : g.D.Disk.tells → g.D.Disk.read_bytes l.disk ≤ g.D.Disk.read_bytes l.fn.disk + l.gate;
+  mark : g.D.Disk.mark l.disk ≡ g.D.Disk.mark l.fn.disk;
+}
+
+abbrev pub decreases-loop-payloads : goal.decreases-loop-payloads
+decreases-loop-payloads g l = l.file_length - l.gate

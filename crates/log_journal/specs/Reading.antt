@@ -1,0 +1,61 @@
+-- What reading a journal's file finds.
+use Rattle.std.specs.Prelude.{◌≡◌, ◌≢◌, ◌⊎◌, ℕ, ◌+◌, ◌^◌, ◌<◌, ◌≤◌, Option, Some, None, Result, Ok, Err, List, ◌∷◌, ◌++◌, [], length, take, drop, Vec}
+use Rattle.std.specs.declared.alloc.Global.{Global}
+use Rattle.delta_base.specs.Listed.{Listed}
+use Rattle.log_journal.specs.File.{front, header, block, Holds, AreSized, BreaksOff, HasNoHeader, HasHeader, IsCutShort, Damage, journal_length}
+use Rattle.log_journal.specs.declared.fault.JournalFault.{JournalFault}
+use Rattle.log_journal.specs.declared.fault.JournalFault.TheVariants.{Failed, Damaged, WrongNumber, OverLimit, OutOfMemory}
+
+-- the header has this number
+abbrev pub ReadsHeader : {T : Type 0} → List ℕ → ℕ → Result T JournalFault → Type 0
+ReadsHeader file number (Ok done) = (number < 2 ^ 32) × (file ≡ header number ++ drop 8 file)
+ReadsHeader file number (Err (Damaged at)) = HasNoHeader file × (at ≡ 0)
+ReadsHeader file number (Err (WrongNumber found)) = HasHeader file found × (found ≢ number)
+ReadsHeader file number (Err (OverLimit length limit)) = ⊥
+ReadsHeader file number (Err Failed) = Unit {0}
+ReadsHeader file number (Err OutOfMemory) = Unit {0}
+
+-- at a gate's place stands a payload, or a shut gate, or the file breaks off
+abbrev pub ReadsBlock : List ℕ → ℕ → Result (Option (Vec ℕ Global)) JournalFault → Type 0
+ReadsBlock file at (Ok None) = (gate : ℕ) × (gate ≢ 1) × (drop at file ≡ gate ∷ drop (at + 1) file)
+ReadsBlock file at (Ok (Some payload)) = (length payload.items < 2 ^ 32) × (drop at file ≡ block payload.items ++ drop (at + 5 + length payload.items) file)
+ReadsBlock file at (Err (Damaged place)) = (offset : ℕ) × BreaksOff (drop at file) offset × (place ≡ at + offset)
+ReadsBlock file at (Err (WrongNumber found)) = ⊥
+ReadsBlock file at (Err (OverLimit length limit)) = ⊥
+ReadsBlock file at (Err Failed) = Unit {0}
+ReadsBlock file at (Err OutOfMemory) = Unit {0}
+
+abbrev pub IsWantOrFailed : JournalFault → Type 0
+IsWantOrFailed fault = (fault ≡ Failed) ⊎ (fault ≡ OutOfMemory)
+
+-- the file holds these payloads, and their journal has this length; or which fault comes first
+abbrev pub ReadsPayloads : List ℕ → ℕ → Result (ℕ × Listed (List ℕ)) JournalFault → Type 0
+ReadsPayloads file number (Ok found) = Holds file number found.1.items × (found.0 ≡ length (front number found.1.items) + 1)
+ReadsPayloads file number (Err (Damaged at)) = Damage file number at
+ReadsPayloads file number (Err (WrongNumber found)) = HasHeader file found × (found ≢ number)
+ReadsPayloads file number (Err (OverLimit length limit)) = ⊥
+ReadsPayloads file number (Err Failed) = Unit {0}
+ReadsPayloads file number (Err OutOfMemory) = Unit {0}
+
+-- the file has this fault, and none that comes before it
+abbrev pub HasFault : List ℕ → ℕ → ℕ → JournalFault → Type 0
+HasFault file number limit (Damaged at) = Damage file number at
+HasFault file number limit (WrongNumber found) = HasHeader file found × (found ≢ number)
+HasFault file number limit (OverLimit length shown) = (payloads : List (List ℕ)) × Holds file number payloads × (length ≡ journal_length payloads) × (limit < length) × (shown ≡ limit)
+HasFault file number limit Failed = Unit {0}
+HasFault file number limit OutOfMemory = Unit {0}
+
+-- the payloads so far stand before this gate
+pub record IsRead (file : List ℕ) (number : ℕ) (payloads : List (List ℕ)) (gate : ℕ) : Type 0 where
+  pub parts : file ≡ front number payloads ++ drop gate file
+  pub place : gate ≡ length (front number payloads)
+  pub sized : AreSized payloads
+
+-- the file holds these payloads, and their journal has this length, within the limit; or which fault comes first
+abbrev pub Reads : List ℕ → ℕ → ℕ → Result (ℕ × Listed (List ℕ)) JournalFault → Type 0
+Reads file number limit (Ok found) = Holds file number found.1.items × (found.0 ≡ length (front number found.1.items) + 1) × (found.0 ≤ limit)
+Reads file number limit (Err fault) = HasFault file number limit fault
+
+abbrev pub payload_found : Option (Vec ℕ Global) → List ℕ
+payload_found None = []
+payload_found (Some payload) = payload.items

@@ -1,0 +1,230 @@
+//! A file of payloads behind gates. A gate is opened only once what stands behind it is on the disk.
+ghost use Rattle.std.specs.Prelude.{◌≡◌, false, ◌⊎◌, ℕ, ◌+◌, ◌<◌, ◌≤◌, ◌↔◌, ◌++◌, [], ◌∷◌, List, length, IsTrue, not, OnOk, OnErr, IsErrOf, IfOk, IfErr, IsOk, is_ok, if◌then◌else◌};
+ghost use Rattle.delta_base.specs.Outside.{Rose, HasCause};
+ghost use Rattle.disk_model.specs.Past.{reads, synced, ok_syncs, synced_bytes, filled, Keeps};
+ghost use Rattle.log_journal.specs.File.{Holds};
+ghost use Rattle.log_journal.specs.Journal.{HoldsWithOrWithout};
+ghost use Rattle.log_journal.specs.Reading.{Reads, HasFault};
+
+use crate::block::Block;
+use crate::fault::JournalFault;
+use crate::halves::write_synced;
+use crate::open::{Payloads, read_payloads};
+use delta_base::Failed;
+use disk_model::Disk;
+use std::alloc::Global;
+
+#[derive(Clone, Copy, Debug, PartialEq, Eq)]
+pub enum AppendFault {
+    Full { length: u64, limit: u64 },
+    Failed,
+}
+
+impl From<Failed> for AppendFault {
+    ghost use Rattle.log_journal.specs.declared.journal.AppendFault.TheVariants.{Failed as NotWritten};
+
+    ghost from_gives = { λ _ e. e ≡ NotWritten };
+
+    fn from(_: Failed) -> AppendFault {
+        AppendFault::Failed
+    }
+}
+
+#[derive(Drop)]
+pub struct Journal<D: Disk> {
+    disk: D,
+    end: u64,
+    limit: u64,
+    settled: bool,
+    ghost gate_within: { D.tells → end ≤ length (reads (D.past disk)) },
+    ghost gate_behind: { 9 ≤ end },
+    ghost within_limit: { end ≤ limit },
+}
+
+/// A journal that couldn't be opened, with its disk.
+#[derive(Drop)]
+pub struct OpenRefusal<D: Disk> {
+    pub disk: D,
+    pub fault: JournalFault,
+}
+
+// The payloads and the length of the journal on a disk.
+fn read_journal<D: Disk>(
+    alloc: Global,
+    disk: &mut D,
+    number: u32,
+    limit: u64,
+) -> Result<(u64, Payloads), JournalFault>
+    ensures found { D.tells → Reads (reads (D.past disk.old)) number limit result }
+    ensures few { D.tells → IfOk result (λ found. D.read_bytes disk.new ≤ D.read_bytes disk.old + found.0) }
+    ensures within { IfOk result (λ found. (9 ≤ found.0) × (found.0 ≤ limit)) }
+    ensures synced { D.tells → OnOk result (D.past disk.new ≡ synced (D.past disk.old)) }
+    ensures past { D.tells → (D.past disk.new ≡ D.past disk.old) ⊎ (D.past disk.new ≡ synced (D.past disk.old)) }
+    ensures cause { IsErrOf result JournalFault.Failed → Rose (D.faults disk.old) (D.faults disk.new) }
+    ensures faults { D.faults disk.old ≤ D.faults disk.new }
+    ensures mark { D.mark disk.new ≡ D.mark disk.old }
+{
+    disk.sync()?;
+    let (length, payloads) = read_payloads(alloc, disk, number)?;
+    if limit < length {
+        return Err(JournalFault::OverLimit { length, limit });
+    }
+    Ok((length, payloads))
+}
+
+impl<D: Disk> Journal<D> {
+    ghost use Rattle.log_journal.specs.StandsFor.{StandsFor, StandsInDoubt, Leaves, length_of, limit_of, is_settled, disk_of};
+    ghost use Rattle.log_journal.specs.Payload.{payload_of};
+    ghost use Rattle.log_journal.specs.Append.{syncs_of, DoneByPlan};
+
+    /// Opens a file that a crash may have left. A refusal hands the disk back.
+    pub fn open_on(
+        alloc: Global,
+        disk: D,
+        number: u32,
+        limit: u64,
+    ) -> Result<(Journal<D>, Payloads), OpenRefusal<D>>
+        // The payloads are those of all the bytes that the disk reads.
+        ensures payloads { D.tells → IfOk result (λ opened. Holds (reads (D.past disk)) number (opened.1.items)) }
+        ensures stands { IfOk result (λ opened. StandsFor opened.0 number (opened.1.items)) }
+        ensures fault { IfErr result (λ refusal. D.tells → HasFault (reads (D.past disk)) number limit refusal.fault) }
+
+        // A crash at any moment leaves what it might have left before, and a read gives what it gave.
+        ensures kept { IfOk result (λ opened. D.tells → Keeps (D.past disk) (D.past (disk_of opened.0))) }
+        ensures kept_refused { IfErr result (λ refusal. D.tells → Keeps (D.past disk) (D.past refusal.disk)) }
+
+        // It reads no more than the journal.
+        ensures few { IfOk result (λ opened. D.tells → D.read_bytes (disk_of opened.0) ≤ D.read_bytes disk + (length_of opened.0)) }
+        ensures limit { IfOk result (λ opened. (limit_of opened.0) ≡ limit) }
+        ensures cause { IfErr result (λ refusal. refusal.fault ≡ JournalFault.Failed → Rose (D.faults disk) (D.faults refusal.disk)) }
+        ensures mark { IfOk result (λ opened. D.mark (disk_of opened.0) ≡ D.mark disk) }
+        ensures mark_refused { IfErr result (λ refusal. D.mark refusal.disk ≡ D.mark disk) }
+    {
+        let mut disk = disk;
+        match read_journal(alloc, &mut disk, number, limit) {
+            Ok((end, payloads)) => {
+                let journal = Journal {
+                    disk,
+                    end,
+                    limit,
+                    settled: true,
+                };
+                Ok((journal, payloads))
+            }
+            Err(fault) => Err(OpenRefusal { disk, fault }),
+        }
+    }
+
+    /// How long it is in its file, up to the gate behind the last payload.
+    pub fn length(&self) -> u64
+        ensures { result ≡ length_of self.now }
+    {
+        self.end
+    }
+
+    pub fn room_for(&self, payload: u64) -> bool
+        ensures { IsTrue result ↔ ((length_of self.now) + 5 + payload ≤ (limit_of self.now)) }
+    {
+        let room = self.limit - self.end;
+        room >= 5 && room - 5 >= payload
+    }
+
+    pub fn is_settled(&self) -> bool
+        ensures { result ≡ is_settled self.now }
+    {
+        self.settled
+    }
+
+    pub fn faults(&self) -> u64
+        ensures { result ≡ D.faults (disk_of self.now) }
+    {
+        self.disk.faults()
+    }
+
+    pub fn close(self) -> D
+        ensures { result ≡ disk_of self }
+    {
+        let Journal {
+            disk,
+            end: _,
+            limit: _,
+            settled: _,
+        } = self;
+        disk
+    }
+
+    /// Adds a payload. After a failure the payloads are as before.
+    pub fn append(&mut self, block: &Block) -> Result<(), AppendFault>
+        requires { IsTrue (is_settled self.old) }
+
+        // A crash at any moment of the call leaves the payloads, with the new one or without.
+        ensures any_moment { (number : ℕ) (payloads : List (List ℕ)) → StandsFor self.old number payloads
+            → Leaves (HoldsWithOrWithout number payloads (payload_of block.now)) self.old self.new }
+        ensures ok { (number : ℕ) (payloads : List (List ℕ)) → StandsFor self.old number payloads
+            → OnOk result (StandsFor self.new number (payloads ++ payload_of block.now ∷ [])) }
+        ensures failed { (number : ℕ) (payloads : List (List ℕ)) → StandsFor self.old number payloads
+            → IsErrOf result AppendFault.Failed
+            → StandsFor self.new number payloads ⊎ StandsInDoubt self.new number payloads (payload_of block.now) }
+
+        // It is settled unless it failed once its first sync was done.
+        ensures syncs { D.tells → ok_syncs (D.past (disk_of self.new)) ≡ ok_syncs (D.past (disk_of self.old)) + syncs_of result (is_settled self.new) }
+
+        // Both syncs are done, or those before the one that is planned to fail.
+        ensures planned { D.plans → IsTrue (not (D.short (disk_of self.new))) → IsOk result ⊎ IsErrOf result AppendFault.Failed
+            → DoneByPlan 2 (syncs_of result (is_settled self.new)) (D.next_failure (disk_of self.old)) (D.next_failure (disk_of self.new)) }
+
+        // After a planned failure what was synced has no new payload, and the gate is open where what wasn't synced is 1.
+        ensures images { D.plans → D.tells → IsTrue (not (D.short (disk_of self.new))) → IsErrOf result AppendFault.Failed → (is_settled self.new) ≡ false
+            → (number : ℕ) (payloads : List (List ℕ)) → StandsFor self.old number payloads
+            → Holds (synced_bytes (D.past (disk_of self.new))) number payloads × Holds (filled 1 (D.past (disk_of self.new))) number (payloads ++ payload_of block.now ∷ []) }
+
+        ensures full { IsErrOf result (AppendFault.Full (length_of self.old) (limit_of self.old)) ↔ ((limit_of self.old) < (length_of self.old) + 5 + length (payload_of block.now)) }
+        ensures full_shows { (length limit : ℕ) → IsErrOf result (AppendFault.Full length limit) → (length ≡ (length_of self.old)) × (limit ≡ (limit_of self.old)) × (self.new ≡ self.old) }
+        ensures cause { IsErrOf result AppendFault.Failed → Rose (D.faults (disk_of self.old)) (D.faults (disk_of self.new)) }
+        ensures faults { D.faults (disk_of self.old) ≤ D.faults (disk_of self.new) }
+        ensures longer { OnOk result ((length_of self.new) ≡ (length_of self.old) + 5 + length (payload_of block.now)) }
+        ensures same_length { OnErr result ((length_of self.new) ≡ (length_of self.old)) }
+        ensures limit { (limit_of self.new) ≡ (limit_of self.old) }
+        ensures mark { D.mark (disk_of self.new) ≡ D.mark (disk_of self.old) }
+    {
+        let size = block.bytes.len() as u64;
+        if self.limit - self.end < size {
+            return Err(AppendFault::Full {
+                length: self.end,
+                limit: self.limit,
+            });
+        }
+        write_synced(&mut self.disk, self.end, &block.bytes)?;
+        self.settled = false;
+        write_synced(&mut self.disk, self.end - 1, &[1])?;
+        self.end += size;
+        self.settled = true;
+        Ok(())
+    }
+
+    /// Closes a doubtful gate. After a failure it is still doubtful.
+    pub fn settle(&mut self) -> Result<(), Failed>
+        // A crash at any moment of the call leaves the payloads, with the doubtful one or without.
+        ensures any_moment { (number : ℕ) (payloads : List (List ℕ)) (doubt : List ℕ) → StandsInDoubt self.old number payloads doubt
+            → Leaves (HoldsWithOrWithout number payloads doubt) self.old self.new }
+        ensures ok { (number : ℕ) (payloads : List (List ℕ)) (doubt : List ℕ) → StandsInDoubt self.old number payloads doubt
+            → OnOk result (StandsFor self.new number payloads) }
+        ensures failed { (number : ℕ) (payloads : List (List ℕ)) (doubt : List ℕ) → StandsInDoubt self.old number payloads doubt
+            → OnErr result (StandsInDoubt self.new number payloads doubt) }
+
+        ensures settled { IsOk result ↔ IsTrue (is_settled self.new) }
+        ensures nothing_to_do { IsTrue (is_settled self.old) → self.new ≡ self.old }
+        ensures syncs { D.tells → ok_syncs (D.past (disk_of self.new)) ≡ ok_syncs (D.past (disk_of self.old)) + (if is_ok result then (if (is_settled self.old) then 0 else 1) else 0) }
+        ensures cause { HasCause (D.faults (disk_of self.old)) (D.faults (disk_of self.new)) result }
+        ensures same_length { (length_of self.new) ≡ (length_of self.old) }
+        ensures limit { (limit_of self.new) ≡ (limit_of self.old) }
+        ensures mark { D.mark (disk_of self.new) ≡ D.mark (disk_of self.old) }
+    {
+        if self.settled {
+            return Ok(());
+        }
+        write_synced(&mut self.disk, self.end - 1, &[0])?;
+        self.settled = true;
+        Ok(())
+    }
+}

@@ -1,0 +1,64 @@
+//! Makes and opens journals.
+ghost use Rattle.std.specs.Prelude.{◌≡◌, ◌≢◌, ◌⊎◌, ℕ, ◌+◌, ◌<◌, ◌≤◌, ◌↔◌, ◌++◌, [], ◌∷◌, None, length, IfOk, IfErr, OnOk, OnErr, IsErrOf};
+ghost use Rattle.delta_base.specs.Outside.{Rose};
+ghost use Rattle.disk_model.specs.Past.{reads, EveryImage, MayLeave, LeavesOnly};
+ghost use Rattle.log_journal.specs.File.{Holds, header, journal_length};
+ghost use Rattle.log_journal.specs.Reading.{ReadsPayloads};
+
+use crate::fault::{FormatFault, JournalFault};
+use crate::halves::write_synced;
+use crate::reading::{read_block, read_header};
+use delta_base::{Bytes, Listing};
+use disk_model::Disk;
+use std::alloc::Global;
+
+/// Payloads in the order of their journal.
+pub type Payloads = Listing<Bytes>;
+
+/// Writes an empty journal into an empty file.
+pub fn format<D: Disk>(disk: &mut D, number: u32) -> Result<(), FormatFault>
+    ensures ok { D.tells → OnOk result (EveryImage (D.past disk.new) (λ image. image ≡ header number ++ 0 ∷ [])) }
+    ensures was_empty { D.tells → OnOk result (reads (D.past disk.old) ≡ []) }
+    ensures not_empty { D.tells → (found : ℕ) → IsErrOf result (FormatFault.NotEmpty found) → (0 < found) × (found ≡ length (reads (D.past disk.old))) }
+    ensures same { (found : ℕ) → IsErrOf result (FormatFault.NotEmpty found) → D.past disk.new ≡ D.past disk.old }
+    ensures cause { IsErrOf result FormatFault.Failed → Rose (D.faults disk.old) (D.faults disk.new) }
+    ensures faults { D.faults disk.old ≤ D.faults disk.new }
+    ensures mark { D.mark disk.new ≡ D.mark disk.old }
+{
+    let length = disk.len()?;
+    if length != 0 {
+        return Err(FormatFault::NotEmpty { length });
+    }
+    let [high, middle, low, lowest] = number.to_be_bytes();
+    write_synced(
+        disk,
+        0,
+        &[b'R', b'D', b'J', b'1', high, middle, low, lowest, 0],
+    )?;
+    Ok(())
+}
+
+// The payloads up to the gate that is shut, and the place behind it.
+pub fn read_payloads<D: Disk>(
+    alloc: Global,
+    disk: &mut D,
+    number: u32,
+) -> Result<(u64, Payloads), JournalFault>
+    ensures found { D.tells → ReadsPayloads (reads (D.past disk.old)) number result }
+    ensures few { D.tells → IfOk result (λ found. D.read_bytes disk.new ≤ D.read_bytes disk.old + found.0) }
+    ensures length { IfOk result (λ found. 9 ≤ found.0) }
+    ensures past { D.past disk.new ≡ D.past disk.old }
+    ensures cause { IsErrOf result JournalFault.Failed → Rose (D.faults disk.old) (D.faults disk.new) }
+    ensures faults { D.faults disk.old ≤ D.faults disk.new }
+    ensures mark { D.mark disk.new ≡ D.mark disk.old }
+{
+    let file_length = disk.len()?;
+    read_header(disk, file_length, number)?;
+    let mut payloads = Listing::new(alloc);
+    let mut gate = 8;
+    while let Some(payload) = read_block(alloc, disk, file_length, gate)? {
+        gate += 5 + payload.len() as u64;
+        payloads.push(Bytes::from_vec(payload))?;
+    }
+    Ok((gate + 1, payloads))
+}

@@ -1,0 +1,137 @@
+//! Reads a journal's file: the header, and then block by block up to a gate that is shut.
+ghost use Rattle.std.specs.Prelude.{◌≡◌, ◌+◌, ◌^◌, ◌<◌, ◌≤◌, ◌↔◌, length, take, drop, IsTrue, not, IfOk, IfErr, IfSome, IfNone, OnOk, IsErrOf, is_some, if◌then◌else◌};
+ghost use Rattle.delta_base.specs.Outside.{HasCause, Rose};
+ghost use Rattle.disk_model.specs.Past.{reads};
+ghost use Rattle.std.specs.Int.{w32, to_be_bytes};
+ghost use Rattle.log_journal.specs.Reading.{ReadsHeader, ReadsBlock, IsWantOrFailed, payload_found};
+
+use crate::fault::JournalFault;
+use delta_base::Failed;
+use disk_model::Disk;
+use std::alloc::Global;
+
+// Fills the buffer. `false` where the file ends before.
+fn fetch<D: Disk>(disk: &mut D, file_length: u64, at: u64, into: &mut [u8]) -> Result<bool, Failed>
+    requires { D.tells → file_length ≡ length (reads (D.past disk.old)) }
+    ensures within { IfOk result (λ whole. IsTrue whole → at + length into.old ≤ file_length) }
+    ensures bytes { D.tells → IfOk result (λ whole. IsTrue whole → into.new ≡ take (length into.old) (drop at (reads (D.past disk.old)))) }
+    ensures short { D.tells → IfOk result (λ whole. IsTrue (not whole) → length (reads (D.past disk.old)) < at + length into.old) }
+    ensures past { D.past disk.new ≡ D.past disk.old }
+    ensures cause { HasCause (D.faults disk.old) (D.faults disk.new) result }
+    ensures few { D.tells → D.read_bytes disk.new ≤ D.read_bytes disk.old + length into.old }
+    ensures mark { D.mark disk.new ≡ D.mark disk.old }
+{
+    if file_length < at || file_length - at < into.len() as u64 {
+        return Ok(false);
+    }
+    let count = disk.read_at(at, into)?;
+    Ok(count == into.len())
+}
+
+// A length, as four bytes spell it. `None` where the file ends before.
+fn fetch_size<D: Disk>(disk: &mut D, file_length: u64, at: u64) -> Result<Option<u32>, Failed>
+    requires { D.tells → file_length ≡ length (reads (D.past disk.old)) }
+    ensures within { IfOk result (λ found. IfSome found (λ size. (size < 2 ^ 32) × (at + 4 ≤ file_length))) }
+    ensures bytes { D.tells → IfOk result (λ found. IfSome found (λ size. to_be_bytes w32 size ≡ take 4 (drop at (reads (D.past disk.old))))) }
+    ensures short { D.tells → IfOk result (λ found. IfNone found (length (reads (D.past disk.old)) < at + 4)) }
+    ensures past { D.past disk.new ≡ D.past disk.old }
+    ensures cause { HasCause (D.faults disk.old) (D.faults disk.new) result }
+    ensures few { D.tells → D.read_bytes disk.new ≤ D.read_bytes disk.old + 4 }
+    ensures mark { D.mark disk.new ≡ D.mark disk.old }
+{
+    let mut bytes = [0u8; 4];
+    if !fetch(disk, file_length, at, &mut bytes)? {
+        return Ok(None);
+    }
+    let [high, middle, low, lowest] = bytes;
+    Ok(Some(u32::from_be_bytes([high, middle, low, lowest])))
+}
+
+// A buffer of so many bytes of the file. `None` where the file ends before.
+fn fetch_payload<D: Disk>(
+    alloc: Global,
+    disk: &mut D,
+    file_length: u64,
+    at: u64,
+    size: u32,
+) -> Result<Option<Vec<u8>>, JournalFault>
+    requires { D.tells → file_length ≡ length (reads (D.past disk.old)) }
+    ensures size { IfOk result (λ found. IfSome found (λ payload. (length payload.items ≡ size) × (at + size ≤ file_length))) }
+    ensures bytes { D.tells → IfOk result (λ found. IfSome found (λ payload. payload.items ≡ take size (drop at (reads (D.past disk.old))))) }
+    ensures short { D.tells → IfOk result (λ found. IfNone found (length (reads (D.past disk.old)) < at + size)) }
+    ensures not_other { IfErr result IsWantOrFailed }
+    ensures past { D.past disk.new ≡ D.past disk.old }
+    ensures cause { IsErrOf result JournalFault.Failed → Rose (D.faults disk.old) (D.faults disk.new) }
+    ensures faults { D.faults disk.old ≤ D.faults disk.new }
+    ensures few { D.tells → D.read_bytes disk.new ≤ D.read_bytes disk.old + size }
+    ensures mark { D.mark disk.new ≡ D.mark disk.old }
+{
+    if file_length < at || file_length - at < u64::from(size) {
+        return Ok(None);
+    }
+    let mut payload = Vec::from_elem(alloc, 0, size as usize)?;
+    if fetch(disk, file_length, at, &mut payload)? {
+        Ok(Some(payload))
+    } else {
+        Ok(None)
+    }
+}
+
+/// The file's header has this number.
+pub fn read_header<D: Disk>(disk: &mut D, file_length: u64, number: u32) -> Result<(), JournalFault>
+    requires { D.tells → file_length ≡ length (reads (D.past disk.old)) }
+    ensures found { D.tells → ReadsHeader (reads (D.past disk.old)) number result }
+    ensures within { OnOk result (8 ≤ file_length) }
+    ensures past { D.past disk.new ≡ D.past disk.old }
+    ensures cause { IsErrOf result JournalFault.Failed → Rose (D.faults disk.old) (D.faults disk.new) }
+    ensures faults { D.faults disk.old ≤ D.faults disk.new }
+    ensures few { D.tells → D.read_bytes disk.new ≤ D.read_bytes disk.old + 8 }
+    ensures mark { D.mark disk.new ≡ D.mark disk.old }
+{
+    let mut head = [0u8; 8];
+    if !fetch(disk, file_length, 0, &mut head)? {
+        return Err(JournalFault::Damaged { at: 0 });
+    }
+    let [r, d, j, version, high, middle, low, lowest] = head;
+    if [r, d, j, version] != *b"RDJ1" {
+        return Err(JournalFault::Damaged { at: 0 });
+    }
+    let found = u32::from_be_bytes([high, middle, low, lowest]);
+    if found != number {
+        return Err(JournalFault::WrongNumber { found });
+    }
+    Ok(())
+}
+
+/// What stands at a gate's place: a payload, or nothing more.
+pub fn read_block<D: Disk>(
+    alloc: Global,
+    disk: &mut D,
+    file_length: u64,
+    at: u64,
+) -> Result<Option<Vec<u8>>, JournalFault>
+    requires { D.tells → file_length ≡ length (reads (D.past disk.old)) }
+    ensures found { D.tells → ReadsBlock (reads (D.past disk.old)) at result }
+    ensures within { IfOk result (λ found. IfSome found (λ payload. at + 5 + length payload.items ≤ file_length)) }
+    ensures gate_within { IfOk result (λ found. at < file_length) }
+    ensures past { D.past disk.new ≡ D.past disk.old }
+    ensures cause { IsErrOf result JournalFault.Failed → Rose (D.faults disk.old) (D.faults disk.new) }
+    ensures faults { D.faults disk.old ≤ D.faults disk.new }
+    ensures few { D.tells → IfOk result (λ found. D.read_bytes disk.new ≤ D.read_bytes disk.old + (if is_some found then 5 + length (payload_found found) else 1)) }
+    ensures mark { D.mark disk.new ≡ D.mark disk.old }
+{
+    let mut gate = [0u8; 1];
+    if !fetch(disk, file_length, at, &mut gate)? {
+        return Err(JournalFault::Damaged { at });
+    }
+    if gate[0] != 1 {
+        return Ok(None);
+    }
+    let Some(size) = fetch_size(disk, file_length, at + 1)? else {
+        return Err(JournalFault::Damaged { at: at + 1 });
+    };
+    match fetch_payload(alloc, disk, file_length, at + 5, size)? {
+        Some(payload) => Ok(Some(payload)),
+        None => Err(JournalFault::Damaged { at: at + 5 }),
+    }
+}

@@ -1,0 +1,7 @@
+pub mod Answered
+pub mod Canonical
+pub mod Faults
+pub mod Grammar
+pub mod Laws
+pub mod Reading
+pub mod Shown

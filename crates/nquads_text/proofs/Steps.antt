@@ -1,0 +1,44 @@
+-- What a chain of readings tells of its parts.
+use Rattle.std.proofs.Common.{◌≡◌, Bool, true, false, cond, Result, Ok, Err, refl, ap, ◌⊎◌, inl, inr}
+use Rattle.nquads_text.specs.Fault.{Fault, ◌>>=◌}
+
+-- the value of a step that did not fail
+pub bind_ok : {A B : Type 0} (r : Result A Fault) (f : A → Result B Fault) (y : B) → (r >>= f) ≡ Ok y → (x : A) × (r ≡ Ok x) × (f x ≡ Ok y)
+bind_ok (Ok x) f y e = (x, refl, e)
+bind_ok (Err d) f y e = absurd cc
+
+-- the step that failed
+pub bind_err : {A B : Type 0} (r : Result A Fault) (f : A → Result B Fault) (d : Fault) → (r >>= f) ≡ Err d → (r ≡ Err d) ⊎ ((x : A) × (r ≡ Ok x) × (f x ≡ Err d))
+bind_err (Ok x) f d e = inr (x, refl, e)
+bind_err (Err g) f d e = let same : g ≡ d = cc in inl (ap (λ (h : Fault). Err h) same)
+
+-- which way a test went
+pub chosen : {A : Type 0} (b : Bool) (x y z : A) → cond b x y ≡ z → ((b ≡ true) × (x ≡ z)) ⊎ ((b ≡ false) × (y ≡ z))
+chosen true x y z e = inl (refl, e)
+chosen false x y z e = inr (refl, e)
+
+abbrev done : {A : Type 0} → A → Result A Fault
+done x = Ok x
+
+pub ok_is : {A : Type 0} (x y : A) → done x ≡ done y → x ≡ y
+ok_is x y e = cc
+
+pub not_both : {A : Type 0} (x : A) (d : Fault) → done x ≡ Err d → ⊥
+not_both x d e = absurd cc
+
+pub not_ok : {A : Type 0} (x : A) (d : Fault) → Err d ≡ done x → ⊥
+not_ok x d e = absurd cc
+
+abbrev failed : {A : Type 0} → Fault → Result A Fault
+failed d = Err d
+
+pub err_is : {A : Type 0} (d f : Fault) → failed {A = A} d ≡ Err f → d ≡ f
+err_is d f e = cc
+
+pub cond_true : {A : Type 0} (b : Bool) (x y : A) → b ≡ true → cond b x y ≡ x
+cond_true true x y e = refl
+cond_true false x y e = absurd cc
+
+pub cond_false : {A : Type 0} (b : Bool) (x y : A) → b ≡ false → cond b x y ≡ y
+cond_false true x y e = absurd cc
+cond_false false x y e = refl

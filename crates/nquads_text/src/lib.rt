@@ -1,0 +1,32 @@
+//! N-Quads text: terms are read and printed.
+//!
+//! `read_term` answers the term that the grammar has at a place of a text (`specs/Grammar.antt`), and else the text's first
+//! fault (`specs/Faults.antt`). `print_term` writes a term's canonical text, which is read as that term again. The functions
+//! of `laws` do nothing: their contracts tie the reading to the grammar and the faults, token by token.
+#![tactic(auto)]
+
+mod bodies;
+mod chars;
+mod fault;
+mod labels;
+mod laws;
+mod pieces;
+mod printing;
+mod statement;
+mod tags;
+mod terms;
+
+pub use bodies::iri_body;
+pub use chars::char_at;
+pub use fault::{ReadFault, TextKind};
+pub use labels::label;
+pub use laws::{
+    blanks_are_skipped, characters_are_read, iris_are_read, labels_are_read, printed_is_read,
+    strings_are_read, tags_are_read, terms_are_read, terms_are_settled,
+};
+pub use printing::{print_term, push_iri, push_quoted, push_term};
+pub use statement::read_statement;
+pub use terms::{read_term, skip_blanks};
+
+#[cfg(test)]
+mod tests;

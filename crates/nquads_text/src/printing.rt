@@ -1,0 +1,93 @@
+//! The canonical text of a term.
+
+ghost use Rattle.std.specs.Prelude.{◌≡◌, ◌++◌, ◌∷◌, [], ℕ, List, OnOk, IfOk};
+ghost use Rattle.std.specs.List.{flat_map};
+ghost use Rattle.nquads_text.specs.Grammar.{TermAt};
+ghost use Rattle.nquads_text.specs.Printing.{IsKind, IsTermValue, EndsTerm};
+ghost use Rattle.rdf_terms.specs.Line.{escaped, quoted, iri_text, kind_text, term_text};
+
+use delta_base::{Bytes, OutOfMemory};
+use rdf_terms::{LiteralKind, Term};
+use std::alloc::Global;
+
+fn push_escaped(out: &mut Vec<u8>, b: u8) -> Result<(), OutOfMemory>
+    ensures { OnOk result (out.new.items ≡ out.old.items ++ escaped b) }
+{
+    match b {
+        b'"' => out.extend_from_slice(b"\\\"")?,
+        b'\\' => out.extend_from_slice(b"\\\\")?,
+        b'\n' => out.extend_from_slice(b"\\n")?,
+        b'\r' => out.extend_from_slice(b"\\r")?,
+        _ => out.push(b)?,
+    }
+    Ok(())
+}
+
+/// Appends a string in its quotes.
+pub fn push_quoted(out: &mut Vec<u8>, text: &[u8]) -> Result<(), OutOfMemory>
+    ensures { OnOk result (out.new.items ≡ out.old.items ++ quoted text.now) }
+{
+    out.push(b'"')?;
+    for b in text {
+        push_escaped(out, *b)?;
+    }
+    out.push(b'"')?;
+    Ok(())
+}
+
+/// Appends an IRI in its brackets.
+pub fn push_iri(out: &mut Vec<u8>, iri: &[u8]) -> Result<(), OutOfMemory>
+    ensures { OnOk result (out.new.items ≡ out.old.items ++ iri_text iri.now) }
+{
+    out.push(b'<')?;
+    out.extend_from_slice(iri)?;
+    out.push(b'>')?;
+    Ok(())
+}
+
+fn push_kind(out: &mut Vec<u8>, kind: &LiteralKind) -> Result<(), OutOfMemory>
+    ensures text { OnOk result (out.new.items ≡ out.old.items ++ kind_text kind.now) }
+    ensures value { OnOk result (IsKind kind.now) }
+{
+    match kind {
+        LiteralKind::Plain => {}
+        LiteralKind::Typed(datatype) => {
+            out.extend_from_slice(b"^^")?;
+            push_iri(out, datatype.as_bytes())?;
+        }
+        LiteralKind::Tagged(tag) => {
+            out.push(b'@')?;
+            out.extend_from_slice(tag.as_bytes())?;
+        }
+    }
+    Ok(())
+}
+
+/// Appends the canonical text of a term.
+pub fn push_term(out: &mut Vec<u8>, term: &Term) -> Result<(), OutOfMemory>
+    ensures text { OnOk result (out.new.items ≡ out.old.items ++ term_text term.now) }
+    ensures value { OnOk result (IsTermValue term.now) }
+{
+    match term {
+        Term::Iri(iri) => push_iri(out, iri.as_bytes())?,
+        Term::Blank(label) => {
+            out.extend_from_slice(b"_:")?;
+            out.extend_from_slice(label.as_bytes())?;
+        }
+        Term::Literal(literal) => {
+            push_quoted(out, literal.lexical.as_bytes())?;
+            push_kind(out, &literal.kind)?;
+        }
+    }
+    Ok(())
+}
+
+/// The canonical text of a term.
+pub fn print_term(alloc: Global, term: &Term) -> Result<Bytes, OutOfMemory>
+    ensures text { IfOk result (λ v. v ≡ term_text term.now) }
+    ensures read_again { IfOk result (λ v. (rest : List ℕ) → EndsTerm term.now rest → TermAt (v ++ rest) term.now rest) }
+{
+    let mut out = Vec::new(alloc);
+    push_term(&mut out, term)?;
+    Ok(Bytes::from_vec(out))
+}

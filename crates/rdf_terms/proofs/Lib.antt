@@ -1,0 +1,5 @@
+pub mod Labels
+pub mod LowerTags
+pub mod Misfits
+pub mod Schemes
+pub mod Tags

@@ -1,0 +1,10 @@
+pub mod Datatype
+pub mod Dataset
+pub mod Fit
+pub mod Iri
+pub mod Label
+pub mod Line
+pub mod Names
+pub mod Quad
+pub mod Tag
+pub mod Terms

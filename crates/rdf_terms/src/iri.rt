@@ -1,0 +1,118 @@
+ghost use Rattle.std.specs.Prelude.{◌≡◌, IfOk, MatchResult, MatchOption, IsUtf8};
+ghost use Rattle.rdf_terms.specs.Iri.{has_scheme as spells_scheme, is_forbidden as no_iri_byte, is_scheme_byte as in_scheme, ends_scheme as spells_end, IsIri, AllowedAll, FirstForbidden};
+ghost use Rattle.rdf_terms.specs.Terms.{IsIriFault};
+
+use crate::fault::TermFault;
+use delta_base::{OutOfMemory, Text};
+use std::marker::Model;
+
+/// An IRI, seen as its bytes.
+#[derive(Drop)]
+pub struct Iri {
+    text: Text,
+}
+
+impl Model for Iri {
+    ghost use Rattle.std.specs.Prelude.{ℕ, List};
+    ghost use Rattle.rdf_terms.specs.Iri.{IsIri};
+
+    ghost Value = { List ℕ };
+
+    ghost view = { λ i. i.text };
+
+    ghost invariant = { λ i. IsIri i.text };
+}
+
+impl Iri {
+    /// The IRI of a text.
+    pub fn new(text: Text) -> Result<Iri, TermFault>
+        ensures { MatchResult result (λ i. IsIri text × (i ≡ text)) (λ e. IsIriFault text e) }
+    {
+        if let Some(at) = first_forbidden(text.as_bytes()) {
+            return Err(TermFault::BadIri { at });
+        }
+        if !has_scheme(text.as_bytes()) {
+            return Err(TermFault::RelativeIri);
+        }
+        Ok(Iri { text })
+    }
+
+    /// The IRI of a text that is known to be one.
+    pub fn of_checked(text: Text) -> Iri
+        requires { IsIri text }
+        ensures { result ≡ text }
+    {
+        Iri { text }
+    }
+
+    pub fn as_bytes(&self) -> &[u8]
+        ensures value { result.now ≡ self.now }
+        ensures is_iri { IsIri self.now }
+        ensures utf8 { IsUtf8 self.now }
+    {
+        self.text.as_bytes()
+    }
+
+    /// An equal value.
+    pub fn copy(&self) -> Result<Iri, OutOfMemory>
+        ensures { IfOk result (λ i. i ≡ self.now) }
+    {
+        Ok(Iri {
+            text: self.text.copy()?,
+        })
+    }
+}
+
+/// Whether a scheme stands in front: a letter, then letters, digits, `+`, `-`, `.`, then `:`.
+#[tactic(auto, unfolding(crate::specs::Iri::has_scheme))]
+pub fn has_scheme(bytes: &[u8]) -> bool
+    ensures { result ≡ spells_scheme bytes.now }
+{
+    match bytes {
+        [] => false,
+        [first, rest @ ..] => first.is_ascii_alphabetic() && ends_scheme(rest),
+    }
+}
+
+fn is_scheme_byte(b: u8) -> bool
+    ensures { result ≡ in_scheme b }
+{
+    b.is_ascii_alphanumeric() || b == b'+' || b == b'-' || b == b'.'
+}
+
+#[tactic(auto, using(crate::proofs::Schemes::scheme_steps))]
+fn ends_scheme(rest: &[u8]) -> bool
+    ensures { result ≡ spells_end rest.now }
+{
+    for b in rest {
+        if *b == b':' {
+            return true;
+        }
+        if !is_scheme_byte(*b) {
+            return false;
+        }
+    }
+    false
+}
+
+fn is_forbidden(b: u8) -> bool
+    ensures { result ≡ no_iri_byte b }
+{
+    b < 33
+        || matches!(
+            b,
+            b'<' | b'>' | b'"' | b'{' | b'}' | b'|' | b'^' | b'`' | b'\\'
+        )
+}
+
+/// The place of the first byte that no IRI holds.
+fn first_forbidden(bytes: &[u8]) -> Option<usize>
+    ensures { MatchOption result (AllowedAll bytes.now) (λ at. FirstForbidden bytes.now at) }
+{
+    for (at, b) in bytes.iter().enumerate() {
+        if is_forbidden(*b) {
+            return Some(at);
+        }
+    }
+    None
+}

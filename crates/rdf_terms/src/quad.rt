@@ -1,0 +1,138 @@
+ghost use Rattle.std.specs.Prelude.{◌≡◌, IfOk, IsTrue, MatchResult, Some, None};
+ghost use Rattle.rdf_terms.specs.Quad.{statement, is_iri, is_literal, may_be_graph, is_quad, bad_place};
+
+use crate::term::Term;
+use delta_base::OutOfMemory;
+use std::marker::Model;
+
+/// A statement; without a graph it is in the default graph.
+#[derive(Drop)]
+pub struct Quad {
+    subject: Term,
+    predicate: Term,
+    object: Term,
+    graph: Option<Term>,
+}
+
+impl Model for Quad {
+    ghost use Rattle.std.specs.Prelude.{IsTrue};
+    ghost use Rattle.rdf_terms.specs.Quad.{Statement, is_quad, statement};
+
+    ghost Value = { Statement };
+
+    ghost view = { λ q. statement q.subject q.predicate q.object q.graph };
+
+    ghost invariant = { λ q. IsTrue (is_quad (statement q.subject q.predicate q.object q.graph)) };
+}
+
+/// The first place, from 0, whose term isn't allowed there.
+#[derive(Clone, Copy, Debug, PartialEq, Eq)]
+pub struct BadPosition {
+    pub place: u8,
+}
+
+fn is_iri_term(term: &Term) -> bool
+    ensures { result ≡ is_iri term.now }
+{
+    matches!(term, Term::Iri(_))
+}
+
+fn is_literal_term(term: &Term) -> bool
+    ensures { result ≡ is_literal term.now }
+{
+    matches!(term, Term::Literal(_))
+}
+
+fn is_graph(graph: &Option<Term>) -> bool
+    ensures { result ≡ may_be_graph graph.now }
+{
+    match graph {
+        None => true,
+        Some(term) => !is_literal_term(term),
+    }
+}
+
+pub(crate) fn copy_graph(graph: &Option<Term>) -> Result<Option<Term>, OutOfMemory>
+    ensures { IfOk result (λ g. g ≡ graph.now) }
+{
+    Ok(match graph {
+        None => None,
+        Some(term) => Some(term.copy()?),
+    })
+}
+
+impl Quad {
+    /// The statement of terms that are known to be allowed in their places.
+    pub fn of_checked(subject: Term, predicate: Term, object: Term, graph: Option<Term>) -> Quad
+        requires { IsTrue (is_quad (statement subject predicate object graph)) }
+        ensures { result ≡ statement subject predicate object graph }
+    {
+        Quad {
+            subject,
+            predicate,
+            object,
+            graph,
+        }
+    }
+
+    pub fn new(
+        subject: Term,
+        predicate: Term,
+        object: Term,
+        graph: Option<Term>,
+    ) -> Result<Quad, BadPosition>
+        ensures { let q = statement subject predicate object graph in MatchResult result ((λ v. (v ≡ q) × (bad_place q ≡ None))) (λ e. bad_place q ≡ Some e.place) }
+    {
+        if is_literal_term(&subject) {
+            return Err(BadPosition { place: 0 });
+        }
+        if !is_iri_term(&predicate) {
+            return Err(BadPosition { place: 1 });
+        }
+        if !is_graph(&graph) {
+            return Err(BadPosition { place: 3 });
+        }
+        Ok(Quad {
+            subject,
+            predicate,
+            object,
+            graph,
+        })
+    }
+
+    pub fn subject(&self) -> &Term
+        ensures { result.now ≡ self.now.subject }
+    {
+        &self.subject
+    }
+
+    pub fn predicate(&self) -> &Term
+        ensures { result.now ≡ self.now.predicate }
+    {
+        &self.predicate
+    }
+
+    pub fn object(&self) -> &Term
+        ensures { result.now ≡ self.now.object }
+    {
+        &self.object
+    }
+
+    pub fn graph(&self) -> &Option<Term>
+        ensures { result.now ≡ self.now.graph }
+    {
+        &self.graph
+    }
+
+    /// An equal value.
+    pub fn copy(&self) -> Result<Quad, OutOfMemory>
+        ensures { IfOk result (λ q. q ≡ self.now) }
+    {
+        Ok(Quad {
+            subject: self.subject.copy()?,
+            predicate: self.predicate.copy()?,
+            object: self.object.copy()?,
+            graph: copy_graph(&self.graph)?,
+        })
+    }
+}

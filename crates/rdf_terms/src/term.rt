@@ -1,0 +1,105 @@
+ghost use Rattle.std.specs.Prelude.{◌≡◌, IfOk, MatchResult};
+ghost use Rattle.rdf_terms.specs.declared.term.LiteralKind.TheVariants.{Plain};
+ghost use Rattle.rdf_terms.specs.Terms.{typed_literal, IsTagged, IsTagFault};
+
+use crate::datatype::{Datatype, is_lang_string, is_xsd_string};
+use crate::fault::TermFault;
+use crate::iri::Iri;
+use crate::label::Label;
+use crate::tag::Tag;
+use delta_base::{OutOfMemory, Text};
+use std::alloc::Global;
+
+/// What stands behind a literal's text. `Plain` is xsd:string.
+#[derive(Drop)]
+pub enum LiteralKind {
+    Plain,
+    Typed(Datatype),
+    Tagged(Tag),
+}
+
+#[derive(Drop)]
+pub struct Literal {
+    pub lexical: Text,
+    pub kind: LiteralKind,
+}
+
+#[derive(Drop)]
+pub enum Term {
+    Iri(Iri),
+    Blank(Label),
+    Literal(Literal),
+}
+
+impl LiteralKind {
+    /// An equal value.
+    pub fn copy(&self) -> Result<LiteralKind, OutOfMemory>
+        ensures { IfOk result (λ k. k ≡ self.now) }
+    {
+        Ok(match self {
+            LiteralKind::Plain => LiteralKind::Plain,
+            LiteralKind::Typed(datatype) => LiteralKind::Typed(datatype.copy()?),
+            LiteralKind::Tagged(tag) => LiteralKind::Tagged(tag.copy()?),
+        })
+    }
+}
+
+impl Literal {
+    pub fn plain(lexical: Text) -> Literal
+        ensures { result ≡ record { lexical = lexical; kind = Plain } }
+    {
+        Literal {
+            lexical,
+            kind: LiteralKind::Plain,
+        }
+    }
+
+    /// A literal with a datatype.
+    pub fn typed(lexical: Text, datatype: Iri) -> Result<Literal, TermFault>
+        ensures { result ≡ typed_literal lexical datatype }
+    {
+        if is_lang_string(datatype.as_bytes()) {
+            return Err(TermFault::LangStringWithoutTag);
+        }
+        if is_xsd_string(datatype.as_bytes()) {
+            return Ok(Literal::plain(lexical));
+        }
+        Ok(Literal {
+            lexical,
+            kind: LiteralKind::Typed(Datatype::of_checked(datatype)),
+        })
+    }
+
+    /// A literal with a language tag: what stands behind `@`.
+    pub fn tagged(alloc: Global, lexical: Text, tag: &Text) -> Result<Literal, TermFault>
+        ensures { MatchResult result (λ l. IsTagged lexical tag.now l) (λ e. IsTagFault tag.now e) }
+    {
+        Ok(Literal {
+            lexical,
+            kind: LiteralKind::Tagged(Tag::new(alloc, tag)?),
+        })
+    }
+
+    /// An equal value.
+    pub fn copy(&self) -> Result<Literal, OutOfMemory>
+        ensures { IfOk result (λ l. l ≡ self.now) }
+    {
+        Ok(Literal {
+            lexical: self.lexical.copy()?,
+            kind: self.kind.copy()?,
+        })
+    }
+}
+
+impl Term {
+    /// An equal value.
+    pub fn copy(&self) -> Result<Term, OutOfMemory>
+        ensures { IfOk result (λ t. t ≡ self.now) }
+    {
+        Ok(match self {
+            Term::Iri(iri) => Term::Iri(iri.copy()?),
+            Term::Blank(label) => Term::Blank(label.copy()?),
+            Term::Literal(literal) => Term::Literal(literal.copy()?),
+        })
+    }
+}

@@ -1,0 +1,5 @@
+pub mod Fault
+pub mod Faults
+pub mod Grammar
+pub mod Printing
+pub mod Reading

@@ -1,0 +1,28 @@
+//! Rows.
+
+ghost use Rattle.std.specs.Prelude.{◌≡◌, IfOk};
+
+use delta_base::{OutOfMemory, Text};
+use rdf_terms::{Change, Term};
+
+/// A row of a patch.
+#[derive(Drop)]
+pub enum Row {
+    Header { key: Text, value: Term },
+    Change(Change),
+}
+
+impl Row {
+    /// An equal row.
+    pub fn copy(&self) -> Result<Row, OutOfMemory>
+        ensures { IfOk result (λ r. r ≡ self.now) }
+    {
+        Ok(match self {
+            Row::Header { key, value } => Row::Header {
+                key: key.copy()?,
+                value: value.copy()?,
+            },
+            Row::Change(change) => Row::Change(change.copy()?),
+        })
+    }
+}

@@ -1,0 +1,126 @@
+use crate::{Row, RowFault, RowKind, read_row, skip_space};
+use nquads_text::TextKind;
+use std::alloc::Global;
+use std::process::Abort;
+
+/// The first row of a text, and the place behind it.
+fn first_row(alloc: Global, text: &[u8]) -> Result<(Row, usize), RowFault> {
+    let at = skip_space(text, 0);
+    if at == text.len() {
+        return Err(RowFault::OutOfMemory);
+    }
+    read_row(alloc, text, at)
+}
+
+/// Where the first row ends, or its first fault.
+fn outcome(alloc: Global, text: &[u8]) -> Result<usize, RowFault> {
+    let (_row, end) = first_row(alloc, text)?;
+    Ok(end)
+}
+
+/// The first row of a text has this fault.
+fn fails(rt: &impl Abort, alloc: Global, text: &[u8], at: u64, kind: RowKind) {
+    let fault = RowFault::At { at, kind };
+    assert_eq!(rt; outcome(alloc, text), Err(fault));
+}
+
+/// The first row of a text has this fault of terms.
+fn fails_as_text(rt: &impl Abort, alloc: Global, text: &[u8], at: u64, kind: TextKind) {
+    fails(rt, alloc, text, at, RowKind::Common(kind));
+}
+
+#[test]
+fn an_ill_formed_byte_ends_a_comment(rt: HostRuntime) {
+    let alloc = rt.alloc();
+    assert_eq!(rt; skip_space(b"# \xC3\xA9\n\xFF", 0), 5);
+    assert_eq!(rt; skip_space(b"# \xFF\n", 0), 2);
+    fails_as_text(&rt, alloc, b"TX # \xFF\n.", 5, TextKind::NotUtf8);
+    fails_as_text(&rt, alloc, b"H \xFF", 2, TextKind::NotUtf8);
+}
+
+#[test]
+fn a_word_that_the_end_may_cut_is_truncated(rt: HostRuntime) {
+    let alloc = rt.alloc();
+    fails_as_text(&rt, alloc, b"PA ex", 5, TextKind::Truncated);
+    fails_as_text(&rt, alloc, b"TX", 2, TextKind::Truncated);
+    fails_as_text(&rt, alloc, b"TX ", 3, TextKind::Truncated);
+}
+
+#[test]
+fn only_the_eight_words_are_codes(rt: HostRuntime) {
+    let alloc = rt.alloc();
+    fails(&rt, alloc, b"h id <uuid:a> .", 0, RowKind::UnknownCode);
+    fails(&rt, alloc, b"TXA .", 0, RowKind::UnknownCode);
+    fails_as_text(&rt, alloc, b"1 .", 0, TextKind::BadToken);
+    fails_as_text(&rt, alloc, b"<a:b> .", 0, TextKind::BadToken);
+}
+
+#[test]
+fn terms_are_counted(rt: HostRuntime) {
+    let alloc = rt.alloc();
+    fails(
+        &rt,
+        alloc,
+        b"A <http://e/s> <http://e/p> .",
+        28,
+        RowKind::WrongCount,
+    );
+    fails(
+        &rt,
+        alloc,
+        b"A <a:b> <a:b> <a:b> <a:b> <a:b> .",
+        26,
+        RowKind::WrongCount,
+    );
+    fails(&rt, alloc, b"TX <a:b> .", 3, RowKind::WrongCount);
+    fails_as_text(&rt, alloc, b"TX x", 3, TextKind::BadToken);
+    fails(&rt, alloc, b"H .", 2, RowKind::WrongCount);
+    fails(&rt, alloc, b"PA .", 3, RowKind::WrongCount);
+    fails_as_text(
+        &rt,
+        alloc,
+        b"A <a:b> <a:b> <a:b> x",
+        20,
+        TextKind::MissingDot,
+    );
+    fails_as_text(&rt, alloc, b"H id <a:b> x", 11, TextKind::MissingDot);
+}
+
+#[test]
+fn each_term_has_its_place(rt: HostRuntime) {
+    let alloc = rt.alloc();
+    fails_as_text(&rt, alloc, b"A \"x\"", 2, TextKind::BadPosition);
+    fails_as_text(&rt, alloc, b"A <a:b> _:b <a:b> .", 8, TextKind::BadPosition);
+    fails_as_text(
+        &rt,
+        alloc,
+        b"A <a:b> <a:b> <a:b> \"g\" .",
+        20,
+        TextKind::BadPosition,
+    );
+    fails_as_text(&rt, alloc, b"PA <a:b> <a:b> .", 3, TextKind::BadPosition);
+    fails_as_text(&rt, alloc, b"PA 1 <http://e/> .", 3, TextKind::BadToken);
+    fails_as_text(&rt, alloc, b"H <a:b> .", 2, TextKind::BadToken);
+}
+
+#[test]
+fn a_string_in_the_place_of_an_iri_is_one(rt: HostRuntime) {
+    let alloc = rt.alloc();
+    fails_as_text(&rt, alloc, b"PA ex \"a b:c\" .", 6, TextKind::BadIri);
+    fails_as_text(&rt, alloc, b"PA ex \"ab\" .", 6, TextKind::RelativeIri);
+    fails_as_text(&rt, alloc, b"PA ex \"a:b\"@en .", 6, TextKind::BadPosition);
+}
+
+#[test]
+fn brackets_hold_a_whole_label(rt: HostRuntime) {
+    let alloc = rt.alloc();
+    fails_as_text(&rt, alloc, b"A <_:a.> <a:b> <a:b> .", 2, TextKind::BadLabel);
+    fails_as_text(&rt, alloc, b"A <_:> <a:b> <a:b> .", 2, TextKind::BadLabel);
+    fails_as_text(
+        &rt,
+        alloc,
+        b"A <_a> <a:b> <a:b> .",
+        2,
+        TextKind::RelativeIri,
+    );
+}
