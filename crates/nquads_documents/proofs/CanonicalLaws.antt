@@ -1,10 +1,9 @@
 -- A printed document is read as its statements.
-use Rattle.std.proofs.Common.{◌≡◌, ◌↔◌, ℕ, zero, suc, ◌+◌, ◌<◌, List, [], ◌∷◌, ◌++◌, length, map, get_or, Ok, refl, sym, ap, subst, ◌∙◌, arith}
+use Rattle.std.proofs.Common.{◌≡◌, ℕ, zero, suc, ◌<◌, List, [], ◌∷◌, ◌++◌, length, map, get_or, refl, sym, ap, subst, ◌∙◌, arith}
 use Rattle.std.specs.List.{All, Contains, flat_map}
 use Rattle.std.proofs.lemmas.List.{append-nil}
 use Rattle.std.proofs.lemmas.List.Elements.{All-nil, All-cons, All-weaker, All-contains}
 use Rattle.rdf_terms.specs.Quad.{Statement}
-use Rattle.nquads_documents.specs.Canonical.{IsCanonical}
 use Rattle.nquads_documents.specs.Laws.{IsQuadValue, CanonicalRead}
 use Rattle.rdf_terms.specs.Line.{line}
 use Rattle.nquads_documents.specs.Reading.{document_at}

@@ -1,18 +1,17 @@
 -- A document is read exactly where the grammar has one, where that is so of terms.
-use Rattle.std.proofs.Common.{◌≡◌, ℕ, zero, suc, ◌+◌, ◌-◌, ◌<◌, ◌≤◌, Bool, true, false, cond, ◌||◌, List, [], ◌∷◌, ◌++◌, length, Option, Some, None, Ok, Err, nat_eq, refl, sym, ap, subst, ◌∙◌, ◌⊎◌, inl, inr, ⊎_elim, arith, append_assoc}
+use Rattle.std.proofs.Common.{◌≡◌, ℕ, zero, suc, ◌+◌, ◌-◌, ◌<◌, ◌≤◌, Bool, true, false, cond, ◌||◌, List, [], ◌∷◌, ◌++◌, length, Option, Some, None, Ok, nat_eq, refl, sym, ap, subst, ◌∙◌, ◌⊎◌, inl, inr, ⊎_elim, arith, append_assoc}
 use Rattle.std.specs.List.{list_all}
 use Rattle.std.proofs.lemmas.Bool.{false≢true, eqb-true}
 use Rattle.std.proofs.lemmas.List.{append-nil, length-append}
 use Rattle.rdf_terms.specs.Quad.{Statement}
 use Rattle.nquads_text.specs.Fault.{Read, ◌>>=◌}
-use Rattle.nquads_text.specs.Reading.{char_at}
-use Rattle.nquads_text.specs.Terms.{skip_blanks, term_at}
+use Rattle.nquads_text.specs.Terms.{skip_blanks}
 use Rattle.nquads_text.specs.Statement.{statement_at}
 use Rattle.nquads_text.proofs.Inside.{low_char}
 use Rattle.nquads_text.proofs.Steps.{bind_ok, chosen, ok_is}
 use Rattle.nquads_documents.specs.Grammar.{is_end}
 use Rattle.nquads_documents.specs.Reading.{comment_at, comment_part, statement_part, part_by, part_at, with_part, line_end_at, document_at}
-use Rattle.nquads_text.specs.Grammar.{is_blank, StartsWith, Blanks, TermAt}
+use Rattle.nquads_text.specs.Grammar.{is_blank, StartsWith, Blanks}
 use Rattle.nquads_documents.specs.Grammar.{StatementAt, IsEmptyLine, IsLine, of_line, AreLines, IsDocument}
 use Rattle.nquads_documents.specs.Laws.{TermsFound, TermsAgain, DocumentsFound, DocumentsAgain, DocumentsOnce, LinesAgain}
 use Rattle.rdf_terms.specs.Line.{line}

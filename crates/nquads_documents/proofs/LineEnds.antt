@@ -1,5 +1,5 @@
 -- What follows a statement on its line is read exactly where the grammar has blanks, and a comment or nothing.
-use Rattle.std.proofs.Common.{◌≡◌, ℕ, zero, suc, ◌+◌, ◌-◌, ◌<◌, ◌≤◌, Bool, true, false, cond, not, ◌||◌, IsTrue, List, [], ◌∷◌, ◌++◌, length, drop, get_or, Ok, Err, nat_eq, refl, sym, ap, subst, ◌∙◌, ◌⊎◌, inl, inr, ⊎_elim, arith, append_assoc}
+use Rattle.std.proofs.Common.{◌≡◌, ℕ, zero, suc, ◌+◌, ◌-◌, ◌<◌, ◌≤◌, Bool, true, false, cond, not, ◌||◌, List, [], ◌∷◌, ◌++◌, length, drop, get_or, Ok, Err, nat_eq, refl, sym, ap, subst, ◌∙◌, ◌⊎◌, inl, inr, ⊎_elim, arith, append_assoc}
 use Rattle.std.specs.List.{list_all}
 use Rattle.std.specs.Str.{encode_utf8_all, IsUtf8}
 use Rattle.std.specs.Char.{encode_utf8, IsScalar}
@@ -15,7 +15,7 @@ use Rattle.nquads_text.specs.Terms.{skip_blanks}
 use Rattle.nquads_text.proofs.Fronts.{char_spelled, char_again}
 use Rattle.nquads_text.proofs.Steps.{bind_ok, chosen, ok_is, not_ok}
 use Rattle.nquads_text.specs.Grammar.{is_blank, StartsWith, Blanks}
-use Rattle.nquads_documents.specs.Grammar.{IsComment, IsEmptyLine}
+use Rattle.nquads_documents.specs.Grammar.{IsEmptyLine}
 use Rattle.nquads_documents.specs.Grammar.{is_end}
 use Rattle.nquads_documents.specs.Reading.{comment_at, no_end_at, end_by, line_end_at}
 use Rattle.nquads_documents.proofs.BlankLaws.{blanks_found, skip_again}

@@ -1,9 +1,9 @@
 -- The first fault of a comment, and of what follows a statement on its line, is met in its reading, and no other is.
-use Rattle.std.proofs.Common.{◌≡◌, ℕ, zero, suc, ◌+◌, ◌-◌, ◌<◌, ◌≤◌, Bool, true, false, cond, not, ◌||◌, List, [], ◌∷◌, ◌++◌, length, drop, Option, Some, None, Ok, Err, nat_eq, refl, sym, ap, subst, ◌∙◌, ◌⊎◌, inl, inr, ⊎_elim, arith, append_assoc, eq-eqb}
+use Rattle.std.proofs.Common.{◌≡◌, ℕ, zero, suc, ◌+◌, ◌-◌, ◌<◌, Bool, true, false, cond, ◌||◌, List, [], ◌∷◌, ◌++◌, length, drop, Ok, Err, nat_eq, refl, sym, ap, subst, ◌∙◌, ◌⊎◌, inl, inr, ⊎_elim, arith, append_assoc, eq-eqb}
 use Rattle.std.specs.List.{list_all}
-use Rattle.std.specs.Str.{encode_utf8_all, IsUtf8}
+use Rattle.std.specs.Str.{encode_utf8_all}
 use Rattle.std.specs.Char.{IsScalar, encode_utf8}
-use Rattle.std.proofs.lemmas.Bool.{and_parts, or_parts, false≢true, eqb-true, cases_lt, ne_eqb}
+use Rattle.std.proofs.lemmas.Bool.{and_parts, false≢true, eqb-true, ne_eqb}
 use Rattle.std.proofs.lemmas.List.{length-append, drop_at}
 use Rattle.std.proofs.lemmas.List.Folds.{list_all-append}
 use Rattle.std.proofs.lemmas.Str.{encode_ascii, IsUtf8-append, IsUtf8-encode, IsUtf8-nil, byte_from_char, char_from_byte}

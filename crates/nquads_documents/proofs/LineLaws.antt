@@ -1,14 +1,12 @@
 -- A printed line is read as its one statement.
-use Rattle.std.proofs.Common.{◌≡◌, ℕ, ◌+◌, ◌<◌, ◌≤◌, Bool, true, false, cond, not, ◌&&◌, ◌||◌, IsTrue, List, [], ◌∷◌, ◌++◌, length, drop, Option, Some, None, Ok, Err, nat_eq, refl, sym, ap, subst, ◌∙◌, arith, append_assoc}
-use Rattle.std.specs.List.{All, flat_map}
+use Rattle.std.proofs.Common.{◌≡◌, ℕ, ◌<◌, ◌≤◌, Bool, true, false, not, ◌&&◌, ◌||◌, List, [], ◌∷◌, ◌++◌, length, drop, Option, Some, None, Ok, nat_eq, refl, sym, ap, ◌∙◌, arith, append_assoc}
+use Rattle.std.specs.List.{flat_map}
 use Rattle.std.proofs.lemmas.Bool.{and_parts, false≢true}
 use Rattle.std.proofs.lemmas.List.{append-nil, length-append, drop_at}
 use Rattle.std.proofs.lemmas.List.Elements.{All-head, All-tail}
 use Rattle.rdf_terms.specs.declared.term.Term.{Term}
 use Rattle.rdf_terms.specs.declared.term.Term.TheVariants as term
-use Rattle.rdf_terms.specs.Quad.{Statement, is_quad, is_iri, is_literal, may_be_graph}
-use Rattle.nquads_text.specs.Fault.{Read, ◌>>=◌}
-use Rattle.nquads_text.specs.Reading.{char_at}
+use Rattle.rdf_terms.specs.Quad.{Statement, is_iri, is_literal, may_be_graph}
 use Rattle.nquads_text.specs.Terms.{skip_blanks, term_at}
 use Rattle.nquads_text.specs.Statement.{node_at, predicate_at, dot_at, graph_at, statement_at}
 use Rattle.nquads_text.specs.Grammar.{is_blank}

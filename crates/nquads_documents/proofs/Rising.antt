@@ -1,5 +1,5 @@
 -- A rising list is told by its elements, and so is the canonical text of statements.
-use Rattle.std.proofs.Common.{◌≡◌, ◌↔◌, ℕ, zero, suc, ◌+◌, ◌<◌, List, [], ◌∷◌, length, map, get_or, refl, sym, ap, subst, ◌∙◌, ◌⊎◌, inl, inr, ⊎_elim, arith}
+use Rattle.std.proofs.Common.{◌≡◌, ℕ, zero, suc, ◌<◌, List, [], ◌∷◌, length, map, get_or, refl, sym, ap, subst, ◌∙◌, ◌⊎◌, inl, inr, ⊎_elim, arith}
 use Rattle.std.specs.Cmp.{IsTotalOrder}
 use Rattle.std.specs.Cmp.Lexicographic.{slice_cmp, nat_list_cmp_total}
 use Rattle.std.specs.List.{Contains, AllByRecursion, flat_map}
@@ -10,7 +10,6 @@ use Rattle.std.specs.declared.cmp.Ordering.TheVariants.{Less, Equal}
 use Rattle.std.proofs.lemmas.Cmp.{tied_itself}
 use Rattle.std.proofs.lemmas.List.Elements.{All-contains, All-from_recursion}
 use Rattle.rdf_terms.specs.Quad.{Statement}
-use Rattle.nquads_documents.specs.Canonical.{IsCanonical}
 use Rattle.nquads_documents.specs.Laws.{CanonicalOnce}
 use Rattle.rdf_terms.specs.Line.{line}
 use Rattle.nquads_documents.proofs.CanonicalLaws.{contains_map, from_map, later}

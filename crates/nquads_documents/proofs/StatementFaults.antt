@@ -1,5 +1,5 @@
 -- The first fault of a statement is met in its reading, and no other is, where that is so of terms.
-use Rattle.std.proofs.Common.{◌≡◌, ℕ, ◌<◌, Bool, true, false, cond, not, ◌||◌, List, [], ◌∷◌, ◌++◌, length, Option, Some, None, Ok, Err, nat_eq, refl, sym, ap, subst, ◌∙◌, ◌⊎◌, inl, inr, ⊎_elim, arith}
+use Rattle.std.proofs.Common.{◌≡◌, ℕ, ◌<◌, Bool, true, false, cond, ◌||◌, List, [], ◌∷◌, ◌++◌, Option, Some, None, Ok, Err, nat_eq, refl, sym, ap, ◌∙◌, ◌⊎◌, inl, inr, ⊎_elim, arith}
 use Rattle.std.specs.Char.{IsScalar, encode_utf8}
 use Rattle.std.proofs.lemmas.Bool.{false≢true, eqb-true}
 use Rattle.std.proofs.lemmas.Bool.Decides.{nat_tests}
@@ -8,17 +8,16 @@ use Rattle.bstr.specs.Utf8.{decoded}
 use Rattle.rdf_terms.specs.declared.term.Term.{Term}
 use Rattle.rdf_terms.specs.Quad.{Statement, statement, is_iri, is_literal}
 use Rattle.nquads_text.specs.declared.fault.TextKind.{TextKind}
-use Rattle.nquads_text.specs.declared.fault.TextKind.TheVariants.{NotUtf8, BadPosition, MissingDot, BadToken, Truncated}
+use Rattle.nquads_text.specs.declared.fault.TextKind.TheVariants.{NotUtf8, BadPosition, MissingDot, Truncated}
 use Rattle.nquads_text.specs.Fault.{Read, Fault, ◌>>=◌}
 use Rattle.nquads_text.specs.Reading.{char_at, char_or_fault}
 use Rattle.nquads_text.specs.Terms.{skip_blanks, term_at}
 use Rattle.nquads_text.specs.Statement.{node_at, predicate_at, dot_at, graph_at, statement_at}
 use Rattle.nquads_text.proofs.Fronts.{char_spelled, char_again, char_at-ascii}
-use Rattle.nquads_text.proofs.Steps.{bind_ok, bind_err, chosen, ok_is, not_ok, not_both}
-use Rattle.nquads_text.specs.Grammar.{StartsWith, Blanks, TermAt}
-use Rattle.nquads_documents.specs.Grammar.{StatementAt}
+use Rattle.nquads_text.proofs.Steps.{bind_err, chosen, ok_is, not_both}
+use Rattle.nquads_text.specs.Grammar.{StartsWith}
 use Rattle.nquads_text.specs.Faults.{begins_term}
-use Rattle.nquads_documents.specs.Faults.{IsIllFormed, OtherFault, MissingFault, DotFault, NodeFault, PredicateFault, GraphFault, SubjectAt, PredicateAt, ObjectAt, StatementFault}
+use Rattle.nquads_documents.specs.Faults.{IsIllFormed, MissingFault, DotFault, NodeFault, PredicateFault, GraphFault, SubjectAt, PredicateAt, ObjectAt, StatementFault}
 use Rattle.nquads_documents.specs.Laws.{TermsFound, TermsAgain, TermFaultsFound, TermFaultsAgain}
 use Rattle.nquads_documents.proofs.BlankLaws.{blanks_found, blanks_again}
 use Rattle.nquads_documents.proofs.StatementLaws.{term_begun, node_found, node_again, predicate_found, predicate_again}

@@ -1,11 +1,11 @@
 -- A statement is read exactly where the grammar has one, where that is so of terms.
-use Rattle.std.proofs.Common.{◌≡◌, ℕ, Bool, true, false, cond, ◌||◌, List, [], ◌∷◌, ◌++◌, Option, Some, None, Ok, Err, nat_eq, refl, sym, ap, subst, ◌∙◌, ◌⊎◌, inl, inr, ⊎_elim, arith}
+use Rattle.std.proofs.Common.{◌≡◌, ℕ, Bool, true, false, cond, ◌||◌, List, ◌∷◌, Option, Some, None, Ok, Err, nat_eq, refl, sym, ap, subst, ◌∙◌, ⊎_elim, arith}
 use Rattle.std.proofs.lemmas.Bool.{eqb-true}
 use Rattle.rdf_terms.specs.declared.term.Term.{Term}
 use Rattle.rdf_terms.specs.declared.term.Term.TheVariants as term
 use Rattle.rdf_terms.specs.Quad.{Statement, statement, is_iri, is_literal}
 use Rattle.nquads_text.specs.declared.fault.TextKind.TheVariants.{BadPosition, MissingDot, BadToken}
-use Rattle.nquads_text.specs.Fault.{Read, Fault, ◌>>=◌}
+use Rattle.nquads_text.specs.Fault.{Read, ◌>>=◌}
 use Rattle.nquads_text.specs.Reading.{char_at}
 use Rattle.nquads_text.specs.Terms.{skip_blanks, iri_at, label_at, literal_at, term_at}
 use Rattle.nquads_text.specs.Statement.{node_at, predicate_at, dot_at, graph_at, statement_at}

@@ -1,18 +1,16 @@
 -- What stands behind the end of a line changes nothing of the statement on it: the grammar has it with that tail exactly where it has it without.
-use Rattle.std.proofs.Common.{◌≡◌, ℕ, zero, suc, ◌+◌, ◌-◌, ◌<◌, ◌≤◌, Bool, true, false, cond, not, ◌||◌, IsTrue, List, [], ◌∷◌, ◌++◌, length, take, drop, get_or, Option, Some, None, nat_eq, refl, sym, ap, subst, ◌∙◌, ◌⊎◌, inl, inr, ⊎_elim, arith, append_assoc}
+use Rattle.std.proofs.Common.{◌≡◌, ℕ, ◌<◌, ◌≤◌, Bool, true, false, not, ◌||◌, List, [], ◌∷◌, ◌++◌, length, Option, Some, None, nat_eq, refl, sym, ap, subst, ◌∙◌, inl, inr, arith, append_assoc}
 use Rattle.std.specs.List.{list_all, flat_map}
-use Rattle.std.specs.Str.{encode_utf8_all, bytes_eq}
+use Rattle.std.specs.Str.{encode_utf8_all}
 use Rattle.std.specs.Char.{encode_utf8, is_ascii_alphabetic, is_ascii_alphanumeric}
-use Rattle.std.proofs.lemmas.Bool.{and_parts, or_parts, false≢true, eqb-true, cases_lt}
-use Rattle.std.proofs.lemmas.List.{append-nil, length-append, take_at, drop_at, get_or_append_left, take-append-drop}
+use Rattle.std.proofs.lemmas.Bool.{and_parts, false≢true, eqb-true, cases_lt}
 use Rattle.std.proofs.lemmas.List.Folds.{list_all-append}
-use lib.Utf8.{scalar, scalars}
 use Rattle.rdf_terms.specs.declared.term.LiteralKind.{LiteralKind}
 use Rattle.rdf_terms.specs.declared.term.Literal.{Literal}
 use Rattle.rdf_terms.specs.declared.term.Term.{Term}
 use Rattle.rdf_terms.specs.declared.term.Term.TheVariants as term
 use Rattle.rdf_terms.specs.Label.{is_inner, AreInner, LabelChars, IsLabel}
-use Rattle.rdf_terms.specs.Names.{is_name_char, is_name_start, is_digit_char, begins_name}
+use Rattle.rdf_terms.specs.Names.{is_name_char, is_name_start, begins_name}
 use Rattle.rdf_terms.specs.Quad.{Statement}
 use Rattle.rdf_terms.specs.Tag.{TagForm, AreWords}
 use Rattle.nquads_text.specs.Terms.{skip_blanks}

@@ -35,6 +35,10 @@ abbrev pub CanonicalRead : Type 0
 CanonicalRead = (quads : List Statement) (text : List ℕ) → All IsQuadValue quads → IsCanonical quads text
     → (kept : List Statement) × (document_at 0 text ≡ Ok (kept, [])) × ((q : Statement) → Contains kept q ↔ Contains quads q)
 
+-- the text is a document of the same statements
+abbrev pub IsDocumentOf : List Statement → List ℕ → Type 0
+IsDocumentOf quads text = (kept : List Statement) × IsDocument text kept × ((q : Statement) → Contains kept q ↔ Contains quads q)
+
 -- lists of the same statements have one canonical text
 abbrev pub CanonicalOnce : Type 0
 CanonicalOnce = (p q : List Statement) (a b : List ℕ) → ((s : Statement) → Contains p s ↔ Contains q s) → IsCanonical p a → IsCanonical q b → a ≡ b

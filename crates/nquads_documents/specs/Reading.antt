@@ -1,5 +1,5 @@
 -- Reading a document from left to right, with the first fault that is met.
-use Rattle.std.specs.Prelude.{◌≡◌, ℕ, zero, suc, ◌+◌, ◌-◌, ◌≤◌, Bool, List, [], ◌∷◌, length, take, drop, Option, Some, None, Result, Ok, Err, ◌==◌, ◌||◌, count_by, if◌then◌else◌}
+use Rattle.std.specs.Prelude.{◌≡◌, ℕ, zero, suc, ◌+◌, ◌-◌, ◌≤◌, List, [], ◌∷◌, length, take, drop, Option, Some, None, Result, Ok, Err, ◌==◌, count_by, if◌then◌else◌}
 use Rattle.rdf_terms.specs.Quad.{Statement}
 use Rattle.nquads_text.specs.declared.fault.TextKind.TheVariants.{BadToken}
 use Rattle.nquads_text.specs.Fault.{Fails, Read, ◌>>=◌}

@@ -1,7 +1,10 @@
 //! Canonical lines, and documents of them.
 
-ghost use Rattle.std.specs.Prelude.{◌≡◌, ◌++◌, OnOk, IfOk, map};
+ghost use Rattle.std.specs.Prelude.{◌≡◌, ◌++◌, ◌∷◌, [], OnOk, IfOk, map};
+ghost use Rattle.std.specs.List.{All};
 ghost use Rattle.nquads_documents.specs.Canonical.{IsCanonical};
+ghost use Rattle.nquads_documents.specs.Grammar.{IsDocument};
+ghost use Rattle.nquads_documents.specs.Laws.{IsGraphValue, IsQuadValue, IsDocumentOf};
 ghost use Rattle.rdf_terms.specs.Line.{line, graph_text};
 
 use delta_base::{Bytes, OutOfMemory};
@@ -10,7 +13,8 @@ use rdf_terms::{Quad, Quads, Term};
 use std::alloc::Global;
 
 fn push_graph(out: &mut Vec<u8>, graph: &Option<Term>) -> Result<(), OutOfMemory>
-    ensures { OnOk result (out.new.items ≡ out.old.items ++ graph_text graph.now) }
+    ensures text { OnOk result (out.new.items ≡ out.old.items ++ graph_text graph.now) }
+    ensures value { OnOk result (IsGraphValue graph.now) }
 {
     if let Some(term) = graph {
         out.push(b' ')?;
@@ -22,7 +26,8 @@ fn push_graph(out: &mut Vec<u8>, graph: &Option<Term>) -> Result<(), OutOfMemory
 /// Appends the canonical line of a quad.
 #[tactic(auto, using(crate::proofs::Parted::line_parts))]
 pub fn push_line(out: &mut Vec<u8>, quad: &Quad) -> Result<(), OutOfMemory>
-    ensures { OnOk result (out.new.items ≡ out.old.items ++ line quad.now) }
+    ensures text { OnOk result (out.new.items ≡ out.old.items ++ line quad.now) }
+    ensures value { OnOk result (IsQuadValue quad.now) }
 {
     push_term(out, quad.subject())?;
     out.push(b' ')?;
@@ -36,23 +41,27 @@ pub fn push_line(out: &mut Vec<u8>, quad: &Quad) -> Result<(), OutOfMemory>
 
 // The canonical line of a quad.
 pub fn line_of(alloc: Global, quad: &Quad) -> Result<Vec<u8>, OutOfMemory>
-    ensures { IfOk result (λ v. v.items ≡ line quad.now) }
+    ensures text { IfOk result (λ v. v.items ≡ line quad.now) }
+    ensures value { IfOk result (λ _. IsQuadValue quad.now) }
 {
     let mut out = Vec::new(alloc);
     push_line(&mut out, quad)?;
     Ok(out)
 }
 
-/// The canonical line of a quad.
+/// The canonical line of a quad, which is read again as that quad.
+#[tactic(auto, using(crate::proofs::Again::line_again))]
 pub fn print_line(alloc: Global, quad: &Quad) -> Result<Bytes, OutOfMemory>
-    ensures { IfOk result (λ bytes. bytes ≡ line quad.now) }
+    ensures text { IfOk result (λ bytes. bytes ≡ line quad.now) }
+    ensures read_again { IfOk result (λ bytes. IsDocument bytes (quad.now ∷ [])) }
 {
     Ok(Bytes::from_vec(line_of(alloc, quad)?))
 }
 
 // The canonical line of each quad.
 fn lines_of(alloc: Global, quads: &[Quad]) -> Result<Vec<Vec<u8>>, OutOfMemory>
-    ensures { IfOk result (λ v. map (λ l. l.items) v.items ≡ map line quads.now) }
+    ensures text { IfOk result (λ v. map (λ l. l.items) v.items ≡ map line quads.now) }
+    ensures values { IfOk result (λ _. All IsQuadValue quads.now) }
 {
     let mut lines = Vec::new(alloc);
     for quad in quads {
@@ -63,7 +72,8 @@ fn lines_of(alloc: Global, quads: &[Quad]) -> Result<Vec<Vec<u8>>, OutOfMemory>
 
 // The canonical lines of the quads, each once, in the order of their bytes.
 fn canonical(alloc: Global, quads: &[Quad]) -> Result<Vec<u8>, OutOfMemory>
-    ensures { IfOk result (λ v. IsCanonical quads.now v.items) }
+    ensures text { IfOk result (λ v. IsCanonical quads.now v.items) }
+    ensures values { IfOk result (λ _. All IsQuadValue quads.now) }
 {
     let mut lines = lines_of(alloc, quads)?;
     lines.sort()?;
@@ -74,9 +84,11 @@ fn canonical(alloc: Global, quads: &[Quad]) -> Result<Vec<u8>, OutOfMemory>
     }
 }
 
-/// The canonical lines of the quads, each once, in the order of their bytes.
+/// The canonical lines of the quads, each once, in the order of their bytes. They are read again as these quads.
+#[tactic(auto, using(crate::proofs::Again::document_again))]
 pub fn print_document(alloc: Global, quads: &Quads) -> Result<Bytes, OutOfMemory>
-    ensures { IfOk result (λ bytes. IsCanonical quads.now.items bytes) }
+    ensures text { IfOk result (λ bytes. IsCanonical quads.now.items bytes) }
+    ensures read_again { IfOk result (IsDocumentOf quads.now.items) }
 {
     Ok(Bytes::from_vec(canonical(alloc, quads.as_slice())?))
 }

@@ -89,3 +89,12 @@ fn empty_lines_hold_no_statement(rt: HostRuntime) {
         assert!(rt; printed.is_some_and(|bytes| bytes.is_empty()), "{text}");
     }
 }
+
+#[test]
+fn the_lines_of_a_document_are_rising(rt: HostRuntime) {
+    let text = "_:b<a:p>_:o.\n<a:s> <a:p> \"x\" . # c\n_:b <a:p> _:o .\n";
+    let lines = canonical_lines(rt.alloc(), text.as_bytes());
+    let text = lines.ok().and_then(|lines| lines.concat(rt.alloc()).ok());
+    let wanted = "<a:s> <a:p> \"x\" .\n_:b <a:p> _:o .\n";
+    assert!(rt; text.is_some_and(|text| text.as_slice() == wanted.as_bytes()));
+}

@@ -101,25 +101,29 @@ impl Quad {
     }
 
     pub fn subject(&self) -> &Term
-        ensures { result.now ≡ self.now.subject }
+        ensures value { result.now ≡ self.now.subject }
+        ensures is_quad { IsTrue (is_quad self.now) }
     {
         &self.subject
     }
 
     pub fn predicate(&self) -> &Term
-        ensures { result.now ≡ self.now.predicate }
+        ensures value { result.now ≡ self.now.predicate }
+        ensures is_quad { IsTrue (is_quad self.now) }
     {
         &self.predicate
     }
 
     pub fn object(&self) -> &Term
-        ensures { result.now ≡ self.now.object }
+        ensures value { result.now ≡ self.now.object }
+        ensures is_quad { IsTrue (is_quad self.now) }
     {
         &self.object
     }
 
     pub fn graph(&self) -> &Option<Term>
-        ensures { result.now ≡ self.now.graph }
+        ensures value { result.now ≡ self.now.graph }
+        ensures is_quad { IsTrue (is_quad self.now) }
     {
         &self.graph
     }

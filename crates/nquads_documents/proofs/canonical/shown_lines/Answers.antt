@@ -1,4 +1,4 @@
-use Rattle.std.proofs.Common.{◌≡◌, ◌<◌, ◌++◌, ◌∷◌, [], List, ℕ, Vec, Option, Some, None, Ok, sym, subst, arith}
+use Rattle.std.proofs.Common.{◌<◌, List, ℕ, Vec, sym, subst, arith}
 use Rattle.std.specs.declared.alloc.Global.{Global}
 use Rattle.std.proofs.lemmas.Result.{err_from_is_err_and}
 use Rattle.nquads_documents.specs.Reading.{document_at}

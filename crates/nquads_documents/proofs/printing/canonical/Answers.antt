@@ -12,9 +12,9 @@ abbrev bytes_of : Line → List ℕ
 bytes_of l = l.items
 
 -- the sort only moves the lines, and `dedup` keeps one of each
-pub returns-in-Ok : goal.returns-in-Ok
-returns-in-Ok c =
+pub returns-in-Ok-clause-text : goal.returns-in-Ok-clause-text
+returns-in-Ok-clause-text c =
     let sorted = c.sort.new.self.items in let kept = c.dedup.new.self.items in
-    made_canonical bytes_of c.args.quads.now c.in_ok-lines.lines.items sorted kept c.in-Ok.text.items c.in_ok-lines.ensures c.sort.ensures.permutation c.in_ok-sort.ensures.sorted
+    made_canonical bytes_of c.args.quads.now c.in_ok-lines.lines.items sorted kept c.in-Ok.text.items c.in_ok-lines.ensures.text c.sort.ensures.permutation c.in_ok-sort.ensures.sorted
     (dedup_is (same_shown bytes_of) sorted kept c.dedup.ensures.filtered)
     (same_from_all_zip (λ x y. y ≡ x) (flat_map bytes_of c.deref.result.now) c.in-Ok.text.items c.in-Ok.ensures.ok (λ x y same. same) ∙ ap (flat_map bytes_of) c.deref.ensures.value)
