@@ -1,0 +1,86 @@
+-- A text while its rows are taken, and what it is at its end.
+use Rattle.std.proofs.Common.{◌≡◌, ℕ, ◌<◌, ◌≤◌, Bool, true, false, List, [], ◌∷◌, ◌++◌, length, Some, None, Err, refl, sym, ap, subst, ◌∙◌, append-nil, inl, inr, arith}
+use Rattle.std.proofs.lemmas.List.{map-append}
+use Rattle.delta_base.specs.declared.id.Id.{Id}
+use Rattle.rows_text.specs.declared.fault.RowFault.{RowFault}
+use Rattle.rows_text.specs.declared.fault.RowFault.TheVariants as row
+use Rattle.patch_meaning.specs.declared.draft.Draft.{Draft}
+use Rattle.patch_meaning.specs.declared.fault.PatchFault.{PatchFault}
+use Rattle.patch_meaning.specs.declared.fault.PatchFault.TheVariants as faults
+use Rattle.patch_meaning.specs.declared.role.Role.{Role}
+use Rattle.patch_meaning.specs.declared.rows.Next.{Next}
+use Rattle.patch_meaning.specs.Checked.{Refuses, IsStopped, HasRead}
+use Rattle.patch_meaning.specs.Draft.{AreBehind, Stands}
+use Rattle.patch_meaning.specs.Next.{IsNextRow, IsNext}
+use Rattle.patch_meaning.specs.Patch.{AreOutside, IsPatch, rows_, no_row, refused, open_block, no_id, patch_limit, prev_list, refusal, row_refused}
+use Rattle.patch_meaning.specs.Roles.{role, said}
+use Rattle.patch_meaning.specs.Rows.{PlacedRow, Gap, RowsUpTo}
+use Rattle.patch_meaning.proofs.Rowed.{rows_more, row_within}
+
+-- the rows up to a place were taken
+pub record HasTaken (text : List ℕ) (at : ℕ) (d : Draft) : Type 0 where
+  pub rs : List PlacedRow
+  pub reads : RowsUpTo text 0 rs at
+  pub within : at ≤ length text
+  pub stands : Stands (said rs) d
+
+pub started : (text : List ℕ) (d : Draft) → Stands [] d → HasTaken text 0 d
+started text d s = record { rs = []; reads = refl; within = omega arith; stands = s }
+
+pub taken : (text : List ℕ) (at : ℕ) (old new : Draft) (next : Next) → HasTaken text at old → IsNextRow text at next → ((rs : List Role) → Stands rs old → Stands (rs ++ next.role ∷ []) new) → HasTaken text next.end new
+taken text at old new next h is step =
+    let placed : PlacedRow = record { row_ = is.0; at = next.at; end = next.end } in
+    record {
+      rs = h.rs ++ placed ∷ [];
+      reads = rows_more text 0 at h.rs placed h.reads is.1 is.2;
+      within = (row_within text next.at is.0 next.end is.2).1;
+      stands = subst (λ (rs : List Role). Stands rs new)
+          (ap (λ (r : Role). said h.rs ++ r ∷ []) is.3 ∙ sym (map-append (λ (r : PlacedRow). role r.row_) h.rs (placed ∷ [])))
+          (step (said h.rs) h.stands);
+    }
+
+-- what is left gets less
+pub further : (text : List ℕ) (at : ℕ) (next : Next) → IsNextRow text at next → (at < next.end) × (next.end ≤ length text)
+further text at next is =
+    let row = row_within text next.at is.0 next.end is.2 in
+    let low = is.1.1 in
+    (omega (arith, row.0, low), row.1)
+
+pub ended : (text : List ℕ) (at : ℕ) (d : Draft) → HasTaken text at d → Gap text at (length text) → HasRead text d
+ended text at d h gap = (h.rs, (at, h.reads, gap), h.stands)
+
+pub stopped : (text : List ℕ) (at : ℕ) (d : Draft) (next : Next) (fault : PatchFault) → length text ≤ patch_limit → HasTaken text at d → IsNextRow text at next
+    → ((rs : List Role) → Stands rs d → IsStopped rs next fault) → Refuses text fault
+stopped text at d next fault short h is stop = by (stop (said h.rs) h.stands)
+  where
+    by : IsStopped (said h.rs) next fault → Refuses text fault
+    by (inl memory) = inl memory
+    by (inr s) =
+        inr (rows_ h.rs next.at short (at, h.reads, is.1) h.stands.taken
+        (refused is.0 next.end s.0 is.2 (ap (refusal (said h.rs)) (sym is.3) ∙ s.1) s.2))
+
+pub broken : (text : List ℕ) (at : ℕ) (d : Draft) (fault : RowFault) → length text ≤ patch_limit → HasTaken text at d → IsNext text at (Err fault) → Refuses text (row_refused fault)
+broken text at d (row.At place kind) short h is = inr (rows_ h.rs is.0 short (at, h.reads, is.1) h.stands.taken (no_row place kind is.2 refl))
+broken text at d row.OutOfMemory short h is = inl refl
+
+-- ---- the end
+
+pub open_at_end : (text : List ℕ) (d : Draft) → length text ≤ patch_limit → HasRead text d → d.in_block ≡ true → Refuses text (faults.OpenBlock (length text))
+open_at_end text d short h inside = inr (rows_ h.0 (length text) short h.1 h.2.taken (open_block refl (h.2.inside ∙ inside) refl))
+
+pub no_id_at_end : (text : List ℕ) (d : Draft) → length text ≤ patch_limit → HasRead text d → d.in_block ≡ false → d.id ≡ None → Refuses text (faults.NoId (length text))
+no_id_at_end text d short h outside none = inr (rows_ h.0 (length text) short h.1 h.2.taken (no_id refl (h.2.inside ∙ outside) (h.2.ids ∙ ap prev_list none) refl))
+
+pub is_patch : (text : List ℕ) (d : Draft) (id : Id) → length text ≤ patch_limit → HasRead text d → d.in_block ≡ false → d.id ≡ Some id → IsPatch text (record { id = id; prev = d.prev; changes = d.changes.items })
+is_patch text d id short h outside is = record {
+  short = short;
+  rows_ = h.0;
+  reads = h.1;
+  well = record {
+    parted = h.2.parted;
+    one_id = h.2.ids ∙ ap prev_list is;
+    prev_is = h.2.prevs;
+    changes_are = h.2.changes;
+    blocks = subst AreOutside (append-nil d.changes.items) (h.2.blocks [] (subst (λ (b : Bool). AreBehind b []) (sym outside) tt));
+  };
+}

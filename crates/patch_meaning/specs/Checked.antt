@@ -1,0 +1,34 @@
+-- A checked patch, as contracts see it.
+use Rattle.std.specs.Prelude.{◌≡◌, ◌⊎◌, ℕ, List, Option, Some, length}
+use Rattle.delta_base.specs.declared.id.Id.{Id}
+use Rattle.rdf_terms.specs.declared.change.Change.{Change}
+use Rattle.patch_meaning.specs.declared.draft.Draft.{Draft}
+use Rattle.patch_meaning.specs.declared.fault.PatchFault.{PatchFault}
+use Rattle.patch_meaning.specs.declared.fault.PatchFault.TheVariants as faults
+use Rattle.patch_meaning.specs.declared.fault.Refusal.{Refusal}
+use Rattle.patch_meaning.specs.declared.role.Role.{Role}
+use Rattle.patch_meaning.specs.declared.rows.Next.{Next}
+use Rattle.patch_meaning.specs.Draft.{Stands}
+use Rattle.patch_meaning.specs.Patch.{Meaning, IsPatchFault, refusal, refused_at}
+use Rattle.patch_meaning.specs.Roles.{said}
+use Rattle.patch_meaning.specs.Rows.{PlacedRow, RowsTo}
+
+-- a text, and what it says as a patch
+pub record CheckedPatch : Type 0 where
+  pub text : List ℕ
+  pub meaning : Meaning
+
+abbrev pub checked : List ℕ → Id → Option Id → List Change → CheckedPatch
+checked text id prev changes = record { text = text; meaning = record { id = id; prev = prev; changes = changes } }
+
+-- the first fault of a text that is no patch; want of memory is free
+abbrev pub Refuses : List ℕ → PatchFault → Type 0
+Refuses text fault = (fault ≡ faults.OutOfMemory) ⊎ IsPatchFault text fault
+
+-- the row may not stand behind these, and that is the fault; want of memory is free
+abbrev pub IsStopped : List Role → Next → PatchFault → Type 0
+IsStopped rs next fault = (fault ≡ faults.OutOfMemory) ⊎ ((why : Refusal) × (refusal rs next.role ≡ Some why) × (fault ≡ refused_at why next.at))
+
+-- all rows of the text were taken
+abbrev pub HasRead : List ℕ → Draft → Type 0
+HasRead text d = (rs : List PlacedRow) × RowsTo text 0 rs (length text) × Stands (said rs) d

@@ -1,0 +1,20 @@
+-- The next row of a text, as a reader gives it.
+use Rattle.std.specs.Prelude.{◌≡◌, ℕ, List, length, Option, Some, None, Result, Ok, Err}
+use Rattle.rows_text.specs.declared.row.Row.{Row}
+use Rattle.rows_text.specs.declared.fault.RowFault.{RowFault}
+use Rattle.rows_text.specs.declared.fault.RowFault.TheVariants as faults
+use Rattle.rows_text.specs.Grammar.{IsRowAt}
+use Rattle.patch_meaning.specs.declared.rows.Next.{Next}
+use Rattle.patch_meaning.specs.Roles.{role}
+use Rattle.patch_meaning.specs.Rows.{Gap, NoRowAt}
+
+-- what a row says that stands there, behind white space and comments
+abbrev pub IsNextRow : List ℕ → ℕ → Next → Type 0
+IsNextRow text from next = (r : Row) × Gap text from next.at × IsRowAt text next.at r next.end × (next.role ≡ role r)
+
+-- the next row, or none up to the text's end, or the first fault of the next row
+abbrev pub IsNext : List ℕ → ℕ → Result (Option Next) RowFault → Type 0
+IsNext text from (Ok None) = Gap text from (length text)
+IsNext text from (Ok (Some next)) = IsNextRow text from next
+IsNext text from (Err (faults.At at kind)) = (to : ℕ) × Gap text from to × NoRowAt text to kind at
+IsNext text from (Err faults.OutOfMemory) = Unit {0}

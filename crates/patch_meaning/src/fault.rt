@@ -1,0 +1,96 @@
+//! Why a text is no patch.
+
+ghost use Rattle.std.specs.Prelude.{◌≡◌};
+ghost use Rattle.patch_meaning.specs.Patch.{refused_at, row_refused};
+ghost use Rattle.patch_meaning.specs.declared.fault.PatchFault.TheVariants as faults;
+ghost use Rattle.patch_meaning.specs.declared.fault.Stop.TheVariants as stops;
+
+use delta_base::{Back, OutOfMemory};
+use rdf_terms::Change;
+use rows_text::{RowFault, RowKind};
+
+/// The first fault of a text, with its place in bytes, or want of memory.
+#[derive(Clone, Copy, Debug, PartialEq, Eq)]
+pub enum PatchFault {
+    /// No row stands there.
+    Row { at: u64, kind: RowKind },
+    /// No row names the patch's id.
+    NoId { at: u64 },
+    /// The row names an id a second time.
+    TwoIds { at: u64 },
+    /// The row names the patch before a second time.
+    TwoPrevs { at: u64 },
+    /// The value of the row is no id.
+    BadId { at: u64 },
+    /// A header behind a change.
+    LateHeader { at: u64 },
+    /// TX inside a block.
+    Nested { at: u64 },
+    /// TC or TA outside a block.
+    NotInBlock { at: u64 },
+    /// The text ends inside a block.
+    OpenBlock { at: u64 },
+    TooLong { length: u64, limit: u64 },
+    OutOfMemory,
+}
+
+/// Why a row may not stand behind those before it.
+#[derive(Clone, Copy, Debug, PartialEq, Eq)]
+pub enum Refusal {
+    BadId,
+    TwoIds,
+    TwoPrevs,
+    LateHeader,
+    Nested,
+    NotInBlock,
+}
+
+/// Why a row was not taken.
+#[derive(Clone, Copy, Debug, PartialEq, Eq)]
+pub enum Stop {
+    Refused(Refusal),
+    OutOfMemory,
+}
+
+impl Refusal {
+    /// The fault of a row that begins at this place.
+    pub fn at(self, at: u64) -> PatchFault
+        ensures { result ≡ refused_at self at }
+    {
+        match self {
+            Refusal::BadId => PatchFault::BadId { at },
+            Refusal::TwoIds => PatchFault::TwoIds { at },
+            Refusal::TwoPrevs => PatchFault::TwoPrevs { at },
+            Refusal::LateHeader => PatchFault::LateHeader { at },
+            Refusal::Nested => PatchFault::Nested { at },
+            Refusal::NotInBlock => PatchFault::NotInBlock { at },
+        }
+    }
+}
+
+impl From<OutOfMemory> for PatchFault {
+    ghost from_gives = { λ _ e. e ≡ faults.OutOfMemory };
+
+    fn from(_: OutOfMemory) -> PatchFault {
+        PatchFault::OutOfMemory
+    }
+}
+
+impl From<RowFault> for PatchFault {
+    ghost from_gives = { λ e f. f ≡ row_refused e };
+
+    fn from(e: RowFault) -> PatchFault {
+        match e {
+            RowFault::At { at, kind } => PatchFault::Row { at, kind },
+            RowFault::OutOfMemory => PatchFault::OutOfMemory,
+        }
+    }
+}
+
+impl From<Back<Change>> for Stop {
+    ghost from_gives = { λ _ e. e ≡ stops.OutOfMemory };
+
+    fn from(_: Back<Change>) -> Stop {
+        Stop::OutOfMemory
+    }
+}

@@ -1,0 +1,120 @@
+//! Patches and their faults, with values from the format's description.
+use super::*;
+use delta_base::{Id, read_id};
+use rows_text::RowKind;
+use std::alloc::Global;
+use std::test::Fail;
+
+const ID: &str = "H id <uuid:00000000-0000-4000-8000-000000000001> .\n";
+
+fn fault_of(alloc: Global, text: &str) -> Option<PatchFault> {
+    check_patch(alloc, text.as_bytes()).err()
+}
+
+fn behind_id(alloc: Global, rows: &str) -> Option<PatchFault> {
+    let text = format!(in alloc; "{ID}{rows}").ok()?;
+    fault_of(alloc, text.as_str())
+}
+
+fn ids_of(alloc: Global, text: &str) -> Option<(Id, Option<Id>, usize)> {
+    let patch = check_patch(alloc, text.as_bytes()).ok()?;
+    Some((patch.id(), patch.prev(), patch.changes().len()))
+}
+
+#[test]
+fn a_patch_has_its_id_and_its_changes(rt: HostRuntime) -> Result<(), Fail> {
+    let text =
+        "H id <uuid:00000000-0000-4000-8000-000000000001> .\nTX .\nA <http://e/s> <http://e/p> <http://e/o> .\nTC .\n";
+    let patch = check_patch(rt.alloc(), text.as_bytes())
+        .ok()
+        .ok_or("refused")?;
+    let id = read_id(b"00000000-0000-4000-8000-000000000001");
+    assert!(rt; Some(patch.id()) == id);
+    assert!(rt; patch.prev().is_none());
+    assert_eq!(rt; patch.changes().len(), 3);
+    assert!(rt; patch.text().as_slice() == text.as_bytes());
+    assert_eq!(rt; text.len(), 104);
+    Ok(())
+}
+
+#[test]
+fn an_id_is_written_in_three_ways(rt: HostRuntime) {
+    let one = read_id(b"00000000-0000-4000-8000-000000000001");
+    let two = read_id(b"00000000000040008000000000000002");
+    for text in [
+        "H id <uuid:00000000-0000-4000-8000-000000000002> . H prev \"00000000-0000-4000-8000-000000000001\" .",
+        "H previous <urn:uuid:00000000-0000-4000-8000-000000000001> . H id \"00000000000040008000000000000002\" . H by \"me\"@en . PD x .",
+        "# c\nH prev <uuid:00000000-0000-4000-8000-000000000001>.H id <urn:uuid:00000000-0000-4000-8000-000000000002>.TX .TA . A _:a <a:p> _:b.",
+    ] {
+        let found = ids_of(rt.alloc(), text);
+        assert!(rt;
+            found.is_some_and(|found| Some(found.0) == two && found.1 == one),
+            "{text}"
+        );
+    }
+}
+
+#[test]
+fn the_first_fault_of_the_rows_is_met(rt: HostRuntime) {
+    for (text, fault) in [
+        ("", PatchFault::NoId { at: 0 }),
+        ("TX .\nTC .\n", PatchFault::NoId { at: 10 }),
+        ("H id <uuid:x> .\n", PatchFault::BadId { at: 0 }),
+        ("H prev _:a .\nTC .", PatchFault::BadId { at: 0 }),
+        (
+            "H id \"00000000-0000-4000-8000-000000000001\"@en .",
+            PatchFault::BadId { at: 0 },
+        ),
+        (
+            "h id <uuid:00000000-0000-4000-8000-000000000001> .\n",
+            PatchFault::Row {
+                at: 0,
+                kind: RowKind::UnknownCode,
+            },
+        ),
+    ] {
+        assert_eq!(rt; fault_of(rt.alloc(), text), Some(fault), "{text}");
+    }
+}
+
+#[test]
+fn a_row_may_not_stand_behind_others(rt: HostRuntime) {
+    for (rows, fault) in [
+        ("TX .\n", PatchFault::OpenBlock { at: 56 }),
+        ("TX .\nTX .\n", PatchFault::Nested { at: 56 }),
+        ("TC .\n", PatchFault::NotInBlock { at: 51 }),
+        ("TX .\nTA .\nTA .\n", PatchFault::NotInBlock { at: 61 }),
+        (ID, PatchFault::TwoIds { at: 51 }),
+        (
+            "PD \"a\" .\nH x \"y\" .\n",
+            PatchFault::LateHeader { at: 60 },
+        ),
+        (
+            "A <http://e/s> <http://e/p> .\n",
+            PatchFault::Row {
+                at: 79,
+                kind: RowKind::WrongCount,
+            },
+        ),
+        (
+            "H prev <uuid:00000000-0000-4000-8000-000000000003> .\nH previous <uuid:00000000-0000-4000-8000-000000000003> .\n",
+            PatchFault::TwoPrevs { at: 104 },
+        ),
+    ] {
+        assert_eq!(rt; behind_id(rt.alloc(), rows), Some(fault), "{rows}");
+    }
+}
+
+#[test]
+fn a_text_of_one_byte_too_many_is_too_long(rt: HostRuntime) -> Result<(), Fail> {
+    let text = vec![in rt.alloc(); b' '; 4_194_305]?;
+    let wanted = PatchFault::TooLong {
+        length: 4_194_305,
+        limit: 4_194_304,
+    };
+    let all = check_patch(rt.alloc(), text.as_slice()).err();
+    assert_eq!(rt; all, Some(wanted));
+    let fewer = check_patch(rt.alloc(), &text[1..]).err();
+    assert_eq!(rt; fewer, Some(PatchFault::NoId { at: 4_194_304 }));
+    Ok(())
+}
