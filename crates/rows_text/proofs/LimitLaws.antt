@@ -54,7 +54,7 @@ row_fault_shape text f (RowFault.unknown word behind at none is) = inr ((word, b
 row_fault_shape text f (RowFault.parts c behind at bad) = inr ((letters c, behind), at, inl (c, refl, bad))
 
 pub exact_row : (text : List ℕ) → Exact (row_at text) (λ y. RowAt text y.0 y.1) (λ f. RowFault text f)
-unfolding row_at
+unfolding row_at RowAt
 exact_row text =
     restated (chained (exact_word text) (λ w. exact_named text w (code_named w.0) refl))
     (λ y t. (t.0.1, subst (λ (word : List ℕ). WordAt text word t.0.1) t.2.0 t.1, t.2.1))

@@ -260,6 +260,7 @@ unfolding row_text
 row_shape r rest = append_assoc (letters (code_of r)) (parts_text r ++ 32 ∷ 46 ∷ []) rest ∙ ap (λ (t : List ℕ). letters (code_of r) ++ t) (append_assoc (parts_text r) (32 ∷ 46 ∷ []) rest)
 
 pub row_again : (r : Row) (rest : List ℕ) → IsRowValue r → IsWritable r → RowAt (row_text r ++ rest) r rest
+unfolding RowAt
 row_again r rest v is =
     let b = behind_code r rest in
     subst (λ (t : List ℕ). RowAt t r rest) (sym (row_shape r rest)) (

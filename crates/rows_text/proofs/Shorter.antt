@@ -79,6 +79,7 @@ parts text (row.Header k value) after e =
 parts text (row.Change c) after e = change_le text c after e
 
 pub row_shorter : (text : List ℕ) (r : Row) (after : List ℕ) → RowAt text r after → length after < length text
+unfolding RowAt
 row_shorter text r after e =
     let w = longest _ text (letters (code_of r)) e.0 e.1.0 in
     let some : 0 < length (letters (code_of r)) = e.1.0.0.0 in

@@ -30,4 +30,5 @@ parts_writable text (row.Header key value) after e = e.2.2.0
 parts_writable text (row.Change c) after e = change_placed text c after e
 
 pub writable : (text : List ℕ) (r : Row) (after : List ℕ) → RowAt text r after → IsWritable r
+unfolding RowAt
 writable text r after e = parts_writable e.0 r after e.2

@@ -174,7 +174,7 @@ PartsAt text (row.Header key value) after = (k v : List ℕ) × Spaced KeyAt tex
 PartsAt text (row.Change c) after = ChangeAt text c after
 
 -- a row of any length
-abbrev pub RowAt : List ℕ → Row → List ℕ → Type 0
+unfoldable pub RowAt : List ℕ → Row → List ℕ → Type 0
 RowAt text r after = (behind : List ℕ) × WordAt text (letters (code_of r)) behind × PartsAt behind r after
 
 -- the bytes that a row may have

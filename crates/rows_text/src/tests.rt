@@ -1,7 +1,9 @@
-use crate::{Row, RowFault, RowKind, read_row, skip_space};
+use crate::{Row, RowFault, RowKind, print_row, read_row, skip_space};
+use delta_base::{Bytes, OutOfMemory};
 use nquads_text::TextKind;
-use std::alloc::Global;
+use std::alloc::{AllocError, Global};
 use std::process::Abort;
+use std::test::Fail;
 
 /// The first row of a text, and the place behind it.
 fn first_row(alloc: Global, text: &[u8]) -> Result<(Row, usize), RowFault> {
@@ -123,4 +125,117 @@ fn brackets_hold_a_whole_label(rt: HostRuntime) {
         2,
         TextKind::RelativeIri,
     );
+}
+
+/// The canonical text of a row.
+fn printed(alloc: Global, row: Row) -> Result<Bytes, OutOfMemory> {
+    print_row(alloc, &row)
+}
+
+/// A copy of a row, which goes.
+fn copied(row: Row) -> Result<Row, OutOfMemory> {
+    row.copy()
+}
+
+/// The canonical text of the first row of a text.
+fn canonical(alloc: Global, text: &[u8]) -> Result<Bytes, RowFault> {
+    let (row, _end) = first_row(alloc, text)?;
+    let line = printed(alloc, row)?;
+    Ok(line)
+}
+
+/// The first row of the text is printed as the line.
+fn prints(rt: &impl Abort, alloc: Global, text: &[u8], line: &[u8]) -> Result<(), RowFault> {
+    let printed = canonical(alloc, text)?;
+    assert_eq!(rt; printed.as_slice(), line);
+    Ok(())
+}
+
+#[test]
+fn a_prefix_is_written_in_four_ways(rt: HostRuntime) -> Result<(), Fail> {
+    let alloc = rt.alloc();
+    let line = b"PA \"ex\" <http://e/> .\n";
+    prints(&rt, alloc, b"PA ex: <http://e/> .", line)?;
+    prints(&rt, alloc, b"PA ex \"http://e/\" .", line)?;
+    prints(&rt, alloc, b"PA \"ex\" <http://e/> .", line)?;
+    prints(
+        &rt,
+        alloc,
+        b"PA : <http://e/> .",
+        b"PA \"\" <http://e/> .\n",
+    )?;
+    Ok(())
+}
+
+#[test]
+fn each_code_has_a_canonical_row(rt: HostRuntime) -> Result<(), Fail> {
+    let lines = [
+        b"H id <uuid:0686c69d-8f89-4496-acb5-744f0157a8db> .\n".as_slice(),
+        b"TX .\n",
+        b"TC .\n",
+        b"TA .\n",
+        b"PA \"ex\" <http://e/> <http://e/g> .\n",
+        b"PD \"ex\" _:g .\n",
+        b"A <http://e/s> <http://e/p> \"o\"@en .\n",
+        b"D _:s <http://e/p> _:o <http://e/g> .\n",
+    ];
+    for line in lines {
+        prints(&rt, rt.alloc(), line, line)?;
+    }
+    Ok(())
+}
+
+#[test]
+fn a_blank_node_may_stand_in_brackets(rt: HostRuntime) -> Result<(), Fail> {
+    let text = b"A <_:a> <http://e/p> <_:b.c> <_:g> .";
+    let line = b"A _:a <http://e/p> _:b.c _:g .\n";
+    prints(&rt, rt.alloc(), text, line)?;
+    Ok(())
+}
+
+#[test]
+fn a_label_leaves_the_dot_to_the_row(rt: HostRuntime) -> Result<(), Fail> {
+    let alloc = rt.alloc();
+    let text = b"A _:a <http://p> _:b.";
+    prints(&rt, alloc, text, b"A _:a <http://p> _:b .\n")?;
+    assert_eq!(rt; outcome(alloc, text), Ok(21));
+    Ok(())
+}
+
+#[test]
+fn a_row_spans_lines_and_comments(rt: HostRuntime) -> Result<(), Fail> {
+    let text = b"# one\r\nD # . \"\n<http://e/s>\n\t<http://e/p>#<http://e/o>\r\"#\"\n\n # end\n.";
+    let line = b"D <http://e/s> <http://e/p> \"#\" .\n";
+    prints(&rt, rt.alloc(), text, line)?;
+    Ok(())
+}
+
+#[test]
+fn a_copy_is_printed_alike(rt: HostRuntime) -> Result<(), Fail> {
+    let alloc = rt.alloc();
+    let line = b"A <http://e/s> <http://e/p> \"1\"^^<http://e/d> _:g .\n";
+    let (row, _) = first_row(alloc, line)?;
+    let copy = copied(row)?;
+    let printed = printed(alloc, copy)?;
+    assert_eq!(rt; printed.as_slice(), line.as_slice());
+    Ok(())
+}
+
+/// A row of this many bytes.
+fn long_row(alloc: Global, size: usize) -> Result<Vec<u8>, AllocError> {
+    let mut text = Vec::new(alloc);
+    text.extend_from_slice(b"A <a:b> <a:b> \"")?;
+    text.resize(size.saturating_sub(3), b'x')?;
+    text.extend_from_slice(b"\" .")?;
+    Ok(text)
+}
+
+#[test]
+fn a_row_has_4194304_bytes_at_most(rt: HostRuntime) -> Result<(), Fail> {
+    let alloc = rt.alloc();
+    let text = long_row(alloc, 4_194_304)?;
+    assert_eq!(rt; outcome(alloc, &text), Ok(4_194_304));
+    let text = long_row(alloc, 4_194_305)?;
+    fails(&rt, alloc, &text, 0, RowKind::TooLong);
+    Ok(())
 }
