@@ -207,6 +207,7 @@ impl<D: Disk> Journal<D> {
             → StandsFor self.new number payloads ⊎ StandsInDoubt self.new number payloads (payload_of block.now) }
 
         // It is settled unless it failed once its first sync was done.
+        ensures settled { OnOk result (IsTrue (is_settled self.new)) }
         ensures syncs { D.tells → ok_syncs (D.past (disk_of self.new)) ≡ ok_syncs (D.past (disk_of self.old)) + syncs_of result (is_settled self.new) }
 
         // Both syncs are done, or those before the one that is planned to fail.
