@@ -10,12 +10,17 @@ TOP = Path(__file__).resolve().parent.parent
 ROUNDS = 5
 
 
+def plain():
+    """The path of the plain Rust program, built."""
+    program = Path(tempfile.gettempdir()) / "rdfdelta-bench-plain"
+    subprocess.run(["rustc", "--edition", "2021", "-C", "opt-level=3", "-o", program, TOP / "bench/plain/src/main.rs"], check=True)
+    return program
+
+
 def built():
     """The paths of rdfdelta, built by its wrapper, and of the plain Rust program."""
     subprocess.run([TOP / "bin/rdfdelta", "replay"], stdin=subprocess.DEVNULL, check=True)
-    plain = Path(tempfile.gettempdir()) / "rdfdelta-bench-plain"
-    subprocess.run(["rustc", "--edition", "2021", "-C", "opt-level=3", "-o", plain, TOP / "bench/plain/src/main.rs"], check=True)
-    return TOP / "crates/rdfdelta/out/rdfdelta", plain
+    return TOP / "crates/rdfdelta/out/rdfdelta", plain()
 
 
 def run(words, source, out):

@@ -3,7 +3,9 @@
 //! `plain nquads` reads an N-Quads document and prints its canonical lines, each once, in byte order;
 //! `plain replay` reads a stream of patches of A and D rows with blocks and prints the lines of its dataset.
 //! Both read standard input, check what they read, and stop with status 3 at a fault.
+//! `plain append DIR N` writes N payloads of 200 bytes to a new file of DIR, each with two writes and two syncs.
 
+mod append;
 mod nquads;
 mod replay;
 
@@ -33,8 +35,32 @@ fn run(word: &str) -> Result<Vec<u8>, String> {
     })
 }
 
+fn append(words: &[String]) -> ExitCode {
+    let [dir, count] = words else {
+        eprintln!("usage: plain append DIR N");
+        return ExitCode::from(2);
+    };
+    let Ok(count) = count.parse() else {
+        return ExitCode::from(2);
+    };
+    match append::fill(dir, count) {
+        Ok(()) => {
+            println!("appended {count}");
+            ExitCode::SUCCESS
+        }
+        Err(error) => {
+            eprintln!("plain: {error}");
+            ExitCode::from(5)
+        }
+    }
+}
+
 fn main() -> ExitCode {
-    let word = std::env::args().nth(1).unwrap_or_default();
+    let words: Vec<String> = std::env::args().skip(1).collect();
+    let word = words.first().cloned().unwrap_or_default();
+    if word == "append" {
+        return append(&words[1..]);
+    }
     match run(&word) {
         Ok(out) => match io::stdout().lock().write_all(&out) {
             Ok(()) => ExitCode::SUCCESS,

@@ -1,3 +1,6 @@
 pub mod Chained
 pub mod Tested
 pub mod Only
+pub mod Patches
+pub mod Decided
+pub mod Stays

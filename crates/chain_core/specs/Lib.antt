@@ -2,3 +2,9 @@ pub mod Links
 pub mod Chain
 pub mod Breaks
 pub mod Tested
+pub mod Patches
+pub mod Counted
+pub mod Decision
+pub mod Log
+pub mod Stay
+pub mod Replies

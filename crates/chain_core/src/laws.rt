@@ -1,9 +1,14 @@
 //! Laws of chains and their faults.
-ghost use Rattle.std.specs.Prelude.{◌≡◌, List};
+ghost use Rattle.std.specs.Prelude.{◌≡◌, ◌≤◌, List, Bool, length};
 ghost use Rattle.chain_core.specs.declared.link.Link.{Link};
 ghost use Rattle.chain_core.specs.declared.testing.ChainFault.{ChainFault};
 ghost use Rattle.chain_core.specs.Links.{IsChain};
 ghost use Rattle.chain_core.specs.Breaks.{Breaks};
+ghost use Rattle.chain_core.specs.declared.limits.LogLimits.{LogLimits};
+ghost use Rattle.chain_core.specs.declared.chain.Patch.{Patch};
+ghost use Rattle.chain_core.specs.declared.fate.Fate.{Fate};
+ghost use Rattle.chain_core.specs.Log.{LogPoint, IsPoint, stopped, opened_again};
+ghost use Rattle.chain_core.specs.Stay.{stay};
 
 /// A chain has no fault.
 pub fn chains_have_no_fault()
@@ -13,4 +18,15 @@ pub fn chains_have_no_fault()
 /// Patches have one fault at most.
 pub fn patches_have_one_fault()
     ensures { (links : List Link) (fault other : ChainFault) → Breaks links fault → Breaks links other → fault ≡ other }
+{}
+
+/// Whatever an append comes to, the chain and what the disk may hold stay logs.
+pub fn stays_keep_logs()
+    ensures { (limits : LogLimits) (point : LogPoint) (patch : Patch) (fate : Fate) → IsPoint limits point → length patch.text ≤ 4194304 → IsPoint limits (stay limits point patch fate).0 }
+{}
+
+/// So do they over stops and openings.
+pub fn stops_keep_logs()
+    ensures stop { (limits : LogLimits) (point : LogPoint) (opened : Bool) → IsPoint limits point → IsPoint limits (stopped point opened) }
+    ensures opening { (limits : LogLimits) (point : LogPoint) → IsPoint limits point → IsPoint limits (opened_again point) }
 {}

@@ -1,14 +1,22 @@
-//! Chains of accepted patches.
+//! Chains of accepted patches, what is decided of one more, and what an append may come to.
 #![tactic(auto)]
 
+mod answer;
 mod chain;
+mod deciding;
+mod fate;
 mod laws;
+mod limits;
 mod link;
 mod testing;
 #[cfg(test)]
 mod tests;
 
+pub use answer::{Decision, LogAnswer};
 pub use chain::{Chain, Entry, Patch};
-pub use laws::{chains_have_no_fault, patches_have_one_fault};
+pub use deciding::{Places, decide, decide_found};
+pub use fate::{Fate, Phase};
+pub use laws::{chains_have_no_fault, patches_have_one_fault, stays_keep_logs, stops_keep_logs};
+pub use limits::{FullKind, LogLimits};
 pub use link::Link;
 pub use testing::{ChainFault, ChainTest};

@@ -56,6 +56,8 @@ impl<'a, R: Files<File = File>> Shelf for HostShelf<'a, R> {
 
     ghost faults = { λ shelf. shelf.faults };
 
+    ghost disks_tell = { λ told. told };
+
     fn faults(&self) -> u64 {
         self.faults
     }

@@ -125,6 +125,8 @@ impl Shelf for MemShelf {
 
     ghost faults = { λ shelf. shelf.faults };
 
+    ghost disks_tell = { λ told. tt };
+
     fn faults(&self) -> u64 {
         self.faults
     }

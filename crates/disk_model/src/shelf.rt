@@ -50,6 +50,9 @@ pub trait Shelf {
         ensures never_falls { faults self.old ≤ faults self.new }
         ensures rises { 0 < Self.D.faults disk → Rose (faults self.old) (faults self.new) }
         ensures stays { Self.D.faults disk ≡ 0 → faults self.new ≡ faults self.old };
+
+    /// Where it tells its files, its disks tell their bytes.
+    ghost disks_tell: { tells → Self.D.tells };
 }
 
 impl From<OutOfMemory> for ShelfFault {

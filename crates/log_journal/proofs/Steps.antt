@@ -1,14 +1,14 @@
 -- The halves of an append, and a settling: what a crash leaves in each, and what the disk then stands for.
 use Rattle.std.proofs.Common.{◌≡◌, ◌≢◌, ◌⊎◌, inl, inr, ⊎_elim, ℕ, ◌+◌, ◌-◌, ◌^◌, ◌<◌, ◌≤◌, List, [], ◌∷◌, ◌++◌, length, drop, get_or, refl, sym, ◌∙◌, ap, subst, arith, append_assoc, length-append}
 use Rattle.std.proofs.lemmas.Bool.{cases_eq}
-use Rattle.std.proofs.lemmas.List.{flat_map_more}
+use Rattle.std.proofs.lemmas.List.{flat_map_more, append-nil, drop_all}
 use Rattle.std.specs.List.{flat_map}
 use Rattle.disk_model.specs.Past.{Past, wrote, synced, reads, Torn, overwritten, synced_bytes, filled, MayLeave, EveryImage, LeavesOnly}
 use Rattle.disk_model.specs.Calls.{WroteSome}
 use Rattle.disk_model.proofs.Moments.{starts, writes, syncs, joined, weaker, leaves}
-use Rattle.log_journal.specs.File.{front, header, body, block, Holds, AreSized}
+use Rattle.log_journal.specs.File.{front, header, body, block, Holds, AreSized, file_of}
 use Rattle.log_journal.specs.Journal.{HoldsAll, HasDoubt, InDoubt, HoldsWithOrWithout}
-use Rattle.std.proofs.lemmas.List.Elements.{All-push}
+use Rattle.std.proofs.lemmas.List.Elements.{All-nil, All-push}
 use Rattle.log_journal.proofs.Split.{split, held, split_doubt, doubted}
 use Rattle.log_journal.proofs.Bytes.{torn_behind, written_behind, torn_gate, written_gate}
 
@@ -157,3 +157,48 @@ module _ (end number : ℕ) (payloads : List (List ℕ)) where
           subst P (sym synced_is) (shut (reads mid) here),
           held number (payloads ++ payload ∷ []) (filled 1 new) 0 doubt.rest (filled_is ∙ opened ∙ front-push number payloads payload (0 ∷ doubt.rest)) (λ same. absurd (omega arith)) (sized-push payloads payload all.sized fits),
         )
+
+    -- the gate is written shut and not synced: what was synced is as it was, and with 1 for what wasn't synced it is open where it was
+    pub settling_images : (old new : Past) → end ≡ length (front number payloads) + 1 → new ≡ wrote old (end - 1) (0 ∷ [])
+        → (synced_bytes new ≡ synced_bytes old) × (Holds (filled 1 old) number (payloads ++ payload ∷ []) → Holds (filled 1 new) number (payloads ++ payload ∷ []))
+    settling_images old new place is_new = (
+      ap synced_bytes is_new,
+      λ holds.
+          let parts = split number (payloads ++ payload ∷ []) (filled 1 old) holds in
+          let whole : filled 1 old ≡ front number payloads ++ 1 ∷ (body payload ++ parts.gate ∷ parts.rest) = parts.whole ∙ sym (front-push number payloads payload (parts.gate ∷ parts.rest)) in
+          let same : filled 1 new ≡ filled 1 old = ap (filled 1) is_new ∙ written_gate (front number payloads) 1 (body payload ++ parts.gate ∷ parts.rest) (filled 1 old) whole (end - 1) 1 (omega (arith, place)) ∙ sym whole in
+          subst (λ (l : List ℕ). Holds l number (payloads ++ payload ∷ [])) (sym same) holds,
+    )
+
+    -- a file that ended at its gate ends at the next one
+    file_grown : (file bytes : List ℕ) → end ≡ length (front number payloads) + 1 → bytes ≡ body payload ++ 0 ∷ [] → file ≡ file_of number payloads
+        → overwritten (overwritten file end bytes) (end - 1) (1 ∷ []) ≡ file_of number (payloads ++ payload ∷ [])
+    file_grown file bytes place form is =
+        let short : length file ≤ end + length bytes = omega (arith, ap length is, length-append (front number payloads) (0 ∷ []), place) in
+        let none : drop (end + length bytes) file ≡ [] = drop_all (end + length bytes) file short in
+        let first : overwritten file end bytes ≡ front number payloads ++ 0 ∷ (body payload ++ 0 ∷ []) =
+        written_behind (front number payloads) 0 [] file is end bytes place
+        ∙ ap (λ (l : List ℕ). front number payloads ++ 0 ∷ (bytes ++ l)) none
+        ∙ ap (λ (l : List ℕ). front number payloads ++ 0 ∷ l) (append-nil bytes ∙ form) in
+        written_gate (front number payloads) 0 (body payload ++ 0 ∷ []) (overwritten file end bytes) first (end - 1) 1 (omega (arith, place)) ∙ front-push number payloads payload (0 ∷ [])
+
+    pub past_grown : (old mid new : Past) (bytes : List ℕ) → end ≡ length (front number payloads) + 1 → bytes ≡ body payload ++ 0 ∷ [] → mid ≡ synced (wrote old end bytes) → new ≡ synced (wrote mid (end - 1) (1 ∷ []))
+        → reads old ≡ file_of number payloads → reads new ≡ file_of number (payloads ++ payload ∷ [])
+    past_grown old mid new bytes place form is_mid is_new is =
+        let first : reads mid ≡ overwritten (reads old) end bytes = ap reads is_mid in
+        let second : reads new ≡ overwritten (reads mid) (end - 1) (1 ∷ []) = ap reads is_new in
+        second ∙ ap (λ (l : List ℕ). overwritten l (end - 1) (1 ∷ [])) first ∙ file_grown (reads old) bytes place form is
+
+-- no payloads
+pub front-none : (number : ℕ) → front number [] ≡ header number
+unfolding front
+front-none number = append-nil (header number)
+
+-- an empty journal that was just written
+pub started : (past : Past) (number : ℕ) → EveryImage past (λ image. image ≡ header number ++ 0 ∷ []) → HoldsAll past 9 number []
+unfolding front
+started past number every = record {
+  place = refl;
+  sized = All-nil _;
+  each = λ image left. held number [] image 0 [] (every image left ∙ ap (λ (l : List ℕ). l ++ 0 ∷ []) (sym (front-none number))) (λ same. absurd (omega arith)) (All-nil _);
+}

@@ -2,14 +2,14 @@
 ghost use Rattle.std.specs.Prelude.{◌≡◌, false, ◌⊎◌, ℕ, ◌+◌, ◌<◌, ◌≤◌, ◌↔◌, ◌++◌, [], ◌∷◌, List, length, IsTrue, not, OnOk, OnErr, IsErrOf, IfOk, IfErr, IsOk, is_ok, if◌then◌else◌};
 ghost use Rattle.delta_base.specs.Outside.{Rose, HasCause};
 ghost use Rattle.disk_model.specs.Past.{reads, synced, ok_syncs, synced_bytes, filled, Keeps};
-ghost use Rattle.log_journal.specs.File.{Holds};
+ghost use Rattle.log_journal.specs.File.{Holds, file_of};
 ghost use Rattle.log_journal.specs.Journal.{HoldsWithOrWithout};
 ghost use Rattle.log_journal.specs.Reading.{Reads, HasFault};
 
 use crate::block::Block;
-use crate::fault::JournalFault;
+use crate::fault::{FormatFault, JournalFault};
 use crate::halves::write_synced;
-use crate::open::{Payloads, read_payloads};
+use crate::open::{Payloads, format, read_payloads};
 use delta_base::Failed;
 use disk_model::Disk;
 use std::alloc::Global;
@@ -46,6 +46,13 @@ pub struct Journal<D: Disk> {
 pub struct OpenRefusal<D: Disk> {
     pub disk: D,
     pub fault: JournalFault,
+}
+
+/// A journal that couldn't be started, with its disk.
+#[derive(Drop)]
+pub struct StartRefusal<D: Disk> {
+    pub disk: D,
+    pub fault: FormatFault,
 }
 
 // The payloads and the length of the journal on a disk.
@@ -115,6 +122,36 @@ impl<D: Disk> Journal<D> {
         }
     }
 
+    /// Writes an empty journal into an empty file, and opens it. A refusal hands the disk back.
+    pub fn start_on(disk: D, number: u32, limit: u64) -> Result<Journal<D>, StartRefusal<D>>
+        requires { 9 ≤ limit }
+        ensures stands { IfOk result (λ journal. StandsFor journal number []) }
+        ensures file { D.tells → IfOk result (λ journal. reads (D.past (disk_of journal)) ≡ file_of number []) }
+        ensures was_empty { D.tells → OnOk result (reads (D.past disk) ≡ []) }
+        ensures length { IfOk result (λ journal. (length_of journal) ≡ 9) }
+        ensures limit { IfOk result (λ journal. (limit_of journal) ≡ limit) }
+
+        // A file that isn't empty is left as it is.
+        ensures not_empty { D.tells → IfErr result (λ refusal. (found : ℕ) → refusal.fault ≡ FormatFault.NotEmpty found → (0 < found) × (found ≡ length (reads (D.past disk)))) }
+        ensures kept { D.tells → IfErr result (λ refusal. 0 < length (reads (D.past disk)) → D.past refusal.disk ≡ D.past disk) }
+        ensures cause { IfErr result (λ refusal. refusal.fault ≡ FormatFault.Failed → Rose (D.faults disk) (D.faults refusal.disk)) }
+        ensures faults { IfOk result (λ journal. D.faults disk ≤ D.faults (disk_of journal)) }
+        ensures faults_refused { IfErr result (λ refusal. D.faults disk ≤ D.faults refusal.disk) }
+        ensures mark { IfOk result (λ journal. D.mark (disk_of journal) ≡ D.mark disk) }
+        ensures mark_refused { IfErr result (λ refusal. D.mark refusal.disk ≡ D.mark disk) }
+    {
+        let mut disk = disk;
+        match format(&mut disk, number) {
+            Ok(()) => Ok(Journal {
+                disk,
+                end: 9,
+                limit,
+                settled: true,
+            }),
+            Err(fault) => Err(StartRefusal { disk, fault }),
+        }
+    }
+
     /// How long it is in its file, up to the gate behind the last payload.
     pub fn length(&self) -> u64
         ensures { result ≡ length_of self.now }
@@ -162,11 +199,15 @@ impl<D: Disk> Journal<D> {
             → Leaves (HoldsWithOrWithout number payloads (payload_of block.now)) self.old self.new }
         ensures ok { (number : ℕ) (payloads : List (List ℕ)) → StandsFor self.old number payloads
             → OnOk result (StandsFor self.new number (payloads ++ payload_of block.now ∷ [])) }
+        ensures ends { D.tells → (number : ℕ) (payloads : List (List ℕ)) → StandsFor self.old number payloads
+            → reads (D.past (disk_of self.old)) ≡ file_of number payloads
+            → OnOk result (reads (D.past (disk_of self.new)) ≡ file_of number (payloads ++ payload_of block.now ∷ [])) }
         ensures failed { (number : ℕ) (payloads : List (List ℕ)) → StandsFor self.old number payloads
             → IsErrOf result AppendFault.Failed
             → StandsFor self.new number payloads ⊎ StandsInDoubt self.new number payloads (payload_of block.now) }
 
         // It is settled unless it failed once its first sync was done.
+        ensures settled { OnOk result (IsTrue (is_settled self.new)) }
         ensures syncs { D.tells → ok_syncs (D.past (disk_of self.new)) ≡ ok_syncs (D.past (disk_of self.old)) + syncs_of result (is_settled self.new) }
 
         // Both syncs are done, or those before the one that is planned to fail.
@@ -215,6 +256,17 @@ impl<D: Disk> Journal<D> {
         ensures settled { IsOk result ↔ IsTrue (is_settled self.new) }
         ensures nothing_to_do { IsTrue (is_settled self.old) → self.new ≡ self.old }
         ensures syncs { D.tells → ok_syncs (D.past (disk_of self.new)) ≡ ok_syncs (D.past (disk_of self.old)) + (if is_ok result then (if (is_settled self.old) then 0 else 1) else 0) }
+
+        // Where it isn't settled, its one sync is done, or is the one that is planned to fail.
+        ensures planned { D.plans → IsTrue (not (D.short (disk_of self.new))) → (is_settled self.old) ≡ false
+            → DoneByPlan 1 (if is_ok result then 1 else 0) (D.next_failure (disk_of self.old)) (D.next_failure (disk_of self.new)) }
+
+        // After a planned failure what was synced is as it was, and the gate that was open where what wasn't synced is 1 is still open there.
+        ensures images { D.plans → D.tells → IsTrue (not (D.short (disk_of self.new))) → is_ok result ≡ false
+            → (number : ℕ) (payloads : List (List ℕ)) (doubt : List ℕ) → StandsInDoubt self.old number payloads doubt
+            → (synced_bytes (D.past (disk_of self.new)) ≡ synced_bytes (D.past (disk_of self.old)))
+            × (Holds (filled 1 (D.past (disk_of self.old))) number (payloads ++ doubt ∷ []) → Holds (filled 1 (D.past (disk_of self.new))) number (payloads ++ doubt ∷ [])) }
+
         ensures cause { HasCause (D.faults (disk_of self.old)) (D.faults (disk_of self.new)) result }
         ensures same_length { (length_of self.new) ≡ (length_of self.old) }
         ensures limit { (limit_of self.new) ≡ (limit_of self.old) }

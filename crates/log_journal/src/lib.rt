@@ -16,7 +16,7 @@ mod reading;
 
 pub use block::Block;
 pub use fault::{FormatFault, JournalFault};
-pub use journal::{AppendFault, Journal, OpenRefusal};
+pub use journal::{AppendFault, Journal, OpenRefusal, StartRefusal};
 pub use laws::one_reading;
 pub use making::make_block;
 pub use open::{Payloads, format};

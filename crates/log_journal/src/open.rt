@@ -21,6 +21,7 @@ pub fn format<D: Disk>(disk: &mut D, number: u32) -> Result<(), FormatFault>
     ensures was_empty { D.tells → OnOk result (reads (D.past disk.old) ≡ []) }
     ensures not_empty { D.tells → (found : ℕ) → IsErrOf result (FormatFault.NotEmpty found) → (0 < found) × (found ≡ length (reads (D.past disk.old))) }
     ensures same { (found : ℕ) → IsErrOf result (FormatFault.NotEmpty found) → D.past disk.new ≡ D.past disk.old }
+    ensures kept { D.tells → 0 < length (reads (D.past disk.old)) → D.past disk.new ≡ D.past disk.old }
     ensures cause { IsErrOf result FormatFault.Failed → Rose (D.faults disk.old) (D.faults disk.new) }
     ensures faults { D.faults disk.old ≤ D.faults disk.new }
     ensures mark { D.mark disk.new ≡ D.mark disk.old }

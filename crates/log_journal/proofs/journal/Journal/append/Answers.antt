@@ -3,7 +3,7 @@ use Rattle.disk_model.proofs.Moments.{starts, weaker, leaves}
 use Rattle.log_journal.specs.File.{Holds, body}
 use Rattle.log_journal.specs.PayloadIn.{payload_in}
 use Rattle.log_journal.specs.Journal.{HoldsAll, HoldsWithOrWithout}
-use Rattle.log_journal.proofs.Steps.{body_failed, body_done, gate_failed, gate_opened, both_halves, gate_images}
+use Rattle.log_journal.proofs.Steps.{body_failed, body_done, gate_failed, gate_opened, both_halves, gate_images, past_grown}
 use Rattle.log_journal.proofs.journal.Journal.append.Goals as goal
 
 pub returns-then-self-size-clause-any_moment : goal.returns-then-self-size-clause-any_moment
@@ -64,3 +64,8 @@ returns-in_err-write_synced-2-clause-images g c plans told long is_failed unsett
     let first = body_done c.args.self.now.end number payloads (payload_in block.bytes.items) block.sized _ _ _ (g.met.D.Disk.reads_may_be_left c.args.self.now.disk told) (c.deref.ensures.value ∙ block.form) (stands.1 told) (c.in_ok-write_synced.ensures.ok told) in
     gate_images c.args.self.now.end number payloads (payload_in block.bytes.items) block.sized (g.D.Disk.past c.args.self.now.disk) (g.D.Disk.past c.write_synced.new.disk) (g.D.Disk.past c.write_synced-2.new.disk) _ (g.met.D.Disk.reads_may_be_left c.write_synced.new.disk told)
     (leaves _ _ _ first.0) first.1 (c.in_ok-write_synced.ensures.ok told) (c.in_err-write_synced-2.ensures.written plans told long)
+
+pub returns-clause-ends : goal.returns-clause-ends
+returns-clause-ends g c told number payloads stands is =
+    let block = c.args.block.now in
+    past_grown c.args.self.now.end number payloads (payload_in block.bytes.items) block.sized _ _ _ _ (stands.1 told).place (c.deref.ensures.value ∙ block.form) (c.in_ok-write_synced.ensures.ok told) (c.in_ok-write_synced-2.ensures.ok told) is

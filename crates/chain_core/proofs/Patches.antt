@@ -1,0 +1,56 @@
+-- Patches of a chain, where they stand, and their journal's length.
+use Rattle.std.proofs.Common.{◌≡◌, ◌⊎◌, inl, inr, ℕ, zero, suc, ◌+◌, ◌-◌, ◌*◌, ◌^◌, ◌<◌, ◌≤◌, Bool, true, false, cond, eqb, List, [], ◌∷◌, ◌++◌, map, length, Option, Some, None, refl, sym, ◌∙◌, ap, subst, arith, length-append}
+use Rattle.std.specs.Prelude.{slice_get, sum_by}
+use Rattle.std.specs.Option.{option_map}
+use Rattle.std.specs.List.{AllByRecursion}
+use Rattle.std.proofs.lemmas.Option.{slice_get-map, same_Some, none-some}
+use Rattle.std.proofs.lemmas.List.Sums.{sum_by-append, sum_by-cons}
+use Rattle.std.proofs.lemmas.List.{map-append, length-map}
+use Rattle.std.proofs.lemmas.Bool.Decides.{eqb_tells}
+use Rattle.delta_base.specs.declared.id.Id.{Id}
+use Rattle.chain_core.specs.declared.chain.Patch.{Patch}
+use Rattle.chain_core.specs.declared.chain.Entry.{Entry}
+use Rattle.chain_core.specs.declared.link.Link.{Link}
+use Rattle.chain_core.specs.Links.{IsChain}
+use Rattle.chain_core.specs.Breaks.{last_or}
+use Rattle.chain_core.specs.Tested.{version_from}
+use Rattle.chain_core.specs.Chain.{link_of, patch_of, entry_at, head_of}
+use Rattle.chain_core.specs.Patches.{patches_of, links_of, version_of, patch_at, last_id, journal_length}
+use Rattle.chain_core.proofs.Chained.{chain-push}
+
+abbrev id_of : Patch → Id
+id_of patch = patch.id
+
+-- the head of the entries is that of the patches
+pub head-patches : (entries : List Entry) → head_of entries ≡ last_id (patches_of entries)
+head-patches entries =
+    let counted : length (patches_of entries) ≡ length entries = length-map entries patch_of in
+    sym (ap (λ (n : ℕ). option_map id_of (slice_get (patches_of entries) (n - 1))) counted ∙ ap (option_map id_of) (slice_get-map patch_of entries (length entries - 1)) ∙ twice (slice_get entries (length entries - 1)))
+  where
+    twice : (found : Option Entry) → option_map id_of (option_map patch_of found) ≡ option_map (λ (e : Entry). e.patch.id) found
+    twice None = refl
+    twice (Some entry) = refl
+
+-- the patch of an entry
+pub patch_at-entries : (entries : List Entry) (version : ℕ) → patch_at (patches_of entries) version ≡ option_map patch_of (entry_at entries version)
+patch_at-entries entries zero = refl
+patch_at-entries entries (suc before) = slice_get-map patch_of entries before
+
+-- lengths
+pub length_bound : (entries : List Entry) → AllByRecursion (λ e. length e.patch.text ≤ 4194304) entries → sum_by (λ (patch : Patch). 5 + length patch.text) (patches_of entries) ≤ length entries * 4194309
+length_bound [] short = omega arith
+length_bound (entry ∷ entries) short = omega (arith, sum_by-cons (λ (patch : Patch). 5 + length patch.text) entry.patch (patches_of entries), length_bound entries short.1, short.0)
+
+pub length-push : (patches : List Patch) (patch : Patch) → journal_length (patches ++ patch ∷ []) ≡ journal_length patches + 5 + length patch.text
+length-push patches patch = omega (arith, sum_by-append (λ (patch : Patch). 5 + length patch.text) patches (patch ∷ []))
+
+pub patches_of-push : (entries : List Entry) (entry : Entry) → patches_of (entries ++ entry ∷ []) ≡ patches_of entries ++ entry.patch ∷ []
+patches_of-push entries entry = map-append patch_of entries (entry ∷ [])
+
+pub journal-push : (entries : List Entry) (entry : Entry) (bytes more : ℕ) → bytes ≡ journal_length (patches_of entries) → more ≡ bytes + (5 + length entry.patch.text) → more ≡ journal_length (patches_of (entries ++ entry ∷ []))
+journal-push entries entry bytes more was is = omega (arith, was, is, length-push (patches_of entries) entry.patch, ap journal_length (patches_of-push entries entry))
+
+-- the last one of entries with short texts has a short one
+pub last_short : (entries : List Entry) (entry : Entry) → AllByRecursion (λ e. length e.patch.text ≤ 4194304) (entries ++ entry ∷ []) → length entry.patch.text ≤ 4194304
+last_short [] entry short = short.0
+last_short (first ∷ entries) entry short = last_short entries entry short.1

@@ -1,0 +1,117 @@
+-- What a stay leaves is a log.
+use Rattle.std.proofs.Common.{◌≡◌, ◌≢◌, ◌⊎◌, inl, inr, ℕ, zero, suc, ◌+◌, ◌-◌, ◌<◌, ◌≤◌, Bool, true, false, cond, eqb, List, [], ◌∷◌, ◌++◌, map, length, Option, Some, None, refl, sym, ◌∙◌, ap, subst, arith, length-append}
+use Rattle.std.specs.Prelude.{slice_get}
+use Rattle.std.specs.Option.{option_map}
+use Rattle.std.specs.List.{AllByRecursion}
+use Rattle.std.proofs.lemmas.Option.{none-some}
+use Rattle.std.proofs.lemmas.List.{map-append}
+use Rattle.std.proofs.lemmas.Bool.Decides.{eqb_tells}
+use Rattle.delta_base.specs.declared.id.Id.{Id}
+use Rattle.chain_core.specs.declared.chain.Patch.{Patch}
+use Rattle.chain_core.specs.declared.link.Link.{Link}
+use Rattle.chain_core.specs.declared.limits.LogLimits.{LogLimits}
+use Rattle.chain_core.specs.declared.fate.Phase.TheVariants.{Settling, Body, Gate}
+use Rattle.chain_core.specs.declared.fate.Fate.{Fate}
+use Rattle.chain_core.specs.declared.fate.Fate.TheVariants.{Done, Fails, Stops}
+use Rattle.chain_core.specs.declared.answer.Decision.{Decision}
+use Rattle.chain_core.specs.declared.answer.Decision.TheVariants.{Accept, Known, Conflict, Full}
+use Rattle.chain_core.specs.Links.{IsChain}
+use Rattle.chain_core.specs.Breaks.{last_or}
+use Rattle.chain_core.specs.Tested.{version_from}
+use Rattle.chain_core.specs.Patches.{links_of, version_of, last_id, journal_length}
+use Rattle.chain_core.specs.Decision.{decision}
+use Rattle.chain_core.specs.Log.{LogPoint, up, down, with_doubt, IsLog, IsPoint, stopped, opened_again}
+use Rattle.chain_core.specs.Stay.{accepted_by, decided_by, stay}
+use Rattle.chain_core.proofs.Chained.{chain-push}
+use Rattle.chain_core.proofs.Decided.{accepted}
+
+abbrev id_of : Patch → Id
+id_of patch = patch.id
+
+abbrev link_to : Patch → Link
+link_to patch = record { id = patch.id; prev = patch.prev }
+
+-- the last id of the links
+last_behind : (before : Option Id) (patches : List Patch) → 0 < length patches → last_or before (links_of patches) ≡ last_id patches
+last_behind before [] some = absurd (omega arith)
+last_behind before (patch ∷ []) some = refl
+last_behind before (patch ∷ (next ∷ patches)) some =
+    let at : length (patch ∷ (next ∷ patches)) - 1 ≡ suc (length (next ∷ patches) - 1) = omega arith in
+    last_behind (Some patch.id) (next ∷ patches) (omega arith) ∙ sym (ap (λ (n : ℕ). option_map id_of (slice_get (patch ∷ (next ∷ patches)) n)) at)
+
+pub last_of_links : (patches : List Patch) → last_or None (links_of patches) ≡ last_id patches
+last_of_links [] = refl
+last_of_links (patch ∷ patches) = last_behind None (patch ∷ patches) (omega arith)
+
+none_behind : (found : Option ℕ) → option_map (λ version. version + 1) found ≡ None → found ≡ None
+none_behind None is = refl
+none_behind (Some version) is = absurd (none-some (version + 1) (sym is))
+
+none-cons : (patch : Patch) (patches : List Patch) (id : Id) → version_of (patch ∷ patches) id ≡ None → (eqb patch.id.0 id.0 ≡ false) × (version_of patches id ≡ None)
+none-cons patch patches id none = elim (eqb_tells patch.id.0 id.0) [
+  | inl same ↦ let here : ◌≡◌ {A = Option ℕ} (Some 1) None = subst (λ test. cond test (Some 1) (option_map (λ version. version + 1) (version_of patches id)) ≡ None) same.0 none in absurd (none-some 1 (sym here))
+  | inr other ↦ (other.0, none_behind (version_of patches id) (subst (λ test. cond test (Some 1) (option_map (λ version. version + 1) (version_of patches id)) ≡ None) other.0 none))
+]
+
+-- an id that no patch has
+new_in_links : (before : ℕ) (patches : List Patch) (id : Id) → version_of patches id ≡ None → version_from before id.0 (links_of patches) ≡ None
+new_in_links before [] id new = refl
+new_in_links before (patch ∷ patches) id new =
+    let parts = none-cons patch patches id new in
+    ap (λ (test : Bool). cond test (Some (before + 1)) (version_from (before + 1) id.0 (links_of patches))) parts.0 ∙ new_in_links (before + 1) patches id parts.1
+
+short-push : (patches : List Patch) (patch : Patch) → AllByRecursion (λ (p : Patch). length p.text ≤ 4194304) patches → length patch.text ≤ 4194304 → AllByRecursion (λ (p : Patch). length p.text ≤ 4194304) (patches ++ patch ∷ [])
+short-push [] patch short more = (more, tt)
+short-push (first ∷ patches) patch short more = (short.0, short-push patches patch short.1 more)
+
+-- what is accepted goes on the log
+pub goes_on : (limits : LogLimits) (patches : List Patch) (patch : Patch) (version : ℕ) → IsLog limits patches → length patch.text ≤ 4194304 → decision patches patch limits ≡ Accept version → IsLog limits (patches ++ patch ∷ [])
+goes_on limits patches patch version log short is =
+    let could = (accepted patches patch limits version is).0 in
+    record {
+      chain = subst IsChain (sym (map-append link_to patches (patch ∷ []))) (chain-push (links_of patches) (link_to patch) log.chain (could.follows ∙ sym (last_of_links patches)) (new_in_links 0 patches patch.id could.new));
+      few = let differs = could.place in omega (arith, log.few, differs, length-append patches (patch ∷ []));
+      room = could.room;
+      short = short-push patches patch log.short short;
+    }
+
+module _ (limits : LogLimits) (chain : List Patch) (doubt : Option Patch) (patch : Patch) (is : IsPoint limits (up chain doubt)) where
+  opened_or_not : (opened : Bool) (longer : List Patch) → IsLog limits longer → IsPoint limits (down (cond opened longer chain))
+  opened_or_not true longer log = log
+  opened_or_not false longer log = is.0
+
+  accepted_points : (fate : Fate) → IsLog limits (chain ++ patch ∷ []) → IsPoint limits (accepted_by fate chain doubt patch).0
+  accepted_points Done more = (more, more)
+  accepted_points (Fails Settling) more = settling doubt is
+    where
+      settling : (d : Option Patch) → IsPoint limits (up chain d) → IsPoint limits (accepted_by (Fails Settling) chain d patch).0
+      settling None point = (more, more)
+      settling (Some doubtful) point = point
+  accepted_points (Fails Body) more = (is.0, is.0)
+  accepted_points (Fails Gate) more = (is.0, more)
+  accepted_points (Stops Settling opened) more = settling doubt is
+    where
+      settling : (d : Option Patch) → IsPoint limits (up chain d) → IsPoint limits (accepted_by (Stops Settling opened) chain d patch).0
+      settling None point = (more, more)
+      settling (Some doubtful) point = opened_or_not opened (chain ++ doubtful ∷ []) point.1
+  accepted_points (Stops Body opened) more = is.0
+  accepted_points (Stops Gate opened) more = opened_or_not opened (chain ++ patch ∷ []) more
+
+  decided_points : (fate : Fate) (made : Decision) → decision chain patch limits ≡ made → length patch.text ≤ 4194304 → IsPoint limits (decided_by made fate chain doubt patch).0
+  decided_points fate (Accept version) same short = accepted_points fate (goes_on limits chain patch version is.0 short same)
+  decided_points fate (Known version known) same short = is
+  decided_points fate (Conflict version head named) same short = is
+  decided_points fate (Full what have limit) same short = is
+
+pub stays : (limits : LogLimits) (point : LogPoint) (patch : Patch) (fate : Fate) → IsPoint limits point → length patch.text ≤ 4194304 → IsPoint limits (stay limits point patch fate).0
+stays limits (up chain doubt) patch fate is short = decided_points limits chain doubt patch is fate (decision chain patch limits) refl short
+stays limits (down chain) patch fate is short = is
+
+pub stops : (limits : LogLimits) (point : LogPoint) (opened : Bool) → IsPoint limits point → IsPoint limits (stopped point opened)
+stops limits (up chain doubt) true is = is.1
+stops limits (up chain doubt) false is = is.0
+stops limits (down chain) opened is = is
+
+pub opens : (limits : LogLimits) (point : LogPoint) → IsPoint limits point → IsPoint limits (opened_again point)
+opens limits (up chain doubt) is = is
+opens limits (down chain) is = (is, is)

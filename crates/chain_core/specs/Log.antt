@@ -1,0 +1,39 @@
+-- A log: a chain, and the patch whose gate may stand open on its disk.
+use Rattle.std.specs.Prelude.{◌≤◌, List, [], ◌∷◌, ◌++◌, length, Option, Some, None, Bool, if◌then◌else◌}
+use Rattle.std.specs.List.{AllByRecursion}
+use Rattle.chain_core.specs.declared.limits.LogLimits.{LogLimits}
+use Rattle.chain_core.specs.declared.chain.Patch.{Patch}
+use Rattle.chain_core.specs.Links.{IsChain}
+use Rattle.chain_core.specs.Patches.{links_of, journal_length}
+
+-- a log that runs, with its chain and the patch in doubt, or one that was stopped, with what its disk holds
+pub data LogPoint : Type 0 where
+  up : List Patch → Option Patch → LogPoint
+  down : List Patch → LogPoint
+
+-- the chain with the patch in doubt
+abbrev pub with_doubt : List Patch → Option Patch → List Patch
+with_doubt chain None = chain
+with_doubt chain (Some patch) = chain ++ patch ∷ []
+
+-- a chain within the limits, no patch of which is too long
+pub record IsLog (limits : LogLimits) (patches : List Patch) : Type 0 where
+  pub chain : IsChain (links_of patches)
+  pub few : length patches ≤ limits.patches
+  pub room : journal_length patches ≤ limits.bytes
+  pub short : AllByRecursion (λ patch. length patch.text ≤ 4194304) patches
+
+-- whatever its disk holds is a log
+abbrev pub IsPoint : LogLimits → LogPoint → Type 0
+IsPoint limits (up chain doubt) = IsLog limits chain × IsLog limits (with_doubt chain doubt)
+IsPoint limits (down chain) = IsLog limits chain
+
+-- a stop between two stays; the gate in doubt may stand open
+abbrev pub stopped : LogPoint → Bool → LogPoint
+stopped (up chain doubt) opened = down (if opened then with_doubt chain doubt else chain)
+stopped (down chain) opened = down chain
+
+-- an opening that succeeds
+abbrev pub opened_again : LogPoint → LogPoint
+opened_again (up chain doubt) = up chain doubt
+opened_again (down chain) = up chain None

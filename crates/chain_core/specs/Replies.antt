@@ -1,0 +1,40 @@
+-- What a log replies to each call, by its chain.
+use Rattle.std.specs.Prelude.{ℕ, List, length, Option, Some, None}
+use Rattle.delta_base.specs.declared.id.Id.{Id}
+use Rattle.chain_core.specs.declared.limits.LogLimits.{LogLimits}
+use Rattle.chain_core.specs.declared.chain.Patch.{Patch}
+use Rattle.chain_core.specs.declared.answer.LogAnswer.{LogAnswer}
+use Rattle.chain_core.specs.Patches.{version_of, patch_at, last_id}
+use Rattle.chain_core.specs.Decision.{decision}
+use Rattle.chain_core.specs.Stay.{answer_of}
+
+pub data LogCall : Type 0 where
+  append : Patch → LogCall
+  fetch_version : ℕ → LogCall
+  fetch_id : Id → LogCall
+  describe : LogCall
+  version : LogCall
+
+pub data LogReply : Type 0 where
+  answered : LogAnswer → LogReply
+  found : Patch → LogReply
+  missing : ℕ → LogReply
+  described : ℕ → Option Id → LogReply
+  counted : ℕ → LogReply
+
+-- a patch, or that it is missing from a chain of this length
+abbrev pub fetched : Option Patch → ℕ → LogReply
+fetched (Some patch) count = found patch
+fetched None count = missing count
+
+-- the patch with an id, by its version
+abbrev pub patch_named : List Patch → Option ℕ → Option Patch
+patch_named patches None = None
+patch_named patches (Some place) = patch_at patches place
+
+abbrev pub reply_of : LogLimits → LogCall → List Patch → LogReply
+reply_of limits (append patch) chain = answered (answer_of (decision chain patch limits))
+reply_of limits (fetch_version place) chain = fetched (patch_at chain place) (length chain)
+reply_of limits (fetch_id id) chain = fetched (patch_named chain (version_of chain id)) (length chain)
+reply_of limits describe chain = described (length chain) (last_id chain)
+reply_of limits version chain = counted (length chain)

@@ -1,0 +1,94 @@
+//! What a chain makes of one more patch.
+ghost use Rattle.std.specs.Prelude.{◌≡◌, ◌≤◌, length};
+ghost use Rattle.chain_core.specs.Patches.{patches_of, version_of};
+ghost use Rattle.chain_core.specs.Decision.{decision, version_named};
+
+use crate::answer::Decision;
+use crate::chain::{Chain, Patch};
+use crate::limits::{FullKind, LogLimits};
+use crate::link::Link;
+use delta_base::Id;
+
+/// Where a chain has a patch's id, and the version that the patch names as the one before it.
+#[derive(Clone, Copy, Debug, PartialEq, Eq)]
+pub struct Places {
+    pub known: Option<u32>,
+    pub named: Option<u32>,
+}
+
+/// What the chain makes of a patch whose places were found.
+pub fn decide_found(
+    chain: &Chain,
+    limits: &LogLimits,
+    link: Link,
+    text: &[u8],
+    places: Places,
+) -> Decision
+    requires text { length text.now ≤ 4194304 }
+    requires few { length chain.now.items ≤ limits.now.patches }
+    requires known { places.known ≡ version_of (patches_of chain.now.items) link.id }
+    requires named { places.named ≡ version_named (patches_of chain.now.items) link.prev }
+    ensures { result ≡ decision (patches_of chain.now.items) (record { id = link.id; prev = link.prev; text = text.now }) limits.now }
+{
+    if let Some(version) = places.known {
+        let same = match chain.by_version(version) {
+            Some(found) => found.text.as_slice() == text,
+            None => false,
+        };
+        return Decision::Known { version, same };
+    }
+    let version = chain.version();
+    let head = chain.head();
+    if link.prev != head {
+        return Decision::Conflict {
+            version,
+            head,
+            prev_version: places.named,
+        };
+    }
+    if version == limits.patches {
+        return Decision::Full {
+            what: FullKind::Patches,
+            have: u64::from(version),
+            limit: u64::from(limits.patches),
+        };
+    }
+    let have = chain.journal_length() + 5 + text.len() as u64;
+    if have > limits.bytes {
+        return Decision::Full {
+            what: FullKind::Bytes,
+            have,
+            limit: limits.bytes,
+        };
+    }
+    Decision::Accept {
+        version: version + 1,
+    }
+}
+
+// The version that a patch names as the one before it.
+fn named_by(chain: &Chain, prev: Option<Id>) -> Option<u32>
+    ensures { result ≡ version_named (patches_of chain.now.items) prev }
+{
+    match prev {
+        None => Some(0),
+        Some(id) => chain.version_of(id),
+    }
+}
+
+/// What the chain makes of the patch.
+pub fn decide(chain: &Chain, patch: &Patch, limits: &LogLimits) -> Decision
+    requires text { length patch.now.text ≤ 4194304 }
+    requires few { length chain.now.items ≤ limits.now.patches }
+    ensures { result ≡ decision (patches_of chain.now.items) patch.now limits.now }
+{
+    let link = Link {
+        id: patch.id,
+        prev: patch.prev,
+    };
+    let places = Places {
+        known: chain.version_of(patch.id),
+        named: named_by(chain, patch.prev),
+    };
+    decide_found(chain, limits, link, patch.text.as_slice(), places)
+}
