@@ -1,3 +1,5 @@
 pub mod Stays
 pub mod TokenStays
 pub mod RowStays
+pub mod Shapes
+pub mod RowShapes

@@ -1,6 +1,8 @@
 //! What more text may change. These functions do nothing: their contracts are theorems.
 
-ghost use Rattle.std.specs.Prelude.{◌≡◌, false, ◌++◌, List, ℕ, Ok, Err};
+ghost use Rattle.std.specs.Prelude.{◌≡◌, [], false, ◌++◌, List, ℕ, Ok, Err};
+ghost use Rattle.rows_text.specs.declared.fault.RowKind.TheVariants.{Common};
+ghost use Rattle.nquads_text.specs.declared.fault.TextKind.TheVariants.{Truncated};
 ghost use Rattle.rows_text.specs.declared.row.Row.{Row};
 ghost use Rattle.rows_text.specs.Fault.{Fault};
 ghost use Rattle.rows_text.specs.Reading.{row_at};
@@ -14,4 +16,9 @@ pub fn rows_stay()
     ensures fault { (text : List ℕ) (f : Fault) → live_row text ≡ Err f → ends_row f.0 f.1 ≡ false → FaultDecided text f }
     ensures row_again { (text more : List ℕ) (r : Row) (after : List ℕ) → live_row text ≡ Ok (r, after) → row_at (text ++ more) ≡ Ok (r, after ++ more) }
     ensures fault_again { (text more : List ℕ) (f : Fault) → live_row text ≡ Err f → ends_row f.0 f.1 ≡ false → row_at (text ++ more) ≡ Err (f.0, f.1 ++ more) }
+{}
+
+/// Truncated stands at the text's end.
+pub fn cuts_stand_at_the_end()
+    ensures { (text rest : List ℕ) → row_at text ≡ Err (Common Truncated, rest) → rest ≡ [] }
 {}
