@@ -3,3 +3,5 @@ pub mod TokenStays
 pub mod RowStays
 pub mod Shapes
 pub mod RowShapes
+pub mod Completions
+pub mod Breaks

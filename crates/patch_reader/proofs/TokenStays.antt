@@ -200,7 +200,7 @@ no_name_longer b bs more front shut =
 drop_none : (n : ℕ) → drop {A = ℕ} n [] ≡ []
 drop_none n = drop_all n [] (omega arith)
 
-dot_front : (b : ℕ) (rest : List ℕ) (c : ℕ) (after : List ℕ) → char_at (b ∷ rest) ≡ Ok (c, after) → nat_eq c 46 ≡ true → (b ≡ 46) × (rest ≡ after)
+pub dot_front : (b : ℕ) (rest : List ℕ) (c : ℕ) (after : List ℕ) → char_at (b ∷ rest) ≡ Ok (c, after) → nat_eq c 46 ≡ true → (b ≡ 46) × (rest ≡ after)
 unfolding encode_utf8
 dot_front b rest c after e dot =
     let s = char_spelled (b ∷ rest) c after e in
@@ -213,7 +213,7 @@ module _ (b : ℕ) (rest : List ℕ) where
   size_by : (dot name : Bool) (k m : ℕ) → ℕ
   size_by dot name k m = cond dot (cond (nat_eq m 0) 0 (suc k + m)) (cond name (suc k + m) 0)
 
-  behind_char : (k m : ℕ) → drop (0 + (suc k + m)) (b ∷ rest) ≡ drop (k + m) rest
+  pub behind_char : (k m : ℕ) → drop (0 + (suc k + m)) (b ∷ rest) ≡ drop (k + m) rest
   behind_char k m = ap (λ (n : ℕ). drop n (b ∷ rest)) (let t : 0 + (suc k + m) ≡ suc (k + m) = omega arith in t)
 
   step_by : (dot name : Bool) (k m longer : ℕ) → (dot ≡ true → (b ≡ 46) × (k ≡ 0)) → (label_open (drop (k + m) rest) ≡ false → longer ≡ m)
@@ -277,7 +277,7 @@ names_stay more zero (b ∷ rest) shut = by (λ k. names_stay more k rest) (deco
             (ap (λ (n : ℕ). label_open (drop (0 + n) (b ∷ rest))) (sym one) ∙ shut)
             ∙ sym one
 
-drop_back : (rest front after : List ℕ) → rest ≡ front ++ after → drop (length rest - length after) rest ≡ after
+pub drop_back : (rest front after : List ℕ) → rest ≡ front ++ after → drop (length rest - length after) rest ≡ after
 drop_back rest front after e =
     let l : length rest ≡ length front + length after = ap length e ∙ length-append front after in
     let n : length rest - length after ≡ length front = omega arith in
@@ -288,13 +288,13 @@ abbrev OpenLabel : Read (List ℕ) → List ℕ × List ℕ → Type 0
 OpenLabel longer x = (label_open x.1 ≡ true) × ((y : List ℕ × List ℕ) × (longer ≡ Ok y))
 
 -- how many bytes the label behind `_:` has
-abbrev label_size : List ℕ → ℕ × List ℕ → ℕ
+abbrev pub label_size : List ℕ → ℕ × List ℕ → ℕ
 label_size rest first = (length rest - length first.1) + name_len 0 first.1
 
-abbrev label_read : List ℕ → ℕ → Read (List ℕ)
+abbrev pub label_read : List ℕ → ℕ → Read (List ℕ)
 label_read rest size = Ok (take size rest, drop size rest)
 
-fits : (rest : List ℕ) (first : ℕ × List ℕ) → char_at rest ≡ Ok first → label_size rest first ≤ length rest
+pub fits : (rest : List ℕ) (first : ℕ × List ℕ) → char_at rest ≡ Ok first → label_size rest first ≤ length rest
 fits rest first e =
     let s = char_spelled rest first.0 first.1 e in
     let i = inner_taken 0 first.1 in
@@ -486,14 +486,14 @@ IsBlank t = (label : List ℕ) × (t ≡ term.Blank label)
 abbrev pub OpenTerm : List ℕ → Read Term → Term × List ℕ → Type 0
 OpenTerm start longer x = (literal_open start x.0 x.1 ≡ true) ⊎ ((blank_open start x.0 x.1 ≡ true) × ((y : Term × List ℕ) × (longer ≡ Ok y) × IsBlank y.0))
 
-quote_front : (b : ℕ) (rest : List ℕ) (c : ℕ) (after : List ℕ) → char_at (b ∷ rest) ≡ Ok (c, after) → nat_eq c 34 ≡ true → (b ≡ 34) × (rest ≡ after)
+pub quote_front : (b : ℕ) (rest : List ℕ) (c : ℕ) (after : List ℕ) → char_at (b ∷ rest) ≡ Ok (c, after) → nat_eq c 34 ≡ true → (b ≡ 34) × (rest ≡ after)
 unfolding encode_utf8
 quote_front b rest c after e quote =
     let s = char_spelled (b ∷ rest) c after e in
     let whole : b ∷ rest ≡ 34 ∷ after = s.1 ∙ ap (λ (k : ℕ). encode_utf8 k ++ after) (eqb-true c 34 quote) in
     (cc, cc)
 
-line_front : (b : ℕ) (rest : List ℕ) (c : ℕ) (after : List ℕ) → char_at (b ∷ rest) ≡ Ok (c, after) → nat_eq c 95 ≡ true → b ≡ 95
+pub line_front : (b : ℕ) (rest : List ℕ) (c : ℕ) (after : List ℕ) → char_at (b ∷ rest) ≡ Ok (c, after) → nat_eq c 95 ≡ true → b ≡ 95
 unfolding encode_utf8
 line_front b rest c after e line =
     let s = char_spelled (b ∷ rest) c after e in
