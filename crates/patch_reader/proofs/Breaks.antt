@@ -26,7 +26,7 @@ use Rattle.nquads_text.proofs.BlankRuns.{blanks_parted, blanks_skipped}
 use Rattle.nquads_text.proofs.LiteralReads.{iri_found, string_found}
 use Rattle.patch_reader.specs.Cut.{ends_quoted, kind_open, literal_open, blank_open, label_open, leads, is_front, no_name_begins, begins_name_char}
 use Rattle.patch_reader.proofs.Stays.{AtEnd, with_more, string_body_stays, ok_char, bad_char, good_char, rooms_same}
-use Rattle.patch_reader.proofs.TokenStays.{behind_char, dot_front, quote_front, drop_back, label_size, label_read}
+use Rattle.patch_reader.proofs.TokenStays.{behind_char, dot_front, IsBlank, quote_front, drop_back, label_size, label_read}
 use Rattle.patch_reader.proofs.Completions.{stop, Completes, completed}
 
 abbrev pub stopped : {X : Type 0} → Read X
@@ -424,11 +424,11 @@ label_breaks start longer rest x e is =
 -- ---- terms
 
 -- what more text does to a literal or a label that is open
-pub data TermBreaks (longer : List ℕ → Read Term) : Type 0 where
-  broken : (bytes : List ℕ) → 2 ≤ length bytes → longer bytes ≡ stopped → TermBreaks longer
-  gone_on : (bytes : List ℕ) → 2 ≤ length bytes → (label : List ℕ) → longer bytes ≡ Ok (term.Blank label, stop) → TermBreaks longer
+pub data TermBreaks (t : Term) (longer : List ℕ → Read Term) : Type 0 where
+  broken : (bytes : List ℕ) → 2 ≤ length bytes → longer bytes ≡ stopped → TermBreaks t longer
+  gone_on : (bytes : List ℕ) → 2 ≤ length bytes → (label : List ℕ) → longer bytes ≡ Ok (term.Blank label, stop) → IsBlank t → TermBreaks t longer
 
-abbrev IsOpen : List ℕ → Term × List ℕ → Type 0
+abbrev pub IsOpen : List ℕ → Term × List ℕ → Type 0
 IsOpen start x = (literal_open start x.0 x.1 ≡ true) ⊎ (blank_open start x.0 x.1 ≡ true)
 
 less_front : (b : ℕ) (rest : List ℕ) (c : ℕ) (after : List ℕ) → char_at (b ∷ rest) ≡ Ok (c, after) → nat_eq c 60 ≡ true → (b ≡ 60) × (rest ≡ after)
@@ -451,7 +451,7 @@ blank_term r = r >>= λ label. Ok (term.Blank label.0, label.1)
 abbrev literal_term : Read Literal → Read Term
 literal_term r = r >>= λ literal. Ok (term.Literal literal.0, literal.1)
 
-pub term_breaks : (rest : List ℕ) (x : Term × List ℕ) → term_at rest ≡ Ok x → IsOpen rest x → TermBreaks (λ bytes. term_at (rest ++ bytes))
+pub term_breaks : (rest : List ℕ) (x : Term × List ℕ) → term_at rest ≡ Ok x → IsOpen rest x → TermBreaks x.0 (λ bytes. term_at (rest ++ bytes))
 unfolding term_at char_at
 term_breaks [] x e is = absurd (ok_no_fault x (Truncated, []) (sym e))
 term_breaks (b ∷ bs) x e is =
@@ -463,7 +463,7 @@ term_breaks (b ∷ bs) x e is =
 
     by : (c : ℕ × List ℕ) → char_at (b ∷ bs) ≡ Ok c → (less line quote : Bool) → nat_eq c.0 60 ≡ less → nat_eq c.0 95 ≡ line → nat_eq c.0 34 ≡ quote
         → cond less (iri_term (iri_at (b ∷ bs) c.1)) (cond line (blank_term (label_at (b ∷ bs) c.1)) (cond quote (literal_term (literal_at (b ∷ bs) c.1)) (Err (BadToken, b ∷ bs)))) ≡ Ok x
-        → TermBreaks (λ bytes. term_at ((b ∷ bs) ++ bytes))
+        → TermBreaks x.0 (λ bytes. term_at ((b ∷ bs) ++ bytes))
     by c read true line quote l n q e =
         let i = bind_ok (iri_at (b ∷ bs) c.1) (λ iri. Ok (term.Iri iri.0, iri.1)) x e in
         absurd (no_iri (b ∷ bs) i.0.0 i.0.1 (subst (IsOpen (b ∷ bs)) (sym (ok_is_text (term.Iri i.0.0, i.0.1) x i.2)) is))
@@ -471,7 +471,7 @@ term_breaks (b ∷ bs) x e is =
         let i = bind_ok (label_at (b ∷ bs) c.1) (λ label. Ok (term.Blank label.0, label.1)) x e in
         let still = label_still i.0.0 i.0.1 (subst (IsOpen (b ∷ bs)) (sym (ok_is_text (term.Blank i.0.0, i.0.1) x i.2)) is) in
         let g = label_breaks (b ∷ bs) (λ bytes. b ∷ (bs ++ bytes)) c.1 i.0 i.1 still in
-        TermBreaks.gone_on g.0 g.1 g.2.0 (rw (ok_again c g.0 read, l, n) (rw g.2.1 refl))
+        TermBreaks.gone_on g.0 g.1 g.2.0 (rw (ok_again c g.0 read, l, n) (rw g.2.1 refl)) (i.0.0, ap (λ (y : Term × List ℕ). y.0) (sym (ok_is_text (term.Blank i.0.0, i.0.1) x i.2)))
       where
         label_still : (label after : List ℕ) → IsOpen (b ∷ bs) (term.Blank label, after) → label_open after ≡ true
         label_still label after (inl e) = absurd (false≢true e)

@@ -5,3 +5,4 @@ pub mod Shapes
 pub mod RowShapes
 pub mod Completions
 pub mod Breaks
+pub mod Opens

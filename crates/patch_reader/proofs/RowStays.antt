@@ -81,11 +81,11 @@ chained_end more (Err e) longer f g (inl h) step = inl h
 chained_end more (Err e) longer f g (inr h) step = inr (rw h refl)
 
 -- what is at the end stays there
-end_then : {X Y : Type 0} (r : Result X Fault) (f : X → Result Y Fault) → AtEnd r → AtEnd (r >>= f)
+pub end_then : {X Y : Type 0} (r : Result X Fault) (f : X → Result Y Fault) → AtEnd r → AtEnd (r >>= f)
 end_then (Ok x) f h = absurd h
 end_then (Err e) f h = h
 
-text_at_end : {X : Type 0} (r : TextRead X) → TextAtEnd r → AtEnd (in_row r)
+pub text_at_end : {X : Type 0} (r : TextRead X) → TextAtEnd r → AtEnd (in_row r)
 unfolding ends_row
 text_at_end (Ok x) h = absurd h
 text_at_end (Err f) h = h
@@ -100,7 +100,7 @@ in_row_keeps more r longer (inr h) = inr (ap in_row h ∙ same r)
 
 -- ---- where the text ends, or within a character
 
-cut_char : (rest : List ℕ) → is_cut rest ≡ true → (kind : TextKind) × (char_at rest ≡ Err (kind, rest)) × (ends_text kind rest ≡ true)
+pub cut_char : (rest : List ℕ) → is_cut rest ≡ true → (kind : TextKind) × (char_at rest ≡ Err (kind, rest)) × (ends_text kind rest ≡ true)
 unfolding char_at ends_text
 cut_char [] e = (Truncated, refl, refl)
 cut_char (b ∷ bs) e = (NotUtf8, none (and_parts _ _ (and_parts (leads b) _ e).1).0, e)
@@ -112,30 +112,30 @@ cut_char (b ∷ bs) e = (NotUtf8, none (and_parts _ _ (and_parts (leads b) _ e).
     none : is_none (decoded (b ∷ bs)).char ≡ true → char_at (b ∷ bs) ≡ Err (NotUtf8, b ∷ bs)
     none t = bad_char b bs (none_of _ t)
 
-cut_stands : (test : ℕ → Bool) (rest : List ℕ) → ((b : ℕ) → 0x80 ≤ b → test b ≡ false) → is_cut rest ≡ true → stands test rest ≡ false
+pub cut_stands : (test : ℕ → Bool) (rest : List ℕ) → ((b : ℕ) → 0x80 ≤ b → test b ≡ false) → is_cut rest ≡ true → stands test rest ≡ false
 cut_stands test [] none e = refl
 cut_stands test (b ∷ bs) none e = let led = (and_parts (leads b) _ e).0 in none b (grind (arith, nat_tests, led))
 
-no_dot : (b : ℕ) → 0x80 ≤ b → is_dot b ≡ false
+pub no_dot : (b : ℕ) → 0x80 ≤ b → is_dot b ≡ false
 no_dot b low = grind (arith, nat_tests, low)
 
-no_colon : (b : ℕ) → 0x80 ≤ b → nat_eq b 58 ≡ false
+pub no_colon : (b : ℕ) → 0x80 ≤ b → nat_eq b 58 ≡ false
 no_colon b low = grind (arith, nat_tests, low)
 
-no_letter : (b : ℕ) → 0x80 ≤ b → is_ascii_alphabetic b ≡ false
+pub no_letter : (b : ℕ) → 0x80 ≤ b → is_ascii_alphabetic b ≡ false
 no_letter b low = grind (arith, nat_tests, low)
 
-no_term : (b : ℕ) → 0x80 ≤ b → begins_term b ≡ false
+pub no_term : (b : ℕ) → 0x80 ≤ b → begins_term b ≡ false
 no_term b low = grind (arith, nat_tests, low)
 
-no_less : (b : ℕ) → 0x80 ≤ b → nat_eq b 60 ≡ false
+pub no_less : (b : ℕ) → 0x80 ≤ b → nat_eq b 60 ≡ false
 no_less b low = grind (arith, nat_tests, low)
 
-cut_other : (kind : RowKind) (rest : List ℕ) → is_cut rest ≡ true → ends_row (other kind rest).0 (other kind rest).1 ≡ true
+pub cut_other : (kind : RowKind) (rest : List ℕ) → is_cut rest ≡ true → ends_row (other kind rest).0 (other kind rest).1 ≡ true
 unfolding other ends_row
 cut_other kind rest e = let c = cut_char rest e in rw c.1 c.2
 
-cut_term : (rest : List ℕ) → is_cut rest ≡ true → AtEnd (row_term_at rest)
+pub cut_term : (rest : List ℕ) → is_cut rest ≡ true → AtEnd (row_term_at rest)
 unfolding row_term_at term_at
 cut_term rest e = by rest e
   where
@@ -147,7 +147,7 @@ cut_term rest e = by rest e
     by (b ∷ bs) e = let led = (and_parts (leads b) _ e).0 in let ne : nat_eq b 60 ≡ false = no_less b (grind (arith, nat_tests, led)) in
         rw ne (text_at_end (term_at (b ∷ bs)) (text_end (b ∷ bs) e))
 
-cut_needed : (rest : List ℕ) → is_cut rest ≡ true → AtEnd (needed_term_at rest)
+pub cut_needed : (rest : List ℕ) → is_cut rest ≡ true → AtEnd (needed_term_at rest)
 unfolding needed_term_at
 cut_needed rest e = rw (cut_stands is_dot rest no_dot e) (cut_term rest e)
 
@@ -173,7 +173,7 @@ cut_prefix_iri : (rest : List ℕ) → is_cut rest ≡ true → AtEnd (live_pref
 unfolding live_prefix_iri
 cut_prefix_iri rest e = end_then (live_term rest) _ (cut_live_term rest e)
 
-cut_dot : (missing : RowKind) (rest : List ℕ) → is_cut rest ≡ true → AtEnd (dot_at missing rest)
+pub cut_dot : (missing : RowKind) (rest : List ℕ) → is_cut rest ≡ true → AtEnd (dot_at missing rest)
 unfolding dot_at
 cut_dot missing rest e = rw (cut_stands is_dot rest no_dot e, cut_stands begins_term rest no_term e) (cut_other missing rest e)
 
@@ -186,7 +186,7 @@ cut_graph rest e = rw (cut_stands begins_term rest no_term e) (end_then (dot_at 
 abbrev good : ℕ × List ℕ → TextRead ℕ
 good x = Ok x
 
-good_no_fault : (x : ℕ × List ℕ) (f : TextKind × List ℕ) → good x ≡ Err f → ⊥
+pub good_no_fault : (x : ℕ × List ℕ) (f : TextKind × List ℕ) → good x ≡ Err f → ⊥
 good_no_fault x f e = absurd cc
 
 abbrev CommentGoal : List ℕ → List ℕ → List ℕ → TextRead ℕ → TextRead ℕ → Type 0
@@ -194,7 +194,7 @@ CommentGoal more here rest r longer =
     (is_cut (comment_step r here (length rest) (λ goes k. space_behind goes k rest)) ≡ true)
     ⊎ (comment_step longer (here ++ more) (length (rest ++ more)) (λ goes k. space_behind goes k (rest ++ more)) ≡ comment_step r here (length rest) (λ goes k. space_behind goes k rest) ++ more)
 
-space_stays : (more : List ℕ) (comment : Bool) (skip : ℕ) (rest : List ℕ) → (is_cut (space_behind comment skip rest) ≡ true) ⊎ (space_behind comment skip (rest ++ more) ≡ space_behind comment skip rest ++ more)
+pub space_stays : (more : List ℕ) (comment : Bool) (skip : ℕ) (rest : List ℕ) → (is_cut (space_behind comment skip rest) ≡ true) ⊎ (space_behind comment skip (rest ++ more) ≡ space_behind comment skip rest ++ more)
 unfolding space_behind char_at ends_text
 space_stays more comment zero [] = inl refl
 space_stays more comment (suc skip) [] = inl refl
@@ -231,7 +231,7 @@ space_stays more true zero (b ∷ rest) = by (λ goes k. space_stays more goes k
         let longer = same ∙ ap (text_with_more more) e in
         rw (e, longer, rooms_same rest x.1 more) (others (not (is_line_end x.0)) (length rest - length x.1))
 
-spaced : {X : Type 0} (more : List ℕ) (live whole : List ℕ → Read X) → ((rest : List ℕ) → Keeps more (live rest) (whole (rest ++ more))) → ((rest : List ℕ) → is_cut rest ≡ true → AtEnd (live rest))
+pub spaced : {X : Type 0} (more : List ℕ) (live whole : List ℕ → Read X) → ((rest : List ℕ) → Keeps more (live rest) (whole (rest ++ more))) → ((rest : List ℕ) → is_cut rest ≡ true → AtEnd (live rest))
     → (rest : List ℕ) → Keeps more (live (skip_space rest)) (whole (skip_space (rest ++ more)))
 spaced more live whole each cut rest = ⊎_elim
     (λ ended. inl (cut (skip_space rest) ended))
@@ -297,11 +297,11 @@ needed_late more (b ∷ bs) some = by (is_dot b) refl
 abbrev settled : List ℕ → Read Term → Read Term
 settled start r = r >>= λ t. cond (literal_open start t.0 t.1) (Err (Common Truncated, [])) (Ok t)
 
-cut_end : ends_row (Common Truncated) [] ≡ true
+pub cut_end : ends_row (Common Truncated) [] ≡ true
 unfolding ends_row ends_text
 cut_end = refl
 
-blank_is_no_literal : (start : List ℕ) (t : Term) (after : List ℕ) → IsBlank t → literal_open start t after ≡ false
+pub blank_is_no_literal : (start : List ℕ) (t : Term) (after : List ℕ) → IsBlank t → literal_open start t after ≡ false
 blank_is_no_literal start t after b = rw b.1 refl
 
 settled_late : (start more : List ℕ) (r longer : Read Term) → LateRowTerm start more r longer → LateTerm start more (settled start r) longer
@@ -318,7 +318,7 @@ settled_late start more r longer (inr (x, e, inr (still_open, y))) =
     let none = blank_is_no_literal start x.0 x.1 blank in
     rw (e, none) (inr (x, refl, blank, still_open, y))
 
-live_term_late : (more rest : List ℕ) → LateTerm rest more (live_term rest) (needed_term_at (rest ++ more))
+pub live_term_late : (more rest : List ℕ) → LateTerm rest more (live_term rest) (needed_term_at (rest ++ more))
 unfolding live_term
 live_term_late more [] = inl (inl (cut_live_term [] refl))
 live_term_late more (b ∷ bs) = by (needed_late more (b ∷ bs) (λ none. absurd cc))
@@ -337,7 +337,7 @@ late_then start more r longer f g (inr (x, e, blank, is, rest)) stays still_open
 blanks_alike : (fits : Term → Bool) → Type 0
 blanks_alike fits = (a b : List ℕ) → fits (term.Blank a) ≡ fits (term.Blank b)
 
-placed_stays : (fits : Term → Bool) (more rest : List ℕ) → ((a b : List ℕ) → fits (term.Blank a) ≡ fits (term.Blank b)) → Keeps more (live_placed fits rest) (placed_at fits (rest ++ more))
+pub placed_stays : (fits : Term → Bool) (more rest : List ℕ) → ((a b : List ℕ) → fits (term.Blank a) ≡ fits (term.Blank b)) → Keeps more (live_placed fits rest) (placed_at fits (rest ++ more))
 unfolding live_placed placed_at
 placed_stays fits more rest alike =
     late_then rest more (live_term rest) (needed_term_at (rest ++ more)) _ _ (live_term_late more rest)
@@ -363,7 +363,7 @@ position_stays : (more : List ℕ) (o : Option (List ℕ)) (start after : List �
 position_stays more (Some text) start after = value more text after
 position_stays more None start after = fault more (Common BadPosition) start
 
-quoted_stays : (more rest : List ℕ) → Keeps more (live_quoted rest) (quoted_at (rest ++ more))
+pub quoted_stays : (more rest : List ℕ) → Keeps more (live_quoted rest) (quoted_at (rest ++ more))
 unfolding live_quoted quoted_at
 quoted_stays more rest =
     late_then rest more (live_term rest) (needed_term_at (rest ++ more)) _ _ (live_term_late more rest)
@@ -384,7 +384,7 @@ iri_of_term_stays more start (term.Literal literal) after =
     chained more (or_bad_position (plain_of literal.kind literal.lexical) start after) (or_bad_position (plain_of literal.kind literal.lexical) (start ++ more) (after ++ more)) _ _
     (position_stays more (plain_of literal.kind literal.lexical) start after) (λ string e. string_iri_stays more start string.0 string.1)
 
-prefix_iri_stays : (more rest : List ℕ) → Keeps more (live_prefix_iri rest) (prefix_iri_at (rest ++ more))
+pub prefix_iri_stays : (more rest : List ℕ) → Keeps more (live_prefix_iri rest) (prefix_iri_at (rest ++ more))
 unfolding live_prefix_iri prefix_iri_at
 prefix_iri_stays more rest =
     late_then rest more (live_term rest) (needed_term_at (rest ++ more)) _ _ (live_term_late more rest)
@@ -440,7 +440,7 @@ word_run_stays test more rest = by (nat_eq (length (drop (prefix_len test rest) 
         let left : nat_eq (length (drop (prefix_len test rest) rest ++ more)) 0 ≡ false = ap (λ (n : ℕ). nat_eq n 0) (length-append (drop (prefix_len test rest) rest) more) ∙ longer_some _ e in
         inr (rw (same.0, take-append-le (prefix_len test rest) rest more same.1, tail, left) refl)
 
-word_stays : (more rest : List ℕ) → Keeps more (word_at rest) (word_at (rest ++ more))
+pub word_stays : (more rest : List ℕ) → Keeps more (word_at rest) (word_at (rest ++ more))
 unfolding word_at
 word_stays more [] = inl (cut_word [] refl)
   where
@@ -451,7 +451,7 @@ word_stays more (b ∷ bs) = by
     by : Keeps more (word_at (b ∷ bs)) (word_at ((b ∷ bs) ++ more))
     by = choice more (is_ascii_alphabetic b) _ _ _ _ (word_run_stays is_ascii_alphabetic more (b ∷ bs)) (other_stays (List ℕ) more (Common BadToken) (b ∷ bs))
 
-key_stays : (more rest : List ℕ) → Keeps more (live_key rest) (key_at (rest ++ more))
+pub key_stays : (more rest : List ℕ) → Keeps more (live_key rest) (key_at (rest ++ more))
 unfolding live_key key_at
 key_stays more [] = inl (cut_key [] refl)
 key_stays more (b ∷ bs) = by (is_dot b) (is_ascii_alphabetic b) refl refl
@@ -482,7 +482,7 @@ word_prefix_stays more rest = by (nat_eq (length (drop (prefix_len is_word_byte 
         rw (e, same.0, take-append-le (prefix_len is_word_byte rest) rest more same.1, drop-append-le (prefix_len is_word_byte rest) rest more same.1)
         (colon_stays more (take (prefix_len is_word_byte rest) rest) (drop (prefix_len is_word_byte rest) rest) some)
 
-prefix_stays : (more rest : List ℕ) → Keeps more (live_prefix rest) (prefix_at (rest ++ more))
+pub prefix_stays : (more rest : List ℕ) → Keeps more (live_prefix rest) (prefix_at (rest ++ more))
 unfolding live_prefix prefix_at
 prefix_stays more [] = inl (cut_prefix [] refl)
 prefix_stays more (b ∷ bs) = by
@@ -506,7 +506,7 @@ other_ends more kind rest = ⊎_elim (λ end. inl end) (λ same. inr (ap to_end 
     to_end (Ok x) = Ok x.1
     to_end (Err f) = Err f
 
-dot_stays : (more : List ℕ) (missing : RowKind) (rest : List ℕ) → KeepsEnd more (dot_at missing rest) (dot_at missing (rest ++ more))
+pub dot_stays : (more : List ℕ) (missing : RowKind) (rest : List ℕ) → KeepsEnd more (dot_at missing rest) (dot_at missing (rest ++ more))
 unfolding dot_at
 dot_stays more missing [] = inl (cut_dot missing [] refl)
 dot_stays more missing (b ∷ bs) = by
@@ -514,19 +514,19 @@ dot_stays more missing (b ∷ bs) = by
     by : KeepsEnd more (dot_at missing (b ∷ bs)) (dot_at missing ((b ∷ bs) ++ more))
     by = end_choice more (is_dot b) _ _ _ _ (inr refl) (end_choice more (begins_term b) _ _ _ _ (inr refl) (other_ends more missing (b ∷ bs)))
 
-end_stays : (more : List ℕ) (missing : RowKind) (rest : List ℕ) → KeepsEnd more (end_at missing rest) (end_at missing (rest ++ more))
+pub end_stays : (more : List ℕ) (missing : RowKind) (rest : List ℕ) → KeepsEnd more (end_at missing rest) (end_at missing (rest ++ more))
 end_stays more missing rest = ⊎_elim
     (λ ended. inl (cut_dot missing (skip_space rest) ended))
     (λ same. subst (λ (s : List ℕ). KeepsEnd more (dot_at missing (skip_space rest)) (dot_at missing s)) (sym same) (dot_stays more missing (skip_space rest)))
     (space_stays more false 0 rest)
 
-node_alike : (a b : List ℕ) → is_node (term.Blank a) ≡ is_node (term.Blank b)
+pub node_alike : (a b : List ℕ) → is_node (term.Blank a) ≡ is_node (term.Blank b)
 node_alike a b = refl
 
-iri_alike : (a b : List ℕ) → is_iri (term.Blank a) ≡ is_iri (term.Blank b)
+pub iri_alike : (a b : List ℕ) → is_iri (term.Blank a) ≡ is_iri (term.Blank b)
 iri_alike a b = refl
 
-any_alike : (a b : List ℕ) → is_any (term.Blank a) ≡ is_any (term.Blank b)
+pub any_alike : (a b : List ℕ) → is_any (term.Blank a) ≡ is_any (term.Blank b)
 any_alike a b = refl
 
 abbrev no_graph : Result (List ℕ) Fault → Read (Option Term)
@@ -535,7 +535,7 @@ no_graph r = r >>= λ after. Ok (None, after)
 no_graph_stays : (more rest : List ℕ) → Keeps more (no_graph (dot_at (Common MissingDot) rest)) (no_graph (dot_at (Common MissingDot) (rest ++ more)))
 no_graph_stays more rest = chained_end more (dot_at (Common MissingDot) rest) (dot_at (Common MissingDot) (rest ++ more)) _ _ (dot_stays more (Common MissingDot) rest) (λ after. value more None after)
 
-graph_or_dot_stays : (more rest : List ℕ) → Keeps more (live_graph_or_dot rest) (graph_or_dot (rest ++ more))
+pub graph_or_dot_stays : (more rest : List ℕ) → Keeps more (live_graph_or_dot rest) (graph_or_dot (rest ++ more))
 unfolding live_graph_or_dot graph_or_dot
 graph_or_dot_stays more [] = inl (cut_graph [] refl)
 graph_or_dot_stays more (b ∷ bs) = by
@@ -547,15 +547,15 @@ graph_or_dot_stays more (b ∷ bs) = by
         chained_end more (end_at (Common MissingDot) g.1) (end_at (Common MissingDot) (g.1 ++ more)) _ _ (end_stays more (Common MissingDot) g.1) (λ after. value more (Some g.0) after)))
         (no_graph_stays more (b ∷ bs))
 
-graph_stays : (more rest : List ℕ) → Keeps more (live_graph rest) (graph_at (rest ++ more))
+pub graph_stays : (more rest : List ℕ) → Keeps more (live_graph rest) (graph_at (rest ++ more))
 graph_stays more rest = spaced more live_graph_or_dot graph_or_dot (graph_or_dot_stays more) cut_graph rest
 
-spaced_placed : (fits : Term → Bool) (more rest : List ℕ) → ((a b : List ℕ) → fits (term.Blank a) ≡ fits (term.Blank b)) → Keeps more (live_placed fits (skip_space rest)) (placed_at fits (skip_space (rest ++ more)))
+pub spaced_placed : (fits : Term → Bool) (more rest : List ℕ) → ((a b : List ℕ) → fits (term.Blank a) ≡ fits (term.Blank b)) → Keeps more (live_placed fits (skip_space rest)) (placed_at fits (skip_space (rest ++ more)))
 spaced_placed fits more rest alike = spaced more (live_placed fits) (placed_at fits) (λ r. placed_stays fits more r alike) (cut_placed fits) rest
 
 -- ---- rows
 
-header_stays : (more rest : List ℕ) → Keeps more (live_header rest) (header_at (rest ++ more))
+pub header_stays : (more rest : List ℕ) → Keeps more (live_header rest) (header_at (rest ++ more))
 unfolding live_header header_at
 header_stays more rest =
     chained more (live_key (skip_space rest)) (key_at (skip_space (rest ++ more))) _ _ (spaced more live_key key_at (key_stays more) cut_key rest) (λ key e.
@@ -568,7 +568,7 @@ unfolding live_bare bare_at
 bare_stays more c rest =
     chained_end more (end_at (Common BadToken) rest) (end_at (Common BadToken) (rest ++ more)) _ _ (end_stays more (Common BadToken) rest) (λ after. value more (row.Change c) after)
 
-quad_stays : (more rest : List ℕ) → Keeps more (live_quad rest) (quad_at (rest ++ more))
+pub quad_stays : (more rest : List ℕ) → Keeps more (live_quad rest) (quad_at (rest ++ more))
 unfolding live_quad quad_at
 quad_stays more rest =
     chained more (live_placed is_node (skip_space rest)) (placed_at is_node (skip_space (rest ++ more))) _ _ (spaced_placed is_node more rest node_alike) (λ s e.

@@ -1,4 +1,4 @@
-use Rattle.patch_reader.proofs.Breaks.{stopped}
+use Rattle.patch_reader.proofs.Opens.{row_stop}
 use Rattle.patch_reader.proofs.RowShapes.{truncated_ends}
 use Rattle.patch_reader.proofs.laws.cuts_stand_at_the_end.Goals as goal
 
