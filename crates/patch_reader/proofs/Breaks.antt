@@ -1,5 +1,5 @@
 -- What more text may change: behind an open literal or tag two bytes follow that no text has there, behind an open label a character and such a byte.
-use Rattle.std.proofs.Common.{◌≡◌, ℕ, zero, suc, ◌+◌, ◌-◌, ◌<◌, ◌≤◌, Bool, true, false, cond, List, [], ◌∷◌, ◌++◌, length, Option, Some, None, Result, Ok, Err, nat_eq, nat_lt, refl, sym, ap, subst, ◌∙◌, ◌⊎◌, inl, inr, ⊎_elim, arith, append_assoc, append-nil, slice_index, take, drop, ◌||◌, ◌&&◌, not, is_none}
+use Rattle.std.proofs.Common.{◌≡◌, ℕ, zero, suc, ◌+◌, ◌-◌, ◌≤◌, Bool, true, false, cond, List, [], ◌∷◌, ◌++◌, length, Option, Some, None, Result, Ok, Err, nat_eq, nat_lt, refl, sym, ap, subst, ◌∙◌, ◌⊎◌, inl, inr, ⊎_elim, arith, append_assoc, slice_index, take, drop, ◌&&◌, not, is_none}
 use Rattle.std.specs.Char.{to_ascii_lowercase, encode_utf8}
 use Rattle.std.specs.Str.{bytes_eq}
 use Rattle.rdf_terms.specs.Datatype.{xsd_string, lang_string}
@@ -14,7 +14,6 @@ use Rattle.rdf_terms.specs.declared.term.Term.{Term}
 use Rattle.rdf_terms.specs.declared.term.Term.TheVariants as term
 use Rattle.rdf_terms.specs.declared.term.LiteralKind.{LiteralKind}
 use Rattle.rdf_terms.specs.declared.term.LiteralKind.TheVariants.{Plain, Typed, Tagged}
-use Rattle.nquads_text.specs.declared.fault.TextKind.{TextKind}
 use Rattle.nquads_text.specs.declared.fault.TextKind.TheVariants.{NotUtf8, BadLabel, BadLang, LangStringWithoutTag, BadToken, Truncated}
 use Rattle.nquads_text.specs.Fault.{Fault, Read, ◌>>=◌}
 use Rattle.nquads_text.specs.Grammar.{is_blank}
@@ -100,7 +99,7 @@ no_quote start after p =
     let sizes : length start ≡ length p.0 + suc (length after) = ap length p.1 ∙ length-append p.0 (62 ∷ after) in
     let at : length start - length after - 1 ≡ length p.0 = omega (arith, sizes) in
     let byte : slice_index start (length start - length after - 1) ≡ 62 =
-        ap (λ (k : ℕ). slice_index start k) at ∙ ap (λ (t : List ℕ). slice_index t (length p.0)) p.1 ∙ there p.0 after in
+    ap (λ (k : ℕ). slice_index start k) at ∙ ap (λ (t : List ℕ). slice_index t (length p.0)) p.1 ∙ there p.0 after in
     let no : nat_eq (slice_index start (length start - length after - 1)) 34 ≡ false = ap (λ (x : ℕ). nat_eq x 34) byte in
     by (nat_lt (length after) (length start)) (nat_eq (slice_index start (length start - length after - 1)) 34) no
   where
@@ -147,9 +146,11 @@ datatype_gives start rest x e =
         let spelled = char_spelled rest hat.0 hat.1 c in
         let blanks = blanks_parted hat.1 in
         let whole : skip_blanks hat.1 ≡ (60 ∷ ref.1.0) ++ (62 ∷ x.1) =
-            ref.2 ∙ ap (λ (t : List ℕ). t ++ i.0.1) ref.1.2 ∙ append_assoc (60 ∷ ref.1.0) (62 ∷ []) i.0.1 ∙ ap (λ (t : List ℕ). (60 ∷ ref.1.0) ++ (62 ∷ t)) (sym k.0) in
-        (behind_twice rest hat.1 (62 ∷ x.1) (encode_utf8 hat.0, spelled.1)
-        (behind_twice hat.1 (skip_blanks hat.1) (62 ∷ x.1) (blanks.0, blanks.1) (60 ∷ ref.1.0, whole)), k.1)
+        ref.2 ∙ ap (λ (t : List ℕ). t ++ i.0.1) ref.1.2 ∙ append_assoc (60 ∷ ref.1.0) (62 ∷ []) i.0.1 ∙ ap (λ (t : List ℕ). (60 ∷ ref.1.0) ++ (62 ∷ t)) (sym k.0) in (
+          behind_twice rest hat.1 (62 ∷ x.1) (encode_utf8 hat.0, spelled.1)
+              (behind_twice hat.1 (skip_blanks hat.1) (62 ∷ x.1) (blanks.0, blanks.1) (60 ∷ ref.1.0, whole)),
+          k.1,
+        )
 
 -- ---- what breaks a literal
 
@@ -242,7 +243,7 @@ literal_breaks rest x e is =
     let same = ok_is_text (record { lexical = text.0.0; kind = kind.0.0 }, kind.0.1) x kind.2 in
     let found = string_found rest text.0.0 text.0.1 text.1 in
     let broken = suffix_breaks (34 ∷ rest) (34 ∷ rest) (λ bytes. 34 ∷ (rest ++ bytes)) text.0.1 kind.0 (found.0, found.2) kind.1
-        (subst (λ (y : Literal × List ℕ). kind_open y.0.kind (ends_quoted (34 ∷ rest) y.1) y.1 ≡ true) (sym same) is) in
+    (subst (λ (y : Literal × List ℕ). kind_open y.0.kind (ends_quoted (34 ∷ rest) y.1) y.1 ≡ true) (sym same) is) in
     (broken.0, broken.1, rw (string_again broken.0 text.0 text.1) (rw broken.2 refl))
   where
     string_again : (more : List ℕ) (t : List ℕ × List ℕ) → pieces_at string_piece 0 rest ≡ Ok t → pieces_at string_piece 0 (rest ++ more) ≡ Ok (t.0, t.1 ++ more)
@@ -348,10 +349,12 @@ name_goes_on zero (b ∷ rest) le e = by (λ k. name_goes_on k rest) (decoded (b
             let whole : (b ∷ rest) ++ (c.0 ++ stop) ≡ ((b ∷ rest) ++ c.0) ++ stop = sym (append_assoc (b ∷ rest) c.0 stop) in
             let sized : size ≡ length ((b ∷ rest) ++ c.0) = sym (length-append (b ∷ rest) c.0) in
             let behind : drop size ((b ∷ rest) ++ (c.0 ++ stop)) ≡ stop = ap (drop size) whole ∙ drop_at ((b ∷ rest) ++ c.0) stop size (sym sized) in
-            let l = length-append (b ∷ rest) (c.0 ++ stop) in let m = length-append c.0 stop in
-            (c.0, c.2,
-            name-char ((b ∷ rest) ++ (c.0 ++ stop)) c.1.0 size (omega arith) (omega (arith, l, m)) (c.1.1 ∙ ap (λ (t : List ℕ). Ok (c.1.0, t)) (sym behind)) c.1.2
-            ∙ ap (λ (n : ℕ). size + n) (ap (name_len 0) behind ∙ name-none stop (NotUtf8, stop) no_char) ∙ omega arith)
+            let l = length-append (b ∷ rest) (c.0 ++ stop) in let m = length-append c.0 stop in (
+              c.0,
+              c.2,
+              name-char ((b ∷ rest) ++ (c.0 ++ stop)) c.1.0 size (omega arith) (omega (arith, l, m)) (c.1.1 ∙ ap (λ (t : List ℕ). Ok (c.1.0, t)) (sym behind)) c.1.2
+                  ∙ ap (λ (n : ℕ). size + n) (ap (name_len 0) behind ∙ name-none stop (NotUtf8, stop) no_char) ∙ omega arith,
+            )
     by others (Some c) d e = spelled c (drop (decoded (b ∷ rest)).size (b ∷ rest)) (good_char b rest c d)
       where
         spelled : (c : ℕ) (after : List ℕ) → char_at (b ∷ rest) ≡ Ok (c, after) → GoesOn zero (b ∷ rest)
@@ -363,11 +366,13 @@ name_goes_on zero (b ∷ rest) le e = by (λ k. name_goes_on k rest) (decoded (b
             let g = others k (omega arith) o.0 in
             let more : List ℕ = g.0 ++ stop in
             let longer : char_at ((b ∷ rest) ++ more) ≡ Ok (c, after ++ more) = ok_char (b ∷ rest) c after more is in
-            let two : name_len 0 ((b ∷ rest) ++ more) ≡ name_step (Ok (c, after ++ more)) (length (rest ++ more)) (λ k. name_len k (rest ++ more)) = ap (λ (r : Read ℕ). name_step r (length (rest ++ more)) (λ k. name_len k (rest ++ more))) longer in
-            (g.0, g.1,
-            two
-            ∙ ap (λ (j : ℕ). cond (nat_eq c 46) (cond (nat_eq (name_len j (rest ++ more)) 0) 0 (suc j + name_len j (rest ++ more))) (cond (is_name_char c) (suc j + name_len j (rest ++ more)) 0)) (rooms_same rest after more)
-            ∙ goes_by b rest (nat_eq c 46) (is_name_char c) k (name_len k rest) (name_len k (rest ++ more)) (length g.0) (omega arith) (λ dot. let f = dots dot in (ap (λ (x : ℕ). nat_eq x 46) f.0, f.1)) g.1 g.2 o.1)
+            let two : name_len 0 ((b ∷ rest) ++ more) ≡ name_step (Ok (c, after ++ more)) (length (rest ++ more)) (λ k. name_len k (rest ++ more)) = ap (λ (r : Read ℕ). name_step r (length (rest ++ more)) (λ k. name_len k (rest ++ more))) longer in (
+              g.0,
+              g.1,
+              two
+                  ∙ ap (λ (j : ℕ). cond (nat_eq c 46) (cond (nat_eq (name_len j (rest ++ more)) 0) 0 (suc j + name_len j (rest ++ more))) (cond (is_name_char c) (suc j + name_len j (rest ++ more)) 0)) (rooms_same rest after more)
+                  ∙ goes_by b rest (nat_eq c 46) (is_name_char c) k (name_len k rest) (name_len k (rest ++ more)) (length g.0) (omega arith) (λ dot. let f = dots dot in (ap (λ (x : ℕ). nat_eq x 46) f.0, f.1)) g.1 g.2 o.1,
+            )
 
 -- with these bytes behind it another label is read, up to a byte with which no character begins
 abbrev pub Longer : (List ℕ → Read (List ℕ)) → Type 0
@@ -390,10 +395,10 @@ name_breaks start longer rest x e is =
         let s = char_spelled rest first.0 first.1 c in
         let back = drop_back rest (encode_utf8 first.0) first.1 s.1 in
         let twice : drop (label_size rest first) rest ≡ drop (name_len 0 first.1) first.1 =
-            sym (drop-drop (name_len 0 first.1) (length rest - length first.1) rest) ∙ ap (drop (name_len 0 first.1)) back in
+        sym (drop-drop (name_len 0 first.1) (length rest - length first.1) rest) ∙ ap (drop (name_len 0 first.1)) back in
         let none : 0 + name_len 0 first.1 ≡ name_len 0 first.1 = omega arith in
         let open_there : label_open (drop (0 + name_len 0 first.1) first.1) ≡ true =
-            ap (λ (n : ℕ). label_open (drop n first.1)) none ∙ ap label_open (sym twice) ∙ subst (λ (y : List ℕ × List ℕ). label_open y.1 ≡ true) (sym same) is in
+        ap (λ (n : ℕ). label_open (drop n first.1)) none ∙ ap label_open (sym twice) ∙ subst (λ (y : List ℕ × List ℕ). label_open y.1 ≡ true) (sym same) is in
         let g = name_goes_on 0 first.1 (omega arith) open_there in
         let bytes : List ℕ = g.0 ++ stop in
         let again : char_at (rest ++ bytes) ≡ Ok (first.0, first.1 ++ bytes) = ok_char rest first.0 first.1 bytes c in
@@ -402,10 +407,15 @@ name_breaks start longer rest x e is =
         let size : label_size (rest ++ bytes) (first.0, first.1 ++ bytes) ≡ length rest + length g.0 = let goes = g.2 in omega (arith, goes, rooms, shorter) in
         let whole : rest ++ bytes ≡ (rest ++ g.0) ++ stop = sym (append_assoc rest g.0 stop) in
         let behind : drop (label_size (rest ++ bytes) (first.0, first.1 ++ bytes)) (rest ++ bytes) ≡ stop =
-            ap (λ (n : ℕ). drop n (rest ++ bytes)) size ∙ ap (drop (length rest + length g.0)) whole ∙ drop_at (rest ++ g.0) stop (length rest + length g.0) (length-append rest g.0) in
-        let l = length-append g.0 stop in let some = g.1 in
-        (bytes, omega (arith, l, some), (take (label_size (rest ++ bytes) (first.0, first.1 ++ bytes)) (rest ++ bytes),
-        rw (again, b) (ap (λ (t : List ℕ). Ok (take (label_size (rest ++ bytes) (first.0, first.1 ++ bytes)) (rest ++ bytes), t)) behind)))
+        ap (λ (n : ℕ). drop n (rest ++ bytes)) size ∙ ap (drop (length rest + length g.0)) whole ∙ drop_at (rest ++ g.0) stop (length rest + length g.0) (length-append rest g.0) in
+        let l = length-append g.0 stop in let some = g.1 in (
+          bytes,
+          omega (arith, l, some),
+          (
+            take (label_size (rest ++ bytes) (first.0, first.1 ++ bytes)) (rest ++ bytes),
+            rw (again, b) (ap (λ (t : List ℕ). Ok (take (label_size (rest ++ bytes) (first.0, first.1 ++ bytes)) (rest ++ bytes), t)) behind),
+          ),
+        )
 
 label_breaks : (start : List ℕ) (longer : List ℕ → List ℕ) (rest : List ℕ) (x : List ℕ × List ℕ) → label_at start rest ≡ Ok x → label_open x.1 ≡ true → Longer (λ bytes. label_at (longer bytes) (rest ++ bytes))
 unfolding label_at

@@ -1,12 +1,10 @@
 -- The front of a character of a label can be made whole as one.
-use Rattle.std.proofs.Common.{◌≡◌, ℕ, zero, suc, ◌+◌, ◌-◌, ◌*◌, ◌<◌, ◌≤◌, Bool, true, false, cond, List, [], ◌∷◌, ◌++◌, length, Option, Some, None, Ok, Err, nat_eq, nat_lt, eq-eqb, refl, sym, ap, subst, ◌∙◌, ◌⊎◌, inl, inr, ⊎_elim, arith, slice_index, drop, ◌||◌, ◌&&◌, not, is_none}
+use Rattle.std.proofs.Common.{◌≡◌, ℕ, ◌<◌, ◌≤◌, Bool, true, false, List, [], ◌∷◌, ◌++◌, length, Option, Some, None, Ok, nat_eq, nat_lt, eq-eqb, refl, sym, ap, ◌∙◌, ◌⊎◌, inl, inr, ⊎_elim, arith, slice_index, drop, ◌||◌, ◌&&◌, not, is_none}
 use Rattle.std.proofs.lemmas.Bool.{false≢true, and_parts, or_parts, cases_lt, cases_eq, eqb-true}
 use Rattle.std.proofs.lemmas.Bool.Decides.{nat_tests}
-use Rattle.std.proofs.lemmas.List.{length-append}
 use Rattle.bstr.specs.Utf8.{Decoded, decoded, decoded_by, second, continues, code_of_2, code_of_3, code_of_4}
 use Rattle.bstr.proofs.lemmas.PieceLemmas.{by-shape, value-6, value-9, value-12}
 use Rattle.rdf_terms.specs.Names.{is_name_char}
-use Rattle.nquads_text.specs.Fault.{Read}
 use Rattle.nquads_text.specs.Reading.{char_at}
 use Rattle.patch_reader.specs.Cut.{leads, is_front, no_name_pair, no_name_begins, begins_name_char}
 use Rattle.patch_reader.proofs.Stays.{good_char}
@@ -345,5 +343,61 @@ completed b bs e =
         let t = front_of_three b c d 0 3 (omega arith) none size in
         (0x80 ∷ [], done_4 b c d 0x80 t.1 high t.0 t.2 refl (pair_high b c pair), omega arith)
     by (c ∷ d ∷ x ∷ bs) low high ee none size pair =
+        let short = front_is_short b c d x (length (b ∷ c ∷ d ∷ x ∷ bs)) none in
+        absurd (omega (arith, short, size))
+
+-- ---- any front can be made whole
+
+abbrev pub Whole : List ℕ → Type 0
+Whole front = (bytes : List ℕ) × (c : ℕ) × (char_at (front ++ (bytes ++ stop)) ≡ Ok (c, stop))
+
+whole_3 : (b c d : ℕ) → 0xE0 ≤ b → b < 0xF0 → second b c ≡ true → continues d ≡ true → char_at (b ∷ c ∷ d ∷ stop) ≡ Ok (code_of_3 b c d, stop)
+whole_3 b c d low high sec go = read_3 b c d (code_of_3 b c d) (three b c d low high sec go)
+
+whole_4 : (b c d e : ℕ) → 0xF0 ≤ b → b ≤ 0xF4 → second b c ≡ true → continues d ≡ true → continues e ≡ true → char_at (b ∷ c ∷ d ∷ e ∷ stop) ≡ Ok (code_of_4 b c d e, stop)
+whole_4 b c d e low high sec go on = read_4 b c d e (code_of_4 b c d e) (four b c d e low high sec go on)
+
+whole_2 : (b c : ℕ) → 0xC2 ≤ b → b < 0xE0 → continues c ≡ true → char_at (b ∷ c ∷ stop) ≡ Ok (code_of_2 b c, stop)
+whole_2 b c low high go =
+    let sec : second b c ≡ true = grind (arith, nat_tests, high, go) in
+    let v = value-6 (length (b ∷ c ∷ stop)) b c 255 0 (omega arith, low, high, sec) in
+    good_char b (c ∷ stop) (code_of_2 b c) (ap (λ (d : Decoded). d.char) v) ∙ ap (λ (k : ℕ). Ok (code_of_2 b c, drop k (b ∷ c ∷ stop))) (ap (λ (d : Decoded). d.size) v)
+
+-- a second byte that fits
+a_second : (b : ℕ) → 0xE0 ≤ b → b ≤ 0xF4 → (c : ℕ) × (second b c ≡ true)
+a_second b low high = ⊎_elim
+    (λ ed. (0x80, grind (arith, nat_tests, ed)))
+    (λ ned. ⊎_elim
+    (λ f4. (0x80, grind (arith, nat_tests, f4)))
+    (λ nf4. (0xBF, other b low high ned nf4))
+    (cases_eq b 0xF4))
+    (cases_eq b 0xED)
+  where
+    other : (b : ℕ) → 0xE0 ≤ b → b ≤ 0xF4 → (b ≡ 0xED → ⊥) → (b ≡ 0xF4 → ⊥) → second b 0xBF ≡ true
+    other b low high ned nf4 = grind (arith, nat_tests, low, high, ned, nf4)
+
+pub front_completed : (b : ℕ) (bs : List ℕ) → is_front (b ∷ bs) ≡ true → Whole (b ∷ bs)
+front_completed b bs e =
+    let f = and_parts (leads b) (is_none (decoded (b ∷ bs)).char && nat_eq (decoded (b ∷ bs)).size (length (b ∷ bs))) e in
+    let g = and_parts (is_none (decoded (b ∷ bs)).char) (nat_eq (decoded (b ∷ bs)).size (length (b ∷ bs))) f.1 in
+    by bs (led_low b f.0) (led_high b f.0) (none_of (decoded (b ∷ bs)).char g.0) (eqb-true (decoded (b ∷ bs)).size (length (b ∷ bs)) g.1)
+  where
+    by : (bs : List ℕ) → 0xC2 ≤ b → b ≤ 0xF4 → (decoded (b ∷ bs)).char ≡ None → (decoded (b ∷ bs)).size ≡ length (b ∷ bs) → Whole (b ∷ bs)
+    by [] low high none size = ⊎_elim
+        (λ l. (0x80 ∷ [], code_of_2 b 0x80, whole_2 b 0x80 low l refl))
+        (λ r. let c = a_second b r high in ⊎_elim
+        (λ l. (c.0 ∷ 0x80 ∷ [], code_of_3 b c.0 0x80, whole_3 b c.0 0x80 r l c.1 refl))
+        (λ f. (c.0 ∷ 0x80 ∷ 0x80 ∷ [], code_of_4 b c.0 0x80 0x80, whole_4 b c.0 0x80 0x80 f high c.1 refl refl))
+        (cases_lt b 0xF0))
+        (cases_lt b 0xE0)
+    by (c ∷ []) low high none size =
+        let t = front_of_two b c 0 0 2 (omega arith) none size in ⊎_elim
+        (λ l. (0x80 ∷ [], code_of_3 b c 0x80, whole_3 b c 0x80 t.1 l t.0 refl))
+        (λ f. (0x80 ∷ 0x80 ∷ [], code_of_4 b c 0x80 0x80, whole_4 b c 0x80 0x80 f high t.0 refl refl))
+        (cases_lt b 0xF0)
+    by (c ∷ d ∷ []) low high none size =
+        let t = front_of_three b c d 0 3 (omega arith) none size in
+        (0x80 ∷ [], code_of_4 b c d 0x80, whole_4 b c d 0x80 t.1 high t.0 t.2 refl)
+    by (c ∷ d ∷ x ∷ bs) low high none size =
         let short = front_is_short b c d x (length (b ∷ c ∷ d ∷ x ∷ bs)) none in
         absurd (omega (arith, short, size))

@@ -6,3 +6,4 @@ pub mod RowShapes
 pub mod Completions
 pub mod Breaks
 pub mod Opens
+pub mod Settled

@@ -1,15 +1,14 @@
 -- The same of rows.
-use Rattle.std.proofs.Common.{◌≡◌, ℕ, ◌-◌, Bool, true, false, cond, List, [], ◌∷◌, ◌++◌, length, Option, Some, None, Result, Ok, Err, nat_eq, refl, sym, ap, subst, ◌∙◌, take, drop, ◌||◌, not}
+use Rattle.std.proofs.Common.{◌≡◌, ℕ, Bool, true, false, cond, List, [], ◌∷◌, length, Option, Some, None, Result, Ok, Err, nat_eq, refl, subst, drop, ◌||◌, not}
 use Rattle.std.specs.Char.{is_ascii_alphabetic}
 use Rattle.std.specs.List.{list_all, prefix_len}
 use Rattle.rdf_terms.specs.Iri.{has_scheme, is_forbidden}
-use Rattle.rdf_terms.specs.Quad.{Statement, statement, is_iri}
+use Rattle.rdf_terms.specs.Quad.{is_iri}
 use Rattle.rdf_terms.specs.declared.change.Change.{Change}
 use Rattle.rdf_terms.specs.declared.change.Change.TheVariants as change
 use Rattle.rdf_terms.specs.declared.term.Term.{Term}
 use Rattle.rdf_terms.specs.declared.term.Term.TheVariants as term
-use Rattle.nquads_text.specs.declared.fault.TextKind.{TextKind}
-use Rattle.nquads_text.specs.declared.fault.TextKind.TheVariants.{NotUtf8, BadIri, RelativeIri, BadEscape, BadLabel, BadLang, LangStringWithoutTag, BadPosition, MissingDot, BadToken, Truncated}
+use Rattle.nquads_text.specs.declared.fault.TextKind.TheVariants.{NotUtf8, MissingDot, BadToken, Truncated}
 use Rattle.nquads_text.specs.Fault.{Read as TextRead}
 use Rattle.nquads_text.specs.Faults.{begins_term}
 use Rattle.nquads_text.specs.Reading.{char_at, iri_piece, pieces_at}
@@ -18,13 +17,10 @@ use Rattle.rows_text.specs.declared.codes.Code.{Code}
 use Rattle.rows_text.specs.declared.codes.Code.TheVariants as code
 use Rattle.rows_text.specs.declared.fault.RowKind.{RowKind}
 use Rattle.rows_text.specs.declared.fault.RowKind.TheVariants.{Common, UnknownCode, WrongCount, TooLong}
-use Rattle.rows_text.specs.declared.row.Row.{Row}
-use Rattle.rows_text.specs.declared.row.Row.TheVariants as row
-use Rattle.rows_text.specs.Fault.{Fault, Read, ◌>>=◌, in_row, as_row_fault}
+use Rattle.rows_text.specs.Fault.{Fault, ◌>>=◌, in_row}
 use Rattle.rows_text.specs.Faults.{is_dot}
-use Rattle.rows_text.specs.Grammar.{is_word_byte, is_any, is_node}
-use Rattle.rows_text.specs.Reading.{skip_space, stands, fault_or, other, begins_blank, whole_label, bracketed, bracket_at, row_term_at, needed_term_at, placed_at, run_of, key_at, past_colon, plain_of, plain_text, or_bad_position, quoted_at, prefix_at, iri_of_string, iri_of_term, prefix_iri_at, dot_at, end_at, graph_or_dot, graph_at, header_at, bare_at, quad_at, added_at, removed_at, parts_at, code_named, by_code, uncut, word_at, row_at}
-
+use Rattle.rows_text.specs.Grammar.{is_any, is_node}
+use Rattle.rows_text.specs.Reading.{skip_space, stands, other, begins_blank, whole_label, bracketed, bracket_at, row_term_at, needed_term_at, placed_at, key_at, plain_of, plain_text, or_bad_position, quoted_at, prefix_at, iri_of_string, iri_of_term, prefix_iri_at, dot_at, end_at, graph_or_dot, graph_at, header_at, bare_at, quad_at, added_at, removed_at, parts_at, code_named, by_code, word_at, row_at}
 use Rattle.patch_reader.proofs.Shapes.{Place, Text, char_placed, pieces_placed, iri_piece_placed, term_placed}
 
 -- where a fault of this kind stands

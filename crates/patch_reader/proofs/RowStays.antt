@@ -155,21 +155,21 @@ cut_live_term : (rest : List ℕ) → is_cut rest ≡ true → AtEnd (live_term 
 unfolding live_term
 cut_live_term rest e = end_then (needed_term_at rest) _ (cut_needed rest e)
 
-cut_placed : (fits : Term → Bool) (rest : List ℕ) → is_cut rest ≡ true → AtEnd (live_placed fits rest)
+pub cut_placed : (fits : Term → Bool) (rest : List ℕ) → is_cut rest ≡ true → AtEnd (live_placed fits rest)
 unfolding live_placed
 cut_placed fits rest e = end_then (live_term rest) _ (cut_live_term rest e)
 
-cut_key : (rest : List ℕ) → is_cut rest ≡ true → AtEnd (live_key rest)
+pub cut_key : (rest : List ℕ) → is_cut rest ≡ true → AtEnd (live_key rest)
 unfolding live_key key_at
 cut_key rest e = rw (cut_stands is_dot rest no_dot e, cut_stands is_ascii_alphabetic rest no_letter e) (cut_other (Common BadToken) rest e)
 
-cut_prefix : (rest : List ℕ) → is_cut rest ≡ true → AtEnd (live_prefix rest)
+pub cut_prefix : (rest : List ℕ) → is_cut rest ≡ true → AtEnd (live_prefix rest)
 unfolding live_prefix
 cut_prefix rest e =
     rw (cut_stands (λ b. nat_eq b 58) rest no_colon e, cut_stands is_ascii_alphabetic rest no_letter e, cut_stands is_dot rest no_dot e, cut_stands begins_term rest no_term e)
     (cut_other (Common BadToken) rest e)
 
-cut_prefix_iri : (rest : List ℕ) → is_cut rest ≡ true → AtEnd (live_prefix_iri rest)
+pub cut_prefix_iri : (rest : List ℕ) → is_cut rest ≡ true → AtEnd (live_prefix_iri rest)
 unfolding live_prefix_iri
 cut_prefix_iri rest e = end_then (live_term rest) _ (cut_live_term rest e)
 
@@ -177,7 +177,7 @@ pub cut_dot : (missing : RowKind) (rest : List ℕ) → is_cut rest ≡ true →
 unfolding dot_at
 cut_dot missing rest e = rw (cut_stands is_dot rest no_dot e, cut_stands begins_term rest no_term e) (cut_other missing rest e)
 
-cut_graph : (rest : List ℕ) → is_cut rest ≡ true → AtEnd (live_graph_or_dot rest)
+pub cut_graph : (rest : List ℕ) → is_cut rest ≡ true → AtEnd (live_graph_or_dot rest)
 unfolding live_graph_or_dot
 cut_graph rest e = rw (cut_stands begins_term rest no_term e) (end_then (dot_at (Common MissingDot) rest) _ (cut_dot (Common MissingDot) rest e))
 

@@ -1,23 +1,17 @@
 -- Where the faults of a text's end stand: Truncated at its end, and NotUtf8 where no character begins.
-use Rattle.std.proofs.Common.{◌≡◌, ℕ, zero, suc, ◌+◌, ◌-◌, ◌*◌, Bool, true, false, cond, List, [], ◌∷◌, ◌++◌, length, Option, Some, None, Result, Ok, Err, nat_eq, refl, sym, ap, subst, ◌∙◌, take, drop, ◌||◌, not}
-use Rattle.std.specs.Char.{is_digit, digit_value, is_ascii_alphabetic, to_ascii_lowercase}
-use Rattle.std.specs.List.{list_all, prefix_len}
+use Rattle.std.proofs.Common.{◌≡◌, ℕ, zero, suc, ◌-◌, Bool, true, false, cond, List, [], ◌∷◌, ◌++◌, length, Option, Some, None, Ok, Err, nat_eq, refl, ◌||◌, not}
+use Rattle.std.specs.Char.{is_digit, to_ascii_lowercase}
 use Rattle.std.specs.Str.{bytes_eq}
 use Rattle.bstr.specs.Utf8.{decoded}
 use lib.Utf8.{scalar}
 use Rattle.rdf_terms.specs.Iri.{has_scheme, is_forbidden}
 use Rattle.rdf_terms.specs.Names.{begins_name}
 use Rattle.rdf_terms.specs.Datatype.{xsd_string, lang_string}
-use Rattle.rdf_terms.specs.declared.term.LiteralKind.{LiteralKind}
-use Rattle.rdf_terms.specs.declared.term.LiteralKind.TheVariants.{Plain, Typed, Tagged}
-use Rattle.rdf_terms.specs.declared.term.Literal.{Literal}
-use Rattle.rdf_terms.specs.declared.term.Term.{Term}
-use Rattle.rdf_terms.specs.declared.term.Term.TheVariants as term
 use Rattle.nquads_text.specs.declared.fault.TextKind.{TextKind}
 use Rattle.nquads_text.specs.declared.fault.TextKind.TheVariants.{NotUtf8, BadIri, RelativeIri, BadEscape, BadLabel, BadLang, LangStringWithoutTag, BadPosition, MissingDot, BadToken, Truncated}
 use Rattle.nquads_text.specs.Fault.{Read as TextRead, ◌>>=◌}
 use Rattle.nquads_text.specs.Grammar.{echar}
-use Rattle.nquads_text.specs.Reading.{char_at, char_or_fault, digit_at, four_digits_at, eight_digits_at, code_at, uchar_at, iri_piece, string_piece, short_or_uchar, with_front, behind, pieces_at}
+use Rattle.nquads_text.specs.Reading.{char_at, digit_at, four_digits_at, eight_digits_at, code_at, uchar_at, iri_piece, string_piece, short_or_uchar, with_front, behind, pieces_at}
 use Rattle.nquads_text.specs.Terms.{name_at, label_at, is_tag_byte, tag_at, iri_at, iri_needed, skip_blanks, kind_of, datatype_at, typed_at, suffix_at, literal_at, term_at}
 
 -- ---- terms

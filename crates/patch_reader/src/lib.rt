@@ -6,4 +6,4 @@
 
 mod laws;
 
-pub use laws::rows_stay;
+pub use laws::{rows_are_decided, rows_stay};
