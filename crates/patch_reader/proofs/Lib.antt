@@ -7,3 +7,4 @@ pub mod Completions
 pub mod Breaks
 pub mod Opens
 pub mod Settled
+pub mod CutSteps

@@ -1,3 +1,4 @@
+pub mod Codes
 pub mod Cut
 pub mod Decided
 pub mod Live
