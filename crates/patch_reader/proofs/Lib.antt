@@ -8,3 +8,4 @@ pub mod Breaks
 pub mod Opens
 pub mod Settled
 pub mod CutSteps
+pub mod Answered

@@ -1,0 +1,28 @@
+//! Rows as far as a text decides them.
+
+ghost use Rattle.std.specs.Prelude.{◌≤◌, length};
+ghost use Rattle.patch_reader.specs.Decided.{Decides};
+
+use crate::cut::ends;
+use crate::rows::row;
+use rows_text::{Row, RowFault};
+use std::alloc::Global;
+
+/// The row at a place and the place behind it where the text decides them, whatever follows it, and none where more text decides; else the
+/// row's first fault, decided likewise.
+#[tactic(auto, using(crate::proofs::Answered::answered))]
+pub fn decided_row(alloc: Global, text: &[u8], at: usize) -> Result<Option<(Row, usize)>, RowFault>
+    requires { at ≤ length text.now }
+    ensures { Decides text.now at result }
+{
+    match row(alloc, text, at) {
+        Ok(found) => Ok(Some(found)),
+        Err(RowFault::At { at: place, kind }) => {
+            if ends(text, place as usize, kind) {
+                return Ok(None);
+            }
+            Err(RowFault::At { at: place, kind })
+        }
+        Err(RowFault::OutOfMemory) => Err(RowFault::OutOfMemory),
+    }
+}
