@@ -9,3 +9,4 @@ pub mod Opens
 pub mod Settled
 pub mod CutSteps
 pub mod Answered
+pub mod RowLists

@@ -13,8 +13,8 @@ mod rows;
 mod terms;
 mod words;
 
-pub use laws::{rows_are_decided, rows_stay};
-pub use reading::decided_row;
+pub use laws::{decided_rows_are_kept, rows_are_decided, rows_stay};
+pub use reading::{decided_row, next_row};
 
 #[cfg(test)]
 mod tests;

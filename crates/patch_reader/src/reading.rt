@@ -2,9 +2,10 @@
 
 ghost use Rattle.std.specs.Prelude.{◌≤◌, length};
 ghost use Rattle.patch_reader.specs.Decided.{Decides};
+ghost use Rattle.patch_reader.specs.Rows.{DecidesNext};
 
 use crate::cut::ends;
-use crate::rows::row;
+use crate::rows::{pass_space, row};
 use rows_text::{Row, RowFault};
 use std::alloc::Global;
 
@@ -25,4 +26,12 @@ pub fn decided_row(alloc: Global, text: &[u8], at: usize) -> Result<Option<(Row,
         }
         Err(RowFault::OutOfMemory) => Err(RowFault::OutOfMemory),
     }
+}
+
+/// The same of the row behind white space and comments.
+pub fn next_row(alloc: Global, text: &[u8], at: usize) -> Result<Option<(Row, usize)>, RowFault>
+    requires { at ≤ length text.now }
+    ensures { DecidesNext text.now at result }
+{
+    decided_row(alloc, text, pass_space(text, at))
 }

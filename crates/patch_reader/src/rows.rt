@@ -33,7 +33,7 @@ fn dot(text: &[u8], at: usize, missing: RowKind) -> Result<usize, RowFault>
 
 /// The place behind white space and comments, read from left to right.
 
-fn pass_space(text: &[u8], from: usize) -> usize
+pub fn pass_space(text: &[u8], from: usize) -> usize
     requires { from ≤ length text.now }
     ensures behind { drop result text.now ≡ behind_space (drop from text.now) }
     ensures high { result ≤ length text.now }
