@@ -1,5 +1,5 @@
 -- What is read, as what is decided.
-use Rattle.std.proofs.Common.{◌≡◌, ℕ, ◌≤◌, Bool, true, false, List, drop, length, Ok, Err, refl, sym, ◌∙◌}
+use Rattle.std.proofs.Common.{◌≡◌, ℕ, true, false, List, drop, Ok, Err}
 use Rattle.rows_text.specs.declared.fault.RowKind.{RowKind}
 use Rattle.rows_text.specs.declared.row.Row.{Row}
 use Rattle.patch_reader.specs.Cut.{ends_row}

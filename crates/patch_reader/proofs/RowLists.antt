@@ -1,5 +1,5 @@
 -- Rows that a text decides stay decided, and there is one list of them.
-use Rattle.std.proofs.Common.{◌≡◌, ℕ, ◌≤◌, Bool, true, false, List, [], ◌∷◌, ◌++◌, length, drop, Option, Some, None, Result, Ok, Err, refl, sym, ap, subst, ◌∙◌, ◌⊎◌, inl, inr, ⊎_elim, append_assoc, append-nil}
+use Rattle.std.proofs.Common.{◌≡◌, ℕ, true, false, List, [], ◌∷◌, ◌++◌, drop, Option, Some, None, Result, Ok, Err, refl, sym, ap, subst, ◌∙◌, ◌⊎◌, inl, inr, ⊎_elim, append_assoc, append-nil}
 use Rattle.std.proofs.lemmas.Bool.{false≢true}
 use Rattle.rows_text.specs.declared.fault.RowFault.{RowFault as RowAnswer}
 use Rattle.rows_text.specs.declared.fault.RowFault.TheVariants as faults
@@ -12,7 +12,7 @@ use Rattle.nquads_text.specs.declared.fault.TextKind.TheVariants.{BadToken}
 use Rattle.rows_text.specs.declared.fault.RowKind.TheVariants.{Common}
 use Rattle.rows_text.specs.Reading.{skip_space, word_at}
 use Rattle.rows_text.proofs.SpaceLaws.{skipped, skips}
-use Rattle.patch_reader.specs.Cut.{is_cut, ends_row}
+use Rattle.patch_reader.specs.Cut.{is_cut}
 use Rattle.patch_reader.specs.Decided.{RowDecided, FaultDecided, Undecided, Decides}
 use Rattle.patch_reader.specs.Live.{live_row}
 use Rattle.patch_reader.specs.Rows.{SpaceDecided, RowsDecided, NextFault, NothingDecided, DecidesNext}

@@ -1,4 +1,3 @@
-use Rattle.std.proofs.Common.{drop}
 use Rattle.patch_reader.proofs.RowLists.{next_decided}
 use Rattle.patch_reader.proofs.reading.next_row.Goals as goal
 
