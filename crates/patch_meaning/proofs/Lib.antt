@@ -1,3 +1,5 @@
+pub mod Cuts
+pub mod Parts
 pub mod Read
 pub mod Rowed
 pub mod Taking

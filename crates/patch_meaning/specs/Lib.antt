@@ -1,6 +1,9 @@
 pub mod Checked
+pub mod Cutting
 pub mod Draft
 pub mod Next
+pub mod PartRead
 pub mod Patch
 pub mod Roles
 pub mod Rows
+pub mod Stream

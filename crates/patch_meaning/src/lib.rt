@@ -4,11 +4,15 @@
 mod checked;
 mod draft;
 mod fault;
+mod part;
 mod role;
 mod rows;
+mod stream;
 
 pub use checked::{Checked, check_patch};
 pub use fault::PatchFault;
+pub use part::StreamPatch;
+pub use stream::{StreamPatches, read_stream};
 
 #[cfg(test)]
 mod tests;

@@ -118,3 +118,72 @@ fn a_text_of_one_byte_too_many_is_too_long(rt: HostRuntime) -> Result<(), Fail> 
     assert_eq!(rt; fewer, Some(PatchFault::NoId { at: 4_194_304 }));
     Ok(())
 }
+
+fn stream_fault(alloc: Global, text: &str) -> Option<PatchFault> {
+    read_stream(alloc, text.as_bytes()).err()
+}
+
+/// The ids of a stream's patches, and how many name a patch before them.
+fn stream_ids(alloc: Global, text: &str) -> Option<(Vec<Id>, usize)> {
+    let patches = read_stream(alloc, text.as_bytes()).ok()?;
+    let mut ids = Vec::new(alloc);
+    let mut prevs = 0_usize;
+    for patch in patches.as_slice() {
+        ids.push(patch.id).ok()?;
+        prevs = prevs.saturating_add(usize::from(patch.prev.is_some()));
+    }
+    Some((ids, prevs))
+}
+
+#[test]
+fn a_stream_is_cut_at_its_headers(rt: HostRuntime) {
+    for (text, count, prevs) in [
+        ("", 0, 0),
+        ("# no row\n\n", 0, 0),
+        (
+            "H id \"00000000000040008000000000000001\" . PD x . H by \"me\" . H id \"00000000000040008000000000000002\" .",
+            2,
+            0,
+        ),
+        (
+            "H id \"00000000000040008000000000000001\" . H id \"00000000000040008000000000000002\" . H prev \"00000000000040008000000000000001\" .TX .TA .",
+            2,
+            1,
+        ),
+    ] {
+        let found = stream_ids(rt.alloc(), text);
+        assert!(rt;
+            found.is_some_and(|found| found.0.len() == count && found.1 == prevs),
+            "{text}"
+        );
+    }
+}
+
+#[test]
+fn the_first_patch_with_a_fault_is_told(rt: HostRuntime) {
+    for (text, fault) in [
+        (
+            "H id <uuid:00000000-0000-4000-8000-000000000001> .\nTX .\n",
+            PatchFault::OpenBlock { at: 56 },
+        ),
+        (
+            "H id <uuid:00000000-0000-4000-8000-000000000001> .\nTX .\nTX .\n",
+            PatchFault::Nested { at: 56 },
+        ),
+        ("TX .\nTC .\n", PatchFault::NoId { at: 10 }),
+        (
+            "H id <uuid:00000000-0000-4000-8000-000000000001> .\nH id <uuid:x> .\n",
+            PatchFault::BadId { at: 51 },
+        ),
+        (
+            "H id <uuid:00000000-0000-4000-8000-000000000001> .\nTX .\nH id <uuid:x> .\n",
+            PatchFault::OpenBlock { at: 56 },
+        ),
+        (
+            "H id <uuid:00000000-0000-4000-8000-000000000001> .\nTC .\nA x",
+            PatchFault::NotInBlock { at: 51 },
+        ),
+    ] {
+        assert_eq!(rt; stream_fault(rt.alloc(), text), Some(fault), "{text}");
+    }
+}

@@ -1,0 +1,51 @@
+-- A patch of a stream of which some rows were taken.
+use Rattle.std.specs.Prelude.{◌≡◌, ◌⊎◌, ℕ, true, false, List, [], ◌∷◌, ◌++◌, Option, Some, None, Result, Ok, Err}
+use Rattle.delta_base.specs.declared.fault.OutOfMemory.{OutOfMemory}
+use Rattle.patch_meaning.specs.declared.draft.Draft.{Draft}
+use Rattle.patch_meaning.specs.declared.fault.PatchFault.{PatchFault}
+use Rattle.patch_meaning.specs.declared.fault.PatchFault.TheVariants as faults
+use Rattle.patch_meaning.specs.declared.fault.Refusal.{Refusal}
+use Rattle.patch_meaning.specs.declared.part.Part.{Part as PartRead}
+use Rattle.patch_meaning.specs.declared.part.StreamPatch.{StreamPatch}
+use Rattle.patch_meaning.specs.declared.role.Role.{Role}
+use Rattle.patch_meaning.specs.Draft.{Stands}
+use Rattle.patch_meaning.specs.Patch.{Meaning, AreTaken, refusal, refused_at, has_some}
+use Rattle.patch_meaning.specs.Roles.{role, said, ids_of, changes_of, is_open}
+use Rattle.patch_meaning.specs.Rows.{PlacedRow}
+
+-- what it says
+abbrev pub meaning_of : StreamPatch → Meaning
+meaning_of p = record { id = p.id; prev = p.prev; changes = p.changes.items }
+
+-- one of the rows was refused, and that is the fault
+pub record IsRefused (rs : List PlacedRow) (fault : PatchFault) : Type 0 where
+  pub before : List PlacedRow
+  pub after : List PlacedRow
+  pub row_ : PlacedRow
+  pub why : Refusal
+  pub parts : rs ≡ before ++ row_ ∷ after
+  pub taken : AreTaken (said before)
+  pub refused : refusal (said before) (role row_.row_) ≡ Some why
+  pub fault_is : fault ≡ refused_at why row_.at
+
+-- all rows were taken, or one was refused
+abbrev pub HasRows : Option PatchFault → List PlacedRow → PartRead → Type 0
+HasRows None rs p = Stands (said rs) p.draft
+HasRows (Some fault) rs p = IsRefused rs fault
+
+-- these are its rows
+pub record HasPart (rs : List PlacedRow) (p : PartRead) : Type 0 where
+  pub rows_ : HasRows p.fault rs p
+  pub some : has_some rs ≡ p.has_rows
+  pub id : has_some (ids_of (said rs)) ≡ p.has_id
+  pub change : has_some (changes_of (said rs)) ≡ p.has_change
+
+-- the row was taken, or it was refused, and that is the fault
+abbrev pub TakesRow : List Role → Role → ℕ → Result (Option PatchFault) OutOfMemory → Draft → Type 0
+TakesRow rs says at (Ok None) d = Stands (rs ++ says ∷ []) d
+TakesRow rs says at (Ok (Some fault)) d = (why : Refusal) × (refusal rs says ≡ Some why) × (fault ≡ refused_at why at)
+TakesRow rs says at (Err memory) d = Unit {0}
+
+-- all rows were taken, and yet it is no patch that ends here
+abbrev pub LacksEnd : List Role → ℕ → PatchFault → Type 0
+LacksEnd rs stop fault = AreTaken rs × (((is_open rs ≡ true) × (fault ≡ faults.OpenBlock stop)) ⊎ ((is_open rs ≡ false) × (ids_of rs ≡ []) × (fault ≡ faults.NoId stop)))

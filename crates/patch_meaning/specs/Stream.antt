@@ -1,0 +1,97 @@
+-- Streams: how rows are cut into patches, and the first fault of a text that is no stream.
+use Rattle.std.specs.Prelude.{◌≡◌, ℕ, ◌+◌, ◌-◌, ◌<◌, ◌≤◌, Bool, true, false, ◌||◌, List, [], ◌∷◌, ◌++◌, Option, Some, None, fold, length, if◌then◌else◌}
+use Rattle.rows_text.specs.declared.row.Row.{Row}
+use Rattle.rows_text.specs.declared.fault.RowKind.{RowKind}
+use Rattle.rows_text.specs.Grammar.{IsRowAt}
+use Rattle.patch_meaning.specs.declared.fault.PatchFault.{PatchFault}
+use Rattle.patch_meaning.specs.declared.fault.PatchFault.TheVariants as faults
+use Rattle.patch_meaning.specs.declared.fault.Refusal.{Refusal}
+use Rattle.patch_meaning.specs.declared.role.Role.{Role}
+use Rattle.patch_meaning.specs.declared.role.Role.TheVariants as roles
+use Rattle.patch_meaning.specs.Patch.{Meaning, IsWell, AreTaken, refusal, refused_at, patch_limit, has_some}
+use Rattle.patch_meaning.specs.Roles.{role, said, ids_of, changes_of, is_open}
+use Rattle.patch_meaning.specs.Rows.{PlacedRow, RowsTo, NoRowAt}
+
+-- ---- cutting
+
+-- a patch of a stream: where its text begins, and its rows
+pub record Part : Type 0 where
+  pub from : ℕ
+  pub rows_ : List PlacedRow
+
+-- with a header behind a change, and with an id row where there is one already, the next patch begins
+abbrev pub begins : List Role → Role → Bool
+begins rs (roles.Id id) = has_some (ids_of rs) || has_some (changes_of rs)
+begins rs (roles.Prev id) = has_some (changes_of rs)
+begins rs roles.Other = has_some (changes_of rs)
+begins rs (roles.Change change) = false
+
+-- patches that are complete, and the one to which the next row may belong
+pub record Cut : Type 0 where
+  pub done : List Part
+  pub last : Part
+
+abbrev pub cut_with : Cut → PlacedRow → Cut
+cut_with c r =
+    if begins (said c.last.rows_) (role r.row_) then record { done = c.done ++ c.last ∷ []; last = record { from = r.at; rows_ = r ∷ [] } }
+    else record { done = c.done; last = record { from = c.last.from; rows_ = c.last.rows_ ++ r ∷ [] } }
+
+-- rows are cut from the front on; the first patch begins where the text does
+abbrev pub cut : List PlacedRow → Cut
+cut rs = fold cut_with (record { done = []; last = record { from = 0; rows_ = [] } }) rs
+
+-- ---- streams
+
+-- the text of a patch reaches to the next one, or to this place
+abbrev pub stop_of : List Part → ℕ → ℕ
+stop_of [] stop = stop
+stop_of (part ∷ parts) stop = part.from
+
+-- each part is a patch within the limit that says this
+abbrev pub ArePatches : List Part → ℕ → List Meaning → Type 0
+ArePatches [] stop [] = Unit {0}
+ArePatches [] stop (m ∷ ms) = ⊥
+ArePatches (part ∷ parts) stop [] = ⊥
+ArePatches (part ∷ parts) stop (m ∷ ms) = IsWell (said part.rows_) m × (stop_of parts stop ≤ part.from + patch_limit) × ArePatches parts stop ms
+
+-- the rows up to this place are patches that say this; without rows there is none
+abbrev pub AreStream : List PlacedRow → ℕ → List Meaning → Type 0
+AreStream [] stop ms = ms ≡ []
+AreStream (r ∷ rs) stop ms = ArePatches ((cut (r ∷ rs)).done ++ (cut (r ∷ rs)).last ∷ []) stop ms
+
+-- the text is a stream of patches that say this
+pub record IsStream (text : List ℕ) (ms : List Meaning) : Type 0 where
+  pub rows_ : List PlacedRow
+  pub reads : RowsTo text 0 rows_ (length text)
+  pub stream : AreStream rows_ (length text) ms
+
+-- ---- faults
+
+-- The first fault of a patch of a stream, whose text stops at this place: at the next patch or the stream's end, or, where it
+-- is broken by a row's fault, at that fault. That it is too long comes before all others.
+pub data IsPartFault (part : Part) (stop : ℕ) (broken : Option RowKind) (fault : PatchFault) : Type 0 where
+  too_long : part.from + patch_limit < stop → fault ≡ faults.TooLong (stop - part.from) patch_limit → IsPartFault part stop broken fault
+  refused : (before after : List PlacedRow) (r : PlacedRow) (why : Refusal) → stop ≤ part.from + patch_limit → part.rows_ ≡ before ++ r ∷ after → AreTaken (said before)
+      → refusal (said before) (role r.row_) ≡ Some why → fault ≡ refused_at why r.at → IsPartFault part stop broken fault
+  no_row : (kind : RowKind) → stop ≤ part.from + patch_limit → AreTaken (said part.rows_) → broken ≡ Some kind → fault ≡ faults.Row stop kind → IsPartFault part stop broken fault
+  open_block : stop ≤ part.from + patch_limit → AreTaken (said part.rows_) → broken ≡ None → is_open (said part.rows_) ≡ true → fault ≡ faults.OpenBlock stop → IsPartFault part stop broken fault
+  no_id : stop ≤ part.from + patch_limit → AreTaken (said part.rows_) → broken ≡ None → is_open (said part.rows_) ≡ false → ids_of (said part.rows_) ≡ [] → fault ≡ faults.NoId stop
+      → IsPartFault part stop broken fault
+
+-- behind its rows up to a place a patch stops: the next one begins there, or the text ends, or no row stands there
+pub data StopsAt (text : List ℕ) (part : Part) (to stop : ℕ) (broken : Option RowKind) : Type 0 where
+  next : (r : Row) (end : ℕ) → IsRowAt text to r end → begins (said part.rows_) (role r) ≡ true → stop ≡ to → broken ≡ None → StopsAt text part to stop broken
+  over : to ≡ length text → (part.rows_ ≡ [] → ⊥) → stop ≡ to → broken ≡ None → StopsAt text part to stop broken
+  no_row : (kind : RowKind) → NoRowAt text to kind stop → broken ≡ Some kind → StopsAt text part to stop broken
+
+-- the first fault of the first patch that has one
+pub record IsStreamFault (text : List ℕ) (fault : PatchFault) : Type 0 where
+  pub rows_ : List PlacedRow
+  pub to : ℕ
+  pub reads : RowsTo text 0 rows_ to
+  pub before : List Meaning
+  pub well : ArePatches (cut rows_).done (cut rows_).last.from before
+  pub stop : ℕ
+  pub broken : Option RowKind
+  pub stops : StopsAt text (cut rows_).last to stop broken
+  pub fault_is : IsPartFault (cut rows_).last stop broken fault
