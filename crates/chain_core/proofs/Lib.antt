@@ -4,3 +4,4 @@ pub mod Only
 pub mod Patches
 pub mod Decided
 pub mod Stays
+pub mod Versions

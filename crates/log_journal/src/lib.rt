@@ -13,6 +13,7 @@ mod laws;
 mod making;
 mod open;
 mod reading;
+mod writing;
 
 pub use block::Block;
 pub use fault::{FormatFault, JournalFault};
@@ -20,6 +21,7 @@ pub use journal::{AppendFault, Journal, OpenRefusal, StartRefusal};
 pub use laws::one_reading;
 pub use making::make_block;
 pub use open::{Payloads, format};
+pub use writing::{Phase, write};
 
 #[cfg(test)]
 mod tests;

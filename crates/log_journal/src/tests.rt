@@ -1,5 +1,5 @@
 //! Files byte for byte, and what a crash leaves of an append.
-use crate::{AppendFault, FormatFault, Journal, JournalFault, format, make_block};
+use crate::{AppendFault, FormatFault, Journal, JournalFault, Phase, format, make_block, write};
 use delta_base::{Bytes, Calls, Listing};
 use disk_model::{Disk, MemDisk};
 use std::alloc::{AllocError, Global};
@@ -151,5 +151,47 @@ fn each_stop_leaves_what_was_acknowledged(rt: HostRuntime) -> Result<(), Fail> {
             }
         }
     }
+    Ok(())
+}
+
+#[test]
+fn a_write_settles_first(rt: HostRuntime) -> Result<(), Fail> {
+    let alloc = rt.alloc();
+    let block = make_block(alloc, b"abc")?;
+    // The gate's sync fails, then the settling's write, and then the sync of the body.
+    let disk = MemDisk::from_image(
+        alloc,
+        Bytes::from_slice(alloc, &EMPTY)?,
+        calls(alloc, &[7, 8, 12])?,
+    )?;
+    let opened = Journal::open_on(alloc, disk, 1, 1000).ok();
+    let (mut journal, _) = opened.ok_or("refused")?;
+    for answer in [
+        Err(Phase::Gate),
+        Err(Phase::Settling),
+        Err(Phase::Body),
+        Ok(()),
+    ] {
+        assert!(rt; journal.room_for(3));
+        assert_eq!(rt; write(&mut journal, &block), answer);
+    }
+    assert_eq!(rt; journal.length(), 17);
+    assert_eq!(rt; journal.close().faults(), 3);
+    Ok(())
+}
+
+#[test]
+fn a_new_journal_takes_a_payload(rt: HostRuntime) -> Result<(), Fail> {
+    let alloc = rt.alloc();
+    let disk = MemDisk::new(alloc, no_calls(alloc));
+    let started = Journal::start_on(disk, 1, 1000).ok();
+    let mut journal = started.ok_or("refused")?;
+    assert_eq!(rt; journal.length(), 9);
+    assert_eq!(rt; journal.append(&make_block(alloc, b"abc")?), Ok(()));
+    let image = journal.close().image(0)?;
+    assert_eq!(rt;
+        image.as_slice(),
+        b"RDJ1\0\0\0\x01\x01\0\0\0\x03abc\0".as_slice()
+    );
     Ok(())
 }

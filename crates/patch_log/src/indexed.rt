@@ -1,0 +1,101 @@
+//! A chain whose patches are found by id without a walk along it.
+ghost use Rattle.std.specs.Prelude.{◌≡◌, ◌+◌, ◌<◌, ◌≤◌, [], ◌∷◌, ◌++◌, length, OnOk};
+ghost use Rattle.chain_core.specs.Chain.{IsKept};
+ghost use Rattle.chain_core.specs.Patches.{patches_of, version_of};
+ghost use Rattle.chain_core.specs.Decision.{decision, version_named};
+
+use crate::index::Index;
+use chain_core::{Chain, Decision, Link, LogLimits, Patch, Places, decide_found};
+use delta_base::{Id, OutOfMemory};
+use std::alloc::Global;
+use std::marker::Model;
+
+/// A chain and its versions by id.
+#[derive(Debug, Drop)]
+pub struct IndexedChain {
+    chain: Chain,
+    index: Index,
+}
+
+impl Model for IndexedChain {
+    ghost use Rattle.std.specs.Prelude.{min};
+    ghost use Rattle.delta_base.specs.Listed.{Listed};
+    ghost use Rattle.chain_core.specs.declared.chain.Entry.{Entry};
+    ghost use Rattle.chain_core.specs.Patches.{patches_of};
+    ghost use Rattle.patch_log.specs.Indexed.{IsIndexOf};
+
+    ghost Value = { Listed Entry };
+
+    ghost view = { λ c. record { items = c.chain.items; spare = min c.chain.spare c.index.spare } };
+
+    ghost invariant = { λ c. IsIndexOf c.index.items (patches_of c.chain.items) };
+}
+
+impl IndexedChain {
+    /// The chain of no patches.
+    pub fn new(alloc: Global) -> IndexedChain
+        ensures { result.items ≡ [] }
+    {
+        IndexedChain {
+            chain: Chain::new(alloc),
+            index: Index::new(alloc),
+        }
+    }
+
+    pub fn chain(&self) -> &Chain
+        ensures { result.now.items ≡ self.now.items }
+    {
+        &self.chain
+    }
+
+    /// The version of the patch with an id.
+    pub fn version_of(&self, id: Id) -> Option<u32>
+        ensures { result ≡ version_of (patches_of self.now.items) id }
+    {
+        self.index.version_of(id)
+    }
+
+    // The version that a patch names as the one before it.
+    fn named_by(&self, prev: Option<Id>) -> Option<u32>
+        ensures { result ≡ version_named (patches_of self.now.items) prev }
+    {
+        match prev {
+            None => Some(0),
+            Some(id) => self.version_of(id),
+        }
+    }
+
+    /// What the chain makes of a patch.
+    pub fn decide(&self, limits: &LogLimits, link: Link, text: &[u8]) -> Decision
+        requires text { length text.now ≤ 4194304 }
+        requires few { length self.now.items ≤ limits.now.patches }
+        ensures { result ≡ decision (patches_of self.now.items) (record { id = link.id; prev = link.prev; text = text.now }) limits.now }
+    {
+        let places = Places {
+            known: self.version_of(link.id),
+            named: self.named_by(link.prev),
+        };
+        decide_found(self.chain(), limits, link, text, places)
+    }
+
+    /// Makes a place ready in the chain and in the index.
+    pub fn reserve(&mut self) -> Result<(), OutOfMemory>
+        ensures items { self.new.items ≡ self.old.items }
+        ensures spare { OnOk result (1 ≤ self.new.spare) }
+    {
+        self.chain.reserve()?;
+        self.index.reserve()
+    }
+
+    /// Adds a patch, in places that are ready.
+    pub fn push(&mut self, patch: Patch, by: u32)
+        requires ready { 1 ≤ self.old.spare }
+        requires kept { IsKept (self.old.items ++ record { patch = patch; by = by } ∷ []) }
+        ensures items { self.new.items ≡ self.old.items ++ record { patch = patch; by = by } ∷ [] }
+        ensures spare { self.new.spare + 1 ≡ self.old.spare }
+    {
+        let version = self.chain.version() + 1;
+        self.index.add(patch.id, version);
+        self.chain.push(patch, by);
+    }
+}

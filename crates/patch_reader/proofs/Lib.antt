@@ -1,0 +1,12 @@
+pub mod Stays
+pub mod TokenStays
+pub mod RowStays
+pub mod Shapes
+pub mod RowShapes
+pub mod Completions
+pub mod Breaks
+pub mod Opens
+pub mod Settled
+pub mod CutSteps
+pub mod Answered
+pub mod RowLists

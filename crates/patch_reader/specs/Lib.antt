@@ -1,0 +1,5 @@
+pub mod Codes
+pub mod Cut
+pub mod Decided
+pub mod Live
+pub mod Rows

@@ -1,0 +1,20 @@
+//! Rows of a patch from a stream that comes in any pieces: what is decided before the end of the text is known.
+//!
+//! `decided_row` answers the row at a place of a text that may go on, as far as the text decides it (`specs/Decided.antt`).
+//! `specs/Live.antt` is how it reads: what more text may change counts as cut by the text's end. The functions of `laws` do
+//! nothing: their contracts say that what is read so is decided, and that nothing else is.
+#![tactic(auto)]
+
+mod codes;
+mod cut;
+mod laws;
+mod reading;
+mod rows;
+mod terms;
+mod words;
+
+pub use laws::{decided_rows_are_kept, rows_are_decided, rows_stay};
+pub use reading::{decided_row, next_row};
+
+#[cfg(test)]
+mod tests;
