@@ -15,4 +15,5 @@ mod tool;
 
 pub use channel::STREAM_LIMIT;
 pub use laws::{one_place, one_status, one_stream, stops_exclude_streams};
+pub use report::{tell, tell_made};
 pub use tool::run_tool;

@@ -64,8 +64,8 @@ pub fn report<E: Sink>(alloc: Global, end: End, err: &mut E) -> u8
     }
 }
 
-// Writes a line, unless `err` fails.
-fn tell<E: Sink>(err: &mut E, line: &[u8], status: u8) -> u8
+/// Writes a line, unless `err` fails, and answers the status.
+pub fn tell<E: Sink>(err: &mut E, line: &[u8], status: u8) -> u8
     ensures status { result ≡ status }
     ensures told { Tells (channel (E.written err.old) (E.faults err.old)) (channel (E.written err.new) (E.faults err.new)) line.now }
 {
@@ -73,8 +73,8 @@ fn tell<E: Sink>(err: &mut E, line: &[u8], status: u8) -> u8
     status
 }
 
-// Writes a line that was made, or else that there was no memory for it.
-fn tell_made<E: Sink>(err: &mut E, line: Result<Vec<u8>, OutOfMemory>, status: u8) -> u8
+/// Writes a line that was made, or else that there was no memory for it, and answers the status.
+pub fn tell_made<E: Sink>(err: &mut E, line: Result<Vec<u8>, OutOfMemory>, status: u8) -> u8
     ensures { MatchResult line
         (λ text. (result ≡ status) × Tells (channel (E.written err.old) (E.faults err.old)) (channel (E.written err.new) (E.faults err.new)) text.items)
         (λ _. (result ≡ 8) × Tells (channel (E.written err.old) (E.faults err.old)) (channel (E.written err.new) (E.faults err.new)) out_of_memory_line) }
