@@ -1,6 +1,6 @@
 use crate::decided_row;
 use nquads_text::TextKind;
-use rows_text::{RowFault, RowKind, read_row};
+use rows_text::{RowFault, RowKind, read_row, skip_space};
 use std::alloc::Global;
 use std::process::Abort;
 
@@ -102,7 +102,9 @@ fn words_wait_for_their_ends(rt: HostRuntime) {
 
 /// Each front of a text whose row is decided has the row of the whole text, and a longer front decides it too.
 fn agrees(rt: &impl Abort, alloc: Global, text: &[u8]) {
-    let whole = match read_row(alloc, text, 0) {
+    let at = skip_space(text, 0);
+    assert!(rt; at < text.len());
+    let whole = match read_row(alloc, text, at) {
         Ok((_row, end)) => Ok(end),
         Err(fault) => Err(fault),
     };
