@@ -1,6 +1,6 @@
 -- Reading goes on from block to block.
 use Rattle.std.proofs.Common.{◌≡◌, ℕ, ◌+◌, ◌^◌, ◌<◌, ◌≤◌, List, [], ◌∷◌, ◌++◌, length, drop, refl, sym, ◌∙◌, ap, subst, arith, length-append}
-use Rattle.log_journal.specs.File.{front, header, body, block, Holds, journal_length}
+use Rattle.log_journal.specs.File.{front, header, block, Holds, journal_length}
 use Rattle.std.specs.List.{flat_map}
 use Rattle.std.specs.Prelude.{sum_by}
 use Rattle.std.proofs.lemmas.List.Sums.{sum_by-cons, sum_by-append}

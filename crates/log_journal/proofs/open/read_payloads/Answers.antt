@@ -1,4 +1,4 @@
-use Rattle.std.proofs.Common.{◌≡◌, ◌+◌, ◌++◌, [], ◌∷◌, List, ℕ, length, drop, refl, sym, ◌∙◌, ap, subst, arith, rules}
+use Rattle.std.proofs.Common.{◌≡◌, ◌+◌, ◌++◌, [], ◌∷◌, List, ℕ, length, drop, refl, sym, ◌∙◌, ap, subst, arith}
 use Rattle.disk_model.specs.Past.{reads}
 use Rattle.log_journal.specs.File.{header, block}
 use Rattle.log_journal.specs.Reading.{IsRead}
