@@ -80,7 +80,7 @@ links-take patches n chain = record { follow = follow-take None patches n chain.
 
 -- ---- entries
 
-links_of-entries : (entries : List Entry) → links_of (patches_of entries) ≡ map link_of entries
+pub links_of-entries : (entries : List Entry) → links_of (patches_of entries) ≡ map link_of entries
 links_of-entries [] = refl
 links_of-entries (entry ∷ entries) = ap (λ (ls : List Link). link_of entry ∷ ls) (links_of-entries entries)
 
