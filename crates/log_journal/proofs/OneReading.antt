@@ -1,12 +1,12 @@
 -- A file is read in one way: it holds one list of payloads, or breaks off at one place, and never both.
-use Rattle.std.proofs.Common.{◌≡◌, ◌≢◌, ◌⊎◌, inl, inr, ⊎_elim, ℕ, ◌+◌, ◌^◌, ◌<◌, ◌≤◌, List, [], ◌∷◌, ◌++◌, length, take, drop, refl, sym, ◌∙◌, ap, subst, arith, append_assoc, length-append}
-use Rattle.std.specs.Int.{w32, to_be_bytes, from_be_bytes}
+use Rattle.std.proofs.Common.{◌≡◌, ◌≢◌, inl, inr, ⊎_elim, ℕ, ◌+◌, ◌^◌, ◌<◌, List, [], ◌∷◌, ◌++◌, length, take, drop, refl, sym, ◌∙◌, ap, subst, arith, append_assoc, length-append}
+use Rattle.std.specs.Int.{w32, from_be_bytes}
 use Rattle.std.specs.List.{flat_map}
-use Rattle.std.proofs.lemmas.List.{append_cancel_left, take_at, drop_at, append-nil}
+use Rattle.std.proofs.lemmas.List.{append_cancel_left, take_at, drop_at}
 use Rattle.std.proofs.lemmas.Nat.{from_be_bytes-to_be_bytes_4}
 use Rattle.std.proofs.lemmas.List.Elements.{recursion_from_All, All-from_recursion}
 use Rattle.log_journal.proofs.Split.{split}
-use Rattle.log_journal.specs.File.{magic, header, body, block, front, AreSized, Holds, BreaksOff, HasNoHeader, IsCutShort, Damage}
+use Rattle.log_journal.specs.File.{header, body, block, front, AreSized, Holds, BreaksOff, HasNoHeader, Damage}
 
 -- no whole block stands in front
 abbrev Stops : List ℕ → Type 0

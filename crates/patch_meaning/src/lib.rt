@@ -4,6 +4,7 @@
 mod checked;
 mod draft;
 mod fault;
+mod laws;
 mod part;
 mod role;
 mod rows;
@@ -11,6 +12,7 @@ mod stream;
 
 pub use checked::{Checked, check_patch};
 pub use fault::PatchFault;
+pub use laws::patches_are_settled;
 pub use part::StreamPatch;
 pub use stream::{StreamPatches, read_stream};
 
