@@ -2,6 +2,7 @@
 #![tactic(auto)]
 
 mod checked;
+mod cut;
 mod draft;
 mod fault;
 mod part;
@@ -11,7 +12,9 @@ mod stream;
 
 pub use checked::{Checked, check_patch};
 pub use fault::PatchFault;
-pub use part::StreamPatch;
+pub use part::{Part, StreamPatch};
+pub use role::{Role, role_of};
+pub use rows::{Next, next_row};
 pub use stream::{StreamPatches, read_stream};
 
 #[cfg(test)]
