@@ -1,16 +1,15 @@
 -- What the answer of a reader of rows says, by the grammar and the table of faults.
 use Rattle.std.proofs.Common.{◌≡◌, ℕ, ◌+◌, ◌-◌, ◌<◌, ◌≤◌, List, length, drop, Result, Ok, Err, IfOk, IfErr, refl, sym, ap, ◌∙◌, ◌⊎◌, inl, inr, arith}
 use Rattle.std.proofs.lemmas.List.{length-drop}
-use Rattle.std.proofs.lemmas.Bool.{cases_lt}
 use Rattle.rows_text.specs.declared.fault.RowFault.{RowFault}
 use Rattle.rows_text.specs.declared.fault.RowFault.TheVariants as faults
 use Rattle.rows_text.specs.declared.row.Row.{Row}
 use Rattle.rows_text.specs.Fault.{Fault, Gives, FailsBy, IsAnswer, IsFaultAnswer}
-use Rattle.rows_text.specs.Grammar.{row_limit, IsLong, ShortRowAt, IsRowAt}
+use Rattle.rows_text.specs.Grammar.{ShortRowAt, IsRowAt}
 use Rattle.rows_text.specs.Faults.{FirstFault}
-use Rattle.rows_text.specs.Reading.{limited_row_at}
+use Rattle.patch_reader.specs.Limit.{limited_row_at}
 use Rattle.rows_text.proofs.Exact.{ok_is, err_is, ok_no_err}
-use Rattle.rows_text.proofs.LimitLaws.{exact_limited}
+use Rattle.patch_reader.proofs.Limits.{exact_limited}
 use Rattle.rows_text.proofs.Shorter.{row_shorter}
 
 abbrev RowGiven : List ℕ → ℕ → Result (Row × ℕ) RowFault → Type 0
@@ -18,22 +17,6 @@ RowGiven text at result = Gives text result (limited_row_at (drop at text))
 
 abbrev and_behind : Row → List ℕ → Row × List ℕ
 and_behind r after = (r, after)
-
--- the limit in places
-short_places : (text : List ℕ) (at end : ℕ) → at ≤ length text → end ≤ length text → (IsLong (drop at text) (drop end text) → ⊥) → end ≤ at + row_limit
-short_places text at end low high short =
-    let a : length (drop at text) ≡ length text - at = length-drop at text in
-    let b : length (drop end text) ≡ length text - end = length-drop end text in
-    by (cases_lt (at + row_limit) end) a b
-  where
-    by : (at + row_limit < end) ⊎ (end ≤ at + row_limit) → length (drop at text) ≡ length text - at → length (drop end text) ≡ length text - end → end ≤ at + row_limit
-    by (inl long) a b = absurd (short (omega (arith, a, b, long, low, high)))
-    by (inr le) a b = le
-
-no_long : (text : List ℕ) (at end : ℕ) → at ≤ length text → end ≤ length text → end ≤ at + row_limit → IsLong (drop at text) (drop end text) → ⊥
-no_long text at end low high le long =
-    let a : length (drop at text) ≡ length text - at = length-drop at text in
-    let b : length (drop end text) ≡ length text - end = length-drop end text in absurd (omega (arith, a, b, long, le, low, high))
 
 same_place : (text : List ℕ) (a b : ℕ) → a ≤ length text → b ≤ length text → drop a text ≡ drop b text → a ≡ b
 same_place text a b low high e =
@@ -48,18 +31,18 @@ answer_ok text at (Ok r) low g =
     let less = row_shorter (drop at text) r.0 (drop r.1 text) found.0 in
     let a : length (drop at text) ≡ length text - at = length-drop at text in
     let b : length (drop r.1 text) ≡ length text - r.1 = length-drop r.1 text in
-    (found.0, omega (arith, less, a, b), g.1, short_places text at r.1 low g.1 found.1)
+    (found, omega (arith, less, a, b), g.1)
 answer_ok text at (Err e) low g = tt
 
 pub answer_only : (text : List ℕ) (at : ℕ) (result : Result (Row × ℕ) RowFault) → at ≤ length text → RowGiven text at result
     → (r : Row) (end : ℕ) → IsRowAt text at r end → IsAnswer result r end
 unfolding IsRowAt
 answer_only text at (Ok x) low g r end is =
-    let read = (exact_limited (drop at text)).again (r, drop end text) (is.0, no_long text at end low is.2 is.3) in
+    let read = (exact_limited (drop at text)).again (r, drop end text) is.0 in
     let same = ok_is (and_behind x.0 (drop x.1 text)) (and_behind r (drop end text)) (sym g.0 ∙ read) in
     (ap (λ (v : Row × List ℕ). v.0) same, same_place text x.1 end g.1 is.2 (ap (λ (v : Row × List ℕ). v.1) same))
 answer_only text at (Err (faults.At place kind)) low g r end is =
-    let read = (exact_limited (drop at text)).again (r, drop end text) (is.0, no_long text at end low is.2 is.3) in
+    let read = (exact_limited (drop at text)).again (r, drop end text) is.0 in
     absurd (ok_no_err (and_behind r (drop end text)) (kind, drop place text) (sym read ∙ g.0))
 answer_only text at (Err faults.OutOfMemory) low g r end is = refl
 

@@ -1,5 +1,5 @@
-use Rattle.rows_text.proofs.LimitLaws.{exact_limited}
-use Rattle.rows_text.proofs.laws.rows_are_read_within_their_limit.Goals as goal
+use Rattle.patch_reader.proofs.Limits.{exact_limited}
+use Rattle.patch_reader.proofs.laws.rows_are_read_within_their_limit.Goals as goal
 
 pub returns-clause-found : goal.returns-clause-found
 returns-clause-found c = λ text x after e. (exact_limited text).found (x, after) e

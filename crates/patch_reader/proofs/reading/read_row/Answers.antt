@@ -1,6 +1,6 @@
 use Rattle.std.proofs.Common.{◌≤◌, length, arith}
-use Rattle.rows_text.proofs.RowAnswers.{answer_ok, answer_only, answer_fault, answer_only_fault}
-use Rattle.rows_text.proofs.reading.read_row.Goals as goal
+use Rattle.patch_reader.proofs.RowAnswers.{answer_ok, answer_only, answer_fault, answer_only_fault}
+use Rattle.patch_reader.proofs.reading.read_row.Goals as goal
 
 pub returns-clause-ok : goal.returns-clause-ok
 returns-clause-ok c = let low : c.args.at ≤ length c.args.text.now = omega (arith, c.requires.some) in answer_ok c.args.text.now c.args.at c.limited_row.result low c.limited_row.ensures

@@ -1,5 +1,5 @@
-use Rattle.rows_text.proofs.RowAnswers.{settled, one_row, one_fault, apart}
-use Rattle.rows_text.proofs.laws.rows_are_settled.Goals as goal
+use Rattle.patch_reader.proofs.RowAnswers.{settled, one_row, one_fault, apart}
+use Rattle.patch_reader.proofs.laws.rows_are_settled.Goals as goal
 
 pub returns-clause-some : goal.returns-clause-some
 returns-clause-some c = settled
