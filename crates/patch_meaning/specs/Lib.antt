@@ -4,6 +4,7 @@ pub mod Draft
 pub mod Next
 pub mod PartRead
 pub mod Patch
+pub mod Replay
 pub mod Roles
 pub mod Rows
 pub mod Stream

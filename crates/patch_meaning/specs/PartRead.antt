@@ -9,7 +9,7 @@ use Rattle.patch_meaning.specs.declared.part.Part.{Part as PartRead}
 use Rattle.patch_meaning.specs.declared.part.StreamPatch.{StreamPatch}
 use Rattle.patch_meaning.specs.declared.role.Role.{Role}
 use Rattle.patch_meaning.specs.Draft.{Stands}
-use Rattle.patch_meaning.specs.Patch.{Meaning, AreTaken, refusal, refused_at, has_some}
+use Rattle.patch_meaning.specs.Patch.{Meaning, AreTaken, refusal, refused_at, has_some, place_of}
 use Rattle.patch_meaning.specs.Roles.{role, said, ids_of, changes_of, is_open}
 use Rattle.patch_meaning.specs.Rows.{PlacedRow}
 
@@ -39,6 +39,18 @@ pub record HasPart (rs : List PlacedRow) (p : PartRead) : Type 0 where
   pub some : has_some rs ≡ p.has_rows
   pub id : has_some (ids_of (said rs)) ≡ p.has_id
   pub change : has_some (changes_of (said rs)) ≡ p.has_change
+
+-- the fault of a row that was refused, and that is told where the patch ends within its limit
+abbrev pub first_fault : PartRead → Option PatchFault
+first_fault p = p.fault
+
+-- a fault of the patch that stops there has no place, or that one, or it was found before
+abbrev pub IsToldAt : PartRead → ℕ → PatchFault → Type 0
+IsToldAt p stop fault = (place_of fault ≡ None) ⊎ ((place_of fault ≡ Some stop) ⊎ (first_fault p ≡ Some fault))
+
+-- the fault was found before, or it is that of the row at this place
+abbrev pub IsFoundAt : PartRead → ℕ → PatchFault → Type 0
+IsFoundAt p at fault = (first_fault p ≡ Some fault) ⊎ (place_of fault ≡ Some at)
 
 -- the row was taken, or it was refused, and that is the fault
 abbrev pub TakesRow : List Role → Role → ℕ → Result (Option PatchFault) OutOfMemory → Draft → Type 0

@@ -119,6 +119,20 @@ refused_at refusals.LateHeader at = faults.LateHeader at
 refused_at refusals.Nested at = faults.Nested at
 refused_at refusals.NotInBlock at = faults.NotInBlock at
 
+-- the place of a fault; that a text is too long and want of memory have none
+abbrev pub place_of : PatchFault → Option ℕ
+place_of (faults.Row at kind) = Some at
+place_of (faults.NoId at) = Some at
+place_of (faults.TwoIds at) = Some at
+place_of (faults.TwoPrevs at) = Some at
+place_of (faults.BadId at) = Some at
+place_of (faults.LateHeader at) = Some at
+place_of (faults.Nested at) = Some at
+place_of (faults.NotInBlock at) = Some at
+place_of (faults.OpenBlock at) = Some at
+place_of (faults.TooLong length limit) = None
+place_of faults.OutOfMemory = None
+
 -- a fault of a row, as one of a patch
 abbrev pub row_refused : RowFault → PatchFault
 row_refused (row.At at kind) = faults.Row at kind

@@ -1,7 +1,7 @@
 //! Why a text is no patch.
 
-ghost use Rattle.std.specs.Prelude.{◌≡◌};
-ghost use Rattle.patch_meaning.specs.Patch.{refused_at, row_refused};
+ghost use Rattle.std.specs.Prelude.{◌≡◌, Some};
+ghost use Rattle.patch_meaning.specs.Patch.{place_of, refused_at, row_refused};
 ghost use Rattle.patch_meaning.specs.declared.fault.PatchFault.TheVariants as faults;
 ghost use Rattle.patch_meaning.specs.declared.fault.Stop.TheVariants as stops;
 
@@ -52,10 +52,31 @@ pub enum Stop {
     OutOfMemory,
 }
 
+impl PatchFault {
+    /// Its place in bytes from the text's front. That a text is too long has none.
+    pub fn place(&self) -> Option<u64>
+        ensures { result ≡ place_of self.now }
+    {
+        match *self {
+            PatchFault::Row { at, .. }
+            | PatchFault::NoId { at }
+            | PatchFault::TwoIds { at }
+            | PatchFault::TwoPrevs { at }
+            | PatchFault::BadId { at }
+            | PatchFault::LateHeader { at }
+            | PatchFault::Nested { at }
+            | PatchFault::NotInBlock { at }
+            | PatchFault::OpenBlock { at } => Some(at),
+            PatchFault::TooLong { .. } | PatchFault::OutOfMemory => None,
+        }
+    }
+}
+
 impl Refusal {
     /// The fault of a row that begins at this place.
     pub fn at(self, at: u64) -> PatchFault
-        ensures { result ≡ refused_at self at }
+        ensures fault { result ≡ refused_at self at }
+        ensures place { place_of result ≡ Some at }
     {
         match self {
             Refusal::BadId => PatchFault::BadId { at },

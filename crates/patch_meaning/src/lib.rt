@@ -2,6 +2,7 @@
 #![tactic(auto)]
 
 mod checked;
+mod cut;
 mod draft;
 mod fault;
 mod laws;
@@ -13,7 +14,9 @@ mod stream;
 pub use checked::{Checked, check_patch};
 pub use fault::PatchFault;
 pub use laws::patches_are_settled;
-pub use part::StreamPatch;
+pub use part::{Part, StreamPatch};
+pub use role::{Role, role_of};
+pub use rows::{Next, next_row};
 pub use stream::{StreamPatches, read_stream};
 
 #[cfg(test)]

@@ -3,8 +3,9 @@
 ghost use Rattle.std.specs.Prelude.{◌≡◌, ◌≤◌, ◌+◌, ◌++◌, ◌∷◌, [], List, None, Some, IfOk, IfErr, OnOk};
 ghost use Rattle.patch_meaning.specs.declared.role.Role.{Role as Said};
 ghost use Rattle.patch_meaning.specs.Draft.{Stands};
-ghost use Rattle.patch_meaning.specs.Patch.{IsWell, patch_limit, has_some};
-ghost use Rattle.patch_meaning.specs.PartRead.{meaning_of, HasPart, LacksEnd, TakesRow};
+ghost use Rattle.patch_meaning.specs.declared.fault.PatchFault.{PatchFault};
+ghost use Rattle.patch_meaning.specs.Patch.{IsWell, patch_limit, has_some, place_of};
+ghost use Rattle.patch_meaning.specs.PartRead.{meaning_of, HasPart, LacksEnd, TakesRow, IsToldAt, IsFoundAt, first_fault};
 ghost use Rattle.patch_meaning.specs.Roles.{role, said, id_of, change_of};
 ghost use Rattle.patch_meaning.specs.Rows.{PlacedRow};
 ghost use Rattle.patch_meaning.specs.Stream.{IsPartFault, begins};
@@ -46,6 +47,7 @@ impl Part {
     pub fn new(alloc: Global, from: u64) -> Part
         ensures rows { HasPart [] result }
         ensures from { result.from ≡ from }
+        ensures none { first_fault result ≡ None }
     {
         Part {
             from,
@@ -77,9 +79,10 @@ impl Part {
     }
 
     /// Takes what the row at a place says. Its fault is kept.
-    pub fn take(&mut self, says: Role, at: usize) -> Result<(), OutOfMemory>
+    pub fn take(&mut self, says: Role, at: u64) -> Result<(), OutOfMemory>
         ensures rows { OnOk result ((rs : List PlacedRow) (r : PlacedRow) → HasPart rs self.old → role r.row_ ≡ says → r.at ≡ at → HasPart (rs ++ r ∷ []) self.new) }
         ensures from { self.new.from ≡ self.old.from }
+        ensures found { OnOk result ((fault : PatchFault) → first_fault self.new ≡ Some fault → IsFoundAt self.old at fault) }
     {
         self.has_rows = true;
         self.has_id = is_id(&says) | self.has_id;
@@ -90,16 +93,24 @@ impl Part {
                 Ok(())
             }
             None => {
-                self.fault = take_row(&mut self.draft, says, at as u64)?;
+                self.fault = take_row(&mut self.draft, says, at)?;
                 Ok(())
             }
         }
+    }
+
+    /// The fault of a row that was refused, if one was.
+    pub fn first_fault(&self) -> Option<PatchFault>
+        ensures { result ≡ first_fault self.now }
+    {
+        self.fault
     }
 
     /// The patch whose text stops here.
     pub fn finish(self, stop: u64) -> Result<StreamPatch, PatchFault>
         ensures ok { IfOk result (λ p. (rs : List PlacedRow) → HasPart rs self → IsWell (said rs) (meaning_of p) × (stop ≤ self.from + patch_limit)) }
         ensures fault { IfErr result (λ fault. (rs : List PlacedRow) → HasPart rs self → IsPartFault (record { from = self.from; rows_ = rs }) stop None fault) }
+        ensures told { IfErr result (IsToldAt self stop) }
     {
         let Part {
             from,
@@ -122,7 +133,8 @@ impl Part {
 
     /// The fault of the patch where no row stands at its end.
     pub fn break_off(&self, stop: u64, kind: RowKind) -> PatchFault
-        ensures { (rs : List PlacedRow) → HasPart rs self.now → IsPartFault (record { from = self.now.from; rows_ = rs }) stop (Some kind) result }
+        ensures fault { (rs : List PlacedRow) → HasPart rs self.now → IsPartFault (record { from = self.now.from; rows_ = rs }) stop (Some kind) result }
+        ensures told { IsToldAt self.now stop result }
     {
         let length = stop.saturating_sub(self.from);
         if length > PATCH_LIMIT {
@@ -142,6 +154,7 @@ impl Part {
 fn whole(draft: Draft, stop: u64) -> Result<StreamPatch, PatchFault>
     ensures ok { IfOk result (λ p. (rs : List Said) → Stands rs draft → IsWell rs (meaning_of p)) }
     ensures fault { IfErr result (λ fault. (rs : List Said) → Stands rs draft → LacksEnd rs stop fault) }
+    ensures told { IfErr result (λ fault. place_of fault ≡ Some stop) }
 {
     let Draft {
         id,
@@ -160,7 +173,8 @@ fn whole(draft: Draft, stop: u64) -> Result<StreamPatch, PatchFault>
 
 // Takes what the row at a place says, and answers its fault.
 fn take_row(draft: &mut Draft, says: Role, at: u64) -> Result<Option<PatchFault>, OutOfMemory>
-    ensures { OnOk result ((rs : List Said) → Stands rs draft.old → TakesRow rs says at result draft.new) }
+    ensures row { OnOk result ((rs : List Said) → Stands rs draft.old → TakesRow rs says at result draft.new) }
+    ensures place { IfOk result (λ refused. (fault : PatchFault) → refused ≡ Some fault → place_of fault ≡ Some at) }
 {
     match draft.take(says) {
         Ok(()) => Ok(None),

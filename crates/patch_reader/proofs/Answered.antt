@@ -1,20 +1,92 @@
 -- What is read, as what is decided.
-use Rattle.std.proofs.Common.{◌≡◌, ℕ, true, false, List, drop, Ok, Err}
+use Rattle.std.proofs.Common.{◌≡◌, ℕ, ◌+◌, ◌<◌, ◌≤◌, Bool, true, false, cond, List, [], ◌∷◌, ◌++◌, length, drop, Option, Some, None, Result, Ok, Err, nat_eq, refl, sym, ap, subst, ◌∙◌, arith, eqb-true, eq-eqb}
+use Rattle.std.proofs.lemmas.Bool.{false≢true}
+use Rattle.std.proofs.lemmas.List.{length-drop}
+use Rattle.rows_text.specs.declared.fault.RowFault.{RowFault as RowAnswer}
+use Rattle.rows_text.specs.declared.fault.RowFault.TheVariants as faults
 use Rattle.rows_text.specs.declared.fault.RowKind.{RowKind}
+use Rattle.rows_text.specs.declared.fault.RowKind.TheVariants.{TooLong}
 use Rattle.rows_text.specs.declared.row.Row.{Row}
-use Rattle.patch_reader.specs.Cut.{ends_row}
-use Rattle.patch_reader.specs.Decided.{RowDecided, FaultDecided, Undecided}
+use Rattle.rows_text.specs.Fault.{Fault, Read, Gives}
+use Rattle.rows_text.specs.Grammar.{RowAt, row_limit, row_front, ShortRowAt}
+use Rattle.rows_text.proofs.Shorter.{row_shorter}
+use Rattle.patch_reader.specs.Cut.{is_cut, ends_row}
+use Rattle.patch_reader.specs.Decided.{ShortRowDecided, FirstFaultDecided, MoreDecides, Decides}
+use Rattle.patch_reader.specs.Limit.{of_front, front_row_at}
 use Rattle.patch_reader.specs.Live.{live_row}
-use Rattle.patch_reader.proofs.RowStays.{row_decided, fault_decided}
-use Rattle.patch_reader.proofs.Settled.{undecided}
+use Rattle.patch_reader.proofs.RowStays.{AtEnd}
+use Rattle.patch_reader.proofs.RowEnds.{cut_row}
+use Rattle.patch_reader.proofs.Limits.{short_row, front_row, short_fault, front_fault, long_row, long_open, more_decides, row_now}
 
-pub row_there : (text : List ℕ) (at end : ℕ) (r : Row) → live_row (drop at text) ≡ Ok (r, drop end text) → RowDecided (drop at text) r (drop end text)
-row_there text at end r e = row_decided (drop at text) r (drop end text) e
+-- ---- in a longer text
 
-pub more_decides : (text : List ℕ) (at place : ℕ) (kind : RowKind) → live_row (drop at text) ≡ Err (kind, drop place text) → ends_row kind (drop place text) ≡ true → Undecided (drop at text)
-more_decides text at place kind e o = undecided (drop at text) (kind, drop place text) e o
+abbrev IsDecided : List ℕ → Read Row → Type 0
+IsDecided text (Ok x) = ShortRowDecided text x.0 x.1
+IsDecided text (Err f) = FirstFaultDecided text f
 
-pub fault_there : (text : List ℕ) (at place : ℕ) (kind : RowKind) → live_row (drop at text) ≡ Err (kind, drop place text) → ends_row kind (drop place text) ≡ false → FaultDecided (drop at text) (kind, drop place text)
-fault_there text at place kind e o = fault_decided (drop at text) (kind, drop place text) e o
+module _ (text : List ℕ) (lt : row_limit < length text) where
+  by_size : (x : Row × List ℕ) (b : Bool) → live_row (row_front text) ≡ Ok x → nat_eq (length x.1) 0 ≡ b → IsDecided text (cond b (Err (TooLong, text)) (Ok (x.0, x.1 ++ drop (row_limit + 1) text)))
+  by_size x true e t = long_row text x.0 x.1 lt e (eqb-true (length x.1) 0 t)
+  by_size x false e t = front_row text x.0 x.1 lt e (λ is. false≢true (sym t ∙ eq-eqb (length x.1) 0 is))
 
-pub ruleset answered = (row_there, more_decides, fault_there)
+  by_end : (f : Fault) (b : Bool) → live_row (row_front text) ≡ Err f → ends_row f.0 f.1 ≡ b → IsDecided text (cond b (Err (TooLong, text)) (Err (f.0, f.1 ++ drop (row_limit + 1) text)))
+  by_end f true e o = long_open text f lt e o
+  by_end f false e o = front_fault text f lt e o
+
+  by_reading : (r : Read Row) → live_row (row_front text) ≡ r → IsDecided text (of_front text (drop (row_limit + 1) text) r)
+  by_reading (Ok x) e = by_size x (nat_eq (length x.1) 0) e refl
+  by_reading (Err f) e = by_end f (ends_row f.0 f.1) e refl
+
+  decided_front : IsDecided text (front_row_at text)
+  decided_front = by_reading (live_row (row_front text)) refl
+
+-- ---- by places
+
+further : (text : List ℕ) (at end : ℕ) (r : Row) → end ≤ length text → ShortRowDecided (drop at text) r (drop end text) → at < end
+further text at end r le d =
+    let less = row_shorter (drop at text) r (drop end text) (row_now (drop at text) r (drop end text) d).0 in
+    omega (arith, less, length-drop at text, length-drop end text)
+
+starts : (text : List ℕ) (at : ℕ) → (drop at text ≡ [] → ⊥) → at < length text
+starts text at some = by (drop at text) refl some
+  where
+    by : (t : List ℕ) → drop at text ≡ t → (t ≡ [] → ⊥) → at < length text
+    by [] e some = absurd (some refl)
+    by (b ∷ t) e some = let size = ap length e in omega (arith, size, length-drop at text)
+
+pub front_there : (text : List ℕ) (at end : ℕ) (r : Row) → row_limit < length (drop at text) → front_row_at (drop at text) ≡ Ok (r, drop end text) → ShortRowDecided (drop at text) r (drop end text)
+front_there text at end r lt e = subst (IsDecided (drop at text)) e (decided_front (drop at text) lt)
+
+pub front_is_bad : (text : List ℕ) (at place : ℕ) (kind : RowKind) → row_limit < length (drop at text) → front_row_at (drop at text) ≡ Err (kind, drop place text)
+    → FirstFaultDecided (drop at text) (kind, drop place text)
+front_is_bad text at place kind lt e = subst (IsDecided (drop at text)) e (decided_front (drop at text) lt)
+
+pub long_starts : (text : List ℕ) (at : ℕ) → row_limit < length (drop at text) → at < length text
+long_starts text at lt = omega (arith, lt, length-drop at text)
+
+abbrev pub offered : Result (Row × ℕ) RowAnswer → Result (Option (Row × ℕ)) RowAnswer
+offered (Ok x) = Ok (Some x)
+offered (Err e) = Err e
+
+pub front_decides : (text : List ℕ) (at : ℕ) (answer : Result (Row × ℕ) RowAnswer) → row_limit < length (drop at text) → Gives text answer (front_row_at (drop at text)) → Decides text at (offered answer)
+front_decides text at (Ok x) lt g = let d = front_there text at x.1 x.0 lt g.0 in (d, further text at x.1 x.0 g.1 d, g.1)
+front_decides text at (Err (faults.At place kind)) lt g = (front_is_bad text at place kind lt g.0, long_starts text at lt, g.1)
+front_decides text at (Err faults.OutOfMemory) lt g = tt
+
+pub row_there : (text : List ℕ) (at end : ℕ) (r : Row) → length (drop at text) ≤ row_limit → end ≤ length text → live_row (drop at text) ≡ Ok (r, drop end text)
+    → ShortRowDecided (drop at text) r (drop end text) × (at < end) × (end ≤ length text)
+row_there text at end r le high e = let d = short_row (drop at text) r (drop end text) le e in (d, further text at end r high d, high)
+
+pub nothing_there : (text : List ℕ) (at place : ℕ) (kind : RowKind) → length (drop at text) ≤ row_limit → live_row (drop at text) ≡ Err (kind, drop place text) → ends_row kind (drop place text) ≡ true
+    → MoreDecides (drop at text)
+nothing_there text at place kind le e o = more_decides (drop at text) (kind, drop place text) le e o
+
+pub fault_there : (text : List ℕ) (at place : ℕ) (kind : RowKind) → length (drop at text) ≤ row_limit → place ≤ length text → live_row (drop at text) ≡ Err (kind, drop place text) → ends_row kind (drop place text) ≡ false
+    → FirstFaultDecided (drop at text) (kind, drop place text) × (at < length text) × (place ≤ length text)
+fault_there text at place kind le high e o =
+    (short_fault (drop at text) (kind, drop place text) le e o, starts text at (λ none. open_end e o none), high)
+  where
+    open_end : live_row (drop at text) ≡ Err (kind, drop place text) → ends_row kind (drop place text) ≡ false → drop at text ≡ [] → ⊥
+    open_end e o none = let bad : AtEnd (live_row (drop at text)) = cut_row (drop at text) (ap is_cut none) in false≢true (sym o ∙ subst AtEnd e bad)
+
+pub ruleset answered = (row_there, nothing_there, fault_there)

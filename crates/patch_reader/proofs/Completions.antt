@@ -401,3 +401,13 @@ front_completed b bs e =
     by (c ∷ d ∷ x ∷ bs) low high none size =
         let short = front_is_short b c d x (length (b ∷ c ∷ d ∷ x ∷ bs)) none in
         absurd (omega (arith, short, size))
+
+-- the front of a character has at most three bytes
+pub front_length : (bs : List ℕ) → is_front bs ≡ true → length bs ≤ 3
+front_length [] e = absurd (false≢true e)
+front_length (b ∷ bs) e =
+    let f = and_parts (leads b) (is_none (decoded (b ∷ bs)).char && nat_eq (decoded (b ∷ bs)).size (length (b ∷ bs))) e in
+    let g = and_parts (is_none (decoded (b ∷ bs)).char) (nat_eq (decoded (b ∷ bs)).size (length (b ∷ bs))) f.1 in
+    let short = front_is_short (slice_index (b ∷ bs) 0) (slice_index (b ∷ bs) 1) (slice_index (b ∷ bs) 2) (slice_index (b ∷ bs) 3) (length (b ∷ bs)) (none_of (decoded (b ∷ bs)).char g.0) in
+    let size = eqb-true (decoded (b ∷ bs)).size (length (b ∷ bs)) g.1 in
+    omega (arith, short, size)

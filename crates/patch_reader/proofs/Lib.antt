@@ -7,6 +7,13 @@ pub mod Completions
 pub mod Breaks
 pub mod Opens
 pub mod Settled
+pub mod Unlimited
+pub mod Limits
+pub mod RowAnswers
+pub mod FrontSteps
+pub mod Kept
+pub mod Adding
+pub mod Reader
 pub mod CutSteps
 pub mod Answered
-pub mod RowLists
+pub mod RowEnds

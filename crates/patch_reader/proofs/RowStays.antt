@@ -31,8 +31,9 @@ use Rattle.rows_text.specs.Reading.{comment_step, space_behind, skip_space, stan
 use Rattle.patch_reader.specs.Cut.{leads, is_front, is_cut, ends_text, ends_row, literal_open, blank_open}
 use Rattle.patch_reader.specs.Live.{live_term, live_placed, live_key, live_quoted, live_word_prefix, live_prefix, live_prefix_iri, live_graph_or_dot, live_graph, live_header, live_bare, live_quad, live_added, live_removed, live_parts, live_by_code, live_row}
 use Rattle.patch_reader.proofs.Stays.{AtEnd as TextAtEnd, with_more as text_with_more, Stays, char_stays, bad_char, good_char, rooms_same, iri_body_stays}
-use Rattle.rows_text.proofs.LimitLaws.{exact_row}
-use Rattle.patch_reader.specs.Decided.{RowDecided, FaultDecided}
+use Rattle.rows_text.proofs.WholeRow.{exact_row}
+use Rattle.rows_text.specs.Faults.{FaultDecided}
+use Rattle.rows_text.specs.Grammar.{RowDecided}
 use Rattle.patch_reader.proofs.TokenStays.{Late, IsBlank, OpenTerm, term_late}
 
 -- ---- one reading behind another

@@ -9,9 +9,11 @@ use Rattle.rows_text.specs.declared.fault.RowKind.TheVariants.{Common, UnknownCo
 use Rattle.rows_text.specs.declared.row.Row.{Row}
 use Rattle.rows_text.specs.Fault.{Fault, Read}
 use Rattle.rows_text.specs.Reading.{row_at}
-use Rattle.rows_text.proofs.LimitLaws.{exact_row}
+use Rattle.rows_text.proofs.WholeRow.{exact_row}
 use Rattle.patch_reader.specs.Cut.{is_front, ends_text, ends_row}
-use Rattle.patch_reader.specs.Decided.{RowDecided, FaultDecided, Undecided}
+use Rattle.rows_text.specs.Faults.{FaultDecided}
+use Rattle.rows_text.specs.Grammar.{RowDecided}
+use Rattle.patch_reader.specs.Decided.{Undecided}
 use Rattle.patch_reader.specs.Live.{live_row}
 use Rattle.patch_reader.proofs.Completions.{stop, front_completed}
 use Rattle.patch_reader.proofs.Opens.{row_stop, Final, row_ends}

@@ -1,13 +1,15 @@
 //! What more text may change. These functions do nothing: their contracts are theorems.
 
-ghost use Rattle.std.specs.Prelude.{◌≡◌, true, false, ◌++◌, List, ℕ, Ok, Err};
+ghost use Rattle.std.specs.Prelude.{◌≡◌, ◌⊎◌, true, false, ◌++◌, List, ℕ, Ok, Err};
 ghost use Rattle.rows_text.specs.declared.row.Row.{Row};
 ghost use Rattle.rows_text.specs.Fault.{Fault};
+ghost use Rattle.rows_text.specs.Faults.{FaultDecided, FirstFault};
+ghost use Rattle.rows_text.specs.Grammar.{RowDecided, ShortRowAt};
 ghost use Rattle.rows_text.specs.Reading.{row_at};
 ghost use Rattle.patch_reader.specs.Cut.{ends_row};
-ghost use Rattle.patch_reader.specs.Decided.{RowDecided, FaultDecided, Undecided};
+ghost use Rattle.patch_reader.specs.Decided.{Undecided};
+ghost use Rattle.patch_reader.specs.Limit.{limited_row_at};
 ghost use Rattle.patch_reader.specs.Live.{live_row};
-ghost use Rattle.patch_reader.specs.Rows.{RowsDecided, NextFault, NothingDecided};
 
 /// What is read of a row whose text may go on is decided, unless the text's end was met; then nothing is decided.
 pub fn rows_are_decided()
@@ -24,10 +26,18 @@ pub fn rows_stay()
     ensures fault { (text more : List ℕ) (f : Fault) → live_row text ≡ Err f → ends_row f.0 f.1 ≡ false → row_at (text ++ more) ≡ Err (f.0, f.1 ++ more) }
 {}
 
-/// Rows that are decided stay decided, also behind others; there is one list of them, and where nothing more is decided it has them all.
-pub fn decided_rows_are_kept()
-    ensures longer { (text : List ℕ) (rows : List Row) (rest more : List ℕ) → RowsDecided text rows rest → RowsDecided (text ++ more) rows (rest ++ more) }
-    ensures joined { (text : List ℕ) (rows : List Row) (rest : List ℕ) (others : List Row) (last : List ℕ) → RowsDecided text rows rest → RowsDecided rest others last → RowsDecided text (rows ++ others) last }
-    ensures all { (text : List ℕ) (rows : List Row) (rest : List ℕ) (others : List Row) (last : List ℕ) → RowsDecided text rows rest → NothingDecided rest → RowsDecided text others last → (tail : List Row) × (rows ≡ others ++ tail) }
-    ensures fault { (text : List ℕ) (f : Fault) (more : List ℕ) → NextFault text f → NextFault (text ++ more) (f.0, f.1 ++ more) }
+/// A text begins with one row within the limit, or it has one first fault.
+pub fn rows_are_settled()
+    ensures some { (text : List ℕ) → ((r : Row) × (after : List ℕ) × ShortRowAt text r after) ⊎ ((f : Fault) × FirstFault text f) }
+    ensures one { (text : List ℕ) (r s : Row) (after rest : List ℕ) → ShortRowAt text r after → ShortRowAt text s rest → (r ≡ s) × (after ≡ rest) }
+    ensures one_fault { (text : List ℕ) (f g : Fault) → FirstFault text f → FirstFault text g → f ≡ g }
+    ensures apart { (text : List ℕ) (r : Row) (after : List ℕ) (f : Fault) → ShortRowAt text r after → FirstFault text f → ⊥ }
+{}
+
+/// A row within the limit is read exactly where it stands; else its first fault is met.
+pub fn rows_are_read_within_their_limit()
+    ensures found { (text : List ℕ) (r : Row) (after : List ℕ) → limited_row_at text ≡ Ok (r, after) → ShortRowAt text r after }
+    ensures again { (text : List ℕ) (r : Row) (after : List ℕ) → ShortRowAt text r after → limited_row_at text ≡ Ok (r, after) }
+    ensures fault { (text : List ℕ) (f : Fault) → limited_row_at text ≡ Err f → FirstFault text f }
+    ensures only_fault { (text : List ℕ) (f : Fault) → FirstFault text f → limited_row_at text ≡ Err f }
 {}

@@ -8,13 +8,18 @@
 mod codes;
 mod cut;
 mod laws;
+mod next;
+mod pieces;
+mod placed;
 mod reading;
 mod rows;
 mod terms;
 mod words;
 
-pub use laws::{decided_rows_are_kept, rows_are_decided, rows_stay};
-pub use reading::{decided_row, next_row};
+pub use laws::{rows_are_decided, rows_are_read_within_their_limit, rows_are_settled, rows_stay};
+pub use pieces::PatchReader;
+pub use placed::PlacedRow;
+pub use reading::{decided_row, read_row};
 
 #[cfg(test)]
 mod tests;

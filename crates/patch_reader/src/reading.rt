@@ -1,23 +1,74 @@
-//! Rows as far as a text decides them.
+//! Rows within their limit.
 
-ghost use Rattle.std.specs.Prelude.{◌≤◌, length};
+ghost use Rattle.std.specs.Prelude.{◌≡◌, ◌≤◌, ◌<◌, ◌+◌, ℕ, true, false, length, take, drop, IfOk, IfErr};
+ghost use Rattle.nquads_text.specs.Grammar.{StartsWith};
+ghost use Rattle.rows_text.specs.declared.row.Row.{Row};
+ghost use Rattle.rows_text.specs.Fault.{Fault, Gives, FailsBy, IsAnswer, IsFaultAnswer};
+ghost use Rattle.rows_text.specs.Faults.{FirstFault};
+ghost use Rattle.rows_text.specs.Grammar.{begins_space, IsRowAt, row_limit};
 ghost use Rattle.patch_reader.specs.Decided.{Decides};
-ghost use Rattle.patch_reader.specs.Rows.{DecidesNext};
+ghost use Rattle.patch_reader.specs.Limit.{front_row_at, limited_row_at};
 
-use crate::cut::ends;
-use crate::rows::{pass_space, row};
-use rows_text::{Row, RowFault};
+use crate::cut::{ends, fault_at};
+use crate::rows::row;
+use rows_text::{Row, RowFault, RowKind, unlimited_row};
 use std::alloc::Global;
 
-/// The row at a place and the place behind it where the text decides them, whatever follows it, and none where more text decides; else the
-/// row's first fault, decided likewise.
-#[tactic(auto, using(crate::proofs::Answered::answered))]
-pub fn decided_row(alloc: Global, text: &[u8], at: usize) -> Result<Option<(Row, usize)>, RowFault>
+/// The bytes that a row may have.
+const ROW_LIMIT: usize = 4_194_304;
+
+/// Whether more bytes stand from a place on than a row may have.
+fn is_long(text: &[u8], at: usize) -> bool
     requires { at ≤ length text.now }
+    ensures long { result ≡ true → row_limit < length (drop at text.now) }
+    ensures short { result ≡ false → length (drop at text.now) ≤ row_limit }
+{
+    text.len() - at > ROW_LIMIT
+}
+
+/// The text up to one byte more from a place on than a row may have.
+fn front_of(text: &[u8], at: usize) -> &[u8]
+    requires low { at ≤ length text.now }
+    requires long { row_limit < length (drop at text.now) }
+    ensures { result.now ≡ take (at + (row_limit + 1)) text.now }
+{
+    &text[..at + ROW_LIMIT + 1]
+}
+
+/// The row at a place behind which more bytes stand than a row may have: as many and one more decide it.
+#[tactic(auto, using(crate::proofs::FrontSteps::front_steps))]
+fn front_row(alloc: Global, text: &[u8], at: usize) -> Result<(Row, usize), RowFault>
+    requires low { at ≤ length text.now }
+    requires long { row_limit < length (drop at text.now) }
+    ensures { Gives text.now result (front_row_at (drop at text.now)) }
+{
+    let front = front_of(text, at);
+    match row(alloc, front, at) {
+        Ok((row, end)) => {
+            if end == front.len() {
+                return Err(fault_at(at, RowKind::TooLong));
+            }
+            Ok((row, end))
+        }
+        Err(RowFault::At { at: place, kind }) => {
+            if ends(front, place as usize, kind) {
+                return Err(fault_at(at, RowKind::TooLong));
+            }
+            Err(RowFault::At { at: place, kind })
+        }
+        Err(RowFault::OutOfMemory) => Err(RowFault::OutOfMemory),
+    }
+}
+
+/// The row at a place behind which no more bytes stand than a row may have.
+#[tactic(auto, using(crate::proofs::Answered::answered))]
+fn short_row(alloc: Global, text: &[u8], at: usize) -> Result<Option<(Row, usize)>, RowFault>
+    requires low { at ≤ length text.now }
+    requires short { length (drop at text.now) ≤ row_limit }
     ensures { Decides text.now at result }
 {
     match row(alloc, text, at) {
-        Ok(found) => Ok(Some(found)),
+        Ok((row, end)) => Ok(Some((row, end))),
         Err(RowFault::At { at: place, kind }) => {
             if ends(text, place as usize, kind) {
                 return Ok(None);
@@ -28,10 +79,42 @@ pub fn decided_row(alloc: Global, text: &[u8], at: usize) -> Result<Option<(Row,
     }
 }
 
-/// The same of the row behind white space and comments.
-pub fn next_row(alloc: Global, text: &[u8], at: usize) -> Result<Option<(Row, usize)>, RowFault>
+/// The row at a place and the place behind it where the text decides them, whatever follows it, and none where more text decides; else the
+/// row's first fault, decided likewise.
+pub fn decided_row(alloc: Global, text: &[u8], at: usize) -> Result<Option<(Row, usize)>, RowFault>
     requires { at ≤ length text.now }
-    ensures { DecidesNext text.now at result }
+    ensures { Decides text.now at result }
 {
-    decided_row(alloc, text, pass_space(text, at))
+    if is_long(text, at) {
+        return match front_row(alloc, text, at) {
+            Ok((row, end)) => Ok(Some((row, end))),
+            Err(fault) => Err(fault),
+        };
+    }
+    short_row(alloc, text, at)
+}
+
+/// A row within its limit, read from left to right.
+#[tactic(auto, unfolding(crate::specs::Limit::limited_row_at), using(crate::proofs::FrontSteps::limit_steps))]
+fn limited_row(alloc: Global, text: &[u8], at: usize) -> Result<(Row, usize), RowFault>
+    requires { at ≤ length text.now }
+    ensures { Gives text.now result (limited_row_at (drop at text.now)) }
+{
+    if is_long(text, at) {
+        return front_row(alloc, text, at);
+    }
+    unlimited_row(alloc, text, at)
+}
+
+/// The row that begins at a place of a whole text, and the place behind its dot; else its first fault.
+pub fn read_row(alloc: Global, text: &[u8], at: usize) -> Result<(Row, usize), RowFault>
+    requires some { at < length text.now }
+    requires begins { StartsWith begins_space (drop at text.now) → ⊥ }
+    ensures ok { IfOk result (λ r. IsRowAt text.now at r.0 r.1) }
+    ensures only { (r : Row) (end : ℕ) → IsRowAt text.now at r end → IsAnswer result r end }
+    ensures fault { IfErr result (FailsBy (FirstFault (drop at text.now)) text.now) }
+    ensures only_fault { (f : Fault) → FirstFault (drop at text.now) f → IsFaultAnswer text.now result f }
+    ensures gives { Gives text.now result (limited_row_at (drop at text.now)) }
+{
+    limited_row(alloc, text, at)
 }

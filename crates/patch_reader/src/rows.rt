@@ -32,10 +32,10 @@ fn dot(text: &[u8], at: usize, missing: RowKind) -> Result<usize, RowFault>
 }
 
 /// The place behind white space and comments, read from left to right.
-
 pub fn pass_space(text: &[u8], from: usize) -> usize
     requires { from ≤ length text.now }
     ensures behind { drop result text.now ≡ behind_space (drop from text.now) }
+    ensures low { from ≤ result }
     ensures high { result ≤ length text.now }
 {
     skip_space(text, from)

@@ -1,6 +1,6 @@
-use crate::decided_row;
+use crate::{decided_row, read_row};
 use nquads_text::TextKind;
-use rows_text::{RowFault, RowKind, read_row, skip_space};
+use rows_text::{RowFault, RowKind, skip_space};
 use std::alloc::Global;
 use std::process::Abort;
 

@@ -1,6 +1,5 @@
 pub mod BracketSteps
 pub mod CodeTable
-pub mod LimitSteps
 pub mod SpaceSteps
 pub mod Steps
 pub mod WordSteps
@@ -11,8 +10,7 @@ pub mod PartLaws
 pub mod RunLaws
 pub mod PrefixLaws
 pub mod RowLaws
-pub mod LimitLaws
+pub mod WholeRow
 pub mod Shorter
-pub mod RowAnswers
 pub mod Printed
 pub mod Writable

@@ -4,6 +4,7 @@ use Rattle.std.specs.List.{list_all, prefix_len}
 use Rattle.std.specs.Char.{is_ascii_alphabetic}
 use Rattle.std.specs.Str.{IsUtf8}
 use Rattle.std.proofs.lemmas.List.{length-append, append-nil, take_at, drop_at}
+use Rattle.std.proofs.Math.Seq.{take-append-add}
 use Rattle.std.proofs.lemmas.Bool.{false≢true, and_parts}
 use Rattle.std.proofs.lemmas.Bool.Decides.{nat_tests}
 use Rattle.rdf_terms.specs.declared.term.Term.{Term}
@@ -21,7 +22,7 @@ use Rattle.rows_text.specs.declared.codes.Code.{Code}
 use Rattle.rows_text.specs.declared.codes.Code.TheVariants as code
 use Rattle.rows_text.specs.declared.row.Row.{Row}
 use Rattle.rows_text.specs.declared.row.Row.TheVariants as row
-use Rattle.rows_text.specs.Grammar.{is_word_byte, is_space, begins_space, Space, Spaced, IsKey, KeyAt, letters, WordAt, RowTerm, Placed, is_any, is_node, plain, PrefixAt, PrefixIriAt, EndAt, GraphAt, QuadAt, code_of, ChangeAt, PartsAt, RowAt, row_limit, IsRowAt, IsDecidedRow}
+use Rattle.rows_text.specs.Grammar.{is_word_byte, is_space, begins_space, Space, Spaced, IsKey, KeyAt, letters, WordAt, RowTerm, Placed, is_any, is_node, plain, PrefixAt, PrefixIriAt, EndAt, GraphAt, QuadAt, code_of, ChangeAt, PartsAt, RowAt, row_limit, row_front, IsSettled, ShortRowAt, IsRowAt, IsDecidedRow}
 use Rattle.rows_text.proofs.Shorter.{row_shorter}
 use Rattle.rows_text.specs.Printing.{quad_text, change_text, parts_text, row_text, IsGraphValue, IsQuadValue, IsChangeValue, IsRowValue, IsWellPlaced, IsWritable}
 use Rattle.rows_text.specs.Reading.{space_behind, skip_space}
@@ -277,6 +278,13 @@ line_shape r v rest e = ap (λ (t : List ℕ). t ++ rest) e ∙ append_assoc (ro
 pub printed_row : (r : Row) (v rest : List ℕ) → v ≡ row_text r ++ 10 ∷ [] → IsRowValue r → IsWritable r → RowAt (v ++ rest) r (10 ∷ rest)
 printed_row r v rest e value is = subst (λ (t : List ℕ). RowAt t r (10 ∷ rest)) (sym (line_shape r v rest e)) (row_again r (10 ∷ rest) value is)
 
+-- the front of what stands behind a line
+front_shape : (v more : List ℕ) → length v ≤ row_limit + 1 → row_front (v ++ more) ≡ v ++ take (row_limit + 1 - length v) more
+unfolding row_front
+front_shape v more short =
+    let count : row_limit + 1 ≡ length v + (row_limit + 1 - length v) = omega (arith, short) in
+    ap (λ (n : ℕ). take n (v ++ more)) count ∙ take-append-add v more (row_limit + 1 - length v)
+
 pub printed_decided : (r : Row) (v : List ℕ) → v ≡ row_text r ++ 10 ∷ [] → IsRowValue r → IsWritable r → length v ≤ row_limit + 1 → IsDecidedRow v 0 r (length v - 1)
 unfolding IsRowAt
 printed_decided r v e value is short = λ more.
@@ -286,7 +294,14 @@ printed_decided r v e value is short = λ more.
     let behind : drop (length v - 1) (v ++ more) ≡ 10 ∷ more = ap (drop (length v - 1)) (line_shape r v more e) ∙ drop_at (row_text r) (10 ∷ more) (length v - 1) (sym count) in
     let less = row_shorter (v ++ more) r (10 ∷ more) there in
     let whole : length (v ++ more) ≡ length v + length more = length-append v more in
-    (subst (λ (after : List ℕ). RowAt (v ++ more) r after) (sym behind) there, omega (arith, less, whole), omega (arith, whole), omega (arith, short))
+    let tail : List ℕ = take (row_limit + 1 - length v) more in
+    let settled : IsSettled (v ++ more) r = (
+      10 ∷ tail,
+      λ others.
+          subst (λ (t : List ℕ). RowAt t r (10 ∷ (tail ++ others))) (sym (append_assoc v tail others) ∙ ap (λ (t : List ℕ). t ++ others) (sym (front_shape v more short)))
+          (printed_row r v (tail ++ others) e value is),
+    ) in
+    (subst (λ (after : List ℕ). ShortRowAt (v ++ more) r after) (sym behind) (there, omega (arith, whole, short), λ long. settled), omega (arith, less, whole), omega (arith, whole))
 
 pub line_is : (r : Row) (v two one front word : List ℕ) → v ≡ two ++ 32 ∷ 46 ∷ 10 ∷ [] → two ≡ one ++ parts_text r → one ≡ front ++ word → front ≡ [] → word ≡ letters (code_of r)
     → v ≡ row_text r ++ 10 ∷ []

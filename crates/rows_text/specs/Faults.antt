@@ -1,5 +1,5 @@
 -- The first fault of a row: a kind, and the text from the fault's place on.
-use Rattle.std.specs.Prelude.{◌≡◌, ℕ, ◌+◌, ◌<◌, ◌≤◌, ◌||◌, ◌==◌, Bool, false, List, [], length}
+use Rattle.std.specs.Prelude.{◌≡◌, ℕ, ◌+◌, ◌<◌, ◌≤◌, ◌||◌, ◌==◌, Bool, false, List, [], ◌++◌, length, drop}
 use Rattle.std.specs.Char.{is_ascii_alphabetic}
 use Rattle.rdf_terms.specs.declared.term.Term.{Term}
 use Rattle.rdf_terms.specs.Iri.{AllowedAll, has_scheme}
@@ -16,7 +16,7 @@ use Rattle.rows_text.specs.declared.fault.RowKind.{RowKind}
 use Rattle.rows_text.specs.declared.fault.RowKind.TheVariants.{Common, UnknownCode, WrongCount, TooLong}
 use Rattle.rows_text.specs.declared.row.Row.{Row}
 use Rattle.rows_text.specs.Fault.{Fault, as_row_fault}
-use Rattle.rows_text.specs.Grammar.{Space, Spaced, KeyAt, letters, WordAt, InBrackets, RowTerm, Placed, is_any, is_node, plain, PrefixAt, PrefixIriAt, RowAt, row_limit, IsLong}
+use Rattle.rows_text.specs.Grammar.{Space, Spaced, KeyAt, letters, WordAt, InBrackets, RowTerm, Placed, is_any, is_node, plain, PrefixAt, PrefixIriAt, RowAt, RowDecided, row_limit, row_front}
 
 -- ---- tokens
 
@@ -138,14 +138,16 @@ pub data RowFault (text : List ℕ) (f : Fault) : Type 0 where
   unknown : (word behind : List ℕ) → WordAt text word behind → ((c : Code) → word ≡ letters c → ⊥) → f ≡ (UnknownCode, text) → RowFault text f
   parts : (c : Code) (behind : List ℕ) → WordAt text (letters c) behind → PartsFault c behind f → RowFault text f
 
+-- the fault is the row's first one whatever follows
+abbrev pub FaultDecided : List ℕ → Fault → Type 0
+FaultDecided text f = (more : List ℕ) → RowFault (text ++ more) (f.0, f.1 ++ more)
+
 -- ---- the limit
 
--- more than `row_limit` bytes stand in the text, and its first `row_limit` bytes do not have the fault's place
-abbrev pub IsLate : List ℕ → List ℕ → Type 0
-IsLate text place = (row_limit < length text) × (length place + row_limit ≤ length text)
-
--- The first fault of a row. One whose place lies within the row's first `row_limit` bytes comes before TooLong, which comes where more bytes follow these.
+-- The first fault of a row. In a text that has more bytes than a row may have, it is the one that the front decides; where the front decides
+-- neither a fault nor a row within the limit, the row is too long.
 pub data FirstFault (text : List ℕ) (f : Fault) : Type 0 where
-  within : RowFault text f → (IsLate text f.1 → ⊥) → FirstFault text f
-  long_row : (r : Row) (after : List ℕ) → RowAt text r after → IsLong text after → f ≡ (TooLong, text) → FirstFault text f
-  late_fault : (g : Fault) → RowFault text g → IsLate text g.1 → f ≡ (TooLong, text) → FirstFault text f
+  short : length text ≤ row_limit → RowFault text f → FirstFault text f
+  front : (g : Fault) → row_limit < length text → FaultDecided (row_front text) g → f ≡ (g.0, g.1 ++ drop (row_limit + 1) text) → FirstFault text f
+  too_long : row_limit < length text → ((r : Row) (rest : List ℕ) → RowDecided (row_front text) r rest → rest ≡ []) → ((g : Fault) → FaultDecided (row_front text) g → ⊥)
+      → f ≡ (TooLong, text) → FirstFault text f

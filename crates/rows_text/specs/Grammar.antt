@@ -1,6 +1,6 @@
 -- The grammar of the rows of a patch, on whole texts. A relation `X text value after` says that the text begins with an X of that
 -- value and that `after` stands behind it. Each token is the longest text of its form in the whole text.
-use Rattle.std.specs.Prelude.{◌≡◌, ℕ, ◌+◌, ◌≤◌, ◌<◌, ◌⊎◌, Bool, true, List, [], ◌∷◌, ◌++◌, length, drop, IsTrue, ◌==◌, ◌||◌, not, Option, Some, None, codes}
+use Rattle.std.specs.Prelude.{◌≡◌, ℕ, ◌+◌, ◌≤◌, ◌<◌, ◌⊎◌, Bool, true, List, [], ◌∷◌, ◌++◌, length, take, drop, IsTrue, ◌==◌, ◌||◌, not, Option, Some, None, codes}
 use Rattle.std.specs.List.{list_all, flat_map}
 use Rattle.std.specs.Str.{encode_utf8_all}
 use Rattle.std.specs.Char.{is_ascii_alphabetic, is_ascii_alphanumeric}
@@ -177,21 +177,31 @@ PartsAt text (row.Change c) after = ChangeAt text c after
 unfoldable pub RowAt : List ℕ → Row → List ℕ → Type 0
 RowAt text r after = (behind : List ℕ) × WordAt text (letters (code_of r)) behind × PartsAt behind r after
 
+-- the row stands there whatever follows
+abbrev pub RowDecided : List ℕ → Row → List ℕ → Type 0
+RowDecided text r after = (more : List ℕ) → RowAt (text ++ more) r (after ++ more)
+
+-- ---- the limit
+
 -- the bytes that a row may have
 abbrev pub row_limit : ℕ
 row_limit = 4194304
 
--- more than these stand between a row's first byte, where the text begins, and what is behind the row
-abbrev pub IsLong : List ℕ → List ℕ → Type 0
-IsLong text after = length after + row_limit < length text
+-- these and one more: a text with so many decides by them what stands in front of it
+unfoldable pub row_front : List ℕ → List ℕ
+row_front text = take (row_limit + 1) text
 
--- a row within the limit
+-- the front of the text decides the row
+abbrev pub IsSettled : List ℕ → Row → Type 0
+IsSettled text r = (rest : List ℕ) × RowDecided (row_front text) r rest
+
+-- a row within the limit: it has no more bytes, and in a text that has more the front decides it
 abbrev pub ShortRowAt : List ℕ → Row → List ℕ → Type 0
-ShortRowAt text r after = RowAt text r after × (IsLong text after → ⊥)
+ShortRowAt text r after = RowAt text r after × (length text ≤ length after + row_limit) × (row_limit < length text → IsSettled text r)
 
 -- The bytes of the text from `at` to `end` are this row.
 unfoldable pub IsRowAt : List ℕ → ℕ → Row → ℕ → Type 0
-IsRowAt text at r end = RowAt (drop at text) r (drop end text) × (at < end) × (end ≤ length text) × (end ≤ at + row_limit)
+IsRowAt text at r end = ShortRowAt (drop at text) r (drop end text) × (at < end) × (end ≤ length text)
 
 -- The row is decided: it stands there whatever follows the text.
 abbrev pub IsDecidedRow : List ℕ → ℕ → Row → ℕ → Type 0

@@ -1,5 +1,5 @@
 -- Reading a row from left to right, with the first fault that is met.
-use Rattle.std.specs.Prelude.{ℕ, zero, suc, ◌-◌, ◌+◌, Bool, true, false, List, [], ◌∷◌, length, take, drop, Option, Some, None, Result, Ok, Err, ◌==◌, ◌||◌, ◌&&◌, not, nat_lt, nat_le, if◌then◌else◌}
+use Rattle.std.specs.Prelude.{ℕ, zero, suc, ◌-◌, ◌+◌, Bool, true, false, List, [], ◌∷◌, length, take, drop, Option, Some, None, Result, Ok, Err, ◌==◌, ◌||◌, ◌&&◌, not, if◌then◌else◌}
 use Rattle.std.specs.Char.{is_ascii_alphabetic}
 use Rattle.std.specs.List.{list_all, prefix_len}
 use Rattle.std.specs.Str.{bytes_eq}
@@ -19,11 +19,11 @@ use Rattle.nquads_text.specs.Terms.{label_at, term_at}
 use Rattle.rows_text.specs.declared.codes.Code.{Code}
 use Rattle.rows_text.specs.declared.codes.Code.TheVariants as code
 use Rattle.rows_text.specs.declared.fault.RowKind.{RowKind}
-use Rattle.rows_text.specs.declared.fault.RowKind.TheVariants.{Common, UnknownCode, WrongCount, TooLong}
+use Rattle.rows_text.specs.declared.fault.RowKind.TheVariants.{Common, UnknownCode, WrongCount}
 use Rattle.rows_text.specs.declared.row.Row.{Row}
 use Rattle.rows_text.specs.declared.row.Row.TheVariants as row
 use Rattle.rows_text.specs.Fault.{Fault, Read, ◌>>=◌, in_row, as_row_fault}
-use Rattle.rows_text.specs.Grammar.{is_line_end, is_space, is_word_byte, letters, is_any, is_node, row_limit}
+use Rattle.rows_text.specs.Grammar.{is_line_end, is_space, is_word_byte, letters, is_any, is_node}
 use Rattle.rows_text.specs.Faults.{is_dot}
 
 -- a character of a comment at the front of `here`, `room` bytes being behind its first, and what `more` finds behind it
@@ -263,11 +263,3 @@ unfoldable pub row_at : List ℕ → Read Row
 row_at rest = do
   word ← word_at rest
   by_code (code_named word.0) rest word.1
-
--- what comes of it within the limit of a row, which begins where text does
-abbrev pub limited : List ℕ → Read Row → Read Row
-limited text (Ok x) = if nat_lt (length x.1 + row_limit) (length text) then Err (TooLong, text) else Ok x
-limited text (Err f) = if nat_lt row_limit (length text) && nat_le (length f.1 + row_limit) (length text) then Err (TooLong, text) else Err f
-
-unfoldable pub limited_row_at : List ℕ → Read Row
-limited_row_at text = limited text (row_at text)

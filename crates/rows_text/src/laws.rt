@@ -1,21 +1,13 @@
 //! What the reading, the grammar and the table of faults have in common. These functions do nothing: their contracts are theorems.
 
-ghost use Rattle.std.specs.Prelude.{◌≡◌, ◌⊎◌, List, ℕ, Ok, Err};
+ghost use Rattle.std.specs.Prelude.{◌≡◌, List, ℕ, Ok, Err};
 ghost use Rattle.rdf_terms.specs.declared.term.Term.{Term};
 ghost use Rattle.rows_text.specs.declared.row.Row.{Row};
 ghost use Rattle.rows_text.specs.Fault.{Fault};
-ghost use Rattle.rows_text.specs.Faults.{RowTermFault, RowFault, FirstFault};
-ghost use Rattle.rows_text.specs.Grammar.{Space, RowTerm, RowAt, ShortRowAt};
+ghost use Rattle.rows_text.specs.Faults.{RowTermFault, RowFault};
+ghost use Rattle.rows_text.specs.Grammar.{Space, RowTerm, RowAt};
 ghost use Rattle.rows_text.specs.Printing.{IsWritable};
-ghost use Rattle.rows_text.specs.Reading.{skip_space, row_term_at, row_at, limited_row_at};
-
-/// A text begins with one row within the limit, or it has one first fault.
-pub fn rows_are_settled()
-    ensures some { (text : List ℕ) → ((r : Row) × (after : List ℕ) × ShortRowAt text r after) ⊎ ((f : Fault) × FirstFault text f) }
-    ensures one { (text : List ℕ) (r s : Row) (after rest : List ℕ) → ShortRowAt text r after → ShortRowAt text s rest → (r ≡ s) × (after ≡ rest) }
-    ensures one_fault { (text : List ℕ) (f g : Fault) → FirstFault text f → FirstFault text g → f ≡ g }
-    ensures apart { (text : List ℕ) (r : Row) (after : List ℕ) (f : Fault) → ShortRowAt text r after → FirstFault text f → ⊥ }
-{}
+ghost use Rattle.rows_text.specs.Reading.{skip_space, row_term_at, row_at};
 
 /// A row of any length is read exactly where the grammar has one; else its first fault is met.
 pub fn rows_are_read()
@@ -23,14 +15,6 @@ pub fn rows_are_read()
     ensures again { (text : List ℕ) (r : Row) (after : List ℕ) → RowAt text r after → row_at text ≡ Ok (r, after) }
     ensures fault { (text : List ℕ) (f : Fault) → row_at text ≡ Err f → RowFault text f }
     ensures only_fault { (text : List ℕ) (f : Fault) → RowFault text f → row_at text ≡ Err f }
-{}
-
-/// The same within the limit.
-pub fn rows_are_read_within_their_limit()
-    ensures found { (text : List ℕ) (r : Row) (after : List ℕ) → limited_row_at text ≡ Ok (r, after) → ShortRowAt text r after }
-    ensures again { (text : List ℕ) (r : Row) (after : List ℕ) → ShortRowAt text r after → limited_row_at text ≡ Ok (r, after) }
-    ensures fault { (text : List ℕ) (f : Fault) → limited_row_at text ≡ Err f → FirstFault text f }
-    ensures only_fault { (text : List ℕ) (f : Fault) → FirstFault text f → limited_row_at text ≡ Err f }
 {}
 
 /// The same of a term of a row.

@@ -1,7 +1,7 @@
 //! The rows of patches: they are read and printed.
 //!
-//! `read_row` answers the row that the grammar has at a place of a text (`specs/Grammar.antt`), and else the row's first fault
-//! (`specs/Faults.antt`). `print_row` writes a row's canonical text, which is read as that row again. The functions of `laws`
+//! `unlimited_row` answers the row that the grammar has at a place of a text (`specs/Grammar.antt`), and else the row's first fault
+//! (`specs/Faults.antt`). Rows within their limit are read by `patch_reader`. `print_row` writes a row's canonical text, which is read as that row again. The functions of `laws`
 //! do nothing: their contracts tie the reading to the grammar and the faults.
 #![tactic(auto)]
 
@@ -9,7 +9,6 @@ mod codes;
 mod fault;
 mod laws;
 mod printing;
-mod reading;
 mod row;
 mod rows;
 mod space;
@@ -17,14 +16,11 @@ mod terms;
 mod words;
 
 pub use fault::{RowFault, RowKind};
-pub use laws::{
-    row_terms_are_read, rows_are_read, rows_are_read_within_their_limit, rows_are_settled,
-    rows_are_writable, space_is_skipped,
-};
+pub use laws::{row_terms_are_read, rows_are_read, rows_are_writable, space_is_skipped};
 pub use printing::print_row;
 pub use rdf_terms::Change;
-pub use reading::read_row;
 pub use row::Row;
+pub use rows::unlimited_row;
 pub use space::skip_space;
 
 #[cfg(test)]

@@ -148,9 +148,9 @@ fn parts(alloc: Global, code: Code, text: &[u8], at: usize) -> Result<(Row, usiz
     }
 }
 
-/// A row of any length, read from left to right.
+/// The row of any length that begins at a place, and the place behind its dot; else its first fault.
 #[tactic(auto, unfolding(crate::specs::Reading::row_at))]
-pub fn row(alloc: Global, text: &[u8], at: usize) -> Result<(Row, usize), RowFault>
+pub fn unlimited_row(alloc: Global, text: &[u8], at: usize) -> Result<(Row, usize), RowFault>
     requires { at ≤ length text.now }
     ensures { Gives text.now result (row_at (drop at text.now)) }
 {

@@ -1,7 +1,7 @@
-use crate::{Row, RowFault, RowKind, print_row, read_row, skip_space};
+use crate::{Row, RowFault, RowKind, print_row, skip_space, unlimited_row};
 use delta_base::{Bytes, OutOfMemory};
 use nquads_text::TextKind;
-use std::alloc::{AllocError, Global};
+use std::alloc::Global;
 use std::process::Abort;
 use std::test::Fail;
 
@@ -11,7 +11,7 @@ fn first_row(alloc: Global, text: &[u8]) -> Result<(Row, usize), RowFault> {
     if at == text.len() {
         return Err(RowFault::OutOfMemory);
     }
-    read_row(alloc, text, at)
+    unlimited_row(alloc, text, at)
 }
 
 /// Where the first row ends, or its first fault.
@@ -218,24 +218,5 @@ fn a_copy_is_printed_alike(rt: HostRuntime) -> Result<(), Fail> {
     let copy = copied(row)?;
     let printed = printed(alloc, copy)?;
     assert_eq!(rt; printed.as_slice(), line.as_slice());
-    Ok(())
-}
-
-/// A row of this many bytes.
-fn long_row(alloc: Global, size: usize) -> Result<Vec<u8>, AllocError> {
-    let mut text = Vec::new(alloc);
-    text.extend_from_slice(b"A <a:b> <a:b> \"")?;
-    text.resize(size.saturating_sub(3), b'x')?;
-    text.extend_from_slice(b"\" .")?;
-    Ok(text)
-}
-
-#[test]
-fn a_row_has_4194304_bytes_at_most(rt: HostRuntime) -> Result<(), Fail> {
-    let alloc = rt.alloc();
-    let text = long_row(alloc, 4_194_304)?;
-    assert_eq!(rt; outcome(alloc, &text), Ok(4_194_304));
-    let text = long_row(alloc, 4_194_305)?;
-    fails(&rt, alloc, &text, 0, RowKind::TooLong);
     Ok(())
 }

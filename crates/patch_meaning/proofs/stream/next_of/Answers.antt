@@ -6,4 +6,4 @@ use Rattle.patch_meaning.proofs.stream.next_of.Goals as goal
 pub returns-in-Err-At-clause-fault : goal.returns-in-Err-At-clause-fault
 returns-in-Err-At-clause-fault c =
     let is = subst (λ (e : RowFault). IsNext c.args.text.now c.args.at (Err e)) c.in-Err-At.field-0-is c.in-Err-At.ensures in
-    inr (is.0, c.in-Err-At.place, c.in-Err-At.kind, is.1, is.2, c.break_off.ensures)
+    inr (is.0, c.in-Err-At.place, c.in-Err-At.kind, is.1, is.2, c.break_stream.ensures.fault)

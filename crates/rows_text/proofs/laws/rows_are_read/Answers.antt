@@ -1,4 +1,4 @@
-use Rattle.rows_text.proofs.LimitLaws.{exact_row}
+use Rattle.rows_text.proofs.WholeRow.{exact_row}
 use Rattle.rows_text.proofs.laws.rows_are_read.Goals as goal
 
 pub returns-clause-found : goal.returns-clause-found

@@ -3,12 +3,12 @@ use Rattle.patch_meaning.specs.Patch.{patch_limit}
 use Rattle.patch_meaning.proofs.Parts.{refused_part, broken_part, refused_rows, stands_rows}
 use Rattle.patch_meaning.proofs.part.Part.break_off.Goals as goal
 
-pub returns-in-Some : goal.returns-in-Some
-returns-in-Some c = λ rs h.
+pub returns-in-Some-clause-fault : goal.returns-in-Some-clause-fault
+returns-in-Some-clause-fault c = λ rs h.
     let short : c.args.stop ≤ c.args.self.now.from + patch_limit = omega (arith, c.saturating_sub-length.ensures, c.if-length-gt-PATCH_LIMIT.false) in
     refused_part rs c.args.self.now.from c.args.stop (Some c.args.kind) c.in-Some.fault short (refused_rows rs c.args.self.now c.in-Some.fault h c.in-Some.is)
 
-pub returns-in-None : goal.returns-in-None
-returns-in-None c = λ rs h.
+pub returns-in-None-clause-fault : goal.returns-in-None-clause-fault
+returns-in-None-clause-fault c = λ rs h.
     let short : c.args.stop ≤ c.args.self.now.from + patch_limit = omega (arith, c.saturating_sub-length.ensures, c.if-length-gt-PATCH_LIMIT.false) in
     broken_part rs c.args.self.now.from c.args.stop c.args.kind c.args.self.now.draft short (stands_rows rs c.args.self.now h c.in-None.is)

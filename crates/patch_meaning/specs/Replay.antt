@@ -1,0 +1,21 @@
+-- The dataset that patches make one after another, and what makes them a chain.
+use Rattle.std.specs.Prelude.{List, [], ◌∷◌, map}
+use Rattle.rdf_terms.specs.Dataset.{Dataset, apply, empty}
+use Rattle.chain_core.specs.declared.link.Link.{Link}
+use Rattle.patch_meaning.specs.Patch.{Meaning}
+
+-- the patches one after another
+abbrev pub replay_from : List Meaning → Dataset → Dataset
+replay_from [] d = d
+replay_from (m ∷ ms) d = replay_from ms (apply m.changes d)
+
+-- the patches one after another, from the empty dataset
+abbrev pub replay : List Meaning → Dataset
+replay ms = replay_from ms empty
+
+abbrev pub link_of : Meaning → Link
+link_of m = record { id = m.id; prev = m.prev }
+
+-- what a chain sees of patches
+abbrev pub links_of : List Meaning → List Link
+links_of ms = map link_of ms

@@ -1,0 +1,207 @@
+-- What is decided of a text of which only the end is kept.
+use Rattle.std.proofs.Common.{◌≡◌, ℕ, ◌+◌, ◌-◌, ◌^◌, ◌<◌, ◌≤◌, min, true, false, List, [], ◌∷◌, ◌++◌, length, drop, Option, Some, None, Result, Ok, Err, refl, sym, ap, subst, ◌∙◌, ⊎_elim, append_assoc, append-nil, arith}
+use Rattle.std.proofs.lemmas.Bool.{false≢true}
+use Rattle.std.proofs.lemmas.List.{length-append, length-drop, drop-append-le, drop-drop}
+use Rattle.rows_text.specs.declared.fault.RowFault.{RowFault as RowAnswer}
+use Rattle.rows_text.specs.declared.fault.RowFault.TheVariants as faults
+use Rattle.rows_text.specs.declared.fault.RowKind.{RowKind}
+use Rattle.rows_text.specs.declared.row.Row.{Row}
+use Rattle.rows_text.specs.Fault.{Fault, FailsBy}
+use Rattle.rows_text.specs.Faults.{FirstFault}
+use Rattle.rows_text.specs.Grammar.{Space, ShortRowAt, IsRowAt}
+use Rattle.rows_text.specs.Reading.{skip_space}
+use Rattle.rows_text.proofs.SpaceLaws.{skips}
+use Rattle.patch_reader.specs.declared.placed.PlacedRow.{PlacedRow}
+use Rattle.patch_reader.specs.declared.placed.TextEnd.{TextEnd}
+use Rattle.patch_reader.specs.declared.placed.TextEnd.TheVariants as ends
+use Rattle.patch_reader.specs.Cut.{is_cut}
+use Rattle.patch_reader.specs.Decided.{ShortRowDecided, FirstFaultDecided, MoreDecides, Decides, Reads, GivesRow}
+use Rattle.patch_reader.specs.Live.{live_row}
+use Rattle.patch_reader.specs.Places.{further_place, moved_fault, placed_row}
+use Rattle.patch_reader.specs.Rows.{Gap, RowsUpTo, NoRowAt, FaultBehind, RowsDecided, NextFault, NothingDecided, RowsStand, Stops, GivesNext, Keeps}
+use Rattle.patch_reader.proofs.Limits.{any_length}
+use Rattle.patch_reader.proofs.RowEnds.{space_is, space_there, cut_row, cut_short}
+use Rattle.patch_reader.proofs.RowStays.{AtEnd}
+use Rattle.patch_reader.proofs.Settled.{only_row, only_fault}
+
+-- ---- what is cut begins nothing that is decided
+
+row_not_cut : (from : List ℕ) (r : Row) (after : List ℕ) → ShortRowDecided from r after → is_cut from ≡ true → ⊥
+row_not_cut from r after d cut = subst AtEnd (only_row from r after (λ more. (d more).0)) (cut_row from cut)
+
+fault_not_cut : (from : List ℕ) (f : Fault) → FirstFaultDecided from f → is_cut from ≡ true → ⊥
+fault_not_cut from f d cut =
+    let o = only_fault from f (any_length from f (cut_short from cut) d) in false≢true (sym o.1 ∙ subst AtEnd o.0 (cut_row from cut))
+
+-- ---- places
+
+module _ (text kept : List ℕ) (base : ℕ) (k : Keeps text base kept) where
+  size : length kept ≡ length text - base
+  size = sym (ap length k.0) ∙ length-drop base text
+
+  far : (at : ℕ) → at ≤ length kept → further_place base at ≡ base + at
+  far at le =
+      let s = size in let within = k.1 in let fits = k.2 in
+      let low : base + at ≤ 2 ^ 64 - 1 = omega (arith, s, within, fits, le) in grind (arith, low)
+
+  here : (at : ℕ) → drop (base + at) text ≡ drop at kept
+  here at = sym (drop-drop at base text) ∙ ap (drop at) k.0
+
+  behind : (at : ℕ) (more : List ℕ) → at ≤ length kept → drop (base + at) (text ++ more) ≡ drop at kept ++ more
+  behind at more le =
+      sym (drop-drop at base (text ++ more)) ∙ ap (drop at) (drop-append-le base text more k.1 ∙ ap (λ (t : List ℕ). t ++ more) k.0) ∙ drop-append-le at kept more le
+
+  inside : (at : ℕ) (more : List ℕ) → at ≤ length kept → base + at ≤ length (text ++ more)
+  inside at more le = let s = size in let within = k.1 in omega (arith, s, within, le, length-append text more)
+
+  before : (at : ℕ) (more : List ℕ) → at < length kept → base + at < length (text ++ more)
+  before at more lt = let s = size in let within = k.1 in omega (arith, s, within, lt, length-append text more)
+
+  gap_open : (at start : ℕ) → at ≤ start → start ≤ length kept → ((more : List ℕ) → Space (drop at kept ++ more) (drop start kept ++ more)) → (more : List ℕ) → Gap (text ++ more) (base + at) (base + start)
+  gap_open at start low high space = λ more. (
+    subst (λ (t : List ℕ). Space t (drop (base + start) (text ++ more))) (sym (behind at more (omega (arith, low, high))))
+        (subst (λ (t : List ℕ). Space (drop at kept ++ more) t) (sym (behind start more high)) (space more)),
+    omega (arith, low),
+    inside start more high,
+  )
+
+  row_open : (start end : ℕ) (r : Row) → start < end → end ≤ length kept → ShortRowDecided (drop start kept) r (drop end kept) → (more : List ℕ) → IsRowAt (text ++ more) (base + start) r (base + end)
+  unfolding IsRowAt
+  row_open start end r lt high d = λ more. (
+    subst (λ (t : List ℕ). ShortRowAt t r (drop (base + end) (text ++ more))) (sym (behind start more (omega (arith, lt, high))))
+        (subst (λ (t : List ℕ). ShortRowAt (drop start kept ++ more) r t) (sym (behind end more high)) (d more)),
+    omega (arith, lt),
+    inside end more high,
+  )
+
+  fault_open : (start place : ℕ) (kind : RowKind) → start < length kept → place ≤ length kept → FirstFaultDecided (drop start kept) (kind, drop place kept) → (more : List ℕ)
+      → NoRowAt (text ++ more) (base + start) kind (base + place)
+  fault_open start place kind lt high d = λ more. (
+    before start more lt,
+    subst (λ (t : List ℕ). FirstFault t (kind, drop (base + place) (text ++ more))) (sym (behind start more (omega (arith, lt))))
+        (subst (λ (t : List ℕ). FirstFault (drop start kept ++ more) (kind, t)) (sym (behind place more high)) (d more)),
+    inside place more high,
+  )
+
+  placed_is : (r : Row) (start end : ℕ) → start ≤ length kept → end ≤ length kept → placed_row base r start end ≡ record { row = r; at = base + start; end = base + end }
+  placed_is r start end low high =
+      let make = λ (a b : ℕ). let p : PlacedRow = record { row = r; at = a; end = b } in p in
+      ap (λ (a : ℕ). make a (further_place base end)) (far start low) ∙ ap (make (base + start)) (far end high)
+
+  -- ---- where the text may go on
+
+  module _ (at start : ℕ) (low : at ≤ start) (high : start ≤ length kept) (space : Space (drop at kept) (drop start kept)) where
+    skipped : skip_space (drop at kept) ≡ drop start kept
+    skipped = skips (drop at kept) (drop start kept) space
+
+    stays : (is_cut (drop start kept) ≡ true → ⊥) → (more : List ℕ) → Space (drop at kept ++ more) (drop start kept ++ more)
+    stays some = subst (λ (t : List ℕ). (more : List ℕ) → Space (drop at kept ++ more) (t ++ more)) skipped
+        (space_there (drop at kept) (λ cut. some (ap is_cut (sym skipped) ∙ cut)))
+
+    row_next : (end : ℕ) (r : Row) → start < end → end ≤ length kept → ShortRowDecided (drop start kept) r (drop end kept) → RowsDecided text (base + at) (placed_row base r start end ∷ []) (base + end)
+    row_next end r lt le d = subst (λ (p : PlacedRow). RowsDecided text (base + at) (p ∷ []) (base + end)) (sym (placed_is r start end high le))
+        (λ more. (gap_open at start low high (stays (row_not_cut (drop start kept) r (drop end kept) d)) more, row_open start end r lt le d more, refl))
+
+    fault_next : (place : ℕ) (kind : RowKind) → start < length kept → place ≤ length kept → FirstFaultDecided (drop start kept) (kind, drop place kept) → NextFault text (base + at) kind (further_place base place)
+    fault_next place kind lt le d = subst (λ (n : ℕ). NextFault text (base + at) kind n) (sym (far place le))
+        (base + start, λ more. (gap_open at start low high (stays (fault_not_cut (drop start kept) (kind, drop place kept) d)) more, fault_open start place kind lt le d more))
+
+    -- what is decided of the whole text is decided of what is kept
+    begins_here : (to : ℕ) → ((more : List ℕ) → Gap (text ++ more) (base + at) to) → (drop to text ≡ drop start kept) × (to ≤ length text)
+    begins_here to gap =
+        let g = gap [] in
+        let within : to ≤ length text = omega (arith, g.2, length-append text []) in
+        let is = skips (drop at kept ++ []) (drop to text ++ []) (
+        subst (λ (t : List ℕ). Space t (drop to text ++ [])) (behind at [] (omega (arith, low, high)))
+        (subst (λ (t : List ℕ). Space (drop (base + at) (text ++ [])) t) (drop-append-le to text [] within) g.0)) in
+        (sym (append-nil (drop to text)) ∙ sym is ∙ ap skip_space (append-nil (drop at kept)) ∙ skipped, within)
+
+    row_was : (r : PlacedRow) → MoreDecides (drop start kept) → RowsDecided text (base + at) (r ∷ []) r.end → ⊥
+    unfolding IsRowAt
+    row_was r none d =
+        let b = begins_here r.at (λ more. (d more).0) in
+        let ends_within : r.end ≤ length text = omega (arith, (d []).1.2, length-append text []) in
+        none.0 r.row (drop r.end text) (λ more.
+        subst (λ (t : List ℕ). ShortRowAt (t ++ more) r.row (drop r.end text ++ more)) b.0
+        (subst (λ (t : List ℕ). ShortRowAt t r.row (drop r.end text ++ more)) (drop-append-le r.at text more b.1)
+        (subst (λ (t : List ℕ). ShortRowAt (drop r.at (text ++ more)) r.row t) (drop-append-le r.end text more ends_within) (d more).1.0)))
+
+    fault_was : (kind : RowKind) (place : ℕ) → MoreDecides (drop start kept) → NextFault text (base + at) kind place → ⊥
+    fault_was kind place none (to, d) =
+        let b = begins_here to (λ more. (d more).0) in
+        let within : place ≤ length text = omega (arith, (d []).1.2, length-append text []) in
+        none.1 (kind, drop place text) (λ more.
+        subst (λ (t : List ℕ). FirstFault (t ++ more) (kind, drop place text ++ more)) b.0
+        (subst (λ (t : List ℕ). FirstFault t (kind, drop place text ++ more)) (drop-append-le to text more b.1)
+        (subst (λ (t : List ℕ). FirstFault (drop to (text ++ more)) (kind, t)) (drop-append-le place text more within) (d more).1.1)))
+
+    none_next : MoreDecides (drop start kept) → NothingDecided text (base + at)
+    none_next none = ((λ r d. row_was r none d), (λ kind place d. fault_was kind place none d))
+
+    -- ---- where it is whole
+
+    gap_known : Gap text (base + at) (base + start)
+    gap_known = let s = size in let within = k.1 in (
+      subst (λ (t : List ℕ). Space t (drop (base + start) text)) (sym (here at)) (subst (λ (t : List ℕ). Space (drop at kept) t) (sym (here start)) space),
+      omega (arith, low),
+      omega (arith, s, within, high),
+    )
+
+    row_known : (end : ℕ) (r : Row) → IsRowAt kept start r end → RowsUpTo text (base + at) (placed_row base r start end ∷ []) (base + end)
+    unfolding IsRowAt
+    row_known end r is =
+        let s = size in let within = k.1 in let lt = is.1 in let le = is.2 in
+        subst (λ (p : PlacedRow). RowsUpTo text (base + at) (p ∷ []) (base + end)) (sym (placed_is r start end high le)) (
+          gap_known,
+          (
+            subst (λ (t : List ℕ). ShortRowAt t r (drop (base + end) text)) (sym (here start)) (subst (λ (t : List ℕ). ShortRowAt (drop start kept) r t) (sym (here end)) is.0),
+            omega (arith, lt),
+            omega (arith, s, within, le),
+          ),
+          refl,
+        )
+
+    fault_known : (place : ℕ) (kind : RowKind) → start < length kept → place ≤ length kept → FirstFault (drop start kept) (kind, drop place kept) → FaultBehind text (base + at) kind (further_place base place)
+    fault_known place kind lt le bad =
+        let s = size in let within = k.1 in
+        subst (λ (n : ℕ). FaultBehind text (base + at) kind n) (sym (far place le)) (
+          base + start,
+          gap_known,
+          (
+            omega (arith, s, within, lt),
+            subst (λ (t : List ℕ). FirstFault t (kind, drop (base + place) text)) (sym (here start)) (subst (λ (t : List ℕ). FirstFault (drop start kept) (kind, t)) (sym (here place)) bad),
+            omega (arith, s, within, le),
+          ),
+        )
+
+    none_known : start ≡ length kept → Gap text (base + at) (length text)
+    none_known all = let s = size in let within = k.1 in
+        let last : base + start ≡ length text = omega (arith, s, within, all) in
+        subst (λ (n : ℕ). Gap text (base + at) n) last gap_known
+
+-- ---- what is answered of the next row
+
+abbrev pub moved : ℕ → ℕ → Result (Option (Row × ℕ)) RowAnswer → Result (Option (PlacedRow × ℕ)) RowAnswer
+moved base start (Ok (Some x)) = Ok (Some (placed_row base x.0 start x.1, x.1))
+moved base start (Ok None) = Ok None
+moved base start (Err fault) = Err (moved_fault base fault)
+
+pub next_given : (end : TextEnd) (text kept : List ℕ) (base at start : ℕ) (answer : Result (Option (Row × ℕ)) RowAnswer) → at ≤ start → start ≤ length kept → Space (drop at kept) (drop start kept)
+    → GivesRow end kept start answer → Keeps text base kept → GivesNext end text base at (moved base start answer)
+next_given ends.Open text kept base at start (Ok (Some x)) low high space d k = row_next text kept base k at start low high space x.1 x.0 d.1 d.2 d.0
+next_given ends.Open text kept base at start (Ok None) low high space d k = none_next text kept base k at start low high space d
+next_given ends.Open text kept base at start (Err (faults.At place kind)) low high space d k = fault_next text kept base k at start low high space place kind d.1 d.2 d.0
+next_given ends.Open text kept base at start (Err faults.OutOfMemory) low high space d k = tt
+next_given ends.Known text kept base at start (Ok (Some x)) low high space d k = row_known text kept base k at start low high space x.1 x.0 d
+next_given ends.Known text kept base at start (Ok None) low high space d k = none_known text kept base k at start low high space d
+next_given ends.Known text kept base at start (Err (faults.At place kind)) low high space d k = fault_known text kept base k at start low high space place kind d.1 d.2 d.0
+next_given ends.Known text kept base at start (Err faults.OutOfMemory) low high space d k = tt
+
+pub row_further : (end : TextEnd) (kept : List ℕ) (start : ℕ) (x : Row × ℕ) → GivesRow end kept start (Ok (Some x)) → (start < x.1) × (x.1 ≤ length kept)
+unfolding IsRowAt
+row_further ends.Open kept start x d = (d.1, d.2)
+row_further ends.Known kept start x d = (d.1, d.2)
+
+pub whole_fault : (text : List ℕ) (at : ℕ) (fault : RowAnswer) → at ≤ length text → (at ≡ length text → ⊥) → FailsBy (FirstFault (drop at text)) text fault → Reads text at (Err fault)
+whole_fault text at (faults.At place kind) le ne bad = (bad.0, omega (arith, le, ne), bad.1)
+whole_fault text at faults.OutOfMemory le ne bad = tt

@@ -1,0 +1,36 @@
+-- What isn't cut ends white space and comments; what is cut begins no row that is decided.
+use Rattle.std.proofs.Common.{◌≡◌, ℕ, ◌≤◌, true, false, List, [], ◌∷◌, ◌++◌, length, Ok, Err, refl, sym, ap, subst, ◌∙◌, ⊎_elim, append-nil, arith}
+use Rattle.std.proofs.lemmas.Bool.{false≢true}
+use Rattle.std.specs.Char.{is_ascii_alphabetic}
+use Rattle.nquads_text.specs.declared.fault.TextKind.TheVariants.{BadToken}
+use Rattle.rows_text.specs.declared.fault.RowKind.TheVariants.{Common}
+use Rattle.rows_text.specs.declared.row.Row.{Row}
+use Rattle.rows_text.specs.Fault.{Fault}
+use Rattle.rows_text.specs.Grammar.{Space, row_limit}
+use Rattle.rows_text.specs.Reading.{skip_space, word_at}
+use Rattle.rows_text.proofs.SpaceLaws.{skipped, skips}
+use Rattle.patch_reader.specs.Cut.{is_cut}
+use Rattle.patch_reader.specs.Live.{live_row}
+use Rattle.patch_reader.proofs.Completions.{front_length}
+use Rattle.patch_reader.proofs.RowStays.{AtEnd, end_then, cut_stands, no_letter, cut_other, space_stays}
+
+pub space_is : (text from : List ℕ) → Space (text ++ []) (from ++ []) → skip_space text ≡ from
+space_is text from s = ap skip_space (sym (append-nil text)) ∙ skips (text ++ []) (from ++ []) s ∙ append-nil from
+
+pub space_there : (text : List ℕ) → (is_cut (skip_space text) ≡ true → ⊥) → (more : List ℕ) → Space (text ++ more) (skip_space text ++ more)
+space_there text some = λ more. ⊎_elim
+    (λ cut. absurd (some cut))
+    (λ same. subst (λ (t : List ℕ). Space (text ++ more) t) same (skipped (text ++ more)))
+    (space_stays more false 0 text)
+
+cut_word : (from : List ℕ) → is_cut from ≡ true → AtEnd (word_at from)
+unfolding word_at
+cut_word from e = rw (cut_stands is_ascii_alphabetic from no_letter e) (cut_other (Common BadToken) from e)
+
+pub cut_row : (from : List ℕ) → is_cut from ≡ true → AtEnd (live_row from)
+unfolding live_row
+cut_row from e = end_then (word_at from) _ (cut_word from e)
+
+pub cut_short : (from : List ℕ) → is_cut from ≡ true → length from ≤ row_limit
+cut_short [] e = omega arith
+cut_short (b ∷ from) e = let short = front_length (b ∷ from) e in omega (arith, short)

@@ -1,0 +1,136 @@
+//! The next rows of a text whose front isn't kept.
+
+ghost use Rattle.std.specs.Prelude.{◌≡◌, ℕ, ◌+◌, ◌<◌, ◌≤◌, List, length, drop, IfOk, IfSome};
+ghost use Rattle.nquads_text.specs.Grammar.{StartsWith};
+ghost use Rattle.rows_text.specs.Grammar.{begins_space};
+ghost use Rattle.patch_reader.specs.Decided.{Reads, GivesRow};
+ghost use Rattle.patch_reader.specs.Places.{moved_fault, placed_row};
+ghost use Rattle.patch_reader.specs.Rows.{GivesNext, TakesNext, Adds, Stops, Keeps};
+
+use crate::placed::{PlacedRow, TextEnd};
+use crate::reading::{decided_row, read_row};
+use rows_text::{Row, RowFault, skip_space};
+use std::alloc::Global;
+use std::collections::VecDeque;
+
+/// The row with its places in the whole text, of which `base` bytes stand before what is kept.
+fn placed(row: Row, base: u64, at: usize, end: usize) -> PlacedRow
+    ensures { result ≡ placed_row base row at end }
+{
+    PlacedRow {
+        row,
+        at: base.saturating_add(at as u64),
+        end: base.saturating_add(end as u64),
+    }
+}
+
+/// The same of a fault.
+fn moved(fault: RowFault, base: u64) -> RowFault
+    ensures { result ≡ moved_fault base fault }
+{
+    match fault {
+        RowFault::At { at, kind } => RowFault::At {
+            at: base.saturating_add(at),
+            kind,
+        },
+        RowFault::OutOfMemory => RowFault::OutOfMemory,
+    }
+}
+
+/// The row at a place of a whole text, and none at its end.
+fn whole_row(alloc: Global, text: &[u8], at: usize) -> Result<Option<(Row, usize)>, RowFault>
+    requires within { at ≤ length text.now }
+    requires begins { StartsWith begins_space (drop at text.now) → ⊥ }
+    ensures { Reads text.now at result }
+{
+    if at == text.len() {
+        return Ok(None);
+    }
+    match read_row(alloc, text, at) {
+        Ok((row, end)) => Ok(Some((row, end))),
+        Err(fault) => Err(fault),
+    }
+}
+
+/// The row at a place, as far as it is known.
+fn row_there(
+    alloc: Global,
+    text: &[u8],
+    at: usize,
+    end: TextEnd,
+) -> Result<Option<(Row, usize)>, RowFault>
+    requires within { at ≤ length text.now }
+    requires begins { StartsWith begins_space (drop at text.now) → ⊥ }
+    ensures { GivesRow end text.now at result }
+{
+    match end {
+        TextEnd::Open => decided_row(alloc, text, at),
+        TextEnd::Known => whole_row(alloc, text, at),
+    }
+}
+
+/// The next row behind a place of what is kept, and the place behind it; none where more text decides, or at the text's end.
+fn next_row(
+    alloc: Global,
+    kept: &[u8],
+    at: usize,
+    base: u64,
+    end: TextEnd,
+) -> Result<Option<(PlacedRow, usize)>, RowFault>
+    requires { at ≤ length kept.now }
+    ensures gives { (text : List ℕ) → Keeps text base kept.now → GivesNext end text base at result }
+    ensures further { IfOk result (λ found. IfSome found (λ x. (at < x.1) × (x.1 ≤ length kept.now))) }
+{
+    let start = skip_space(kept, at);
+    match row_there(alloc, kept, start, end) {
+        Ok(Some((row, behind))) => Ok(Some((placed(row, base, start, behind), behind))),
+        Ok(None) => Ok(None),
+        Err(fault) => Err(moved(fault, base)),
+    }
+}
+
+/// Puts the next row behind those that are ready, and answers the place behind it.
+fn take_next(
+    alloc: Global,
+    kept: &[u8],
+    at: usize,
+    base: u64,
+    end: TextEnd,
+    ready: &mut VecDeque<PlacedRow>,
+) -> Result<Option<usize>, RowFault>
+    requires { at ≤ length kept.now }
+    ensures takes { (text : List ℕ) → Keeps text base kept.now → TakesNext end text base at ready.old.items ready.new.items result }
+    ensures further { IfOk result (λ found. IfSome found (λ behind. (at < behind) × (behind ≤ length kept.now))) }
+{
+    ready.reserve(1)?;
+    match next_row(alloc, kept, at, base, end) {
+        Ok(Some((row, behind))) => {
+            ready.push_back_reserved(row);
+            Ok(Some(behind))
+        }
+        Ok(None) => Ok(None),
+        Err(fault) => Err(fault),
+    }
+}
+
+/// Puts the rows of what is kept behind those that are ready, as far as they are known. It answers the place behind them, and the fault there.
+pub fn take_rows(
+    alloc: Global,
+    kept: &[u8],
+    base: u64,
+    end: TextEnd,
+    ready: &mut VecDeque<PlacedRow>,
+) -> (usize, Option<RowFault>)
+    ensures within { result.0 ≤ length kept.now }
+    ensures adds { (text : List ℕ) → Keeps text base kept.now → Adds end text base ready.old.items ready.new.items (base + result.0) }
+    ensures stops { (text : List ℕ) → Keeps text base kept.now → Stops end text (base + result.0) result.1 }
+{
+    let mut at = 0;
+    'rows: loop {
+        match take_next(alloc, kept, at, base, end, ready) {
+            Ok(Some(behind)) => at = behind,
+            Ok(None) => return (at, None),
+            Err(fault) => return (at, Some(fault)),
+        }
+    }
+}

@@ -1,0 +1,18 @@
+//! Rows and where they stand in what was fed.
+
+use rows_text::Row;
+
+/// A row of a text, its first byte, and the place behind its dot, both counted from the text's front.
+#[derive(Drop)]
+pub struct PlacedRow {
+    pub row: Row,
+    pub at: u64,
+    pub end: u64,
+}
+
+/// Whether the end of a text is known, or more may follow.
+#[derive(Clone, Copy)]
+pub enum TextEnd {
+    Open,
+    Known,
+}

@@ -1,0 +1,84 @@
+-- A replay while patches are taken.
+use Rattle.std.proofs.Common.{◌≡◌, ℕ, ◌+◌, ◌<◌, ◌^◌, ◌-◌, min, true, false, List, [], ◌∷◌, ◌++◌, length, map, Option, Some, None, refl, sym, ap, subst, ◌∙◌, append_assoc, append-nil, length-append, arith}
+use Rattle.std.specs.Prelude.{is_some}
+use Rattle.std.specs.Global.{Vec}
+use Rattle.std.proofs.lemmas.List.{map-append, length-map}
+use Rattle.delta_base.specs.declared.id.Id.{Id}
+use Rattle.chain_core.specs.declared.link.Link.{Link}
+use Rattle.chain_core.specs.declared.testing.ChainFault.{ChainFault}
+use Rattle.chain_core.specs.declared.testing.ChainTest.{ChainTest}
+use Rattle.chain_core.specs.Links.{IsChain}
+use Rattle.chain_core.specs.Breaks.{Breaks, last_or}
+use Rattle.chain_core.specs.Tested.{IsTested}
+use Rattle.rdf_terms.specs.Dataset.{Dataset, apply, empty}
+use Rattle.patch_meaning.specs.Patch.{Meaning}
+use Rattle.patch_meaning.specs.Replay.{link_of, links_of, replay, replay_from}
+use Rattle.stream_replay.specs.declared.replay.Replay.{Replay}
+use Rattle.stream_replay.specs.Lines.{AreLinesOf}
+use Rattle.stream_replay.specs.Replaying.{IsWhole, HasTaken, IsReplay}
+
+links-append : (ms ns : List Meaning) → links_of (ms ++ ns) ≡ links_of ms ++ links_of ns
+links-append ms ns = map-append link_of ms ns
+
+-- one patch more
+replay-push : (ms : List Meaning) (m : Meaning) (d : Dataset) → replay_from (ms ++ m ∷ []) d ≡ apply m.changes (replay_from ms d)
+replay-push [] m d = refl
+replay-push (n ∷ ms) m d = replay-push ms m (apply n.changes d)
+
+last-push : (head : Option Id) (ls : List Link) (l : Link) → last_or head (ls ++ l ∷ []) ≡ Some l.id
+last-push head [] l = refl
+last-push head (k ∷ ls) l = last-push (Some k.id) ls l
+
+-- ---- faults
+
+-- behind a fault patches change nothing
+broken_more : (ms : List Meaning) (m : Meaning) (fault : Option ChainFault) (r : Replay) → is_some fault ≡ true → HasTaken ms fault r → HasTaken (ms ++ m ∷ []) fault r
+broken_more ms m None r some has = absurd cc
+broken_more ms m (Some fault) r some has = λ more. subst (λ (l : List Meaning). Breaks (links_of l) fault) (sym (append_assoc ms (m ∷ []) more)) (has (m ∷ more))
+
+pub still_broken : (ms : List Meaning) (m : Meaning) (r : Replay) → is_some r.fault ≡ true → IsReplay ms r → IsReplay (ms ++ m ∷ []) r
+still_broken ms m r some has = broken_more ms m r.fault r some has
+
+-- the first fault
+pub breaks : (ms more : List Meaning) (m : Meaning) (chain : ChainTest) (fault : ChainFault) → ((links behind : List Link) → IsTested links chain → Breaks (links ++ link_of m ∷ behind) fault)
+    → IsTested (links_of ms) chain → Breaks (links_of ((ms ++ m ∷ []) ++ more)) fault
+breaks ms more m chain fault all tested =
+    subst (λ (ls : List Link). Breaks ls fault) (sym (ap links_of (append_assoc ms (m ∷ []) more) ∙ links-append ms (m ∷ more))) (all (links_of ms) (links_of more) tested)
+
+pub broken : (ms : List Meaning) (fault : ChainFault) → ((more : List Meaning) → Breaks (links_of (ms ++ more)) fault) → Breaks (links_of ms) fault
+broken ms fault all = subst (λ (l : List Meaning). Breaks (links_of l) fault) (append-nil ms) (all [])
+
+-- ---- a chain
+
+whole : (ms : List Meaning) (fault : Option ChainFault) (r : Replay) → is_some fault ≡ false → HasTaken ms fault r → IsWhole ms r
+whole ms None r none has = has
+whole ms (Some fault) r none has = absurd cc
+
+pub is_whole : (ms : List Meaning) (r : Replay) → is_some r.fault ≡ false → IsReplay ms r → IsWhole ms r
+is_whole ms r none has = whole ms r.fault r none has
+
+make : (ms : List Meaning) (fault : Option ChainFault) (r : Replay) → is_some fault ≡ false → IsWhole ms r → HasTaken ms fault r
+make ms None r none is = is
+make ms (Some fault) r none is = absurd cc
+
+pub make_whole : (ms : List Meaning) (r : Replay) → is_some r.fault ≡ false → IsWhole ms r → IsReplay ms r
+make_whole ms r none is = make ms r.fault r none is
+
+-- so few can be counted
+pub no_end : (n : ℕ) → n < 2 ^ 32 → min (n + 1) (2 ^ 64 - 1) ≡ n + 1
+no_end n few = omega arith
+
+-- a patch that goes on
+pub goes_on : (ms : List Meaning) (m : Meaning) (old new : Replay) → IsWhole ms old → old.chain.version < 2 ^ 32 - 1
+    → ((links : List Link) → IsTested links old.chain → IsChain (links ++ link_of m ∷ []))
+    → ((links : List Link) → IsTested links old.chain → IsChain (links ++ link_of m ∷ []) → IsTested (links ++ link_of m ∷ []) new.chain)
+    → ((d : Dataset) → AreLinesOf old.lines.keys d → AreLinesOf new.lines.keys (apply m.changes d))
+    → (old.patches < 2 ^ 32 → new.patches ≡ old.patches + 1) → new.head ≡ Some m.id → IsWhole (ms ++ m ∷ []) new
+goes_on ms m old new is room follows pushed step count head =
+    let few : old.patches < 2 ^ 32 = let v = is.tested.version_is in let n = is.patches_is in let l = length-map ms link_of in omega arith in
+    record {
+      tested = subst (λ (ls : List Link). IsTested ls new.chain) (sym (links-append ms (m ∷ []))) (pushed (links_of ms) is.tested (follows (links_of ms) is.tested));
+      lines_are = subst (AreLinesOf new.lines.keys) (sym (replay-push ms m empty)) (step (replay ms) is.lines_are);
+      patches_is = count few ∙ ap (λ (n : ℕ). n + 1) is.patches_is ∙ sym (length-append ms (m ∷ []));
+      head_is = head ∙ sym (ap (last_or None) (links-append ms (m ∷ [])) ∙ last-push None (links_of ms) (link_of m));
+    }

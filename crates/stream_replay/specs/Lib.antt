@@ -1,0 +1,6 @@
+pub mod Channel
+pub mod Lines
+pub mod Replaying
+pub mod Places
+pub mod Ending
+pub mod Windows

@@ -1,0 +1,48 @@
+-- Patches that are applied one after another.
+use Rattle.std.specs.Prelude.{◌≡◌, ℕ, List, [], ◌++◌, length, Option, None, Some}
+use Rattle.chain_core.specs.declared.testing.ChainFault.{ChainFault}
+use Rattle.chain_core.specs.Breaks.{Breaks, last_or}
+use Rattle.chain_core.specs.Links.{IsChain}
+use Rattle.chain_core.specs.Tested.{IsTested}
+use Rattle.rdf_terms.specs.Line.{lines}
+use Rattle.patch_meaning.specs.Patch.{Meaning}
+use Rattle.patch_meaning.specs.Replay.{links_of, replay}
+use Rattle.stream_replay.specs.declared.fault.ReplayFault.{ReplayFault}
+use Rattle.stream_replay.specs.declared.fault.ReplayFault.TheVariants as ends
+use Rattle.stream_replay.specs.declared.replay.Replay.{Replay}
+use Rattle.stream_replay.specs.declared.replay.Replayed.{Replayed}
+use Rattle.stream_replay.specs.Lines.{AreLinesOf, joined}
+
+-- a chain so far, and the lines of its dataset
+pub record IsWhole (ms : List Meaning) (r : Replay) : Type 0 where
+  pub tested : IsTested (links_of ms) r.chain
+  pub lines_are : AreLinesOf r.lines.keys (replay ms)
+  pub patches_is : r.patches ≡ length ms
+  pub head_is : r.head ≡ last_or None (links_of ms)
+
+-- a chain so far, or the first fault of the chain
+abbrev pub HasTaken : List Meaning → Option ChainFault → Replay → Type 0
+HasTaken ms None r = IsWhole ms r
+HasTaken ms (Some fault) r = (more : List Meaning) → Breaks (links_of (ms ++ more)) fault
+
+-- the replay of these patches
+abbrev pub IsReplay : List Meaning → Replay → Type 0
+IsReplay ms r = HasTaken ms r.fault r
+
+-- The patches are a chain. These are the lines of their replay's quads in the order of their bytes, how many patches and quads
+-- there are, and the id of the last patch.
+pub record AreReplayed (ms : List Meaning) (r : Replayed) : Type 0 where
+  pub chain : IsChain (links_of ms)
+  pub lines_are : AreLinesOf r.lines.keys (replay ms)
+  pub bytes_are : joined r.lines.keys ≡ lines (replay ms).quads
+  pub patches_is : r.patches ≡ length ms
+  pub quads_is : r.quads ≡ length (replay ms).quads
+  pub head_is : r.head ≡ last_or None (links_of ms)
+
+-- the patches are no chain; want of memory is free
+abbrev pub EndsChain : List Meaning → ReplayFault → Type 0
+EndsChain ms (ends.Chain fault) = Breaks (links_of ms) fault
+EndsChain ms ends.OutOfMemory = Unit {0}
+EndsChain ms (ends.Stream line fault) = ⊥
+EndsChain ms ends.TooLong = ⊥
+EndsChain ms ends.Failed = ⊥

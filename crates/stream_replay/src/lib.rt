@@ -1,0 +1,18 @@
+//! The replay of a stream of patches that is read once, in pieces.
+//!
+//! `replay_source` reads an input to its end and answers the dataset that its patches make, or the first fault (`specs/Source.antt`).
+//! It holds one piece and the open row, the changes of the open patch, the ids of the chain, and the lines of the dataset.
+#![tactic(auto)]
+
+mod channel;
+mod fault;
+mod lines;
+mod place;
+mod replay;
+mod window;
+
+pub use fault::ReplayFault;
+pub use lines::{Lines, PIECE, write_lines};
+pub use place::{Told, line_of, tell};
+pub use replay::{Replay, Replayed};
+pub use window::Window;

@@ -1,0 +1,155 @@
+//! A dataset as the set of its lines, in the order of their bytes.
+ghost use Rattle.std.specs.Prelude.{◌≡◌, ◌+◌, ◌<◌, ◌≤◌, ◌++◌, ℕ, List, [], length, true, false, IfOk, OnOk, vec_len, vec_capacity};
+ghost use Rattle.std.specs.Io.KnownBytes.{Appends};
+ghost use Rattle.delta_base.specs.Outside.{Rose};
+ghost use Rattle.rdf_terms.specs.Line.{line};
+ghost use Rattle.rdf_terms.specs.Dataset.{Dataset, apply, effect};
+ghost use Rattle.stream_replay.specs.Channel.{AppendsFront, AppendsFirst};
+ghost use Rattle.stream_replay.specs.Lines.{AreLinesOf, aborts, block_behind, effect_in, joined};
+
+use crate::channel::write_all;
+use delta_base::{OutOfMemory, Sink};
+use nquads_documents::print_line;
+use rdf_terms::{Change, Quad};
+use std::alloc::Global;
+use std::collections::BTreeSet;
+
+/// The lines of a dataset.
+pub type Lines = BTreeSet<Vec<u8>>;
+
+/// Where a change stands.
+#[derive(Clone, Copy)]
+pub enum Block {
+    Outside,
+    /// In a block whose changes stand.
+    Kept,
+    /// In a block that TA ends.
+    Dropped,
+}
+
+/// Makes the lines of a dataset those of the dataset after the changes of a patch.
+pub fn apply(alloc: Global, changes: &[Change], lines: &mut Lines) -> Result<(), OutOfMemory>
+    ensures { OnOk result ((d : Dataset) → AreLinesOf lines.old.keys d → AreLinesOf lines.new.keys (apply changes.now d)) }
+{
+    let mut block = Block::Outside;
+    for at in 0..changes.len() {
+        let change = &changes[at];
+        apply_in(alloc, block, change, lines)?;
+        block = block_behind(block, change, &changes[at + 1..]);
+    }
+    Ok(())
+}
+
+// Makes the lines of a dataset those of the dataset after one change, which has no effect in a block that TA ends.
+fn apply_in(
+    alloc: Global,
+    block: Block,
+    change: &Change,
+    lines: &mut Lines,
+) -> Result<(), OutOfMemory>
+    ensures { OnOk result ((d : Dataset) → AreLinesOf lines.old.keys d → AreLinesOf lines.new.keys (effect_in block change.now d)) }
+{
+    match block {
+        Block::Outside | Block::Kept => apply_one(alloc, change, lines),
+        Block::Dropped => Ok(()),
+    }
+}
+
+// Where the changes behind this one stand.
+fn block_behind(block: Block, change: &Change, rest: &[Change]) -> Block
+    ensures { result ≡ block_behind block change.now rest.now }
+{
+    match (block, change) {
+        (Block::Outside, Change::Begin) => {
+            if aborts(rest) {
+                Block::Dropped
+            } else {
+                Block::Kept
+            }
+        }
+        (_, Change::Commit | Change::Abort) => Block::Outside,
+        _ => block,
+    }
+}
+
+// Whether TA ends the block.
+fn aborts(changes: &[Change]) -> bool
+    ensures { result ≡ aborts changes.now }
+{
+    for change in changes {
+        match change {
+            Change::Commit => return false,
+            Change::Abort => return true,
+            _ => {}
+        }
+    }
+    false
+}
+
+// Makes the lines of a dataset those of the dataset after one change.
+fn apply_one(alloc: Global, change: &Change, lines: &mut Lines) -> Result<(), OutOfMemory>
+    ensures { OnOk result ((d : Dataset) → AreLinesOf lines.old.keys d → AreLinesOf lines.new.keys (effect change.now d)) }
+{
+    match change {
+        Change::Add(quad) => {
+            lines.insert(line_of(alloc, quad)?)?;
+            Ok(())
+        }
+        Change::Delete(quad) => {
+            let line = line_of(alloc, quad)?;
+            lines.remove(line.as_slice());
+            Ok(())
+        }
+        _ => Ok(()),
+    }
+}
+
+// The canonical line.
+fn line_of(alloc: Global, quad: &Quad) -> Result<Vec<u8>, OutOfMemory>
+    ensures { IfOk result (λ text. text.items ≡ line quad.now) }
+{
+    Ok(print_line(alloc, quad)?.into_vec())
+}
+
+/// How many bytes of lines are written at once.
+pub const PIECE: usize = 65_536;
+
+/// Writes the lines one after another, and says whether it could. The room takes a piece of them.
+pub fn write_lines<K: Sink>(out: &mut K, lines: &Lines, mut room: Vec<u8>) -> bool
+    requires empty { vec_len room ≡ 0 }
+    requires large { PIECE ≤ vec_capacity room }
+    ensures whole { result ≡ true → Appends (K.written out.old) (K.written out.new) (joined lines.now.keys) }
+    ensures front { AppendsFront (K.written out.old) (K.written out.new) (joined lines.now.keys) }
+    ensures failed { result ≡ false → Rose (K.faults out.old) (K.faults out.new) }
+{
+    for line in lines {
+        if !put(out, &mut room, line.as_slice()) {
+            return false;
+        }
+    }
+    write_all(out, room.as_slice())
+}
+
+// Puts a line behind those in the room. Where there is no place for it, all are written.
+fn put<K: Sink>(out: &mut K, room: &mut Vec<u8>, line: &[u8]) -> bool
+    requires fits { vec_len room.old ≤ PIECE }
+    requires large { PIECE ≤ vec_capacity room.old }
+    ensures put { result ≡ true → AppendsFirst (K.written out.old) (K.written out.new) (room.old.items ++ line.now) room.new.items }
+    ensures front { result ≡ false → AppendsFront (K.written out.old) (K.written out.new) (room.old.items ++ line.now) }
+    ensures failed { result ≡ false → Rose (K.faults out.old) (K.faults out.new) }
+    ensures never_falls { K.faults out.old ≤ K.faults out.new }
+    ensures fits { vec_len room.new ≤ PIECE }
+    ensures large { PIECE ≤ vec_capacity room.new }
+{
+    if line.len() <= PIECE - room.len() {
+        match room.extend_from_slice(line) {
+            Ok(()) => return true,
+            Err(_) => unreachable!(),
+        }
+    }
+    if !write_all(out, room.as_slice()) {
+        return false;
+    }
+    room.clear();
+    write_all(out, line)
+}

@@ -1,0 +1,83 @@
+//! What is held of a text while it is read.
+ghost use Rattle.std.specs.Prelude.{◌≡◌, ◌+◌, ◌≤◌, ◌^◌, ◌++◌, ◌==◌, ℕ, List, [], length, count_by, OnOk, vec_len};
+
+use delta_base::OutOfMemory;
+use std::alloc::Global;
+
+/// The bytes of a text from a place on.
+#[derive(Drop)]
+pub struct Window {
+    pub bytes: Vec<u8>,
+    /// How many of them were read.
+    pub from: usize,
+    /// The place of the first of them.
+    pub base: u64,
+    /// How many line feeds stand before that place.
+    feeds: u64,
+    ghost within: { from ≤ vec_len bytes },
+    ghost counted: { feeds ≤ base },
+    ghost small: { base + vec_len bytes ≤ 2 ^ 40 },
+}
+
+impl Window {
+    ghost use Rattle.stream_replay.specs.Windows.{IsWindow};
+    ghost use Rattle.stream_replay.specs.Places.{line_number};
+
+    /// The text that has no byte.
+    pub fn new(alloc: Global) -> Window
+        ensures window { IsWindow [] result }
+        ensures base { result.base ≡ 0 }
+        ensures from { result.from ≡ 0 }
+        ensures len { vec_len result.bytes ≡ 0 }
+    {
+        Window {
+            bytes: Vec::new(alloc),
+            from: 0,
+            base: 0,
+            feeds: 0,
+        }
+    }
+
+    /// The text goes on with a piece.
+    pub fn push(&mut self, piece: &[u8]) -> Result<(), OutOfMemory>
+        requires { self.old.base + vec_len self.old.bytes + length piece.now ≤ 2 ^ 40 }
+        ensures ok { OnOk result ((text : List ℕ) → IsWindow text self.old → IsWindow (text ++ piece.now) self.new) }
+        ensures len { OnOk result (vec_len self.new.bytes ≡ vec_len self.old.bytes + length piece.now) }
+        ensures base { self.new.base ≡ self.old.base }
+        ensures from { self.new.from ≡ self.old.from }
+    {
+        self.bytes.extend_from_slice(piece)?;
+        Ok(())
+    }
+
+    /// Lets go the bytes that were read.
+    pub fn settle(&mut self, alloc: Global) -> Result<(), OutOfMemory>
+        ensures ok { OnOk result ((text : List ℕ) → IsWindow text self.old → IsWindow text self.new) }
+        ensures read { self.new.base + self.new.from ≡ self.old.base + self.old.from }
+        ensures end { self.new.base + vec_len self.new.bytes ≡ self.old.base + vec_len self.old.bytes }
+    {
+        let rest = Vec::from_slice(alloc, &self.bytes[self.from..])?;
+        self.feeds += feeds_in(&self.bytes[..self.from]);
+        self.base += self.from as u64;
+        self.bytes = rest;
+        self.from = 0;
+        Ok(())
+    }
+
+    /// The line of a place, counted from 1.
+    pub fn line_at(&self, place: u64) -> u64
+        requires low { self.now.base ≤ place }
+        requires high { place ≤ self.now.base + vec_len self.now.bytes }
+        ensures { (text : List ℕ) → IsWindow text self.now → result ≡ line_number text place }
+    {
+        self.feeds + feeds_in(&self.bytes[..(place - self.base) as usize]) + 1
+    }
+}
+
+// How many of the bytes are line feeds.
+fn feeds_in(bytes: &[u8]) -> u64
+    ensures value { result ≡ count_by (λ b. b == 10) bytes.now }
+    ensures few { result ≤ length bytes.now }
+{
+    bytes.iter().filter(|b| **b == b'\n').count() as u64
+}
