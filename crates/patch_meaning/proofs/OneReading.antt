@@ -3,7 +3,7 @@ use Rattle.std.proofs.Common.{◌≡◌, ℕ, ◌≤◌, List, [], ◌∷◌, �
 use Rattle.rows_text.specs.declared.row.Row.{Row}
 use Rattle.rows_text.specs.declared.fault.RowKind.{RowKind}
 use Rattle.rows_text.specs.Grammar.{IsRowAt, ShortRowAt}
-use Rattle.rows_text.proofs.RowAnswers.{one_row, apart}
+use Rattle.patch_reader.proofs.RowAnswers.{one_row, apart}
 use Rattle.rows_text.proofs.SpaceLaws.{skips}
 use Rattle.patch_meaning.specs.Rows.{PlacedRow, Gap, RowsUpTo, RowsTo, NoRowAt}
 use Rattle.patch_meaning.proofs.Rowed.{row_within}
