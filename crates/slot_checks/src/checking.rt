@@ -65,11 +65,7 @@ fn add_logs<H: Shelf>(
 
 /// Opens the registry's file and then those of its logs, and tells what each holds, or the first fault. Each of their
 /// disks is put back.
-pub fn check_files<H: Shelf>(
-    alloc: Global,
-    shelf: &mut H,
-    dir: &Text,
-) -> Result<Report, CheckFault>
+pub fn check_files<H: Shelf>(alloc: Global, shelf: &mut H, dir: &Text) -> Result<Report, CheckFault>
     ensures ok { H.tells → IfOk result (λ report. IsReport (H.files shelf.old) dir.now report.items) }
     ensures fault { H.tells → IfErr result (StopsAt (H.files shelf.old) dir.now) }
 

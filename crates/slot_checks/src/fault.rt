@@ -7,28 +7,13 @@ use patch_log::LogFault;
 /// The first file that isn't in its form, and why.
 #[derive(Clone, Copy, Debug, PartialEq, Eq)]
 pub enum CheckFault {
-    Damaged {
-        file: u32,
-        at: u64,
-    },
-    WrongNumber {
-        file: u32,
-        found: u32,
-    },
-    OverLimit {
-        file: u32,
-        length: u64,
-        limit: u64,
-    },
+    Damaged { file: u32, at: u64 },
+    WrongNumber { file: u32, found: u32 },
+    OverLimit { file: u32, length: u64, limit: u64 },
     /// A log's first payloads, as many as the version says, are no chain of patches.
-    BrokenChain {
-        file: u32,
-        version: u64,
-    },
+    BrokenChain { file: u32, version: u64 },
     /// The payload of the registry at this place, counted from 0, isn't one that may stand there.
-    BrokenEvent {
-        place: u64,
-    },
+    BrokenEvent { place: u64 },
     Failed,
     OutOfMemory,
 }
@@ -97,4 +82,3 @@ impl<T: Drop> From<Back<T>> for CheckFault {
         CheckFault::OutOfMemory
     }
 }
-

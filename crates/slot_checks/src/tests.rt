@@ -91,12 +91,7 @@ fn the_first_fault_is_told(rt: HostRuntime) -> Result<(), Fail> {
         ),
         (0, 8, b"\0", CheckFault::BrokenEvent { place: 0 }),
         (1, 8, b"\x01", CheckFault::Damaged { file: 1, at: 9 }),
-        (
-            2,
-            7,
-            b"\x05",
-            CheckFault::WrongNumber { file: 2, found: 5 },
-        ),
+        (2, 7, b"\x05", CheckFault::WrongNumber { file: 2, found: 5 }),
         (
             2,
             8,

@@ -40,11 +40,7 @@ pub fn check_log<H: Shelf>(
 }
 
 /// The number of slots that the registry's file tells.
-pub fn check_registry<H: Shelf>(
-    alloc: Global,
-    shelf: &mut H,
-    dir: &Text,
-) -> Result<u8, CheckFault>
+pub fn check_registry<H: Shelf>(alloc: Global, shelf: &mut H, dir: &Text) -> Result<u8, CheckFault>
     ensures ok { H.tells → IfOk result (IsRegistry (bytes_at (H.files shelf.old) dir.now 0)) }
     ensures few { IfOk result (λ slots. (1 ≤ slots) × (slots ≤ 16)) }
     ensures fault { H.tells → IfErr result (HasRegistryFault (bytes_at (H.files shelf.old) dir.now 0)) }

@@ -1,10 +1,7 @@
-use Rattle.std.proofs.Common.{◌≡◌, ℕ, ◌+◌, ◌≤◌, List, sym, subst, arith}
-use Rattle.disk_model.specs.Shelf.{SameOthers}
-use Rattle.slot_files.specs.Files.{bytes_at}
+use Rattle.std.proofs.Common.{◌≡◌, ℕ, ◌+◌, ◌≤◌, List, subst, arith}
 use Rattle.slot_checks.specs.Checks.{HasLines}
-use Rattle.slot_checks.specs.Faults.{HasFileFault}
 use Rattle.slot_checks.specs.Sound.{IsLogLine}
-use Rattle.slot_checks.proofs.Steps.{one_more, stops_at, same_bytes, visit_kept}
+use Rattle.slot_checks.proofs.Steps.{one_more, same_bytes, visit_kept}
 use Rattle.slot_checks.proofs.checking.add_logs.Goals as goal
 
 pub loop-number-preserved : goal.loop-number-preserved

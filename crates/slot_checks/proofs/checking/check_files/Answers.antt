@@ -1,7 +1,6 @@
-use Rattle.std.proofs.Common.{◌≡◌, ◌∙◌, ℕ, ◌+◌, List, sym, subst, arith}
-use Rattle.slot_files.specs.Files.{bytes_at}
+use Rattle.std.proofs.Common.{◌+◌, arith}
 use Rattle.slot_checks.specs.Checks.{at_log}
-use Rattle.slot_checks.proofs.Steps.{has_same, stops_same, visit_kept, all_kept, all_twice}
+use Rattle.slot_checks.proofs.Steps.{has_same, stops_same, visit_kept, all_kept}
 use Rattle.slot_checks.proofs.checking.check_files.Goals as goal
 
 pub returns-in-Ok-add_logs-clause-ok : goal.returns-in-Ok-add_logs-clause-ok

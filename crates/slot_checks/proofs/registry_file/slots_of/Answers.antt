@@ -1,4 +1,4 @@
-use Rattle.std.proofs.Common.{◌≡◌, List, ℕ, refl, subst}
+use Rattle.std.proofs.Common.{List, ℕ, refl, subst}
 use Rattle.slot_checks.specs.Sound.{TellsSlots, one_more}
 use Rattle.slot_checks.proofs.Steps.{has_two}
 use Rattle.slot_checks.proofs.registry_file.slots_of.Goals as goal
