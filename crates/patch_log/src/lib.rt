@@ -15,7 +15,6 @@ pub use fault::{LogFault, LogRefusal};
 pub use index::Index;
 pub use indexed::IndexedChain;
 pub use laws::{logs_are_found_again, logs_have_no_fault};
-pub use opening::read_log;
 pub use ready::Ready;
 pub use state::LogState;
 
