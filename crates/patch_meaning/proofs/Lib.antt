@@ -3,3 +3,7 @@ pub mod Parts
 pub mod Read
 pub mod Rowed
 pub mod Taking
+pub mod SameRows
+pub mod WellTaken
+pub mod OnePatch
+pub mod OneStream
