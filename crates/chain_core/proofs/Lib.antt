@@ -5,3 +5,4 @@ pub mod Patches
 pub mod Decided
 pub mod Stays
 pub mod Versions
+pub mod Fronts

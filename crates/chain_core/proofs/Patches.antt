@@ -1,22 +1,16 @@
 -- Patches of a chain, where they stand, and their journal's length.
-use Rattle.std.proofs.Common.{◌≡◌, ◌⊎◌, inl, inr, ℕ, zero, suc, ◌+◌, ◌-◌, ◌*◌, ◌^◌, ◌<◌, ◌≤◌, Bool, true, false, cond, eqb, List, [], ◌∷◌, ◌++◌, map, length, Option, Some, None, refl, sym, ◌∙◌, ap, subst, arith, length-append}
+use Rattle.std.proofs.Common.{◌≡◌, ℕ, zero, suc, ◌+◌, ◌-◌, ◌*◌, ◌≤◌, List, [], ◌∷◌, ◌++◌, length, Option, Some, None, refl, sym, ◌∙◌, ap, arith}
 use Rattle.std.specs.Prelude.{slice_get, sum_by}
 use Rattle.std.specs.Option.{option_map}
 use Rattle.std.specs.List.{AllByRecursion}
-use Rattle.std.proofs.lemmas.Option.{slice_get-map, same_Some, none-some}
+use Rattle.std.proofs.lemmas.Option.{slice_get-map}
 use Rattle.std.proofs.lemmas.List.Sums.{sum_by-append, sum_by-cons}
 use Rattle.std.proofs.lemmas.List.{map-append, length-map}
-use Rattle.std.proofs.lemmas.Bool.Decides.{eqb_tells}
 use Rattle.delta_base.specs.declared.id.Id.{Id}
 use Rattle.chain_core.specs.declared.chain.Patch.{Patch}
 use Rattle.chain_core.specs.declared.chain.Entry.{Entry}
-use Rattle.chain_core.specs.declared.link.Link.{Link}
-use Rattle.chain_core.specs.Links.{IsChain}
-use Rattle.chain_core.specs.Breaks.{last_or}
-use Rattle.chain_core.specs.Tested.{version_from}
-use Rattle.chain_core.specs.Chain.{link_of, patch_of, entry_at, head_of}
-use Rattle.chain_core.specs.Patches.{patches_of, links_of, version_of, patch_at, last_id, journal_length}
-use Rattle.chain_core.proofs.Chained.{chain-push}
+use Rattle.chain_core.specs.Chain.{patch_of, entry_at, head_of}
+use Rattle.chain_core.specs.Patches.{patches_of, patch_at, last_id, journal_length}
 
 abbrev id_of : Patch → Id
 id_of patch = patch.id

@@ -1,11 +1,9 @@
 -- What a stay leaves is a log.
-use Rattle.std.proofs.Common.{◌≡◌, ◌≢◌, ◌⊎◌, inl, inr, ℕ, zero, suc, ◌+◌, ◌-◌, ◌<◌, ◌≤◌, Bool, true, false, cond, eqb, List, [], ◌∷◌, ◌++◌, map, length, Option, Some, None, refl, sym, ◌∙◌, ap, subst, arith, length-append}
+use Rattle.std.proofs.Common.{◌≡◌, ℕ, suc, ◌+◌, ◌-◌, ◌<◌, ◌≤◌, Bool, true, false, cond, List, [], ◌∷◌, ◌++◌, length, Option, Some, None, refl, sym, ◌∙◌, ap, subst, arith, length-append}
 use Rattle.std.specs.Prelude.{slice_get}
 use Rattle.std.specs.Option.{option_map}
 use Rattle.std.specs.List.{AllByRecursion}
-use Rattle.std.proofs.lemmas.Option.{none-some}
 use Rattle.std.proofs.lemmas.List.{map-append}
-use Rattle.std.proofs.lemmas.Bool.Decides.{eqb_tells}
 use Rattle.delta_base.specs.declared.id.Id.{Id}
 use Rattle.chain_core.specs.declared.chain.Patch.{Patch}
 use Rattle.chain_core.specs.declared.link.Link.{Link}
@@ -18,17 +16,18 @@ use Rattle.chain_core.specs.declared.answer.Decision.TheVariants.{Accept, Known,
 use Rattle.chain_core.specs.Links.{IsChain}
 use Rattle.chain_core.specs.Breaks.{last_or}
 use Rattle.chain_core.specs.Tested.{version_from}
-use Rattle.chain_core.specs.Patches.{links_of, version_of, last_id, journal_length}
+use Rattle.chain_core.specs.Patches.{links_of, version_of, last_id}
 use Rattle.chain_core.specs.Decision.{decision}
-use Rattle.chain_core.specs.Log.{LogPoint, up, down, with_doubt, IsLog, IsPoint, stopped, opened_again}
+use Rattle.chain_core.specs.Log.{LogPoint, up, down, IsLog, IsPoint, stopped, opened_again}
 use Rattle.chain_core.specs.Stay.{accepted_by, decided_by, stay}
 use Rattle.chain_core.proofs.Chained.{chain-push}
 use Rattle.chain_core.proofs.Decided.{accepted}
+use Rattle.chain_core.proofs.Versions.{none-cons}
 
 abbrev id_of : Patch → Id
 id_of patch = patch.id
 
-abbrev link_to : Patch → Link
+abbrev pub link_to : Patch → Link
 link_to patch = record { id = patch.id; prev = patch.prev }
 
 -- the last id of the links
@@ -43,16 +42,6 @@ pub last_of_links : (patches : List Patch) → last_or None (links_of patches) �
 last_of_links [] = refl
 last_of_links (patch ∷ patches) = last_behind None (patch ∷ patches) (omega arith)
 
-none_behind : (found : Option ℕ) → option_map (λ version. version + 1) found ≡ None → found ≡ None
-none_behind None is = refl
-none_behind (Some version) is = absurd (none-some (version + 1) (sym is))
-
-none-cons : (patch : Patch) (patches : List Patch) (id : Id) → version_of (patch ∷ patches) id ≡ None → (eqb patch.id.0 id.0 ≡ false) × (version_of patches id ≡ None)
-none-cons patch patches id none = elim (eqb_tells patch.id.0 id.0) [
-  | inl same ↦ let here : ◌≡◌ {A = Option ℕ} (Some 1) None = subst (λ test. cond test (Some 1) (option_map (λ version. version + 1) (version_of patches id)) ≡ None) same.0 none in absurd (none-some 1 (sym here))
-  | inr other ↦ (other.0, none_behind (version_of patches id) (subst (λ test. cond test (Some 1) (option_map (λ version. version + 1) (version_of patches id)) ≡ None) other.0 none))
-]
-
 -- an id that no patch has
 new_in_links : (before : ℕ) (patches : List Patch) (id : Id) → version_of patches id ≡ None → version_from before id.0 (links_of patches) ≡ None
 new_in_links before [] id new = refl
@@ -60,16 +49,21 @@ new_in_links before (patch ∷ patches) id new =
     let parts = none-cons patch patches id new in
     ap (λ (test : Bool). cond test (Some (before + 1)) (version_from (before + 1) id.0 (links_of patches))) parts.0 ∙ new_in_links (before + 1) patches id parts.1
 
-short-push : (patches : List Patch) (patch : Patch) → AllByRecursion (λ (p : Patch). length p.text ≤ 4194304) patches → length patch.text ≤ 4194304 → AllByRecursion (λ (p : Patch). length p.text ≤ 4194304) (patches ++ patch ∷ [])
+pub short-push : (patches : List Patch) (patch : Patch) → AllByRecursion (λ (p : Patch). length p.text ≤ 4194304) patches → length patch.text ≤ 4194304 → AllByRecursion (λ (p : Patch). length p.text ≤ 4194304) (patches ++ patch ∷ [])
 short-push [] patch short more = (more, tt)
 short-push (first ∷ patches) patch short more = (short.0, short-push patches patch short.1 more)
+
+-- a patch that names the last one and whose id is new goes on the chain
+pub links-push : (patches : List Patch) (patch : Patch) → IsChain (links_of patches) → patch.prev ≡ last_id patches → version_of patches patch.id ≡ None → IsChain (links_of (patches ++ patch ∷ []))
+links-push patches patch chain follows new =
+    subst IsChain (sym (map-append link_to patches (patch ∷ []))) (chain-push (links_of patches) (link_to patch) chain (follows ∙ sym (last_of_links patches)) (new_in_links 0 patches patch.id new))
 
 -- what is accepted goes on the log
 pub goes_on : (limits : LogLimits) (patches : List Patch) (patch : Patch) (version : ℕ) → IsLog limits patches → length patch.text ≤ 4194304 → decision patches patch limits ≡ Accept version → IsLog limits (patches ++ patch ∷ [])
 goes_on limits patches patch version log short is =
     let could = (accepted patches patch limits version is).0 in
     record {
-      chain = subst IsChain (sym (map-append link_to patches (patch ∷ []))) (chain-push (links_of patches) (link_to patch) log.chain (could.follows ∙ sym (last_of_links patches)) (new_in_links 0 patches patch.id could.new));
+      chain = links-push patches patch log.chain could.follows could.new;
       few = let differs = could.place in omega (arith, log.few, differs, length-append patches (patch ∷ []));
       room = could.room;
       short = short-push patches patch log.short short;

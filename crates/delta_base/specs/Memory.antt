@@ -1,4 +1,4 @@
--- How contracts see the sources and sinks in memory.
+-- How contracts see the sources, sinks and links in memory.
 use Rattle.std.specs.Prelude.{◌≡◌, ℕ, ◌+◌, ◌-◌, ◌^◌, List, min}
 
 -- what is left, how many bytes a read gives at most, which calls fail, how many were made, and how many failed
@@ -16,6 +16,15 @@ pub record SinkState : Type 0 where
   pub calls : ℕ
   pub faults : ℕ
 
+-- what is left and what was sent, how many bytes a read gives at most, which calls fail, how many were made, and how many failed
+pub record LinkState : Type 0 where
+  pub left : List ℕ
+  pub sent : List ℕ
+  pub piece : ℕ
+  pub failing : List ℕ
+  pub calls : ℕ
+  pub faults : ℕ
+
 -- one call more, up to the last value of u64
 abbrev pub CountsCall : ℕ → ℕ → Type 0
 CountsCall before after = after ≡ min (before + 1) (2 ^ 64 - 1)
@@ -27,3 +36,7 @@ CountsOn before after = CountsCall before.calls after.calls × (after.piece ≡ 
 -- the same after a write
 abbrev pub CountsOnWrites : SinkState → SinkState → Type 0
 CountsOnWrites before after = CountsCall before.calls after.calls × (after.failing ≡ before.failing)
+
+-- the same after a call of a link
+abbrev pub CountsOnLink : LinkState → LinkState → Type 0
+CountsOnLink before after = CountsCall before.calls after.calls × (after.piece ≡ before.piece) × (after.failing ≡ before.failing)

@@ -1,11 +1,12 @@
 //! Ids, texts, lists and the traits of the outside, on which every other crate stands.
 //!
-//! Nothing here knows of RDF. Sources and sinks tell their bytes to contracts where they can, and count their failed
+//! Nothing here knows of RDF. Sources, sinks and links tell their bytes to contracts where they can, and count their failed
 //! calls, so that a caller's contract can say that a fault has its cause outside.
 #![tactic(auto)]
 
 mod fault;
 mod id;
+mod link;
 mod list;
 mod memory;
 mod outside;
@@ -14,6 +15,7 @@ mod text;
 
 pub use fault::{Failed, OutOfMemory};
 pub use id::{Id, id_text, read_id};
+pub use link::{Link, MemLink, StdLink};
 pub use list::{Back, Calls, Listing};
 pub use memory::{MemSink, MemSource};
 pub use outside::{Sink, Source};

@@ -61,8 +61,8 @@ impl MemSource {
     }
 }
 
-// Moves the first bytes into the buffer, a piece at most.
-fn move_front(bytes: &[u8], piece: usize, into: &mut [u8]) -> usize
+/// Moves the first bytes into the buffer, a piece at most.
+pub fn move_front(bytes: &[u8], piece: usize, into: &mut [u8]) -> usize
     requires { 0 < piece }
     ensures within { result ≤ length bytes.now }
     ensures piece { result ≤ piece }

@@ -1,6 +1,7 @@
 //! Worked examples: ids from RFC 9562, and objects of the outside that fail in mid-stream.
 use super::*;
 use std::alloc::{AllocError, Global};
+use std::io::Cursor;
 use std::test::Fail;
 
 const OTHER_FORMS: [&str; 4] = [
@@ -84,6 +85,35 @@ fn a_reader_and_a_writer_of_std_serve(rt: HostRuntime) -> Result<(), Fail> {
         "a write that takes nothing failed"
     );
     assert_eq!(rt; sink.faults(), 1);
+    Ok(())
+}
+
+#[test]
+fn a_link_reads_and_writes_with_one_count_of_calls(rt: HostRuntime) -> Result<(), Fail> {
+    let content = Bytes::from_slice(rt.alloc(), b"abcde")?;
+    let mut link = MemLink::new(rt.alloc(), content, 3, calls(rt.alloc(), &[1, 3])?);
+    let mut into = [0; 4];
+    assert_eq!(rt; link.read(&mut into), Ok(3));
+    assert_eq!(rt; into, *b"abc\0");
+    assert_eq!(rt; link.write(b"xy"), Err(Failed));
+    assert_eq!(rt; link.write(b"xy"), Ok(2));
+    assert_eq!(rt; link.read(&mut into), Err(Failed));
+    assert_eq!(rt; link.faults(), 2);
+    assert_eq!(rt; link.read(&mut into), Ok(2));
+    assert_eq!(rt; link.write(b"z"), Ok(1));
+    assert_eq!(rt; link.read(&mut into), Ok(0));
+    assert_eq!(rt; link.sent(), b"xyz".as_slice());
+    Ok(())
+}
+
+#[test]
+fn a_stream_of_std_serves_as_a_link(rt: HostRuntime) -> Result<(), Fail> {
+    let mut link = StdLink::new(Cursor::new(Vec::from_slice(rt.alloc(), b"abc")?));
+    let mut into = [0; 2];
+    assert_eq!(rt; link.read(&mut into), Ok(2));
+    assert_eq!(rt; link.write(b"xy"), Ok(2));
+    assert_eq!(rt; link.read(&mut into), Ok(0));
+    assert_eq!(rt; link.faults(), 0);
     Ok(())
 }
 

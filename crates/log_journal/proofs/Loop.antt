@@ -1,9 +1,9 @@
 -- Reading goes on from block to block.
 use Rattle.std.proofs.Common.{◌≡◌, ℕ, ◌+◌, ◌^◌, ◌<◌, ◌≤◌, List, [], ◌∷◌, ◌++◌, length, drop, refl, sym, ◌∙◌, ap, subst, arith, length-append}
-use Rattle.log_journal.specs.File.{front, header, body, block, Holds, journal_length}
+use Rattle.log_journal.specs.File.{front, header, block, Holds, journal_length}
 use Rattle.std.specs.List.{flat_map}
 use Rattle.std.specs.Prelude.{sum_by}
-use Rattle.std.proofs.lemmas.List.Sums.{sum_by-cons}
+use Rattle.std.proofs.lemmas.List.Sums.{sum_by-cons, sum_by-append}
 use Rattle.std.proofs.lemmas.List.Elements.{All-from_recursion}
 use Rattle.log_journal.specs.Reading.{IsRead}
 use Rattle.log_journal.proofs.Steps.{front-push, length-front-push, sized-push}
@@ -39,6 +39,11 @@ length-flat_map-block (p ∷ payloads) = omega (arith, length-append (block p) (
 pub length-front : (number : ℕ) (payloads : List (List ℕ)) → length (front number payloads) + 1 ≡ journal_length payloads
 unfolding front
 length-front number payloads = omega (arith, length-append (header number) (flat_map block payloads), length-flat_map-block payloads)
+
+-- the length of a journal with one payload more
+pub length_more : (gate size : ℕ) (old new : List (List ℕ)) (payload : List ℕ) → gate + 1 ≡ journal_length old → new ≡ old ++ payload ∷ [] → size ≡ length payload → gate + (5 + size) + 1 ≡ journal_length new
+length_more gate size old new payload so_far pushed sized =
+    omega (arith, so_far, sized, ap journal_length pushed, sum_by-append (λ (payload : List ℕ). 5 + length payload) old (payload ∷ []))
 
 -- the gate of a file that holds payloads stands in it
 pub gate_within : (image : List ℕ) (number : ℕ) (payloads : List (List ℕ)) → Holds image number payloads → length (front number payloads) + 1 ≤ length image

@@ -1,8 +1,8 @@
 -- What reading a journal's file finds.
-use Rattle.std.specs.Prelude.{◌≡◌, ◌≢◌, ◌⊎◌, ℕ, ◌+◌, ◌^◌, ◌<◌, ◌≤◌, Option, Some, None, Result, Ok, Err, List, ◌∷◌, ◌++◌, [], length, take, drop, Vec}
+use Rattle.std.specs.Prelude.{◌≡◌, ◌≢◌, ◌⊎◌, ℕ, ◌+◌, ◌^◌, ◌<◌, ◌≤◌, Option, Some, None, Result, Ok, Err, List, ◌∷◌, ◌++◌, [], length, drop, Vec}
 use Rattle.std.specs.declared.alloc.Global.{Global}
 use Rattle.delta_base.specs.Listed.{Listed}
-use Rattle.log_journal.specs.File.{front, header, block, Holds, AreSized, BreaksOff, HasNoHeader, HasHeader, IsCutShort, Damage, journal_length}
+use Rattle.log_journal.specs.File.{front, header, block, Holds, AreSized, BreaksOff, HasNoHeader, HasHeader, Damage, journal_length}
 use Rattle.log_journal.specs.declared.fault.JournalFault.{JournalFault}
 use Rattle.log_journal.specs.declared.fault.JournalFault.TheVariants.{Failed, Damaged, WrongNumber, OverLimit, OutOfMemory}
 

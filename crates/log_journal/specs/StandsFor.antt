@@ -1,7 +1,7 @@
 -- What a journal stands for.
 use Rattle.std.specs.Prelude.{◌≡◌, ℕ, Bool, true, false, List}
 use Rattle.disk_model.specs.declared.disk.Disk.{Ghosts}
-use Rattle.disk_model.specs.Past.{Past, LeavesOnly}
+use Rattle.disk_model.specs.Past.{LeavesOnly}
 use Rattle.log_journal.specs.Journal.{HoldsAll, InDoubt}
 use Rattle.log_journal.specs.declared.journal.Journal.{Journal}
 

@@ -2,7 +2,7 @@
 ghost use Rattle.std.specs.Prelude.{◌≡◌, false, ◌⊎◌, ℕ, ◌+◌, ◌<◌, ◌≤◌, ◌↔◌, ◌++◌, [], ◌∷◌, List, length, IsTrue, not, OnOk, OnErr, IsErrOf, IfOk, IfErr, IsOk, is_ok, if◌then◌else◌};
 ghost use Rattle.delta_base.specs.Outside.{Rose, HasCause};
 ghost use Rattle.disk_model.specs.Past.{reads, synced, ok_syncs, synced_bytes, filled, Keeps};
-ghost use Rattle.log_journal.specs.File.{Holds, file_of};
+ghost use Rattle.log_journal.specs.File.{Holds, file_of, journal_length};
 ghost use Rattle.log_journal.specs.Journal.{HoldsWithOrWithout};
 ghost use Rattle.log_journal.specs.Reading.{Reads, HasFault};
 
@@ -64,6 +64,7 @@ fn read_journal<D: Disk>(
 ) -> Result<(u64, Payloads), JournalFault>
     ensures found { D.tells → Reads (reads (D.past disk.old)) number limit result }
     ensures few { D.tells → IfOk result (λ found. D.read_bytes disk.new ≤ D.read_bytes disk.old + found.0) }
+    ensures length { IfOk result (λ found. found.0 ≡ journal_length found.1.items) }
     ensures within { IfOk result (λ found. (9 ≤ found.0) × (found.0 ≤ limit)) }
     ensures synced { D.tells → OnOk result (D.past disk.new ≡ synced (D.past disk.old)) }
     ensures past { D.tells → (D.past disk.new ≡ D.past disk.old) ⊎ (D.past disk.new ≡ synced (D.past disk.old)) }
@@ -102,7 +103,9 @@ impl<D: Disk> Journal<D> {
 
         // It reads no more than the journal.
         ensures few { IfOk result (λ opened. D.tells → D.read_bytes (disk_of opened.0) ≤ D.read_bytes disk + (length_of opened.0)) }
+        ensures length { IfOk result (λ opened. (length_of opened.0) ≡ journal_length opened.1.items) }
         ensures limit { IfOk result (λ opened. (limit_of opened.0) ≡ limit) }
+        ensures within { IfOk result (λ opened. (length_of opened.0) ≤ limit) }
         ensures cause { IfErr result (λ refusal. refusal.fault ≡ JournalFault.Failed → Rose (D.faults disk) (D.faults refusal.disk)) }
         ensures mark { IfOk result (λ opened. D.mark (disk_of opened.0) ≡ D.mark disk) }
         ensures mark_refused { IfErr result (λ refusal. D.mark refusal.disk ≡ D.mark disk) }

@@ -47,7 +47,8 @@ pub fn read_payloads<D: Disk>(
 ) -> Result<(u64, Payloads), JournalFault>
     ensures found { D.tells → ReadsPayloads (reads (D.past disk.old)) number result }
     ensures few { D.tells → IfOk result (λ found. D.read_bytes disk.new ≤ D.read_bytes disk.old + found.0) }
-    ensures length { IfOk result (λ found. 9 ≤ found.0) }
+    ensures length { IfOk result (λ found. found.0 ≡ journal_length found.1.items) }
+    ensures behind { IfOk result (λ found. 9 ≤ found.0) }
     ensures past { D.past disk.new ≡ D.past disk.old }
     ensures cause { IsErrOf result JournalFault.Failed → Rose (D.faults disk.old) (D.faults disk.new) }
     ensures faults { D.faults disk.old ≤ D.faults disk.new }

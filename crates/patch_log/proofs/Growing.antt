@@ -1,14 +1,13 @@
 -- An index that gets one id more.
 use Rattle.std.proofs.Common.{◌≡◌, ℕ, ◌+◌, cond, eqb, List, [], ◌∷◌, ◌++◌, length, Option, Some, None, sym, ◌∙◌, ap}
 use Rattle.std.proofs.lemmas.List.{length-map}
-use Rattle.delta_base.specs.declared.id.Id.{Id}
 use Rattle.chain_core.specs.declared.chain.Patch.{Patch}
 use Rattle.chain_core.specs.declared.chain.Entry.{Entry}
 use Rattle.chain_core.specs.Chain.{IsKept, patch_of}
 use Rattle.chain_core.specs.Patches.{patches_of, version_of}
 use Rattle.chain_core.proofs.Patches.{patches_of-push}
 use Rattle.chain_core.proofs.Versions.{version_of-push, new_entry}
-use Rattle.patch_log.specs.Pairs.{Pairs, get, GetsAfterSet}
+use Rattle.patch_log.specs.Pairs.{Pairs, GetsAfterSet}
 use Rattle.patch_log.specs.Indexed.{IsIndexOf}
 
 pub none_new : (entries : List Entry) (entry : Entry) → IsKept (entries ++ entry ∷ []) → version_of (patches_of entries) entry.patch.id ≡ None

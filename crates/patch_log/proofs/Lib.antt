@@ -1,3 +1,7 @@
 pub mod PairLemmas
 pub mod Place
 pub mod Growing
+pub mod Sound
+pub mod Openings
+pub mod States
+pub mod Runs

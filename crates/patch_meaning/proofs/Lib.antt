@@ -5,5 +5,5 @@ pub mod Rowed
 pub mod Taking
 pub mod SameRows
 pub mod WellTaken
-pub mod OnePatch
+pub mod Settled
 pub mod OneStream

@@ -15,7 +15,7 @@ use Rattle.patch_meaning.specs.Rows.{PlacedRow, RowsTo, NoRowAt}
 use Rattle.patch_meaning.specs.Stream.{Part, Cut, ArePatches, AreStream, IsStream, IsPartFault, IsStreamFault, StopsAt, begins, cut, cut_with, stop_of, too_long, refused, open_block, no_id, next, over}
 use Rattle.patch_meaning.specs.Stream as stream
 use Rattle.patch_meaning.proofs.SameRows.{Compared, same, shorter, longer, compared, one_row_at, no_fault_there, none_at_end}
-use Rattle.patch_meaning.proofs.WellTaken.{well_closed, well_taken, next_taken, one_meaning}
+use Rattle.patch_meaning.proofs.WellTaken.{well_closed, well_taken, next_taken, same_meaning}
 
 -- ---- one list of patches
 
@@ -26,7 +26,7 @@ same_patches [] stop (m ∷ ms) ns are other = absurd are
 same_patches (part ∷ parts) stop [] ns are other = absurd are
 same_patches (part ∷ parts) stop (m ∷ ms) [] are other = absurd other
 same_patches (part ∷ parts) stop (m ∷ ms) (n ∷ ns) are other =
-    ap (λ (x : Meaning). x ∷ ms) (one_meaning (said part.rows_) m n are.0 other.0) ∙ ap (λ (l : List Meaning). n ∷ l) (same_patches parts stop ms ns are.2 other.2)
+    ap (λ (x : Meaning). x ∷ ms) (same_meaning (said part.rows_) m n are.0 other.0) ∙ ap (λ (l : List Meaning). n ∷ l) (same_patches parts stop ms ns are.2 other.2)
 
 same_stream_rows : (rs : List PlacedRow) (stop : ℕ) (ms ns : List Meaning) → AreStream rs stop ms → AreStream rs stop ns → ms ≡ ns
 same_stream_rows [] stop ms ns are other = are ∙ sym other

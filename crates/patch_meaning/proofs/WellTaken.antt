@@ -154,8 +154,8 @@ one_prev None (Some id) e = absurd cc
 one_prev (Some id) None e = absurd cc
 one_prev (Some id) (Some other) e = one_item (Some id) (Some other) e
 
-pub one_meaning : (rs : List Role) (m n : Meaning) → IsWell rs m → IsWell rs n → m ≡ n
-one_meaning rs m n w v =
+pub same_meaning : (rs : List Role) (m n : Meaning) → IsWell rs m → IsWell rs n → m ≡ n
+same_meaning rs m n w v =
     let make : Id → Option Id → List Change → Meaning = λ a b c. record { id = a; prev = b; changes = c } in
     ap (λ (a : Id). make a m.prev m.changes) (some_is m.id n.id (one_item (Some m.id) (Some n.id) (sym w.one_id ∙ v.one_id)))
     ∙ ap (λ (b : Option Id). make n.id b m.changes) (one_prev m.prev n.prev (sym w.prev_is ∙ v.prev_is))

@@ -1,8 +1,8 @@
-use Rattle.std.proofs.Common.{◌≡◌, ◌+◌, ◌++◌, [], ◌∷◌, List, ℕ, length, drop, sym, ◌∙◌, ap, subst, arith, rules}
+use Rattle.std.proofs.Common.{◌≡◌, ◌+◌, ◌++◌, [], ◌∷◌, List, ℕ, length, drop, refl, sym, ◌∙◌, ap, subst, arith}
 use Rattle.disk_model.specs.Past.{reads}
 use Rattle.log_journal.specs.File.{header, block}
 use Rattle.log_journal.specs.Reading.{IsRead}
-use Rattle.log_journal.proofs.Loop.{none_read, one_more_of}
+use Rattle.log_journal.proofs.Loop.{none_read, one_more_of, length_more}
 use Rattle.log_journal.proofs.open.read_payloads.Goals as goal
 
 pub loop-payloads-init : goal.loop-payloads-init
@@ -14,6 +14,7 @@ loop-payloads-init g c =
       file_length = c.in_ok-file_length.ensures.length;
       faults = omega (arith, c.len.ensures.cause.never_falls, c.read_header.ensures.faults);
       behind = omega arith;
+      place = rw c.new-payloads.ensures refl;
       few = λ told. omega (arith, c.len.ensures.read_bytes, c.read_header.ensures.few told);
       mark = c.read_header.ensures.mark ∙ c.len.ensures.mark;
     }
@@ -31,6 +32,7 @@ loop-payloads-preserved g c =
       file_length = c.loop-payloads.invariant.file_length;
       faults = omega (arith, c.read_block.ensures.faults, c.loop-payloads.invariant.faults);
       behind = omega (arith, c.loop-payloads.invariant.behind);
+      place = length_more c.loop-payloads.gate c.len-in-Some.result c.loop-payloads.payloads.items c.push.new.self.items c.in-Some.payload.items c.loop-payloads.invariant.place (c.in_ok-push.ensures.ok ∙ ap (λ (p : List ℕ). c.loop-payloads.payloads.items ++ p ∷ []) c.from_vec.ensures) (c.len-in-Some.ensures ∙ c.in-Some.payload.ok.0);
       few = λ told. let more = rw c.in-Some.is at (c.in_ok-payload.ensures.few told) in omega (arith, more, c.loop-payloads.invariant.few told, c.len-in-Some.ensures, c.in-Some.payload.ok.0);
       mark = c.read_block.ensures.mark ∙ c.loop-payloads.invariant.mark;
     }

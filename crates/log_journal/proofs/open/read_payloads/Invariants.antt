@@ -1,5 +1,6 @@
 use Rattle.std.proofs.Common.{◌≡◌, ◌+◌, ◌-◌, ◌≤◌, length}
 use Rattle.disk_model.specs.Past.{reads}
+use Rattle.log_journal.specs.File.{journal_length}
 use Rattle.log_journal.specs.Reading.{IsRead}
 use Rattle.log_journal.proofs.open.read_payloads.Given as goal
 
@@ -10,6 +11,7 @@ invariant-loop-payloads g l = record {
   file_length : g.D.Disk.tells → l.file_length ≡ length (reads (g.D.Disk.past l.fn.disk));
   faults : g.D.Disk.faults l.fn.disk ≤ g.D.Disk.faults l.disk;
   behind : 8 ≤ l.gate;
+  place : l.gate + 1 ≡ journal_length l.payloads.items;
   few : g.D.Disk.tells → g.D.Disk.read_bytes l.disk ≤ g.D.Disk.read_bytes l.fn.disk + l.gate;
   mark : g.D.Disk.mark l.disk ≡ g.D.Disk.mark l.fn.disk;
 }

@@ -1,4 +1,4 @@
-use Rattle.std.proofs.Common.{◌≡◌, ℕ, Bool, true, false, List, Option, Err, ◌∙◌, ap, sym}
+use Rattle.std.proofs.Common.{◌≡◌, true, false, Err, ◌∙◌, ap}
 use Rattle.log_journal.specs.Payload.{payload_of}
 use Rattle.log_journal.specs.declared.journal.AppendFault.{AppendFault}
 use Rattle.log_journal.proofs.Writings.{failed_moments, failed_stands, settled_stands, appended_moments, body_or_gate}

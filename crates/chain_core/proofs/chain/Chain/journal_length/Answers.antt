@@ -1,4 +1,4 @@
-use Rattle.std.proofs.Common.{◌≤◌, ◌+◌, ◌*◌, length, arith}
+use Rattle.std.proofs.Common.{arith}
 use Rattle.chain_core.proofs.Patches.{length_bound}
 use Rattle.chain_core.proofs.chain.Chain.journal_length.Goals as goal
 

@@ -1,4 +1,4 @@
-use Rattle.std.proofs.Common.{◌≤◌, ◌+◌, ◌*◌, length, arith}
+use Rattle.std.proofs.Common.{◌≤◌, length, arith}
 use Rattle.chain_core.proofs.Patches.{length_bound, last_short}
 use Rattle.chain_core.proofs.chain.Chain.push.Goals as goal
 

@@ -1,4 +1,4 @@
-use Rattle.std.proofs.Common.{◌≡◌, ◌+◌, ◌∷◌, ◌++◌, [], List, length, sym, ◌∙◌, ap, subst}
+use Rattle.std.proofs.Common.{◌+◌, ◌∷◌, ◌++◌, [], List, sym, ◌∙◌, ap, subst}
 use Rattle.delta_base.specs.Listed.{Listed}
 use Rattle.chain_core.specs.declared.chain.Entry.{Entry}
 use Rattle.chain_core.specs.Chain.{IsKept}

@@ -12,18 +12,18 @@ use Rattle.patch_meaning.specs.Patch.{Meaning, IsWell, IsPatch, IsPatchFault, Is
 use Rattle.patch_meaning.specs.Roles.{role, said, ids_of, is_open}
 use Rattle.patch_meaning.specs.Rows.{PlacedRow, RowsTo, NoRowAt}
 use Rattle.patch_meaning.proofs.SameRows.{Compared, same, shorter, longer, compared, one_row_at, no_fault_there, one_fault_at, none_at_end}
-use Rattle.patch_meaning.proofs.WellTaken.{well_closed, well_taken, next_taken, one_meaning}
+use Rattle.patch_meaning.proofs.WellTaken.{well_closed, well_taken, next_taken, same_meaning}
 
 -- ---- one patch
 
 said_there : (rs more : List PlacedRow) (r : PlacedRow) → said (rs ++ r ∷ more) ≡ said rs ++ role r.row_ ∷ said more
 said_there rs more r = map-append (λ (r : PlacedRow). role r.row_) rs (r ∷ more)
 
-pub same_patch : (text : List ℕ) (m n : Meaning) → IsPatch text m → IsPatch text n → m ≡ n
-same_patch text m n p q = by (compared text 0 p.rows_ (length text) q.rows_ (length text) p.reads q.reads)
+pub one_meaning : (text : List ℕ) (m n : Meaning) → IsPatch text m → IsPatch text n → m ≡ n
+one_meaning text m n p q = by (compared text 0 p.rows_ (length text) q.rows_ (length text) p.reads q.reads)
   where
     by : Compared text p.rows_ (length text) q.rows_ (length text) → m ≡ n
-    by (same rs place) = one_meaning (said p.rows_) m n p.well (subst (λ (l : List PlacedRow). IsWell (said l) n) (sym rs) q.well)
+    by (same rs place) = same_meaning (said p.rows_) m n p.well (subst (λ (l : List PlacedRow). IsWell (said l) n) (sym rs) q.well)
     by (shorter r more rs at there) = absurd (none_at_end text (length text) r.row_ r.end refl there)
     by (longer r more rs at there) = absurd (none_at_end text (length text) r.row_ r.end refl there)
 
@@ -51,9 +51,9 @@ no_end_fault text rs m to fault w last (refused r end why there refuses is) = no
 no_end_fault text rs m to fault w last (open_block end inside is) = open_closed (is_open (said rs)) inside (well_closed (said rs) m w)
 no_end_fault text rs m to fault w last (no_id end outside none is) = absurd (let one = w.one_id in cc)
 
-pub patch_or_fault : (text : List ℕ) (m : Meaning) (fault : PatchFault) → IsPatch text m → IsPatchFault text fault → ⊥
-patch_or_fault text m fault p (too_long long is) = absurd (let short = p.short in omega arith)
-patch_or_fault text m fault p (rows_ rs to short reads taken is) = by (compared text 0 p.rows_ (length text) rs to p.reads reads)
+pub never_both : (text : List ℕ) (m : Meaning) (fault : PatchFault) → IsPatch text m → IsPatchFault text fault → ⊥
+never_both text m fault p (too_long long is) = absurd (let short = p.short in omega arith)
+never_both text m fault p (rows_ rs to short reads taken is) = by (compared text 0 p.rows_ (length text) rs to p.reads reads)
   where
     by : Compared text p.rows_ (length text) rs to → ⊥
     by (same all place) = no_end_fault text rs m to fault (subst (λ (l : List PlacedRow). IsWell (said l) m) all p.well) (sym place) is
@@ -90,11 +90,11 @@ same_rows_fault text rs to f g (no_id last outside ids is) (refused r end why th
 same_rows_fault text rs to f g (no_id last outside ids is) (open_block last2 inside is2) = open_closed (is_open (said rs)) inside outside
 same_rows_fault text rs to f g (no_id last outside ids is) (no_id last2 outside2 ids2 is2) = is ∙ sym is2
 
-pub same_fault : (text : List ℕ) (f g : PatchFault) → IsPatchFault text f → IsPatchFault text g → f ≡ g
-same_fault text f g (too_long long is) (too_long long2 is2) = is ∙ sym is2
-same_fault text f g (too_long long is) (rows_ rs to short reads taken is2) = absurd (let a = long in let b = short in omega arith)
-same_fault text f g (rows_ rs to short reads taken is) (too_long long is2) = absurd (let a = long in let b = short in omega arith)
-same_fault text f g (rows_ rs to short reads taken is) (rows_ ss stop short2 reads2 taken2 is2) = by (compared text 0 rs to ss stop reads reads2)
+pub one_fault : (text : List ℕ) (f g : PatchFault) → IsPatchFault text f → IsPatchFault text g → f ≡ g
+one_fault text f g (too_long long is) (too_long long2 is2) = is ∙ sym is2
+one_fault text f g (too_long long is) (rows_ rs to short reads taken is2) = absurd (let a = long in let b = short in omega arith)
+one_fault text f g (rows_ rs to short reads taken is) (too_long long is2) = absurd (let a = long in let b = short in omega arith)
+one_fault text f g (rows_ rs to short reads taken is) (rows_ ss stop short2 reads2 taken2 is2) = by (compared text 0 rs to ss stop reads reads2)
   where
     by : Compared text rs to ss stop → f ≡ g
     by (same all place) = same_rows_fault text ss stop f g (subst (λ (n : ℕ). IsRowsFault text ss n f) place (subst (λ (l : List PlacedRow). IsRowsFault text l to f) all is)) is2

@@ -1,0 +1,193 @@
+-- What a log keeps, call by call.
+use Rattle.std.proofs.Common.{◌≡◌, ◌⊎◌, inl, ℕ, zero, suc, ◌+◌, ◌^◌, ◌<◌, ◌≤◌, true, false, List, [], ◌∷◌, ◌++◌, length, Option, Some, None, refl, sym, ◌∙◌, ap, subst, arith}
+use Rattle.std.specs.Option.{option_map}
+use Rattle.std.proofs.lemmas.List.{length-map}
+use Rattle.disk_model.specs.declared.disk.Disk.{Ghosts}
+use Rattle.disk_model.specs.Past.{Past, EveryImage, LeavesOnly}
+use Rattle.disk_model.proofs.Moments.{starts}
+use Rattle.log_journal.specs.File.{journal_length as payloads_length}
+use Rattle.log_journal.specs.Journal.{HoldsWithOrWithout}
+use Rattle.log_journal.specs.declared.journal.Journal.{Journal}
+use Rattle.log_journal.specs.declared.writing.Phase.{Phase as Written}
+use Rattle.log_journal.specs.declared.writing.Phase.TheVariants as written
+use Rattle.log_journal.specs.StandsFor.{StandsFor, StandsInDoubt, Leaves, length_of, limit_of, is_settled, disk_of}
+use Rattle.log_journal.specs.Writing.{StandsWith, HoldsDuring, phase_by_syncs}
+use Rattle.log_journal.proofs.Steps.{either}
+use Rattle.chain_core.specs.declared.chain.Patch.{Patch}
+use Rattle.chain_core.specs.declared.chain.Entry.{Entry}
+use Rattle.chain_core.specs.declared.limits.LogLimits.{LogLimits}
+use Rattle.chain_core.specs.declared.fate.Phase.TheVariants.{Settling, Body, Gate}
+use Rattle.chain_core.specs.declared.fate.Fate.{Fate}
+use Rattle.chain_core.specs.declared.fate.Fate.TheVariants.{Done, Fails}
+use Rattle.chain_core.specs.declared.answer.Decision.{Decision}
+use Rattle.chain_core.specs.declared.answer.Decision.TheVariants.{Accept, Known, Conflict, Full}
+use Rattle.chain_core.specs.declared.answer.LogAnswer.{LogAnswer}
+use Rattle.chain_core.specs.declared.answer.LogAnswer.TheVariants.{Accepted, DiskFault, OutOfMemory}
+use Rattle.chain_core.specs.Chain.{IsKept as IsKeptChain, patch_of}
+use Rattle.chain_core.specs.Decision.{decision}
+use Rattle.chain_core.specs.Log.{up}
+use Rattle.chain_core.specs.Patches.{patches_of, texts_of}
+use Rattle.chain_core.specs.Stay.{answer_of, decided_by, accepted_by, fate_by_syncs}
+use Rattle.chain_core.proofs.Decided.{IsAcceptable, accepted}
+use Rattle.chain_core.proofs.Fronts.{entries_kept}
+use Rattle.chain_core.proofs.Patches.{length-push, patches_of-push}
+use Rattle.patch_log.specs.Log.{IsSound, IsSoundLog, MayHold, MayHoldDuring, StandsForLog}
+use Rattle.patch_log.specs.Opening.{AreFound}
+use Rattle.patch_log.specs.State.{IsKept}
+use Rattle.patch_log.proofs.Openings.{found_log}
+use Rattle.patch_log.proofs.Sound.{texts_of-push, log-push, same_length}
+
+-- the text in doubt
+abbrev pub text_in : Option Patch → Option (List ℕ)
+text_in doubt = option_map (λ patch. patch.text) doubt
+
+-- ---- decisions and fates
+
+-- a log that decides to accept
+pub outcome_of : (chain : List Patch) (doubt : Option Patch) (patch : Patch) (limits : LogLimits) (version : ℕ) (fate : Fate) → Accept version ≡ decision chain patch limits → decided_by (decision chain patch limits) fate chain doubt patch ≡ accepted_by fate chain doubt patch
+outcome_of chain doubt patch limits version fate is = ap (λ (made : Decision). decided_by made fate chain doubt patch) (sym is)
+
+-- one that decides otherwise
+pub outcome_told : (made : Decision) (fate : Fate) (chain : List Patch) (doubt : Option Patch) (patch : Patch) → ((version : ℕ) → made ≡ Accept version → ⊥) → decided_by made fate chain doubt patch ≡ (up chain doubt, Some (answer_of made))
+outcome_told (Accept version) fate chain doubt patch other = absurd (other version refl)
+outcome_told (Known version same) fate chain doubt patch other = refl
+outcome_told (Conflict version head prev_version) fate chain doubt patch other = refl
+outcome_told (Full what have limit) fate chain doubt patch other = refl
+
+-- what is told then
+pub record IsTold (answer : LogAnswer) : Type 0 where
+  pub not_accepted : (version : ℕ) → answer ≡ Accepted version → ⊥
+  pub no_fault : answer ≡ DiskFault → ⊥
+  pub no_want : answer ≡ OutOfMemory → ⊥
+
+pub told_is : (made : Decision) → ((version : ℕ) → made ≡ Accept version → ⊥) → IsTold (answer_of made)
+told_is (Accept version) other = absurd (other version refl)
+told_is (Known version same) other = record { not_accepted = λ v is. cc; no_fault = λ is. cc; no_want = λ is. cc }
+told_is (Conflict version head prev_version) other = record { not_accepted = λ v is. cc; no_fault = λ is. cc; no_want = λ is. cc }
+told_is (Full what have limit) other = record { not_accepted = λ v is. cc; no_fault = λ is. cc; no_want = λ is. cc }
+
+-- the fate of an append by the phase of its write that failed
+abbrev pub fate_of : Option Written → Fate
+fate_of None = Done
+fate_of (Some written.Settling) = Fails Settling
+fate_of (Some written.Body) = Fails Body
+fate_of (Some written.Gate) = Fails Gate
+
+pub same_fate : (doubt : Option Patch) (syncs : ℕ) → fate_of (phase_by_syncs (text_in doubt) syncs) ≡ fate_by_syncs doubt syncs
+same_fate None zero = refl
+same_fate None (suc zero) = refl
+same_fate None (suc (suc n)) = refl
+same_fate (Some patch) zero = refl
+same_fate (Some patch) (suc zero) = refl
+same_fate (Some patch) (suc (suc zero)) = refl
+same_fate (Some patch) (suc (suc (suc n))) = refl
+
+-- ---- images
+
+pub still_during : (number : ℕ) (chain : List Patch) (doubt : Option Patch) (patch : Patch) (image : List ℕ) → MayHold number chain doubt image → MayHoldDuring number chain doubt patch image
+still_during number chain None patch image holds = inl holds
+still_during number chain (Some doubt) patch image holds = inl holds
+
+true_or_false : true ≡ false → ⊥
+true_or_false same = cc
+
+module _ {D : Type 0} {disks : Ghosts D} (number : ℕ) where
+  pub during : (old new : Journal D disks) (chain : List Patch) (doubt : Option Patch) (patch : Patch) (payload : List ℕ) → payload ≡ patch.text
+      → Leaves (HoldsDuring number (texts_of chain) (text_in doubt) payload) old new → disks.tells → LeavesOnly (MayHoldDuring number chain doubt patch) (disks.past (disk_of old)) (disks.past (disk_of new))
+  during old new chain None patch payload is leaves told = subst (λ (text : List ℕ). LeavesOnly (HoldsWithOrWithout number (texts_of chain) text) (disks.past (disk_of old)) (disks.past (disk_of new))) is (leaves told)
+  during old new chain (Some doubt) patch payload is leaves told =
+      subst (λ (text : List ℕ). LeavesOnly (λ image. HoldsWithOrWithout number (texts_of chain) doubt.text image ⊎ HoldsWithOrWithout number (texts_of chain) text image) (disks.past (disk_of old)) (disks.past (disk_of new))) is (leaves told)
+
+  pub each_holds : (journal : Journal D disks) (chain : List Patch) (doubt : Option Patch) → StandsWith journal number (texts_of chain) (text_in doubt) → disks.tells → EveryImage (disks.past (disk_of journal)) (MayHold number chain doubt)
+  each_holds journal chain None stands told = (stands.1 told).each
+  each_holds journal chain (Some doubt) stands told = λ image left.
+      let all = stands.1 told in
+      either (length_of journal) number (texts_of chain) doubt.text all.doubt_sized image all.sized (all.each image left)
+
+  -- a settling that failed had a doubt
+  pub settling_fails : (journal : Journal D disks) (chain : List Patch) (doubt : Option Patch) (patch : Patch) → StandsWith journal number (texts_of chain) (text_in doubt) → is_settled journal ≡ false → accepted_by (Fails Settling) chain doubt patch ≡ (up chain doubt, Some DiskFault)
+  settling_fails journal chain None patch stands open_gate = absurd (true_or_false (sym stands.0 ∙ open_gate))
+  settling_fails journal chain (Some doubt) patch stands open_gate = refl
+
+-- before any call
+pub no_call_yet : (past : Past) (number : ℕ) (limits : LogLimits) (chain : List Patch) (doubt : Option Patch) (patch : Patch) → StandsForLog past number limits chain doubt → LeavesOnly (MayHoldDuring number chain doubt patch) past past
+no_call_yet past number limits chain doubt patch stands = starts (MayHoldDuring number chain doubt patch) past (λ image left. still_during number chain doubt patch image (stands.each image left))
+
+-- ---- opening
+
+pub opened_kept : {D : Type 0} {disks : Ghosts D} (journal : Journal D disks) (number : ℕ) (limits : LogLimits) (payloads : List (List ℕ)) (entries : List Entry) → StandsFor journal number payloads → length_of journal ≡ payloads_length payloads → length_of journal ≤ limits.bytes
+    → limit_of journal ≡ limits.bytes → limits.patches < 2 ^ 32 → AreFound payloads limits.patches entries → IsKept journal (patches_of entries) None number limits
+opened_kept journal number limits payloads entries stands length_is within limit_is countable found =
+    let log = found_log payloads limits entries found (omega (arith, length_is, within)) in
+    record {
+      stands = subst (λ (texts : List (List ℕ)). StandsFor journal number texts) (sym found.texts_are) stands;
+      without = log;
+      having = log;
+      length_is = omega (arith, length_is, same_length (patches_of entries), ap payloads_length found.texts_are);
+      limit_is = limit_is;
+      countable = countable;
+    }
+
+-- ---- appends
+
+module _ {D : Type 0} {disks : Ghosts D} (journal new : Journal D disks) (entries : List Entry) (doubt : Option Patch) (number : ℕ) (limits : LogLimits) (kept : IsKept journal (patches_of entries) doubt number limits) where
+  abbrev chain : List Patch
+  chain = patches_of entries
+
+  pub stands_for_log : disks.tells → StandsForLog (disks.past (disk_of journal)) number limits chain doubt
+  stands_for_log told = record { each = each_holds number journal chain doubt kept.stands told; without = kept.without; having = kept.having }
+
+  pub few : length entries ≤ limits.patches
+  few = omega (arith, kept.without.log.few, length-map entries patch_of)
+
+  module _ (patch : Patch) (version : ℕ) (is : Accept version ≡ decision (patches_of entries) patch limits) (sound : IsSound patch) (payload : List ℕ) (payload_is : payload ≡ patch.text) where
+    can : IsAcceptable chain patch limits
+    can = (accepted chain patch limits version (sym is)).0
+
+    more : IsSoundLog limits (chain ++ patch ∷ [])
+    more = log-push limits chain patch version kept.without sound (sym is)
+
+    pub version_is : version ≡ length chain + 1
+    version_is = (accepted chain patch limits version (sym is)).1
+
+    -- the chain can take the patch
+    pub chain_kept : (by : ℕ) → IsKeptChain (entries ++ record { patch = patch; by = by } ∷ [])
+    chain_kept by =
+        let entry : Entry = record { patch = patch; by = by } in
+        let log : IsSoundLog limits (patches_of (entries ++ entry ∷ [])) = subst (λ (ps : List Patch). IsSoundLog limits ps) (sym (patches_of-push entries entry)) more in
+        entries_kept (entries ++ entry ∷ []) log.log.chain (omega (arith, log.log.few, kept.countable, length-map (entries ++ entry ∷ []) patch_of)) log.log.short
+
+    pub room : length_of journal + 5 + length payload ≤ limit_of journal
+    room = omega (arith, can.room, length-push chain patch, kept.length_is, kept.limit_is, ap length payload_is)
+
+    -- it was added
+    pub kept_done : (by : ℕ) → StandsWith new number (texts_of chain ++ payload ∷ []) None → length_of new ≡ length_of journal + (5 + length payload) → limit_of new ≡ limit_of journal
+        → IsKept new (patches_of (entries ++ record { patch = patch; by = by } ∷ [])) None number limits
+    kept_done by stands length_is limit_is =
+        let entry : Entry = record { patch = patch; by = by } in
+        subst (λ (ps : List Patch). IsKept new ps None number limits) (sym (patches_of-push entries entry)) (record {
+          stands = subst (λ (texts : List (List ℕ)). StandsFor new number texts) (ap (λ (text : List ℕ). texts_of chain ++ text ∷ []) payload_is ∙ sym (texts_of-push chain patch)) stands;
+          without = more;
+          having = more;
+          length_is = omega (arith, length_is, kept.length_is, length-push chain patch, ap length payload_is);
+          limit_is = limit_is ∙ kept.limit_is;
+          countable = kept.countable;
+        })
+
+    -- the gate was left in doubt
+    pub kept_in_doubt : StandsInDoubt new number (texts_of chain) payload → length_of new ≡ length_of journal + 0 → limit_of new ≡ limit_of journal → IsKept new chain (Some patch) number limits
+    kept_in_doubt stands length_is limit_is = record {
+      stands = subst (λ (text : List ℕ). StandsInDoubt new number (texts_of chain) text) payload_is stands;
+      without = kept.without;
+      having = more;
+      length_is = omega (arith, length_is, kept.length_is);
+      limit_is = limit_is ∙ kept.limit_is;
+      countable = kept.countable;
+    }
+
+  -- as it was, but for the doubt
+  pub kept_settled : StandsFor new number (texts_of chain) → length_of new ≡ length_of journal + 0 → limit_of new ≡ limit_of journal → IsKept new chain None number limits
+  kept_settled stands length_is limit_is = record { stands = stands; without = kept.without; having = kept.without; length_is = omega (arith, length_is, kept.length_is); limit_is = limit_is ∙ kept.limit_is; countable = kept.countable }
+
+  pub kept_same : StandsWith new number (texts_of chain) (text_in doubt) → length_of new ≡ length_of journal + 0 → limit_of new ≡ limit_of journal → IsKept new chain doubt number limits
+  kept_same stands length_is limit_is = record { stands = stands; without = kept.without; having = kept.having; length_is = omega (arith, length_is, kept.length_is); limit_is = limit_is ∙ kept.limit_is; countable = kept.countable }

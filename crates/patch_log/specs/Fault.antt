@@ -1,0 +1,28 @@
+-- Why a log can't be opened.
+use Rattle.std.specs.Prelude.{◌≤◌, ℕ, List}
+use Rattle.log_journal.specs.File.{Holds, journal_length}
+use Rattle.log_journal.specs.Reading.{HasFault}
+use Rattle.log_journal.specs.declared.fault.JournalFault.{JournalFault}
+use Rattle.log_journal.specs.declared.fault.JournalFault.TheVariants as journal
+use Rattle.chain_core.specs.declared.limits.LogLimits.{LogLimits}
+use Rattle.patch_log.specs.declared.fault.LogFault.{LogFault}
+use Rattle.patch_log.specs.declared.fault.LogFault.TheVariants as log
+use Rattle.patch_log.specs.Log.{BreaksAt}
+
+-- a fault of the journal, as one of the log
+abbrev pub of_journal : JournalFault → LogFault
+of_journal journal.Failed = log.Failed
+of_journal (journal.Damaged at) = log.Damaged at
+of_journal (journal.WrongNumber found) = log.WrongNumber found
+of_journal (journal.OverLimit length limit) = log.OverLimit length limit
+of_journal journal.OutOfMemory = log.OutOfMemory
+
+-- The file of this number has this fault, and none that comes before it. What a file can't tell is free: that its disk
+-- failed, and want of memory.
+abbrev pub HasLogFault : List ℕ → ℕ → LogLimits → LogFault → Type 0
+HasLogFault file number limits (log.Damaged at) = HasFault file number limits.bytes (journal.Damaged at)
+HasLogFault file number limits (log.WrongNumber found) = HasFault file number limits.bytes (journal.WrongNumber found)
+HasLogFault file number limits (log.OverLimit length limit) = HasFault file number limits.bytes (journal.OverLimit length limit)
+HasLogFault file number limits (log.BrokenChain version) = (payloads : List (List ℕ)) × Holds file number payloads × (journal_length payloads ≤ limits.bytes) × BreaksAt payloads limits.patches version
+HasLogFault file number limits log.Failed = Unit {0}
+HasLogFault file number limits log.OutOfMemory = Unit {0}

@@ -1,0 +1,57 @@
+-- What a log is, and what its disk holds.
+use Rattle.std.specs.Prelude.{◌≡◌, ◌⊎◌, ℕ, ◌<◌, ◌≤◌, List, length, take, Option, Some, None}
+use Rattle.std.specs.List.{AllByRecursion}
+use Rattle.rdf_terms.specs.declared.change.Change.{Change}
+use Rattle.disk_model.specs.Past.{Past, EveryImage}
+use Rattle.log_journal.specs.File.{Holds}
+use Rattle.log_journal.specs.Journal.{HoldsWithOrWithout}
+use Rattle.patch_meaning.specs.Checked.{CheckedPatch}
+use Rattle.patch_meaning.specs.Patch.{IsPatch}
+use Rattle.chain_core.specs.declared.limits.LogLimits.{LogLimits}
+use Rattle.chain_core.specs.declared.chain.Patch.{Patch}
+use Rattle.chain_core.specs.Links.{IsChain}
+use Rattle.chain_core.specs.Patches.{links_of, texts_of}
+use Rattle.chain_core.specs.Log.{IsLog, with_doubt}
+
+-- a patch that was checked, without its changes
+abbrev pub bare : CheckedPatch → Patch
+bare checked = record { id = checked.meaning.id; prev = checked.meaning.prev; text = checked.text }
+
+-- a patch's id and previous id are those that its text names
+abbrev pub IsSound : Patch → Type 0
+IsSound patch = (changes : List Change) × IsPatch patch.text (record { id = patch.id; prev = patch.prev; changes = changes })
+
+-- a log each patch of which is the one that its text is
+pub record IsSoundLog (limits : LogLimits) (patches : List Patch) : Type 0 where
+  pub log : IsLog limits patches
+  pub sound : AllByRecursion IsSound patches
+
+-- an image holds the texts of the chain, or these and the one in doubt
+abbrev pub MayHold : ℕ → List Patch → Option Patch → List ℕ → Type 0
+MayHold number chain None image = Holds image number (texts_of chain)
+MayHold number chain (Some doubt) image = HoldsWithOrWithout number (texts_of chain) doubt.text image
+
+-- a disk stands for a log that runs, with its chain and the patch in doubt
+pub record StandsForLog (past : Past) (number : ℕ) (limits : LogLimits) (chain : List Patch) (doubt : Option Patch) : Type 0 where
+  pub each : EveryImage past (MayHold number chain doubt)
+  pub without : IsSoundLog limits chain
+  pub having : IsSoundLog limits (with_doubt chain doubt)
+
+-- while a patch is added, an image holds the texts of the chain, or these and the one in doubt, or these and the new one
+abbrev pub MayHoldDuring : ℕ → List Patch → Option Patch → Patch → List ℕ → Type 0
+MayHoldDuring number chain None patch image = HoldsWithOrWithout number (texts_of chain) patch.text image
+MayHoldDuring number chain (Some doubt) patch image = HoldsWithOrWithout number (texts_of chain) doubt.text image ⊎ HoldsWithOrWithout number (texts_of chain) patch.text image
+
+-- texts are those of a chain of patches, of which there are no more than there may be
+pub record AreChained (texts : List (List ℕ)) (most : ℕ) : Type 0 where
+  pub patches : List Patch
+  pub texts_are : texts_of patches ≡ texts
+  pub sound : AllByRecursion IsSound patches
+  pub chain : IsChain (links_of patches)
+  pub few : length texts ≤ most
+
+-- the least number of first texts that are no such chain
+pub record BreaksAt (texts : List (List ℕ)) (most version : ℕ) : Type 0 where
+  pub within : version ≤ length texts
+  pub chained_before : (earlier : ℕ) → earlier < version → AreChained (take earlier texts) most
+  pub broken : AreChained (take version texts) most → ⊥

@@ -1,0 +1,31 @@
+-- How contracts see a log, and what it keeps.
+use Rattle.std.specs.Prelude.{◌≡◌, ℕ, ◌^◌, ◌<◌, List, Option}
+use Rattle.std.specs.Option.{option_map}
+use Rattle.disk_model.specs.declared.disk.Disk.{Ghosts}
+use Rattle.log_journal.specs.declared.journal.Journal.{Journal}
+use Rattle.log_journal.specs.StandsFor.{length_of, limit_of}
+use Rattle.log_journal.specs.Writing.{StandsWith}
+use Rattle.chain_core.specs.declared.limits.LogLimits.{LogLimits}
+use Rattle.chain_core.specs.declared.chain.Patch.{Patch}
+use Rattle.chain_core.specs.declared.chain.Entry.{Entry}
+use Rattle.chain_core.specs.Patches.{texts_of, journal_length}
+use Rattle.chain_core.specs.Log.{with_doubt}
+use Rattle.patch_log.specs.Log.{IsSoundLog}
+
+-- the entries and the patch in doubt; what never changes; how many patches can be added without asking for memory; and the disk
+pub record LogView (D : Type 0) : Type 0 where
+  pub entries : List Entry
+  pub doubt : Option Patch
+  pub number : ℕ
+  pub limits : LogLimits
+  pub spare : ℕ
+  pub disk : D
+
+-- the journal stands for the texts of the chain and of the patch in doubt
+pub record IsKept {D : Type 0} {disks : Ghosts D} (journal : Journal D disks) (chain : List Patch) (doubt : Option Patch) (number : ℕ) (limits : LogLimits) : Type 0 where
+  pub stands : StandsWith journal number (texts_of chain) (option_map (λ patch. patch.text) doubt)
+  pub without : IsSoundLog limits chain
+  pub having : IsSoundLog limits (with_doubt chain doubt)
+  pub length_is : length_of journal ≡ journal_length chain
+  pub limit_is : limit_of journal ≡ limits.bytes
+  pub countable : limits.patches < 2 ^ 32

@@ -1,0 +1,99 @@
+//! Reads the patches of a journal's payloads.
+ghost use Rattle.std.specs.Prelude.{◌≡◌, ◌⊎◌, ℕ, ◌+◌, ◌^◌, ◌<◌, ◌≤◌, ◌++◌, [], ◌∷◌, length, None, IfOk, IfErr, OnOk, IsErrOf, IsTrue, ◌↔◌};
+ghost use Rattle.chain_core.specs.declared.chain.Patch.{Patch as PatchRead};
+ghost use Rattle.chain_core.specs.Chain.{IsKept};
+ghost use Rattle.chain_core.specs.Patches.{patches_of, version_of, last_id};
+ghost use Rattle.patch_log.specs.Log.{IsSound, BreaksAt};
+ghost use Rattle.patch_log.specs.Opening.{IsNextOf, AreFound};
+
+use crate::fault::LogFault;
+use crate::indexed::IndexedChain;
+use chain_core::{Link, Patch};
+use delta_base::{Bytes, OutOfMemory};
+use log_journal::Payloads;
+use patch_meaning::{PatchFault, check_patch};
+use std::alloc::Global;
+
+/// Why a payload doesn't go behind a chain.
+#[derive(Clone, Copy, Debug, PartialEq, Eq)]
+pub enum NextFault {
+    Broken,
+    OutOfMemory,
+}
+
+// The id and the previous id that a text names, if it is a patch.
+fn read_link(alloc: Global, text: &[u8]) -> Result<Link, NextFault>
+    ensures ok { IfOk result (λ link. IsSound (record { id = link.id; prev = link.prev; text = text.now })) }
+    ensures broken { IsErrOf result NextFault.Broken → (patch : PatchRead) → patch.text ≡ text.now → IsSound patch → ⊥ }
+{
+    match check_patch(alloc, text) {
+        Ok(checked) => Ok(Link {
+            id: checked.id(),
+            prev: checked.prev(),
+        }),
+        Err(fault) => match fault {
+            PatchFault::OutOfMemory => Err(NextFault::OutOfMemory),
+            _ => Err(NextFault::Broken),
+        },
+    }
+}
+
+// Whether it names the last patch, and its id is new.
+fn follows(chain: &IndexedChain, link: Link) -> bool
+    ensures { IsTrue result ↔ ((link.prev ≡ last_id (patches_of chain.now.items)) × (version_of (patches_of chain.now.items) link.id ≡ None)) }
+{
+    link.prev == chain.chain().head() && chain.version_of(link.id).is_none()
+}
+
+// The id and the previous id of the patch that a text is, if it goes behind the chain.
+fn next_link(alloc: Global, chain: &IndexedChain, text: &[u8], most: u32) -> Result<Link, NextFault>
+    ensures ok { IfOk result (λ link. IsNextOf (patches_of chain.now.items) text.now most (record { id = link.id; prev = link.prev; text = text.now })) }
+    ensures broken { IsErrOf result NextFault.Broken → (patch : PatchRead) → IsNextOf (patches_of chain.now.items) text.now most patch → ⊥ }
+    ensures kept { IsKept chain.now.items }
+{
+    if chain.chain().version() >= most {
+        return Err(NextFault::Broken);
+    }
+    match read_link(alloc, text) {
+        Ok(link) if follows(chain, link) => Ok(link),
+        Ok(_) => Err(NextFault::Broken),
+        Err(fault) => Err(fault),
+    }
+}
+
+// Adds the patch of a payload.
+fn add_next(
+    alloc: Global,
+    chain: &mut IndexedChain,
+    text: Bytes,
+    most: u32,
+) -> Result<(), NextFault>
+    ensures ok { OnOk result ((patch : PatchRead) × IsNextOf (patches_of chain.old.items) text most patch × (chain.new.items ≡ chain.old.items ++ record { patch = patch; by = 0 } ∷ [])) }
+    ensures broken { IsErrOf result NextFault.Broken → (patch : PatchRead) → IsNextOf (patches_of chain.old.items) text most patch → ⊥ }
+{
+    let Link { id, prev } = next_link(alloc, chain, text.as_slice(), most)?;
+    if chain.reserve().is_err() {
+        return Err(NextFault::OutOfMemory);
+    }
+    chain.push(Patch { id, prev, text }, 0);
+    Ok(())
+}
+
+/// The chain of the patches that the payloads are.
+pub fn read_log(alloc: Global, payloads: Payloads, most: u32) -> Result<IndexedChain, LogFault>
+    ensures ok { IfOk result (λ chain. AreFound payloads.items most chain.items) }
+    ensures broken { (version : ℕ) → IsErrOf result (LogFault.BrokenChain version) → BreaksAt payloads.items most version }
+    ensures countable { most < 2 ^ 32 }
+    ensures faults { IfErr result (λ fault. ((version : ℕ) × (fault ≡ LogFault.BrokenChain version)) ⊎ (fault ≡ LogFault.OutOfMemory)) }
+{
+    let mut chain = IndexedChain::new(alloc);
+    for text in payloads.into_vec() {
+        let version = u64::from(chain.chain().version()) + 1;
+        match add_next(alloc, &mut chain, text, most) {
+            Ok(()) => {}
+            Err(NextFault::Broken) => return Err(LogFault::BrokenChain { version }),
+            Err(NextFault::OutOfMemory) => return Err(LogFault::OutOfMemory),
+        }
+    }
+    Ok(chain)
+}

@@ -1,0 +1,26 @@
+-- What stands behind parts that were appended, made and read.
+use Rattle.std.proofs.Common.{◌≡◌, ℕ, zero, suc, ◌+◌, ◌-◌, ◌<◌, ◌≤◌, List, [], ◌++◌, length, take, drop, refl, sym, ap, ◌∙◌, arith, append_assoc, take-append-drop}
+use Rattle.std.proofs.lemmas.List.{drop-drop, drop_all, take-append-le, take_all}
+use Rattle.stream_generator.specs.Generator.{patch_text, patches_from}
+
+-- six parts, appended one after another to nothing
+pub six_parts : (a b c d e f t0 t1 t2 t3 t4 t5 t6 : List ℕ) → t0 ≡ [] → t1 ≡ t0 ++ a → t2 ≡ t1 ++ b → t3 ≡ t2 ++ c → t4 ≡ t3 ++ d → t5 ≡ t4 ++ e → t6 ≡ t5 ++ f
+    → t6 ≡ a ++ (b ++ (c ++ (d ++ (e ++ f))))
+six_parts a b c d e f t0 t1 t2 t3 t4 t5 t6 p0 p1 p2 p3 p4 p5 p6 =
+    rw (p6, p5, p4, p3, p2, p1, p0) (
+    append_assoc ((((a ++ b) ++ c) ++ d)) e f ∙ append_assoc ((a ++ b) ++ c) d (e ++ f) ∙ append_assoc (a ++ b) c (d ++ (e ++ f)) ∙ append_assoc a b (c ++ (d ++ (e ++ f)))
+    )
+
+-- a patch that was read is followed by the next one
+pub rest_made : (old new : List ℕ) (at next more : ℕ) → length old ≤ at → 0 < more → new ≡ patch_text next → drop 0 new ++ patches_from (next + 1) (more - 1) ≡ drop at old ++ patches_from next more
+rest_made old new at next zero low some is = absurd (omega (arith, some))
+rest_made old new at next (suc more) low some is =
+    let one : suc more - 1 ≡ more = omega arith in
+    rw (drop_all at old low, is, one) refl
+
+-- the first n bytes were copied in front of others, and the rest is behind them
+pub rest_taken : (xs more into copied : List ℕ) (at n : ℕ) → copied ≡ take n (drop at xs) → length copied ≡ n → drop at xs ++ more ≡ take n (copied ++ into) ++ (drop (at + n) xs ++ more)
+rest_taken xs more into copied at n is whole =
+    let front : take n (copied ++ into) ≡ copied = take-append-le n copied into (omega (arith, whole)) ∙ take_all n copied (omega (arith, whole)) in
+    let parts : drop at xs ≡ copied ++ drop (at + n) xs = sym (take-append-drop n (drop at xs)) ∙ ap (λ (l : List ℕ). l ++ drop n (drop at xs)) (sym is) ∙ ap (λ (l : List ℕ). copied ++ l) (drop-drop n at xs) in
+    ap (λ (l : List ℕ). l ++ more) parts ∙ append_assoc copied (drop (at + n) xs) more ∙ ap (λ (l : List ℕ). l ++ (drop (at + n) xs ++ more)) (sym front)

@@ -1,0 +1,11 @@
+//! A stream of any number of patches, made by rule: patch k adds a quad of its own, and each third patch deletes an
+//! earlier one. It gives a large input whose replay is known.
+#![tactic(auto)]
+
+mod patch;
+mod source;
+#[cfg(test)]
+mod tests;
+
+pub use patch::patch_text;
+pub use source::GeneratedSource;

@@ -1,0 +1,79 @@
+//! The smallest value that a turn takes: numbers, each with the pass that added it.
+ghost use Rattle.std.specs.Prelude.{◌≡◌, ◌≤◌, ◌++◌, ◌∷◌, [], ◌⊎◌, IfOk, length, vec_len};
+ghost use Rattle.turn_bench.specs.Added.{added};
+
+use delta_base::OutOfMemory;
+use std::alloc::Global;
+use turn_cell::{Chained, Entry};
+
+#[derive(Drop)]
+pub struct Numbers {
+    pub entries: Vec<Entry<u64>>,
+    pub faults: u64,
+}
+
+impl Numbers {
+    /// No numbers, and room for so many.
+    pub fn with_room(alloc: Global, room: usize) -> Result<Numbers, OutOfMemory>
+        ensures { IfOk result (λ n. n.entries.items ≡ []) }
+    {
+        Ok(Numbers {
+            entries: Vec::with_capacity(alloc, room)?,
+            faults: 0,
+        })
+    }
+
+    pub fn len(&self) -> usize
+        ensures { result ≡ vec_len self.now.entries }
+    {
+        self.entries.len()
+    }
+
+    /// Adds a number, or counts a fault where there is no room.
+    pub fn add(&mut self, number: u64, by: u32)
+        ensures entries { (self.new.entries.items ≡ self.old.entries.items) ⊎ (self.new.entries.items ≡ self.old.entries.items ++ added number by ∷ []) }
+        ensures faults { self.old.faults ≤ self.new.faults }
+    {
+        let entry = Entry {
+            content: number,
+            by,
+        };
+        if self.entries.push(entry).is_err() {
+            self.faults = self.faults.saturating_add(1);
+        }
+    }
+
+    /// How many were added by the pass of this number.
+    pub fn count_by(&self, number: u32) -> usize {
+        self.entries.iter().filter(|e| e.by == number).count()
+    }
+}
+
+impl Chained for Numbers {
+    ghost use Rattle.std.specs.Prelude.{None};
+    ghost use Rattle.turn_bench.specs.Added.{numbers_apart};
+
+    type Content = u64;
+
+    type Fixed = ();
+
+    ghost entries = { λ n. n.entries.items };
+
+    ghost fault_count = { λ n. n.faults };
+
+    ghost doubt = { λ n. None };
+
+    ghost fixed = { λ n. tt };
+
+    ghost fits = { λ f es. Unit {0} };
+
+    ghost tells_apart = { numbers_apart };
+
+    fn count(&self) -> u64 {
+        self.entries.len() as u64
+    }
+
+    fn faults(&self) -> u64 {
+        self.faults
+    }
+}

@@ -1,0 +1,4 @@
+pub mod Lanes
+pub mod Turns
+pub mod Steps
+pub mod Sights
