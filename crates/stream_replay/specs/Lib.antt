@@ -4,3 +4,5 @@ pub mod Replaying
 pub mod Places
 pub mod Ending
 pub mod Windows
+pub mod Source
+pub mod Streaming
