@@ -32,7 +32,6 @@ use Rattle.patch_reader.specs.Cut.{is_cut, ends_text, ends_row}
 use Rattle.patch_reader.specs.Live.{live_row}
 use Rattle.patch_reader.specs.Progress.{AtEnd, TextAtEnd, rest_from, part_at, part_behind, takes_term, first_part, OpenAt, OpenInside, Leads, LeadsInside, Follows, IsUnfinished, IsPlaceWithin, IsInsideWithin, IsWithin, IsStep, IsFollowed, plain_in_string, is_short_escape, progress_at}
 use Rattle.patch_reader.proofs.GapSteps.{char_longer}
-use Rattle.patch_reader.proofs.RowEnds.{cut_row}
 use Rattle.patch_reader.proofs.RowParts.{part_over, part_open, cut_rest, no_graph, string_opens, iri_opens, row_over, row_open}
 use Rattle.patch_reader.proofs.RowStays.{cut_char}
 
@@ -152,7 +151,7 @@ iri_slash text at last is = subst (λ (t : List ℕ). TextAtEnd (pieces_at iri_p
     (subst TextAtEnd (sym (pieces-fault iri_piece (92 ∷ []) (Truncated, []) no_iri_piece slash_alone_in_iri)) ended)
 
 -- white space and comments stop at a cut
-gap_cut : (comment : Bool) (rest : List ℕ) → is_cut rest ≡ true → (comment ≡ false → rest ≡ []) → space_behind comment 0 rest ≡ rest
+pub gap_cut : (comment : Bool) (rest : List ℕ) → is_cut rest ≡ true → (comment ≡ false → rest ≡ []) → space_behind comment 0 rest ≡ rest
 unfolding space_behind
 gap_cut comment [] cut out = refl
 gap_cut false (b ∷ rest) cut out = let none : b ∷ rest ≡ [] = out refl in absurd cc
@@ -230,15 +229,8 @@ word_ends text start at kind e o = row_open (drop start text) (subst AtEnd (sym 
 
 -- ---- white space and comments
 
-pub front_ends : (text : List ℕ) (at : ℕ) (comment : Bool) → at ≤ length text → (comment ≡ false → at < length text → ⊥) → is_cut (drop at text) ≡ true → OpenAt (place.Front at comment) text
-front_ends text at comment le goes cut = subst (λ (t : List ℕ). AtEnd (live_row t)) (sym (gap_cut comment (drop at text) cut (at_end text at comment le goes))) (cut_row (drop at text) cut)
-
 pub gap_ends : (text : List ℕ) (p : Part) (at : ℕ) (comment : Bool) → at ≤ length text → (comment ≡ false → at < length text → ⊥) → is_cut (drop at text) ≡ true → OpenAt (place.Gap p at comment) text
 gap_ends text p at comment le goes cut = subst (λ (t : List ℕ). AtEnd (rest_from p t)) (sym (gap_cut comment (drop at text) cut (at_end text at comment le goes))) (cut_rest p (drop at text) cut)
-
-pub front_leads : (text : List ℕ) (from at : ℕ) (comment now : Bool) → ((more : List ℕ) → space_behind comment 0 (drop from (text ++ more)) ≡ space_behind now 0 (drop at (text ++ more)))
-    → Leads text (place.Front from comment) (place.Front at now)
-front_leads text from at comment now same = λ more o. subst (λ (t : List ℕ). AtEnd (live_row t)) (sym (same more)) o
 
 pub gap_leads : (text : List ℕ) (p : Part) (from at : ℕ) (comment now : Bool) → ((more : List ℕ) → space_behind comment 0 (drop from (text ++ more)) ≡ space_behind now 0 (drop at (text ++ more)))
     → Leads text (place.Gap p from comment) (place.Gap p at now)

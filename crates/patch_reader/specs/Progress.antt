@@ -140,13 +140,12 @@ first_part code.Delete = part.Subject
 
 -- ---- how far an unfinished row is known
 
--- the row behind white space and comments is unfinished
+-- the row at the front is unfinished
 abbrev pub IsUnfinished : List ℕ → Type 0
-IsUnfinished text = AtEnd (live_row (skip_space text))
+IsUnfinished text = AtEnd (live_row text)
 
 -- what is read from a place on meets the text's end
 abbrev pub OpenAt : Place → List ℕ → Type 0
-OpenAt (place.Front mark comment) text = AtEnd (live_row (space_behind comment 0 (drop mark text)))
 OpenAt (place.Row start) text = AtEnd (live_row (drop start text))
 OpenAt (place.Gap p mark comment) text = AtEnd (rest_from p (space_behind comment 0 (drop mark text)))
 OpenAt (place.Token p start) text = AtEnd (rest_from p (drop start text))
@@ -167,7 +166,6 @@ Follows text p = ((more : List ℕ) → OpenAt p.place (text ++ more) → IsUnfi
 
 -- the places lie within the text
 abbrev pub IsPlaceWithin : ℕ → Place → Type 0
-IsPlaceWithin size (place.Front mark comment) = mark ≤ size
 IsPlaceWithin size (place.Row start) = start ≤ size
 IsPlaceWithin size (place.Gap p mark comment) = mark ≤ size
 IsPlaceWithin size (place.Token p start) = start ≤ size

@@ -1,12 +1,14 @@
 //! How far the reading of an unfinished row is known, so that it isn't read again for each piece.
 
-ghost use Rattle.std.specs.Prelude.{◌≡◌, ◌≤◌, ◌<◌, ◌++◌, ℕ, List, true, false, not, length, drop};
+ghost use Rattle.std.specs.Prelude.{◌≡◌, ◌≤◌, ◌<◌, ◌++◌, ℕ, List, true, false, not, length, drop, Err};
 ghost use Rattle.rdf_terms.specs.Iri.{is_forbidden};
+ghost use Rattle.nquads_text.specs.Fault.{Fault};
 ghost use Rattle.nquads_text.specs.Faults.{begins_term};
+ghost use Rattle.nquads_text.specs.Reading.{char_at as char_of};
 ghost use Rattle.rows_text.specs.Fault.{Ends};
 ghost use Rattle.rows_text.specs.Reading.{space_behind, stands};
 ghost use Rattle.patch_reader.specs.Cut.{is_cut};
-ghost use Rattle.patch_reader.specs.Progress.{part_at, part_behind as part_behind_of, takes_term as term_is_taken, first_part as first_part_of, IsWithin, IsStep, IsFollowed, OpenInside, progress_at, plain_in_string, is_short_escape as short_escape};
+ghost use Rattle.patch_reader.specs.Progress.{part_at, part_behind as part_behind_of, takes_term as term_is_taken, first_part as first_part_of, IsPlaceWithin, IsWithin, IsStep, IsFollowed, OpenInside, progress_at, plain_in_string, is_short_escape as short_escape};
 ghost use Rattle.patch_reader.specs.declared.progress.Inside.TheVariants as inside;
 ghost use Rattle.patch_reader.specs.declared.progress.Part.TheVariants as parts;
 ghost use Rattle.patch_reader.specs.declared.progress.Place.TheVariants as place;
@@ -44,14 +46,9 @@ pub enum Part {
     End,
 }
 
-/// A place in what is kept, from which on the row's reading isn't known.
+/// A place in a row, from which on its reading isn't known.
 #[derive(Clone, Copy)]
 pub enum Place {
-    /// In white space and comments before the row.
-    Front {
-        mark: usize,
-        comment: bool,
-    },
     /// At the row's first byte.
     Row {
         start: usize,
@@ -83,6 +80,15 @@ pub struct Progress {
     pub inside: Inside,
 }
 
+/// What stands at the front of what is kept.
+#[derive(Clone, Copy)]
+pub enum Phase {
+    /// White space and comments, or the rest of a comment.
+    Gap { comment: bool },
+    /// An unfinished row.
+    Row { progress: Progress },
+}
+
 /// One step through an unfinished row.
 #[derive(Clone, Copy)]
 pub enum Step {
@@ -109,14 +115,11 @@ fn at_place(place: Place) -> Progress
     }
 }
 
-/// Before a row of which nothing is known.
-pub fn at_front() -> Progress
-    ensures { result ≡ progress_at (place.Front 0 false) }
+/// At the front of a row of which nothing is known.
+pub fn at_row() -> Progress
+    ensures { result ≡ progress_at (place.Row 0) }
 {
-    at_place(Place::Front {
-        mark: 0,
-        comment: false,
-    })
+    at_place(Place::Row { start: 0 })
 }
 
 fn first_part(code: Code) -> Part
@@ -153,10 +156,11 @@ fn takes_term(part: Part) -> bool
 
 /// The place behind white space and comments, as far as they are known, and whether a comment goes on there.
 #[tactic(auto, using(crate::proofs::GapSteps::gap_steps))]
-fn pass_gap(text: &[u8], from: usize, in_comment: bool) -> (usize, bool)
+pub fn pass_gap(text: &[u8], from: usize, in_comment: bool) -> (usize, bool)
     requires { from ≤ length text.now }
     ensures same { (more : List ℕ) → space_behind in_comment 0 (drop from (text.now ++ more)) ≡ space_behind result.1 0 (drop result.0 (text.now ++ more)) }
     ensures high { result.0 ≤ length text.now }
+    ensures stuck { result.1 ≡ true → (fault : Fault) × (char_of (drop result.0 text.now) ≡ Err fault) }
     ensures stops { result.1 ≡ false → result.0 < length text.now → (more : List ℕ) → space_behind false 0 (drop result.0 (text.now ++ more)) ≡ drop result.0 (text.now ++ more) }
 {
     let mut at = from;
@@ -183,7 +187,7 @@ fn pass_gap(text: &[u8], from: usize, in_comment: bool) -> (usize, bool)
 }
 
 /// Whether the text ends there, or within a character.
-fn is_cut_at(text: &[u8], at: usize) -> bool
+pub fn is_cut_at(text: &[u8], at: usize) -> bool
     requires { at ≤ length text.now }
     ensures { result ≡ is_cut (drop at text.now) }
 {
@@ -191,26 +195,11 @@ fn is_cut_at(text: &[u8], at: usize) -> bool
 }
 
 /// Whether something else than white space and comments stands there.
-fn is_past_gap(text: &[u8], at: usize, comment: bool) -> bool
+pub fn is_past_gap(text: &[u8], at: usize, comment: bool) -> bool
     ensures yes { result ≡ true → (comment ≡ false) × (at < length text.now) }
     ensures none { result ≡ false → comment ≡ false → at < length text.now → ⊥ }
 {
     !comment && at < text.len()
-}
-
-/// Through white space and comments before a row.
-fn step_front(text: &[u8], mark: usize, comment: bool) -> Step
-    requires { mark ≤ length text.now }
-    ensures { IsStep text.now (progress_at (place.Front mark comment)) result }
-{
-    let (at, comment) = pass_gap(text, mark, comment);
-    if is_past_gap(text, at, comment) {
-        return Step::Goes(Place::Row { start: at });
-    }
-    if is_cut_at(text, at) {
-        return Step::Open(Place::Front { mark: at, comment });
-    }
-    Step::Unknown
 }
 
 /// Through white space and comments before a part.
@@ -459,7 +448,6 @@ fn advance(alloc: Global, text: &[u8], progress: Progress) -> Step
             }
             Step::Unknown
         }
-        (Place::Front { mark, comment }, _) => step_front(text, mark, comment),
         (Place::Row { start }, _) => step_row(text, start),
         (
             Place::Gap {
@@ -492,4 +480,26 @@ pub fn follow(alloc: Global, text: &[u8], progress: Progress) -> Option<Progress
         }
     }
     None
+}
+
+fn is_place_within(place: Place, size: usize) -> bool
+    ensures { result ≡ true → IsPlaceWithin size place }
+{
+    match place {
+        Place::Row { start } => start <= size,
+        Place::Gap { mark, .. } => mark <= size,
+        Place::Token { start, .. } => start <= size,
+    }
+}
+
+/// Whether its places lie within a text of this size.
+pub fn is_within(progress: Progress, size: usize) -> bool
+    ensures { result ≡ true → IsWithin size progress }
+{
+    let inside = match progress.inside {
+        Inside::Nothing => true,
+        Inside::String { mark } => mark <= size,
+        Inside::Iri { mark } => mark <= size,
+    };
+    inside && is_place_within(progress.place, size)
 }
