@@ -1,8 +1,7 @@
 //! The file of the registry.
-ghost use Rattle.std.specs.Prelude.{◌≡◌, ℕ, ◌/◌, ◌%◌, ◌+◌, ◌<◌, ◌≤◌, ◌∷◌, [], IfOk, IfErr, IsErrOf, MatchOption};
+ghost use Rattle.std.specs.Prelude.{◌≡◌, ℕ, ◌+◌, ◌<◌, ◌≤◌, ◌∷◌, [], IfOk, IfErr, IsErrOf, MatchOption};
 ghost use Rattle.delta_base.specs.Outside.{Rose};
 ghost use Rattle.disk_model.specs.Past.{reads};
-ghost use Rattle.slot_files.specs.Files.{slots_payload};
 ghost use Rattle.slot_checks.specs.Sound.{IsRegistry, TellsSlots, IsBrokenEvent};
 ghost use Rattle.slot_checks.specs.Faults.{HasRegistryFault};
 
@@ -10,26 +9,18 @@ use crate::fault::CheckFault;
 use delta_base::Bytes;
 use disk_model::Disk;
 use log_journal::{Journal, OpenRefusal};
+use slot_files::first_payload;
 use std::alloc::Global;
 
 // How long the registry's journal may get.
 const LIMIT: u64 = 1_048_576;
-
-// The payload that tells this number of slots.
-fn telling(slots: u8) -> [u8; 3]
-    requires { slots < 100 }
-    ensures { result ≡ slots_payload slots }
-{
-    [b'S', b'0' + slots / 10, b'0' + slots % 10]
-}
 
 // The number of slots that a payload tells.
 fn slots_in(payload: &[u8]) -> Option<u8>
     ensures { MatchOption result ((slots : ℕ) → TellsSlots payload.now slots → ⊥) (λ slots. TellsSlots payload.now slots) }
 {
     for slots in 1..17u8 {
-        let told = telling(slots);
-        if payload == told.as_slice() {
+        if payload == first_payload(slots) {
             return Some(slots);
         }
     }

@@ -1,5 +1,6 @@
 -- The files of a registry and its logs, as they are made.
-use Rattle.std.specs.Prelude.{◌≡◌, ◌⊎◌, ℕ, zero, suc, ◌+◌, ◌/◌, ◌%◌, ◌<◌, ◌≤◌, List, [], ◌∷◌, length, Option, Some, unwrap_or}
+use Rattle.std.specs.Prelude.{◌≡◌, ◌⊎◌, ℕ, zero, suc, ◌+◌, ◌<◌, ◌≤◌, List, [], ◌∷◌, length, Option, Some, unwrap_or}
+use Rattle.std.specs.Fmt.{decimal}
 use Rattle.log_journal.specs.File.{file_of}
 
 -- what a shelf has for each directory and number
@@ -10,9 +11,9 @@ Files = List ℕ → ℕ → Option (List ℕ)
 abbrev pub bytes_at : Files → List ℕ → ℕ → List ℕ
 bytes_at files dir number = unwrap_or (files dir number) []
 
--- `S` and the number of slots in two digits
+-- `S`, a space and the number of slots in decimal
 abbrev pub slots_payload : ℕ → List ℕ
-slots_payload slots = 83 ∷ (48 + slots / 10) ∷ (48 + slots % 10) ∷ []
+slots_payload slots = 83 ∷ 32 ∷ decimal slots
 
 -- the files of a directory from 1 on and below `end` had no bytes, and are now empty journals of their numbers
 pub record AreMade (dir : List ℕ) (end : ℕ) (old new : Files) : Type 0 where

@@ -12,6 +12,7 @@ mod registry;
 
 pub use fault::InitFault;
 pub use making::init_slots;
+pub use registry::first_payload;
 
 #[cfg(test)]
 mod tests;

@@ -32,7 +32,7 @@ pub fn init_slots<H: Shelf>(
     ensures cause { IsErrOf result InitFault.Failed → Rose (H.faults shelf.old) (H.faults shelf.new) }
     ensures faults { H.faults shelf.old ≤ H.faults shelf.new }
 {
-    let block = make_block(alloc, &first_payload(slots))?;
+    let block = make_block(alloc, first_payload(slots))?;
     format_logs(shelf, dir, slots)?;
     write_registry(shelf, dir, &block)
 }

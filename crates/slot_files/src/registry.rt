@@ -16,12 +16,32 @@ use log_journal::{AppendFault, Block, FormatFault, Journal};
 // How long the registry's journal may get.
 const LIMIT: u64 = 1_048_576;
 
-/// `S` and the number of slots in two digits.
-pub fn first_payload(slots: u8) -> [u8; 3]
-    requires { slots < 100 }
-    ensures { result ≡ slots_payload slots }
+/// The registry's first payload: `S`, a space and the number of slots.
+pub fn first_payload(slots: u8) -> &'static [u8]
+    requires some { 1 ≤ slots }
+    requires few { slots ≤ 16 }
+    ensures payload { result.now ≡ slots_payload slots }
+    ensures short { length result.now ≤ 4 }
 {
-    [b'S', b'0' + slots / 10, b'0' + slots % 10]
+    match slots {
+        1 => b"S 1",
+        2 => b"S 2",
+        3 => b"S 3",
+        4 => b"S 4",
+        5 => b"S 5",
+        6 => b"S 6",
+        7 => b"S 7",
+        8 => b"S 8",
+        9 => b"S 9",
+        10 => b"S 10",
+        11 => b"S 11",
+        12 => b"S 12",
+        13 => b"S 13",
+        14 => b"S 14",
+        15 => b"S 15",
+        16 => b"S 16",
+        _ => unreachable!(),
+    }
 }
 
 // Makes an empty file the registry's, and gives its disk back.

@@ -16,7 +16,7 @@ fn two_logs_have_three_files(rt: HostRuntime) -> Result<(), Fail> {
     let mut shelf = MemShelf::new(alloc, calls(alloc, &[])?);
     assert_eq!(rt; init_slots(alloc, &mut shelf, &dir, 2), Ok(()));
     for (number, bytes) in [
-        (0, b"RDJ1\0\0\0\0\x01\0\0\0\x03S02\0".as_slice()),
+        (0, b"RDJ1\0\0\0\0\x01\0\0\0\x03S 2\0".as_slice()),
         (1, b"RDJ1\0\0\0\x01\0"),
         (2, b"RDJ1\0\0\0\x02\0"),
     ] {
@@ -41,7 +41,7 @@ fn sixteen_slots_have_two_digits(rt: HostRuntime) -> Result<(), Fail> {
     assert_eq!(rt; init_slots(alloc, &mut shelf, &dir, 16), Ok(()));
     assert_eq!(rt;
         shelf.file(&dir, 0).ok_or("no file")?,
-        b"RDJ1\0\0\0\0\x01\0\0\0\x03S16\0".as_slice()
+        b"RDJ1\0\0\0\0\x01\0\0\0\x04S 16\0".as_slice()
     );
     assert_eq!(rt;
         shelf.file(&dir, 16).ok_or("no file")?,
