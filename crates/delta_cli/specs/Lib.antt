@@ -1,7 +1,5 @@
-pub mod Channel
-pub mod Patch
-pub mod Stream
-pub mod Reading
-pub mod Replay
+pub mod Channels
+pub mod Commands
 pub mod Document
-pub mod Tool
+pub mod Lines
+pub mod Refusals

@@ -1,19 +1,11 @@
 //! The commands of `rdfdelta`.
 #![tactic(auto)]
 
-mod channel;
-mod laws;
+mod command;
 mod lines;
-mod patch;
-mod replay;
-mod report;
-mod show;
-mod stream;
-#[cfg(test)]
-mod tests;
-mod tool;
+mod name;
+mod refusal;
 
-pub use channel::STREAM_LIMIT;
-pub use laws::{one_place, one_status, one_stream, stops_exclude_streams};
-pub use report::{tell, tell_made};
-pub use tool::run_tool;
+pub use command::{Command, read_command};
+pub use name::Name;
+pub use refusal::{Refusal, report};

@@ -1,0 +1,10 @@
+//! Writing whole texts to a sink, short ones together.
+#![tactic(auto)]
+
+mod room;
+#[cfg(test)]
+mod tests;
+mod whole;
+
+pub use room::{PIECE, put};
+pub use whole::write_all;
