@@ -18,7 +18,7 @@ one_gap text from a b first second = one_place text a b first.2 second.2 (sym (s
 
 short_row : (text : List ℕ) (at : ℕ) (r : Row) (end : ℕ) → IsRowAt text at r end → ShortRowAt (drop at text) r (drop end text)
 unfolding IsRowAt
-short_row text at r end is = (is.0, λ long. absurd (omega (arith, is.1, is.2, is.3, long, length-drop at text, length-drop end text)))
+short_row text at r end is = is.0
 
 pub one_row_at : (text : List ℕ) (at : ℕ) (r s : Row) (end stop : ℕ) → IsRowAt text at r end → IsRowAt text at s stop → (r ≡ s) × (end ≡ stop)
 one_row_at text at r s end stop first second =
