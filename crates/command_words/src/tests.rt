@@ -13,6 +13,7 @@ fn words_of(alloc: Global, words: &[&str]) -> Result<Vec<String>, AllocError> {
 #[test]
 fn positions_are_read(rt: HostRuntime) -> Result<(), Fail> {
     let words = words_of(rt.alloc(), &["sync", "d", "127.0.0.1:1066", ""])?;
+    assert_eq!(rt; words.len(), 4);
     let values = read_words(rt.alloc(), &["DIR", "ADDR", "NAME"], &words)?;
     assert!(rt; values.as_slice() == ["d", "127.0.0.1:1066", ""].as_slice());
     Ok(())
@@ -21,6 +22,7 @@ fn positions_are_read(rt: HostRuntime) -> Result<(), Fail> {
 #[test]
 fn a_command_may_have_no_position(rt: HostRuntime) -> Result<(), Fail> {
     let words = words_of(rt.alloc(), &["replay"])?;
+    assert_eq!(rt; words.len(), 1);
     assert!(rt; read_words(rt.alloc(), &[], &words)?.is_empty());
     Ok(())
 }
@@ -35,6 +37,7 @@ fn too_few_too_many_and_options_are_refused(rt: HostRuntime) -> Result<(), Fail>
         ["gen", "--"].as_slice(),
     ] {
         let words = words_of(rt.alloc(), words)?;
+        assert!(rt; words.len() > 0);
         let read = read_words(rt.alloc(), &["N"], &words);
         assert!(rt; matches!(read, Err(WordsFault::Usage)));
     }

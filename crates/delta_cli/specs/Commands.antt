@@ -1,7 +1,7 @@
 -- The commands, and the words that ask for them.
 use Rattle.std.specs.Prelude.{◌≡◌, ℕ, ◌≤◌, List, [], ◌∷◌, Option, None, Some, codes}
 use Rattle.std.specs.Fmt.{decimal}
-use Rattle.command_words.specs.Positions.{FitPositions}
+use Rattle.command_words.specs.Positions.{FitPositions, IsPlainWord}
 use Rattle.delta_cli.specs.declared.command.Command.{Command}
 use Rattle.delta_cli.specs.declared.command.Command.TheVariants as commands
 use Rattle.delta_cli.specs.declared.name.Name.{Name}
@@ -10,17 +10,13 @@ use Rattle.delta_cli.specs.declared.refusal.Refusal.{Refusal}
 use Rattle.delta_cli.specs.declared.refusal.Refusal.TheVariants as refusals
 use Rattle.delta_cli.specs.Lines.{name_text}
 
--- a word that doesn't begin with `-`
-abbrev pub IsPlain : List ℕ → Type 0
-IsPlain word = (rest : List ℕ) → word ≡ 45 ∷ rest → ⊥
-
--- the words ask for this command; numbers are decimal, without sign and leading zeros
+-- The words ask for this command. Numbers are decimal, without sign and leading zeros; the directory doesn't begin with `-`.
 abbrev pub Asks : List (List ℕ) → Command → Type 0
 Asks words commands.Replay = words ≡ codes "replay" ∷ []
 Asks words commands.Nquads = words ≡ codes "nquads" ∷ []
 Asks words (commands.Gen patches) = (words ≡ codes "gen" ∷ decimal patches ∷ []) × (patches ≤ 65536)
 Asks words (commands.Emit patches) = (words ≡ codes "emit" ∷ decimal patches ∷ []) × (patches ≤ 65536)
-Asks words (commands.Init dir slots) = (words ≡ codes "init" ∷ dir ∷ decimal slots ∷ []) × IsPlain dir × (1 ≤ slots) × (slots ≤ 16)
+Asks words (commands.Init dir slots) = (words ≡ codes "init" ∷ dir ∷ decimal slots ∷ []) × IsPlainWord dir × (1 ≤ slots) × (slots ≤ 16)
 Asks words commands.Help = words ≡ codes "--help" ∷ []
 Asks words commands.Version = words ≡ codes "--version" ∷ []
 
@@ -46,6 +42,10 @@ positions_of names.Version = []
 -- the first word names a command
 abbrev pub BeginsWith : List (List ℕ) → Name → Type 0
 BeginsWith words name = (rest : List (List ℕ)) × (words ≡ name_text name ∷ rest)
+
+-- the first word is this one
+abbrev pub HasFirst : List (List ℕ) → List ℕ → Type 0
+HasFirst words first = (rest : List (List ℕ)) × (words ≡ first ∷ rest)
 
 -- the first word names the command, and behind it stands a word for each of its positions, none of which begins with `-`
 abbrev pub FitsName : List (List ℕ) → Name → Type 0

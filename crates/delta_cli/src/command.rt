@@ -1,7 +1,8 @@
 //! What the words ask for.
-ghost use Rattle.std.specs.Prelude.{◌≡◌, ◌<◌, ◌≤◌, ◌^◌, ◌∷◌, [], ℕ, List, IfOk, IfErr};
+ghost use Rattle.std.specs.Prelude.{◌≡◌, ◌<◌, ◌≤◌, ◌^◌, ◌∷◌, [], ℕ, List, IfOk, IfErr, OnOk};
 ghost use Rattle.delta_cli.specs.Channels.{words_of};
-ghost use Rattle.delta_cli.specs.Commands.{Asks, BeginsWith, FitsName, IsNumberIn, RefusesWords};
+ghost use Rattle.command_words.specs.Positions.{FitPositions};
+ghost use Rattle.delta_cli.specs.Commands.{Asks, BeginsWith, FitsName, HasFirst, IsNumberIn, RefusesWords, positions_of};
 
 use crate::name::Name;
 use crate::refusal::Refusal;
@@ -30,16 +31,24 @@ const MOST_PATCHES: u32 = 65_536;
 const MOST_SLOTS: u32 = 16;
 
 /// The command that the words ask for.
-pub fn read_command(alloc: Global, words: &Vec<String>) -> Result<Command, Refusal>
-    ensures asks { IfOk result (Asks (words_of words.now.items)) }
-    ensures refused { IfErr result (RefusesWords (words_of words.now.items)) }
+pub fn read_command(alloc: Global, words: &[String]) -> Result<Command, Refusal>
+    ensures asks { IfOk result (Asks (words_of words.now)) }
+    ensures refused { IfErr result (RefusesWords (words_of words.now)) }
 {
-    let name = match words.as_slice() {
-        [first, ..] => Name::find(first.as_str()),
-        [] => None,
-    };
-    match name {
-        Some(name) => read_positions(alloc, name, words.as_slice()),
+    match words {
+        [first, ..] => read_named(alloc, first.as_str(), words),
+        [] => Err(Refusal::UnknownCommand),
+    }
+}
+
+// The command that the words ask for, of which this is the first.
+fn read_named(alloc: Global, first: &str, words: &[String]) -> Result<Command, Refusal>
+    requires { HasFirst (words_of words.now) first.now }
+    ensures asks { IfOk result (Asks (words_of words.now)) }
+    ensures refused { IfErr result (RefusesWords (words_of words.now)) }
+{
+    match Name::find(first) {
+        Some(name) => read_positions(alloc, name, words),
         None => Err(Refusal::UnknownCommand),
     }
 }
@@ -50,10 +59,22 @@ fn read_positions(alloc: Global, name: Name, words: &[String]) -> Result<Command
     ensures asks { IfOk result (Asks (words_of words.now)) }
     ensures refused { IfErr result (RefusesWords (words_of words.now)) }
 {
-    match read_words(alloc, name.positions(), words) {
-        Ok(_) => make(alloc, name, words),
+    match test_positions(alloc, name, words) {
+        Ok(()) => make(alloc, name, words),
         Err(WordsFault::Usage) => Err(Refusal::Usage(name)),
         Err(WordsFault::OutOfMemory) => Err(Refusal::OutOfMemory),
+    }
+}
+
+// Whether the words are one for each of the command's positions.
+fn test_positions(alloc: Global, name: Name, words: &[String]) -> Result<(), WordsFault>
+    requires { BeginsWith (words_of words.now) name }
+    ensures fit { OnOk result (FitPositions (positions_of name) (words_of words.now)) }
+    ensures usage { result ≡ Err WordsFault.Usage → ¬ (FitPositions (positions_of name) (words_of words.now)) }
+{
+    match read_words(alloc, name.positions(), words) {
+        Ok(_values) => Ok(()),
+        Err(fault) => Err(fault),
     }
 }
 

@@ -13,6 +13,7 @@ use rows_text::RowKind;
 use std::alloc::Global;
 
 /// The line of a refusal.
+#[tactic(auto, unfolding(crate::specs::Lines::line_of))]
 pub fn line_of(alloc: Global, refusal: Refusal) -> Result<Vec<u8>, OutOfMemory>
     ensures { IfOk result (λ text. text.items ≡ line_of refusal) }
 {
