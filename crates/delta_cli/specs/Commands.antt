@@ -20,6 +20,13 @@ Asks words (commands.Init dir slots) = (words ≡ codes "init" ∷ dir ∷ decim
 Asks words commands.Help = words ≡ codes "--help" ∷ []
 Asks words commands.Version = words ≡ codes "--version" ∷ []
 
+-- the numbers of a command are within their bounds
+abbrev pub Fits : Command → Type 0
+Fits (commands.Gen patches) = patches ≤ 65536
+Fits (commands.Emit patches) = patches ≤ 65536
+Fits (commands.Init dir slots) = (1 ≤ slots) × (slots ≤ 16)
+Fits other = Unit {0}
+
 -- they ask for no command
 abbrev pub AsksNothing : List (List ℕ) → Type 0
 AsksNothing words = (c : Command) → Asks words c → ⊥

@@ -4,7 +4,9 @@
 mod room;
 #[cfg(test)]
 mod tests;
+mod texts;
 mod whole;
 
 pub use room::{PIECE, put};
+pub use texts::write_texts;
 pub use whole::write_all;

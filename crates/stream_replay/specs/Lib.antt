@@ -4,3 +4,4 @@ pub mod Replaying
 pub mod Places
 pub mod Ending
 pub mod Windows
+pub mod Source

@@ -9,10 +9,12 @@ mod fault;
 mod lines;
 mod place;
 mod replay;
+mod source;
 mod window;
 
 pub use fault::ReplayFault;
 pub use lines::{Lines, PIECE, write_lines};
 pub use place::{Told, line_of, tell};
 pub use replay::{Replay, Replayed};
+pub use source::{STREAM_LIMIT, replay_source};
 pub use window::Window;

@@ -1,0 +1,58 @@
+-- What the tool answers, and why.
+use Rattle.std.specs.Prelude.{◌≡◌, ℕ, ◌+◌, List}
+use Rattle.delta_base.specs.Outside.{Rose}
+use Rattle.slot_files.specs.Files.{Files, IsInitial, StopsAt, SameBut, KeepsFull}
+use Rattle.stream_generator.specs.Generator.{stream_text}
+use Rattle.delta_cli.specs.Channels.{Channel, IsSilent, Tells, Writes}
+use Rattle.delta_cli.specs.Commands.{Asks, AsksNothing, RefusesWords}
+use Rattle.delta_cli.specs.Document.{IsShown}
+use Rattle.delta_cli.specs.Lines.{line_of, status_of, out_of_memory_line}
+use Rattle.delta_cli.specs.Results.{Reads, Prints, HasLines, HasCounts, StopsReplay, StopsNquads, StopsCounting, StopsWriting}
+use Rattle.delta_cli.specs.Told.{Told, LeavesInput, LeavesFiles, LeavesAll}
+use Rattle.delta_cli.specs.declared.command.Command.{Command}
+use Rattle.delta_cli.specs.declared.command.Command.TheVariants as commands
+use Rattle.delta_cli.specs.declared.refusal.Refusal.{Refusal}
+use Rattle.delta_cli.specs.declared.refusal.Refusal.TheVariants as refusals
+use Rattle.delta_cli.specs.declared.help.TheConstants.{HELP, VERSION}
+
+-- where the shelf tells its files, those of the directory that had bytes and those of other names are as they were
+abbrev pub Spares : List ℕ → ℕ → Type 0 → Files → Files → Type 0
+Spares dir slots tells files files' = tells → KeepsFull dir files files' × SameBut dir 0 (slots + 1) files files'
+
+-- what a command has done that ends with its result
+abbrev pub Does : Command → Type 0 → Told → Told → Type 0
+Does commands.Replay tells old new = Reads old.input new.input (Prints HasLines old.out new.out) × LeavesFiles old new
+Does commands.Nquads tells old new = Reads old.input new.input (Prints IsShown old.out new.out) × LeavesFiles old new
+Does (commands.Gen patches) tells old new = Prints HasCounts old.out new.out (stream_text patches) × LeavesInput old new × LeavesFiles old new
+Does (commands.Emit patches) tells old new = Writes old.out new.out (stream_text patches) × LeavesInput old new × LeavesFiles old new
+Does (commands.Init dir slots) tells old new =
+    (tells → IsInitial dir slots old.files new.files) × Spares dir slots tells old.files new.files × LeavesInput old new × (new.out ≡ old.out)
+Does commands.Help tells old new = Writes old.out new.out HELP.now × LeavesInput old new × LeavesFiles old new
+Does commands.Version tells old new = Writes old.out new.out VERSION.now × LeavesInput old new × LeavesFiles old new
+
+-- why files were not made
+abbrev pub StopsInit : List ℕ → ℕ → Type 0 → Files → Files → ℕ → ℕ → Refusal → Type 0
+StopsInit dir slots tells files files' faults faults' (refusals.NotEmpty file length) = tells → StopsAt dir slots file length files files'
+StopsInit dir slots tells files files' faults faults' refusals.DiskFailed = Rose faults faults'
+StopsInit dir slots tells files files' faults faults' refusals.OutOfMemory = Unit {0}
+StopsInit dir slots tells files files' faults faults' other = ⊥
+
+-- why a command ends without its result, and what it has done by then
+abbrev pub Stops : Command → Refusal → Type 0 → Told → Told → Type 0
+Stops commands.Replay refusal tells old new = StopsReplay refusal old.input new.input old.out new.out × LeavesFiles old new
+Stops commands.Nquads refusal tells old new = StopsNquads refusal old.input new.input old.out new.out × LeavesFiles old new
+Stops (commands.Gen patches) refusal tells old new = StopsCounting (stream_text patches) refusal old.out new.out × LeavesInput old new × LeavesFiles old new
+Stops (commands.Emit patches) refusal tells old new = StopsWriting (stream_text patches) refusal old.out new.out × LeavesInput old new × LeavesFiles old new
+Stops (commands.Init dir slots) refusal tells old new =
+    StopsInit dir slots tells old.files new.files old.shelf_faults new.shelf_faults refusal × Spares dir slots tells old.files new.files × LeavesInput old new × (new.out ≡ old.out)
+Stops commands.Help refusal tells old new = StopsWriting HELP.now refusal old.out new.out × LeavesInput old new × LeavesFiles old new
+Stops commands.Version refusal tells old new = StopsWriting VERSION.now refusal old.out new.out × LeavesInput old new × LeavesFiles old new
+
+-- The status for these words, with what was told of the outside and of err before and after. Err has the line of the refusal,
+-- or, where there is no memory to make it, the line of status 8.
+pub data Answers (words : List (List ℕ)) (tells : Type 0) (old new : Told) (err err' : Channel) : ℕ → Type 0 where
+  done : (c : Command) → Asks words c → Does c tells old new → IsSilent err err' → Answers words tells old new err err' 0
+  stopped : (c : Command) (r : Refusal) → Asks words c → Stops c r tells old new → Tells err err' (line_of r) → Answers words tells old new err err' (status_of r)
+  untold : (c : Command) (r : Refusal) → Asks words c → Stops c r tells old new → Tells err err' out_of_memory_line → Answers words tells old new err err' 8
+  refused : (r : Refusal) → RefusesWords words r → LeavesAll old new → Tells err err' (line_of r) → Answers words tells old new err err' (status_of r)
+  unread : (r : Refusal) → RefusesWords words r → LeavesAll old new → Tells err err' out_of_memory_line → Answers words tells old new err err' 8

@@ -1,0 +1,54 @@
+//! The command `replay`: the canonical lines of the dataset that a stream of patches makes.
+ghost use Rattle.std.specs.Prelude.{◌≡◌, IfErr, OnOk};
+ghost use Rattle.sink_writing.specs.Writing.{joined};
+ghost use Rattle.delta_cli.specs.Channels.{Writes, channel};
+ghost use Rattle.delta_cli.specs.Results.{HasLines, Prints, Reads, StopsPrinting, StopsReplay, refusal_of};
+
+use crate::refusal::Refusal;
+use delta_base::{Sink, Source};
+use sink_writing::PIECE;
+use std::alloc::Global;
+use stream_replay::{Lines, ReplayFault, replay_source, write_lines};
+
+/// Reads a stream to its end, and writes the lines of its replay.
+pub fn replay<S: Source, K: Sink>(alloc: Global, input: &mut S, out: &mut K) -> Result<(), Refusal>
+    ensures done { OnOk result (Reads
+        (channel (S.left input.old) (S.faults input.old)) (channel (S.left input.new) (S.faults input.new))
+        (Prints HasLines (channel (K.written out.old) (K.faults out.old)) (channel (K.written out.new) (K.faults out.new)))) }
+    ensures stopped { IfErr result (λ refusal. StopsReplay refusal
+        (channel (S.left input.old) (S.faults input.old)) (channel (S.left input.new) (S.faults input.new))
+        (channel (K.written out.old) (K.faults out.old)) (channel (K.written out.new) (K.faults out.new))) }
+{
+    match replay_source(alloc, input) {
+        Ok(replayed) => print_lines(alloc, &replayed.lines, out),
+        Err(fault) => Err(refusal_of(fault)),
+    }
+}
+
+// Writes the lines.
+fn print_lines<K: Sink>(alloc: Global, lines: &Lines, out: &mut K) -> Result<(), Refusal>
+    ensures done { OnOk result (Writes (channel (K.written out.old) (K.faults out.old)) (channel (K.written out.new) (K.faults out.new)) (joined lines.now.keys)) }
+    ensures stopped { IfErr result (StopsPrinting (joined lines.now.keys) (channel (K.written out.old) (K.faults out.old)) (channel (K.written out.new) (K.faults out.new))) }
+{
+    let Ok(room) = Vec::with_capacity(alloc, PIECE) else {
+        return Err(Refusal::OutOfMemory);
+    };
+    if write_lines(out, lines, room) {
+        Ok(())
+    } else {
+        Err(Refusal::OutputFailed)
+    }
+}
+
+/// How a command ends whose input has no replay.
+pub fn refusal_of(fault: ReplayFault) -> Refusal
+    ensures { result ≡ refusal_of fault }
+{
+    match fault {
+        ReplayFault::Stream { line, fault } => Refusal::Stream { line, fault },
+        ReplayFault::Chain(fault) => Refusal::Chain(fault),
+        ReplayFault::TooLong => Refusal::TooLong,
+        ReplayFault::Failed => Refusal::InputFailed,
+        ReplayFault::OutOfMemory => Refusal::OutOfMemory,
+    }
+}

@@ -1,0 +1,56 @@
+-- What the replay of an input says of its text.
+use Rattle.std.specs.Prelude.{◌≡◌, ℕ, ◌<◌, ◌≤◌, List, [], length, Option, Some, None}
+use Rattle.delta_base.specs.Outside.{Rose}
+use Rattle.chain_core.specs.declared.testing.ChainFault.{ChainFault}
+use Rattle.chain_core.specs.Breaks.{Breaks}
+use Rattle.patch_meaning.specs.Patch.{Meaning}
+use Rattle.patch_meaning.specs.Replay.{links_of}
+use Rattle.patch_meaning.specs.Stream.{IsStream}
+use Rattle.stream_replay.specs.declared.replay.Replayed.{Replayed}
+use Rattle.stream_replay.specs.declared.fault.ReplayFault.{ReplayFault}
+use Rattle.stream_replay.specs.declared.fault.ReplayFault.TheVariants as ends
+use Rattle.stream_replay.specs.Places.{IsFaulty}
+use Rattle.stream_replay.specs.Replaying.{AreReplayed}
+
+-- the bytes that a stream may have
+abbrev pub stream_limit : ℕ
+stream_limit = 268435456
+
+-- where an input tells its bytes, it was read to its end, and its text isn't too long and is such
+abbrev pub Reads : Option (List ℕ) → Option (List ℕ) → (List ℕ → Type 0) → Type 0
+Reads None left IsSuch = Unit {0}
+Reads (Some text) left IsSuch = (left ≡ Some []) × (length text ≤ stream_limit) × IsSuch text
+
+-- where an input tells its bytes, they are too many
+abbrev pub IsTooLong : Option (List ℕ) → Type 0
+IsTooLong None = Unit {0}
+IsTooLong (Some text) = stream_limit < length text
+
+-- the text is a stream, and this is the replay of its patches
+pub record IsReplayed (r : Replayed) (text : List ℕ) : Type 0 where
+  pub meanings : List Meaning
+  pub stream : IsStream text meanings
+  pub replayed : AreReplayed meanings r
+
+-- the text is a stream, and this is the first fault of its patches as a chain
+pub record IsUnchained (fault : ChainFault) (text : List ℕ) : Type 0 where
+  pub meanings : List Meaning
+  pub stream : IsStream text meanings
+  pub breaks : Breaks (links_of meanings) fault
+
+-- why a text has no replay; want of memory is free
+abbrev pub EndsText : ReplayFault → List ℕ → Type 0
+EndsText (ends.Stream line fault) text = IsFaulty line fault text
+EndsText (ends.Chain fault) text = IsUnchained fault text
+EndsText ends.TooLong text = ⊥
+EndsText ends.Failed text = ⊥
+EndsText ends.OutOfMemory text = Unit {0}
+
+-- Why an input has no replay, with what was told of it before and after: its bytes, and how often a call has failed. Want of
+-- memory is free.
+abbrev pub Ends : Option (List ℕ) → Option (List ℕ) → ℕ → ℕ → ReplayFault → Type 0
+Ends before after faults faults' (ends.Stream line fault) = Reads before after (IsFaulty line fault)
+Ends before after faults faults' (ends.Chain fault) = Reads before after (IsUnchained fault)
+Ends before after faults faults' ends.TooLong = IsTooLong before
+Ends before after faults faults' ends.Failed = Rose faults faults'
+Ends before after faults faults' ends.OutOfMemory = Unit {0}
