@@ -5,3 +5,4 @@ pub mod Sound
 pub mod Openings
 pub mod States
 pub mod Runs
+pub mod Reopened

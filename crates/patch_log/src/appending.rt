@@ -1,10 +1,12 @@
 //! Appends: one stay in a log's turn, and many.
-ghost use Rattle.std.specs.Prelude.{◌≡◌, ◌≢◌, ℕ, ◌≤◌, ◌++◌, [], ◌∷◌, map, IfOk, OnErr};
+ghost use Rattle.std.specs.Prelude.{◌≡◌, ◌≢◌, ℕ, ◌-◌, ◌≤◌, ◌++◌, [], ◌∷◌, map, IfOk, OnErr};
 ghost use Rattle.delta_base.specs.Outside.{Rose};
-ghost use Rattle.disk_model.specs.Past.{EveryImage, LeavesOnly};
+ghost use Rattle.disk_model.specs.Past.{ok_syncs, EveryImage, LeavesOnly};
 ghost use Rattle.log_journal.specs.File.{Holds};
+ghost use Rattle.chain_core.specs.Decision.{decision};
 ghost use Rattle.chain_core.specs.Log.{up};
 ghost use Rattle.chain_core.specs.Patches.{patches_of, texts_of};
+ghost use Rattle.chain_core.specs.Stay.{Stay, fate_by_syncs};
 ghost use Rattle.patch_log.specs.Log.{bare, MayHoldDuring};
 ghost use Rattle.patch_log.specs.Run.{Appends, Run};
 
@@ -18,6 +20,10 @@ use std::alloc::Global;
 /// Adds a patch, or says why not: Known, Conflict, Full, want of memory and a disk fault, in this order.
 pub fn append<D: Disk>(log: &mut LogState<D>, patch: &Checked, by: u32) -> LogAnswer
     ensures appends { Appends log.old.limits (patches_of log.old.entries) log.old.doubt (bare patch.now) (up (patches_of log.new.entries) log.new.doubt) result }
+
+    // The fate of a patch that can be accepted is that of the syncs which were done.
+    ensures by_syncs { D.tells → (version : ℕ) → decision (patches_of log.old.entries) (bare patch.now) log.old.limits ≡ Decision.Accept version → result ≢ LogAnswer.OutOfMemory
+        → Stay log.old.limits (up (patches_of log.old.entries) log.old.doubt) (bare patch.now) (fate_by_syncs log.old.doubt (ok_syncs (D.past log.new.disk) - ok_syncs (D.past log.old.disk))) (up (patches_of log.new.entries) log.new.doubt) result }
     ensures accepted { (version : ℕ) → result ≡ LogAnswer.Accepted version → log.new.entries ≡ log.old.entries ++ record { patch = bare patch.now; by = by } ∷ [] }
     ensures refused { ((version : ℕ) → result ≢ LogAnswer.Accepted version) → log.new.entries ≡ log.old.entries }
 

@@ -5,6 +5,7 @@ mod appending;
 mod fault;
 mod index;
 mod indexed;
+mod laws;
 mod opening;
 mod ready;
 mod state;
@@ -13,9 +14,11 @@ pub use appending::{append, append_all};
 pub use fault::{LogFault, LogRefusal};
 pub use index::Index;
 pub use indexed::IndexedChain;
-pub use opening::read_log;
+pub use laws::{logs_are_found_again, logs_have_no_fault};
 pub use ready::Ready;
 pub use state::LogState;
 
+#[cfg(test)]
+mod log_tests;
 #[cfg(test)]
 mod tests;

@@ -93,8 +93,8 @@ taken_next old mid new says at (Some patch) is step from = begun_with old mid ne
 
 pub taken_result : (r : Result (Option StreamPatch) PatchFault) (old mid new : PartRead) (says : Role) (at : ℕ) (done : Option StreamPatch) → IsCutBefore old says at done mid → IfOk r (λ d. d ≡ done)
     → OnOk r (Adds mid says at new) → new.from ≡ mid.from → IfOk r (λ d. HasTakenNext old says at d new)
-taken_result (Ok d) old mid new says at done is same step from = subst (λ (o : Option StreamPatch). HasTakenNext old says at o new) (sym same) (taken_next old mid new says at done is step from)
-taken_result (Err e) old mid new says at done is same step from = tt
+taken_result (Ok d) old mid new says at patch is same step from = subst (λ (o : Option StreamPatch). HasTakenNext old says at o new) (sym same) (taken_next old mid new says at patch is step from)
+taken_result (Err e) old mid new says at patch is same step from = tt
 
 -- ---- faults
 
@@ -159,7 +159,7 @@ begun_text text k part from none = record {
 
 pub taken_behind : (text : List ℕ) (at : ℕ) (old new : Cutting) (row : Next) (done : Option StreamPatch) → IsNextRow text at row → HasCut text at old → HasTakenNext old.part row.role row.at done new.part
     → map meaning_of new.patches.items ≡ map meaning_of old.patches.items ++ meanings_of done → HasCut text row.end new
-taken_behind text at old new row done is h taken patches = record {
+taken_behind text at old new row patch is h taken patches = record {
   rs = h.rs ++ placed row is.0 ∷ [];
   reads = rows_more text 0 at h.rs (placed row is.0) h.reads is.1 is.2;
   within = (row_within text row.at is.0 row.end is.2).1;
@@ -213,7 +213,7 @@ unfinished text at stop k fault end h gap why = inr (record {
 
 pub finished : (text : List ℕ) (at stop : ℕ) (k : Cutting) (done : Option StreamPatch) (ms : List Meaning) → stop ≡ length text → HasCut text at k → Gap text at stop → EndsStream k.part stop done
     → ms ≡ map meaning_of k.patches.items ++ meanings_of done → IsStream text ms
-finished text at stop k done ms end h gap ends same = record {
+finished text at stop k patch ms end h gap ends same = record {
   rows_ = h.rs;
   reads = (at, h.reads, subst (Gap text at) end gap);
   stream = subst (λ (n : ℕ). AreStream h.rs n ms) end (subst (AreStream h.rs stop) (sym same) (ends h.rs (map meaning_of k.patches.items) h.parts));

@@ -3,6 +3,7 @@ pub mod Parts
 pub mod Read
 pub mod Rowed
 pub mod Taking
-pub mod OneReading
-pub mod Behind
+pub mod SameRows
+pub mod WellTaken
 pub mod Settled
+pub mod OneStream

@@ -1,81 +1,102 @@
--- A text is one patch at most, and a patch has no fault.
-use Rattle.std.proofs.Common.{◌≡◌, ℕ, true, false, List, [], ◌∷◌, ◌++◌, length, Option, Some, None, refl, sym, ap, subst, ◌∙◌, arith}
+-- A text is one patch at most, and never one with a fault; it has one first fault at most.
+use Rattle.std.proofs.Common.{◌≡◌, ℕ, ◌+◌, ◌<◌, ◌≤◌, Bool, true, false, List, [], ◌∷◌, ◌++◌, length, Some, None, Option, refl, sym, ap, subst, ◌∙◌, arith}
 use Rattle.std.proofs.lemmas.List.{map-append}
-use Rattle.delta_base.specs.declared.id.Id.{Id}
-use Rattle.rdf_terms.specs.declared.change.Change.{Change}
+use Rattle.rows_text.specs.declared.fault.RowKind.{RowKind}
 use Rattle.rows_text.specs.declared.row.Row.{Row}
 use Rattle.rows_text.specs.Grammar.{IsRowAt}
 use Rattle.patch_meaning.specs.declared.fault.PatchFault.{PatchFault}
+use Rattle.patch_meaning.specs.declared.fault.PatchFault.TheVariants as faults
 use Rattle.patch_meaning.specs.declared.fault.Refusal.{Refusal}
 use Rattle.patch_meaning.specs.declared.role.Role.{Role}
-use Rattle.patch_meaning.specs.Patch.{Meaning, IsPatch, IsPatchFault, IsRowsFault, IsWell, too_long, rows_, no_row, refused, open_block, no_id, prev_list, refusal}
-use Rattle.patch_meaning.specs.Roles.{role, said}
-use Rattle.patch_meaning.specs.Rows.{PlacedRow, RowsTo}
-use Rattle.patch_meaning.proofs.OneReading.{one_row_at, no_row_missing, not_at_end, Follows, nothing, next, goes_on, one_list}
-use Rattle.patch_meaning.proofs.Behind.{free, none_open_at_end}
+use Rattle.patch_meaning.specs.Patch.{Meaning, IsWell, IsPatch, IsPatchFault, IsRowsFault, AreTaken, refusal, refused_at, patch_limit, too_long, rows_, no_row, refused, open_block, no_id}
+use Rattle.patch_meaning.specs.Roles.{role, said, ids_of, is_open}
+use Rattle.patch_meaning.specs.Rows.{PlacedRow, RowsTo, NoRowAt}
+use Rattle.patch_meaning.proofs.SameRows.{Compared, same, shorter, longer, compared, one_row_at, no_fault_there, one_fault_at, none_at_end}
+use Rattle.patch_meaning.proofs.WellTaken.{well_closed, well_taken, next_taken, same_meaning}
 
--- ---- one meaning
+-- ---- one patch
 
-same_id : (a b : Id) → ◌≡◌ {A = List (Option Id)} (Some a ∷ []) (Some b ∷ []) → a ≡ b
-same_id a b same = cc
-
-same_prev : (a b : Option Id) → prev_list a ≡ prev_list b → a ≡ b
-same_prev None None same = refl
-same_prev None (Some b) same = absurd (cc)
-same_prev (Some a) None same = absurd (cc)
-same_prev (Some a) (Some b) same = ap (λ (id : Id). Some id) (same_id a b same)
-
-same_meaning : (m n : Meaning) → m.id ≡ n.id → m.prev ≡ n.prev → m.changes ≡ n.changes → m ≡ n
-same_meaning m n id prev changes =
-    ap (λ (x : Id). record { id = x; prev = m.prev; changes = m.changes }) id
-    ∙ ap (λ (x : Option Id). record { id = n.id; prev = x; changes = m.changes }) prev
-    ∙ ap (λ (x : List Change). record { id = n.id; prev = n.prev; changes = x }) changes
+said_there : (rs more : List PlacedRow) (r : PlacedRow) → said (rs ++ r ∷ more) ≡ said rs ++ role r.row_ ∷ said more
+said_there rs more r = map-append (λ (r : PlacedRow). role r.row_) rs (r ∷ more)
 
 pub one_meaning : (text : List ℕ) (m n : Meaning) → IsPatch text m → IsPatch text n → m ≡ n
-one_meaning text m n one other =
-    let same : said other.rows_ ≡ said one.rows_ = ap said (one_list text one.rows_ other.rows_ one.reads other.reads) in
-    let well : IsWell (said one.rows_) n = subst (λ (rs : List Role). IsWell rs n) same other.well in
-    same_meaning m n (same_id m.id n.id (sym one.well.one_id ∙ well.one_id)) (same_prev m.prev n.prev (sym one.well.prev_is ∙ well.prev_is)) (sym one.well.changes_are ∙ well.changes_are)
+one_meaning text m n p q = by (compared text 0 p.rows_ (length text) q.rows_ (length text) p.reads q.reads)
+  where
+    by : Compared text p.rows_ (length text) q.rows_ (length text) → m ≡ n
+    by (same rs place) = same_meaning (said p.rows_) m n p.well (subst (λ (l : List PlacedRow). IsWell (said l) n) (sym rs) q.well)
+    by (shorter r more rs at there) = absurd (none_at_end text (length text) r.row_ r.end refl there)
+    by (longer r more rs at there) = absurd (none_at_end text (length text) r.row_ r.end refl there)
 
 -- ---- no fault
 
-differ : (why : Refusal) → ◌≡◌ {A = Option Refusal} (Some why) None → ⊥
-differ why same = cc
+some_none : {X : Type 0} (o : Option Refusal) (why : Refusal) → o ≡ None → o ≡ Some why → X
+some_none o why e f = absurd cc
 
-true_or_false : true ≡ false → ⊥
-true_or_false same = cc
+-- rows that may stand, one of which stands where others have a fault, don't have it
+no_rows_fault : (text : List ℕ) (rs more : List PlacedRow) (r : PlacedRow) (to : ℕ) (fault : PatchFault) → AreTaken (said (rs ++ r ∷ more)) → IsRowAt text to r.row_ r.end → IsRowsFault text rs to fault → ⊥
+no_rows_fault text rs more r to fault taken there (no_row at kind none is) = no_fault_there text to r.row_ r.end kind at there none
+no_rows_fault text rs more r to fault taken there (refused s end why other refuses is) =
+    let one = one_row_at text to r.row_ s r.end end there other in
+    some_none (refusal (said rs) (role r.row_)) why (next_taken (said rs) (said more) (role r.row_) (subst AreTaken (said_there rs more r) taken)) (ap (λ (q : Row). refusal (said rs) (role q)) one.0 ∙ refuses)
+no_rows_fault text rs more r to fault taken there (open_block last inside is) = none_at_end text to r.row_ r.end last there
+no_rows_fault text rs more r to fault taken there (no_id last outside none is) = none_at_end text to r.row_ r.end last there
 
-some_id : (id : Id) → ◌≡◌ {A = List (Option Id)} (Some id ∷ []) [] → ⊥
-some_id id same = cc
+open_closed : {X : Type 0} (b : Bool) → b ≡ true → b ≡ false → X
+open_closed b e f = absurd cc
 
-module _ (text : List ℕ) (m : Meaning) (is : IsPatch text m) where
-  -- rows up to the end are those of the patch
-  well_rows : (rs : List PlacedRow) (to : ℕ) → RowsTo text 0 rs to → to ≡ length text → IsWell (said rs) m
-  well_rows rs to reads end = subst (λ (all : List PlacedRow). IsWell (said all) m) (one_list text rs is.rows_ (subst (λ (n : ℕ). RowsTo text 0 rs n) end reads) is.reads) is.well
-
-  -- a row behind others may stand there
-  free_there : (rs : List PlacedRow) (to : ℕ) (r : Row) (end : ℕ) (more : List PlacedRow) → is.rows_ ≡ rs ++ more → Follows text to more → IsRowAt text to r end → refusal (said rs) (role r) ≡ None
-  free_there rs to r end more parts (nothing none at) there = absurd (not_at_end text r end (subst (λ (n : ℕ). IsRowAt text n r end) at there))
-  free_there rs to r end more parts (next s rest is_more stands) there =
-      let same = (one_row_at text to s.row_ r s.end end stands there).0 in
-      let all : said is.rows_ ≡ said rs ++ role s.row_ ∷ said rest = ap said (parts ∙ ap (λ (ps : List PlacedRow). rs ++ ps) is_more) ∙ map-append (λ (p : PlacedRow). role p.row_) rs (s ∷ rest) in
-      ap (λ (x : Row). refusal (said rs) (role x)) (sym same) ∙ free (said rs) (role s.row_) (said rest) m (subst (λ (l : List Role). IsWell l m) all is.well)
-
-  -- a row that is missing there
-  not_missing : (to : ℕ) (more : List PlacedRow) → Follows text to more → (to ≡ length text → ⊥) → ((r : Row) (end : ℕ) → IsRowAt text to r end → ⊥) → ⊥
-  not_missing to more (nothing none at) inside missing = inside at
-  not_missing to more (next s rest is_more stands) inside missing = missing s.row_ s.end stands
-
-  sound_rows : (rs : List PlacedRow) (to : ℕ) (fault : PatchFault) → RowsTo text 0 rs to → IsRowsFault text rs to fault → ⊥
-  sound_rows rs to fault reads (no_row at kind none same) =
-      let on = goes_on text 0 rs is.rows_ to reads is.reads in
-      not_missing to on.more on.follows (λ end. omega (arith, end, none.0)) (λ r end there. no_row_missing text to r end kind at there none)
-  sound_rows rs to fault reads (refused r end why there because same) =
-      let on = goes_on text 0 rs is.rows_ to reads is.reads in
-      differ why (sym because ∙ free_there rs to r end on.more on.parts on.follows there)
-  sound_rows rs to fault reads (open_block end inside same) = true_or_false (sym inside ∙ none_open_at_end (said rs) m (well_rows rs to reads end))
-  sound_rows rs to fault reads (no_id end outside none same) = let well = well_rows rs to reads end in some_id m.id (sym well.one_id ∙ none)
+-- a whole patch has no fault at its end
+no_end_fault : (text : List ℕ) (rs : List PlacedRow) (m : Meaning) (to : ℕ) (fault : PatchFault) → IsWell (said rs) m → to ≡ length text → IsRowsFault text rs to fault → ⊥
+no_end_fault text rs m to fault w last (no_row at kind none is) = absurd (let low = none.0 in omega arith)
+no_end_fault text rs m to fault w last (refused r end why there refuses is) = none_at_end text to r end last there
+no_end_fault text rs m to fault w last (open_block end inside is) = open_closed (is_open (said rs)) inside (well_closed (said rs) m w)
+no_end_fault text rs m to fault w last (no_id end outside none is) = absurd (let one = w.one_id in cc)
 
 pub never_both : (text : List ℕ) (m : Meaning) (fault : PatchFault) → IsPatch text m → IsPatchFault text fault → ⊥
-never_both text m fault is (too_long long same) = omega (arith, is.short, long)
-never_both text m fault is (rows_ rs to short reads taken has) = sound_rows text m is rs to fault reads has
+never_both text m fault p (too_long long is) = absurd (let short = p.short in omega arith)
+never_both text m fault p (rows_ rs to short reads taken is) = by (compared text 0 p.rows_ (length text) rs to p.reads reads)
+  where
+    by : Compared text p.rows_ (length text) rs to → ⊥
+    by (same all place) = no_end_fault text rs m to fault (subst (λ (l : List PlacedRow). IsWell (said l) m) all p.well) (sym place) is
+    by (shorter r more all at there) = none_at_end text (length text) r.row_ r.end refl there
+    by (longer r more all at there) = no_rows_fault text rs more r to fault (subst (λ (l : List PlacedRow). AreTaken (said l)) all (well_taken (said p.rows_) m p.well)) there is
+
+-- ---- one fault
+
+some_same : (o : Option Refusal) (a b : Refusal) → o ≡ Some a → o ≡ Some b → a ≡ b
+some_same o a b e f = cc
+
+ends_there : (text : List ℕ) (to : ℕ) (kind : RowKind) (at : ℕ) → to ≡ length text → NoRowAt text to kind at → ⊥
+ends_there text to kind at last none = absurd (let low = none.0 in omega arith)
+
+same_rows_fault : (text : List ℕ) (rs : List PlacedRow) (to : ℕ) (f g : PatchFault) → IsRowsFault text rs to f → IsRowsFault text rs to g → f ≡ g
+same_rows_fault text rs to f g (no_row at kind none is) (no_row there other none2 is2) =
+    let one = one_fault_at text to kind other at there none none2 in
+    is ∙ ap (λ (k : RowKind). faults.Row at k) one.0 ∙ ap (λ (n : ℕ). faults.Row n other) one.1 ∙ sym is2
+same_rows_fault text rs to f g (no_row at kind none is) (refused r end why there refuses is2) = absurd (no_fault_there text to r end kind at there none)
+same_rows_fault text rs to f g (no_row at kind none is) (open_block last inside is2) = absurd (ends_there text to kind at last none)
+same_rows_fault text rs to f g (no_row at kind none is) (no_id last outside ids is2) = absurd (ends_there text to kind at last none)
+same_rows_fault text rs to f g (refused r end why there refuses is) (no_row at kind none is2) = absurd (no_fault_there text to r end kind at there none)
+same_rows_fault text rs to f g (refused r end why there refuses is) (refused s stop other there2 refuses2 is2) =
+    let one = one_row_at text to r s end stop there there2 in
+    is ∙ ap (λ (w : Refusal). refused_at w to) (some_same (refusal (said rs) (role s)) why other (ap (λ (q : Row). refusal (said rs) (role q)) (sym one.0) ∙ refuses) refuses2) ∙ sym is2
+same_rows_fault text rs to f g (refused r end why there refuses is) (open_block last inside is2) = absurd (none_at_end text to r end last there)
+same_rows_fault text rs to f g (refused r end why there refuses is) (no_id last outside ids is2) = absurd (none_at_end text to r end last there)
+same_rows_fault text rs to f g (open_block last inside is) (no_row at kind none is2) = absurd (ends_there text to kind at last none)
+same_rows_fault text rs to f g (open_block last inside is) (refused r end why there refuses is2) = absurd (none_at_end text to r end last there)
+same_rows_fault text rs to f g (open_block last inside is) (open_block last2 inside2 is2) = is ∙ sym is2
+same_rows_fault text rs to f g (open_block last inside is) (no_id last2 outside ids is2) = open_closed (is_open (said rs)) inside outside
+same_rows_fault text rs to f g (no_id last outside ids is) (no_row at kind none is2) = absurd (ends_there text to kind at last none)
+same_rows_fault text rs to f g (no_id last outside ids is) (refused r end why there refuses is2) = absurd (none_at_end text to r end last there)
+same_rows_fault text rs to f g (no_id last outside ids is) (open_block last2 inside is2) = open_closed (is_open (said rs)) inside outside
+same_rows_fault text rs to f g (no_id last outside ids is) (no_id last2 outside2 ids2 is2) = is ∙ sym is2
+
+pub one_fault : (text : List ℕ) (f g : PatchFault) → IsPatchFault text f → IsPatchFault text g → f ≡ g
+one_fault text f g (too_long long is) (too_long long2 is2) = is ∙ sym is2
+one_fault text f g (too_long long is) (rows_ rs to short reads taken is2) = absurd (let a = long in let b = short in omega arith)
+one_fault text f g (rows_ rs to short reads taken is) (too_long long is2) = absurd (let a = long in let b = short in omega arith)
+one_fault text f g (rows_ rs to short reads taken is) (rows_ ss stop short2 reads2 taken2 is2) = by (compared text 0 rs to ss stop reads reads2)
+  where
+    by : Compared text rs to ss stop → f ≡ g
+    by (same all place) = same_rows_fault text ss stop f g (subst (λ (n : ℕ). IsRowsFault text ss n f) place (subst (λ (l : List PlacedRow). IsRowsFault text l to f) all is)) is2
+    by (shorter r more all at there) = absurd (no_rows_fault text rs more r to f (subst (λ (l : List PlacedRow). AreTaken (said l)) all taken2) there is)
+    by (longer r more all at there) = absurd (no_rows_fault text ss more r stop g (subst (λ (l : List PlacedRow). AreTaken (said l)) all taken) there is2)

@@ -1,10 +1,19 @@
-//! What patches and the table of their faults have in common. This function does nothing: its contract is a theorem.
-ghost use Rattle.std.specs.Prelude.{◌≡◌, List, ℕ};
+//! Laws of the definitions. These functions do nothing: their contracts are theorems.
+
+ghost use Rattle.std.specs.Prelude.{◌≡◌, ◌⊎◌, List, ℕ};
 ghost use Rattle.patch_meaning.specs.declared.fault.PatchFault.{PatchFault};
 ghost use Rattle.patch_meaning.specs.Patch.{Meaning, IsPatch, IsPatchFault};
+ghost use Rattle.patch_meaning.specs.Stream.{IsStream, IsStreamFault};
 
-/// A text is one patch at most, and a patch has no fault.
+/// A text is a patch that says one thing, or it has one first fault, and never both.
 pub fn patches_are_settled()
     ensures one { (text : List ℕ) (m n : Meaning) → IsPatch text m → IsPatch text n → m ≡ n }
-    ensures apart { (text : List ℕ) (m : Meaning) (fault : PatchFault) → IsPatch text m → IsPatchFault text fault → ⊥ }
+    ensures one_fault { (text : List ℕ) (f g : PatchFault) → IsPatchFault text f → IsPatchFault text g → f ≡ g }
+    ensures apart { (text : List ℕ) (m : Meaning) (f : PatchFault) → IsPatch text m → IsPatchFault text f → ⊥ }
+{}
+
+/// A text is a stream of one list of patches at most, and no stream has a fault.
+pub fn streams_are_settled()
+    ensures one { (text : List ℕ) (ms ns : List Meaning) → IsStream text ms → IsStream text ns → ms ≡ ns }
+    ensures apart { (text : List ℕ) (ms : List Meaning) (f : PatchFault) → IsStream text ms → IsStreamFault text f → ⊥ }
 {}

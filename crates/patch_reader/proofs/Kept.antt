@@ -39,7 +39,7 @@ module _ (text kept : List ℕ) (base : ℕ) (k : Keeps text base kept) where
   size : length kept ≡ length text - base
   size = sym (ap length k.0) ∙ length-drop base text
 
-  far : (at : ℕ) → at ≤ length kept → further_place base at ≡ base + at
+  pub far : (at : ℕ) → at ≤ length kept → further_place base at ≡ base + at
   far at le =
       let s = size in let within = k.1 in let fits = k.2 in
       let low : base + at ≤ 2 ^ 64 - 1 = omega (arith, s, within, fits, le) in grind (arith, low)
@@ -135,7 +135,7 @@ module _ (text kept : List ℕ) (base : ℕ) (k : Keeps text base kept) where
         (subst (λ (t : List ℕ). FirstFault t (kind, drop place text ++ more)) (drop-append-le to text more b.1)
         (subst (λ (t : List ℕ). FirstFault (drop to (text ++ more)) (kind, t)) (drop-append-le place text more within) (d more).1.1)))
 
-    none_next : MoreDecides (drop start kept) → NothingDecided text (base + at)
+    pub none_next : MoreDecides (drop start kept) → NothingDecided text (base + at)
     none_next none = ((λ r d. row_was r none d), (λ kind place d. fault_was kind place none d))
 
     -- ---- where it is whole

@@ -14,6 +14,9 @@ pub mod FrontSteps
 pub mod Kept
 pub mod Adding
 pub mod Reader
+pub mod GapSteps
+pub mod RowParts
+pub mod ProgressSteps
 pub mod CutSteps
 pub mod Answered
 pub mod RowEnds

@@ -44,15 +44,26 @@ pub data Outcome {X : Type 0} (longer : List ℕ → Read X) : Type 0 where
   gone_on : (bytes : List ℕ) → 2 ≤ length bytes → (x : X) → longer bytes ≡ Ok (x, stop) → Outcome longer
   at_cut : (x : X × List ℕ) → longer [] ≡ Ok x → is_cut x.1 ≡ true → Outcome longer
 
+-- the same where no word is cut
+pub data Changes {X : Type 0} (longer : List ℕ → Read X) : Type 0 where
+  ended : AtEnd (longer []) → Changes longer
+  broken : (bytes : List ℕ) → 2 ≤ length bytes → longer bytes ≡ Err row_stop → Changes longer
+  gone_on : (bytes : List ℕ) → 2 ≤ length bytes → (x : X) → longer bytes ≡ Ok (x, stop) → Changes longer
+
+changed : {X : Type 0} (longer : List ℕ → Read X) → Changes longer → Outcome longer
+changed longer (Changes.ended a) = Outcome.ended a
+changed longer (Changes.broken bytes two is) = Outcome.broken bytes two is
+changed longer (Changes.gone_on bytes two x is) = Outcome.gone_on bytes two x is
+
 -- the same where nothing is read
 pub data Final {X : Type 0} (longer : List ℕ → Read X) : Type 0 where
   ended : AtEnd (longer []) → Final longer
   broken : (bytes : List ℕ) → 2 ≤ length bytes → longer bytes ≡ Err row_stop → Final longer
 
-abbrev Opens : {X : Type 0} → Read X → (List ℕ → Read X) → Type 0
+abbrev pub Opens : {X : Type 0} → Read X → (List ℕ → Read X) → Type 0
 Opens live longer = AtEnd live → Outcome longer
 
-abbrev Ends : {X : Type 0} → Read X → (List ℕ → Read X) → Type 0
+abbrev pub Ends : {X : Type 0} → Read X → (List ℕ → Read X) → Type 0
 Ends live longer = AtEnd live → Final longer
 
 abbrev KeepsAll : {X : Type 0} → Read X → (List ℕ → Read X) → Type 0
@@ -304,40 +315,43 @@ no_position_end : (rest : List ℕ) → ends_row (Common BadPosition) rest ≡ t
 unfolding ends_row ends_text
 no_position_end rest e = false≢true e
 
-placed_opens : (fits : Term → Bool) (rest : List ℕ) → ((a b : List ℕ) → fits (term.Blank a) ≡ fits (term.Blank b)) → Opens (live_placed fits rest) (λ bytes. placed_at fits (rest ++ bytes))
+pub placed_changes : (fits : Term → Bool) (rest : List ℕ) → ((a b : List ℕ) → fits (term.Blank a) ≡ fits (term.Blank b)) → AtEnd (live_placed fits rest) → Changes (λ bytes. placed_at fits (rest ++ bytes))
 unfolding live_placed placed_at
-placed_opens fits rest alike h = by (live_term rest) refl h
+placed_changes fits rest alike h = by (live_term rest) refl h
   where
     placed : Read Term → Read Term
     placed r = r >>= λ t. cond (fits t.0) (cond (blank_open rest t.0 t.1) (Err (Common Truncated, [])) (Ok t)) (Err (Common BadPosition, rest))
 
-    final : Final (λ bytes. needed_term_at (rest ++ bytes)) → Outcome (λ bytes. needed_term_at (rest ++ bytes) >>= λ t. cond (fits t.0) (Ok t) (Err (Common BadPosition, rest ++ bytes)))
-    final (Final.ended a) = Outcome.ended (end_then (needed_term_at (rest ++ [])) _ a)
-    final (Final.broken bytes two is) = Outcome.broken bytes two (rw is refl)
+    final : Final (λ bytes. needed_term_at (rest ++ bytes)) → Changes (λ bytes. needed_term_at (rest ++ bytes) >>= λ t. cond (fits t.0) (Ok t) (Err (Common BadPosition, rest ++ bytes)))
+    final (Final.ended a) = Changes.ended (end_then (needed_term_at (rest ++ [])) _ a)
+    final (Final.broken bytes two is) = Changes.broken bytes two (rw is refl)
 
     breaks : (x : Term × List ℕ) → fits x.0 ≡ true → RowTermBreaks x.0 (λ bytes. needed_term_at (rest ++ bytes))
-        → Outcome (λ bytes. needed_term_at (rest ++ bytes) >>= λ t. cond (fits t.0) (Ok t) (Err (Common BadPosition, rest ++ bytes)))
-    breaks x fit (RowTermBreaks.broken bytes two is) = Outcome.broken bytes two (rw is refl)
+        → Changes (λ bytes. needed_term_at (rest ++ bytes) >>= λ t. cond (fits t.0) (Ok t) (Err (Common BadPosition, rest ++ bytes)))
+    breaks x fit (RowTermBreaks.broken bytes two is) = Changes.broken bytes two (rw is refl)
     breaks x fit (RowTermBreaks.gone_on bytes two label is blank) =
         let same : fits (term.Blank label) ≡ true = alike label blank.0 ∙ ap fits (sym blank.1) ∙ fit in
-        Outcome.gone_on bytes two (term.Blank label) (rw is (rw same refl))
+        Changes.gone_on bytes two (term.Blank label) (rw is (rw same refl))
 
     chosen : (x : Term × List ℕ) → live_term rest ≡ Ok x → (fit o : Bool) → fits x.0 ≡ fit → blank_open rest x.0 x.1 ≡ o
         → AtEnd (cond {A = Read Term} fit (cond o (Err (Common Truncated, [])) (Ok x)) (Err (Common BadPosition, rest)))
-        → Outcome (λ bytes. needed_term_at (rest ++ bytes) >>= λ t. cond (fits t.0) (Ok t) (Err (Common BadPosition, rest ++ bytes)))
+        → Changes (λ bytes. needed_term_at (rest ++ bytes) >>= λ t. cond (fits t.0) (Ok t) (Err (Common BadPosition, rest ++ bytes)))
     chosen x e true true f o h = breaks x f (needed_breaks rest x (live_is_needed rest x e) (inr o))
     chosen x e true false f o h = absurd h
     chosen x e false o f p h = absurd (no_position_end rest h)
 
-    by : (r : Read Term) → live_term rest ≡ r → AtEnd (placed r) → Outcome (λ bytes. needed_term_at (rest ++ bytes) >>= λ t. cond (fits t.0) (Ok t) (Err (Common BadPosition, rest ++ bytes)))
+    by : (r : Read Term) → live_term rest ≡ r → AtEnd (placed r) → Changes (λ bytes. needed_term_at (rest ++ bytes) >>= λ t. cond (fits t.0) (Ok t) (Err (Common BadPosition, rest ++ bytes)))
     by (Err f) e h = final (term_ends rest (subst AtEnd (sym e) h))
     by (Ok x) e h = chosen x e (fits x.0) (blank_open rest x.0 x.1) refl refl h
+
+placed_opens : (fits : Term → Bool) (rest : List ℕ) → ((a b : List ℕ) → fits (term.Blank a) ≡ fits (term.Blank b)) → Opens (live_placed fits rest) (λ bytes. placed_at fits (rest ++ bytes))
+placed_opens fits rest alike h = changed (λ bytes. placed_at fits (rest ++ bytes)) (placed_changes fits rest alike h)
 
 no_end_position : (o : Option (List ℕ)) (start after : List ℕ) → AtEnd (or_bad_position o start after) → ⊥
 no_end_position (Some text) start after h = h
 no_end_position None start after h = no_position_end start h
 
-quoted_ends : (rest : List ℕ) → Ends (live_quoted rest) (λ bytes. quoted_at (rest ++ bytes))
+pub quoted_ends : (rest : List ℕ) → Ends (live_quoted rest) (λ bytes. quoted_at (rest ++ bytes))
 unfolding live_quoted quoted_at
 quoted_ends rest = then_sure (live_term rest) (λ bytes. needed_term_at (rest ++ bytes)) (λ t. or_bad_position (plain_text t.0) rest t.1) (λ bytes t. or_bad_position (plain_text t.0) (rest ++ bytes) t.1) (term_ends rest)
     (λ x h. no_end_position (plain_text x.0) rest x.1 h)
@@ -360,7 +374,7 @@ no_end_iri_of_term start (term.Literal literal) after h = by (plain_of literal.k
     by (Some text) h = no_end_iri start text after h
     by None h = no_position_end start h
 
-prefix_iri_ends : (rest : List ℕ) → Ends (live_prefix_iri rest) (λ bytes. prefix_iri_at (rest ++ bytes))
+pub prefix_iri_ends : (rest : List ℕ) → Ends (live_prefix_iri rest) (λ bytes. prefix_iri_at (rest ++ bytes))
 unfolding live_prefix_iri prefix_iri_at
 prefix_iri_ends rest = then_sure (live_term rest) (λ bytes. needed_term_at (rest ++ bytes)) (λ t. iri_of_term rest t.0 t.1) (λ bytes t. iri_of_term (rest ++ bytes) t.0 t.1) (term_ends rest)
     (λ x h. no_end_iri_of_term rest x.0 x.1 h)

@@ -426,7 +426,7 @@ run_stays test more rest = by (nat_eq (length (drop (prefix_len test rest) rest)
         let same = prefix_stays_len test rest more some in
         inr (rw (same.0, take-append-le (prefix_len test rest) rest more same.1, drop-append-le (prefix_len test rest) rest more same.1) refl)
 
-word_run_stays : (test : ℕ → Bool) (more rest : List ℕ) → Keeps more (uncut (run_of test rest)) (uncut (run_of test (rest ++ more)))
+pub word_run_stays : (test : ℕ → Bool) (more rest : List ℕ) → Keeps more (uncut (run_of test rest)) (uncut (run_of test (rest ++ more)))
 word_run_stays test more rest = by (nat_eq (length (drop (prefix_len test rest) rest)) 0) refl
   where
     longer_some : (n : ℕ) → (nat_eq n 0 ≡ false) → nat_eq (n + length more) 0 ≡ false

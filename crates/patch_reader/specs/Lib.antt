@@ -5,4 +5,5 @@ pub mod Limit
 pub mod Live
 pub mod Pieces
 pub mod Places
+pub mod Progress
 pub mod Rows

@@ -1,10 +1,46 @@
 -- A reader of pieces, as its callers see it.
-use Rattle.std.specs.Prelude.{◌≡◌, ℕ, ◌≤◌, List, [], ◌∷◌, ◌++◌, length, drop, Option, Some, None}
+use Rattle.std.specs.Prelude.{◌≡◌, ℕ, ◌≤◌, true, false, List, [], ◌∷◌, ◌++◌, length, drop, Option, Some, None, Err}
+use Rattle.nquads_text.specs.Fault.{Fault as TextFault}
+use Rattle.nquads_text.specs.Reading.{char_at}
 use Rattle.rows_text.specs.declared.row.Row.{Row}
+use Rattle.rows_text.specs.Reading.{space_behind, skip_space}
 use Rattle.patch_reader.specs.declared.placed.PlacedRow.{PlacedRow}
 use Rattle.patch_reader.specs.declared.placed.TextEnd.{TextEnd}
+use Rattle.patch_reader.specs.declared.placed.TextEnd.TheVariants as ends
 use Rattle.patch_reader.specs.declared.pieces.PatchReader.{PatchReader}
-use Rattle.patch_reader.specs.Rows.{RowsStand, Stops}
+use Rattle.patch_reader.specs.declared.progress.Phase.{Phase}
+use Rattle.patch_reader.specs.declared.progress.Phase.TheVariants as phase
+use Rattle.patch_reader.specs.Progress.{Follows}
+use Rattle.patch_reader.specs.Rows.{RowsStand, Stops, Keeps}
+
+-- ---- what is kept of the text behind the last row
+
+-- white space and comments are passed up to what is kept, or a row begins there
+abbrev pub IsPhase : List ℕ → ℕ → ℕ → List ℕ → Phase → Type 0
+IsPhase text passed from kept (phase.Gap comment) = (more : List ℕ) → skip_space (drop passed (text ++ more)) ≡ space_behind comment 0 (drop from (text ++ more))
+IsPhase text passed from kept (phase.Row progress) =
+    ((more : List ℕ) → skip_space (drop passed (text ++ more)) ≡ drop from (text ++ more))
+    × ((more : List ℕ) → skip_space (drop from (text ++ more)) ≡ drop from (text ++ more)) × Follows kept progress
+
+-- a comment is passed up to where no character of it is known
+abbrev pub IsStuck : List ℕ → Phase → Type 0
+IsStuck kept (phase.Gap true) = (fault : TextFault) × (char_at kept ≡ Err fault)
+IsStuck kept (phase.Gap false) = Unit {0}
+IsStuck kept (phase.Row progress) = Unit {0}
+
+-- the text is kept from one place on, behind which all rows up to another were read
+abbrev pub IsTail : List ℕ → ℕ → ℕ → List ℕ → Phase → Type 0
+IsTail text passed from kept p = Keeps text from kept × (passed ≤ from) × IsPhase text passed from kept p
+
+abbrev pub IsHeld : List ℕ → PatchReader → Type 0
+IsHeld text r = IsTail text r.passed r.from r.kept.items r.phase
+
+-- behind the last row and where what is kept begins the same stands behind white space and comments: whatever follows, or in the whole text
+abbrev pub IsSameGap : TextEnd → List ℕ → ℕ → ℕ → Type 0
+IsSameGap ends.Open text passed from = (more : List ℕ) → skip_space (drop passed (text ++ more)) ≡ skip_space (drop from (text ++ more))
+IsSameGap ends.Known text passed from = skip_space (drop passed text) ≡ skip_space (drop from text)
+
+-- ---- the reader
 
 -- This text was fed, and these rows were taken. They and those that are ready stand one behind another in it, and behind them nothing more is decided, or
 -- where the text is known to be whole only white space and comments stand there; or there is the fault. Behind want of memory nothing is known.
@@ -12,7 +48,7 @@ pub record Stands (end : TextEnd) (text : List ℕ) (taken : List PlacedRow) (r 
   pub rows_ : RowsStand end text 0 (taken ++ r.ready.items) r.passed
   pub stops : Stops end text r.passed r.fault
   pub within : r.passed ≤ length text
-  pub kept : r.fault ≡ None → r.kept.items ≡ drop r.passed text
+  pub held : r.fault ≡ None → IsHeld text r × IsStuck r.kept.items r.phase
 
 -- the row that is answered was taken, or none was ready
 abbrev pub Takes : TextEnd → List ℕ → List PlacedRow → PatchReader → Option PlacedRow → PatchReader → Type 0

@@ -11,6 +11,7 @@ mod laws;
 mod next;
 mod pieces;
 mod placed;
+mod progress;
 mod reading;
 mod rows;
 mod terms;

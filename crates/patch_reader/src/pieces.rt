@@ -1,15 +1,24 @@
 //! A reader of rows from a stream that comes in any pieces.
 
-ghost use Rattle.std.specs.Prelude.{◌≡◌, ◌≤◌, ◌<◌, ◌^◌, ◌++◌, [], ℕ, List, length, drop, None, Some, MatchResult};
+ghost use Rattle.std.specs.Prelude.{◌≡◌, ◌≤◌, ◌<◌, ◌^◌, ◌++◌, [], ℕ, List, true, false, length, drop, None, Some, IfSome, MatchResult};
 ghost use Rattle.rows_text.specs.declared.fault.RowFault.{RowFault as Answer};
+ghost use Rattle.rows_text.specs.Grammar.{row_limit};
 ghost use Rattle.patch_reader.specs.declared.placed.PlacedRow.{PlacedRow as Placed};
 ghost use Rattle.patch_reader.specs.declared.placed.TextEnd.{TextEnd as End};
 ghost use Rattle.patch_reader.specs.declared.placed.TextEnd.TheVariants as ends;
-ghost use Rattle.patch_reader.specs.Pieces.{Stands, Takes, TakesRow};
-ghost use Rattle.patch_reader.specs.Rows.{Adds, Keeps, Stops};
+ghost use Rattle.patch_reader.specs.declared.progress.Phase.TheVariants as phases;
+ghost use Rattle.patch_reader.specs.Cut.{is_cut};
+ghost use Rattle.patch_reader.specs.Pieces.{IsHeld, IsStuck, IsSameGap, Stands, Takes, TakesRow};
+ghost use Rattle.patch_reader.specs.Places.{further_place};
+ghost use Rattle.patch_reader.specs.Progress.{IsUnfinished, Follows};
+ghost use Rattle.patch_reader.specs.Rows.{Adds, Stops, NothingDecided};
 
 use crate::next::take_rows;
 use crate::placed::{PlacedRow, TextEnd};
+use crate::progress::{
+    Phase, Progress, at_row, follow, is_cut_at, is_past_gap, is_within, pass_gap,
+};
+use crate::reading::ROW_LIMIT;
 use rows_text::{Row, RowFault};
 use std::alloc::Global;
 use std::collections::VecDeque;
@@ -22,14 +31,43 @@ fn drop_front(bytes: &mut Vec<u8>, size: usize)
     bytes.drain(..size);
 }
 
-/// A reader of rows. It keeps the bytes behind the last row that it has read, and the rows that were not taken yet.
+/// Follows an unfinished row within its limit up to the text's end; none where something may be decided.
+fn follow_row(alloc: Global, row: &[u8], progress: Progress) -> Option<Progress>
+    ensures short { IfSome result (λ _. length row.now ≤ row_limit) }
+    ensures unfinished { IfSome result (λ _. Follows row.now progress → IsUnfinished row.now) }
+    ensures follows { IfSome result (λ p. Follows row.now progress → Follows row.now p) }
+{
+    if row.len() > ROW_LIMIT || !is_within(progress, row.len()) {
+        return None;
+    }
+    follow(alloc, row, progress)
+}
+
+/// Whether nothing stands behind white space and comments, or in a comment the front of a character.
+fn is_gap_open(kept: &[u8], comment: bool) -> bool
+    ensures yes { result ≡ true → (is_cut kept.now ≡ true) × (comment ≡ false → kept.now ≡ []) }
+    ensures none { result ≡ false → comment ≡ true → is_cut kept.now ≡ false }
+{
+    if comment {
+        return is_cut_at(kept, 0);
+    }
+    kept.is_empty()
+}
+
+/// A reader of rows. It keeps the bytes of an unfinished row, and the rows that were not taken yet.
 ///
 /// A fault stays: once one was answered, `feed` and `finish` answer it again, and what was decided before can be taken. Behind `finish`
 /// nothing more is fed.
 #[derive(Drop)]
 pub struct PatchReader {
     alloc: Global,
+    /// What isn't read yet.
     kept: Vec<u8>,
+    /// The place of its first byte.
+    from: u64,
+    /// What stands there.
+    phase: Phase,
+    /// The place behind the last row.
     passed: u64,
     ready: VecDeque<PlacedRow>,
     fault: Option<RowFault>,
@@ -43,24 +81,121 @@ impl PatchReader {
         PatchReader {
             alloc,
             kept: Vec::new(alloc),
+            from: 0,
+            phase: Phase::Gap { comment: false },
             passed: 0,
             ready: VecDeque::new(alloc),
             fault: None,
         }
     }
 
-    /// Reads the rows of what is kept, as far as they are known.
-    fn advance(&mut self, end: TextEnd) -> Result<(), RowFault>
-        ensures adds { (text : List ℕ) → Keeps text self.old.passed self.old.kept.items → Adds end text self.old.passed self.old.ready.items self.new.ready.items self.new.passed }
-        ensures stops { (text : List ℕ) → Keeps text self.old.passed self.old.kept.items → Stops end text self.new.passed self.new.fault }
-        ensures kept { (text : List ℕ) → Keeps text self.old.passed self.old.kept.items → Keeps text self.new.passed self.new.kept.items }
-        ensures answer { MatchResult result (λ _. self.new.fault ≡ None) (λ fault. self.new.fault ≡ Some fault) }
+    /// Lets the first bytes of what is kept go.
+    fn pass(&mut self, size: usize)
+        requires { size ≤ length self.old.kept.items }
+        ensures kept { self.new.kept.items ≡ drop size self.old.kept.items }
+        ensures from { self.new.from ≡ further_place self.old.from size }
+        ensures same { (self.new.phase ≡ self.old.phase) × (self.new.passed ≡ self.old.passed) × (self.new.ready ≡ self.old.ready) × (self.new.fault ≡ self.old.fault) }
     {
-        let (size, fault) = take_rows(self.alloc, &self.kept, self.passed, end, &mut self.ready);
         drop_front(&mut self.kept, size);
-        self.passed = self.passed.saturating_add(size as u64);
+        self.from = self.from.saturating_add(size as u64);
+    }
+
+    /// Lets white space and comments in front of a row go.
+    fn skip_gap(&mut self, in_comment: bool)
+        requires { self.old.phase ≡ phases.Gap in_comment }
+        ensures held { (text : List ℕ) → IsHeld text self.old → IsHeld text self.new }
+        ensures stuck { IsStuck self.new.kept.items self.new.phase }
+        ensures same { (self.new.passed ≡ self.old.passed) × (self.new.ready ≡ self.old.ready) × (self.new.fault ≡ self.old.fault) }
+    {
+        let (at, comment) = pass_gap(&self.kept, 0, in_comment);
+        let begins = is_past_gap(&self.kept, at, comment);
+        self.pass(at);
+        self.phase = if begins {
+            Phase::Row { progress: at_row() }
+        } else {
+            Phase::Gap { comment }
+        };
+    }
+
+    /// Whether nothing can be decided yet, as far as that is known.
+    fn is_unfinished(&mut self) -> bool
+        ensures held { (text : List ℕ) → IsHeld text self.old → IsHeld text self.new }
+        ensures stuck { IsStuck self.old.kept.items self.old.phase → IsStuck self.new.kept.items self.new.phase }
+        ensures nothing { result ≡ true → (text : List ℕ) → IsHeld text self.old → NothingDecided text self.old.passed }
+        ensures gap { result ≡ false → (text : List ℕ) → IsHeld text self.old → IsStuck self.old.kept.items self.old.phase → IsSameGap ends.Open text self.old.passed self.old.from }
+        ensures same { (self.new.from ≡ self.old.from) × (self.new.passed ≡ self.old.passed) × (self.new.ready ≡ self.old.ready) × (self.new.fault ≡ self.old.fault) }
+    {
+        match self.phase {
+            Phase::Gap { comment } => is_gap_open(&self.kept, comment),
+            Phase::Row { progress } => match follow_row(self.alloc, &self.kept, progress) {
+                Some(progress) => {
+                    self.phase = Phase::Row { progress };
+                    true
+                }
+                None => false,
+            },
+        }
+    }
+
+    /// Lets rows go that were read.
+    fn pass_rows(&mut self, size: usize)
+        requires { size ≤ length self.old.kept.items }
+        ensures kept { self.new.kept.items ≡ drop size self.old.kept.items }
+        ensures from { self.new.from ≡ further_place self.old.from size }
+        ensures passed { self.new.passed ≡ further_place self.old.from size }
+        ensures phase { self.new.phase ≡ phases.Gap false }
+        ensures same { (self.new.ready ≡ self.old.ready) × (self.new.fault ≡ self.old.fault) }
+    {
+        self.pass(size);
+        self.passed = self.from;
+        self.phase = Phase::Gap { comment: false };
+    }
+
+    /// Reads the rows of what is kept, as far as they are known.
+    fn read(&mut self, end: TextEnd)
+        ensures adds { (text : List ℕ) → IsHeld text self.old → IsSameGap end text self.old.passed self.old.from → Adds end text self.old.passed self.old.ready.items self.new.ready.items self.new.passed }
+        ensures stops { (text : List ℕ) → IsHeld text self.old → IsSameGap end text self.old.passed self.old.from → Stops end text self.new.passed self.new.fault }
+        ensures held { (text : List ℕ) → IsHeld text self.old → IsStuck self.old.kept.items self.old.phase → IsHeld text self.new × IsStuck self.new.kept.items self.new.phase }
+        ensures within { (text : List ℕ) → IsHeld text self.old → self.new.passed ≤ length text }
+    {
+        let (size, fault) = take_rows(self.alloc, &self.kept, self.from, end, &mut self.ready);
         self.fault = fault;
-        match fault {
+        if size == 0 {
+            return;
+        }
+        self.pass_rows(size);
+    }
+
+    /// Lets white space and comments in front of a row go, where it isn't in one.
+    fn enter_row(&mut self)
+        ensures held { (text : List ℕ) → IsHeld text self.old → IsHeld text self.new }
+        ensures stuck { IsStuck self.new.kept.items self.new.phase }
+        ensures same { (self.new.passed ≡ self.old.passed) × (self.new.ready ≡ self.old.ready) × (self.new.fault ≡ self.old.fault) }
+    {
+        if let Phase::Gap { comment } = self.phase {
+            self.skip_gap(comment);
+        }
+    }
+
+    /// Reads the rows that are decided.
+    fn read_decided(&mut self)
+        requires { self.old.fault ≡ None }
+        ensures adds { (text : List ℕ) → IsHeld text self.old → IsStuck self.old.kept.items self.old.phase → Adds ends.Open text self.old.passed self.old.ready.items self.new.ready.items self.new.passed }
+        ensures stops { (text : List ℕ) → IsHeld text self.old → IsStuck self.old.kept.items self.old.phase → Stops ends.Open text self.new.passed self.new.fault }
+        ensures held { (text : List ℕ) → IsHeld text self.old → IsStuck self.old.kept.items self.old.phase → IsHeld text self.new × IsStuck self.new.kept.items self.new.phase }
+        ensures within { (text : List ℕ) → IsHeld text self.old → self.new.passed ≤ length text }
+    {
+        if self.is_unfinished() {
+            return;
+        }
+        self.read(TextEnd::Open);
+    }
+
+    /// What is answered.
+    fn answer(&self) -> Result<(), RowFault>
+        ensures { MatchResult result (λ _. self.now.fault ≡ None) (λ fault. self.now.fault ≡ Some fault) }
+    {
+        match self.fault {
             None => Ok(()),
             Some(fault) => Err(fault),
         }
@@ -79,7 +214,9 @@ impl PatchReader {
             self.fault = Some(RowFault::OutOfMemory);
             return Err(RowFault::OutOfMemory);
         }
-        self.advance(TextEnd::Open)
+        self.enter_row();
+        self.read_decided();
+        self.answer()
     }
 
     /// Reads what is left of the text, which ends here. A fault is answered where the text has it as its first one.
@@ -92,7 +229,8 @@ impl PatchReader {
         if let Some(fault) = self.fault {
             return Err(fault);
         }
-        self.advance(TextEnd::Known)
+        self.read(TextEnd::Known);
+        self.answer()
     }
 
     /// The next row with its places; none where no row is ready.

@@ -15,7 +15,7 @@ use rows_text::{Row, RowFault, RowKind, unlimited_row};
 use std::alloc::Global;
 
 /// The bytes that a row may have.
-const ROW_LIMIT: usize = 4_194_304;
+pub const ROW_LIMIT: usize = 4_194_304;
 
 /// Whether more bytes stand from a place on than a row may have.
 fn is_long(text: &[u8], at: usize) -> bool

@@ -18,7 +18,7 @@ use std::alloc::Global;
 
 /// The dot of a row; `missing` is the kind of a byte that begins no term.
 #[tactic(auto, unfolding(rows_text::specs::Reading::dot_at), using(rows_text::proofs::Steps::met))]
-fn dot(text: &[u8], at: usize, missing: RowKind) -> Result<usize, RowFault>
+pub fn dot(text: &[u8], at: usize, missing: RowKind) -> Result<usize, RowFault>
     requires { at ≤ length text.now }
     ensures { Ends text.now result (dot_at missing (drop at text.now)) }
 {

@@ -14,12 +14,12 @@ use Rattle.rows_text.specs.Grammar.{Space, Spaced, KeyAt, letters, RowTerm, Plac
 longest : (Form : List ℕ → Type 0) (text taken after : List ℕ) → Longest Form text taken after → length after + length taken ≤ length text
 longest Form text taken after l = let e : length text ≡ length (taken ++ after) = ap length l.1 in omega (arith, e, length-append taken after)
 
-space : (text after : List ℕ) → Space text after → length after ≤ length text
-space text after s = let l = longest _ text s.0 after s.1 in omega (arith, l)
+pub space_le : (text after : List ℕ) → Space text after → length after ≤ length text
+space_le text after s = let l = longest _ text s.0 after s.1 in omega (arith, l)
 
 spaced : {X : Type 0} (Part : List ℕ → X → List ℕ → Type 0) (text : List ℕ) (x : X) (after : List ℕ) → ((from : List ℕ) → Part from x after → length after ≤ length from)
     → Spaced Part text x after → length after ≤ length text
-spaced Part text x after shorter s = let a = space text s.0 s.1 in let b = shorter s.0 s.2 in omega (arith, a, b)
+spaced Part text x after shorter s = let a = space_le text s.0 s.1 in let b = shorter s.0 s.2 in omega (arith, a, b)
 
 term_le : (text : List ℕ) (t : Term) (after : List ℕ) → RowTerm text t after → length after ≤ length text
 term_le text t after (inl is) = let l = term_shorter text t after is in omega (arith, l)
@@ -44,7 +44,7 @@ iri_le text iri after (PrefixIriAt.reference t) = term_le text _ after t
 iri_le text iri after (PrefixIriAt.string t is) = term_le text (plain iri) after t
 
 end : (text after : List ℕ) → EndAt text after → length after ≤ length text
-end text after e = let s = space text e.0 e.1 in let l : length e.0 ≡ length (46 ∷ after) = ap length e.2 in omega (arith, s, l)
+end text after e = let s = space_le text e.0 e.1 in let l : length e.0 ≡ length (46 ∷ after) = ap length e.2 in omega (arith, s, l)
 
 graph : (text : List ℕ) (g : Option Term) (after : List ℕ) → GraphAt text g after → length after ≤ length text
 graph text None after e = end text after e

@@ -21,7 +21,7 @@ pub use printing::print_row;
 pub use rdf_terms::Change;
 pub use row::Row;
 pub use rows::unlimited_row;
-pub use space::skip_space;
+pub use space::{is_line_end, is_space, skip_space};
 
 #[cfg(test)]
 mod tests;

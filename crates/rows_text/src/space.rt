@@ -7,13 +7,15 @@ ghost use Rattle.rows_text.specs.Reading.{space_behind, skip_space as behind_spa
 
 use nquads_text::char_at;
 
-fn is_line_end(c: char) -> bool
+/// Whether the character ends a line.
+pub fn is_line_end(c: char) -> bool
     ensures { result ≡ ends_line c }
 {
     c == '\n' || c == '\r'
 }
 
-fn is_space(b: u8) -> bool
+/// Whether the byte is white space.
+pub fn is_space(b: u8) -> bool
     ensures { result ≡ is_blank b }
 {
     matches!(b, b' ' | b'\t' | b'\n' | b'\r')

@@ -14,7 +14,7 @@ use Rattle.rdf_terms.specs.Quad.{Statement}
 use Rattle.rdf_terms.specs.declared.change.Change.{Change}
 use Rattle.rdf_terms.specs.declared.change.Change.TheVariants.{Add, Delete, PrefixAdd, PrefixDelete, Begin, Commit, Abort}
 use Rattle.rdf_terms.specs.Line.{line, lines}
-use Rattle.rdf_terms.specs.Dataset.{Dataset, effect, effects, kept, kept_behind, apply}
+use Rattle.rdf_terms.specs.Dataset.{Dataset, effect, effects, kept, kept_behind}
 use Rattle.stream_replay.specs.declared.lines.Block.{Block}
 use Rattle.stream_replay.specs.declared.lines.Block.TheVariants as block
 use Rattle.stream_replay.specs.Lines.{AreLinesOf, joined, aborts, block_behind, effect_in}

@@ -5,3 +5,4 @@ pub mod Places
 pub mod Ending
 pub mod Windows
 pub mod Source
+pub mod Streaming

@@ -3,7 +3,7 @@ use Rattle.std.specs.Prelude.{◌≡◌, ℕ, Bool, true, false, List, [], ◌�
 use Rattle.std.specs.Global.{Vec}
 use Rattle.std.specs.List.{flat_map}
 use Rattle.rdf_terms.specs.declared.change.Change.{Change}
-use Rattle.rdf_terms.specs.declared.change.Change.TheVariants.{Add, Delete, PrefixAdd, PrefixDelete, Begin, Commit, Abort}
+use Rattle.rdf_terms.specs.declared.change.Change.TheVariants.{Begin, Commit, Abort}
 use Rattle.rdf_terms.specs.Line.{line}
 use Rattle.rdf_terms.specs.Dataset.{Dataset, effect}
 use Rattle.stream_replay.specs.declared.lines.Block.{Block}

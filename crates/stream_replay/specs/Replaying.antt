@@ -1,5 +1,5 @@
 -- Patches that are applied one after another.
-use Rattle.std.specs.Prelude.{◌≡◌, ℕ, List, [], ◌++◌, length, Option, None, Some}
+use Rattle.std.specs.Prelude.{◌≡◌, List, ◌++◌, length, Option, None, Some}
 use Rattle.chain_core.specs.declared.testing.ChainFault.{ChainFault}
 use Rattle.chain_core.specs.Breaks.{Breaks, last_or}
 use Rattle.chain_core.specs.Links.{IsChain}

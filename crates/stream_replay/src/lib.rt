@@ -7,14 +7,17 @@
 mod channel;
 mod fault;
 mod lines;
+mod next;
 mod place;
+mod progress;
 mod replay;
 mod source;
+mod stream;
+#[cfg(test)]
+mod tests;
 mod window;
 
 pub use fault::ReplayFault;
 pub use lines::{Lines, PIECE, write_lines};
-pub use place::{Told, line_of, tell};
-pub use replay::{Replay, Replayed};
+pub use replay::Replayed;
 pub use source::{STREAM_LIMIT, replay_source};
-pub use window::Window;

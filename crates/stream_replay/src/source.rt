@@ -1,19 +1,41 @@
-//! Stub.
+//! The replay of an input.
 ghost use Rattle.std.specs.Prelude.{◌≤◌, IfOk, IfErr};
 ghost use Rattle.stream_replay.specs.Source.{Ends, IsReplayed, Reads};
 
 use crate::fault::ReplayFault;
 use crate::replay::Replayed;
+use crate::stream::Streaming;
 use delta_base::Source;
 use std::alloc::Global;
 
 /// The most bytes of a stream.
 pub const STREAM_LIMIT: usize = 268_435_456;
 
-pub fn replay_source<S: Source>(_alloc: Global, _input: &mut S) -> Result<Replayed, ReplayFault>
-    ensures ok { IfOk result (λ replayed. Reads (S.left _input.old) (S.left _input.new) (IsReplayed replayed)) }
-    ensures fault { IfErr result (Ends (S.left _input.old) (S.left _input.new) (S.faults _input.old) (S.faults _input.new)) }
-    ensures never_falls { S.faults _input.old ≤ S.faults _input.new }
+/// How many bytes are read at once.
+const PIECE: usize = 65_536;
+
+/// Reads a stream to its end, and answers the dataset that its patches make from the empty one.
+///
+/// The first fault of the text comes before one of the chain. That the input has more than `STREAM_LIMIT` bytes comes before both, and
+/// then at most a piece more is read. It reads the input once, and holds of it one piece, the open row and the changes of the open patch.
+pub fn replay_source<S: Source>(alloc: Global, input: &mut S) -> Result<Replayed, ReplayFault>
+    ensures ok { IfOk result (λ replayed. Reads (S.left input.old) (S.left input.new) (IsReplayed replayed)) }
+    ensures fault { IfErr result (Ends (S.left input.old) (S.left input.new) (S.faults input.old) (S.faults input.new)) }
+    ensures never_falls { S.faults input.old ≤ S.faults input.new }
 {
-    Err(ReplayFault::OutOfMemory)
+    let mut stream = Streaming::new(alloc);
+    let mut piece = [0u8; PIECE];
+    let mut length: usize = 0;
+    'reading: while length <= STREAM_LIMIT {
+        let count = match input.read(&mut piece) {
+            Ok(count) => count,
+            Err(_) => return Err(ReplayFault::Failed),
+        };
+        if count == 0 {
+            return stream.finish(alloc);
+        }
+        stream.feed(alloc, &piece[..count])?;
+        length += count;
+    }
+    Err(ReplayFault::TooLong)
 }

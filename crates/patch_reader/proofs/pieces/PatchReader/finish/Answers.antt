@@ -1,6 +1,6 @@
 use Rattle.std.proofs.Common.{◌++◌}
 use Rattle.patch_reader.specs.declared.placed.TextEnd.TheVariants as ends
-use Rattle.patch_reader.proofs.Reader.{fault_known, keeps, rows_known, goes_on}
+use Rattle.patch_reader.proofs.Reader.{fault_known, gap_known, rows_known, goes_on}
 use Rattle.patch_reader.proofs.pieces.PatchReader.finish.Goals as goal
 
 pub returns-in-Some-clause-ended : goal.returns-in-Some-clause-ended
@@ -8,13 +8,16 @@ returns-in-Some-clause-ended c = λ text taken s fits. fault_known text taken c.
 
 pub returns-clause-ended : goal.returns-clause-ended
 returns-clause-ended c = λ text taken s fits.
-    let old = c.args.self.now in
-    let k = keeps ends.Open text taken old c.in_default.is s fits in
-    goes_on ends.Known text taken old.ready.items old.passed c.advance.new.self (rows_known text 0 old.passed (taken ++ old.ready.items) s.rows_)
-    (c.advance.ensures.adds text k) (c.advance.ensures.stops text k) (c.advance.ensures.kept text k)
+    let r = c.args.self.now in
+    let h = s.held c.in_default.is in
+    let gap = gap_known text r.passed r.from r.kept.items r.phase h.0 h.1 in
+    goes_on ends.Known text taken r.ready.items r.passed c.read.new.self (rows_known text 0 r.passed (taken ++ r.ready.items) s.rows_)
+    (c.read.ensures.adds text h.0 gap) (c.read.ensures.stops text h.0 gap) (c.read.ensures.within text h.0) (c.read.ensures.held text h.0 h.1)
 
 pub returns-clause-again : goal.returns-clause-again
 returns-clause-again c = λ text taken s fits.
-    let old = c.args.self.now in
-    let k = keeps ends.Known text taken old c.in_default.is s fits in
-    goes_on ends.Known text taken old.ready.items old.passed c.advance.new.self s.rows_ (c.advance.ensures.adds text k) (c.advance.ensures.stops text k) (c.advance.ensures.kept text k)
+    let r = c.args.self.now in
+    let h = s.held c.in_default.is in
+    let gap = gap_known text r.passed r.from r.kept.items r.phase h.0 h.1 in
+    goes_on ends.Known text taken r.ready.items r.passed c.read.new.self s.rows_
+    (c.read.ensures.adds text h.0 gap) (c.read.ensures.stops text h.0 gap) (c.read.ensures.within text h.0) (c.read.ensures.held text h.0 h.1)

@@ -1,4 +1,4 @@
-use Rattle.std.proofs.Common.{Option, ap, subst, ◌∙◌}
+use Rattle.std.proofs.Common.{Option, subst, ◌∙◌}
 use Rattle.chain_core.specs.declared.testing.ChainFault.{ChainFault}
 use Rattle.patch_meaning.specs.Replay.{replay}
 use Rattle.stream_replay.specs.Replaying.{HasTaken}

@@ -1,4 +1,4 @@
-use Rattle.std.proofs.Common.{◌≡◌, ℕ, ◌+◌, ◌-◌, take, List, ap, ◌∙◌}
+use Rattle.std.proofs.Common.{ℕ, ◌+◌, ◌-◌, take, List, ap, ◌∙◌}
 use Rattle.std.specs.Prelude.{count_by, ◌==◌}
 use Rattle.stream_replay.proofs.Held.{line_is}
 use Rattle.stream_replay.proofs.window.Window.line_at.Goals as goal

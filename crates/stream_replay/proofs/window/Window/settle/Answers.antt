@@ -1,4 +1,4 @@
-use Rattle.std.proofs.Common.{◌≡◌, ℕ, ◌+◌, ◌-◌, ◌≤◌, List, length, take, drop, sym, ap, subst, ◌∙◌, arith}
+use Rattle.std.proofs.Common.{◌≡◌, ℕ, ◌+◌, ◌≤◌, List, length, take, drop, sym, ap, subst, ◌∙◌, arith}
 use Rattle.std.specs.Prelude.{count_by, ◌==◌}
 use Rattle.std.proofs.lemmas.List.{take_rest}
 use Rattle.stream_replay.specs.Windows.{IsHeld}

@@ -1,0 +1,394 @@
+//! Logs over disks in memory: what they answer, and what a crash leaves of them.
+use crate::{LogFault, LogState, append, append_all};
+use chain_core::{Decision, FullKind, LogAnswer, LogLimits};
+use delta_base::{Bytes, Calls, Id, Listing};
+use disk_model::MemDisk;
+use patch_meaning::{Checked, check_patch};
+use std::alloc::{AllocError, Global};
+use std::test::Fail;
+
+const LIMITS: LogLimits = LogLimits {
+    patches: 65_536,
+    bytes: 67_108_864,
+};
+
+const EMPTY: &[u8] = b"RDJ1\0\0\0\x01\0";
+
+const FIRST: &[u8] =
+    b"H id <uuid:00000000-0000-4000-8000-000000000001> .\nTX .\nA <http://e/s> <http://e/p> <http://e/o> .\nTC .\n";
+
+const SECOND: &[u8] =
+    b"H id <uuid:00000000-0000-4000-8000-000000000002> .\nH prev <uuid:00000000-0000-4000-8000-000000000001> .\nTX .\nA <http://e/s> <http://e/p> <http://e/o2> .\nTC .\n";
+
+const THIRD: &[u8] =
+    b"H id <uuid:00000000-0000-4000-8000-000000000003> .\nH prev <uuid:00000000-0000-4000-8000-000000000001> .\nTX .\nA <http://e/s> <http://e/p> <http://e/o3> .\nTC .\n";
+
+const OTHER_TEXT: &[u8] = b"H id <uuid:00000000-0000-4000-8000-000000000001> .\n";
+
+const NO_PREVIOUS: &[u8] = b"H id <uuid:00000000-0000-4000-8000-000000000009> .\n";
+
+const BEHIND_NONE: &[u8] =
+    b"H id <uuid:00000000-0000-4000-8000-000000000004> .\nH prev <uuid:00000000-0000-4000-8000-000000000009> .\n";
+
+const BEHIND_SECOND: &[u8] =
+    b"H id <uuid:00000000-0000-4000-8000-000000000003> .\nH prev <uuid:00000000-0000-4000-8000-000000000002> .\n";
+
+// The id whose last digits are this number.
+fn id_of(number: u128) -> Id {
+    Id(0x0000_0000_0000_4000_8000_0000_0000_0000 | number)
+}
+
+fn calls(alloc: Global, numbers: &[u64]) -> Result<Calls, AllocError> {
+    Ok(Listing::from_vec(Vec::from_slice(alloc, numbers)?))
+}
+
+// A disk with these bytes, whose calls of these numbers fail.
+fn disk_of(alloc: Global, image: &[u8], failing: &[u64]) -> Result<MemDisk, Fail> {
+    let bytes = Bytes::from_slice(alloc, image)?;
+    Ok(MemDisk::from_image(alloc, bytes, calls(alloc, failing)?)?)
+}
+
+fn open(alloc: Global, disk: MemDisk, limits: LogLimits) -> Result<LogState<MemDisk>, Fail> {
+    match LogState::open_on(alloc, disk, 1, limits) {
+        Ok(log) => Ok(log),
+        Err(_) => Err(Fail::from("not opened")),
+    }
+}
+
+// Takes the memory first, and then appends.
+fn add(alloc: Global, log: &mut LogState<MemDisk>, text: &[u8]) -> Result<LogAnswer, Fail> {
+    let patch = check_patch(alloc, text)?;
+    let ready = log.reserve(&patch, 7)?;
+    Ok(log.append_reserved(ready))
+}
+
+// The version and the head of the log that this image holds.
+fn found_in(alloc: Global, image: &[u8]) -> Result<(u32, Option<Id>), Fail> {
+    let log = open(alloc, disk_of(alloc, image, &[])?, LIMITS)?;
+    Ok((log.chain().version(), log.chain().head()))
+}
+
+#[test]
+fn a_log_takes_the_next_patch_alone(rt: HostRuntime) -> Result<(), Fail> {
+    let alloc = rt.alloc();
+    let mut log = open(alloc, disk_of(alloc, EMPTY, &[])?, LIMITS)?;
+    for (text, answer) in [
+        (
+            SECOND,
+            LogAnswer::Conflict {
+                version: 0,
+                head: None,
+                prev_version: None,
+            },
+        ),
+        (FIRST, LogAnswer::Accepted { version: 1 }),
+        (
+            FIRST,
+            LogAnswer::Known {
+                version: 1,
+                same: true,
+            },
+        ),
+        (
+            OTHER_TEXT,
+            LogAnswer::Known {
+                version: 1,
+                same: false,
+            },
+        ),
+        (
+            NO_PREVIOUS,
+            LogAnswer::Conflict {
+                version: 1,
+                head: Some(id_of(1)),
+                prev_version: Some(0),
+            },
+        ),
+        (SECOND, LogAnswer::Accepted { version: 2 }),
+        (
+            THIRD,
+            LogAnswer::Conflict {
+                version: 2,
+                head: Some(id_of(2)),
+                prev_version: Some(1),
+            },
+        ),
+        (
+            BEHIND_NONE,
+            LogAnswer::Conflict {
+                version: 2,
+                head: Some(id_of(2)),
+                prev_version: None,
+            },
+        ),
+    ] {
+        assert_eq!(rt; add(alloc, &mut log, text)?, answer);
+    }
+    Ok(())
+}
+
+#[test]
+fn who_brought_a_patch_is_kept(rt: HostRuntime) -> Result<(), Fail> {
+    let alloc = rt.alloc();
+    let mut log = open(alloc, disk_of(alloc, EMPTY, &[])?, LIMITS)?;
+    add(alloc, &mut log, FIRST)?;
+    assert!(rt; log.chain().entry(1).is_some_and(|entry| entry.by == 7));
+    let disk = log.close();
+    let again = open(
+        alloc,
+        disk_of(alloc, disk.image(1)?.as_slice(), &[])?,
+        LIMITS,
+    )?;
+    assert!(rt; again.chain().entry(1).is_some_and(|entry| entry.by == 0));
+    Ok(())
+}
+
+// What a log of two patches within these limits decides of a third.
+fn decided(alloc: Global, patches: u32, bytes: u64) -> Result<Decision, Fail> {
+    let limits = LogLimits { patches, bytes };
+    let mut log = open(alloc, disk_of(alloc, EMPTY, &[])?, limits)?;
+    add(alloc, &mut log, FIRST)?;
+    add(alloc, &mut log, SECOND)?;
+    Ok(log.decide_here(&check_patch(alloc, BEHIND_SECOND)?))
+}
+
+#[test]
+fn a_full_log_shows_its_numbers(rt: HostRuntime) -> Result<(), Fail> {
+    let alloc = rt.alloc();
+    for (patches, bytes, decision) in [
+        (
+            2,
+            10_000,
+            Decision::Full {
+                what: FullKind::Patches,
+                have: 2,
+                limit: 2,
+            },
+        ),
+        (
+            100,
+            389,
+            Decision::Full {
+                what: FullKind::Bytes,
+                have: 390,
+                limit: 389,
+            },
+        ),
+        (100, 390, Decision::Accept { version: 3 }),
+    ] {
+        assert_eq!(rt; decided(alloc, patches, bytes)?, decision);
+    }
+    Ok(())
+}
+
+// A log of one patch whose second append failed at the gate's sync: an opening makes four calls and an append four more.
+fn in_doubt(alloc: Global) -> Result<(LogState<MemDisk>, LogAnswer), Fail> {
+    let mut log = open(alloc, disk_of(alloc, EMPTY, &[11])?, LIMITS)?;
+    add(alloc, &mut log, FIRST)?;
+    let answer = add(alloc, &mut log, SECOND)?;
+    Ok((log, answer))
+}
+
+#[test]
+fn a_gate_left_in_doubt_may_stand_open(rt: HostRuntime) -> Result<(), Fail> {
+    let alloc = rt.alloc();
+    let (log, answer) = in_doubt(alloc)?;
+    assert_eq!(rt; answer, LogAnswer::DiskFault);
+    assert_eq!(rt; log.faults(), 1);
+    assert_eq!(rt; log.chain().version(), 1);
+    let disk = log.close();
+    for (choice, version, last) in [(1, 2, 2), (0, 1, 1)] {
+        let found = found_in(alloc, disk.image(choice)?.as_slice())?;
+        assert_eq!(rt; found, (version, Some(id_of(last))));
+    }
+    Ok(())
+}
+
+#[test]
+fn what_is_settled_makes_way(rt: HostRuntime) -> Result<(), Fail> {
+    let alloc = rt.alloc();
+    let (mut log, _) = in_doubt(alloc)?;
+    assert_eq!(rt;
+        add(alloc, &mut log, THIRD)?,
+        LogAnswer::Accepted { version: 2 }
+    );
+    let disk = log.close();
+    for choice in [0, 1, 7] {
+        let found = found_in(alloc, disk.image(choice)?.as_slice())?;
+        assert_eq!(rt; found, (2, Some(id_of(3))));
+    }
+    Ok(())
+}
+
+// A journal with these payloads.
+fn journal_of(alloc: Global, payloads: &[&[u8]]) -> Result<Vec<u8>, Fail> {
+    let mut bytes = b"RDJ1\0\0\0\x01".to_vec(alloc)?;
+    for payload in payloads {
+        bytes.push(1)?;
+        bytes.extend_from_slice(&u32::try_from(payload.len())?.to_be_bytes())?;
+        bytes.extend_from_slice(payload)?;
+    }
+    bytes.push(0)?;
+    Ok(bytes)
+}
+
+// Why a file isn't opened as number 1 with at most two patches, if the call of this number fails.
+fn fault_of(alloc: Global, image: &[u8], failing: &[u64]) -> Result<LogFault, Fail> {
+    let limits = LogLimits {
+        patches: 2,
+        bytes: 1000,
+    };
+    match LogState::open_on(alloc, disk_of(alloc, image, failing)?, 1, limits) {
+        Ok(_) => Err(Fail::from("opened")),
+        Err(refusal) => Ok(refusal.fault),
+    }
+}
+
+#[test]
+fn each_fault_of_payloads_is_told(rt: HostRuntime) -> Result<(), Fail> {
+    let alloc = rt.alloc();
+    for (payloads, fault) in [
+        (
+            [FIRST, SECOND, THIRD].as_slice(),
+            LogFault::BrokenChain { version: 3 },
+        ),
+        (&[FIRST, FIRST], LogFault::BrokenChain { version: 2 }),
+        (&[SECOND], LogFault::BrokenChain { version: 1 }),
+        (&[FIRST, b"X"], LogFault::BrokenChain { version: 2 }),
+        (
+            &[&[b'#'; 987], b"X"],
+            LogFault::OverLimit {
+                length: 1007,
+                limit: 1000,
+            },
+        ),
+    ] {
+        assert_eq!(rt; fault_of(alloc, &journal_of(alloc, payloads)?, &[])?, fault);
+    }
+    Ok(())
+}
+
+#[test]
+fn each_fault_of_a_file_is_told(rt: HostRuntime) -> Result<(), Fail> {
+    let alloc = rt.alloc();
+    for (image, fault) in [
+        (
+            b"RDJ1\0\0\0\x02\0".as_slice(),
+            LogFault::WrongNumber { found: 2 },
+        ),
+        (b"RDJ1", LogFault::Damaged { at: 0 }),
+    ] {
+        assert_eq!(rt; fault_of(alloc, image, &[])?, fault);
+    }
+    for call in 0..4u64 {
+        assert_eq!(rt; fault_of(alloc, EMPTY, &[call])?, LogFault::Failed);
+    }
+    Ok(())
+}
+
+// The patch of this number, behind the one before it.
+fn numbered(alloc: Global, number: u32) -> Result<Checked, Fail> {
+    let mut text = format!(in alloc;
+        "H id <uuid:00000000-0000-4000-8000-0000000000{number:02}> .\n"
+    )?;
+    if number > 11 {
+        let before = number - 1;
+        text.push_str(format!(in alloc;
+            "H prev <uuid:00000000-0000-4000-8000-0000000000{before:02}> .\n"
+        )?.as_str())?;
+    }
+    Ok(check_patch(alloc, text.as_bytes())?)
+}
+
+// How many of ten chained appends are acknowledged over a disk whose calls all fail after so many, and the disk.
+fn run_ten(alloc: Global, patches: &[Checked], fuse: u64) -> Result<Option<(u32, MemDisk)>, Fail> {
+    let disk = MemDisk::with_fuse(alloc, Bytes::from_slice(alloc, EMPTY)?, fuse)?;
+    match LogState::open_on(alloc, disk, 1, LIMITS) {
+        Ok(mut log) => {
+            let mut acknowledged = 0u32;
+            for patch in patches {
+                if let LogAnswer::Accepted { version } = append(&mut log, patch, 1) {
+                    acknowledged = version;
+                }
+            }
+            Ok(Some((acknowledged, log.close())))
+        }
+        Err(_) => Ok(None),
+    }
+}
+
+// Whether the log's patches are the first of these.
+fn is_front(log: &LogState<MemDisk>, patches: &[Checked]) -> bool {
+    (1..=log.chain().version()).all(|version| {
+        match (
+            log.chain().by_version(version),
+            patches.get(version as usize - 1),
+        ) {
+            (Some(found), Some(sent)) => found.text.as_slice() == sent.text().as_slice(),
+            _ => false,
+        }
+    })
+}
+
+// Whether each image of a disk holds those that were acknowledged, or one more.
+fn holds_acknowledged(
+    alloc: Global,
+    disk: &MemDisk,
+    patches: &[Checked],
+    acknowledged: u32,
+) -> Result<bool, Fail> {
+    for choice in [0, 1, 7] {
+        let left = disk_of(alloc, disk.image(choice)?.as_slice(), &[])?;
+        let log = open(alloc, left, LIMITS)?;
+        let found = u64::from(log.chain().version());
+        let known = u64::from(acknowledged);
+        if !(found == known || found == known + 1) || !is_front(&log, patches) {
+            return Ok(false);
+        }
+    }
+    Ok(true)
+}
+
+#[test]
+fn what_was_acknowledged_is_found_again(rt: HostRuntime) -> Result<(), Fail> {
+    let alloc = rt.alloc();
+    let mut patches = Vec::new(alloc);
+    for number in 11..21u32 {
+        patches.push(numbered(alloc, number)?)?;
+    }
+    for fuse in 0..46u64 {
+        match run_ten(alloc, &patches, fuse)? {
+            None => assert!(rt; fuse < 4),
+            Some((acknowledged, disk)) => {
+                let holds = holds_acknowledged(alloc, &disk, &patches, acknowledged)?;
+                assert!(rt; holds, "after {fuse} calls");
+            }
+        }
+    }
+    Ok(())
+}
+
+#[test]
+fn many_appends_are_answered_in_order(rt: HostRuntime) -> Result<(), Fail> {
+    let alloc = rt.alloc();
+    let mut log = open(alloc, disk_of(alloc, EMPTY, &[])?, LIMITS)?;
+    let patches = vec![in alloc;
+        check_patch(alloc, FIRST)?,
+        check_patch(alloc, SECOND)?,
+        check_patch(alloc, FIRST)?,
+    ]?;
+    let answers = append_all(alloc, &mut log, &patches, 3)?;
+    assert_eq!(rt;
+        answers.as_slice(),
+        [
+            LogAnswer::Accepted { version: 1 },
+            LogAnswer::Accepted { version: 2 },
+            LogAnswer::Known {
+                version: 1,
+                same: true
+            },
+        ]
+        .as_slice()
+    );
+    Ok(())
+}

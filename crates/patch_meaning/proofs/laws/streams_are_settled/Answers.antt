@@ -1,0 +1,8 @@
+use Rattle.patch_meaning.proofs.OneStream.{same_stream, stream_or_fault}
+use Rattle.patch_meaning.proofs.laws.streams_are_settled.Goals as goal
+
+pub returns-clause-one : goal.returns-clause-one
+returns-clause-one c = same_stream
+
+pub returns-clause-apart : goal.returns-clause-apart
+returns-clause-apart c = stream_or_fault

@@ -1,0 +1,505 @@
+//! How far the reading of an unfinished row is known, so that it isn't read again for each piece.
+
+ghost use Rattle.std.specs.Prelude.{◌≡◌, ◌≤◌, ◌<◌, ◌++◌, ℕ, List, true, false, not, length, drop, Err};
+ghost use Rattle.rdf_terms.specs.Iri.{is_forbidden};
+ghost use Rattle.nquads_text.specs.Fault.{Fault};
+ghost use Rattle.nquads_text.specs.Faults.{begins_term};
+ghost use Rattle.nquads_text.specs.Reading.{char_at as char_of};
+ghost use Rattle.rows_text.specs.Fault.{Ends};
+ghost use Rattle.rows_text.specs.Reading.{space_behind, stands};
+ghost use Rattle.patch_reader.specs.Cut.{is_cut};
+ghost use Rattle.patch_reader.specs.Progress.{part_at, part_behind as part_behind_of, takes_term as term_is_taken, first_part as first_part_of, IsPlaceWithin, IsWithin, IsStep, IsFollowed, OpenInside, progress_at, plain_in_string, is_short_escape as short_escape};
+ghost use Rattle.patch_reader.specs.declared.progress.Inside.TheVariants as inside;
+ghost use Rattle.patch_reader.specs.declared.progress.Part.TheVariants as parts;
+ghost use Rattle.patch_reader.specs.declared.progress.Place.TheVariants as place;
+
+use crate::codes::{Code, find_code};
+use crate::cut::{ends, is_front};
+use crate::rows::dot;
+use crate::terms::{any, iri, is_term_at, node};
+use crate::words::{key, prefix, prefix_iri, word};
+use nquads_text::{TextKind, char_at};
+use rows_text::{RowFault, RowKind, is_line_end, is_space};
+use std::alloc::Global;
+
+/// A part of a row behind its code.
+#[derive(Clone, Copy)]
+pub enum Part {
+    /// The key of a header row.
+    Key,
+    /// Its value.
+    Value,
+    /// The dot of a row without parts.
+    Bare,
+    /// The prefix that a row sets.
+    Added,
+    /// Its IRI.
+    Iri,
+    /// The prefix that a row removes.
+    Removed,
+    Subject,
+    Predicate,
+    Object,
+    /// The graph, or the dot where there is none.
+    Graph,
+    /// The dot.
+    End,
+}
+
+/// A place in a row, from which on its reading isn't known.
+#[derive(Clone, Copy)]
+pub enum Place {
+    /// At the row's first byte.
+    Row {
+        start: usize,
+    },
+    /// In white space and comments before a part.
+    Gap {
+        part: Part,
+        mark: usize,
+        comment: bool,
+    },
+    /// At a part's first byte.
+    Token {
+        part: Part,
+        start: usize,
+    },
+}
+
+/// How far the string or the IRIREF with which a part begins is known.
+#[derive(Clone, Copy)]
+pub enum Inside {
+    Nothing,
+    String { mark: usize },
+    Iri { mark: usize },
+}
+
+#[derive(Clone, Copy)]
+pub struct Progress {
+    pub place: Place,
+    pub inside: Inside,
+}
+
+/// What stands at the front of what is kept.
+#[derive(Clone, Copy)]
+pub enum Phase {
+    /// White space and comments, or the rest of a comment.
+    Gap { comment: bool },
+    /// An unfinished row.
+    Row { progress: Progress },
+}
+
+/// One step through an unfinished row.
+#[derive(Clone, Copy)]
+pub enum Step {
+    /// It goes on from there.
+    Goes(Place),
+    /// The text ends there, and nothing is decided.
+    Open(Place),
+    /// The text ends inside the string or the IRIREF, and nothing is decided.
+    Enters(Inside),
+    /// Something may be decided.
+    Unknown,
+}
+
+/// The steps that a row has at most: two or three for each of its parts.
+const STEPS: usize = 32;
+
+/// At a place, with nothing known of what begins there.
+fn at_place(place: Place) -> Progress
+    ensures { result ≡ progress_at place }
+{
+    Progress {
+        place,
+        inside: Inside::Nothing,
+    }
+}
+
+/// At the front of a row of which nothing is known.
+pub fn at_row() -> Progress
+    ensures { result ≡ progress_at (place.Row 0) }
+{
+    at_place(Place::Row { start: 0 })
+}
+
+fn first_part(code: Code) -> Part
+    ensures { result ≡ first_part_of code }
+{
+    match code {
+        Code::Header => Part::Key,
+        Code::Begin | Code::Commit | Code::Abort => Part::Bare,
+        Code::PrefixAdd => Part::Added,
+        Code::PrefixDelete => Part::Removed,
+        Code::Add | Code::Delete => Part::Subject,
+    }
+}
+
+fn part_behind(part: Part) -> Option<Part>
+    ensures { result ≡ part_behind_of part }
+{
+    match part {
+        Part::Key => Some(Part::Value),
+        Part::Value | Part::Graph => Some(Part::End),
+        Part::Bare | Part::End => None,
+        Part::Added => Some(Part::Iri),
+        Part::Iri | Part::Removed | Part::Object => Some(Part::Graph),
+        Part::Subject => Some(Part::Predicate),
+        Part::Predicate => Some(Part::Object),
+    }
+}
+
+fn takes_term(part: Part) -> bool
+    ensures { result ≡ term_is_taken part }
+{
+    !matches!(part, Part::Key | Part::Bare | Part::End)
+}
+
+/// The place behind white space and comments, as far as they are known, and whether a comment goes on there.
+#[tactic(auto, using(crate::proofs::GapSteps::gap_steps))]
+pub fn pass_gap(text: &[u8], from: usize, in_comment: bool) -> (usize, bool)
+    requires { from ≤ length text.now }
+    ensures same { (more : List ℕ) → space_behind in_comment 0 (drop from (text.now ++ more)) ≡ space_behind result.1 0 (drop result.0 (text.now ++ more)) }
+    ensures high { result.0 ≤ length text.now }
+    ensures stuck { result.1 ≡ true → (fault : Fault) × (char_of (drop result.0 text.now) ≡ Err fault) }
+    ensures stops { result.1 ≡ false → result.0 < length text.now → (more : List ℕ) → space_behind false 0 (drop result.0 (text.now ++ more)) ≡ drop result.0 (text.now ++ more) }
+{
+    let mut at = from;
+    let mut comment = in_comment;
+    while at < text.len() {
+        if comment {
+            match char_at(text, at) {
+                Ok((c, next)) => {
+                    comment = !is_line_end(c);
+                    at = next;
+                }
+                Err(_) => return (at, true),
+            }
+        } else if text[at] == b'#' {
+            comment = true;
+            at += 1;
+        } else if is_space(text[at]) {
+            at += 1;
+        } else {
+            return (at, false);
+        }
+    }
+    (at, comment)
+}
+
+/// Whether the text ends there, or within a character.
+pub fn is_cut_at(text: &[u8], at: usize) -> bool
+    requires { at ≤ length text.now }
+    ensures { result ≡ is_cut (drop at text.now) }
+{
+    at == text.len() || is_front(&text[at..])
+}
+
+/// Whether something else than white space and comments stands there.
+pub fn is_past_gap(text: &[u8], at: usize, comment: bool) -> bool
+    ensures yes { result ≡ true → (comment ≡ false) × (at < length text.now) }
+    ensures none { result ≡ false → comment ≡ false → at < length text.now → ⊥ }
+{
+    !comment && at < text.len()
+}
+
+/// Through white space and comments before a part.
+fn step_gap(text: &[u8], part: Part, mark: usize, comment: bool) -> Step
+    requires { mark ≤ length text.now }
+    ensures { IsStep text.now (progress_at (place.Gap part mark comment)) result }
+{
+    let (at, comment) = pass_gap(text, mark, comment);
+    if is_past_gap(text, at, comment) {
+        return Step::Goes(Place::Token { part, start: at });
+    }
+    if is_cut_at(text, at) {
+        return Step::Open(Place::Gap {
+            part,
+            mark: at,
+            comment,
+        });
+    }
+    Step::Unknown
+}
+
+/// Over a row's code.
+fn step_row(text: &[u8], start: usize) -> Step
+    requires { start ≤ length text.now }
+    ensures { IsStep text.now (progress_at (place.Row start)) result }
+{
+    match word(text, start) {
+        Ok((letters, behind)) => match find_code(letters) {
+            Some(code) => Step::Goes(Place::Gap {
+                part: first_part(code),
+                mark: behind,
+                comment: false,
+            }),
+            None => Step::Unknown,
+        },
+        Err(RowFault::At { at, kind }) => {
+            if ends(text, at as usize, kind) {
+                return Step::Open(Place::Row { start });
+            }
+            Step::Unknown
+        }
+        Err(RowFault::OutOfMemory) => Step::Unknown,
+    }
+}
+
+/// The place behind a part.
+fn read_part(alloc: Global, text: &[u8], part: Part, start: usize) -> Result<usize, RowFault>
+    requires { start ≤ length text.now }
+    ensures { Ends text.now result (part_at part (drop start text.now)) }
+{
+    match part {
+        Part::Key => Ok(key(alloc, text, start)?.1),
+        Part::Value | Part::Object => Ok(any(alloc, text, start)?.1),
+        Part::Subject | Part::Graph => Ok(node(alloc, text, start)?.1),
+        Part::Predicate => Ok(iri(alloc, text, start)?.1),
+        Part::Added | Part::Removed => Ok(prefix(alloc, text, start)?.1),
+        Part::Iri => Ok(prefix_iri(alloc, text, start)?.1),
+        Part::Bare => dot(text, start, RowKind::Common(TextKind::BadToken)),
+        Part::End => dot(text, start, RowKind::Common(TextKind::MissingDot)),
+    }
+}
+
+/// Over a part, read as a whole.
+fn step_part(alloc: Global, text: &[u8], part: Part, start: usize) -> Step
+    requires within { start ≤ length text.now }
+    requires graph { part ≡ parts.Graph → stands begins_term (drop start text.now) ≡ true }
+    ensures { IsStep text.now (progress_at (place.Token part start)) result }
+{
+    match read_part(alloc, text, part, start) {
+        Ok(behind) => match part_behind(part) {
+            Some(next) => Step::Goes(Place::Gap {
+                part: next,
+                mark: behind,
+                comment: false,
+            }),
+            None => Step::Unknown,
+        },
+        Err(RowFault::At { at, kind }) => {
+            if ends(text, at as usize, kind) {
+                return Step::Open(Place::Token { part, start });
+            }
+            Step::Unknown
+        }
+        Err(RowFault::OutOfMemory) => Step::Unknown,
+    }
+}
+
+fn is_plain_in_string(c: char) -> bool
+    ensures { result ≡ plain_in_string c }
+{
+    !matches!(c, '"' | '\\' | '\n' | '\r')
+}
+
+fn is_short_escape(b: u8) -> bool
+    ensures is { result ≡ short_escape b }
+    ensures low { result ≡ true → b < 128 }
+{
+    matches!(b, b't' | b'b' | b'n' | b'r' | b'f' | b'"' | b'\'' | b'\\')
+}
+
+fn is_plain_in_iri(c: char) -> bool
+    ensures { result ≡ not (is_forbidden c) }
+{
+    !(c <= ' ' || matches!(c, '<' | '>' | '"' | '{' | '}' | '|' | '^' | '`' | '\\'))
+}
+
+/// The place behind characters that stand for themselves in a string, and short escapes.
+fn string_run(text: &[u8], from: usize) -> usize
+    requires { from ≤ length text.now }
+    ensures high { result ≤ length text.now }
+    ensures leads { (more : List ℕ) → OpenInside (inside.String result) (text.now ++ more) → OpenInside (inside.String from) (text.now ++ more) }
+{
+    let mut at = from;
+    'run: while at < text.len() {
+        match char_at(text, at) {
+            Ok((c, next)) => {
+                if c == '\\' && next < text.len() && is_short_escape(text[next]) {
+                    at = next + 1;
+                } else if is_plain_in_string(c) {
+                    at = next;
+                } else {
+                    return at;
+                }
+            }
+            Err(_) => return at,
+        }
+    }
+    at
+}
+
+/// The place behind characters that stand for themselves in an IRI.
+fn iri_run(text: &[u8], from: usize) -> usize
+    requires { from ≤ length text.now }
+    ensures high { result ≤ length text.now }
+    ensures leads { (more : List ℕ) → OpenInside (inside.Iri result) (text.now ++ more) → OpenInside (inside.Iri from) (text.now ++ more) }
+{
+    let mut at = from;
+    'run: while at < text.len() {
+        match char_at(text, at) {
+            Ok((c, next)) => {
+                if !is_plain_in_iri(c) {
+                    return at;
+                }
+                at = next;
+            }
+            Err(_) => return at,
+        }
+    }
+    at
+}
+
+/// Whether the text ends at this place of a string, or within a character or an escape there.
+fn is_string_open(text: &[u8], at: usize) -> bool
+    requires { at ≤ length text.now }
+    ensures { result ≡ true → OpenInside (inside.String at) text.now }
+{
+    is_cut_at(text, at) || (at + 1 == text.len() && text[at] == b'\\')
+}
+
+/// The same of an IRI.
+fn is_iri_open(text: &[u8], at: usize) -> bool
+    requires { at ≤ length text.now }
+    ensures { result ≡ true → OpenInside (inside.Iri at) text.now }
+{
+    is_cut_at(text, at) || (at + 1 == text.len() && text[at] == b'\\')
+}
+
+/// Over a part that begins with a quote, where the string is known up to a mark.
+fn step_string(alloc: Global, text: &[u8], part: Part, start: usize, mark: usize) -> Step
+    requires begins { start < length text.now }
+    requires within { mark ≤ length text.now }
+    requires graph { part ≡ parts.Graph → stands begins_term (drop start text.now) ≡ true }
+    ensures { IsStep text.now (record { place = place.Token part start; inside = inside.String mark }) result }
+{
+    let at = string_run(text, mark);
+    if is_string_open(text, at) {
+        return Step::Enters(Inside::String { mark: at });
+    }
+    step_part(alloc, text, part, start)
+}
+
+/// The same of a part that begins with a `<`.
+fn step_iri(alloc: Global, text: &[u8], part: Part, start: usize, mark: usize) -> Step
+    requires begins { start < length text.now }
+    requires within { mark ≤ length text.now }
+    requires graph { part ≡ parts.Graph → stands begins_term (drop start text.now) ≡ true }
+    ensures { IsStep text.now (record { place = place.Token part start; inside = inside.Iri mark }) result }
+{
+    let at = iri_run(text, mark);
+    if is_iri_open(text, at) {
+        return Step::Enters(Inside::Iri { mark: at });
+    }
+    step_part(alloc, text, part, start)
+}
+
+/// Whether a graph may stand there, and none does.
+fn lacks_graph(text: &[u8], part: Part, start: usize) -> bool
+    requires { start ≤ length text.now }
+    ensures yes { result ≡ true → (part ≡ parts.Graph) × (stands begins_term (drop start text.now) ≡ false) }
+    ensures none { result ≡ false → part ≡ parts.Graph → stands begins_term (drop start text.now) ≡ true }
+{
+    matches!(part, Part::Graph) && !is_term_at(text, start)
+}
+
+/// Over a part at whose first byte nothing is known yet.
+fn step_token(alloc: Global, text: &[u8], part: Part, start: usize) -> Step
+    requires { start < length text.now }
+    ensures { IsStep text.now (progress_at (place.Token part start)) result }
+{
+    if takes_term(part) && text[start] == b'"' {
+        return step_string(alloc, text, part, start, start + 1);
+    }
+    if takes_term(part) && text[start] == b'<' {
+        return step_iri(alloc, text, part, start, start + 1);
+    }
+    if lacks_graph(text, part, start) {
+        return Step::Goes(Place::Token {
+            part: Part::End,
+            start,
+        });
+    }
+    step_part(alloc, text, part, start)
+}
+
+/// One step through an unfinished row.
+fn advance(alloc: Global, text: &[u8], progress: Progress) -> Step
+    requires { IsWithin (length text.now) progress }
+    ensures { IsStep text.now progress result }
+{
+    match (progress.place, progress.inside) {
+        (Place::Token { part, start }, Inside::String { mark }) => {
+            if start < text.len() && takes_term(part) && text[start] == b'"' {
+                return step_string(alloc, text, part, start, mark);
+            }
+            Step::Unknown
+        }
+        (Place::Token { part, start }, Inside::Iri { mark }) => {
+            if start < text.len() && takes_term(part) && text[start] == b'<' {
+                return step_iri(alloc, text, part, start, mark);
+            }
+            Step::Unknown
+        }
+        (Place::Token { part, start }, Inside::Nothing) => {
+            if start < text.len() {
+                return step_token(alloc, text, part, start);
+            }
+            Step::Unknown
+        }
+        (Place::Row { start }, _) => step_row(text, start),
+        (
+            Place::Gap {
+                part,
+                mark,
+                comment,
+            },
+            _,
+        ) => step_gap(text, part, mark, comment),
+    }
+}
+
+/// Follows an unfinished row up to the text's end; none where something may be decided.
+pub fn follow(alloc: Global, text: &[u8], progress: Progress) -> Option<Progress>
+    requires { IsWithin (length text.now) progress }
+    ensures { IsFollowed text.now progress result }
+{
+    let mut progress = progress;
+    for _ in 0..STEPS {
+        match advance(alloc, text, progress) {
+            Step::Goes(place) => progress = at_place(place),
+            Step::Open(place) => return Some(at_place(place)),
+            Step::Enters(inside) => {
+                return Some(Progress {
+                    place: progress.place,
+                    inside,
+                });
+            }
+            Step::Unknown => return None,
+        }
+    }
+    None
+}
+
+fn is_place_within(place: Place, size: usize) -> bool
+    ensures { result ≡ true → IsPlaceWithin size place }
+{
+    match place {
+        Place::Row { start } => start <= size,
+        Place::Gap { mark, .. } => mark <= size,
+        Place::Token { start, .. } => start <= size,
+    }
+}
+
+/// Whether its places lie within a text of this size.
+pub fn is_within(progress: Progress, size: usize) -> bool
+    ensures { result ≡ true → IsWithin size progress }
+{
+    let inside = match progress.inside {
+        Inside::Nothing => true,
+        Inside::String { mark } => mark <= size,
+        Inside::Iri { mark } => mark <= size,
+    };
+    inside && is_place_within(progress.place, size)
+}

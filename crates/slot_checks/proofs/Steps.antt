@@ -1,0 +1,116 @@
+-- Files checked one after another.
+use Rattle.std.proofs.Common.{◌≡◌, inl, inr, ℕ, ◌+◌, ◌<◌, ◌≤◌, List, [], ◌∷◌, ◌++◌, length, take, get_or, Option, Some, None, refl, sym, ◌∙◌, ap, subst, arith, length-append, append-nil}
+use Rattle.std.specs.Prelude.{unwrap_or}
+use Rattle.std.proofs.lemmas.Grind.{flat_map-append}
+use Rattle.std.proofs.lemmas.List.{take_more}
+use Rattle.disk_model.specs.Shelf.{SameOthers}
+use Rattle.slot_files.specs.Files.{Files, bytes_at}
+use Rattle.slot_files.proofs.Steps.{other_number, other_dir, at_or_not}
+use Rattle.slot_checks.specs.declared.fault.CheckFault.{CheckFault}
+use Rattle.slot_checks.specs.declared.lines.FileLine.{FileLine}
+use Rattle.slot_checks.specs.declared.lines.FileLine.TheVariants as line
+use Rattle.slot_checks.specs.Checks.{HasLines, StopsAtLog, IsKept, AreKept}
+use Rattle.slot_checks.specs.Faults.{HasFileFault}
+use Rattle.slot_checks.specs.Lines.{line_text, lines_text}
+use Rattle.slot_checks.specs.Sound.{IsLogLine, AreLogLines}
+
+-- ---- files that are kept
+
+pub kept_bytes : (old new : Option (List ℕ)) → IsKept old new → unwrap_or new [] ≡ unwrap_or old []
+kept_bytes old new (inl same) = ap (λ (file : Option (List ℕ)). unwrap_or file []) same
+kept_bytes old new (inr made) = ap (λ (file : Option (List ℕ)). unwrap_or file []) (made.1 ∙ sym (ap (λ (file : Option (List ℕ)). Some (unwrap_or file [])) made.0))
+
+-- one visit behind another
+kept_twice : (old mid new : Option (List ℕ)) → IsKept old mid → IsKept mid new → IsKept old new
+kept_twice old mid new (inl same) second = subst (λ (file : Option (List ℕ)). IsKept file new) same second
+kept_twice old mid new (inr made) (inl same) = inr (made.0, same ∙ made.1)
+kept_twice old mid new (inr made) (inr again) = inr (made.0, again.1)
+
+-- a file that was opened, with its bytes as they were
+pub opened_kept : (old new : Option (List ℕ)) → new ≡ Some (unwrap_or old []) → IsKept old new
+opened_kept None new is = inr (refl, is)
+opened_kept (Some bytes) new is = inl is
+
+pub all_kept : (dir : List ℕ) (files : Files) → AreKept dir files files
+all_kept dir files = record { elsewhere = λ other number apart. refl; here = λ number. inl refl; beyond = λ number far. refl }
+
+pub visit_kept : (dir : List ℕ) (number : ℕ) (old mid new : Files) → number ≤ 16 → AreKept dir old mid → IsKept (mid dir number) (new dir number) → SameOthers (Some (dir, number)) mid new → AreKept dir old new
+visit_kept dir number old mid new within kept here others = record {
+  elsewhere = λ other n apart. other_dir dir number mid new others other n apart ∙ kept.elsewhere other n apart;
+  here = at_or_not (λ n. IsKept (old dir n) (new dir n)) number
+      (kept_twice (old dir number) (mid dir number) (new dir number) (kept.here number) here)
+      (λ n differs. subst (λ (file : Option (List ℕ)). IsKept (old dir n) file) (sym (other_number dir number mid new others n differs)) (kept.here n));
+  beyond = λ n far. other_number dir number mid new others n (λ same. absurd (omega (arith, same, far, within))) ∙ kept.beyond n far;
+}
+
+pub all_twice : (dir : List ℕ) (old mid new : Files) → AreKept dir old mid → AreKept dir mid new → AreKept dir old new
+all_twice dir old mid new first second = record {
+  elsewhere = λ other n apart. second.elsewhere other n apart ∙ first.elsewhere other n apart;
+  here = λ n. kept_twice (old dir n) (mid dir n) (new dir n) (first.here n) (second.here n);
+  beyond = λ n far. second.beyond n far ∙ first.beyond n far;
+}
+
+pub same_bytes : (dir : List ℕ) (old mid : Files) (number : ℕ) → AreKept dir old mid → bytes_at mid dir number ≡ bytes_at old dir number
+same_bytes dir old mid number kept = kept_bytes (old dir number) (mid dir number) (kept.here number)
+
+-- ---- lines
+
+lines-push : (files : Files) (dir : List ℕ) (from : ℕ) (lines : List FileLine) (line_ : FileLine) → AreLogLines files dir from lines → IsLogLine (bytes_at files dir (from + length lines)) (from + length lines) line_ → AreLogLines files dir from (lines ++ line_ ∷ [])
+lines-push files dir from [] line_ are is = (subst (λ (n : ℕ). IsLogLine (bytes_at files dir n) n line_) (omega arith) is, tt)
+lines-push files dir from (first ∷ lines) line_ are is =
+    (are.0, lines-push files dir (from + 1) lines line_ are.1 (subst (λ (n : ℕ). IsLogLine (bytes_at files dir n) n line_) (omega arith) is))
+
+pub no_lines : (files : Files) (dir : List ℕ) (report : List FileLine) → report ≡ line.Registry 1 ∷ [] → HasLines files dir 1 report
+no_lines files dir report is = record { lines = []; report_is = is; logs = tt; count = omega arith }
+
+pub one_more : (files : Files) (dir : List ℕ) (number : ℕ) (old new : List FileLine) (line_ : FileLine) → HasLines files dir number old → IsLogLine (bytes_at files dir number) number line_ → new ≡ old ++ line_ ∷ [] → HasLines files dir (number + 1) new
+one_more files dir number old new line_ has is pushed = record {
+  lines = has.lines ++ line_ ∷ [];
+  report_is = pushed ∙ ap (λ (l : List FileLine). l ++ line_ ∷ []) has.report_is;
+  logs = lines-push files dir 1 has.lines line_ has.logs (subst (λ (n : ℕ). IsLogLine (bytes_at files dir n) n line_) (let at : number ≡ 1 + length has.lines = omega (arith, has.count) in at) is);
+  count = omega (arith, has.count, length-append has.lines (line_ ∷ []));
+}
+
+pub stops_at : (files : Files) (dir : List ℕ) (slots number : ℕ) (report : List FileLine) (fault : CheckFault) → HasLines files dir number report → number ≤ slots → HasFileFault (bytes_at files dir number) number fault → StopsAtLog files dir slots fault
+stops_at files dir slots number report fault has within is = record {
+  lines = has.lines;
+  logs = has.logs;
+  within = omega (arith, has.count, within);
+  fault_is = subst (λ (n : ℕ). HasFileFault (bytes_at files dir n) n fault) (sym has.count) is;
+}
+
+-- ---- texts
+
+pub text_more : (lines : List FileLine) (place : ℕ) (line_ : FileLine) → place < length lines → line_ ≡ get_or lines place line_ → lines_text (take (place + 1) lines) ≡ lines_text (take place lines) ++ line_text line_
+text_more lines place line_ within is =
+    ap lines_text (take_more lines place line_ within ∙ ap (λ (l : FileLine). take place lines ++ l ∷ []) (sym is))
+    ∙ flat_map-append line_text (take place lines) (line_ ∷ []) ∙ ap (λ (l : List ℕ). lines_text (take place lines) ++ l) (append-nil (line_text line_))
+
+-- ---- files with the same bytes
+
+lines_same : (old mid : Files) (dir : List ℕ) (from : ℕ) (lines : List FileLine) → ((n : ℕ) → bytes_at mid dir n ≡ bytes_at old dir n) → AreLogLines mid dir from lines → AreLogLines old dir from lines
+lines_same old mid dir from [] same are = tt
+lines_same old mid dir from (first ∷ lines) same are = (subst (λ (bytes : List ℕ). IsLogLine bytes from first) (same from) are.0, lines_same old mid dir (from + 1) lines same are.1)
+
+pub has_same : (old mid : Files) (dir : List ℕ) (end : ℕ) (report : List FileLine) → AreKept dir old mid → HasLines mid dir end report → HasLines old dir end report
+has_same old mid dir end report kept has = record { lines = has.lines; report_is = has.report_is; logs = lines_same old mid dir 1 has.lines (λ n. same_bytes dir old mid n kept) has.logs; count = has.count }
+
+pub stops_same : (old mid : Files) (dir : List ℕ) (slots : ℕ) (fault : CheckFault) → AreKept dir old mid → StopsAtLog mid dir slots fault → StopsAtLog old dir slots fault
+stops_same old mid dir slots fault kept stops = record {
+  lines = stops.lines;
+  logs = lines_same old mid dir 1 stops.lines (λ n. same_bytes dir old mid n kept) stops.logs;
+  within = stops.within;
+  fault_is = subst (λ (bytes : List ℕ). HasFileFault bytes (length stops.lines + 1) fault) (same_bytes dir old mid (length stops.lines + 1) kept) stops.fault_is;
+}
+
+-- ---- payloads
+
+pub record HasTwo {X : Type 0} (xs : List X) (x : X) : Type 0 where
+  pub second : X
+  pub rest : List X
+  pub parts : xs ≡ x ∷ second ∷ rest
+
+pub has_two : {X : Type 0} (xs : List X) (x : X) → x ≡ get_or xs 0 x → 1 ≤ length xs → (length xs ≡ 1 → ⊥) → HasTwo xs x
+has_two [] x is some more = absurd (omega (arith, some))
+has_two (a ∷ []) x is some more = absurd (more (omega arith))
+has_two {X} (a ∷ (b ∷ xs)) x is some more = record { second = b; rest = xs; parts = ap (λ (y : X). y ∷ b ∷ xs) (sym is) }

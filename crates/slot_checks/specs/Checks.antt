@@ -1,0 +1,43 @@
+-- What a check of all files tells, and how it leaves them.
+use Rattle.std.specs.Prelude.{◌≡◌, ◌⊎◌, ℕ, ◌+◌, ◌<◌, List, [], ◌∷◌, length, Option, Some, None}
+use Rattle.slot_files.specs.Files.{Files, bytes_at}
+use Rattle.slot_checks.specs.declared.fault.CheckFault.{CheckFault}
+use Rattle.slot_checks.specs.declared.lines.FileLine.{FileLine}
+use Rattle.slot_checks.specs.declared.lines.FileLine.TheVariants as line
+use Rattle.slot_checks.specs.Faults.{HasRegistryFault, HasFileFault}
+use Rattle.slot_checks.specs.Sound.{IsRegistry, AreLogLines}
+
+-- the registry's line, and behind it those of the logs' files from 1 on and below a number
+pub record HasLines (files : Files) (dir : List ℕ) (end : ℕ) (report : List FileLine) : Type 0 where
+  pub lines : List FileLine
+  pub report_is : report ≡ line.Registry 1 ∷ lines
+  pub logs : AreLogLines files dir 1 lines
+  pub count : length lines + 1 ≡ end
+
+-- all files are in their form: the registry's, and those of as many logs as it tells, each with its line
+pub record IsReport (files : Files) (dir : List ℕ) (report : List FileLine) : Type 0 where
+  pub slots : ℕ
+  pub registry : IsRegistry (bytes_at files dir 0) slots
+  pub lines : HasLines files dir (slots + 1) report
+
+-- the first fault of the file of a log, behind others that are in their form
+pub record StopsAtLog (files : Files) (dir : List ℕ) (slots : ℕ) (fault : CheckFault) : Type 0 where
+  pub lines : List FileLine
+  pub logs : AreLogLines files dir 1 lines
+  pub within : length lines < slots
+  pub fault_is : HasFileFault (bytes_at files dir (length lines + 1)) (length lines + 1) fault
+
+-- The first fault of the first file that has one: the registry's, or that of a log. Want of memory is free.
+pub data StopsAt (files : Files) (dir : List ℕ) (fault : CheckFault) : Type 0 where
+  at_registry : HasRegistryFault (bytes_at files dir 0) fault → StopsAt files dir fault
+  at_log : (slots : ℕ) → IsRegistry (bytes_at files dir 0) slots → StopsAtLog files dir slots fault → StopsAt files dir fault
+
+-- a file is as it was; where there was none, there may be an empty one
+abbrev pub IsKept : Option (List ℕ) → Option (List ℕ) → Type 0
+IsKept old new = (new ≡ old) ⊎ ((old ≡ None) × (new ≡ Some []))
+
+-- so is each file of this directory with one of the numbers that can be asked for, and every other file is as it was
+pub record AreKept (dir : List ℕ) (old new : Files) : Type 0 where
+  pub elsewhere : (other : List ℕ) (number : ℕ) → (other ≡ dir → ⊥) → new other number ≡ old other number
+  pub here : (number : ℕ) → IsKept (old dir number) (new dir number)
+  pub beyond : (number : ℕ) → 16 < number → new dir number ≡ old dir number

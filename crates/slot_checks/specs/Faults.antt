@@ -1,0 +1,56 @@
+-- Why a file of a registry and its logs isn't in its form.
+use Rattle.std.specs.Prelude.{◌≡◌, ℕ, ◌≤◌, List}
+use Rattle.disk_model.specs.declared.shelf.ShelfFault.{ShelfFault}
+use Rattle.disk_model.specs.declared.shelf.ShelfFault.TheVariants as shelf
+use Rattle.log_journal.specs.File.{Holds, journal_length}
+use Rattle.log_journal.specs.Reading.{HasFault}
+use Rattle.log_journal.specs.declared.fault.JournalFault.{JournalFault}
+use Rattle.log_journal.specs.declared.fault.JournalFault.TheVariants as journal
+use Rattle.patch_log.specs.Fault.{HasLogFault}
+use Rattle.patch_log.specs.declared.fault.LogFault.{LogFault}
+use Rattle.patch_log.specs.declared.fault.LogFault.TheVariants as log
+use Rattle.slot_checks.specs.declared.fault.CheckFault.{CheckFault}
+use Rattle.slot_checks.specs.declared.fault.CheckFault.TheVariants as check
+use Rattle.slot_checks.specs.Sound.{registry_limit, log_limits, IsBrokenEvent}
+
+-- a fault of a journal, with its file
+abbrev pub of_journal : ℕ → JournalFault → CheckFault
+of_journal file journal.Failed = check.Failed
+of_journal file (journal.Damaged at) = check.Damaged file at
+of_journal file (journal.WrongNumber found) = check.WrongNumber file found
+of_journal file (journal.OverLimit length limit) = check.OverLimit file length limit
+of_journal file journal.OutOfMemory = check.OutOfMemory
+
+-- a fault of a log, with its file
+abbrev pub of_log : ℕ → LogFault → CheckFault
+of_log file log.Failed = check.Failed
+of_log file (log.Damaged at) = check.Damaged file at
+of_log file (log.WrongNumber found) = check.WrongNumber file found
+of_log file (log.OverLimit length limit) = check.OverLimit file length limit
+of_log file log.OutOfMemory = check.OutOfMemory
+of_log file (log.BrokenChain version) = check.BrokenChain file version
+
+-- a fault of a shelf
+abbrev pub of_shelf : ShelfFault → CheckFault
+of_shelf shelf.Failed = check.Failed
+of_shelf shelf.OutOfMemory = check.OutOfMemory
+
+-- The registry's file has this fault, and none that comes before it. That a call failed, and want of memory, are free.
+abbrev pub HasRegistryFault : List ℕ → CheckFault → Type 0
+HasRegistryFault file (check.Damaged number at) = (number ≡ 0) × HasFault file 0 registry_limit (journal.Damaged at)
+HasRegistryFault file (check.WrongNumber number found) = (number ≡ 0) × HasFault file 0 registry_limit (journal.WrongNumber found)
+HasRegistryFault file (check.OverLimit number length limit) = (number ≡ 0) × HasFault file 0 registry_limit (journal.OverLimit length limit)
+HasRegistryFault file (check.BrokenChain number version) = ⊥
+HasRegistryFault file (check.BrokenEvent place) = (payloads : List (List ℕ)) × Holds file 0 payloads × (journal_length payloads ≤ registry_limit) × IsBrokenEvent payloads place
+HasRegistryFault file check.Failed = Unit {0}
+HasRegistryFault file check.OutOfMemory = Unit {0}
+
+-- a log's file has this fault, and none that comes before it
+abbrev pub HasFileFault : List ℕ → ℕ → CheckFault → Type 0
+HasFileFault file number (check.Damaged at_file at) = (at_file ≡ number) × HasLogFault file number log_limits (log.Damaged at)
+HasFileFault file number (check.WrongNumber at_file found) = (at_file ≡ number) × HasLogFault file number log_limits (log.WrongNumber found)
+HasFileFault file number (check.OverLimit at_file length limit) = (at_file ≡ number) × HasLogFault file number log_limits (log.OverLimit length limit)
+HasFileFault file number (check.BrokenChain at_file version) = (at_file ≡ number) × HasLogFault file number log_limits (log.BrokenChain version)
+HasFileFault file number (check.BrokenEvent place) = ⊥
+HasFileFault file number check.Failed = Unit {0}
+HasFileFault file number check.OutOfMemory = Unit {0}

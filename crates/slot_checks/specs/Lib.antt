@@ -1,0 +1,4 @@
+pub mod Sound
+pub mod Faults
+pub mod Checks
+pub mod Lines

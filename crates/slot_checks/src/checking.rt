@@ -1,0 +1,89 @@
+//! All files of a registry and of its logs.
+ghost use Rattle.std.specs.Prelude.{◌≡◌, ℕ, ◌+◌, ◌<◌, ◌≤◌, ◌++◌, ◌∷◌, [], IfOk, IfErr, OnOk, IsErrOf, Some};
+ghost use Rattle.delta_base.specs.Outside.{Rose};
+ghost use Rattle.disk_model.specs.Shelf.{SameOthers};
+ghost use Rattle.slot_files.specs.Files.{bytes_at};
+ghost use Rattle.slot_checks.specs.Checks.{HasLines, IsReport, StopsAt, StopsAtLog, IsKept, AreKept};
+ghost use Rattle.slot_checks.specs.Faults.{HasFileFault};
+ghost use Rattle.slot_checks.specs.Sound.{IsLogLine};
+
+use crate::fault::CheckFault;
+use crate::lines::{FileLine, Report};
+use crate::visiting::{check_log, check_registry};
+use delta_base::{Listing, Text};
+use disk_model::Shelf;
+use std::alloc::Global;
+
+// Adds the line of a log's file.
+fn add_log<H: Shelf>(
+    alloc: Global,
+    shelf: &mut H,
+    dir: &Text,
+    number: u32,
+    report: &mut Report,
+) -> Result<(), CheckFault>
+    ensures ok { H.tells → OnOk result ((line : _) × IsLogLine (bytes_at (H.files shelf.old) dir.now number) number line × (report.new.items ≡ report.old.items ++ line ∷ [])) }
+    ensures fault { H.tells → IfErr result (HasFileFault (bytes_at (H.files shelf.old) dir.now number) number) }
+    ensures kept { H.tells → IsKept (H.files shelf.old dir.now number) (H.files shelf.new dir.now number) }
+    ensures others { H.tells → SameOthers (Some (dir.now, number)) (H.files shelf.old) (H.files shelf.new) }
+    ensures cause { IsErrOf result CheckFault.Failed → Rose (H.faults shelf.old) (H.faults shelf.new) }
+    ensures faults { H.faults shelf.old ≤ H.faults shelf.new }
+{
+    match check_log(alloc, shelf, dir, number) {
+        Ok(line) => match report.push(line) {
+            Ok(()) => Ok(()),
+            Err(_) => Err(CheckFault::OutOfMemory),
+        },
+        Err(fault) => Err(fault),
+    }
+}
+
+// Adds the lines of the logs' files to that of the registry.
+fn add_logs<H: Shelf>(
+    alloc: Global,
+    shelf: &mut H,
+    dir: &Text,
+    slots: u8,
+    report: &mut Report,
+) -> Result<(), CheckFault>
+    requires few { slots ≤ 16 }
+    requires begun { report.old.items ≡ FileLine.Registry 1 ∷ [] }
+    ensures ok { H.tells → OnOk result (HasLines (H.files shelf.old) dir.now (slots + 1) report.new.items) }
+    ensures fault { H.tells → IfErr result (StopsAtLog (H.files shelf.old) dir.now slots) }
+    ensures kept { H.tells → AreKept dir.now (H.files shelf.old) (H.files shelf.new) }
+    ensures cause { IsErrOf result CheckFault.Failed → Rose (H.faults shelf.old) (H.faults shelf.new) }
+    ensures faults { H.faults shelf.old ≤ H.faults shelf.new }
+{
+    for number in 1..=u32::from(slots) {
+        match add_log(alloc, shelf, dir, number, report) {
+            Ok(()) => {}
+            Err(fault) => return Err(fault),
+        }
+    }
+    Ok(())
+}
+
+/// Opens the registry's file and then those of its logs, and tells what each holds, or the first fault. Each of their
+/// disks is put back.
+pub fn check_files<H: Shelf>(alloc: Global, shelf: &mut H, dir: &Text) -> Result<Report, CheckFault>
+    ensures ok { H.tells → IfOk result (λ report. IsReport (H.files shelf.old) dir.now report.items) }
+    ensures fault { H.tells → IfErr result (StopsAt (H.files shelf.old) dir.now) }
+
+    // Each file is left as it was. One that was asked for and didn't exist is empty.
+    ensures kept { H.tells → AreKept dir.now (H.files shelf.old) (H.files shelf.new) }
+    ensures cause { IsErrOf result CheckFault.Failed → Rose (H.faults shelf.old) (H.faults shelf.new) }
+    ensures faults { H.faults shelf.old ≤ H.faults shelf.new }
+{
+    let slots = match check_registry(alloc, shelf, dir) {
+        Ok(slots) => slots,
+        Err(fault) => return Err(fault),
+    };
+    let mut report = Listing::new(alloc);
+    if report.push(FileLine::Registry { records: 1 }).is_err() {
+        return Err(CheckFault::OutOfMemory);
+    }
+    match add_logs(alloc, shelf, dir, slots, &mut report) {
+        Ok(()) => Ok(report),
+        Err(fault) => Err(fault),
+    }
+}

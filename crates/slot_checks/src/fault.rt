@@ -1,0 +1,84 @@
+//! Why a file isn't in its form.
+use delta_base::Back;
+use disk_model::ShelfFault;
+use log_journal::JournalFault;
+use patch_log::LogFault;
+
+/// The first file that isn't in its form, and why.
+#[derive(Clone, Copy, Debug, PartialEq, Eq)]
+pub enum CheckFault {
+    Damaged { file: u32, at: u64 },
+    WrongNumber { file: u32, found: u32 },
+    OverLimit { file: u32, length: u64, limit: u64 },
+    /// A log's first payloads, as many as the version says, are no chain of patches.
+    BrokenChain { file: u32, version: u64 },
+    /// The payload of the registry at this place, counted from 0, isn't one that may stand there.
+    BrokenEvent { place: u64 },
+    Failed,
+    OutOfMemory,
+}
+
+impl CheckFault {
+    ghost use Rattle.std.specs.Prelude.{◌≡◌};
+    ghost use Rattle.slot_checks.specs.Faults.{of_journal, of_log};
+
+    /// A fault of a journal, with its file.
+    pub fn of_journal(file: u32, fault: JournalFault) -> CheckFault
+        ensures { result ≡ of_journal file fault }
+    {
+        match fault {
+            JournalFault::Failed => CheckFault::Failed,
+            JournalFault::Damaged { at } => CheckFault::Damaged { file, at },
+            JournalFault::WrongNumber { found } => CheckFault::WrongNumber { file, found },
+            JournalFault::OverLimit { length, limit } => CheckFault::OverLimit {
+                file,
+                length,
+                limit,
+            },
+            JournalFault::OutOfMemory => CheckFault::OutOfMemory,
+        }
+    }
+
+    /// A fault of a log, with its file.
+    pub fn of_log(file: u32, fault: LogFault) -> CheckFault
+        ensures { result ≡ of_log file fault }
+    {
+        match fault {
+            LogFault::Failed => CheckFault::Failed,
+            LogFault::Damaged { at } => CheckFault::Damaged { file, at },
+            LogFault::WrongNumber { found } => CheckFault::WrongNumber { file, found },
+            LogFault::OverLimit { length, limit } => CheckFault::OverLimit {
+                file,
+                length,
+                limit,
+            },
+            LogFault::OutOfMemory => CheckFault::OutOfMemory,
+            LogFault::BrokenChain { version } => CheckFault::BrokenChain { file, version },
+        }
+    }
+}
+
+impl From<ShelfFault> for CheckFault {
+    ghost use Rattle.std.specs.Prelude.{◌≡◌};
+    ghost use Rattle.slot_checks.specs.Faults.{of_shelf};
+
+    ghost from_gives = { λ fault e. e ≡ of_shelf fault };
+
+    fn from(fault: ShelfFault) -> CheckFault {
+        match fault {
+            ShelfFault::Failed => CheckFault::Failed,
+            ShelfFault::OutOfMemory => CheckFault::OutOfMemory,
+        }
+    }
+}
+
+impl<T: Drop> From<Back<T>> for CheckFault {
+    ghost use Rattle.std.specs.Prelude.{◌≡◌};
+    ghost use Rattle.slot_checks.specs.declared.fault.CheckFault.TheVariants as check;
+
+    ghost from_gives = { λ _ e. e ≡ check.OutOfMemory };
+
+    fn from(_back: Back<T>) -> CheckFault {
+        CheckFault::OutOfMemory
+    }
+}

@@ -1,0 +1,18 @@
+//! Checks the files of a registry and of its logs, each of which is left as it was.
+#![tactic(auto)]
+
+mod checking;
+mod fault;
+mod fault_lines;
+mod lines;
+mod log_file;
+mod registry_file;
+mod visiting;
+
+pub use checking::check_files;
+pub use fault::CheckFault;
+pub use fault_lines::fault_text;
+pub use lines::{FileLine, Report, report_text};
+
+#[cfg(test)]
+mod tests;

@@ -1,0 +1,42 @@
+//! The file of a log.
+ghost use Rattle.std.specs.Prelude.{◌≡◌, ℕ, IfOk, IfErr, IsErrOf};
+ghost use Rattle.delta_base.specs.Outside.{Rose};
+ghost use Rattle.disk_model.specs.Past.{reads};
+ghost use Rattle.slot_checks.specs.Sound.{IsLogLine};
+ghost use Rattle.slot_checks.specs.Faults.{HasFileFault};
+
+use crate::fault::CheckFault;
+use crate::lines::FileLine;
+use chain_core::LogLimits;
+use disk_model::Disk;
+use patch_log::{LogRefusal, LogState};
+use std::alloc::Global;
+
+/// The line of a log's file, which is read as it is opened, and its disk.
+pub fn read_log_file<D: Disk>(
+    alloc: Global,
+    disk: D,
+    number: u32,
+) -> (D, Result<FileLine, CheckFault>)
+    ensures ok { D.tells → IfOk result.1 (IsLogLine (reads (D.past disk)) number) }
+    ensures fault { D.tells → IfErr result.1 (HasFileFault (reads (D.past disk)) number) }
+    ensures kept { D.tells → reads (D.past result.0) ≡ reads (D.past disk) }
+    ensures cause { IsErrOf result.1 CheckFault.Failed → Rose (D.faults disk) (D.faults result.0) }
+    ensures mark { D.mark result.0 ≡ D.mark disk }
+{
+    let limits = LogLimits {
+        patches: 65_536,
+        bytes: 67_108_864,
+    };
+    match LogState::open_on(alloc, disk, number, limits) {
+        Ok(log) => {
+            let line = FileLine::Log {
+                number,
+                patches: log.chain().version(),
+                head: log.chain().head(),
+            };
+            (log.close(), Ok(line))
+        }
+        Err(LogRefusal { disk, fault }) => (disk, Err(CheckFault::of_log(number, fault))),
+    }
+}

@@ -1,0 +1,187 @@
+//! The files of two logs, as they are made and with patches, and what is wrong with others.
+use crate::{CheckFault, FileLine, check_files, fault_text, report_text};
+use delta_base::{Calls, Id, Listing, Text};
+use disk_model::{Disk, MemShelf, Shelf};
+use slot_files::init_slots;
+use std::alloc::{AllocError, Global};
+use std::test::Fail;
+
+fn calls(alloc: Global, numbers: &[u64]) -> Result<Calls, AllocError> {
+    Ok(Listing::from_vec(Vec::from_slice(alloc, numbers)?))
+}
+
+// A shelf with the files of two logs in `d`.
+fn two_logs(alloc: Global, dir: &Text) -> Result<MemShelf, Fail> {
+    let mut shelf = MemShelf::new(alloc, calls(alloc, &[])?);
+    init_slots(alloc, &mut shelf, dir, 2)?;
+    Ok(shelf)
+}
+
+// Writes bytes at a place of a file.
+fn write(shelf: &mut MemShelf, dir: &Text, number: u32, at: u64, bytes: &[u8]) -> Result<(), Fail> {
+    let mut disk = shelf.disk(dir, number).ok().ok_or("no disk")?;
+    let length = disk.len()?;
+    if at <= length {
+        disk.write_at(at, bytes)?;
+    }
+    shelf.put_back(disk);
+    Ok(())
+}
+
+#[test]
+fn files_just_made_are_told(rt: HostRuntime) -> Result<(), Fail> {
+    let alloc = rt.alloc();
+    let dir = Text::from_str(alloc, "d")?;
+    let mut shelf = two_logs(alloc, &dir)?;
+    let report = check_files(alloc, &mut shelf, &dir)?;
+    assert_eq!(rt;
+        report_text(alloc, &report)?.as_slice(),
+        b"file 0 records 1\nfile 1 patches 0 head none\nfile 2 patches 0 head none\n".as_slice()
+    );
+    assert_eq!(rt;
+        shelf.file(&dir, 1).ok_or("no file")?,
+        b"RDJ1\0\0\0\x01\0".as_slice()
+    );
+    assert!(rt; shelf.file(&dir, 3).is_none());
+    assert_eq!(rt; shelf.faults(), 0);
+    Ok(())
+}
+
+#[test]
+fn a_patch_is_told_with_its_id(rt: HostRuntime) -> Result<(), Fail> {
+    let alloc = rt.alloc();
+    let dir = Text::from_str(alloc, "d")?;
+    let mut shelf = two_logs(alloc, &dir)?;
+    let patch = b"\x01\0\0\0\x33H id <uuid:00000000-0000-4000-8000-000000000001> .\n\0";
+    write(&mut shelf, &dir, 1, 8, patch)?;
+    let report = check_files(alloc, &mut shelf, &dir)?;
+    assert_eq!(rt; report.len(), 3);
+    assert_eq!(rt;
+        report.get(1).ok_or("no line")?,
+        &FileLine::Log {
+            number: 1,
+            patches: 1,
+            head: Some(Id(0x0000_0000_0000_4000_8000_0000_0000_0001)),
+        }
+    );
+    assert_eq!(rt;
+        report_text(alloc, &report)?.as_slice(),
+        b"file 0 records 1\nfile 1 patches 1 head 00000000-0000-4000-8000-000000000001\nfile 2 patches 0 head none\n".as_slice()
+    );
+    Ok(())
+}
+
+#[test]
+fn the_first_fault_is_told(rt: HostRuntime) -> Result<(), Fail> {
+    let alloc = rt.alloc();
+    let dir = Text::from_str(alloc, "d")?;
+    for (number, at, bytes, fault) in [
+        (
+            0u32,
+            0u64,
+            b"X".as_slice(),
+            CheckFault::Damaged { file: 0, at: 0 },
+        ),
+        (0, 13, b"T", CheckFault::BrokenEvent { place: 0 }),
+        (
+            0,
+            16,
+            b"\x01\0\0\0\0\0",
+            CheckFault::BrokenEvent { place: 1 },
+        ),
+        (0, 8, b"\0", CheckFault::BrokenEvent { place: 0 }),
+        (1, 8, b"\x01", CheckFault::Damaged { file: 1, at: 9 }),
+        (2, 7, b"\x05", CheckFault::WrongNumber { file: 2, found: 5 }),
+        (
+            2,
+            8,
+            b"\x01\0\0\0\x01X\0",
+            CheckFault::BrokenChain {
+                file: 2,
+                version: 1,
+            },
+        ),
+    ] {
+        let mut shelf = two_logs(alloc, &dir)?;
+        write(&mut shelf, &dir, number, at, bytes)?;
+        match check_files(alloc, &mut shelf, &dir) {
+            Ok(_) => assert!(rt; false, "no fault"),
+            Err(found) => assert_eq!(rt; found, fault),
+        }
+    }
+    Ok(())
+}
+
+#[test]
+fn a_file_that_is_missing_is_made_empty(rt: HostRuntime) -> Result<(), Fail> {
+    let alloc = rt.alloc();
+    let dir = Text::from_str(alloc, "d")?;
+    let mut shelf = MemShelf::new(alloc, calls(alloc, &[])?);
+    match check_files(alloc, &mut shelf, &dir) {
+        Ok(_) => assert!(rt; false, "no fault"),
+        Err(found) => assert_eq!(rt; found, CheckFault::Damaged { file: 0, at: 0 }),
+    }
+    assert_eq!(rt; shelf.file(&dir, 0).ok_or("no file")?.len(), 0);
+    Ok(())
+}
+
+#[test]
+fn a_shelf_that_fails_is_told(rt: HostRuntime) -> Result<(), Fail> {
+    let alloc = rt.alloc();
+    let dir = Text::from_str(alloc, "d")?;
+    for call in 0..2u64 {
+        let mut shelf = MemShelf::new(alloc, calls(alloc, &[call])?);
+        match check_files(alloc, &mut shelf, &dir) {
+            Ok(_) => assert!(rt; false, "no fault"),
+            Err(found) => {
+                let wanted = if call == 0 {
+                    CheckFault::Failed
+                } else {
+                    CheckFault::Damaged { file: 0, at: 0 }
+                };
+                assert_eq!(rt; found, wanted);
+            }
+        }
+        assert_eq!(rt; shelf.faults() > 0, call == 0);
+    }
+    Ok(())
+}
+
+#[test]
+fn each_fault_has_its_line(rt: HostRuntime) -> Result<(), Fail> {
+    let alloc = rt.alloc();
+    for (fault, line) in [
+        (
+            CheckFault::Damaged { file: 1, at: 9 },
+            "rdfdelta: file 1: byte 9: damaged\n",
+        ),
+        (
+            CheckFault::WrongNumber { file: 2, found: 5 },
+            "rdfdelta: file 2: wrong number 5\n",
+        ),
+        (
+            CheckFault::OverLimit {
+                file: 0,
+                length: 1_048_577,
+                limit: 1_048_576,
+            },
+            "rdfdelta: file 0: over limit: have 1048577, limit 1048576\n",
+        ),
+        (
+            CheckFault::BrokenChain {
+                file: 16,
+                version: 3,
+            },
+            "rdfdelta: file 16: broken chain at version 3\n",
+        ),
+        (
+            CheckFault::BrokenEvent { place: 1 },
+            "rdfdelta: file 0: broken event at 1\n",
+        ),
+        (CheckFault::Failed, "rdfdelta: disk failed\n"),
+        (CheckFault::OutOfMemory, "rdfdelta: out of memory\n"),
+    ] {
+        assert_eq!(rt; fault_text(alloc, fault)?.as_slice(), line.as_bytes());
+    }
+    Ok(())
+}

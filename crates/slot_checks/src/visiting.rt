@@ -1,0 +1,60 @@
+//! Visits to the files of a shelf, whose disks are put back.
+ghost use Rattle.std.specs.Prelude.{◌≡◌, ℕ, ◌≤◌, IfOk, IfErr, IsErrOf, Some};
+ghost use Rattle.delta_base.specs.Outside.{Rose};
+ghost use Rattle.disk_model.specs.Shelf.{SameOthers};
+ghost use Rattle.slot_files.specs.Files.{bytes_at};
+ghost use Rattle.slot_checks.specs.Sound.{IsLogLine, IsRegistry};
+ghost use Rattle.slot_checks.specs.Faults.{HasFileFault, HasRegistryFault};
+ghost use Rattle.slot_checks.specs.Checks.{IsKept};
+
+use crate::fault::CheckFault;
+use crate::lines::FileLine;
+use crate::log_file::read_log_file;
+use crate::registry_file::read_registry_file;
+use delta_base::Text;
+use disk_model::Shelf;
+use std::alloc::Global;
+
+/// The line of a log's file.
+pub fn check_log<H: Shelf>(
+    alloc: Global,
+    shelf: &mut H,
+    dir: &Text,
+    number: u32,
+) -> Result<FileLine, CheckFault>
+    ensures ok { H.tells → IfOk result (IsLogLine (bytes_at (H.files shelf.old) dir.now number) number) }
+    ensures fault { H.tells → IfErr result (HasFileFault (bytes_at (H.files shelf.old) dir.now number) number) }
+    ensures kept { H.tells → IsKept (H.files shelf.old dir.now number) (H.files shelf.new dir.now number) }
+    ensures others { H.tells → SameOthers (Some (dir.now, number)) (H.files shelf.old) (H.files shelf.new) }
+    ensures cause { IsErrOf result CheckFault.Failed → Rose (H.faults shelf.old) (H.faults shelf.new) }
+    ensures faults { H.faults shelf.old ≤ H.faults shelf.new }
+{
+    match shelf.disk(dir, number) {
+        Ok(disk) => {
+            let (disk, answer) = read_log_file(alloc, disk, number);
+            shelf.put_back(disk);
+            answer
+        }
+        Err(fault) => Err(CheckFault::from(fault)),
+    }
+}
+
+/// The number of slots that the registry's file tells.
+pub fn check_registry<H: Shelf>(alloc: Global, shelf: &mut H, dir: &Text) -> Result<u8, CheckFault>
+    ensures ok { H.tells → IfOk result (IsRegistry (bytes_at (H.files shelf.old) dir.now 0)) }
+    ensures few { IfOk result (λ slots. (1 ≤ slots) × (slots ≤ 16)) }
+    ensures fault { H.tells → IfErr result (HasRegistryFault (bytes_at (H.files shelf.old) dir.now 0)) }
+    ensures kept { H.tells → IsKept (H.files shelf.old dir.now 0) (H.files shelf.new dir.now 0) }
+    ensures others { H.tells → SameOthers (Some (dir.now, 0)) (H.files shelf.old) (H.files shelf.new) }
+    ensures cause { IsErrOf result CheckFault.Failed → Rose (H.faults shelf.old) (H.faults shelf.new) }
+    ensures faults { H.faults shelf.old ≤ H.faults shelf.new }
+{
+    match shelf.disk(dir, 0) {
+        Ok(disk) => {
+            let (disk, answer) = read_registry_file(alloc, disk);
+            shelf.put_back(disk);
+            answer
+        }
+        Err(fault) => Err(CheckFault::from(fault)),
+    }
+}

@@ -1,0 +1,225 @@
+-- A stream while its rows are taken.
+use Rattle.std.proofs.Common.{◌≡◌, ℕ, ◌+◌, Bool, true, false, List, [], ◌∷◌, ◌++◌, length, drop, Option, Some, None, refl, sym, ap, subst, ◌∙◌, ◌⊎◌, inl, inr, append_assoc, append-nil, length-append, arith}
+use Rattle.std.specs.Prelude.{count_by, ◌==◌}
+use Rattle.std.proofs.lemmas.List.{drop-drop, drop-append-le, take-append-le}
+use Rattle.rows_text.specs.declared.fault.RowKind.{RowKind}
+use Rattle.rows_text.specs.declared.row.Row.{Row}
+use Rattle.rows_text.specs.Faults.{FirstFault}
+use Rattle.rows_text.specs.Grammar.{Space, ShortRowAt, IsRowAt}
+use Rattle.patch_meaning.specs.declared.fault.PatchFault.{PatchFault}
+use Rattle.patch_meaning.specs.declared.fault.PatchFault.TheVariants as faults
+use Rattle.patch_meaning.specs.declared.part.StreamPatch.{StreamPatch}
+use Rattle.patch_meaning.specs.declared.rows.Next.{Next}
+use Rattle.patch_meaning.specs.Cutting.{HasTakenNext, IsFaultOf, IsBrokenBefore, EndsStream, IsBrokenAtEnd, meanings_of}
+use Rattle.patch_meaning.specs.Patch.{Meaning, place_of}
+use Rattle.patch_meaning.specs.Roles.{said}
+use Rattle.patch_meaning.specs.Rows.{PlacedRow, Gap, RowsUpTo, NoRowAt}
+use Rattle.patch_meaning.specs.Stream.{AreStream, IsStream, IsStreamFault, begins, cut, next, over, no_row}
+use Rattle.patch_meaning.proofs.Rowed.{rows_more}
+use Rattle.stream_replay.specs.declared.place.Told.{Told}
+use Rattle.stream_replay.specs.declared.progress.Progress.{Progress}
+use Rattle.stream_replay.specs.declared.fault.ReplayFault.{ReplayFault}
+use Rattle.stream_replay.specs.declared.fault.ReplayFault.TheVariants as ends
+use Rattle.stream_replay.specs.Ending.{fault_end}
+use Rattle.stream_replay.specs.Source.{EndsText}
+use Rattle.stream_replay.specs.Places.{line_at, IsFaulty}
+use Rattle.stream_replay.specs.Replaying.{IsReplay, EndsChain}
+use Rattle.stream_replay.specs.Streaming.{IsNextIn, FindsFault, KnowsLine, HasStreamed, IsTold}
+use Rattle.stream_replay.specs.Windows.{IsHeld, IsWithin, HasLine}
+use Rattle.stream_replay.proofs.Held.{held_end}
+
+-- ---- places of a window as places of its text
+
+held_drop : (text more : List ℕ) (base n : ℕ) (bytes : List ℕ) (feeds : ℕ) → IsHeld text base bytes feeds → drop n (bytes ++ more) ≡ drop (base + n) (text ++ more)
+held_drop text more base n bytes feeds h =
+    ap (λ (l : List ℕ). drop n (l ++ more)) (sym h.bytes_are) ∙ ap (drop n) (sym (drop-append-le base text more h.within)) ∙ drop-drop n base (text ++ more)
+
+held_length : (text more : List ℕ) (base : ℕ) (bytes : List ℕ) (feeds : ℕ) → IsHeld text base bytes feeds → base + length (bytes ++ more) ≡ length (text ++ more)
+held_length text more base bytes feeds h = let e = held_end text base bytes feeds h in omega (arith, length-append bytes more, length-append text more)
+
+pub gap_later : (text more : List ℕ) (base from to : ℕ) (bytes : List ℕ) (feeds : ℕ) → IsHeld text base bytes feeds → Gap (bytes ++ more) from to → Gap (text ++ more) (base + from) (base + to)
+gap_later text more base from to bytes feeds h gap =
+    let low = gap.1 in let high = gap.2 in let len = held_length text more base bytes feeds h in (
+      subst (λ (l : List ℕ). Space l (drop (base + to) (text ++ more))) (held_drop text more base from bytes feeds h)
+          (subst (λ (l : List ℕ). Space (drop from (bytes ++ more)) l) (held_drop text more base to bytes feeds h) gap.0),
+      omega arith,
+      omega arith,
+    )
+
+row_later : (text more : List ℕ) (base at end : ℕ) (bytes : List ℕ) (feeds : ℕ) (r : Row) → IsHeld text base bytes feeds → IsRowAt (bytes ++ more) at r end → IsRowAt (text ++ more) (base + at) r (base + end)
+unfolding IsRowAt
+row_later text more base at end bytes feeds r h is =
+    let low = is.1 in let high = is.2 in let len = held_length text more base bytes feeds h in (
+      subst (λ (l : List ℕ). ShortRowAt l r (drop (base + end) (text ++ more))) (held_drop text more base at bytes feeds h)
+          (subst (λ (l : List ℕ). ShortRowAt (drop at (bytes ++ more)) r l) (held_drop text more base end bytes feeds h) is.0),
+      omega arith,
+      omega arith,
+    )
+
+no_row_later : (text more : List ℕ) (base to at : ℕ) (kind : RowKind) (bytes : List ℕ) (feeds : ℕ) → IsHeld text base bytes feeds → NoRowAt (bytes ++ more) to kind at → NoRowAt (text ++ more) (base + to) kind (base + at)
+no_row_later text more base to at kind bytes feeds h is =
+    let low = is.0 in let high = is.2 in let len = held_length text more base bytes feeds h in (
+      omega arith,
+      subst (λ (l : List ℕ). FirstFault l (kind, drop (base + at) (text ++ more))) (held_drop text more base to bytes feeds h)
+          (subst (λ (l : List ℕ). FirstFault (drop to (bytes ++ more)) (kind, l)) (held_drop text more base at bytes feeds h) is.1),
+      omega arith,
+    )
+
+-- ---- lines of places in a text that goes on
+
+line_longer : (text more : List ℕ) (at : Option ℕ) → IsWithin text at → line_at (text ++ more) at ≡ line_at text at
+line_longer text more None within = refl
+line_longer text more (Some at) within = ap (λ (l : List ℕ). count_by (λ b. b == 10) l + 1) (take-append-le at text more within)
+
+within_longer : (text more : List ℕ) (at : Option ℕ) → IsWithin text at → IsWithin (text ++ more) at
+within_longer text more None within = tt
+within_longer text more (Some at) within = omega (arith, length-append text more, within)
+
+has_line_longer : (text more : List ℕ) (line : ℕ) (fault : PatchFault) → HasLine text line fault → HasLine (text ++ more) line fault
+has_line_longer text more line fault has = (has.0 ∙ sym (line_longer text more (place_of fault) has.1), within_longer text more (place_of fault) has.1)
+
+-- ---- the text goes on
+
+no_whole : {X : Type 0} → false ≡ true → X
+no_whole e = absurd cc
+
+pub streamed_longer : (text more : List ℕ) (at : ℕ) (p : Progress) → HasStreamed false text at p → HasStreamed false (text ++ more) at p
+streamed_longer text more at p h = record {
+  rs = h.rs;
+  ms = h.ms;
+  reads = λ rest none. subst (λ (t : List ℕ). RowsUpTo t 0 h.rs at) (sym (append_assoc text more rest)) (h.reads (more ++ rest) (λ e. no_whole e));
+  parts = h.parts;
+  replayed = h.replayed;
+  line_is = λ fault is. has_line_longer text more p.line fault (h.line_is fault is);
+}
+
+pub streamed_whole : (whole : Bool) (text : List ℕ) (at : ℕ) (p : Progress) → HasStreamed false text at p → HasStreamed whole text at p
+streamed_whole whole text at p h = record {
+  rs = h.rs;
+  ms = h.ms;
+  reads = λ rest none. h.reads rest (λ e. no_whole e);
+  parts = h.parts;
+  replayed = h.replayed;
+  line_is = h.line_is;
+}
+
+-- ---- one more row
+
+abbrev placed_at : ℕ → Row → Next → PlacedRow
+placed_at base r row = record { row_ = r; at = base + row.at; end = base + row.end }
+
+pub streamed_more : (whole : Bool) (text : List ℕ) (base from : ℕ) (bytes : List ℕ) (feeds : ℕ) (old new : Progress) (row : Next) (done : Option StreamPatch) → IsHeld text base bytes feeds
+    → IsNextIn whole bytes from row → HasStreamed whole text (base + from) old → HasTakenNext old.part row.role (base + row.at) done new.part
+    → ((ms : List Meaning) → IsReplay ms old.replay → IsReplay (ms ++ meanings_of done) new.replay) → KnowsLine text new → HasStreamed whole text (base + row.end) new
+streamed_more whole text base from bytes feeds old new row done held is h taken applied knows = record {
+  rs = h.rs ++ placed_at base is.0 row ∷ [];
+  ms = h.ms ++ meanings_of done;
+  reads = λ more none.
+      rows_more (text ++ more) 0 (base + from) h.rs (placed_at base is.0 row) (h.reads more none)
+      (gap_later text more base from row.at bytes feeds held (is.2 more none).0)
+      (row_later text more base row.at row.end bytes feeds is.0 held (is.2 more none).1);
+  parts = taken h.rs h.ms (placed_at base is.0 row) h.parts is.1 refl;
+  replayed = applied h.ms h.replayed;
+  line_is = knows;
+}
+
+-- ---- faults
+
+faulty : (text more : List ℕ) (line : ℕ) (fault : PatchFault) → HasLine text line fault → IsStreamFault (text ++ more) fault → IsFaulty line fault (text ++ more)
+faulty text more line fault has is = record { fault_is = is; line_is = (has_line_longer text more line fault has).0 }
+
+-- with a row the next patch begins, and the one before it has a fault
+pub told_before : (whole : Bool) (text : List ℕ) (base from : ℕ) (bytes : List ℕ) (feeds : ℕ) (old : Progress) (row : Next) (told : Told) → IsHeld text base bytes feeds
+    → IsNextIn whole bytes from row → HasStreamed whole text (base + from) old → (told.fault ≡ faults.OutOfMemory) ⊎ IsBrokenBefore old.part row.role (base + row.at) told.fault → HasLine text told.line told.fault
+    → IsTold whole text told
+told_before whole text base from bytes feeds old row told held is h (inl memory) has = inl memory
+told_before whole text base from bytes feeds old row told held is h (inr why) has =
+    inr (λ more none.
+    faulty text more told.line told.fault has
+    (record {
+      rows_ = h.rs;
+      to = base + row.at;
+      reads = (base + from, h.reads more none, gap_later text more base from row.at bytes feeds held (is.2 more none).0);
+      before = h.ms;
+      well = h.parts.before;
+      stop = base + row.at;
+      broken = None;
+      stops = next is.0 (base + row.end) (row_later text more base row.at row.end bytes feeds is.0 held (is.2 more none).1)
+          (ap (begins (said (cut h.rs).last.rows_)) is.1 ∙ why.1 h.rs h.ms h.parts) refl refl;
+      fault_is = why.0 h.rs h.ms h.parts;
+    }))
+
+-- no row stands there
+pub told_there : (whole : Bool) (text : List ℕ) (base from at : ℕ) (bytes : List ℕ) (feeds : ℕ) (old : Progress) (kind : RowKind) (told : Told) → IsHeld text base bytes feeds
+    → FindsFault whole bytes from kind at → HasStreamed whole text (base + from) old → IsFaultOf old.part (base + at) (Some kind) told.fault → HasLine text told.line told.fault → IsTold whole text told
+told_there whole text base from at bytes feeds old kind told held is h why has =
+    inr (λ more none.
+    faulty text more told.line told.fault has
+    (record {
+      rows_ = h.rs;
+      to = base + is.1.0;
+      reads = (base + from, h.reads more none, gap_later text more base from is.1.0 bytes feeds held (is.1.1 more none).0);
+      before = h.ms;
+      well = h.parts.before;
+      stop = base + at;
+      broken = Some kind;
+      stops = no_row kind (no_row_later text more base is.1.0 at kind bytes feeds held (is.1.1 more none).1) refl;
+      fault_is = why h.rs h.ms h.parts;
+    }))
+
+-- ---- the end
+
+reads_whole : (text : List ℕ) (at : ℕ) (p : Progress) (h : HasStreamed true text at p) → RowsUpTo text 0 h.rs at
+reads_whole text at p h = subst (λ (t : List ℕ). RowsUpTo t 0 h.rs at) (append-nil text) (h.reads [] (λ e. refl))
+
+-- the last patch has a fault
+pub told_at_end : (text : List ℕ) (at stop : ℕ) (p : Progress) (line : ℕ) (fault : PatchFault) → stop ≡ length text → HasStreamed true text at p → Gap text at (length text) → IsBrokenAtEnd p.part stop fault
+    → HasLine text line fault → IsFaulty line fault text
+told_at_end text at stop p line fault end h gap why has = record {
+  fault_is = record {
+    rows_ = h.rs;
+    to = stop;
+    reads = (at, reads_whole text at p h, subst (Gap text at) (sym end) gap);
+    before = h.ms;
+    well = h.parts.before;
+    stop = stop;
+    broken = None;
+    stops = over end (why.1 h.rs h.ms h.parts) refl refl;
+    fault_is = why.0 h.rs h.ms h.parts;
+  };
+  line_is = has.0;
+}
+
+pub stream_at_end : (text : List ℕ) (at stop : ℕ) (p : Progress) (done : Option StreamPatch) → stop ≡ length text → (h : HasStreamed true text at p) → Gap text at (length text) → EndsStream p.part stop done
+    → IsStream text (h.ms ++ meanings_of done)
+stream_at_end text at stop p done end h gap ends = record {
+  rows_ = h.rs;
+  reads = (at, reads_whole text at p h, gap);
+  stream = subst (λ (n : ℕ). AreStream h.rs n (h.ms ++ meanings_of done)) end (ends h.rs h.ms h.parts);
+}
+
+-- ---- how a replay ends
+
+pub ends_faulty : (line : ℕ) (fault : PatchFault) (text : List ℕ) → IsFaulty line fault text → EndsText (fault_end line fault) text
+ends_faulty line faults.OutOfMemory text is = tt
+ends_faulty line (faults.Row at kind) text is = is
+ends_faulty line (faults.NoId at) text is = is
+ends_faulty line (faults.TwoIds at) text is = is
+ends_faulty line (faults.TwoPrevs at) text is = is
+ends_faulty line (faults.BadId at) text is = is
+ends_faulty line (faults.LateHeader at) text is = is
+ends_faulty line (faults.Nested at) text is = is
+ends_faulty line (faults.NotInBlock at) text is = is
+ends_faulty line (faults.OpenBlock at) text is = is
+ends_faulty line (faults.TooLong size limit) text is = is
+
+pub ends_told : (line : ℕ) (fault : PatchFault) (text : List ℕ) → (fault ≡ faults.OutOfMemory) ⊎ IsFaulty line fault text → EndsText (fault_end line fault) text
+ends_told line fault text (inl memory) = subst (λ (f : PatchFault). EndsText (fault_end line f) text) (sym memory) tt
+ends_told line fault text (inr is) = ends_faulty line fault text is
+
+pub ends_chain : (ms : List Meaning) (fault : ReplayFault) (text : List ℕ) → IsStream text ms → EndsChain ms fault → EndsText fault text
+ends_chain ms (ends.Chain fault) text stream is = record { meanings = ms; stream = stream; breaks = is }
+ends_chain ms ends.OutOfMemory text stream is = tt
+ends_chain ms (ends.Stream line fault) text stream is = absurd is
+ends_chain ms ends.TooLong text stream is = absurd is
+ends_chain ms ends.Failed text stream is = absurd is

@@ -1,0 +1,13 @@
+use Rattle.std.proofs.Common.{[], refl}
+use Rattle.patch_meaning.proofs.Cuts.{nothing_cut}
+use Rattle.stream_replay.proofs.progress.Progress.new.Goals as goal
+
+pub returns-clause-streamed : goal.returns-clause-streamed
+returns-clause-streamed c = record {
+  rs = [];
+  ms = [];
+  reads = λ more none. refl;
+  parts = nothing_cut c.new.result c.new.ensures.rows c.new.ensures.from;
+  replayed = c.new-2.ensures.replay;
+  line_is = λ fault is. absurd (let none = c.new.ensures.none in cc);
+}

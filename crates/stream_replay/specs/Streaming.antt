@@ -1,0 +1,83 @@
+-- A stream of which some pieces were read.
+use Rattle.std.specs.Prelude.{◌≡◌, ◌⊎◌, ℕ, ◌+◌, ◌≤◌, ◌<◌, Bool, true, false, List, [], ◌++◌, length, Option, None, Some, Result, Ok, Err}
+use Rattle.rows_text.specs.declared.fault.RowKind.{RowKind}
+use Rattle.rows_text.specs.declared.fault.RowFault.{RowFault}
+use Rattle.rows_text.specs.declared.fault.RowFault.TheVariants as row
+use Rattle.rows_text.specs.Grammar.{IsRowAt}
+use Rattle.rows_text.specs.declared.row.Row.{Row}
+use Rattle.patch_meaning.specs.declared.fault.PatchFault.{PatchFault}
+use Rattle.patch_meaning.specs.declared.fault.PatchFault.TheVariants as faults
+use Rattle.patch_meaning.specs.declared.rows.Next.{Next}
+use Rattle.patch_meaning.specs.Cutting.{IsCutInto}
+use Rattle.patch_meaning.specs.Patch.{Meaning}
+use Rattle.patch_meaning.specs.PartRead.{first_fault}
+use Rattle.patch_meaning.specs.Roles.{role}
+use Rattle.patch_meaning.specs.Rows.{PlacedRow, Gap, RowsUpTo, NoRowAt}
+use Rattle.stream_replay.specs.declared.progress.Progress.{Progress}
+use Rattle.stream_replay.specs.declared.place.Told.{Told}
+use Rattle.stream_replay.specs.declared.stream.Streaming.{Streaming}
+use Rattle.stream_replay.specs.Places.{IsFaulty}
+use Rattle.stream_replay.specs.Replaying.{IsReplay}
+use Rattle.stream_replay.specs.Windows.{IsWindow, HasLine}
+
+-- whatever text follows; where the text is whole, none does
+abbrev pub WhateverFollows : Bool → (List ℕ → Type 0) → Type 0
+WhateverFollows whole IsSo = (more : List ℕ) → (whole ≡ true → more ≡ []) → IsSo more
+
+-- ---- the next row of a window
+
+-- what a row says that stands there, behind white space and comments
+abbrev pub IsNextIn : Bool → List ℕ → ℕ → Next → Type 0
+IsNextIn whole bytes from next = (r : Row) × (role r ≡ next.role) × WhateverFollows whole (λ more. Gap (bytes ++ more) from next.at × IsRowAt (bytes ++ more) next.at r next.end)
+
+-- the next row; or, where the text is whole, white space and comments up to its end
+abbrev pub FindsRow : Bool → List ℕ → ℕ → Option Next → Type 0
+FindsRow whole bytes from (Some next) = IsNextIn whole bytes from next × (from < next.end) × (next.at ≤ next.end) × (next.end ≤ length bytes)
+FindsRow whole bytes from None = whole ≡ true → Gap bytes from (length bytes)
+
+-- behind white space and comments no row stands, but this fault at a place
+abbrev pub FindsFault : Bool → List ℕ → ℕ → RowKind → ℕ → Type 0
+FindsFault whole bytes from kind at = (at ≤ length bytes) × ((to : ℕ) × WhateverFollows whole (λ more. Gap (bytes ++ more) from to × NoRowAt (bytes ++ more) to kind at))
+
+-- the next row, if there is one, or the fault
+abbrev pub FindsNext : Bool → List ℕ → ℕ → Result (Option Next) RowFault → Type 0
+FindsNext whole bytes from (Ok next) = FindsRow whole bytes from next
+FindsNext whole bytes from (Err (row.At at kind)) = FindsFault whole bytes from kind at
+FindsNext whole bytes from (Err row.OutOfMemory) = Unit {0}
+
+-- ---- what was read
+
+-- the line is that of the open patch's first fault
+abbrev pub KnowsLine : List ℕ → Progress → Type 0
+KnowsLine text p = (fault : PatchFault) → first_fault p.part ≡ Some fault → HasLine text p.line fault
+
+-- The rows up to a place were cut into patches. Those that are complete were applied, and the one that may go on is held.
+pub record HasStreamed (whole : Bool) (text : List ℕ) (at : ℕ) (p : Progress) : Type 0 where
+  pub rs : List PlacedRow
+  pub ms : List Meaning
+  pub reads : WhateverFollows whole (λ more. RowsUpTo (text ++ more) 0 rs at)
+  pub parts : IsCutInto rs ms p.part
+  pub replayed : IsReplay ms p.replay
+  pub line_is : KnowsLine text p
+
+-- the rows before the window's place were taken
+pub record IsStreaming (whole : Bool) (text : List ℕ) (s : Streaming) : Type 0 where
+  pub window_ : IsWindow text s.window
+  pub progress_ : HasStreamed whole text (s.window.base + s.window.from) s.progress
+
+-- the fault is the first one of the text with its line; want of memory is free
+abbrev pub IsTold : Bool → List ℕ → Told → Type 0
+IsTold whole text told = (told.fault ≡ faults.OutOfMemory) ⊎ WhateverFollows whole (λ more. IsFaulty told.line told.fault (text ++ more))
+
+-- all rows that the text decides may be taken, or the fault was met
+abbrev pub HasMet : Option Told → List ℕ → Streaming → Type 0
+HasMet None text s = IsStreaming false text s
+HasMet (Some told) text s = (more : List ℕ) → IsFaulty told.line told.fault (text ++ more)
+
+-- the text was fed
+abbrev pub HasFed : List ℕ → Streaming → Type 0
+HasFed text s = HasMet s.fault text s
+
+-- no more patches were taken than bytes were read, as long as there is no fault
+abbrev pub IsFew : Streaming → Type 0
+IsFew s = s.fault ≡ None → s.progress.replay.chain.version ≤ s.window.base + s.window.from

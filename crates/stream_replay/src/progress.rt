@@ -1,0 +1,154 @@
+//! Rows that become patches, and patches that are applied.
+ghost use Rattle.std.specs.Prelude.{◌≡◌, ◌⊎◌, ◌+◌, ◌-◌, ◌<◌, ◌≤◌, ◌^◌, ℕ, List, [], Bool, true, false, None, Some, IfOk, IfErr, OnOk, length, vec_len};
+ghost use Rattle.patch_meaning.specs.declared.fault.PatchFault.{PatchFault as TextFault};
+ghost use Rattle.patch_meaning.specs.declared.fault.PatchFault.TheVariants as faults;
+ghost use Rattle.patch_meaning.specs.Cutting.{EndsStream, HasTakenNext, IsBrokenAtEnd, IsBrokenBefore, IsFaultOf};
+ghost use Rattle.patch_meaning.specs.Patch.{Meaning, place_of};
+ghost use Rattle.patch_meaning.specs.PartRead.{first_fault, IsToldAt};
+ghost use Rattle.patch_meaning.specs.Rows.{Gap};
+ghost use Rattle.stream_replay.specs.Replaying.{IsReplay};
+ghost use Rattle.stream_replay.specs.Windows.{HasLine, IsWindow};
+
+use crate::fault::ReplayFault;
+use crate::place::{Told, line_of, tell};
+use crate::replay::{Replay, Replayed};
+use crate::window::Window;
+use patch_meaning::{Next, Part, Role, StreamPatch};
+use rows_text::RowKind;
+use std::alloc::Global;
+
+/// The open patch, and the replay of those before it.
+#[derive(Drop)]
+pub struct Progress {
+    part: Part,
+    replay: Replay,
+    /// The line of the open patch's first fault.
+    line: u64,
+}
+
+impl Progress {
+    ghost use Rattle.stream_replay.specs.Source.{EndsText, IsReplayed};
+    ghost use Rattle.stream_replay.specs.Streaming.{HasStreamed, IsNextIn, IsTold, KnowsLine};
+
+    /// No row so far.
+    pub fn new(alloc: Global) -> Progress
+        ensures streamed { HasStreamed false [] 0 result }
+        ensures version { result.replay.chain.version ≡ 0 }
+    {
+        Progress {
+            part: Part::new(alloc, 0),
+            replay: Replay::new(alloc),
+            line: 0,
+        }
+    }
+
+    /// Takes the next row of the window.
+    pub fn take(&mut self, alloc: Global, window: &Window, next: Next) -> Result<(), Told>
+        requires room { self.old.replay.chain.version < 2 ^ 32 - 1 }
+        requires within { next.at ≤ vec_len window.now.bytes }
+        ensures ok { OnOk result ((whole : Bool) (text : List ℕ) → IsWindow text window.now → IsNextIn whole window.now.bytes.items window.now.from next
+            → HasStreamed whole text (window.now.base + window.now.from) self.old → HasStreamed whole text (window.now.base + next.end) self.new) }
+        ensures version { OnOk result (self.new.replay.chain.version ≤ self.old.replay.chain.version + 1) }
+        ensures fault { IfErr result (λ told. (whole : Bool) (text : List ℕ) → IsWindow text window.now → IsNextIn whole window.now.bytes.items window.now.from next
+            → HasStreamed whole text (window.now.base + window.now.from) self.old → IsTold whole text told) }
+    {
+        let Next { role, at, .. } = next;
+        let done = self.take_row(alloc, window, role, window.base + at as u64)?;
+        self.replay.take_done(alloc, done)?;
+        Ok(())
+    }
+
+    // Takes what the row at a place says, and answers the patch that was completed before it.
+    fn take_row(
+        &mut self,
+        alloc: Global,
+        window: &Window,
+        says: Role,
+        at: u64,
+    ) -> Result<Option<StreamPatch>, Told>
+        requires low { window.now.base ≤ at }
+        requires high { at ≤ window.now.base + vec_len window.now.bytes }
+        ensures ok { IfOk result (λ done. HasTakenNext self.old.part says at done self.new.part) }
+        ensures line { OnOk result ((text : List ℕ) → IsWindow text window.now → KnowsLine text self.old → KnowsLine text self.new) }
+        ensures replay { self.new.replay ≡ self.old.replay }
+        ensures fault { IfErr result (λ told. (told.fault ≡ faults.OutOfMemory) ⊎ IsBrokenBefore self.old.part says at told.fault) }
+        ensures told { IfErr result (λ told. (text : List ℕ) → IsWindow text window.now → KnowsLine text self.old → HasLine text told.line told.fault) }
+    {
+        match self.part.take_next(alloc, says, at) {
+            Ok(done) => {
+                self.note(window, at);
+                Ok(done)
+            }
+            Err(fault) => Err(tell(window, self.line, fault, at)),
+        }
+    }
+
+    // Keeps the line of the row at a place, where the row has the open patch's first fault.
+    fn note(&mut self, window: &Window, at: u64)
+        requires low { window.now.base ≤ at }
+        requires high { at ≤ window.now.base + vec_len window.now.bytes }
+        ensures part { self.new.part ≡ self.old.part }
+        ensures replay { self.new.replay ≡ self.old.replay }
+        ensures line { (text : List ℕ) → IsWindow text window.now → (fault : TextFault) → first_fault self.old.part ≡ Some fault
+            → HasLine text self.old.line fault ⊎ (place_of fault ≡ Some at) → HasLine text self.new.line fault }
+    {
+        if let Some(fault) = self.part.first_fault() {
+            self.line = line_of(window, self.line, fault, at);
+        }
+    }
+
+    /// The fault where no row stands, but this fault at a place of the window.
+    pub fn break_off(&self, window: &Window, at: u64, kind: RowKind) -> Told
+        requires within { at ≤ vec_len window.now.bytes }
+        ensures fault { IsFaultOf self.now.part (window.now.base + at) (Some kind) result.fault }
+        ensures line { (text : List ℕ) → IsWindow text window.now → KnowsLine text self.now → HasLine text result.line result.fault }
+    {
+        let stop = window.base + at;
+        tell(window, self.line, self.part.break_stream(stop, kind), stop)
+    }
+
+    /// The replay of a stream that ends with the window.
+    pub fn finish(self, alloc: Global, window: &Window) -> Result<Replayed, ReplayFault>
+        requires room { self.replay.chain.version < 2 ^ 32 - 1 }
+        ensures ok { IfOk result (λ replayed. (text : List ℕ) (at : ℕ) → IsWindow text window.now → HasStreamed true text at self → Gap text at (length text) → IsReplayed replayed text) }
+        ensures fault { IfErr result (λ fault. (text : List ℕ) (at : ℕ) → IsWindow text window.now → HasStreamed true text at self → Gap text at (length text) → EndsText fault text) }
+    {
+        let Progress { part, replay, line } = self;
+        let done = last_patch(part, line, window)?;
+        replay_last(alloc, replay, done)
+    }
+}
+
+// The last patch of a stream that ends with the window.
+fn last_patch(part: Part, line: u64, window: &Window) -> Result<Option<StreamPatch>, Told>
+    ensures ok { IfOk result (EndsStream part (window.now.base + vec_len window.now.bytes)) }
+    ensures fault { IfErr result (λ told. IsBrokenAtEnd part (window.now.base + vec_len window.now.bytes) told.fault) }
+    ensures told { IfErr result (λ told. (text : List ℕ) → IsWindow text window.now → ((fault : TextFault) → first_fault part ≡ Some fault → HasLine text line fault) → HasLine text told.line told.fault) }
+{
+    let stop = window.base + window.bytes.len() as u64;
+    match part.finish_stream(stop) {
+        Ok(done) => Ok(done),
+        Err(fault) => Err(tell(window, line, fault, stop)),
+    }
+}
+
+ghost use Rattle.std.specs.Prelude.{◌++◌};
+ghost use Rattle.patch_meaning.specs.Cutting.{meanings_of};
+ghost use Rattle.stream_replay.specs.Replaying.{AreReplayed, EndsChain};
+
+// Applies the last patch, if there is one.
+fn replay_last(
+    alloc: Global,
+    mut replay: Replay,
+    done: Option<StreamPatch>,
+) -> Result<Replayed, ReplayFault>
+    requires room { replay.chain.version < 2 ^ 32 - 1 }
+    ensures ok { IfOk result (λ replayed. (ms : List Meaning) → IsReplay ms replay → AreReplayed (ms ++ meanings_of done) replayed) }
+    ensures fault { IfErr result (λ fault. (ms : List Meaning) → IsReplay ms replay → EndsChain (ms ++ meanings_of done) fault) }
+{
+    replay.take_done(alloc, done)?;
+    match replay.finish() {
+        Ok(replayed) => Ok(replayed),
+        Err(fault) => Err(ReplayFault::Chain(fault)),
+    }
+}

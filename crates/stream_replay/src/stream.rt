@@ -1,0 +1,172 @@
+//! A stream that is read in pieces.
+ghost use Rattle.std.specs.Prelude.{◌≡◌, ◌+◌, ◌-◌, ◌<◌, ◌≤◌, ◌^◌, ◌++◌, ◌∷◌, ℕ, List, [], Bool, true, false, None, Some, IfOk, IfErr, OnOk, IfSome, length, vec_len};
+ghost use Rattle.patch_meaning.specs.Rows.{Gap};
+
+use crate::fault::ReplayFault;
+use crate::next::next_in;
+use crate::place::Told;
+use crate::progress::Progress;
+use crate::replay::Replayed;
+use crate::window::Window;
+use delta_base::OutOfMemory;
+use patch_meaning::{Next, PatchFault};
+use rows_text::RowFault;
+use std::alloc::Global;
+
+/// A stream of which some pieces were read.
+#[derive(Drop)]
+pub struct Streaming {
+    window: Window,
+    progress: Progress,
+    /// How many bytes the window has before rows are read again: twice as many as were left, so that a long row is
+    /// read a few times and not once for each piece.
+    wanted: usize,
+    /// The first fault. Behind it nothing is read.
+    fault: Option<Told>,
+}
+
+impl Streaming {
+    ghost use Rattle.stream_replay.specs.Source.{EndsText, IsReplayed};
+    ghost use Rattle.stream_replay.specs.Streaming.{FindsRow, HasFed, IsFew, IsNextIn, IsStreaming, IsTold};
+
+    /// No byte so far.
+    pub fn new(alloc: Global) -> Streaming
+        ensures fed { HasFed [] result }
+        ensures few { result.progress.replay.chain.version ≡ 0 }
+        ensures end { result.window.base + vec_len result.window.bytes ≡ 0 }
+    {
+        Streaming {
+            window: Window::new(alloc),
+            progress: Progress::new(alloc),
+            wanted: 0,
+            fault: None,
+        }
+    }
+
+    /// The text goes on with a piece.
+    pub fn feed(&mut self, alloc: Global, piece: &[u8]) -> Result<(), OutOfMemory>
+        requires room { self.old.window.base + vec_len self.old.window.bytes + length piece.now ≤ 2 ^ 31 }
+        requires few { IsFew self.old }
+        ensures fed { OnOk result ((text : List ℕ) → HasFed text self.old → HasFed (text ++ piece.now) self.new) }
+        ensures few { OnOk result (IsFew self.new) }
+        ensures end { OnOk result (self.new.window.base + vec_len self.new.window.bytes ≤ self.old.window.base + vec_len self.old.window.bytes + length piece.now) }
+    {
+        if self.fault.is_some() {
+            return Ok(());
+        }
+        self.window.push(piece)?;
+        if self.window.bytes.len() < self.wanted {
+            return Ok(());
+        }
+        self.read_on(alloc)
+    }
+
+    // Takes the rows that the window decides.
+    fn read_on(&mut self, alloc: Global) -> Result<(), OutOfMemory>
+        requires none { self.old.fault ≡ None }
+        requires room { self.old.window.base + vec_len self.old.window.bytes ≤ 2 ^ 31 }
+        requires few { self.old.progress.replay.chain.version ≤ self.old.window.base + self.old.window.from }
+        ensures fed { OnOk result ((text : List ℕ) → IsStreaming false text self.old → HasFed text self.new) }
+        ensures few { OnOk result (IsFew self.new) }
+        ensures end { OnOk result (self.new.window.base + vec_len self.new.window.bytes ≡ self.old.window.base + vec_len self.old.window.bytes) }
+    {
+        match self.advance(alloc, false) {
+            Ok(()) => self.settle(alloc),
+            Err(told) => self.stop(told),
+        }
+    }
+
+    // Lets go what was read.
+    fn settle(&mut self, alloc: Global) -> Result<(), OutOfMemory>
+        ensures window { OnOk result ((text : List ℕ) → IsStreaming false text self.old → IsStreaming false text self.new) }
+        ensures fault { self.new.fault ≡ self.old.fault }
+        ensures progress { self.new.progress ≡ self.old.progress }
+        ensures read { OnOk result (self.new.window.base + self.new.window.from ≡ self.old.window.base + self.old.window.from) }
+        ensures end { OnOk result (self.new.window.base + vec_len self.new.window.bytes ≡ self.old.window.base + vec_len self.old.window.bytes) }
+    {
+        self.window.settle(alloc)?;
+        self.wanted = self.window.bytes.len().saturating_mul(2);
+        Ok(())
+    }
+
+    // Keeps the fault.
+    fn stop(&mut self, told: Told) -> Result<(), OutOfMemory>
+        ensures fed { OnOk result ((text : List ℕ) → IsTold false text told → HasFed text self.new) }
+        ensures window { self.new.window ≡ self.old.window }
+        ensures fault { OnOk result (self.new.fault ≡ Some told) }
+    {
+        if matches!(told.fault, PatchFault::OutOfMemory) {
+            return Err(OutOfMemory);
+        }
+        self.fault = Some(told);
+        Ok(())
+    }
+
+    // Takes all rows that the window decides; where the text is whole, all rows.
+    fn advance(&mut self, alloc: Global, whole: bool) -> Result<(), Told>
+        requires room { self.old.window.base + vec_len self.old.window.bytes ≤ 2 ^ 31 }
+        requires few { self.old.progress.replay.chain.version ≤ self.old.window.base + self.old.window.from }
+        ensures ok { OnOk result ((text : List ℕ) → IsStreaming whole text self.old → IsStreaming whole text self.new) }
+        ensures end_of_text { OnOk result (whole ≡ true → Gap self.new.window.bytes.items self.new.window.from (length self.new.window.bytes.items)) }
+        ensures fault { IfErr result (λ told. (text : List ℕ) → IsStreaming whole text self.old → IsTold whole text told) }
+        ensures few { OnOk result (self.new.progress.replay.chain.version ≤ self.new.window.base + self.new.window.from) }
+        ensures base { self.new.window.base ≡ self.old.window.base }
+        ensures len { vec_len self.new.window.bytes ≡ vec_len self.old.window.bytes }
+        ensures same { self.new.fault ≡ self.old.fault }
+    {
+        'rows: while let Some(next) = self.next(alloc, whole)? {
+            self.step(alloc, next)?;
+        }
+        Ok(())
+    }
+
+    // The next row of the window, or the fault.
+    fn next(&self, alloc: Global, whole: bool) -> Result<Option<Next>, Told>
+        ensures ok { IfOk result (FindsRow whole self.now.window.bytes.items self.now.window.from) }
+        ensures fault { IfErr result (λ told. (text : List ℕ) → IsStreaming whole text self.now → IsTold whole text told) }
+    {
+        match next_in(alloc, self.window.bytes.as_slice(), self.window.from, whole) {
+            Ok(next) => Ok(next),
+            Err(RowFault::At { at, kind }) => Err(self.progress.break_off(&self.window, at, kind)),
+            Err(RowFault::OutOfMemory) => Err(Told::from(OutOfMemory)),
+        }
+    }
+
+    // Takes a row.
+    fn step(&mut self, alloc: Global, next: Next) -> Result<(), Told>
+        requires room { self.old.progress.replay.chain.version < 2 ^ 32 - 1 }
+        requires low { next.at ≤ next.end }
+        requires within { next.end ≤ vec_len self.old.window.bytes }
+        ensures ok { OnOk result ((whole : Bool) (text : List ℕ) → IsNextIn whole self.old.window.bytes.items self.old.window.from next → IsStreaming whole text self.old → IsStreaming whole text self.new) }
+        ensures fault { IfErr result (λ told. (whole : Bool) (text : List ℕ) → IsNextIn whole self.old.window.bytes.items self.old.window.from next → IsStreaming whole text self.old → IsTold whole text told) }
+        ensures version { OnOk result (self.new.progress.replay.chain.version ≤ self.old.progress.replay.chain.version + 1) }
+        ensures from { OnOk result (self.new.window.from ≡ next.end) }
+        ensures base { self.new.window.base ≡ self.old.window.base }
+        ensures bytes { self.new.window.bytes ≡ self.old.window.bytes }
+        ensures same { self.new.fault ≡ self.old.fault }
+    {
+        let end = next.end;
+        self.progress.take(alloc, &self.window, next)?;
+        self.window.from = end;
+        Ok(())
+    }
+
+    /// The replay of the whole text.
+    pub fn finish(mut self, alloc: Global) -> Result<Replayed, ReplayFault>
+        requires room { self.window.base + vec_len self.window.bytes ≤ 2 ^ 31 }
+        requires few { IsFew self }
+        ensures ok { IfOk result (λ replayed. (text : List ℕ) → HasFed text self → IsReplayed replayed text) }
+        ensures fault { IfErr result (λ fault. (text : List ℕ) → HasFed text self → EndsText fault text) }
+    {
+        if let Some(told) = self.fault {
+            return Err(ReplayFault::from(told));
+        }
+        self.advance(alloc, true)?;
+        let Streaming {
+            window,
+            progress,
+            ..
+        } = self;
+        progress.finish(alloc, &window)
+    }
+}

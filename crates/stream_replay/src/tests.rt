@@ -1,0 +1,258 @@
+//! Streams with values from the format's description, read in pieces of several sizes.
+use super::*;
+use chain_core::ChainFault;
+use delta_base::{Bytes, Calls, Id, MemSink, MemSource, read_id};
+use patch_meaning::PatchFault;
+use rows_text::RowKind;
+use std::alloc::Global;
+use std::process::Abort;
+use std::test::Fail;
+
+const ID: &str = "H id <uuid:00000000-0000-4000-8000-000000000001> .\n";
+
+const P1: &str =
+    "H id <uuid:00000000-0000-4000-8000-000000000001> .\nTX .\nA <http://e/s> <http://e/p> <http://e/o> .\nTC .\n";
+
+const P2: &str =
+    "H id <uuid:00000000-0000-4000-8000-000000000002> .\nH prev <uuid:00000000-0000-4000-8000-000000000001> .\nTX .\nA <http://e/s> <http://e/p> <http://e/o2> .\nTC .\n";
+
+const PIECES: [usize; 3] = [1, 7, 65_536];
+
+fn calls(alloc: Global, number: Option<u64>) -> Result<Calls, Fail> {
+    let mut calls = Calls::new(alloc);
+    if let Some(number) = number {
+        calls.push(number)?;
+    }
+    Ok(calls)
+}
+
+/// The parts, one behind another, in reads of at most so many bytes.
+fn source(alloc: Global, parts: &[&str], piece: usize) -> Result<MemSource, Fail> {
+    let mut text = String::new(alloc);
+    for part in parts {
+        text.push_str(part)?;
+    }
+    let content = Bytes::from_slice(alloc, text.as_bytes())?;
+    Ok(MemSource::new(content, piece.max(1), calls(alloc, None)?))
+}
+
+/// Writes the lines, and looks at them.
+fn writes(rt: &impl Abort, alloc: Global, lines: &Lines, wanted: &str) -> Result<(), Fail> {
+    let mut out = MemSink::new(alloc, calls(alloc, None)?);
+    let room = Vec::with_capacity(alloc, PIECE)?;
+    assert!(rt; write_lines(&mut out, lines, room));
+    assert_eq!(rt; out.written(), wanted.as_bytes());
+    Ok(())
+}
+
+/// Replays a stream in pieces of each size, and looks at what it makes.
+fn replays(
+    rt: &impl Abort,
+    alloc: Global,
+    parts: &[&str],
+    lines: &str,
+    patches: u64,
+    quads: usize,
+) -> Result<(), Fail> {
+    for piece in PIECES {
+        let mut input = source(alloc, parts, piece)?;
+        let replayed = replay_source(alloc, &mut input).ok().ok_or("refused")?;
+        assert_eq!(rt; replayed.patches, patches);
+        assert_eq!(rt; replayed.quads, quads);
+        assert!(rt; replayed.head.is_some() == (patches > 0));
+        writes(rt, alloc, &replayed.lines, lines)?;
+    }
+    Ok(())
+}
+
+/// Replays a stream in pieces of each size, and looks at its fault.
+fn ends(rt: &impl Abort, alloc: Global, parts: &[&str], wanted: ReplayFault) -> Result<(), Fail> {
+    for piece in PIECES {
+        let mut input = source(alloc, parts, piece)?;
+        let fault = replay_source(alloc, &mut input).err();
+        assert_eq!(rt; fault, Some(wanted));
+    }
+    Ok(())
+}
+
+/// The same of a text that is no stream.
+fn stops(
+    rt: &impl Abort,
+    alloc: Global,
+    parts: &[&str],
+    line: u64,
+    fault: PatchFault,
+) -> Result<(), Fail> {
+    ends(rt, alloc, parts, ReplayFault::Stream { line, fault })
+}
+
+fn id(text: &str) -> Option<Id> {
+    read_id(text.as_bytes())
+}
+
+#[test]
+fn patches_make_their_lines(rt: HostRuntime) -> Result<(), Fail> {
+    let alloc = rt.alloc();
+    replays(&rt, alloc, &[], "", 0, 0)?;
+    replays(&rt, alloc, &["# no row\n\n \t"], "", 0, 0)?;
+    let line = "<http://e/s> <http://e/p> <http://e/o> .\n";
+    replays(&rt, alloc, &[P1], line, 1, 1)?;
+    let lines =
+        "<http://e/s> <http://e/p> <http://e/o2> .\n<http://e/s> <http://e/p> <http://e/o> .\n";
+    replays(&rt, alloc, &[P1, P2], lines, 2, 2)?;
+    let add = "A <http://e/s> <http://e/p> <http://e/o> .\n";
+    let delete = "D <http://e/s> <http://e/p> <http://e/o> .\n";
+    replays(&rt, alloc, &[ID, add, delete, add, add], line, 1, 1)?;
+    replays(&rt, alloc, &[ID, add, delete], "", 1, 0)
+}
+
+#[test]
+fn a_block_that_ends_with_ta_has_no_effect(rt: HostRuntime) -> Result<(), Fail> {
+    let rows =
+        "A <http://e/s> <http://e/p> \"1\" .\nTX .\nA <http://e/s> <http://e/p> \"2\" .\nD <http://e/s> <http://e/p> \"1\" .\nTA .\nA <http://e/s> <http://e/p> \"3\" .\n";
+    let lines = "<http://e/s> <http://e/p> \"1\" .\n<http://e/s> <http://e/p> \"3\" .\n";
+    replays(&rt, rt.alloc(), &[ID, rows], lines, 1, 2)?;
+    let rows = "TX .TA .TX .A _:a <a:p> _:b .TC .TX .D _:a <a:p> _:b .TA .";
+    replays(&rt, rt.alloc(), &[ID, rows], "_:a <a:p> _:b .\n", 1, 1)
+}
+
+#[test]
+fn rows_have_every_form(rt: HostRuntime) -> Result<(), Fail> {
+    let alloc = rt.alloc();
+    let row = "A _:a <http://e/p> \"x\"@EN <_:g> .\n";
+    let line = "_:a <http://e/p> \"x\"@en _:g .\n";
+    replays(&rt, alloc, &[ID, row], line, 1, 1)?;
+    let row = "A <http://e/s> <http://e/p> _:a.";
+    let line = "<http://e/s> <http://e/p> _:a .\n";
+    replays(&rt, alloc, &[ID, row], line, 1, 1)?;
+    let text =
+        "H id <uuid:0686c69d-8f89-4496-acb5-744f0157a8db> .\nTX .\nPA \"rdf\" \"http://www.w3.org/1999/02/22-rdf-syntax-ns#\" .\nA <http://example/SubClass> <http://www.w3.org/2000/01/rdf-schema#subClassOf> <http://example/SUPER_CLASS> .\nTC .\n";
+    let line =
+        "<http://example/SubClass> <http://www.w3.org/2000/01/rdf-schema#subClassOf> <http://example/SUPER_CLASS> .\n";
+    replays(&rt, alloc, &[text], line, 1, 1)?;
+    let text = "# c\nH # d\n id\t\"00000000000040008000000000000001\"\n. # e\nA _:a<a:p>\n_:b. # f";
+    replays(&rt, alloc, &[text], "_:a <a:p> _:b .\n", 1, 1)
+}
+
+#[test]
+fn the_first_fault_is_told_with_its_line(rt: HostRuntime) -> Result<(), Fail> {
+    let alloc = rt.alloc();
+    let fault = PatchFault::OpenBlock { at: 56 };
+    stops(&rt, alloc, &[ID, "TX .\n"], 3, fault)?;
+    let fault = PatchFault::Nested { at: 56 };
+    stops(&rt, alloc, &[ID, "TX .\nTX .\n"], 3, fault)?;
+    let fault = PatchFault::NoId { at: 10 };
+    stops(&rt, alloc, &["TX .\nTC .\n"], 3, fault)?;
+    let fault = PatchFault::BadId { at: 0 };
+    stops(&rt, alloc, &["H id <uuid:x> .\n"], 1, fault)?;
+    stops(&rt, alloc, &["H id <uuid:x> .\n", P1, P2], 1, fault)?;
+    let fault = PatchFault::Row {
+        at: 0,
+        kind: RowKind::UnknownCode,
+    };
+    let text = "h id <uuid:00000000-0000-4000-8000-000000000001> .\n";
+    stops(&rt, alloc, &[text], 1, fault)?;
+    let fault = PatchFault::Row {
+        at: 79,
+        kind: RowKind::WrongCount,
+    };
+    stops(
+        &rt,
+        alloc,
+        &[ID, "A <http://e/s> <http://e/p> .\n"],
+        2,
+        fault,
+    )?;
+    stops(
+        &rt,
+        alloc,
+        &[ID, "A <http://e/s> <http://e/p> .\n", P1],
+        2,
+        fault,
+    )
+}
+
+#[test]
+fn the_grammar_comes_before_the_chain(rt: HostRuntime) -> Result<(), Fail> {
+    let fault = PatchFault::NotInBlock { at: 208 };
+    stops(&rt, rt.alloc(), &[P1, P1, "TA .\n"], 9, fault)
+}
+
+#[test]
+fn a_patch_of_one_byte_too_many_is_too_long(rt: HostRuntime) -> Result<(), Fail> {
+    let alloc = rt.alloc();
+    let mut text = String::new(alloc);
+    text.push_str(ID)?;
+    for _ in 0..4_194_304 - 51 {
+        text.push('\n')?;
+    }
+    let content = Bytes::from_slice(alloc, text.as_bytes())?;
+    let mut input = MemSource::new(content, 65_536, calls(alloc, None)?);
+    assert!(rt; replay_source(alloc, &mut input).is_ok());
+    text.push('\n')?;
+    let content = Bytes::from_slice(alloc, text.as_bytes())?;
+    let mut input = MemSource::new(content, 65_536, calls(alloc, None)?);
+    let fault = PatchFault::TooLong {
+        length: 4_194_305,
+        limit: 4_194_304,
+    };
+    let wanted = ReplayFault::Stream { line: 0, fault };
+    assert_eq!(rt; replay_source(alloc, &mut input).err(), Some(wanted));
+    Ok(())
+}
+
+#[test]
+fn the_first_fault_of_the_chain_is_told(rt: HostRuntime) -> Result<(), Fail> {
+    let alloc = rt.alloc();
+    let one = id("00000000-0000-4000-8000-000000000001");
+    let fault = ChainFault::Diverged {
+        version: 0,
+        have: None,
+        found: one,
+    };
+    ends(&rt, alloc, &[P2], ReplayFault::Chain(fault))?;
+    let fault = ChainFault::Diverged {
+        version: 1,
+        have: one,
+        found: None,
+    };
+    ends(&rt, alloc, &[P1, P1], ReplayFault::Chain(fault))?;
+    ends(&rt, alloc, &[P1, P1, P2], ReplayFault::Chain(fault))?;
+    let third =
+        "H id <uuid:00000000-0000-4000-8000-000000000001> .\nH prev <uuid:00000000-0000-4000-8000-000000000002> .\n";
+    let fault = ChainFault::Repeated {
+        id: one.ok_or("no id")?,
+        version: 1,
+    };
+    ends(&rt, alloc, &[P1, P2, third], ReplayFault::Chain(fault))
+}
+
+#[test]
+fn a_source_fails_in_mid_stream(rt: HostRuntime) -> Result<(), Fail> {
+    let alloc = rt.alloc();
+    let content = Bytes::from_slice(alloc, P1.as_bytes())?;
+    let mut input = MemSource::new(content, 60, calls(alloc, Some(1))?);
+    assert_eq!(rt;
+        replay_source(alloc, &mut input).err(),
+        Some(ReplayFault::Failed)
+    );
+    let content = Bytes::from_slice(alloc, P1.as_bytes())?;
+    let mut input = MemSource::new(content, 60, calls(alloc, Some(2))?);
+    assert_eq!(rt;
+        replay_source(alloc, &mut input).err(),
+        Some(ReplayFault::Failed)
+    );
+    Ok(())
+}
+
+#[test]
+fn a_sink_fails(rt: HostRuntime) -> Result<(), Fail> {
+    let alloc = rt.alloc();
+    let mut input = source(alloc, &[P1], 60)?;
+    let replayed = replay_source(alloc, &mut input).ok().ok_or("refused")?;
+    let mut out = MemSink::new(alloc, calls(alloc, Some(0))?);
+    let room = Vec::with_capacity(alloc, PIECE)?;
+    assert!(rt; !write_lines(&mut out, &replayed.lines, room));
+    assert_eq!(rt; out.written(), b"".as_slice());
+    Ok(())
+}
