@@ -1,5 +1,5 @@
 -- From the end of a command and what was told of it to the answer of the tool.
-use Rattle.std.proofs.Common.{◌≡◌, ℕ, List, sym, subst, ⊎_elim}
+use Rattle.std.proofs.Common.{ℕ, List, sym, subst, ⊎_elim}
 use Rattle.delta_cli.specs.declared.command.Command.{Command}
 use Rattle.delta_cli.specs.declared.refusal.Refusal.{Refusal}
 use Rattle.delta_cli.specs.Channels.{Channel}

@@ -1,5 +1,5 @@
 -- From what a text has to what was printed of it.
-use Rattle.std.proofs.Common.{◌≡◌, ℕ, zero, suc, ◌+◌, ◌-◌, ◌<◌, ◌≤◌, inl, inr, ⊎_elim, List, ◌++◌, Option, None, Some, Result, Ok, Err, IfErr, sym, ap, ◌∙◌, arith}
+use Rattle.std.proofs.Common.{◌≡◌, ℕ, zero, suc, ◌+◌, ◌-◌, ◌<◌, ◌≤◌, inl, inr, ⊎_elim, List, ◌++◌, Option, None, Some, Result, Ok, Err, IfErr, ap, arith}
 use Rattle.delta_base.specs.Outside.{Rose}
 use Rattle.sink_writing.specs.Writing.{joined}
 use Rattle.stream_generator.specs.Generator.{patch_text, patches_from}
@@ -35,6 +35,7 @@ module _ (input input' out out' : Channel) (r : Replayed) (reads : Reads input i
   stops_printing refusals.TooLong stops = absurd stops
   stops_printing refusals.InputFailed stops = absurd stops
   stops_printing (refusals.NotEmpty file length) stops = absurd stops
+  stops_printing (refusals.File fault) stops = absurd stops
   stops_printing refusals.DiskFailed stops = absurd stops
   stops_printing (refusals.Chain fault) stops = absurd stops
 

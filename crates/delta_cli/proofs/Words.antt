@@ -1,12 +1,12 @@
 -- Words, and the commands that they ask for.
-use Rattle.std.proofs.Common.{◌≡◌, ℕ, zero, suc, ◌+◌, ◌*◌, ◌<◌, ◌≤◌, ◌^◌, List, [], ◌∷◌, length, drop, get_or, Option, Some, None, Result, Ok, Err, refl, sym, ap, subst, ◌∙◌, arith, ne_eqb}
-use Rattle.std.specs.Prelude.{String, string_bytes, codes}
+use Rattle.std.proofs.Common.{◌≡◌, ℕ, zero, suc, ◌+◌, ◌*◌, ◌<◌, ◌≤◌, ◌^◌, List, [], ◌∷◌, length, get_or, Some, None, refl, sym, ap, subst, ◌∙◌, arith, ne_eqb}
+use Rattle.std.specs.Prelude.{String, string_bytes}
 use Rattle.std.specs.List.{All}
 use Rattle.std.specs.declared.alloc.Global.{Global}
 use Rattle.std.specs.Fmt.{decimal}
 use Rattle.std.proofs.lemmas.Fmt.{decimal_digit, first_decimal}
 use Rattle.std.proofs.lemmas.List.Elements.{All-nil, All-cons}
-use Rattle.command_words.specs.Positions.{FitPositions, IsPlainWord, strip_byte}
+use Rattle.command_words.specs.Positions.{FitPositions, IsPlainWord}
 use Rattle.delta_cli.specs.declared.command.Command.{Command}
 use Rattle.delta_cli.specs.declared.command.Command.TheVariants as commands
 use Rattle.delta_cli.specs.declared.name.Name.{Name}
@@ -37,6 +37,7 @@ one_name names.Nquads names.Nquads e = refl
 one_name names.Gen names.Gen e = refl
 one_name names.Emit names.Emit e = refl
 one_name names.Init names.Init e = refl
+one_name names.Check names.Check e = refl
 one_name names.Help names.Help e = refl
 one_name names.Version names.Version e = refl
 one_name a b e = absurd (omega (arith, ap key e))
@@ -55,6 +56,7 @@ name_of commands.Nquads = names.Nquads
 name_of (commands.Gen patches) = names.Gen
 name_of (commands.Emit patches) = names.Emit
 name_of (commands.Init dir slots) = names.Init
+name_of (commands.Check dir) = names.Check
 name_of commands.Help = names.Help
 name_of commands.Version = names.Version
 
@@ -78,6 +80,7 @@ asks_fit words (commands.Emit patches) asks =
 asks_fit words (commands.Init dir slots) asks =
     subst (λ (ws : List (List ℕ)). FitsName ws names.Init) (sym asks.0)
     ((dir ∷ decimal slots ∷ [], refl), (All-cons IsPlainWord dir (decimal slots ∷ []) asks.1 (one_plain (decimal slots) (plain_number slots (omega (arith, asks.3)))), refl))
+asks_fit words (commands.Check dir) asks = subst (λ (ws : List (List ℕ)). FitsName ws names.Check) (sym asks.0) ((dir ∷ [], refl), (one_plain dir asks.1, refl))
 asks_fit words commands.Help is = alone words names.Help refl is
 asks_fit words commands.Version is = alone words names.Version refl is
 

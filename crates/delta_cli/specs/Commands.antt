@@ -10,13 +10,15 @@ use Rattle.delta_cli.specs.declared.refusal.Refusal.{Refusal}
 use Rattle.delta_cli.specs.declared.refusal.Refusal.TheVariants as refusals
 use Rattle.delta_cli.specs.Lines.{name_text}
 
--- The words ask for this command. Numbers are decimal, without sign and leading zeros; the directory doesn't begin with `-`.
+-- The words ask for this command. Numbers are decimal, without sign and leading zeros; a directory doesn't begin
+-- with `-`.
 abbrev pub Asks : List (List ℕ) → Command → Type 0
 Asks words commands.Replay = words ≡ codes "replay" ∷ []
 Asks words commands.Nquads = words ≡ codes "nquads" ∷ []
 Asks words (commands.Gen patches) = (words ≡ codes "gen" ∷ decimal patches ∷ []) × (patches ≤ 65536)
 Asks words (commands.Emit patches) = (words ≡ codes "emit" ∷ decimal patches ∷ []) × (patches ≤ 65536)
 Asks words (commands.Init dir slots) = (words ≡ codes "init" ∷ dir ∷ decimal slots ∷ []) × IsPlainWord dir × (1 ≤ slots) × (slots ≤ 16)
+Asks words (commands.Check dir) = (words ≡ codes "check" ∷ dir ∷ []) × IsPlainWord dir
 Asks words commands.Help = words ≡ codes "--help" ∷ []
 Asks words commands.Version = words ≡ codes "--version" ∷ []
 
@@ -43,6 +45,7 @@ positions_of names.Nquads = []
 positions_of names.Gen = codes "N" ∷ []
 positions_of names.Emit = codes "N" ∷ []
 positions_of names.Init = codes "DIR" ∷ codes "SLOTS" ∷ []
+positions_of names.Check = codes "DIR" ∷ []
 positions_of names.Help = []
 positions_of names.Version = []
 

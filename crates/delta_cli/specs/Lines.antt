@@ -11,6 +11,7 @@ use Rattle.rows_text.specs.declared.fault.RowKind.{RowKind}
 use Rattle.rows_text.specs.declared.fault.RowKind.TheVariants as rows
 use Rattle.patch_meaning.specs.declared.fault.PatchFault.{PatchFault}
 use Rattle.patch_meaning.specs.declared.fault.PatchFault.TheVariants as faults
+use Rattle.slot_checks.specs.Lines.{fault_line}
 use Rattle.delta_cli.specs.declared.name.Name.{Name}
 use Rattle.delta_cli.specs.declared.name.Name.TheVariants as names
 use Rattle.delta_cli.specs.declared.refusal.Refusal.{Refusal}
@@ -24,6 +25,7 @@ name_text names.Nquads = codes "nquads"
 name_text names.Gen = codes "gen"
 name_text names.Emit = codes "emit"
 name_text names.Init = codes "init"
+name_text names.Check = codes "check"
 name_text names.Help = codes "--help"
 name_text names.Version = codes "--version"
 
@@ -34,6 +36,7 @@ usage_text names.Nquads = codes "nquads"
 usage_text names.Gen = codes "gen N"
 usage_text names.Emit = codes "emit N"
 usage_text names.Init = codes "init DIR SLOTS"
+usage_text names.Check = codes "check DIR"
 usage_text names.Help = codes "--help"
 usage_text names.Version = codes "--version"
 
@@ -101,6 +104,7 @@ line_of refusals.TooLong = limit_line 268435456
 line_of refusals.InputFailed = codes "rdfdelta: input failed\n"
 line_of refusals.OutputFailed = codes "rdfdelta: output failed\n"
 line_of (refusals.NotEmpty file length) = codes "rdfdelta: refused: file " ++ (decimal file ++ (codes " not empty: " ++ (decimal length ++ 10 ∷ [])))
+line_of (refusals.File fault) = fault_line fault
 line_of refusals.DiskFailed = codes "rdfdelta: disk failed\n"
 line_of (refusals.Chain fault) = chain_line fault
 line_of refusals.OutOfMemory = out_of_memory_line
@@ -116,5 +120,6 @@ status_of refusals.InputFailed = 4
 status_of refusals.OutputFailed = 4
 status_of (refusals.NotEmpty file length) = 1
 status_of refusals.DiskFailed = 5
+status_of (refusals.File fault) = 9
 status_of (refusals.Chain fault) = 10
 status_of refusals.OutOfMemory = 8

@@ -3,8 +3,13 @@ use Rattle.std.specs.Prelude.{◌≡◌, ℕ, ◌+◌, List}
 use Rattle.delta_base.specs.Outside.{Rose}
 use Rattle.slot_files.specs.Files.{Files, IsInitial, StopsAt, SameBut, KeepsFull}
 use Rattle.stream_generator.specs.Generator.{stream_text}
-use Rattle.delta_cli.specs.Channels.{Channel, IsSilent, Tells, Writes}
-use Rattle.delta_cli.specs.Commands.{Asks, AsksNothing, RefusesWords}
+use Rattle.slot_checks.specs.Checks.{AreKept, IsReport, StopsAt as CheckStopsAt}
+use Rattle.slot_checks.specs.Lines.{lines_text}
+use Rattle.slot_checks.specs.declared.fault.CheckFault.{CheckFault}
+use Rattle.slot_checks.specs.declared.fault.CheckFault.TheVariants as checks
+use Rattle.slot_checks.specs.declared.lines.FileLine.{FileLine}
+use Rattle.delta_cli.specs.Channels.{Channel, HasFailed, IsSilent, Tells, Writes, WritesFront}
+use Rattle.delta_cli.specs.Commands.{Asks, RefusesWords}
 use Rattle.delta_cli.specs.Document.{IsShown}
 use Rattle.delta_cli.specs.Lines.{line_of, status_of, out_of_memory_line}
 use Rattle.delta_cli.specs.Results.{Reads, Prints, HasLines, HasCounts, StopsReplay, StopsNquads, StopsCounting, StopsWriting}
@@ -19,6 +24,16 @@ use Rattle.delta_cli.specs.declared.help.TheConstants.{HELP, VERSION}
 abbrev pub Spares : List ℕ → ℕ → Type 0 → Files → Files → Type 0
 Spares dir slots tells files files' = tells → KeepsFull dir files files' × SameBut dir 0 (slots + 1) files files'
 
+-- where the shelf tells its files, the report is that of a directory
+abbrev pub Reported : Type 0 → Files → List ℕ → List FileLine → Type 0
+Reported tells files dir report = tells → IsReport files dir report
+
+-- the end of a check that finds a fault
+abbrev pub check_refusal : CheckFault → Refusal
+check_refusal checks.Failed = refusals.DiskFailed
+check_refusal checks.OutOfMemory = refusals.OutOfMemory
+check_refusal fault = refusals.File fault
+
 -- what a command has done that ends with its result
 abbrev pub Does : Command → Type 0 → Told → Told → Type 0
 Does commands.Replay tells old new = Reads old.input new.input (Prints HasLines old.out new.out) × LeavesFiles old new
@@ -27,6 +42,8 @@ Does (commands.Gen patches) tells old new = Prints HasCounts old.out new.out (st
 Does (commands.Emit patches) tells old new = Writes old.out new.out (stream_text patches) × LeavesInput old new × LeavesFiles old new
 Does (commands.Init dir slots) tells old new =
     (tells → IsInitial dir slots old.files new.files) × Spares dir slots tells old.files new.files × LeavesInput old new × (new.out ≡ old.out)
+Does (commands.Check dir) tells old new =
+    ((report : List FileLine) × Reported tells old.files dir report × Writes old.out new.out (lines_text report)) × (tells → AreKept dir old.files new.files) × LeavesInput old new
 Does commands.Help tells old new = Writes old.out new.out HELP.now × LeavesInput old new × LeavesFiles old new
 Does commands.Version tells old new = Writes old.out new.out VERSION.now × LeavesInput old new × LeavesFiles old new
 
@@ -37,6 +54,15 @@ StopsInit dir slots tells files files' faults faults' refusals.DiskFailed = Rose
 StopsInit dir slots tells files files' faults faults' refusals.OutOfMemory = Unit {0}
 StopsInit dir slots tells files files' faults faults' other = ⊥
 
+-- why the files of a directory were not reported
+abbrev pub StopsCheck : List ℕ → Type 0 → Files → ℕ → ℕ → Channel → Channel → Refusal → Type 0
+StopsCheck dir tells files faults faults' out out' (refusals.File fault) = (tells → CheckStopsAt files dir fault) × IsSilent out out'
+StopsCheck dir tells files faults faults' out out' refusals.DiskFailed = Rose faults faults' × IsSilent out out'
+StopsCheck dir tells files faults faults' out out' refusals.OutputFailed =
+    HasFailed out out' × ((report : List FileLine) × Reported tells files dir report × WritesFront out out' (lines_text report))
+StopsCheck dir tells files faults faults' out out' refusals.OutOfMemory = IsSilent out out'
+StopsCheck dir tells files faults faults' out out' other = ⊥
+
 -- why a command ends without its result, and what it has done by then
 abbrev pub Stops : Command → Refusal → Type 0 → Told → Told → Type 0
 Stops commands.Replay refusal tells old new = StopsReplay refusal old.input new.input old.out new.out × LeavesFiles old new
@@ -45,6 +71,8 @@ Stops (commands.Gen patches) refusal tells old new = StopsCounting (stream_text 
 Stops (commands.Emit patches) refusal tells old new = StopsWriting (stream_text patches) refusal old.out new.out × LeavesInput old new × LeavesFiles old new
 Stops (commands.Init dir slots) refusal tells old new =
     StopsInit dir slots tells old.files new.files old.shelf_faults new.shelf_faults refusal × Spares dir slots tells old.files new.files × LeavesInput old new × (new.out ≡ old.out)
+Stops (commands.Check dir) refusal tells old new =
+    StopsCheck dir tells old.files old.shelf_faults new.shelf_faults old.out new.out refusal × (tells → AreKept dir old.files new.files) × LeavesInput old new
 Stops commands.Help refusal tells old new = StopsWriting HELP.now refusal old.out new.out × LeavesInput old new × LeavesFiles old new
 Stops commands.Version refusal tells old new = StopsWriting VERSION.now refusal old.out new.out × LeavesInput old new × LeavesFiles old new
 

@@ -20,6 +20,7 @@ pub enum Command {
     /// So many patches of the generator, written.
     Emit { patches: u32 },
     Init { dir: Text, slots: u8 },
+    Check { dir: Text },
     Help,
     Version,
 }
@@ -104,6 +105,9 @@ fn make(alloc: Global, name: Name, words: &[String]) -> Result<Command, Refusal>
             }),
             None => Err(Refusal::Usage(name)),
         },
+        (Name::Check, [_, dir]) => Ok(Command::Check {
+            dir: Text::from_str(alloc, dir.as_str())?,
+        }),
         _ => unreachable!(),
     }
 }

@@ -15,6 +15,7 @@ pub const HELP: &str = "rdfdelta: RDF datasets kept in step by chained patches
   gen N             make N patches by rule and replay them, print the counts
   emit N            print N patches made by rule
   init DIR SLOTS    make the files of a registry and of SLOTS logs in a directory
+  check DIR         open the files of a directory, print a line for each
   --help            print this
   --version         print the version
 ";

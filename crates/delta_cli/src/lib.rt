@@ -1,6 +1,7 @@
 //! The commands of `rdfdelta`.
 #![tactic(auto)]
 
+mod check;
 mod command;
 mod generate;
 mod help;
@@ -11,6 +12,8 @@ mod name;
 mod nquads;
 mod refusal;
 mod replay;
+#[cfg(test)]
+mod tests;
 mod tool;
 
 pub use command::Command;

@@ -10,6 +10,7 @@ use delta_base::{Id, OutOfMemory, id_text};
 use nquads_text::TextKind;
 use patch_meaning::PatchFault;
 use rows_text::RowKind;
+use slot_checks::fault_text;
 use std::alloc::Global;
 
 /// The line of a refusal.
@@ -28,6 +29,7 @@ pub fn line_of(alloc: Global, refusal: Refusal) -> Result<Vec<u8>, OutOfMemory>
         Refusal::InputFailed => line(alloc, b"rdfdelta: input failed\n"),
         Refusal::OutputFailed => line(alloc, b"rdfdelta: output failed\n"),
         Refusal::NotEmpty { file, length } => not_empty_line(alloc, file, length),
+        Refusal::File(fault) => fault_text(alloc, fault),
         Refusal::DiskFailed => line(alloc, b"rdfdelta: disk failed\n"),
         Refusal::Chain(fault) => chain_line(alloc, fault),
         Refusal::OutOfMemory => line(alloc, b"rdfdelta: out of memory\n"),

@@ -11,6 +11,7 @@ pub enum Name {
     Gen,
     Emit,
     Init,
+    Check,
     Help,
     Version,
 }
@@ -26,6 +27,7 @@ impl Name {
             "gen" => Some(Name::Gen),
             "emit" => Some(Name::Emit),
             "init" => Some(Name::Init),
+            "check" => Some(Name::Check),
             "--help" => Some(Name::Help),
             "--version" => Some(Name::Version),
             _ => None,
@@ -40,6 +42,7 @@ impl Name {
             Name::Replay | Name::Nquads | Name::Help | Name::Version => &[],
             Name::Gen | Name::Emit => &["N"],
             Name::Init => &["DIR", "SLOTS"],
+            Name::Check => &["DIR"],
         }
     }
 
@@ -53,6 +56,7 @@ impl Name {
             Name::Gen => b"gen N",
             Name::Emit => b"emit N",
             Name::Init => b"init DIR SLOTS",
+            Name::Check => b"check DIR",
             Name::Help => b"--help",
             Name::Version => b"--version",
         }

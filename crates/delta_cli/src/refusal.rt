@@ -11,6 +11,7 @@ use delta_base::{OutOfMemory, Sink};
 use nquads_text::TextKind;
 use patch_meaning::PatchFault;
 use sink_writing::write_all;
+use slot_checks::CheckFault;
 use std::alloc::Global;
 
 /// How a command ends without its result.
@@ -40,6 +41,8 @@ pub enum Refusal {
         file: u32,
         length: u64,
     },
+    /// A file isn't in its form.
+    File(CheckFault),
     DiskFailed,
     /// The patches of the stream are no chain.
     Chain(ChainFault),
@@ -83,6 +86,7 @@ fn status_of(refusal: Refusal) -> u8
         Refusal::InputFailed | Refusal::OutputFailed => 4,
         Refusal::DiskFailed => 5,
         Refusal::OutOfMemory => 8,
+        Refusal::File(_) => 9,
         Refusal::Chain(_) => 10,
     }
 }

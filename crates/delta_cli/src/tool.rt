@@ -5,6 +5,7 @@ ghost use Rattle.delta_cli.specs.Commands.{Asks, Fits};
 ghost use Rattle.delta_cli.specs.Told.{told};
 ghost use Rattle.delta_cli.specs.Tool.{Answers, Does, Stops};
 
+use crate::check::check;
 use crate::command::{Command, read_command};
 use crate::generate::{emit, generate};
 use crate::help::{HELP, VERSION, print};
@@ -63,6 +64,7 @@ fn run_command<S: Source, K: Sink, H: Shelf>(
         Command::Gen { patches } => generate(alloc, *patches, out),
         Command::Emit { patches } => emit(alloc, *patches, out),
         Command::Init { dir, slots } => init(alloc, dir, *slots, shelf),
+        Command::Check { dir } => check(alloc, dir, shelf, out),
         Command::Help => print(HELP, out),
         Command::Version => print(VERSION, out),
     }

@@ -1,6 +1,5 @@
 use Rattle.std.proofs.Common.{ap, sym, ◌∷◌, ◌∙◌}
-use Rattle.delta_cli.specs.Channels.{words_of}
-use Rattle.delta_cli.proofs.Words.{nameless, no_word, first_of_words}
+use Rattle.delta_cli.proofs.Words.{first_of_words}
 use Rattle.delta_cli.proofs.command.read_command.Goals as goal
 
 pub read_named-requires : goal.read_named-requires
