@@ -33,6 +33,7 @@ fn words_of(alloc: Global, words: &[&str]) -> Result<Vec<String>, Fail> {
 }
 
 /// What is run, and what it answers.
+#[derive(Clone, Copy)]
 struct Run<'a> {
     words: &'a [&'a str],
     text: &'a str,
