@@ -1,12 +1,4 @@
-pub mod Told
-pub mod Pieces
-pub mod Cut
-pub mod Rows
-pub mod Refused
-pub mod Draft
-pub mod Front
-pub mod Changed
-pub mod Taken
-pub mod Exact
-pub mod Tools
-pub mod Verdicts
+mod Answered
+mod Checked
+mod Printed
+mod Words

@@ -1,7 +1,8 @@
-pub mod Channel
-pub mod Patch
-pub mod Stream
-pub mod Reading
-pub mod Replay
+pub mod Channels
+pub mod Commands
 pub mod Document
+pub mod Lines
+pub mod Refusals
+pub mod Results
+pub mod Told
 pub mod Tool

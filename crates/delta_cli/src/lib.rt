@@ -1,19 +1,23 @@
 //! The commands of `rdfdelta`.
 #![tactic(auto)]
 
-mod channel;
-mod laws;
+mod check;
+mod command;
+mod generate;
+mod help;
+mod init;
+mod input;
 mod lines;
-mod patch;
+mod name;
+mod nquads;
+mod refusal;
 mod replay;
-mod report;
-mod show;
-mod stream;
 #[cfg(test)]
 mod tests;
 mod tool;
 
-pub use channel::STREAM_LIMIT;
-pub use laws::{one_place, one_status, one_stream, stops_exclude_streams};
-pub use report::{tell, tell_made};
+pub use command::Command;
+pub use help::{HELP, VERSION};
+pub use name::Name;
+pub use refusal::Refusal;
 pub use tool::run_tool;

@@ -1,115 +1,174 @@
-//! A dataset as the set of its lines, in the order of their bytes.
-ghost use Rattle.std.specs.Prelude.{◌≡◌, ◌+◌, ◌<◌, ◌≤◌, ◌++◌, ℕ, List, [], length, true, false, IfOk, OnOk, vec_len, vec_capacity};
-ghost use Rattle.std.specs.List.{AllByRecursion};
-ghost use Rattle.std.specs.Io.KnownBytes.{Appends};
-ghost use Rattle.delta_base.specs.Outside.{Rose};
-ghost use Rattle.rdf_terms.specs.Line.{line};
-ghost use Rattle.rdf_terms.specs.Dataset.{Dataset, apply, effect};
-ghost use Rattle.delta_cli.specs.Channel.{AppendsFront, AppendsFirst};
-ghost use Rattle.delta_cli.specs.Replay.{IsBuiltChange, AreLinesOf, joined};
+//! The lines on err.
+ghost use Rattle.std.specs.Prelude.{◌≡◌, ◌++◌, ◌∷◌, [], IfOk, OnOk, codes};
+ghost use Rattle.std.specs.Fmt.{decimal};
+ghost use Rattle.delta_cli.specs.Lines.{id_or_none, kind_text, row_kind_text, usage_text, place_line, limit_line, patch_line, chain_line, line_of};
 
-use crate::channel::write_all;
-use delta_base::{OutOfMemory, Sink};
-use nquads_documents::print_line;
-use rdf_terms::{Change, Quad};
+use crate::name::Name;
+use crate::refusal::Refusal;
+use chain_core::ChainFault;
+use delta_base::{Id, OutOfMemory, id_text};
+use nquads_text::TextKind;
+use patch_meaning::PatchFault;
+use rows_text::RowKind;
+use slot_checks::fault_text;
 use std::alloc::Global;
-use std::collections::BTreeSet;
 
-/// The lines of a dataset.
-pub type Lines = BTreeSet<Vec<u8>>;
-
-/// Makes the lines of a dataset those of the dataset after the changes.
-pub fn apply(alloc: Global, changes: &[Change], lines: &mut Lines) -> Result<(), OutOfMemory>
-    requires { AllByRecursion IsBuiltChange changes.now }
-    ensures { OnOk result ((d : Dataset) → AreLinesOf lines.old.keys d → AreLinesOf lines.new.keys (apply changes.now d)) }
+/// The line of a refusal.
+#[tactic(auto, unfolding(crate::specs::Lines::line_of))]
+pub fn line_of(alloc: Global, refusal: Refusal) -> Result<Vec<u8>, OutOfMemory>
+    ensures { IfOk result (λ text. text.items ≡ line_of refusal) }
 {
-    for change in changes {
-        apply_one(alloc, change, lines)?;
+    match refusal {
+        Refusal::UnknownCommand => line(alloc, b"rdfdelta: unknown command\n"),
+        Refusal::Usage(name) => usage_line(alloc, name),
+        Refusal::Stream { line, fault } => patch_line(alloc, line, fault),
+        Refusal::Document { line, at, kind } => {
+            place_line(alloc, line as u64, at as u64, kind_text(kind))
+        }
+        Refusal::TooLong => limit_line(alloc, 268_435_456),
+        Refusal::InputFailed => line(alloc, b"rdfdelta: input failed\n"),
+        Refusal::OutputFailed => line(alloc, b"rdfdelta: output failed\n"),
+        Refusal::NotEmpty { file, length } => not_empty_line(alloc, file, length),
+        Refusal::File(fault) => fault_text(alloc, fault),
+        Refusal::DiskFailed => line(alloc, b"rdfdelta: disk failed\n"),
+        Refusal::Chain(fault) => chain_line(alloc, fault),
+        Refusal::OutOfMemory => line(alloc, b"rdfdelta: out of memory\n"),
+    }
+}
+
+fn line(alloc: Global, text: &[u8]) -> Result<Vec<u8>, OutOfMemory>
+    ensures { IfOk result (λ line. line.items ≡ text.now) }
+{
+    Ok(Vec::from_slice(alloc, text)?)
+}
+
+fn usage_line(alloc: Global, name: Name) -> Result<Vec<u8>, OutOfMemory>
+    ensures { IfOk result (λ text. text.items ≡ codes "rdfdelta: usage: " ++ (usage_text name ++ 10 ∷ [])) }
+{
+    let mut text = Vec::from_slice(alloc, b"rdfdelta: usage: ")?;
+    text.extend_from_slice(name.usage())?;
+    text.push(b'\n')?;
+    Ok(text)
+}
+
+fn not_empty_line(alloc: Global, file: u32, length: u64) -> Result<Vec<u8>, OutOfMemory>
+    ensures { IfOk result (λ text. text.items ≡ codes "rdfdelta: refused: file " ++ (decimal file ++ (codes " not empty: " ++ (decimal length ++ 10 ∷ [])))) }
+{
+    let text = format!(in alloc; "rdfdelta: refused: file {file} not empty: {length}\n")?;
+    Ok(text.into_bytes())
+}
+
+fn limit_line(alloc: Global, limit: u64) -> Result<Vec<u8>, OutOfMemory>
+    ensures { IfOk result (λ text. text.items ≡ limit_line limit) }
+{
+    let text = format!(in alloc; "rdfdelta: input: too long: limit {limit}\n")?;
+    Ok(text.into_bytes())
+}
+
+fn place_line(alloc: Global, line: u64, at: u64, kind: &[u8]) -> Result<Vec<u8>, OutOfMemory>
+    ensures { IfOk result (λ text. text.items ≡ place_line line at kind.now) }
+{
+    let front = format!(in alloc; "rdfdelta: input: line {line} byte {at}: ")?;
+    let mut text = front.into_bytes();
+    text.extend_from_slice(kind)?;
+    text.push(b'\n')?;
+    Ok(text)
+}
+
+fn patch_line(alloc: Global, line: u64, fault: PatchFault) -> Result<Vec<u8>, OutOfMemory>
+    ensures { IfOk result (λ text. text.items ≡ patch_line line fault) }
+{
+    match fault {
+        PatchFault::Row { at, kind } => place_line(alloc, line, at, row_kind_text(kind)),
+        PatchFault::NoId { at } => place_line(alloc, line, at, b"NoId"),
+        PatchFault::TwoIds { at } => place_line(alloc, line, at, b"TwoIds"),
+        PatchFault::TwoPrevs { at } => place_line(alloc, line, at, b"TwoPrevs"),
+        PatchFault::BadId { at } => place_line(alloc, line, at, b"BadId"),
+        PatchFault::LateHeader { at } => place_line(alloc, line, at, b"LateHeader"),
+        PatchFault::Nested { at } => place_line(alloc, line, at, b"Nested"),
+        PatchFault::NotInBlock { at } => place_line(alloc, line, at, b"NotInBlock"),
+        PatchFault::OpenBlock { at } => place_line(alloc, line, at, b"OpenBlock"),
+        PatchFault::TooLong { limit, .. } => limit_line(alloc, limit),
+        PatchFault::OutOfMemory => self::line(alloc, b"rdfdelta: out of memory\n"),
+    }
+}
+
+fn row_kind_text(kind: RowKind) -> &'static [u8]
+    ensures { result.now ≡ row_kind_text kind }
+{
+    match kind {
+        RowKind::Common(kind) => kind_text(kind),
+        RowKind::UnknownCode => b"UnknownCode",
+        RowKind::WrongCount => b"WrongCount",
+        RowKind::TooLong => b"TooLong",
+    }
+}
+
+fn kind_text(kind: TextKind) -> &'static [u8]
+    ensures { result.now ≡ kind_text kind }
+{
+    match kind {
+        TextKind::NotUtf8 => b"NotUtf8",
+        TextKind::BadIri => b"BadIri",
+        TextKind::RelativeIri => b"RelativeIri",
+        TextKind::BadEscape => b"BadEscape",
+        TextKind::BadLabel => b"BadLabel",
+        TextKind::BadLang => b"BadLang",
+        TextKind::LangStringWithoutTag => b"LangStringWithoutTag",
+        TextKind::BadPosition => b"BadPosition",
+        TextKind::MissingDot => b"MissingDot",
+        TextKind::BadToken => b"BadToken",
+        TextKind::Truncated => b"Truncated",
+    }
+}
+
+fn chain_line(alloc: Global, fault: ChainFault) -> Result<Vec<u8>, OutOfMemory>
+    ensures { IfOk result (λ text. text.items ≡ chain_line fault) }
+{
+    match fault {
+        ChainFault::Diverged {
+            version,
+            have,
+            found,
+        } => diverged_line(alloc, version, have, found),
+        ChainFault::Repeated { id, version } => repeated_line(alloc, id, version),
+    }
+}
+
+fn diverged_line(
+    alloc: Global,
+    version: u32,
+    have: Option<Id>,
+    found: Option<Id>,
+) -> Result<Vec<u8>, OutOfMemory>
+    ensures { IfOk result (λ text. text.items ≡ chain_line (ChainFault.Diverged version have found)) }
+{
+    let front = format!(in alloc; "rdfdelta: diverged at version {version}: have ")?;
+    let mut text = front.into_bytes();
+    push_id(&mut text, have)?;
+    text.extend_from_slice(b", found ")?;
+    push_id(&mut text, found)?;
+    text.push(b'\n')?;
+    Ok(text)
+}
+
+fn repeated_line(alloc: Global, id: Id, version: u32) -> Result<Vec<u8>, OutOfMemory>
+    ensures { IfOk result (λ text. text.items ≡ chain_line (ChainFault.Repeated id version)) }
+{
+    let end = format!(in alloc; " at version {version}\n")?;
+    let mut text = Vec::from_slice(alloc, b"rdfdelta: repeated id ")?;
+    text.extend_from_slice(&id_text(id))?;
+    text.extend_from_slice(end.as_bytes())?;
+    Ok(text)
+}
+
+/// Appends an id, or `none`.
+pub fn push_id(text: &mut Vec<u8>, id: Option<Id>) -> Result<(), OutOfMemory>
+    ensures { OnOk result (text.new.items ≡ text.old.items ++ id_or_none id) }
+{
+    match id {
+        Some(id) => text.extend_from_slice(&id_text(id))?,
+        None => text.extend_from_slice(b"none")?,
     }
     Ok(())
-}
-
-// Makes the lines of a dataset those of the dataset after one change.
-fn apply_one(alloc: Global, change: &Change, lines: &mut Lines) -> Result<(), OutOfMemory>
-    requires { IsBuiltChange change.now }
-    ensures { OnOk result ((d : Dataset) → AreLinesOf lines.old.keys d → AreLinesOf lines.new.keys (effect change.now d)) }
-{
-    match change {
-        Change::Add(quad) => {
-            lines.insert(line_of(alloc, quad)?)?;
-            Ok(())
-        }
-        Change::Delete(quad) => {
-            let line = line_of(alloc, quad)?;
-            lines.remove(line.as_slice());
-            Ok(())
-        }
-        _ => Ok(()),
-    }
-}
-
-// The canonical line.
-fn line_of(alloc: Global, quad: &Quad) -> Result<Vec<u8>, OutOfMemory>
-    ensures { IfOk result (λ text. text.items ≡ line quad.now) }
-{
-    Ok(print_line(alloc, quad)?.into_vec())
-}
-
-/// How many bytes of lines are written at once.
-pub const PIECE: usize = 65_536;
-
-/// Writes the lines one after another, and says whether it could. The room takes a piece of them.
-pub fn write_lines<K: Sink>(out: &mut K, lines: &Lines, mut room: Vec<u8>) -> bool
-    requires empty { vec_len room ≡ 0 }
-    requires large { PIECE ≤ vec_capacity room }
-    ensures whole { result ≡ true → Appends (K.written out.old) (K.written out.new) (joined lines.now.keys) }
-    ensures front { AppendsFront (K.written out.old) (K.written out.new) (joined lines.now.keys) }
-    ensures failed { result ≡ false → Rose (K.faults out.old) (K.faults out.new) }
-{
-    for line in lines {
-        if !put(out, &mut room, line.as_slice()) {
-            return false;
-        }
-    }
-    write_all(out, room.as_slice())
-}
-
-/// Writes texts one after another, and says whether it could. The room takes a piece of them.
-pub fn write_texts<K: Sink>(out: &mut K, texts: &[Vec<u8>], mut room: Vec<u8>) -> bool
-    requires empty { vec_len room ≡ 0 }
-    requires large { PIECE ≤ vec_capacity room }
-    ensures whole { result ≡ true → Appends (K.written out.old) (K.written out.new) (joined texts.now) }
-    ensures front { AppendsFront (K.written out.old) (K.written out.new) (joined texts.now) }
-    ensures failed { result ≡ false → Rose (K.faults out.old) (K.faults out.new) }
-{
-    for text in texts {
-        if !put(out, &mut room, text.as_slice()) {
-            return false;
-        }
-    }
-    write_all(out, room.as_slice())
-}
-
-// Puts a line behind those in the room. Where there is no place for it, all are written.
-fn put<K: Sink>(out: &mut K, room: &mut Vec<u8>, line: &[u8]) -> bool
-    requires fits { vec_len room.old ≤ PIECE }
-    requires large { PIECE ≤ vec_capacity room.old }
-    ensures put { result ≡ true → AppendsFirst (K.written out.old) (K.written out.new) (room.old.items ++ line.now) room.new.items }
-    ensures front { result ≡ false → AppendsFront (K.written out.old) (K.written out.new) (room.old.items ++ line.now) }
-    ensures failed { result ≡ false → Rose (K.faults out.old) (K.faults out.new) }
-    ensures never_falls { K.faults out.old ≤ K.faults out.new }
-    ensures fits { vec_len room.new ≤ PIECE }
-    ensures large { PIECE ≤ vec_capacity room.new }
-{
-    if line.len() <= PIECE - room.len() {
-        match room.extend_from_slice(line) {
-            Ok(()) => return true,
-            Err(_) => unreachable!(),
-        }
-    }
-    if !write_all(out, room.as_slice()) {
-        return false;
-    }
-    room.clear();
-    write_all(out, line)
 }

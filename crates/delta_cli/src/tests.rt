@@ -1,9 +1,12 @@
 //! Runs of the tool on worked examples.
-use crate::run_tool;
-use delta_base::{Bytes, Calls, Failed, MemSink, MemSource, Sink};
+use crate::{HELP, VERSION, run_tool};
+use delta_base::{Bytes, Calls, MemSink, MemSource, Sink};
+use disk_model::MemShelf;
 use std::alloc::Global;
 use std::process::Abort;
 use std::test::Fail;
+
+const ID: &str = "H id <uuid:00000000-0000-4000-8000-000000000001> .\n";
 
 const P1: &str =
     "H id <uuid:00000000-0000-4000-8000-000000000001> .\nTX .\nA <http://e/s> <http://e/p> <http://e/o> .\nTC .\n";
@@ -11,13 +14,7 @@ const P1: &str =
 const P2: &str =
     "H id <uuid:00000000-0000-4000-8000-000000000002> .\nH prev <uuid:00000000-0000-4000-8000-000000000001> .\nTX .\nA <http://e/s> <http://e/p> <http://e/o2> .\nTC .\n";
 
-/// What a run answered and wrote.
-#[derive(Debug, Drop)]
-struct Ran {
-    status: u8,
-    out: Bytes,
-    err: Bytes,
-}
+const LINE: &str = "<http://e/s> <http://e/p> <http://e/o> .\n";
 
 fn calls(alloc: Global, number: Option<u64>) -> Result<Calls, Fail> {
     let mut calls = Calls::new(alloc);
@@ -27,46 +24,45 @@ fn calls(alloc: Global, number: Option<u64>) -> Result<Calls, Fail> {
     Ok(calls)
 }
 
-fn source(alloc: Global, text: &str, failing: Option<u64>) -> Result<MemSource, Fail> {
-    let content = Bytes::from_slice(alloc, text.as_bytes())?;
-    Ok(MemSource::new(content, 60, calls(alloc, failing)?))
-}
-
-fn words(alloc: Global, words: &[&str]) -> Result<Vec<String>, Fail> {
-    let mut all = Vec::new(alloc);
+fn words_of(alloc: Global, words: &[&str]) -> Result<Vec<String>, Fail> {
+    let mut made = Vec::new(alloc);
     for word in words {
-        all.push(String::from_str(alloc, word)?)?;
+        made.push(String::from_str(alloc, word)?)?;
     }
-    Ok(all)
+    Ok(made)
 }
 
-fn run(alloc: Global, named: &[&str], text: &str) -> Result<Ran, Fail> {
-    let mut input = source(alloc, text, None)?;
-    let mut out = MemSink::new(alloc, calls(alloc, None)?);
-    let mut err = MemSink::new(alloc, calls(alloc, None)?);
-    let status = run_tool(alloc, &words(alloc, named)?, &mut input, &mut out, &mut err);
-    Ok(Ran {
-        status,
-        out: Bytes::from_slice(alloc, out.written())?,
-        err: Bytes::from_slice(alloc, err.written())?,
-    })
+/// What is run, and what it answers.
+#[derive(Clone, Copy)]
+struct Run<'a> {
+    words: &'a [&'a str],
+    text: &'a str,
+    status: u8,
+    out: &'a str,
+    err: &'a str,
 }
 
-/// Runs the tool, and looks at the status and at what was written.
-fn expect(
+/// Runs the tool on a shelf, and looks at the status and at what was written.
+fn expect_on(
     rt: &impl Abort,
     alloc: Global,
-    named: &[&str],
-    text: &str,
-    status: u8,
-    out: &str,
-    err: &str,
+    shelf: &mut MemShelf,
+    run: &Run<'_>,
 ) -> Result<(), Fail> {
-    let ran = run(alloc, named, text)?;
-    assert_eq!(rt; ran.status, status, "at {text}");
-    assert_eq!(rt; ran.out.as_slice(), out.as_bytes(), "at {text}");
-    assert_eq!(rt; ran.err.as_slice(), err.as_bytes(), "at {text}");
+    let content = Bytes::from_slice(alloc, run.text.as_bytes())?;
+    let mut input = MemSource::new(content, 60, Calls::new(alloc));
+    let mut out = MemSink::new(alloc, Calls::new(alloc));
+    let mut err = MemSink::new(alloc, Calls::new(alloc));
+    let words = words_of(alloc, run.words)?;
+    let status = run_tool(alloc, &words, &mut input, &mut out, &mut err, shelf);
+    assert_eq!(rt; status, run.status, "at {}", run.text);
+    assert_eq!(rt; out.written(), run.out.as_bytes(), "at {}", run.text);
+    assert_eq!(rt; err.written(), run.err.as_bytes(), "at {}", run.text);
     Ok(())
+}
+
+fn expect(rt: &impl Abort, alloc: Global, run: &Run<'_>) -> Result<(), Fail> {
+    expect_on(rt, alloc, &mut MemShelf::new(alloc, Calls::new(alloc)), run)
 }
 
 /// Runs `replay` on parts of a stream, one behind another.
@@ -82,245 +78,299 @@ fn replays(
     for part in parts {
         text.push_str(part)?;
     }
-    expect(rt, alloc, &["replay"], text.as_str(), status, out, err)
-}
-
-#[test]
-fn a_patch_prints_its_lines(rt: HostRuntime) -> Result<(), Fail> {
-    replays(
-        &rt,
-        rt.alloc(),
-        &[P1],
-        0,
-        "<http://e/s> <http://e/p> <http://e/o> .\n",
-        "",
+    expect(
+        rt,
+        alloc,
+        &Run {
+            words: &["replay"],
+            text: text.as_str(),
+            status,
+            out,
+            err,
+        },
     )
 }
 
 #[test]
-fn the_empty_stream_prints_nothing(rt: HostRuntime) -> Result<(), Fail> {
-    replays(&rt, rt.alloc(), &[], 0, "", "")
-}
-
-#[test]
-fn a_chain_of_two_prints_the_lines_of_both(rt: HostRuntime) -> Result<(), Fail> {
-    let lines =
+fn streams_print_the_lines_of_their_datasets(rt: HostRuntime) -> Result<(), Fail> {
+    let alloc = rt.alloc();
+    replays(&rt, alloc, &[], 0, "", "")?;
+    replays(&rt, alloc, &[P1], 0, LINE, "")?;
+    let both =
         "<http://e/s> <http://e/p> <http://e/o2> .\n<http://e/s> <http://e/p> <http://e/o> .\n";
-    replays(&rt, rt.alloc(), &[P1, P2], 0, lines, "")
-}
-
-#[test]
-fn a_literal_is_not_built(rt: HostRuntime) -> Result<(), Fail> {
-    let text =
-        "H id <uuid:00000000-0000-4000-8000-000000000001> .\nTX .\nA <http://e/s> <http://e/p> \"x\" .\nTC .\n";
-    replays(
-        &rt,
-        rt.alloc(),
-        &[text],
-        3,
-        "",
-        "rdfdelta: input: line 3 byte 56: NotBuilt\n",
-    )
-}
-
-#[test]
-fn a_quad_that_is_added_again_is_printed_once(rt: HostRuntime) -> Result<(), Fail> {
-    let id = "H id <uuid:00000000-0000-4000-8000-000000000001> .\n";
+    replays(&rt, alloc, &[P1, P2], 0, both, "")?;
     let add = "A <http://e/s> <http://e/p> <http://e/o> .\n";
     let delete = "D <http://e/s> <http://e/p> <http://e/o> .\n";
+    replays(&rt, alloc, &[ID, add, delete, add, add], 0, LINE, "")?;
+    let aborted = "TX . A <http://e/s> <http://e/p> \"x\"@EN-gb _:a. TA .\n";
     replays(
         &rt,
-        rt.alloc(),
-        &[id, add, delete, add, add],
+        alloc,
+        &[ID, aborted, "# c\nPA ex <http://e/> ."],
         0,
-        "<http://e/s> <http://e/p> <http://e/o> .\n",
         "",
+        "",
+    )?;
+    let kept = "TX . A <http://e/s> <http://e/p> \"x\"@EN-gb _:a. TC .\n";
+    let line = "<http://e/s> <http://e/p> \"x\"@en-gb _:a .\n";
+    replays(&rt, alloc, &[ID, kept], 0, line, "")
+}
+
+#[test]
+fn the_first_fault_of_a_stream_is_told(rt: HostRuntime) -> Result<(), Fail> {
+    for (parts, err) in [
+        (
+            [ID, "TX .\n"],
+            "rdfdelta: input: line 3 byte 56: OpenBlock\n",
+        ),
+        (
+            [ID, "TX .\nTX .\n"],
+            "rdfdelta: input: line 3 byte 56: Nested\n",
+        ),
+        (
+            ["TX .\n", "TC .\n"],
+            "rdfdelta: input: line 3 byte 10: NoId\n",
+        ),
+        (
+            ["H id <uuid:x> .\n", ""],
+            "rdfdelta: input: line 1 byte 0: BadId\n",
+        ),
+        (
+            ["h id <uuid:x> .\n", ""],
+            "rdfdelta: input: line 1 byte 0: UnknownCode\n",
+        ),
+        (
+            [ID, "A <http://e/s> <http://e/p> .\n"],
+            "rdfdelta: input: line 2 byte 79: WrongCount\n",
+        ),
+        (
+            [P1, "TA .\n"],
+            "rdfdelta: input: line 5 byte 104: NotInBlock\n",
+        ),
+    ] {
+        replays(&rt, rt.alloc(), &parts, 3, "", err)?;
+    }
+    Ok(())
+}
+
+#[test]
+fn the_chain_is_tested_behind_the_grammar(rt: HostRuntime) -> Result<(), Fail> {
+    let alloc = rt.alloc();
+    let behind_none =
+        "rdfdelta: diverged at version 0: have none, found 00000000-0000-4000-8000-000000000001\n";
+    replays(&rt, alloc, &[P2], 10, "", behind_none)?;
+    let again =
+        "rdfdelta: diverged at version 1: have 00000000-0000-4000-8000-000000000001, found none\n";
+    replays(&rt, alloc, &[P1, P1], 10, "", again)?;
+    let third =
+        "H id <uuid:00000000-0000-4000-8000-000000000001> .\nH prev <uuid:00000000-0000-4000-8000-000000000002> .\n";
+    let repeated = "rdfdelta: repeated id 00000000-0000-4000-8000-000000000001 at version 1\n";
+    replays(&rt, alloc, &[P1, P2, third], 10, "", repeated)?;
+    let grammar = "rdfdelta: input: line 9 byte 208: NotInBlock\n";
+    replays(&rt, alloc, &[P1, P1, "TA .\n"], 3, "", grammar)
+}
+
+/// Runs a command without input.
+fn runs(
+    rt: &impl Abort,
+    alloc: Global,
+    words: &[&str],
+    status: u8,
+    out: &str,
+    err: &str,
+) -> Result<(), Fail> {
+    expect(
+        rt,
+        alloc,
+        &Run {
+            words,
+            text: "",
+            status,
+            out,
+            err,
+        },
     )
 }
 
 #[test]
 fn other_words_are_refused(rt: HostRuntime) -> Result<(), Fail> {
-    expect(
-        &rt,
-        rt.alloc(),
-        &[],
-        P1,
-        2,
-        "",
-        "rdfdelta: unknown command\n",
-    )?;
-    expect(
-        &rt,
-        rt.alloc(),
-        &["reply"],
-        P1,
-        2,
-        "",
-        "rdfdelta: unknown command\n",
-    )?;
-    expect(
-        &rt,
-        rt.alloc(),
-        &["replay", "all"],
-        P1,
-        2,
-        "",
-        "rdfdelta: usage: replay\n",
-    )?;
-    expect(
-        &rt,
-        rt.alloc(),
-        &["nquads", "all"],
-        P1,
-        2,
-        "",
-        "rdfdelta: usage: nquads\n",
-    )
-}
-
-/// Runs `nquads` on a text that is a document.
-fn shows(rt: &impl Abort, alloc: Global, text: &str, out: &str) -> Result<(), Fail> {
-    expect(rt, alloc, &["nquads"], text, 0, out, "")
-}
-
-/// Runs `nquads` on a text that is none.
-fn finds(rt: &impl Abort, alloc: Global, text: &str, err: &str) -> Result<(), Fail> {
-    expect(rt, alloc, &["nquads"], text, 3, "", err)
-}
-
-#[test]
-fn a_document_is_shown_in_canonical_form(rt: HostRuntime) -> Result<(), Fail> {
     let alloc = rt.alloc();
-    shows(&rt, alloc, "", "")?;
-    let text = "# c\n\n_:a.b<http://e/p><http://e/o>. # d";
-    shows(&rt, alloc, text, "_:a.b <http://e/p> <http://e/o> .\n")?;
-    let text =
-        "<http://e/s> <http://e/p> \"\\u0041\\n\\\"\"^^<http://www.w3.org/2001/XMLSchema#string> .";
-    shows(
-        &rt,
-        alloc,
-        text,
-        "<http://e/s> <http://e/p> \"A\\n\\\"\" .\n",
-    )?;
-    let text = "_:b <http://e/p> _:b .\n_:a <http://e/p> _:a .\n_:b <http://e/p> _:b .\n";
-    shows(
-        &rt,
-        alloc,
-        text,
-        "_:a <http://e/p> _:a .\n_:b <http://e/p> _:b .\n",
-    )
-}
-
-#[test]
-fn the_first_fault_of_a_document_is_told(rt: HostRuntime) -> Result<(), Fail> {
-    let alloc = rt.alloc();
-    let told = "rdfdelta: input: line 1 byte 25: Truncated\n";
-    finds(&rt, alloc, "<http://e/s> <http://e/p>", told)?;
-    let told = "rdfdelta: input: line 1 byte 25: BadToken\n";
-    finds(&rt, alloc, "<http://e/s> <http://e/p>\n", told)?;
-    let told = "rdfdelta: input: line 1 byte 0: BadPosition\n";
-    finds(&rt, alloc, "\"x\" <http://e/p> <http://e/o> .", told)?;
-    let told = "rdfdelta: input: line 1 byte 0: RelativeIri\n";
-    finds(&rt, alloc, "<a> <http://e/p> <http://e/o> .", told)?;
-    let told = "rdfdelta: input: line 1 byte 10: BadIri\n";
-    finds(
-        &rt,
-        alloc,
-        "<http://e/\\u0020> <http://e/p> <http://e/o> .",
-        told,
-    )?;
-    let told = "rdfdelta: input: line 2 byte 29: BadEscape\n";
-    finds(
-        &rt,
-        alloc,
-        "#\n<http://e/s> <http://e/p> \"\\uD800\" .",
-        told,
-    )
-}
-
-#[test]
-fn a_patch_behind_nothing_diverges(rt: HostRuntime) -> Result<(), Fail> {
-    let line =
-        "rdfdelta: diverged at version 0: have none, found 00000000-0000-4000-8000-000000000001\n";
-    replays(&rt, rt.alloc(), &[P2], 10, "", line)
-}
-
-#[test]
-fn a_second_first_patch_diverges(rt: HostRuntime) -> Result<(), Fail> {
-    let line =
-        "rdfdelta: diverged at version 1: have 00000000-0000-4000-8000-000000000001, found none\n";
-    replays(&rt, rt.alloc(), &[P1, P1], 10, "", line)
-}
-
-#[test]
-fn a_third_patch_repeats_the_first_id(rt: HostRuntime) -> Result<(), Fail> {
-    let third =
-        "H id <uuid:00000000-0000-4000-8000-000000000001> .\nH prev <uuid:00000000-0000-4000-8000-000000000002> .\n";
-    let line = "rdfdelta: repeated id 00000000-0000-4000-8000-000000000001 at version 1\n";
-    replays(&rt, rt.alloc(), &[P1, P2, third], 10, "", line)
-}
-
-#[test]
-fn the_grammar_comes_before_the_chain(rt: HostRuntime) -> Result<(), Fail> {
-    replays(
-        &rt,
-        rt.alloc(),
-        &[P1, P1, "TA .\n"],
-        3,
-        "",
-        "rdfdelta: input: line 9 byte 208: NotBuilt\n",
-    )
-}
-
-#[test]
-fn an_open_block_ends_at_the_length(rt: HostRuntime) -> Result<(), Fail> {
-    let text = "H id <uuid:00000000-0000-4000-8000-000000000001> .\nTX .\n";
-    replays(
-        &rt,
-        rt.alloc(),
-        &[text],
-        3,
-        "",
-        "rdfdelta: input: line 3 byte 56: NotBuilt\n",
-    )
-}
-
-#[test]
-fn a_source_fails_in_mid_stream(rt: HostRuntime) -> Result<(), Fail> {
-    let alloc = rt.alloc();
-    let mut input = source(alloc, P1, Some(1))?;
-    let mut out = MemSink::new(alloc, calls(alloc, None)?);
-    let mut err = MemSink::new(alloc, calls(alloc, None)?);
-    let named = words(alloc, &["replay"])?;
-    let status = run_tool(alloc, &named, &mut input, &mut out, &mut err);
-    assert_eq!(rt; status, 4);
-    assert_eq!(rt; out.written(), b"".as_slice());
-    assert_eq!(rt; err.written(), b"rdfdelta: input failed\n".as_slice());
+    for (words, err) in [
+        ([].as_slice(), "rdfdelta: unknown command\n"),
+        (&["reply"], "rdfdelta: unknown command\n"),
+        (&["replay", "all"], "rdfdelta: usage: replay\n"),
+        (&["nquads", "-v"], "rdfdelta: usage: nquads\n"),
+        (&["gen", "65537"], "rdfdelta: usage: gen N\n"),
+        (&["gen", "01"], "rdfdelta: usage: gen N\n"),
+        (&["gen"], "rdfdelta: usage: gen N\n"),
+        (&["gen", "1", "2"], "rdfdelta: usage: gen N\n"),
+        (&["emit", "+1"], "rdfdelta: usage: emit N\n"),
+        (&["init", "d", "0"], "rdfdelta: usage: init DIR SLOTS\n"),
+        (&["init", "d", "17"], "rdfdelta: usage: init DIR SLOTS\n"),
+        (&["init", "-d", "2"], "rdfdelta: usage: init DIR SLOTS\n"),
+        (&["check"], "rdfdelta: usage: check DIR\n"),
+        (&["--help", "me"], "rdfdelta: usage: --help\n"),
+    ] {
+        runs(&rt, alloc, words, 2, "", err)?;
+    }
     Ok(())
 }
 
 #[test]
-fn a_sink_fails(rt: HostRuntime) -> Result<(), Fail> {
+fn help_and_version_are_printed(rt: HostRuntime) -> Result<(), Fail> {
+    runs(&rt, rt.alloc(), &["--help"], 0, HELP, "")?;
+    runs(&rt, rt.alloc(), &["--version"], 0, VERSION, "")
+}
+
+#[test]
+fn the_generator_is_counted_and_printed(rt: HostRuntime) -> Result<(), Fail> {
     let alloc = rt.alloc();
-    let mut input = source(alloc, P1, None)?;
-    let mut out = MemSink::new(alloc, calls(alloc, Some(0))?);
-    let mut err = MemSink::new(alloc, calls(alloc, None)?);
-    let named = words(alloc, &["replay"])?;
-    let status = run_tool(alloc, &named, &mut input, &mut out, &mut err);
-    assert_eq!(rt; status, 4);
-    assert_eq!(rt; err.written(), b"rdfdelta: output failed\n".as_slice());
+    runs(
+        &rt,
+        alloc,
+        &["gen", "0"],
+        0,
+        "patches 0 quads 0 head none\n",
+        "",
+    )?;
+    let ten = "patches 10 quads 7 head 00000000-0000-4000-8000-00000000000a\n";
+    runs(&rt, alloc, &["gen", "10"], 0, ten, "")?;
+    let first =
+        "H id <uuid:00000000-0000-4000-8000-000000000001> .\nTX .\nA <http://g/s1> <http://g/p1> \"1\" .\nTC .\n";
+    runs(&rt, alloc, &["emit", "1"], 0, first, "")?;
+    runs(&rt, alloc, &["emit", "0"], 0, "", "")
+}
+
+#[test]
+fn documents_are_shown_or_their_fault_is_told(rt: HostRuntime) -> Result<(), Fail> {
+    for (text, status, out, err) in [
+        ("", 0, "", ""),
+        (
+            "# c\n\n_:a.b<http://e/p><http://e/o>. # d",
+            0,
+            "_:a.b <http://e/p> <http://e/o> .\n",
+            "",
+        ),
+        (
+            "_:b <http://e/p> _:b .\n_:a <http://e/p> _:a .\n_:b <http://e/p> _:b .\n",
+            0,
+            "_:a <http://e/p> _:a .\n_:b <http://e/p> _:b .\n",
+            "",
+        ),
+        (
+            "<http://e/s> <http://e/p>",
+            3,
+            "",
+            "rdfdelta: input: line 1 byte 25: Truncated\n",
+        ),
+        (
+            "#\n<http://e/s> <http://e/p> \"\\uD800\" .",
+            3,
+            "",
+            "rdfdelta: input: line 2 byte 29: BadEscape\n",
+        ),
+    ] {
+        let words = ["nquads"];
+        expect(
+            &rt,
+            rt.alloc(),
+            &Run {
+                words: &words,
+                text,
+                status,
+                out,
+                err,
+            },
+        )?;
+    }
     Ok(())
 }
 
 #[test]
-fn an_err_that_fails_changes_no_status(rt: HostRuntime) -> Result<(), Fail> {
+fn files_are_made_once_and_checked(rt: HostRuntime) -> Result<(), Fail> {
     let alloc = rt.alloc();
-    let mut input = source(alloc, P2, None)?;
-    let mut out = MemSink::new(alloc, calls(alloc, None)?);
-    let mut err = MemSink::new(alloc, calls(alloc, Some(0))?);
-    let named = words(alloc, &["replay"])?;
-    let status = run_tool(alloc, &named, &mut input, &mut out, &mut err);
-    assert_eq!(rt; status, 10);
-    assert_eq!(rt; err.written(), b"".as_slice());
+    let mut shelf = MemShelf::new(alloc, Calls::new(alloc));
+    let report = "file 0 records 1\nfile 1 patches 0 head none\nfile 2 patches 0 head none\n";
+    let init = Run {
+        words: &["init", "d", "2"],
+        text: "",
+        status: 0,
+        out: "",
+        err: "",
+    };
+    expect_on(&rt, alloc, &mut shelf, &init)?;
+    let again = Run {
+        words: &["init", "d", "2"],
+        text: "",
+        status: 1,
+        out: "",
+        err: "rdfdelta: refused: file 1 not empty: 9\n",
+    };
+    expect_on(&rt, alloc, &mut shelf, &again)?;
+    let check = Run {
+        words: &["check", "d"],
+        text: "",
+        status: 0,
+        out: report,
+        err: "",
+    };
+    expect_on(&rt, alloc, &mut shelf, &check)?;
+    let other = Run {
+        words: &["check", "other"],
+        text: "",
+        status: 9,
+        out: "",
+        err: "rdfdelta: file 0: byte 0: damaged\n",
+    };
+    expect_on(&rt, alloc, &mut shelf, &other)
+}
+
+/// Runs `replay` where a call of the input, of out or of err fails.
+fn fails(
+    rt: &impl Abort,
+    alloc: Global,
+    failing: [Option<u64>; 3],
+    status: u8,
+    err: &str,
+) -> Result<(), Fail> {
+    let [of_input, of_out, of_err] = failing;
+    let content = Bytes::from_slice(alloc, P1.as_bytes())?;
+    let mut input = MemSource::new(content, 60, calls(alloc, of_input)?);
+    let mut out = MemSink::new(alloc, calls(alloc, of_out)?);
+    let mut told = MemSink::new(alloc, calls(alloc, of_err)?);
+    let mut shelf = MemShelf::new(alloc, Calls::new(alloc));
+    let words = words_of(alloc, &["replay"])?;
+    let answered = run_tool(alloc, &words, &mut input, &mut out, &mut told, &mut shelf);
+    assert_eq!(rt; answered, status);
+    assert_eq!(rt; told.written(), err.as_bytes());
     Ok(())
+}
+
+#[test]
+fn what_fails_is_told(rt: HostRuntime) -> Result<(), Fail> {
+    let alloc = rt.alloc();
+    fails(
+        &rt,
+        alloc,
+        [Some(1), None, None],
+        4,
+        "rdfdelta: input failed\n",
+    )?;
+    fails(
+        &rt,
+        alloc,
+        [None, Some(0), None],
+        4,
+        "rdfdelta: output failed\n",
+    )?;
+    fails(&rt, alloc, [Some(0), None, Some(0)], 4, "")?;
+    let mut shelf = MemShelf::new(alloc, calls(alloc, Some(0))?);
+    let init = Run {
+        words: &["init", "d", "1"],
+        text: "",
+        status: 5,
+        out: "",
+        err: "rdfdelta: disk failed\n",
+    };
+    expect_on(&rt, alloc, &mut shelf, &init)
 }

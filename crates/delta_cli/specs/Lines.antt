@@ -1,0 +1,125 @@
+-- The line on err and the status of each way in which a command ends without its result.
+use Rattle.std.specs.Prelude.{ℕ, List, [], ◌∷◌, ◌++◌, Option, None, Some, codes}
+use Rattle.std.specs.Fmt.{decimal}
+use Rattle.delta_base.specs.declared.id.Id.{Id}
+use Rattle.delta_base.specs.Ids.{text_of}
+use Rattle.chain_core.specs.declared.testing.ChainFault.{ChainFault}
+use Rattle.chain_core.specs.declared.testing.ChainFault.TheVariants as chains
+use Rattle.nquads_text.specs.declared.fault.TextKind.{TextKind}
+use Rattle.nquads_text.specs.declared.fault.TextKind.TheVariants as kinds
+use Rattle.rows_text.specs.declared.fault.RowKind.{RowKind}
+use Rattle.rows_text.specs.declared.fault.RowKind.TheVariants as rows
+use Rattle.patch_meaning.specs.declared.fault.PatchFault.{PatchFault}
+use Rattle.patch_meaning.specs.declared.fault.PatchFault.TheVariants as faults
+use Rattle.slot_checks.specs.Lines.{fault_line}
+use Rattle.delta_cli.specs.declared.name.Name.{Name}
+use Rattle.delta_cli.specs.declared.name.Name.TheVariants as names
+use Rattle.delta_cli.specs.declared.refusal.Refusal.{Refusal}
+use Rattle.delta_cli.specs.declared.refusal.Refusal.TheVariants as refusals
+
+-- ---- names
+
+abbrev pub name_text : Name → List ℕ
+name_text names.Replay = codes "replay"
+name_text names.Nquads = codes "nquads"
+name_text names.Gen = codes "gen"
+name_text names.Emit = codes "emit"
+name_text names.Init = codes "init"
+name_text names.Check = codes "check"
+name_text names.Help = codes "--help"
+name_text names.Version = codes "--version"
+
+-- a command's words
+abbrev pub usage_text : Name → List ℕ
+usage_text names.Replay = codes "replay"
+usage_text names.Nquads = codes "nquads"
+usage_text names.Gen = codes "gen N"
+usage_text names.Emit = codes "emit N"
+usage_text names.Init = codes "init DIR SLOTS"
+usage_text names.Check = codes "check DIR"
+usage_text names.Help = codes "--help"
+usage_text names.Version = codes "--version"
+
+abbrev pub kind_text : TextKind → List ℕ
+kind_text kinds.NotUtf8 = codes "NotUtf8"
+kind_text kinds.BadIri = codes "BadIri"
+kind_text kinds.RelativeIri = codes "RelativeIri"
+kind_text kinds.BadEscape = codes "BadEscape"
+kind_text kinds.BadLabel = codes "BadLabel"
+kind_text kinds.BadLang = codes "BadLang"
+kind_text kinds.LangStringWithoutTag = codes "LangStringWithoutTag"
+kind_text kinds.BadPosition = codes "BadPosition"
+kind_text kinds.MissingDot = codes "MissingDot"
+kind_text kinds.BadToken = codes "BadToken"
+kind_text kinds.Truncated = codes "Truncated"
+
+abbrev pub row_kind_text : RowKind → List ℕ
+row_kind_text (rows.Common kind) = kind_text kind
+row_kind_text rows.UnknownCode = codes "UnknownCode"
+row_kind_text rows.WrongCount = codes "WrongCount"
+row_kind_text rows.TooLong = codes "TooLong"
+
+-- an id in the hyphenated form, or `none`
+abbrev pub id_or_none : Option Id → List ℕ
+id_or_none None = codes "none"
+id_or_none (Some id) = text_of id.0
+
+-- ---- lines
+
+-- a fault of the input at a place, whose line is counted from 1
+abbrev pub place_line : ℕ → ℕ → List ℕ → List ℕ
+place_line line at kind = codes "rdfdelta: input: line " ++ (decimal line ++ (codes " byte " ++ (decimal at ++ (codes ": " ++ (kind ++ 10 ∷ [])))))
+
+abbrev pub limit_line : ℕ → List ℕ
+limit_line limit = codes "rdfdelta: input: too long: limit " ++ (decimal limit ++ 10 ∷ [])
+
+abbrev pub out_of_memory_line : List ℕ
+out_of_memory_line = codes "rdfdelta: out of memory\n"
+
+abbrev pub patch_line : ℕ → PatchFault → List ℕ
+patch_line line (faults.Row at kind) = place_line line at (row_kind_text kind)
+patch_line line (faults.NoId at) = place_line line at (codes "NoId")
+patch_line line (faults.TwoIds at) = place_line line at (codes "TwoIds")
+patch_line line (faults.TwoPrevs at) = place_line line at (codes "TwoPrevs")
+patch_line line (faults.BadId at) = place_line line at (codes "BadId")
+patch_line line (faults.LateHeader at) = place_line line at (codes "LateHeader")
+patch_line line (faults.Nested at) = place_line line at (codes "Nested")
+patch_line line (faults.NotInBlock at) = place_line line at (codes "NotInBlock")
+patch_line line (faults.OpenBlock at) = place_line line at (codes "OpenBlock")
+patch_line line (faults.TooLong length limit) = limit_line limit
+patch_line line faults.OutOfMemory = out_of_memory_line
+
+abbrev pub chain_line : ChainFault → List ℕ
+chain_line (chains.Diverged version have found) =
+    codes "rdfdelta: diverged at version " ++ (decimal version ++ (codes ": have " ++ (id_or_none have ++ (codes ", found " ++ (id_or_none found ++ 10 ∷ [])))))
+chain_line (chains.Repeated id version) = codes "rdfdelta: repeated id " ++ (text_of id.0 ++ (codes " at version " ++ (decimal version ++ 10 ∷ [])))
+
+-- the line on err
+unfoldable pub line_of : Refusal → List ℕ
+line_of refusals.UnknownCommand = codes "rdfdelta: unknown command\n"
+line_of (refusals.Usage name) = codes "rdfdelta: usage: " ++ (usage_text name ++ 10 ∷ [])
+line_of (refusals.Stream line fault) = patch_line line fault
+line_of (refusals.Document line at kind) = place_line line at (kind_text kind)
+line_of refusals.TooLong = limit_line 268435456
+line_of refusals.InputFailed = codes "rdfdelta: input failed\n"
+line_of refusals.OutputFailed = codes "rdfdelta: output failed\n"
+line_of (refusals.NotEmpty file length) = codes "rdfdelta: refused: file " ++ (decimal file ++ (codes " not empty: " ++ (decimal length ++ 10 ∷ [])))
+line_of (refusals.File fault) = fault_line fault
+line_of refusals.DiskFailed = codes "rdfdelta: disk failed\n"
+line_of (refusals.Chain fault) = chain_line fault
+line_of refusals.OutOfMemory = out_of_memory_line
+
+-- the status
+abbrev pub status_of : Refusal → ℕ
+status_of refusals.UnknownCommand = 2
+status_of (refusals.Usage name) = 2
+status_of (refusals.Stream line fault) = 3
+status_of (refusals.Document line at kind) = 3
+status_of refusals.TooLong = 3
+status_of refusals.InputFailed = 4
+status_of refusals.OutputFailed = 4
+status_of (refusals.NotEmpty file length) = 1
+status_of refusals.DiskFailed = 5
+status_of (refusals.File fault) = 9
+status_of (refusals.Chain fault) = 10
+status_of refusals.OutOfMemory = 8

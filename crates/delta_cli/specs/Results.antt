@@ -1,0 +1,121 @@
+-- What commands print of a text, or why they don't.
+use Rattle.std.specs.Prelude.{◌≡◌, ℕ, ◌<◌, List, [], ◌∷◌, ◌++◌, length, Option, None, codes}
+use Rattle.std.specs.Fmt.{decimal}
+use Rattle.delta_base.specs.declared.id.Id.{Id}
+use Rattle.rdf_terms.specs.Line.{lines}
+use Rattle.chain_core.specs.Breaks.{last_or}
+use Rattle.chain_core.specs.Links.{IsChain}
+use Rattle.patch_meaning.specs.Patch.{Meaning}
+use Rattle.patch_meaning.specs.Replay.{links_of, replay}
+use Rattle.patch_meaning.specs.Stream.{IsStream}
+use Rattle.stream_replay.specs.Places.{IsFaulty}
+use Rattle.stream_replay.specs.Source.{Reads as ReadsBytes, IsTooLong, IsUnchained, stream_limit}
+use Rattle.std.specs.Global.{Vec}
+use Rattle.sink_writing.specs.Writing.{joined}
+use Rattle.stream_replay.specs.declared.fault.ReplayFault.{ReplayFault}
+use Rattle.stream_replay.specs.declared.fault.ReplayFault.TheVariants as replays
+use Rattle.delta_cli.specs.Channels.{Channel, HasFailed, IsSilent, Writes, WritesFront}
+use Rattle.delta_cli.specs.Document.{IsShown, IsFaulty as IsFaultyDocument}
+use Rattle.delta_cli.specs.Lines.{id_or_none}
+use Rattle.delta_cli.specs.declared.refusal.Refusal.{Refusal}
+use Rattle.delta_cli.specs.declared.refusal.Refusal.TheVariants as refusals
+
+-- where the input tells its bytes, it was read to its end, has at most 268,435,456 bytes, and they are such
+abbrev pub Reads : Channel → Channel → (List ℕ → Type 0) → Type 0
+Reads before after IsSuch = ReadsBytes before.bytes after.bytes IsSuch
+
+-- what the text has as its result was written
+pub record Prints (Has : List ℕ → List ℕ → Type 0) (out out' : Channel) (text : List ℕ) : Type 0 where
+  pub result : List ℕ
+  pub has : Has text result
+  pub written : Writes out out' result
+
+-- out failed, and a front of it was written
+pub record PrintsFront (Has : List ℕ → List ℕ → Type 0) (out out' : Channel) (text : List ℕ) : Type 0 where
+  pub result : List ℕ
+  pub has : Has text result
+  pub written : WritesFront out out' result
+
+-- the text is a stream whose patches are a chain, and these are the canonical lines of the dataset that they make
+pub record HasLines (text result : List ℕ) : Type 0 where
+  pub patches : List Meaning
+  pub stream : IsStream text patches
+  pub chain : IsChain (links_of patches)
+  pub lines_are : result ≡ lines (replay patches).quads
+
+-- so many patches and quads, and the last patch's id
+abbrev pub counts_line : ℕ → ℕ → Option Id → List ℕ
+counts_line patches quads head = codes "patches " ++ (decimal patches ++ (codes " quads " ++ (decimal quads ++ (codes " head " ++ (id_or_none head ++ 10 ∷ [])))))
+
+-- the text is a stream whose patches are a chain, and the line has the counts of their replay
+pub record HasCounts (text line : List ℕ) : Type 0 where
+  pub patches : List Meaning
+  pub stream : IsStream text patches
+  pub chain : IsChain (links_of patches)
+  pub line_is : line ≡ counts_line (length patches) (length (replay patches).quads) (last_or None (links_of patches))
+
+-- these vectors are the canonical lines of the text
+abbrev pub AreShown : List (Vec ℕ) → List ℕ → Type 0
+AreShown lines text = IsShown text (joined lines)
+
+-- the end of a command whose input has no replay
+abbrev pub refusal_of : ReplayFault → Refusal
+refusal_of (replays.Stream line fault) = refusals.Stream line fault
+refusal_of (replays.Chain fault) = refusals.Chain fault
+refusal_of replays.TooLong = refusals.TooLong
+refusal_of replays.Failed = refusals.InputFailed
+refusal_of replays.OutOfMemory = refusals.OutOfMemory
+
+-- why a text that was made is not printed
+abbrev pub StopsPrinting : List ℕ → Channel → Channel → Refusal → Type 0
+StopsPrinting text out out' refusals.OutputFailed = HasFailed out out' × WritesFront out out' text
+StopsPrinting text out out' refusals.OutOfMemory = IsSilent out out'
+StopsPrinting text out out' other = ⊥
+
+-- why a text has no canonical form
+abbrev pub StopsDocument : List ℕ → Refusal → Type 0
+StopsDocument text (refusals.Document line at kind) = IsFaultyDocument line at kind text
+StopsDocument text refusals.OutOfMemory = Unit {0}
+StopsDocument text other = ⊥
+
+-- why an input has no canonical form
+abbrev pub StopsReading : Channel → Channel → Refusal → Type 0
+StopsReading input input' (refusals.Document line at kind) = Reads input input' (IsFaultyDocument line at kind)
+StopsReading input input' refusals.TooLong = IsTooLong input.bytes
+StopsReading input input' refusals.InputFailed = HasFailed input input'
+StopsReading input input' refusals.OutOfMemory = Unit {0}
+StopsReading input input' other = ⊥
+
+-- why `replay` prints no lines of its input
+abbrev pub StopsReplay : Refusal → Channel → Channel → Channel → Channel → Type 0
+StopsReplay (refusals.Stream line fault) input input' out out' = Reads input input' (IsFaulty line fault) × IsSilent out out'
+StopsReplay (refusals.Chain fault) input input' out out' = Reads input input' (IsUnchained fault) × IsSilent out out'
+StopsReplay refusals.TooLong input input' out out' = IsTooLong input.bytes × IsSilent out out'
+StopsReplay refusals.InputFailed input input' out out' = HasFailed input input' × IsSilent out out'
+StopsReplay refusals.OutputFailed input input' out out' = HasFailed out out' × Reads input input' (PrintsFront HasLines out out')
+StopsReplay refusals.OutOfMemory input input' out out' = IsSilent out out'
+StopsReplay other input input' out out' = ⊥
+
+-- why `nquads` prints no lines of its input
+abbrev pub StopsNquads : Refusal → Channel → Channel → Channel → Channel → Type 0
+StopsNquads (refusals.Document line at kind) input input' out out' = Reads input input' (IsFaultyDocument line at kind) × IsSilent out out'
+StopsNquads refusals.TooLong input input' out out' = IsTooLong input.bytes × IsSilent out out'
+StopsNquads refusals.InputFailed input input' out out' = HasFailed input input' × IsSilent out out'
+StopsNquads refusals.OutputFailed input input' out out' = HasFailed out out' × Reads input input' (PrintsFront IsShown out out')
+StopsNquads refusals.OutOfMemory input input' out out' = IsSilent out out'
+StopsNquads other input input' out out' = ⊥
+
+-- why a known text is not replayed to its counts
+abbrev pub StopsCounting : List ℕ → Refusal → Channel → Channel → Type 0
+StopsCounting text (refusals.Stream line fault) out out' = IsFaulty line fault text × IsSilent out out'
+StopsCounting text (refusals.Chain fault) out out' = IsUnchained fault text × IsSilent out out'
+StopsCounting text refusals.TooLong out out' = (stream_limit < length text) × IsSilent out out'
+StopsCounting text refusals.OutputFailed out out' = HasFailed out out' × PrintsFront HasCounts out out' text
+StopsCounting text refusals.OutOfMemory out out' = IsSilent out out'
+StopsCounting text other out out' = ⊥
+
+-- why a known text is not written; where memory runs out a front of it was
+abbrev pub StopsWriting : List ℕ → Refusal → Channel → Channel → Type 0
+StopsWriting text refusals.OutputFailed out out' = HasFailed out out' × WritesFront out out' text
+StopsWriting text refusals.OutOfMemory out out' = WritesFront out out' text
+StopsWriting text other out out' = ⊥

@@ -1,0 +1,59 @@
+//! The command `check`: the files of a registry and its logs, with a line for each.
+ghost use Rattle.std.specs.Prelude.{◌≡◌, ℕ, List, IfErr, OnOk};
+ghost use Rattle.slot_checks.specs.Checks.{AreKept, IsReport};
+ghost use Rattle.slot_checks.specs.Lines.{lines_text};
+ghost use Rattle.slot_checks.specs.declared.lines.FileLine.{FileLine};
+ghost use Rattle.delta_cli.specs.Channels.{Writes, channel};
+ghost use Rattle.delta_cli.specs.Results.{StopsPrinting};
+ghost use Rattle.delta_cli.specs.Tool.{Reported, StopsCheck, check_refusal};
+
+use crate::refusal::Refusal;
+use delta_base::{Sink, Text};
+use disk_model::Shelf;
+use sink_writing::write_all;
+use slot_checks::{CheckFault, Report, check_files, report_text};
+use std::alloc::Global;
+
+/// Opens the files of a directory, and writes a line for each. Each is left as it was.
+pub fn check<H: Shelf, K: Sink>(
+    alloc: Global,
+    dir: &Text,
+    shelf: &mut H,
+    out: &mut K,
+) -> Result<(), Refusal>
+    ensures done { OnOk result ((report : List FileLine) × Reported H.tells (H.files shelf.old) dir.now report
+        × Writes (channel (K.written out.old) (K.faults out.old)) (channel (K.written out.new) (K.faults out.new)) (lines_text report)) }
+    ensures stopped { IfErr result (StopsCheck dir.now H.tells (H.files shelf.old) (H.faults shelf.old) (H.faults shelf.new)
+        (channel (K.written out.old) (K.faults out.old)) (channel (K.written out.new) (K.faults out.new))) }
+    ensures kept { H.tells → AreKept dir.now (H.files shelf.old) (H.files shelf.new) }
+{
+    match check_files(alloc, shelf, dir) {
+        Ok(report) => print_report(alloc, &report, out),
+        Err(fault) => Err(refusal_of(fault)),
+    }
+}
+
+// Writes the lines of a report.
+fn print_report<K: Sink>(alloc: Global, report: &Report, out: &mut K) -> Result<(), Refusal>
+    ensures done { OnOk result (Writes (channel (K.written out.old) (K.faults out.old)) (channel (K.written out.new) (K.faults out.new)) (lines_text report.now.items)) }
+    ensures stopped { IfErr result (StopsPrinting (lines_text report.now.items) (channel (K.written out.old) (K.faults out.old)) (channel (K.written out.new) (K.faults out.new))) }
+{
+    let Ok(text) = report_text(alloc, report) else {
+        return Err(Refusal::OutOfMemory);
+    };
+    if write_all(out, text.as_slice()) {
+        Ok(())
+    } else {
+        Err(Refusal::OutputFailed)
+    }
+}
+
+fn refusal_of(fault: CheckFault) -> Refusal
+    ensures { result ≡ check_refusal fault }
+{
+    match fault {
+        CheckFault::Failed => Refusal::DiskFailed,
+        CheckFault::OutOfMemory => Refusal::OutOfMemory,
+        fault => Refusal::File(fault),
+    }
+}

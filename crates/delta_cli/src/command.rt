@@ -1,0 +1,131 @@
+//! What the words ask for.
+ghost use Rattle.std.specs.Prelude.{◌≡◌, ◌<◌, ◌≤◌, ◌^◌, ◌∷◌, [], ℕ, List, IfOk, IfErr, OnOk};
+ghost use Rattle.delta_cli.specs.Channels.{words_of};
+ghost use Rattle.command_words.specs.Positions.{FitPositions};
+ghost use Rattle.delta_cli.specs.Commands.{Asks, BeginsWith, FitsName, HasFirst, IsNumberIn, RefusesWords, positions_of};
+
+use crate::name::Name;
+use crate::refusal::Refusal;
+use command_words::{WordsFault, read_words};
+use delta_base::{OutOfMemory, Text};
+use std::alloc::Global;
+
+/// A command with what its words say.
+#[derive(Debug, Drop)]
+pub enum Command {
+    Replay,
+    Nquads,
+    /// So many patches of the generator, replayed.
+    Gen { patches: u32 },
+    /// So many patches of the generator, written.
+    Emit { patches: u32 },
+    Init { dir: Text, slots: u8 },
+    Check { dir: Text },
+    Help,
+    Version,
+}
+
+/// The most patches of the generator.
+const MOST_PATCHES: u32 = 65_536;
+
+/// The most slots of a directory.
+const MOST_SLOTS: u32 = 16;
+
+/// The command that the words ask for.
+pub fn read_command(alloc: Global, words: &[String]) -> Result<Command, Refusal>
+    ensures asks { IfOk result (Asks (words_of words.now)) }
+    ensures refused { IfErr result (RefusesWords (words_of words.now)) }
+{
+    match words {
+        [first, ..] => read_named(alloc, first.as_str(), words),
+        [] => Err(Refusal::UnknownCommand),
+    }
+}
+
+// The command that the words ask for, of which this is the first.
+fn read_named(alloc: Global, first: &str, words: &[String]) -> Result<Command, Refusal>
+    requires { HasFirst (words_of words.now) first.now }
+    ensures asks { IfOk result (Asks (words_of words.now)) }
+    ensures refused { IfErr result (RefusesWords (words_of words.now)) }
+{
+    match Name::find(first) {
+        Some(name) => read_positions(alloc, name, words),
+        None => Err(Refusal::UnknownCommand),
+    }
+}
+
+// The command of this name.
+fn read_positions(alloc: Global, name: Name, words: &[String]) -> Result<Command, Refusal>
+    requires { BeginsWith (words_of words.now) name }
+    ensures asks { IfOk result (Asks (words_of words.now)) }
+    ensures refused { IfErr result (RefusesWords (words_of words.now)) }
+{
+    match test_positions(alloc, name, words) {
+        Ok(()) => make(alloc, name, words),
+        Err(WordsFault::Usage) => Err(Refusal::Usage(name)),
+        Err(WordsFault::OutOfMemory) => Err(Refusal::OutOfMemory),
+    }
+}
+
+// Whether the words are one for each of the command's positions.
+fn test_positions(alloc: Global, name: Name, words: &[String]) -> Result<(), WordsFault>
+    requires { BeginsWith (words_of words.now) name }
+    ensures fit { OnOk result (FitPositions (positions_of name) (words_of words.now)) }
+    ensures usage { result ≡ Err WordsFault.Usage → ¬ (FitPositions (positions_of name) (words_of words.now)) }
+{
+    match read_words(alloc, name.positions(), words) {
+        Ok(_values) => Ok(()),
+        Err(fault) => Err(fault),
+    }
+}
+
+// The command of this name, whose words are one for each of its positions.
+fn make(alloc: Global, name: Name, words: &[String]) -> Result<Command, Refusal>
+    requires { FitsName (words_of words.now) name }
+    ensures asks { IfOk result (Asks (words_of words.now)) }
+    ensures refused { IfErr result (RefusesWords (words_of words.now)) }
+{
+    match (name, words) {
+        (Name::Replay, _) => Ok(Command::Replay),
+        (Name::Nquads, _) => Ok(Command::Nquads),
+        (Name::Help, _) => Ok(Command::Help),
+        (Name::Version, _) => Ok(Command::Version),
+        (Name::Gen, [_, patches]) => match number_in(alloc, 0, MOST_PATCHES, patches.as_str())? {
+            Some(patches) => Ok(Command::Gen { patches }),
+            None => Err(Refusal::Usage(name)),
+        },
+        (Name::Emit, [_, patches]) => match number_in(alloc, 0, MOST_PATCHES, patches.as_str())? {
+            Some(patches) => Ok(Command::Emit { patches }),
+            None => Err(Refusal::Usage(name)),
+        },
+        (Name::Init, [_, dir, slots]) => match number_in(alloc, 1, MOST_SLOTS, slots.as_str())? {
+            Some(slots) => Ok(Command::Init {
+                dir: Text::from_str(alloc, dir.as_str())?,
+                slots: slots as u8,
+            }),
+            None => Err(Refusal::Usage(name)),
+        },
+        (Name::Check, [_, dir]) => Ok(Command::Check {
+            dir: Text::from_str(alloc, dir.as_str())?,
+        }),
+        _ => unreachable!(),
+    }
+}
+
+// The number that a word is, of those from the one to the other. A number is written in one way.
+fn number_in(alloc: Global, low: u32, high: u32, word: &str) -> Result<Option<u32>, OutOfMemory>
+    ensures { IfOk result (IsNumberIn low high word.now) }
+{
+    let Ok(number) = word.parse::<u32>() else {
+        return Ok(None);
+    };
+    if number < low || high < number {
+        return Ok(None);
+    }
+    let text = format!(in alloc; "{number}")?;
+    if text.as_str() == word {
+        Ok(Some(number))
+    } else {
+        Ok(None)
+    }
+}

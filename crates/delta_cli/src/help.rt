@@ -1,0 +1,36 @@
+//! The commands `--help` and `--version`.
+ghost use Rattle.std.specs.Prelude.{IfErr, OnOk};
+ghost use Rattle.delta_cli.specs.Channels.{Writes, channel};
+ghost use Rattle.delta_cli.specs.Results.{StopsWriting};
+
+use crate::refusal::Refusal;
+use delta_base::Sink;
+use sink_writing::write_all;
+
+/// What `--help` writes.
+pub const HELP: &str = "rdfdelta: RDF datasets kept in step by chained patches
+
+  replay            read a stream of patches, print the canonical lines of its dataset
+  nquads            read an N-Quads document, print its canonical lines
+  gen N             make N patches by rule and replay them, print the counts
+  emit N            print N patches made by rule
+  init DIR SLOTS    make the files of a registry and of SLOTS logs in a directory
+  check DIR         open the files of a directory, print a line for each
+  --help            print this
+  --version         print the version
+";
+
+/// What `--version` writes.
+pub const VERSION: &str = "rdfdelta 0.1.0\n";
+
+/// Writes a text that is known.
+pub fn print<K: Sink>(text: &str, out: &mut K) -> Result<(), Refusal>
+    ensures done { OnOk result (Writes (channel (K.written out.old) (K.faults out.old)) (channel (K.written out.new) (K.faults out.new)) text.now) }
+    ensures stopped { IfErr result (λ refusal. StopsWriting text.now refusal (channel (K.written out.old) (K.faults out.old)) (channel (K.written out.new) (K.faults out.new))) }
+{
+    if write_all(out, text.as_bytes()) {
+        Ok(())
+    } else {
+        Err(Refusal::OutputFailed)
+    }
+}

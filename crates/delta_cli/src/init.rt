@@ -1,0 +1,29 @@
+//! The command `init`: the files of a directory's logs and registry, as they are first made.
+ghost use Rattle.std.specs.Prelude.{◌≤◌, IfErr, OnOk};
+ghost use Rattle.slot_files.specs.Files.{IsInitial};
+ghost use Rattle.delta_cli.specs.Tool.{Spares, StopsInit};
+
+use crate::refusal::Refusal;
+use delta_base::Text;
+use disk_model::Shelf;
+use slot_files::{InitFault, init_slots};
+use std::alloc::Global;
+
+/// Makes the files of so many slots.
+pub fn init<H: Shelf>(alloc: Global, dir: &Text, slots: u8, shelf: &mut H) -> Result<(), Refusal>
+    requires some { 1 ≤ slots }
+    requires few { slots ≤ 16 }
+    ensures done { OnOk result (H.tells → IsInitial dir.now slots (H.files shelf.old) (H.files shelf.new)) }
+    ensures stopped { IfErr result (StopsInit dir.now slots H.tells (H.files shelf.old) (H.files shelf.new) (H.faults shelf.old) (H.faults shelf.new)) }
+    ensures spares { Spares dir.now slots H.tells (H.files shelf.old) (H.files shelf.new) }
+{
+    match init_slots(alloc, shelf, dir, slots) {
+        Ok(()) => Ok(()),
+        Err(InitFault::NotEmpty { number, length }) => Err(Refusal::NotEmpty {
+            file: number,
+            length,
+        }),
+        Err(InitFault::Failed) => Err(Refusal::DiskFailed),
+        Err(InitFault::OutOfMemory) => Err(Refusal::OutOfMemory),
+    }
+}

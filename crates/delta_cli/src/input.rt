@@ -1,0 +1,59 @@
+//! Reading an input to its end.
+ghost use Rattle.std.specs.Prelude.{◌≡◌, ◌+◌, ◌<◌, ◌≤◌, ◌^◌, ℕ, List, length, IsErrOf, IfOk, OnOk};
+ghost use Rattle.std.specs.Io.KnownBytes.{Consumes, IsAtEnd};
+ghost use Rattle.delta_base.specs.Outside.{Rose};
+ghost use Rattle.delta_cli.specs.Channels.{IsLonger};
+
+use delta_base::Source;
+use std::alloc::{AllocError, Global};
+
+/// Why an input was not read to its end.
+#[derive(Clone, Copy)]
+pub enum InputFault {
+    Failed,
+    TooLong,
+    OutOfMemory,
+}
+
+impl From<AllocError> for InputFault {
+    ghost use Rattle.std.specs.Prelude.{◌≡◌};
+    ghost use Rattle.delta_cli.specs.declared.input.InputFault.TheVariants.{OutOfMemory};
+
+    ghost from_gives = { λ _ e. e ≡ OutOfMemory };
+
+    fn from(_error: AllocError) -> InputFault {
+        InputFault::OutOfMemory
+    }
+}
+
+/// How many bytes are read at once.
+const PIECE: usize = 65_536;
+
+/// All that is left, where it has at most `limit` bytes.
+pub fn read_all<S: Source>(
+    alloc: Global,
+    input: &mut S,
+    limit: usize,
+) -> Result<Vec<u8>, InputFault>
+    requires { limit < 2 ^ 40 }
+    ensures bytes { IfOk result (λ text. Consumes (S.left input.old) (S.left input.new) text.items) }
+    ensures end { OnOk result (IsAtEnd (S.left input.new)) }
+    ensures too_long { IsErrOf result InputFault.TooLong → IsLonger (S.left input.old) limit }
+    ensures within { IfOk result (λ text. length text.items ≤ limit) }
+    ensures failed { IsErrOf result InputFault.Failed → Rose (S.faults input.old) (S.faults input.new) }
+    ensures never_falls { S.faults input.old ≤ S.faults input.new }
+{
+    let mut text = Vec::new(alloc);
+    let mut piece = [0u8; PIECE];
+    'reading: while text.len() <= limit {
+        let count = match input.read(&mut piece) {
+            Ok(count) => count,
+            Err(_) => return Err(InputFault::Failed),
+        };
+        if count == 0 {
+            return Ok(text);
+        }
+        text.extend_from_slice(&piece[..count])?;
+    }
+    Err(InputFault::TooLong)
+}

@@ -1,0 +1,92 @@
+//! How a command ends without its result, and the line that tells it.
+ghost use Rattle.std.specs.Prelude.{◌≡◌};
+ghost use Rattle.delta_cli.specs.Channels.{channel};
+ghost use Rattle.delta_cli.specs.Lines.{status_of};
+ghost use Rattle.delta_cli.specs.Refusals.{Reports};
+
+use crate::lines::line_of;
+use crate::name::Name;
+use chain_core::ChainFault;
+use delta_base::{OutOfMemory, Sink};
+use nquads_text::TextKind;
+use patch_meaning::PatchFault;
+use sink_writing::write_all;
+use slot_checks::CheckFault;
+use std::alloc::Global;
+
+/// How a command ends without its result.
+#[derive(Clone, Copy, Debug, PartialEq, Eq)]
+pub enum Refusal {
+    /// The first word names no command, or there is none.
+    UnknownCommand,
+    /// The words behind the command's name aren't those that it takes.
+    Usage(Name),
+    /// The input is no stream of patches: its first fault, and the line of its place.
+    Stream {
+        line: u64,
+        fault: PatchFault,
+    },
+    /// The input is no document: the line, the place and the kind of its first fault.
+    Document {
+        line: usize,
+        at: usize,
+        kind: TextKind,
+    },
+    /// The input has more bytes than it may have.
+    TooLong,
+    InputFailed,
+    OutputFailed,
+    /// A file that was to be made has bytes.
+    NotEmpty {
+        file: u32,
+        length: u64,
+    },
+    /// A file isn't in its form.
+    File(CheckFault),
+    DiskFailed,
+    /// The patches of the stream are no chain.
+    Chain(ChainFault),
+    OutOfMemory,
+}
+
+impl From<OutOfMemory> for Refusal {
+    ghost use Rattle.std.specs.Prelude.{◌≡◌};
+    ghost use Rattle.delta_cli.specs.declared.refusal.Refusal.TheVariants as refusals;
+
+    ghost from_gives = { λ _ e. e ≡ refusals.OutOfMemory };
+
+    fn from(_error: OutOfMemory) -> Refusal {
+        Refusal::OutOfMemory
+    }
+}
+
+/// Writes the line of a refusal on `err`, and gives its status.
+pub fn report<E: Sink>(alloc: Global, refusal: Refusal, err: &mut E) -> u8
+    ensures { Reports refusal (channel (E.written err.old) (E.faults err.old)) (channel (E.written err.new) (E.faults err.new)) result }
+{
+    match line_of(alloc, refusal) {
+        Ok(line) => {
+            let _ = write_all(err, line.as_slice());
+            status_of(refusal)
+        }
+        Err(_) => {
+            let _ = write_all(err, b"rdfdelta: out of memory\n");
+            8
+        }
+    }
+}
+
+fn status_of(refusal: Refusal) -> u8
+    ensures { result ≡ status_of refusal }
+{
+    match refusal {
+        Refusal::NotEmpty { .. } => 1,
+        Refusal::UnknownCommand | Refusal::Usage(_) => 2,
+        Refusal::Stream { .. } | Refusal::Document { .. } | Refusal::TooLong => 3,
+        Refusal::InputFailed | Refusal::OutputFailed => 4,
+        Refusal::DiskFailed => 5,
+        Refusal::OutOfMemory => 8,
+        Refusal::File(_) => 9,
+        Refusal::Chain(_) => 10,
+    }
+}

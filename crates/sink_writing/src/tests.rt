@@ -1,0 +1,42 @@
+//! Short texts together, long ones by themselves, and a sink that fails.
+use super::*;
+use delta_base::{Calls, Listing, MemSink, Sink};
+use std::alloc::{AllocError, Global};
+use std::test::Fail;
+
+fn sink(alloc: Global, failing: &[u64]) -> Result<MemSink, AllocError> {
+    let calls: Calls = Listing::from_vec(Vec::from_slice(alloc, failing)?);
+    Ok(MemSink::new(alloc, calls))
+}
+
+#[test]
+fn short_texts_are_written_together(rt: HostRuntime) -> Result<(), Fail> {
+    let mut out = sink(rt.alloc(), &[])?;
+    let mut room = Vec::with_capacity(rt.alloc(), PIECE)?;
+    assert!(rt; put(&mut out, &mut room, b"ab"));
+    assert!(rt; put(&mut out, &mut room, b"cd"));
+    assert!(rt; out.written().is_empty());
+    assert!(rt; write_all(&mut out, &room));
+    assert_eq!(rt; out.written(), b"abcd".as_slice());
+    Ok(())
+}
+
+#[test]
+fn a_long_text_drives_the_room_out(rt: HostRuntime) -> Result<(), Fail> {
+    let mut out = sink(rt.alloc(), &[])?;
+    let mut room = Vec::with_capacity(rt.alloc(), PIECE)?;
+    let long = vec![in rt.alloc(); b'x'; PIECE]?;
+    assert!(rt; put(&mut out, &mut room, b"ab"));
+    assert!(rt; put(&mut out, &mut room, &long));
+    assert_eq!(rt; out.written().len(), PIECE + 2);
+    assert!(rt; room.is_empty());
+    Ok(())
+}
+
+#[test]
+fn a_sink_that_fails_is_told(rt: HostRuntime) -> Result<(), Fail> {
+    let mut out = sink(rt.alloc(), &[0])?;
+    assert!(rt; !write_all(&mut out, b"ab"));
+    assert_eq!(rt; out.faults(), 1);
+    Ok(())
+}
