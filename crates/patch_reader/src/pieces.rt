@@ -1,6 +1,6 @@
 //! A reader of rows from a stream that comes in any pieces.
 
-ghost use Rattle.std.specs.Prelude.{◌≡◌, ◌≤◌, ◌<◌, ◌^◌, ◌++◌, [], ℕ, List, true, false, length, drop, None, Some, IfSome, MatchResult};
+ghost use Rattle.std.specs.Prelude.{◌≡◌, ◌≤◌, ◌<◌, ◌^◌, ◌++◌, [], ℕ, List, true, false, length, drop, None, Some, IfNone, IfSome, MatchOption, MatchResult, ◌+◌, option_to_list};
 ghost use Rattle.rows_text.specs.declared.fault.RowFault.{RowFault as Answer};
 ghost use Rattle.rows_text.specs.Grammar.{row_limit};
 ghost use Rattle.patch_reader.specs.declared.placed.PlacedRow.{PlacedRow as Placed};
@@ -236,6 +236,8 @@ impl PatchReader {
     /// The next row with its places; none where no row is ready.
     pub fn take_placed(&mut self) -> Option<PlacedRow>
         ensures takes { (end : End) (text : List ℕ) (taken : List Placed) → Stands end text taken self.old → Takes end text taken self.old result self.new }
+        ensures ready { self.old.ready.items ≡ option_to_list result ++ self.new.ready.items }
+        ensures none { IfNone result (self.old.ready.items ≡ []) }
         ensures fault { self.new.fault ≡ self.old.fault }
     {
         self.ready.pop_front()
@@ -244,6 +246,7 @@ impl PatchReader {
     /// The next row; none where no row is ready.
     pub fn take_row(&mut self) -> Option<Row>
         ensures takes { (end : End) (text : List ℕ) (taken : List Placed) → Stands end text taken self.old → TakesRow end text taken self.old result self.new }
+        ensures ready { MatchOption result ((self.old.ready.items ≡ []) × (self.new.ready.items ≡ [])) (λ _. length self.new.ready.items + 1 ≡ length self.old.ready.items) }
         ensures fault { self.new.fault ≡ self.old.fault }
     {
         match self.take_placed() {

@@ -1,8 +1,9 @@
-use crate::{decided_row, read_row};
+use crate::{PatchReader, PlacedRow, decided_row, read_row};
 use nquads_text::TextKind;
 use rows_text::{RowFault, RowKind, skip_space};
-use std::alloc::Global;
+use std::alloc::{AllocError, Global};
 use std::process::Abort;
+use std::test::Fail;
 
 /// Where the row at the front ends, or none where more text decides.
 fn decided_end(alloc: Global, text: &[u8]) -> Result<Option<usize>, RowFault> {
@@ -146,4 +147,166 @@ fn fronts_agree_with_the_whole(rt: HostRuntime) {
         alloc,
         b"A <http://e/\\u0020> <http://e/p> <http://e/o> .\n",
     );
+}
+
+fn end_of(placed: PlacedRow) -> u64 {
+    placed.end
+}
+
+/// Takes up to eight rows, and keeps the places behind them.
+fn take_ends(reader: &mut PatchReader, ends: &mut Vec<u64>) -> Result<(), AllocError> {
+    for _ in 0..8 {
+        match reader.take_placed() {
+            Some(placed) => {
+                let end = end_of(placed);
+                ends.push(end)?;
+            }
+            None => return Ok(()),
+        }
+    }
+    Ok(())
+}
+
+/// The places behind the rows of a text that is fed in two pieces, and what is answered at its end.
+fn cut_at(
+    alloc: Global,
+    text: &[u8],
+    at: usize,
+) -> Result<(Vec<u64>, Result<(), RowFault>), AllocError> {
+    let mut reader = PatchReader::new(alloc);
+    let mut ends = Vec::new(alloc);
+    let (first, second) = text.split_at(at.min(text.len()));
+    let _ = reader.feed(first);
+    take_ends(&mut reader, &mut ends)?;
+    let _ = reader.feed(second);
+    let answer = reader.finish();
+    take_ends(&mut reader, &mut ends)?;
+    Ok((ends, answer))
+}
+
+/// The same where each byte is a piece.
+fn in_bytes(alloc: Global, text: &[u8]) -> Result<(Vec<u64>, Result<(), RowFault>), AllocError> {
+    let mut reader = PatchReader::new(alloc);
+    let mut ends = Vec::new(alloc);
+    for at in 0..text.len() {
+        let _ = reader.feed(&text[at..at + 1]);
+        take_ends(&mut reader, &mut ends)?;
+    }
+    let answer = reader.finish();
+    take_ends(&mut reader, &mut ends)?;
+    Ok((ends, answer))
+}
+
+/// In whatever pieces the text is fed, its rows end at these places, and this is answered at its end.
+fn reads(
+    rt: &impl Abort,
+    alloc: Global,
+    text: &[u8],
+    ends: &[u64],
+    answer: Result<(), RowFault>,
+) -> Result<(), AllocError> {
+    let (found, said) = in_bytes(alloc, text)?;
+    assert_eq!(rt; found.as_slice(), ends);
+    assert_eq!(rt; said, answer);
+    for at in 0..text.len() {
+        let (found, said) = cut_at(alloc, text, at)?;
+        assert_eq!(rt; found.as_slice(), ends);
+        assert_eq!(rt; said, answer);
+    }
+    Ok(())
+}
+
+/// A fault as in N-Quads.
+fn fault(at: u64, kind: TextKind) -> Result<(), RowFault> {
+    Err(RowFault::At {
+        at,
+        kind: RowKind::Common(kind),
+    })
+}
+
+#[test]
+fn a_patch_has_its_rows_in_any_pieces(rt: HostRuntime) -> Result<(), Fail> {
+    let alloc = rt.alloc();
+    let text =
+        b"H id <uuid:00000000-0000-4000-8000-000000000001> .\nTX .\nA <http://e/s> <http://e/p> <http://e/o> .\nTC .\n";
+    reads(&rt, alloc, text, &[50, 55, 98, 103], Ok(()))?;
+    let text = b"A _:a <http://e/p> \"x\\n\xC3\xA9\"@EN <_:g> .A <a:b> <a:b> _:a.";
+    reads(&rt, alloc, text, &[37, 55], Ok(()))?;
+    let text = b"# \xC3\xA9\n PA ex: # :\n\"a:b\" .\r# end";
+    reads(&rt, alloc, text, &[24], Ok(()))?;
+    Ok(())
+}
+
+#[test]
+fn a_text_has_its_first_fault_in_any_pieces(rt: HostRuntime) -> Result<(), Fail> {
+    let alloc = rt.alloc();
+    reads(&rt, alloc, b"TX .\nTC", &[4], fault(7, TextKind::Truncated))?;
+    reads(&rt, alloc, b"TX .# \xFF", &[4], fault(6, TextKind::NotUtf8))?;
+    reads(&rt, alloc, b"TX .# \xC3", &[4], fault(6, TextKind::NotUtf8))?;
+    reads(&rt, alloc, b"TX ..", &[4], fault(4, TextKind::BadToken))?;
+    reads(
+        &rt,
+        alloc,
+        b"A <a:b> <a:b> \"\\q\" .",
+        &[],
+        fault(15, TextKind::BadEscape),
+    )?;
+    reads(
+        &rt,
+        alloc,
+        b"A <a:b> <a:b> \"x\"^^<a> .",
+        &[],
+        fault(19, TextKind::RelativeIri),
+    )?;
+    Ok(())
+}
+
+fn takes_row(reader: &mut PatchReader) -> bool {
+    reader.take_row().is_some()
+}
+
+#[test]
+fn a_fault_stays(rt: HostRuntime) {
+    let mut reader = PatchReader::new(rt.alloc());
+    let unknown = Err(RowFault::At {
+        at: 5,
+        kind: RowKind::UnknownCode,
+    });
+    assert_eq!(rt; reader.feed(b"TX .\nX"), Ok(()));
+    assert_eq!(rt; reader.feed(b" "), unknown);
+    assert_eq!(rt; reader.feed(b".\nTC ."), unknown);
+    assert_eq!(rt; reader.finish(), unknown);
+    assert!(rt; takes_row(&mut reader));
+    assert!(rt; !takes_row(&mut reader));
+    assert_eq!(rt; reader.finish(), unknown);
+}
+
+#[test]
+fn a_row_waits_for_what_decides_it(rt: HostRuntime) {
+    let mut reader = PatchReader::new(rt.alloc());
+    assert_eq!(rt; reader.feed(b"H id _:a."), Ok(()));
+    assert!(rt; !takes_row(&mut reader));
+    assert_eq!(rt; reader.feed(b"\n"), Ok(()));
+    assert!(rt; takes_row(&mut reader));
+    assert!(rt; !takes_row(&mut reader));
+}
+
+#[test]
+fn a_row_is_too_long_at_the_first_byte_past_its_limit(rt: HostRuntime) -> Result<(), Fail> {
+    let mut text = Vec::new(rt.alloc());
+    text.extend_from_slice(b"A <a:b> <a:b> \"")?;
+    text.resize(4_194_304, b'x')?;
+    let mut reader = PatchReader::new(rt.alloc());
+    assert_eq!(rt; reader.feed(&text), Ok(()));
+    let long = Err(RowFault::At {
+        at: 0,
+        kind: RowKind::TooLong,
+    });
+    assert_eq!(rt; reader.feed(b"x"), long);
+    text.truncate(4_194_301);
+    text.extend_from_slice(b"\" .")?;
+    let mut reader = PatchReader::new(rt.alloc());
+    assert_eq!(rt; reader.feed(&text), Ok(()));
+    assert!(rt; takes_row(&mut reader));
+    Ok(())
 }
