@@ -1,18 +1,20 @@
 -- A stream to which pieces were fed.
-use Rattle.std.proofs.Common.{◌≡◌, ℕ, ◌+◌, true, false, List, [], ◌++◌, length, Option, Some, None, Result, Ok, Err, refl, sym, subst, inl, inr, append-nil, arith}
+use Rattle.std.proofs.Common.{◌≡◌, ℕ, ◌+◌, true, false, List, [], ◌++◌, length, Option, Some, None, Result, Ok, Err, refl, sym, subst, inl, inr, append-nil, arith, ◌≤◌, ap}
+use Rattle.std.specs.Global.{Vec}
 use Rattle.std.specs.Prelude.{is_some, OnOk}
 use Rattle.patch_meaning.specs.Rows.{Gap}
 use Rattle.stream_replay.specs.declared.place.Told.{Told}
 use Rattle.stream_replay.specs.declared.progress.Progress.{Progress}
 use Rattle.stream_replay.specs.declared.stream.Streaming.{Streaming}
 use Rattle.stream_replay.specs.declared.window.Window.{Window}
+use Rattle.stream_replay.specs.Blanks.{PassesBlanks}
 use Rattle.stream_replay.specs.Ending.{fault_end}
 use Rattle.stream_replay.specs.Places.{IsFaulty}
 use Rattle.stream_replay.specs.Source.{EndsText}
 use Rattle.stream_replay.specs.Streaming.{HasMet, HasStreamed, IsStreaming, IsTold}
-use Rattle.stream_replay.specs.Windows.{IsWindow}
+use Rattle.stream_replay.specs.Windows.{IsHeld, IsWindow}
 use Rattle.stream_replay.proofs.Held.{held_end}
-use Rattle.stream_replay.proofs.Streams.{streamed_longer, streamed_whole, ends_told, gap_later}
+use Rattle.stream_replay.proofs.Streams.{streamed_passed, streamed_longer, streamed_whole, ends_told, gap_later}
 
 pub on_map : {T E : Type 0} (r : Result T E) (A B : Type 0) → OnOk r A → (A → B) → OnOk r B
 on_map (Ok x) A B a f = f a
@@ -58,3 +60,19 @@ gap_end text w held gap =
     subst (λ (n : ℕ). Gap text (w.base + w.from) n) (held_end text w.base w.bytes.items w.feeds held)
     (subst (λ (t : List ℕ). Gap t (w.base + w.from) (w.base + length w.bytes.items)) (append-nil text)
     (gap_later text [] w.base w.from (length w.bytes.items) w.bytes.items w.feeds held (subst (λ (t : List ℕ). Gap t w.from (length w.bytes.items)) (sym (append-nil w.bytes.items)) gap)))
+
+-- white space was read over, and what was read was let go
+held_same : (text : List ℕ) (old new : Window) → new.base ≡ old.base → new.bytes ≡ old.bytes → new.feeds ≡ old.feeds → IsWindow text old → IsWindow text new
+held_same text old new base bytes feeds held =
+    subst (λ (n : ℕ). IsHeld text n new.bytes.items new.feeds) (sym base)
+    (subst (λ (v : Vec ℕ). IsHeld text old.base v.items new.feeds) (sym bytes) (subst (λ (n : ℕ). IsHeld text old.base old.bytes.items n) (sym feeds) held))
+
+pub settled : (text : List ℕ) (old mid new : Window) (p : Progress) → IsWindow text old → mid.base ≡ old.base → mid.bytes ≡ old.bytes → mid.feeds ≡ old.feeds → old.from ≤ mid.from
+    → PassesBlanks old.bytes.items old.from mid.from → (IsWindow text mid → IsWindow text new) → new.base + new.from ≡ mid.base + mid.from → HasStreamed false text (old.base + old.from) p
+    → IsWindow text new × HasStreamed false text (new.base + new.from) p
+settled text old mid new p held base bytes feeds further passes ok place h =
+    let high : mid.from ≤ length old.bytes.items = omega (arith, mid.within, mid.bytes.ok.0, ap (λ (v : Vec ℕ). length v.items) bytes) in
+    let at : new.base + new.from ≡ old.base + mid.from = omega (arith, place, base) in (
+      ok (held_same text old mid base bytes feeds held),
+      subst (λ (n : ℕ). HasStreamed false text n p) (sym at) (streamed_passed text old.base old.from mid.from old.bytes.items old.feeds p held further high passes h),
+    )

@@ -7,3 +7,4 @@ pub mod Streams
 pub mod Finds
 pub mod Fed
 pub mod Inputs
+pub mod PassedBlanks

@@ -1,5 +1,5 @@
 -- A stream while its rows are taken.
-use Rattle.std.proofs.Common.{◌≡◌, ℕ, ◌+◌, Bool, true, false, List, [], ◌∷◌, ◌++◌, length, drop, Option, Some, None, refl, sym, ap, subst, ◌∙◌, ◌⊎◌, inl, inr, append_assoc, append-nil, length-append, arith}
+use Rattle.std.proofs.Common.{◌≡◌, ℕ, ◌+◌, ◌≤◌, Bool, true, false, List, [], ◌∷◌, ◌++◌, length, drop, Option, Some, None, refl, sym, ap, subst, ◌∙◌, ◌⊎◌, inl, inr, append_assoc, append-nil, length-append, arith}
 use Rattle.std.specs.Prelude.{count_by, ◌==◌}
 use Rattle.std.proofs.lemmas.List.{drop-drop, drop-append-le, take-append-le}
 use Rattle.rows_text.specs.declared.fault.RowKind.{RowKind}
@@ -13,18 +13,19 @@ use Rattle.patch_meaning.specs.declared.rows.Next.{Next}
 use Rattle.patch_meaning.specs.Cutting.{HasTakenNext, IsFaultOf, IsBrokenBefore, EndsStream, IsBrokenAtEnd, meanings_of}
 use Rattle.patch_meaning.specs.Patch.{Meaning, place_of}
 use Rattle.patch_meaning.specs.Roles.{said}
-use Rattle.patch_meaning.specs.Rows.{PlacedRow, Gap, RowsUpTo, NoRowAt}
+use Rattle.patch_meaning.specs.Rows.{PlacedRow, Gap, RowsTo, NoRowAt}
 use Rattle.patch_meaning.specs.Stream.{AreStream, IsStream, IsStreamFault, begins, cut, next, over, no_row}
 use Rattle.patch_meaning.proofs.Rowed.{rows_more}
 use Rattle.stream_replay.specs.declared.place.Told.{Told}
 use Rattle.stream_replay.specs.declared.progress.Progress.{Progress}
 use Rattle.stream_replay.specs.declared.fault.ReplayFault.{ReplayFault}
 use Rattle.stream_replay.specs.declared.fault.ReplayFault.TheVariants as ends
+use Rattle.stream_replay.specs.Blanks.{PassesBlanks}
 use Rattle.stream_replay.specs.Ending.{fault_end}
 use Rattle.stream_replay.specs.Source.{EndsText}
 use Rattle.stream_replay.specs.Places.{line_at, IsFaulty}
 use Rattle.stream_replay.specs.Replaying.{IsReplay, EndsChain}
-use Rattle.stream_replay.specs.Streaming.{IsNextIn, FindsFault, KnowsLine, HasStreamed, IsTold}
+use Rattle.stream_replay.specs.Streaming.{IsNextIn, FindsFault, RowsBefore, KnowsLine, HasStreamed, IsTold}
 use Rattle.stream_replay.specs.Windows.{IsHeld, IsWithin, HasLine}
 use Rattle.stream_replay.proofs.Held.{held_end}
 
@@ -87,7 +88,7 @@ pub streamed_longer : (text more : List ℕ) (at : ℕ) (p : Progress) → HasSt
 streamed_longer text more at p h = record {
   rs = h.rs;
   ms = h.ms;
-  reads = λ rest none. subst (λ (t : List ℕ). RowsUpTo t 0 h.rs at) (sym (append_assoc text more rest)) (h.reads (more ++ rest) (λ e. no_whole e));
+  reads = λ rest none. subst (λ (t : List ℕ). RowsBefore t h.rs at) (sym (append_assoc text more rest)) (h.reads (more ++ rest) (λ e. no_whole e));
   parts = h.parts;
   replayed = h.replayed;
   line_is = λ fault is. has_line_longer text more p.line fault (h.line_is fault is);
@@ -98,6 +99,30 @@ streamed_whole whole text at p h = record {
   rs = h.rs;
   ms = h.ms;
   reads = λ rest none. h.reads rest (λ e. no_whole e);
+  parts = h.parts;
+  replayed = h.replayed;
+  line_is = h.line_is;
+}
+
+-- white space was read over
+pub streamed_passed : (text : List ℕ) (base from to : ℕ) (bytes : List ℕ) (feeds : ℕ) (p : Progress) → IsHeld text base bytes feeds → from ≤ to → to ≤ length bytes → PassesBlanks bytes from to
+    → HasStreamed false text (base + from) p → HasStreamed false text (base + to) p
+streamed_passed text base from to bytes feeds p held low high passes h = record {
+  rs = h.rs;
+  ms = h.ms;
+  reads = λ more none.
+      let before = h.reads more none in (
+        before.0,
+        before.1,
+        λ end gap.
+            before.2 end
+            (let later = gap.1 in let within = gap.2 in (
+              subst (λ (l : List ℕ). Space l (drop end (text ++ more))) (sym (drop-append-le from bytes more (omega arith)) ∙ held_drop text more base from bytes feeds held)
+                  (passes more (drop end (text ++ more)) (subst (λ (l : List ℕ). Space l (drop end (text ++ more))) (sym (held_drop text more base to bytes feeds held) ∙ drop-append-le to bytes more high) gap.0)),
+              omega arith,
+              gap.2,
+            )),
+      );
   parts = h.parts;
   replayed = h.replayed;
   line_is = h.line_is;
@@ -115,9 +140,13 @@ streamed_more whole text base from bytes feeds old new row done held is h taken 
   rs = h.rs ++ placed_at base is.0 row ∷ [];
   ms = h.ms ++ meanings_of done;
   reads = λ more none.
-      rows_more (text ++ more) 0 (base + from) h.rs (placed_at base is.0 row) (h.reads more none)
-      (gap_later text more base from row.at bytes feeds held (is.2 more none).0)
-      (row_later text more base row.at row.end bytes feeds is.0 held (is.2 more none).1);
+      let before = h.reads more none in (
+        base + row.end,
+        rows_more (text ++ more) 0 before.0 h.rs (placed_at base is.0 row) before.1
+            (before.2 (base + row.at) (gap_later text more base from row.at bytes feeds held (is.2 more none).0))
+            (row_later text more base row.at row.end bytes feeds is.0 held (is.2 more none).1),
+        λ to gap. gap,
+      );
   parts = taken h.rs h.ms (placed_at base is.0 row) h.parts is.1 refl;
   replayed = applied h.ms h.replayed;
   line_is = knows;
@@ -139,7 +168,7 @@ told_before whole text base from bytes feeds old row told held is h (inr why) ha
     (record {
       rows_ = h.rs;
       to = base + row.at;
-      reads = (base + from, h.reads more none, gap_later text more base from row.at bytes feeds held (is.2 more none).0);
+      reads = let before = h.reads more none in (before.0, before.1, before.2 (base + row.at) (gap_later text more base from row.at bytes feeds held (is.2 more none).0));
       before = h.ms;
       well = h.parts.before;
       stop = base + row.at;
@@ -158,7 +187,7 @@ told_there whole text base from at bytes feeds old kind told held is h why has =
     (record {
       rows_ = h.rs;
       to = base + is.1.0;
-      reads = (base + from, h.reads more none, gap_later text more base from is.1.0 bytes feeds held (is.1.1 more none).0);
+      reads = let before = h.reads more none in (before.0, before.1, before.2 (base + is.1.0) (gap_later text more base from is.1.0 bytes feeds held (is.1.1 more none).0));
       before = h.ms;
       well = h.parts.before;
       stop = base + at;
@@ -169,8 +198,10 @@ told_there whole text base from at bytes feeds old kind told held is h why has =
 
 -- ---- the end
 
-reads_whole : (text : List ℕ) (at : ℕ) (p : Progress) (h : HasStreamed true text at p) → RowsUpTo text 0 h.rs at
-reads_whole text at p h = subst (λ (t : List ℕ). RowsUpTo t 0 h.rs at) (append-nil text) (h.reads [] (λ e. refl))
+reads_whole : (text : List ℕ) (at : ℕ) (p : Progress) (h : HasStreamed true text at p) → Gap text at (length text) → RowsTo text 0 h.rs (length text)
+reads_whole text at p h gap =
+    let before = subst (λ (t : List ℕ). RowsBefore t h.rs at) (append-nil text) (h.reads [] (λ e. refl)) in
+    (before.0, before.1, before.2 (length text) gap)
 
 -- the last patch has a fault
 pub told_at_end : (text : List ℕ) (at stop : ℕ) (p : Progress) (line : ℕ) (fault : PatchFault) → stop ≡ length text → HasStreamed true text at p → Gap text at (length text) → IsBrokenAtEnd p.part stop fault
@@ -179,7 +210,7 @@ told_at_end text at stop p line fault end h gap why has = record {
   fault_is = record {
     rows_ = h.rs;
     to = stop;
-    reads = (at, reads_whole text at p h, subst (Gap text at) (sym end) gap);
+    reads = subst (RowsTo text 0 h.rs) (sym end) (reads_whole text at p h gap);
     before = h.ms;
     well = h.parts.before;
     stop = stop;
@@ -194,7 +225,7 @@ pub stream_at_end : (text : List ℕ) (at stop : ℕ) (p : Progress) (done : Opt
     → IsStream text (h.ms ++ meanings_of done)
 stream_at_end text at stop p done end h gap ends = record {
   rows_ = h.rs;
-  reads = (at, reads_whole text at p h, gap);
+  reads = reads_whole text at p h gap;
   stream = subst (λ (n : ℕ). AreStream h.rs n (h.ms ++ meanings_of done)) end (ends h.rs h.ms h.parts);
 }
 

@@ -1,3 +1,4 @@
+pub mod Blanks
 pub mod Channel
 pub mod Lines
 pub mod Replaying

@@ -51,11 +51,15 @@ FindsNext whole bytes from (Err row.OutOfMemory) = Unit {0}
 abbrev pub KnowsLine : List ℕ → Progress → Type 0
 KnowsLine text p = (fault : PatchFault) → first_fault p.part ≡ Some fault → HasLine text p.line fault
 
+-- the text has these rows, and between the last of them and the place stand white space and comments
+abbrev pub RowsBefore : List ℕ → List PlacedRow → ℕ → Type 0
+RowsBefore text rs at = (end : ℕ) × RowsUpTo text 0 rs end × ((to : ℕ) → Gap text at to → Gap text end to)
+
 -- The rows up to a place were cut into patches. Those that are complete were applied, and the one that may go on is held.
 pub record HasStreamed (whole : Bool) (text : List ℕ) (at : ℕ) (p : Progress) : Type 0 where
   pub rs : List PlacedRow
   pub ms : List Meaning
-  pub reads : WhateverFollows whole (λ more. RowsUpTo (text ++ more) 0 rs at)
+  pub reads : WhateverFollows whole (λ more. RowsBefore (text ++ more) rs at)
   pub parts : IsCutInto rs ms p.part
   pub replayed : IsReplay ms p.replay
   pub line_is : KnowsLine text p

@@ -17,7 +17,10 @@ const PIECE: usize = 65_536;
 /// Reads a stream to its end, and answers the dataset that its patches make from the empty one.
 ///
 /// The first fault of the text comes before one of the chain. That the input has more than `STREAM_LIMIT` bytes comes before both, and
-/// then at most a piece more is read. It reads the input once, and holds of it one piece, the open row and the changes of the open patch.
+/// then at most a piece more is read.
+///
+/// It reads the input once. Of the input it holds a piece and what stands behind the last row that was read, but for white space; of the patches
+/// the changes of the open one, the ids, and the lines of the dataset. A patch that is too long is held up to its end.
 pub fn replay_source<S: Source>(alloc: Global, input: &mut S) -> Result<Replayed, ReplayFault>
     ensures ok { IfOk result (λ replayed. Reads (S.left input.old) (S.left input.new) (IsReplayed replayed)) }
     ensures fault { IfErr result (Ends (S.left input.old) (S.left input.new) (S.faults input.old) (S.faults input.new)) }

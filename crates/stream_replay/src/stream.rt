@@ -81,9 +81,10 @@ impl Streaming {
         ensures window { OnOk result ((text : List ℕ) → IsStreaming false text self.old → IsStreaming false text self.new) }
         ensures fault { self.new.fault ≡ self.old.fault }
         ensures progress { self.new.progress ≡ self.old.progress }
-        ensures read { OnOk result (self.new.window.base + self.new.window.from ≡ self.old.window.base + self.old.window.from) }
+        ensures read { OnOk result (self.old.window.base + self.old.window.from ≤ self.new.window.base + self.new.window.from) }
         ensures end { OnOk result (self.new.window.base + vec_len self.new.window.bytes ≡ self.old.window.base + vec_len self.old.window.bytes) }
     {
+        self.window.pass_blanks();
         self.window.settle(alloc)?;
         self.wanted = self.window.bytes.len().saturating_mul(2);
         Ok(())

@@ -1,5 +1,7 @@
 //! What is held of a text while it is read.
 ghost use Rattle.std.specs.Prelude.{◌≡◌, ◌+◌, ◌≤◌, ◌^◌, ◌++◌, ◌==◌, ℕ, List, [], length, count_by, OnOk, vec_len};
+ghost use Rattle.rows_text.specs.Grammar.{is_space};
+ghost use Rattle.stream_replay.specs.Blanks.{PassesBlanks};
 
 use delta_base::OutOfMemory;
 use std::alloc::Global;
@@ -50,6 +52,17 @@ impl Window {
         Ok(())
     }
 
+    /// Reads over white space, so that it isn't held.
+    pub fn pass_blanks(&mut self)
+        ensures base { self.new.base ≡ self.old.base }
+        ensures bytes { self.new.bytes ≡ self.old.bytes }
+        ensures feeds { self.new.feeds ≡ self.old.feeds }
+        ensures further { self.old.from ≤ self.new.from }
+        ensures blanks { PassesBlanks self.old.bytes.items self.old.from self.new.from }
+    {
+        self.from = blanks_end(self.bytes.as_slice(), self.from);
+    }
+
     /// Lets go the bytes that were read.
     pub fn settle(&mut self, alloc: Global) -> Result<(), OutOfMemory>
         ensures ok { OnOk result ((text : List ℕ) → IsWindow text self.old → IsWindow text self.new) }
@@ -72,6 +85,27 @@ impl Window {
     {
         self.feeds + feeds_in(&self.bytes[..(place - self.base) as usize]) + 1
     }
+}
+
+// The place behind the white space that stands at a place.
+fn blanks_end(bytes: &[u8], from: usize) -> usize
+    requires { from ≤ length bytes.now }
+    ensures low { from ≤ result }
+    ensures high { result ≤ length bytes.now }
+    ensures blanks { PassesBlanks bytes.now from result }
+{
+    for at in from..bytes.len() {
+        if !is_blank(bytes[at]) {
+            return at;
+        }
+    }
+    bytes.len()
+}
+
+fn is_blank(byte: u8) -> bool
+    ensures { result ≡ is_space byte }
+{
+    matches!(byte, b' ' | b'\t' | b'\n' | b'\r')
 }
 
 // How many of the bytes are line feeds.

@@ -6,7 +6,7 @@ pub returns-clause-streamed : goal.returns-clause-streamed
 returns-clause-streamed c = record {
   rs = [];
   ms = [];
-  reads = λ more none. refl;
+  reads = λ more none. (0, refl, λ to gap. gap);
   parts = nothing_cut c.new.result c.new.ensures.rows c.new.ensures.from;
   replayed = c.new-2.ensures.replay;
   line_is = λ fault is. absurd (let none = c.new.ensures.none in cc);

@@ -1,0 +1,7 @@
+use Rattle.std.proofs.Common.{◌≤◌, length}
+use Rattle.stream_replay.specs.Blanks.{PassesBlanks}
+use Rattle.stream_replay.proofs.window.blanks_end.Given as goal
+
+-- white space stands up to there
+abbrev pub invariant-loop-at : goal.invariant-loop-at
+invariant-loop-at l = PassesBlanks l.bytes l.fn.from l.at
