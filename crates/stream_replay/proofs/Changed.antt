@@ -8,7 +8,7 @@ use Rattle.std.specs.Cmp.Lexicographic.{slice_cmp}
 use Rattle.std.specs.BTreeSet.{insert_key}
 use Rattle.std.specs.Set.{remove_key}
 use Rattle.std.specs.List.{flat_map}
-use Rattle.std.proofs.lemmas.List.{drop_more, drop_all, length-map}
+use Rattle.std.proofs.lemmas.List.{drop_all, length-map}
 use Rattle.std.proofs.lemmas.List.Concat.{flat_map-cons}
 use Rattle.rdf_terms.specs.Quad.{Statement}
 use Rattle.rdf_terms.specs.declared.change.Change.{Change}
@@ -17,7 +17,9 @@ use Rattle.rdf_terms.specs.Line.{line, lines}
 use Rattle.rdf_terms.specs.Dataset.{Dataset, effect, effects, kept, kept_behind}
 use Rattle.stream_replay.specs.declared.lines.Block.{Block}
 use Rattle.stream_replay.specs.declared.lines.Block.TheVariants as block
-use Rattle.stream_replay.specs.Lines.{AreLinesOf, joined, aborts, block_behind, effect_in}
+use Rattle.sink_writing.specs.Writing.{joined}
+use Rattle.sink_writing.proofs.Pieces.{drop_item}
+use Rattle.stream_replay.specs.Lines.{AreLinesOf, aborts, block_behind, effect_in}
 
 -- ---- a key goes in where its image goes in
 
@@ -142,9 +144,6 @@ lines_after_delete keys keys' bytes q d e is are =
     ∙ sym (map-remove_key line (λ l. is_eq (slice_cmp nat_cmp (line q) l)) d.quads)
 
 -- ---- loops
-
-pub drop_item : {X : Type 0} (xs : List X) (i : ℕ) (item : X) → i < length xs → item ≡ get_or xs i item → drop i xs ≡ item ∷ drop (i + 1) xs
-drop_item xs i item lt is = drop_more xs i item lt ∙ ap (λ (x : _). x ∷ drop (i + 1) xs) (sym is)
 
 -- a dataset whose lines the vectors are, from which the changes that are left lead to the end
 pub record Leads (b : Block) (keys : List (Vec ℕ)) (left : List Change) (end : Dataset) : Type 0 where

@@ -1,5 +1,3 @@
-pub mod Appended
-pub mod Pieces
 pub mod Changed
 pub mod Taken
 pub mod Held

@@ -1,5 +1,4 @@
 pub mod Blanks
-pub mod Channel
 pub mod Lines
 pub mod Replaying
 pub mod Places

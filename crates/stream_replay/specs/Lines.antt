@@ -1,7 +1,6 @@
 -- A dataset as the lines of its quads.
 use Rattle.std.specs.Prelude.{◌≡◌, ℕ, Bool, true, false, List, [], ◌∷◌, map, if◌then◌else◌}
 use Rattle.std.specs.Global.{Vec}
-use Rattle.std.specs.List.{flat_map}
 use Rattle.rdf_terms.specs.declared.change.Change.{Change}
 use Rattle.rdf_terms.specs.declared.change.Change.TheVariants.{Begin, Commit, Abort}
 use Rattle.rdf_terms.specs.Line.{line}
@@ -12,10 +11,6 @@ use Rattle.stream_replay.specs.declared.lines.Block.TheVariants as block
 -- the vectors hold the lines of the dataset's quads, in their order
 abbrev pub AreLinesOf : List (Vec ℕ) → Dataset → Type 0
 AreLinesOf keys d = map (λ v. v.items) keys ≡ map line d.quads
-
--- the bytes of vectors, one after another
-abbrev pub joined : List (Vec ℕ) → List ℕ
-joined keys = flat_map (λ v. v.items) keys
 
 -- the next TC or TA is TA
 abbrev pub aborts : List Change → Bool

@@ -11,7 +11,8 @@ use Rattle.stream_replay.specs.declared.fault.ReplayFault.{ReplayFault}
 use Rattle.stream_replay.specs.declared.fault.ReplayFault.TheVariants as ends
 use Rattle.stream_replay.specs.declared.replay.Replay.{Replay}
 use Rattle.stream_replay.specs.declared.replay.Replayed.{Replayed}
-use Rattle.stream_replay.specs.Lines.{AreLinesOf, joined}
+use Rattle.sink_writing.specs.Writing.{joined}
+use Rattle.stream_replay.specs.Lines.{AreLinesOf}
 
 -- a chain so far, and the lines of its dataset
 pub record IsWhole (ms : List Meaning) (r : Replay) : Type 0 where

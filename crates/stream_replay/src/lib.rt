@@ -4,7 +4,6 @@
 //! It holds one piece and the open row, the changes of the open patch, the ids of the chain, and the lines of the dataset.
 #![tactic(auto)]
 
-mod channel;
 mod fault;
 mod lines;
 mod next;
@@ -18,6 +17,6 @@ mod tests;
 mod window;
 
 pub use fault::ReplayFault;
-pub use lines::{Lines, PIECE, write_lines};
+pub use lines::{Lines, write_lines};
 pub use replay::Replayed;
 pub use source::{STREAM_LIMIT, replay_source};

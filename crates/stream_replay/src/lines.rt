@@ -4,13 +4,13 @@ ghost use Rattle.std.specs.Io.KnownBytes.{Appends};
 ghost use Rattle.delta_base.specs.Outside.{Rose};
 ghost use Rattle.rdf_terms.specs.Line.{line};
 ghost use Rattle.rdf_terms.specs.Dataset.{Dataset, apply, effect};
-ghost use Rattle.stream_replay.specs.Channel.{AppendsFront, AppendsFirst};
-ghost use Rattle.stream_replay.specs.Lines.{AreLinesOf, aborts, block_behind, effect_in, joined};
+ghost use Rattle.sink_writing.specs.Writing.{AppendsFront, joined};
+ghost use Rattle.stream_replay.specs.Lines.{AreLinesOf, aborts, block_behind, effect_in};
 
-use crate::channel::write_all;
 use delta_base::{OutOfMemory, Sink};
 use nquads_documents::print_line;
 use rdf_terms::{Change, Quad};
+use sink_writing::{PIECE, put, write_all};
 use std::alloc::Global;
 use std::collections::BTreeSet;
 
@@ -111,9 +111,6 @@ fn line_of(alloc: Global, quad: &Quad) -> Result<Vec<u8>, OutOfMemory>
     Ok(print_line(alloc, quad)?.into_vec())
 }
 
-/// How many bytes of lines are written at once.
-pub const PIECE: usize = 65_536;
-
 /// Writes the lines one after another, and says whether it could. The room takes a piece of them.
 pub fn write_lines<K: Sink>(out: &mut K, lines: &Lines, mut room: Vec<u8>) -> bool
     requires empty { vec_len room ≡ 0 }
@@ -128,28 +125,4 @@ pub fn write_lines<K: Sink>(out: &mut K, lines: &Lines, mut room: Vec<u8>) -> bo
         }
     }
     write_all(out, room.as_slice())
-}
-
-// Puts a line behind those in the room. Where there is no place for it, all are written.
-fn put<K: Sink>(out: &mut K, room: &mut Vec<u8>, line: &[u8]) -> bool
-    requires fits { vec_len room.old ≤ PIECE }
-    requires large { PIECE ≤ vec_capacity room.old }
-    ensures put { result ≡ true → AppendsFirst (K.written out.old) (K.written out.new) (room.old.items ++ line.now) room.new.items }
-    ensures front { result ≡ false → AppendsFront (K.written out.old) (K.written out.new) (room.old.items ++ line.now) }
-    ensures failed { result ≡ false → Rose (K.faults out.old) (K.faults out.new) }
-    ensures never_falls { K.faults out.old ≤ K.faults out.new }
-    ensures fits { vec_len room.new ≤ PIECE }
-    ensures large { PIECE ≤ vec_capacity room.new }
-{
-    if line.len() <= PIECE - room.len() {
-        match room.extend_from_slice(line) {
-            Ok(()) => return true,
-            Err(_) => unreachable!(),
-        }
-    }
-    if !write_all(out, room.as_slice()) {
-        return false;
-    }
-    room.clear();
-    write_all(out, line)
 }

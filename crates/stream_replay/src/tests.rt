@@ -4,6 +4,7 @@ use chain_core::ChainFault;
 use delta_base::{Bytes, Calls, Id, MemSink, MemSource, read_id};
 use patch_meaning::PatchFault;
 use rows_text::RowKind;
+use sink_writing::PIECE;
 use std::alloc::Global;
 use std::process::Abort;
 use std::test::Fail;

@@ -2,9 +2,9 @@ use Rattle.std.proofs.Common.{List, [], ◌++◌, ℕ, subst, arith}
 use Rattle.std.specs.Global.{Vec}
 use Rattle.std.specs.Map.Iter.{deref}
 use Rattle.std.proofs.lemmas.Map.Iter.{rest_more, rest_all}
-use Rattle.stream_replay.specs.Channel.{AppendsFront}
-use Rattle.stream_replay.specs.Lines.{joined}
-use Rattle.stream_replay.proofs.Pieces.{Written, written_front, written_line, line_front}
+use Rattle.sink_writing.specs.Writing.{AppendsFront}
+use Rattle.sink_writing.specs.Writing.{joined}
+use Rattle.sink_writing.proofs.Pieces.{Written, written_front, written_line, line_front}
 use Rattle.stream_replay.proofs.lines.write_lines.Goals as goal
 
 pub returns-then-not-put-clause-front : goal.returns-then-not-put-clause-front

@@ -1,6 +1,6 @@
 use Rattle.std.proofs.Common.{◌≤◌, ◌++◌, vec_len, vec_capacity}
-use Rattle.stream_replay.specs.Lines.{joined}
-use Rattle.stream_replay.proofs.Pieces.{Written}
+use Rattle.sink_writing.specs.Writing.{joined}
+use Rattle.sink_writing.proofs.Pieces.{Written}
 use Rattle.stream_replay.proofs.lines.write_lines.Given as goal
 
 -- what isn't written stands in the room and in the lines that are left

@@ -1,4 +1,4 @@
-use Rattle.std.proofs.Common.{sym, ◌∙◌, arith}
+use Rattle.std.proofs.Common.{sym, ◌∙◌}
 use Rattle.stream_replay.proofs.PassedBlanks.{one_passed}
 use Rattle.stream_replay.proofs.window.blanks_end.Goals as goal
 

@@ -1,4 +1,3 @@
-use Rattle.std.proofs.Common.{◌≤◌, length}
 use Rattle.stream_replay.specs.Blanks.{PassesBlanks}
 use Rattle.stream_replay.proofs.window.blanks_end.Given as goal
 
