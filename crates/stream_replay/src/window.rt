@@ -1,5 +1,5 @@
 //! What is held of a text while it is read.
-ghost use Rattle.std.specs.Prelude.{◌≡◌, ◌+◌, ◌≤◌, ◌^◌, ◌++◌, ◌==◌, ℕ, List, [], length, count_by, OnOk, vec_len};
+ghost use Rattle.std.specs.Prelude.{◌≡◌, ◌+◌, ◌<◌, ◌≤◌, ◌^◌, ◌++◌, ◌==◌, false, slice_index, ℕ, List, [], length, count_by, OnOk, vec_len};
 ghost use Rattle.rows_text.specs.Grammar.{is_space};
 ghost use Rattle.stream_replay.specs.Blanks.{PassesBlanks};
 
@@ -59,6 +59,7 @@ impl Window {
         ensures feeds { self.new.feeds ≡ self.old.feeds }
         ensures further { self.old.from ≤ self.new.from }
         ensures blanks { PassesBlanks self.old.bytes.items self.old.from self.new.from }
+        ensures stops { self.new.from < length self.old.bytes.items → is_space (slice_index self.old.bytes.items self.new.from) ≡ false }
     {
         self.from = blanks_end(self.bytes.as_slice(), self.from);
     }
@@ -68,6 +69,7 @@ impl Window {
         ensures ok { OnOk result ((text : List ℕ) → IsWindow text self.old → IsWindow text self.new) }
         ensures read { self.new.base + self.new.from ≡ self.old.base + self.old.from }
         ensures end { self.new.base + vec_len self.new.bytes ≡ self.old.base + vec_len self.old.bytes }
+        ensures let_go { OnOk result (self.new.from ≡ 0) }
     {
         let rest = Vec::from_slice(alloc, &self.bytes[self.from..])?;
         self.feeds += feeds_in(&self.bytes[..self.from]);
@@ -93,6 +95,7 @@ fn blanks_end(bytes: &[u8], from: usize) -> usize
     ensures low { from ≤ result }
     ensures high { result ≤ length bytes.now }
     ensures blanks { PassesBlanks bytes.now from result }
+    ensures stops { result < length bytes.now → is_space (slice_index bytes.now result) ≡ false }
 {
     for at in from..bytes.len() {
         if !is_blank(bytes[at]) {
