@@ -7,8 +7,8 @@ use Rattle.chain_core.specs.declared.testing.ChainFault.{ChainFault}
 use Rattle.chain_core.specs.declared.testing.ChainFault.TheVariants as chains
 use Rattle.nquads_text.specs.declared.fault.TextKind.{TextKind}
 use Rattle.nquads_text.specs.declared.fault.TextKind.TheVariants as kinds
-use Rattle.rows_text.specs.declared.fault.RowKind.{RowKind}
-use Rattle.rows_text.specs.declared.fault.RowKind.TheVariants as rows
+use Rattle.patch_rows.specs.declared.fault.RowKind.{RowKind}
+use Rattle.patch_rows.specs.declared.fault.RowKind.TheVariants as rows
 use Rattle.patch_meaning.specs.declared.fault.PatchFault.{PatchFault}
 use Rattle.patch_meaning.specs.declared.fault.PatchFault.TheVariants as faults
 use Rattle.slot_checks.specs.Lines.{fault_line}

@@ -9,7 +9,7 @@ use chain_core::ChainFault;
 use delta_base::{Id, OutOfMemory, id_text};
 use nquads_text::TextKind;
 use patch_meaning::PatchFault;
-use rows_text::RowKind;
+use patch_rows::RowKind;
 use slot_checks::fault_text;
 use std::alloc::Global;
 

@@ -2,8 +2,8 @@
 use Rattle.std.proofs.Common.{◌≡◌, ℕ, ◌+◌, ◌≤◌, Bool, true, false, cond, List, [], ◌∷◌, ◌++◌, length, map, Option, Some, None, Result, Ok, Err, refl, sym, ap, subst, ◌∙◌, append-nil, ◌⊎◌, inl, inr, arith}
 use Rattle.std.specs.Prelude.{OnOk, IfOk, IfErr}
 use Rattle.std.proofs.lemmas.List.Sums.{fold-append}
-use Rattle.rows_text.specs.declared.row.Row.{Row}
-use Rattle.rows_text.specs.declared.fault.RowKind.{RowKind}
+use Rattle.patch_rows.specs.declared.row.Row.{Row}
+use Rattle.patch_rows.specs.declared.fault.RowKind.{RowKind}
 use Rattle.patch_meaning.specs.declared.fault.PatchFault.{PatchFault}
 use Rattle.patch_meaning.specs.declared.fault.PatchFault.TheVariants as faults
 use Rattle.patch_meaning.specs.declared.part.Part.{Part as PartRead}

@@ -4,7 +4,7 @@ use Rattle.std.specs.List.{flat_map}
 use Rattle.std.proofs.lemmas.List.{map-append}
 use Rattle.std.proofs.lemmas.Grind.{flat_map-append}
 use Rattle.delta_base.specs.declared.id.Id.{Id}
-use Rattle.rows_text.specs.declared.fault.RowKind.{RowKind}
+use Rattle.patch_rows.specs.declared.fault.RowKind.{RowKind}
 use Rattle.patch_meaning.specs.declared.draft.Draft.{Draft}
 use Rattle.patch_meaning.specs.declared.fault.PatchFault.{PatchFault}
 use Rattle.patch_meaning.specs.declared.fault.PatchFault.TheVariants as faults

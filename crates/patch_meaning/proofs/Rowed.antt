@@ -1,11 +1,11 @@
 -- One more row of a text.
 use Rattle.std.proofs.Common.{ℕ, ◌<◌, ◌≤◌, List, [], ◌∷◌, ◌++◌, length, drop, Err, refl, sym, subst}
-use Rattle.rows_text.specs.declared.row.Row.{Row}
-use Rattle.rows_text.specs.declared.fault.RowFault.{RowFault}
-use Rattle.rows_text.specs.declared.fault.RowFault.TheVariants as faults
-use Rattle.rows_text.specs.Fault.{FailsBy}
-use Rattle.rows_text.specs.Faults.{FirstFault}
-use Rattle.rows_text.specs.Grammar.{IsRowAt}
+use Rattle.patch_rows.specs.declared.row.Row.{Row}
+use Rattle.patch_rows.specs.declared.fault.RowFault.{RowFault}
+use Rattle.patch_rows.specs.declared.fault.RowFault.TheVariants as faults
+use Rattle.patch_rows.specs.Fault.{FailsBy}
+use Rattle.patch_rows.specs.Faults.{FirstFault}
+use Rattle.patch_rows.specs.Grammar.{IsRowAt}
 use Rattle.patch_meaning.specs.Next.{IsNext}
 use Rattle.patch_meaning.specs.Rows.{PlacedRow, Gap, RowsUpTo}
 

@@ -1,11 +1,11 @@
 -- Rows stand in a text in one way.
 use Rattle.std.proofs.Common.{◌≡◌, ℕ, ◌-◌, ◌<◌, ◌≤◌, List, [], ◌∷◌, ◌++◌, length, drop, refl, sym, ap, subst, ◌∙◌, arith}
 use Rattle.std.proofs.lemmas.List.{length-drop}
-use Rattle.rows_text.specs.declared.fault.RowKind.{RowKind}
-use Rattle.rows_text.specs.declared.row.Row.{Row}
-use Rattle.rows_text.specs.Fault.{Fault}
-use Rattle.rows_text.specs.Grammar.{IsRowAt}
-use Rattle.rows_text.proofs.SpaceLaws.{skips}
+use Rattle.patch_rows.specs.declared.fault.RowKind.{RowKind}
+use Rattle.patch_rows.specs.declared.row.Row.{Row}
+use Rattle.patch_rows.specs.Fault.{Fault}
+use Rattle.patch_rows.specs.Grammar.{IsRowAt}
+use Rattle.patch_rows.proofs.SpaceLaws.{skips}
 use Rattle.patch_reader.proofs.RowAnswers.{one_row, one_fault, apart}
 use Rattle.patch_meaning.specs.Rows.{PlacedRow, Gap, RowsUpTo, RowsTo, NoRowAt}
 

@@ -3,11 +3,11 @@ use Rattle.std.specs.Prelude.{◌≡◌, ℕ, ◌<◌, ◌≤◌, Bool, true, fa
 use Rattle.delta_base.specs.declared.id.Id.{Id}
 use Rattle.rdf_terms.specs.declared.change.Change.{Change}
 use Rattle.rdf_terms.specs.declared.change.Change.TheVariants as change
-use Rattle.rows_text.specs.declared.row.Row.{Row}
-use Rattle.rows_text.specs.declared.fault.RowKind.{RowKind}
-use Rattle.rows_text.specs.declared.fault.RowFault.{RowFault}
-use Rattle.rows_text.specs.declared.fault.RowFault.TheVariants as row
-use Rattle.rows_text.specs.Grammar.{IsRowAt}
+use Rattle.patch_rows.specs.declared.row.Row.{Row}
+use Rattle.patch_rows.specs.declared.fault.RowKind.{RowKind}
+use Rattle.patch_rows.specs.declared.fault.RowFault.{RowFault}
+use Rattle.patch_rows.specs.declared.fault.RowFault.TheVariants as row
+use Rattle.patch_rows.specs.Grammar.{IsRowAt}
 use Rattle.patch_meaning.specs.declared.fault.PatchFault.{PatchFault}
 use Rattle.patch_meaning.specs.declared.fault.PatchFault.TheVariants as faults
 use Rattle.patch_meaning.specs.declared.fault.Refusal.{Refusal}

@@ -1,9 +1,9 @@
 -- The rows of a text, one behind another, with white space and comments between them.
 use Rattle.std.specs.Prelude.{◌≡◌, ℕ, ◌<◌, ◌≤◌, List, [], ◌∷◌, drop, length}
-use Rattle.rows_text.specs.declared.row.Row.{Row}
-use Rattle.rows_text.specs.declared.fault.RowKind.{RowKind}
-use Rattle.rows_text.specs.Faults.{FirstFault}
-use Rattle.rows_text.specs.Grammar.{Space, IsRowAt}
+use Rattle.patch_rows.specs.declared.row.Row.{Row}
+use Rattle.patch_rows.specs.declared.fault.RowKind.{RowKind}
+use Rattle.patch_rows.specs.Faults.{FirstFault}
+use Rattle.patch_rows.specs.Grammar.{Space, IsRowAt}
 
 -- a row of a text: what it is, its first byte, and the place behind its dot
 pub record PlacedRow : Type 0 where

@@ -11,7 +11,7 @@ ghost use Rattle.patch_meaning.specs.Rows.{PlacedRow};
 use crate::fault::PatchFault;
 use crate::part::{Part, StreamPatch};
 use crate::role::Role;
-use rows_text::RowKind;
+use patch_rows::RowKind;
 use std::alloc::Global;
 use std::mem;
 

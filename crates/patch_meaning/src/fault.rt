@@ -6,8 +6,8 @@ ghost use Rattle.patch_meaning.specs.declared.fault.PatchFault.TheVariants as fa
 ghost use Rattle.patch_meaning.specs.declared.fault.Stop.TheVariants as stops;
 
 use delta_base::{Back, OutOfMemory};
+use patch_rows::{RowFault, RowKind};
 use rdf_terms::Change;
-use rows_text::{RowFault, RowKind};
 
 /// The first fault of a text, with its place in bytes, or want of memory.
 #[derive(Clone, Copy, Debug, PartialEq, Eq)]

@@ -14,8 +14,8 @@ use crate::draft::Draft;
 use crate::fault::{PatchFault, Stop};
 use crate::role::Role;
 use delta_base::{Id, OutOfMemory};
+use patch_rows::RowKind;
 use rdf_terms::Changes;
-use rows_text::RowKind;
 use std::alloc::Global;
 
 /// The bytes that a patch may have.

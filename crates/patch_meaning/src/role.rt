@@ -4,8 +4,8 @@ ghost use Rattle.std.specs.Prelude.{◌≡◌};
 ghost use Rattle.patch_meaning.specs.Roles.{id_in, iri_id, string_id, value_id, header_role, role};
 
 use delta_base::{Id, Text, read_id};
+use patch_rows::Row;
 use rdf_terms::{Change, LiteralKind, Term};
-use rows_text::Row;
 
 /// What a row says.
 #[derive(Drop)]

@@ -5,7 +5,7 @@ ghost use Rattle.patch_meaning.specs.Next.{IsNext};
 
 use crate::role::{Role, role_of};
 use patch_reader::read_row;
-use rows_text::{RowFault, skip_space};
+use patch_rows::{RowFault, skip_space};
 use std::alloc::Global;
 
 /// What a row says, its first byte, and the place behind its dot.

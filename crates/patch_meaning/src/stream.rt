@@ -12,7 +12,7 @@ use crate::fault::PatchFault;
 use crate::part::{Part, StreamPatch};
 use crate::rows::{Next, next_row};
 use delta_base::Listing;
-use rows_text::RowFault;
+use patch_rows::RowFault;
 use std::alloc::Global;
 
 pub type StreamPatches = Listing<StreamPatch>;

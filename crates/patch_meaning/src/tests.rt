@@ -1,7 +1,7 @@
 //! Patches and their faults, with values from the format's description.
 use super::*;
 use delta_base::{Id, read_id};
-use rows_text::RowKind;
+use patch_rows::RowKind;
 use std::alloc::Global;
 use std::test::Fail;
 

@@ -2,12 +2,12 @@
 use Rattle.std.proofs.Common.{◌≡◌, ℕ, ◌+◌, ◌-◌, ◌<◌, ◌≤◌, Bool, true, false, List, [], ◌∷◌, ◌++◌, length, take, drop, Ok, Err, nat_eq, nat_lt, eq-eqb, refl, sym, ap, subst, ◌∙◌, arith, append_assoc}
 use Rattle.std.proofs.lemmas.Bool.{ne_eqb, lt-ltb, le-ltb}
 use Rattle.std.proofs.lemmas.List.{length-append, length-drop, length-take-le, take-append-drop, drop-append-le, drop-take, drop-drop}
-use Rattle.rows_text.specs.declared.fault.RowKind.{RowKind}
-use Rattle.rows_text.specs.declared.fault.RowKind.TheVariants.{TooLong}
-use Rattle.rows_text.specs.declared.row.Row.{Row}
-use Rattle.rows_text.specs.Fault.{Fault, Read}
-use Rattle.rows_text.specs.Grammar.{row_limit, row_front}
-use Rattle.rows_text.specs.Reading.{row_at}
+use Rattle.patch_rows.specs.declared.fault.RowKind.{RowKind}
+use Rattle.patch_rows.specs.declared.fault.RowKind.TheVariants.{TooLong}
+use Rattle.patch_rows.specs.declared.row.Row.{Row}
+use Rattle.patch_rows.specs.Fault.{Fault, Read}
+use Rattle.patch_rows.specs.Grammar.{row_limit, row_front}
+use Rattle.patch_rows.specs.Reading.{row_at}
 use Rattle.patch_reader.specs.Cut.{ends_row}
 use Rattle.patch_reader.specs.Limit.{of_front, front_row_at, limited_row_at}
 use Rattle.patch_reader.specs.Live.{live_row}

@@ -2,9 +2,9 @@
 use Rattle.std.proofs.Common.{◌≡◌, ℕ, ◌+◌, ◌<◌, ◌≤◌, Bool, true, false, List, [], ◌∷◌, ◌++◌, length, drop, get_or, Ok, Err, not, refl, sym, ap, ◌∙◌, arith}
 use Rattle.std.proofs.lemmas.List.{length-append, drop-append-le, get_or_append_left}
 use Rattle.nquads_text.specs.Reading.{char_at}
-use Rattle.rows_text.specs.Grammar.{is_line_end, is_space}
-use Rattle.rows_text.specs.Reading.{space_behind}
-use Rattle.rows_text.proofs.SpaceSteps.{in_comment, at_hash as hash_there, past_blank as blank_there, at_other as other_there}
+use Rattle.patch_rows.specs.Grammar.{is_line_end, is_space}
+use Rattle.patch_rows.specs.Reading.{space_behind}
+use Rattle.patch_rows.proofs.SpaceSteps.{in_comment, at_hash as hash_there, past_blank as blank_there, at_other as other_there}
 use Rattle.patch_reader.proofs.Stays.{ok_char}
 
 -- a character of the text is one of each longer text

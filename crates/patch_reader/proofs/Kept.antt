@@ -2,15 +2,15 @@
 use Rattle.std.proofs.Common.{◌≡◌, ℕ, ◌+◌, ◌-◌, ◌^◌, ◌<◌, ◌≤◌, min, true, false, List, [], ◌∷◌, ◌++◌, length, drop, Option, Some, None, Result, Ok, Err, refl, sym, ap, subst, ◌∙◌, ⊎_elim, append_assoc, append-nil, arith}
 use Rattle.std.proofs.lemmas.Bool.{false≢true}
 use Rattle.std.proofs.lemmas.List.{length-append, length-drop, drop-append-le, drop-drop}
-use Rattle.rows_text.specs.declared.fault.RowFault.{RowFault as RowAnswer}
-use Rattle.rows_text.specs.declared.fault.RowFault.TheVariants as faults
-use Rattle.rows_text.specs.declared.fault.RowKind.{RowKind}
-use Rattle.rows_text.specs.declared.row.Row.{Row}
-use Rattle.rows_text.specs.Fault.{Fault, FailsBy}
-use Rattle.rows_text.specs.Faults.{FirstFault}
-use Rattle.rows_text.specs.Grammar.{Space, ShortRowAt, IsRowAt}
-use Rattle.rows_text.specs.Reading.{skip_space}
-use Rattle.rows_text.proofs.SpaceLaws.{skips}
+use Rattle.patch_rows.specs.declared.fault.RowFault.{RowFault as RowAnswer}
+use Rattle.patch_rows.specs.declared.fault.RowFault.TheVariants as faults
+use Rattle.patch_rows.specs.declared.fault.RowKind.{RowKind}
+use Rattle.patch_rows.specs.declared.row.Row.{Row}
+use Rattle.patch_rows.specs.Fault.{Fault, FailsBy}
+use Rattle.patch_rows.specs.Faults.{FirstFault}
+use Rattle.patch_rows.specs.Grammar.{Space, ShortRowAt, IsRowAt}
+use Rattle.patch_rows.specs.Reading.{skip_space}
+use Rattle.patch_rows.proofs.SpaceLaws.{skips}
 use Rattle.patch_reader.specs.declared.placed.PlacedRow.{PlacedRow}
 use Rattle.patch_reader.specs.declared.placed.TextEnd.{TextEnd}
 use Rattle.patch_reader.specs.declared.placed.TextEnd.TheVariants as ends

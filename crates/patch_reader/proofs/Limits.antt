@@ -4,15 +4,15 @@ use Rattle.std.proofs.lemmas.Bool.{false≢true, ne_eqb, lt-ltb, le-ltb, cases_l
 use Rattle.std.proofs.lemmas.Bool.Decides.{nat_tests}
 use Rattle.std.proofs.lemmas.List.{length-append, length-drop, length-take-le, take-append-le, take-append-drop, drop-append-le}
 use Rattle.std.proofs.Math.Seq.{take-append-add, drop-append-add}
-use Rattle.rows_text.specs.declared.fault.RowKind.{RowKind}
-use Rattle.rows_text.specs.declared.fault.RowKind.TheVariants.{TooLong}
-use Rattle.rows_text.specs.declared.row.Row.{Row}
-use Rattle.rows_text.specs.Fault.{Fault, Read}
-use Rattle.rows_text.specs.Faults.{RowFault, FaultDecided, FirstFault}
-use Rattle.rows_text.specs.Grammar.{RowAt, RowDecided, row_limit, row_front, IsSettled, ShortRowAt}
-use Rattle.rows_text.specs.Reading.{row_at}
-use Rattle.rows_text.proofs.Exact.{Exact, exact_ok, exact_err, restated, ok_is, err_is, ok_no_err, err_no_ok}
-use Rattle.rows_text.proofs.WholeRow.{exact_row}
+use Rattle.patch_rows.specs.declared.fault.RowKind.{RowKind}
+use Rattle.patch_rows.specs.declared.fault.RowKind.TheVariants.{TooLong}
+use Rattle.patch_rows.specs.declared.row.Row.{Row}
+use Rattle.patch_rows.specs.Fault.{Fault, Read}
+use Rattle.patch_rows.specs.Faults.{RowFault, FaultDecided, FirstFault}
+use Rattle.patch_rows.specs.Grammar.{RowAt, RowDecided, row_limit, row_front, IsSettled, ShortRowAt}
+use Rattle.patch_rows.specs.Reading.{row_at}
+use Rattle.patch_rows.proofs.Exact.{Exact, exact_ok, exact_err, restated, ok_is, err_is, ok_no_err, err_no_ok}
+use Rattle.patch_rows.proofs.WholeRow.{exact_row}
 use Rattle.patch_reader.specs.Cut.{ends_row}
 use Rattle.patch_reader.specs.Decided.{Undecided, ShortRowDecided, FirstFaultDecided, MoreDecides}
 use Rattle.patch_reader.specs.Limit.{of_front, front_row_at, limited_row_at}

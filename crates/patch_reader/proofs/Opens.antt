@@ -15,15 +15,15 @@ use Rattle.nquads_text.specs.Fault.{Read as TextRead}
 use Rattle.nquads_text.specs.Faults.{begins_term}
 use Rattle.nquads_text.specs.Reading.{char_at, iri_piece, pieces_at}
 use Rattle.nquads_text.specs.Terms.{label_at, term_at}
-use Rattle.rows_text.specs.declared.codes.Code.{Code}
-use Rattle.rows_text.specs.declared.codes.Code.TheVariants as code
-use Rattle.rows_text.specs.declared.fault.RowKind.{RowKind}
-use Rattle.rows_text.specs.declared.fault.RowKind.TheVariants.{Common, WrongCount}
-use Rattle.rows_text.specs.declared.row.Row.TheVariants as row
-use Rattle.rows_text.specs.Fault.{Fault, Read, ◌>>=◌, in_row}
-use Rattle.rows_text.specs.Faults.{is_dot}
-use Rattle.rows_text.specs.Grammar.{is_space, is_word_byte, is_any, is_node}
-use Rattle.rows_text.specs.Reading.{space_behind, skip_space, stands, other, begins_blank, whole_label, bracketed, bracket_at, row_term_at, needed_term_at, placed_at, key_at, past_colon, plain_text, plain_of, or_bad_position, quoted_at, prefix_at, iri_of_string, iri_of_term, prefix_iri_at, dot_at, end_at, graph_or_dot, graph_at, header_at, bare_at, quad_at, added_at, removed_at, parts_at, code_named, by_code, uncut, word_at, row_at}
+use Rattle.patch_rows.specs.declared.codes.Code.{Code}
+use Rattle.patch_rows.specs.declared.codes.Code.TheVariants as code
+use Rattle.patch_rows.specs.declared.fault.RowKind.{RowKind}
+use Rattle.patch_rows.specs.declared.fault.RowKind.TheVariants.{Common, WrongCount}
+use Rattle.patch_rows.specs.declared.row.Row.TheVariants as row
+use Rattle.patch_rows.specs.Fault.{Fault, Read, ◌>>=◌, in_row}
+use Rattle.patch_rows.specs.Faults.{is_dot}
+use Rattle.patch_rows.specs.Grammar.{is_space, is_word_byte, is_any, is_node}
+use Rattle.patch_rows.specs.Reading.{space_behind, skip_space, stands, other, begins_blank, whole_label, bracketed, bracket_at, row_term_at, needed_term_at, placed_at, key_at, past_colon, plain_text, plain_of, or_bad_position, quoted_at, prefix_at, iri_of_string, iri_of_term, prefix_iri_at, dot_at, end_at, graph_or_dot, graph_at, header_at, bare_at, quad_at, added_at, removed_at, parts_at, code_named, by_code, uncut, word_at, row_at}
 use Rattle.patch_reader.specs.Cut.{leads, is_cut, ends_text, ends_row, literal_open, blank_open}
 use Rattle.patch_reader.specs.Live.{live_term, live_placed, live_key, live_quoted, live_word_prefix, live_prefix, live_prefix_iri, live_graph_or_dot, live_graph, live_header, live_bare, live_quad, live_added, live_removed, live_parts, live_by_code, live_row}
 use Rattle.patch_reader.proofs.TokenStays.{IsBlank}

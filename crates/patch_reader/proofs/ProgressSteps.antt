@@ -14,9 +14,9 @@ use Rattle.nquads_text.specs.Reading.{char_at, string_piece, iri_piece, short_or
 use Rattle.nquads_text.proofs.Fronts.{char_at-ascii, char_ascii}
 use Rattle.nquads_text.proofs.Plain.{with_nothing}
 use Rattle.nquads_text.proofs.Runs.{more as piece_more, pieces-fault}
-use Rattle.rows_text.specs.declared.fault.RowKind.{RowKind}
-use Rattle.rows_text.specs.Fault.{Fault}
-use Rattle.rows_text.specs.Reading.{skip_space, space_behind, stands, word_at, code_named}
+use Rattle.patch_rows.specs.declared.fault.RowKind.{RowKind}
+use Rattle.patch_rows.specs.Fault.{Fault}
+use Rattle.patch_rows.specs.Reading.{skip_space, space_behind, stands, word_at, code_named}
 use Rattle.patch_reader.specs.declared.codes.Code.{Code}
 use Rattle.patch_reader.specs.declared.progress.Inside.{Inside}
 use Rattle.patch_reader.specs.declared.progress.Inside.TheVariants as inside

@@ -7,16 +7,16 @@ use Rattle.std.specs.Result.{is_ok, is_err}
 use Rattle.nquads_text.specs.Fault.{Fault as TextFault}
 use Rattle.nquads_text.specs.Reading.{char_at}
 use Rattle.nquads_text.proofs.Fronts.{char_at-ascii}
-use Rattle.rows_text.specs.declared.fault.RowFault.{RowFault as RowAnswer}
-use Rattle.rows_text.specs.declared.fault.RowFault.TheVariants as faults
-use Rattle.rows_text.specs.declared.fault.RowKind.{RowKind}
-use Rattle.rows_text.specs.Fault.{Fault, Read}
-use Rattle.rows_text.specs.Faults.{FirstFault}
-use Rattle.rows_text.specs.Grammar.{Space, is_space, IsRowAt, row_limit}
-use Rattle.rows_text.specs.Reading.{space_behind, skip_space}
-use Rattle.rows_text.proofs.Shorter.{space_le}
-use Rattle.rows_text.proofs.SpaceLaws.{skipped, skips}
-use Rattle.rows_text.proofs.SpaceSteps.{no_char, at_other}
+use Rattle.patch_rows.specs.declared.fault.RowFault.{RowFault as RowAnswer}
+use Rattle.patch_rows.specs.declared.fault.RowFault.TheVariants as faults
+use Rattle.patch_rows.specs.declared.fault.RowKind.{RowKind}
+use Rattle.patch_rows.specs.Fault.{Fault, Read}
+use Rattle.patch_rows.specs.Faults.{FirstFault}
+use Rattle.patch_rows.specs.Grammar.{Space, is_space, IsRowAt, row_limit}
+use Rattle.patch_rows.specs.Reading.{space_behind, skip_space}
+use Rattle.patch_rows.proofs.Shorter.{space_le}
+use Rattle.patch_rows.proofs.SpaceLaws.{skipped, skips}
+use Rattle.patch_rows.proofs.SpaceSteps.{no_char, at_other}
 use Rattle.patch_reader.specs.declared.pieces.PatchReader.{PatchReader}
 use Rattle.patch_reader.specs.declared.placed.PlacedRow.{PlacedRow}
 use Rattle.patch_reader.specs.declared.placed.TextEnd.{TextEnd}

@@ -1,16 +1,16 @@
 -- What the answer of a reader of rows says, by the grammar and the table of faults.
 use Rattle.std.proofs.Common.{◌≡◌, ℕ, ◌+◌, ◌-◌, ◌<◌, ◌≤◌, List, length, drop, Result, Ok, Err, IfOk, IfErr, refl, sym, ap, ◌∙◌, ◌⊎◌, inl, inr, arith}
 use Rattle.std.proofs.lemmas.List.{length-drop}
-use Rattle.rows_text.specs.declared.fault.RowFault.{RowFault}
-use Rattle.rows_text.specs.declared.fault.RowFault.TheVariants as faults
-use Rattle.rows_text.specs.declared.row.Row.{Row}
-use Rattle.rows_text.specs.Fault.{Fault, Gives, FailsBy, IsAnswer, IsFaultAnswer}
-use Rattle.rows_text.specs.Grammar.{ShortRowAt, IsRowAt}
-use Rattle.rows_text.specs.Faults.{FirstFault}
+use Rattle.patch_rows.specs.declared.fault.RowFault.{RowFault}
+use Rattle.patch_rows.specs.declared.fault.RowFault.TheVariants as faults
+use Rattle.patch_rows.specs.declared.row.Row.{Row}
+use Rattle.patch_rows.specs.Fault.{Fault, Gives, FailsBy, IsAnswer, IsFaultAnswer}
+use Rattle.patch_rows.specs.Grammar.{ShortRowAt, IsRowAt}
+use Rattle.patch_rows.specs.Faults.{FirstFault}
 use Rattle.patch_reader.specs.Limit.{limited_row_at}
-use Rattle.rows_text.proofs.Exact.{ok_is, err_is, ok_no_err}
+use Rattle.patch_rows.proofs.Exact.{ok_is, err_is, ok_no_err}
 use Rattle.patch_reader.proofs.Limits.{exact_limited}
-use Rattle.rows_text.proofs.Shorter.{row_shorter}
+use Rattle.patch_rows.proofs.Shorter.{row_shorter}
 
 abbrev RowGiven : List ℕ → ℕ → Result (Row × ℕ) RowFault → Type 0
 RowGiven text at result = Gives text result (limited_row_at (drop at text))

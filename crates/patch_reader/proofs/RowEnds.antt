@@ -3,12 +3,12 @@ use Rattle.std.proofs.Common.{◌≡◌, ℕ, ◌≤◌, true, false, List, [], 
 use Rattle.std.proofs.lemmas.Bool.{false≢true}
 use Rattle.std.specs.Char.{is_ascii_alphabetic}
 use Rattle.nquads_text.specs.declared.fault.TextKind.TheVariants.{BadToken}
-use Rattle.rows_text.specs.declared.fault.RowKind.TheVariants.{Common}
-use Rattle.rows_text.specs.declared.row.Row.{Row}
-use Rattle.rows_text.specs.Fault.{Fault}
-use Rattle.rows_text.specs.Grammar.{Space, row_limit}
-use Rattle.rows_text.specs.Reading.{skip_space, word_at}
-use Rattle.rows_text.proofs.SpaceLaws.{skipped, skips}
+use Rattle.patch_rows.specs.declared.fault.RowKind.TheVariants.{Common}
+use Rattle.patch_rows.specs.declared.row.Row.{Row}
+use Rattle.patch_rows.specs.Fault.{Fault}
+use Rattle.patch_rows.specs.Grammar.{Space, row_limit}
+use Rattle.patch_rows.specs.Reading.{skip_space, word_at}
+use Rattle.patch_rows.proofs.SpaceLaws.{skipped, skips}
 use Rattle.patch_reader.specs.Cut.{is_cut}
 use Rattle.patch_reader.specs.Live.{live_row}
 use Rattle.patch_reader.proofs.Completions.{front_length}

@@ -14,13 +14,13 @@ use Rattle.nquads_text.specs.Faults.{begins_term}
 use Rattle.nquads_text.specs.Reading.{char_at, iri_body_at, string_body_at, iri_piece, string_piece, pieces_at}
 use Rattle.nquads_text.specs.Terms.{literal_at, suffix_at, term_at}
 use Rattle.nquads_text.proofs.Fronts.{char_at-ascii}
-use Rattle.rows_text.specs.declared.codes.Code.{Code as RowCode}
-use Rattle.rows_text.specs.declared.fault.RowKind.TheVariants.{Common}
-use Rattle.rows_text.specs.declared.row.Row.{Row}
-use Rattle.rows_text.specs.Fault.{Fault, Read, ◌>>=◌, in_row}
-use Rattle.rows_text.specs.Faults.{is_dot}
-use Rattle.rows_text.specs.Grammar.{is_word_byte, is_any, is_node}
-use Rattle.rows_text.specs.Reading.{skip_space, stands, row_term_at, bracket_at, needed_term_at, placed_at, run_of, key_at, past_colon, quoted_at, prefix_iri_at, uncut, other, dot_at, end_at, code_named, word_at}
+use Rattle.patch_rows.specs.declared.codes.Code.{Code as RowCode}
+use Rattle.patch_rows.specs.declared.fault.RowKind.TheVariants.{Common}
+use Rattle.patch_rows.specs.declared.row.Row.{Row}
+use Rattle.patch_rows.specs.Fault.{Fault, Read, ◌>>=◌, in_row}
+use Rattle.patch_rows.specs.Faults.{is_dot}
+use Rattle.patch_rows.specs.Grammar.{is_word_byte, is_any, is_node}
+use Rattle.patch_rows.specs.Reading.{skip_space, stands, row_term_at, bracket_at, needed_term_at, placed_at, run_of, key_at, past_colon, quoted_at, prefix_iri_at, uncut, other, dot_at, end_at, code_named, word_at}
 use Rattle.patch_reader.specs.declared.codes.Code.{Code}
 use Rattle.patch_reader.specs.declared.codes.Code.TheVariants as code
 use Rattle.patch_reader.specs.declared.progress.Part.{Part}

@@ -13,14 +13,14 @@ use Rattle.nquads_text.specs.Fault.{Read as TextRead}
 use Rattle.nquads_text.specs.Faults.{begins_term}
 use Rattle.nquads_text.specs.Reading.{char_at, iri_piece, pieces_at}
 use Rattle.nquads_text.specs.Terms.{label_at, term_at}
-use Rattle.rows_text.specs.declared.codes.Code.{Code}
-use Rattle.rows_text.specs.declared.codes.Code.TheVariants as code
-use Rattle.rows_text.specs.declared.fault.RowKind.{RowKind}
-use Rattle.rows_text.specs.declared.fault.RowKind.TheVariants.{Common, UnknownCode, WrongCount, TooLong}
-use Rattle.rows_text.specs.Fault.{Fault, ◌>>=◌, in_row}
-use Rattle.rows_text.specs.Faults.{is_dot}
-use Rattle.rows_text.specs.Grammar.{is_any, is_node}
-use Rattle.rows_text.specs.Reading.{skip_space, stands, other, begins_blank, whole_label, bracketed, bracket_at, row_term_at, needed_term_at, placed_at, key_at, plain_of, plain_text, or_bad_position, quoted_at, prefix_at, iri_of_string, iri_of_term, prefix_iri_at, dot_at, end_at, graph_or_dot, graph_at, header_at, bare_at, quad_at, added_at, removed_at, parts_at, code_named, by_code, word_at, row_at}
+use Rattle.patch_rows.specs.declared.codes.Code.{Code}
+use Rattle.patch_rows.specs.declared.codes.Code.TheVariants as code
+use Rattle.patch_rows.specs.declared.fault.RowKind.{RowKind}
+use Rattle.patch_rows.specs.declared.fault.RowKind.TheVariants.{Common, UnknownCode, WrongCount, TooLong}
+use Rattle.patch_rows.specs.Fault.{Fault, ◌>>=◌, in_row}
+use Rattle.patch_rows.specs.Faults.{is_dot}
+use Rattle.patch_rows.specs.Grammar.{is_any, is_node}
+use Rattle.patch_rows.specs.Reading.{skip_space, stands, other, begins_blank, whole_label, bracketed, bracket_at, row_term_at, needed_term_at, placed_at, key_at, plain_of, plain_text, or_bad_position, quoted_at, prefix_at, iri_of_string, iri_of_term, prefix_iri_at, dot_at, end_at, graph_or_dot, graph_at, header_at, bare_at, quad_at, added_at, removed_at, parts_at, code_named, by_code, word_at, row_at}
 use Rattle.patch_reader.proofs.Shapes.{Place, Text, char_placed, pieces_placed, iri_piece_placed, term_placed}
 
 -- where a fault of this kind stands

@@ -4,15 +4,15 @@ use Rattle.std.proofs.lemmas.Bool.{false≢true}
 use Rattle.std.proofs.lemmas.List.{length-append}
 use Rattle.nquads_text.specs.declared.fault.TextKind.TheVariants.{NotUtf8, BadIri, RelativeIri, BadEscape, BadLabel, BadLang, LangStringWithoutTag, BadPosition, MissingDot, BadToken, Truncated}
 use Rattle.nquads_text.specs.Reading.{char_at}
-use Rattle.rows_text.specs.declared.fault.RowKind.{RowKind}
-use Rattle.rows_text.specs.declared.fault.RowKind.TheVariants.{Common, UnknownCode, WrongCount, TooLong}
-use Rattle.rows_text.specs.declared.row.Row.{Row}
-use Rattle.rows_text.specs.Fault.{Fault, Read}
-use Rattle.rows_text.specs.Reading.{row_at}
-use Rattle.rows_text.proofs.WholeRow.{exact_row}
+use Rattle.patch_rows.specs.declared.fault.RowKind.{RowKind}
+use Rattle.patch_rows.specs.declared.fault.RowKind.TheVariants.{Common, UnknownCode, WrongCount, TooLong}
+use Rattle.patch_rows.specs.declared.row.Row.{Row}
+use Rattle.patch_rows.specs.Fault.{Fault, Read}
+use Rattle.patch_rows.specs.Reading.{row_at}
+use Rattle.patch_rows.proofs.WholeRow.{exact_row}
 use Rattle.patch_reader.specs.Cut.{is_front, ends_text, ends_row}
-use Rattle.rows_text.specs.Faults.{FaultDecided}
-use Rattle.rows_text.specs.Grammar.{RowDecided}
+use Rattle.patch_rows.specs.Faults.{FaultDecided}
+use Rattle.patch_rows.specs.Grammar.{RowDecided}
 use Rattle.patch_reader.specs.Decided.{Undecided}
 use Rattle.patch_reader.specs.Live.{live_row}
 use Rattle.patch_reader.proofs.Completions.{stop, front_completed}

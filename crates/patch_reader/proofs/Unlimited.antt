@@ -15,17 +15,17 @@ use Rattle.nquads_text.specs.Fault.{Fault as TextFault, Read as TextRead}
 use Rattle.nquads_text.specs.Faults.{begins_term}
 use Rattle.nquads_text.specs.Reading.{char_at, iri_body_at}
 use Rattle.nquads_text.specs.Terms.{label_at, term_at}
-use Rattle.rows_text.specs.declared.codes.Code.{Code}
-use Rattle.rows_text.specs.declared.codes.Code.TheVariants as code
-use Rattle.rows_text.specs.declared.fault.RowKind.{RowKind}
-use Rattle.rows_text.specs.declared.fault.RowKind.TheVariants.{Common, UnknownCode, WrongCount, TooLong}
-use Rattle.rows_text.specs.declared.row.Row.{Row}
-use Rattle.rows_text.specs.declared.row.Row.TheVariants as row
-use Rattle.rows_text.specs.Fault.{Fault, Read, ◌>>=◌, in_row}
-use Rattle.rows_text.specs.Faults.{is_dot, RowFault}
-use Rattle.rows_text.specs.Grammar.{is_word_byte, is_any, is_node}
-use Rattle.rows_text.specs.Reading.{skip_space, stands, fault_or, other, begins_blank, whole_label, bracketed, bracket_at, row_term_at, needed_term_at, placed_at, run_of, key_at, past_colon, plain_of, plain_text, or_bad_position, quoted_at, prefix_at, iri_of_string, iri_of_term, prefix_iri_at, dot_at, end_at, graph_or_dot, graph_at, header_at, bare_at, quad_at, added_at, removed_at, parts_at, code_named, by_code, uncut, word_at, row_at}
-use Rattle.rows_text.proofs.WholeRow.{exact_row}
+use Rattle.patch_rows.specs.declared.codes.Code.{Code}
+use Rattle.patch_rows.specs.declared.codes.Code.TheVariants as code
+use Rattle.patch_rows.specs.declared.fault.RowKind.{RowKind}
+use Rattle.patch_rows.specs.declared.fault.RowKind.TheVariants.{Common, UnknownCode, WrongCount, TooLong}
+use Rattle.patch_rows.specs.declared.row.Row.{Row}
+use Rattle.patch_rows.specs.declared.row.Row.TheVariants as row
+use Rattle.patch_rows.specs.Fault.{Fault, Read, ◌>>=◌, in_row}
+use Rattle.patch_rows.specs.Faults.{is_dot, RowFault}
+use Rattle.patch_rows.specs.Grammar.{is_word_byte, is_any, is_node}
+use Rattle.patch_rows.specs.Reading.{skip_space, stands, fault_or, other, begins_blank, whole_label, bracketed, bracket_at, row_term_at, needed_term_at, placed_at, run_of, key_at, past_colon, plain_of, plain_text, or_bad_position, quoted_at, prefix_at, iri_of_string, iri_of_term, prefix_iri_at, dot_at, end_at, graph_or_dot, graph_at, header_at, bare_at, quad_at, added_at, removed_at, parts_at, code_named, by_code, uncut, word_at, row_at}
+use Rattle.patch_rows.proofs.WholeRow.{exact_row}
 
 abbrev Unlimited : {X : Type 0} → Result X Fault → Type 0
 Unlimited (Ok x) = Unit {0}

@@ -1,6 +1,6 @@
 -- The codes of rows, as the grammar has them.
-use Rattle.rows_text.specs.declared.codes.Code.{Code as RowCode}
-use Rattle.rows_text.specs.declared.codes.Code.TheVariants as row
+use Rattle.patch_rows.specs.declared.codes.Code.{Code as RowCode}
+use Rattle.patch_rows.specs.declared.codes.Code.TheVariants as row
 use Rattle.patch_reader.specs.declared.codes.Code.{Code}
 use Rattle.patch_reader.specs.declared.codes.Code.TheVariants as code
 

@@ -9,9 +9,9 @@ use Rattle.rdf_terms.specs.declared.term.Term.TheVariants as term
 use Rattle.nquads_text.specs.declared.fault.TextKind.{TextKind}
 use Rattle.nquads_text.specs.declared.fault.TextKind.TheVariants.{NotUtf8, BadIri, RelativeIri, BadEscape, BadLabel, BadLang, LangStringWithoutTag, BadPosition, MissingDot, BadToken, Truncated}
 use Rattle.nquads_text.specs.Grammar.{is_blank}
-use Rattle.rows_text.specs.declared.fault.RowKind.{RowKind}
-use Rattle.rows_text.specs.declared.fault.RowKind.TheVariants.{Common, UnknownCode, WrongCount, TooLong}
-use Rattle.rows_text.specs.Reading.{stands}
+use Rattle.patch_rows.specs.declared.fault.RowKind.{RowKind}
+use Rattle.patch_rows.specs.declared.fault.RowKind.TheVariants.{Common, UnknownCode, WrongCount, TooLong}
+use Rattle.patch_rows.specs.Reading.{stands}
 
 -- a byte with which a character of several bytes begins
 abbrev pub leads : ℕ → Bool

@@ -1,11 +1,11 @@
 -- What is decided of the row at a text's front, before the end of the text is known.
 use Rattle.std.specs.Prelude.{◌≡◌, ℕ, ◌<◌, ◌≤◌, List, [], ◌++◌, length, drop, Option, Some, None, Result, Ok, Err}
-use Rattle.rows_text.specs.declared.row.Row.{Row}
-use Rattle.rows_text.specs.declared.fault.RowFault.{RowFault as RowAnswer}
-use Rattle.rows_text.specs.declared.fault.RowFault.TheVariants as faults
-use Rattle.rows_text.specs.Fault.{Fault}
-use Rattle.rows_text.specs.Faults.{FaultDecided, FirstFault}
-use Rattle.rows_text.specs.Grammar.{RowDecided, ShortRowAt, IsRowAt}
+use Rattle.patch_rows.specs.declared.row.Row.{Row}
+use Rattle.patch_rows.specs.declared.fault.RowFault.{RowFault as RowAnswer}
+use Rattle.patch_rows.specs.declared.fault.RowFault.TheVariants as faults
+use Rattle.patch_rows.specs.Fault.{Fault}
+use Rattle.patch_rows.specs.Faults.{FaultDecided, FirstFault}
+use Rattle.patch_rows.specs.Grammar.{RowDecided, ShortRowAt, IsRowAt}
 use Rattle.patch_reader.specs.declared.placed.TextEnd.{TextEnd}
 use Rattle.patch_reader.specs.declared.placed.TextEnd.TheVariants as ends
 

@@ -8,15 +8,15 @@ use Rattle.rdf_terms.specs.declared.term.Term.{Term}
 use Rattle.rdf_terms.specs.Quad.{Statement, statement, is_iri}
 use Rattle.nquads_text.specs.declared.fault.TextKind.TheVariants.{BadPosition, MissingDot, BadToken, Truncated}
 use Rattle.nquads_text.specs.Faults.{begins_term}
-use Rattle.rows_text.specs.declared.codes.Code.{Code}
-use Rattle.rows_text.specs.declared.codes.Code.TheVariants as code
-use Rattle.rows_text.specs.declared.fault.RowKind.TheVariants.{Common, UnknownCode}
-use Rattle.rows_text.specs.declared.row.Row.{Row}
-use Rattle.rows_text.specs.declared.row.Row.TheVariants as row
-use Rattle.rows_text.specs.Fault.{Read, ◌>>=◌}
-use Rattle.rows_text.specs.Grammar.{is_word_byte, is_any, is_node}
-use Rattle.rows_text.specs.Faults.{is_dot}
-use Rattle.rows_text.specs.Reading.{skip_space, stands, other, needed_term_at, key_at, past_colon, plain_text, or_bad_position, iri_of_term, dot_at, end_at, uncut, word_at, code_named}
+use Rattle.patch_rows.specs.declared.codes.Code.{Code}
+use Rattle.patch_rows.specs.declared.codes.Code.TheVariants as code
+use Rattle.patch_rows.specs.declared.fault.RowKind.TheVariants.{Common, UnknownCode}
+use Rattle.patch_rows.specs.declared.row.Row.{Row}
+use Rattle.patch_rows.specs.declared.row.Row.TheVariants as row
+use Rattle.patch_rows.specs.Fault.{Read, ◌>>=◌}
+use Rattle.patch_rows.specs.Grammar.{is_word_byte, is_any, is_node}
+use Rattle.patch_rows.specs.Faults.{is_dot}
+use Rattle.patch_rows.specs.Reading.{skip_space, stands, other, needed_term_at, key_at, past_colon, plain_text, or_bad_position, iri_of_term, dot_at, end_at, uncut, word_at, code_named}
 use Rattle.patch_reader.specs.Cut.{literal_open, blank_open}
 
 -- a term whose end is known, but for a label's

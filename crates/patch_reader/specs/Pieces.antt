@@ -2,8 +2,8 @@
 use Rattle.std.specs.Prelude.{◌≡◌, ℕ, ◌≤◌, true, false, List, [], ◌∷◌, ◌++◌, length, drop, Option, Some, None, Err}
 use Rattle.nquads_text.specs.Fault.{Fault as TextFault}
 use Rattle.nquads_text.specs.Reading.{char_at}
-use Rattle.rows_text.specs.declared.row.Row.{Row}
-use Rattle.rows_text.specs.Reading.{space_behind, skip_space}
+use Rattle.patch_rows.specs.declared.row.Row.{Row}
+use Rattle.patch_rows.specs.Reading.{space_behind, skip_space}
 use Rattle.patch_reader.specs.declared.placed.PlacedRow.{PlacedRow}
 use Rattle.patch_reader.specs.declared.placed.TextEnd.{TextEnd}
 use Rattle.patch_reader.specs.declared.placed.TextEnd.TheVariants as ends

@@ -1,8 +1,8 @@
 -- Places in what is kept, as places of the whole text.
 use Rattle.std.specs.Prelude.{ℕ, ◌+◌, ◌-◌, ◌^◌, min, Option, Some, None, Result, Ok, Err}
-use Rattle.rows_text.specs.declared.row.Row.{Row}
-use Rattle.rows_text.specs.declared.fault.RowFault.{RowFault as RowAnswer}
-use Rattle.rows_text.specs.declared.fault.RowFault.TheVariants as faults
+use Rattle.patch_rows.specs.declared.row.Row.{Row}
+use Rattle.patch_rows.specs.declared.fault.RowFault.{RowFault as RowAnswer}
+use Rattle.patch_rows.specs.declared.fault.RowFault.TheVariants as faults
 use Rattle.patch_reader.specs.declared.placed.PlacedRow.{PlacedRow}
 
 -- the place so far behind the other one, as a u64

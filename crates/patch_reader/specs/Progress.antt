@@ -6,10 +6,10 @@ use Rattle.nquads_text.specs.Fault.{Read as TextRead}
 use Rattle.nquads_text.specs.Faults.{begins_term}
 use Rattle.nquads_text.specs.Grammar.{echar}
 use Rattle.nquads_text.specs.Reading.{iri_piece, string_piece, pieces_at}
-use Rattle.rows_text.specs.declared.fault.RowKind.TheVariants.{Common}
-use Rattle.rows_text.specs.Fault.{Fault, ◌>>=◌}
-use Rattle.rows_text.specs.Grammar.{is_any, is_node}
-use Rattle.rows_text.specs.Reading.{space_behind, skip_space, stands, dot_at}
+use Rattle.patch_rows.specs.declared.fault.RowKind.TheVariants.{Common}
+use Rattle.patch_rows.specs.Fault.{Fault, ◌>>=◌}
+use Rattle.patch_rows.specs.Grammar.{is_any, is_node}
+use Rattle.patch_rows.specs.Reading.{space_behind, skip_space, stands, dot_at}
 use Rattle.patch_reader.specs.declared.codes.Code.{Code}
 use Rattle.patch_reader.specs.declared.codes.Code.TheVariants as code
 use Rattle.patch_reader.specs.declared.progress.Inside.{Inside}

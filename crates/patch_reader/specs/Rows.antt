@@ -1,10 +1,10 @@
 -- The rows of a text, one behind another, and those that it decides before its end is known.
 use Rattle.std.specs.Prelude.{◌≡◌, ℕ, ◌+◌, ◌^◌, ◌<◌, ◌≤◌, List, [], ◌∷◌, ◌++◌, length, drop, Option, Some, None, Result, Ok, Err}
-use Rattle.rows_text.specs.declared.fault.RowFault.{RowFault as RowAnswer}
-use Rattle.rows_text.specs.declared.fault.RowFault.TheVariants as faults
-use Rattle.rows_text.specs.declared.fault.RowKind.{RowKind}
-use Rattle.rows_text.specs.Faults.{FirstFault}
-use Rattle.rows_text.specs.Grammar.{Space, IsRowAt}
+use Rattle.patch_rows.specs.declared.fault.RowFault.{RowFault as RowAnswer}
+use Rattle.patch_rows.specs.declared.fault.RowFault.TheVariants as faults
+use Rattle.patch_rows.specs.declared.fault.RowKind.{RowKind}
+use Rattle.patch_rows.specs.Faults.{FirstFault}
+use Rattle.patch_rows.specs.Grammar.{Space, IsRowAt}
 use Rattle.patch_reader.specs.declared.placed.PlacedRow.{PlacedRow}
 use Rattle.patch_reader.specs.declared.placed.TextEnd.{TextEnd}
 use Rattle.patch_reader.specs.declared.placed.TextEnd.TheVariants as ends

@@ -2,7 +2,7 @@
 
 ghost use Rattle.std.specs.Prelude.{◌≡◌};
 ghost use Rattle.std.specs.Option.{option_map};
-ghost use Rattle.rows_text.specs.Reading.{code_of_place, code_named};
+ghost use Rattle.patch_rows.specs.Reading.{code_of_place, code_named};
 ghost use Rattle.patch_reader.specs.Codes.{row_code};
 
 use case_tables::NameTable;

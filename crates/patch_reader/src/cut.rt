@@ -3,16 +3,16 @@
 ghost use Rattle.std.specs.Prelude.{◌≡◌, ◌≤◌, [], length, drop};
 ghost use Rattle.std.specs.List.{list_all};
 ghost use Rattle.nquads_text.specs.Grammar.{is_blank};
-ghost use Rattle.rows_text.specs.Fault.{IsThere};
-ghost use Rattle.rows_text.specs.declared.fault.RowKind.TheVariants.{Common};
-ghost use Rattle.rows_text.specs.declared.fault.RowFault.TheVariants as faults;
+ghost use Rattle.patch_rows.specs.Fault.{IsThere};
+ghost use Rattle.patch_rows.specs.declared.fault.RowKind.TheVariants.{Common};
+ghost use Rattle.patch_rows.specs.declared.fault.RowFault.TheVariants as faults;
 ghost use Rattle.nquads_text.specs.declared.fault.TextKind.TheVariants.{Truncated};
 ghost use Rattle.patch_reader.specs.Cut.{is_front as front, begins_name_char as names, label_open, ends_quoted as ends_in_quote, kind_open, literal_open, blank_open, ends_row};
 
 use crate::terms::is_at;
 use nquads_text::TextKind;
+use patch_rows::{RowFault, RowKind};
 use rdf_terms::{LiteralKind, Term};
-use rows_text::{RowFault, RowKind};
 
 /// The fault at a place.
 pub fn fault_at(at: usize, kind: RowKind) -> RowFault

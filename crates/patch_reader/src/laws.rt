@@ -1,11 +1,11 @@
 //! What more text may change. These functions do nothing: their contracts are theorems.
 
 ghost use Rattle.std.specs.Prelude.{◌≡◌, ◌⊎◌, true, false, ◌++◌, List, ℕ, Ok, Err};
-ghost use Rattle.rows_text.specs.declared.row.Row.{Row};
-ghost use Rattle.rows_text.specs.Fault.{Fault};
-ghost use Rattle.rows_text.specs.Faults.{FaultDecided, FirstFault};
-ghost use Rattle.rows_text.specs.Grammar.{RowDecided, ShortRowAt};
-ghost use Rattle.rows_text.specs.Reading.{row_at};
+ghost use Rattle.patch_rows.specs.declared.row.Row.{Row};
+ghost use Rattle.patch_rows.specs.Fault.{Fault};
+ghost use Rattle.patch_rows.specs.Faults.{FaultDecided, FirstFault};
+ghost use Rattle.patch_rows.specs.Grammar.{RowDecided, ShortRowAt};
+ghost use Rattle.patch_rows.specs.Reading.{row_at};
 ghost use Rattle.patch_reader.specs.Cut.{ends_row};
 ghost use Rattle.patch_reader.specs.Decided.{Undecided};
 ghost use Rattle.patch_reader.specs.Limit.{limited_row_at};

@@ -2,14 +2,14 @@
 
 ghost use Rattle.std.specs.Prelude.{◌≡◌, ℕ, ◌+◌, ◌<◌, ◌≤◌, List, length, drop, IfOk, IfSome};
 ghost use Rattle.nquads_text.specs.Grammar.{StartsWith};
-ghost use Rattle.rows_text.specs.Grammar.{begins_space};
+ghost use Rattle.patch_rows.specs.Grammar.{begins_space};
 ghost use Rattle.patch_reader.specs.Decided.{Reads, GivesRow};
 ghost use Rattle.patch_reader.specs.Places.{moved_fault, placed_row};
 ghost use Rattle.patch_reader.specs.Rows.{GivesNext, TakesNext, Adds, Stops, Keeps};
 
 use crate::placed::{PlacedRow, TextEnd};
 use crate::reading::{decided_row, read_row};
-use rows_text::{Row, RowFault, skip_space};
+use patch_rows::{Row, RowFault, skip_space};
 use std::alloc::Global;
 use std::collections::VecDeque;
 

@@ -1,8 +1,8 @@
 //! A reader of rows from a stream that comes in any pieces.
 
 ghost use Rattle.std.specs.Prelude.{◌≡◌, ◌≤◌, ◌<◌, ◌^◌, ◌++◌, [], ℕ, List, true, false, length, drop, None, Some, IfNone, IfSome, MatchOption, MatchResult, ◌+◌, option_to_list};
-ghost use Rattle.rows_text.specs.declared.fault.RowFault.{RowFault as Answer};
-ghost use Rattle.rows_text.specs.Grammar.{row_limit};
+ghost use Rattle.patch_rows.specs.declared.fault.RowFault.{RowFault as Answer};
+ghost use Rattle.patch_rows.specs.Grammar.{row_limit};
 ghost use Rattle.patch_reader.specs.declared.placed.PlacedRow.{PlacedRow as Placed};
 ghost use Rattle.patch_reader.specs.declared.placed.TextEnd.{TextEnd as End};
 ghost use Rattle.patch_reader.specs.declared.placed.TextEnd.TheVariants as ends;
@@ -19,7 +19,7 @@ use crate::progress::{
     Phase, Progress, at_row, follow, is_cut_at, is_past_gap, is_within, pass_gap,
 };
 use crate::reading::ROW_LIMIT;
-use rows_text::{Row, RowFault};
+use patch_rows::{Row, RowFault};
 use std::alloc::Global;
 use std::collections::VecDeque;
 

@@ -1,6 +1,6 @@
 //! Rows and where they stand in what was fed.
 
-use rows_text::Row;
+use patch_rows::Row;
 
 /// A row of a text, its first byte, and the place behind its dot, both counted from the text's front.
 #[derive(Drop)]

@@ -5,8 +5,8 @@ ghost use Rattle.rdf_terms.specs.Iri.{is_forbidden};
 ghost use Rattle.nquads_text.specs.Fault.{Fault};
 ghost use Rattle.nquads_text.specs.Faults.{begins_term};
 ghost use Rattle.nquads_text.specs.Reading.{char_at as char_of};
-ghost use Rattle.rows_text.specs.Fault.{Ends};
-ghost use Rattle.rows_text.specs.Reading.{space_behind, stands};
+ghost use Rattle.patch_rows.specs.Fault.{Ends};
+ghost use Rattle.patch_rows.specs.Reading.{space_behind, stands};
 ghost use Rattle.patch_reader.specs.Cut.{is_cut};
 ghost use Rattle.patch_reader.specs.Progress.{part_at, part_behind as part_behind_of, takes_term as term_is_taken, first_part as first_part_of, IsPlaceWithin, IsWithin, IsStep, IsFollowed, OpenInside, progress_at, plain_in_string, is_short_escape as short_escape};
 ghost use Rattle.patch_reader.specs.declared.progress.Inside.TheVariants as inside;
@@ -19,7 +19,7 @@ use crate::rows::dot;
 use crate::terms::{any, iri, is_term_at, node};
 use crate::words::{key, prefix, prefix_iri, word};
 use nquads_text::{TextKind, char_at};
-use rows_text::{RowFault, RowKind, is_line_end, is_space};
+use patch_rows::{RowFault, RowKind, is_line_end, is_space};
 use std::alloc::Global;
 
 /// A part of a row behind its code.

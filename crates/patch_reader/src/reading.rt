@@ -2,16 +2,16 @@
 
 ghost use Rattle.std.specs.Prelude.{◌≡◌, ◌≤◌, ◌<◌, ◌+◌, ℕ, true, false, length, take, drop, IfOk, IfErr};
 ghost use Rattle.nquads_text.specs.Grammar.{StartsWith};
-ghost use Rattle.rows_text.specs.declared.row.Row.{Row};
-ghost use Rattle.rows_text.specs.Fault.{Fault, Gives, FailsBy, IsAnswer, IsFaultAnswer};
-ghost use Rattle.rows_text.specs.Faults.{FirstFault};
-ghost use Rattle.rows_text.specs.Grammar.{begins_space, IsRowAt, row_limit};
+ghost use Rattle.patch_rows.specs.declared.row.Row.{Row};
+ghost use Rattle.patch_rows.specs.Fault.{Fault, Gives, FailsBy, IsAnswer, IsFaultAnswer};
+ghost use Rattle.patch_rows.specs.Faults.{FirstFault};
+ghost use Rattle.patch_rows.specs.Grammar.{begins_space, IsRowAt, row_limit};
 ghost use Rattle.patch_reader.specs.Decided.{Decides};
 ghost use Rattle.patch_reader.specs.Limit.{front_row_at, limited_row_at};
 
 use crate::cut::{ends, fault_at};
 use crate::rows::row;
-use rows_text::{Row, RowFault, RowKind, unlimited_row};
+use patch_rows::{Row, RowFault, RowKind, unlimited_row};
 use std::alloc::Global;
 
 /// The bytes that a row may have.

@@ -2,8 +2,8 @@
 
 ghost use Rattle.std.specs.Prelude.{◌≡◌, ◌≤◌, ◌<◌, length, drop, true, false, IfOk};
 ghost use Rattle.rdf_terms.specs.Quad.{may_be_graph};
-ghost use Rattle.rows_text.specs.Fault.{Gives, Ends};
-ghost use Rattle.rows_text.specs.Reading.{skip_space as behind_space, dot_at, end_at};
+ghost use Rattle.patch_rows.specs.Fault.{Gives, Ends};
+ghost use Rattle.patch_rows.specs.Reading.{skip_space as behind_space, dot_at, end_at};
 ghost use Rattle.patch_reader.specs.Live.{live_graph_or_dot, live_graph, live_header, live_bare, live_quad, live_added, live_removed, live_parts, live_row};
 ghost use Rattle.patch_reader.specs.Codes.{row_code};
 
@@ -12,12 +12,12 @@ use crate::cut::fault_at;
 use crate::terms::{any, iri, is_at, is_term_at, node, other};
 use crate::words::{key, prefix, prefix_iri, word};
 use nquads_text::TextKind;
+use patch_rows::{Row, RowFault, RowKind, skip_space};
 use rdf_terms::{Change, Quad, Term};
-use rows_text::{Row, RowFault, RowKind, skip_space};
 use std::alloc::Global;
 
 /// The dot of a row; `missing` is the kind of a byte that begins no term.
-#[tactic(auto, unfolding(rows_text::specs::Reading::dot_at), using(rows_text::proofs::Steps::met))]
+#[tactic(auto, unfolding(patch_rows::specs::Reading::dot_at), using(patch_rows::proofs::Steps::met))]
 pub fn dot(text: &[u8], at: usize, missing: RowKind) -> Result<usize, RowFault>
     requires { at ≤ length text.now }
     ensures { Ends text.now result (dot_at missing (drop at text.now)) }

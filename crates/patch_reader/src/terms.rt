@@ -7,17 +7,17 @@ ghost use Rattle.rdf_terms.specs.Quad.{is_iri as iri_stands, is_literal as liter
 ghost use Rattle.nquads_text.specs.Faults.{begins_term as opens_term};
 ghost use Rattle.nquads_text.specs.Reading.{iri_body_at};
 ghost use Rattle.nquads_text.specs.Terms.{label_at, term_at};
-ghost use Rattle.rows_text.specs.Fault.{Gives, IsThere, in_row};
-ghost use Rattle.rows_text.specs.Grammar.{is_any, is_node};
-ghost use Rattle.rows_text.specs.Faults.{is_dot};
-ghost use Rattle.rows_text.specs.Reading.{stands, other as other_of, begins_blank as blank_begins, whole_label, bracketed as bracketed_of, bracket_at, row_term_at, needed_term_at};
+ghost use Rattle.patch_rows.specs.Fault.{Gives, IsThere, in_row};
+ghost use Rattle.patch_rows.specs.Grammar.{is_any, is_node};
+ghost use Rattle.patch_rows.specs.Faults.{is_dot};
+ghost use Rattle.patch_rows.specs.Reading.{stands, other as other_of, begins_blank as blank_begins, whole_label, bracketed as bracketed_of, bracket_at, row_term_at, needed_term_at};
 ghost use Rattle.patch_reader.specs.Live.{live_term, live_placed, unless_open_blank};
 
 use crate::cut::{cut_off, fault_at, is_open_blank, is_open_literal};
 use delta_base::Text;
 use nquads_text::{ReadFault, TextKind, char_at, iri_body, label, read_term};
+use patch_rows::{RowFault, RowKind};
 use rdf_terms::{Iri, Term, has_scheme};
-use rows_text::{RowFault, RowKind};
 use std::alloc::Global;
 
 /// Whether the byte stands at a place.
@@ -47,7 +47,7 @@ pub fn is_term_at(text: &[u8], at: usize) -> bool
 }
 
 /// The fault where none of the bytes that are allowed stands.
-#[tactic(auto, unfolding(rows_text::specs::Reading::other))]
+#[tactic(auto, unfolding(patch_rows::specs::Reading::other))]
 pub fn other(text: &[u8], at: usize, kind: RowKind) -> RowFault
     requires { at ≤ length text.now }
     ensures { IsThere text.now result (other_of kind (drop at text.now)) }
@@ -87,7 +87,7 @@ fn begins_blank(bytes: &[u8]) -> bool
 }
 
 /// The blank node whose label, behind `_:`, is all of what stands between the brackets.
-#[tactic(auto, using(rows_text::proofs::BracketSteps::whole_steps))]
+#[tactic(auto, using(patch_rows::proofs::BracketSteps::whole_steps))]
 fn blank(
     alloc: Global,
     text: &[u8],
@@ -114,7 +114,7 @@ fn blank(
 }
 
 /// The IRIREF, or the blank node in brackets, whose `<` stands at `start`.
-#[tactic(auto, unfolding(rows_text::specs::Reading::bracket_at, rows_text::specs::Reading::bracketed), using(rows_text::proofs::BracketSteps::bracket_steps))]
+#[tactic(auto, unfolding(patch_rows::specs::Reading::bracket_at, patch_rows::specs::Reading::bracketed), using(patch_rows::proofs::BracketSteps::bracket_steps))]
 fn bracket(alloc: Global, text: &[u8], start: usize, at: usize) -> Result<(Term, usize), RowFault>
     requires begins { start ≤ length text.now }
     requires within { at ≤ length text.now }
@@ -131,7 +131,7 @@ fn bracket(alloc: Global, text: &[u8], start: usize, at: usize) -> Result<(Term,
 }
 
 /// A term of a row.
-#[tactic(auto, using(rows_text::proofs::BracketSteps::term_steps))]
+#[tactic(auto, using(patch_rows::proofs::BracketSteps::term_steps))]
 fn row_term(alloc: Global, text: &[u8], at: usize) -> Result<(Term, usize), RowFault>
     requires { at ≤ length text.now }
     ensures { Gives text.now result (row_term_at (drop at text.now)) }
@@ -143,7 +143,7 @@ fn row_term(alloc: Global, text: &[u8], at: usize) -> Result<(Term, usize), RowF
 }
 
 /// A term, where a dot means that the row has too few.
-#[tactic(auto, unfolding(rows_text::specs::Reading::needed_term_at))]
+#[tactic(auto, unfolding(patch_rows::specs::Reading::needed_term_at))]
 fn needed_term(alloc: Global, text: &[u8], at: usize) -> Result<(Term, usize), RowFault>
     requires { at ≤ length text.now }
     ensures { Gives text.now result (needed_term_at (drop at text.now)) }

@@ -1,6 +1,6 @@
 use crate::{PatchReader, PlacedRow, decided_row, read_row};
 use nquads_text::TextKind;
-use rows_text::{RowFault, RowKind, skip_space};
+use patch_rows::{RowFault, RowKind, skip_space};
 use std::alloc::{AllocError, Global};
 use std::process::Abort;
 use std::test::Fail;

@@ -3,17 +3,17 @@
 ghost use Rattle.std.specs.Prelude.{◌≡◌, ◌≤◌, ◌<◌, ◌+◌, List, ℕ, [], length, drop, take, IfOk, IsUtf8, slice_range};
 ghost use Rattle.std.specs.Char.{is_ascii_alphabetic};
 ghost use Rattle.std.specs.List.{prefix_len};
-ghost use Rattle.rows_text.specs.Fault.{Gives, GivesSlice};
-ghost use Rattle.rows_text.specs.Grammar.{is_word_byte as in_word};
-ghost use Rattle.rows_text.specs.Reading.{word_at, iri_of_string as iri_for, past_colon as behind_colon};
+ghost use Rattle.patch_rows.specs.Fault.{Gives, GivesSlice};
+ghost use Rattle.patch_rows.specs.Grammar.{is_word_byte as in_word};
+ghost use Rattle.patch_rows.specs.Reading.{word_at, iri_of_string as iri_for, past_colon as behind_colon};
 ghost use Rattle.patch_reader.specs.Live.{live_key, live_quoted, live_word_prefix, live_prefix, live_prefix_iri};
 
 use crate::cut::{cut_off, fault_at};
 use crate::terms::{is_at, is_letter_at, is_term_at, other, term};
 use delta_base::{OutOfMemory, Text};
 use nquads_text::TextKind;
+use patch_rows::{RowFault, RowKind};
 use rdf_terms::{Iri, Literal, LiteralKind, Term, TermFault};
-use rows_text::{RowFault, RowKind};
 use std::alloc::Global;
 
 fn is_word_byte(b: u8) -> bool
@@ -23,7 +23,7 @@ fn is_word_byte(b: u8) -> bool
 }
 
 /// The place behind letters.
-#[tactic(auto, using(rows_text::proofs::WordSteps::run_steps))]
+#[tactic(auto, using(patch_rows::proofs::WordSteps::run_steps))]
 fn letters_end(text: &[u8], from: usize) -> usize
     requires { from ≤ length text.now }
     ensures end { result ≡ from + prefix_len is_ascii_alphabetic (drop from text.now) }
@@ -38,7 +38,7 @@ fn letters_end(text: &[u8], from: usize) -> usize
 }
 
 /// The place behind letters, digits, `_` and `-`.
-#[tactic(auto, using(rows_text::proofs::WordSteps::run_steps))]
+#[tactic(auto, using(patch_rows::proofs::WordSteps::run_steps))]
 fn word_end(text: &[u8], from: usize) -> usize
     requires { from ≤ length text.now }
     ensures end { result ≡ from + prefix_len in_word (drop from text.now) }
@@ -53,7 +53,7 @@ fn word_end(text: &[u8], from: usize) -> usize
 }
 
 /// The word of letters at a place, which the text's end doesn't cut.
-#[tactic(auto, unfolding(rows_text::specs::Reading::word_at), using(rows_text::proofs::Steps::met, rows_text::proofs::WordSteps::whole_word, rows_text::proofs::WordSteps::cut_word))]
+#[tactic(auto, unfolding(patch_rows::specs::Reading::word_at), using(patch_rows::proofs::Steps::met, patch_rows::proofs::WordSteps::whole_word, patch_rows::proofs::WordSteps::cut_word))]
 pub fn word(text: &[u8], at: usize) -> Result<(&[u8], usize), RowFault>
     requires { at ≤ length text.now }
     ensures { GivesSlice text.now result (word_at (drop at text.now)) }
@@ -81,7 +81,7 @@ fn word_text(alloc: Global, text: &[u8], at: usize) -> Result<(Text, usize), Out
 }
 
 /// The key of a header row.
-#[tactic(auto, unfolding(crate::specs::Live::live_key, rows_text::specs::Reading::key_at), using(rows_text::proofs::Steps::met))]
+#[tactic(auto, unfolding(crate::specs::Live::live_key, patch_rows::specs::Reading::key_at), using(patch_rows::proofs::Steps::met))]
 pub fn key(alloc: Global, text: &[u8], at: usize) -> Result<(Text, usize), RowFault>
     requires { at ≤ length text.now }
     ensures { Gives text.now result (live_key (drop at text.now)) }
@@ -143,7 +143,7 @@ fn word_prefix(alloc: Global, text: &[u8], at: usize) -> Result<(Text, usize), R
 }
 
 /// The prefix of a PA or PD row.
-#[tactic(auto, unfolding(crate::specs::Live::live_prefix), using(rows_text::proofs::Steps::met))]
+#[tactic(auto, unfolding(crate::specs::Live::live_prefix), using(patch_rows::proofs::Steps::met))]
 pub fn prefix(alloc: Global, text: &[u8], at: usize) -> Result<(Text, usize), RowFault>
     requires { at ≤ length text.now }
     ensures { Gives text.now result (live_prefix (drop at text.now)) }
@@ -161,7 +161,7 @@ pub fn prefix(alloc: Global, text: &[u8], at: usize) -> Result<(Text, usize), Ro
 }
 
 /// The IRI that a string spells, whose quote stands at `start`.
-#[tactic(auto, unfolding(rows_text::specs::Reading::iri_of_string))]
+#[tactic(auto, unfolding(patch_rows::specs::Reading::iri_of_string))]
 fn iri_of_string(
     text: &[u8],
     start: usize,

@@ -5,7 +5,7 @@ ghost use Rattle.patch_reader.specs.declared.placed.TextEnd.{TextEnd as End};
 ghost use Rattle.stream_bench.specs.Counting.{HasRows, TakesSome};
 
 use patch_reader::PatchReader;
-use rows_text::RowFault;
+use patch_rows::RowFault;
 use std::alloc::Global;
 
 /// Whether a row was ready, which is taken.

@@ -1,10 +1,10 @@
 -- The next row of a window.
 use Rattle.std.proofs.Common.{◌≡◌, ℕ, ◌+◌, ◌^◌, ◌<◌, ◌≤◌, drop, true, false, List, [], ◌++◌, length, Option, Some, None, Result, Ok, Err, refl, sym, subst, ◌∙◌, append-nil, ap, arith}
-use Rattle.rows_text.specs.declared.fault.RowFault.{RowFault}
-use Rattle.rows_text.specs.declared.fault.RowFault.TheVariants as row
-use Rattle.rows_text.specs.declared.fault.RowKind.{RowKind}
-use Rattle.rows_text.specs.declared.row.Row.{Row}
-use Rattle.rows_text.specs.Grammar.{Space, IsRowAt}
+use Rattle.patch_rows.specs.declared.fault.RowFault.{RowFault}
+use Rattle.patch_rows.specs.declared.fault.RowFault.TheVariants as row
+use Rattle.patch_rows.specs.declared.fault.RowKind.{RowKind}
+use Rattle.patch_rows.specs.declared.row.Row.{Row}
+use Rattle.patch_rows.specs.Grammar.{Space, IsRowAt}
 use Rattle.patch_reader.specs.declared.placed.TextEnd.TheVariants as ends
 use Rattle.patch_reader.specs.Decided.{Decides}
 use Rattle.patch_reader.specs.Places.{further_place}

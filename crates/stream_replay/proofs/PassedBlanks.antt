@@ -1,9 +1,9 @@
 -- White space in front of white space and comments.
 use Rattle.std.proofs.Common.{◌≡◌, ℕ, ◌+◌, ◌<◌, true, List, ◌∷◌, ◌++◌, length, drop, get_or, refl, sym, subst, ◌∙◌}
 use Rattle.std.proofs.lemmas.List.{drop_more}
-use Rattle.rows_text.specs.Grammar.{Space, is_space}
-use Rattle.rows_text.specs.Reading.{skip_space, space_behind}
-use Rattle.rows_text.proofs.SpaceLaws.{skipped, skips}
+use Rattle.patch_rows.specs.Grammar.{Space, is_space}
+use Rattle.patch_rows.specs.Reading.{skip_space, space_behind}
+use Rattle.patch_rows.proofs.SpaceLaws.{skipped, skips}
 use Rattle.stream_replay.specs.Blanks.{PassesBlanks}
 
 skip_one : (b : ℕ) (rest : List ℕ) → is_space b ≡ true → skip_space (b ∷ rest) ≡ skip_space rest

@@ -1,6 +1,6 @@
 -- White space that was read over.
 use Rattle.std.specs.Prelude.{ℕ, List, ◌++◌, drop}
-use Rattle.rows_text.specs.Grammar.{Space}
+use Rattle.patch_rows.specs.Grammar.{Space}
 
 -- what white space and comments the bytes have from the later place on, they have from the earlier one on as well, whatever follows
 abbrev pub PassesBlanks : List ℕ → ℕ → ℕ → Type 0

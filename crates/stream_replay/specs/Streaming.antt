@@ -1,10 +1,10 @@
 -- A stream of which some pieces were read.
 use Rattle.std.specs.Prelude.{◌≡◌, ◌⊎◌, ℕ, ◌+◌, ◌≤◌, ◌<◌, Bool, true, false, List, [], ◌++◌, length, Option, None, Some, Result, Ok, Err}
-use Rattle.rows_text.specs.declared.fault.RowKind.{RowKind}
-use Rattle.rows_text.specs.declared.fault.RowFault.{RowFault}
-use Rattle.rows_text.specs.declared.fault.RowFault.TheVariants as row
-use Rattle.rows_text.specs.Grammar.{IsRowAt}
-use Rattle.rows_text.specs.declared.row.Row.{Row}
+use Rattle.patch_rows.specs.declared.fault.RowKind.{RowKind}
+use Rattle.patch_rows.specs.declared.fault.RowFault.{RowFault}
+use Rattle.patch_rows.specs.declared.fault.RowFault.TheVariants as row
+use Rattle.patch_rows.specs.Grammar.{IsRowAt}
+use Rattle.patch_rows.specs.declared.row.Row.{Row}
 use Rattle.patch_meaning.specs.declared.fault.PatchFault.{PatchFault}
 use Rattle.patch_meaning.specs.declared.fault.PatchFault.TheVariants as faults
 use Rattle.patch_meaning.specs.declared.rows.Next.{Next}

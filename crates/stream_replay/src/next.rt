@@ -4,7 +4,7 @@ ghost use Rattle.stream_replay.specs.Streaming.{FindsNext};
 
 use patch_meaning::{Next, next_row, role_of};
 use patch_reader::decided_row;
-use rows_text::{RowFault, skip_space};
+use patch_rows::{RowFault, skip_space};
 use std::alloc::Global;
 
 /// What the row says behind white space and comments at a place: of a whole text, or else of one that may go on, as far as it

@@ -14,7 +14,7 @@ use crate::place::{Told, line_of, tell};
 use crate::replay::{Replay, Replayed};
 use crate::window::Window;
 use patch_meaning::{Next, Part, Role, StreamPatch};
-use rows_text::RowKind;
+use patch_rows::RowKind;
 use std::alloc::Global;
 
 /// The open patch, and the replay of those before it.

@@ -10,7 +10,7 @@ use crate::replay::Replayed;
 use crate::window::Window;
 use delta_base::OutOfMemory;
 use patch_meaning::{Next, PatchFault};
-use rows_text::RowFault;
+use patch_rows::RowFault;
 use std::alloc::Global;
 
 /// A stream of which some pieces were read.

@@ -3,7 +3,7 @@ use super::*;
 use chain_core::ChainFault;
 use delta_base::{Bytes, Calls, Id, MemSink, MemSource, read_id};
 use patch_meaning::PatchFault;
-use rows_text::RowKind;
+use patch_rows::RowKind;
 use sink_writing::PIECE;
 use std::alloc::Global;
 use std::process::Abort;

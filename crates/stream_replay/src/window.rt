@@ -1,6 +1,6 @@
 //! What is held of a text while it is read.
 ghost use Rattle.std.specs.Prelude.{◌≡◌, ◌+◌, ◌<◌, ◌≤◌, ◌^◌, ◌++◌, ◌==◌, false, slice_index, ℕ, List, [], length, count_by, OnOk, vec_len};
-ghost use Rattle.rows_text.specs.Grammar.{is_space};
+ghost use Rattle.patch_rows.specs.Grammar.{is_space};
 ghost use Rattle.stream_replay.specs.Blanks.{PassesBlanks};
 
 use delta_base::OutOfMemory;

@@ -1,5 +1,5 @@
 use Rattle.std.proofs.Common.{Err, subst, inr}
-use Rattle.rows_text.specs.declared.fault.RowFault.{RowFault}
+use Rattle.patch_rows.specs.declared.fault.RowFault.{RowFault}
 use Rattle.patch_meaning.specs.Next.{IsNext}
 use Rattle.patch_meaning.proofs.stream.next_of.Goals as goal
 

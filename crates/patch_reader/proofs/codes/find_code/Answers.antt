@@ -1,6 +1,6 @@
 use Rattle.std.proofs.Common.{Some, None, ap, ◌∙◌}
 use Rattle.std.specs.Option.{option_map}
-use Rattle.rows_text.proofs.CodeTable.{found}
+use Rattle.patch_rows.proofs.CodeTable.{found}
 use Rattle.patch_reader.specs.Codes.{row_code}
 use Rattle.patch_reader.proofs.codes.find_code.Goals as goal
 

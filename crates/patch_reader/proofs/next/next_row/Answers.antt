@@ -1,6 +1,6 @@
 use Rattle.std.proofs.Common.{ℕ, ◌≤◌, ◌<◌, Option, Some, None, Ok, Err, sym, subst, ◌+◌, [], ◌∷◌, arith}
-use Rattle.rows_text.specs.declared.fault.RowFault.{RowFault}
-use Rattle.rows_text.specs.declared.row.Row.{Row}
+use Rattle.patch_rows.specs.declared.fault.RowFault.{RowFault}
+use Rattle.patch_rows.specs.declared.row.Row.{Row}
 use Rattle.patch_reader.specs.declared.placed.PlacedRow.{PlacedRow}
 use Rattle.patch_reader.specs.Decided.{GivesRow}
 use Rattle.patch_reader.specs.Rows.{RowsStand, Stops}

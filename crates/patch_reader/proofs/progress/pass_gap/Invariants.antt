@@ -1,5 +1,5 @@
 use Rattle.std.proofs.Common.{◌≡◌, ◌-◌, ◌≤◌, ◌++◌, ℕ, List, drop, length}
-use Rattle.rows_text.specs.Reading.{space_behind}
+use Rattle.patch_rows.specs.Reading.{space_behind}
 use Rattle.patch_reader.proofs.progress.pass_gap.Given as goal
 
 -- what is left behind the place is what was left at the start

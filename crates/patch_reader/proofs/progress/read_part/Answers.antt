@@ -1,5 +1,5 @@
 use Rattle.std.proofs.Common.{sym, subst, drop}
-use Rattle.rows_text.specs.Fault.{Ends}
+use Rattle.patch_rows.specs.Fault.{Ends}
 use Rattle.patch_reader.specs.declared.progress.Part.{Part}
 use Rattle.patch_reader.specs.Progress.{part_at, end_from}
 use Rattle.patch_reader.proofs.progress.read_part.Goals as goal

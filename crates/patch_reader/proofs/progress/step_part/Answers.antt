@@ -1,6 +1,6 @@
 use Rattle.std.proofs.Common.{sym, subst, ◌∙◌, drop}
-use Rattle.rows_text.specs.Fault.{Fails}
-use Rattle.rows_text.specs.declared.fault.RowFault.{RowFault}
+use Rattle.patch_rows.specs.Fault.{Fails}
+use Rattle.patch_rows.specs.declared.fault.RowFault.{RowFault}
 use Rattle.patch_reader.specs.Progress.{part_at}
 use Rattle.patch_reader.proofs.ProgressSteps.{part_leads, part_ends}
 use Rattle.patch_reader.proofs.progress.step_part.Goals as goal

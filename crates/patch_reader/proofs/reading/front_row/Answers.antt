@@ -1,6 +1,6 @@
 use Rattle.std.proofs.Common.{sym, subst, drop}
-use Rattle.rows_text.specs.Fault.{Fails}
-use Rattle.rows_text.specs.declared.fault.RowFault.{RowFault}
+use Rattle.patch_rows.specs.Fault.{Fails}
+use Rattle.patch_rows.specs.declared.fault.RowFault.{RowFault}
 use Rattle.patch_reader.specs.Limit.{front_row_at}
 use Rattle.patch_reader.proofs.FrontSteps.{front_found, front_full, within}
 use Rattle.patch_reader.proofs.reading.front_row.Goals as goal

@@ -1,6 +1,6 @@
 use Rattle.std.proofs.Common.{sym, subst, ◌∙◌, drop}
-use Rattle.rows_text.specs.Fault.{Fails}
-use Rattle.rows_text.specs.declared.fault.RowFault.{RowFault}
+use Rattle.patch_rows.specs.Fault.{Fails}
+use Rattle.patch_rows.specs.declared.fault.RowFault.{RowFault}
 use Rattle.patch_reader.specs.Live.{live_row}
 use Rattle.patch_reader.proofs.Answered.{fault_there}
 use Rattle.patch_reader.proofs.reading.short_row.Goals as goal

@@ -1,6 +1,6 @@
 use Rattle.std.proofs.Common.{sym}
 use Rattle.std.proofs.Common.{drop}
-use Rattle.rows_text.proofs.SpaceLaws.{skips}
+use Rattle.patch_rows.proofs.SpaceLaws.{skips}
 use Rattle.patch_reader.proofs.rows.pass_space.Goals as goal
 
 pub returns-clause-behind : goal.returns-clause-behind

@@ -1,6 +1,6 @@
 use Rattle.std.proofs.Common.{◌≡◌, ◌+◌, drop}
 use Rattle.std.specs.List.{prefix_len}
-use Rattle.rows_text.specs.Grammar.{is_word_byte}
+use Rattle.patch_rows.specs.Grammar.{is_word_byte}
 use Rattle.patch_reader.proofs.words.word_end.Given as goal
 
 -- the run that began at the front goes on here

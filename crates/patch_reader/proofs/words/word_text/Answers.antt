@@ -1,5 +1,5 @@
 use Rattle.std.proofs.Common.{◌-◌, drop, arith}
-use Rattle.rows_text.proofs.WordSteps.{word_utf8}
+use Rattle.patch_rows.proofs.WordSteps.{word_utf8}
 use Rattle.patch_reader.proofs.words.word_text.Goals as goal
 
 pub from_utf8_unchecked-word-requires : goal.from_utf8_unchecked-word-requires

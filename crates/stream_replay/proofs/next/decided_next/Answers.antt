@@ -1,5 +1,5 @@
 use Rattle.std.proofs.Common.{ℕ, Option, Ok, sym, subst, ◌∙◌, arith}
-use Rattle.rows_text.specs.declared.row.Row.{Row}
+use Rattle.patch_rows.specs.declared.row.Row.{Row}
 use Rattle.patch_reader.specs.Decided.{Decides}
 use Rattle.stream_replay.proofs.Finds.{finds_decided, finds_other}
 use Rattle.stream_replay.proofs.next.decided_next.Goals as goal

@@ -1,7 +1,7 @@
 use Rattle.std.proofs.Common.{◌≡◌, ◌≤◌, List, ℕ, length, sym, ap, subst, ◌∙◌}
 use Rattle.patch_reader.specs.declared.progress.Phase.{Phase}
 use Rattle.patch_reader.specs.Cut.{is_cut}
-use Rattle.rows_text.specs.Grammar.{row_limit}
+use Rattle.patch_rows.specs.Grammar.{row_limit}
 use Rattle.patch_reader.specs.Pieces.{IsTail}
 use Rattle.patch_reader.specs.Progress.{Follows, IsUnfinished}
 use Rattle.patch_reader.proofs.Reader.{cut_none, row_none, gap_open, is_comment}

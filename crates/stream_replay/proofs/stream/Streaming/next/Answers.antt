@@ -1,5 +1,5 @@
 use Rattle.std.proofs.Common.{ℕ, List, Err, subst}
-use Rattle.rows_text.specs.declared.fault.RowFault.{RowFault}
+use Rattle.patch_rows.specs.declared.fault.RowFault.{RowFault}
 use Rattle.stream_replay.specs.Streaming.{FindsNext, FindsFault}
 use Rattle.stream_replay.proofs.Streams.{told_there}
 use Rattle.stream_replay.proofs.stream.Streaming.next.Goals as goal

@@ -1,0 +1,118 @@
+//! The canonical text of a row.
+
+ghost use Rattle.std.specs.Prelude.{◌≡◌, ◌≤◌, ◌+◌, ◌-◌, ◌++◌, ◌∷◌, [], ℕ, List, OnOk, IfOk, length};
+ghost use Rattle.rdf_terms.specs.Line.{graph_text};
+ghost use Rattle.patch_rows.specs.Grammar.{RowAt, row_limit, IsDecidedRow, letters, code_of as code_for, code_of_change as code_for_change};
+ghost use Rattle.patch_rows.specs.Printing.{quad_text, change_text, parts_text, row_text, IsGraphValue, IsQuadValue, IsChangeValue, IsRowValue, IsWritable};
+
+use crate::codes::Code;
+use crate::row::Row;
+use delta_base::{Bytes, OutOfMemory};
+use nquads_text::{push_iri, push_quoted, push_term};
+use rdf_terms::{Change, Quad, Term};
+use std::alloc::Global;
+
+fn code_of_change(change: &Change) -> Code
+    ensures { result ≡ code_for_change change.now }
+{
+    match change {
+        Change::Add(_) => Code::Add,
+        Change::Delete(_) => Code::Delete,
+        Change::PrefixAdd { .. } => Code::PrefixAdd,
+        Change::PrefixDelete { .. } => Code::PrefixDelete,
+        Change::Begin => Code::Begin,
+        Change::Commit => Code::Commit,
+        Change::Abort => Code::Abort,
+    }
+}
+
+fn code_of(row: &Row) -> Code
+    ensures { result ≡ code_for row.now }
+{
+    match row {
+        Row::Header { .. } => Code::Header,
+        Row::Change(change) => code_of_change(change),
+    }
+}
+
+/// Appends a graph behind a space, where there is one.
+fn push_graph(out: &mut Vec<u8>, graph: &Option<Term>) -> Result<(), OutOfMemory>
+    ensures text { OnOk result (out.new.items ≡ out.old.items ++ graph_text graph.now) }
+    ensures value { OnOk result (IsGraphValue graph.now) }
+{
+    if let Some(term) = graph {
+        out.push(b' ')?;
+        push_term(out, term)?;
+    }
+    Ok(())
+}
+
+/// Appends the terms of a quad, each behind a space.
+fn push_quad(out: &mut Vec<u8>, quad: &Quad) -> Result<(), OutOfMemory>
+    ensures text { OnOk result (out.new.items ≡ out.old.items ++ quad_text quad.now) }
+    ensures value { OnOk result (IsQuadValue quad.now) }
+{
+    out.push(b' ')?;
+    push_term(out, quad.subject())?;
+    out.push(b' ')?;
+    push_term(out, quad.predicate())?;
+    out.push(b' ')?;
+    push_term(out, quad.object())?;
+    push_graph(out, quad.graph())
+}
+
+/// Appends the parts of a change, each behind a space.
+fn push_change(out: &mut Vec<u8>, change: &Change) -> Result<(), OutOfMemory>
+    ensures text { OnOk result (out.new.items ≡ out.old.items ++ change_text change.now) }
+    ensures value { OnOk result (IsChangeValue change.now) }
+{
+    match change {
+        Change::Add(quad) => push_quad(out, quad),
+        Change::Delete(quad) => push_quad(out, quad),
+        Change::PrefixAdd { prefix, iri, graph } => {
+            out.push(b' ')?;
+            push_quoted(out, prefix.as_bytes())?;
+            out.push(b' ')?;
+            push_iri(out, iri.as_bytes())?;
+            push_graph(out, graph)
+        }
+        Change::PrefixDelete { prefix, graph } => {
+            out.push(b' ')?;
+            push_quoted(out, prefix.as_bytes())?;
+            push_graph(out, graph)
+        }
+        Change::Begin => Ok(()),
+        Change::Commit => Ok(()),
+        Change::Abort => Ok(()),
+    }
+}
+
+/// Appends the parts of a row, each behind a space.
+fn push_parts(out: &mut Vec<u8>, row: &Row) -> Result<(), OutOfMemory>
+    ensures text { OnOk result (out.new.items ≡ out.old.items ++ parts_text row.now) }
+    ensures value { OnOk result (IsRowValue row.now) }
+{
+    match row {
+        Row::Header { key, value } => {
+            out.push(b' ')?;
+            out.extend_from_slice(key.as_bytes())?;
+            out.push(b' ')?;
+            push_term(out, value)
+        }
+        Row::Change(change) => push_change(out, change),
+    }
+}
+
+/// The canonical text of a row, and a line feed.
+#[tactic(auto, unfolding(crate::specs::Printing::row_text))]
+pub fn print_row(alloc: Global, row: &Row) -> Result<Bytes, OutOfMemory>
+    ensures text { IfOk result (λ v. v ≡ row_text row.now ++ 10 ∷ []) }
+    ensures read_again { IfOk result (λ v. IsWritable row.now → (rest : List ℕ) → RowAt (v ++ rest) row.now (10 ∷ rest)) }
+    ensures decided { IfOk result (λ v. IsWritable row.now → length v ≤ row_limit + 1 → IsDecidedRow v 0 row.now (length v - 1)) }
+{
+    let mut out = Vec::new(alloc);
+    out.extend_from_slice(code_of(row).letters())?;
+    push_parts(&mut out, row)?;
+    out.extend_from_slice(b" .\n")?;
+    Ok(Bytes::from_vec(out))
+}

@@ -1,8 +1,0 @@
-use Rattle.rows_text.proofs.SpaceLaws.{skipped, skips}
-use Rattle.rows_text.proofs.laws.space_is_skipped.Goals as goal
-
-pub returns-clause-found : goal.returns-clause-found
-returns-clause-found c = skipped
-
-pub returns-clause-again : goal.returns-clause-again
-returns-clause-again c = skips
