@@ -9,7 +9,7 @@ ghost use Rattle.rdf_terms.specs.Line.{line, graph_text};
 
 use delta_base::{Bytes, OutOfMemory};
 use nquads_text::push_term;
-use rdf_terms::{Quad, Quads, Term};
+use rdf_terms::{LiteralKind, Quad, Quads, Term};
 use std::alloc::Global;
 
 fn push_graph(out: &mut Vec<u8>, graph: &Option<Term>) -> Result<(), OutOfMemory>
@@ -39,12 +39,47 @@ pub fn push_line(out: &mut Vec<u8>, quad: &Quad) -> Result<(), OutOfMemory>
     Ok(())
 }
 
+/// The bytes of a line beside those of its terms: spaces, brackets and quotes, the dot and the line feed.
+const LINE_MARKS: usize = 16;
+
+fn kind_room(kind: &LiteralKind) -> usize {
+    match kind {
+        LiteralKind::Plain => 0,
+        LiteralKind::Typed(datatype) => datatype.as_bytes().len().saturating_add(4),
+        LiteralKind::Tagged(tag) => tag.as_bytes().len().saturating_add(1),
+    }
+}
+
+fn term_room(term: &Term) -> usize {
+    match term {
+        Term::Iri(iri) => iri.as_bytes().len(),
+        Term::Blank(label) => label.as_bytes().len(),
+        Term::Literal(literal) => {
+            let lexical = literal.lexical.as_bytes().len();
+            lexical.saturating_add(kind_room(&literal.kind))
+        }
+    }
+}
+
+// The room that the line of a quad takes where nothing is escaped.
+fn line_room(quad: &Quad) -> usize {
+    let graph = match quad.graph() {
+        Some(graph) => term_room(graph),
+        None => 0,
+    };
+    LINE_MARKS
+        .saturating_add(term_room(quad.subject()))
+        .saturating_add(term_room(quad.predicate()))
+        .saturating_add(term_room(quad.object()))
+        .saturating_add(graph)
+}
+
 // The canonical line of a quad.
 pub fn line_of(alloc: Global, quad: &Quad) -> Result<Vec<u8>, OutOfMemory>
     ensures text { IfOk result (λ v. v.items ≡ line quad.now) }
     ensures value { IfOk result (λ _. IsQuadValue quad.now) }
 {
-    let mut out = Vec::new(alloc);
+    let mut out = Vec::with_capacity(alloc, line_room(quad))?;
     push_line(&mut out, quad)?;
     Ok(out)
 }
