@@ -1,5 +1,5 @@
 -- What is read, as what is decided.
-use Rattle.std.proofs.Common.{◌≡◌, ℕ, ◌+◌, ◌<◌, ◌≤◌, Bool, true, false, cond, List, [], ◌∷◌, ◌++◌, length, drop, Option, Some, None, Result, Ok, Err, nat_eq, refl, sym, ap, subst, ◌∙◌, arith, eqb-true, eq-eqb}
+use Rattle.std.proofs.Common.{◌≡◌, ℕ, ◌+◌, ◌<◌, ◌≤◌, Bool, true, false, cond, List, [], ◌∷◌, ◌++◌, length, drop, Option, Some, Result, Ok, Err, nat_eq, refl, sym, ap, subst, ◌∙◌, arith, eqb-true, eq-eqb}
 use Rattle.std.proofs.lemmas.Bool.{false≢true}
 use Rattle.std.proofs.lemmas.List.{length-drop}
 use Rattle.patch_rows.specs.declared.fault.RowFault.{RowFault as RowAnswer}
@@ -8,13 +8,12 @@ use Rattle.patch_rows.specs.declared.fault.RowKind.{RowKind}
 use Rattle.patch_rows.specs.declared.fault.RowKind.TheVariants.{TooLong}
 use Rattle.patch_rows.specs.declared.row.Row.{Row}
 use Rattle.patch_rows.specs.Fault.{Fault, Read, Gives}
-use Rattle.patch_rows.specs.Grammar.{RowAt, row_limit, row_front, ShortRowAt}
+use Rattle.patch_rows.specs.Grammar.{row_limit, row_front}
 use Rattle.patch_rows.proofs.Shorter.{row_shorter}
-use Rattle.patch_reader.specs.Cut.{is_cut, ends_row}
+use Rattle.patch_reader.specs.Cut.{AtEnd, is_cut, ends_row}
 use Rattle.patch_reader.specs.Decided.{ShortRowDecided, FirstFaultDecided, MoreDecides, Decides}
 use Rattle.patch_reader.specs.Limit.{of_front, front_row_at}
 use Rattle.patch_reader.specs.Live.{live_row}
-use Rattle.patch_reader.proofs.RowStays.{AtEnd}
 use Rattle.patch_reader.proofs.RowEnds.{cut_row}
 use Rattle.patch_reader.proofs.Limits.{short_row, front_row, short_fault, front_fault, long_row, long_open, more_decides, row_now}
 

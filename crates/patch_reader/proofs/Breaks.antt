@@ -23,8 +23,8 @@ use Rattle.nquads_text.proofs.Fronts.{char_spelled, char_at-ascii}
 use Rattle.nquads_text.proofs.NameRuns.{name-char, name-none}
 use Rattle.nquads_text.proofs.BlankRuns.{blanks_parted, blanks_skipped}
 use Rattle.nquads_text.proofs.LiteralReads.{iri_found, string_found}
-use Rattle.patch_reader.specs.Cut.{ends_quoted, kind_open, literal_open, blank_open, label_open, leads, is_front, no_name_begins, begins_name_char}
-use Rattle.patch_reader.proofs.Stays.{AtEnd, with_more, string_body_stays, ok_char, bad_char, good_char, rooms_same}
+use Rattle.patch_reader.specs.Cut.{TextAtEnd, ends_quoted, kind_open, literal_open, blank_open, label_open, leads, is_front, no_name_begins, begins_name_char}
+use Rattle.patch_reader.proofs.Stays.{with_more, string_body_stays, ok_char, bad_char, good_char, rooms_same}
 use Rattle.patch_reader.proofs.TokenStays.{behind_char, dot_front, IsBlank, quote_front, drop_back, label_size, label_read}
 use Rattle.patch_reader.proofs.Completions.{stop, Completes, completed}
 
@@ -247,7 +247,7 @@ literal_breaks rest x e is =
     (broken.0, broken.1, rw (string_again broken.0 text.0 text.1) (rw broken.2 refl))
   where
     string_again : (more : List ℕ) (t : List ℕ × List ℕ) → pieces_at string_piece 0 rest ≡ Ok t → pieces_at string_piece 0 (rest ++ more) ≡ Ok (t.0, t.1 ++ more)
-    string_again more t e = ⊎_elim (λ end. absurd (subst AtEnd e end)) (λ same. same ∙ ap (with_more more) e) (string_body_stays more rest)
+    string_again more t e = ⊎_elim (λ end. absurd (subst TextAtEnd e end)) (λ same. same ∙ ap (with_more more) e) (string_body_stays more rest)
 
 -- ---- what goes on with a label
 

@@ -1,11 +1,11 @@
 -- Reading the front of a longer text, by places.
-use Rattle.std.proofs.Common.{◌≡◌, ℕ, ◌+◌, ◌-◌, ◌<◌, ◌≤◌, Bool, true, false, List, [], ◌∷◌, ◌++◌, length, take, drop, Ok, Err, nat_eq, nat_lt, eq-eqb, refl, sym, ap, subst, ◌∙◌, arith, append_assoc}
+use Rattle.std.proofs.Common.{◌≡◌, ℕ, ◌+◌, ◌-◌, ◌<◌, ◌≤◌, true, false, List, ◌++◌, length, take, drop, Ok, Err, nat_eq, nat_lt, eq-eqb, refl, sym, ap, ◌∙◌, arith}
 use Rattle.std.proofs.lemmas.Bool.{ne_eqb, lt-ltb, le-ltb}
-use Rattle.std.proofs.lemmas.List.{length-append, length-drop, length-take-le, take-append-drop, drop-append-le, drop-take, drop-drop}
+use Rattle.std.proofs.lemmas.List.{length-drop, length-take-le, take-append-drop, drop-append-le, drop-take, drop-drop}
 use Rattle.patch_rows.specs.declared.fault.RowKind.{RowKind}
 use Rattle.patch_rows.specs.declared.fault.RowKind.TheVariants.{TooLong}
 use Rattle.patch_rows.specs.declared.row.Row.{Row}
-use Rattle.patch_rows.specs.Fault.{Fault, Read}
+use Rattle.patch_rows.specs.Fault.{Read}
 use Rattle.patch_rows.specs.Grammar.{row_limit, row_front}
 use Rattle.patch_rows.specs.Reading.{row_at}
 use Rattle.patch_reader.specs.Cut.{ends_row}

@@ -1,5 +1,5 @@
 -- White space and comments of a text that goes on, one character further.
-use Rattle.std.proofs.Common.{◌≡◌, ℕ, ◌+◌, ◌<◌, ◌≤◌, Bool, true, false, List, [], ◌∷◌, ◌++◌, length, drop, get_or, Ok, Err, not, refl, sym, ap, ◌∙◌, arith}
+use Rattle.std.proofs.Common.{◌≡◌, ℕ, ◌+◌, ◌<◌, ◌≤◌, Bool, true, false, List, ◌++◌, length, drop, get_or, Ok, not, sym, ap, ◌∙◌, arith}
 use Rattle.std.proofs.lemmas.List.{length-append, drop-append-le, get_or_append_left}
 use Rattle.nquads_text.specs.Reading.{char_at}
 use Rattle.patch_rows.specs.Grammar.{is_line_end, is_space}

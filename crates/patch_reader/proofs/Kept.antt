@@ -1,5 +1,5 @@
 -- What is decided of a text of which only the end is kept.
-use Rattle.std.proofs.Common.{◌≡◌, ℕ, ◌+◌, ◌-◌, ◌^◌, ◌<◌, ◌≤◌, min, true, false, List, [], ◌∷◌, ◌++◌, length, drop, Option, Some, None, Result, Ok, Err, refl, sym, ap, subst, ◌∙◌, ⊎_elim, append_assoc, append-nil, arith}
+use Rattle.std.proofs.Common.{◌≡◌, ℕ, ◌+◌, ◌-◌, ◌^◌, ◌<◌, ◌≤◌, true, List, [], ◌∷◌, ◌++◌, length, drop, Option, Some, None, Result, Ok, Err, refl, sym, ap, subst, ◌∙◌, append-nil, arith}
 use Rattle.std.proofs.lemmas.Bool.{false≢true}
 use Rattle.std.proofs.lemmas.List.{length-append, length-drop, drop-append-le, drop-drop}
 use Rattle.patch_rows.specs.declared.fault.RowFault.{RowFault as RowAnswer}
@@ -14,14 +14,12 @@ use Rattle.patch_rows.proofs.SpaceLaws.{skips}
 use Rattle.patch_reader.specs.declared.placed.PlacedRow.{PlacedRow}
 use Rattle.patch_reader.specs.declared.placed.TextEnd.{TextEnd}
 use Rattle.patch_reader.specs.declared.placed.TextEnd.TheVariants as ends
-use Rattle.patch_reader.specs.Cut.{is_cut}
-use Rattle.patch_reader.specs.Decided.{ShortRowDecided, FirstFaultDecided, MoreDecides, Decides, Reads, GivesRow}
-use Rattle.patch_reader.specs.Live.{live_row}
+use Rattle.patch_reader.specs.Cut.{AtEnd, is_cut}
+use Rattle.patch_reader.specs.Decided.{ShortRowDecided, FirstFaultDecided, MoreDecides, Reads, GivesRow}
 use Rattle.patch_reader.specs.Places.{further_place, moved_fault, placed_row}
-use Rattle.patch_reader.specs.Rows.{Gap, RowsUpTo, NoRowAt, FaultBehind, RowsDecided, NextFault, NothingDecided, RowsStand, Stops, GivesNext, Keeps}
+use Rattle.patch_reader.specs.Rows.{Gap, RowsUpTo, NoRowAt, FaultBehind, RowsDecided, NextFault, NothingDecided, GivesNext, Keeps}
 use Rattle.patch_reader.proofs.Limits.{any_length}
-use Rattle.patch_reader.proofs.RowEnds.{space_is, space_there, cut_row, cut_short}
-use Rattle.patch_reader.proofs.RowStays.{AtEnd}
+use Rattle.patch_reader.proofs.RowEnds.{space_there, cut_row, cut_short}
 use Rattle.patch_reader.proofs.Settled.{only_row, only_fault}
 
 -- ---- what is cut begins nothing that is decided

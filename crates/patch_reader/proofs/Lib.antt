@@ -15,7 +15,9 @@ pub mod Kept
 pub mod Adding
 pub mod Reader
 pub mod GapSteps
+pub mod InsideSteps
 pub mod RowParts
+pub mod Begun
 pub mod ProgressSteps
 pub mod CutSteps
 pub mod Answered

@@ -1,10 +1,9 @@
 -- Rows within their limit: what is read of them is what is decided, and in a whole text what stands there.
-use Rattle.std.proofs.Common.{◌≡◌, ℕ, ◌+◌, ◌-◌, ◌<◌, ◌≤◌, Bool, true, false, cond, List, [], ◌∷◌, ◌++◌, length, take, drop, Result, Ok, Err, nat_eq, nat_lt, refl, sym, ap, subst, ◌∙◌, ◌⊎◌, inl, inr, ⊎_elim, arith, append_assoc, append-nil, eqb-true, eq-eqb}
-use Rattle.std.proofs.lemmas.Bool.{false≢true, ne_eqb, lt-ltb, le-ltb, cases_lt}
+use Rattle.std.proofs.Common.{◌≡◌, ℕ, ◌+◌, ◌-◌, ◌<◌, ◌≤◌, Bool, true, false, cond, List, [], ◌∷◌, ◌++◌, length, take, drop, Ok, Err, nat_eq, nat_lt, refl, sym, ap, subst, ◌∙◌, ◌⊎◌, inl, inr, ⊎_elim, arith, append_assoc, append-nil, eqb-true, eq-eqb}
+use Rattle.std.proofs.lemmas.Bool.{false≢true, cases_lt}
 use Rattle.std.proofs.lemmas.Bool.Decides.{nat_tests}
 use Rattle.std.proofs.lemmas.List.{length-append, length-drop, length-take-le, take-append-le, take-append-drop, drop-append-le}
 use Rattle.std.proofs.Math.Seq.{take-append-add, drop-append-add}
-use Rattle.patch_rows.specs.declared.fault.RowKind.{RowKind}
 use Rattle.patch_rows.specs.declared.fault.RowKind.TheVariants.{TooLong}
 use Rattle.patch_rows.specs.declared.row.Row.{Row}
 use Rattle.patch_rows.specs.Fault.{Fault, Read}
@@ -14,7 +13,7 @@ use Rattle.patch_rows.specs.Reading.{row_at}
 use Rattle.patch_rows.proofs.Exact.{Exact, exact_ok, exact_err, restated, ok_is, err_is, ok_no_err, err_no_ok}
 use Rattle.patch_rows.proofs.WholeRow.{exact_row}
 use Rattle.patch_reader.specs.Cut.{ends_row}
-use Rattle.patch_reader.specs.Decided.{Undecided, ShortRowDecided, FirstFaultDecided, MoreDecides}
+use Rattle.patch_reader.specs.Decided.{ShortRowDecided, FirstFaultDecided, MoreDecides}
 use Rattle.patch_reader.specs.Limit.{of_front, front_row_at, limited_row_at}
 use Rattle.patch_reader.specs.Live.{live_row}
 use Rattle.patch_reader.proofs.RowStays.{row_decided, fault_decided}

@@ -24,12 +24,12 @@ use Rattle.patch_rows.specs.Fault.{Fault, Read, ◌>>=◌, in_row}
 use Rattle.patch_rows.specs.Faults.{is_dot}
 use Rattle.patch_rows.specs.Grammar.{is_space, is_word_byte, is_any, is_node}
 use Rattle.patch_rows.specs.Reading.{space_behind, skip_space, stands, other, begins_blank, whole_label, bracketed, bracket_at, row_term_at, needed_term_at, placed_at, key_at, past_colon, plain_text, plain_of, or_bad_position, quoted_at, prefix_at, iri_of_string, iri_of_term, prefix_iri_at, dot_at, end_at, graph_or_dot, graph_at, header_at, bare_at, quad_at, added_at, removed_at, parts_at, code_named, by_code, uncut, word_at, row_at}
-use Rattle.patch_reader.specs.Cut.{leads, is_cut, ends_text, ends_row, literal_open, blank_open}
+use Rattle.patch_reader.specs.Cut.{AtEnd, leads, is_cut, ends_text, ends_row, literal_open, blank_open}
 use Rattle.patch_reader.specs.Live.{live_term, live_placed, live_key, live_quoted, live_word_prefix, live_prefix, live_prefix_iri, live_graph_or_dot, live_graph, live_header, live_bare, live_quad, live_added, live_removed, live_parts, live_by_code, live_row}
 use Rattle.patch_reader.proofs.TokenStays.{IsBlank}
 use Rattle.patch_reader.proofs.Completions.{stop}
 use Rattle.patch_reader.proofs.Breaks.{TermBreaks, IsOpen, term_breaks}
-use Rattle.patch_reader.proofs.RowStays.{AtEnd, Keeps, end_then, cut_stands, no_dot, no_colon, no_letter, no_term, cut_other, cut_needed, cut_dot, space_stays, blank_is_no_literal, placed_stays, prefix_iri_stays, key_stays, prefix_stays, word_stays, node_alike, iri_alike, any_alike, spaced, cut_placed, cut_key, cut_prefix, cut_prefix_iri}
+use Rattle.patch_reader.proofs.RowStays.{Keeps, end_then, cut_stands, no_dot, no_colon, no_letter, no_term, cut_other, cut_needed, cut_dot, space_stays, blank_is_no_literal, placed_stays, prefix_iri_stays, key_stays, prefix_stays, word_stays, node_alike, iri_alike, any_alike, spaced, cut_placed, cut_key, cut_prefix, cut_prefix_iri}
 
 -- ---- what comes of a reading that is at the end
 

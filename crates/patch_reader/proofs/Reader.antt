@@ -2,7 +2,7 @@
 use Rattle.std.proofs.Common.{◌≡◌, ℕ, ◌+◌, ◌-◌, ◌^◌, ◌<◌, ◌≤◌, List, [], ◌∷◌, ◌++◌, length, drop, true, false, Bool, cond, Option, Some, None, Result, Ok, Err, nat_eq, refl, sym, ap, subst, ◌∙◌, ⊎_elim, append_assoc, append-nil, arith}
 use Rattle.std.proofs.lemmas.Bool.{false≢true}
 use Rattle.std.proofs.lemmas.Bool.Decides.{nat_tests}
-use Rattle.std.proofs.lemmas.List.{length-append, length-drop, drop-append-le, drop-drop, drop_at}
+use Rattle.std.proofs.lemmas.List.{length-append, length-drop, drop-append-le, drop-drop}
 use Rattle.std.specs.Result.{is_ok, is_err}
 use Rattle.nquads_text.specs.Fault.{Fault as TextFault}
 use Rattle.nquads_text.specs.Reading.{char_at}
@@ -11,12 +11,11 @@ use Rattle.patch_rows.specs.declared.fault.RowFault.{RowFault as RowAnswer}
 use Rattle.patch_rows.specs.declared.fault.RowFault.TheVariants as faults
 use Rattle.patch_rows.specs.declared.fault.RowKind.{RowKind}
 use Rattle.patch_rows.specs.Fault.{Fault, Read}
-use Rattle.patch_rows.specs.Faults.{FirstFault}
 use Rattle.patch_rows.specs.Grammar.{Space, is_space, IsRowAt, row_limit}
 use Rattle.patch_rows.specs.Reading.{space_behind, skip_space}
 use Rattle.patch_rows.proofs.Shorter.{space_le}
 use Rattle.patch_rows.proofs.SpaceLaws.{skipped, skips}
-use Rattle.patch_rows.proofs.SpaceSteps.{no_char, at_other}
+use Rattle.patch_rows.proofs.SpaceSteps.{no_char}
 use Rattle.patch_reader.specs.declared.pieces.PatchReader.{PatchReader}
 use Rattle.patch_reader.specs.declared.placed.PlacedRow.{PlacedRow}
 use Rattle.patch_reader.specs.declared.placed.TextEnd.{TextEnd}
@@ -25,19 +24,20 @@ use Rattle.patch_reader.specs.declared.progress.Phase.{Phase}
 use Rattle.patch_reader.specs.declared.progress.Phase.TheVariants as phase
 use Rattle.patch_reader.specs.declared.progress.Place.TheVariants as place
 use Rattle.patch_reader.specs.declared.progress.Progress.{Progress}
-use Rattle.patch_reader.specs.Cut.{is_cut, ends_row}
+use Rattle.patch_reader.specs.Cut.{AtEnd, is_cut, ends_row}
 use Rattle.patch_reader.specs.Decided.{MoreDecides}
 use Rattle.patch_reader.specs.Live.{live_row}
 use Rattle.patch_reader.specs.Pieces.{IsPhase, IsStuck, IsTail, IsHeld, IsSameGap, Stands}
 use Rattle.patch_reader.specs.Places.{further_place}
-use Rattle.patch_reader.specs.Progress.{AtEnd, OpenAt, OpenInside, Follows, IsUnfinished, progress_at}
-use Rattle.patch_reader.specs.Rows.{Gap, RowsUpTo, NoRowAt, FaultBehind, RowsDecided, NextFault, NothingDecided, RowsStand, Stops, Adds, Keeps}
-use Rattle.patch_reader.proofs.Adding.{stand_joined, rows_assoc, rows_end}
+use Rattle.patch_reader.specs.Inside.{OpenInside}
+use Rattle.patch_reader.specs.Progress.{OpenAt, Follows, IsUnfinished, progress_at}
+use Rattle.patch_reader.specs.Rows.{Gap, RowsUpTo, NoRowAt, RowsDecided, NextFault, NothingDecided, RowsStand, Stops, Adds, Keeps}
+use Rattle.patch_reader.proofs.Adding.{stand_joined, rows_assoc}
 use Rattle.patch_reader.proofs.Kept.{far, none_next}
 use Rattle.patch_reader.proofs.Limits.{more_decides}
 use Rattle.patch_reader.proofs.ProgressSteps.{gap_cut}
 use Rattle.patch_reader.proofs.RowEnds.{cut_row, cut_short}
-use Rattle.patch_reader.proofs.RowStays.{cut_char, space_stays}
+use Rattle.patch_reader.proofs.RowStays.{space_stays}
 
 -- ---- at the start
 

@@ -1,18 +1,15 @@
 -- What isn't cut ends white space and comments; what is cut begins no row that is decided.
-use Rattle.std.proofs.Common.{◌≡◌, ℕ, ◌≤◌, true, false, List, [], ◌∷◌, ◌++◌, length, Ok, Err, refl, sym, ap, subst, ◌∙◌, ⊎_elim, append-nil, arith}
-use Rattle.std.proofs.lemmas.Bool.{false≢true}
+use Rattle.std.proofs.Common.{◌≡◌, ℕ, ◌≤◌, true, false, List, [], ◌∷◌, ◌++◌, length, sym, ap, subst, ◌∙◌, ⊎_elim, append-nil, arith}
 use Rattle.std.specs.Char.{is_ascii_alphabetic}
 use Rattle.nquads_text.specs.declared.fault.TextKind.TheVariants.{BadToken}
 use Rattle.patch_rows.specs.declared.fault.RowKind.TheVariants.{Common}
-use Rattle.patch_rows.specs.declared.row.Row.{Row}
-use Rattle.patch_rows.specs.Fault.{Fault}
 use Rattle.patch_rows.specs.Grammar.{Space, row_limit}
 use Rattle.patch_rows.specs.Reading.{skip_space, word_at}
 use Rattle.patch_rows.proofs.SpaceLaws.{skipped, skips}
-use Rattle.patch_reader.specs.Cut.{is_cut}
+use Rattle.patch_reader.specs.Cut.{AtEnd, is_cut}
 use Rattle.patch_reader.specs.Live.{live_row}
 use Rattle.patch_reader.proofs.Completions.{front_length}
-use Rattle.patch_reader.proofs.RowStays.{AtEnd, end_then, cut_stands, no_letter, cut_other, space_stays}
+use Rattle.patch_reader.proofs.RowStays.{end_then, cut_stands, no_letter, cut_other, space_stays}
 
 pub space_is : (text from : List ℕ) → Space (text ++ []) (from ++ []) → skip_space text ≡ from
 space_is text from s = ap skip_space (sym (append-nil text)) ∙ skips (text ++ []) (from ++ []) s ∙ append-nil from

@@ -1,5 +1,5 @@
 -- The parts of an unfinished row, one behind another.
-use Rattle.std.proofs.Common.{◌≡◌, ℕ, ◌+◌, ◌<◌, ◌≤◌, Bool, true, false, cond, List, [], ◌∷◌, ◌++◌, length, drop, Option, Some, None, Result, Ok, Err, nat_eq, ◌||◌, refl, sym, ap, subst, ◌∙◌, ◌⊎◌, inl, inr, ⊎_elim, append_assoc, append-nil, arith, eq-eqb}
+use Rattle.std.proofs.Common.{◌≡◌, ℕ, Bool, true, false, cond, List, [], ◌∷◌, ◌++◌, length, Option, Some, None, Ok, Err, nat_eq, ◌||◌, refl, sym, ap, subst, ◌∙◌, inl, inr, append_assoc, append-nil, arith, eq-eqb}
 use Rattle.std.proofs.lemmas.Bool.{false≢true, ne_eqb}
 use Rattle.std.proofs.lemmas.List.{length-append}
 use Rattle.std.specs.Char.{is_ascii_alphabetic}
@@ -9,29 +9,23 @@ use Rattle.rdf_terms.specs.declared.change.Change.TheVariants as change
 use Rattle.rdf_terms.specs.declared.term.Term.{Term}
 use Rattle.rdf_terms.specs.declared.term.Term.TheVariants as term
 use Rattle.nquads_text.specs.declared.fault.TextKind.TheVariants.{MissingDot, BadToken, Truncated}
-use Rattle.nquads_text.specs.Fault.{Read as TextRead, ◌>>=◌ as ◌and_then◌}
 use Rattle.nquads_text.specs.Faults.{begins_term}
-use Rattle.nquads_text.specs.Reading.{char_at, iri_body_at, string_body_at, iri_piece, string_piece, pieces_at}
-use Rattle.nquads_text.specs.Terms.{literal_at, suffix_at, term_at}
-use Rattle.nquads_text.proofs.Fronts.{char_at-ascii}
-use Rattle.patch_rows.specs.declared.codes.Code.{Code as RowCode}
 use Rattle.patch_rows.specs.declared.fault.RowKind.TheVariants.{Common}
-use Rattle.patch_rows.specs.declared.row.Row.{Row}
-use Rattle.patch_rows.specs.Fault.{Fault, Read, ◌>>=◌, in_row}
+use Rattle.patch_rows.specs.Fault.{Fault, Read, ◌>>=◌}
 use Rattle.patch_rows.specs.Faults.{is_dot}
 use Rattle.patch_rows.specs.Grammar.{is_word_byte, is_any, is_node}
-use Rattle.patch_rows.specs.Reading.{skip_space, stands, row_term_at, bracket_at, needed_term_at, placed_at, run_of, key_at, past_colon, quoted_at, prefix_iri_at, uncut, other, dot_at, end_at, code_named, word_at}
+use Rattle.patch_rows.specs.Reading.{skip_space, stands, placed_at, run_of, key_at, past_colon, quoted_at, prefix_iri_at, uncut, other, dot_at, end_at, code_named, word_at}
 use Rattle.patch_reader.specs.declared.codes.Code.{Code}
 use Rattle.patch_reader.specs.declared.codes.Code.TheVariants as code
 use Rattle.patch_reader.specs.declared.progress.Part.{Part}
 use Rattle.patch_reader.specs.declared.progress.Part.TheVariants as part
 use Rattle.patch_reader.specs.Codes.{row_code}
-use Rattle.patch_reader.specs.Cut.{is_cut, ends_row}
-use Rattle.patch_reader.specs.Live.{live_term, live_placed, live_key, live_quoted, live_word_prefix, live_prefix, live_prefix_iri, live_graph_or_dot, live_header, live_bare, live_quad, live_added, live_removed, live_parts, live_by_code, live_row}
-use Rattle.patch_reader.specs.Progress.{AtEnd, TextAtEnd, Rest, end_from, graph_from, object_from, predicate_from, subject_from, value_from, key_from, iri_from, added_from, removed_from, rest_from, part_at, part_behind, takes_term, first_part}
+use Rattle.patch_reader.specs.Cut.{AtEnd, is_cut}
+use Rattle.patch_reader.specs.Live.{live_placed, live_key, live_quoted, live_word_prefix, live_prefix, live_prefix_iri, live_graph_or_dot, live_header, live_bare, live_quad, live_added, live_removed, live_parts, live_row}
+use Rattle.patch_reader.specs.Progress.{Rest, end_from, graph_from, object_from, predicate_from, subject_from, value_from, key_from, iri_from, added_from, removed_from, rest_from, part_at, part_behind, first_part}
 use Rattle.patch_reader.proofs.Completions.{stop}
 use Rattle.patch_reader.proofs.Opens.{Changes, Final, placed_changes, quoted_ends, prefix_iri_ends}
-use Rattle.patch_reader.proofs.RowStays.{Keeps, end_then, text_at_end, cut_placed, cut_key, cut_prefix, cut_prefix_iri, cut_dot, cut_stands, no_term, placed_stays, key_stays, quoted_stays, prefix_iri_stays, word_stays, word_run_stays, node_alike, iri_alike, any_alike}
+use Rattle.patch_reader.proofs.RowStays.{Keeps, end_then, cut_placed, cut_key, cut_prefix, cut_prefix_iri, cut_dot, cut_stands, no_term, placed_stays, key_stays, quoted_stays, prefix_iri_stays, word_stays, word_run_stays, node_alike, iri_alike, any_alike}
 
 -- ---- what was read of a part is read of it with more text behind
 
@@ -252,95 +246,6 @@ cut_rest part.Predicate rest e = end_then (live_placed is_iri rest) _ (cut_place
 cut_rest part.Object rest e = end_then (live_placed is_any rest) _ (cut_placed is_any rest e)
 cut_rest part.Graph rest e = rw (cut_stands begins_term rest no_term e) (cut_dot (Common MissingDot) rest e)
 cut_rest part.End rest e = cut_dot (Common MissingDot) rest e
-
--- ---- inside a string or an IRIREF
-
-text_end_then : {X Y : Type 0} (r : TextRead X) (f : X × List ℕ → TextRead Y) → TextAtEnd r → TextAtEnd (◌and_then◌ r f)
-text_end_then (Ok x) f a = absurd a
-text_end_then (Err e) f a = a
-
--- what a reading of terms meets inside a string, the term meets
-literal_open_end : (start body : List ℕ) → TextAtEnd (string_body_at body) → TextAtEnd (literal_at start body)
-unfolding literal_at
-literal_open_end start body a = text_end_then (string_body_at body) _ a
-
-term_string : (body : List ℕ) → TextAtEnd (string_body_at body) → TextAtEnd (term_at (34 ∷ body))
-unfolding term_at
-term_string body a = rw (char_at-ascii 34 body (omega arith)) (text_end_then (literal_at (34 ∷ body) body) _ (literal_open_end (34 ∷ body) body a))
-
-row_term_string : (body : List ℕ) → TextAtEnd (string_body_at body) → AtEnd (row_term_at (34 ∷ body))
-unfolding row_term_at
-row_term_string body a = text_at_end (term_at (34 ∷ body)) (term_string body a)
-
-row_term_iri : (body : List ℕ) → TextAtEnd (iri_body_at body) → AtEnd (row_term_at (60 ∷ body))
-unfolding row_term_at bracket_at
-row_term_iri body a = end_then (in_row (iri_body_at body)) _ (text_at_end (iri_body_at body) a)
-
--- the first byte is one of these, and the term behind it is open
-data OpensTerm (rest : List ℕ) : Type 0 where
-  string : (body : List ℕ) → rest ≡ 34 ∷ body → AtEnd (row_term_at rest) → OpensTerm rest
-  iri : (body : List ℕ) → rest ≡ 60 ∷ body → AtEnd (row_term_at rest) → OpensTerm rest
-
-no_dot_there : (rest : List ℕ) → OpensTerm rest → stands is_dot rest ≡ false
-no_dot_there rest (OpensTerm.string body is a) = ap (stands is_dot) is
-no_dot_there rest (OpensTerm.iri body is a) = ap (stands is_dot) is
-
-term_there : (rest : List ℕ) → OpensTerm rest → stands begins_term rest ≡ true
-term_there rest (OpensTerm.string body is a) = ap (stands begins_term) is
-term_there rest (OpensTerm.iri body is a) = ap (stands begins_term) is
-
-no_colon_there : (rest : List ℕ) → OpensTerm rest → stands (λ b. nat_eq b 58) rest ≡ false
-no_colon_there rest (OpensTerm.string body is a) = ap (stands (λ b. nat_eq b 58)) is
-no_colon_there rest (OpensTerm.iri body is a) = ap (stands (λ b. nat_eq b 58)) is
-
-no_letter_there : (rest : List ℕ) → OpensTerm rest → stands is_ascii_alphabetic rest ≡ false
-no_letter_there rest (OpensTerm.string body is a) = ap (stands is_ascii_alphabetic) is
-no_letter_there rest (OpensTerm.iri body is a) = ap (stands is_ascii_alphabetic) is
-
-open_term : (rest : List ℕ) → OpensTerm rest → AtEnd (row_term_at rest)
-open_term rest (OpensTerm.string body is a) = a
-open_term rest (OpensTerm.iri body is a) = a
-
-live_open : (rest : List ℕ) → OpensTerm rest → AtEnd (live_term rest)
-unfolding live_term needed_term_at
-live_open rest o = rw (no_dot_there rest o) (end_then (row_term_at rest) _ (open_term rest o))
-
-placed_open : (fits : Term → Bool) (rest : List ℕ) → OpensTerm rest → AtEnd (live_placed fits rest)
-unfolding live_placed
-placed_open fits rest o = end_then (live_term rest) _ (live_open rest o)
-
-either_true : (a b : Bool) → b ≡ true → (a || b) ≡ true
-either_true true b e = refl
-either_true false b e = e
-
-prefix_open : (rest : List ℕ) → OpensTerm rest → AtEnd (live_prefix rest)
-unfolding live_prefix live_quoted
-prefix_open rest o =
-    rw (no_colon_there rest o) (rw (no_letter_there rest o) (rw (either_true (stands is_dot rest) (stands begins_term rest) (term_there rest o)) (end_then (live_term rest) _ (live_open rest o))))
-
-prefix_iri_open : (rest : List ℕ) → OpensTerm rest → AtEnd (live_prefix_iri rest)
-unfolding live_prefix_iri
-prefix_iri_open rest o = end_then (live_term rest) _ (live_open rest o)
-
-term_opens : (p : Part) (rest : List ℕ) → takes_term p ≡ true → OpensTerm rest → AtEnd (rest_from p rest)
-unfolding graph_from object_from predicate_from subject_from value_from iri_from added_from removed_from
-term_opens part.Key rest t o = absurd (false≢true t)
-term_opens part.Value rest t o = end_then (live_placed is_any rest) _ (placed_open is_any rest o)
-term_opens part.Bare rest t o = absurd (false≢true t)
-term_opens part.Added rest t o = end_then (live_prefix rest) _ (prefix_open rest o)
-term_opens part.Iri rest t o = end_then (live_prefix_iri rest) _ (prefix_iri_open rest o)
-term_opens part.Removed rest t o = end_then (live_prefix rest) _ (prefix_open rest o)
-term_opens part.Subject rest t o = end_then (live_placed is_node rest) _ (placed_open is_node rest o)
-term_opens part.Predicate rest t o = end_then (live_placed is_iri rest) _ (placed_open is_iri rest o)
-term_opens part.Object rest t o = end_then (live_placed is_any rest) _ (placed_open is_any rest o)
-term_opens part.Graph rest t o = rw (term_there rest o) (end_then (live_placed is_node rest) _ (placed_open is_node rest o))
-term_opens part.End rest t o = absurd (false≢true t)
-
-pub string_opens : (p : Part) (rest body : List ℕ) → takes_term p ≡ true → rest ≡ 34 ∷ body → TextAtEnd (string_body_at body) → AtEnd (rest_from p rest)
-string_opens p rest body t is a = term_opens p rest t (OpensTerm.string body is (subst (λ (r : List ℕ). AtEnd (row_term_at r)) (sym is) (row_term_string body a)))
-
-pub iri_opens : (p : Part) (rest body : List ℕ) → takes_term p ≡ true → rest ≡ 60 ∷ body → TextAtEnd (iri_body_at body) → AtEnd (rest_from p rest)
-iri_opens p rest body t is a = term_opens p rest t (OpensTerm.iri body is (subst (λ (r : List ℕ). AtEnd (row_term_at r)) (sym is) (row_term_iri body a)))
 
 -- ---- behind a row's code
 

@@ -28,19 +28,15 @@ use Rattle.patch_rows.specs.Fault.{Fault, Read, ◌>>=◌, in_row}
 use Rattle.patch_rows.specs.Faults.{is_dot}
 use Rattle.patch_rows.specs.Grammar.{is_line_end, is_space, is_word_byte, is_any, is_node}
 use Rattle.patch_rows.specs.Reading.{comment_step, space_behind, skip_space, stands, other, begins_blank, whole_label, bracketed, bracket_at, row_term_at, needed_term_at, placed_at, run_of, key_at, past_colon, plain_of, plain_text, or_bad_position, quoted_at, prefix_at, iri_of_string, iri_of_term, prefix_iri_at, dot_at, end_at, graph_or_dot, graph_at, header_at, bare_at, quad_at, added_at, removed_at, parts_at, code_named, by_code, uncut, word_at, row_at}
-use Rattle.patch_reader.specs.Cut.{leads, is_front, is_cut, ends_text, ends_row, literal_open, blank_open}
+use Rattle.patch_reader.specs.Cut.{leads, is_front, is_cut, ends_text, ends_row, TextAtEnd, AtEnd, literal_open, blank_open}
 use Rattle.patch_reader.specs.Live.{live_term, live_placed, live_key, live_quoted, live_word_prefix, live_prefix, live_prefix_iri, live_graph_or_dot, live_graph, live_header, live_bare, live_quad, live_added, live_removed, live_parts, live_by_code, live_row}
-use Rattle.patch_reader.proofs.Stays.{AtEnd as TextAtEnd, with_more as text_with_more, Stays, char_stays, bad_char, good_char, rooms_same, iri_body_stays}
+use Rattle.patch_reader.proofs.Stays.{with_more as text_with_more, Stays, char_stays, bad_char, good_char, rooms_same, iri_body_stays}
 use Rattle.patch_rows.proofs.WholeRow.{exact_row}
 use Rattle.patch_rows.specs.Faults.{FaultDecided}
 use Rattle.patch_rows.specs.Grammar.{RowDecided}
 use Rattle.patch_reader.proofs.TokenStays.{Late, IsBlank, OpenTerm, term_late}
 
 -- ---- one reading behind another
-
-abbrev pub AtEnd : {X : Type 0} → Result X Fault → Type 0
-AtEnd (Ok x) = ⊥
-AtEnd (Err f) = ends_row f.0 f.1 ≡ true
 
 abbrev pub with_more : {X : Type 0} → List ℕ → Read X → Read X
 with_more more (Ok x) = Ok (x.0, x.1 ++ more)

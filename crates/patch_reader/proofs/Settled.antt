@@ -10,7 +10,7 @@ use Rattle.patch_rows.specs.declared.row.Row.{Row}
 use Rattle.patch_rows.specs.Fault.{Fault, Read}
 use Rattle.patch_rows.specs.Reading.{row_at}
 use Rattle.patch_rows.proofs.WholeRow.{exact_row}
-use Rattle.patch_reader.specs.Cut.{is_front, ends_text, ends_row}
+use Rattle.patch_reader.specs.Cut.{AtEnd, is_front, ends_text, ends_row}
 use Rattle.patch_rows.specs.Faults.{FaultDecided}
 use Rattle.patch_rows.specs.Grammar.{RowDecided}
 use Rattle.patch_reader.specs.Decided.{Undecided}
@@ -18,7 +18,7 @@ use Rattle.patch_reader.specs.Live.{live_row}
 use Rattle.patch_reader.proofs.Completions.{stop, front_completed}
 use Rattle.patch_reader.proofs.Opens.{row_stop, Final, row_ends}
 use Rattle.patch_reader.proofs.RowShapes.{truncated_ends, ill_formed_stands}
-use Rattle.patch_reader.proofs.RowStays.{AtEnd, row_decided, fault_decided}
+use Rattle.patch_reader.proofs.RowStays.{row_decided, fault_decided}
 
 abbrev given : Row × List ℕ → Read Row
 given x = Ok x

@@ -14,24 +14,19 @@ use Rattle.nquads_text.specs.Reading.{char_at, digit_at, four_digits_at, eight_d
 use Rattle.nquads_text.specs.Terms.{iri_at}
 use Rattle.nquads_text.specs.Grammar.{echar}
 use lib.Utf8.{scalar}
-use Rattle.patch_reader.specs.Cut.{leads, is_front, ends_text}
+use Rattle.patch_reader.specs.Cut.{leads, is_front, ends_text, TextAtEnd}
 use Rattle.nquads_text.proofs.Fronts.{char_spelled, char_again}
 
 -- ---- one reading behind another
 
--- the fault is one of the text's end
-abbrev pub AtEnd : {X : Type 0} → Read X → Type 0
-AtEnd (Ok x) = ⊥
-AtEnd (Err f) = ends_text f.0 f.1 ≡ true
-
--- the same, with more text behind
+-- what is read, with more text behind
 abbrev pub with_more : {X : Type 0} → List ℕ → Read X → Read X
 with_more more (Ok x) = Ok (x.0, x.1 ++ more)
 with_more more (Err f) = Err (f.0, f.1 ++ more)
 
 -- reading met the end, or it gives the same with more text
 abbrev pub Stays : {X : Type 0} → List ℕ → Read X → Read X → Type 0
-Stays more read longer = AtEnd read ⊎ (longer ≡ with_more more read)
+Stays more read longer = TextAtEnd read ⊎ (longer ≡ with_more more read)
 
 pub stays_then : {X Y : Type 0} (more : List ℕ) (r longer : Read X) (f g : X × List ℕ → Read Y)
     → Stays more r longer → ((x : X × List ℕ) → r ≡ Ok x → Stays more (f x) (g (x.0, x.1 ++ more))) → Stays more (r >>= f) (longer >>= g)

@@ -24,9 +24,9 @@ use Rattle.nquads_text.proofs.Fronts.{char_spelled}
 use Rattle.nquads_text.proofs.NameRuns.{name-none}
 use Rattle.nquads_text.proofs.LabelLaws.{inner_taken}
 use Rattle.nquads_text.proofs.LiteralReads.{string_found}
-use Rattle.patch_reader.specs.Cut.{leads, is_front, ends_text, no_name_pair, no_name_begins, begins_name_char, label_open, ends_quoted, literal_open, blank_open}
+use Rattle.patch_reader.specs.Cut.{leads, is_front, ends_text, TextAtEnd, no_name_pair, no_name_begins, begins_name_char, label_open, ends_quoted, literal_open, blank_open}
 use Rattle.patch_rows.specs.Reading.{stands}
-use Rattle.patch_reader.proofs.Stays.{AtEnd, with_more, Stays, stays_then, stays_if, ok_stays, err_stays, char_stays, ok_char, bad_char, good_char, still_bad, rooms_same, string_body_stays, iri_stays}
+use Rattle.patch_reader.proofs.Stays.{with_more, Stays, stays_then, stays_if, ok_stays, err_stays, char_stays, ok_char, bad_char, good_char, still_bad, rooms_same, string_body_stays, iri_stays}
 
 -- ---- readings whose value may be open
 
@@ -335,9 +335,9 @@ name_late more start rest = by (char_at rest) refl (char_stays more rest)
 
     by : (r : Read ℕ) → char_at rest ≡ r → Stays more (char_at rest) (char_at (rest ++ more))
         → Late (OpenLabel (name_at (start ++ more) (rest ++ more))) more (name_at start rest) (name_at (start ++ more) (rest ++ more))
-    by (Err f) e (inl end) = let ended = subst AtEnd e end in inl (inl (rw e ended))
+    by (Err f) e (inl end) = let ended = subst TextAtEnd e end in inl (inl (rw e ended))
     by (Err f) e (inr same) = let longer = same ∙ ap (with_more more) e in inl (inr (rw (e, longer) refl))
-    by (Ok x) e (inl end) = absurd (subst AtEnd e end)
+    by (Ok x) e (inl end) = absurd (subst TextAtEnd e end)
     by (Ok x) e (inr same) = chosen x (begins_name x.0) refl e (same ∙ ap (with_more more) e)
 
 pub label_late : (more start rest : List ℕ) → Late (OpenLabel (label_at (start ++ more) (rest ++ more))) more (label_at start rest) (label_at (start ++ more) (rest ++ more))
@@ -351,9 +351,9 @@ label_late more start rest = by (char_at rest) refl (char_stays more rest)
 
     by : (r : Read ℕ) → char_at rest ≡ r → Stays more (char_at rest) (char_at (rest ++ more))
         → Late (OpenLabel (label_at (start ++ more) (rest ++ more))) more (label_at start rest) (label_at (start ++ more) (rest ++ more))
-    by (Err f) e (inl end) = let ended = subst AtEnd e end in inl (inl (rw e ended))
+    by (Err f) e (inl end) = let ended = subst TextAtEnd e end in inl (inl (rw e ended))
     by (Err f) e (inr same) = let longer = same ∙ ap (with_more more) e in inl (inr (rw (e, longer) refl))
-    by (Ok x) e (inl end) = absurd (subst AtEnd e end)
+    by (Ok x) e (inl end) = absurd (subst TextAtEnd e end)
     by (Ok x) e (inr same) = chosen x (nat_eq x.0 58) refl e (same ∙ ap (with_more more) e)
 
 -- ---- tags
@@ -400,7 +400,7 @@ unfolding iri_needed
 needed_stays more rest = stays_then more (char_at rest) (char_at (rest ++ more)) _ _ (char_stays more rest) (λ c e.
     stays_if more (nat_eq c.0 60) _ _ _ _ (iri_stays more rest c.1) (err_stays more BadToken rest))
 
-needed_at_end : ends_text Truncated [] ≡ true → AtEnd (iri_needed [])
+needed_at_end : ends_text Truncated [] ≡ true → TextAtEnd (iri_needed [])
 unfolding iri_needed char_at
 needed_at_end e = e
 
@@ -409,7 +409,7 @@ unfolding ends_text
 spaced_iri_stays more rest = by (skip_blanks rest) refl
   where
     by : (s : List ℕ) → skip_blanks rest ≡ s → Stays more (iri_needed (skip_blanks rest)) (iri_needed (skip_blanks (rest ++ more)))
-    by [] e = inl (subst (λ (s : List ℕ). AtEnd (iri_needed s)) (sym e) (needed_at_end refl))
+    by [] e = inl (subst (λ (s : List ℕ). TextAtEnd (iri_needed s)) (sym e) (needed_at_end refl))
     by (b ∷ after) e = rw (e, blanks_stay rest more b after e) (needed_stays more (b ∷ after))
 
 kind_stays : (more start iri after : List ℕ) → Stays more (kind_of start iri after) (kind_of (start ++ more) iri (after ++ more))
@@ -426,7 +426,7 @@ datatype_stays more start rest = stays_then more (char_at rest) (char_at (rest +
     (err_stays more BadToken rest))
 
 -- nothing but blanks stands behind the string, or a tag reaches the text's end
-abbrev OpenKind : List ℕ → LiteralKind × List ℕ → Type 0
+abbrev pub OpenKind : List ℕ → LiteralKind × List ℕ → Type 0
 OpenKind text x = ((x.0 ≡ Plain) × (x.1 ≡ text) × (list_all is_blank x.1 ≡ true)) ⊎ ((tag : List ℕ) × (x.0 ≡ Tagged tag) × (x.1 ≡ []))
 
 typed_late : (more start text skipped : List ℕ) → skip_blanks text ≡ skipped → Late (OpenKind text) more (typed_at start text skipped) (typed_at (start ++ more) (text ++ more) (skip_blanks (text ++ more)))
@@ -445,7 +445,7 @@ suffix_late more start (b ∷ rest) =
 
 -- ---- literals and terms
 
-string_last : (rest : List ℕ) (string after : List ℕ) → pieces_at string_piece 0 rest ≡ Ok (string, after) → ends_quoted (34 ∷ rest) after ≡ true
+pub string_last : (rest : List ℕ) (string after : List ℕ) → pieces_at string_piece 0 rest ≡ Ok (string, after) → ends_quoted (34 ∷ rest) after ≡ true
 string_last rest string after e =
     let s = string_found rest string after e in
     let front : List ℕ = 34 ∷ s.1.0 in
@@ -462,7 +462,7 @@ string_last rest string after e =
     there [] after = refl
     there (x ∷ front) after = there front after
 
-kind_is_open : (start text : List ℕ) (x : LiteralKind × List ℕ) (lexical : List ℕ) → ends_quoted start text ≡ true → OpenKind text x
+pub kind_is_open : (start text : List ℕ) (x : LiteralKind × List ℕ) (lexical : List ℕ) → ends_quoted start text ≡ true → OpenKind text x
     → literal_open start (term.Literal (record { lexical = lexical; kind = x.0 })) x.1 ≡ true
 kind_is_open start text x lexical last (inl h) = rw (h.0, h.1) (rw last (ap (λ (t : List ℕ). list_all is_blank t) (sym h.1) ∙ h.2))
 kind_is_open start text x lexical last (inr h) = rw (h.1, h.2) refl
@@ -542,7 +542,7 @@ term_late more (b ∷ bs) = by (char_at (b ∷ bs)) refl (char_stays more (b ∷
     chosen c false is e longer = lined c (nat_eq c.0 95) refl is e longer
 
     by : (r : Read ℕ) → char_at (b ∷ bs) ≡ r → Stays more (char_at (b ∷ bs)) (char_at ((b ∷ bs) ++ more)) → TermGoal more (b ∷ bs)
-    by (Err f) e (inl end) = let ended = subst AtEnd e end in inl (inl (rw e ended))
+    by (Err f) e (inl end) = let ended = subst TextAtEnd e end in inl (inl (rw e ended))
     by (Err f) e (inr same) = let longer = same ∙ ap (with_more more) e in inl (inr (rw (e, longer) refl))
-    by (Ok x) e (inl end) = absurd (subst AtEnd e end)
+    by (Ok x) e (inl end) = absurd (subst TextAtEnd e end)
     by (Ok x) e (inr same) = chosen x (nat_eq x.0 60) refl e (same ∙ ap (with_more more) e)

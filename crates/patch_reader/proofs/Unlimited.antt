@@ -1,12 +1,11 @@
 -- No reading of a row of any length says that the row is too long.
-use Rattle.std.proofs.Common.{◌≡◌, ℕ, Bool, true, false, cond, List, [], ◌∷◌, length, drop, take, nat_eq, Option, Some, None, Result, Ok, Err, ap, sym, ◌∙◌, ◌||◌, not}
+use Rattle.std.proofs.Common.{◌≡◌, ℕ, Bool, true, false, cond, List, [], ◌∷◌, length, drop, take, nat_eq, Option, Some, None, Result, Ok, Err, ◌∙◌, ◌||◌, not}
 use Rattle.std.specs.Char.{is_ascii_alphabetic}
 use Rattle.std.specs.List.{list_all, prefix_len}
 use Rattle.rdf_terms.specs.Iri.{has_scheme, is_forbidden}
-use Rattle.rdf_terms.specs.Quad.{statement, is_iri}
+use Rattle.rdf_terms.specs.Quad.{is_iri}
 use Rattle.rdf_terms.specs.declared.change.Change.{Change}
 use Rattle.rdf_terms.specs.declared.change.Change.TheVariants as change
-use Rattle.rdf_terms.specs.declared.term.LiteralKind.{LiteralKind}
 use Rattle.rdf_terms.specs.declared.term.Term.{Term}
 use Rattle.rdf_terms.specs.declared.term.Term.TheVariants as term
 use Rattle.nquads_text.specs.declared.fault.TextKind.{TextKind}
@@ -20,7 +19,6 @@ use Rattle.patch_rows.specs.declared.codes.Code.TheVariants as code
 use Rattle.patch_rows.specs.declared.fault.RowKind.{RowKind}
 use Rattle.patch_rows.specs.declared.fault.RowKind.TheVariants.{Common, UnknownCode, WrongCount, TooLong}
 use Rattle.patch_rows.specs.declared.row.Row.{Row}
-use Rattle.patch_rows.specs.declared.row.Row.TheVariants as row
 use Rattle.patch_rows.specs.Fault.{Fault, Read, ◌>>=◌, in_row}
 use Rattle.patch_rows.specs.Faults.{is_dot, RowFault}
 use Rattle.patch_rows.specs.Grammar.{is_word_byte, is_any, is_node}

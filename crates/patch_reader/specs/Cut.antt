@@ -1,5 +1,5 @@
 -- Where the end of a text, and not the text, is what ended a reading.
-use Rattle.std.specs.Prelude.{ℕ, ◌-◌, Bool, true, false, List, [], ◌∷◌, length, slice_index, ◌==◌, ◌||◌, ◌&&◌, not, is_none, nat_lt, if◌then◌else◌}
+use Rattle.std.specs.Prelude.{◌≡◌, ℕ, ◌-◌, Bool, true, false, List, [], ◌∷◌, length, slice_index, Result, Ok, Err, ◌==◌, ◌||◌, ◌&&◌, not, is_none, nat_lt, if◌then◌else◌}
 use Rattle.std.specs.List.{list_all}
 use Rattle.bstr.specs.Utf8.{decoded}
 use Rattle.rdf_terms.specs.declared.term.LiteralKind.{LiteralKind}
@@ -8,9 +8,11 @@ use Rattle.rdf_terms.specs.declared.term.Term.{Term}
 use Rattle.rdf_terms.specs.declared.term.Term.TheVariants as term
 use Rattle.nquads_text.specs.declared.fault.TextKind.{TextKind}
 use Rattle.nquads_text.specs.declared.fault.TextKind.TheVariants.{NotUtf8, BadIri, RelativeIri, BadEscape, BadLabel, BadLang, LangStringWithoutTag, BadPosition, MissingDot, BadToken, Truncated}
+use Rattle.nquads_text.specs.Fault.{Read as TextRead}
 use Rattle.nquads_text.specs.Grammar.{is_blank}
 use Rattle.patch_rows.specs.declared.fault.RowKind.{RowKind}
 use Rattle.patch_rows.specs.declared.fault.RowKind.TheVariants.{Common, UnknownCode, WrongCount, TooLong}
+use Rattle.patch_rows.specs.Fault.{Fault}
 use Rattle.patch_rows.specs.Reading.{stands}
 
 -- a byte with which a character of several bytes begins
@@ -47,6 +49,16 @@ ends_row (Common kind) rest = ends_text kind rest
 ends_row UnknownCode rest = false
 ends_row WrongCount rest = false
 ends_row TooLong rest = false
+
+-- reading a term met the text's end
+abbrev pub TextAtEnd : {X : Type 0} → TextRead X → Type 0
+TextAtEnd (Ok x) = ⊥
+TextAtEnd (Err f) = ends_text f.0 f.1 ≡ true
+
+-- the same of a row
+abbrev pub AtEnd : {X : Type 0} → Result X Fault → Type 0
+AtEnd (Ok x) = ⊥
+AtEnd (Err f) = ends_row f.0 f.1 ≡ true
 
 -- ---- labels
 

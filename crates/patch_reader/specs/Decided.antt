@@ -1,5 +1,5 @@
 -- What is decided of the row at a text's front, before the end of the text is known.
-use Rattle.std.specs.Prelude.{◌≡◌, ℕ, ◌<◌, ◌≤◌, List, [], ◌++◌, length, drop, Option, Some, None, Result, Ok, Err}
+use Rattle.std.specs.Prelude.{◌≡◌, ℕ, ◌<◌, ◌≤◌, List, ◌++◌, length, drop, Option, Some, None, Result, Ok, Err}
 use Rattle.patch_rows.specs.declared.row.Row.{Row}
 use Rattle.patch_rows.specs.declared.fault.RowFault.{RowFault as RowAnswer}
 use Rattle.patch_rows.specs.declared.fault.RowFault.TheVariants as faults

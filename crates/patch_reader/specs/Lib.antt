@@ -1,6 +1,7 @@
 pub mod Codes
 pub mod Cut
 pub mod Decided
+pub mod Inside
 pub mod Limit
 pub mod Live
 pub mod Pieces

@@ -1,8 +1,8 @@
 -- Reading a row within its limit, in a whole text and in one that may go on.
-use Rattle.std.specs.Prelude.{ℕ, ◌+◌, Bool, true, false, List, ◌++◌, length, drop, Ok, Err, ◌==◌, nat_lt, if◌then◌else◌}
+use Rattle.std.specs.Prelude.{ℕ, ◌+◌, List, ◌++◌, length, drop, Ok, Err, ◌==◌, nat_lt, if◌then◌else◌}
 use Rattle.patch_rows.specs.declared.fault.RowKind.TheVariants.{TooLong}
 use Rattle.patch_rows.specs.declared.row.Row.{Row}
-use Rattle.patch_rows.specs.Fault.{Fault, Read}
+use Rattle.patch_rows.specs.Fault.{Read}
 use Rattle.patch_rows.specs.Grammar.{row_limit, row_front}
 use Rattle.patch_rows.specs.Reading.{row_at}
 use Rattle.patch_reader.specs.Cut.{ends_row}

@@ -1,5 +1,5 @@
 -- Places in what is kept, as places of the whole text.
-use Rattle.std.specs.Prelude.{ℕ, ◌+◌, ◌-◌, ◌^◌, min, Option, Some, None, Result, Ok, Err}
+use Rattle.std.specs.Prelude.{ℕ, ◌+◌, ◌-◌, ◌^◌, min}
 use Rattle.patch_rows.specs.declared.row.Row.{Row}
 use Rattle.patch_rows.specs.declared.fault.RowFault.{RowFault as RowAnswer}
 use Rattle.patch_rows.specs.declared.fault.RowFault.TheVariants as faults

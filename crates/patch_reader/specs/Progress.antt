@@ -1,19 +1,16 @@
 -- What is left to read of a row from a part on, and how far the reading of an unfinished row is known.
-use Rattle.std.specs.Prelude.{◌≡◌, ◌⊎◌, ℕ, ◌≤◌, Bool, true, false, List, [], ◌++◌, length, drop, Option, Some, None, Result, Ok, Err, is_some, not, ◌==◌, ◌||◌, if◌then◌else◌}
+use Rattle.std.specs.Prelude.{◌⊎◌, ℕ, ◌≤◌, Bool, true, false, List, ◌++◌, length, drop, Option, Some, None, Result, Ok, if◌then◌else◌}
 use Rattle.rdf_terms.specs.Quad.{is_iri}
 use Rattle.nquads_text.specs.declared.fault.TextKind.TheVariants.{MissingDot, BadToken}
-use Rattle.nquads_text.specs.Fault.{Read as TextRead}
 use Rattle.nquads_text.specs.Faults.{begins_term}
-use Rattle.nquads_text.specs.Grammar.{echar}
-use Rattle.nquads_text.specs.Reading.{iri_piece, string_piece, pieces_at}
 use Rattle.patch_rows.specs.declared.fault.RowKind.TheVariants.{Common}
 use Rattle.patch_rows.specs.Fault.{Fault, ◌>>=◌}
 use Rattle.patch_rows.specs.Grammar.{is_any, is_node}
 use Rattle.patch_rows.specs.Reading.{space_behind, skip_space, stands, dot_at}
 use Rattle.patch_reader.specs.declared.codes.Code.{Code}
 use Rattle.patch_reader.specs.declared.codes.Code.TheVariants as code
-use Rattle.patch_reader.specs.declared.progress.Inside.{Inside}
-use Rattle.patch_reader.specs.declared.progress.Inside.TheVariants as inside
+use Rattle.patch_reader.specs.declared.inside.Inside.{Inside}
+use Rattle.patch_reader.specs.declared.inside.Inside.TheVariants as inside
 use Rattle.patch_reader.specs.declared.progress.Part.{Part}
 use Rattle.patch_reader.specs.declared.progress.Part.TheVariants as part
 use Rattle.patch_reader.specs.declared.progress.Place.{Place}
@@ -21,18 +18,9 @@ use Rattle.patch_reader.specs.declared.progress.Place.TheVariants as place
 use Rattle.patch_reader.specs.declared.progress.Progress.{Progress}
 use Rattle.patch_reader.specs.declared.progress.Step.{Step}
 use Rattle.patch_reader.specs.declared.progress.Step.TheVariants as step
-use Rattle.patch_reader.specs.Cut.{ends_text, ends_row}
+use Rattle.patch_reader.specs.Cut.{AtEnd}
+use Rattle.patch_reader.specs.Inside.{OpenInside, IsInsideWithin}
 use Rattle.patch_reader.specs.Live.{live_placed, live_key, live_prefix, live_prefix_iri, live_row}
-
--- ---- reading met the text's end
-
-abbrev pub AtEnd : {X : Type 0} → Result X Fault → Type 0
-AtEnd (Ok x) = ⊥
-AtEnd (Err f) = ends_row f.0 f.1 ≡ true
-
-abbrev pub TextAtEnd : {X : Type 0} → TextRead X → Type 0
-TextAtEnd (Ok x) = ⊥
-TextAtEnd (Err f) = ends_text f.0 f.1 ≡ true
 
 -- ---- the rest of a row, of which only what stands behind it is given; white space and comments are behind us
 
@@ -127,6 +115,34 @@ takes_term part.Object = true
 takes_term part.Graph = true
 takes_term part.End = false
 
+-- a blank node may
+abbrev pub takes_node : Part → Bool
+takes_node part.Key = false
+takes_node part.Value = true
+takes_node part.Bare = false
+takes_node part.Added = false
+takes_node part.Iri = false
+takes_node part.Removed = false
+takes_node part.Subject = true
+takes_node part.Predicate = false
+takes_node part.Object = true
+takes_node part.Graph = true
+takes_node part.End = false
+
+-- a word may
+abbrev pub takes_word : Part → Bool
+takes_word part.Key = true
+takes_word part.Value = false
+takes_word part.Bare = false
+takes_word part.Added = true
+takes_word part.Iri = false
+takes_word part.Removed = true
+takes_word part.Subject = false
+takes_word part.Predicate = false
+takes_word part.Object = false
+takes_word part.Graph = false
+takes_word part.End = false
+
 -- the part behind a row's code
 abbrev pub first_part : Code → Part
 first_part code.Header = part.Key
@@ -150,12 +166,6 @@ OpenAt (place.Row start) text = AtEnd (live_row (drop start text))
 OpenAt (place.Gap p mark comment) text = AtEnd (rest_from p (space_behind comment 0 (drop mark text)))
 OpenAt (place.Token p start) text = AtEnd (rest_from p (drop start text))
 
--- the same inside a string or an IRIREF
-abbrev pub OpenInside : Inside → List ℕ → Type 0
-OpenInside inside.Nothing text = ⊥
-OpenInside (inside.String mark) text = TextAtEnd (pieces_at string_piece 0 (drop mark text))
-OpenInside (inside.Iri mark) text = TextAtEnd (pieces_at iri_piece 0 (drop mark text))
-
 -- where the one meets the end of a text that goes on, the other does
 abbrev pub Leads : List ℕ → Place → Place → Type 0
 Leads text old new = (more : List ℕ) → OpenAt new (text ++ more) → OpenAt old (text ++ more)
@@ -169,11 +179,6 @@ abbrev pub IsPlaceWithin : ℕ → Place → Type 0
 IsPlaceWithin size (place.Row start) = start ≤ size
 IsPlaceWithin size (place.Gap p mark comment) = mark ≤ size
 IsPlaceWithin size (place.Token p start) = start ≤ size
-
-abbrev pub IsInsideWithin : ℕ → Inside → Type 0
-IsInsideWithin size inside.Nothing = Unit {0}
-IsInsideWithin size (inside.String mark) = mark ≤ size
-IsInsideWithin size (inside.Iri mark) = mark ≤ size
 
 abbrev pub IsWithin : ℕ → Progress → Type 0
 IsWithin size p = IsPlaceWithin size p.place × IsInsideWithin size p.inside
@@ -197,11 +202,3 @@ IsFollowed text old (Some p) = IsWithin (length text) p × (Follows text old →
 -- at a place, with nothing known of what begins there
 abbrev pub progress_at : Place → Progress
 progress_at p = record { place = p; inside = inside.Nothing }
-
--- the characters that stand for themselves in a string
-abbrev pub plain_in_string : ℕ → Bool
-plain_in_string c = not (c == 34 || c == 92 || c == 10 || c == 13)
-
--- the letters of the short escapes
-abbrev pub is_short_escape : ℕ → Bool
-is_short_escape b = is_some (echar b)

@@ -7,7 +7,7 @@ ghost use Rattle.patch_rows.specs.Fault.{IsThere};
 ghost use Rattle.patch_rows.specs.declared.fault.RowKind.TheVariants.{Common};
 ghost use Rattle.patch_rows.specs.declared.fault.RowFault.TheVariants as faults;
 ghost use Rattle.nquads_text.specs.declared.fault.TextKind.TheVariants.{Truncated};
-ghost use Rattle.patch_reader.specs.Cut.{is_front as front, begins_name_char as names, label_open, ends_quoted as ends_in_quote, kind_open, literal_open, blank_open, ends_row};
+ghost use Rattle.patch_reader.specs.Cut.{is_front as front, begins_name_char as names, label_open, is_cut, ends_quoted as ends_in_quote, kind_open, literal_open, blank_open, ends_row};
 
 use crate::terms::is_at;
 use nquads_text::TextKind;
@@ -68,7 +68,7 @@ fn begins_name_char(rest: &[u8]) -> bool
 }
 
 /// Whether the front of a character that a label may have reaches the text's end from this place on.
-fn is_name_at(text: &[u8], at: usize) -> bool
+pub fn is_name_at(text: &[u8], at: usize) -> bool
     requires { at ≤ length text.now }
     ensures { result ≡ names (drop at text.now) }
 {
@@ -164,4 +164,12 @@ pub fn ends(text: &[u8], at: usize, kind: RowKind) -> bool
         RowKind::Common(TextKind::NotUtf8) => is_front(&text[at..]),
         _ => false,
     }
+}
+
+/// Whether the text ends there, or within a character.
+pub fn is_cut_at(text: &[u8], at: usize) -> bool
+    requires { at ≤ length text.now }
+    ensures { result ≡ is_cut (drop at text.now) }
+{
+    at == text.len() || is_front(&text[at..])
 }

@@ -3,10 +3,15 @@
 //! `decided_row` answers the row at a place of a text that may go on, as far as the text decides it (`specs/Decided.antt`).
 //! `specs/Live.antt` is how it reads: what more text may change counts as cut by the text's end. The functions of `laws` do
 //! nothing: their contracts say that what is read so is decided, and that nothing else is.
+//!
+//! `PatchReader` takes the text in pieces and gives its rows with their places (`specs/Pieces.antt`, `specs/Rows.antt`);
+//! `specs/Progress.antt` is what it knows of an unfinished row. `read_row` reads a row within its limit in a whole text.
 #![tactic(auto)]
 
+mod characters;
 mod codes;
 mod cut;
+mod inside;
 mod laws;
 mod next;
 mod pieces;

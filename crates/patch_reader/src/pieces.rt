@@ -13,11 +13,10 @@ ghost use Rattle.patch_reader.specs.Places.{further_place};
 ghost use Rattle.patch_reader.specs.Progress.{IsUnfinished, Follows};
 ghost use Rattle.patch_reader.specs.Rows.{Adds, Stops, NothingDecided};
 
+use crate::cut::is_cut_at;
 use crate::next::take_rows;
 use crate::placed::{PlacedRow, TextEnd};
-use crate::progress::{
-    Phase, Progress, at_row, follow, is_cut_at, is_past_gap, is_within, pass_gap,
-};
+use crate::progress::{Phase, Progress, at_row, follow, is_past_gap, is_within, pass_gap};
 use crate::reading::ROW_LIMIT;
 use patch_rows::{Row, RowFault};
 use std::alloc::Global;

@@ -1,25 +1,25 @@
 //! How far the reading of an unfinished row is known, so that it isn't read again for each piece.
 
-ghost use Rattle.std.specs.Prelude.{◌≡◌, ◌≤◌, ◌<◌, ◌++◌, ℕ, List, true, false, not, length, drop, Err};
-ghost use Rattle.rdf_terms.specs.Iri.{is_forbidden};
+ghost use Rattle.std.specs.Prelude.{◌≡◌, ◌≤◌, ◌<◌, ◌++◌, ℕ, List, true, false, length, drop, slice_index, Err};
 ghost use Rattle.nquads_text.specs.Fault.{Fault};
 ghost use Rattle.nquads_text.specs.Faults.{begins_term};
 ghost use Rattle.nquads_text.specs.Reading.{char_at as char_of};
 ghost use Rattle.patch_rows.specs.Fault.{Ends};
 ghost use Rattle.patch_rows.specs.Reading.{space_behind, stands};
-ghost use Rattle.patch_reader.specs.Cut.{is_cut};
-ghost use Rattle.patch_reader.specs.Progress.{part_at, part_behind as part_behind_of, takes_term as term_is_taken, first_part as first_part_of, IsPlaceWithin, IsWithin, IsStep, IsFollowed, OpenInside, progress_at, plain_in_string, is_short_escape as short_escape};
-ghost use Rattle.patch_reader.specs.declared.progress.Inside.TheVariants as inside;
+ghost use Rattle.patch_reader.specs.Inside.{OpenInside, IsInsideWithin};
+ghost use Rattle.patch_reader.specs.Progress.{part_at, part_behind as part_behind_of, takes_term as term_is_taken, takes_node as node_is_taken, takes_word as word_is_taken, first_part as first_part_of, OpenAt, LeadsInside, IsPlaceWithin, IsWithin, IsStep, IsFollowed, progress_at};
 ghost use Rattle.patch_reader.specs.declared.progress.Part.TheVariants as parts;
 ghost use Rattle.patch_reader.specs.declared.progress.Place.TheVariants as place;
 
 use crate::codes::{Code, find_code};
-use crate::cut::{ends, is_front};
+use crate::cut::{ends, is_cut_at};
+use crate::inside::{Inside, is_inside_within, is_open, pass};
 use crate::rows::dot;
-use crate::terms::{any, iri, is_term_at, node};
+use crate::terms::{any, iri, is_at, is_letter_at, is_term_at, node};
 use crate::words::{key, prefix, prefix_iri, word};
 use nquads_text::{TextKind, char_at};
 use patch_rows::{RowFault, RowKind, is_line_end, is_space};
+use rdf_terms::begins_name;
 use std::alloc::Global;
 
 /// A part of a row behind its code.
@@ -64,14 +64,6 @@ pub enum Place {
         part: Part,
         start: usize,
     },
-}
-
-/// How far the string or the IRIREF with which a part begins is known.
-#[derive(Clone, Copy)]
-pub enum Inside {
-    Nothing,
-    String { mark: usize },
-    Iri { mark: usize },
 }
 
 #[derive(Clone, Copy)]
@@ -154,6 +146,21 @@ fn takes_term(part: Part) -> bool
     !matches!(part, Part::Key | Part::Bare | Part::End)
 }
 
+fn takes_node(part: Part) -> bool
+    ensures { result ≡ node_is_taken part }
+{
+    matches!(
+        part,
+        Part::Value | Part::Subject | Part::Object | Part::Graph
+    )
+}
+
+fn takes_word(part: Part) -> bool
+    ensures { result ≡ word_is_taken part }
+{
+    matches!(part, Part::Key | Part::Added | Part::Removed)
+}
+
 /// The place behind white space and comments, as far as they are known, and whether a comment goes on there.
 #[tactic(auto, using(crate::proofs::GapSteps::gap_steps))]
 pub fn pass_gap(text: &[u8], from: usize, in_comment: bool) -> (usize, bool)
@@ -186,14 +193,6 @@ pub fn pass_gap(text: &[u8], from: usize, in_comment: bool) -> (usize, bool)
     (at, comment)
 }
 
-/// Whether the text ends there, or within a character.
-pub fn is_cut_at(text: &[u8], at: usize) -> bool
-    requires { at ≤ length text.now }
-    ensures { result ≡ is_cut (drop at text.now) }
-{
-    at == text.len() || is_front(&text[at..])
-}
-
 /// Whether something else than white space and comments stands there.
 pub fn is_past_gap(text: &[u8], at: usize, comment: bool) -> bool
     ensures yes { result ≡ true → (comment ≡ false) × (at < length text.now) }
@@ -221,8 +220,8 @@ fn step_gap(text: &[u8], part: Part, mark: usize, comment: bool) -> Step
     Step::Unknown
 }
 
-/// Over a row's code.
-fn step_row(text: &[u8], start: usize) -> Step
+/// Over a row's code, read as a whole.
+fn step_code(text: &[u8], start: usize) -> Step
     requires { start ≤ length text.now }
     ensures { IsStep text.now (progress_at (place.Row start)) result }
 {
@@ -287,112 +286,59 @@ fn step_part(alloc: Global, text: &[u8], part: Part, start: usize) -> Step
     }
 }
 
-fn is_plain_in_string(c: char) -> bool
-    ensures { result ≡ plain_in_string c }
+/// In the letters of a row's code, where one stands.
+fn code_begins(text: &[u8], start: usize) -> Inside
+    requires { start ≤ length text.now }
+    ensures within { IsInsideWithin (length text.now) result }
+    ensures leads { (more : List ℕ) → OpenInside result (text.now ++ more) → OpenAt (place.Row start) (text.now ++ more) }
 {
-    !matches!(c, '"' | '\\' | '\n' | '\r')
-}
-
-fn is_short_escape(b: u8) -> bool
-    ensures is { result ≡ short_escape b }
-    ensures low { result ≡ true → b < 128 }
-{
-    matches!(b, b't' | b'b' | b'n' | b'r' | b'f' | b'"' | b'\'' | b'\\')
-}
-
-fn is_plain_in_iri(c: char) -> bool
-    ensures { result ≡ not (is_forbidden c) }
-{
-    !(c <= ' ' || matches!(c, '<' | '>' | '"' | '{' | '}' | '|' | '^' | '`' | '\\'))
-}
-
-/// The place behind characters that stand for themselves in a string, and short escapes.
-fn string_run(text: &[u8], from: usize) -> usize
-    requires { from ≤ length text.now }
-    ensures high { result ≤ length text.now }
-    ensures leads { (more : List ℕ) → OpenInside (inside.String result) (text.now ++ more) → OpenInside (inside.String from) (text.now ++ more) }
-{
-    let mut at = from;
-    'run: while at < text.len() {
-        match char_at(text, at) {
-            Ok((c, next)) => {
-                if c == '\\' && next < text.len() && is_short_escape(text[next]) {
-                    at = next + 1;
-                } else if is_plain_in_string(c) {
-                    at = next;
-                } else {
-                    return at;
-                }
-            }
-            Err(_) => return at,
-        }
+    if is_letter_at(text, start) {
+        return Inside::Letters { mark: start + 1 };
     }
-    at
+    Inside::Nothing
 }
 
-/// The place behind characters that stand for themselves in an IRI.
-fn iri_run(text: &[u8], from: usize) -> usize
-    requires { from ≤ length text.now }
-    ensures high { result ≤ length text.now }
-    ensures leads { (more : List ℕ) → OpenInside (inside.Iri result) (text.now ++ more) → OpenInside (inside.Iri from) (text.now ++ more) }
-{
-    let mut at = from;
-    'run: while at < text.len() {
-        match char_at(text, at) {
-            Ok((c, next)) => {
-                if !is_plain_in_iri(c) {
-                    return at;
-                }
-                at = next;
-            }
-            Err(_) => return at,
-        }
-    }
-    at
-}
-
-/// Whether the text ends at this place of a string, or within a character or an escape there.
-fn is_string_open(text: &[u8], at: usize) -> bool
-    requires { at ≤ length text.now }
-    ensures { result ≡ true → OpenInside (inside.String at) text.now }
-{
-    is_cut_at(text, at) || (at + 1 == text.len() && text[at] == b'\\')
-}
-
-/// The same of an IRI.
-fn is_iri_open(text: &[u8], at: usize) -> bool
-    requires { at ≤ length text.now }
-    ensures { result ≡ true → OpenInside (inside.Iri at) text.now }
-{
-    is_cut_at(text, at) || (at + 1 == text.len() && text[at] == b'\\')
-}
-
-/// Over a part that begins with a quote, where the string is known up to a mark.
-fn step_string(alloc: Global, text: &[u8], part: Part, start: usize, mark: usize) -> Step
+/// In a label, where its first character stands.
+fn label_begins(text: &[u8], part: Part, start: usize) -> Inside
     requires begins { start < length text.now }
-    requires within { mark ≤ length text.now }
-    requires graph { part ≡ parts.Graph → stands begins_term (drop start text.now) ≡ true }
-    ensures { IsStep text.now (record { place = place.Token part start; inside = inside.String mark }) result }
+    requires line { slice_index text.now start ≡ 95 }
+    requires node { node_is_taken part ≡ true }
+    ensures within { IsInsideWithin (length text.now) result }
+    ensures leads { (more : List ℕ) → OpenInside result (text.now ++ more) → OpenAt (place.Token part start) (text.now ++ more) }
 {
-    let at = string_run(text, mark);
-    if is_string_open(text, at) {
-        return Step::Enters(Inside::String { mark: at });
+    if !is_at(text, start + 1, b':') {
+        return Inside::Nothing;
     }
-    step_part(alloc, text, part, start)
+    match char_at(text, start + 2) {
+        Ok((c, next)) => {
+            if begins_name(c) {
+                return Inside::Label { mark: next };
+            }
+            Inside::Nothing
+        }
+        Err(_) => Inside::Nothing,
+    }
 }
 
-/// The same of a part that begins with a `<`.
-fn step_iri(alloc: Global, text: &[u8], part: Part, start: usize, mark: usize) -> Step
-    requires begins { start < length text.now }
-    requires within { mark ≤ length text.now }
-    requires graph { part ≡ parts.Graph → stands begins_term (drop start text.now) ≡ true }
-    ensures { IsStep text.now (record { place = place.Token part start; inside = inside.Iri mark }) result }
+/// In the token with which a part begins, where its first bytes stand.
+fn part_begins(text: &[u8], part: Part, start: usize) -> Inside
+    requires { start < length text.now }
+    ensures within { IsInsideWithin (length text.now) result }
+    ensures leads { (more : List ℕ) → OpenInside result (text.now ++ more) → OpenAt (place.Token part start) (text.now ++ more) }
 {
-    let at = iri_run(text, mark);
-    if is_iri_open(text, at) {
-        return Step::Enters(Inside::Iri { mark: at });
+    if takes_term(part) && text[start] == b'"' {
+        return Inside::String { mark: start + 1 };
     }
-    step_part(alloc, text, part, start)
+    if takes_term(part) && text[start] == b'<' {
+        return Inside::Iri { mark: start + 1 };
+    }
+    if takes_node(part) && text[start] == b'_' {
+        return label_begins(text, part, start);
+    }
+    if takes_word(part) && text[start].is_ascii_alphabetic() {
+        return Inside::Word { mark: start + 1 };
+    }
+    Inside::Nothing
 }
 
 /// Whether a graph may stand there, and none does.
@@ -404,22 +350,60 @@ fn lacks_graph(text: &[u8], part: Part, start: usize) -> bool
     matches!(part, Part::Graph) && !is_term_at(text, start)
 }
 
-/// Over a part at whose first byte nothing is known yet.
-fn step_token(alloc: Global, text: &[u8], part: Part, start: usize) -> Step
-    requires { start < length text.now }
-    ensures { IsStep text.now (progress_at (place.Token part start)) result }
+/// What is known of a row's code, at least where its first letter stands.
+fn in_code(text: &[u8], start: usize, inside: Inside) -> Inside
+    requires begins { start ≤ length text.now }
+    requires within { IsInsideWithin (length text.now) inside }
+    ensures within { IsInsideWithin (length text.now) result }
+    ensures leads { LeadsInside text.now (record { place = place.Row start; inside = inside }) result }
 {
-    if takes_term(part) && text[start] == b'"' {
-        return step_string(alloc, text, part, start, start + 1);
+    match inside {
+        Inside::Nothing => code_begins(text, start),
+        known => known,
     }
-    if takes_term(part) && text[start] == b'<' {
-        return step_iri(alloc, text, part, start, start + 1);
+}
+
+/// Over a row's code.
+fn step_row(text: &[u8], start: usize, inside: Inside) -> Step
+    requires begins { start ≤ length text.now }
+    requires within { IsInsideWithin (length text.now) inside }
+    ensures { IsStep text.now (record { place = place.Row start; inside = inside }) result }
+{
+    let inside = pass(text, in_code(text, start, inside));
+    if is_open(text, inside) {
+        return Step::Enters(inside);
     }
+    step_code(text, start)
+}
+
+/// What is known of a part, at least where its first bytes stand.
+fn in_part(text: &[u8], part: Part, start: usize, inside: Inside) -> Inside
+    requires begins { start < length text.now }
+    requires within { IsInsideWithin (length text.now) inside }
+    ensures within { IsInsideWithin (length text.now) result }
+    ensures leads { LeadsInside text.now (record { place = place.Token part start; inside = inside }) result }
+{
+    match inside {
+        Inside::Nothing => part_begins(text, part, start),
+        known => known,
+    }
+}
+
+/// Over a part.
+fn step_token(alloc: Global, text: &[u8], part: Part, start: usize, inside: Inside) -> Step
+    requires begins { start < length text.now }
+    requires within { IsInsideWithin (length text.now) inside }
+    ensures { IsStep text.now (record { place = place.Token part start; inside = inside }) result }
+{
     if lacks_graph(text, part, start) {
         return Step::Goes(Place::Token {
             part: Part::End,
             start,
         });
+    }
+    let inside = pass(text, in_part(text, part, start, inside));
+    if is_open(text, inside) {
+        return Step::Enters(inside);
     }
     step_part(alloc, text, part, start)
 }
@@ -429,34 +413,19 @@ fn advance(alloc: Global, text: &[u8], progress: Progress) -> Step
     requires { IsWithin (length text.now) progress }
     ensures { IsStep text.now progress result }
 {
-    match (progress.place, progress.inside) {
-        (Place::Token { part, start }, Inside::String { mark }) => {
-            if start < text.len() && takes_term(part) && text[start] == b'"' {
-                return step_string(alloc, text, part, start, mark);
-            }
-            Step::Unknown
-        }
-        (Place::Token { part, start }, Inside::Iri { mark }) => {
-            if start < text.len() && takes_term(part) && text[start] == b'<' {
-                return step_iri(alloc, text, part, start, mark);
-            }
-            Step::Unknown
-        }
-        (Place::Token { part, start }, Inside::Nothing) => {
+    match progress.place {
+        Place::Row { start } => step_row(text, start, progress.inside),
+        Place::Gap {
+            part,
+            mark,
+            comment,
+        } => step_gap(text, part, mark, comment),
+        Place::Token { part, start } => {
             if start < text.len() {
-                return step_token(alloc, text, part, start);
+                return step_token(alloc, text, part, start, progress.inside);
             }
             Step::Unknown
         }
-        (Place::Row { start }, _) => step_row(text, start),
-        (
-            Place::Gap {
-                part,
-                mark,
-                comment,
-            },
-            _,
-        ) => step_gap(text, part, mark, comment),
     }
 }
 
@@ -496,10 +465,5 @@ fn is_place_within(place: Place, size: usize) -> bool
 pub fn is_within(progress: Progress, size: usize) -> bool
     ensures { result ≡ true → IsWithin size progress }
 {
-    let inside = match progress.inside {
-        Inside::Nothing => true,
-        Inside::String { mark } => mark <= size,
-        Inside::Iri { mark } => mark <= size,
-    };
-    inside && is_place_within(progress.place, size)
+    is_inside_within(progress.inside, size) && is_place_within(progress.place, size)
 }

@@ -24,7 +24,7 @@ fn is_word_byte(b: u8) -> bool
 
 /// The place behind letters.
 #[tactic(auto, using(patch_rows::proofs::WordSteps::run_steps))]
-fn letters_end(text: &[u8], from: usize) -> usize
+pub fn letters_end(text: &[u8], from: usize) -> usize
     requires { from ≤ length text.now }
     ensures end { result ≡ from + prefix_len is_ascii_alphabetic (drop from text.now) }
     ensures high { result ≤ length text.now }
@@ -39,7 +39,7 @@ fn letters_end(text: &[u8], from: usize) -> usize
 
 /// The place behind letters, digits, `_` and `-`.
 #[tactic(auto, using(patch_rows::proofs::WordSteps::run_steps))]
-fn word_end(text: &[u8], from: usize) -> usize
+pub fn word_end(text: &[u8], from: usize) -> usize
     requires { from ≤ length text.now }
     ensures end { result ≡ from + prefix_len in_word (drop from text.now) }
     ensures high { result ≤ length text.now }

@@ -1,4 +1,4 @@
-use Rattle.std.proofs.Common.{ℕ, ◌≤◌, ◌<◌, Option, Some, None, Ok, Err, sym, subst, ◌+◌, [], ◌∷◌, arith}
+use Rattle.std.proofs.Common.{ℕ, Option, Some, None, Ok, Err, sym, subst, ◌+◌, [], ◌∷◌, arith}
 use Rattle.patch_rows.specs.declared.fault.RowFault.{RowFault}
 use Rattle.patch_rows.specs.declared.row.Row.{Row}
 use Rattle.patch_reader.specs.declared.placed.PlacedRow.{PlacedRow}

@@ -1,4 +1,4 @@
-use Rattle.std.proofs.Common.{◌≡◌, Bool, true, drop, length, subst, arith}
+use Rattle.std.proofs.Common.{◌≡◌, Bool, drop, length, subst, arith}
 use Rattle.nquads_text.specs.declared.fault.TextKind.TheVariants.{Truncated}
 use Rattle.nquads_text.proofs.Fronts.{char_ends}
 use Rattle.patch_reader.proofs.GapSteps.{Passed, over_char}

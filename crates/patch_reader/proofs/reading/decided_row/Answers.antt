@@ -1,4 +1,4 @@
-use Rattle.std.proofs.Common.{refl, Ok, Err}
+use Rattle.std.proofs.Common.{Ok, Err}
 use Rattle.patch_reader.proofs.Answered.{front_decides}
 use Rattle.patch_reader.proofs.reading.decided_row.Goals as goal
 

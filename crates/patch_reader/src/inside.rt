@@ -1,0 +1,342 @@
+//! How far the token at the front of a row or of a part is known, so that it isn't read again for each piece.
+
+ghost use Rattle.std.specs.Prelude.{◌≡◌, ◌⊎◌, ◌≤◌, ◌<◌, ◌++◌, ℕ, List, true, length, drop};
+ghost use Rattle.rdf_terms.specs.Names.{is_name_char as in_name};
+ghost use Rattle.nquads_text.specs.Terms.{is_tag_byte as in_tag};
+ghost use Rattle.patch_reader.specs.Inside.{OpenInside, IsInsideWithin, IsFurther};
+ghost use Rattle.patch_reader.specs.declared.inside.Inside.TheVariants as inside;
+
+use crate::characters::{iri_piece, string_piece};
+use crate::cut::{ends, is_cut_at, is_name_at};
+use crate::words::{letters_end, word_end};
+use nquads_text::{ReadFault, char_at, skip_blanks};
+use patch_rows::RowKind;
+use rdf_terms::is_name_char;
+
+/// What is known of a token: it goes on up to a mark.
+#[derive(Clone, Copy)]
+pub enum Inside {
+    Nothing,
+    /// In the letters of a row's code.
+    Letters {
+        mark: usize,
+    },
+    /// In a key, or in a prefix that is written as a word.
+    Word {
+        mark: usize,
+    },
+    /// Behind the first character of a label.
+    Label {
+        mark: usize,
+    },
+    /// In a string.
+    String {
+        mark: usize,
+    },
+    /// Behind the closing quote of a string.
+    Suffix {
+        mark: usize,
+    },
+    /// Behind a string and blanks.
+    Blanks {
+        mark: usize,
+    },
+    /// In a language tag; no dash was before, and the present part has a byte.
+    Tag {
+        mark: usize,
+        first: bool,
+        some: bool,
+    },
+    /// Behind the `^^` of a datatype.
+    Datatype {
+        mark: usize,
+    },
+    /// In an IRIREF.
+    Iri {
+        mark: usize,
+    },
+}
+
+/// How many kinds of places a token goes through at most: a string, behind it, blanks, behind `^^`, and an IRIREF.
+const STAGES: usize = 5;
+
+/// Over the letters of a row's code.
+fn letters_run(text: &[u8], from: usize) -> Inside
+    requires { from ≤ length text.now }
+    ensures within { IsInsideWithin (length text.now) result }
+    ensures leads { IsFurther text.now (inside.Letters from) result }
+{
+    let end = letters_end(text, from);
+    Inside::Letters { mark: end }
+}
+
+/// Over the bytes of a word.
+fn word_run(text: &[u8], from: usize) -> Inside
+    requires { from ≤ length text.now }
+    ensures within { IsInsideWithin (length text.now) result }
+    ensures leads { IsFurther text.now (inside.Word from) result }
+{
+    let end = word_end(text, from);
+    Inside::Word { mark: end }
+}
+
+/// Whether a label may have the character behind its first one.
+fn is_label_char(c: char) -> bool
+    ensures { result ≡ true → (c ≡ 46) ⊎ (in_name c ≡ true) }
+{
+    c == '.' || is_name_char(c)
+}
+
+/// Over characters of a label.
+fn label_run(text: &[u8], from: usize) -> Inside
+    requires { from ≤ length text.now }
+    ensures within { IsInsideWithin (length text.now) result }
+    ensures leads { IsFurther text.now (inside.Label from) result }
+{
+    let mut at = from;
+    'run: while at < text.len() {
+        match char_at(text, at) {
+            Ok((c, next)) => {
+                if !is_label_char(c) {
+                    return Inside::Label { mark: at };
+                }
+                at = next;
+            }
+            Err(_) => return Inside::Label { mark: at },
+        }
+    }
+    Inside::Label { mark: at }
+}
+
+/// Over characters of a string, and its closing quote.
+fn string_run(text: &[u8], from: usize) -> Inside
+    requires { from ≤ length text.now }
+    ensures within { IsInsideWithin (length text.now) result }
+    ensures leads { IsFurther text.now (inside.String from) result }
+{
+    let mut at = from;
+    'run: while at < text.len() {
+        match string_piece(text, at) {
+            Ok((piece, next)) => match piece {
+                Some(_) => at = next,
+                None => return Inside::Suffix { mark: next },
+            },
+            Err(_) => return Inside::String { mark: at },
+        }
+    }
+    Inside::String { mark: at }
+}
+
+/// To the tag behind a string, or to blanks.
+fn suffix_run(text: &[u8], from: usize) -> Inside
+    requires { from ≤ length text.now }
+    ensures within { IsInsideWithin (length text.now) result }
+    ensures leads { IsFurther text.now (inside.Suffix from) result }
+{
+    if from == text.len() {
+        return Inside::Suffix { mark: from };
+    }
+    if text[from] == b'@' {
+        return Inside::Tag {
+            mark: from + 1,
+            first: true,
+            some: false,
+        };
+    }
+    Inside::Blanks { mark: from }
+}
+
+/// Over blanks, and the `^^` of a datatype.
+fn blanks_run(text: &[u8], from: usize) -> Inside
+    requires { from ≤ length text.now }
+    ensures within { IsInsideWithin (length text.now) result }
+    ensures leads { IsFurther text.now (inside.Blanks from) result }
+{
+    let at = skip_blanks(text, from);
+    if at + 1 < text.len() && text[at] == b'^' && text[at + 1] == b'^' {
+        return Inside::Datatype { mark: at + 2 };
+    }
+    Inside::Blanks { mark: at }
+}
+
+/// Whether the byte is a letter, or behind the first dash a letter or a digit.
+fn is_tag_byte(first: bool, b: u8) -> bool
+    ensures { result ≡ in_tag first b }
+{
+    if first {
+        b.is_ascii_alphabetic()
+    } else {
+        b.is_ascii_alphanumeric()
+    }
+}
+
+/// Over the bytes of a tag.
+fn tag_run(text: &[u8], from: usize, first: bool, some: bool) -> Inside
+    requires { from ≤ length text.now }
+    ensures within { IsInsideWithin (length text.now) result }
+    ensures leads { IsFurther text.now (inside.Tag from first some) result }
+{
+    let mut first = first;
+    let mut some = some;
+    let mut at = from;
+    'run: while at < text.len() {
+        if is_tag_byte(first, text[at]) {
+            some = true;
+        } else if some && text[at] == b'-' {
+            first = false;
+            some = false;
+        } else {
+            return Inside::Tag {
+                mark: at,
+                first,
+                some,
+            };
+        }
+        at += 1;
+    }
+    Inside::Tag {
+        mark: at,
+        first,
+        some,
+    }
+}
+
+/// Over blanks, and the `<` of a datatype.
+fn datatype_run(text: &[u8], from: usize) -> Inside
+    requires { from ≤ length text.now }
+    ensures within { IsInsideWithin (length text.now) result }
+    ensures leads { IsFurther text.now (inside.Datatype from) result }
+{
+    let at = skip_blanks(text, from);
+    if at < text.len() && text[at] == b'<' {
+        return Inside::Iri { mark: at + 1 };
+    }
+    Inside::Datatype { mark: at }
+}
+
+/// Over characters of an IRIREF.
+fn iri_run(text: &[u8], from: usize) -> Inside
+    requires { from ≤ length text.now }
+    ensures within { IsInsideWithin (length text.now) result }
+    ensures leads { IsFurther text.now (inside.Iri from) result }
+{
+    let mut at = from;
+    'run: while at < text.len() {
+        match iri_piece(text, at) {
+            Ok((piece, next)) => match piece {
+                Some(_) => at = next,
+                None => return Inside::Iri { mark: at },
+            },
+            Err(_) => return Inside::Iri { mark: at },
+        }
+    }
+    Inside::Iri { mark: at }
+}
+
+/// One of these runs.
+fn run(text: &[u8], inside: Inside) -> Inside
+    requires { IsInsideWithin (length text.now) inside }
+    ensures within { IsInsideWithin (length text.now) result }
+    ensures leads { IsFurther text.now inside result }
+{
+    match inside {
+        Inside::Nothing => Inside::Nothing,
+        Inside::Letters { mark } => letters_run(text, mark),
+        Inside::Word { mark } => word_run(text, mark),
+        Inside::Label { mark } => label_run(text, mark),
+        Inside::String { mark } => string_run(text, mark),
+        Inside::Suffix { mark } => suffix_run(text, mark),
+        Inside::Blanks { mark } => blanks_run(text, mark),
+        Inside::Tag { mark, first, some } => tag_run(text, mark, first, some),
+        Inside::Datatype { mark } => datatype_run(text, mark),
+        Inside::Iri { mark } => iri_run(text, mark),
+    }
+}
+
+/// As far as the token goes on.
+pub fn pass(text: &[u8], inside: Inside) -> Inside
+    requires { IsInsideWithin (length text.now) inside }
+    ensures within { IsInsideWithin (length text.now) result }
+    ensures leads { IsFurther text.now inside result }
+{
+    let mut inside = inside;
+    for _ in 0..STAGES {
+        inside = run(text, inside);
+    }
+    inside
+}
+
+/// Whether the text ends within a character of the string, or before it.
+fn is_string_open(text: &[u8], at: usize) -> bool
+    requires { at ≤ length text.now }
+    ensures { result ≡ true → OpenInside (inside.String at) text.now }
+{
+    match string_piece(text, at) {
+        Err(ReadFault::At { at: place, kind }) => ends(text, place, RowKind::Common(kind)),
+        _ => false,
+    }
+}
+
+/// The same of an IRIREF.
+fn is_iri_open(text: &[u8], at: usize) -> bool
+    requires { at ≤ length text.now }
+    ensures { result ≡ true → OpenInside (inside.Iri at) text.now }
+{
+    match iri_piece(text, at) {
+        Err(ReadFault::At { at: place, kind }) => ends(text, place, RowKind::Common(kind)),
+        _ => false,
+    }
+}
+
+/// Whether the text ends within a character of the label, or before it.
+fn is_label_open(text: &[u8], at: usize) -> bool
+    requires { at ≤ length text.now }
+    ensures { result ≡ true → OpenInside (inside.Label at) text.now }
+{
+    at == text.len() || is_name_at(text, at)
+}
+
+/// Whether the text ends there, or behind the first `^` of a datatype.
+fn are_blanks_open(text: &[u8], at: usize) -> bool
+    requires { at ≤ length text.now }
+    ensures { result ≡ true → OpenInside (inside.Blanks at) text.now }
+{
+    at == text.len() || (at + 1 == text.len() && text[at] == b'^')
+}
+
+/// Whether the text ends behind what is known of the token.
+pub fn is_open(text: &[u8], inside: Inside) -> bool
+    requires { IsInsideWithin (length text.now) inside }
+    ensures { result ≡ true → OpenInside inside text.now }
+{
+    match inside {
+        Inside::Nothing => false,
+        Inside::Letters { mark } => mark == text.len(),
+        Inside::Word { mark } => mark == text.len(),
+        Inside::Label { mark } => is_label_open(text, mark),
+        Inside::String { mark } => is_string_open(text, mark),
+        Inside::Suffix { mark } => mark == text.len(),
+        Inside::Blanks { mark } => are_blanks_open(text, mark),
+        Inside::Tag { mark, .. } => mark == text.len(),
+        Inside::Datatype { mark } => is_cut_at(text, mark),
+        Inside::Iri { mark } => is_iri_open(text, mark),
+    }
+}
+
+/// Whether the mark lies within a text of this size.
+pub fn is_inside_within(inside: Inside, size: usize) -> bool
+    ensures { result ≡ true → IsInsideWithin size inside }
+{
+    match inside {
+        Inside::Nothing => true,
+        Inside::Letters { mark } => mark <= size,
+        Inside::Word { mark } => mark <= size,
+        Inside::Label { mark } => mark <= size,
+        Inside::String { mark } => mark <= size,
+        Inside::Suffix { mark } => mark <= size,
+        Inside::Blanks { mark } => mark <= size,
+        Inside::Tag { mark, .. } => mark <= size,
+        Inside::Datatype { mark } => mark <= size,
+        Inside::Iri { mark } => mark <= size,
+    }
+}
