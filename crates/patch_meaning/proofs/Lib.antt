@@ -1,9 +1,14 @@
 pub mod Cuts
+pub mod FaultPlaces
+pub mod Lengths
+pub mod OneStream
 pub mod Parts
+pub mod Pieces
 pub mod Read
 pub mod Rowed
-pub mod Taking
 pub mod SameRows
-pub mod WellTaken
 pub mod Settled
-pub mod OneStream
+pub mod Slices
+pub mod Splits
+pub mod Taking
+pub mod WellTaken
