@@ -37,7 +37,7 @@ pub stop_more : (parts : List Part) (last : Part) (stop : ℕ) → stop_of (part
 stop_more [] last stop = refl
 stop_more (part ∷ parts) last stop = refl
 
-patches_more : (done : List Part) (last : Part) (ms : List Meaning) (m : Meaning) (stop : ℕ) → ArePatches done last.from ms → IsWell (said last.rows_) m → stop ≤ last.from + patch_limit
+pub patches_more : (done : List Part) (last : Part) (ms : List Meaning) (m : Meaning) (stop : ℕ) → ArePatches done last.from ms → IsWell (said last.rows_) m → stop ≤ last.from + patch_limit
     → ArePatches (done ++ last ∷ []) stop (ms ++ m ∷ [])
 patches_more [] last [] m stop are well short = (well, short, tt)
 patches_more [] last (n ∷ ms) m stop are well short = absurd are
@@ -47,7 +47,7 @@ patches_more (part ∷ done) last (n ∷ ms) m stop are well short =
 
 -- ---- one more row
 
-not_empty : {X : Type 0} (xs : List X) (x : X) → xs ++ x ∷ [] ≡ [] → ⊥
+pub not_empty : {X : Type 0} (xs : List X) (x : X) → xs ++ x ∷ [] ≡ [] → ⊥
 not_empty [] x e = cc
 not_empty (y ∷ xs) x e = cc
 
@@ -121,7 +121,7 @@ broken_at_end p stop fault some why = (why, λ rs ms h empty. has_none (cut rs).
 
 -- ---- the end
 
-stream_by : (rs : List PlacedRow) (stop : ℕ) (ms : List Meaning) → has_some (cut rs).last.rows_ ≡ true → ArePatches ((cut rs).done ++ (cut rs).last ∷ []) stop ms → AreStream rs stop ms
+pub stream_by : (rs : List PlacedRow) (stop : ℕ) (ms : List Meaning) → has_some (cut rs).last.rows_ ≡ true → ArePatches ((cut rs).done ++ (cut rs).last ∷ []) stop ms → AreStream rs stop ms
 stream_by [] stop ms some are = absurd cc
 stream_by (r ∷ rs) stop ms some are = are
 

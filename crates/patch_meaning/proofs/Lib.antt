@@ -1,6 +1,7 @@
 pub mod Cuts
+pub mod Drafts
+pub mod Exists
 pub mod FaultPlaces
-pub mod Lengths
 pub mod OneStream
 pub mod Parts
 pub mod Pieces

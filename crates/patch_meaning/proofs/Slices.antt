@@ -1,6 +1,6 @@
 -- A row is read alike in front of less text: each condition of the grammar that speaks of what stands behind holds for less of it too.
 use Rattle.std.proofs.Common.{◌≡◌, ℕ, ◌<◌, ◌≤◌, Bool, List, [], ◌∷◌, ◌++◌, length, nat_eq, Option, Some, None, sym, ap, subst, refl, ◌∙◌, inl, inr, arith, append_assoc}
-use Rattle.std.proofs.lemmas.List.{append_cancel_right}
+use Rattle.std.proofs.lemmas.List.{append_cancel_right, length-append}
 use Rattle.std.specs.Char.{is_ascii_alphabetic}
 use Rattle.rdf_terms.specs.declared.term.Literal.{Literal}
 use Rattle.rdf_terms.specs.declared.term.LiteralKind.{LiteralKind}
@@ -15,8 +15,6 @@ use Rattle.nquads_text.specs.Grammar.{StartsWith, Longest, IriRef, BlankNode, La
 use Rattle.patch_rows.specs.declared.row.Row.{Row}
 use Rattle.patch_rows.specs.declared.row.Row.TheVariants as row
 use Rattle.patch_rows.specs.Grammar.{IsKey, IsSpace, Space, Spaced, KeyAt, letters, WordAt, InBrackets, RowTerm, Placed, is_any, is_node, plain, PrefixAt, PrefixIriAt, EndAt, GraphAt, QuadAt, code_of, ChangeAt, PartsAt, RowAt}
-use Rattle.patch_rows.proofs.Shorter.{space_le}
-use Rattle.patch_meaning.proofs.Lengths.{placed_le, key_le, prefix_le, iri_le}
 
 -- what is read in front of a text with more behind it is read in front of that text alone
 abbrev pub IsLocal : (List ℕ → List ℕ → Type 0) → Type 0
@@ -160,32 +158,68 @@ parts (row.Header key value) text after more e =
     (k.0, k.1, (v.0, d.0, k.2, v.2, d.2))
 parts (row.Change c) text after more e = change_at c text after more e
 
--- ---- behind a code something stands: the dot at least
+-- ---- what a part leaves is an end of its text
 
-end_less : (text after : List ℕ) → EndAt text after → length after < length text
-end_less text after e = omega (arith, space_le text e.0 e.1, ap length e.2)
+-- the one is an end of the other
+abbrev pub IsEnd : List ℕ → List ℕ → Type 0
+IsEnd rest text = (front : List ℕ) × (text ≡ front ++ rest)
 
-graph_less : (text : List ℕ) (g : Option Term) (after : List ℕ) → GraphAt text g after → length after < length text
-graph_less text None after e = end_less text after e
-graph_less text (Some g) after e = omega (arith, placed_le is_node text g e.0 e.1, end_less e.0 after e.2)
+pub end_of_end : (a b c : List ℕ) → IsEnd a b → IsEnd b c → IsEnd a c
+end_of_end a b c near far = (far.0 ++ near.0, far.1 ∙ ap (λ (t : List ℕ). far.0 ++ t) near.1 ∙ sym (append_assoc far.0 near.0 a))
 
-quad_less : (text : List ℕ) (q : Statement) (after : List ℕ) → QuadAt text q after → length after < length text
-quad_less text q after e =
-    omega (arith, placed_le is_node text q.subject e.0 e.3, placed_le is_iri e.0 q.predicate e.1 e.4, placed_le is_any e.1 q.object e.2 e.5, graph_less e.2 q.graph after e.6)
+left : (Part : List ℕ → List ℕ → Type 0) → IsLocal Part → (text after : List ℕ) → Part text after → IsEnd after text
+left Part part text after p = let l = part text [] after p in (l.0, l.1)
 
-change_less : (text : List ℕ) (c : Change) (after : List ℕ) → ChangeAt text c after → length after < length text
-change_less text (change.Add q) after e = quad_less text q after e
-change_less text (change.Delete q) after e = quad_less text q after e
-change_less text (change.PrefixAdd prefix iri g) after e =
-    omega (arith, prefix_le text prefix e.0 e.2, iri_le e.0 iri e.1 e.3, graph_less e.1 g after e.4)
-change_less text (change.PrefixDelete prefix g) after e = omega (arith, prefix_le text prefix e.0 e.1, graph_less e.0 g after e.2)
-change_less text change.Begin after e = end_less text after e
-change_less text change.Commit after e = end_less text after e
-change_less text change.Abort after e = end_less text after e
+pub space_end : (text after : List ℕ) → Space text after → IsEnd after text
+space_end = left Space space
 
-parts_less : (text : List ℕ) (r : Row) (after : List ℕ) → PartsAt text r after → length after < length text
-parts_less text (row.Header key value) after e = omega (arith, key_le text key e.0 e.2, placed_le is_any e.0 value e.1 e.3, end_less e.1 after e.4)
-parts_less text (row.Change c) after e = change_less text c after e
+pub placed_end : (fits : Term → Bool) (t : Term) (text after : List ℕ) → Spaced (Placed fits) text t after → IsEnd after text
+placed_end fits t = left (λ text after. Spaced (Placed fits) text t after) (spaced (Placed fits) t (placed fits t))
+
+pub key_end : (key text after : List ℕ) → Spaced KeyAt text key after → IsEnd after text
+key_end key = left (λ text after. Spaced KeyAt text key after) (spaced KeyAt key (longest IsKey key))
+
+pub prefix_end : (prefix text after : List ℕ) → Spaced PrefixAt text prefix after → IsEnd after text
+prefix_end prefix = left (λ text after. Spaced PrefixAt text prefix after) (spaced PrefixAt prefix (prefix_at prefix))
+
+pub iri_end : (iri text after : List ℕ) → Spaced PrefixIriAt text iri after → IsEnd after text
+iri_end iri = left (λ text after. Spaced PrefixIriAt text iri after) (spaced PrefixIriAt iri (prefix_iri iri))
+
+pub word_end : (word text after : List ℕ) → WordAt text word after → IsEnd after text
+word_end word text after w = (word, w.0.1)
+
+-- ---- behind a code the row's dot stands
+
+dot_end : (text after : List ℕ) → EndAt text after → IsEnd (46 ∷ after) text
+dot_end text after e = space_end text (46 ∷ after) (subst (Space text) e.2 e.1)
+
+graph_dot : (g : Option Term) (text after : List ℕ) → GraphAt text g after → IsEnd (46 ∷ after) text
+graph_dot None text after e = dot_end text after e
+graph_dot (Some g) text after e = end_of_end (46 ∷ after) e.0 text (dot_end e.0 after e.2) (placed_end is_node g text e.0 e.1)
+
+quad_dot : (q : Statement) (text after : List ℕ) → QuadAt text q after → IsEnd (46 ∷ after) text
+quad_dot q text after e =
+    end_of_end (46 ∷ after) e.0 text
+    (end_of_end (46 ∷ after) e.1 e.0 (end_of_end (46 ∷ after) e.2 e.1 (graph_dot q.graph e.2 after e.6) (placed_end is_any q.object e.1 e.2 e.5)) (placed_end is_iri q.predicate e.0 e.1 e.4))
+    (placed_end is_node q.subject text e.0 e.3)
+
+change_dot : (c : Change) (text after : List ℕ) → ChangeAt text c after → IsEnd (46 ∷ after) text
+change_dot (change.Add q) text after e = quad_dot q text after e
+change_dot (change.Delete q) text after e = quad_dot q text after e
+change_dot (change.PrefixAdd prefix iri g) text after e =
+    end_of_end (46 ∷ after) e.0 text (end_of_end (46 ∷ after) e.1 e.0 (graph_dot g e.1 after e.4) (iri_end iri e.0 e.1 e.3)) (prefix_end prefix text e.0 e.2)
+change_dot (change.PrefixDelete prefix g) text after e = end_of_end (46 ∷ after) e.0 text (graph_dot g e.0 after e.2) (prefix_end prefix text e.0 e.1)
+change_dot change.Begin text after e = dot_end text after e
+change_dot change.Commit text after e = dot_end text after e
+change_dot change.Abort text after e = dot_end text after e
+
+parts_dot : (r : Row) (text after : List ℕ) → PartsAt text r after → IsEnd (46 ∷ after) text
+parts_dot (row.Header key value) text after e =
+    end_of_end (46 ∷ after) e.0 text (end_of_end (46 ∷ after) e.1 e.0 (dot_end e.1 after e.4) (placed_end is_any value e.0 e.1 e.3)) (key_end key text e.0 e.2)
+parts_dot (row.Change c) text after e = change_dot c text after e
+
+some_left : (rest : List ℕ) (b : ℕ) (text : List ℕ) → IsEnd (b ∷ rest) text → text ≡ [] → ⊥
+some_left rest b text is none = let size = ap length (sym none ∙ is.1) in absurd (omega (arith, size, length-append is.0 (b ∷ rest)))
 
 -- ---- a row
 
@@ -194,7 +228,7 @@ unfolding RowAt
 row_local r text after more e =
     let p = parts r e.0 after more e.2 in
     let w = longest (IsWord is_ascii_alphabetic) (letters (code_of r)) text p.0 more (subst (Longest (IsWord is_ascii_alphabetic) text (letters (code_of r))) p.1 e.1.0) in
-    (w.0, w.1, (p.0, (w.2, λ none. let less = parts_less p.0 r after p.2 in absurd (omega (arith, less, ap length none))), p.2))
+    (w.0, w.1, (p.0, (w.2, some_left after 46 p.0 (parts_dot r p.0 after p.2)), p.2))
 
 pub row_shorter : (text more : List ℕ) (r : Row) (after : List ℕ) → RowAt (text ++ more) r (after ++ more) → RowAt text r after
 row_shorter text more r after e =
@@ -203,3 +237,6 @@ row_shorter text more r after e =
 pub space_shorter : (text more after : List ℕ) → Space (text ++ more) (after ++ more) → Space text after
 space_shorter text more after s =
     let l = space (text ++ more) after more s in subst (λ (t : List ℕ). Space t after) (sym (append_cancel_right text l.0 more l.1)) l.2
+
+pub row_end : (text : List ℕ) (r : Row) (after : List ℕ) → RowAt text r after → IsEnd after text
+row_end text r after e = left (λ text after. RowAt text r after) (row_local r) text after e
