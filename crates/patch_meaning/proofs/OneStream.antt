@@ -11,7 +11,9 @@ use Rattle.patch_meaning.specs.declared.fault.Refusal.{Refusal}
 use Rattle.patch_meaning.specs.declared.role.Role.{Role}
 use Rattle.patch_meaning.specs.Patch.{Meaning, IsWell, AreTaken, refusal, patch_limit}
 use Rattle.patch_meaning.specs.Roles.{role, said, ids_of, is_open}
-use Rattle.patch_meaning.specs.Rows.{PlacedRow, RowsTo, NoRowAt}
+use Rattle.patch_reader.specs.declared.placed.PlacedRow.{PlacedRow}
+use Rattle.patch_reader.specs.Rows.{NoRowAt}
+use Rattle.patch_meaning.specs.Rows.{RowsTo}
 use Rattle.patch_meaning.specs.Stream.{Part, Cut, ArePatches, AreStream, IsStream, IsPartFault, IsStreamFault, StopsAt, begins, cut, cut_with, stop_of, too_long, refused, open_block, no_id, next, over}
 use Rattle.patch_meaning.specs.Stream as stream
 use Rattle.patch_meaning.proofs.SameRows.{Compared, same, shorter, longer, compared, one_row_at, no_fault_there, none_at_end}
@@ -37,8 +39,8 @@ same_stream text ms ns p q = by (compared text 0 p.rows_ (length text) q.rows_ (
   where
     by : Compared text p.rows_ (length text) q.rows_ (length text) → ms ≡ ns
     by (same rs place) = same_stream_rows p.rows_ (length text) ms ns p.stream (subst (λ (l : List PlacedRow). AreStream l (length text) ns) (sym rs) q.stream)
-    by (shorter r more rs at there) = absurd (none_at_end text (length text) r.row_ r.end refl there)
-    by (longer r more rs at there) = absurd (none_at_end text (length text) r.row_ r.end refl there)
+    by (shorter r more rs at there) = absurd (none_at_end text (length text) r.row r.end refl there)
+    by (longer r more rs at there) = absurd (none_at_end text (length text) r.row r.end refl there)
 
 -- ---- a part that is a patch has no fault
 
@@ -58,9 +60,9 @@ not_broken broken kind e f = absurd cc
 good_part : (part : Part) (stop : ℕ) (broken : Option RowKind) (fault : PatchFault) → IsGood part stop → broken ≡ None → IsPartFault part stop broken fault → ⊥
 good_part part stop broken fault good whole (too_long long is) = absurd (let short = good.2 in omega arith)
 good_part part stop broken fault good whole (refused before after r why short parts taken refuses is) =
-    some_none (refusal (said before) (role r.row_)) why
-    (next_taken (said before) (said after) (role r.row_)
-    (subst AreTaken (ap said parts ∙ map-append (λ (q : PlacedRow). role q.row_) before (r ∷ after)) (well_taken (said part.rows_) good.0 good.1)))
+    some_none (refusal (said before) (role r.row)) why
+    (next_taken (said before) (said after) (role r.row)
+    (subst AreTaken (ap said parts ∙ map-append (λ (q : PlacedRow). role q.row) before (r ∷ after)) (well_taken (said part.rows_) good.0 good.1)))
     refuses
 good_part part stop broken fault good whole (stream.no_row kind short taken is_broken is) = not_broken broken kind whole is_broken
 good_part part stop broken fault good whole (open_block short taken none inside is) = open_closed (is_open (said part.rows_)) inside (well_closed (said part.rows_) good.0 good.1)
@@ -100,10 +102,10 @@ step_on c d r false (q, qs, parts, from) = (q, qs, parts, from)
 
 goes_on : (c : Cut) (rs : List PlacedRow) → GoOn c (fold cut_with c rs)
 goes_on c [] = (c.last, [], refl, refl)
-goes_on c (r ∷ rs) = step_on c (fold cut_with c (r ∷ rs)) r (begins (said c.last.rows_) (role r.row_)) (goes_on (cut_with c r) rs)
+goes_on c (r ∷ rs) = step_on c (fold cut_with c (r ∷ rs)) r (begins (said c.last.rows_) (role r.row)) (goes_on (cut_with c r) rs)
 
 -- where the next part begins with a row, the part before it stops there
-good_cut : (rs more : List PlacedRow) (r : PlacedRow) (stop : ℕ) (ms : List Meaning) → begins (said (cut rs).last.rows_) (role r.row_) ≡ true → ArePatches (parts_of (cut (rs ++ r ∷ more))) stop ms → IsGood (cut rs).last r.at
+good_cut : (rs more : List PlacedRow) (r : PlacedRow) (stop : ℕ) (ms : List Meaning) → begins (said (cut rs).last.rows_) (role r.row) ≡ true → ArePatches (parts_of (cut (rs ++ r ∷ more))) stop ms → IsGood (cut rs).last r.at
 good_cut rs more r stop ms first are =
     let whole : cut (rs ++ r ∷ more) ≡ fold cut_with (begun (cut rs) r) more =
     fold-append cut_with (record { done = []; last = record { from = 0; rows_ = [] } }) rs (r ∷ more) ∙ ap (λ (b : Bool). fold cut_with (cond b (begun (cut rs) r) (grown (cut rs) r)) more) first in
@@ -134,18 +136,18 @@ stream_or_fault text ms fault s f = by (compared text 0 s.rows_ (length text) f.
         whole f.fault_is
     at_end all place (stream.no_row kind none broken) = absurd (let low = none.0 in omega arith)
 
-    behind : (r : PlacedRow) (more : List PlacedRow) → s.rows_ ≡ f.rows_ ++ r ∷ more → r.at ≡ f.to → IsRowAt text f.to r.row_ r.end → StopsAt text (cut f.rows_).last f.to f.stop f.broken → ⊥
+    behind : (r : PlacedRow) (more : List PlacedRow) → s.rows_ ≡ f.rows_ ++ r ∷ more → r.at ≡ f.to → IsRowAt text f.to r.row r.end → StopsAt text (cut f.rows_).last f.to f.stop f.broken → ⊥
     behind r more all at there (next q end other first stop whole) =
-        let one = one_row_at text f.to r.row_ q r.end end there other in
+        let one = one_row_at text f.to r.row q r.end end there other in
         good_part (cut f.rows_).last f.stop f.broken fault
         (subst (IsGood (cut f.rows_).last) (at ∙ sym stop)
         (good_cut f.rows_ more r (length text) ms (ap (λ (x : Row). begins (said (cut f.rows_).last.rows_) (role x)) one.0 ∙ first)
         (stream_parts f.rows_ more r (length text) ms (subst (λ (l : List PlacedRow). AreStream l (length text) ms) all s.stream))))
         whole f.fault_is
-    behind r more all at there (over last some stop whole) = none_at_end text f.to r.row_ r.end last there
-    behind r more all at there (stream.no_row kind none broken) = no_fault_there text f.to r.row_ r.end kind f.stop there none
+    behind r more all at there (over last some stop whole) = none_at_end text f.to r.row r.end last there
+    behind r more all at there (stream.no_row kind none broken) = no_fault_there text f.to r.row r.end kind f.stop there none
 
     by : Compared text s.rows_ (length text) f.rows_ f.to → ⊥
     by (same all place) = at_end all place f.stops
-    by (shorter r more all at there) = none_at_end text (length text) r.row_ r.end refl there
+    by (shorter r more all at there) = none_at_end text (length text) r.row r.end refl there
     by (longer r more all at there) = behind r more all at there f.stops

@@ -1,8 +1,9 @@
 -- A patch of a stream while its rows are taken.
-use Rattle.std.proofs.Common.{◌≡◌, ℕ, ◌+◌, ◌≤◌, Bool, true, false, ◌||◌, List, [], ◌∷◌, ◌++◌, Option, Some, None, Ok, refl, sym, ap, subst, ◌∙◌, append_assoc, append-nil, ◌⊎◌, inl, inr}
+use Rattle.std.proofs.Common.{◌≡◌, ℕ, ◌+◌, ◌<◌, ◌≤◌, nat_lt, Bool, true, false, ◌||◌, List, [], ◌∷◌, ◌++◌, Option, Some, None, Ok, refl, sym, ap, subst, ◌∙◌, append_assoc, append-nil, ◌⊎◌, inl, inr, arith}
 use Rattle.std.specs.List.{flat_map}
 use Rattle.std.proofs.lemmas.List.{map-append}
 use Rattle.std.proofs.lemmas.Grind.{flat_map-append}
+use Rattle.std.proofs.lemmas.Bool.Decides.{nat_tests}
 use Rattle.delta_base.specs.declared.id.Id.{Id}
 use Rattle.patch_rows.specs.declared.fault.RowKind.{RowKind}
 use Rattle.patch_meaning.specs.declared.draft.Draft.{Draft}
@@ -11,16 +12,18 @@ use Rattle.patch_meaning.specs.declared.fault.PatchFault.TheVariants as faults
 use Rattle.patch_meaning.specs.declared.part.Part.{Part as PartRead}
 use Rattle.patch_meaning.specs.declared.role.Role.{Role}
 use Rattle.patch_meaning.specs.Draft.{AreBehind, Stands}
-use Rattle.patch_meaning.specs.Patch.{AreOutside, IsWell, patch_limit, prev_list, refusal, has_some}
-use Rattle.patch_meaning.specs.PartRead.{IsRefused, HasRows, HasPart, LacksEnd, TakesRow}
+use Rattle.patch_meaning.specs.Patch.{AreOutside, AreTaken, IsWell, patch_limit, prev_list, refusal, has_some}
+use Rattle.patch_meaning.specs.PartRead.{IsNoted, IsRefused, HasRows, HasPart, LacksEnd, TakesRow}
 use Rattle.patch_meaning.specs.Roles.{role, said, id_of, change_of, ids_of, changes_of, is_open}
-use Rattle.patch_meaning.specs.Rows.{PlacedRow}
+use Rattle.patch_reader.specs.declared.placed.PlacedRow.{PlacedRow}
+use Rattle.patch_meaning.specs.Rows.{AreUpTo}
+use Rattle.patch_meaning.proofs.Rowed.{front_up_to}
 use Rattle.patch_meaning.specs.Stream.{IsPartFault, refused, no_row, open_block, no_id}
 
 -- ---- rows
 
-said_more : (rs : List PlacedRow) (r : PlacedRow) → said (rs ++ r ∷ []) ≡ said rs ++ role r.row_ ∷ []
-said_more rs r = map-append (λ (r : PlacedRow). role r.row_) rs (r ∷ [])
+said_more : (rs : List PlacedRow) (r : PlacedRow) → said (rs ++ r ∷ []) ≡ said rs ++ role r.row ∷ []
+said_more rs r = map-append (λ (r : PlacedRow). role r.row) rs (r ∷ [])
 
 has_more : {X : Type 0} (xs ys : List X) → has_some (xs ++ ys) ≡ has_some ys || has_some xs
 has_more [] [] = refl
@@ -29,10 +32,10 @@ has_more (x ∷ xs) [] = refl
 has_more (x ∷ xs) (y ∷ ys) = refl
 
 -- whether a list with one more row says something
-says_more : {X : Type 0} (f : Role → List X) (rs : List PlacedRow) (r : PlacedRow) → has_some (flat_map f (said (rs ++ r ∷ []))) ≡ has_some (f (role r.row_)) || has_some (flat_map f (said rs))
+says_more : {X : Type 0} (f : Role → List X) (rs : List PlacedRow) (r : PlacedRow) → has_some (flat_map f (said (rs ++ r ∷ []))) ≡ has_some (f (role r.row)) || has_some (flat_map f (said rs))
 says_more {X} f rs r =
-    ap has_some (ap (flat_map f) (said_more rs r) ∙ flat_map-append f (said rs) (role r.row_ ∷ []) ∙ ap (λ (xs : List X). flat_map f (said rs) ++ xs) (append-nil (f (role r.row_))))
-    ∙ has_more (flat_map f (said rs)) (f (role r.row_))
+    ap has_some (ap (flat_map f) (said_more rs r) ∙ flat_map-append f (said rs) (role r.row ∷ []) ∙ ap (λ (xs : List X). flat_map f (said rs) ++ xs) (append-nil (f (role r.row))))
+    ∙ has_more (flat_map f (said rs)) (f (role r.row))
 
 still_refused : (rs : List PlacedRow) (r : PlacedRow) (fault : PatchFault) → IsRefused rs fault → IsRefused (rs ++ r ∷ []) fault
 still_refused rs r fault is = record {
@@ -48,46 +51,68 @@ still_refused rs r fault is = record {
 
 -- ---- taking
 
-flags : (rs : List PlacedRow) (r : PlacedRow) (says : Role) (old new : PartRead) → HasPart rs old → role r.row_ ≡ says → HasRows new.fault (rs ++ r ∷ []) new → new.has_rows ≡ true
-    → new.has_id ≡ has_some (id_of says) || old.has_id → new.has_change ≡ has_some (change_of says) || old.has_change → HasPart (rs ++ r ∷ []) new
-flags rs r says old new h is rows_ some id change = record {
-  rows_ = rows_;
-  some = has_more rs (r ∷ []) ∙ sym some;
-  id = says_more id_of rs r ∙ ap (λ (q : Role). has_some (id_of q) || has_some (ids_of (said rs))) is ∙ ap (λ (b : Bool). has_some (id_of says) || b) h.id ∙ sym id;
+-- a row behind the limit, or one in front of it
+behind_more : (from at : ℕ) (rs : List PlacedRow) (r : PlacedRow) (behind was : Bool) → nat_lt (from + patch_limit) at ≡ behind → (was ≡ true → (stop : ℕ) → AreUpTo rs stop → from + patch_limit < stop) → r.at ≡ at
+    → behind || was ≡ true → (stop : ℕ) → AreUpTo (rs ++ r ∷ []) stop → from + patch_limit < stop
+behind_more from at rs r true was is before place long stop up =
+    let there = front_up_to rs r stop up in
+    let far : from + patch_limit < at = grind (arith, nat_tests, is) in omega (arith, far, place, there.1)
+behind_more from at rs r false was is before place long stop up = before long stop (front_up_to rs r stop up).0
+
+short_before : (behind was : Bool) → behind || was ≡ false → was ≡ false
+short_before true was short = absurd cc
+short_before false was short = short
+
+-- the row was noted, and what its rows say is kept
+noted : (rs : List PlacedRow) (r : PlacedRow) (says : Role) (at : ℕ) (old new : PartRead) (d : Draft) (f : Option PatchFault) → HasPart rs old → role r.row ≡ says → r.at ≡ at → IsNoted old says at new
+    → (old.is_long ≡ false → new.is_long ≡ false → HasRows f (rs ++ r ∷ []) (record new { draft = d; fault = f })) → HasPart (rs ++ r ∷ []) (record new { draft = d; fault = f })
+noted rs r says at old new d f h is place n rows_ = record {
+  rows_ = λ short. rows_ (short_before (nat_lt (old.from + patch_limit) at) old.is_long (sym n.long ∙ short)) short;
+  long = λ long stop up.
+      subst (λ (from : ℕ). from + patch_limit < stop) (sym n.from)
+      (behind_more old.from at rs r (nat_lt (old.from + patch_limit) at) old.is_long refl h.long place (sym n.long ∙ long) stop up);
+  some = has_more rs (r ∷ []) ∙ sym n.some;
+  id = says_more id_of rs r ∙ ap (λ (q : Role). has_some (id_of q) || has_some (ids_of (said rs))) is ∙ ap (λ (b : Bool). has_some (id_of says) || b) h.id ∙ sym n.id;
   change = says_more change_of rs r ∙ ap (λ (q : Role). has_some (change_of q) || has_some (changes_of (said rs))) is
-      ∙ ap (λ (b : Bool). has_some (change_of says) || b) h.change ∙ sym change;
+      ∙ ap (λ (b : Bool). has_some (change_of says) || b) h.change ∙ sym n.change;
 }
 
--- behind a refused row
-pub kept_fault : (rs : List PlacedRow) (r : PlacedRow) (says : Role) (old new : PartRead) (fault : PatchFault) → HasPart rs old → role r.row_ ≡ says → old.fault ≡ Some fault → new.fault ≡ Some fault
-    → new.has_rows ≡ true → new.has_id ≡ has_some (id_of says) || old.has_id → new.has_change ≡ has_some (change_of says) || old.has_change → HasPart (rs ++ r ∷ []) new
-kept_fault rs r says old new fault h is was now some id change =
-    flags rs r says old new h is
-    (subst (λ (f : Option PatchFault). HasRows f (rs ++ r ∷ []) new) (sym now) (still_refused rs r fault (subst (λ (f : Option PatchFault). HasRows f rs old) was h.rows_)))
-    some id change
+both : (b : Bool) → b ≡ true → b ≡ false → ⊥
+both b e f = cc
 
-taken_rows : (rs : List PlacedRow) (r : PlacedRow) (says : Role) (old new : PartRead) (fault : Option PatchFault) → Stands (said rs) old.draft → role r.row_ ≡ says
-    → TakesRow (said rs) says r.at (Ok fault) new.draft → HasRows fault (rs ++ r ∷ []) new
-taken_rows rs r says old new None s is t = subst (λ (l : List Role). Stands l new.draft) (ap (λ (q : Role). said rs ++ q ∷ []) (sym is) ∙ sym (said_more rs r)) t
-taken_rows rs r says old new (Some fault) s is t = record {
+-- behind the limit nothing is kept
+pub kept_long : (rs : List PlacedRow) (r : PlacedRow) (says : Role) (at : ℕ) (old new : PartRead) → HasPart rs old → role r.row ≡ says → r.at ≡ at → IsNoted old says at new → new.is_long ≡ true → HasPart (rs ++ r ∷ []) new
+kept_long rs r says at old new h is place n long = noted rs r says at old new new.draft new.fault h is place n (λ was short. absurd (both new.is_long long short))
+
+-- behind a refused row
+pub kept_fault : (rs : List PlacedRow) (r : PlacedRow) (says : Role) (at : ℕ) (old new : PartRead) (fault : PatchFault) → HasPart rs old → role r.row ≡ says → r.at ≡ at → IsNoted old says at new → new.fault ≡ Some fault
+    → HasPart (rs ++ r ∷ []) new
+kept_fault rs r says at old new fault h is place n was =
+    noted rs r says at old new new.draft new.fault h is place n
+    (λ short now. subst (λ (f : Option PatchFault). HasRows f (rs ++ r ∷ []) new) (sym was) (still_refused rs r fault (subst (λ (f : Option PatchFault). HasRows f rs old) (sym n.fault ∙ was) (h.rows_ short))))
+
+taken_rows : (rs : List PlacedRow) (r : PlacedRow) (says : Role) (p : PartRead) (fault : Option PatchFault) → AreTaken (said rs) → role r.row ≡ says → TakesRow (said rs) says r.at (Ok fault) p.draft
+    → HasRows fault (rs ++ r ∷ []) p
+taken_rows rs r says p None taken is t = subst (λ (l : List Role). Stands l p.draft) (ap (λ (q : Role). said rs ++ q ∷ []) (sym is) ∙ sym (said_more rs r)) t
+taken_rows rs r says p (Some fault) taken is t = record {
   before = rs;
   after = [];
   row_ = r;
   why = t.0;
   parts = refl;
-  taken = s.taken;
+  taken = taken;
   refused = ap (refusal (said rs)) is ∙ t.1;
   fault_is = t.2;
 }
 
-pub taken_row : (rs : List PlacedRow) (r : PlacedRow) (says : Role) (at : ℕ) (old new : PartRead) → HasPart rs old → role r.row_ ≡ says → r.at ≡ at → old.fault ≡ None
-    → ((l : List Role) → Stands l old.draft → TakesRow l says at (Ok new.fault) new.draft)
-    → new.has_rows ≡ true → new.has_id ≡ has_some (id_of says) || old.has_id → new.has_change ≡ has_some (change_of says) || old.has_change → HasPart (rs ++ r ∷ []) new
-taken_row rs r says at old new h is place was step some id change =
-    let s = subst (λ (f : Option PatchFault). HasRows f rs old) was h.rows_ in
-    flags rs r says old new h is
-    (taken_rows rs r says old new new.fault s is (subst (λ (n : ℕ). TakesRow (said rs) says n (Ok new.fault) new.draft) (sym place) (step (said rs) s)))
-    some id change
+pub taken_row : (rs : List PlacedRow) (r : PlacedRow) (says : Role) (at : ℕ) (old mid : PartRead) (d : Draft) (f : Option PatchFault) → HasPart rs old → role r.row ≡ says → r.at ≡ at → IsNoted old says at mid
+    → mid.fault ≡ None → ((l : List Role) → Stands l mid.draft → TakesRow l says at (Ok f) d) → HasPart (rs ++ r ∷ []) (record mid { draft = d; fault = f })
+taken_row rs r says at old mid d f h is place n was step =
+    noted rs r says at old mid d f h is place n
+    (λ short now.
+    let s = subst (λ (g : Option PatchFault). HasRows g rs old) (sym n.fault ∙ was) (h.rows_ short) in
+    taken_rows rs r says (record mid { draft = d; fault = f }) f s.taken is
+    (subst (λ (n : ℕ). TakesRow (said rs) says n (Ok f) d) (sym place) (step (said rs) (subst (Stands (said rs)) (sym n.draft) s))))
 
 -- ---- the end of a patch
 
@@ -113,8 +138,16 @@ refused_part rs from stop broken fault short is = refused is.before is.after is.
 pub broken_part : (rs : List PlacedRow) (from stop : ℕ) (kind : RowKind) (d : Draft) → stop ≤ from + patch_limit → Stands (said rs) d → IsPartFault (record { from = from; rows_ = rs }) stop (Some kind) (faults.Row stop kind)
 broken_part rs from stop kind d short s = no_row kind short s.taken refl refl
 
-pub refused_rows : (rs : List PlacedRow) (p : PartRead) (fault : PatchFault) → HasPart rs p → p.fault ≡ Some fault → IsRefused rs fault
-refused_rows rs p fault h is = subst (λ (f : Option PatchFault). HasRows f rs p) is h.rows_
+-- a patch that stops within the limit is not long
+not_long : (rs : List PlacedRow) (p : PartRead) (stop : ℕ) (long : Bool) → (long ≡ true → (stop : ℕ) → AreUpTo rs stop → p.from + patch_limit < stop) → AreUpTo rs stop → stop ≤ p.from + patch_limit → long ≡ false
+not_long rs p stop true far up short = absurd (omega (arith, far refl stop up, short))
+not_long rs p stop false far up short = refl
 
-pub stands_rows : (rs : List PlacedRow) (p : PartRead) → HasPart rs p → p.fault ≡ None → Stands (said rs) p.draft
-stands_rows rs p h is = subst (λ (f : Option PatchFault). HasRows f rs p) is h.rows_
+within : (rs : List PlacedRow) (p : PartRead) (stop : ℕ) → HasPart rs p → AreUpTo rs stop → stop ≤ p.from + patch_limit → HasRows p.fault rs p
+within rs p stop h up short = h.rows_ (not_long rs p stop p.is_long h.long up short)
+
+pub refused_rows : (rs : List PlacedRow) (p : PartRead) (stop : ℕ) (fault : PatchFault) → HasPart rs p → AreUpTo rs stop → stop ≤ p.from + patch_limit → p.fault ≡ Some fault → IsRefused rs fault
+refused_rows rs p stop fault h up short is = subst (λ (f : Option PatchFault). HasRows f rs p) is (within rs p stop h up short)
+
+pub stands_rows : (rs : List PlacedRow) (p : PartRead) (stop : ℕ) → HasPart rs p → AreUpTo rs stop → stop ≤ p.from + patch_limit → p.fault ≡ None → Stands (said rs) p.draft
+stands_rows rs p stop h up short is = subst (λ (f : Option PatchFault). HasRows f rs p) is (within rs p stop h up short)

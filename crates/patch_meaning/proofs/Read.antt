@@ -14,7 +14,8 @@ use Rattle.patch_meaning.specs.Draft.{AreBehind, Stands}
 use Rattle.patch_meaning.specs.Next.{IsNextRow, IsNext}
 use Rattle.patch_meaning.specs.Patch.{AreOutside, IsPatch, rows_, no_row, refused, open_block, no_id, patch_limit, prev_list, refusal, row_refused}
 use Rattle.patch_meaning.specs.Roles.{role, said}
-use Rattle.patch_meaning.specs.Rows.{PlacedRow, Gap, RowsUpTo}
+use Rattle.patch_reader.specs.declared.placed.PlacedRow.{PlacedRow}
+use Rattle.patch_reader.specs.Rows.{Gap, RowsUpTo}
 use Rattle.patch_meaning.proofs.Rowed.{rows_more, row_within}
 
 -- the rows up to a place were taken
@@ -29,13 +30,13 @@ started text d s = record { rs = []; reads = refl; within = omega arith; stands 
 
 pub taken : (text : List ℕ) (at : ℕ) (old new : Draft) (next : Next) → HasTaken text at old → IsNextRow text at next → ((rs : List Role) → Stands rs old → Stands (rs ++ next.role ∷ []) new) → HasTaken text next.end new
 taken text at old new next h is step =
-    let placed : PlacedRow = record { row_ = is.0; at = next.at; end = next.end } in
+    let placed : PlacedRow = record { row = is.0; at = next.at; end = next.end } in
     record {
       rs = h.rs ++ placed ∷ [];
       reads = rows_more text 0 at h.rs placed h.reads is.1 is.2;
       within = (row_within text next.at is.0 next.end is.2).1;
       stands = subst (λ (rs : List Role). Stands rs new)
-          (ap (λ (r : Role). said h.rs ++ r ∷ []) is.3 ∙ sym (map-append (λ (r : PlacedRow). role r.row_) h.rs (placed ∷ [])))
+          (ap (λ (r : Role). said h.rs ++ r ∷ []) is.3 ∙ sym (map-append (λ (r : PlacedRow). role r.row) h.rs (placed ∷ [])))
           (step (said h.rs) h.stands);
     }
 

@@ -1,5 +1,5 @@
 -- One more row of a text.
-use Rattle.std.proofs.Common.{ℕ, ◌<◌, ◌≤◌, List, [], ◌∷◌, ◌++◌, length, drop, Err, refl, sym, subst}
+use Rattle.std.proofs.Common.{ℕ, ◌<◌, ◌≤◌, List, [], ◌∷◌, ◌++◌, length, drop, Err, refl, sym, subst, arith}
 use Rattle.patch_rows.specs.declared.row.Row.{Row}
 use Rattle.patch_rows.specs.declared.fault.RowFault.{RowFault}
 use Rattle.patch_rows.specs.declared.fault.RowFault.TheVariants as faults
@@ -7,9 +7,11 @@ use Rattle.patch_rows.specs.Fault.{FailsBy}
 use Rattle.patch_rows.specs.Faults.{FirstFault}
 use Rattle.patch_rows.specs.Grammar.{IsRowAt}
 use Rattle.patch_meaning.specs.Next.{IsNext}
-use Rattle.patch_meaning.specs.Rows.{PlacedRow, Gap, RowsUpTo}
+use Rattle.patch_meaning.specs.Rows.{AreUpTo}
+use Rattle.patch_reader.specs.declared.placed.PlacedRow.{PlacedRow}
+use Rattle.patch_reader.specs.Rows.{Gap, RowsUpTo}
 
-pub rows_more : (text : List ℕ) (from to : ℕ) (rs : List PlacedRow) (r : PlacedRow) → RowsUpTo text from rs to → Gap text to r.at → IsRowAt text r.at r.row_ r.end → RowsUpTo text from (rs ++ r ∷ []) r.end
+pub rows_more : (text : List ℕ) (from to : ℕ) (rs : List PlacedRow) (r : PlacedRow) → RowsUpTo text from rs to → Gap text to r.at → IsRowAt text r.at r.row r.end → RowsUpTo text from (rs ++ r ∷ []) r.end
 rows_more text from to [] r up gap there = (subst (λ (n : ℕ). Gap text n r.at) (sym up) gap, there, refl)
 rows_more text from to (q ∷ rs) r up gap there = (up.0, up.1, rows_more text q.end to rs r up.2 gap there)
 
@@ -20,3 +22,23 @@ row_within text at r end is = (is.1, is.2)
 pub fault_next : (text : List ℕ) (from at : ℕ) (fault : RowFault) → Gap text from at → at < length text → FailsBy (FirstFault (drop at text)) text fault → IsNext text from (Err fault)
 fault_next text from at (faults.At place kind) gap lt fails = (at, gap, (lt, fails.0, fails.1))
 fault_next text from at faults.OutOfMemory gap lt fails = tt
+
+-- ---- up to which place rows come
+
+pub rows_order : (text : List ℕ) (from to : ℕ) (rs : List PlacedRow) → RowsUpTo text from rs to → from ≤ to
+rows_order text from to [] up = omega (arith, up)
+rows_order text from to (r ∷ rs) up =
+    let low = up.0.1 in let there = row_within text r.at r.row r.end up.1 in omega (arith, low, there.0, rows_order text r.end to rs up.2)
+
+pub rows_up_to : (text : List ℕ) (from to stop : ℕ) (rs : List PlacedRow) → RowsUpTo text from rs to → to ≤ stop → AreUpTo rs stop
+rows_up_to text from to stop [] up le = tt
+rows_up_to text from to stop (r ∷ rs) up le =
+    let there = row_within text r.at r.row r.end up.1 in (omega (arith, le, there.0, rows_order text r.end to rs up.2), rows_up_to text r.end to stop rs up.2 le)
+
+pub front_up_to : (rs : List PlacedRow) (r : PlacedRow) (stop : ℕ) → AreUpTo (rs ++ r ∷ []) stop → AreUpTo rs stop × (r.at ≤ stop)
+front_up_to [] r stop up = (tt, up.0)
+front_up_to (q ∷ rs) r stop up = let rest = front_up_to rs r stop up.1 in ((up.0, rest.0), rest.1)
+
+pub more_up_to : (rs : List PlacedRow) (r : PlacedRow) (stop : ℕ) → AreUpTo rs stop → r.at ≤ stop → AreUpTo (rs ++ r ∷ []) stop
+more_up_to [] r stop up le = (le, tt)
+more_up_to (q ∷ rs) r stop up le = (up.0, more_up_to rs r stop up.1 le)

@@ -7,7 +7,9 @@ use Rattle.patch_rows.specs.Fault.{Fault}
 use Rattle.patch_rows.specs.Grammar.{IsRowAt}
 use Rattle.patch_rows.proofs.SpaceLaws.{skips}
 use Rattle.patch_reader.proofs.RowAnswers.{one_row, one_fault, apart}
-use Rattle.patch_meaning.specs.Rows.{PlacedRow, Gap, RowsUpTo, RowsTo, NoRowAt}
+use Rattle.patch_reader.specs.declared.placed.PlacedRow.{PlacedRow}
+use Rattle.patch_reader.specs.Rows.{Gap, RowsUpTo, NoRowAt}
+use Rattle.patch_meaning.specs.Rows.{RowsTo}
 
 -- ---- what stands at a place
 
@@ -41,13 +43,13 @@ none_at_end text at r end last is = absurd (let low = is.1 in let high = is.2 in
 -- two lists of rows are the same up to one place, or one goes on where the other ends
 pub data Compared (text : List ℕ) (rs : List PlacedRow) (to : ℕ) (ss : List PlacedRow) (stop : ℕ) : Type 0 where
   same : rs ≡ ss → to ≡ stop → Compared text rs to ss stop
-  shorter : (r : PlacedRow) (more : List PlacedRow) → ss ≡ rs ++ r ∷ more → r.at ≡ to → IsRowAt text to r.row_ r.end → Compared text rs to ss stop
-  longer : (r : PlacedRow) (more : List PlacedRow) → rs ≡ ss ++ r ∷ more → r.at ≡ stop → IsRowAt text stop r.row_ r.end → Compared text rs to ss stop
+  shorter : (r : PlacedRow) (more : List PlacedRow) → ss ≡ rs ++ r ∷ more → r.at ≡ to → IsRowAt text to r.row r.end → Compared text rs to ss stop
+  longer : (r : PlacedRow) (more : List PlacedRow) → rs ≡ ss ++ r ∷ more → r.at ≡ stop → IsRowAt text stop r.row r.end → Compared text rs to ss stop
 
-same_row : (r s : PlacedRow) → r.row_ ≡ s.row_ → r.at ≡ s.at → r.end ≡ s.end → r ≡ s
+same_row : (r s : PlacedRow) → r.row ≡ s.row → r.at ≡ s.at → r.end ≡ s.end → r ≡ s
 same_row r s row_ at end =
-    let make : Row → ℕ → ℕ → PlacedRow = λ a b c. record { row_ = a; at = b; end = c } in
-    ap (λ (a : Row). make a r.at r.end) row_ ∙ ap (λ (b : ℕ). make s.row_ b r.end) at ∙ ap (make s.row_ s.at) end
+    let make : Row → ℕ → ℕ → PlacedRow = λ a b c. record { row = a; at = b; end = c } in
+    ap (λ (a : Row). make a r.at r.end) row_ ∙ ap (λ (b : ℕ). make s.row b r.end) at ∙ ap (make s.row s.at) end
 
 behind : (text : List ℕ) (r s : PlacedRow) (rs ss : List PlacedRow) (to stop : ℕ) → r ≡ s → Compared text rs to ss stop → Compared text (r ∷ rs) to (s ∷ ss) stop
 behind text r s rs ss to stop e (same rows_ place) = same (ap (λ (l : List PlacedRow). r ∷ l) rows_ ∙ ap (λ (q : PlacedRow). q ∷ ss) e) place
@@ -59,12 +61,12 @@ compared text from [] to [] stop (b, up, gap) (d, other, gap2) =
     same refl (one_gap text from to stop (subst (λ (n : ℕ). Gap text n to) (sym up) gap) (subst (λ (n : ℕ). Gap text n stop) (sym other) gap2))
 compared text from [] to (s ∷ ss) stop (b, up, gap) (d, other, gap2) =
     let at = one_gap text from to s.at (subst (λ (n : ℕ). Gap text n to) (sym up) gap) other.0 in
-    shorter s ss refl (sym at) (subst (λ (n : ℕ). IsRowAt text n s.row_ s.end) (sym at) other.1)
+    shorter s ss refl (sym at) (subst (λ (n : ℕ). IsRowAt text n s.row s.end) (sym at) other.1)
 compared text from (r ∷ rs) to [] stop (b, up, gap) (d, other, gap2) =
     let at = one_gap text from stop r.at (subst (λ (n : ℕ). Gap text n stop) (sym other) gap2) up.0 in
-    longer r rs refl (sym at) (subst (λ (n : ℕ). IsRowAt text n r.row_ r.end) (sym at) up.1)
+    longer r rs refl (sym at) (subst (λ (n : ℕ). IsRowAt text n r.row r.end) (sym at) up.1)
 compared text from (r ∷ rs) to (s ∷ ss) stop (b, up, gap) (d, other, gap2) =
     let at = one_gap text from r.at s.at up.0 other.0 in
-    let one = one_row_at text r.at r.row_ s.row_ r.end s.end up.1 (subst (λ (n : ℕ). IsRowAt text n s.row_ s.end) (sym at) other.1) in
+    let one = one_row_at text r.at r.row s.row r.end s.end up.1 (subst (λ (n : ℕ). IsRowAt text n s.row s.end) (sym at) other.1) in
     behind text r s rs ss to stop (same_row r s one.0 at one.1)
     (compared text r.end rs to ss stop (b, up.2, gap) (d, subst (λ (n : ℕ). RowsUpTo text n ss d) (sym one.1) other.2, gap2))

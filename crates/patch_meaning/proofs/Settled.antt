@@ -10,22 +10,24 @@ use Rattle.patch_meaning.specs.declared.fault.Refusal.{Refusal}
 use Rattle.patch_meaning.specs.declared.role.Role.{Role}
 use Rattle.patch_meaning.specs.Patch.{Meaning, IsWell, IsPatch, IsPatchFault, IsRowsFault, AreTaken, refusal, refused_at, patch_limit, too_long, rows_, no_row, refused, open_block, no_id}
 use Rattle.patch_meaning.specs.Roles.{role, said, ids_of, is_open}
-use Rattle.patch_meaning.specs.Rows.{PlacedRow, RowsTo, NoRowAt}
+use Rattle.patch_reader.specs.declared.placed.PlacedRow.{PlacedRow}
+use Rattle.patch_reader.specs.Rows.{NoRowAt}
+use Rattle.patch_meaning.specs.Rows.{RowsTo}
 use Rattle.patch_meaning.proofs.SameRows.{Compared, same, shorter, longer, compared, one_row_at, no_fault_there, one_fault_at, none_at_end}
 use Rattle.patch_meaning.proofs.WellTaken.{well_closed, well_taken, next_taken, same_meaning}
 
 -- ---- one patch
 
-said_there : (rs more : List PlacedRow) (r : PlacedRow) → said (rs ++ r ∷ more) ≡ said rs ++ role r.row_ ∷ said more
-said_there rs more r = map-append (λ (r : PlacedRow). role r.row_) rs (r ∷ more)
+said_there : (rs more : List PlacedRow) (r : PlacedRow) → said (rs ++ r ∷ more) ≡ said rs ++ role r.row ∷ said more
+said_there rs more r = map-append (λ (r : PlacedRow). role r.row) rs (r ∷ more)
 
 pub one_meaning : (text : List ℕ) (m n : Meaning) → IsPatch text m → IsPatch text n → m ≡ n
 one_meaning text m n p q = by (compared text 0 p.rows_ (length text) q.rows_ (length text) p.reads q.reads)
   where
     by : Compared text p.rows_ (length text) q.rows_ (length text) → m ≡ n
     by (same rs place) = same_meaning (said p.rows_) m n p.well (subst (λ (l : List PlacedRow). IsWell (said l) n) (sym rs) q.well)
-    by (shorter r more rs at there) = absurd (none_at_end text (length text) r.row_ r.end refl there)
-    by (longer r more rs at there) = absurd (none_at_end text (length text) r.row_ r.end refl there)
+    by (shorter r more rs at there) = absurd (none_at_end text (length text) r.row r.end refl there)
+    by (longer r more rs at there) = absurd (none_at_end text (length text) r.row r.end refl there)
 
 -- ---- no fault
 
@@ -33,13 +35,13 @@ some_none : {X : Type 0} (o : Option Refusal) (why : Refusal) → o ≡ None →
 some_none o why e f = absurd cc
 
 -- rows that may stand, one of which stands where others have a fault, don't have it
-no_rows_fault : (text : List ℕ) (rs more : List PlacedRow) (r : PlacedRow) (to : ℕ) (fault : PatchFault) → AreTaken (said (rs ++ r ∷ more)) → IsRowAt text to r.row_ r.end → IsRowsFault text rs to fault → ⊥
-no_rows_fault text rs more r to fault taken there (no_row at kind none is) = no_fault_there text to r.row_ r.end kind at there none
+no_rows_fault : (text : List ℕ) (rs more : List PlacedRow) (r : PlacedRow) (to : ℕ) (fault : PatchFault) → AreTaken (said (rs ++ r ∷ more)) → IsRowAt text to r.row r.end → IsRowsFault text rs to fault → ⊥
+no_rows_fault text rs more r to fault taken there (no_row at kind none is) = no_fault_there text to r.row r.end kind at there none
 no_rows_fault text rs more r to fault taken there (refused s end why other refuses is) =
-    let one = one_row_at text to r.row_ s r.end end there other in
-    some_none (refusal (said rs) (role r.row_)) why (next_taken (said rs) (said more) (role r.row_) (subst AreTaken (said_there rs more r) taken)) (ap (λ (q : Row). refusal (said rs) (role q)) one.0 ∙ refuses)
-no_rows_fault text rs more r to fault taken there (open_block last inside is) = none_at_end text to r.row_ r.end last there
-no_rows_fault text rs more r to fault taken there (no_id last outside none is) = none_at_end text to r.row_ r.end last there
+    let one = one_row_at text to r.row s r.end end there other in
+    some_none (refusal (said rs) (role r.row)) why (next_taken (said rs) (said more) (role r.row) (subst AreTaken (said_there rs more r) taken)) (ap (λ (q : Row). refusal (said rs) (role q)) one.0 ∙ refuses)
+no_rows_fault text rs more r to fault taken there (open_block last inside is) = none_at_end text to r.row r.end last there
+no_rows_fault text rs more r to fault taken there (no_id last outside none is) = none_at_end text to r.row r.end last there
 
 open_closed : {X : Type 0} (b : Bool) → b ≡ true → b ≡ false → X
 open_closed b e f = absurd cc
@@ -57,7 +59,7 @@ never_both text m fault p (rows_ rs to short reads taken is) = by (compared text
   where
     by : Compared text p.rows_ (length text) rs to → ⊥
     by (same all place) = no_end_fault text rs m to fault (subst (λ (l : List PlacedRow). IsWell (said l) m) all p.well) (sym place) is
-    by (shorter r more all at there) = none_at_end text (length text) r.row_ r.end refl there
+    by (shorter r more all at there) = none_at_end text (length text) r.row r.end refl there
     by (longer r more all at there) = no_rows_fault text rs more r to fault (subst (λ (l : List PlacedRow). AreTaken (said l)) all (well_taken (said p.rows_) m p.well)) there is
 
 -- ---- one fault

@@ -26,7 +26,7 @@ says_more {X} f rs r = flat_map-append f rs (r ∷ []) ∙ ap (λ (xs : List X).
 same : {X : Type 0} (f : Role → List X) (rs : List Role) (r : Role) → f r ≡ [] → flat_map f (rs ++ r ∷ []) ≡ flat_map f rs
 same {X} f rs r none = says_more f rs r ∙ ap (λ (xs : List X). flat_map f rs ++ xs) none ∙ append-nil (flat_map f rs)
 
-taken_more : (before rs : List Role) (r : Role) → AreTakenFrom before rs → refusal (before ++ rs) r ≡ None → AreTakenFrom before (rs ++ r ∷ [])
+pub taken_more : (before rs : List Role) (r : Role) → AreTakenFrom before rs → refusal (before ++ rs) r ≡ None → AreTakenFrom before (rs ++ r ∷ [])
 taken_more before [] r taken none = (ap (λ (l : List Role). refusal l r) (sym (append-nil before)) ∙ none, tt)
 taken_more before (q ∷ rs) r taken none =
     (taken.0, taken_more (before ++ q ∷ []) rs r taken.1 (ap (λ (l : List Role). refusal l r) (append_assoc before (q ∷ []) rs) ∙ none))

@@ -1,5 +1,5 @@
 -- A checked patch, as contracts see it.
-use Rattle.std.specs.Prelude.{◌≡◌, ◌⊎◌, ℕ, List, Option, Some, length}
+use Rattle.std.specs.Prelude.{◌≡◌, ◌⊎◌, ℕ, List, Option, Some, length, map}
 use Rattle.delta_base.specs.declared.id.Id.{Id}
 use Rattle.rdf_terms.specs.declared.change.Change.{Change}
 use Rattle.patch_meaning.specs.declared.draft.Draft.{Draft}
@@ -11,7 +11,8 @@ use Rattle.patch_meaning.specs.declared.rows.Next.{Next}
 use Rattle.patch_meaning.specs.Draft.{Stands}
 use Rattle.patch_meaning.specs.Patch.{Meaning, IsPatchFault, refusal, refused_at}
 use Rattle.patch_meaning.specs.Roles.{said}
-use Rattle.patch_meaning.specs.Rows.{PlacedRow, RowsTo}
+use Rattle.patch_reader.specs.declared.placed.PlacedRow.{PlacedRow}
+use Rattle.patch_meaning.specs.Rows.{RowsTo}
 
 -- a text, and what it says as a patch
 pub record CheckedPatch : Type 0 where
@@ -20,6 +21,14 @@ pub record CheckedPatch : Type 0 where
 
 abbrev pub checked : List ℕ → Id → Option Id → List Change → CheckedPatch
 checked text id prev changes = record { text = text; meaning = record { id = id; prev = prev; changes = changes } }
+
+-- what patches say, one after another
+abbrev pub meanings : List CheckedPatch → List Meaning
+meanings ps = map (λ p. p.meaning) ps
+
+-- their texts
+abbrev pub texts : List CheckedPatch → List (List ℕ)
+texts ps = map (λ p. p.text) ps
 
 -- the first fault of a text that is no patch; want of memory is free
 abbrev pub Refuses : List ℕ → PatchFault → Type 0

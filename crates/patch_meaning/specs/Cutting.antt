@@ -1,5 +1,5 @@
 -- A stream of which some rows were taken.
-use Rattle.std.specs.Prelude.{◌≡◌, ◌⊎◌, ℕ, ◌+◌, ◌≤◌, true, false, List, [], ◌∷◌, ◌++◌, Option, Some, None, length, map}
+use Rattle.std.specs.Prelude.{◌≡◌, ◌⊎◌, ℕ, ◌≤◌, true, false, List, [], ◌∷◌, ◌++◌, Option, Some, None, length}
 use Rattle.patch_rows.specs.declared.fault.RowKind.{RowKind}
 use Rattle.patch_meaning.specs.declared.fault.PatchFault.{PatchFault}
 use Rattle.patch_meaning.specs.declared.fault.PatchFault.TheVariants as faults
@@ -9,11 +9,14 @@ use Rattle.patch_meaning.specs.declared.role.Role.{Role}
 use Rattle.patch_meaning.specs.declared.rows.Next.{Next}
 use Rattle.patch_meaning.specs.declared.stream.Cutting.{Cutting}
 use Rattle.patch_meaning.specs.Next.{IsNextRow}
-use Rattle.patch_meaning.specs.PartRead.{HasPart, meaning_of}
-use Rattle.patch_meaning.specs.Patch.{Meaning, IsWell, patch_limit}
+use Rattle.patch_meaning.specs.Checked.{CheckedPatch, meanings, texts}
+use Rattle.patch_meaning.specs.PartRead.{HasPart, IsComplete, meaning_of}
+use Rattle.patch_meaning.specs.Patch.{Meaning, IsPatch, has_some}
 use Rattle.patch_meaning.specs.Roles.{role, said}
-use Rattle.patch_meaning.specs.Rows.{PlacedRow, Gap, RowsUpTo, NoRowAt}
-use Rattle.patch_meaning.specs.Stream.{ArePatches, AreStream, IsPartFault, IsStreamFault, begins, cut}
+use Rattle.patch_meaning.specs.Rows.{AreUpTo}
+use Rattle.patch_reader.specs.declared.placed.PlacedRow.{PlacedRow}
+use Rattle.patch_reader.specs.Rows.{Gap, RowsUpTo, NoRowAt}
+use Rattle.patch_meaning.specs.Stream.{ArePatches, AreStream, IsPartFault, IsStreamFault, begins, cut, texts_of}
 
 -- ---- rows that come one at a time
 
@@ -32,16 +35,15 @@ Begins says p = (rs : List PlacedRow) → HasPart rs p → begins (said rs) says
 abbrev pub GoesOn : Role → PartRead → Type 0
 GoesOn says p = (rs : List PlacedRow) → HasPart rs p → begins (said rs) says ≡ false
 
--- the patch that stops there was completed, and the next one begins
-pub record HasCompleted (old : PartRead) (stop : ℕ) (m : Meaning) (new : PartRead) : Type 0 where
-  pub none : HasPart [] new
-  pub from_is : new.from ≡ stop
-  pub well : (rs : List PlacedRow) → HasPart rs old → IsWell (said rs) m × (stop ≤ old.from + patch_limit)
+-- the patch goes on with a row that says this, or it is complete where the next one begins with it
+abbrev pub IsCutAt : PartRead → Role → ℕ → Option StreamPatch → Type 0
+IsCutAt p says at None = GoesOn says p
+IsCutAt p says at (Some patch) = Begins says p × IsComplete p at (meaning_of patch)
 
--- where the next patch begins with a row that says this, the patch was completed
-abbrev pub IsCutBefore : PartRead → Role → ℕ → Option StreamPatch → PartRead → Type 0
-IsCutBefore old says at None new = GoesOn says old × (new ≡ old)
-IsCutBefore old says at (Some patch) new = Begins says old × HasCompleted old at (meaning_of patch) new
+-- a patch that goes on stays, and behind one that is complete the next one begins
+abbrev pub IsLeft : PartRead → ℕ → Option StreamPatch → PartRead → Type 0
+IsLeft old at None new = new ≡ old
+IsLeft old at (Some patch) new = HasPart [] new × (new.from ≡ at)
 
 -- what a patch says that was completed, if one was
 abbrev pub meanings_of : Option StreamPatch → List Meaning
@@ -51,20 +53,25 @@ meanings_of (Some patch) = meaning_of patch ∷ []
 -- the row was taken, and a patch was completed where the next one begins with it
 abbrev pub HasTakenNext : PartRead → Role → ℕ → Option StreamPatch → PartRead → Type 0
 HasTakenNext old says at done new =
-    (rs : List PlacedRow) (ms : List Meaning) (r : PlacedRow) → IsCutInto rs ms old → role r.row_ ≡ says → r.at ≡ at → IsCutInto (rs ++ r ∷ []) (ms ++ meanings_of done) new
+    (rs : List PlacedRow) (ms : List Meaning) (r : PlacedRow) → IsCutInto rs ms old → AreUpTo rs at → role r.row ≡ says → r.at ≡ at → IsCutInto (rs ++ r ∷ []) (ms ++ meanings_of done) new
 
 -- the patch to which the rows lead has this fault, and stops there
 abbrev pub IsFaultOf : PartRead → ℕ → Option RowKind → PatchFault → Type 0
-IsFaultOf p stop broken fault = (rs : List PlacedRow) (ms : List Meaning) → IsCutInto rs ms p → IsPartFault (cut rs).last stop broken fault
+IsFaultOf p stop broken fault = (rs : List PlacedRow) (ms : List Meaning) → IsCutInto rs ms p → AreUpTo rs stop → IsPartFault (cut rs).last stop broken fault
 
 -- with a row that says this the next patch begins, and the patch before it has this fault
 abbrev pub IsBrokenBefore : PartRead → Role → ℕ → PatchFault → Type 0
 IsBrokenBefore p says at fault =
     IsFaultOf p at None fault × ((rs : List PlacedRow) (ms : List Meaning) → IsCutInto rs ms p → begins (said (cut rs).last.rows_) says ≡ true)
 
+-- the last patch of a stream that stops there: it has no rows, or it is complete
+abbrev pub IsLast : PartRead → ℕ → Option StreamPatch → Type 0
+IsLast p stop None = (rs : List PlacedRow) → HasPart rs p → has_some rs ≡ false
+IsLast p stop (Some patch) = ((rs : List PlacedRow) → HasPart rs p → has_some rs ≡ true) × IsComplete p stop (meaning_of patch)
+
 -- the stream of these rows ends there, with the patch that was completed last
 abbrev pub EndsStream : PartRead → ℕ → Option StreamPatch → Type 0
-EndsStream p stop done = (rs : List PlacedRow) (ms : List Meaning) → IsCutInto rs ms p → AreStream rs stop (ms ++ meanings_of done)
+EndsStream p stop done = (rs : List PlacedRow) (ms : List Meaning) → IsCutInto rs ms p → AreUpTo rs stop → AreStream rs stop (ms ++ meanings_of done)
 
 -- the last patch of a stream has this fault
 abbrev pub IsBrokenAtEnd : PartRead → ℕ → PatchFault → Type 0
@@ -72,12 +79,31 @@ IsBrokenAtEnd p stop fault = IsFaultOf p stop None fault × ((rs : List PlacedRo
 
 -- ---- a whole text
 
--- the rows up to this place were cut into patches that are complete and one that may go on
+-- the rows up to this place were cut into patches that are complete, with their texts, and one that may go on
 pub record HasCut (text : List ℕ) (at : ℕ) (k : Cutting) : Type 0 where
   pub rs : List PlacedRow
   pub reads : RowsUpTo text 0 rs at
   pub within : at ≤ length text
-  pub parts : IsCutInto rs (map meaning_of k.patches.items) k.part
+  pub parts : IsCutInto rs (meanings k.patches.items) k.part
+  pub texts_are : texts k.patches.items ≡ texts_of text (cut rs).done (cut rs).last.from
+
+-- the rows up to some place were cut, and this is the next one
+abbrev pub IsNextToCut : List ℕ → Next → Cutting → Type 0
+IsNextToCut text next k = (at : ℕ) × HasCut text at k × IsNextRow text at next
+
+-- all rows were cut
+abbrev pub HasCutAll : List ℕ → Cutting → Type 0
+HasCutAll text k = (at : ℕ) × HasCut text at k × Gap text at (length text)
+
+-- the text is the patch, if there is one
+abbrev pub IsTextOf : List ℕ → Option StreamPatch → Type 0
+IsTextOf text None = Unit {0}
+IsTextOf text (Some patch) = IsPatch text (meaning_of patch)
+
+-- the patch with its text, if there is one
+abbrev pub checked_of : List ℕ → Option StreamPatch → List CheckedPatch
+checked_of text None = []
+checked_of text (Some patch) = record { text = text; meaning = meaning_of patch } ∷ []
 
 -- the next row, or none up to the text's end
 abbrev pub IsNextOf : List ℕ → ℕ → Option Next → Type 0

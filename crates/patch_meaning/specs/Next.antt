@@ -6,7 +6,7 @@ use Rattle.patch_rows.specs.declared.fault.RowFault.TheVariants as faults
 use Rattle.patch_rows.specs.Grammar.{IsRowAt}
 use Rattle.patch_meaning.specs.declared.rows.Next.{Next}
 use Rattle.patch_meaning.specs.Roles.{role}
-use Rattle.patch_meaning.specs.Rows.{Gap, NoRowAt}
+use Rattle.patch_reader.specs.Rows.{Gap, NoRowAt}
 
 -- what a row says that stands there, behind white space and comments
 abbrev pub IsNextRow : List ℕ → ℕ → Next → Type 0

@@ -1,5 +1,5 @@
 -- A patch of a stream of which some rows were taken.
-use Rattle.std.specs.Prelude.{◌≡◌, ◌⊎◌, ℕ, true, false, List, [], ◌∷◌, ◌++◌, Option, Some, None, Result, Ok, Err}
+use Rattle.std.specs.Prelude.{◌≡◌, ◌⊎◌, ℕ, ◌+◌, ◌≤◌, ◌<◌, nat_lt, true, false, ◌||◌, List, [], ◌∷◌, ◌++◌, Option, Some, None, Result, Ok, Err}
 use Rattle.delta_base.specs.declared.fault.OutOfMemory.{OutOfMemory}
 use Rattle.patch_meaning.specs.declared.draft.Draft.{Draft}
 use Rattle.patch_meaning.specs.declared.fault.PatchFault.{PatchFault}
@@ -9,9 +9,10 @@ use Rattle.patch_meaning.specs.declared.part.Part.{Part as PartRead}
 use Rattle.patch_meaning.specs.declared.part.StreamPatch.{StreamPatch}
 use Rattle.patch_meaning.specs.declared.role.Role.{Role}
 use Rattle.patch_meaning.specs.Draft.{Stands}
-use Rattle.patch_meaning.specs.Patch.{Meaning, AreTaken, refusal, refused_at, has_some, place_of}
-use Rattle.patch_meaning.specs.Roles.{role, said, ids_of, changes_of, is_open}
-use Rattle.patch_meaning.specs.Rows.{PlacedRow}
+use Rattle.patch_meaning.specs.Patch.{Meaning, IsWell, AreTaken, refusal, refused_at, has_some, patch_limit, place_of}
+use Rattle.patch_meaning.specs.Roles.{role, said, id_of, change_of, ids_of, changes_of, is_open}
+use Rattle.patch_meaning.specs.Rows.{AreUpTo}
+use Rattle.patch_reader.specs.declared.placed.PlacedRow.{PlacedRow}
 
 -- what it says
 abbrev pub meaning_of : StreamPatch → Meaning
@@ -25,7 +26,7 @@ pub record IsRefused (rs : List PlacedRow) (fault : PatchFault) : Type 0 where
   pub why : Refusal
   pub parts : rs ≡ before ++ row_ ∷ after
   pub taken : AreTaken (said before)
-  pub refused : refusal (said before) (role row_.row_) ≡ Some why
+  pub refused : refusal (said before) (role row_.row) ≡ Some why
   pub fault_is : fault ≡ refused_at why row_.at
 
 -- all rows were taken, or one was refused
@@ -33,12 +34,27 @@ abbrev pub HasRows : Option PatchFault → List PlacedRow → PartRead → Type 
 HasRows None rs p = Stands (said rs) p.draft
 HasRows (Some fault) rs p = IsRefused rs fault
 
--- these are its rows
+-- These are its rows. As long as none of them begins behind the limit, what they say is kept; else it stops behind the limit, wherever that is.
 pub record HasPart (rs : List PlacedRow) (p : PartRead) : Type 0 where
-  pub rows_ : HasRows p.fault rs p
+  pub rows_ : p.is_long ≡ false → HasRows p.fault rs p
+  pub long : p.is_long ≡ true → (stop : ℕ) → AreUpTo rs stop → p.from + patch_limit < stop
   pub some : has_some rs ≡ p.has_rows
   pub id : has_some (ids_of (said rs)) ≡ p.has_id
   pub change : has_some (changes_of (said rs)) ≡ p.has_change
+
+-- a row that says this and begins there was noted, and isn't taken yet
+pub record IsNoted (old : PartRead) (says : Role) (at : ℕ) (new : PartRead) : Type 0 where
+  pub from : new.from ≡ old.from
+  pub draft : new.draft ≡ old.draft
+  pub fault : new.fault ≡ old.fault
+  pub long : new.is_long ≡ nat_lt (old.from + patch_limit) at || old.is_long
+  pub some : new.has_rows ≡ true
+  pub id : new.has_id ≡ has_some (id_of says) || old.has_id
+  pub change : new.has_change ≡ has_some (change_of says) || old.has_change
+
+-- the patch that stops there is complete, and says this
+abbrev pub IsComplete : PartRead → ℕ → Meaning → Type 0
+IsComplete p stop m = (rs : List PlacedRow) → HasPart rs p → AreUpTo rs stop → IsWell (said rs) m × (stop ≤ p.from + patch_limit)
 
 -- the fault of a row that was refused, and that is told where the patch ends within its limit
 abbrev pub first_fault : PartRead → Option PatchFault

@@ -15,7 +15,9 @@ use Rattle.patch_meaning.specs.declared.fault.Refusal.TheVariants as refusals
 use Rattle.patch_meaning.specs.declared.role.Role.{Role}
 use Rattle.patch_meaning.specs.declared.role.Role.TheVariants as roles
 use Rattle.patch_meaning.specs.Roles.{role, said, ids_of, prevs_of, changes_of, is_open}
-use Rattle.patch_meaning.specs.Rows.{PlacedRow, RowsTo, NoRowAt}
+use Rattle.patch_reader.specs.declared.placed.PlacedRow.{PlacedRow}
+use Rattle.patch_reader.specs.Rows.{NoRowAt}
+use Rattle.patch_meaning.specs.Rows.{RowsTo}
 
 -- the bytes that a patch may have
 abbrev pub patch_limit : ℕ

@@ -15,7 +15,7 @@ use Rattle.patch_rows.specs.declared.row.Row.{Row}
 use Rattle.patch_rows.specs.declared.row.Row.TheVariants as rows
 use Rattle.patch_meaning.specs.declared.role.Role.{Role}
 use Rattle.patch_meaning.specs.declared.role.Role.TheVariants as roles
-use Rattle.patch_meaning.specs.Rows.{PlacedRow}
+use Rattle.patch_reader.specs.declared.placed.PlacedRow.{PlacedRow}
 
 -- ---- ids
 
@@ -60,7 +60,7 @@ role (rows.Change change) = roles.Change change
 
 -- what the rows of a text say
 abbrev pub said : List PlacedRow → List Role
-said rs = map (λ r. role r.row_) rs
+said rs = map (λ r. role r.row) rs
 
 -- ---- what a list of rows says
 

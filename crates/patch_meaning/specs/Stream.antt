@@ -1,5 +1,6 @@
 -- Streams: how rows are cut into patches, and the first fault of a text that is no stream.
 use Rattle.std.specs.Prelude.{◌≡◌, ℕ, ◌+◌, ◌-◌, ◌<◌, ◌≤◌, Bool, true, false, ◌||◌, List, [], ◌∷◌, ◌++◌, Option, Some, None, fold, length, if◌then◌else◌}
+use Rattle.std.specs.List.{slice_range}
 use Rattle.patch_rows.specs.declared.row.Row.{Row}
 use Rattle.patch_rows.specs.declared.fault.RowKind.{RowKind}
 use Rattle.patch_rows.specs.Grammar.{IsRowAt}
@@ -8,9 +9,12 @@ use Rattle.patch_meaning.specs.declared.fault.PatchFault.TheVariants as faults
 use Rattle.patch_meaning.specs.declared.fault.Refusal.{Refusal}
 use Rattle.patch_meaning.specs.declared.role.Role.{Role}
 use Rattle.patch_meaning.specs.declared.role.Role.TheVariants as roles
+use Rattle.patch_meaning.specs.Checked.{CheckedPatch, meanings, texts}
 use Rattle.patch_meaning.specs.Patch.{Meaning, IsWell, AreTaken, refusal, refused_at, patch_limit, has_some}
 use Rattle.patch_meaning.specs.Roles.{role, said, ids_of, changes_of, is_open}
-use Rattle.patch_meaning.specs.Rows.{PlacedRow, RowsTo, NoRowAt}
+use Rattle.patch_reader.specs.declared.placed.PlacedRow.{PlacedRow}
+use Rattle.patch_reader.specs.Rows.{NoRowAt}
+use Rattle.patch_meaning.specs.Rows.{RowsTo}
 
 -- ---- cutting
 
@@ -33,7 +37,7 @@ pub record Cut : Type 0 where
 
 abbrev pub cut_with : Cut → PlacedRow → Cut
 cut_with c r =
-    if begins (said c.last.rows_) (role r.row_) then record { done = c.done ++ c.last ∷ []; last = record { from = r.at; rows_ = r ∷ [] } }
+    if begins (said c.last.rows_) (role r.row) then record { done = c.done ++ c.last ∷ []; last = record { from = r.at; rows_ = r ∷ [] } }
     else record { done = c.done; last = record { from = c.last.from; rows_ = c.last.rows_ ++ r ∷ [] } }
 
 -- rows are cut from the front on; the first patch begins where the text does
@@ -59,11 +63,28 @@ abbrev pub AreStream : List PlacedRow → ℕ → List Meaning → Type 0
 AreStream [] stop ms = ms ≡ []
 AreStream (r ∷ rs) stop ms = ArePatches ((cut (r ∷ rs)).done ++ (cut (r ∷ rs)).last ∷ []) stop ms
 
+-- the texts of patches, each from its place to where the next one begins, or to this place
+abbrev pub texts_of : List ℕ → List Part → ℕ → List (List ℕ)
+texts_of text [] stop = []
+texts_of text (part ∷ parts) stop = slice_range text part.from (stop_of parts stop) ∷ texts_of text parts stop
+
+-- the texts of the patches of which these are the rows; without rows there is none
+abbrev pub cut_texts : List ℕ → List PlacedRow → List (List ℕ)
+cut_texts text [] = []
+cut_texts text (r ∷ rs) = texts_of text ((cut (r ∷ rs)).done ++ (cut (r ∷ rs)).last ∷ []) (length text)
+
 -- the text is a stream of patches that say this
 pub record IsStream (text : List ℕ) (ms : List Meaning) : Type 0 where
   pub rows_ : List PlacedRow
   pub reads : RowsTo text 0 rows_ (length text)
   pub stream : AreStream rows_ (length text) ms
+
+-- the text is a stream of these patches, and each has its own text
+pub record IsSplit (text : List ℕ) (ps : List CheckedPatch) : Type 0 where
+  pub rows_ : List PlacedRow
+  pub reads : RowsTo text 0 rows_ (length text)
+  pub stream : AreStream rows_ (length text) (meanings ps)
+  pub texts_are : texts ps ≡ cut_texts text rows_
 
 -- ---- faults
 
@@ -72,7 +93,7 @@ pub record IsStream (text : List ℕ) (ms : List Meaning) : Type 0 where
 pub data IsPartFault (part : Part) (stop : ℕ) (broken : Option RowKind) (fault : PatchFault) : Type 0 where
   too_long : part.from + patch_limit < stop → fault ≡ faults.TooLong (stop - part.from) patch_limit → IsPartFault part stop broken fault
   refused : (before after : List PlacedRow) (r : PlacedRow) (why : Refusal) → stop ≤ part.from + patch_limit → part.rows_ ≡ before ++ r ∷ after → AreTaken (said before)
-      → refusal (said before) (role r.row_) ≡ Some why → fault ≡ refused_at why r.at → IsPartFault part stop broken fault
+      → refusal (said before) (role r.row) ≡ Some why → fault ≡ refused_at why r.at → IsPartFault part stop broken fault
   no_row : (kind : RowKind) → stop ≤ part.from + patch_limit → AreTaken (said part.rows_) → broken ≡ Some kind → fault ≡ faults.Row stop kind → IsPartFault part stop broken fault
   open_block : stop ≤ part.from + patch_limit → AreTaken (said part.rows_) → broken ≡ None → is_open (said part.rows_) ≡ true → fault ≡ faults.OpenBlock stop → IsPartFault part stop broken fault
   no_id : stop ≤ part.from + patch_limit → AreTaken (said part.rows_) → broken ≡ None → is_open (said part.rows_) ≡ false → ids_of (said part.rows_) ≡ [] → fault ≡ faults.NoId stop

@@ -4,12 +4,14 @@ ghost use Rattle.std.specs.Prelude.{◌≡◌, ◌≤◌, ◌++◌, ◌∷◌, [
 ghost use Rattle.patch_meaning.specs.declared.role.Role.{Role as Said};
 ghost use Rattle.patch_meaning.specs.Checked.{HasRead, Refuses, IsStopped};
 ghost use Rattle.patch_meaning.specs.Draft.{Stands};
+ghost use Rattle.patch_meaning.specs.PartRead.{meaning_of};
 ghost use Rattle.patch_meaning.specs.Patch.{IsPatch, patch_limit};
 
 use crate::draft::Draft;
 use crate::fault::{PatchFault, Stop};
+use crate::part::StreamPatch;
 use crate::rows::{Next, next_row};
-use delta_base::{Bytes, Id};
+use delta_base::{Bytes, Id, OutOfMemory};
 use rdf_terms::Changes;
 use std::alloc::Global;
 use std::marker::Model;
@@ -39,6 +41,25 @@ impl Model for Checked {
 }
 
 impl Checked {
+    // A patch of a stream with its text.
+    pub(crate) fn of_stream(
+        alloc: Global,
+        text: &[u8],
+        patch: StreamPatch,
+    ) -> Result<Checked, OutOfMemory>
+        requires { IsPatch text.now (meaning_of patch) }
+        ensures { IfOk result (λ c. c ≡ record { text = text.now; meaning = meaning_of patch }) }
+    {
+        let StreamPatch { id, prev, changes } = patch;
+        let text = Bytes::from_slice(alloc, text)?;
+        Ok(Checked {
+            id,
+            prev,
+            text,
+            changes,
+        })
+    }
+
     pub fn id(&self) -> Id
         ensures { result ≡ self.now.meaning.id }
     {

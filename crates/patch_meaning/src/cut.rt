@@ -3,10 +3,10 @@
 ghost use Rattle.std.specs.Prelude.{◌≡◌, ◌⊎◌, ◌++◌, ◌∷◌, [], List, None, Some, Err, IfOk, IfErr, OnOk};
 ghost use Rattle.patch_meaning.specs.declared.fault.PatchFault.{PatchFault};
 ghost use Rattle.patch_meaning.specs.declared.fault.PatchFault.TheVariants as faults;
-ghost use Rattle.patch_meaning.specs.Cutting.{EndsStream, HasCompleted, HasTakenNext, IsBrokenAtEnd, IsBrokenBefore, IsCutBefore, IsFaultOf};
-ghost use Rattle.patch_meaning.specs.PartRead.{first_fault, meaning_of, HasPart, IsFoundAt, IsToldAt};
+ghost use Rattle.patch_meaning.specs.Cutting.{EndsStream, HasTakenNext, IsBrokenAtEnd, IsBrokenBefore, IsCutAt, IsFaultOf, IsLast, IsLeft};
+ghost use Rattle.patch_meaning.specs.PartRead.{first_fault, meaning_of, HasPart, IsComplete, IsFoundAt, IsToldAt};
 ghost use Rattle.patch_meaning.specs.Roles.{role};
-ghost use Rattle.patch_meaning.specs.Rows.{PlacedRow};
+ghost use Rattle.patch_reader.specs.declared.placed.PlacedRow.{PlacedRow};
 
 use crate::fault::PatchFault;
 use crate::part::{Part, StreamPatch};
@@ -25,6 +25,7 @@ impl Part {
         at: u64,
     ) -> Result<Option<StreamPatch>, PatchFault>
         ensures ok { IfOk result (λ done. HasTakenNext self.old says at done self.new) }
+        ensures cut { IfOk result (IsCutAt self.old says at) }
         ensures found { OnOk result ((fault : PatchFault) → first_fault self.new ≡ Some fault → IsFoundAt self.old at fault) }
         ensures fault { IfErr result (λ fault. (fault ≡ faults.OutOfMemory) ⊎ IsBrokenBefore self.old says at fault) }
         ensures told { IfErr result (IsToldAt self.old at) }
@@ -42,7 +43,8 @@ impl Part {
         says: &Role,
         at: u64,
     ) -> Result<Option<StreamPatch>, PatchFault>
-        ensures ok { IfOk result (λ done. IsCutBefore self.old says.now at done self.new) }
+        ensures cut { IfOk result (IsCutAt self.old says.now at) }
+        ensures left { IfOk result (λ done. IsLeft self.old at done self.new) }
         ensures found { OnOk result ((fault : PatchFault) → first_fault self.new ≡ Some fault → first_fault self.old ≡ Some fault) }
         ensures fault { IfErr result (IsBrokenBefore self.old says.now at) }
         ensures told { IfErr result (IsToldAt self.old at) }
@@ -58,7 +60,8 @@ impl Part {
 
     // Completes the patch whose text stops here, and begins the next one.
     fn complete(&mut self, alloc: Global, stop: u64) -> Result<StreamPatch, PatchFault>
-        ensures ok { IfOk result (λ patch. HasCompleted self.old stop (meaning_of patch) self.new) }
+        ensures ok { IfOk result (λ patch. IsComplete self.old stop (meaning_of patch)) }
+        ensures left { OnOk result (HasPart [] self.new × (self.new.from ≡ stop)) }
         ensures none { first_fault self.new ≡ None }
         ensures fault { IfErr result (IsFaultOf self.old stop None) }
         ensures told { IfErr result (IsToldAt self.old stop) }
@@ -74,7 +77,7 @@ impl Part {
         at: u64,
         done: Option<StreamPatch>,
     ) -> Result<Option<StreamPatch>, PatchFault>
-        ensures part { OnOk result ((rs : List PlacedRow) (r : PlacedRow) → HasPart rs self.old → role r.row_ ≡ says → r.at ≡ at → HasPart (rs ++ r ∷ []) self.new) }
+        ensures part { OnOk result ((rs : List PlacedRow) (r : PlacedRow) → HasPart rs self.old → role r.row ≡ says → r.at ≡ at → HasPart (rs ++ r ∷ []) self.new) }
         ensures from { self.new.from ≡ self.old.from }
         ensures found { OnOk result ((fault : PatchFault) → first_fault self.new ≡ Some fault → IsFoundAt self.old at fault) }
         ensures done { IfOk result (λ patch. patch ≡ done) }
@@ -89,6 +92,7 @@ impl Part {
     /// The last patch of a stream that ends here, if it has rows.
     pub fn finish_stream(self, stop: u64) -> Result<Option<StreamPatch>, PatchFault>
         ensures ok { IfOk result (EndsStream self stop) }
+        ensures last { IfOk result (IsLast self stop) }
         ensures fault { IfErr result (IsBrokenAtEnd self stop) }
         ensures told { IfErr result (IsToldAt self stop) }
     {

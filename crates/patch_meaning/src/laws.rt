@@ -10,10 +10,12 @@ pub fn patches_are_settled()
     ensures one { (text : List ℕ) (m n : Meaning) → IsPatch text m → IsPatch text n → m ≡ n }
     ensures one_fault { (text : List ℕ) (f g : PatchFault) → IsPatchFault text f → IsPatchFault text g → f ≡ g }
     ensures apart { (text : List ℕ) (m : Meaning) (f : PatchFault) → IsPatch text m → IsPatchFault text f → ⊥ }
+    ensures some { (text : List ℕ) → ((m : Meaning) × IsPatch text m) ⊎ ((f : PatchFault) × IsPatchFault text f) }
 {}
 
-/// A text is a stream of one list of patches at most, and no stream has a fault.
+/// A text is a stream of one list of patches, or it has a first fault, and never both.
 pub fn streams_are_settled()
     ensures one { (text : List ℕ) (ms ns : List Meaning) → IsStream text ms → IsStream text ns → ms ≡ ns }
     ensures apart { (text : List ℕ) (ms : List Meaning) (f : PatchFault) → IsStream text ms → IsStreamFault text f → ⊥ }
+    ensures some { (text : List ℕ) → ((ms : List Meaning) × IsStream text ms) ⊎ ((f : PatchFault) × IsStreamFault text f) }
 {}

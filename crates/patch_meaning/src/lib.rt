@@ -17,7 +17,7 @@ pub use laws::{patches_are_settled, streams_are_settled};
 pub use part::{Part, StreamPatch};
 pub use role::{Role, role_of};
 pub use rows::{Next, next_row};
-pub use stream::{StreamPatches, read_stream};
+pub use stream::{Patches, split_stream};
 
 #[cfg(test)]
 mod tests;

@@ -1,13 +1,14 @@
 //! A patch of a stream of which some rows were read.
 
-ghost use Rattle.std.specs.Prelude.{◌≡◌, ◌≤◌, ◌+◌, ◌++◌, ◌∷◌, [], List, None, Some, IfOk, IfErr, OnOk};
+ghost use Rattle.std.specs.Prelude.{◌≡◌, ◌+◌, ◌++◌, ◌∷◌, [], List, None, Some, IfOk, IfErr, OnOk, nat_lt};
 ghost use Rattle.patch_meaning.specs.declared.role.Role.{Role as Said};
 ghost use Rattle.patch_meaning.specs.Draft.{Stands};
 ghost use Rattle.patch_meaning.specs.declared.fault.PatchFault.{PatchFault};
 ghost use Rattle.patch_meaning.specs.Patch.{IsWell, patch_limit, has_some, place_of};
-ghost use Rattle.patch_meaning.specs.PartRead.{meaning_of, HasPart, LacksEnd, TakesRow, IsToldAt, IsFoundAt, first_fault};
+ghost use Rattle.patch_meaning.specs.PartRead.{meaning_of, HasPart, IsComplete, IsNoted, LacksEnd, TakesRow, IsToldAt, IsFoundAt, first_fault};
 ghost use Rattle.patch_meaning.specs.Roles.{role, said, id_of, change_of};
-ghost use Rattle.patch_meaning.specs.Rows.{PlacedRow};
+ghost use Rattle.patch_reader.specs.declared.placed.PlacedRow.{PlacedRow};
+ghost use Rattle.patch_meaning.specs.Rows.{AreUpTo};
 ghost use Rattle.patch_meaning.specs.Stream.{IsPartFault, begins};
 
 use crate::draft::Draft;
@@ -37,6 +38,8 @@ pub struct Part {
     draft: Draft,
     /// The first fault of its rows.
     fault: Option<PatchFault>,
+    /// Whether a row begins behind the limit. From that row on nothing is kept.
+    is_long: bool,
     has_rows: bool,
     has_id: bool,
     has_change: bool,
@@ -53,6 +56,7 @@ impl Part {
             from,
             draft: Draft::new(alloc),
             fault: None,
+            is_long: false,
             has_rows: false,
             has_id: false,
             has_change: false,
@@ -78,15 +82,27 @@ impl Part {
         }
     }
 
+    // Notes a row of the patch.
+    fn note(&mut self, says: &Role, at: u64)
+        ensures { IsNoted self.old says.now at self.new }
+    {
+        self.has_rows = true;
+        self.has_id = is_id(says) | self.has_id;
+        self.has_change = is_change(says) | self.has_change;
+        self.is_long = is_behind(self.from, at) | self.is_long;
+    }
+
     /// Takes what the row at a place says. Its fault is kept.
     pub fn take(&mut self, says: Role, at: u64) -> Result<(), OutOfMemory>
-        ensures rows { OnOk result ((rs : List PlacedRow) (r : PlacedRow) → HasPart rs self.old → role r.row_ ≡ says → r.at ≡ at → HasPart (rs ++ r ∷ []) self.new) }
+        ensures rows { OnOk result ((rs : List PlacedRow) (r : PlacedRow) → HasPart rs self.old → role r.row ≡ says → r.at ≡ at → HasPart (rs ++ r ∷ []) self.new) }
         ensures from { self.new.from ≡ self.old.from }
         ensures found { OnOk result ((fault : PatchFault) → first_fault self.new ≡ Some fault → IsFoundAt self.old at fault) }
     {
-        self.has_rows = true;
-        self.has_id = is_id(&says) | self.has_id;
-        self.has_change = is_change(&says) | self.has_change;
+        self.note(&says, at);
+        if self.is_long {
+            forget(says);
+            return Ok(());
+        }
         match self.fault {
             Some(_) => {
                 forget(says);
@@ -108,8 +124,8 @@ impl Part {
 
     /// The patch whose text stops here.
     pub fn finish(self, stop: u64) -> Result<StreamPatch, PatchFault>
-        ensures ok { IfOk result (λ p. (rs : List PlacedRow) → HasPart rs self → IsWell (said rs) (meaning_of p) × (stop ≤ self.from + patch_limit)) }
-        ensures fault { IfErr result (λ fault. (rs : List PlacedRow) → HasPart rs self → IsPartFault (record { from = self.from; rows_ = rs }) stop None fault) }
+        ensures ok { IfOk result (λ p. IsComplete self stop (meaning_of p)) }
+        ensures fault { IfErr result (λ fault. (rs : List PlacedRow) → HasPart rs self → AreUpTo rs stop → IsPartFault (record { from = self.from; rows_ = rs }) stop None fault) }
         ensures told { IfErr result (IsToldAt self stop) }
     {
         let Part {
@@ -133,7 +149,7 @@ impl Part {
 
     /// The fault of the patch where no row stands at its end.
     pub fn break_off(&self, stop: u64, kind: RowKind) -> PatchFault
-        ensures fault { (rs : List PlacedRow) → HasPart rs self.now → IsPartFault (record { from = self.now.from; rows_ = rs }) stop (Some kind) result }
+        ensures fault { (rs : List PlacedRow) → HasPart rs self.now → AreUpTo rs stop → IsPartFault (record { from = self.now.from; rows_ = rs }) stop (Some kind) result }
         ensures told { IsToldAt self.now stop result }
     {
         let length = stop.saturating_sub(self.from);
@@ -184,6 +200,13 @@ fn take_row(draft: &mut Draft, says: Role, at: u64) -> Result<Option<PatchFault>
 }
 
 fn forget(_says: Role) {}
+
+// Whether a row begins behind the limit of a patch.
+fn is_behind(from: u64, at: u64) -> bool
+    ensures { result ≡ nat_lt (from + patch_limit) at }
+{
+    at.saturating_sub(from) > PATCH_LIMIT
+}
 
 fn is_id(says: &Role) -> bool
     ensures { result ≡ has_some (id_of says.now) }

@@ -1,13 +1,13 @@
 //! Streams of patches.
 
-ghost use Rattle.std.specs.Prelude.{◌≡◌, ◌≤◌, ◌++◌, ◌∷◌, [], List, IfOk, IfErr, OnOk, length, map};
+ghost use Rattle.std.specs.Prelude.{◌≡◌, ◌≤◌, ◌++◌, ◌∷◌, [], IfOk, IfErr, OnOk, length};
+ghost use Rattle.std.specs.List.{slice_range};
 ghost use Rattle.patch_meaning.specs.declared.fault.PatchFault.TheVariants as faults;
-ghost use Rattle.patch_meaning.specs.Cutting.{HasCut, IsNextOf, RefusesStream, Stops, meanings_of};
-ghost use Rattle.patch_meaning.specs.Next.{IsNextRow};
-ghost use Rattle.patch_meaning.specs.PartRead.{meaning_of};
-ghost use Rattle.patch_meaning.specs.Rows.{Gap};
-ghost use Rattle.patch_meaning.specs.Stream.{IsStream};
+ghost use Rattle.patch_meaning.specs.Checked.{meanings};
+ghost use Rattle.patch_meaning.specs.Cutting.{HasCut, HasCutAll, IsNextOf, IsNextToCut, IsTextOf, RefusesStream, Stops, checked_of};
+ghost use Rattle.patch_meaning.specs.Stream.{IsSplit, IsStream};
 
+use crate::checked::Checked;
 use crate::fault::PatchFault;
 use crate::part::{Part, StreamPatch};
 use crate::rows::{Next, next_row};
@@ -15,18 +15,21 @@ use delta_base::Listing;
 use patch_rows::RowFault;
 use std::alloc::Global;
 
-pub type StreamPatches = Listing<StreamPatch>;
+/// Patches in the order of their stream.
+pub type Patches = Listing<Checked>;
 
 /// A stream of which some rows were read: patches that are complete, and the one to which the next row may belong.
 #[derive(Drop)]
 pub struct Cutting {
-    patches: StreamPatches,
+    patches: Patches,
     part: Part,
 }
 
-/// The patches of a stream, in their order. A fault is that of the first patch that has one.
-pub fn read_stream(alloc: Global, text: &[u8]) -> Result<StreamPatches, PatchFault>
-    ensures ok { IfOk result (λ patches. IsStream text.now (map meaning_of patches.items)) }
+/// The patches of a stream, each with its own text. A fault is that of the first patch that has one, with its place from the
+/// stream's front.
+pub fn split_stream(alloc: Global, text: &[u8]) -> Result<Patches, PatchFault>
+    ensures stream { IfOk result (λ patches. IsStream text.now (meanings patches.items)) }
+    ensures split { IfOk result (λ patches. IsSplit text.now patches.items) }
     ensures fault { IfErr result (RefusesStream text.now) }
 {
     let mut cutting = Cutting {
@@ -35,9 +38,9 @@ pub fn read_stream(alloc: Global, text: &[u8]) -> Result<StreamPatches, PatchFau
     };
     let mut at = 0;
     while let Some(next) = next_of(alloc, text, at, &cutting.part)? {
-        at = cutting.take(alloc, next)?;
+        at = cutting.take(alloc, text, next)?;
     }
-    cutting.finish(text.len() as u64)
+    cutting.finish(alloc, text)
 }
 
 // The next row; where none stands there, the fault of the patch.
@@ -54,43 +57,61 @@ fn next_of(alloc: Global, text: &[u8], at: usize, part: &Part) -> Result<Option<
 }
 
 impl Cutting {
-    ghost use Rattle.std.specs.Prelude.{ℕ};
-
-    /// Takes a row, and answers the place behind it.
-    fn take(&mut self, alloc: Global, next: Next) -> Result<usize, PatchFault>
-        ensures ok { OnOk result ((text : List ℕ) (at : ℕ) → IsNextRow text at next → HasCut text at self.old → HasCut text next.end self.new) }
+    /// Takes the next row, and answers the place behind it.
+    fn take(&mut self, alloc: Global, text: &[u8], next: Next) -> Result<usize, PatchFault>
+        requires { IsNextToCut text.now next self.old }
+        ensures ok { OnOk result (HasCut text.now next.end self.new) }
         ensures end { IfOk result (λ end. end ≡ next.end) }
-        ensures fault { IfErr result (λ fault. (text : List ℕ) (at : ℕ) → IsNextRow text at next → HasCut text at self.old → RefusesStream text fault) }
+        ensures fault { IfErr result (RefusesStream text.now) }
     {
         let Next { role, at, end } = next;
+        let text = piece(text, self.part.from, at);
         let done = self.part.take_next(alloc, role, at as u64)?;
-        keep(&mut self.patches, done)?;
+        keep(alloc, &mut self.patches, text, done)?;
         Ok(end)
     }
 
-    fn finish(self, stop: u64) -> Result<StreamPatches, PatchFault>
-        ensures ok { IfOk result (λ patches. (text : List ℕ) → stop ≡ length text → (at : ℕ) → HasCut text at self → Gap text at stop → IsStream text (map meaning_of patches.items)) }
-        ensures fault { IfErr result (λ fault. (text : List ℕ) → stop ≡ length text → (at : ℕ) → HasCut text at self → Gap text at stop → RefusesStream text fault) }
+    fn finish(self, alloc: Global, text: &[u8]) -> Result<Patches, PatchFault>
+        requires { HasCutAll text.now self }
+        ensures split { IfOk result (λ patches. IsSplit text.now patches.items) }
+        ensures fault { IfErr result (RefusesStream text.now) }
     {
         let Cutting { mut patches, part } = self;
-        let done = part.finish_stream(stop)?;
-        keep(&mut patches, done)?;
+        let stop = text.len();
+        let text = piece(text, part.from, stop);
+        let done = part.finish_stream(stop as u64)?;
+        keep(alloc, &mut patches, text, done)?;
         Ok(patches)
     }
 }
 
-// Puts a patch behind those that are complete, if there is one.
-fn keep(patches: &mut StreamPatches, done: Option<StreamPatch>) -> Result<(), PatchFault>
-    ensures ok { OnOk result (map meaning_of patches.new.items ≡ map meaning_of patches.old.items ++ meanings_of done) }
+// The bytes of a text from one place to another.
+fn piece(text: &[u8], from: u64, stop: usize) -> &[u8]
+    requires order { from ≤ stop }
+    requires within { stop ≤ length text.now }
+    ensures { result.now ≡ slice_range text.now from stop }
+{
+    &text[from as usize..stop]
+}
+
+// Puts a patch and its text behind those that are complete, if there is one.
+fn keep(
+    alloc: Global,
+    patches: &mut Patches,
+    text: &[u8],
+    done: Option<StreamPatch>,
+) -> Result<(), PatchFault>
+    requires { IsTextOf text.now done }
+    ensures ok { OnOk result (patches.new.items ≡ patches.old.items ++ checked_of text.now done) }
     ensures fault { IfErr result (λ fault. fault ≡ faults.OutOfMemory) }
 {
     match done {
-        Some(patch) => push(patches, patch),
+        Some(patch) => push(patches, Checked::of_stream(alloc, text, patch)?),
         None => Ok(()),
     }
 }
 
-fn push(patches: &mut StreamPatches, patch: StreamPatch) -> Result<(), PatchFault>
+fn push(patches: &mut Patches, patch: Checked) -> Result<(), PatchFault>
     ensures ok { OnOk result (patches.new.items ≡ patches.old.items ++ patch ∷ []) }
     ensures fault { IfErr result (λ fault. fault ≡ faults.OutOfMemory) }
 {

@@ -120,17 +120,17 @@ fn a_text_of_one_byte_too_many_is_too_long(rt: HostRuntime) -> Result<(), Fail> 
 }
 
 fn stream_fault(alloc: Global, text: &str) -> Option<PatchFault> {
-    read_stream(alloc, text.as_bytes()).err()
+    split_stream(alloc, text.as_bytes()).err()
 }
 
 /// The ids of a stream's patches, and how many name a patch before them.
 fn stream_ids(alloc: Global, text: &str) -> Option<(Vec<Id>, usize)> {
-    let patches = read_stream(alloc, text.as_bytes()).ok()?;
+    let patches = split_stream(alloc, text.as_bytes()).ok()?;
     let mut ids = Vec::new(alloc);
     let mut prevs = 0_usize;
     for patch in patches.as_slice() {
-        ids.push(patch.id).ok()?;
-        prevs = prevs.saturating_add(usize::from(patch.prev.is_some()));
+        ids.push(patch.id()).ok()?;
+        prevs = prevs.saturating_add(usize::from(patch.prev().is_some()));
     }
     Some((ids, prevs))
 }
@@ -157,6 +157,26 @@ fn a_stream_is_cut_at_its_headers(rt: HostRuntime) {
             "{text}"
         );
     }
+}
+
+#[test]
+fn each_patch_of_a_stream_has_its_own_text(rt: HostRuntime) -> Result<(), Fail> {
+    let first =
+        "# one\nH id <uuid:00000000-0000-4000-8000-000000000001> .\nTX .\nA <http://e/s> <http://e/p> _:a.# two\n\nTC .\n\n";
+    let second =
+        "H id <uuid:00000000-0000-4000-8000-000000000002> .\nH prev <uuid:00000000-0000-4000-8000-000000000001> .\nTX .\nD <http://e/s> <http://e/p> _:a .TA.\t";
+    let text = format!(in rt.alloc(); "{first}{second}")?;
+    let patches = split_stream(rt.alloc(), text.as_bytes())
+        .ok()
+        .ok_or("refused")?;
+    assert_eq!(rt; patches.len(), 2);
+    let one = patches.get(0).ok_or("no patch")?;
+    let two = patches.get(1).ok_or("no second patch")?;
+    assert!(rt; one.text().as_slice() == first.as_bytes());
+    assert!(rt; two.text().as_slice() == second.as_bytes());
+    assert!(rt; two.prev() == Some(one.id()));
+    assert_eq!(rt; two.changes().len(), 3);
+    Ok(())
 }
 
 #[test]

@@ -13,7 +13,7 @@ use Rattle.patch_reader.proofs.Kept.{next_given}
 use Rattle.patch_meaning.specs.declared.rows.Next.{Next}
 use Rattle.patch_meaning.specs.Next.{IsNext}
 use Rattle.patch_meaning.specs.Roles.{role}
-use Rattle.patch_meaning.specs.Rows.{Gap, NoRowAt}
+use Rattle.patch_reader.specs.Rows.{Gap, NoRowAt}
 use Rattle.patch_meaning.proofs.Rowed.{row_within}
 use Rattle.stream_replay.specs.Streaming.{FindsNext, FindsFault, IsNextIn}
 

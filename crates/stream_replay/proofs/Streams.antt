@@ -13,9 +13,12 @@ use Rattle.patch_meaning.specs.declared.rows.Next.{Next}
 use Rattle.patch_meaning.specs.Cutting.{HasTakenNext, IsFaultOf, IsBrokenBefore, EndsStream, IsBrokenAtEnd, meanings_of}
 use Rattle.patch_meaning.specs.Patch.{Meaning, place_of}
 use Rattle.patch_meaning.specs.Roles.{said}
-use Rattle.patch_meaning.specs.Rows.{PlacedRow, Gap, RowsTo, NoRowAt}
+use Rattle.patch_reader.specs.declared.placed.PlacedRow.{PlacedRow}
+use Rattle.patch_reader.specs.Rows.{Gap, NoRowAt}
+use Rattle.patch_meaning.specs.Rows.{AreUpTo, RowsTo}
 use Rattle.patch_meaning.specs.Stream.{AreStream, IsStream, IsStreamFault, begins, cut, next, over, no_row}
-use Rattle.patch_meaning.proofs.Rowed.{rows_more}
+use Rattle.patch_meaning.proofs.FaultPlaces.{fault_behind}
+use Rattle.patch_meaning.proofs.Rowed.{rows_more, rows_up_to}
 use Rattle.stream_replay.specs.declared.place.Told.{Told}
 use Rattle.stream_replay.specs.declared.progress.Progress.{Progress}
 use Rattle.stream_replay.specs.declared.fault.ReplayFault.{ReplayFault}
@@ -130,8 +133,12 @@ streamed_passed text base from to bytes feeds p held low high passes h = record 
 
 -- ---- one more row
 
+-- the rows come no further than the next one
+up_to_next : (text : List ℕ) (rs : List PlacedRow) (at stop : ℕ) → RowsBefore text rs at → Gap text at stop → AreUpTo rs stop
+up_to_next text rs at stop before gap = let behind = before.2 stop gap in rows_up_to text 0 before.0 stop rs before.1 behind.1
+
 abbrev placed_at : ℕ → Row → Next → PlacedRow
-placed_at base r row = record { row_ = r; at = base + row.at; end = base + row.end }
+placed_at base r row = record { row = r; at = base + row.at; end = base + row.end }
 
 pub streamed_more : (whole : Bool) (text : List ℕ) (base from : ℕ) (bytes : List ℕ) (feeds : ℕ) (old new : Progress) (row : Next) (done : Option StreamPatch) → IsHeld text base bytes feeds
     → IsNextIn whole bytes from row → HasStreamed whole text (base + from) old → HasTakenNext old.part row.role (base + row.at) done new.part
@@ -147,7 +154,9 @@ streamed_more whole text base from bytes feeds old new row done held is h taken 
             (row_later text more base row.at row.end bytes feeds is.0 held (is.2 more none).1),
         λ to gap. gap,
       );
-  parts = taken h.rs h.ms (placed_at base is.0 row) h.parts is.1 refl;
+  parts = taken h.rs h.ms (placed_at base is.0 row) h.parts
+      (up_to_next (text ++ []) h.rs (base + from) (base + row.at) (h.reads [] (λ e. refl)) (gap_later text [] base from row.at bytes feeds held (is.2 [] (λ e. refl)).0))
+      is.1 refl;
   replayed = applied h.ms h.replayed;
   line_is = knows;
 }
@@ -175,7 +184,7 @@ told_before whole text base from bytes feeds old row told held is h (inr why) ha
       broken = None;
       stops = next is.0 (base + row.end) (row_later text more base row.at row.end bytes feeds is.0 held (is.2 more none).1)
           (ap (begins (said (cut h.rs).last.rows_)) is.1 ∙ why.1 h.rs h.ms h.parts) refl refl;
-      fault_is = why.0 h.rs h.ms h.parts;
+      fault_is = why.0 h.rs h.ms h.parts (up_to_next (text ++ more) h.rs (base + from) (base + row.at) (h.reads more none) (gap_later text more base from row.at bytes feeds held (is.2 more none).0));
     }))
 
 -- no row stands there
@@ -193,7 +202,12 @@ told_there whole text base from at bytes feeds old kind told held is h why has =
       stop = base + at;
       broken = Some kind;
       stops = no_row kind (no_row_later text more base is.1.0 at kind bytes feeds held (is.1.1 more none).1) refl;
-      fault_is = why h.rs h.ms h.parts;
+      fault_is = why h.rs h.ms h.parts
+          (let before = h.reads more none in
+          let behind = before.2 (base + is.1.0) (gap_later text more base from is.1.0 bytes feeds held (is.1.1 more none).0) in
+          let low = behind.1 in
+          rows_up_to (text ++ more) 0 before.0 (base + at) h.rs before.1
+          (omega (arith, low, fault_behind (text ++ more) (base + is.1.0) kind (base + at) (no_row_later text more base is.1.0 at kind bytes feeds held (is.1.1 more none).1))));
     }))
 
 -- ---- the end
@@ -202,6 +216,12 @@ reads_whole : (text : List ℕ) (at : ℕ) (p : Progress) (h : HasStreamed true 
 reads_whole text at p h gap =
     let before = subst (λ (t : List ℕ). RowsBefore t h.rs at) (append-nil text) (h.reads [] (λ e. refl)) in
     (before.0, before.1, before.2 (length text) gap)
+
+up_to_end : (text : List ℕ) (at stop : ℕ) (p : Progress) → stop ≡ length text → (h : HasStreamed true text at p) → Gap text at (length text) → AreUpTo h.rs stop
+up_to_end text at stop p end h gap =
+    let all = reads_whole text at p h gap in
+    let low = all.2.1 in
+    rows_up_to text 0 all.0 stop h.rs all.1 (omega (arith, low, end))
 
 -- the last patch has a fault
 pub told_at_end : (text : List ℕ) (at stop : ℕ) (p : Progress) (line : ℕ) (fault : PatchFault) → stop ≡ length text → HasStreamed true text at p → Gap text at (length text) → IsBrokenAtEnd p.part stop fault
@@ -216,7 +236,7 @@ told_at_end text at stop p line fault end h gap why has = record {
     stop = stop;
     broken = None;
     stops = over end (why.1 h.rs h.ms h.parts) refl refl;
-    fault_is = why.0 h.rs h.ms h.parts;
+    fault_is = why.0 h.rs h.ms h.parts (up_to_end text at stop p end h gap);
   };
   line_is = has.0;
 }
@@ -226,7 +246,7 @@ pub stream_at_end : (text : List ℕ) (at stop : ℕ) (p : Progress) (done : Opt
 stream_at_end text at stop p done end h gap ends = record {
   rows_ = h.rs;
   reads = reads_whole text at p h gap;
-  stream = subst (λ (n : ℕ). AreStream h.rs n (h.ms ++ meanings_of done)) end (ends h.rs h.ms h.parts);
+  stream = subst (λ (n : ℕ). AreStream h.rs n (h.ms ++ meanings_of done)) end (ends h.rs h.ms h.parts (up_to_end text at stop p end h gap));
 }
 
 -- ---- how a replay ends

@@ -12,7 +12,8 @@ use Rattle.patch_meaning.specs.Cutting.{IsCutInto}
 use Rattle.patch_meaning.specs.Patch.{Meaning}
 use Rattle.patch_meaning.specs.PartRead.{first_fault}
 use Rattle.patch_meaning.specs.Roles.{role}
-use Rattle.patch_meaning.specs.Rows.{PlacedRow, Gap, RowsUpTo, NoRowAt}
+use Rattle.patch_reader.specs.declared.placed.PlacedRow.{PlacedRow}
+use Rattle.patch_reader.specs.Rows.{Gap, RowsUpTo, NoRowAt}
 use Rattle.stream_replay.specs.declared.progress.Progress.{Progress}
 use Rattle.stream_replay.specs.declared.place.Told.{Told}
 use Rattle.stream_replay.specs.declared.stream.Streaming.{Streaming}

@@ -5,7 +5,7 @@ ghost use Rattle.patch_meaning.specs.declared.fault.PatchFault.TheVariants as fa
 ghost use Rattle.patch_meaning.specs.Cutting.{EndsStream, HasTakenNext, IsBrokenAtEnd, IsBrokenBefore, IsFaultOf};
 ghost use Rattle.patch_meaning.specs.Patch.{Meaning, place_of};
 ghost use Rattle.patch_meaning.specs.PartRead.{first_fault, IsToldAt};
-ghost use Rattle.patch_meaning.specs.Rows.{Gap};
+ghost use Rattle.patch_reader.specs.Rows.{Gap};
 ghost use Rattle.stream_replay.specs.Replaying.{IsReplay};
 ghost use Rattle.stream_replay.specs.Windows.{HasLine, IsWindow};
 

@@ -1,6 +1,6 @@
 //! A stream that is read in pieces.
 ghost use Rattle.std.specs.Prelude.{◌≡◌, ◌+◌, ◌-◌, ◌<◌, ◌≤◌, ◌^◌, ◌++◌, ◌∷◌, ℕ, List, [], Bool, true, false, None, Some, IfOk, IfErr, OnOk, IfSome, length, vec_len};
-ghost use Rattle.patch_meaning.specs.Rows.{Gap};
+ghost use Rattle.patch_reader.specs.Rows.{Gap};
 
 use crate::fault::ReplayFault;
 use crate::next::next_in;

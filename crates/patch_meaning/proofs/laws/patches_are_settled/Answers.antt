@@ -1,4 +1,5 @@
 use Rattle.patch_meaning.proofs.Settled.{one_meaning, one_fault, never_both}
+use Rattle.patch_meaning.proofs.Exists.{patch_or}
 use Rattle.patch_meaning.proofs.laws.patches_are_settled.Goals as goal
 
 pub returns-clause-one : goal.returns-clause-one
@@ -9,3 +10,6 @@ returns-clause-one_fault c = one_fault
 
 pub returns-clause-apart : goal.returns-clause-apart
 returns-clause-apart c = never_both
+
+pub returns-clause-some : goal.returns-clause-some
+returns-clause-some c = patch_or

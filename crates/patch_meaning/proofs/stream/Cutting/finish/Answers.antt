@@ -1,8 +1,27 @@
+use Rattle.std.proofs.Common.{ℕ, ◌++◌, List, length, sym, ap, subst, ◌∙◌, arith}
 use Rattle.std.proofs.lemmas.Result.{err_from_is_err_and}
-use Rattle.patch_meaning.proofs.Cuts.{unfinished, finished}
+use Rattle.patch_meaning.specs.Cutting.{IsTextOf, checked_of}
+use Rattle.patch_meaning.proofs.Splits.{last_piece, part_before, unfinished, finished}
 use Rattle.patch_meaning.proofs.stream.Cutting.finish.Goals as goal
+
+pub piece-text-requires : goal.piece-text-requires
+piece-text-requires c =
+    let r = c.requires in
+    record { order = omega (arith, part_before c.args.text.now r.0 c.args.self r.1, r.1.within); within = omega arith }
 
 pub returns-in_err-done-clause-fault : goal.returns-in_err-done-clause-fault
 returns-in_err-done-clause-fault c =
     let p = err_from_is_err_and c.from_residual.result c.from_residual.ensures.1 in
-    rw (p.1, p.2) (λ text end at h gap. unfinished text at c.args.stop c.args.self c.in_err-done.field-0.0 end h gap c.in_err-done.ensures.fault)
+    let r = c.requires in
+    rw (p.1, p.2) (unfinished c.args.text.now r.0 c.args.self c.in_err-done.field-0.0 r.1 r.2 c.in_err-done.ensures.fault)
+
+pub keep-requires : goal.keep-requires
+keep-requires c =
+    let r = c.requires in
+    subst (λ (text : List ℕ). IsTextOf text c.in_ok-done.done) (sym c.piece-text.ensures) (last_piece c.args.text.now r.0 c.args.self c.in_ok-done.done r.1 r.2 c.in_ok-done.ensures.last)
+
+pub returns-clause-split : goal.returns-clause-split
+returns-clause-split c =
+    let r = c.requires in
+    finished c.args.text.now r.0 c.args.self c.in_ok-done.done c.keep.new.patches.items r.1 r.2 c.in_ok-done.ensures.ok c.in_ok-done.ensures.last
+    (c.in_ok-keep.ensures.ok ∙ ap (λ (text : List ℕ). c.args.self.patches.items ++ checked_of text c.in_ok-done.done) c.piece-text.ensures)

@@ -1,0 +1,210 @@
+-- Every text is a patch or has a first fault, and every text is a stream or has one.
+use Rattle.std.proofs.Common.{◌≡◌, ℕ, zero, suc, ◌+◌, ◌<◌, ◌≤◌, Bool, true, false, List, [], ◌∷◌, ◌++◌, length, drop, Option, Some, None, refl, sym, ap, subst, ◌∙◌, ◌⊎◌, inl, inr, arith}
+use Rattle.std.proofs.lemmas.Bool.{cases_lt}
+use Rattle.std.proofs.lemmas.List.{length-drop}
+use Rattle.patch_rows.specs.declared.fault.RowKind.{RowKind}
+use Rattle.patch_rows.specs.declared.row.Row.{Row}
+use Rattle.patch_rows.specs.Fault.{Fault}
+use Rattle.patch_rows.specs.Faults.{FirstFault}
+use Rattle.patch_rows.specs.Grammar.{Space, ShortRowAt, IsRowAt}
+use Rattle.patch_rows.specs.Reading.{skip_space}
+use Rattle.patch_rows.proofs.Shorter.{row_shorter}
+use Rattle.patch_rows.proofs.SpaceLaws.{skipped}
+use Rattle.patch_reader.specs.declared.placed.PlacedRow.{PlacedRow}
+use Rattle.patch_reader.specs.Rows.{Gap, RowsUpTo, NoRowAt}
+use Rattle.patch_reader.proofs.RowAnswers.{settled}
+use Rattle.patch_meaning.specs.declared.fault.PatchFault.{PatchFault}
+use Rattle.patch_meaning.specs.declared.fault.Refusal.{Refusal}
+use Rattle.patch_meaning.specs.PartRead.{LacksEnd}
+use Rattle.patch_meaning.specs.Patch.{Meaning, IsWell, IsPatch, IsPatchFault, AreTaken, refusal, has_some, patch_limit}
+use Rattle.patch_meaning.specs.Patch as patch
+use Rattle.patch_meaning.specs.Roles.{role, said}
+use Rattle.patch_meaning.specs.Stream.{Cut, ArePatches, IsStream, IsStreamFault, StopsAt, begins, cut}
+use Rattle.patch_meaning.specs.Stream as stream
+use Rattle.patch_meaning.proofs.Cuts.{cut_begun, cut_longer, not_empty, patches_more, stream_by}
+use Rattle.patch_meaning.proofs.Drafts.{taken_with, ends, part_settled, broken_settled}
+use Rattle.patch_meaning.proofs.FaultPlaces.{first_end, end_place}
+use Rattle.patch_meaning.proofs.Rowed.{rows_more}
+use Rattle.patch_meaning.proofs.Slices.{space_end, row_end}
+
+-- ---- the next row
+
+-- what stands at a place: nothing more, a row, or no row
+pub data There (text : List ℕ) (at : ℕ) : Type 0 where
+  over : at ≡ length text → There text at
+  row_ : (r : Row) (end : ℕ) → IsRowAt text at r end → at < end → end ≤ length text → There text at
+  no_row : (kind : RowKind) (place : ℕ) → NoRowAt text at kind place → There text at
+
+make_row : (text : List ℕ) (at : ℕ) (r : Row) (end : ℕ) → ShortRowAt (drop at text) r (drop end text) → at < end → end ≤ length text → IsRowAt text at r end
+unfolding IsRowAt
+make_row text at r end short low high = (short, low, high)
+
+stands_there : (text : List ℕ) (at : ℕ) → at < length text → There text at
+stands_there text at lt = by (settled (drop at text))
+  where
+    by : ((r : Row) × (after : List ℕ) × ShortRowAt (drop at text) r after) ⊎ ((f : Fault) × FirstFault (drop at text) f) → There text at
+    by (inl s) =
+        let p = end_place text at s.1 (omega (arith, lt)) (row_end (drop at text) s.0 s.1 s.2.0) in
+        let less = row_shorter (drop at text) s.0 s.1 s.2.0 in
+        let further : at < p.0 = omega (arith, less, ap length p.1, length-drop at text, length-drop p.0 text, lt, p.3) in
+        row_ s.0 p.0 (make_row text at s.0 p.0 (subst (ShortRowAt (drop at text) s.0) (sym p.1) s.2) further p.3) further p.3
+    by (inr f) =
+        let p = end_place text at f.0.1 (omega (arith, lt)) (first_end (drop at text) f.0 f.1) in
+        no_row f.0.0 p.0 (lt, subst (λ (t : List ℕ). FirstFault (drop at text) (f.0.0, t)) (sym p.1) f.1, p.3)
+
+found : (text : List ℕ) (at : ℕ) → at ≤ length text → There text at
+found text at le = by (cases_lt at (length text))
+  where
+    by : (at < length text) ⊎ (length text ≤ at) → There text at
+    by (inl lt) = stands_there text at lt
+    by (inr ge) = over (omega (arith, le, ge))
+
+pub next_there : (text : List ℕ) (at : ℕ) → at ≤ length text → (to : ℕ) × Gap text at to × There text to
+next_there text at within =
+    let s = skipped (drop at text) in
+    let p = end_place text at (skip_space (drop at text)) within (space_end (drop at text) (skip_space (drop at text)) s) in
+    (p.0, (subst (Space (drop at text)) (sym p.1) s, p.2, p.3), found text p.0 p.3)
+
+-- ---- patches
+
+abbrev pub PatchOr : List ℕ → Type 0
+PatchOr text = ((m : Meaning) × IsPatch text m) ⊎ ((fault : PatchFault) × IsPatchFault text fault)
+
+-- the rows up to a place may stand
+abbrev HasRead : List ℕ → ℕ → List PlacedRow → Type 0
+HasRead text at rs = RowsUpTo text 0 rs at × AreTaken (said rs)
+
+abbrev placed : Row → ℕ → ℕ → PlacedRow
+placed r at end = record { row = r; at = at; end = end }
+
+module _ (text : List ℕ) (short : length text ≤ patch_limit) where
+  ended : (at to : ℕ) (rs : List PlacedRow) → HasRead text at rs → Gap text at to → to ≡ length text → PatchOr text
+  ended at to rs h gap last = by (ends (said rs) to h.1)
+    where
+      lacking : (fault : PatchFault) → LacksEnd (said rs) to fault → IsPatchFault text fault
+      lacking fault (taken, inl is) = patch.rows_ rs to short (at, h.0, gap) taken (patch.open_block last is.0 is.1)
+      lacking fault (taken, inr is) = patch.rows_ rs to short (at, h.0, gap) taken (patch.no_id last is.0 is.1 is.2)
+
+      by : ((m : Meaning) × IsWell (said rs) m) ⊎ ((fault : PatchFault) × LacksEnd (said rs) to fault) → PatchOr text
+      by (inl m) = inl (m.0, record { short = short; rows_ = rs; reads = (at, h.0, subst (Gap text at) last gap); well = m.1 })
+      by (inr lacks) = inr (lacks.0, lacking lacks.0 lacks.1)
+
+  -- the next row, if the rest of the text is settled behind it
+  step : (at : ℕ) (rs : List PlacedRow) → at ≤ length text → HasRead text at rs
+      → ((r : PlacedRow) → HasRead text r.end (rs ++ r ∷ []) → at < r.end → r.end ≤ length text → PatchOr text) → PatchOr text
+  step at rs within h further = by (next_there text at within)
+    where
+      by : (to : ℕ) × Gap text at to × There text to → PatchOr text
+      by (to, gap, over last) = ended at to rs h gap last
+      by (to, gap, no_row kind place none) = inr (_, patch.rows_ rs to short (at, h.0, gap) h.1 (patch.no_row place kind none refl))
+      by (to, gap, row_ r end is low high) = may (refusal (said rs) (role r)) refl
+        where
+          may : (o : Option Refusal) → refusal (said rs) (role r) ≡ o → PatchOr text
+          may (Some why) refuses = inr (_, patch.rows_ rs to short (at, h.0, gap) h.1 (patch.refused r end why is refuses refl))
+          may None free =
+              let order = gap.1 in
+              further (placed r to end) (rows_more text 0 at rs (placed r to end) h.0 gap is, taken_with rs (placed r to end) h.1 free) (omega (arith, order, low)) high
+
+  walk : (fuel at : ℕ) (rs : List PlacedRow) → at ≤ length text → length text ≤ at + fuel → HasRead text at rs → PatchOr text
+  walk zero at rs within enough h = step at rs within h (λ r more low high. absurd (omega (arith, low, high, enough)))
+  walk (suc fuel) at rs within enough h = step at rs within h (λ r more low high. walk fuel r.end (rs ++ r ∷ []) high (omega (arith, low, enough)) more)
+
+pub patch_or : (text : List ℕ) → PatchOr text
+patch_or text = by (cases_lt patch_limit (length text))
+  where
+    by : (patch_limit < length text) ⊎ (length text ≤ patch_limit) → PatchOr text
+    by (inl long) = inr (_, patch.too_long long refl)
+    by (inr short) = walk text short (length text) 0 [] (omega arith) (omega arith) (refl, tt)
+
+-- ---- streams
+
+not_both : (r : PlacedRow) (rs : List PlacedRow) → r ∷ rs ≡ [] → ⊥
+not_both r rs e = cc
+
+abbrev pub StreamOr : List ℕ → Type 0
+StreamOr text = ((ms : List Meaning) × IsStream text ms) ⊎ ((fault : PatchFault) × IsStreamFault text fault)
+
+-- the rows up to a place were cut, and all patches but the last are complete
+abbrev HasCutUp : List ℕ → ℕ → List PlacedRow → List Meaning → Type 0
+HasCutUp text at rs ms = RowsUpTo text 0 rs at × ArePatches (cut rs).done (cut rs).last.from ms × ((cut rs).last.rows_ ≡ [] → rs ≡ [])
+
+module _ (text : List ℕ) where
+  -- the last patch stops, and has a fault
+  breaks : (at to : ℕ) (rs : List PlacedRow) (ms : List Meaning) (stop : ℕ) (broken : Option RowKind) → HasCutUp text at rs ms → Gap text at to → StopsAt text (cut rs).last to stop broken
+      → (fault : PatchFault) × stream.IsPartFault (cut rs).last stop broken fault → StreamOr text
+  breaks at to rs ms stop broken h gap stops fault = inr (
+    fault.0,
+    record {
+      rows_ = rs;
+      to = to;
+      reads = (at, h.0, gap);
+      before = ms;
+      well = h.1;
+      stop = stop;
+      broken = broken;
+      stops = stops;
+      fault_is = fault.1;
+    },
+  )
+
+  empty : (at : ℕ) (rs : List PlacedRow) (ms : List Meaning) → RowsUpTo text 0 rs at → Gap text at (length text) → rs ≡ [] → StreamOr text
+  empty at [] ms up gap none = inl ([], record { rows_ = []; reads = (at, up, gap); stream = refl })
+  empty at (r ∷ rs) ms up gap none = absurd cc
+
+  stream_ended : (at to : ℕ) (rs : List PlacedRow) (ms : List Meaning) → HasCutUp text at rs ms → Gap text at to → to ≡ length text → StreamOr text
+  stream_ended at to rs ms h gap last = by (cut rs).last.rows_ refl
+    where
+      whole : has_some (cut rs).last.rows_ ≡ true → ((cut rs).last.rows_ ≡ [] → ⊥)
+          → ((m : Meaning) × IsWell (said (cut rs).last.rows_) m × (to ≤ (cut rs).last.from + patch_limit)) ⊎ ((fault : PatchFault) × stream.IsPartFault (cut rs).last to None fault) → StreamOr text
+      whole some not_none (inl m) = inl (
+        ms ++ m.0 ∷ [],
+        record {
+          rows_ = rs;
+          reads = (at, h.0, subst (Gap text at) last gap);
+          stream = stream_by rs (length text) (ms ++ m.0 ∷ []) some (subst (λ (n : ℕ). ArePatches ((cut rs).done ++ (cut rs).last ∷ []) n (ms ++ m.0 ∷ [])) last (patches_more (cut rs).done (cut rs).last ms m.0 to h.1 m.1 m.2));
+        },
+      )
+      whole some not_none (inr fault) = breaks at to rs ms to None h gap (stream.over last not_none refl refl) fault
+
+      by : (l : List PlacedRow) → (cut rs).last.rows_ ≡ l → StreamOr text
+      by [] none = empty at rs ms h.0 (subst (Gap text at) last gap) (h.2 none)
+      by (r ∷ l) is = whole (ap has_some is) (λ none. not_both r l (sym is ∙ none)) (part_settled (cut rs).last to)
+
+  with_row : (at to : ℕ) (rs : List PlacedRow) (ms : List Meaning) (r : PlacedRow) → HasCutUp text at rs ms → Gap text at r.at → IsRowAt text r.at r.row r.end → (b : Bool) → begins (said (cut rs).last.rows_) (role r.row) ≡ b
+      → ((ns : List Meaning) → HasCutUp text r.end (rs ++ r ∷ []) ns → StreamOr text) → StreamOr text
+  with_row at to rs ms r h gap is false same further =
+      let e = cut_longer rs r same in
+      further ms (
+        rows_more text 0 at rs r h.0 gap is,
+        subst (λ (c : Cut). ArePatches c.done c.last.from ms) (sym e) h.1,
+        λ none. absurd (not_empty (cut rs).last.rows_ r (sym (ap (λ (c : Cut). c.last.rows_) e) ∙ none)),
+      )
+  with_row at to rs ms r h gap is true first further = by (part_settled (cut rs).last r.at)
+    where
+      by : ((m : Meaning) × IsWell (said (cut rs).last.rows_) m × (r.at ≤ (cut rs).last.from + patch_limit)) ⊎ ((fault : PatchFault) × stream.IsPartFault (cut rs).last r.at None fault) → StreamOr text
+      by (inr fault) = breaks at r.at rs ms r.at None h gap (stream.next r.row r.end is first refl refl) fault
+      by (inl m) =
+          let e = cut_begun rs r first in
+          further (ms ++ m.0 ∷ []) (
+            rows_more text 0 at rs r h.0 gap is,
+            subst (λ (c : Cut). ArePatches c.done c.last.from (ms ++ m.0 ∷ [])) (sym e) (patches_more (cut rs).done (cut rs).last ms m.0 r.at h.1 m.1 m.2),
+            λ none. absurd (not_both r [] (sym (ap (λ (c : Cut). c.last.rows_) e) ∙ none)),
+          )
+
+  stream_step : (at : ℕ) (rs : List PlacedRow) (ms : List Meaning) → at ≤ length text → HasCutUp text at rs ms
+      → ((r : PlacedRow) (ns : List Meaning) → HasCutUp text r.end (rs ++ r ∷ []) ns → at < r.end → r.end ≤ length text → StreamOr text) → StreamOr text
+  stream_step at rs ms within h further = by (next_there text at within)
+    where
+      by : (to : ℕ) × Gap text at to × There text to → StreamOr text
+      by (to, gap, over last) = stream_ended at to rs ms h gap last
+      by (to, gap, no_row kind place none) = breaks at to rs ms place (Some kind) h gap (stream.no_row kind none refl) (broken_settled (cut rs).last place kind)
+      by (to, gap, row_ r end is low high) =
+          let order = gap.1 in
+          with_row at to rs ms (placed r to end) h gap is (begins (said (cut rs).last.rows_) (role r)) refl (λ ns more. further (placed r to end) ns more (omega (arith, order, low)) high)
+
+  stream_walk : (fuel at : ℕ) (rs : List PlacedRow) (ms : List Meaning) → at ≤ length text → length text ≤ at + fuel → HasCutUp text at rs ms → StreamOr text
+  stream_walk zero at rs ms within enough h = stream_step at rs ms within h (λ r ns more low high. absurd (omega (arith, low, high, enough)))
+  stream_walk (suc fuel) at rs ms within enough h = stream_step at rs ms within h (λ r ns more low high. stream_walk fuel r.end (rs ++ r ∷ []) ns high (omega (arith, low, enough)) more)
+
+pub stream_or : (text : List ℕ) → StreamOr text
+stream_or text = stream_walk text (length text) 0 [] [] (omega arith) (omega arith) (refl, tt, λ none. refl)
