@@ -4,7 +4,7 @@ ghost use Rattle.std.specs.List.{AllByRecursion};
 ghost use Rattle.delta_base.specs.Outside.{Rose};
 ghost use Rattle.disk_model.specs.Past.{reads, ok_syncs, EveryImage, LeavesOnly, Keeps};
 ghost use Rattle.log_journal.specs.File.{Holds};
-ghost use Rattle.chain_core.specs.Patches.{patches_of, texts_of, journal_length};
+ghost use Rattle.chain_core.specs.Patches.{patches_of, texts_of, version_of, journal_length};
 ghost use Rattle.chain_core.specs.Decision.{decision};
 ghost use Rattle.chain_core.specs.Log.{up};
 ghost use Rattle.chain_core.specs.Stay.{Stay, fate_by_syncs};
@@ -16,7 +16,7 @@ use crate::indexed::IndexedChain;
 use crate::opening::read_log;
 use crate::ready::Ready;
 use chain_core::{Chain, Decision, Link, LogAnswer, LogLimits, Patch};
-use delta_base::OutOfMemory;
+use delta_base::{Id, OutOfMemory};
 use disk_model::Disk;
 use log_journal::{Journal, OpenRefusal, Phase, make_block, write};
 use patch_meaning::Checked;
@@ -102,6 +102,13 @@ impl<D: Disk> LogState<D> {
         ensures stands { D.tells → StandsForLog (D.past self.now.disk) self.now.number self.now.limits (patches_of self.now.entries) self.now.doubt }
     {
         self.chain.chain()
+    }
+
+    /// The version of the patch with an id, found by the index.
+    pub fn version_of(&self, id: Id) -> Option<u32>
+        ensures { result ≡ version_of (patches_of self.now.entries) id }
+    {
+        self.chain.version_of(id)
     }
 
     /// How often its disk has failed.
