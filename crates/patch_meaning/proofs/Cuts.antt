@@ -8,7 +8,7 @@ use Rattle.patch_meaning.specs.declared.fault.PatchFault.{PatchFault}
 use Rattle.patch_meaning.specs.declared.part.Part.{Part as PartRead}
 use Rattle.patch_meaning.specs.declared.part.StreamPatch.{StreamPatch}
 use Rattle.patch_meaning.specs.declared.role.Role.{Role}
-use Rattle.patch_meaning.specs.Cutting.{IsCutInto, Begins, GoesOn, IsCutAt, IsLeft, HasTakenNext, IsFaultOf, IsBrokenBefore, IsLast, EndsStream, IsBrokenAtEnd, meanings_of}
+use Rattle.patch_meaning.specs.Cutting.{IsCutInto, Begins, GoesOn, IsCutAt, IsLeft, HasTakenNext, IsFaultOf, IsBrokenBefore, IsLast, EndsStream, IsBrokenAtEnd}
 use Rattle.patch_meaning.specs.PartRead.{HasPart, IsComplete, meaning_of}
 use Rattle.patch_meaning.specs.Patch.{Meaning, IsWell, patch_limit, has_some}
 use Rattle.patch_meaning.specs.Roles.{role, said}

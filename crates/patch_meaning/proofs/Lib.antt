@@ -2,6 +2,7 @@ pub mod Cuts
 pub mod Drafts
 pub mod Exists
 pub mod FaultPlaces
+pub mod Joined
 pub mod OneStream
 pub mod Parts
 pub mod Pieces

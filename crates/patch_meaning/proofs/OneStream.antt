@@ -1,5 +1,5 @@
 -- A text is a stream of one list of patches at most, and never one with a fault.
-use Rattle.std.proofs.Common.{◌≡◌, ℕ, ◌+◌, ◌<◌, ◌≤◌, Bool, true, false, cond, List, [], ◌∷◌, ◌++◌, length, Some, None, Option, refl, sym, ap, subst, ◌∙◌, append_assoc, arith}
+use Rattle.std.proofs.Common.{◌≡◌, ℕ, ◌+◌, ◌≤◌, Bool, true, false, cond, List, [], ◌∷◌, ◌++◌, length, Some, None, Option, refl, sym, ap, subst, ◌∙◌, append_assoc, arith}
 use Rattle.std.specs.Prelude.{fold}
 use Rattle.std.proofs.lemmas.List.{map-append}
 use Rattle.std.proofs.lemmas.List.Sums.{fold-append}
@@ -8,12 +8,9 @@ use Rattle.patch_rows.specs.declared.row.Row.{Row}
 use Rattle.patch_rows.specs.Grammar.{IsRowAt}
 use Rattle.patch_meaning.specs.declared.fault.PatchFault.{PatchFault}
 use Rattle.patch_meaning.specs.declared.fault.Refusal.{Refusal}
-use Rattle.patch_meaning.specs.declared.role.Role.{Role}
 use Rattle.patch_meaning.specs.Patch.{Meaning, IsWell, AreTaken, refusal, patch_limit}
-use Rattle.patch_meaning.specs.Roles.{role, said, ids_of, is_open}
+use Rattle.patch_meaning.specs.Roles.{role, said, is_open}
 use Rattle.patch_reader.specs.declared.placed.PlacedRow.{PlacedRow}
-use Rattle.patch_reader.specs.Rows.{NoRowAt}
-use Rattle.patch_meaning.specs.Rows.{RowsTo}
 use Rattle.patch_meaning.specs.Stream.{Part, Cut, ArePatches, AreStream, IsStream, IsPartFault, IsStreamFault, StopsAt, begins, cut, cut_with, stop_of, too_long, refused, open_block, no_id, next, over}
 use Rattle.patch_meaning.specs.Stream as stream
 use Rattle.patch_meaning.proofs.SameRows.{Compared, same, shorter, longer, compared, one_row_at, no_fault_there, none_at_end}
@@ -103,6 +100,11 @@ step_on c d r false (q, qs, parts, from) = (q, qs, parts, from)
 goes_on : (c : Cut) (rs : List PlacedRow) → GoOn c (fold cut_with c rs)
 goes_on c [] = (c.last, [], refl, refl)
 goes_on c (r ∷ rs) = step_on c (fold cut_with c (r ∷ rs)) r (begins (said c.last.rows_) (role r.row)) (goes_on (cut_with c r) rs)
+
+-- the first patch begins where the text does
+pub first_from : (rs : List PlacedRow) (stop : ℕ) → stop_of (parts_of (cut rs)) stop ≡ 0
+first_from rs stop =
+    let on = goes_on (record { done = []; last = record { from = 0; rows_ = [] } }) rs in ap (λ (parts : List Part). stop_of parts stop) on.2 ∙ on.3
 
 -- where the next part begins with a row, the part before it stops there
 good_cut : (rs more : List PlacedRow) (r : PlacedRow) (stop : ℕ) (ms : List Meaning) → begins (said (cut rs).last.rows_) (role r.row) ≡ true → ArePatches (parts_of (cut (rs ++ r ∷ more))) stop ms → IsGood (cut rs).last r.at

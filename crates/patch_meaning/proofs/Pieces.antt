@@ -1,5 +1,5 @@
 -- A patch of a stream is a patch by itself: its rows stand in its own text as they do in the stream.
-use Rattle.std.proofs.Common.{◌≡◌, ℕ, ◌+◌, ◌-◌, ◌<◌, ◌≤◌, Bool, true, false, ◌||◌, cond, List, [], ◌∷◌, ◌++◌, length, map, drop, nat_eq, refl, sym, ap, subst, ◌∙◌, arith}
+use Rattle.std.proofs.Common.{◌≡◌, ℕ, ◌+◌, ◌-◌, ◌≤◌, Bool, true, false, ◌||◌, cond, List, [], ◌∷◌, ◌++◌, length, map, drop, nat_eq, refl, sym, ap, subst, ◌∙◌, arith}
 use Rattle.std.specs.Prelude.{fold}
 use Rattle.std.specs.List.{slice_range}
 use Rattle.std.proofs.lemmas.List.{length-append, length-drop, drop-drop, drop-append-le}
@@ -15,8 +15,8 @@ use Rattle.patch_meaning.specs.declared.role.Role.{Role}
 use Rattle.patch_meaning.specs.Patch.{Meaning, IsPatch, IsWell, patch_limit}
 use Rattle.patch_meaning.specs.Roles.{role, said}
 use Rattle.patch_meaning.specs.Rows.{RowsTo}
-use Rattle.patch_meaning.specs.Stream.{Cut, begins, cut, cut_with}
-use Rattle.patch_meaning.proofs.Cuts.{begun, longer}
+use Rattle.patch_meaning.specs.Stream.{Part, Cut, begins, cut, cut_with, stop_of}
+use Rattle.patch_meaning.proofs.Cuts.{begun, longer, stop_more}
 use Rattle.patch_meaning.proofs.Rowed.{rows_more, row_within, rows_order}
 use Rattle.patch_meaning.proofs.Slices.{row_shorter, space_shorter}
 
@@ -120,14 +120,33 @@ gap_there : (text : List ℕ) (from at : ℕ) → Gap text from at → Gap text 
 gap_there text from at gap =
     (subst (Space (drop at text)) (still (drop at text) (none_behind (drop from text) (drop at text) gap.0)) (skipped (drop at text)), omega arith, gap.2)
 
-fold_rows : (text : List ℕ) (c : Cut) (at to : ℕ) (rs : List PlacedRow) → RowsUpTo text c.last.from c.last.rows_ at → RowsUpTo text at rs to
-    → RowsUpTo text (fold cut_with c rs).last.from (fold cut_with c rs).last.rows_ to
-fold_rows text c at to [] last up = subst (RowsUpTo text c.last.from c.last.rows_) up last
-fold_rows text c at to (r ∷ rs) last up = fold_rows text (cut_with c r) r.end to rs (one (begins (said c.last.rows_) (role r.row))) up.2
+-- each part is read up to where the next one begins, or to this place
+abbrev pub AreRead : List ℕ → List Part → ℕ → Type 0
+AreRead text [] stop = Unit {0}
+AreRead text (part ∷ parts) stop = RowsTo text part.from part.rows_ (stop_of parts stop) × AreRead text parts stop
+
+read_more : (text : List ℕ) (done : List Part) (last : Part) (stop : ℕ) → AreRead text done last.from → RowsTo text last.from last.rows_ stop → AreRead text (done ++ last ∷ []) stop
+read_more text [] last stop are up = (up, tt)
+read_more text (part ∷ done) last stop are up = (subst (RowsTo text part.from part.rows_) (sym (stop_more done last stop)) are.0, read_more text done last stop are.1 up)
+
+-- the rows up to a place are those of the parts
+pub record IsCutUp (text : List ℕ) (at : ℕ) (c : Cut) : Type 0 where
+  pub done : AreRead text c.done c.last.from
+  pub last : RowsUpTo text c.last.from c.last.rows_ at
+
+fold_read : (text : List ℕ) (c : Cut) (at to : ℕ) (rs : List PlacedRow) → IsCutUp text at c → RowsUpTo text at rs to → IsCutUp text to (fold cut_with c rs)
+fold_read text c at to [] k up = subst (λ (n : ℕ). IsCutUp text n c) up k
+fold_read text c at to (r ∷ rs) k up = fold_read text (cut_with c r) r.end to rs (one (begins (said c.last.rows_) (role r.row))) up.2
   where
-    one : (b : Bool) → RowsUpTo text (cond b (begun c r) (longer c r)).last.from (cond b (begun c r) (longer c r)).last.rows_ r.end
-    one true = (gap_there text at r.at up.0, up.1, refl)
-    one false = rows_more text c.last.from at c.last.rows_ r last up.0 up.1
+    one : (b : Bool) → IsCutUp text r.end (cond b (begun c r) (longer c r))
+    one true = record { done = read_more text c.done c.last r.at k.done (at, k.last, up.0); last = (gap_there text at r.at up.0, up.1, refl) }
+    one false = record { done = k.done; last = rows_more text c.last.from at c.last.rows_ r k.last up.0 up.1 }
+
+cut_read : (text : List ℕ) (rs : List PlacedRow) (at : ℕ) → RowsUpTo text 0 rs at → IsCutUp text at (cut rs)
+cut_read text rs at up = fold_read text (record { done = []; last = record { from = 0; rows_ = [] } }) 0 at rs (record { done = tt; last = refl }) up
 
 pub last_rows : (text : List ℕ) (rs : List PlacedRow) (at : ℕ) → RowsUpTo text 0 rs at → RowsUpTo text (cut rs).last.from (cut rs).last.rows_ at
-last_rows text rs at up = fold_rows text (record { done = []; last = record { from = 0; rows_ = [] } }) 0 at rs refl up
+last_rows text rs at up = (cut_read text rs at up).last
+
+pub all_read : (text : List ℕ) (rs : List PlacedRow) (stop : ℕ) → RowsTo text 0 rs stop → AreRead text ((cut rs).done ++ (cut rs).last ∷ []) stop
+all_read text rs stop (behind, up, gap) = let k = cut_read text rs behind up in read_more text (cut rs).done (cut rs).last stop k.done (behind, k.last, gap)

@@ -1,5 +1,5 @@
 -- A row is read alike in front of less text: each condition of the grammar that speaks of what stands behind holds for less of it too.
-use Rattle.std.proofs.Common.{◌≡◌, ℕ, ◌<◌, ◌≤◌, Bool, List, [], ◌∷◌, ◌++◌, length, nat_eq, Option, Some, None, sym, ap, subst, refl, ◌∙◌, inl, inr, arith, append_assoc}
+use Rattle.std.proofs.Common.{◌≡◌, ℕ, Bool, List, [], ◌∷◌, ◌++◌, length, nat_eq, Option, Some, None, sym, ap, subst, refl, ◌∙◌, inl, inr, arith, append_assoc}
 use Rattle.std.proofs.lemmas.List.{append_cancel_right, length-append}
 use Rattle.std.specs.Char.{is_ascii_alphabetic}
 use Rattle.rdf_terms.specs.declared.term.Literal.{Literal}

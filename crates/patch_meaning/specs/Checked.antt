@@ -1,5 +1,5 @@
 -- A checked patch, as contracts see it.
-use Rattle.std.specs.Prelude.{◌≡◌, ◌⊎◌, ℕ, List, Option, Some, length, map}
+use Rattle.std.specs.Prelude.{◌≡◌, ◌⊎◌, ℕ, List, [], ◌∷◌, Option, Some, length, map}
 use Rattle.delta_base.specs.declared.id.Id.{Id}
 use Rattle.rdf_terms.specs.declared.change.Change.{Change}
 use Rattle.patch_meaning.specs.declared.draft.Draft.{Draft}
@@ -9,7 +9,7 @@ use Rattle.patch_meaning.specs.declared.fault.Refusal.{Refusal}
 use Rattle.patch_meaning.specs.declared.role.Role.{Role}
 use Rattle.patch_meaning.specs.declared.rows.Next.{Next}
 use Rattle.patch_meaning.specs.Draft.{Stands}
-use Rattle.patch_meaning.specs.Patch.{Meaning, IsPatchFault, refusal, refused_at}
+use Rattle.patch_meaning.specs.Patch.{Meaning, IsPatch, IsPatchFault, refusal, refused_at}
 use Rattle.patch_meaning.specs.Roles.{said}
 use Rattle.patch_reader.specs.declared.placed.PlacedRow.{PlacedRow}
 use Rattle.patch_meaning.specs.Rows.{RowsTo}
@@ -29,6 +29,11 @@ meanings ps = map (λ p. p.meaning) ps
 -- their texts
 abbrev pub texts : List CheckedPatch → List (List ℕ)
 texts ps = map (λ p. p.text) ps
+
+-- each text is a patch that says this
+abbrev pub AreChecked : List CheckedPatch → Type 0
+AreChecked [] = Unit {0}
+AreChecked (p ∷ ps) = IsPatch p.text p.meaning × AreChecked ps
 
 -- the first fault of a text that is no patch; want of memory is free
 abbrev pub Refuses : List ℕ → PatchFault → Type 0

@@ -1,9 +1,9 @@
-use Rattle.std.proofs.Common.{ℕ, subst, sym, arith}
+use Rattle.std.proofs.Common.{subst, arith}
 use Rattle.std.proofs.lemmas.Result.{err_from_is_err_and}
-use Rattle.patch_meaning.specs.Cutting.{HasCut, IsNextOf}
+use Rattle.patch_meaning.specs.Cutting.{IsNextOf}
 use Rattle.patch_meaning.proofs.Cuts.{if_ok}
 use Rattle.patch_meaning.proofs.Read.{further}
-use Rattle.patch_meaning.proofs.Splits.{begun_text, stopped_there, gap_left, is_stream}
+use Rattle.patch_meaning.proofs.Splits.{stopped_there, gap_left, is_stream}
 use Rattle.patch_meaning.proofs.stream.split_stream.Goals as goal
 
 pub returns-in_err-next-clause-fault : goal.returns-in_err-next-clause-fault

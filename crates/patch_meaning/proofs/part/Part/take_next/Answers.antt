@@ -1,5 +1,4 @@
-use Rattle.std.proofs.Common.{Option, sym, subst}
-use Rattle.patch_meaning.specs.declared.part.StreamPatch.{StreamPatch}
+use Rattle.std.proofs.Common.{sym, subst}
 use Rattle.patch_meaning.specs.Cutting.{IsCutAt}
 use Rattle.patch_meaning.proofs.Cuts.{if_ok, taken_result}
 use Rattle.patch_meaning.proofs.part.Part.take_next.Goals as goal
