@@ -68,7 +68,7 @@ fn short_row(alloc: Global, text: &[u8], at: usize) -> Result<Option<(Row, usize
     ensures { Decides text.now at result }
 {
     match row(alloc, text, at) {
-        Ok((row, end)) => Ok(Some((row, end))),
+        Ok(found) => Ok(Some(found)),
         Err(RowFault::At { at: place, kind }) => {
             if ends(text, place as usize, kind) {
                 return Ok(None);
@@ -79,6 +79,19 @@ fn short_row(alloc: Global, text: &[u8], at: usize) -> Result<Option<(Row, usize
     }
 }
 
+/// The row at a place behind which more bytes stand than a row may have, which is decided.
+#[inline(never)]
+fn long_row(alloc: Global, text: &[u8], at: usize) -> Result<Option<(Row, usize)>, RowFault>
+    requires low { at ≤ length text.now }
+    requires long { row_limit < length (drop at text.now) }
+    ensures { Decides text.now at result }
+{
+    match front_row(alloc, text, at) {
+        Ok(found) => Ok(Some(found)),
+        Err(fault) => Err(fault),
+    }
+}
+
 /// The row at a place and the place behind it where the text decides them, whatever follows it, and none where more text decides; else the
 /// row's first fault, decided likewise.
 pub fn decided_row(alloc: Global, text: &[u8], at: usize) -> Result<Option<(Row, usize)>, RowFault>
@@ -86,10 +99,7 @@ pub fn decided_row(alloc: Global, text: &[u8], at: usize) -> Result<Option<(Row,
     ensures { Decides text.now at result }
 {
     if is_long(text, at) {
-        return match front_row(alloc, text, at) {
-            Ok((row, end)) => Ok(Some((row, end))),
-            Err(fault) => Err(fault),
-        };
+        return long_row(alloc, text, at);
     }
     short_row(alloc, text, at)
 }
