@@ -253,6 +253,17 @@ fn run(text: &[u8], inside: Inside) -> Inside
     }
 }
 
+/// Whether the one place leads to another kind of place.
+fn is_next(from: Inside, to: Inside) -> bool {
+    match from {
+        Inside::String { .. } => matches!(to, Inside::Suffix { .. }),
+        Inside::Suffix { .. } => matches!(to, Inside::Blanks { .. } | Inside::Tag { .. }),
+        Inside::Blanks { .. } => matches!(to, Inside::Datatype { .. }),
+        Inside::Datatype { .. } => matches!(to, Inside::Iri { .. }),
+        _ => false,
+    }
+}
+
 /// As far as the token goes on.
 pub fn pass(text: &[u8], inside: Inside) -> Inside
     requires { IsInsideWithin (length text.now) inside }
@@ -261,7 +272,11 @@ pub fn pass(text: &[u8], inside: Inside) -> Inside
 {
     let mut inside = inside;
     for _ in 0..STAGES {
-        inside = run(text, inside);
+        let next = run(text, inside);
+        if !is_next(inside, next) {
+            return next;
+        }
+        inside = next;
     }
     inside
 }

@@ -47,7 +47,7 @@ fn whole_row(alloc: Global, text: &[u8], at: usize) -> Result<Option<(Row, usize
         return Ok(None);
     }
     match read_row(alloc, text, at) {
-        Ok((row, end)) => Ok(Some((row, end))),
+        Ok(found) => Ok(Some(found)),
         Err(fault) => Err(fault),
     }
 }

@@ -60,15 +60,31 @@ fn front_row(alloc: Global, text: &[u8], at: usize) -> Result<(Row, usize), RowF
     }
 }
 
-/// The row at a place behind which no more bytes stand than a row may have.
-#[tactic(auto, using(crate::proofs::Answered::answered))]
-fn short_row(alloc: Global, text: &[u8], at: usize) -> Result<Option<(Row, usize)>, RowFault>
+/// The row at a place behind which more bytes stand than a row may have, which is decided.
+#[inline(never)]
+fn long_row(alloc: Global, text: &[u8], at: usize) -> Result<Option<(Row, usize)>, RowFault>
     requires low { at ≤ length text.now }
-    requires short { length (drop at text.now) ≤ row_limit }
+    requires long { row_limit < length (drop at text.now) }
     ensures { Decides text.now at result }
 {
+    match front_row(alloc, text, at) {
+        Ok(found) => Ok(Some(found)),
+        Err(fault) => Err(fault),
+    }
+}
+
+/// The row at a place and the place behind it where the text decides them, whatever follows it, and none where more text decides; else the
+/// row's first fault, decided likewise.
+#[tactic(auto, using(crate::proofs::Answered::answered))]
+pub fn decided_row(alloc: Global, text: &[u8], at: usize) -> Result<Option<(Row, usize)>, RowFault>
+    requires { at ≤ length text.now }
+    ensures { Decides text.now at result }
+{
+    if is_long(text, at) {
+        return long_row(alloc, text, at);
+    }
     match row(alloc, text, at) {
-        Ok((row, end)) => Ok(Some((row, end))),
+        Ok(found) => Ok(Some(found)),
         Err(RowFault::At { at: place, kind }) => {
             if ends(text, place as usize, kind) {
                 return Ok(None);
@@ -77,21 +93,6 @@ fn short_row(alloc: Global, text: &[u8], at: usize) -> Result<Option<(Row, usize
         }
         Err(RowFault::OutOfMemory) => Err(RowFault::OutOfMemory),
     }
-}
-
-/// The row at a place and the place behind it where the text decides them, whatever follows it, and none where more text decides; else the
-/// row's first fault, decided likewise.
-pub fn decided_row(alloc: Global, text: &[u8], at: usize) -> Result<Option<(Row, usize)>, RowFault>
-    requires { at ≤ length text.now }
-    ensures { Decides text.now at result }
-{
-    if is_long(text, at) {
-        return match front_row(alloc, text, at) {
-            Ok((row, end)) => Ok(Some((row, end))),
-            Err(fault) => Err(fault),
-        };
-    }
-    short_row(alloc, text, at)
 }
 
 /// A row within its limit, read from left to right.

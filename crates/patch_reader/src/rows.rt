@@ -1,7 +1,8 @@
-//! Rows whose text may go on, by their codes.
+//! Rows whose text may go on, by their codes. Each kind of row has a function of its own, so that a row pays for its own parts alone.
 
 ghost use Rattle.std.specs.Prelude.{◌≡◌, ◌≤◌, ◌<◌, length, drop, true, false, IfOk};
 ghost use Rattle.rdf_terms.specs.Quad.{may_be_graph};
+ghost use Rattle.patch_rows.specs.declared.codes.Code.TheVariants as codes;
 ghost use Rattle.patch_rows.specs.Fault.{Gives, Ends};
 ghost use Rattle.patch_rows.specs.Reading.{skip_space as behind_space, dot_at, end_at};
 ghost use Rattle.patch_reader.specs.Live.{live_graph_or_dot, live_graph, live_header, live_bare, live_quad, live_added, live_removed, live_parts, live_row};
@@ -75,6 +76,7 @@ fn graph(alloc: Global, text: &[u8], at: usize) -> Result<(Option<Term>, usize),
 }
 
 /// The parts of a header row.
+#[inline(never)]
 #[tactic(auto, unfolding(crate::specs::Live::live_header))]
 fn header(alloc: Global, text: &[u8], at: usize) -> Result<(Row, usize), RowFault>
     requires { at ≤ length text.now }
@@ -87,6 +89,7 @@ fn header(alloc: Global, text: &[u8], at: usize) -> Result<(Row, usize), RowFaul
 }
 
 /// The end of a row without parts.
+#[inline(never)]
 #[tactic(auto, unfolding(crate::specs::Live::live_bare))]
 fn bare(text: &[u8], at: usize, change: Change) -> Result<(Row, usize), RowFault>
     requires { at ≤ length text.now }
@@ -97,6 +100,7 @@ fn bare(text: &[u8], at: usize, change: Change) -> Result<(Row, usize), RowFault
 }
 
 /// The quad of a row that adds or deletes one.
+#[inline(always)]
 #[tactic(auto, unfolding(crate::specs::Live::live_quad))]
 fn quad(alloc: Global, text: &[u8], at: usize) -> Result<(Quad, usize), RowFault>
     requires { at ≤ length text.now }
@@ -109,7 +113,34 @@ fn quad(alloc: Global, text: &[u8], at: usize) -> Result<(Quad, usize), RowFault
     Ok((Quad::of_checked(subject, predicate, object, graph), behind))
 }
 
+/// The parts of a row that adds a quad.
+#[inline(never)]
+#[tactic(auto, unfolding(crate::specs::Live::live_parts))]
+fn add(alloc: Global, text: &[u8], at: usize) -> Result<(Row, usize), RowFault>
+    requires { at ≤ length text.now }
+    ensures { Gives text.now result (live_parts codes.Add (drop at text.now)) }
+{
+    match quad(alloc, text, at) {
+        Ok((quad, behind)) => Ok((Row::Change(Change::Add(quad)), behind)),
+        Err(fault) => Err(fault),
+    }
+}
+
+/// The parts of a row that deletes a quad.
+#[inline(never)]
+#[tactic(auto, unfolding(crate::specs::Live::live_parts))]
+fn delete(alloc: Global, text: &[u8], at: usize) -> Result<(Row, usize), RowFault>
+    requires { at ≤ length text.now }
+    ensures { Gives text.now result (live_parts codes.Delete (drop at text.now)) }
+{
+    match quad(alloc, text, at) {
+        Ok((quad, behind)) => Ok((Row::Change(Change::Delete(quad)), behind)),
+        Err(fault) => Err(fault),
+    }
+}
+
 /// The parts of a row that sets a prefix.
+#[inline(never)]
 #[tactic(auto, unfolding(crate::specs::Live::live_added))]
 fn added(alloc: Global, text: &[u8], at: usize) -> Result<(Row, usize), RowFault>
     requires { at ≤ length text.now }
@@ -125,6 +156,7 @@ fn added(alloc: Global, text: &[u8], at: usize) -> Result<(Row, usize), RowFault
 }
 
 /// The parts of a row that removes a prefix.
+#[inline(never)]
 #[tactic(auto, unfolding(crate::specs::Live::live_removed))]
 fn removed(alloc: Global, text: &[u8], at: usize) -> Result<(Row, usize), RowFault>
     requires { at ≤ length text.now }
@@ -148,14 +180,8 @@ fn parts(alloc: Global, code: Code, text: &[u8], at: usize) -> Result<(Row, usiz
         Code::Abort => bare(text, at, Change::Abort),
         Code::PrefixAdd => added(alloc, text, at),
         Code::PrefixDelete => removed(alloc, text, at),
-        Code::Add => {
-            let (quad, behind) = quad(alloc, text, at)?;
-            Ok((Row::Change(Change::Add(quad)), behind))
-        }
-        Code::Delete => {
-            let (quad, behind) = quad(alloc, text, at)?;
-            Ok((Row::Change(Change::Delete(quad)), behind))
-        }
+        Code::Add => add(alloc, text, at),
+        Code::Delete => delete(alloc, text, at),
     }
 }
 

@@ -168,6 +168,7 @@ pub fn term(alloc: Global, text: &[u8], at: usize) -> Result<(Term, usize), RowF
 }
 
 /// The same, unless it is a label that more text may change.
+#[inline(always)]
 fn unless_open(text: &[u8], at: usize, term: Term, end: usize) -> Result<(Term, usize), RowFault>
     requires begins { at ≤ length text.now }
     requires within { end ≤ length text.now }

@@ -1,9 +1,11 @@
-use Rattle.std.proofs.Common.{Ok, Err}
-use Rattle.patch_reader.proofs.Answered.{front_decides}
+use Rattle.std.proofs.Common.{sym, subst, ◌∙◌, drop}
+use Rattle.patch_rows.specs.Fault.{Fails}
+use Rattle.patch_rows.specs.declared.fault.RowFault.{RowFault}
+use Rattle.patch_reader.specs.Live.{live_row}
+use Rattle.patch_reader.proofs.Answered.{fault_there}
 use Rattle.patch_reader.proofs.reading.decided_row.Goals as goal
 
-pub returns-in-Ok : goal.returns-in-Ok
-returns-in-Ok c = front_decides c.args.text.now c.args.at (Ok (c.in-Ok.row, c.in-Ok.end)) (c.is_long.ensures.long c.if-is_long.true) c.in-Ok.ensures
-
-pub returns-in-Err : goal.returns-in-Err
-returns-in-Err c = front_decides c.args.text.now c.args.at (Err c.in-Err.fault) (c.is_long.ensures.long c.if-is_long.true) c.in-Err.ensures
+pub returns-else-ends : goal.returns-else-ends
+returns-else-ends c =
+    let there = subst (λ (e : RowFault). Fails c.args.text.now e (live_row (drop c.args.at c.args.text.now))) c.in-Err-At.field-0-is c.in-Err-At.ensures in
+    fault_there c.args.text.now c.args.at c.in-Err-At.place c.in-Err-At.kind (c.is_long.ensures.short c.if-is_long.false) there.1 there.0 (sym c.ends.ensures ∙ c.if-ends.false)
