@@ -3,6 +3,7 @@ pub mod Drafts
 pub mod Exists
 pub mod FaultPlaces
 pub mod Joined
+pub mod OneFault
 pub mod OneStream
 pub mod Parts
 pub mod Pieces

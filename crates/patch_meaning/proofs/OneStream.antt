@@ -42,7 +42,7 @@ same_stream text ms ns p q = by (compared text 0 p.rows_ (length text) q.rows_ (
 -- ---- a part that is a patch has no fault
 
 -- the part is a patch that stops there
-abbrev IsGood : Part → ℕ → Type 0
+abbrev pub IsGood : Part → ℕ → Type 0
 IsGood part stop = (m : Meaning) × IsWell (said part.rows_) m × (stop ≤ part.from + patch_limit)
 
 some_none : {X : Type 0} (o : Option Refusal) (why : Refusal) → o ≡ None → o ≡ Some why → X
@@ -54,7 +54,7 @@ open_closed b e f = absurd cc
 not_broken : {X : Type 0} (broken : Option RowKind) (kind : RowKind) → broken ≡ None → broken ≡ Some kind → X
 not_broken broken kind e f = absurd cc
 
-good_part : (part : Part) (stop : ℕ) (broken : Option RowKind) (fault : PatchFault) → IsGood part stop → broken ≡ None → IsPartFault part stop broken fault → ⊥
+pub good_part : (part : Part) (stop : ℕ) (broken : Option RowKind) (fault : PatchFault) → IsGood part stop → broken ≡ None → IsPartFault part stop broken fault → ⊥
 good_part part stop broken fault good whole (too_long long is) = absurd (let short = good.2 in omega arith)
 good_part part stop broken fault good whole (refused before after r why short parts taken refuses is) =
     some_none (refusal (said before) (role r.row)) why
@@ -83,10 +83,10 @@ good_last (x ∷ xs) p stop (m ∷ ms) are = good_last xs p stop ms are.2
 abbrev parts_of : Cut → List Part
 parts_of c = c.done ++ c.last ∷ []
 
-abbrev begun : Cut → PlacedRow → Cut
+abbrev pub begun : Cut → PlacedRow → Cut
 begun c r = record { done = c.done ++ c.last ∷ []; last = record { from = r.at; rows_ = r ∷ [] } }
 
-abbrev grown : Cut → PlacedRow → Cut
+abbrev pub grown : Cut → PlacedRow → Cut
 grown c r = record { done = c.done; last = record { from = c.last.from; rows_ = c.last.rows_ ++ r ∷ [] } }
 
 -- the parts behind those that are complete begin where the last one does

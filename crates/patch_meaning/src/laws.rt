@@ -15,9 +15,10 @@ pub fn patches_are_settled()
     ensures some { (text : List ℕ) → ((m : Meaning) × IsPatch text m) ⊎ ((f : PatchFault) × IsPatchFault text f) }
 {}
 
-/// A text is a stream of one list of patches, or it has a first fault, and never both.
+/// A text is a stream of one list of patches, or it has one first fault, and never both.
 pub fn streams_are_settled()
     ensures one { (text : List ℕ) (ms ns : List Meaning) → IsStream text ms → IsStream text ns → ms ≡ ns }
+    ensures one_fault { (text : List ℕ) (f g : PatchFault) → IsStreamFault text f → IsStreamFault text g → f ≡ g }
     ensures apart { (text : List ℕ) (ms : List Meaning) (f : PatchFault) → IsStream text ms → IsStreamFault text f → ⊥ }
     ensures some { (text : List ℕ) → ((ms : List Meaning) × IsStream text ms) ⊎ ((f : PatchFault) × IsStreamFault text f) }
 {}
