@@ -11,3 +11,8 @@ mod value;
 pub use replies::{Fetched, LogInfo};
 pub use shared::{LogPass, SharedLog};
 pub use value::{LogFixed, LogValue};
+
+#[cfg(test)]
+mod race_tests;
+#[cfg(test)]
+mod tests;

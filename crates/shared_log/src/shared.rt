@@ -51,7 +51,7 @@ impl<D: Disk> SharedLog<D> {
         requires by_nobody { AllByRecursion (λ entry. entry.by ≡ 0) state.entries }
         ensures log { IfOk result (λ r. (r.0.origin ≡ state) × (r.0.seats ≡ seats)) }
         ensures passes { IfOk result (λ r. (vec_len r.1 ≡ seats) × (vec_capacity r.1 ≡ seats)) }
-        ensures new { IfOk result (λ r. (k : ℕ) (p : _) → slice_get r.1.items k ≡ Some p → IsNew r.0.cell (history_of state.entries) (fixed_of D.mark state) (k + 1) p) }
+        ensures new { IfOk result (λ r. (k : ℕ) (p : _) → slice_get r.1.items k ≡ Some p → IsNew r.0.cell (history_of r.0.origin.entries) (fixed_of D.mark r.0.origin) (k + 1) p) }
         ensures back { IfErr result (λ b. b.item ≡ state) }
     {
         match Turn::new(alloc, LogValue::of(state), seats) {
