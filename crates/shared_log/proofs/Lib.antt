@@ -1,0 +1,4 @@
+pub mod Histories
+pub mod Stays
+pub mod Telling
+mod Testing

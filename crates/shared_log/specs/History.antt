@@ -1,0 +1,32 @@
+-- A log as the passes of its turn know it.
+use Rattle.std.specs.Prelude.{ℕ, ◌<◌, ◌^◌, List, length, map, Option}
+use Rattle.disk_model.specs.Past.{Past}
+use Rattle.chain_core.specs.declared.chain.Patch.{Patch}
+use Rattle.chain_core.specs.declared.chain.Entry.{Entry}
+use Rattle.chain_core.specs.Patches.{patches_of}
+use Rattle.patch_log.specs.Log.{StandsForLog}
+use Rattle.patch_log.specs.State.{LogView}
+use Rattle.shared_log.specs.declared.value.LogFixed.{LogFixed}
+use Rattle.turn_cell.specs.declared.view.Entry.{Entry as Known}
+
+-- a patch, and the number of the pass that brought it
+abbrev pub entry_of : Patch → ℕ → Known Patch
+entry_of patch by = record { content = patch; by = by }
+
+abbrev pub history_of : List Entry → List (Known Patch)
+history_of entries = map (λ entry. entry_of entry.patch entry.by) entries
+
+-- the patches of a history
+abbrev pub chain_of : List (Known Patch) → List Patch
+chain_of history = map (λ known. known.content) history
+
+module _ {D : Type 0} where
+  -- what never changes
+  abbrev pub fixed_of : (D → Option (List ℕ × ℕ)) → LogView D → LogFixed
+  fixed_of mark log = record { number = log.number; limits = log.limits; mark = mark log.disk }
+
+  -- A log that may lie in a turn. If its disk tells its bytes, each image that a crash may leave holds the chain, with the patch
+  -- in doubt or without.
+  pub record Lies (tells : Type 0) (past : D → Past) (log : LogView D) : Type 0 where
+    pub few : length log.entries < 2 ^ 32
+    pub stands : tells → StandsForLog (past log.disk) log.number log.limits (patches_of log.entries) log.doubt

@@ -1,0 +1,5 @@
+pub mod Apart
+pub mod History
+pub mod Replies
+pub mod Stays
+pub mod Legal

@@ -1,0 +1,18 @@
+//! One log that threads share over a turn.
+//!
+//! Each thread has a pass of its own. A call takes the turn, asks the log or appends to it, and hands the turn on; how long
+//! the log is can be asked without waiting. What each call replies is told by `Legal` in `specs/`.
+#![tactic(auto)]
+
+mod replies;
+mod shared;
+mod value;
+
+pub use replies::{Fetched, LogInfo};
+pub use shared::{LogPass, SharedLog};
+pub use value::{LogFixed, LogValue};
+
+#[cfg(test)]
+mod race_tests;
+#[cfg(test)]
+mod tests;

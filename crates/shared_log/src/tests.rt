@@ -1,0 +1,201 @@
+//! Two passes of one log over a disk in memory.
+ghost use Rattle.std.specs.Prelude.{◌≡◌, ◌<◌, ◌≤◌, ◌^◌, [], IfOk, vec_capacity};
+ghost use Rattle.std.specs.List.{AllByRecursion};
+ghost use Rattle.disk_model.specs.Memory.{memory_mark};
+ghost use Rattle.shared_log.specs.Legal.{IsPassOf};
+
+use crate::{Fetched, LogPass, SharedLog};
+use chain_core::{LogAnswer, LogLimits};
+use delta_base::{Bytes, Id, Listing};
+use disk_model::MemDisk;
+use patch_log::LogState;
+use patch_meaning::check_patch;
+use std::alloc::Global;
+use std::sync::Wait;
+use std::test::Fail;
+
+const LIMITS: LogLimits = LogLimits {
+    patches: 65_536,
+    bytes: 67_108_864,
+};
+
+const EMPTY: &[u8] = b"RDJ1\0\0\0\x01\0";
+
+const FIRST: &[u8] =
+    b"H id <uuid:00000000-0000-4000-8000-000000000001> .\nTX .\nA <http://e/s> <http://e/p> <http://e/o> .\nTC .\n";
+
+const SECOND: &[u8] =
+    b"H id <uuid:00000000-0000-4000-8000-000000000002> .\nH prev <uuid:00000000-0000-4000-8000-000000000001> .\nTX .\nA <http://e/s> <http://e/p> <http://e/o2> .\nTC .\n";
+
+const THIRD: &[u8] =
+    b"H id <uuid:00000000-0000-4000-8000-000000000003> .\nH prev <uuid:00000000-0000-4000-8000-000000000001> .\nTX .\nA <http://e/s> <http://e/p> <http://e/o3> .\nTC .\n";
+
+// The id whose last digits are this number.
+fn id_of(number: u128) -> Id {
+    Id(0x0000_0000_0000_4000_8000_0000_0000_0000 | number)
+}
+
+// An empty log over a disk whose calls of these numbers fail.
+fn open(alloc: Global, failing: &[u64]) -> Result<LogState<MemDisk>, Fail>
+    ensures { IfOk result (λ log. AllByRecursion (λ entry. entry.by ≡ 0) log.entries) }
+{
+    let bytes = Bytes::from_slice(alloc, EMPTY)?;
+    let failing = Listing::from_vec(Vec::from_slice(alloc, failing)?);
+    let disk = MemDisk::from_image(alloc, bytes, failing)?;
+    match LogState::open_on(alloc, disk, 1, LIMITS) {
+        Ok(log) => Ok(log),
+        Err(_) => Err(Fail::from("not opened")),
+    }
+}
+
+// Two passes, and the room that they came in.
+#[derive(Drop)]
+pub(crate) struct Passes {
+    pub one: LogPass<MemDisk>,
+    pub two: LogPass<MemDisk>,
+    pub room: Vec<LogPass<MemDisk>>,
+}
+
+// A log that two passes share.
+pub(crate) fn share(alloc: Global, failing: &[u64]) -> Result<(SharedLog<MemDisk>, Passes), Fail>
+    ensures one { IfOk result (λ r. IsPassOf memory_mark r.0 r.1.one × (r.1.one.view.number ≡ 1) × (r.1.one.view.past ≡ [])) }
+    ensures two { IfOk result (λ r. IsPassOf memory_mark r.0 r.1.two × (r.1.two.view.number ≡ 2) × (r.1.two.view.past ≡ [])) }
+    ensures room { IfOk result (λ r. (r.0.seats ≡ 2) × (r.1.room.items ≡ []) × (2 ≤ vec_capacity r.1.room)) }
+{
+    let Ok((log, mut room)) = SharedLog::new(alloc, open(alloc, failing)?, 2) else {
+        return Err(Fail::from("no memory"));
+    };
+    let Some(two) = room.pop() else {
+        return Err(Fail::from("no pass 2"));
+    };
+    let Some(one) = room.pop() else {
+        return Err(Fail::from("no pass 1"));
+    };
+    Ok((log, Passes { one, two, room }))
+}
+
+// Gives both passes back.
+pub(crate) fn close(log: SharedLog<MemDisk>, passes: Passes) -> LogState<MemDisk>
+    requires one { IsPassOf memory_mark log passes.one × (passes.one.view.number ≡ 1) × (passes.one.view.past ≡ []) }
+    requires two { IsPassOf memory_mark log passes.two × (passes.two.view.number ≡ 2) × (passes.two.view.past ≡ []) }
+    requires room { (log.seats ≡ 2) × (passes.room.items ≡ []) × (2 ≤ vec_capacity passes.room) }
+{
+    let Passes { one, two, mut room } = passes;
+    room.push_reserved(one);
+    room.push_reserved(two);
+    log.close(room)
+}
+
+// The pass that brought the patch of a version, and the patch's id.
+fn entry_of(log: &LogState<MemDisk>, version: u32) -> Option<(u32, Id)> {
+    let entry = log.chain().entry(version)?;
+    Some((entry.by, entry.patch.id))
+}
+
+#[test]
+fn what_one_pass_brings_the_other_sees(rt: HostRuntime) -> Result<(), Fail> {
+    let alloc = rt.alloc();
+    let (log, mut passes) = share(alloc, &[])?;
+    let first = check_patch(alloc, FIRST)?;
+    let second = check_patch(alloc, SECOND)?;
+    let third = check_patch(alloc, THIRD)?;
+    assert_eq!(rt;
+        log.append(&rt, &mut passes.one, &first),
+        LogAnswer::Accepted { version: 1 }
+    );
+    assert_eq!(rt; log.version(&mut passes.two), 1);
+    assert_eq!(rt;
+        log.append(&rt, &mut passes.two, &first),
+        LogAnswer::Known {
+            version: 1,
+            same: true
+        }
+    );
+    assert_eq!(rt;
+        log.append(&rt, &mut passes.two, &third),
+        LogAnswer::Accepted { version: 2 }
+    );
+    assert_eq!(rt;
+        log.append(&rt, &mut passes.one, &second),
+        LogAnswer::Conflict {
+            version: 2,
+            head: Some(id_of(3)),
+            prev_version: Some(1)
+        }
+    );
+    let state = close(log, passes);
+    assert_eq!(rt; state.chain().version(), 2);
+    assert_eq!(rt; entry_of(&state, 1), Some((1, id_of(1))));
+    assert_eq!(rt; entry_of(&state, 2), Some((2, id_of(3))));
+    Ok(())
+}
+
+// An opening makes four calls, so the first call of an append fails.
+#[test]
+fn a_fault_is_that_of_its_own_pass(rt: HostRuntime) -> Result<(), Fail> {
+    let alloc = rt.alloc();
+    let (log, mut passes) = share(alloc, &[4])?;
+    let first = check_patch(alloc, FIRST)?;
+    assert_eq!(rt;
+        log.append(&rt, &mut passes.one, &first),
+        LogAnswer::DiskFault
+    );
+    assert_eq!(rt; log.version(&mut passes.two), 0);
+    assert!(rt; passes.one.own_faults() > 0);
+    assert_eq!(rt; passes.two.own_faults(), 0);
+    assert_eq!(rt;
+        log.append(&rt, &mut passes.two, &first),
+        LogAnswer::Accepted { version: 1 }
+    );
+    assert_eq!(rt; passes.two.own_faults(), 0);
+    Ok(())
+}
+
+// The text of a patch that was found, or the length of the log that hasn't it.
+fn text_of(fetched: &Fetched) -> Result<&[u8], u32> {
+    match fetched {
+        Fetched::Found { patch } => Ok(patch.text.as_slice()),
+        Fetched::Missing { version } => Err(*version),
+    }
+}
+
+// A log of two patches that the first pass brought.
+fn share_two<R: Wait>(rt: &R, alloc: Global) -> Result<(SharedLog<MemDisk>, Passes), Fail>
+    ensures { IfOk result (λ r. IsPassOf memory_mark r.0 r.1.two) }
+{
+    let (log, mut passes) = share(alloc, &[])?;
+    log.append(rt, &mut passes.one, &check_patch(alloc, FIRST)?);
+    log.append(rt, &mut passes.one, &check_patch(alloc, SECOND)?);
+    Ok((log, passes))
+}
+
+#[test]
+fn versions_are_fetched(rt: HostRuntime) -> Result<(), Fail> {
+    let (log, mut passes) = share_two(&rt, rt.alloc())?;
+    for (version, text) in [(0, Err(2)), (1, Ok(FIRST)), (2, Ok(SECOND)), (3, Err(2))] {
+        let fetched = log.fetch_version(&rt, &mut passes.two, version)?;
+        assert_eq!(rt; text_of(&fetched), text);
+    }
+    Ok(())
+}
+
+#[test]
+fn ids_are_fetched(rt: HostRuntime) -> Result<(), Fail> {
+    let (log, mut passes) = share_two(&rt, rt.alloc())?;
+    for (id, text) in [(2, Ok(SECOND)), (9, Err(2)), (1, Ok(FIRST))] {
+        let fetched = log.fetch_id(&rt, &mut passes.two, id_of(id))?;
+        assert_eq!(rt; text_of(&fetched), text);
+    }
+    Ok(())
+}
+
+#[test]
+fn a_log_is_described(rt: HostRuntime) -> Result<(), Fail> {
+    let (log, mut passes) = share(rt.alloc(), &[])?;
+    let none = log.describe(&rt, &mut passes.two);
+    assert_eq!(rt; (none.version, none.head), (0, None));
+    let (log, mut passes) = share_two(&rt, rt.alloc())?;
+    let two = log.describe(&rt, &mut passes.two);
+    assert_eq!(rt; (two.version, two.head), (2, Some(id_of(2))));
+    Ok(())
+}
