@@ -7,7 +7,7 @@ use Rattle.stream_replay.specs.declared.place.Told.{Told}
 use Rattle.stream_replay.specs.declared.progress.Progress.{Progress}
 use Rattle.stream_replay.specs.declared.stream.Streaming.{Streaming}
 use Rattle.stream_replay.specs.declared.window.Window.{Window}
-use Rattle.stream_replay.specs.Blanks.{PassesBlanks}
+use Rattle.stream_replay.specs.Spaces.{PassesSpace}
 use Rattle.stream_replay.specs.Ending.{fault_end}
 use Rattle.stream_replay.specs.Places.{IsFaulty}
 use Rattle.stream_replay.specs.Source.{EndsText}
@@ -68,7 +68,7 @@ held_same text old new base bytes feeds held =
     (subst (λ (v : Vec ℕ). IsHeld text old.base v.items new.feeds) (sym bytes) (subst (λ (n : ℕ). IsHeld text old.base old.bytes.items n) (sym feeds) held))
 
 pub settled : (text : List ℕ) (old mid new : Window) (p : Progress) → IsWindow text old → mid.base ≡ old.base → mid.bytes ≡ old.bytes → mid.feeds ≡ old.feeds → old.from ≤ mid.from
-    → PassesBlanks old.bytes.items old.from mid.from → (IsWindow text mid → IsWindow text new) → new.base + new.from ≡ mid.base + mid.from → HasStreamed false text (old.base + old.from) p
+    → PassesSpace old.bytes.items old.from mid.from → (IsWindow text mid → IsWindow text new) → new.base + new.from ≡ mid.base + mid.from → HasStreamed false text (old.base + old.from) p
     → IsWindow text new × HasStreamed false text (new.base + new.from) p
 settled text old mid new p held base bytes feeds further passes ok place h =
     let high : mid.from ≤ length old.bytes.items = omega (arith, mid.within, mid.bytes.ok.0, ap (λ (v : Vec ℕ). length v.items) bytes) in

@@ -5,4 +5,4 @@ pub mod Streams
 pub mod Finds
 pub mod Fed
 pub mod Inputs
-pub mod PassedBlanks
+pub mod PassedSpace

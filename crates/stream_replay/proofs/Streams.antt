@@ -23,7 +23,7 @@ use Rattle.stream_replay.specs.declared.place.Told.{Told}
 use Rattle.stream_replay.specs.declared.progress.Progress.{Progress}
 use Rattle.stream_replay.specs.declared.fault.ReplayFault.{ReplayFault}
 use Rattle.stream_replay.specs.declared.fault.ReplayFault.TheVariants as ends
-use Rattle.stream_replay.specs.Blanks.{PassesBlanks}
+use Rattle.stream_replay.specs.Spaces.{PassesSpace}
 use Rattle.stream_replay.specs.Ending.{fault_end}
 use Rattle.stream_replay.specs.Source.{EndsText}
 use Rattle.stream_replay.specs.Places.{line_at, IsFaulty}
@@ -108,7 +108,7 @@ streamed_whole whole text at p h = record {
 }
 
 -- white space was read over
-pub streamed_passed : (text : List ℕ) (base from to : ℕ) (bytes : List ℕ) (feeds : ℕ) (p : Progress) → IsHeld text base bytes feeds → from ≤ to → to ≤ length bytes → PassesBlanks bytes from to
+pub streamed_passed : (text : List ℕ) (base from to : ℕ) (bytes : List ℕ) (feeds : ℕ) (p : Progress) → IsHeld text base bytes feeds → from ≤ to → to ≤ length bytes → PassesSpace bytes from to
     → HasStreamed false text (base + from) p → HasStreamed false text (base + to) p
 streamed_passed text base from to bytes feeds p held low high passes h = record {
   rs = h.rs;

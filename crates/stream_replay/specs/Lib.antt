@@ -1,4 +1,4 @@
-pub mod Blanks
+pub mod Spaces
 pub mod Lines
 pub mod Replaying
 pub mod Places

@@ -19,7 +19,7 @@ const PIECE: usize = 65_536;
 /// The first fault of the text comes before one of the chain. That the input has more than `STREAM_LIMIT` bytes comes before both, and
 /// then at most a piece more is read.
 ///
-/// It reads the input once. Of the input it holds a piece and what stands behind the last row that was read, but for white space; of the patches
+/// It reads the input once. Of the input it holds a piece and what stands behind the last row that was read, but for white space and the lines of comments; of the patches
 /// the changes of the open one up to the limit of a patch, the ids, and the lines of the dataset.
 pub fn replay_source<S: Source>(alloc: Global, input: &mut S) -> Result<Replayed, ReplayFault>
     ensures ok { IfOk result (λ replayed. Reads (S.left input.old) (S.left input.new) (IsReplayed replayed)) }

@@ -84,7 +84,7 @@ impl Streaming {
         ensures read { OnOk result (self.old.window.base + self.old.window.from ≤ self.new.window.base + self.new.window.from) }
         ensures end { OnOk result (self.new.window.base + vec_len self.new.window.bytes ≡ self.old.window.base + vec_len self.old.window.bytes) }
     {
-        self.window.pass_blanks();
+        self.window.pass_space();
         self.window.settle(alloc)?;
         self.wanted = self.window.bytes.len().saturating_mul(2);
         Ok(())

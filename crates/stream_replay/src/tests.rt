@@ -1,5 +1,6 @@
 //! Streams with values from the format's description, read in pieces of several sizes.
 use super::*;
+use crate::window::Window;
 use chain_core::ChainFault;
 use delta_base::{Bytes, Calls, Id, MemSink, MemSource, read_id};
 use patch_meaning::PatchFault;
@@ -199,6 +200,17 @@ fn a_patch_of_one_byte_too_many_is_too_long(rt: HostRuntime) -> Result<(), Fail>
     };
     let wanted = ReplayFault::Stream { line: 0, fault };
     assert_eq!(rt; replay_source(alloc, &mut input).err(), Some(wanted));
+    Ok(())
+}
+
+#[test]
+fn lines_of_comments_are_not_held(rt: HostRuntime) -> Result<(), Fail> {
+    let mut window = Window::new(rt.alloc());
+    window.push(b"# one\n\t# two\r # three".as_slice())?;
+    window.pass_space();
+    window.settle(rt.alloc())?;
+    assert!(rt; window.bytes.as_slice() == b"# three".as_slice());
+    assert_eq!(rt; window.base, 14);
     Ok(())
 }
 

@@ -1,9 +1,11 @@
 //! What is held of a text while it is read.
-ghost use Rattle.std.specs.Prelude.{◌≡◌, ◌+◌, ◌<◌, ◌≤◌, ◌^◌, ◌++◌, ◌==◌, false, slice_index, ℕ, List, [], length, count_by, OnOk, vec_len};
+ghost use Rattle.std.specs.Prelude.{◌≡◌, ◌+◌, ◌<◌, ◌≤◌, ◌^◌, ◌++◌, ◌==◌, false, slice_index, ℕ, List, [], length, count_by, OnOk, IfSome, vec_len};
 ghost use Rattle.patch_rows.specs.Grammar.{is_space};
-ghost use Rattle.stream_replay.specs.Blanks.{PassesBlanks};
+ghost use Rattle.stream_replay.specs.Spaces.{PassesSpace};
 
 use delta_base::OutOfMemory;
+use nquads_text::char_at;
+use patch_rows::{is_line_end, is_space};
 use std::alloc::Global;
 
 /// The bytes of a text from a place on.
@@ -52,16 +54,16 @@ impl Window {
         Ok(())
     }
 
-    /// Reads over white space, so that it isn't held.
-    pub fn pass_blanks(&mut self)
+    /// Reads over white space and the lines of comments, so that they aren't held.
+    pub fn pass_space(&mut self)
         ensures base { self.new.base ≡ self.old.base }
         ensures bytes { self.new.bytes ≡ self.old.bytes }
         ensures feeds { self.new.feeds ≡ self.old.feeds }
         ensures further { self.old.from ≤ self.new.from }
-        ensures blanks { PassesBlanks self.old.bytes.items self.old.from self.new.from }
+        ensures space { PassesSpace self.old.bytes.items self.old.from self.new.from }
         ensures stops { self.new.from < length self.old.bytes.items → is_space (slice_index self.old.bytes.items self.new.from) ≡ false }
     {
-        self.from = blanks_end(self.bytes.as_slice(), self.from);
+        self.from = space_end(self.bytes.as_slice(), self.from);
     }
 
     /// Lets go the bytes that were read.
@@ -89,26 +91,58 @@ impl Window {
     }
 }
 
+// The place behind the white space and the lines of comments that stand at a place.
+fn space_end(bytes: &[u8], from: usize) -> usize
+    requires { from ≤ length bytes.now }
+    ensures low { from ≤ result }
+    ensures high { result ≤ length bytes.now }
+    ensures space { PassesSpace bytes.now from result }
+    ensures stops { result < length bytes.now → is_space (slice_index bytes.now result) ≡ false }
+{
+    let mut at = blanks_end(bytes, from);
+    while let Some(end) = comment_end(bytes, at) {
+        at = blanks_end(bytes, end);
+    }
+    at
+}
+
+// The place behind the line of the comment that stands at a place, if its end is there.
+fn comment_end(bytes: &[u8], from: usize) -> Option<usize>
+    requires { from ≤ length bytes.now }
+    ensures { IfSome result (λ end. (from < end) × (end ≤ length bytes.now) × PassesSpace bytes.now from end) }
+{
+    if from == bytes.len() || bytes[from] != b'#' {
+        return None;
+    }
+    let mut at = from + 1;
+    while at < bytes.len() {
+        match char_at(bytes, at) {
+            Ok((c, next)) => {
+                if is_line_end(c) {
+                    return Some(next);
+                }
+                at = next;
+            }
+            Err(_) => return None,
+        }
+    }
+    None
+}
+
 // The place behind the white space that stands at a place.
 fn blanks_end(bytes: &[u8], from: usize) -> usize
     requires { from ≤ length bytes.now }
     ensures low { from ≤ result }
     ensures high { result ≤ length bytes.now }
-    ensures blanks { PassesBlanks bytes.now from result }
+    ensures space { PassesSpace bytes.now from result }
     ensures stops { result < length bytes.now → is_space (slice_index bytes.now result) ≡ false }
 {
     for at in from..bytes.len() {
-        if !is_blank(bytes[at]) {
+        if !is_space(bytes[at]) {
             return at;
         }
     }
     bytes.len()
-}
-
-fn is_blank(byte: u8) -> bool
-    ensures { result ≡ is_space byte }
-{
-    matches!(byte, b' ' | b'\t' | b'\n' | b'\r')
 }
 
 // How many of the bytes are line feeds.

@@ -1,0 +1,10 @@
+use Rattle.std.proofs.Common.{◌-◌, ◌<◌, ◌≤◌, true, false, length}
+use Rattle.patch_reader.proofs.GapSteps.{Passed}
+use Rattle.stream_replay.proofs.window.comment_end.Given as goal
+
+-- the comment goes on there
+abbrev pub invariant-loop-at : goal.invariant-loop-at
+invariant-loop-at l = (l.fn.from < l.at) × (l.at ≤ length l.bytes) × Passed false l.fn.from l.bytes true l.at
+
+abbrev pub decreases-loop-at : goal.decreases-loop-at
+decreases-loop-at l = length l.bytes - l.at
