@@ -1,12 +1,13 @@
 //! A log that threads share.
 ghost use Rattle.std.specs.Prelude.{◌≡◌, ◌<◌, ◌≤◌, ℕ, ◌+◌, Some, IfOk, IfErr, OnErr, slice_get, vec_len, vec_capacity};
 ghost use Rattle.std.specs.List.{AllByRecursion};
+ghost use mathlib.Core.List.{IsPrefix};
 ghost use Rattle.chain_core.specs.Patches.{patches_of};
 ghost use Rattle.chain_core.specs.Replies as asked;
 ghost use Rattle.patch_log.specs.Log.{bare, StandsForLog};
 ghost use Rattle.turn_cell.specs.Turns.{AllOf, Knew, Continues};
 ghost use Rattle.turn_cell.specs.Sights.{AreOf, AreAll, ComesFrom, IsNew};
-ghost use Rattle.shared_log.specs.History.{history_of, fixed_of, Lies};
+ghost use Rattle.shared_log.specs.History.{history_of, fixed_of, Lay};
 ghost use Rattle.shared_log.specs.Replies.{reply_fetched, reply_described};
 ghost use Rattle.shared_log.specs.Legal.{IsPassOf, Legal, Wants};
 
@@ -68,8 +69,10 @@ impl<D: Disk> SharedLog<D> {
         ensures of { IsPassOf D.mark self.now pass.new }
         ensures legal { Legal self.now.origin.limits pass.old (asked.append (bare patch.now)) (asked.answered result) pass.new }
 
-        // What is published then is a log that its disk holds in every image.
-        ensures lies { (left : _) × (pass.new.view.seen ≡ history_of left.entries) × (fixed_of D.mark left ≡ fixed_of D.mark self.now.origin) × Lies D.tells D.past left }
+        // What it leaves in the turn is the history that it publishes, on a disk that stands for it. So no entry is published before each
+        // image that a crash may leave holds it.
+        ensures lay { (found : _) × (left : _) × Lay D.tells D.past (bare patch.now) found left × IsPrefix pass.old.view.seen (history_of found.entries) × (pass.new.view.seen ≡ history_of left.entries)
+            × (fixed_of D.mark left ≡ fixed_of D.mark self.now.origin) }
     {
         let by = pass.number();
         let mut held = self.turn.enter(rt, pass);

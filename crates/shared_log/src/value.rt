@@ -4,7 +4,7 @@ ghost use Rattle.delta_base.specs.Outside.{Rose};
 ghost use Rattle.chain_core.specs.Patches.{patches_of};
 ghost use Rattle.chain_core.specs.Replies as asked;
 ghost use Rattle.patch_log.specs.Log.{bare, StandsForLog};
-ghost use Rattle.shared_log.specs.History.{history_of, fixed_of, Lies};
+ghost use Rattle.shared_log.specs.History.{history_of, fixed_of, Lay};
 ghost use Rattle.shared_log.specs.Replies.{reply_fetched, reply_described};
 ghost use Rattle.shared_log.specs.Stays.{Stays};
 ghost use Rattle.turn_cell.specs.Sights.{IsGrownBy};
@@ -117,7 +117,7 @@ impl<D: Disk> LogValue<D> {
         ensures stays { Stays self.old.limits by (bare patch.now) self.old self.new result }
         ensures grown { IsGrownBy by (history_of self.old.entries) (history_of self.new.entries) }
         ensures few { length (history_of self.new.entries) < 2 ^ 32 }
-        ensures lies { Lies D.tells D.past self.new }
+        ensures lay { Lay D.tells D.past (bare patch.now) self.old self.new }
         ensures cause { result ≡ LogAnswer.DiskFault → Rose (D.faults self.old.disk) (D.faults self.new.disk) }
         ensures faults { D.faults self.old.disk ≤ D.faults self.new.disk }
         ensures fixed { fixed_of D.mark self.new ≡ fixed_of D.mark self.old }

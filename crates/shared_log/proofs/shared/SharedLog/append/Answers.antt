@@ -1,8 +1,11 @@
-use Rattle.std.proofs.Common.{◌≡◌, ℕ, refl, sym, ap, ◌∙◌, subst}
+use Rattle.std.proofs.Common.{List, ◌≡◌, ℕ, refl, sym, ap, ◌∙◌, subst}
+use mathlib.Core.List.{IsPrefix}
+use Rattle.chain_core.specs.declared.chain.Patch.{Patch}
 use Rattle.delta_base.specs.Outside.{Rose}
 use Rattle.chain_core.specs.declared.answer.LogAnswer.TheVariants.{DiskFault}
 use Rattle.patch_log.specs.Log.{bare}
 use Rattle.patch_log.specs.State.{LogView}
+use Rattle.turn_cell.specs.declared.view.Entry.{Entry as Known}
 use Rattle.turn_cell.specs.Sights.{IsGrownBy}
 use Rattle.shared_log.specs.declared.value.LogFixed.{LogFixed}
 use Rattle.shared_log.specs.History.{history_of, fixed_of}
@@ -44,12 +47,15 @@ returns-clause-legal g c =
     let here = subst (λ (f : LogFixed). Stays f.limits p.view.number patch was after answer) fixed stayed in
     (sees origin.limits p m q was after call, (answer, refl, told origin.limits p m q was after call patch (g.D.Disk.faults was.disk) (g.D.Disk.faults after.disk) l.faults answer cause here))
 
-pub returns-clause-lies : goal.returns-clause-lies
-returns-clause-lies g c =
+pub returns-clause-lay : goal.returns-clause-lay
+returns-clause-lay g c =
     let e = c.enter-held.ensures in
+    let a = c.append-answer.ensures in
     let mark = g.D.Disk.mark in
     let origin : LogView g.row.D.Denot = c.args.self.now.origin in
     let was : LogView g.row.D.Denot = c.enter-held.result.was in
+    let value : LogView g.row.D.Denot = c.enter-held.result.value in
     let at : c.value_mut.result.now ≡ was = c.value_mut.ensures.value ∙ e.value in
     let fixed = same_fixed c.enter-held.new.pass.view.fixed (fixed_of mark was) (fixed_of mark origin) e.from.2 (e.same.4 ∙ c.requires.of.2) in
-    (c.append-answer.new.self, c.leave.ensures.entries, c.append-answer.ensures.fixed ∙ ap (λ (log : LogView g.row.D.Denot). fixed_of mark log) at ∙ fixed, c.append-answer.ensures.lies)
+    let seen : IsPrefix c.args.pass.now.view.seen (history_of value.entries) = subst (λ (l : List (Known Patch)). IsPrefix c.args.pass.now.view.seen l) (sym e.entries) e.later in
+    (value, c.append-answer.new.self, rw (← c.value_mut.ensures.value) a.lay, seen, c.leave.ensures.entries, a.fixed ∙ ap (λ (log : LogView g.row.D.Denot). fixed_of mark log) at ∙ fixed)

@@ -1,4 +1,4 @@
-use Rattle.std.proofs.Common.{sym, ap, ◌∙◌}
+use Rattle.std.proofs.Common.{◌≡◌, sym, ap, ◌∙◌}
 use Rattle.chain_core.specs.Patches.{patches_of}
 use Rattle.chain_core.specs.Replies as asked
 use Rattle.patch_log.specs.State.{LogView}
@@ -36,4 +36,5 @@ returns-clause-legal g c =
     let kept = only_asked was value e.value in
     let then = λ (log : LogView g.row.D.Denot). asked.reply_of log.limits asked.describe (patches_of log.entries) in
     let limits = λ (fixed : LogFixed). asked.reply_of fixed.limits asked.describe (patches_of was.entries) in
-    replied origin.limits p m q was value call asked.describe (reply_described c.describe-info.result) (c.describe-info.ensures ∙ ap then at ∙ ap limits fixed) kept
+    let same : then c.value.result.now ≡ limits (fixed_of g.D.Disk.mark origin) = ap then at ∙ ap limits fixed in
+    replied origin.limits p m q was value call asked.describe (reply_described c.describe-info.result) (c.describe-info.ensures ∙ same) kept

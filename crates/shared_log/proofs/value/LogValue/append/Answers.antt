@@ -10,3 +10,11 @@ returns-clause-stays g c =
 pub returns-clause-grown : goal.returns-clause-grown
 returns-clause-grown g c =
     grows c.args.self.now.limits c.args.by (bare c.args.patch.now) c.args.self.now c.append-answer.new.log c.append-answer.result (returns-clause-stays g c)
+
+pub returns-clause-lay : goal.returns-clause-lay
+returns-clause-lay g c =
+    rw (← c.self.view_is) (record {
+      found_lies = c.self.invariant;
+      left_lies = record { few = rw (← c.chain.ensures.entries) c.version-version.ensures.kept.few; stands = c.chain.ensures.stands };
+      any_moment = c.append-answer.ensures.any_moment;
+    })
