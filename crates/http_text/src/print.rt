@@ -1,0 +1,83 @@
+//! The requests that a client writes.
+ghost use Rattle.std.specs.Prelude.{◌≡◌, ◌++◌, ◌∷◌, IfOk, OnOk, List, ℕ};
+ghost use Rattle.std.specs.List.{flat_map};
+ghost use Rattle.std.specs.Option.{option_copied};
+ghost use Rattle.httparse.specs.Ascii.{crlf_bytes};
+ghost use Rattle.httparse.specs.Grammar.{print_field, print_version};
+ghost use Rattle.http_text.specs.Print.{IsPrintable, body_fields, field, request_text};
+ghost use Rattle.http_text.specs.Requests.{IsRequest};
+
+use crate::request::RawRequest;
+use delta_base::{Bytes, OutOfMemory, Text};
+use std::alloc::{AllocError, Global};
+
+// Adds a request line.
+fn push_line(text: &mut Vec<u8>, method: &[u8], path: &[u8]) -> Result<(), AllocError>
+    ensures { OnOk result (text.new.items ≡ text.old.items
+        ++ (method.now ++ 32 ∷ (path.now ++ 32 ∷ (print_version 1 ++ crlf_bytes)))) }
+{
+    text.extend_from_slice(method)?;
+    text.extend_from_slice(b" ")?;
+    text.extend_from_slice(path)?;
+    text.extend_from_slice(b" HTTP/1.1\r\n")?;
+    Ok(())
+}
+
+// Adds a field.
+fn push_field(text: &mut Vec<u8>, name: &[u8], value: &[u8]) -> Result<(), AllocError>
+    ensures { OnOk result (text.new.items ≡ text.old.items ++ print_field (field name.now value.now)) }
+{
+    text.extend_from_slice(name)?;
+    text.extend_from_slice(b": ")?;
+    text.extend_from_slice(value)?;
+    text.extend_from_slice(b"\r\n")?;
+    Ok(())
+}
+
+// The bytes, where there are some.
+fn slice_of(bytes: &Option<Bytes>) -> Option<&[u8]>
+    ensures { option_copied result ≡ bytes.now }
+{
+    match bytes {
+        Some(bytes) => Some(bytes.as_slice()),
+        None => None,
+    }
+}
+
+// Adds the fields of a body.
+fn push_body_fields(
+    alloc: Global,
+    text: &mut Vec<u8>,
+    kind: Option<&[u8]>,
+    size: usize,
+) -> Result<(), AllocError>
+    ensures { OnOk result (text.new.items ≡ text.old.items ++ flat_map print_field (body_fields (option_copied kind.entry) size)) }
+{
+    let Some(kind) = kind else {
+        return Ok(());
+    };
+    let size = size.to_string(alloc)?;
+    push_field(text, b"Content-Type", kind)?;
+    push_field(text, b"Content-Length", size.as_bytes())?;
+    Ok(())
+}
+
+/// The text of a request to a host. A reader takes the request from it again, whatever follows.
+pub fn print_request(alloc: Global, request: &RawRequest, host: &Text) -> Result<Bytes, OutOfMemory>
+    requires { IsPrintable request.now host.now }
+    ensures text { IfOk result (λ text. text ≡ request_text request.now host.now) }
+    ensures again { IfOk result (λ text. IsRequest text request.now) }
+{
+    let kind = slice_of(&request.content_type);
+    let mut text = Vec::new(alloc);
+    push_line(
+        &mut text,
+        request.method.as_slice(),
+        request.path.as_slice(),
+    )?;
+    push_field(&mut text, b"Host", host.as_bytes())?;
+    push_body_fields(alloc, &mut text, kind, request.body.len())?;
+    text.extend_from_slice(b"\r\n")?;
+    text.extend_from_slice(request.body.as_slice())?;
+    Ok(Bytes::from_vec(text))
+}
