@@ -3,15 +3,15 @@ use Rattle.std.proofs.Common.{◌≡◌, ◌≢◌, ℕ, ◌+◌, ◌-◌, ◌<�
 use Rattle.std.proofs.lemmas.List.{append-nil, take_all}
 use Rattle.std.specs.List.{flat_map}
 use Rattle.httparse.specs.Ascii.{crlf_bytes}
-use Rattle.httparse.specs.Grammar.{RequestHead, ReadsRequest, print_request, ChunkLine, ReadsChunkLine, print_chunk_line, chunk_size, NeverHasChunkLine, NeverHasSection, Field, IsField, LineEnd, print_section}
+use Rattle.httparse.specs.Grammar.{ChunkLine, ReadsChunkLine, print_chunk_line, chunk_size, NeverHasChunkLine, NeverHasSection, Field, IsField, LineEnd, print_section}
 use Rattle.httparse.proofs.ChunkLemmas.{chunk_line_unique}
-use Rattle.httparse.proofs.GrammarLemmas.{ReadsRequest-append, request_unique}
-use Rattle.http_text.specs.Heads.{IsBadHead}
+use Rattle.http_text.specs.Heads.{Head, print_head, fields_of, ReadsHead, IsBadHead, PassesOver, room_behind}
 use Rattle.http_text.specs.Chunks.{Chunk, IsChunk, AreChunks, print_chunk, data_of, IsShortLine, most_line, most_trailers, IsBadLine, AreBadTrailers, IsNoLineEnd, IsBadBehind, IsChunkFault, IsChunkedFault}
 use Rattle.http_text.specs.Framing.{most_body}
-use Rattle.http_text.specs.Requests.{most_head, BeginsWithHead, framing_behind, front_of, IsFrameFault, IsBodyFault, IsBody, BeginsNoRequest}
+use Rattle.http_text.specs.Messages.{BeginsWithHead, framing_behind, IsFaultAt, IsFrameFault, IsBodyFault, IsBody, BeginsNoMessage}
 use Rattle.http_text.specs.Stages.{IsOpenHead, IsOpenLine, AreOpenTrailers, IsInChunk, HoldsPart}
 use Rattle.http_text.specs.Readers.{Holds}
+use Rattle.http_text.specs.declared.message.Kind.{Kind}
 use Rattle.http_text.specs.declared.framing.FrameFault.{FrameFault}
 use Rattle.http_text.specs.declared.framing.FrameFault.TheVariants as faults
 use Rattle.http_text.specs.declared.framing.Framing.{Framing}
@@ -20,10 +20,10 @@ use Rattle.http_text.specs.declared.stage.Part.{Part}
 use Rattle.http_text.specs.declared.stage.Part.TheVariants as parts
 use Rattle.http_text.specs.declared.reader.Stage.{Stage}
 use Rattle.http_text.specs.declared.reader.Stage.TheVariants as stages
+use Rattle.http_text.proofs.HeadLaws.{head_unique, head_grows}
 use Rattle.http_text.proofs.GrowLemmas.{take_past, begins_grows}
-use Rattle.http_text.proofs.FrontLemmas.{front_all}
+use Rattle.http_text.proofs.PassLemmas.{HasNoInterim, passes_grow, no_interim_none, no_interim_begins, head_in_front, fault_behind}
 use Rattle.http_text.proofs.PlaceLemmas.{HasNoChunk, same_place, same_parts, line_of_chunk}
-use Rattle.http_text.proofs.ReaderLemmas.{head_not_empty}
 use Rattle.http_text.proofs.OpenLemmas.{line_place, chunk_place, last_place, whole_text}
 
 -- a chunk line within its limit stands in the first bytes
@@ -179,72 +179,60 @@ part_no_fault parts.Trailers body pending behind framing fault (chunked, at, sti
 
 -- ---- the whole rest
 
-head_open : (text : List ℕ) (fault : FrameFault) → IsOpenHead text → 0 < length text → IsFrameFault text fault → ⊥
-head_open text faults.BadHead still some bad = still.good some (subst IsBadHead (front_all text (omega (arith, still.short))) bad)
-head_open text faults.TooManyFields still some (head, rest, reads, over) =
-    still.none head rest (subst (λ (t : List ℕ). ReadsRequest t head rest) (front_all text (omega (arith, still.short))) reads)
-head_open text faults.HeadTooLong still some (long, none, good) = omega (arith, still.short)
-head_open text faults.OutOfMemory still some bad = bad
-head_open text faults.BadHost still some bad = still.none bad.0 bad.1 bad.2.reads
-head_open text faults.TwoLengths still some bad = still.none bad.0 bad.1 bad.2.reads
-head_open text faults.BadLength still some bad = still.none bad.0 bad.1 bad.2.reads
-head_open text (faults.BodyTooLong size limit) still some bad = still.none bad.0 bad.1 bad.2.reads
-head_open text faults.BadChunk still some bad = still.none bad.0 bad.1 bad.2.reads
+head_open : (kind : Kind) (room : ℕ) (text : List ℕ) (fault : FrameFault) → IsOpenHead kind room text → IsFaultAt kind room text fault → ⊥
+head_open kind room text faults.BadHead still bad = still.good (subst (IsBadHead kind) (take_all room text (omega (arith, still.short))) bad)
+head_open kind room text faults.TooManyFields still (head, rest, reads, over) =
+    still.none head rest (subst (λ (t : List ℕ). ReadsHead kind t head rest) (take_all room text (omega (arith, still.short))) reads)
+head_open kind room text faults.HeadTooLong still (long, none, good) = omega (arith, still.short)
+head_open kind room text faults.OutOfMemory still bad = bad
+head_open kind room text faults.BadHost still bad = still.none bad.0 bad.1 bad.2.reads
+head_open kind room text faults.TwoLengths still bad = still.none bad.0 bad.1 bad.2.reads
+head_open kind room text faults.BadLength still bad = still.none bad.0 bad.1 bad.2.reads
+head_open kind room text (faults.BodyTooLong size limit) still bad = still.none bad.0 bad.1 bad.2.reads
+head_open kind room text faults.BadChunk still bad = still.none bad.0 bad.1 bad.2.reads
 
--- a head within the limit stands in the front
-pub head_in_front : (rest behind : List ℕ) (head : RequestHead) → BeginsWithHead rest head behind
-    → ReadsRequest (front_of rest) head (take (16384 - length (print_request head)) behind)
-head_in_front rest behind head begins =
-    (begins.reads.0, ap (take most_head) begins.reads.1 ∙ take_past most_head (print_request head) behind begins.short)
+module _ (kind : Kind) (room : ℕ) (text behind : List ℕ) (head : Head) (framing : Framing)
+    (begins : BeginsWithHead kind room text head behind) (ok : framing_behind head ≡ Ok framing) (held : (f : FrameFault) → IsBodyFault framing behind f → ⊥) where
+  body_own : (other : Head) (after : List ℕ) (fault : FrameFault) → BeginsWithHead kind room text other after
+      → (framing_behind other ≡ Err fault) ⊎ ((f : Framing) × (framing_behind other ≡ Ok f) × IsBodyFault f after fault) → ⊥
+  body_own other after fault it (inl err) =
+      let same = head_unique kind text head other behind after begins.reads it.reads in
+      let both : Ok framing ≡ Err fault = sym ok ∙ ap framing_behind same.0 ∙ err in
+      cc
+  body_own other after fault it (inr (f, fine, bad)) =
+      let same = head_unique kind text head other behind after begins.reads it.reads in
+      let both : Ok framing ≡ Ok f = sym ok ∙ ap framing_behind same.0 ∙ fine in
+      let same_framing : framing ≡ f = cc in
+      held fault
+      (subst (λ (g : Framing). IsBodyFault g behind fault) (sym same_framing) (subst (λ (t : List ℕ). IsBodyFault f t fault) (sym same.1) bad))
 
-body_own : (rest behind : List ℕ) (head other : RequestHead) (after : List ℕ) (framing : Framing) (fault : FrameFault)
-    → BeginsWithHead rest head behind → framing_behind head ≡ Ok framing → ((f : FrameFault) → IsBodyFault framing behind f → ⊥) → BeginsWithHead rest other after
-    → (framing_behind other ≡ Err fault) ⊎ ((f : Framing) × (framing_behind other ≡ Ok f) × IsBodyFault f after fault) → ⊥
-body_own rest behind head other after framing fault begins ok held it (inl err) =
-    let same = request_unique rest head other behind after begins.reads it.reads in
-    let both : Ok framing ≡ Err fault = sym ok ∙ ap framing_behind same.0 ∙ err in
-    cc
-body_own rest behind head other after framing fault begins ok held it (inr (f, fine, bad)) =
-    let same = request_unique rest head other behind after begins.reads it.reads in
-    let both : Ok framing ≡ Ok f = sym ok ∙ ap framing_behind same.0 ∙ fine in
-    let same_framing : framing ≡ f = cc in
-    held fault
-    (subst (λ (g : Framing). IsBodyFault g behind fault) (sym same_framing) (subst (λ (t : List ℕ). IsBodyFault f t fault) (sym same.1) bad))
+  front : ReadsHead kind (take room text) head (take (room - length (print_head head)) behind)
+  front = head_in_front kind room text head behind begins.reads begins.short
 
-pub body_open : (rest behind : List ℕ) (head : RequestHead) (framing : Framing) (fault : FrameFault)
-    → BeginsWithHead rest head behind → framing_behind head ≡ Ok framing → ((f : FrameFault) → IsBodyFault framing behind f → ⊥) → IsFrameFault rest fault → ⊥
-body_open rest behind head framing faults.BadHead begins ok held bad =
-    bad.1 [] head _ (ReadsRequest-append (front_of rest) head _ [] (head_in_front rest behind head begins))
-body_open rest behind head framing faults.TooManyFields begins ok held (other, after, reads, over) =
-    let same = request_unique (front_of rest) head other _ after (head_in_front rest behind head begins) reads in
-    omega (arith, begins.few, ap (λ (h : RequestHead). length h.fields) same.0)
-body_open rest behind head framing faults.HeadTooLong begins ok held (long, none, good) = none head _ (head_in_front rest behind head begins)
-body_open rest behind head framing faults.OutOfMemory begins ok held bad = bad
-body_open rest behind head framing faults.BadHost begins ok held bad = body_own rest behind head bad.0 bad.1 framing faults.BadHost begins ok held bad.2 bad.3
-body_open rest behind head framing faults.TwoLengths begins ok held bad = body_own rest behind head bad.0 bad.1 framing faults.TwoLengths begins ok held bad.2 bad.3
-body_open rest behind head framing faults.BadLength begins ok held bad = body_own rest behind head bad.0 bad.1 framing faults.BadLength begins ok held bad.2 bad.3
-body_open rest behind head framing (faults.BodyTooLong size limit) begins ok held bad = body_own rest behind head bad.0 bad.1 framing (faults.BodyTooLong size limit) begins ok held bad.2 bad.3
-body_open rest behind head framing faults.BadChunk begins ok held bad = body_own rest behind head bad.0 bad.1 framing faults.BadChunk begins ok held bad.2 bad.3
+  pub body_open : (fault : FrameFault) → IsFaultAt kind room text fault → ⊥
+  body_open faults.BadHead bad = bad.1 [] head _ (head_grows kind (take room text) head _ [] front)
+  body_open faults.TooManyFields (other, after, reads, over) =
+      let same = head_unique kind (take room text) head other _ after front reads in
+      omega (arith, begins.few, ap (λ (h : Head). length (fields_of h)) same.0)
+  body_open faults.HeadTooLong (long, none, good) = none head _ front
+  body_open faults.OutOfMemory bad = bad
+  body_open faults.BadHost bad = body_own bad.0 bad.1 faults.BadHost bad.2 bad.3
+  body_open faults.TwoLengths bad = body_own bad.0 bad.1 faults.TwoLengths bad.2 bad.3
+  body_open faults.BadLength bad = body_own bad.0 bad.1 faults.BadLength bad.2 bad.3
+  body_open (faults.BodyTooLong size limit) bad = body_own bad.0 bad.1 (faults.BodyTooLong size limit) bad.2 bad.3
+  body_open faults.BadChunk bad = body_own bad.0 bad.1 faults.BadChunk bad.2 bad.3
 
-pub open_no_fault : (stage : Stage) (pending rest : List ℕ) → Holds stage pending rest → 0 < length rest → (fault : FrameFault) → ¬ (IsFrameFault rest fault)
-open_no_fault stages.Head pending rest (same, still) some fault bad =
-    head_open pending fault still (omega (arith, ap length same)) (subst (λ (t : List ℕ). IsFrameFault t fault) same bad)
-open_no_fault (stages.Body raw body part) pending rest held some fault bad =
-    body_open rest held.behind held.head held.framing fault held.begins held.faultless
-    (λ f. part_no_fault part body.items pending held.behind held.framing f held.part_is) bad
-open_no_fault (stages.Faulty it) pending rest held some fault bad = held
+pub open_no_fault : (kind : Kind) (stage : Stage) (pending rest : List ℕ) → Holds kind stage pending rest → (fault : FrameFault) → ¬ (IsFrameFault kind rest fault)
+open_no_fault kind (stages.Head room) pending rest held fault bad =
+    head_open kind (room_behind held.passed) pending fault (subst (λ (n : ℕ). IsOpenHead kind n pending) held.room_is held.still)
+    (fault_behind kind rest held.passed pending fault held.passes (no_interim_none kind (room_behind held.passed) pending held.still.none) bad)
+open_no_fault kind (stages.Body message body part) pending rest held fault bad =
+    body_open kind (room_behind held.passed) held.from held.behind held.head held.framing held.begins held.faultless
+    (λ f. part_no_fault part body.items pending held.behind held.framing f held.part_is) fault
+    (fault_behind kind rest held.passed held.from fault held.passes (no_interim_begins kind (room_behind held.passed) held.from held.head held.behind held.begins) bad)
+open_no_fault kind (stages.Faulty it) pending rest held fault bad = held
 
--- the rest in a body isn't empty
-pub body_not_empty : (rest pending : List ℕ) (stage : Stage) → Holds stage pending rest → stage ≢ stages.Head → 0 < length rest
-body_not_empty rest pending stages.Head held other = absurd (other refl)
-body_not_empty rest pending (stages.Faulty fault) held other = absurd held
-body_not_empty rest pending (stages.Body raw body part) held other =
-    some (print_request held.head) held.behind rest held.begins.reads.1 (head_not_empty held.head)
-  where
-    some : (front behind text : List ℕ) → text ≡ front ++ behind → 0 < length front → 0 < length text
-    some front behind text is has = omega (arith, ap length is, length-append front behind)
-
--- ---- a whole request has no fault
+-- ---- a whole body has no fault
 
 -- a trailer section within its limit stands in the first bytes
 no_bad_trailers : (fields : List Field) (last : LineEnd) (more : List ℕ) → All IsField fields → length (print_section fields last) ≤ most_trailers
@@ -267,9 +255,12 @@ whole_no_fault Chunked front more body fault (b, is, front_is, body_is) bad =
     (last_place (length (data_of b.chunks)) b.last (print_section b.trailers b.end ++ more) is.last.line is.zero)
     (ap (λ (t : List ℕ). t ++ more) front_is ∙ whole_text b more) bad)
 
--- a rest with a fault begins with no request
-pub fault_no_request : (rest : List ℕ) (fault : FrameFault) → IsFrameFault rest fault → BeginsNoRequest rest
-fault_no_request rest fault bad text more request one is =
-    let begins = begins_grows text one.behind more one.head one.begins in
-    body_open (text ++ more) (one.behind ++ more) one.head one.framing fault begins one.faultless
-    (λ f. whole_no_fault one.framing one.behind more one.body f one.is_body) (subst (λ (t : List ℕ). IsFrameFault t fault) is bad)
+-- a rest with a fault begins with no message
+pub fault_no_message : (kind : Kind) (rest : List ℕ) (fault : FrameFault) → IsFrameFault kind rest fault → BeginsNoMessage kind rest
+fault_no_message kind rest fault bad text more message one is =
+    let begins = begins_grows kind (room_behind one.passed) one.from one.behind more one.head one.begins in
+    body_open kind (room_behind one.passed) (one.from ++ more) (one.behind ++ more) one.head one.framing begins one.faultless
+    (λ f. whole_no_fault one.framing one.behind more one.body f one.is_body) fault
+    (fault_behind kind (text ++ more) one.passed (one.from ++ more) fault (passes_grow kind text more one.passed one.from one.passes)
+    (no_interim_begins kind (room_behind one.passed) (one.from ++ more) one.head (one.behind ++ more) begins)
+    (subst (λ (t : List ℕ). IsFrameFault kind t fault) is bad))

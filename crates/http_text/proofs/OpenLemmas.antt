@@ -1,13 +1,14 @@
--- A rest that is open begins with no request, and has no fault.
+-- A rest that is open begins with no message.
 use Rattle.std.proofs.Common.{◌≡◌, ℕ, ◌+◌, ◌≤◌, ◌⊎◌, List, [], ◌∷◌, ◌++◌, length, Ok, refl, sym, ap, ◌∙◌, subst, inl, inr, arith, append_assoc, length-append}
 use Rattle.std.proofs.lemmas.List.{append-nil}
 use Rattle.std.specs.List.{flat_map}
 use Rattle.httparse.specs.Ascii.{crlf_bytes}
-use Rattle.httparse.specs.Grammar.{ReadsRequest, ChunkLine, IsChunkLine, print_chunk_line, chunk_size, print_section, HasNoChunkLine}
+use Rattle.httparse.specs.Grammar.{ChunkLine, IsChunkLine, print_chunk_line, chunk_size, print_section, HasNoChunkLine}
 use Rattle.httparse.proofs.ChunkLemmas.{chunk_line_unique}
-use Rattle.httparse.proofs.GrammarLemmas.{ReadsRequest-append, request_prefix_free}
+use Rattle.http_text.specs.Heads.{ReadsHead, PassesOver, room_behind}
 use Rattle.http_text.specs.Chunks.{Chunk, AreChunks, print_chunk, data_of, ChunkedBody, IsChunkedBody, print_chunked}
-use Rattle.http_text.specs.Requests.{BeginsNoRequest, framing_behind, IsBody}
+use Rattle.http_text.specs.Messages.{BeginsWithHead, BeginsNoMessage, framing_behind, IsBody}
+use Rattle.http_text.specs.declared.message.Kind.{Kind}
 use Rattle.http_text.specs.Stages.{IsInChunk, HoldsPart}
 use Rattle.http_text.specs.Readers.{Holds}
 use Rattle.http_text.specs.declared.framing.Framing.{Framing}
@@ -16,6 +17,9 @@ use Rattle.http_text.specs.declared.stage.Part.{Part}
 use Rattle.http_text.specs.declared.stage.Part.TheVariants as parts
 use Rattle.http_text.specs.declared.reader.Stage.{Stage}
 use Rattle.http_text.specs.declared.reader.Stage.TheVariants as stages
+use Rattle.http_text.proofs.HeadLaws.{head_unique}
+use Rattle.http_text.proofs.GrowLemmas.{begins_grows}
+use Rattle.http_text.proofs.PassLemmas.{passes_grow, same_passed, no_interim_none, no_interim_begins}
 use Rattle.http_text.proofs.PlaceLemmas.{HasNoChunk, same_place, line_of_chunk}
 
 -- ---- places without a chunk
@@ -105,17 +109,26 @@ part_not_whole parts.Trailers body pending behind front more b framing (chunked,
     let same = chunk_line_unique text at.last it.0.last pending _ (at.short.line, refl) (it.1.last.line, last) in
     still.none it.0.trailers it.0.end more (it.1.trailers, same.1)
 
--- ---- an open rest begins with no request
+-- ---- an open rest begins with no message
 
-pub open_no_request : (stage : Stage) (pending rest : List ℕ) → Holds stage pending rest → BeginsNoRequest rest
-open_no_request stages.Head pending rest (same, still) text more request one is =
-    still.none one.head (one.behind ++ more)
-    (subst (λ (t : List ℕ). ReadsRequest t one.head (one.behind ++ more)) (sym is ∙ same) (ReadsRequest-append text one.head one.behind more one.begins.reads))
-open_no_request (stages.Body raw body part) pending rest held text more request one is =
-    let heads = request_prefix_free text more one.head held.head one.behind held.behind one.begins.reads
-    (subst (λ (t : List ℕ). ReadsRequest t held.head held.behind) is held.begins.reads) in
+pub open_no_message : (kind : Kind) (stage : Stage) (pending rest : List ℕ) → Holds kind stage pending rest → BeginsNoMessage kind rest
+open_no_message kind (stages.Head room) pending rest held text more message one is =
+    let begins = begins_grows kind (room_behind one.passed) one.from one.behind more one.head one.begins in
+    let passes = subst (λ (t : List ℕ). PassesOver kind t one.passed (one.from ++ more)) (sym is) (passes_grow kind text more one.passed one.from one.passes) in
+    let same = same_passed kind rest held.passed one.passed pending (one.from ++ more) held.passes passes
+    (no_interim_none kind (room_behind held.passed) pending held.still.none)
+    (no_interim_begins kind (room_behind one.passed) (one.from ++ more) one.head (one.behind ++ more) begins) in
+    held.still.none one.head (one.behind ++ more) (subst (λ (t : List ℕ). ReadsHead kind t one.head (one.behind ++ more)) (sym same.1) begins.reads)
+open_no_message kind (stages.Body it body part) pending rest held text more message one is =
+    let begins = begins_grows kind (room_behind one.passed) one.from one.behind more one.head one.begins in
+    let passes = subst (λ (t : List ℕ). PassesOver kind t one.passed (one.from ++ more)) (sym is) (passes_grow kind text more one.passed one.from one.passes) in
+    let same = same_passed kind rest held.passed one.passed held.from (one.from ++ more) held.passes passes
+    (no_interim_begins kind (room_behind held.passed) held.from held.head held.behind held.begins)
+    (no_interim_begins kind (room_behind one.passed) (one.from ++ more) one.head (one.behind ++ more) begins) in
+    let heads = head_unique kind (one.from ++ more) one.head held.head (one.behind ++ more) held.behind begins.reads
+    (subst (λ (t : List ℕ). ReadsHead kind t held.head held.behind) same.1 held.begins.reads) in
     let both : Ok one.framing ≡ Ok held.framing = sym one.faultless ∙ ap framing_behind heads.0 ∙ held.faultless in
     let framing : one.framing ≡ held.framing = cc in
     part_not_whole part body.items pending held.behind one.behind more one.body held.framing held.part_is
     (subst (λ (f : Framing). IsBody f one.behind one.body) framing one.is_body) heads.1
-open_no_request (stages.Faulty fault) pending rest held text more request one is = held
+open_no_message kind (stages.Faulty fault) pending rest held text more message one is = held

@@ -1,9 +1,9 @@
 -- What is printed is read again.
-use Rattle.std.proofs.Common.{◌≡◌, ℕ, ◌<◌, ◌≤◌, List, [], ◌∷◌, ◌++◌, length, reverse, true, false, ◌&&◌, cond, Option, Some, None, Ok, Err, refl, sym, ap, ap₂, ◌∙◌, subst, arith, append_assoc, All, le-leb}
-use Rattle.std.specs.Prelude.{codes, IsTrue, IsUtf8, ◌==◌}
+use Rattle.std.proofs.Common.{◌≡◌, ℕ, ◌<◌, ◌≤◌, List, [], ◌∷◌, ◌++◌, length, drop, reverse, true, false, ◌&&◌, cond, Option, Some, None, Ok, Err, refl, sym, ap, ap₂, ◌∙◌, subst, arith, append_assoc, All, le-leb}
+use Rattle.std.specs.Prelude.{codes, IsTrue, IsUtf8, ◌==◌, nat_eq}
 use Rattle.std.specs.Fmt.{decimal}
 use Rattle.std.specs.Char.{is_ascii_digit, digit_value}
-use Rattle.std.specs.List.{list_all}
+use Rattle.std.specs.List.{list_all, starts_with}
 use Rattle.std.specs.Str.Parse.{digits_value, AllDigits}
 use Rattle.std.proofs.lemmas.List.Sums.{AllPass-from_list_all}
 use Rattle.std.proofs.lemmas.Bool.Decides.{nat_tests}
@@ -18,8 +18,12 @@ use Rattle.httparse.specs.Ascii.{crlf_bytes}
 use Rattle.httparse.proofs.GrammarLemmas.{print_request-append}
 use Rattle.httparse.proofs.TrimLemmas.{AllPass-reverse, trim_ows_space}
 use Rattle.http_text.specs.Framing.{most_body, sized, length_of, is_length}
-use Rattle.http_text.specs.Requests.{path_of, IsRequest}
-use Rattle.http_text.specs.declared.request.RawRequest.{RawRequest}
+use Rattle.http_text.specs.Heads.{request as request_head}
+use Rattle.http_text.specs.Messages.{before_query, from_slash, path_of, IsMessage}
+use Rattle.http_text.proofs.PassLemmas.{passes_none}
+use Rattle.http_text.specs.declared.message.Kind.TheVariants.{Requests}
+use Rattle.http_text.specs.declared.message.Message.TheVariants as forms
+use Rattle.http_text.specs.declared.message.RawRequest.{RawRequest}
 use Rattle.http_text.specs.Print.{field, body_fields, head_for, request_text, is_visible, is_path_byte, IsPrintable}
 use Rattle.http_text.specs.declared.framing.FrameFault.TheVariants.{BodyTooLong}
 use Rattle.http_text.specs.declared.framing.Framing.TheVariants.{Sized}
@@ -76,14 +80,19 @@ module _ (n : ℕ) (small : n ≤ most_body) where
       ∙ ap (λ t. cond t (Ok (Sized n)) (Err (BodyTooLong n most_body))) (le-leb n most_body small)
 
 -- a path has no query
-path_again : (path : List ℕ) → AllPass is_path_byte path → path_of path ≡ path
-path_again [] all = refl
-path_again (b ∷ path) all =
-    ap (λ t. cond t [] (b ∷ path_of path)) (no_query b (All-head (λ x. IsTrue (is_path_byte x)) b path all))
-    ∙ ap (λ (t : List ℕ). b ∷ t) (path_again path (All-tail (λ x. IsTrue (is_path_byte x)) b path all))
+no_query : (path : List ℕ) → AllPass is_path_byte path → before_query path ≡ path
+no_query [] all = refl
+no_query (b ∷ path) all =
+    ap (λ t. cond t [] (b ∷ before_query path)) (not_query b (All-head (λ x. IsTrue (is_path_byte x)) b path all))
+    ∙ ap (λ (t : List ℕ). b ∷ t) (no_query path (All-tail (λ x. IsTrue (is_path_byte x)) b path all))
   where
-    no_query : (c : ℕ) → is_path_byte c ≡ true → (c == 63) ≡ false
-    no_query c passes = grind (arith, nat_tests)
+    not_query : (c : ℕ) → is_path_byte c ≡ true → (c == 63) ≡ false
+    not_query c passes = grind (arith, nat_tests)
+
+-- a path that begins with a slash is that of the target
+path_again : (path rest : List ℕ) → path ≡ 47 ∷ rest → AllPass is_path_byte path → path_of path ≡ path
+path_again path rest is all =
+    ap (λ (w : List ℕ). cond (starts_with nat_eq w (codes "http://")) (from_slash (drop 7 w)) w) (no_query path all ∙ is) ∙ sym is
 
 path_byte : (b : ℕ) → is_path_byte b ≡ true → (is_uri_byte b ≡ true) × (b < 128)
 path_byte b passes = (grind (arith, nat_tests), grind (arith, nat_tests))
@@ -102,33 +111,40 @@ path_of_head path all = (
   IsUtf8-from_ascii path (IsAscii-from_all path (All-weaker (λ b. IsTrue (is_path_byte b)) (λ b. b < 128) (λ b passes. (path_byte b passes).1) path all)),
 )
 
+path_not_empty : (path rest : List ℕ) → path ≡ 47 ∷ rest → 0 < length path
+path_not_empty path rest is = let long = ap length is in omega arith
+
 request_with : List ℕ → List ℕ → List ℕ → Option (List ℕ) → RawRequest
 request_with method path body kind = record { method = method; path = path; http10 = false; content_type = kind; encoding = None; body = body }
 
 again : (method path body host : List ℕ) (kind : Option (List ℕ)) → IsPrintable (request_with method path body kind) host
-    → IsRequest (request_text (request_with method path body kind) host) (request_with method path body kind)
+    → IsMessage Requests (request_text (request_with method path body kind) host) (forms.Request (request_with method path body kind))
 unfolding request_with is_token_byte
 again method path body host None p =
-    let target = path_of_head path p.path.1 in
+    let target = path_of_head path p.path.2 in
     let get : IsToken method = subst IsToken (sym p.method.0) (token_of (codes "GET") (omega arith) refl) in
     let fields : All IsField (field (codes "Host") host ∷ []) =
     All-cons IsField (field (codes "Host") host) [] (field_is (codes "Host") host (token_of (codes "Host") (omega arith) refl) p.host_bytes) (All-nil IsField) in
     record {
-      head = head_for (request_with method path body None) host;
+      passed = [];
+      from = request_text (request_with method path body None) host;
+      passes = passes_none Requests (request_text (request_with method path body None) host);
+      head = request_head (head_for (request_with method path body None) host);
       behind = body;
       begins = record {
-        reads = (record { method = get; target = (p.path.0, target.0); target_text = target.1; minor = omega arith; fields = fields }, refl);
+        reads = (record { method = get; target = (path_not_empty path p.path.0 p.path.1, target.0); target_text = target.1; minor = omega arith; fields = fields }, refl);
         short = p.head_fits;
         few = omega arith;
+        final = refl;
       };
       framing = Sized 0;
       faultless = refl;
       body = body;
       is_body = (ap length p.method.1, refl);
-      is_request = λ i. record { method = method; path = sym (path_again path p.path.1) i; http10 = false; content_type = None; encoding = None; body = body };
+      is_message = λ i. forms.Request (record { method = method; path = sym (path_again path p.path.0 p.path.1 p.path.2) i; http10 = false; content_type = None; encoding = None; body = body });
     }
 again method path body host (Some kind) p =
-    let target = path_of_head path p.path.1 in
+    let target = path_of_head path p.path.2 in
     let size = decimal_word (length body) p.body_fits in
     let post : IsToken method = subst IsToken (sym p.method.0) (token_of (codes "POST") (omega arith) refl) in
     let fields : All IsField (field (codes "Host") host ∷ body_fields (Some kind) (length body)) =
@@ -136,34 +152,38 @@ again method path body host (Some kind) p =
     (All-cons IsField (field (codes "Content-Type") kind) (field (codes "Content-Length") (decimal (length body)) ∷ []) (field_is (codes "Content-Type") kind (token_of (codes "Content-Type") (omega arith) refl) p.method.1)
     (All-cons IsField (field (codes "Content-Length") (decimal (length body))) [] (field_is (codes "Content-Length") (decimal (length body)) (token_of (codes "Content-Length") (omega arith) refl) size) (All-nil IsField))) in
     record {
-      head = head_for (request_with method path body (Some kind)) host;
+      passed = [];
+      from = request_text (request_with method path body (Some kind)) host;
+      passes = passes_none Requests (request_text (request_with method path body (Some kind)) host);
+      head = request_head (head_for (request_with method path body (Some kind)) host);
       behind = body;
       begins = record {
-        reads = (record { method = post; target = (p.path.0, target.0); target_text = target.1; minor = omega arith; fields = fields }, refl);
+        reads = (record { method = post; target = (path_not_empty path p.path.0 p.path.1, target.0); target_text = target.1; minor = omega arith; fields = fields }, refl);
         short = p.head_fits;
         few = omega arith;
+        final = refl;
       };
       framing = Sized (length body);
       faultless = size_again (length body) p.body_fits;
       body = body;
       is_body = (refl, refl);
-      is_request = λ i. record {
+      is_message = λ i. forms.Request (record {
         method = method;
-        path = sym (path_again path p.path.1) i;
+        path = sym (path_again path p.path.0 p.path.1 p.path.2) i;
         http10 = false;
         content_type = Some (sym (trim_word kind p.method.1) i);
         encoding = None;
         body = body;
-      };
+      });
     }
 
 -- what is printed is that request
-pub printed_again : (request : RawRequest) (host : List ℕ) → IsPrintable request host → IsRequest (request_text request host) request
+pub printed_again : (r : RawRequest) (host : List ℕ) → IsPrintable r host → IsMessage Requests (request_text r host) (forms.Request r)
 unfolding request_with
-printed_again request host p =
-    let same : request_with request.method request.path request.body request.content_type ≡ request =
-    λ i. record { method = request.method; path = request.path; http10 = sym p.http11 i; content_type = request.content_type; encoding = sym p.encoding i; body = request.body } in
-    let plain : IsPrintable (request_with request.method request.path request.body request.content_type) host = record {
+printed_again r host p =
+    let same : request_with r.method r.path r.body r.content_type ≡ r =
+    λ i. record { method = r.method; path = r.path; http10 = sym p.http11 i; content_type = r.content_type; encoding = sym p.encoding i; body = r.body } in
+    let plain : IsPrintable (request_with r.method r.path r.body r.content_type) host = record {
       method = p.method;
       path = p.path;
       host_bytes = p.host_bytes;
@@ -172,7 +192,7 @@ printed_again request host p =
       head_fits = p.head_fits;
       body_fits = p.body_fits;
     } in
-    subst (λ (r : RawRequest). IsRequest (request_text request host) r) same (again request.method request.path request.body host request.content_type plain)
+    subst (λ (q : RawRequest). IsMessage Requests (request_text r host) (forms.Request q)) same (again r.method r.path r.body host r.content_type plain)
 
 -- ---- the text
 

@@ -1,17 +1,18 @@
 -- What stands at the front of a text.
-use Rattle.std.specs.Prelude.{◌≡◌, ◌==◌, ℕ, List, [], length, drop, codes, Option, Result, Ok, Err}
-use Rattle.std.specs.Option.{option_map}
-use Rattle.httparse.specs.Grammar.{RequestHead, print_request, HasNoRequest}
+use Rattle.std.specs.Prelude.{◌≡◌, ◌==◌, ◌≤◌, ℕ, List, [], length, drop, codes, Result, Ok, Err}
 use Rattle.httparse.specs.Spans.{span_bytes}
 use Rattle.httparse.specs.declared.spans.RequestSpans.{RequestSpans}
-use Rattle.http_text.specs.Heads.{IsBadHead}
+use Rattle.httparse.specs.declared.spans.ResponseSpans.{ResponseSpans}
+use Rattle.http_text.specs.Heads.{Head, print_head, ReadsHead, HasNoHead, IsBadHead, IsInterim}
 use Rattle.http_text.specs.Fields.{Row, values_of, first_of}
-use Rattle.http_text.specs.Requests.{request_of, path_of, BeginsWithHead, framing_behind, IsFrameFault}
-use Rattle.http_text.specs.declared.request.RawRequest.{RawRequest}
+use Rattle.http_text.specs.Messages.{message_of, path_of, BeginsWithHead, framing_behind, IsFaultAt}
+use Rattle.http_text.specs.declared.message.Kind.{Kind}
+use Rattle.http_text.specs.declared.message.RawRequest.{RawRequest}
+use Rattle.http_text.specs.declared.message.RawReply.{RawReply}
 use Rattle.http_text.specs.declared.framing.FrameFault.{FrameFault}
 use Rattle.http_text.specs.declared.framing.FrameFault.TheVariants.{OutOfMemory}
 use Rattle.http_text.specs.declared.front.Front.{Front}
-use Rattle.http_text.specs.declared.front.Front.TheVariants.{Whole, Open}
+use Rattle.http_text.specs.declared.front.Front.TheVariants.{Whole, Interim, Open}
 
 -- the request of a head with these parts and fields, still without a body
 abbrev pub request_at : List ℕ → RequestSpans → List Row → RawRequest
@@ -24,15 +25,25 @@ request_at text head rows = record {
   body = [];
 }
 
--- the fault is that of the rest, unless memory ran out
-abbrev pub TellsFault : List ℕ → FrameFault → Type 0
-TellsFault rest OutOfMemory = Unit {0}
-TellsFault rest fault = IsFrameFault rest fault
+-- and the reply
+abbrev pub reply_at : ResponseSpans → List Row → RawReply
+reply_at head rows = record {
+  status = head.code;
+  content_type = first_of (values_of (codes "content-type") rows);
+  body = [];
+}
+
+-- the fault is that of the text, unless memory ran out
+abbrev pub TellsFaultAt : Kind → ℕ → List ℕ → FrameFault → Type 0
+TellsFaultAt kind room text OutOfMemory = Unit {0}
+TellsFaultAt kind room text fault = IsFaultAt kind room text fault
 
 -- what was read is what stands at the front
-abbrev pub FrontIs : List ℕ → Result Front FrameFault → Type 0
-FrontIs text (Ok (Whole request framing len)) =
-    (head : RequestHead) × BeginsWithHead text head (drop len text) × (len ≡ length (print_request head))
-    × (framing_behind head ≡ Ok framing) × (request ≡ request_of head [])
-FrontIs text (Ok Open) = HasNoRequest text × ¬ (IsBadHead text)
-FrontIs text (Err fault) = TellsFault text fault
+abbrev pub FrontIs : Kind → ℕ → List ℕ → Result Front FrameFault → Type 0
+FrontIs kind room text (Ok (Whole message framing len)) =
+    (head : Head) × BeginsWithHead kind room text head (drop len text) × (len ≡ length (print_head head))
+    × (framing_behind head ≡ Ok framing) × (message ≡ message_of head [])
+FrontIs kind room text (Ok (Interim len)) =
+    (head : Head) × IsInterim kind head × ReadsHead kind text head (drop len text) × (len ≡ length (print_head head)) × (len ≤ room)
+FrontIs kind room text (Ok Open) = HasNoHead kind text × ¬ (IsBadHead kind text)
+FrontIs kind room text (Err fault) = TellsFaultAt kind room text fault

@@ -2,9 +2,9 @@
 use Rattle.std.specs.Prelude.{◌≡◌, ◌<◌, ◌≤◌, ◌++◌, ℕ, Bool, ◌&&◌, not, ◌==◌, nat_le, false, List, [], ◌∷◌, length, Option, Some, None, codes}
 use Rattle.std.specs.Fmt.{decimal}
 use Rattle.httparse.specs.Grammar.{AllPass, Field, crlf, RequestHead, print_request}
+use Rattle.http_text.specs.Heads.{most_head}
 use Rattle.http_text.specs.Framing.{most_body}
-use Rattle.http_text.specs.Requests.{most_head}
-use Rattle.http_text.specs.declared.request.RawRequest.{RawRequest}
+use Rattle.http_text.specs.declared.message.RawRequest.{RawRequest}
 
 -- name ":" SP value CRLF
 abbrev pub field : List ℕ → List ℕ → Field
@@ -47,7 +47,7 @@ HasMethod request (Some kind) = (request.method ≡ codes "POST") × AllPass is_
 -- what a client may write
 pub record IsPrintable (request : RawRequest) (host : List ℕ) : Type 0 where
   pub method : HasMethod request request.content_type
-  pub path : (0 < length request.path) × AllPass is_path_byte request.path
+  pub path : (rest : List ℕ) × (request.path ≡ 47 ∷ rest) × AllPass is_path_byte request.path
   pub host_bytes : AllPass is_visible host
   pub http11 : request.http10 ≡ false
   pub encoding : request.encoding ≡ None

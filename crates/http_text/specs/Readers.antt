@@ -1,107 +1,127 @@
 -- What a reader stands for.
-use Rattle.std.specs.Prelude.{◌≡◌, ◌⊎◌, ℕ, List, [], ◌∷◌, ◌++◌, take, map, Option, Some, None, Result, Ok, Err}
-use Rattle.http_text.specs.Requests.{request_of, BeginsWithHead, framing_behind, IsRequest, AreRequests, Reads, between, inside, faulty}
-use Rattle.httparse.specs.Grammar.{RequestHead}
-use Rattle.http_text.specs.Front.{TellsFault}
+use Rattle.std.specs.Prelude.{◌≡◌, ◌⊎◌, ◌≤◌, ℕ, List, [], ◌∷◌, ◌++◌, take, Option, Some, None, Result, Ok, Err}
+use Rattle.http_text.specs.Heads.{Head, most_head, PassesOver, room_behind}
+use Rattle.http_text.specs.Messages.{message_of, BeginsWithHead, framing_behind, IsMessage, IsFrameFault, AreMessages, Reads, between, inside, faulty}
 use Rattle.http_text.specs.Stages.{IsOpenHead, HoldsPart, UsesSome}
 use Rattle.http_text.specs.declared.framing.FrameFault.{FrameFault}
 use Rattle.http_text.specs.declared.framing.FrameFault.TheVariants.{OutOfMemory}
 use Rattle.http_text.specs.declared.framing.Framing.{Framing}
-use Rattle.http_text.specs.declared.request.RawRequest.{RawRequest}
+use Rattle.http_text.specs.declared.message.Kind.{Kind}
+use Rattle.http_text.specs.declared.message.Message.{Message}
 use Rattle.http_text.specs.declared.stage.Part.{Part}
-use Rattle.http_text.specs.declared.stage.WholeHead.{WholeHead}
 use Rattle.http_text.specs.declared.reader.Stage.{Stage}
-use Rattle.http_text.specs.declared.reader.Stage.TheVariants.{Head, Body, Faulty}
-use Rattle.http_text.specs.declared.reader.RequestReader.{RequestReader}
+use Rattle.http_text.specs.declared.reader.Stage.TheVariants.{Head as InHead, Body, Faulty}
+use Rattle.http_text.specs.declared.reader.MessageReader.{MessageReader}
+
+-- the rest is what was passed over, and the front of a head
+pub record HoldsHead (kind : Kind) (rest : List ℕ) (room : ℕ) (pending : List ℕ) : Type 0 where
+  pub passed : List Head
+  pub passes : PassesOver kind rest passed pending
+  pub room_is : room ≡ room_behind passed
+  pub still : IsOpenHead kind room pending
 
 -- the rest is a whole head without a fault, and what has come of its body
-pub record HoldsBody (rest : List ℕ) (request : RawRequest) (body : List ℕ) (part : Part) (pending : List ℕ) : Type 0 where
-  pub head : RequestHead
+pub record HoldsBody (kind : Kind) (rest : List ℕ) (message : Message) (body : List ℕ) (part : Part) (pending : List ℕ) : Type 0 where
+  pub passed : List Head
+  pub from : List ℕ
+  pub passes : PassesOver kind rest passed from
+  pub head : Head
   pub behind : List ℕ
   pub framing : Framing
-  pub begins : BeginsWithHead rest head behind
+  pub begins : BeginsWithHead kind (room_behind passed) from head behind
   pub faultless : framing_behind head ≡ Ok framing
-  pub request_is : request ≡ request_of head []
+  pub message_is : message ≡ message_of head []
   pub part_is : HoldsPart part body pending framing behind
 
 -- the rest has no fault yet, and has come so far
-abbrev pub Holds : Stage → List ℕ → List ℕ → Type 0
-Holds Head pending rest = (rest ≡ pending) × IsOpenHead pending
-Holds (Body request body part) pending rest = HoldsBody rest request body.items part pending
-Holds (Faulty fault) pending rest = ⊥
+abbrev pub Holds : Kind → Stage → List ℕ → List ℕ → Type 0
+Holds kind (InHead room) pending rest = HoldsHead kind rest room pending
+Holds kind (Body message body part) pending rest = HoldsBody kind rest message body.items part pending
+Holds kind (Faulty fault) pending rest = ⊥
+
+-- the fault is that of the rest, unless memory ran out
+abbrev pub TellsFault : Kind → List ℕ → FrameFault → Type 0
+TellsFault kind rest OutOfMemory = Unit {0}
+TellsFault kind rest fault = IsFrameFault kind rest fault
 
 -- and else it has this fault, unless memory ran out
-abbrev pub HoldsStage : Stage → List ℕ → List ℕ → Type 0
-HoldsStage (Faulty fault) pending rest = TellsFault rest fault
-HoldsStage Head pending rest = Holds Head pending rest
-HoldsStage (Body request body part) pending rest = Holds (Body request body part) pending rest
+abbrev pub HoldsStage : Kind → Stage → List ℕ → List ℕ → Type 0
+HoldsStage kind (Faulty fault) pending rest = TellsFault kind rest fault
+HoldsStage kind (InHead room) pending rest = Holds kind (InHead room) pending rest
+HoldsStage kind (Body message body part) pending rest = Holds kind (Body message body part) pending rest
 
 -- the stage and the bytes that are kept go together
-abbrev pub CanGoOn : Stage → List ℕ → Type 0
-CanGoOn stage pending = (rest : List ℕ) × Holds stage pending rest
+abbrev pub CanGoOn : Kind → Stage → List ℕ → Type 0
+CanGoOn kind stage pending = (rest : List ℕ) × Holds kind stage pending rest
 
--- the text is still no whole request, or it is one, which joins the others
-abbrev pub NextIs : List ℕ → List RawRequest → List RawRequest → Stage → List ℕ → Type 0
-NextIs text old new stage pending =
-    ((new ≡ old) × Holds stage pending text)
-    ⊎ ((request : RawRequest) × (new ≡ old ++ request ∷ []) × IsRequest text request × Holds stage pending [])
+-- the text is still no whole message, or it is one, which joins the others
+abbrev pub NextIs : Kind → List ℕ → List Message → List Message → Stage → List ℕ → Type 0
+NextIs kind text old new stage pending =
+    ((new ≡ old) × Holds kind stage pending text)
+    ⊎ ((message : Message) × (new ≡ old ++ message ∷ []) × IsMessage kind text message × Holds kind stage pending [])
 
 -- a step used some of a piece, or met a fault
-abbrev pub AdvanceIs : List ℕ → List ℕ → List RawRequest → List RawRequest → List ℕ → Result (ℕ × Stage) FrameFault → Type 0
-AdvanceIs rest piece old new pending (Ok (used, stage)) = UsesSome piece used × NextIs (rest ++ take used piece) old new stage pending
-AdvanceIs rest piece old new pending (Err fault) = (new ≡ old) × TellsFault (rest ++ piece) fault
+abbrev pub AdvanceIs : Kind → List ℕ → List ℕ → List Message → List Message → List ℕ → Result (ℕ × Stage) FrameFault → Type 0
+AdvanceIs kind rest piece old new pending (Ok (used, stage)) = UsesSome piece used × NextIs kind (rest ++ take used piece) old new stage pending
+AdvanceIs kind rest piece old new pending (Err fault) = (new ≡ old) × TellsFault kind (rest ++ piece) fault
 
--- the text is a whole head without a fault, of this request
-abbrev pub IsHeadOf : List ℕ → WholeHead → Type 0
-IsHeadOf text whole = (head : RequestHead) × BeginsWithHead text head [] × (framing_behind head ≡ Ok whole.framing) × (whole.request ≡ request_of head [])
+-- the text is what is passed over and a whole head without a fault, of this message
+pub record IsHeadOf (kind : Kind) (text : List ℕ) (message : Message) (framing : Framing) : Type 0 where
+  pub passed : List Head
+  pub from : List ℕ
+  pub passes : PassesOver kind text passed from
+  pub head : Head
+  pub begins : BeginsWithHead kind (room_behind passed) from head []
+  pub faultless : framing_behind head ≡ Ok framing
+  pub message_is : message ≡ message_of head []
 
 -- what a body begins as behind a whole head
-abbrev pub BeginsBody : List ℕ → List RawRequest → List RawRequest → Result Stage FrameFault → Type 0
-BeginsBody text old new (Ok stage) = NextIs text old new stage []
-BeginsBody text old new (Err fault) = (new ≡ old) × (fault ≡ OutOfMemory)
+abbrev pub BeginsBody : Kind → List ℕ → List Message → List Message → Result Stage FrameFault → Type 0
+BeginsBody kind text old new (Ok stage) = NextIs kind text old new stage []
+BeginsBody kind text old new (Err fault) = (new ≡ old) × (fault ≡ OutOfMemory)
 
--- the bytes are the requests taken and those that wait, and then a rest of which this much is kept
-abbrev pub HoldsAll : List ℕ → List RawRequest → List RawRequest → Stage → List ℕ → Type 0
-HoldsAll bytes taken queue stage pending = (rest : List ℕ) × AreRequests bytes (taken ++ queue) rest × Holds stage pending rest
+-- where a reader is behind a step in a head, or the fault of the text
+abbrev pub EndsHead : Kind → List ℕ → List ℕ → List Message → List Message → Result Stage FrameFault → Type 0
+EndsHead kind text pending old new (Ok stage) = NextIs kind text old new stage pending
+EndsHead kind text pending old new (Err fault) = (new ≡ old) × TellsFault kind text fault
 
--- the bytes are the requests taken and those that wait, and then a rest with this fault
-abbrev pub HoldsFaulty : List ℕ → List RawRequest → List RawRequest → FrameFault → Type 0
-HoldsFaulty bytes taken queue fault = (rest : List ℕ) × AreRequests bytes (taken ++ queue) rest × TellsFault rest fault
+-- the bytes are the messages taken and those that wait, and then a rest of which this much is kept
+abbrev pub HoldsAll : Kind → List ℕ → List Message → List Message → Stage → List ℕ → Type 0
+HoldsAll kind bytes taken queue stage pending = (rest : List ℕ) × AreMessages kind bytes (taken ++ queue) rest × Holds kind stage pending rest
+
+-- the bytes are the messages taken and those that wait, and then a rest with this fault
+abbrev pub HoldsFaulty : Kind → List ℕ → List Message → List Message → FrameFault → Type 0
+HoldsFaulty kind bytes taken queue fault = (rest : List ℕ) × AreMessages kind bytes (taken ++ queue) rest × TellsFault kind rest fault
 
 -- a piece was read
-abbrev pub ReadsPiece : List ℕ → List RawRequest → List RawRequest → List ℕ → Result Stage FrameFault → Type 0
-ReadsPiece bytes taken queue pending (Ok stage) = HoldsAll bytes taken queue stage pending
-ReadsPiece bytes taken queue pending (Err fault) = HoldsFaulty bytes taken queue fault
+abbrev pub ReadsPiece : Kind → List ℕ → List Message → List Message → List ℕ → Result Stage FrameFault → Type 0
+ReadsPiece kind bytes taken queue pending (Ok stage) = HoldsAll kind bytes taken queue stage pending
+ReadsPiece kind bytes taken queue pending (Err fault) = HoldsFaulty kind bytes taken queue fault
 
--- the requests that wait to be taken
-abbrev pub waiting : RequestReader → List RawRequest
+-- the messages that wait to be taken
+abbrev pub waiting : MessageReader → List Message
 waiting reader = reader.queue.items
 
 -- the fault that was met
 abbrev pub stage_fault : Stage → Option FrameFault
-stage_fault Head = None
-stage_fault (Body request body part) = None
+stage_fault (InHead room) = None
+stage_fault (Body message body part) = None
 stage_fault (Faulty fault) = Some fault
 
-abbrev pub fault_of : RequestReader → Option FrameFault
+abbrev pub fault_of : MessageReader → Option FrameFault
 fault_of reader = stage_fault reader.stage
 
--- the reader was given these bytes, and of their requests these were taken
-abbrev pub StandsFor : List ℕ → List RawRequest → RequestReader → Type 0
-StandsFor bytes taken reader =
-    (rest : List ℕ) × AreRequests bytes (taken ++ waiting reader) rest × HoldsStage reader.stage reader.pending.items rest
+-- the reader was given these bytes, and of their messages these were taken
+abbrev pub StandsFor : Kind → List ℕ → List Message → MessageReader → Type 0
+StandsFor kind bytes taken reader =
+    (rest : List ℕ) × AreMessages kind bytes (taken ++ waiting reader) rest × HoldsStage kind reader.stage reader.pending.items rest
 
 -- a reader that was given some bytes
-abbrev pub IsReader : RequestReader → Type 0
-IsReader reader = (rest : List ℕ) × HoldsStage reader.stage reader.pending.items rest
+abbrev pub IsReader : MessageReader → Type 0
+IsReader reader = (bytes : List ℕ) × (taken : List Message) × StandsFor reader.kind bytes taken reader
 
--- the requests taken after a call of take
-abbrev pub taken_after : List RawRequest → Option RawRequest → List RawRequest
-taken_after taken None = taken
-taken_after taken (Some request) = taken ++ request ∷ []
-
--- the requests so far are those of the bytes, and the fault, where there is one, is theirs
-abbrev pub Decides : {T : Type 0} → List ℕ → List RawRequest → Result T FrameFault → Type 0
-Decides bytes requests (Ok done) = Reads bytes requests between ⊎ Reads bytes requests inside
-Decides bytes requests (Err OutOfMemory) = (rest : List ℕ) × AreRequests bytes requests rest
-Decides bytes requests (Err fault) = Reads bytes requests (faulty fault)
+-- the messages so far are those of the bytes, and the fault, where there is one, is theirs
+abbrev pub Decides : {T : Type 0} → Kind → List ℕ → List Message → Result T FrameFault → Type 0
+Decides kind bytes messages (Ok done) = Reads kind bytes messages between ⊎ Reads kind bytes messages inside
+Decides kind bytes messages (Err OutOfMemory) = (rest : List ℕ) × AreMessages kind bytes messages rest
+Decides kind bytes messages (Err fault) = Reads kind bytes messages (faulty fault)

@@ -1,25 +1,27 @@
--- What a reader keeps of the rest behind the last whole request.
-use Rattle.std.specs.Prelude.{◌≡◌, ◌⊎◌, ◌+◌, ◌<◌, ◌≤◌, ℕ, List, [], ◌∷◌, ◌++◌, length, take, Option, Some, None, Result, Ok, Err}
+-- What a reader keeps of the rest behind the last whole message.
+use Rattle.std.specs.Prelude.{◌≡◌, ◌⊎◌, ◌+◌, ◌<◌, ◌≤◌, ◌-◌, ℕ, List, [], ◌∷◌, ◌++◌, length, take, Option, Some, None, Result, Ok, Err}
 use Rattle.std.specs.List.{flat_map}
-use Rattle.httparse.specs.Grammar.{RequestHead, HasNoRequest, ChunkLine, print_chunk_line, chunk_size, HasNoChunkLine, NeverHasChunkLine, HasNoSection, NeverHasSection}
-use Rattle.http_text.specs.Heads.{IsBadHead}
+use Rattle.httparse.specs.Grammar.{ChunkLine, print_chunk_line, chunk_size, HasNoChunkLine, NeverHasChunkLine, HasNoSection, NeverHasSection}
+use Rattle.http_text.specs.Heads.{Head, print_head, HasNoHead, IsBadHead, IsInterim}
 use Rattle.http_text.specs.Framing.{most_body}
 use Rattle.http_text.specs.Chunks.{most_line, most_trailers, IsShortLine, AreChunks, data_of, print_chunk, Chunk}
-use Rattle.http_text.specs.Requests.{most_head, request_of, BeginsWithHead, framing_behind, IsBody, IsBodyFault}
-use Rattle.http_text.specs.Front.{TellsFault}
+use Rattle.http_text.specs.Messages.{message_of, BeginsWithHead, framing_behind, IsBody, IsBodyFault}
+use Rattle.http_text.specs.Front.{TellsFaultAt}
+use Rattle.http_text.specs.declared.message.Kind.{Kind}
 use Rattle.http_text.specs.declared.framing.FrameFault.{FrameFault}
 use Rattle.http_text.specs.declared.framing.FrameFault.TheVariants.{OutOfMemory}
 use Rattle.http_text.specs.declared.framing.Framing.{Framing}
 use Rattle.http_text.specs.declared.framing.Framing.TheVariants as framings
-use Rattle.http_text.specs.declared.stage.WholeHead.{WholeHead}
+use Rattle.http_text.specs.declared.stage.HeadEnd.{HeadEnd}
+use Rattle.http_text.specs.declared.stage.HeadEnd.TheVariants.{Open, Interim, Whole}
 use Rattle.http_text.specs.declared.stage.Part.{Part}
 use Rattle.http_text.specs.declared.stage.Part.TheVariants.{Sized, Line, Content, ContentEnd, Trailers}
 
 -- a head that hasn't ended, and has no fault
-pub record IsOpenHead (text : List ℕ) : Type 0 where
-  pub short : length text < most_head
-  pub none : HasNoRequest text
-  pub good : 0 < length text → ¬ (IsBadHead text)
+pub record IsOpenHead (kind : Kind) (room : ℕ) (text : List ℕ) : Type 0 where
+  pub short : length text < room
+  pub none : HasNoHead kind text
+  pub good : ¬ (IsBadHead kind text)
 
 -- a chunk line that hasn't ended, and has no fault
 pub record IsOpenLine (text : List ℕ) : Type 0 where
@@ -87,12 +89,15 @@ abbrev pub UsesSome : List ℕ → ℕ → Type 0
 UsesSome piece used = (0 < used) × (used ≤ length piece)
 
 -- a head goes on, or is whole, or has a fault
-abbrev pub HeadStepIs : List ℕ → List ℕ → List ℕ → Result (ℕ × Option WholeHead) FrameFault → Type 0
-HeadStepIs old new piece (Ok (used, None)) = UsesSome piece used × (new ≡ old ++ take used piece) × IsOpenHead new
-HeadStepIs old new piece (Ok (used, Some whole)) =
+abbrev pub HeadStepIs : Kind → ℕ → List ℕ → List ℕ → List ℕ → Result (ℕ × HeadEnd) FrameFault → Type 0
+HeadStepIs kind room old new piece (Ok (used, Open)) = UsesSome piece used × (new ≡ old ++ take used piece) × IsOpenHead kind room new
+HeadStepIs kind room old new piece (Ok (used, Interim left)) =
     UsesSome piece used × (new ≡ [])
-    × ((head : RequestHead) × BeginsWithHead (old ++ take used piece) head [] × (framing_behind head ≡ Ok whole.framing) × (whole.request ≡ request_of head []))
-HeadStepIs old new piece (Err fault) = TellsFault (old ++ piece) fault
+    × ((head : Head) × IsInterim kind head × (old ++ take used piece ≡ print_head head) × (length (print_head head) ≤ room) × (left ≡ room - length (print_head head)))
+HeadStepIs kind room old new piece (Ok (used, Whole message framing)) =
+    UsesSome piece used × (new ≡ [])
+    × ((head : Head) × BeginsWithHead kind room (old ++ take used piece) head [] × (framing_behind head ≡ Ok framing) × (message ≡ message_of head []))
+HeadStepIs kind room old new piece (Err fault) = TellsFaultAt kind room (old ++ piece) fault
 
 -- a body goes on, or is whole, or has a fault
 abbrev pub PartStepIs : Framing → List ℕ → List ℕ → List ℕ → List ℕ → Result (ℕ × Option Part) FrameFault → Type 0

@@ -1,15 +1,16 @@
-//! How the body of a request is framed.
+//! How the body of a message is framed.
 ghost use Rattle.std.specs.Prelude.{◌≡◌, List, ℕ, ◌≤◌, All, length, map, Option, Some, None, true};
 ghost use Rattle.std.specs.List.{list_all};
 ghost use Rattle.std.specs.Char.{is_ascii_digit};
 ghost use Rattle.std.specs.Str.Parse.{digits_value};
 ghost use Rattle.httparse.specs.Spans.{IsHeaderWithin, header_bytes};
-ghost use Rattle.http_text.specs.Framing.{framing_by_length, framing_of, length_of};
+ghost use Rattle.http_text.specs.Framing.{framing_by_length, framing_of, lacks_host, length_of};
 ghost use Rattle.http_text.specs.Fields.{first_of};
 ghost use Rattle.std.specs.Option.{option_copied};
 ghost use Rattle.http_text.specs.declared.framing.FrameFault.TheVariants.{OutOfMemory};
 
 use crate::fields::{count_named, first_named};
+use crate::message::Kind;
 use delta_base::OutOfMemory as NoMemory;
 use httparse::spans::HeaderSpan;
 use std::alloc::{AllocError, AllocFailed};
@@ -17,7 +18,7 @@ use std::alloc::{AllocError, AllocFailed};
 /// The most bytes of a body.
 pub const MOST_BODY: u64 = 4_194_304;
 
-/// Why a stream of requests can't be read on.
+/// Why a stream can't be read on.
 #[derive(Clone, Copy, Debug, PartialEq, Eq)]
 pub enum FrameFault {
     BadHead,
@@ -26,7 +27,7 @@ pub enum FrameFault {
     BadHost,
     TwoLengths,
     BadLength,
-    BodyTooLong { length: u64, limit: u64 },
+    BodyTooLong { length: u128, limit: u64 },
     BadChunk,
     OutOfMemory,
 }
@@ -92,12 +93,15 @@ fn digits_value(digits: &[u8]) -> u64
 }
 
 // The framing of a body by the values of Content-Length.
-fn by_length(count: usize, first: Option<&[u8]>) -> Result<Framing, FrameFault>
+fn by_length(kind: Kind, count: usize, first: Option<&[u8]>) -> Result<Framing, FrameFault>
     ensures { (values : List (List ℕ)) → count ≡ length values → option_copied first.entry ≡ first_of values
-        → result ≡ framing_by_length values }
+        → result ≡ framing_by_length kind values }
 {
     let Some(value) = first else {
-        return Ok(Framing::Sized(0));
+        return match kind {
+            Kind::Requests => Ok(Framing::Sized(0)),
+            Kind::Replies => Err(FrameFault::BadLength),
+        };
     };
     if count > 1 {
         return Err(FrameFault::BadLength);
@@ -107,7 +111,7 @@ fn by_length(count: usize, first: Option<&[u8]>) -> Result<Framing, FrameFault>
         Some(length) => {
             if length > MOST_BODY {
                 Err(FrameFault::BodyTooLong {
-                    length,
+                    length: u128::from(length),
                     limit: MOST_BODY,
                 })
             } else {
@@ -117,18 +121,34 @@ fn by_length(count: usize, first: Option<&[u8]>) -> Result<Framing, FrameFault>
     }
 }
 
-/// The framing of the body behind a head of that version with these fields, or the head's first fault.
-pub fn read_framing(text: &[u8], version: u8, headers: &[HeaderSpan]) -> Result<Framing, FrameFault>
+// Whether a request of HTTP/1.1 has no Host, or more than one.
+fn lacks_host(kind: Kind, text: &[u8], version: u8, headers: &[HeaderSpan]) -> bool
     requires { All (IsHeaderWithin (length text.now)) headers.now }
-    ensures { result ≡ framing_of version (map (header_bytes text.now) headers.now) }
+    ensures { result ≡ lacks_host kind version (map (header_bytes text.now) headers.now) }
 {
-    if version == 1 && count_named(text, headers, b"host") != 1 {
+    match kind {
+        Kind::Requests => version == 1 && count_named(text, headers, b"host") != 1,
+        Kind::Replies => false,
+    }
+}
+
+/// The framing of the body behind a head of that version with these fields, or the head's first fault.
+pub fn read_framing(
+    kind: Kind,
+    text: &[u8],
+    version: u8,
+    headers: &[HeaderSpan],
+) -> Result<Framing, FrameFault>
+    requires { All (IsHeaderWithin (length text.now)) headers.now }
+    ensures { result ≡ framing_of kind version (map (header_bytes text.now) headers.now) }
+{
+    if lacks_host(kind, text, version, headers) {
         return Err(FrameFault::BadHost);
     }
     let lengths = count_named(text, headers, b"content-length");
     let codings = count_named(text, headers, b"transfer-encoding");
     if codings == 0 {
-        return by_length(lengths, first_named(text, headers, b"content-length"));
+        return by_length(kind, lengths, first_named(text, headers, b"content-length"));
     }
     if lengths > 0 {
         return Err(FrameFault::TwoLengths);

@@ -5,9 +5,11 @@ ghost use Rattle.std.specs.Option.{option_copied};
 ghost use Rattle.httparse.specs.Ascii.{crlf_bytes};
 ghost use Rattle.httparse.specs.Grammar.{print_field, print_version};
 ghost use Rattle.http_text.specs.Print.{IsPrintable, body_fields, field, request_text};
-ghost use Rattle.http_text.specs.Requests.{IsRequest};
+ghost use Rattle.http_text.specs.Messages.{IsMessage};
+ghost use Rattle.http_text.specs.declared.message.Kind.TheVariants as kinds;
+ghost use Rattle.http_text.specs.declared.message.Message.TheVariants as forms;
 
-use crate::request::RawRequest;
+use crate::message::RawRequest;
 use delta_base::{Bytes, OutOfMemory, Text};
 use std::alloc::{AllocError, Global};
 
@@ -66,7 +68,7 @@ fn push_body_fields(
 pub fn print_request(alloc: Global, request: &RawRequest, host: &Text) -> Result<Bytes, OutOfMemory>
     requires { IsPrintable request.now host.now }
     ensures text { IfOk result (λ text. text ≡ request_text request.now host.now) }
-    ensures again { IfOk result (λ text. IsRequest text request.now) }
+    ensures again { IfOk result (λ text. IsMessage kinds.Requests text (forms.Request request.now)) }
 {
     let kind = slice_of(&request.content_type);
     let mut text = Vec::new(alloc);

@@ -1,67 +1,81 @@
-//! Requests from a stream of bytes that comes in any pieces.
-ghost use Rattle.std.specs.Prelude.{◌≡◌, ◌<◌, ◌≤◌, ◌++◌, ◌∷◌, length, List, ℕ, [], IfErr, IfNone, IfSome, MatchResult, OnErr, OnOk, Some, None};
-ghost use Rattle.http_text.specs.Readers.{AdvanceIs, BeginsBody, CanGoOn, Decides, Holds, HoldsAll, IsHeadOf, IsReader, ReadsPiece, StandsFor, fault_of, taken_after, waiting};
-ghost use Rattle.http_text.specs.Requests.{End, Reads, between, inside};
-ghost use Rattle.http_text.specs.Front.{TellsFault};
-ghost use Rattle.http_text.specs.declared.request.RawRequest.{RawRequest as Request};
-ghost use Rattle.http_text.specs.Stages.{HoldsPart, IsSomePart, PartStepIs};
+//! Messages from a stream of bytes that comes in any pieces.
+ghost use Rattle.std.specs.Prelude.{◌≡◌, ◌<◌, ◌≤◌, ◌++◌, ◌∷◌, length, take, List, ℕ, [], IfErr, IfNone, IfSome, MatchResult, OnErr, OnOk, Some, None};
+ghost use Rattle.http_text.specs.Readers.{AdvanceIs, BeginsBody, CanGoOn, Decides, EndsHead, Holds, HoldsAll, HoldsHead, IsHeadOf, IsReader, ReadsPiece, StandsFor, TellsFault, fault_of, waiting};
+ghost use Rattle.http_text.specs.Messages.{End, Reads, between, inside};
+ghost use Rattle.http_text.specs.Taken.{taken_after};
+ghost use Rattle.http_text.specs.declared.message.Kind.{Kind};
+ghost use Rattle.http_text.specs.declared.message.Message.{Message};
+ghost use Rattle.http_text.specs.declared.message.Message.TheVariants as forms;
+ghost use Rattle.http_text.specs.Stages.{HeadStepIs, HoldsPart, IsSomePart, PartStepIs};
 ghost use Rattle.http_text.specs.declared.framing.Framing as framings;
 
 use crate::chunk::{step_content, step_content_end, step_line, step_trailers};
 use crate::framing::{FrameFault, Framing};
-use crate::request::RawRequest;
-use crate::stage::{Part, WholeHead, step_head, step_sized};
+use crate::message::{Kind, Message, RawReply, RawRequest};
+use crate::stage::{HeadEnd, MOST_HEAD, Part, step_head, step_sized};
 use delta_base::Bytes;
 use httparse::spans::{EMPTY_HEADER_SPAN, HeaderSpan};
 use std::alloc::{AllocError, Global};
 use std::collections::VecDeque;
 use std::mem;
 
-/// How far the request has come of which the end has not.
+/// How far the message has come of which the end has not.
 #[derive(Drop)]
 pub enum Stage {
-    Head,
+    /// A head, which may have so many bytes.
+    Head {
+        room: usize,
+    },
     Body {
-        request: RawRequest,
+        message: Message,
         body: Vec<u8>,
         part: Part,
     },
     Faulty(FrameFault),
 }
 
-/// Takes a stream of requests in pieces.
+/// Takes a stream of messages in pieces.
 #[derive(Drop)]
-pub struct RequestReader {
+pub struct MessageReader {
     alloc: Global,
+    kind: Kind,
     headers: Vec<HeaderSpan>,
     pending: Vec<u8>,
     stage: Stage,
-    queue: VecDeque<RawRequest>,
+    queue: VecDeque<Message>,
 }
 
-// What follows a whole head: its body, or the next request.
+// Where no byte of a message has come.
+fn at_start() -> Stage
+    ensures { (kind : Kind) → Holds kind result [] [] }
+{
+    Stage::Head { room: MOST_HEAD }
+}
+
+// What follows a whole head: its body, or the next message.
 fn begin_body(
     alloc: Global,
-    queue: &mut VecDeque<RawRequest>,
-    whole: WholeHead,
+    queue: &mut VecDeque<Message>,
+    message: Message,
+    framing: Framing,
 ) -> Result<Stage, FrameFault>
-    ensures { (text : List ℕ) → IsHeadOf text whole → BeginsBody text queue.old.items queue.new.items result }
+    ensures { (kind : Kind) (text : List ℕ) → IsHeadOf kind text message framing
+        → BeginsBody kind text queue.old.items queue.new.items result }
 {
-    let WholeHead { request, framing } = whole;
     match framing {
         Framing::Chunked => Ok(Stage::Body {
-            request,
+            message,
             body: Vec::new(alloc),
             part: Part::Line,
         }),
         Framing::Sized(size) => {
             if size == 0 {
-                queue.push_back(request)?;
-                return Ok(Stage::Head);
+                queue.push_back(message)?;
+                return Ok(at_start());
             }
             let left = size as usize;
             Ok(Stage::Body {
-                request,
+                message,
                 body: Vec::new(alloc),
                 part: Part::Sized { left },
             })
@@ -92,45 +106,66 @@ fn step_part(
     }
 }
 
-// The request with its body.
-fn with_body(request: RawRequest, body: Vec<u8>) -> RawRequest
-    ensures { result ≡ record request { body = body.items } }
+// The message with its body.
+fn with_body(message: Message, body: Vec<u8>) -> Message
+    ensures request { (request : RawRequest) → message ≡ forms.Request request → result ≡ forms.Request (record request { body = body.items }) }
+    ensures reply { (reply : RawReply) → message ≡ forms.Reply reply → result ≡ forms.Reply (record reply { body = body.items }) }
 {
-    RawRequest {
-        body: Bytes::from_vec(body),
-        ..request
+    let body = Bytes::from_vec(body);
+    match message {
+        Message::Request(request) => Message::Request(RawRequest { body, ..request }),
+        Message::Reply(reply) => Message::Reply(RawReply { body, ..reply }),
     }
 }
 
-// Reads on, and answers how many bytes of the piece belong to this request, and where it then is.
+// What follows a head's end: more of the head, the next one, or the body.
+fn after_head(
+    alloc: Global,
+    room: usize,
+    queue: &mut VecDeque<Message>,
+    end: HeadEnd,
+) -> Result<Stage, FrameFault>
+    ensures { (kind : Kind) (rest old new piece : List ℕ) (used : ℕ) → HoldsHead kind rest room old
+        → HeadStepIs kind room old new piece (Ok (used, end))
+        → EndsHead kind (rest ++ take used piece) new queue.old.items queue.new.items result }
+{
+    match end {
+        HeadEnd::Open => Ok(Stage::Head { room }),
+        HeadEnd::Interim { left } => {
+            if left == 0 {
+                return Err(FrameFault::HeadTooLong);
+            }
+            Ok(Stage::Head { room: left })
+        }
+        HeadEnd::Whole { message, framing } => begin_body(alloc, queue, message, framing),
+    }
+}
+
+// Reads on, and answers how many bytes of the piece belong to this message, and where it then is.
 fn advance(
     alloc: Global,
+    kind: Kind,
     stage: Stage,
     pending: &mut Vec<u8>,
     headers: &mut [HeaderSpan],
-    queue: &mut VecDeque<RawRequest>,
+    queue: &mut VecDeque<Message>,
     piece: &[u8],
 ) -> Result<(usize, Stage), FrameFault>
     requires piece { 0 < length piece.now }
     requires room { 5461 ≤ length headers.old }
-    requires held { CanGoOn stage pending.old.items }
-    ensures { (rest : List ℕ) → Holds stage pending.old.items rest
-        → AdvanceIs rest piece.now queue.old.items queue.new.items pending.new.items result }
+    requires held { CanGoOn kind stage pending.old.items }
+    ensures { (rest : List ℕ) → Holds kind stage pending.old.items rest
+        → AdvanceIs kind rest piece.now queue.old.items queue.new.items pending.new.items result }
 {
     match stage {
         Stage::Faulty(fault) => Err(fault),
-        Stage::Head => {
-            let (used, whole) = step_head(alloc, pending, headers, piece)?;
-            match whole {
-                None => Ok((used, Stage::Head)),
-                Some(whole) => {
-                    let stage = begin_body(alloc, queue, whole)?;
-                    Ok((used, stage))
-                }
-            }
+        Stage::Head { room } => {
+            let (used, end) = step_head(alloc, kind, room, pending, headers, piece)?;
+            let stage = after_head(alloc, room, queue, end)?;
+            Ok((used, stage))
         }
         Stage::Body {
-            request,
+            message,
             mut body,
             part,
         } => {
@@ -139,14 +174,14 @@ fn advance(
                 Some(part) => Ok((
                     used,
                     Stage::Body {
-                        request,
+                        message,
                         body,
                         part,
                     },
                 )),
                 None => {
-                    queue.push_back(with_body(request, body))?;
-                    Ok((used, Stage::Head))
+                    queue.push_back(with_body(message, body))?;
+                    Ok((used, at_start()))
                 }
             }
         }
@@ -156,22 +191,23 @@ fn advance(
 // Reads a piece to its end, or to a fault.
 fn read_piece(
     alloc: Global,
+    kind: Kind,
     stage: Stage,
     pending: &mut Vec<u8>,
     headers: &mut [HeaderSpan],
-    queue: &mut VecDeque<RawRequest>,
+    queue: &mut VecDeque<Message>,
     piece: &[u8],
 ) -> Result<Stage, FrameFault>
     requires room { 5461 ≤ length headers.old }
-    requires held { CanGoOn stage pending.old.items }
-    ensures held { MatchResult result (λ next. CanGoOn next pending.new.items) (λ fault. (rest : List ℕ) × TellsFault rest fault) }
-    ensures read { (bytes : List ℕ) (taken : List Request) → HoldsAll bytes taken queue.old.items stage pending.old.items
-        → ReadsPiece (bytes ++ piece.now) taken queue.new.items pending.new.items result }
+    requires held { CanGoOn kind stage pending.old.items }
+    ensures held { MatchResult result (λ next. CanGoOn kind next pending.new.items) (λ fault. (rest : List ℕ) × TellsFault kind rest fault) }
+    ensures read { (bytes : List ℕ) (taken : List Message) → HoldsAll kind bytes taken queue.old.items stage pending.old.items
+        → ReadsPiece kind (bytes ++ piece.now) taken queue.new.items pending.new.items result }
 {
     let mut stage = stage;
     let mut left = piece;
     while !left.is_empty() {
-        let (used, next) = advance(alloc, stage, pending, headers, queue, left)?;
+        let (used, next) = advance(alloc, kind, stage, pending, headers, queue, left)?;
         stage = next;
         left = &left[used..];
     }
@@ -191,20 +227,22 @@ fn make_room(alloc: Global, headers: &mut Vec<HeaderSpan>) -> Result<(), AllocEr
     Ok(())
 }
 
-/// The stream ends inside a request.
+/// The stream ends inside a message.
 #[derive(Clone, Copy, Debug, PartialEq, Eq)]
 pub struct CutShort;
 
-impl RequestReader {
+impl MessageReader {
     /// A reader that was given no bytes.
-    pub fn new(alloc: Global) -> RequestReader
-        ensures stands { StandsFor [] [] result }
+    pub fn new(alloc: Global, kind: Kind) -> MessageReader
+        ensures kind { result.kind ≡ kind }
+        ensures stands { StandsFor kind [] [] result }
     {
-        RequestReader {
+        MessageReader {
             alloc,
+            kind,
             headers: Vec::new(alloc),
             pending: Vec::new(alloc),
-            stage: Stage::Head,
+            stage: at_start(),
             queue: VecDeque::new(alloc),
         }
     }
@@ -212,13 +250,14 @@ impl RequestReader {
     /// Takes the next piece. After a fault it answers that fault again.
     pub fn feed(&mut self, piece: &[u8]) -> Result<(), FrameFault>
         requires { IsReader self.old }
+        ensures kind { self.new.kind ≡ self.old.kind }
         ensures reader { IsReader self.new }
         // The reader then stands for the bytes so far and this piece.
-        ensures stands { (bytes : List ℕ) (taken : List Request) → StandsFor bytes taken self.old
-            → StandsFor (bytes ++ piece.now) taken self.new }
-        // The requests are then those of all the bytes, and the fault is theirs, however they were cut.
-        ensures decides { (bytes : List ℕ) (taken : List Request) → StandsFor bytes taken self.old
-            → Decides (bytes ++ piece.now) (taken ++ waiting self.new) result }
+        ensures stands { (bytes : List ℕ) (taken : List Message) → StandsFor self.old.kind bytes taken self.old
+            → StandsFor self.old.kind (bytes ++ piece.now) taken self.new }
+        // The messages are then those of all the bytes, and the fault is theirs, however they were cut.
+        ensures decides { (bytes : List ℕ) (taken : List Message) → StandsFor self.old.kind bytes taken self.old
+            → Decides self.old.kind (bytes ++ piece.now) (taken ++ waiting self.new) result }
         ensures ok { OnOk result (fault_of self.new ≡ None) }
         ensures fault { IfErr result (λ fault. fault_of self.new ≡ Some fault) }
     {
@@ -230,6 +269,7 @@ impl RequestReader {
         make_room(self.alloc, &mut self.headers)?;
         match read_piece(
             self.alloc,
+            self.kind,
             stage,
             &mut self.pending,
             self.headers.as_mut_slice(),
@@ -247,14 +287,16 @@ impl RequestReader {
         }
     }
 
-    /// The next whole request.
-    pub fn take(&mut self) -> Option<RawRequest>
+    /// The next whole message.
+    pub fn take(&mut self) -> Option<Message>
+        requires { IsReader self.old }
+        ensures kind { self.new.kind ≡ self.old.kind }
         ensures none { IfNone result (waiting self.old ≡ []) }
-        ensures first { IfSome result (λ request. waiting self.old ≡ request ∷ waiting self.new) }
-        ensures rest { (bytes : List ℕ) (taken : List Request) → StandsFor bytes taken self.old
-            → StandsFor bytes (taken_after taken result) self.new }
+        ensures first { IfSome result (λ message. waiting self.old ≡ message ∷ waiting self.new) }
+        ensures rest { (bytes : List ℕ) (taken : List Message) → StandsFor self.old.kind bytes taken self.old
+            → StandsFor self.old.kind bytes (taken_after taken result) self.new }
         ensures fault { fault_of self.new ≡ fault_of self.old }
-        ensures reader { IsReader self.old → IsReader self.new }
+        ensures reader { IsReader self.new }
     {
         self.queue.pop_front()
     }
@@ -262,13 +304,17 @@ impl RequestReader {
     /// Tests that the stream may end here.
     pub fn finish(&self) -> Result<(), CutShort>
         requires { fault_of self.now ≡ None }
-        ensures between { OnOk result ((bytes : List ℕ) (taken : List Request) → StandsFor bytes taken self.now
-            → Reads bytes (taken ++ waiting self.now) between) }
-        ensures inside { OnErr result ((bytes : List ℕ) (taken : List Request) → StandsFor bytes taken self.now
-            → Reads bytes (taken ++ waiting self.now) inside) }
+        ensures between { OnOk result ((bytes : List ℕ) (taken : List Message) → StandsFor self.now.kind bytes taken self.now
+            → Reads self.now.kind bytes (taken ++ waiting self.now) between) }
+        ensures inside { OnErr result ((bytes : List ℕ) (taken : List Message) → StandsFor self.now.kind bytes taken self.now
+            → Reads self.now.kind bytes (taken ++ waiting self.now) inside) }
     {
         match self.stage {
-            Stage::Head => {
+            Stage::Head { room } => {
+                // Replies with status 100 may stand before the one that has not come.
+                if room != MOST_HEAD {
+                    return Err(CutShort);
+                }
                 if self.pending.is_empty() {
                     return Ok(());
                 }
@@ -279,8 +325,8 @@ impl RequestReader {
     }
 }
 
-/// A stream has one reading: its requests and its end are determined by its bytes.
+/// A stream has one reading: its messages and its end are determined by its bytes.
 pub fn one_reading()
-    ensures { (bytes : List ℕ) (xs ys : List Request) (end other : End) → Reads bytes xs end → Reads bytes ys other
-        → (xs ≡ ys) × (end ≡ other) }
+    ensures { (kind : Kind) (bytes : List ℕ) (xs ys : List Message) (end other : End) → Reads kind bytes xs end
+        → Reads kind bytes ys other → (xs ≡ ys) × (end ≡ other) }
 {}

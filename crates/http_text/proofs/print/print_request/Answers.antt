@@ -2,7 +2,9 @@ use Rattle.std.proofs.Common.{◌≡◌, ◌∙◌, ◌++◌, sym, ap₂, subst,
 use Rattle.std.specs.List.{flat_map}
 use Rattle.httparse.specs.Grammar.{print_field}
 use Rattle.http_text.specs.Print.{body_fields}
-use Rattle.http_text.specs.Requests.{IsRequest}
+use Rattle.http_text.specs.Messages.{IsMessage}
+use Rattle.http_text.specs.declared.message.Kind.TheVariants.{Requests}
+use Rattle.http_text.specs.declared.message.Message.TheVariants as forms
 use Rattle.http_text.proofs.PrintLemmas.{printed_again, all_text}
 use Rattle.http_text.proofs.print.print_request.Goals as goal
 
@@ -18,5 +20,5 @@ returns c =
     (rw (c.in_ok-extend_from_slice-2.ensures.items, c.as_slice-3.ensures) refl) in
     record {
       text = c.from_vec.ensures ∙ text;
-      again = subst (λ (t : List ℕ). IsRequest t c.args.request.now) (sym (c.from_vec.ensures ∙ text)) (printed_again c.args.request.now c.args.host.now c.requires);
+      again = subst (λ (t : List ℕ). IsMessage Requests t (forms.Request c.args.request.now)) (sym (c.from_vec.ensures ∙ text)) (printed_again c.args.request.now c.args.host.now c.requires);
     }
