@@ -223,7 +223,7 @@ module _ (kind : Kind) (room : ℕ) (text behind : List ℕ) (head : Head) (fram
   body_open faults.BadChunk bad = body_own bad.0 bad.1 faults.BadChunk bad.2 bad.3
 
 pub open_no_fault : (kind : Kind) (stage : Stage) (pending rest : List ℕ) → Holds kind stage pending rest → (fault : FrameFault) → ¬ (IsFrameFault kind rest fault)
-open_no_fault kind (stages.Head room) pending rest held fault bad =
+open_no_fault kind (stages.Head room progress) pending rest held fault bad =
     head_open kind (room_behind held.passed) pending fault (subst (λ (n : ℕ). IsOpenHead kind n pending) held.room_is held.still)
     (fault_behind kind rest held.passed pending fault held.passes (no_interim_none kind (room_behind held.passed) pending held.still.none) bad)
 open_no_fault kind (stages.Body message body part) pending rest held fault bad =

@@ -4,9 +4,9 @@ use Rattle.std.specs.Prelude.{codes, IsTrue}
 use Rattle.std.proofs.lemmas.List.{append-nil}
 use Rattle.std.proofs.lemmas.List.Elements.{All-nil, All-cons}
 use Rattle.std.specs.Char.{is_ascii_digit}
-use Rattle.httparse.specs.Grammar.{RequestHead, ResponseHead, print_request, print_response, LineEnd, lf, print_blank, IsToken, AllPass, is_uri_byte, is_value_byte, is_token_byte, IsField}
+use Rattle.httparse.specs.Grammar.{RequestHead, ResponseHead, print_request, print_response, LineEnd, lf, print_end, print_blank, print_version, print_reason, print_section, IsToken, AllPass, is_uri_byte, is_value_byte, is_token_byte, IsField}
 use Rattle.httparse.proofs.OpenLemmas.{letter_is_token}
-use Rattle.httparse.proofs.GrammarLemmas.{print_request-append, request_unique, response_unique}
+use Rattle.httparse.proofs.GrammarLemmas.{print_request-append, print_response-append, request_unique, response_unique}
 use Rattle.http_text.specs.Heads.{Head, request, reply, print_head, fields_of, IsHeadOf, ReadsHead, HasNoHead, NeverHasHead}
 use Rattle.http_text.specs.declared.message.Kind.{Kind}
 use Rattle.http_text.specs.declared.message.Kind.TheVariants.{Requests, Replies}
@@ -63,22 +63,26 @@ module _ (blank : List LineEnd) (method : List ℕ) where
     append_assoc (print_blank blank ++ method) (32 ∷ []) ending ∙ append_assoc (print_blank blank) method (32 ∷ ending) ∙ sym (print_request-append head_to_target []),
   )
 
-some_reply : ResponseHead
-some_reply = record { blank = []; minor = 1; digits = codes "200"; reason = None; line_end = lf; fields = []; last = lf }
+pub some_reply : List LineEnd → ResponseHead
+some_reply blank = record { blank = blank; minor = 1; digits = codes "200"; reason = None; line_end = lf; fields = []; last = lf }
 
 is_digit : ℕ → Type 0
 is_digit b = IsTrue (is_ascii_digit b)
 
-reply_reads : ReadsHead Replies (print_response some_reply) (reply some_reply) []
+-- what makes empty lines a reply's head
+abbrev pub reply_tail : List ℕ
+reply_tail = print_version 1 ++ 32 ∷ (codes "200" ++ (print_reason None ++ (print_end lf ++ (print_section [] lf ++ []))))
+
+pub reply_reads : (blank : List LineEnd) → ReadsHead Replies (print_blank blank ++ reply_tail) (reply (some_reply blank)) []
 unfolding some_reply is_digit
-reply_reads = (
+reply_reads blank = (
   record {
     minor = omega arith;
     digits = (refl, All-cons is_digit 50 (48 ∷ 48 ∷ []) refl (All-cons is_digit 48 (48 ∷ []) refl (All-cons is_digit 48 [] refl (All-nil is_digit))));
     reason = All-nil (λ b. IsTrue (is_value_byte b));
     fields = All-nil IsField;
   },
-  sym (append-nil (print_response some_reply)),
+  sym (print_response-append (some_reply blank) []),
 )
 
 -- some bytes are a head
@@ -86,7 +90,7 @@ pub some_head : (kind : Kind) → NeverHasHead kind [] → ⊥
 some_head Requests never =
     let token : IsToken (65 ∷ []) = (omega arith, All-cons (λ b. IsTrue (is_token_byte b)) 65 [] letter_is_token (All-nil _)) in
     never _ (request (head_to_target [] (65 ∷ []))) [] (method_begins [] (65 ∷ []) token)
-some_head Replies never = never _ (reply some_reply) [] reply_reads
+some_head Replies never = never _ (reply (some_reply [])) [] (reply_reads [])
 
 pub nothing_read : (kind : Kind) → HasNoHead kind []
 nothing_read kind head rest reads = no_head head rest reads.1

@@ -112,7 +112,7 @@ part_not_whole parts.Trailers body pending behind front more b framing (chunked,
 -- ---- an open rest begins with no message
 
 pub open_no_message : (kind : Kind) (stage : Stage) (pending rest : List ℕ) → Holds kind stage pending rest → BeginsNoMessage kind rest
-open_no_message kind (stages.Head room) pending rest held text more message one is =
+open_no_message kind (stages.Head room progress) pending rest held text more message one is =
     let begins = begins_grows kind (room_behind one.passed) one.from one.behind more one.head one.begins in
     let passes = subst (λ (t : List ℕ). PassesOver kind t one.passed (one.from ++ more)) (sym is) (passes_grow kind text more one.passed one.from one.passes) in
     let same = same_passed kind rest held.passed one.passed pending (one.from ++ more) held.passes passes

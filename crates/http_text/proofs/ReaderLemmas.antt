@@ -22,6 +22,9 @@ use Rattle.http_text.specs.declared.message.RawReply.{RawReply}
 use Rattle.http_text.specs.declared.stage.Part.{Part}
 use Rattle.http_text.specs.declared.stage.Part.TheVariants as parts
 use Rattle.http_text.specs.declared.stage.HeadEnd.TheVariants as ends
+use Rattle.http_text.specs.Follow.{Follows}
+use Rattle.http_text.specs.declared.follow.Progress.{Progress}
+use Rattle.http_text.specs.declared.follow.Progress.TheVariants as at
 use Rattle.http_text.specs.declared.reader.Stage.{Stage}
 use Rattle.http_text.specs.declared.reader.Stage.TheVariants as stages
 use Rattle.http_text.proofs.HeadLaws.{nothing_read, some_head}
@@ -33,8 +36,8 @@ use Rattle.http_text.proofs.ChunkLemmas.{open_line}
 pub open_head : (kind : Kind) (room : ℕ) → 0 < room → IsOpenHead kind room []
 open_head kind room some = record { short = some; none = nothing_read kind; good = λ bad. some_head kind bad.1 }
 
-pub start : (kind : Kind) → HoldsHead kind [] 16384 []
-start kind = record { passed = []; passes = passes_none kind []; room_is = refl; still = open_head kind 16384 (omega arith) }
+pub start : (kind : Kind) → HoldsHead kind [] 16384 at.Blank []
+start kind = record { passed = []; passes = passes_none kind []; room_is = refl; still = open_head kind 16384 (omega arith); follows = ([], refl) }
 
 pub start_with : (kind : Kind) (stage : Stage) (pending : List ℕ) → Holds kind stage [] [] → pending ≡ [] → Holds kind stage pending []
 start_with kind stage pending held empty = subst (λ (p : List ℕ). Holds kind stage p []) (sym empty) held
@@ -160,17 +163,18 @@ body_fault_tells kind rest more message part old kept fault held bad =
 
 -- ---- behind a step in a head
 
-module _ (kind : Kind) (rest old new piece : List ℕ) (room used : ℕ) (held : HoldsHead kind rest room old) where
+module _ (kind : Kind) (rest old new piece : List ℕ) (room used : ℕ) (progress : Progress) (held : HoldsHead kind rest room progress old) where
   abbrev grown : PassesOver kind (rest ++ take used piece) held.passed (old ++ take used piece)
   grown = passes_grow kind rest (take used piece) held.passed old held.passes
 
   -- the head goes on
-  pub head_goes_on : new ≡ old ++ take used piece → IsOpenHead kind room new → HoldsHead kind (rest ++ take used piece) room new
-  head_goes_on is still = record {
+  pub head_goes_on : (next : Progress) → new ≡ old ++ take used piece → IsOpenHead kind room new → Follows kind new next → HoldsHead kind (rest ++ take used piece) room next new
+  head_goes_on next is still follows = record {
     passed = held.passed;
     passes = subst (λ (t : List ℕ). PassesOver kind (rest ++ take used piece) held.passed t) (sym is) grown;
     room_is = held.room_is;
     still = still;
+    follows = follows;
   }
 
   -- it was one that is passed over
@@ -186,12 +190,13 @@ module _ (kind : Kind) (rest old new piece : List ℕ) (room used : ℕ) (held :
     over : PassesOver kind (rest ++ take used piece) (held.passed ++ head ∷ []) []
     over = passes_more kind (rest ++ take used piece) held.passed (old ++ take used piece) head [] grown interim (is ∙ sym (append-nil (print_head head))) within
 
-    pub interim_passed : 0 < left → HoldsHead kind (rest ++ take used piece) left new
+    pub interim_passed : 0 < left → HoldsHead kind (rest ++ take used piece) left at.Blank new
     interim_passed some = record {
       passed = held.passed ++ head ∷ [];
       passes = subst (λ (t : List ℕ). PassesOver kind (rest ++ take used piece) (held.passed ++ head ∷ []) t) (sym empty) over;
       room_is = left_behind;
       still = subst (λ (t : List ℕ). IsOpenHead kind left t) (sym empty) (open_head kind left some);
+      follows = ([], empty);
     }
 
     -- and nothing is left to the next one
@@ -222,15 +227,15 @@ pub next_again : (kind : Kind) (text pending : List ℕ) (old new : List Message
 next_again kind text pending old new stage empty next = subst (λ (p : List ℕ). NextIs kind text old new stage p) (sym empty) next
 
 -- the fault of what is kept is that of the rest
-pub head_fault_tells : (kind : Kind) (rest old piece : List ℕ) (room : ℕ) (fault : FrameFault) (held : HoldsHead kind rest room old)
+pub head_fault_tells : (kind : Kind) (rest old piece : List ℕ) (room : ℕ) (progress : Progress) (fault : FrameFault) (held : HoldsHead kind rest room progress old)
     → TellsFaultAt kind room (old ++ piece) fault → TellsFault kind (rest ++ piece) fault
-head_fault_tells kind rest old piece room fault held tells =
+head_fault_tells kind rest old piece room progress fault held tells =
     tells_behind kind (rest ++ piece) held.passed (old ++ piece) fault (passes_grow kind rest piece held.passed old held.passes)
     (subst (λ (n : ℕ). TellsFaultAt kind n (old ++ piece) fault) held.room_is tells)
 
 -- a step in a head uses some of the piece
 pub uses_some : (kind : Kind) (room used : ℕ) (old new piece : List ℕ) (end : HeadEnd) → HeadStepIs kind room old new piece (Ok (used, end)) → UsesSome piece used
-uses_some kind room used old new piece ends.Open step = step.0
+uses_some kind room used old new piece (ends.Open progress) step = step.0
 uses_some kind room used old new piece (ends.Interim left) step = step.0
 uses_some kind room used old new piece (ends.Whole message framing) step = step.0
 
@@ -241,5 +246,5 @@ ends_body kind text pending old new (Ok stage) empty began = next_again kind tex
 ends_body kind text pending old new (Err fault) empty (same, is) = (same, subst (λ (f : FrameFault). TellsFault kind text f) (sym is) tt)
 
 -- in a head the limit is at most the whole one
-pub room_fits : (kind : Kind) (rest pending : List ℕ) (room : ℕ) → HoldsHead kind rest room pending → room ≤ 16384
-room_fits kind rest pending room held = let is = held.room_is in omega arith
+pub room_fits : (kind : Kind) (rest pending : List ℕ) (room : ℕ) (progress : Progress) → HoldsHead kind rest room progress pending → room ≤ 16384
+room_fits kind rest pending room progress held = let is = held.room_is in omega arith

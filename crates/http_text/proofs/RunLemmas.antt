@@ -14,6 +14,7 @@ use Rattle.http_text.specs.declared.framing.FrameFault.{FrameFault}
 use Rattle.http_text.specs.declared.framing.FrameFault.TheVariants as faults
 use Rattle.http_text.specs.declared.message.Message.{Message}
 use Rattle.http_text.specs.declared.message.Kind.{Kind}
+use Rattle.http_text.specs.declared.follow.Progress.{Progress}
 use Rattle.http_text.specs.declared.reader.Stage.{Stage}
 use Rattle.http_text.specs.declared.reader.Stage.TheVariants as stages
 use Rattle.http_text.specs.declared.framing.FrameFault.TheVariants.{OutOfMemory}
@@ -93,17 +94,17 @@ all_read kind bytes piece front (b ∷ left) taken queue stage pending is none a
 -- ---- the fault
 
 pub not_faulty : (kind : Kind) (stage : Stage) (pending rest : List ℕ) → ((fault : FrameFault) → stage ≡ stages.Faulty fault → ⊥) → HoldsStage kind stage pending rest → Holds kind stage pending rest
-not_faulty kind (stages.Head room) pending rest good held = held
+not_faulty kind (stages.Head room progress) pending rest good held = held
 not_faulty kind (stages.Body message body part) pending rest good held = held
 not_faulty kind (stages.Faulty fault) pending rest good held = absurd (good fault refl)
 
 pub still_held : (kind : Kind) (stage : Stage) (pending rest : List ℕ) → Holds kind stage pending rest → HoldsStage kind stage pending rest
-still_held kind (stages.Head room) pending rest held = held
+still_held kind (stages.Head room progress) pending rest held = held
 still_held kind (stages.Body message body part) pending rest held = held
 still_held kind (stages.Faulty fault) pending rest held = absurd held
 
 pub no_fault : (kind : Kind) (stage : Stage) (pending rest : List ℕ) → Holds kind stage pending rest → stage_fault stage ≡ None
-no_fault kind (stages.Head room) pending rest held = refl
+no_fault kind (stages.Head room progress) pending rest held = refl
 no_fault kind (stages.Body message body part) pending rest held = refl
 no_fault kind (stages.Faulty fault) pending rest held = absurd held
 
@@ -124,7 +125,7 @@ no_memory_held kind pending stage is = ([], subst (λ (s : Stage). HoldsStage ki
 -- ---- the end
 
 held_unless_fault : (kind : Kind) (stage : Stage) (pending rest : List ℕ) → stage_fault stage ≡ None → HoldsStage kind stage pending rest → Holds kind stage pending rest
-held_unless_fault kind (stages.Head room) pending rest none held = held
+held_unless_fault kind (stages.Head room progress) pending rest none held = held
 held_unless_fault kind (stages.Body message body part) pending rest none held = held
 held_unless_fault kind (stages.Faulty fault) pending rest none held = cc
 
@@ -142,7 +143,7 @@ nothing_kept : (rest : List ℕ) → length rest ≡ 0 → rest ≡ []
 nothing_kept [] none = refl
 nothing_kept (b ∷ rest) none = absurd (omega arith)
 
-module _ (kind : Kind) (rest : List ℕ) (room : ℕ) (pending : List ℕ) (held : HoldsHead kind rest room pending) where
+module _ (kind : Kind) (rest : List ℕ) (room : ℕ) (progress : Progress) (pending : List ℕ) (held : HoldsHead kind rest room progress pending) where
   rest_length : length rest ≡ length (print_heads held.passed) + length pending
   rest_length = ap length held.passes.text_is ∙ length-append (print_heads held.passed) pending
 
@@ -168,8 +169,8 @@ module _ (kind : Kind) (rest : List ℕ) (room : ℕ) (pending : List ℕ) (held
           absurd (other (omega (arith, held.passes.short)))
 
 -- the rest in a body isn't empty
-pub body_not_empty : (kind : Kind) (rest pending : List ℕ) (stage : Stage) → Holds kind stage pending rest → ((room : ℕ) → stage ≡ stages.Head room → ⊥) → 0 < length rest
-body_not_empty kind rest pending (stages.Head room) held other = absurd (other room refl)
+pub body_not_empty : (kind : Kind) (rest pending : List ℕ) (stage : Stage) → Holds kind stage pending rest → ((room : ℕ) (progress : Progress) → stage ≡ stages.Head room progress → ⊥) → 0 < length rest
+body_not_empty kind rest pending (stages.Head room progress) held other = absurd (other room progress refl)
 body_not_empty kind rest pending (stages.Faulty fault) held other = absurd held
 body_not_empty kind rest pending (stages.Body message body part) held other =
     let long : length rest ≡ length (print_heads held.passed) + length held.from = ap length held.passes.text_is ∙ length-append (print_heads held.passed) held.from in
@@ -177,22 +178,22 @@ body_not_empty kind rest pending (stages.Body message body part) held other =
     let some = head_not_empty held.head in
     omega arith
 
-module _ (kind : Kind) (pending rest : List ℕ) (stage : Stage) (room : ℕ) (is : stage ≡ stages.Head room) where
-  in_head : Holds kind stage pending rest → HoldsHead kind rest room pending
+module _ (kind : Kind) (pending rest : List ℕ) (stage : Stage) (room : ℕ) (progress : Progress) (is : stage ≡ stages.Head room progress) where
+  in_head : Holds kind stage pending rest → HoldsHead kind rest room progress pending
   in_head held = subst (λ (s : Stage). Holds kind s pending rest) is held
 
   pub head_kept : 0 < length pending → Holds kind stage pending rest → 0 < length rest
-  head_kept some held = kept_is_rest kind rest room pending (in_head held) some
+  head_kept some held = kept_is_rest kind rest room progress pending (in_head held) some
 
   pub head_passed : (room ≡ 16384 → ⊥) → Holds kind stage pending rest → 0 < length rest
-  head_passed other held = room_is_rest kind rest room pending (in_head held) other
+  head_passed other held = room_is_rest kind rest room progress pending (in_head held) other
 
   -- nothing has come of the next message
   pub ends_between : (bytes : List ℕ) (messages : List Message) → AreMessages kind bytes messages rest → HoldsStage kind stage pending rest → room ≡ 16384 → length pending ≡ 0
       → Reads kind bytes messages between
   ends_between bytes messages are stands whole none =
       let head = subst (λ (s : Stage). HoldsStage kind s pending rest) is stands in
-      (rest, are, nothing_came kind rest room pending head whole none)
+      (rest, are, nothing_came kind rest room progress pending head whole none)
 
 -- a reader that took a message, or none, still was given some bytes
 pub still_reader : (kind : Kind) (bytes rest pending : List ℕ) (taken old new : List Message) (stage : Stage) (result : Option Message) → AreMessages kind bytes (taken ++ old) rest

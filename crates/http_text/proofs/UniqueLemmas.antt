@@ -22,10 +22,11 @@ use Rattle.http_text.proofs.PlaceLemmas.{same_place, same_parts}
 use Rattle.http_text.proofs.OpenLemmas.{last_place, whole_text}
 use Rattle.http_text.proofs.ReaderLemmas.{start}
 use Rattle.http_text.specs.declared.reader.Stage.TheVariants as stages
+use Rattle.http_text.specs.declared.follow.Progress.TheVariants as at
 
 -- no fault stands where nothing does
 nothing_good : (kind : Kind) (fault : FrameFault) → IsFrameFault kind [] fault → ⊥
-nothing_good kind fault = open_no_fault kind (stages.Head 16384) [] [] (start kind) fault
+nothing_good kind fault = open_no_fault kind (stages.Head 16384 at.Blank) [] [] (start kind) fault
 
 -- two bodies at the front of a text are one
 body_unique : (framing : Framing) (a b x y more other : List ℕ) → IsBody framing a x → IsBody framing b y → a ++ more ≡ b ++ other → (x ≡ y) × (more ≡ other)

@@ -2,6 +2,8 @@
 use Rattle.std.specs.Prelude.{◌≡◌, ◌⊎◌, ◌≤◌, ℕ, List, [], ◌∷◌, ◌++◌, take, Option, Some, None, Result, Ok, Err}
 use Rattle.http_text.specs.Heads.{Head, most_head, PassesOver, room_behind}
 use Rattle.http_text.specs.Messages.{message_of, BeginsWithHead, framing_behind, IsMessage, IsFrameFault, AreMessages, Reads, between, inside, faulty}
+use Rattle.http_text.specs.Follow.{Follows}
+use Rattle.http_text.specs.declared.follow.Progress.{Progress}
 use Rattle.http_text.specs.Stages.{IsOpenHead, HoldsPart, UsesSome}
 use Rattle.http_text.specs.declared.framing.FrameFault.{FrameFault}
 use Rattle.http_text.specs.declared.framing.FrameFault.TheVariants.{OutOfMemory}
@@ -14,11 +16,12 @@ use Rattle.http_text.specs.declared.reader.Stage.TheVariants.{Head as InHead, Bo
 use Rattle.http_text.specs.declared.reader.MessageReader.{MessageReader}
 
 -- the rest is what was passed over, and the front of a head
-pub record HoldsHead (kind : Kind) (rest : List ℕ) (room : ℕ) (pending : List ℕ) : Type 0 where
+pub record HoldsHead (kind : Kind) (rest : List ℕ) (room : ℕ) (progress : Progress) (pending : List ℕ) : Type 0 where
   pub passed : List Head
   pub passes : PassesOver kind rest passed pending
   pub room_is : room ≡ room_behind passed
   pub still : IsOpenHead kind room pending
+  pub follows : Follows kind pending progress
 
 -- the rest is a whole head without a fault, and what has come of its body
 pub record HoldsBody (kind : Kind) (rest : List ℕ) (message : Message) (body : List ℕ) (part : Part) (pending : List ℕ) : Type 0 where
@@ -35,7 +38,7 @@ pub record HoldsBody (kind : Kind) (rest : List ℕ) (message : Message) (body :
 
 -- the rest has no fault yet, and has come so far
 abbrev pub Holds : Kind → Stage → List ℕ → List ℕ → Type 0
-Holds kind (InHead room) pending rest = HoldsHead kind rest room pending
+Holds kind (InHead room progress) pending rest = HoldsHead kind rest room progress pending
 Holds kind (Body message body part) pending rest = HoldsBody kind rest message body.items part pending
 Holds kind (Faulty fault) pending rest = ⊥
 
@@ -47,7 +50,7 @@ TellsFault kind rest fault = IsFrameFault kind rest fault
 -- and else it has this fault, unless memory ran out
 abbrev pub HoldsStage : Kind → Stage → List ℕ → List ℕ → Type 0
 HoldsStage kind (Faulty fault) pending rest = TellsFault kind rest fault
-HoldsStage kind (InHead room) pending rest = Holds kind (InHead room) pending rest
+HoldsStage kind (InHead room progress) pending rest = Holds kind (InHead room progress) pending rest
 HoldsStage kind (Body message body part) pending rest = Holds kind (Body message body part) pending rest
 
 -- the stage and the bytes that are kept go together
@@ -104,7 +107,7 @@ waiting reader = reader.queue.items
 
 -- the fault that was met
 abbrev pub stage_fault : Stage → Option FrameFault
-stage_fault (InHead room) = None
+stage_fault (InHead room progress) = None
 stage_fault (Body message body part) = None
 stage_fault (Faulty fault) = Some fault
 

@@ -6,6 +6,7 @@ use Rattle.http_text.specs.Heads.{Head, print_head, HasNoHead, IsBadHead, IsInte
 use Rattle.http_text.specs.Framing.{most_body}
 use Rattle.http_text.specs.Chunks.{most_line, most_trailers, IsShortLine, AreChunks, data_of, print_chunk, Chunk}
 use Rattle.http_text.specs.Messages.{message_of, BeginsWithHead, framing_behind, IsBody, IsBodyFault}
+use Rattle.http_text.specs.Follow.{Follows}
 use Rattle.http_text.specs.Front.{TellsFaultAt}
 use Rattle.http_text.specs.declared.message.Kind.{Kind}
 use Rattle.http_text.specs.declared.framing.FrameFault.{FrameFault}
@@ -90,7 +91,7 @@ UsesSome piece used = (0 < used) × (used ≤ length piece)
 
 -- a head goes on, or is whole, or has a fault
 abbrev pub HeadStepIs : Kind → ℕ → List ℕ → List ℕ → List ℕ → Result (ℕ × HeadEnd) FrameFault → Type 0
-HeadStepIs kind room old new piece (Ok (used, Open)) = UsesSome piece used × (new ≡ old ++ take used piece) × IsOpenHead kind room new
+HeadStepIs kind room old new piece (Ok (used, Open progress)) = UsesSome piece used × (new ≡ old ++ take used piece) × IsOpenHead kind room new × Follows kind new progress
 HeadStepIs kind room old new piece (Ok (used, Interim left)) =
     UsesSome piece used × (new ≡ [])
     × ((head : Head) × IsInterim kind head × (old ++ take used piece ≡ print_head head) × (length (print_head head) ≤ room) × (left ≡ room - length (print_head head)))

@@ -3,6 +3,7 @@ ghost use Rattle.std.specs.Prelude.{◌≡◌, ◌<◌, ◌≤◌, ◌++◌, ◌
 ghost use Rattle.http_text.specs.Readers.{AdvanceIs, BeginsBody, CanGoOn, Decides, EndsHead, Holds, HoldsAll, HoldsHead, IsHeadOf, IsReader, ReadsPiece, StandsFor, TellsFault, fault_of, waiting};
 ghost use Rattle.http_text.specs.Messages.{End, Reads, between, inside};
 ghost use Rattle.http_text.specs.Taken.{taken_after};
+ghost use Rattle.http_text.specs.declared.follow.Progress.{Progress as At};
 ghost use Rattle.http_text.specs.declared.message.Kind.{Kind};
 ghost use Rattle.http_text.specs.declared.message.Message.{Message};
 ghost use Rattle.http_text.specs.declared.message.Message.TheVariants as forms;
@@ -10,6 +11,7 @@ ghost use Rattle.http_text.specs.Stages.{HeadStepIs, HoldsPart, IsSomePart, Part
 ghost use Rattle.http_text.specs.declared.framing.Framing as framings;
 
 use crate::chunk::{step_content, step_content_end, step_line, step_trailers};
+use crate::follow::Progress;
 use crate::framing::{FrameFault, Framing};
 use crate::message::{Kind, Message, RawReply, RawRequest};
 use crate::stage::{HeadEnd, MOST_HEAD, Part, step_head, step_sized};
@@ -25,6 +27,7 @@ pub enum Stage {
     /// A head, which may have so many bytes.
     Head {
         room: usize,
+        progress: Progress,
     },
     Body {
         message: Message,
@@ -49,7 +52,10 @@ pub struct MessageReader {
 fn at_start() -> Stage
     ensures { (kind : Kind) → Holds kind result [] [] }
 {
-    Stage::Head { room: MOST_HEAD }
+    Stage::Head {
+        room: MOST_HEAD,
+        progress: Progress::Blank,
+    }
 }
 
 // What follows a whole head: its body, or the next message.
@@ -125,17 +131,20 @@ fn after_head(
     queue: &mut VecDeque<Message>,
     end: HeadEnd,
 ) -> Result<Stage, FrameFault>
-    ensures { (kind : Kind) (rest old new piece : List ℕ) (used : ℕ) → HoldsHead kind rest room old
+    ensures { (kind : Kind) (rest old new piece : List ℕ) (used : ℕ) (progress : At) → HoldsHead kind rest room progress old
         → HeadStepIs kind room old new piece (Ok (used, end))
         → EndsHead kind (rest ++ take used piece) new queue.old.items queue.new.items result }
 {
     match end {
-        HeadEnd::Open => Ok(Stage::Head { room }),
+        HeadEnd::Open { progress } => Ok(Stage::Head { room, progress }),
         HeadEnd::Interim { left } => {
             if left == 0 {
                 return Err(FrameFault::HeadTooLong);
             }
-            Ok(Stage::Head { room: left })
+            Ok(Stage::Head {
+                room: left,
+                progress: Progress::Blank,
+            })
         }
         HeadEnd::Whole { message, framing } => begin_body(alloc, queue, message, framing),
     }
@@ -159,8 +168,8 @@ fn advance(
 {
     match stage {
         Stage::Faulty(fault) => Err(fault),
-        Stage::Head { room } => {
-            let (used, end) = step_head(alloc, kind, room, pending, headers, piece)?;
+        Stage::Head { room, progress } => {
+            let (used, end) = step_head(alloc, kind, room, progress, pending, headers, piece)?;
             let stage = after_head(alloc, room, queue, end)?;
             Ok((used, stage))
         }
@@ -310,7 +319,7 @@ impl MessageReader {
             → Reads self.now.kind bytes (taken ++ waiting self.now) inside) }
     {
         match self.stage {
-            Stage::Head { room } => {
+            Stage::Head { room, .. } => {
                 // Replies with status 100 may stand before the one that has not come.
                 if room != MOST_HEAD {
                     return Err(CutShort);

@@ -11,26 +11,26 @@ use Rattle.http_text.proofs.reader.advance.Goals as goal
 pub step_head-requires : goal.step_head-requires
 step_head-requires c =
     let head = subst (λ (s : Stage). Holds c.args.kind s c.args.pending.now.items c.requires.held.0) c.in-Head.is c.requires.held.1 in
-    record { «open» = head.still; limit = room_fits c.args.kind _ _ _ head; piece = c.requires.piece; spans = c.requires.room }
+    record { «open» = head.still; follows = head.follows; limit = room_fits c.args.kind _ _ _ _ head; piece = c.requires.piece; spans = c.requires.room }
 
 pub returns-in_err-used-in-Head : goal.returns-in_err-used-in-Head
 returns-in_err-used-in-Head c = λ rest held.
     let p = err_from_is_err_and c.from_residual.result c.from_residual.ensures.1 in
     let head = subst (λ (s : Stage). Holds c.args.kind s c.args.pending.now.items rest) c.in-Head.is held in
-    rw (p.1, p.2) (refl, head_fault_tells c.args.kind rest c.args.pending.now.items c.args.piece.now c.in-Head.room _ head c.in_err-used-in-Head.ensures)
+    rw (p.1, p.2) (refl, head_fault_tells c.args.kind rest c.args.pending.now.items c.args.piece.now c.in-Head.room c.in-Head.progress _ head c.in_err-used-in-Head.ensures)
 
 pub returns-in_err-stage-in-Head : goal.returns-in_err-stage-in-Head
 returns-in_err-stage-in-Head c = λ rest held.
     let p = err_from_is_err_and c.from_residual-in_err-stage-in-Head.result c.from_residual-in_err-stage-in-Head.ensures.1 in
     let head = subst (λ (s : Stage). Holds c.args.kind s c.args.pending.now.items rest) c.in-Head.is held in
-    let failed = c.in_err-stage-in-Head.ensures c.args.kind rest c.args.pending.now.items c.step_head.new.pending.items c.args.piece.now c.in_ok-used-in-Head.used head c.in_ok-used-in-Head.ensures in
+    let failed = c.in_err-stage-in-Head.ensures c.args.kind rest c.args.pending.now.items c.step_head.new.pending.items c.args.piece.now c.in_ok-used-in-Head.used c.in-Head.progress head c.in_ok-used-in-Head.ensures in
     rw (p.1, p.2) (failed.0, tells_used c.args.kind rest c.args.piece.now c.in_ok-used-in-Head.used _ failed.1)
 
 pub returns-in_ok-stage-in-Head : goal.returns-in_ok-stage-in-Head
 returns-in_ok-stage-in-Head c = λ rest held.
     let head = subst (λ (s : Stage). Holds c.args.kind s c.args.pending.now.items rest) c.in-Head.is held in (
       uses_some c.args.kind c.in-Head.room _ c.args.pending.now.items c.step_head.new.pending.items _ _ c.in_ok-used-in-Head.ensures,
-      c.in_ok-stage-in-Head.ensures c.args.kind rest c.args.pending.now.items c.step_head.new.pending.items c.args.piece.now c.in_ok-used-in-Head.used head c.in_ok-used-in-Head.ensures,
+      c.in_ok-stage-in-Head.ensures c.args.kind rest c.args.pending.now.items c.step_head.new.pending.items c.args.piece.now c.in_ok-used-in-Head.used c.in-Head.progress head c.in_ok-used-in-Head.ensures,
     )
 
 pub returns-in_err-used-in-Body : goal.returns-in_err-used-in-Body
