@@ -115,7 +115,7 @@ path_not_empty : (path rest : List ℕ) → path ≡ 47 ∷ rest → 0 < length 
 path_not_empty path rest is = let long = ap length is in omega arith
 
 request_with : List ℕ → List ℕ → List ℕ → Option (List ℕ) → RawRequest
-request_with method path body kind = record { method = method; path = path; http10 = false; content_type = kind; encoding = None; body = body }
+request_with method path body kind = record { method = method; path = path; http10 = false; close = false; content_type = kind; encoding = None; body = body }
 
 again : (method path body host : List ℕ) (kind : Option (List ℕ)) → IsPrintable (request_with method path body kind) host
     → IsMessage Requests (request_text (request_with method path body kind) host) (forms.Request (request_with method path body kind))
@@ -141,7 +141,7 @@ again method path body host None p =
       faultless = refl;
       body = body;
       is_body = (ap length p.method.1, refl);
-      is_message = λ i. forms.Request (record { method = method; path = sym (path_again path p.path.0 p.path.1 p.path.2) i; http10 = false; content_type = None; encoding = None; body = body });
+      is_message = λ i. forms.Request (record { method = method; path = sym (path_again path p.path.0 p.path.1 p.path.2) i; http10 = false; close = false; content_type = None; encoding = None; body = body });
     }
 again method path body host (Some kind) p =
     let target = path_of_head path p.path.2 in
@@ -171,6 +171,7 @@ again method path body host (Some kind) p =
         method = method;
         path = sym (path_again path p.path.0 p.path.1 p.path.2) i;
         http10 = false;
+        close = false;
         content_type = Some (sym (trim_word kind p.method.1) i);
         encoding = None;
         body = body;
@@ -182,12 +183,13 @@ pub printed_again : (r : RawRequest) (host : List ℕ) → IsPrintable r host �
 unfolding request_with
 printed_again r host p =
     let same : request_with r.method r.path r.body r.content_type ≡ r =
-    λ i. record { method = r.method; path = r.path; http10 = sym p.http11 i; content_type = r.content_type; encoding = sym p.encoding i; body = r.body } in
+    λ i. record { method = r.method; path = r.path; http10 = sym p.http11 i; close = sym p.stays i; content_type = r.content_type; encoding = sym p.encoding i; body = r.body } in
     let plain : IsPrintable (request_with r.method r.path r.body r.content_type) host = record {
       method = p.method;
       path = p.path;
       host_bytes = p.host_bytes;
       http11 = refl;
+      stays = refl;
       encoding = refl;
       head_fits = p.head_fits;
       body_fits = p.body_fits;

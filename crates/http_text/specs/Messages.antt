@@ -3,7 +3,7 @@ use Rattle.std.specs.Prelude.{◌≡◌, ◌≢◌, ◌⊎◌, ◌≤◌, ◌==�
 use Rattle.std.specs.List.{starts_with}
 use Rattle.httparse.specs.Grammar.{RequestHead, ResponseHead, status_code}
 use Rattle.http_text.specs.Heads.{Head, request, reply, print_head, fields_of, minor_of, most_head, most_fields, ReadsHead, HasNoHead, HasTooManyFields, IsBadHead, is_interim, PassesOver, room_behind}
-use Rattle.http_text.specs.Fields.{rows_of, values_of, first_of}
+use Rattle.http_text.specs.Fields.{rows_of, values_of, first_of, closes}
 use Rattle.http_text.specs.Framing.{framing_of}
 use Rattle.http_text.specs.Chunks.{ChunkedBody, IsChunkedBody, print_chunked, data_of, IsChunkedFault}
 use Rattle.http_text.specs.declared.framing.FrameFault.{FrameFault}
@@ -41,6 +41,7 @@ request_of head body = record {
   method = head.method;
   path = path_of head.target;
   http10 = head.minor == 0;
+  close = closes head.minor (rows_of head.fields);
   content_type = first_of (values_of (codes "content-type") (rows_of head.fields));
   encoding = first_of (values_of (codes "content-encoding") (rows_of head.fields));
   body = body;
@@ -50,6 +51,7 @@ request_of head body = record {
 abbrev pub reply_of : ResponseHead → List ℕ → RawReply
 reply_of head body = record {
   status = status_code head;
+  close = closes head.minor (rows_of head.fields);
   content_type = first_of (values_of (codes "content-type") (rows_of head.fields));
   body = body;
 }

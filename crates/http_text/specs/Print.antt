@@ -50,6 +50,7 @@ pub record IsPrintable (request : RawRequest) (host : List ℕ) : Type 0 where
   pub path : (rest : List ℕ) × (request.path ≡ 47 ∷ rest) × AllPass is_path_byte request.path
   pub host_bytes : AllPass is_visible host
   pub http11 : request.http10 ≡ false
+  pub stays : request.close ≡ false
   pub encoding : request.encoding ≡ None
   pub head_fits : length (print_request (head_for request host)) ≤ most_head
   pub body_fits : length request.body ≤ most_body

@@ -6,7 +6,7 @@ ghost use Rattle.http_text.specs.Front.{FrontIs, reply_at, request_at};
 ghost use Rattle.http_text.specs.Messages.{before_query, from_slash, path_of};
 ghost use Rattle.http_text.specs.declared.message.Kind.TheVariants as kinds;
 
-use crate::fields::first_named;
+use crate::fields::{closes, first_named};
 use crate::framing::{FrameFault, Framing, read_framing};
 use crate::heads::{HeadStep, read_reply_head, read_request_head};
 use crate::message::{Kind, Message, RawReply, RawRequest};
@@ -91,6 +91,7 @@ fn read_request(
         method: Bytes::from_slice(alloc, head.method.of(text))?,
         path: Bytes::from_slice(alloc, path_of(head.path.of(text)))?,
         http10: head.version == 0,
+        close: closes(text, head.version, headers),
         content_type,
         encoding,
         body: Bytes::from_vec(Vec::new(alloc)),
@@ -110,6 +111,7 @@ fn read_reply(
     let content_type = copy_of(alloc, first_named(text, headers, b"content-type"))?;
     Ok(RawReply {
         status: head.code,
+        close: closes(text, head.version, headers),
         content_type,
         body: Bytes::from_vec(Vec::new(alloc)),
     })

@@ -8,6 +8,8 @@ pub struct RawRequest {
     pub method: Bytes,
     pub path: Bytes,
     pub http10: bool,
+    /// The connection ends behind it.
+    pub close: bool,
     pub content_type: Option<Bytes>,
     pub encoding: Option<Bytes>,
     pub body: Bytes,
@@ -17,6 +19,8 @@ pub struct RawRequest {
 #[derive(Debug, Drop)]
 pub struct RawReply {
     pub status: u16,
+    /// The connection ends behind it.
+    pub close: bool,
     pub content_type: Option<Bytes>,
     pub body: Bytes,
 }
