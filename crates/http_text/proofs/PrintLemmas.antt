@@ -11,7 +11,7 @@ use Rattle.std.proofs.lemmas.Fmt.{decimal_is_IsNumeral, length-decimal-le}
 use Rattle.std.proofs.lemmas.List.Elements.{All-head, All-tail, All-nil, All-cons, All-weaker}
 use Rattle.std.proofs.lemmas.Str.{IsUtf8-from_ascii}
 use Rattle.std.proofs.lemmas.Str.Ascii.{IsAscii-from_all}
-use Rattle.httparse.specs.Grammar.{AllPass, IsToken, is_token_byte, is_uri_byte, is_value_byte, is_ows, skip_ows, trim_ows, Field, IsField, print_field, print_version}
+use Rattle.httparse.specs.Grammar.{AllPass, IsToken, is_token_byte, is_uri_byte, is_value_byte, is_ows, skip_ows, trim_ows, Field, IsField, print_field, print_version, print_request}
 use Rattle.std.proofs.lemmas.List.{append-nil}
 use Rattle.std.specs.List.{flat_map}
 use Rattle.httparse.specs.Ascii.{crlf_bytes}
@@ -24,7 +24,7 @@ use Rattle.http_text.proofs.PassLemmas.{passes_none}
 use Rattle.http_text.specs.declared.message.Kind.TheVariants.{Requests}
 use Rattle.http_text.specs.declared.message.Message.TheVariants as forms
 use Rattle.http_text.specs.declared.message.RawRequest.{RawRequest}
-use Rattle.http_text.specs.Print.{field, body_fields, head_for, request_text, is_visible, is_path_byte, IsPrintable}
+use Rattle.http_text.specs.Print.{field, body_fields, head_for, request_text, is_visible, is_path_byte, IsPrintable, FitsReader}
 use Rattle.http_text.specs.declared.framing.FrameFault.TheVariants.{BodyTooLong}
 use Rattle.http_text.specs.declared.framing.Framing.TheVariants.{Sized}
 
@@ -39,13 +39,13 @@ skip_visible [] all = refl
 skip_visible (b ∷ v) all = ap (λ t. cond t (skip_ows v) (b ∷ v)) (no_blank b (All-head (λ x. IsTrue (is_visible x)) b v all))
 
 -- a space before a word isn't part of it
-trim_word : (v : List ℕ) → AllPass is_visible v → trim_ows (32 ∷ v) ≡ v
+pub trim_word : (v : List ℕ) → AllPass is_visible v → trim_ows (32 ∷ v) ≡ v
 trim_word v all = trim_ows_space v (skip_visible v all) (skip_visible (reverse v) (AllPass-reverse is_visible v all))
 
 value_byte : (b : ℕ) → is_visible b ≡ true → is_value_byte b ≡ true
 value_byte b visible = let range = visible_is b visible in grind (arith, nat_tests)
 
-word_value : (v : List ℕ) → AllPass is_visible v → AllPass is_value_byte (32 ∷ v)
+pub word_value : (v : List ℕ) → AllPass is_visible v → AllPass is_value_byte (32 ∷ v)
 word_value v all = All-cons (λ b. IsTrue (is_value_byte b)) 32 v refl (All-weaker (λ b. IsTrue (is_visible b)) (λ b. IsTrue (is_value_byte b)) value_byte v all)
 
 -- ---- digits
@@ -64,7 +64,7 @@ module _ (n : ℕ) (small : n ≤ most_body) where
   numeral_is : (0 < length (decimal n)) × AllDigits 10 (decimal n) × (digits_value 10 (decimal n) ≡ n)
   numeral_is = let numeral = decimal_is_IsNumeral n (omega arith) in (numeral.0.0, numeral.0.1, numeral.1)
 
-  decimal_word : AllPass is_visible (decimal n)
+  pub decimal_word : AllPass is_visible (decimal n)
   decimal_word = (digits_visible (decimal n) numeral_is.1).0
 
   is_decimal : is_length (decimal n) ≡ true
@@ -75,7 +75,7 @@ module _ (n : ℕ) (small : n ≤ most_body) where
   length_again : length_of (decimal n) ≡ Some n
   length_again = ap (λ t. cond t (Some (digits_value 10 (decimal n))) None) is_decimal ∙ ap Some numeral_is.2
 
-  size_again : sized (length_of (trim_ows (32 ∷ decimal n))) ≡ Ok (Sized n)
+  pub size_again : sized (length_of (trim_ows (32 ∷ decimal n))) ≡ Ok (Sized n)
   size_again = ap (λ (v : List ℕ). sized (length_of v)) (trim_word (decimal n) decimal_word) ∙ ap sized length_again
       ∙ ap (λ t. cond t (Ok (Sized n)) (Err (BodyTooLong n most_body))) (le-leb n most_body small)
 
@@ -97,10 +97,10 @@ path_again path rest is all =
 path_byte : (b : ℕ) → is_path_byte b ≡ true → (is_uri_byte b ≡ true) × (b < 128)
 path_byte b passes = (grind (arith, nat_tests), grind (arith, nat_tests))
 
-token_of : (word : List ℕ) → 0 < length word → list_all is_token_byte word ≡ true → IsToken word
+pub token_of : (word : List ℕ) → 0 < length word → list_all is_token_byte word ≡ true → IsToken word
 token_of word some all = (some, AllPass-from_list_all is_token_byte word all)
 
-field_is : (name value : List ℕ) → IsToken name → AllPass is_visible value → IsField (field name value)
+pub field_is : (name value : List ℕ) → IsToken name → AllPass is_visible value → IsField (field name value)
 field_is name value token visible = record { name = token; raw = word_value value visible }
 
 -- ---- the head
@@ -118,9 +118,9 @@ request_with : List ℕ → List ℕ → List ℕ → Option (List ℕ) → RawR
 request_with method path body kind = record { method = method; path = path; http10 = false; close = false; content_type = kind; encoding = None; body = body }
 
 again : (method path body host : List ℕ) (kind : Option (List ℕ)) → IsPrintable (request_with method path body kind) host
-    → IsMessage Requests (request_text (request_with method path body kind) host) (forms.Request (request_with method path body kind))
+    → FitsReader (print_request (head_for (request_with method path body kind) host)) body → IsMessage Requests (request_text (request_with method path body kind) host) (forms.Request (request_with method path body kind))
 unfolding request_with is_token_byte
-again method path body host None p =
+again method path body host None p fits =
     let target = path_of_head path p.path.2 in
     let get : IsToken method = subst IsToken (sym p.method.0) (token_of (codes "GET") (omega arith) refl) in
     let fields : All IsField (field (codes "Host") host ∷ []) =
@@ -133,7 +133,7 @@ again method path body host None p =
       behind = body;
       begins = record {
         reads = (record { method = get; target = (path_not_empty path p.path.0 p.path.1, target.0); target_text = target.1; minor = omega arith; fields = fields }, refl);
-        short = p.head_fits;
+        short = fits.head_fits;
         few = omega arith;
         final = refl;
       };
@@ -143,9 +143,9 @@ again method path body host None p =
       is_body = (ap length p.method.1, refl);
       is_message = λ i. forms.Request (record { method = method; path = sym (path_again path p.path.0 p.path.1 p.path.2) i; http10 = false; close = false; content_type = None; encoding = None; body = body });
     }
-again method path body host (Some kind) p =
+again method path body host (Some kind) p fits =
     let target = path_of_head path p.path.2 in
-    let size = decimal_word (length body) p.body_fits in
+    let size = decimal_word (length body) fits.body_fits in
     let post : IsToken method = subst IsToken (sym p.method.0) (token_of (codes "POST") (omega arith) refl) in
     let fields : All IsField (field (codes "Host") host ∷ body_fields (Some kind) (length body)) =
     All-cons IsField (field (codes "Host") host) (body_fields (Some kind) (length body)) (field_is (codes "Host") host (token_of (codes "Host") (omega arith) refl) p.host_bytes)
@@ -159,12 +159,12 @@ again method path body host (Some kind) p =
       behind = body;
       begins = record {
         reads = (record { method = post; target = (path_not_empty path p.path.0 p.path.1, target.0); target_text = target.1; minor = omega arith; fields = fields }, refl);
-        short = p.head_fits;
+        short = fits.head_fits;
         few = omega arith;
         final = refl;
       };
       framing = Sized (length body);
-      faultless = size_again (length body) p.body_fits;
+      faultless = size_again (length body) fits.body_fits;
       body = body;
       is_body = (refl, refl);
       is_message = λ i. forms.Request (record {
@@ -179,9 +179,9 @@ again method path body host (Some kind) p =
     }
 
 -- what is printed is that request
-pub printed_again : (r : RawRequest) (host : List ℕ) → IsPrintable r host → IsMessage Requests (request_text r host) (forms.Request r)
+pub printed_again : (r : RawRequest) (host : List ℕ) → IsPrintable r host → FitsReader (print_request (head_for r host)) r.body → IsMessage Requests (request_text r host) (forms.Request r)
 unfolding request_with
-printed_again r host p =
+printed_again r host p fits =
     let same : request_with r.method r.path r.body r.content_type ≡ r =
     λ i. record { method = r.method; path = r.path; http10 = sym p.http11 i; close = sym p.stays i; content_type = r.content_type; encoding = sym p.encoding i; body = r.body } in
     let plain : IsPrintable (request_with r.method r.path r.body r.content_type) host = record {
@@ -191,10 +191,8 @@ printed_again r host p =
       http11 = refl;
       stays = refl;
       encoding = refl;
-      head_fits = p.head_fits;
-      body_fits = p.body_fits;
     } in
-    subst (λ (q : RawRequest). IsMessage Requests (request_text r host) (forms.Request q)) same (again r.method r.path r.body host r.content_type plain)
+    subst (λ (q : RawRequest). IsMessage Requests (request_text r host) (forms.Request q)) same (again r.method r.path r.body host r.content_type plain (record { head_fits = fits.head_fits; body_fits = fits.body_fits }))
 
 -- ---- the text
 

@@ -1,10 +1,13 @@
--- The requests that a client writes.
-use Rattle.std.specs.Prelude.{◌≡◌, ◌<◌, ◌≤◌, ◌++◌, ℕ, Bool, ◌&&◌, not, ◌==◌, nat_le, false, List, [], ◌∷◌, length, Option, Some, None, codes}
+-- The requests that a client writes, and the replies of a server.
+use Rattle.std.specs.Prelude.{◌≡◌, ◌≤◌, ◌++◌, ◌+◌, ◌/◌, ◌%◌, ℕ, Bool, ◌&&◌, not, ◌==◌, nat_le, false, true, List, [], ◌∷◌, length, Option, Some, None, codes, if◌then◌else◌}
 use Rattle.std.specs.Fmt.{decimal}
-use Rattle.httparse.specs.Grammar.{AllPass, Field, crlf, RequestHead, print_request}
+use Rattle.std.specs.List.{list_any}
+use Rattle.httparse.specs.Ascii.{crlf_bytes}
+use Rattle.httparse.specs.Grammar.{AllPass, is_value_byte, Field, crlf, RequestHead, print_request, ResponseHead, print_response, print_version}
 use Rattle.http_text.specs.Heads.{most_head}
 use Rattle.http_text.specs.Framing.{most_body}
 use Rattle.http_text.specs.declared.message.RawRequest.{RawRequest}
+use Rattle.http_text.specs.declared.message.RawReply.{RawReply}
 
 -- name ":" SP value CRLF
 abbrev pub field : List ℕ → List ℕ → Field
@@ -52,5 +55,78 @@ pub record IsPrintable (request : RawRequest) (host : List ℕ) : Type 0 where
   pub http11 : request.http10 ≡ false
   pub stays : request.close ≡ false
   pub encoding : request.encoding ≡ None
-  pub head_fits : length (print_request (head_for request host)) ≤ most_head
-  pub body_fits : length request.body ≤ most_body
+
+-- a head and a body within the limits of a reader
+pub record FitsReader (head body : List ℕ) : Type 0 where
+  pub head_fits : length head ≤ most_head
+  pub body_fits : length body ≤ most_body
+
+-- ---- replies
+
+-- the phrase of a status
+abbrev pub phrase_of : ℕ → List ℕ
+phrase_of status =
+    if status == 200 then codes "OK" else (
+    if status == 400 then codes "Bad Request" else (
+    if status == 404 then codes "Not Found" else (
+    if status == 405 then codes "Method Not Allowed" else (
+    if status == 409 then codes "Conflict" else (
+    if status == 413 then codes "Payload Too Large" else (
+    if status == 415 then codes "Unsupported Media Type" else (
+    if status == 431 then codes "Request Header Fields Too Large" else (
+    if status == 500 then codes "Internal Server Error" else (
+    if status == 503 then codes "Service Unavailable" else (
+    if status == 507 then codes "Insufficient Storage" else []))))))))))
+
+-- the statuses that a server answers with
+abbrev pub statuses : List ℕ
+statuses = 200 ∷ 400 ∷ 404 ∷ 405 ∷ 409 ∷ 413 ∷ 415 ∷ 431 ∷ 500 ∷ 503 ∷ 507 ∷ []
+
+-- the three digits of a status
+abbrev pub status_digits : ℕ → List ℕ
+status_digits status = (48 + status / 100 % 10) ∷ (48 + status / 10 % 10) ∷ (48 + status % 10) ∷ []
+
+-- the status line
+abbrev pub status_line : ℕ → List ℕ
+status_line status = print_version 1 ++ 32 ∷ (status_digits status ++ (32 ∷ phrase_of status ++ crlf_bytes))
+
+abbrev pub allow_fields : Option (List ℕ) → List Field
+allow_fields None = []
+allow_fields (Some methods) = field (codes "Allow") methods ∷ []
+
+abbrev pub close_fields : Bool → List Field
+close_fields true = field (codes "Connection") (codes "close") ∷ []
+close_fields false = []
+
+-- Allow where it is given, Connection where the session ends, and the fields of the body
+abbrev pub reply_fields : RawReply → Option (List ℕ) → List Field
+reply_fields reply allow = allow_fields allow ++ (close_fields reply.close ++ body_fields reply.content_type (length reply.body))
+
+abbrev pub reply_head : RawReply → Option (List ℕ) → ResponseHead
+reply_head reply allow = record {
+  blank = [];
+  minor = 1;
+  digits = status_digits reply.status;
+  reason = Some (phrase_of reply.status);
+  line_end = crlf;
+  fields = reply_fields reply allow;
+  last = crlf;
+}
+
+abbrev pub reply_text : RawReply → Option (List ℕ) → List ℕ
+reply_text reply allow = print_response (reply_head reply allow) ++ reply.body
+
+-- the type of the body is given
+abbrev pub HasKind : Option (List ℕ) → Type 0
+HasKind None = ⊥
+HasKind (Some kind) = AllPass is_visible kind
+
+abbrev pub IsAllow : Option (List ℕ) → Type 0
+IsAllow None = Unit {0}
+IsAllow (Some methods) = AllPass is_value_byte methods
+
+-- what a server may write
+pub record IsPrintableReply (reply : RawReply) (allow : Option (List ℕ)) : Type 0 where
+  pub status : list_any (λ status. status == reply.status) statuses ≡ true
+  pub kind : HasKind reply.content_type
+  pub allow_bytes : IsAllow allow

@@ -20,5 +20,5 @@ returns c =
     (rw (c.in_ok-extend_from_slice-2.ensures.items, c.as_slice-3.ensures) refl) in
     record {
       text = c.from_vec.ensures ∙ text;
-      again = subst (λ (t : List ℕ). IsMessage Requests t (forms.Request c.args.request.now)) (sym (c.from_vec.ensures ∙ text)) (printed_again c.args.request.now c.args.host.now c.requires);
+      again = λ fits. subst (λ (t : List ℕ). IsMessage Requests t (forms.Request c.args.request.now)) (sym (c.from_vec.ensures ∙ text)) (printed_again c.args.request.now c.args.host.now c.requires fits);
     }
