@@ -121,10 +121,12 @@ again : (method path body host : List ℕ) (kind : Option (List ℕ)) → IsPrin
     → FitsReader (print_request (head_for (request_with method path body kind) host)) body → IsMessage Requests (request_text (request_with method path body kind) host) (forms.Request (request_with method path body kind))
 unfolding request_with is_token_byte
 again method path body host None p fits =
-    let target = path_of_head path p.path.2 in
+    let plain = AllPass-from_list_all is_path_byte path p.path.2 in
+    let hosts = AllPass-from_list_all is_visible host p.host_bytes in
+    let target = path_of_head path plain in
     let get : IsToken method = subst IsToken (sym p.method.0) (token_of (codes "GET") (omega arith) refl) in
     let fields : All IsField (field (codes "Host") host ∷ []) =
-    All-cons IsField (field (codes "Host") host) [] (field_is (codes "Host") host (token_of (codes "Host") (omega arith) refl) p.host_bytes) (All-nil IsField) in
+    All-cons IsField (field (codes "Host") host) [] (field_is (codes "Host") host (token_of (codes "Host") (omega arith) refl) hosts) (All-nil IsField) in
     record {
       passed = [];
       from = request_text (request_with method path body None) host;
@@ -141,15 +143,18 @@ again method path body host None p fits =
       faultless = refl;
       body = body;
       is_body = (ap length p.method.1, refl);
-      is_message = λ i. forms.Request (record { method = method; path = sym (path_again path p.path.0 p.path.1 p.path.2) i; http10 = false; close = false; content_type = None; encoding = None; body = body });
+      is_message = λ i. forms.Request (record { method = method; path = sym (path_again path p.path.0 p.path.1 plain) i; http10 = false; close = false; content_type = None; encoding = None; body = body });
     }
 again method path body host (Some kind) p fits =
-    let target = path_of_head path p.path.2 in
+    let kinds = AllPass-from_list_all is_visible kind p.method.1 in
+    let plain = AllPass-from_list_all is_path_byte path p.path.2 in
+    let hosts = AllPass-from_list_all is_visible host p.host_bytes in
+    let target = path_of_head path plain in
     let size = decimal_word (length body) fits.body_fits in
     let post : IsToken method = subst IsToken (sym p.method.0) (token_of (codes "POST") (omega arith) refl) in
     let fields : All IsField (field (codes "Host") host ∷ body_fields (Some kind) (length body)) =
-    All-cons IsField (field (codes "Host") host) (body_fields (Some kind) (length body)) (field_is (codes "Host") host (token_of (codes "Host") (omega arith) refl) p.host_bytes)
-    (All-cons IsField (field (codes "Content-Type") kind) (field (codes "Content-Length") (decimal (length body)) ∷ []) (field_is (codes "Content-Type") kind (token_of (codes "Content-Type") (omega arith) refl) p.method.1)
+    All-cons IsField (field (codes "Host") host) (body_fields (Some kind) (length body)) (field_is (codes "Host") host (token_of (codes "Host") (omega arith) refl) hosts)
+    (All-cons IsField (field (codes "Content-Type") kind) (field (codes "Content-Length") (decimal (length body)) ∷ []) (field_is (codes "Content-Type") kind (token_of (codes "Content-Type") (omega arith) refl) kinds)
     (All-cons IsField (field (codes "Content-Length") (decimal (length body))) [] (field_is (codes "Content-Length") (decimal (length body)) (token_of (codes "Content-Length") (omega arith) refl) size) (All-nil IsField))) in
     record {
       passed = [];
@@ -169,10 +174,10 @@ again method path body host (Some kind) p fits =
       is_body = (refl, refl);
       is_message = λ i. forms.Request (record {
         method = method;
-        path = sym (path_again path p.path.0 p.path.1 p.path.2) i;
+        path = sym (path_again path p.path.0 p.path.1 plain) i;
         http10 = false;
         close = false;
-        content_type = Some (sym (trim_word kind p.method.1) i);
+        content_type = Some (sym (trim_word kind kinds) i);
         encoding = None;
         body = body;
       });

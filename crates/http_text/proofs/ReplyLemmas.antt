@@ -76,7 +76,7 @@ allow_is : (allow : Option (List ℕ)) → IsAllow allow → All IsField (allow_
 unfolding is_token_byte
 allow_is None bytes = All-nil IsField
 allow_is (Some methods) bytes =
-    All-cons IsField (field (codes "Allow") methods) [] (record { name = token_of (codes "Allow") (omega arith) refl; raw = All-cons (λ b. IsTrue (is_value_byte b)) 32 methods refl bytes }) (All-nil IsField)
+    All-cons IsField (field (codes "Allow") methods) [] (record { name = token_of (codes "Allow") (omega arith) refl; raw = All-cons (λ b. IsTrue (is_value_byte b)) 32 methods refl (AllPass-from_list_all is_value_byte methods bytes) }) (All-nil IsField)
 
 close_is : (close : Bool) → All IsField (close_fields close)
 unfolding is_token_byte
@@ -131,7 +131,7 @@ again status close kind body allow p fits =
             digits = (refl, good.digits);
             reason = good.phrase;
             fields = All-append IsField (allow_fields allow) (close_fields close ++ body_fields (Some kind) (length body)) (allow_is allow p.allow_bytes)
-                (All-append IsField (close_fields close) (body_fields (Some kind) (length body)) (close_is close) (body_is kind (length body) p.kind fits.body_fits));
+                (All-append IsField (close_fields close) (body_fields (Some kind) (length body)) (close_is close) (body_is kind (length body) (AllPass-from_list_all is_visible kind p.kind) fits.body_fits));
           },
           refl,
         );
@@ -143,7 +143,7 @@ again status close kind body allow p fits =
       faultless = framing_again status close kind body allow fits.body_fits;
       body = body;
       is_body = (refl, refl);
-      is_message = ap forms.Reply (reply_again status close kind body allow p.kind good.value);
+      is_message = ap forms.Reply (reply_again status close kind body allow (AllPass-from_list_all is_visible kind p.kind) good.value);
     }
   where
     few_fields : (allow : Option (List ℕ)) (close : Bool) (kind : List ℕ) (size : ℕ) → length (allow_fields allow ++ (close_fields close ++ body_fields (Some kind) size)) ≤ 64

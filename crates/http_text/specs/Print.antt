@@ -1,9 +1,9 @@
 -- The requests that a client writes, and the replies of a server.
 use Rattle.std.specs.Prelude.{◌≡◌, ◌≤◌, ◌++◌, ◌+◌, ◌/◌, ◌%◌, ℕ, Bool, ◌&&◌, not, ◌==◌, nat_le, false, true, List, [], ◌∷◌, length, Option, Some, None, codes, if◌then◌else◌}
 use Rattle.std.specs.Fmt.{decimal}
-use Rattle.std.specs.List.{list_any}
+use Rattle.std.specs.List.{list_all, list_any}
 use Rattle.httparse.specs.Ascii.{crlf_bytes}
-use Rattle.httparse.specs.Grammar.{AllPass, is_value_byte, Field, crlf, RequestHead, print_request, ResponseHead, print_response, print_version}
+use Rattle.httparse.specs.Grammar.{is_value_byte, Field, crlf, RequestHead, print_request, ResponseHead, print_response, print_version}
 use Rattle.http_text.specs.Heads.{most_head}
 use Rattle.http_text.specs.Framing.{most_body}
 use Rattle.http_text.specs.declared.message.RawRequest.{RawRequest}
@@ -45,13 +45,13 @@ is_path_byte byte = is_visible byte && not (byte == 63)
 -- GET without a body, or POST with a body of a type that is given
 abbrev pub HasMethod : RawRequest → Option (List ℕ) → Type 0
 HasMethod request None = (request.method ≡ codes "GET") × (request.body ≡ [])
-HasMethod request (Some kind) = (request.method ≡ codes "POST") × AllPass is_visible kind
+HasMethod request (Some kind) = (request.method ≡ codes "POST") × (list_all is_visible kind ≡ true)
 
 -- what a client may write
 pub record IsPrintable (request : RawRequest) (host : List ℕ) : Type 0 where
   pub method : HasMethod request request.content_type
-  pub path : (rest : List ℕ) × (request.path ≡ 47 ∷ rest) × AllPass is_path_byte request.path
-  pub host_bytes : AllPass is_visible host
+  pub path : (rest : List ℕ) × (request.path ≡ 47 ∷ rest) × (list_all is_path_byte request.path ≡ true)
+  pub host_bytes : list_all is_visible host ≡ true
   pub http11 : request.http10 ≡ false
   pub stays : request.close ≡ false
   pub encoding : request.encoding ≡ None
@@ -119,11 +119,11 @@ reply_text reply allow = print_response (reply_head reply allow) ++ reply.body
 -- the type of the body is given
 abbrev pub HasKind : Option (List ℕ) → Type 0
 HasKind None = ⊥
-HasKind (Some kind) = AllPass is_visible kind
+HasKind (Some kind) = list_all is_visible kind ≡ true
 
 abbrev pub IsAllow : Option (List ℕ) → Type 0
 IsAllow None = Unit {0}
-IsAllow (Some methods) = AllPass is_value_byte methods
+IsAllow (Some methods) = list_all is_value_byte methods ≡ true
 
 -- what a server may write
 pub record IsPrintableReply (reply : RawReply) (allow : Option (List ℕ)) : Type 0 where

@@ -1,6 +1,6 @@
 //! Messages from a stream of bytes that comes in any pieces.
 ghost use Rattle.std.specs.Prelude.{◌≡◌, ◌<◌, ◌≤◌, ◌++◌, ◌∷◌, length, take, List, ℕ, [], IfErr, IfNone, IfSome, MatchResult, OnErr, OnOk, Some, None};
-ghost use Rattle.http_text.specs.Readers.{AdvanceIs, BeginsBody, CanGoOn, Decides, EndsHead, Holds, HoldsAll, HoldsHead, IsHeadOf, IsReader, ReadsPiece, StandsFor, TellsFault, fault_of, waiting};
+ghost use Rattle.http_text.specs.Readers.{AdvanceIs, BeginsBody, CanGoOn, Decides, EndsHead, Holds, HoldsAll, HoldsHead, IsHeadOf, IsReader, ReadsPiece, StandsFor, TellsFault, fault_of, stage_fault, waiting};
 ghost use Rattle.http_text.specs.Messages.{End, Reads, between, inside};
 ghost use Rattle.http_text.specs.Taken.{taken_after};
 ghost use Rattle.http_text.specs.declared.follow.Progress.{Progress as At};
@@ -50,7 +50,8 @@ pub struct MessageReader {
 
 // Where no byte of a message has come.
 fn at_start() -> Stage
-    ensures { (kind : Kind) → Holds kind result [] [] }
+    ensures held { (kind : Kind) → Holds kind result [] [] }
+    ensures fault { stage_fault result ≡ None }
 {
     Stage::Head {
         room: MOST_HEAD,
@@ -245,6 +246,7 @@ impl MessageReader {
     pub fn new(alloc: Global, kind: Kind) -> MessageReader
         ensures kind { result.kind ≡ kind }
         ensures stands { StandsFor kind [] [] result }
+        ensures fault { fault_of result ≡ None }
     {
         MessageReader {
             alloc,

@@ -36,7 +36,8 @@ impl ReplyReader {
 
     /// A reader that was given no bytes.
     pub fn new(alloc: Global) -> ReplyReader
-        ensures { GaveReplies [] [] result }
+        ensures stands { GaveReplies [] [] result }
+        ensures fault { fault_of result ≡ None }
     {
         ReplyReader {
             reader: MessageReader::new(alloc, Kind::Replies),

@@ -36,7 +36,8 @@ impl RequestReader {
 
     /// A reader that was given no bytes.
     pub fn new(alloc: Global) -> RequestReader
-        ensures { GaveRequests [] [] result }
+        ensures stands { GaveRequests [] [] result }
+        ensures fault { fault_of result ≡ None }
     {
         RequestReader {
             reader: MessageReader::new(alloc, Kind::Requests),

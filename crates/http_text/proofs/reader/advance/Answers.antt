@@ -58,6 +58,6 @@ returns-in_ok-push_back-in-None c = λ rest held.
         c.in_ok-push_back-in-None.ensures.items,
         body_is_whole c.args.kind rest _ c.in-Body.message _ c.in-Body.part c.args.pending.now.items _ _ body
             (record { request = c.with_body.ensures.request; reply = c.with_body.ensures.reply }) step.1,
-        start_with c.args.kind c.at_start.result _ (c.at_start.ensures c.args.kind) step.2,
+        start_with c.args.kind c.at_start.result _ (c.at_start.ensures.held c.args.kind) step.2,
       ),
     )

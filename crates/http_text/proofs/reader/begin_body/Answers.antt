@@ -8,7 +8,7 @@ returns-then-size-eq0 c = λ kind text whole.
       c.args.message,
       c.in_ok-push_back-in-Sized.ensures.items,
       empty_message kind text c.args.message c.args.framing c.in-Sized.size whole c.in-Sized.is c.if-size-eq0.true,
-      c.at_start.ensures kind,
+      c.at_start.ensures.held kind,
     )
 
 pub returns-else-size-eq0 : goal.returns-else-size-eq0

@@ -7,5 +7,5 @@ pub returns-clause-stands : goal.returns-clause-stands
 returns-clause-stands c = (
   [],
   rw c.new-3.ensures.items refl,
-  still_held c.args.kind c.at_start.result c.new-2.result.items [] (start_with c.args.kind c.at_start.result c.new-2.result.items (c.at_start.ensures c.args.kind) c.new-2.ensures.items),
+  still_held c.args.kind c.at_start.result c.new-2.result.items [] (start_with c.args.kind c.at_start.result c.new-2.result.items (c.at_start.ensures.held c.args.kind) c.new-2.ensures.items),
 )
