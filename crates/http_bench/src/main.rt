@@ -1,0 +1,73 @@
+//! Feeds standard input to a reader of requests in pieces of one size, to measure what small pieces cost.
+//!
+//! `http_bench SIZE` prints how many requests it took, and how many bytes their bodies have.
+#![tactic(auto)]
+
+use http_text::{FrameFault, RequestReader};
+use std::alloc::Global;
+use std::io::Read;
+use std::process::ExitCode;
+use std::{env, io};
+
+/// What was taken of a reader.
+#[derive(Clone, Copy)]
+struct Tally {
+    requests: usize,
+    bytes: usize,
+}
+
+/// Takes a request that is ready, and counts it.
+fn take_one(reader: &mut RequestReader, tally: Tally) -> Option<Tally> {
+    let request = reader.take()?;
+    Some(Tally {
+        requests: tally.requests.saturating_add(1),
+        bytes: tally.bytes.saturating_add(request.body.len()),
+    })
+}
+
+/// Feeds a text in pieces of `size` bytes, or of one byte where that is 0, and takes at most as many requests as it has bytes.
+fn count_requests(alloc: Global, text: &[u8], size: u32) -> Result<Tally, FrameFault> {
+    let mut reader = RequestReader::new(alloc);
+    let mut tally = Tally {
+        requests: 0,
+        bytes: 0,
+    };
+    for piece in text.chunks(size.max(1) as usize) {
+        reader.feed(piece)?;
+        for _ in 0..piece.len() {
+            match take_one(&mut reader, tally) {
+                Some(next) => tally = next,
+                None => break,
+            }
+        }
+    }
+    Ok(tally)
+}
+
+fn main(rt: HostRuntime) -> io::Result<ExitCode> {
+    let alloc = rt.alloc();
+    let mut words = Vec::new(alloc);
+    for word in env::args(&rt)?.skip(1) {
+        words.push(word)?;
+    }
+    let [size] = words.as_slice() else {
+        eprintln!(rt; "usage: http_bench SIZE")?;
+        return Ok(ExitCode::from(2));
+    };
+    let Ok(size) = size.parse::<u32>() else {
+        eprintln!(rt; "http_bench: not a number: {size}")?;
+        return Ok(ExitCode::from(2));
+    };
+    let mut text = Vec::new(alloc);
+    rt.stdin().read_to_end(&mut text)?;
+    match count_requests(alloc, &text, size) {
+        Ok(tally) => {
+            println!(rt; "requests {} bytes {}", tally.requests, tally.bytes)?;
+            Ok(ExitCode::SUCCESS)
+        }
+        Err(fault) => {
+            eprintln!(rt; "http_bench: {fault:?}")?;
+            Ok(ExitCode::from(4))
+        }
+    }
+}

@@ -1,0 +1,250 @@
+-- Facts about the steps of a reader.
+use Rattle.std.proofs.Common.{◌≡◌, ℕ, ◌+◌, ◌-◌, ◌<◌, ◌≤◌, ◌⊎◌, List, [], ◌∷◌, ◌++◌, length, take, Result, Ok, Err, refl, sym, ap, ◌∙◌, subst, inl, inr, arith, append_assoc, length-append}
+use Rattle.std.specs.Global.{Vec}
+use Rattle.std.proofs.lemmas.List.{append-nil}
+use Rattle.std.proofs.lemmas.List.Elements.{All-nil}
+use Rattle.http_text.specs.Heads.{Head, request, reply, print_head, HasNoHead, IsBadHead, IsInterim, PassesOver, room_behind, most_head}
+use Rattle.http_text.specs.Chunks.{IsChunk}
+use Rattle.http_text.specs.Messages.{message_of, request_of, reply_of, BeginsWithHead, framing_behind, IsMessage, IsBody, IsFrameFault}
+use Rattle.http_text.specs.Front.{TellsFaultAt}
+use Rattle.http_text.specs.Stages.{IsOpenHead, HoldsPart, TellsBodyFault, HeadStepIs, UsesSome}
+use Rattle.http_text.specs.declared.stage.HeadEnd.{HeadEnd}
+use Rattle.http_text.specs.Readers.{HoldsHead, HoldsBody, Holds, IsHeadOf, NextIs, BeginsBody, EndsHead, TellsFault}
+use Rattle.http_text.specs.declared.framing.FrameFault.{FrameFault}
+use Rattle.http_text.specs.declared.framing.FrameFault.TheVariants as faults
+use Rattle.http_text.specs.declared.framing.Framing.{Framing}
+use Rattle.http_text.specs.declared.framing.Framing.TheVariants.{Sized, Chunked}
+use Rattle.http_text.specs.declared.message.Kind.{Kind}
+use Rattle.http_text.specs.declared.message.Message.{Message}
+use Rattle.http_text.specs.declared.message.Message.TheVariants as forms
+use Rattle.http_text.specs.declared.message.RawRequest.{RawRequest}
+use Rattle.http_text.specs.declared.message.RawReply.{RawReply}
+use Rattle.http_text.specs.declared.stage.Part.{Part}
+use Rattle.http_text.specs.declared.stage.Part.TheVariants as parts
+use Rattle.http_text.specs.declared.stage.HeadEnd.TheVariants as ends
+use Rattle.http_text.specs.Follow.{Follows}
+use Rattle.http_text.specs.declared.follow.Progress.{Progress}
+use Rattle.http_text.specs.declared.follow.Progress.TheVariants as at
+use Rattle.http_text.specs.declared.reader.Stage.{Stage}
+use Rattle.http_text.specs.declared.reader.Stage.TheVariants as stages
+use Rattle.http_text.proofs.HeadLaws.{nothing_read, some_head}
+use Rattle.http_text.proofs.GrowLemmas.{begins_grows}
+use Rattle.http_text.proofs.PassLemmas.{passes_none, passes_grow, passes_more, room_more, tells_behind}
+use Rattle.http_text.proofs.ChunkLemmas.{open_line}
+
+-- no byte of a head has come
+pub open_head : (kind : Kind) (room : ℕ) → 0 < room → IsOpenHead kind room []
+open_head kind room some = record { short = some; none = nothing_read kind; good = λ bad. some_head kind bad.1 }
+
+pub start : (kind : Kind) → HoldsHead kind [] 16384 at.Blank []
+start kind = record { passed = []; passes = passes_none kind []; room_is = refl; still = open_head kind 16384 (omega arith); follows = ([], refl) }
+
+pub start_with : (kind : Kind) (stage : Stage) (pending : List ℕ) → Holds kind stage [] [] → pending ≡ [] → Holds kind stage pending []
+start_with kind stage pending held empty = subst (λ (p : List ℕ). Holds kind stage p []) (sym empty) held
+
+-- a head without a body is a message
+pub empty_message : (kind : Kind) (text : List ℕ) (message : Message) (framing : Framing) (size : ℕ) → IsHeadOf kind text message framing → framing ≡ Sized size → size ≡ 0
+    → IsMessage kind text message
+empty_message kind text message framing size whole is zero = record {
+  passed = whole.passed;
+  from = whole.from;
+  passes = whole.passes;
+  head = whole.head;
+  behind = [];
+  begins = whole.begins;
+  framing = Sized 0;
+  faultless = whole.faultless ∙ ap Ok (is ∙ ap Sized zero);
+  body = [];
+  is_body = (refl, refl);
+  is_message = whole.message_is;
+}
+
+-- a body of a known length begins
+pub sized_begins : (kind : Kind) (text : List ℕ) (message : Message) (framing : Framing) (size : ℕ) (body : Vec ℕ) → IsHeadOf kind text message framing → framing ≡ Sized size
+    → 0 < size → body.items ≡ [] → Holds kind (stages.Body message body (parts.Sized size)) [] text
+sized_begins kind text message framing size body whole is some empty = record {
+  passed = whole.passed;
+  from = whole.from;
+  passes = whole.passes;
+  head = whole.head;
+  behind = [];
+  framing = Sized size;
+  begins = whole.begins;
+  faultless = whole.faultless ∙ ap Ok is;
+  message_is = whole.message_is;
+  part_is = let none = ap length empty in (some, ap Sized (omega arith), sym empty, refl);
+}
+
+-- a chunked body begins with a chunk line
+pub chunked_begins : (kind : Kind) (text : List ℕ) (message : Message) (framing : Framing) (body : Vec ℕ) → IsHeadOf kind text message framing → framing ≡ Chunked → body.items ≡ []
+    → Holds kind (stages.Body message body parts.Line) [] text
+chunked_begins kind text message framing body whole is empty = record {
+  passed = whole.passed;
+  from = whole.from;
+  passes = whole.passes;
+  head = whole.head;
+  behind = [];
+  framing = Chunked;
+  begins = whole.begins;
+  faultless = whole.faultless ∙ ap Ok is;
+  message_is = whole.message_is;
+  part_is = (
+    refl,
+    record { chunks = []; before = record { each = All-nil IsChunk; fit = omega arith }; body_is = empty; behind_is = refl },
+    open_line,
+  );
+}
+
+-- the body goes on behind the same head
+pub body_goes_on : (kind : Kind) (rest more : List ℕ) (message : Message) (part next : Part) (old new kept body : List ℕ) (held : HoldsBody kind rest message kept part old)
+    → HoldsPart next body new held.framing (held.behind ++ more) → HoldsBody kind (rest ++ more) message body next new
+body_goes_on kind rest more message part next old new kept body held goes = record {
+  passed = held.passed;
+  from = held.from ++ more;
+  passes = passes_grow kind rest more held.passed held.from held.passes;
+  head = held.head;
+  behind = held.behind ++ more;
+  framing = held.framing;
+  begins = begins_grows kind (room_behind held.passed) held.from held.behind more held.head held.begins;
+  faultless = held.faultless;
+  message_is = held.message_is;
+  part_is = goes;
+}
+
+-- what a message is with its body
+pub record HasBody (message whole : Message) (body : List ℕ) : Type 0 where
+  pub request : (r : RawRequest) → message ≡ forms.Request r → whole ≡ forms.Request (record r { body = body })
+  pub reply : (r : RawReply) → message ≡ forms.Reply r → whole ≡ forms.Reply (record r { body = body })
+
+whole_is : (message whole : Message) (body : List ℕ) (head : Head) → HasBody message whole body → message ≡ message_of head [] → whole ≡ message_of head body
+whole_is message whole body (request h) has is = has.request (request_of h []) is
+whole_is message whole body (reply h) has is = has.reply (reply_of h []) is
+
+-- the body is whole
+pub body_is_whole : (kind : Kind) (rest more : List ℕ) (message whole : Message) (part : Part) (old kept body : List ℕ) (held : HoldsBody kind rest message kept part old)
+    → HasBody message whole body → IsBody held.framing (held.behind ++ more) body → IsMessage kind (rest ++ more) whole
+body_is_whole kind rest more message whole part old kept body held has is_body = record {
+  passed = held.passed;
+  from = held.from ++ more;
+  passes = passes_grow kind rest more held.passed held.from held.passes;
+  head = held.head;
+  behind = held.behind ++ more;
+  begins = begins_grows kind (room_behind held.passed) held.from held.behind more held.head held.begins;
+  framing = held.framing;
+  faultless = held.faultless;
+  body = body;
+  is_body = is_body;
+  is_message = whole_is message whole body held.head has held.message_is;
+}
+
+-- no body has a fault of a head
+body_fault_is_frames : (kind : Kind) (room : ℕ) (text behind : List ℕ) (head : Head) (framing : Framing) (fault : FrameFault) → BeginsWithHead kind room text head behind
+    → framing_behind head ≡ Ok framing → TellsBodyFault framing behind fault → TellsFaultAt kind room text fault
+body_fault_is_frames kind room text behind head framing faults.OutOfMemory begins ok bad = tt
+body_fault_is_frames kind room text behind head framing faults.BadHost begins ok bad = (head, behind, begins, inr (framing, ok, bad))
+body_fault_is_frames kind room text behind head framing faults.TwoLengths begins ok bad = (head, behind, begins, inr (framing, ok, bad))
+body_fault_is_frames kind room text behind head framing faults.BadLength begins ok bad = (head, behind, begins, inr (framing, ok, bad))
+body_fault_is_frames kind room text behind head framing (faults.BodyTooLong size limit) begins ok bad = (head, behind, begins, inr (framing, ok, bad))
+body_fault_is_frames kind room text behind head framing faults.BadChunk begins ok bad = (head, behind, begins, inr (framing, ok, bad))
+body_fault_is_frames kind room text behind head (Sized size) faults.BadHead begins ok bad = absurd bad
+body_fault_is_frames kind room text behind head (Sized size) faults.TooManyFields begins ok bad = absurd bad
+body_fault_is_frames kind room text behind head (Sized size) faults.HeadTooLong begins ok bad = absurd bad
+body_fault_is_frames kind room text behind head Chunked faults.BadHead begins ok bad = absurd bad.4
+body_fault_is_frames kind room text behind head Chunked faults.TooManyFields begins ok bad = absurd bad.4
+body_fault_is_frames kind room text behind head Chunked faults.HeadTooLong begins ok bad = absurd bad.4
+
+-- a fault in a body is that of the rest
+pub body_fault_tells : (kind : Kind) (rest more : List ℕ) (message : Message) (part : Part) (old kept : List ℕ) (fault : FrameFault) (held : HoldsBody kind rest message kept part old)
+    → TellsBodyFault held.framing (held.behind ++ more) fault → TellsFault kind (rest ++ more) fault
+body_fault_tells kind rest more message part old kept fault held bad =
+    tells_behind kind (rest ++ more) held.passed (held.from ++ more) fault (passes_grow kind rest more held.passed held.from held.passes)
+    (body_fault_is_frames kind (room_behind held.passed) (held.from ++ more) (held.behind ++ more) held.head held.framing fault
+    (begins_grows kind (room_behind held.passed) held.from held.behind more held.head held.begins) held.faultless bad)
+
+-- ---- behind a step in a head
+
+module _ (kind : Kind) (rest old new piece : List ℕ) (room used : ℕ) (progress : Progress) (held : HoldsHead kind rest room progress old) where
+  abbrev grown : PassesOver kind (rest ++ take used piece) held.passed (old ++ take used piece)
+  grown = passes_grow kind rest (take used piece) held.passed old held.passes
+
+  -- the head goes on
+  pub head_goes_on : (next : Progress) → new ≡ old ++ take used piece → IsOpenHead kind room new → Follows kind new next → HoldsHead kind (rest ++ take used piece) room next new
+  head_goes_on next is still follows = record {
+    passed = held.passed;
+    passes = subst (λ (t : List ℕ). PassesOver kind (rest ++ take used piece) held.passed t) (sym is) grown;
+    room_is = held.room_is;
+    still = still;
+    follows = follows;
+  }
+
+  -- it was one that is passed over
+  module _ (left : ℕ) (head : Head) (empty : new ≡ []) (interim : IsInterim kind head) (is : old ++ take used piece ≡ print_head head)
+      (fits : length (print_head head) ≤ room) (left_is : left ≡ room - length (print_head head)) where
+    within : length (print_head head) ≤ room_behind held.passed
+    within = let room_is = held.room_is in omega arith
+
+    left_behind : left ≡ room_behind (held.passed ++ head ∷ [])
+    left_behind = left_is ∙ ap (λ n. n - length (print_head head)) held.room_is
+        ∙ sym (room_more kind (rest ++ take used piece) held.passed (old ++ take used piece) head [] grown interim (is ∙ sym (append-nil (print_head head))) within)
+
+    over : PassesOver kind (rest ++ take used piece) (held.passed ++ head ∷ []) []
+    over = passes_more kind (rest ++ take used piece) held.passed (old ++ take used piece) head [] grown interim (is ∙ sym (append-nil (print_head head))) within
+
+    pub interim_passed : 0 < left → HoldsHead kind (rest ++ take used piece) left at.Blank new
+    interim_passed some = record {
+      passed = held.passed ++ head ∷ [];
+      passes = subst (λ (t : List ℕ). PassesOver kind (rest ++ take used piece) (held.passed ++ head ∷ []) t) (sym empty) over;
+      room_is = left_behind;
+      still = subst (λ (t : List ℕ). IsOpenHead kind left t) (sym empty) (open_head kind left some);
+      follows = ([], empty);
+    }
+
+    -- and nothing is left to the next one
+    pub no_room_left : left ≡ 0 → IsFrameFault kind (rest ++ take used piece) faults.HeadTooLong
+    no_room_left none = (
+      held.passed ++ head ∷ [],
+      [],
+      over,
+      subst (λ (n : ℕ). (n ≤ 0) × HasNoHead kind (take n []) × ¬ (IsBadHead kind (take n []))) (sym none ∙ left_behind) (omega arith, nothing_read kind, λ bad. some_head kind bad.1),
+    )
+
+  -- the head is whole
+  pub head_is_whole : (message : Message) (framing : Framing) (head : Head) → BeginsWithHead kind room (old ++ take used piece) head [] → framing_behind head ≡ Ok framing
+      → message ≡ message_of head [] → IsHeadOf kind (rest ++ take used piece) message framing
+  head_is_whole message framing head begins faultless is = record {
+    passed = held.passed;
+    from = old ++ take used piece;
+    passes = grown;
+    head = head;
+    begins = subst (λ (n : ℕ). BeginsWithHead kind n (old ++ take used piece) head []) held.room_is begins;
+    faultless = faultless;
+    message_is = is;
+  }
+
+-- where nothing is kept
+pub next_again : (kind : Kind) (text pending : List ℕ) (old new : List Message) (stage : Stage) → pending ≡ []
+    → NextIs kind text old new stage [] → NextIs kind text old new stage pending
+next_again kind text pending old new stage empty next = subst (λ (p : List ℕ). NextIs kind text old new stage p) (sym empty) next
+
+-- the fault of what is kept is that of the rest
+pub head_fault_tells : (kind : Kind) (rest old piece : List ℕ) (room : ℕ) (progress : Progress) (fault : FrameFault) (held : HoldsHead kind rest room progress old)
+    → TellsFaultAt kind room (old ++ piece) fault → TellsFault kind (rest ++ piece) fault
+head_fault_tells kind rest old piece room progress fault held tells =
+    tells_behind kind (rest ++ piece) held.passed (old ++ piece) fault (passes_grow kind rest piece held.passed old held.passes)
+    (subst (λ (n : ℕ). TellsFaultAt kind n (old ++ piece) fault) held.room_is tells)
+
+-- a step in a head uses some of the piece
+pub uses_some : (kind : Kind) (room used : ℕ) (old new piece : List ℕ) (end : HeadEnd) → HeadStepIs kind room old new piece (Ok (used, end)) → UsesSome piece used
+uses_some kind room used old new piece (ends.Open progress) step = step.0
+uses_some kind room used old new piece (ends.Interim left) step = step.0
+uses_some kind room used old new piece (ends.Whole message framing) step = step.0
+
+-- what follows a head is what its body begins as
+pub ends_body : (kind : Kind) (text pending : List ℕ) (old new : List Message) (r : Result Stage FrameFault) → pending ≡ [] → BeginsBody kind text old new r
+    → EndsHead kind text pending old new r
+ends_body kind text pending old new (Ok stage) empty began = next_again kind text pending old new stage empty began
+ends_body kind text pending old new (Err fault) empty (same, is) = (same, subst (λ (f : FrameFault). TellsFault kind text f) (sym is) tt)
+
+-- in a head the limit is at most the whole one
+pub room_fits : (kind : Kind) (rest pending : List ℕ) (room : ℕ) (progress : Progress) → HoldsHead kind rest room progress pending → room ≤ 16384
+room_fits kind rest pending room progress held = let is = held.room_is in omega arith

@@ -1,0 +1,28 @@
+use Rattle.std.proofs.Common.{◌≡◌, ◌∙◌, ◌++◌, sym, ap, ap₂, subst, refl, length, Option, List, ℕ, arith}
+use Rattle.std.specs.List.{flat_map}
+use Rattle.std.specs.Option.{option_copied}
+use Rattle.httparse.specs.Grammar.{print_field}
+use Rattle.http_text.specs.Print.{allow_fields, body_fields}
+use Rattle.http_text.specs.Messages.{IsMessage}
+use Rattle.http_text.specs.declared.message.Kind.TheVariants.{Replies}
+use Rattle.http_text.specs.declared.message.Message.TheVariants as forms
+use Rattle.http_text.proofs.ReplyLemmas.{reply_printed_again, all_reply_text}
+use Rattle.http_text.proofs.print.print_reply.Goals as goal
+
+pub returns : goal.returns
+returns c =
+    let size : c.len.result ≡ length c.args.reply.now.body = omega arith in
+    let text = all_reply_text c.args.reply.now (option_copied c.args.allow) c.push_status_line.new.text.items c.push_allow.new.text.items c.push_close.new.text.items
+    c.push_body_fields.new.text.items c.extend_from_slice.new.self.items c.extend_from_slice-2.new.self.items
+    (rw (c.in_ok-push_status_line.ensures, c.new-text.ensures.items) refl)
+    (c.in_ok-push_allow.ensures ∙ ap (λ (m : Option (List ℕ)). c.push_status_line.new.text.items ++ flat_map print_field (allow_fields m)) c.bytes_of-methods.ensures)
+    c.in_ok-push_close.ensures
+    (c.in_ok-push_body_fields.ensures
+    ∙ ap₂ (λ (k : Option (List ℕ)) n. c.push_close.new.text.items ++ flat_map print_field (body_fields k n)) c.slice_of-kind.ensures size)
+    c.in_ok-extend_from_slice.ensures.items
+    (rw (c.in_ok-extend_from_slice-2.ensures.items, c.as_slice.ensures) refl) in
+    record {
+      text = c.from_vec.ensures ∙ text;
+      again = λ fits. subst (λ (t : List ℕ). IsMessage Replies t (forms.Reply c.args.reply.now)) (sym (c.from_vec.ensures ∙ text))
+          (reply_printed_again c.args.reply.now (option_copied c.args.allow) c.requires fits);
+    }

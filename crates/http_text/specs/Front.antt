@@ -1,0 +1,51 @@
+-- What stands at the front of a text.
+use Rattle.std.specs.Prelude.{◌≡◌, ◌==◌, ◌≤◌, ℕ, List, [], length, drop, codes, Result, Ok, Err}
+use Rattle.httparse.specs.Spans.{span_bytes}
+use Rattle.httparse.specs.declared.spans.RequestSpans.{RequestSpans}
+use Rattle.httparse.specs.declared.spans.ResponseSpans.{ResponseSpans}
+use Rattle.http_text.specs.Heads.{Head, print_head, ReadsHead, HasNoHead, IsBadHead, IsInterim}
+use Rattle.http_text.specs.Fields.{Row, values_of, first_of, closes}
+use Rattle.http_text.specs.Messages.{message_of, path_of, BeginsWithHead, framing_behind, IsFaultAt}
+use Rattle.http_text.specs.declared.message.Kind.{Kind}
+use Rattle.http_text.specs.declared.message.RawRequest.{RawRequest}
+use Rattle.http_text.specs.declared.message.RawReply.{RawReply}
+use Rattle.http_text.specs.declared.framing.FrameFault.{FrameFault}
+use Rattle.http_text.specs.declared.framing.FrameFault.TheVariants.{OutOfMemory}
+use Rattle.http_text.specs.declared.front.Front.{Front}
+use Rattle.http_text.specs.declared.front.Front.TheVariants.{Whole, Interim, Open}
+
+-- the request of a head with these parts and fields, still without a body
+abbrev pub request_at : List ℕ → RequestSpans → List Row → RawRequest
+request_at text head rows = record {
+  method = span_bytes text head.method;
+  path = path_of (span_bytes text head.path);
+  http10 = head.version == 0;
+  close = closes head.version rows;
+  content_type = first_of (values_of (codes "content-type") rows);
+  encoding = first_of (values_of (codes "content-encoding") rows);
+  body = [];
+}
+
+-- and the reply
+abbrev pub reply_at : ResponseSpans → List Row → RawReply
+reply_at head rows = record {
+  status = head.code;
+  close = closes head.version rows;
+  content_type = first_of (values_of (codes "content-type") rows);
+  body = [];
+}
+
+-- the fault is that of the text, unless memory ran out
+abbrev pub TellsFaultAt : Kind → ℕ → List ℕ → FrameFault → Type 0
+TellsFaultAt kind room text OutOfMemory = Unit {0}
+TellsFaultAt kind room text fault = IsFaultAt kind room text fault
+
+-- what was read is what stands at the front
+abbrev pub FrontIs : Kind → ℕ → List ℕ → Result Front FrameFault → Type 0
+FrontIs kind room text (Ok (Whole message framing len)) =
+    (head : Head) × BeginsWithHead kind room text head (drop len text) × (len ≡ length (print_head head))
+    × (framing_behind head ≡ Ok framing) × (message ≡ message_of head [])
+FrontIs kind room text (Ok (Interim len)) =
+    (head : Head) × IsInterim kind head × ReadsHead kind text head (drop len text) × (len ≡ length (print_head head)) × (len ≤ room)
+FrontIs kind room text (Ok Open) = HasNoHead kind text × ¬ (IsBadHead kind text)
+FrontIs kind room text (Err fault) = TellsFaultAt kind room text fault

@@ -1,0 +1,132 @@
+-- The requests that a client writes, and the replies of a server.
+use Rattle.std.specs.Prelude.{◌≡◌, ◌≤◌, ◌++◌, ◌+◌, ◌/◌, ◌%◌, ℕ, Bool, ◌&&◌, not, ◌==◌, nat_le, false, true, List, [], ◌∷◌, length, Option, Some, None, codes, if◌then◌else◌}
+use Rattle.std.specs.Fmt.{decimal}
+use Rattle.std.specs.List.{list_all, list_any}
+use Rattle.httparse.specs.Ascii.{crlf_bytes}
+use Rattle.httparse.specs.Grammar.{is_value_byte, Field, crlf, RequestHead, print_request, ResponseHead, print_response, print_version}
+use Rattle.http_text.specs.Heads.{most_head}
+use Rattle.http_text.specs.Framing.{most_body}
+use Rattle.http_text.specs.declared.message.RawRequest.{RawRequest}
+use Rattle.http_text.specs.declared.message.RawReply.{RawReply}
+
+-- name ":" SP value CRLF
+abbrev pub field : List ℕ → List ℕ → Field
+field name value = record { name = name; raw = 32 ∷ value; end = crlf }
+
+-- the fields of the body, where its type is given
+abbrev pub body_fields : Option (List ℕ) → ℕ → List Field
+body_fields None size = []
+body_fields (Some kind) size = field (codes "Content-Type") kind ∷ (field (codes "Content-Length") (decimal size) ∷ [])
+
+-- the request line, Host, the fields of the body, and an empty line
+abbrev pub head_for : RawRequest → List ℕ → RequestHead
+head_for request host = record {
+  blank = [];
+  method = request.method;
+  target = request.path;
+  minor = 1;
+  line_end = crlf;
+  fields = field (codes "Host") host ∷ body_fields request.content_type (length request.body);
+  last = crlf;
+}
+
+-- the head, and the body behind it
+abbrev pub request_text : RawRequest → List ℕ → List ℕ
+request_text request host = print_request (head_for request host) ++ request.body
+
+-- a byte from '!' to '~'
+abbrev pub is_visible : ℕ → Bool
+is_visible byte = nat_le 33 byte && nat_le byte 126
+
+-- a byte of a path
+abbrev pub is_path_byte : ℕ → Bool
+is_path_byte byte = is_visible byte && not (byte == 63)
+
+-- GET without a body, or POST with a body of a type that is given
+abbrev pub HasMethod : RawRequest → Option (List ℕ) → Type 0
+HasMethod request None = (request.method ≡ codes "GET") × (request.body ≡ [])
+HasMethod request (Some kind) = (request.method ≡ codes "POST") × (list_all is_visible kind ≡ true)
+
+-- what a client may write
+pub record IsPrintable (request : RawRequest) (host : List ℕ) : Type 0 where
+  pub method : HasMethod request request.content_type
+  pub path : (rest : List ℕ) × (request.path ≡ 47 ∷ rest) × (list_all is_path_byte request.path ≡ true)
+  pub host_bytes : list_all is_visible host ≡ true
+  pub http11 : request.http10 ≡ false
+  pub stays : request.close ≡ false
+  pub encoding : request.encoding ≡ None
+
+-- a head and a body within the limits of a reader
+pub record FitsReader (head body : List ℕ) : Type 0 where
+  pub head_fits : length head ≤ most_head
+  pub body_fits : length body ≤ most_body
+
+-- ---- replies
+
+-- the phrase of a status
+abbrev pub phrase_of : ℕ → List ℕ
+phrase_of status =
+    if status == 200 then codes "OK" else (
+    if status == 400 then codes "Bad Request" else (
+    if status == 404 then codes "Not Found" else (
+    if status == 405 then codes "Method Not Allowed" else (
+    if status == 409 then codes "Conflict" else (
+    if status == 413 then codes "Payload Too Large" else (
+    if status == 415 then codes "Unsupported Media Type" else (
+    if status == 431 then codes "Request Header Fields Too Large" else (
+    if status == 500 then codes "Internal Server Error" else (
+    if status == 503 then codes "Service Unavailable" else (
+    if status == 507 then codes "Insufficient Storage" else []))))))))))
+
+-- the statuses that a server answers with
+abbrev pub statuses : List ℕ
+statuses = 200 ∷ 400 ∷ 404 ∷ 405 ∷ 409 ∷ 413 ∷ 415 ∷ 431 ∷ 500 ∷ 503 ∷ 507 ∷ []
+
+-- the three digits of a status
+abbrev pub status_digits : ℕ → List ℕ
+status_digits status = (48 + status / 100 % 10) ∷ (48 + status / 10 % 10) ∷ (48 + status % 10) ∷ []
+
+-- the status line
+abbrev pub status_line : ℕ → List ℕ
+status_line status = print_version 1 ++ 32 ∷ (status_digits status ++ (32 ∷ phrase_of status ++ crlf_bytes))
+
+abbrev pub allow_fields : Option (List ℕ) → List Field
+allow_fields None = []
+allow_fields (Some methods) = field (codes "Allow") methods ∷ []
+
+abbrev pub close_fields : Bool → List Field
+close_fields true = field (codes "Connection") (codes "close") ∷ []
+close_fields false = []
+
+-- Allow where it is given, Connection where the session ends, and the fields of the body
+abbrev pub reply_fields : RawReply → Option (List ℕ) → List Field
+reply_fields reply allow = allow_fields allow ++ (close_fields reply.close ++ body_fields reply.content_type (length reply.body))
+
+abbrev pub reply_head : RawReply → Option (List ℕ) → ResponseHead
+reply_head reply allow = record {
+  blank = [];
+  minor = 1;
+  digits = status_digits reply.status;
+  reason = Some (phrase_of reply.status);
+  line_end = crlf;
+  fields = reply_fields reply allow;
+  last = crlf;
+}
+
+abbrev pub reply_text : RawReply → Option (List ℕ) → List ℕ
+reply_text reply allow = print_response (reply_head reply allow) ++ reply.body
+
+-- the type of the body is given
+abbrev pub HasKind : Option (List ℕ) → Type 0
+HasKind None = ⊥
+HasKind (Some kind) = list_all is_visible kind ≡ true
+
+abbrev pub IsAllow : Option (List ℕ) → Type 0
+IsAllow None = Unit {0}
+IsAllow (Some methods) = list_all is_value_byte methods ≡ true
+
+-- what a server may write
+pub record IsPrintableReply (reply : RawReply) (allow : Option (List ℕ)) : Type 0 where
+  pub status : list_any (λ status. status == reply.status) statuses ≡ true
+  pub kind : HasKind reply.content_type
+  pub allow_bytes : IsAllow allow

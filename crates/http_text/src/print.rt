@@ -1,0 +1,176 @@
+//! The requests that a client writes, and the replies of a server.
+ghost use Rattle.std.specs.Prelude.{◌≡◌, ◌++◌, ◌∷◌, IfOk, OnOk, List, ℕ};
+ghost use Rattle.std.specs.List.{flat_map};
+ghost use Rattle.std.specs.Option.{option_copied};
+ghost use Rattle.httparse.specs.Ascii.{crlf_bytes};
+ghost use Rattle.httparse.specs.Grammar.{print_field, print_request, print_response, print_version};
+ghost use Rattle.http_text.specs.Print.{FitsReader, IsPrintable, IsPrintableReply, allow_fields, body_fields, close_fields, field, head_for, phrase_of, reply_head, reply_text, request_text, status_line};
+ghost use Rattle.http_text.specs.Messages.{IsMessage};
+ghost use Rattle.http_text.specs.declared.message.Kind.TheVariants as kinds;
+ghost use Rattle.http_text.specs.declared.message.Message.TheVariants as forms;
+
+use crate::message::{RawReply, RawRequest};
+use delta_base::{Bytes, OutOfMemory, Text};
+use std::alloc::{AllocError, Global};
+
+// Adds a request line.
+fn push_line(text: &mut Vec<u8>, method: &[u8], path: &[u8]) -> Result<(), AllocError>
+    ensures { OnOk result (text.new.items ≡ text.old.items
+        ++ (method.now ++ 32 ∷ (path.now ++ 32 ∷ (print_version 1 ++ crlf_bytes)))) }
+{
+    text.extend_from_slice(method)?;
+    text.extend_from_slice(b" ")?;
+    text.extend_from_slice(path)?;
+    text.extend_from_slice(b" HTTP/1.1\r\n")?;
+    Ok(())
+}
+
+// Adds a field.
+fn push_field(text: &mut Vec<u8>, name: &[u8], value: &[u8]) -> Result<(), AllocError>
+    ensures { OnOk result (text.new.items ≡ text.old.items ++ print_field (field name.now value.now)) }
+{
+    text.extend_from_slice(name)?;
+    text.extend_from_slice(b": ")?;
+    text.extend_from_slice(value)?;
+    text.extend_from_slice(b"\r\n")?;
+    Ok(())
+}
+
+// The bytes, where there are some.
+fn slice_of(bytes: &Option<Bytes>) -> Option<&[u8]>
+    ensures { option_copied result ≡ bytes.now }
+{
+    match bytes {
+        Some(bytes) => Some(bytes.as_slice()),
+        None => None,
+    }
+}
+
+// The bytes of a text, where there is one.
+fn bytes_of(text: Option<&'static str>) -> Option<&'static [u8]>
+    ensures { option_copied result ≡ option_copied text.entry }
+{
+    match text {
+        Some(text) => Some(text.as_bytes()),
+        None => None,
+    }
+}
+
+// Adds the fields of a body.
+fn push_body_fields(
+    alloc: Global,
+    text: &mut Vec<u8>,
+    kind: Option<&[u8]>,
+    size: usize,
+) -> Result<(), AllocError>
+    ensures { OnOk result (text.new.items ≡ text.old.items ++ flat_map print_field (body_fields (option_copied kind.entry) size)) }
+{
+    let Some(kind) = kind else {
+        return Ok(());
+    };
+    let size = size.to_string(alloc)?;
+    push_field(text, b"Content-Type", kind)?;
+    push_field(text, b"Content-Length", size.as_bytes())?;
+    Ok(())
+}
+
+/// The text of a request to a host. A reader takes the request from it again, whatever follows.
+pub fn print_request(alloc: Global, request: &RawRequest, host: &Text) -> Result<Bytes, OutOfMemory>
+    requires { IsPrintable request.now host.now }
+    ensures text { IfOk result (λ text. text ≡ request_text request.now host.now) }
+    ensures again { IfOk result (λ text. FitsReader (print_request (head_for request.now host.now)) request.now.body
+        → IsMessage kinds.Requests text (forms.Request request.now)) }
+{
+    let kind = slice_of(&request.content_type);
+    let mut text = Vec::new(alloc);
+    push_line(
+        &mut text,
+        request.method.as_slice(),
+        request.path.as_slice(),
+    )?;
+    push_field(&mut text, b"Host", host.as_bytes())?;
+    push_body_fields(alloc, &mut text, kind, request.body.len())?;
+    text.extend_from_slice(b"\r\n")?;
+    text.extend_from_slice(request.body.as_slice())?;
+    Ok(Bytes::from_vec(text))
+}
+
+// The phrase of a status.
+fn phrase_of(status: u16) -> &'static [u8]
+    ensures { result.now ≡ phrase_of status }
+{
+    match status {
+        200 => b"OK",
+        400 => b"Bad Request",
+        404 => b"Not Found",
+        405 => b"Method Not Allowed",
+        409 => b"Conflict",
+        413 => b"Payload Too Large",
+        415 => b"Unsupported Media Type",
+        431 => b"Request Header Fields Too Large",
+        500 => b"Internal Server Error",
+        503 => b"Service Unavailable",
+        507 => b"Insufficient Storage",
+        _ => b"",
+    }
+}
+
+// Adds a status line.
+fn push_status_line(text: &mut Vec<u8>, status: u16) -> Result<(), AllocError>
+    ensures { OnOk result (text.new.items ≡ text.old.items ++ status_line status) }
+{
+    text.extend_from_slice(b"HTTP/1.1 ")?;
+    text.extend_from_slice(&[
+        b'0' + (status / 100 % 10) as u8,
+        b'0' + (status / 10 % 10) as u8,
+        b'0' + (status % 10) as u8,
+    ])?;
+    text.extend_from_slice(b" ")?;
+    text.extend_from_slice(phrase_of(status))?;
+    text.extend_from_slice(b"\r\n")?;
+    Ok(())
+}
+
+// Adds Allow, where it is given.
+fn push_allow(text: &mut Vec<u8>, allow: Option<&[u8]>) -> Result<(), AllocError>
+    ensures { OnOk result (text.new.items ≡ text.old.items ++ flat_map print_field (allow_fields (option_copied allow.entry))) }
+{
+    if let Some(methods) = allow {
+        push_field(text, b"Allow", methods)?;
+    }
+    Ok(())
+}
+
+// Adds Connection, where the session ends.
+fn push_close(text: &mut Vec<u8>, close: bool) -> Result<(), AllocError>
+    ensures { OnOk result (text.new.items ≡ text.old.items ++ flat_map print_field (close_fields close)) }
+{
+    if close {
+        push_field(text, b"Connection", b"close")?;
+    }
+    Ok(())
+}
+
+/// The text of a reply, with the methods that are allowed where they are given. A reader takes the reply from it again, whatever
+/// follows.
+pub fn print_reply(
+    alloc: Global,
+    reply: &RawReply,
+    allow: Option<&'static str>,
+) -> Result<Bytes, OutOfMemory>
+    requires { IsPrintableReply reply.now (option_copied allow) }
+    ensures text { IfOk result (λ text. text ≡ reply_text reply.now (option_copied allow.entry)) }
+    ensures again { IfOk result (λ text. FitsReader (print_response (reply_head reply.now (option_copied allow.entry))) reply.now.body
+        → IsMessage kinds.Replies text (forms.Reply reply.now)) }
+{
+    let methods = bytes_of(allow);
+    let kind = slice_of(&reply.content_type);
+    let mut text = Vec::new(alloc);
+    push_status_line(&mut text, reply.status)?;
+    push_allow(&mut text, methods)?;
+    push_close(&mut text, reply.close)?;
+    push_body_fields(alloc, &mut text, kind, reply.body.len())?;
+    text.extend_from_slice(b"\r\n")?;
+    text.extend_from_slice(reply.body.as_slice())?;
+    Ok(Bytes::from_vec(text))
+}

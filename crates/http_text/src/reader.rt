@@ -1,0 +1,343 @@
+//! Messages from a stream of bytes that comes in any pieces.
+ghost use Rattle.std.specs.Prelude.{◌≡◌, ◌<◌, ◌≤◌, ◌++◌, ◌∷◌, length, take, List, ℕ, [], IfErr, IfNone, IfSome, MatchResult, OnErr, OnOk, Some, None};
+ghost use Rattle.http_text.specs.Readers.{AdvanceIs, BeginsBody, CanGoOn, Decides, EndsHead, Holds, HoldsAll, HoldsHead, IsHeadOf, IsReader, ReadsPiece, StandsFor, TellsFault, fault_of, stage_fault, waiting};
+ghost use Rattle.http_text.specs.Messages.{End, Reads, between, inside};
+ghost use Rattle.http_text.specs.Taken.{taken_after};
+ghost use Rattle.http_text.specs.declared.follow.Progress.{Progress as At};
+ghost use Rattle.http_text.specs.declared.message.Kind.{Kind};
+ghost use Rattle.http_text.specs.declared.message.Message.{Message};
+ghost use Rattle.http_text.specs.declared.message.Message.TheVariants as forms;
+ghost use Rattle.http_text.specs.Stages.{HeadStepIs, HoldsPart, IsSomePart, PartStepIs};
+ghost use Rattle.http_text.specs.declared.framing.Framing as framings;
+
+use crate::chunk::{step_content, step_content_end, step_line, step_trailers};
+use crate::follow::Progress;
+use crate::framing::{FrameFault, Framing};
+use crate::message::{Kind, Message, RawReply, RawRequest};
+use crate::stage::{HeadEnd, MOST_HEAD, Part, step_head, step_sized};
+use delta_base::Bytes;
+use httparse::spans::{EMPTY_HEADER_SPAN, HeaderSpan};
+use std::alloc::{AllocError, Global};
+use std::collections::VecDeque;
+use std::mem;
+
+/// How far the message has come of which the end has not.
+#[derive(Drop)]
+pub enum Stage {
+    /// A head, which may have so many bytes.
+    Head {
+        room: usize,
+        progress: Progress,
+    },
+    Body {
+        message: Message,
+        body: Vec<u8>,
+        part: Part,
+    },
+    Faulty(FrameFault),
+}
+
+/// Takes a stream of messages in pieces.
+#[derive(Drop)]
+pub struct MessageReader {
+    alloc: Global,
+    kind: Kind,
+    headers: Vec<HeaderSpan>,
+    pending: Vec<u8>,
+    stage: Stage,
+    queue: VecDeque<Message>,
+}
+
+// Where no byte of a message has come.
+fn at_start() -> Stage
+    ensures held { (kind : Kind) → Holds kind result [] [] }
+    ensures fault { stage_fault result ≡ None }
+{
+    Stage::Head {
+        room: MOST_HEAD,
+        progress: Progress::Blank,
+    }
+}
+
+// What follows a whole head: its body, or the next message.
+fn begin_body(
+    alloc: Global,
+    queue: &mut VecDeque<Message>,
+    message: Message,
+    framing: Framing,
+) -> Result<Stage, FrameFault>
+    ensures { (kind : Kind) (text : List ℕ) → IsHeadOf kind text message framing
+        → BeginsBody kind text queue.old.items queue.new.items result }
+{
+    match framing {
+        Framing::Chunked => Ok(Stage::Body {
+            message,
+            body: Vec::new(alloc),
+            part: Part::Line,
+        }),
+        Framing::Sized(size) => {
+            if size == 0 {
+                queue.push_back(message)?;
+                return Ok(at_start());
+            }
+            let left = size as usize;
+            Ok(Stage::Body {
+                message,
+                body: Vec::new(alloc),
+                part: Part::Sized { left },
+            })
+        }
+    }
+}
+
+// Reads on in a body.
+fn step_part(
+    part: Part,
+    body: &mut Vec<u8>,
+    pending: &mut Vec<u8>,
+    headers: &mut [HeaderSpan],
+    piece: &[u8],
+) -> Result<(usize, Option<Part>), FrameFault>
+    requires piece { 0 < length piece.now }
+    requires room { 5461 ≤ length headers.old }
+    requires held { IsSomePart part body.old.items pending.old.items }
+    ensures { (framing : framings.Framing) (behind : List ℕ) → HoldsPart part body.old.items pending.old.items framing behind
+        → PartStepIs framing behind piece.now body.new.items pending.new.items result }
+{
+    match part {
+        Part::Sized { left } => step_sized(body, left, piece),
+        Part::Line => step_line(body.len(), pending, piece),
+        Part::Content { left } => step_content(body, left, piece),
+        Part::ContentEnd => step_content_end(pending, piece),
+        Part::Trailers => step_trailers(pending, headers, piece),
+    }
+}
+
+// The message with its body.
+fn with_body(message: Message, body: Vec<u8>) -> Message
+    ensures request { (request : RawRequest) → message ≡ forms.Request request → result ≡ forms.Request (record request { body = body.items }) }
+    ensures reply { (reply : RawReply) → message ≡ forms.Reply reply → result ≡ forms.Reply (record reply { body = body.items }) }
+{
+    let body = Bytes::from_vec(body);
+    match message {
+        Message::Request(request) => Message::Request(RawRequest { body, ..request }),
+        Message::Reply(reply) => Message::Reply(RawReply { body, ..reply }),
+    }
+}
+
+// What follows a head's end: more of the head, the next one, or the body.
+fn after_head(
+    alloc: Global,
+    room: usize,
+    queue: &mut VecDeque<Message>,
+    end: HeadEnd,
+) -> Result<Stage, FrameFault>
+    ensures { (kind : Kind) (rest old new piece : List ℕ) (used : ℕ) (progress : At) → HoldsHead kind rest room progress old
+        → HeadStepIs kind room old new piece (Ok (used, end))
+        → EndsHead kind (rest ++ take used piece) new queue.old.items queue.new.items result }
+{
+    match end {
+        HeadEnd::Open { progress } => Ok(Stage::Head { room, progress }),
+        HeadEnd::Interim { left } => {
+            if left == 0 {
+                return Err(FrameFault::HeadTooLong);
+            }
+            Ok(Stage::Head {
+                room: left,
+                progress: Progress::Blank,
+            })
+        }
+        HeadEnd::Whole { message, framing } => begin_body(alloc, queue, message, framing),
+    }
+}
+
+// Reads on, and answers how many bytes of the piece belong to this message, and where it then is.
+fn advance(
+    alloc: Global,
+    kind: Kind,
+    stage: Stage,
+    pending: &mut Vec<u8>,
+    headers: &mut [HeaderSpan],
+    queue: &mut VecDeque<Message>,
+    piece: &[u8],
+) -> Result<(usize, Stage), FrameFault>
+    requires piece { 0 < length piece.now }
+    requires room { 5461 ≤ length headers.old }
+    requires held { CanGoOn kind stage pending.old.items }
+    ensures { (rest : List ℕ) → Holds kind stage pending.old.items rest
+        → AdvanceIs kind rest piece.now queue.old.items queue.new.items pending.new.items result }
+{
+    match stage {
+        Stage::Faulty(fault) => Err(fault),
+        Stage::Head { room, progress } => {
+            let (used, end) = step_head(alloc, kind, room, progress, pending, headers, piece)?;
+            let stage = after_head(alloc, room, queue, end)?;
+            Ok((used, stage))
+        }
+        Stage::Body {
+            message,
+            mut body,
+            part,
+        } => {
+            let (used, next) = step_part(part, &mut body, pending, headers, piece)?;
+            match next {
+                Some(part) => Ok((
+                    used,
+                    Stage::Body {
+                        message,
+                        body,
+                        part,
+                    },
+                )),
+                None => {
+                    queue.push_back(with_body(message, body))?;
+                    Ok((used, at_start()))
+                }
+            }
+        }
+    }
+}
+
+// Reads a piece to its end, or to a fault.
+fn read_piece(
+    alloc: Global,
+    kind: Kind,
+    stage: Stage,
+    pending: &mut Vec<u8>,
+    headers: &mut [HeaderSpan],
+    queue: &mut VecDeque<Message>,
+    piece: &[u8],
+) -> Result<Stage, FrameFault>
+    requires room { 5461 ≤ length headers.old }
+    requires held { CanGoOn kind stage pending.old.items }
+    ensures held { MatchResult result (λ next. CanGoOn kind next pending.new.items) (λ fault. (rest : List ℕ) × TellsFault kind rest fault) }
+    ensures read { (bytes : List ℕ) (taken : List Message) → HoldsAll kind bytes taken queue.old.items stage pending.old.items
+        → ReadsPiece kind (bytes ++ piece.now) taken queue.new.items pending.new.items result }
+{
+    let mut stage = stage;
+    let mut left = piece;
+    while !left.is_empty() {
+        let (used, next) = advance(alloc, kind, stage, pending, headers, queue, left)?;
+        stage = next;
+        left = &left[used..];
+    }
+    Ok(stage)
+}
+
+// As many fields as a head or a trailer section of the allowed length can have.
+const ROOM: usize = 5461;
+
+// Makes room for those fields.
+fn make_room(alloc: Global, headers: &mut Vec<HeaderSpan>) -> Result<(), AllocError>
+    ensures { OnOk result (5461 ≤ length headers.new.items) }
+{
+    if headers.len() < ROOM {
+        *headers = vec![in alloc; EMPTY_HEADER_SPAN; ROOM]?;
+    }
+    Ok(())
+}
+
+/// The stream ends inside a message.
+#[derive(Clone, Copy, Debug, PartialEq, Eq)]
+pub struct CutShort;
+
+impl MessageReader {
+    /// A reader that was given no bytes.
+    pub fn new(alloc: Global, kind: Kind) -> MessageReader
+        ensures kind { result.kind ≡ kind }
+        ensures stands { StandsFor kind [] [] result }
+        ensures fault { fault_of result ≡ None }
+    {
+        MessageReader {
+            alloc,
+            kind,
+            headers: Vec::new(alloc),
+            pending: Vec::new(alloc),
+            stage: at_start(),
+            queue: VecDeque::new(alloc),
+        }
+    }
+
+    /// Takes the next piece. After a fault it answers that fault again.
+    pub fn feed(&mut self, piece: &[u8]) -> Result<(), FrameFault>
+        requires { IsReader self.old }
+        ensures kind { self.new.kind ≡ self.old.kind }
+        ensures reader { IsReader self.new }
+        // The reader then stands for the bytes so far and this piece.
+        ensures stands { (bytes : List ℕ) (taken : List Message) → StandsFor self.old.kind bytes taken self.old
+            → StandsFor self.old.kind (bytes ++ piece.now) taken self.new }
+        // The messages are then those of all the bytes, and the fault is theirs, however they were cut.
+        ensures decides { (bytes : List ℕ) (taken : List Message) → StandsFor self.old.kind bytes taken self.old
+            → Decides self.old.kind (bytes ++ piece.now) (taken ++ waiting self.new) result }
+        ensures ok { OnOk result (fault_of self.new ≡ None) }
+        ensures fault { IfErr result (λ fault. fault_of self.new ≡ Some fault) }
+    {
+        let stage = mem::replace(&mut self.stage, Stage::Faulty(FrameFault::OutOfMemory));
+        if let Stage::Faulty(fault) = stage {
+            self.stage = Stage::Faulty(fault);
+            return Err(fault);
+        }
+        make_room(self.alloc, &mut self.headers)?;
+        match read_piece(
+            self.alloc,
+            self.kind,
+            stage,
+            &mut self.pending,
+            self.headers.as_mut_slice(),
+            &mut self.queue,
+            piece,
+        ) {
+            Ok(stage) => {
+                self.stage = stage;
+                Ok(())
+            }
+            Err(fault) => {
+                self.stage = Stage::Faulty(fault);
+                Err(fault)
+            }
+        }
+    }
+
+    /// The next whole message.
+    pub fn take(&mut self) -> Option<Message>
+        requires { IsReader self.old }
+        ensures kind { self.new.kind ≡ self.old.kind }
+        ensures none { IfNone result (waiting self.old ≡ []) }
+        ensures first { IfSome result (λ message. waiting self.old ≡ message ∷ waiting self.new) }
+        ensures rest { (bytes : List ℕ) (taken : List Message) → StandsFor self.old.kind bytes taken self.old
+            → StandsFor self.old.kind bytes (taken_after taken result) self.new }
+        ensures fault { fault_of self.new ≡ fault_of self.old }
+        ensures reader { IsReader self.new }
+    {
+        self.queue.pop_front()
+    }
+
+    /// Tests that the stream may end here.
+    pub fn finish(&self) -> Result<(), CutShort>
+        requires { fault_of self.now ≡ None }
+        ensures between { OnOk result ((bytes : List ℕ) (taken : List Message) → StandsFor self.now.kind bytes taken self.now
+            → Reads self.now.kind bytes (taken ++ waiting self.now) between) }
+        ensures inside { OnErr result ((bytes : List ℕ) (taken : List Message) → StandsFor self.now.kind bytes taken self.now
+            → Reads self.now.kind bytes (taken ++ waiting self.now) inside) }
+    {
+        match self.stage {
+            Stage::Head { room, .. } => {
+                // Replies with status 100 may stand before the one that has not come.
+                if room != MOST_HEAD {
+                    return Err(CutShort);
+                }
+                if self.pending.is_empty() {
+                    return Ok(());
+                }
+                Err(CutShort)
+            }
+            _ => Err(CutShort),
+        }
+    }
+}
+
+/// A stream has one reading: its messages and its end are determined by its bytes.
+pub fn one_reading()
+    ensures { (kind : Kind) (bytes : List ℕ) (xs ys : List Message) (end other : End) → Reads kind bytes xs end
+        → Reads kind bytes ys other → (xs ≡ ys) × (end ≡ other) }
+{}

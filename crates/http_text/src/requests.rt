@@ -1,0 +1,84 @@
+//! Requests from a stream of bytes that comes in any pieces.
+use crate::framing::FrameFault;
+use crate::message::{Kind, Message, RawRequest};
+use crate::reader::{CutShort, MessageReader};
+use std::alloc::Global;
+use std::marker::Model;
+
+/// Takes a stream of requests in pieces.
+#[derive(Drop)]
+pub struct RequestReader {
+    reader: MessageReader,
+}
+
+impl Model for RequestReader {
+    ghost use Rattle.http_text.specs.declared.reader.MessageReader.{MessageReader};
+
+    ghost Value = { MessageReader };
+
+    ghost use Rattle.std.specs.Prelude.{◌≡◌};
+    ghost use Rattle.http_text.specs.Readers.{IsReader};
+    ghost use Rattle.http_text.specs.declared.message.Kind.TheVariants as kinds;
+
+    ghost view = { λ r. r.reader };
+
+    ghost invariant = { λ r. (r.reader.kind ≡ kinds.Requests) × IsReader r.reader };
+}
+
+impl RequestReader {
+    ghost use Rattle.std.specs.Prelude.{◌≡◌, ◌++◌, ◌∷◌, ℕ, List, [], map, None, Some, IfErr, IfNone, IfSome, OnErr, OnOk};
+    ghost use Rattle.http_text.specs.Messages.{Reads, between, inside};
+    ghost use Rattle.http_text.specs.Readers.{Decides, fault_of, waiting};
+    ghost use Rattle.http_text.specs.Taken.{GaveRequests, request_messages, taken_after};
+    ghost use Rattle.http_text.specs.declared.message.Kind.TheVariants as kinds;
+    ghost use Rattle.http_text.specs.declared.message.Message.TheVariants as forms;
+    ghost use Rattle.http_text.specs.declared.message.RawRequest.{RawRequest as Taken};
+
+    /// A reader that was given no bytes.
+    pub fn new(alloc: Global) -> RequestReader
+        ensures stands { GaveRequests [] [] result }
+        ensures fault { fault_of result ≡ None }
+    {
+        RequestReader {
+            reader: MessageReader::new(alloc, Kind::Requests),
+        }
+    }
+
+    /// Takes the next piece. After a fault it answers that fault again.
+    pub fn feed(&mut self, piece: &[u8]) -> Result<(), FrameFault>
+        // The reader then stands for the bytes so far and this piece.
+        ensures stands { (bytes : List ℕ) (taken : List Taken) → GaveRequests bytes taken self.old → GaveRequests (bytes ++ piece.now) taken self.new }
+        // The requests are then those of all the bytes, and the fault is theirs, however they were cut.
+        ensures decides { (bytes : List ℕ) (taken : List Taken) → GaveRequests bytes taken self.old
+            → Decides kinds.Requests (bytes ++ piece.now) (request_messages taken ++ waiting self.new) result }
+        ensures ok { OnOk result (fault_of self.new ≡ None) }
+        ensures fault { IfErr result (λ fault. fault_of self.new ≡ Some fault) }
+    {
+        self.reader.feed(piece)
+    }
+
+    /// The next whole request.
+    pub fn take(&mut self) -> Option<RawRequest>
+        ensures none { IfNone result (waiting self.old ≡ []) }
+        ensures first { IfSome result (λ request. waiting self.old ≡ forms.Request request ∷ waiting self.new) }
+        ensures rest { (bytes : List ℕ) (taken : List Taken) → GaveRequests bytes taken self.old → GaveRequests bytes (taken_after taken result) self.new }
+        ensures fault { fault_of self.new ≡ fault_of self.old }
+    {
+        match self.reader.take() {
+            Some(Message::Request(request)) => Some(request),
+            Some(Message::Reply(_)) => unreachable!(),
+            None => None,
+        }
+    }
+
+    /// Tests that the stream may end here.
+    pub fn finish(&self) -> Result<(), CutShort>
+        requires { fault_of self.now ≡ None }
+        ensures between { OnOk result ((bytes : List ℕ) (taken : List Taken) → GaveRequests bytes taken self.now
+            → Reads kinds.Requests bytes (request_messages taken ++ waiting self.now) between) }
+        ensures inside { OnErr result ((bytes : List ℕ) (taken : List Taken) → GaveRequests bytes taken self.now
+            → Reads kinds.Requests bytes (request_messages taken ++ waiting self.now) inside) }
+    {
+        self.reader.finish()
+    }
+}
