@@ -2,7 +2,7 @@
 use Rattle.std.proofs.Common.{◌≡◌, ◌≢◌, ℕ, ◌+◌, ◌-◌, ◌<◌, ◌≤◌, ◌⊎◌, List, [], ◌∷◌, ◌++◌, length, take, drop, Option, None, Some, Ok, Err, refl, sym, ap, ◌∙◌, subst, inl, inr, arith, append_assoc, length-append}
 use Rattle.std.specs.Prelude.{IfNone, IfSome}
 use Rattle.std.proofs.lemmas.List.{append-nil, take_rest, take-append-drop}
-use Rattle.http_text.specs.Heads.{PassesOver, print_head, print_heads}
+use Rattle.http_text.specs.Heads.{print_head, print_heads}
 use Rattle.http_text.proofs.HeadLaws.{head_not_empty}
 use Rattle.http_text.specs.Messages.{IsMessage, AreMessages, Reads, between, inside}
 use Rattle.http_text.proofs.FaultLemmas.{open_no_fault}
