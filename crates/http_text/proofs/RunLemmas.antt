@@ -108,6 +108,15 @@ no_fault kind (stages.Head room progress) pending rest held = refl
 no_fault kind (stages.Body message body part) pending rest held = refl
 no_fault kind (stages.Faulty fault) pending rest held = absurd held
 
+-- a stage with a fault is that fault
+pub faulty_stage : (stage : Stage) (fault : FrameFault) → stage_fault stage ≡ Some fault → stage ≡ stages.Faulty fault
+faulty_stage (stages.Head room progress) fault is = cc
+faulty_stage (stages.Body message body part) fault is = cc
+faulty_stage (stages.Faulty other) fault is = let same : other ≡ fault = cc in ap stages.Faulty same
+
+pub same_fault : (one two : FrameFault) → stages.Faulty one ≡ stages.Faulty two → one ≡ two
+same_fault one two same = cc
+
 -- a fault stays where more bytes come
 pub fault_again : (kind : Kind) (bytes piece rest : List ℕ) (messages : List Message) (fault : FrameFault) → AreMessages kind bytes messages rest → TellsFault kind rest fault
     → (after : List ℕ) × AreMessages kind (bytes ++ piece) messages after × TellsFault kind after fault
