@@ -1,11 +1,11 @@
 -- A rest that is open has no fault.
-use Rattle.std.proofs.Common.{◌≡◌, ◌≢◌, ℕ, ◌+◌, ◌-◌, ◌<◌, ◌≤◌, ◌⊎◌, List, [], ◌∷◌, ◌++◌, length, take, Ok, Err, refl, sym, ap, ◌∙◌, subst, inl, inr, arith, append_assoc, length-append, All}
+use Rattle.std.proofs.Common.{◌≡◌, ℕ, ◌+◌, ◌-◌, ◌<◌, ◌≤◌, ◌⊎◌, List, [], ◌∷◌, ◌++◌, length, take, Ok, Err, refl, sym, ap, ◌∙◌, subst, inl, inr, arith, append_assoc, length-append, All}
 use Rattle.std.proofs.lemmas.List.{append-nil, take_all}
 use Rattle.std.specs.List.{flat_map}
 use Rattle.httparse.specs.Ascii.{crlf_bytes}
 use Rattle.httparse.specs.Grammar.{ChunkLine, ReadsChunkLine, print_chunk_line, chunk_size, NeverHasChunkLine, NeverHasSection, Field, IsField, LineEnd, print_section}
 use Rattle.httparse.proofs.ChunkLemmas.{chunk_line_unique}
-use Rattle.http_text.specs.Heads.{Head, print_head, fields_of, ReadsHead, IsBadHead, PassesOver, room_behind}
+use Rattle.http_text.specs.Heads.{Head, print_head, fields_of, ReadsHead, IsBadHead, room_behind}
 use Rattle.http_text.specs.Chunks.{Chunk, IsChunk, AreChunks, print_chunk, data_of, IsShortLine, most_line, most_trailers, IsBadLine, AreBadTrailers, IsNoLineEnd, IsBadBehind, IsChunkFault, IsChunkedFault}
 use Rattle.http_text.specs.Framing.{most_body}
 use Rattle.http_text.specs.Messages.{BeginsWithHead, framing_behind, IsFaultAt, IsFrameFault, IsBodyFault, IsBody, BeginsNoMessage}
@@ -22,7 +22,7 @@ use Rattle.http_text.specs.declared.reader.Stage.{Stage}
 use Rattle.http_text.specs.declared.reader.Stage.TheVariants as stages
 use Rattle.http_text.proofs.HeadLaws.{head_unique, head_grows}
 use Rattle.http_text.proofs.GrowLemmas.{take_past, begins_grows}
-use Rattle.http_text.proofs.PassLemmas.{HasNoInterim, passes_grow, no_interim_none, no_interim_begins, head_in_front, fault_behind}
+use Rattle.http_text.proofs.PassLemmas.{passes_grow, no_interim_none, no_interim_begins, head_in_front, fault_behind}
 use Rattle.http_text.proofs.PlaceLemmas.{HasNoChunk, same_place, same_parts, line_of_chunk}
 use Rattle.http_text.proofs.OpenLemmas.{line_place, chunk_place, last_place, whole_text}
 

@@ -1,12 +1,12 @@
 -- Facts about a head that is followed byte by byte.
-use Rattle.std.proofs.Common.{◌≡◌, ℕ, ◌+◌, ◌<◌, Bool, true, false, ◌&&◌, List, [], ◌∷◌, ◌++◌, length, refl, sym, ap, ◌∙◌, subst, arith, append_assoc, length-append, All, true≢false}
+use Rattle.std.proofs.Common.{◌≡◌, ℕ, true, false, ◌&&◌, List, [], ◌∷◌, ◌++◌, refl, sym, ap, ◌∙◌, subst, arith, append_assoc, length-append}
 use Rattle.std.specs.Prelude.{IsTrue}
-use Rattle.std.proofs.lemmas.List.{append-nil, flat_map_more}
+use Rattle.std.proofs.lemmas.List.{flat_map_more}
 use Rattle.std.proofs.lemmas.List.Elements.{All-nil, All-cons, All-append}
 use Rattle.std.specs.List.{flat_map}
-use Rattle.httparse.specs.Grammar.{LineEnd, crlf, lf, print_end, print_blank, IsToken, is_token, AllPass, is_token_byte, is_value_byte, Field, IsField, print_field, print_section}
-use Rattle.http_text.specs.Heads.{Head, ReadsHead, EndsInTarget, goes_on}
-use Rattle.http_text.specs.Follow.{Follows, TakesFields, IsInName, IsInValue}
+use Rattle.httparse.specs.Grammar.{LineEnd, crlf, lf, print_end, print_blank, IsToken, is_token, is_token_byte, is_value_byte, Field, IsField, print_field, print_section}
+use Rattle.http_text.specs.Heads.{ReadsHead, EndsInTarget, goes_on}
+use Rattle.http_text.specs.Follow.{Follows, TakesFields, IsInValue}
 use Rattle.http_text.specs.declared.message.Kind.{Kind}
 use Rattle.http_text.specs.declared.message.Kind.TheVariants.{Requests, Replies}
 use Rattle.http_text.specs.declared.follow.Progress.TheVariants as at

@@ -1,13 +1,12 @@
 -- A text begins with one head at most, and some texts are heads.
-use Rattle.std.proofs.Common.{◌≡◌, ℕ, ◌+◌, ◌<◌, List, [], ◌∷◌, ◌++◌, length, None, refl, ap, ◌∙◌, sym, subst, arith, append_assoc, length-append}
+use Rattle.std.proofs.Common.{◌≡◌, ℕ, ◌+◌, ◌<◌, List, [], ◌∷◌, ◌++◌, length, None, refl, ap, ◌∙◌, sym, arith, append_assoc, length-append}
 use Rattle.std.specs.Prelude.{codes, IsTrue}
-use Rattle.std.proofs.lemmas.List.{append-nil}
 use Rattle.std.proofs.lemmas.List.Elements.{All-nil, All-cons}
 use Rattle.std.specs.Char.{is_ascii_digit}
-use Rattle.httparse.specs.Grammar.{RequestHead, ResponseHead, print_request, print_response, LineEnd, lf, print_end, print_blank, print_version, print_reason, print_section, IsToken, AllPass, is_uri_byte, is_value_byte, is_token_byte, IsField}
+use Rattle.httparse.specs.Grammar.{RequestHead, ResponseHead, print_request, print_response, LineEnd, lf, print_end, print_blank, print_version, print_reason, print_section, IsToken, is_uri_byte, is_value_byte, is_token_byte, IsField}
 use Rattle.httparse.proofs.OpenLemmas.{letter_is_token}
 use Rattle.httparse.proofs.GrammarLemmas.{print_request-append, print_response-append, request_unique, response_unique}
-use Rattle.http_text.specs.Heads.{Head, request, reply, print_head, fields_of, IsHeadOf, ReadsHead, HasNoHead, NeverHasHead}
+use Rattle.http_text.specs.Heads.{Head, request, reply, print_head, ReadsHead, HasNoHead, NeverHasHead}
 use Rattle.http_text.specs.declared.message.Kind.{Kind}
 use Rattle.http_text.specs.declared.message.Kind.TheVariants.{Requests, Replies}
 

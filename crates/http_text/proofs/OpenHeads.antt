@@ -1,14 +1,14 @@
 -- What is followed of a head is open.
-use Rattle.std.proofs.Common.{◌≡◌, ℕ, ◌+◌, ◌<◌, Bool, true, false, List, [], ◌∷◌, ◌++◌, length, refl, sym, ap, ◌∙◌, subst, arith, append_assoc, length-append, All}
+use Rattle.std.proofs.Common.{◌≡◌, ℕ, ◌+◌, true, List, [], ◌∷◌, ◌++◌, length, refl, sym, ap, ◌∙◌, subst, arith, append_assoc, length-append}
 use Rattle.std.specs.Prelude.{IsTrue}
 use Rattle.std.specs.List.{flat_map}
 use Rattle.std.proofs.lemmas.Grind.{flat_map-append}
 use Rattle.std.proofs.lemmas.List.{append-nil}
 use Rattle.std.proofs.lemmas.List.Elements.{All-nil, All-cons, All-append}
-use Rattle.httparse.specs.Grammar.{LineEnd, crlf, lf, print_end, print_blank, IsToken, is_token_byte, Field, IsField, print_field, print_section, RequestHead, IsRequestHead, print_request, ResponseHead, IsResponseHead, print_response, print_version, print_reason}
+use Rattle.httparse.specs.Grammar.{LineEnd, crlf, lf, print_end, print_blank, IsToken, is_token_byte, Field, IsField, print_field, print_section, RequestHead, print_request, ResponseHead, print_response, print_version, print_reason}
 use Rattle.httparse.proofs.OpenLemmas.{letter_is_token}
 use Rattle.http_text.specs.Heads.{Head, request, reply, ReadsHead, HasNoHead, IsBadHead, EndsInTarget}
-use Rattle.http_text.specs.Follow.{Follows, TakesFields, IsInName, IsInValue, is_known}
+use Rattle.http_text.specs.Follow.{Follows, TakesFields, IsInName, is_known}
 use Rattle.http_text.specs.declared.message.Kind.{Kind}
 use Rattle.http_text.specs.declared.message.Kind.TheVariants.{Requests, Replies}
 use Rattle.http_text.specs.declared.follow.Progress.{Progress}

@@ -7,7 +7,7 @@ use Rattle.httparse.specs.Grammar.{ChunkLine, IsChunkLine, print_chunk_line, chu
 use Rattle.httparse.proofs.ChunkLemmas.{chunk_line_unique}
 use Rattle.http_text.specs.Heads.{ReadsHead, PassesOver, room_behind}
 use Rattle.http_text.specs.Chunks.{Chunk, AreChunks, print_chunk, data_of, ChunkedBody, IsChunkedBody, print_chunked}
-use Rattle.http_text.specs.Messages.{BeginsWithHead, BeginsNoMessage, framing_behind, IsBody}
+use Rattle.http_text.specs.Messages.{BeginsNoMessage, framing_behind, IsBody}
 use Rattle.http_text.specs.declared.message.Kind.{Kind}
 use Rattle.http_text.specs.Stages.{IsInChunk, HoldsPart}
 use Rattle.http_text.specs.Readers.{Holds}

@@ -1,9 +1,9 @@
 -- What stands behind the heads that are passed over is one place.
 use Rattle.std.proofs.Common.{◌≡◌, ℕ, ◌+◌, ◌-◌, ◌≤◌, List, [], ◌∷◌, ◌++◌, length, take, refl, sym, ap, ap₂, ◌∙◌, subst, arith, append_assoc, length-append, All, true≢false}
-use Rattle.std.proofs.lemmas.List.{append-nil, flat_map_more}
+use Rattle.std.proofs.lemmas.List.{flat_map_more}
 use Rattle.std.proofs.lemmas.List.Elements.{All-head, All-tail, All-nil, All-cons, All-append}
 use Rattle.http_text.specs.Heads.{Head, most_head, print_head, print_heads, fields_of, ReadsHead, HasNoHead, IsInterim, is_interim, PassesOver, room_behind}
-use Rattle.http_text.specs.Messages.{BeginsWithHead, IsFaultAt, IsFaultOfHead, IsFrameFault}
+use Rattle.http_text.specs.Messages.{BeginsWithHead, IsFaultAt, IsFrameFault}
 use Rattle.http_text.specs.Front.{TellsFaultAt}
 use Rattle.http_text.specs.Readers.{TellsFault}
 use Rattle.http_text.specs.declared.message.Kind.{Kind}

@@ -1,9 +1,9 @@
 -- Facts about the steps of a reader.
-use Rattle.std.proofs.Common.{◌≡◌, ℕ, ◌+◌, ◌-◌, ◌<◌, ◌≤◌, ◌⊎◌, List, [], ◌∷◌, ◌++◌, length, take, Result, Ok, Err, refl, sym, ap, ◌∙◌, subst, inl, inr, arith, append_assoc, length-append}
+use Rattle.std.proofs.Common.{◌≡◌, ℕ, ◌-◌, ◌<◌, ◌≤◌, List, [], ◌∷◌, ◌++◌, length, take, Result, Ok, Err, refl, sym, ap, ◌∙◌, subst, inr, arith}
 use Rattle.std.specs.Global.{Vec}
 use Rattle.std.proofs.lemmas.List.{append-nil}
 use Rattle.std.proofs.lemmas.List.Elements.{All-nil}
-use Rattle.http_text.specs.Heads.{Head, request, reply, print_head, HasNoHead, IsBadHead, IsInterim, PassesOver, room_behind, most_head}
+use Rattle.http_text.specs.Heads.{Head, request, reply, print_head, HasNoHead, IsBadHead, IsInterim, PassesOver, room_behind}
 use Rattle.http_text.specs.Chunks.{IsChunk}
 use Rattle.http_text.specs.Messages.{message_of, request_of, reply_of, BeginsWithHead, framing_behind, IsMessage, IsBody, IsFrameFault}
 use Rattle.http_text.specs.Front.{TellsFaultAt}

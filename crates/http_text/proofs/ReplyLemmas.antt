@@ -1,5 +1,5 @@
 -- What is printed of a reply is read again.
-use Rattle.std.proofs.Common.{◌≡◌, ◌≢◌, ℕ, ◌<◌, ◌≤◌, List, [], ◌∷◌, ◌++◌, length, Bool, true, false, not, ◌&&◌, ◌||◌, ◌==◌, Option, Some, None, Ok, refl, sym, ap, ◌∙◌, subst, arith, append_assoc, All, eqb-true}
+use Rattle.std.proofs.Common.{◌≡◌, ℕ, ◌≤◌, List, [], ◌∷◌, ◌++◌, length, Bool, true, false, not, ◌&&◌, ◌||◌, ◌==◌, Option, Some, None, Ok, refl, sym, ap, ◌∙◌, subst, arith, append_assoc, All, eqb-true}
 use Rattle.std.specs.Prelude.{codes, IsTrue}
 use Rattle.std.specs.Fmt.{decimal}
 use Rattle.std.specs.Char.{is_ascii_digit}
@@ -7,11 +7,11 @@ use Rattle.std.specs.List.{list_all, list_any, flat_map}
 use Rattle.std.specs.Str.Parse.{digits_value}
 use Rattle.std.proofs.lemmas.Grind.{flat_map-append}
 use Rattle.std.proofs.lemmas.List.Sums.{AllPass-from_list_all}
-use Rattle.std.proofs.lemmas.List.Elements.{All-nil, All-cons, All-append, All-weaker}
+use Rattle.std.proofs.lemmas.List.Elements.{All-nil, All-cons, All-append}
 use Rattle.httparse.specs.Ascii.{crlf_bytes}
-use Rattle.httparse.specs.Grammar.{AllPass, IsToken, is_token_byte, is_value_byte, trim_ows, Field, IsField, print_field, print_version, print_response, ResponseHead}
+use Rattle.httparse.specs.Grammar.{AllPass, is_token_byte, is_value_byte, trim_ows, IsField, print_field, print_version, print_response}
 use Rattle.httparse.proofs.GrammarLemmas.{print_response-append}
-use Rattle.http_text.specs.Heads.{reply, is_interim}
+use Rattle.http_text.specs.Heads.{reply}
 use Rattle.http_text.specs.Messages.{reply_of, IsMessage, framing_behind}
 use Rattle.http_text.specs.Print.{field, is_visible, body_fields, phrase_of, statuses, status_digits, status_line, allow_fields, close_fields, reply_fields, reply_head, reply_text, HasKind, IsAllow, IsPrintableReply, FitsReader}
 use Rattle.http_text.specs.declared.framing.Framing.TheVariants.{Sized}
@@ -19,7 +19,7 @@ use Rattle.http_text.specs.declared.message.Kind.TheVariants.{Replies}
 use Rattle.http_text.specs.declared.message.Message.TheVariants as forms
 use Rattle.http_text.specs.declared.message.RawReply.{RawReply}
 use Rattle.http_text.proofs.PassLemmas.{passes_none}
-use Rattle.http_text.proofs.PrintLemmas.{trim_word, word_value, decimal_word, size_again, token_of, field_is}
+use Rattle.http_text.proofs.PrintLemmas.{trim_word, decimal_word, size_again, token_of, field_is}
 
 -- ---- the statuses
 

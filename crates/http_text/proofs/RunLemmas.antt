@@ -2,7 +2,7 @@
 use Rattle.std.proofs.Common.{◌≡◌, ◌≢◌, ℕ, ◌+◌, ◌-◌, ◌<◌, ◌≤◌, ◌⊎◌, List, [], ◌∷◌, ◌++◌, length, take, drop, Option, None, Some, Ok, Err, refl, sym, ap, ◌∙◌, subst, inl, inr, arith, append_assoc, length-append}
 use Rattle.std.specs.Prelude.{IfNone, IfSome}
 use Rattle.std.proofs.lemmas.List.{append-nil, take_rest, take-append-drop}
-use Rattle.http_text.specs.Heads.{PassesOver, print_head, print_heads}
+use Rattle.http_text.specs.Heads.{print_head, print_heads}
 use Rattle.http_text.proofs.HeadLaws.{head_not_empty}
 use Rattle.http_text.specs.Messages.{IsMessage, AreMessages, Reads, between, inside}
 use Rattle.http_text.proofs.FaultLemmas.{open_no_fault}
@@ -107,6 +107,15 @@ pub no_fault : (kind : Kind) (stage : Stage) (pending rest : List ℕ) → Holds
 no_fault kind (stages.Head room progress) pending rest held = refl
 no_fault kind (stages.Body message body part) pending rest held = refl
 no_fault kind (stages.Faulty fault) pending rest held = absurd held
+
+-- a stage with a fault is that fault
+pub faulty_stage : (stage : Stage) (fault : FrameFault) → stage_fault stage ≡ Some fault → stage ≡ stages.Faulty fault
+faulty_stage (stages.Head room progress) fault is = cc
+faulty_stage (stages.Body message body part) fault is = cc
+faulty_stage (stages.Faulty other) fault is = let same : other ≡ fault = cc in ap stages.Faulty same
+
+pub same_fault : (one two : FrameFault) → stages.Faulty one ≡ stages.Faulty two → one ≡ two
+same_fault one two same = cc
 
 -- a fault stays where more bytes come
 pub fault_again : (kind : Kind) (bytes piece rest : List ℕ) (messages : List Message) (fault : FrameFault) → AreMessages kind bytes messages rest → TellsFault kind rest fault

@@ -1,5 +1,5 @@
 -- Facts about readers of one kind.
-use Rattle.std.proofs.Common.{◌≡◌, ℕ, List, [], ◌∷◌, ◌++◌, map, Option, Some, None, Result, Ok, Err, refl, sym, ap, ◌∙◌, subst}
+use Rattle.std.proofs.Common.{◌≡◌, ℕ, List, [], ◌∷◌, ◌++◌, map, Option, Some, None, Result, Ok, Err, sym, ap, ◌∙◌, subst}
 use Rattle.std.specs.Prelude.{OnOk, OnErr, IfNone, IfSome}
 use Rattle.std.proofs.lemmas.List.{map-append}
 use Rattle.http_text.specs.Heads.{Head, request, reply, IsHeadOf}

@@ -5,9 +5,9 @@ use Rattle.std.specs.List.{flat_map}
 use Rattle.httparse.specs.Grammar.{print_chunk_line, print_section}
 use Rattle.httparse.proofs.ChunkLemmas.{chunk_line_unique}
 use Rattle.httparse.proofs.GrammarLemmas.{section_unique}
-use Rattle.http_text.specs.Heads.{Head, print_head, print_heads, ReadsHead, PassesOver, room_behind}
+use Rattle.http_text.specs.Heads.{print_head, print_heads, ReadsHead, PassesOver, room_behind}
 use Rattle.http_text.specs.Chunks.{print_chunk, data_of}
-use Rattle.http_text.specs.Messages.{message_of, BeginsWithHead, IsMessage, AreMessages, framing_behind, IsBody, BeginsNoMessage, End, between, inside, faulty, EndsAs, Reads, IsFrameFault, IsFaultAt, IsFaultOfHead}
+use Rattle.http_text.specs.Messages.{message_of, IsMessage, AreMessages, framing_behind, IsBody, BeginsNoMessage, End, between, inside, faulty, EndsAs, Reads, IsFrameFault}
 use Rattle.http_text.specs.declared.framing.FrameFault.{FrameFault}
 use Rattle.http_text.specs.declared.framing.Framing.{Framing}
 use Rattle.http_text.specs.declared.framing.Framing.TheVariants.{Sized, Chunked}

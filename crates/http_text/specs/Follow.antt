@@ -1,5 +1,5 @@
 -- How far a head was followed that has not ended.
-use Rattle.std.specs.Prelude.{◌≡◌, ◌<◌, ℕ, Bool, true, false, List, [], ◌∷◌, ◌++◌, length, All}
+use Rattle.std.specs.Prelude.{◌≡◌, ℕ, Bool, true, false, List, [], ◌∷◌, ◌++◌, All}
 use Rattle.httparse.specs.Grammar.{LineEnd, print_blank, IsToken, AllPass, is_value_byte, Field, IsField, print_section}
 use Rattle.http_text.specs.Heads.{Head, ReadsHead, EndsInTarget}
 use Rattle.http_text.specs.declared.message.Kind.{Kind}

@@ -1,8 +1,8 @@
 -- The messages of a stream, requests or replies, and how it ends.
-use Rattle.std.specs.Prelude.{◌≡◌, ◌≢◌, ◌⊎◌, ◌≤◌, ◌==◌, ℕ, Bool, false, List, [], ◌∷◌, ◌++◌, length, take, drop, Option, Result, Ok, Err, codes, nat_eq, if◌then◌else◌}
+use Rattle.std.specs.Prelude.{◌≡◌, ◌≢◌, ◌⊎◌, ◌≤◌, ◌==◌, ℕ, false, List, [], ◌∷◌, ◌++◌, length, take, drop, Result, Ok, Err, codes, nat_eq, if◌then◌else◌}
 use Rattle.std.specs.List.{starts_with}
 use Rattle.httparse.specs.Grammar.{RequestHead, ResponseHead, status_code}
-use Rattle.http_text.specs.Heads.{Head, request, reply, print_head, fields_of, minor_of, most_head, most_fields, ReadsHead, HasNoHead, HasTooManyFields, IsBadHead, is_interim, PassesOver, room_behind}
+use Rattle.http_text.specs.Heads.{Head, request, reply, print_head, fields_of, minor_of, most_fields, ReadsHead, HasNoHead, HasTooManyFields, IsBadHead, is_interim, PassesOver, room_behind}
 use Rattle.http_text.specs.Fields.{rows_of, values_of, first_of, closes}
 use Rattle.http_text.specs.Framing.{framing_of}
 use Rattle.http_text.specs.Chunks.{ChunkedBody, IsChunkedBody, print_chunked, data_of, IsChunkedFault}

@@ -1,6 +1,6 @@
 -- What a reader stands for.
-use Rattle.std.specs.Prelude.{◌≡◌, ◌⊎◌, ◌≤◌, ℕ, List, [], ◌∷◌, ◌++◌, take, Option, Some, None, Result, Ok, Err}
-use Rattle.http_text.specs.Heads.{Head, most_head, PassesOver, room_behind}
+use Rattle.std.specs.Prelude.{◌≡◌, ◌⊎◌, ℕ, List, [], ◌∷◌, ◌++◌, take, Option, Some, None, Result, Ok, Err}
+use Rattle.http_text.specs.Heads.{Head, PassesOver, room_behind}
 use Rattle.http_text.specs.Messages.{message_of, BeginsWithHead, framing_behind, IsMessage, IsFrameFault, AreMessages, Reads, between, inside, faulty}
 use Rattle.http_text.specs.Follow.{Follows}
 use Rattle.http_text.specs.declared.follow.Progress.{Progress}

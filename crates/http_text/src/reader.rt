@@ -1,9 +1,10 @@
 //! Messages from a stream of bytes that comes in any pieces.
-ghost use Rattle.std.specs.Prelude.{◌≡◌, ◌<◌, ◌≤◌, ◌++◌, ◌∷◌, length, take, List, ℕ, [], IfErr, IfNone, IfSome, MatchResult, OnErr, OnOk, Some, None};
+ghost use Rattle.std.specs.Prelude.{◌≡◌, ◌<◌, ◌≤◌, ◌++◌, ◌∷◌, length, take, List, ℕ, [], IfErr, IfNone, IfSome, MatchResult, OnErr, OnOk, Some, None, Err};
 ghost use Rattle.http_text.specs.Readers.{AdvanceIs, BeginsBody, CanGoOn, Decides, EndsHead, Holds, HoldsAll, HoldsHead, IsHeadOf, IsReader, ReadsPiece, StandsFor, TellsFault, fault_of, stage_fault, waiting};
 ghost use Rattle.http_text.specs.Messages.{End, Reads, between, inside};
 ghost use Rattle.http_text.specs.Taken.{taken_after};
 ghost use Rattle.http_text.specs.declared.follow.Progress.{Progress as At};
+ghost use Rattle.http_text.specs.declared.framing.FrameFault.{FrameFault as Fault};
 ghost use Rattle.http_text.specs.declared.message.Kind.{Kind};
 ghost use Rattle.http_text.specs.declared.message.Message.{Message};
 ghost use Rattle.http_text.specs.declared.message.Message.TheVariants as forms;
@@ -271,6 +272,8 @@ impl MessageReader {
             → Decides self.old.kind (bytes ++ piece.now) (taken ++ waiting self.new) result }
         ensures ok { OnOk result (fault_of self.new ≡ None) }
         ensures fault { IfErr result (λ fault. fault_of self.new ≡ Some fault) }
+        // A fault that was met is answered again, want of memory among them.
+        ensures again { (met : Fault) → fault_of self.old ≡ Some met → (result ≡ Err met) × (fault_of self.new ≡ Some met) }
     {
         let stage = mem::replace(&mut self.stage, Stage::Faulty(FrameFault::OutOfMemory));
         if let Stage::Faulty(fault) = stage {

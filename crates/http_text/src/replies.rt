@@ -30,6 +30,7 @@ impl ReplyReader {
     ghost use Rattle.http_text.specs.Messages.{Reads, between, inside};
     ghost use Rattle.http_text.specs.Readers.{Decides, fault_of, waiting};
     ghost use Rattle.http_text.specs.Taken.{GaveReplies, reply_messages, taken_after};
+    ghost use Rattle.http_text.specs.declared.framing.FrameFault.{FrameFault as Fault};
     ghost use Rattle.http_text.specs.declared.message.Kind.TheVariants as kinds;
     ghost use Rattle.http_text.specs.declared.message.Message.TheVariants as forms;
     ghost use Rattle.http_text.specs.declared.message.RawReply.{RawReply as Taken};
@@ -53,6 +54,8 @@ impl ReplyReader {
             → Decides kinds.Replies (bytes ++ piece.now) (reply_messages taken ++ waiting self.new) result }
         ensures ok { OnOk result (fault_of self.new ≡ None) }
         ensures fault { IfErr result (λ fault. fault_of self.new ≡ Some fault) }
+        // A fault that was met is answered again, want of memory among them.
+        ensures again { (met : Fault) → fault_of self.old ≡ Some met → (result ≡ Err met) × (fault_of self.new ≡ Some met) }
     {
         self.reader.feed(piece)
     }

@@ -1,6 +1,6 @@
-use Rattle.std.proofs.Common.{◌≡◌, ◌∙◌, ◌+◌, ◌++◌, ◌∷◌, [], List, ℕ, sym, ap, subst, take, get_or, true, arith, append_assoc, length}
+use Rattle.std.proofs.Common.{◌≡◌, ◌∙◌, ◌+◌, ◌++◌, ◌∷◌, [], List, ℕ, sym, ap, subst, take, get_or, arith, append_assoc, length}
 use Rattle.std.proofs.lemmas.List.{append-nil, take_more}
-use Rattle.http_text.specs.Follow.{Follows, is_known}
+use Rattle.http_text.specs.Follow.{Follows}
 use Rattle.http_text.proofs.follow.follow.Goals as goal
 
 pub loop-passed-init : goal.loop-passed-init

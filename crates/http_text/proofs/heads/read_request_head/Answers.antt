@@ -2,7 +2,7 @@ use Rattle.std.proofs.Common.{◌∙◌, ap, length, Err, rules}
 use Rattle.httparse.specs.Grammar.{NeverHasRequest}
 use Rattle.http_text.specs.Heads.{EndsInTarget}
 use Rattle.http_text.specs.declared.message.Kind.TheVariants.{Requests}
-use Rattle.http_text.proofs.HeadLemmas.{short_of_room, no_request_head, never_request_head, may_be_request, never_has_none}
+use Rattle.http_text.proofs.HeadLemmas.{short_of_room, no_request_head, may_be_request, never_has_none}
 use Rattle.http_text.proofs.FrontLemmas.{many_request}
 use Rattle.http_text.proofs.heads.read_request_head.Goals as goal
 

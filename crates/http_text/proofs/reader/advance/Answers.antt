@@ -1,4 +1,4 @@
-use Rattle.std.proofs.Common.{subst, refl, inl, inr, take, Ok, Option, ◌++◌}
+use Rattle.std.proofs.Common.{subst, refl, inl, inr, Ok, Option}
 use Rattle.std.proofs.lemmas.Result.{err_from_is_err_and}
 use Rattle.http_text.specs.Stages.{PartStepIs}
 use Rattle.http_text.specs.Readers.{Holds}

@@ -1,4 +1,4 @@
-use Rattle.std.proofs.Common.{refl, inl, subst, Ok, take, ◌++◌, arith}
+use Rattle.std.proofs.Common.{refl, inl, subst, Ok, arith}
 use Rattle.http_text.specs.Stages.{HeadStepIs}
 use Rattle.http_text.specs.declared.stage.HeadEnd.{HeadEnd}
 use Rattle.http_text.proofs.ReaderLemmas.{head_goes_on, interim_passed, no_room_left, head_is_whole, ends_body}

@@ -1,6 +1,4 @@
-use Rattle.std.proofs.Common.{◌≡◌, ◌∙◌, ◌++◌, List, ℕ, sym, ap, subst, length, arith}
-use Rattle.http_text.specs.Messages.{IsFaultAt}
-use Rattle.http_text.specs.declared.framing.FrameFault.TheVariants.{HeadTooLong}
+use Rattle.std.proofs.Common.{ap, length, arith}
 use Rattle.http_text.proofs.OpenHeads.{follows_open}
 use Rattle.http_text.proofs.StepLemmas.{full_head, followed}
 use Rattle.http_text.proofs.stage.keep_followed.Goals as goal

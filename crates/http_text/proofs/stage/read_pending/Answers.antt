@@ -4,10 +4,9 @@ use Rattle.http_text.specs.Heads.{HasNoHead, IsBadHead}
 use Rattle.http_text.specs.Follow.{Follows}
 use Rattle.http_text.specs.Front.{FrontIs, TellsFaultAt}
 use Rattle.http_text.specs.Messages.{IsFaultAt}
-use Rattle.http_text.specs.declared.follow.Progress.{Progress}
 use Rattle.http_text.specs.declared.framing.FrameFault.TheVariants.{HeadTooLong}
 use Rattle.http_text.specs.declared.front.Front.{Front}
-use Rattle.http_text.proofs.StepLemmas.{full_head, whole_text, kept_length, piece_length, all_used, is_past, head_used, reads_used, reads_along}
+use Rattle.http_text.proofs.StepLemmas.{full_head, whole_text, piece_length, all_used, is_past, head_used, reads_used, reads_along}
 use Rattle.http_text.proofs.stage.read_pending.Goals as goal
 
 pub returns-in_err-read_front : goal.returns-in_err-read_front

@@ -1,8 +1,8 @@
-use Rattle.std.proofs.Common.{◌∙◌, ◌++◌, sym, subst, refl}
+use Rattle.std.proofs.Common.{◌≡◌, ◌∙◌, ◌++◌, Some, Err, sym, ap, subst, refl}
 use Rattle.std.proofs.lemmas.Result.{err_from_is_err_and}
 use Rattle.http_text.specs.Readers.{HoldsStage}
 use Rattle.http_text.specs.declared.reader.Stage.{Stage}
-use Rattle.http_text.proofs.RunLemmas.{not_faulty, still_held, no_fault, fault_again, no_memory, messages_grow, decided_open, decided_fault}
+use Rattle.http_text.proofs.RunLemmas.{faulty_stage, same_fault, not_faulty, still_held, no_fault, fault_again, no_memory, messages_grow, decided_open, decided_fault}
 use Rattle.http_text.proofs.reader.MessageReader.feed.Goals as goal
 
 pub returns-in-Faulty-clause-stands : goal.returns-in-Faulty-clause-stands
@@ -15,6 +15,11 @@ returns-in-Faulty-clause-reader c =
     let stands = c.requires.2 in
     let held = subst (λ (s : Stage). HoldsStage c.args.self.now.kind s c.args.self.now.pending.items stands.0) (sym c.replace-stage.ensures.value ∙ c.in-Faulty.is) stands.2 in
     (c.requires.0 ++ c.args.piece.now, c.requires.1, fault_again c.args.self.now.kind c.requires.0 c.args.piece.now stands.0 _ c.in-Faulty.fault stands.1 held)
+
+pub returns-in-Faulty-clause-again : goal.returns-in-Faulty-clause-again
+returns-in-Faulty-clause-again c = λ met is.
+    let same : c.in-Faulty.fault ≡ met = same_fault _ _ (sym (sym c.replace-stage.ensures.value ∙ c.in-Faulty.is) ∙ faulty_stage c.args.self.now.stage met is) in
+    (ap Err same, ap Some same)
 
 pub returns-in-Faulty-clause-decides : goal.returns-in-Faulty-clause-decides
 returns-in-Faulty-clause-decides c = λ bytes taken stands.
@@ -36,6 +41,7 @@ returns-in_err-make_room c =
       decides = λ bytes taken stands. rw (p.1, p.2) (stands.0 ++ c.args.piece.now, messages_grow c.args.self.now.kind _ bytes stands.0 c.args.piece.now stands.1);
       ok = rw p.1 tt;
       fault = rw (p.1, p.2, c.replace-stage.ensures.after) refl;
+      again = λ met is. absurd (c.in_default.not-Faulty met (c.replace-stage.ensures.value ∙ faulty_stage c.args.self.now.stage met is));
     }
 
 pub read_piece-requires : goal.read_piece-requires
@@ -66,6 +72,7 @@ returns-in-Ok c =
           decided_open c.args.self.now.kind _ all.0 _ _ _ all.1 all.2;
       ok = no_fault c.args.self.now.kind _ _ next.0 next.1;
       fault = tt;
+      again = λ met is. absurd (c.in_default.not-Faulty met (c.replace-stage.ensures.value ∙ faulty_stage c.args.self.now.stage met is));
     }
 
 pub returns-in-Err : goal.returns-in-Err
@@ -88,4 +95,5 @@ returns-in-Err c =
           decided_fault c.args.self.now.kind _ all.0 _ c.in-Err.fault all.1 all.2;
       ok = tt;
       fault = refl;
+      again = λ met is. absurd (c.in_default.not-Faulty met (c.replace-stage.ensures.value ∙ faulty_stage c.args.self.now.stage met is));
     }
