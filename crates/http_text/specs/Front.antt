@@ -5,6 +5,7 @@ use Rattle.httparse.specs.declared.spans.RequestSpans.{RequestSpans}
 use Rattle.httparse.specs.declared.spans.ResponseSpans.{ResponseSpans}
 use Rattle.http_text.specs.Heads.{Head, print_head, ReadsHead, HasNoHead, IsBadHead, IsInterim}
 use Rattle.http_text.specs.Fields.{Row, values_of, first_of, closes}
+use Rattle.http_text.specs.Framing.{expects}
 use Rattle.http_text.specs.Messages.{message_of, path_of, BeginsWithHead, framing_behind, IsFaultAt}
 use Rattle.http_text.specs.declared.message.Kind.{Kind}
 use Rattle.http_text.specs.declared.message.RawRequest.{RawRequest}
@@ -21,6 +22,7 @@ request_at text head rows = record {
   path = path_of (span_bytes text head.path);
   http10 = head.version == 0;
   close = closes head.version rows;
+  expects = expects head.version rows;
   content_type = first_of (values_of (codes "content-type") rows);
   encoding = first_of (values_of (codes "content-encoding") rows);
   body = [];

@@ -4,7 +4,7 @@ use Rattle.std.specs.List.{starts_with}
 use Rattle.httparse.specs.Grammar.{RequestHead, ResponseHead, status_code}
 use Rattle.http_text.specs.Heads.{Head, request, reply, print_head, fields_of, minor_of, most_fields, ReadsHead, HasNoHead, HasTooManyFields, IsBadHead, is_interim, PassesOver, room_behind}
 use Rattle.http_text.specs.Fields.{rows_of, values_of, first_of, closes}
-use Rattle.http_text.specs.Framing.{framing_of}
+use Rattle.http_text.specs.Framing.{framing_of, expects}
 use Rattle.http_text.specs.Chunks.{ChunkedBody, IsChunkedBody, print_chunked, data_of, IsChunkedFault}
 use Rattle.http_text.specs.declared.framing.FrameFault.{FrameFault}
 use Rattle.http_text.specs.declared.framing.FrameFault.TheVariants.{BadHead, TooManyFields, HeadTooLong, OutOfMemory}
@@ -42,6 +42,7 @@ request_of head body = record {
   path = path_of head.target;
   http10 = head.minor == 0;
   close = closes head.minor (rows_of head.fields);
+  expects = expects head.minor (rows_of head.fields);
   content_type = first_of (values_of (codes "content-type") (rows_of head.fields));
   encoding = first_of (values_of (codes "content-encoding") (rows_of head.fields));
   body = body;

@@ -10,6 +10,8 @@ pub struct RawRequest {
     pub http10: bool,
     /// The connection ends behind it.
     pub close: bool,
+    /// It asks for 100 Continue before its body.
+    pub expects: bool,
     pub content_type: Option<Bytes>,
     pub encoding: Option<Bytes>,
     pub body: Bytes,
