@@ -11,7 +11,7 @@ use Rattle.http_text.specs.declared.message.Kind.{Kind}
 use Rattle.http_text.specs.declared.message.RawRequest.{RawRequest}
 use Rattle.http_text.specs.declared.message.RawReply.{RawReply}
 use Rattle.http_text.specs.declared.framing.FrameFault.{FrameFault}
-use Rattle.http_text.specs.declared.framing.FrameFault.TheVariants.{OutOfMemory}
+use Rattle.http_text.specs.declared.framing.FrameFault.TheVariants.{BadHead, TooManyFields, HeadTooLong, OutOfMemory}
 use Rattle.http_text.specs.declared.front.Front.{Front}
 use Rattle.http_text.specs.declared.front.Front.TheVariants.{Whole, Interim, Open}
 
@@ -37,10 +37,17 @@ reply_at head rows = record {
   body = [];
 }
 
--- the fault is that of the text, unless memory ran out
+-- the text begins with a head, and this is its first fault
+abbrev pub IsOwnFault : Kind → ℕ → List ℕ → FrameFault → Type 0
+IsOwnFault kind room text fault = (head : Head) × (behind : List ℕ) × BeginsWithHead kind room text head behind × (framing_behind head ≡ Err fault)
+
+-- the fault is that of the text's head, unless memory ran out
 abbrev pub TellsFaultAt : Kind → ℕ → List ℕ → FrameFault → Type 0
 TellsFaultAt kind room text OutOfMemory = Unit {0}
-TellsFaultAt kind room text fault = IsFaultAt kind room text fault
+TellsFaultAt kind room text BadHead = IsFaultAt kind room text BadHead
+TellsFaultAt kind room text TooManyFields = IsFaultAt kind room text TooManyFields
+TellsFaultAt kind room text HeadTooLong = IsFaultAt kind room text HeadTooLong
+TellsFaultAt kind room text fault = IsOwnFault kind room text fault
 
 -- what was read is what stands at the front
 abbrev pub FrontIs : Kind → ℕ → List ℕ → Result Front FrameFault → Type 0

@@ -34,6 +34,21 @@ pub enum Message {
     Reply(RawReply),
 }
 
+impl Message {
+    ghost use Rattle.std.specs.Prelude.{◌≡◌};
+    ghost use Rattle.http_text.specs.Messages.{message_expects};
+
+    /// Whether it asks for 100 Continue before its body.
+    pub fn expects(&self) -> bool
+        ensures { result ≡ message_expects self.now }
+    {
+        match self {
+            Message::Request(request) => request.expects,
+            Message::Reply(_) => false,
+        }
+    }
+}
+
 /// What a stream holds.
 #[derive(Clone, Copy, Debug, PartialEq, Eq)]
 pub enum Kind {
