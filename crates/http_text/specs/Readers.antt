@@ -134,6 +134,15 @@ stage_expects (Faulty broken) = broken.expects
 abbrev pub fault_of : MessageReader → Option FrameFault
 fault_of reader = stage_fault reader.stage
 
+-- it was answered that the head at the front asks for 100 Continue
+abbrev pub was_told : MessageReader → Bool
+was_told reader = reader.told
+
+-- whether the head of the next message that waits asks for it, or else the head of the stage
+abbrev pub asks_first : List Message → Stage → Bool
+asks_first [] stage = stage_expects stage
+asks_first (message ∷ messages) stage = message_expects message
+
 -- the reader was given these bytes, and of their messages these were taken
 abbrev pub StandsFor : Kind → List ℕ → List Message → MessageReader → Type 0
 StandsFor kind bytes taken reader =

@@ -1,10 +1,11 @@
 //! Messages from a stream of bytes that comes in any pieces.
-ghost use Rattle.std.specs.Prelude.{◌≡◌, ◌<◌, ◌≤◌, ◌++◌, ◌∷◌, length, take, List, ℕ, [], IfErr, IfNone, IfOk, IfSome, OnErr, OnOk, Some, None, Err};
-ghost use Rattle.http_text.specs.Readers.{AdvanceIs, BeginsBody, CanGoOn, Decides, EndsHead, Holds, HoldsAll, HoldsHead, IsHeadOf, IsReader, ReadsPiece, StandsFor, fault_of, stage_expects, stage_fault, waiting};
+ghost use Rattle.std.specs.Prelude.{◌≡◌, ◌⊎◌, ◌||◌, ◌<◌, ◌≤◌, ◌++◌, ◌∷◌, length, take, false, List, ℕ, [], IfErr, IfNone, IfOk, IfSome, IsTrue, MatchOption, OnErr, OnOk, Some, None, Err};
+ghost use Rattle.http_text.specs.Readers.{AdvanceIs, BeginsBody, CanGoOn, Decides, EndsHead, Holds, HoldsAll, HoldsHead, IsHeadOf, IsReader, ReadsPiece, StandsFor, asks_first, fault_of, stage_expects, stage_fault, waiting, was_told};
 ghost use Rattle.http_text.specs.Messages.{End, Reads, between, inside};
-ghost use Rattle.http_text.specs.Taken.{taken_after};
+ghost use Rattle.http_text.specs.Taken.{AsksBehind, taken_after};
 ghost use Rattle.http_text.specs.declared.follow.Progress.{Progress as At};
 ghost use Rattle.http_text.specs.declared.framing.FrameFault.{FrameFault as Fault};
+ghost use Rattle.http_text.specs.declared.framing.FrameFault.TheVariants.{OutOfMemory};
 ghost use Rattle.http_text.specs.declared.message.Kind.{Kind};
 ghost use Rattle.http_text.specs.declared.message.Message.{Message};
 ghost use Rattle.http_text.specs.declared.message.Message.TheVariants as forms;
@@ -55,6 +56,7 @@ pub struct MessageReader {
     pending: Vec<u8>,
     stage: Stage,
     queue: VecDeque<Message>,
+    told: bool,
 }
 
 impl Stage {
@@ -274,6 +276,7 @@ impl MessageReader {
         ensures kind { result.kind ≡ kind }
         ensures stands { StandsFor kind [] [] result }
         ensures fault { fault_of result ≡ None }
+        ensures told { was_told result ≡ false }
     {
         MessageReader {
             alloc,
@@ -282,6 +285,7 @@ impl MessageReader {
             pending: Vec::new(alloc),
             stage: at_start(),
             queue: VecDeque::new(alloc),
+            told: false,
         }
     }
 
@@ -300,6 +304,7 @@ impl MessageReader {
         ensures fault { IfErr result (λ fault. fault_of self.new ≡ Some fault) }
         // A fault that was met is answered again, want of memory among them.
         ensures again { (met : Fault) → fault_of self.old ≡ Some met → (result ≡ Err met) × (fault_of self.new ≡ Some met) }
+        ensures told { was_told self.new ≡ was_told self.old }
     {
         let stage = mem::replace(
             &mut self.stage,
@@ -343,8 +348,46 @@ impl MessageReader {
             → StandsFor self.old.kind bytes (taken_after taken result) self.new }
         ensures fault { fault_of self.new ≡ fault_of self.old }
         ensures reader { IsReader self.new }
+        ensures told { MatchOption result (was_told self.new ≡ was_told self.old) (λ _. was_told self.new ≡ false) }
     {
-        self.queue.pop_front()
+        let next = self.queue.pop_front();
+        if next.is_some() {
+            self.told = false;
+        }
+        next
+    }
+
+    // Whether the head of the next message asks for 100 Continue.
+    fn expects(&self) -> bool
+        ensures { result ≡ asks_first (waiting self.now) self.now.stage }
+    {
+        match self.queue.front() {
+            Some(message) => message.expects(),
+            None => self.stage.expects(),
+        }
+    }
+
+    /// Whether the head of the next message, or else that of the rest behind the last one, asks for 100 Continue before its body.
+    /// It answers so once for each head.
+    pub fn take_expect(&mut self) -> bool
+        requires { IsReader self.old }
+        ensures kind { self.new.kind ≡ self.old.kind }
+        ensures reader { IsReader self.new }
+        ensures stands { (bytes : List ℕ) (taken : List Message) → StandsFor self.old.kind bytes taken self.old → StandsFor self.old.kind bytes taken self.new }
+        ensures told { was_told self.new ≡ (was_told self.old || result) }
+        ensures once { IsTrue result → was_told self.old ≡ false }
+        ensures asks { IsTrue result → (bytes : List ℕ) (taken : List Message) → StandsFor self.old.kind bytes taken self.old
+            → AsksBehind self.old.kind bytes taken }
+        ensures quiet { result ≡ false → was_told self.old ≡ false → (bytes : List ℕ) (taken : List Message) → StandsFor self.old.kind bytes taken self.old
+            → ((waiting self.old ≡ []) × (fault_of self.old ≡ Some OutOfMemory)) ⊎ ¬ (AsksBehind self.old.kind bytes taken) }
+        ensures waiting { waiting self.new ≡ waiting self.old }
+        ensures fault { fault_of self.new ≡ fault_of self.old }
+    {
+        if self.told || !self.expects() {
+            return false;
+        }
+        self.told = true;
+        true
     }
 
     /// Tests that the stream may end here.

@@ -42,6 +42,7 @@ returns-in_err-make_room c =
       ok = rw p.1 tt;
       fault = rw (p.1, p.2, c.replace-stage.ensures.after) refl;
       again = λ met is. let was = faulty_stage c.args.self.now.stage met is in absurd (c.in_default.not-Faulty was.0 (c.replace-stage.ensures.value ∙ was.1));
+      told = refl;
     }
 
 pub read_piece-requires : goal.read_piece-requires
@@ -73,6 +74,7 @@ returns-in-Ok c =
       ok = no_fault c.args.self.now.kind _ _ next.0 next.1;
       fault = tt;
       again = λ met is. let was = faulty_stage c.args.self.now.stage met is in absurd (c.in_default.not-Faulty was.0 (c.replace-stage.ensures.value ∙ was.1));
+      told = refl;
     }
 
 pub returns-in-Err : goal.returns-in-Err
@@ -96,4 +98,5 @@ returns-in-Err c =
       ok = tt;
       fault = refl;
       again = λ met is. let was = faulty_stage c.args.self.now.stage met is in absurd (c.in_default.not-Faulty was.0 (c.replace-stage.ensures.value ∙ was.1));
+      told = refl;
     }
