@@ -1,5 +1,5 @@
 -- What stands behind the heads that are passed over is one place.
-use Rattle.std.proofs.Common.{◌≡◌, ℕ, ◌+◌, ◌-◌, ◌≤◌, List, [], ◌∷◌, ◌++◌, length, take, refl, sym, ap, ap₂, ◌∙◌, subst, arith, append_assoc, length-append, All, true≢false}
+use Rattle.std.proofs.Common.{◌≡◌, ℕ, ◌+◌, ◌-◌, ◌≤◌, List, [], ◌∷◌, ◌++◌, length, take, refl, sym, ap, ap₂, ◌∙◌, subst, arith, append_assoc, length-append, All, true≢false, inl}
 use Rattle.std.proofs.lemmas.List.{flat_map_more}
 use Rattle.std.proofs.lemmas.List.Elements.{All-head, All-tail, All-nil, All-cons, All-append}
 use Rattle.http_text.specs.Heads.{Head, most_head, print_head, print_heads, fields_of, ReadsHead, HasNoHead, IsInterim, is_interim, PassesOver, room_behind}
@@ -140,8 +140,8 @@ tells_behind kind rest passed text faults.OutOfMemory passes tells = tt
 tells_behind kind rest passed text faults.BadHead passes tells = (passed, text, passes, tells)
 tells_behind kind rest passed text faults.TooManyFields passes tells = (passed, text, passes, tells)
 tells_behind kind rest passed text faults.HeadTooLong passes tells = (passed, text, passes, tells)
-tells_behind kind rest passed text faults.BadHost passes tells = (passed, text, passes, tells)
-tells_behind kind rest passed text faults.TwoLengths passes tells = (passed, text, passes, tells)
-tells_behind kind rest passed text faults.BadLength passes tells = (passed, text, passes, tells)
-tells_behind kind rest passed text (faults.BodyTooLong size limit) passes tells = (passed, text, passes, tells)
-tells_behind kind rest passed text faults.BadChunk passes tells = (passed, text, passes, tells)
+tells_behind kind rest passed text faults.BadHost passes (head, behind, begins, is) = (passed, text, passes, (head, behind, begins, inl is))
+tells_behind kind rest passed text faults.TwoLengths passes (head, behind, begins, is) = (passed, text, passes, (head, behind, begins, inl is))
+tells_behind kind rest passed text faults.BadLength passes (head, behind, begins, is) = (passed, text, passes, (head, behind, begins, inl is))
+tells_behind kind rest passed text (faults.BodyTooLong size limit) passes (head, behind, begins, is) = (passed, text, passes, (head, behind, begins, inl is))
+tells_behind kind rest passed text faults.BadChunk passes (head, behind, begins, is) = (passed, text, passes, (head, behind, begins, inl is))

@@ -115,7 +115,7 @@ path_not_empty : (path rest : List ℕ) → path ≡ 47 ∷ rest → 0 < length 
 path_not_empty path rest is = let long = ap length is in omega arith
 
 request_with : List ℕ → List ℕ → List ℕ → Option (List ℕ) → RawRequest
-request_with method path body kind = record { method = method; path = path; http10 = false; close = false; content_type = kind; encoding = None; body = body }
+request_with method path body kind = record { method = method; path = path; http10 = false; close = false; expects = false; content_type = kind; encoding = None; body = body }
 
 again : (method path body host : List ℕ) (kind : Option (List ℕ)) → IsPrintable (request_with method path body kind) host
     → FitsReader (print_request (head_for (request_with method path body kind) host)) body → IsMessage Requests (request_text (request_with method path body kind) host) (forms.Request (request_with method path body kind))
@@ -143,7 +143,7 @@ again method path body host None p fits =
       faultless = refl;
       body = body;
       is_body = (ap length p.method.1, refl);
-      is_message = λ i. forms.Request (record { method = method; path = sym (path_again path p.path.0 p.path.1 plain) i; http10 = false; close = false; content_type = None; encoding = None; body = body });
+      is_message = λ i. forms.Request (record { method = method; path = sym (path_again path p.path.0 p.path.1 plain) i; http10 = false; close = false; expects = false; content_type = None; encoding = None; body = body });
     }
 again method path body host (Some kind) p fits =
     let kinds = AllPass-from_list_all is_visible kind p.method.1 in
@@ -177,6 +177,7 @@ again method path body host (Some kind) p fits =
         path = sym (path_again path p.path.0 p.path.1 plain) i;
         http10 = false;
         close = false;
+        expects = false;
         content_type = Some (sym (trim_word kind kinds) i);
         encoding = None;
         body = body;
@@ -188,13 +189,14 @@ pub printed_again : (r : RawRequest) (host : List ℕ) → IsPrintable r host �
 unfolding request_with
 printed_again r host p fits =
     let same : request_with r.method r.path r.body r.content_type ≡ r =
-    λ i. record { method = r.method; path = r.path; http10 = sym p.http11 i; close = sym p.stays i; content_type = r.content_type; encoding = sym p.encoding i; body = r.body } in
+    λ i. record { method = r.method; path = r.path; http10 = sym p.http11 i; close = sym p.stays i; expects = sym p.asks_nothing i; content_type = r.content_type; encoding = sym p.encoding i; body = r.body } in
     let plain : IsPrintable (request_with r.method r.path r.body r.content_type) host = record {
       method = p.method;
       path = p.path;
       host_bytes = p.host_bytes;
       http11 = refl;
       stays = refl;
+      asks_nothing = refl;
       encoding = refl;
     } in
     subst (λ (q : RawRequest). IsMessage Requests (request_text r host) (forms.Request q)) same (again r.method r.path r.body host r.content_type plain (record { head_fits = fits.head_fits; body_fits = fits.body_fits }))

@@ -1,15 +1,15 @@
 -- Facts about the steps of a reader.
-use Rattle.std.proofs.Common.{◌≡◌, ℕ, ◌-◌, ◌<◌, ◌≤◌, List, [], ◌∷◌, ◌++◌, length, take, Result, Ok, Err, refl, sym, ap, ◌∙◌, subst, inr, arith}
+use Rattle.std.proofs.Common.{◌≡◌, ℕ, Bool, true, false, ◌-◌, ◌<◌, ◌≤◌, List, [], ◌∷◌, ◌++◌, length, take, Result, Ok, Err, refl, sym, ap, ◌∙◌, subst, inl, inr, arith}
 use Rattle.std.specs.Global.{Vec}
 use Rattle.std.proofs.lemmas.List.{append-nil}
 use Rattle.std.proofs.lemmas.List.Elements.{All-nil}
 use Rattle.http_text.specs.Heads.{Head, request, reply, print_head, HasNoHead, IsBadHead, IsInterim, PassesOver, room_behind}
 use Rattle.http_text.specs.Chunks.{IsChunk}
-use Rattle.http_text.specs.Messages.{message_of, request_of, reply_of, BeginsWithHead, framing_behind, IsMessage, IsBody, IsFrameFault}
+use Rattle.http_text.specs.Messages.{message_of, request_of, reply_of, message_expects, head_expects, BeginsWithHead, BeginsWithGoodHead, framing_behind, IsMessage, IsBody, IsFrameFault}
 use Rattle.http_text.specs.Front.{TellsFaultAt}
 use Rattle.http_text.specs.Stages.{IsOpenHead, HoldsPart, TellsBodyFault, HeadStepIs, UsesSome}
 use Rattle.http_text.specs.declared.stage.HeadEnd.{HeadEnd}
-use Rattle.http_text.specs.Readers.{HoldsHead, HoldsBody, Holds, IsHeadOf, NextIs, BeginsBody, EndsHead, TellsFault}
+use Rattle.http_text.specs.Readers.{HoldsHead, HoldsBody, Holds, IsHeadOf, NextIs, BeginsBody, EndsHead, TellsFault, HasHeadFault, KnowsAsk, BreaksAs}
 use Rattle.http_text.specs.declared.framing.FrameFault.{FrameFault}
 use Rattle.http_text.specs.declared.framing.FrameFault.TheVariants as faults
 use Rattle.http_text.specs.declared.framing.Framing.{Framing}
@@ -31,6 +31,7 @@ use Rattle.http_text.proofs.HeadLaws.{nothing_read, some_head}
 use Rattle.http_text.proofs.GrowLemmas.{begins_grows}
 use Rattle.http_text.proofs.PassLemmas.{passes_none, passes_grow, passes_more, room_more, tells_behind}
 use Rattle.http_text.proofs.ChunkLemmas.{open_line}
+use Rattle.http_text.proofs.StayLemmas.{good_head_stays}
 
 -- no byte of a head has come
 pub open_head : (kind : Kind) (room : ℕ) → 0 < room → IsOpenHead kind room []
@@ -138,28 +139,80 @@ body_is_whole kind rest more message whole part old kept body held has is_body =
 }
 
 -- no body has a fault of a head
-body_fault_is_frames : (kind : Kind) (room : ℕ) (text behind : List ℕ) (head : Head) (framing : Framing) (fault : FrameFault) → BeginsWithHead kind room text head behind
-    → framing_behind head ≡ Ok framing → TellsBodyFault framing behind fault → TellsFaultAt kind room text fault
-body_fault_is_frames kind room text behind head framing faults.OutOfMemory begins ok bad = tt
-body_fault_is_frames kind room text behind head framing faults.BadHost begins ok bad = (head, behind, begins, inr (framing, ok, bad))
-body_fault_is_frames kind room text behind head framing faults.TwoLengths begins ok bad = (head, behind, begins, inr (framing, ok, bad))
-body_fault_is_frames kind room text behind head framing faults.BadLength begins ok bad = (head, behind, begins, inr (framing, ok, bad))
-body_fault_is_frames kind room text behind head framing (faults.BodyTooLong size limit) begins ok bad = (head, behind, begins, inr (framing, ok, bad))
-body_fault_is_frames kind room text behind head framing faults.BadChunk begins ok bad = (head, behind, begins, inr (framing, ok, bad))
-body_fault_is_frames kind room text behind head (Sized size) faults.BadHead begins ok bad = absurd bad
-body_fault_is_frames kind room text behind head (Sized size) faults.TooManyFields begins ok bad = absurd bad
-body_fault_is_frames kind room text behind head (Sized size) faults.HeadTooLong begins ok bad = absurd bad
-body_fault_is_frames kind room text behind head Chunked faults.BadHead begins ok bad = absurd bad.4
-body_fault_is_frames kind room text behind head Chunked faults.TooManyFields begins ok bad = absurd bad.4
-body_fault_is_frames kind room text behind head Chunked faults.HeadTooLong begins ok bad = absurd bad.4
+module _ (kind : Kind) (rest text behind : List ℕ) (passed : List Head) (head : Head) (passes : PassesOver kind rest passed text)
+    (begins : BeginsWithHead kind (room_behind passed) text head behind) where
+  body_fault_is_frames : (framing : Framing) (fault : FrameFault) → framing_behind head ≡ Ok framing → TellsBodyFault framing behind fault → TellsFault kind rest fault
+  body_fault_is_frames framing faults.OutOfMemory ok bad = tt
+  body_fault_is_frames framing faults.BadHost ok bad = (passed, text, passes, (head, behind, begins, inr (framing, ok, bad)))
+  body_fault_is_frames framing faults.TwoLengths ok bad = (passed, text, passes, (head, behind, begins, inr (framing, ok, bad)))
+  body_fault_is_frames framing faults.BadLength ok bad = (passed, text, passes, (head, behind, begins, inr (framing, ok, bad)))
+  body_fault_is_frames framing (faults.BodyTooLong size limit) ok bad = (passed, text, passes, (head, behind, begins, inr (framing, ok, bad)))
+  body_fault_is_frames framing faults.BadChunk ok bad = (passed, text, passes, (head, behind, begins, inr (framing, ok, bad)))
+  body_fault_is_frames (Sized size) faults.BadHead ok bad = absurd bad
+  body_fault_is_frames (Sized size) faults.TooManyFields ok bad = absurd bad
+  body_fault_is_frames (Sized size) faults.HeadTooLong ok bad = absurd bad
+  body_fault_is_frames Chunked faults.BadHead ok bad = absurd bad.4
+  body_fault_is_frames Chunked faults.TooManyFields ok bad = absurd bad.4
+  body_fault_is_frames Chunked faults.HeadTooLong ok bad = absurd bad.4
+
+made_expects : (message : Message) (head : Head) (body : List ℕ) → message ≡ message_of head body → head_expects head ≡ message_expects message
+made_expects message (request h) body is = sym (ap message_expects is)
+made_expects message (reply h) body is = sym (ap message_expects is)
+
+-- a message was read from a head that asks as it does
+pub good_head : (kind : Kind) (rest : List ℕ) (message : Message) (part : Part) (kept body : List ℕ) → HoldsBody kind rest message body part kept
+    → BeginsWithGoodHead kind rest (message_expects message)
+good_head kind rest message part kept body held = record {
+  passed = held.passed;
+  from = held.from;
+  passes = held.passes;
+  head = held.head;
+  behind = held.behind;
+  begins = held.begins;
+  framing = held.framing;
+  faultless = held.faultless;
+  asks_is = made_expects message held.head [] held.message_is;
+}
+
+pub message_head : (kind : Kind) (text more : List ℕ) (message : Message) → IsMessage kind text message → BeginsWithGoodHead kind (text ++ more) (message_expects message)
+message_head kind text more message one = good_head_stays kind text more (message_expects message) (record {
+  passed = one.passed;
+  from = one.from;
+  passes = one.passes;
+  head = one.head;
+  behind = one.behind;
+  begins = one.begins;
+  framing = one.framing;
+  faultless = one.faultless;
+  asks_is = made_expects message one.head one.body one.is_message;
+})
+
+knows_ask : (kind : Kind) (rest : List ℕ) (fault : FrameFault) (asks : Bool) → BeginsWithGoodHead kind rest asks → KnowsAsk kind rest fault asks
+knows_ask kind rest fault true good = good
+knows_ask kind rest fault false good = inr good
 
 -- a fault in a body is that of the rest
-pub body_fault_tells : (kind : Kind) (rest more : List ℕ) (message : Message) (part : Part) (old kept : List ℕ) (fault : FrameFault) (held : HoldsBody kind rest message kept part old)
-    → TellsBodyFault held.framing (held.behind ++ more) fault → TellsFault kind (rest ++ more) fault
-body_fault_tells kind rest more message part old kept fault held bad =
-    tells_behind kind (rest ++ more) held.passed (held.from ++ more) fault (passes_grow kind rest more held.passed held.from held.passes)
-    (body_fault_is_frames kind (room_behind held.passed) (held.from ++ more) (held.behind ++ more) held.head held.framing fault
-    (begins_grows kind (room_behind held.passed) held.from held.behind more held.head held.begins) held.faultless bad)
+pub body_breaks : (kind : Kind) (rest more : List ℕ) (message : Message) (part : Part) (old kept : List ℕ) (fault : FrameFault) (held : HoldsBody kind rest message kept part old)
+    → TellsBodyFault held.framing (held.behind ++ more) fault → BreaksAs kind (rest ++ more) (record { fault = fault; expects = message_expects message })
+body_breaks kind rest more message part old kept fault held bad = (
+  body_fault_is_frames kind (rest ++ more) (held.from ++ more) (held.behind ++ more) held.passed held.head (passes_grow kind rest more held.passed held.from held.passes)
+      (begins_grows kind (room_behind held.passed) held.from held.behind more held.head held.begins) held.framing fault held.faultless bad,
+  knows_ask kind (rest ++ more) fault (message_expects message)
+      (good_head_stays kind rest more (message_expects message) (good_head kind rest message part old kept held)),
+)
+
+-- and so is want of memory
+pub memory_breaks : (kind : Kind) (rest more : List ℕ) (message : Message) (part : Part) (old kept : List ℕ) (fault : FrameFault) → fault ≡ faults.OutOfMemory
+    → HoldsBody kind rest message kept part old → BreaksAs kind (rest ++ more) (record { fault = fault; expects = message_expects message })
+memory_breaks kind rest more message part old kept fault is held = (
+  subst (λ (f : FrameFault). TellsFault kind (rest ++ more) f) (sym is) tt,
+  knows_ask kind (rest ++ more) fault (message_expects message)
+      (good_head_stays kind rest more (message_expects message) (good_head kind rest message part old kept held)),
+)
+
+-- a fault of a head breaks the stream
+pub head_breaks : (kind : Kind) (rest : List ℕ) (fault : FrameFault) → HasHeadFault kind rest fault → BreaksAs kind rest (record { fault = fault; expects = false })
+head_breaks kind rest fault bad = (tells_behind kind rest bad.0 bad.1 fault bad.2 bad.3, inl bad)
 
 -- ---- behind a step in a head
 
@@ -228,10 +281,9 @@ next_again kind text pending old new stage empty next = subst (λ (p : List ℕ)
 
 -- the fault of what is kept is that of the rest
 pub head_fault_tells : (kind : Kind) (rest old piece : List ℕ) (room : ℕ) (progress : Progress) (fault : FrameFault) (held : HoldsHead kind rest room progress old)
-    → TellsFaultAt kind room (old ++ piece) fault → TellsFault kind (rest ++ piece) fault
+    → TellsFaultAt kind room (old ++ piece) fault → HasHeadFault kind (rest ++ piece) fault
 head_fault_tells kind rest old piece room progress fault held tells =
-    tells_behind kind (rest ++ piece) held.passed (old ++ piece) fault (passes_grow kind rest piece held.passed old held.passes)
-    (subst (λ (n : ℕ). TellsFaultAt kind n (old ++ piece) fault) held.room_is tells)
+    (held.passed, old ++ piece, passes_grow kind rest piece held.passed old held.passes, subst (λ (n : ℕ). TellsFaultAt kind n (old ++ piece) fault) held.room_is tells)
 
 -- a step in a head uses some of the piece
 pub uses_some : (kind : Kind) (room used : ℕ) (old new piece : List ℕ) (end : HeadEnd) → HeadStepIs kind room old new piece (Ok (used, end)) → UsesSome piece used
@@ -243,7 +295,7 @@ uses_some kind room used old new piece (ends.Whole message framing) step = step.
 pub ends_body : (kind : Kind) (text pending : List ℕ) (old new : List Message) (r : Result Stage FrameFault) → pending ≡ [] → BeginsBody kind text old new r
     → EndsHead kind text pending old new r
 ends_body kind text pending old new (Ok stage) empty began = next_again kind text pending old new stage empty began
-ends_body kind text pending old new (Err fault) empty (same, is) = (same, subst (λ (f : FrameFault). TellsFault kind text f) (sym is) tt)
+ends_body kind text pending old new (Err fault) empty (same, is) = (same, subst (λ (f : FrameFault). HasHeadFault kind text f) (sym is) ([], text, passes_none kind text, tt))
 
 -- in a head the limit is at most the whole one
 pub room_fits : (kind : Kind) (rest pending : List ℕ) (room : ℕ) (progress : Progress) → HoldsHead kind rest room progress pending → room ≤ 16384

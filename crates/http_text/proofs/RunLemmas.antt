@@ -1,5 +1,5 @@
 -- Facts about the messages of more and more bytes.
-use Rattle.std.proofs.Common.{◌≡◌, ◌≢◌, ℕ, ◌+◌, ◌-◌, ◌<◌, ◌≤◌, ◌⊎◌, List, [], ◌∷◌, ◌++◌, length, take, drop, Option, None, Some, Ok, Err, refl, sym, ap, ◌∙◌, subst, inl, inr, arith, append_assoc, length-append}
+use Rattle.std.proofs.Common.{◌≡◌, ◌≢◌, ℕ, Bool, false, ◌+◌, ◌-◌, ◌<◌, ◌≤◌, ◌⊎◌, List, [], ◌∷◌, ◌++◌, length, take, drop, Option, None, Some, Ok, Err, refl, sym, ap, ◌∙◌, subst, inl, inr, arith, append_assoc, length-append}
 use Rattle.std.specs.Prelude.{IfNone, IfSome}
 use Rattle.std.proofs.lemmas.List.{append-nil, take_rest, take-append-drop}
 use Rattle.http_text.specs.Heads.{print_head, print_heads}
@@ -8,13 +8,15 @@ use Rattle.http_text.specs.Messages.{IsMessage, AreMessages, Reads, between, ins
 use Rattle.http_text.proofs.FaultLemmas.{open_no_fault}
 use Rattle.http_text.proofs.GrowLemmas.{lt_or_le}
 use Rattle.http_text.proofs.OpenLemmas.{open_no_message}
-use Rattle.http_text.proofs.StayLemmas.{tells_stays}
-use Rattle.http_text.specs.Readers.{TellsFault, HoldsHead, Holds, CanGoOn, NextIs, AdvanceIs, HoldsAll, HoldsFaulty, HoldsStage, stage_fault, Decides}
+use Rattle.http_text.proofs.StayLemmas.{broken_stays}
+use Rattle.http_text.proofs.PassLemmas.{passes_none}
+use Rattle.http_text.specs.Readers.{TellsFault, BreaksAs, HoldsHead, Holds, CanGoOn, NextIs, AdvanceIs, HoldsAll, HoldsFaulty, HoldsStage, stage_fault, Decides}
 use Rattle.http_text.specs.declared.framing.FrameFault.{FrameFault}
 use Rattle.http_text.specs.declared.framing.FrameFault.TheVariants as faults
 use Rattle.http_text.specs.declared.message.Message.{Message}
 use Rattle.http_text.specs.declared.message.Kind.{Kind}
 use Rattle.http_text.specs.declared.follow.Progress.{Progress}
+use Rattle.http_text.specs.declared.reader.Broken.{Broken}
 use Rattle.http_text.specs.declared.reader.Stage.{Stage}
 use Rattle.http_text.specs.declared.reader.Stage.TheVariants as stages
 use Rattle.http_text.specs.declared.framing.FrameFault.TheVariants.{OutOfMemory}
@@ -37,10 +39,10 @@ messages_last kind [] bytes rest message is one = (rest, [], is ∙ sym (append-
 messages_last kind (first ∷ messages) bytes rest message (text, behind, is, it, others) one = (text, behind, is, it, messages_last kind messages behind rest message others one)
 
 -- what is known of the stage after a step
-pub goes_on : (kind : Kind) (rest piece : List ℕ) (old new : List Message) (pending : List ℕ) (used : ℕ) (stage : Stage)
-    → AdvanceIs kind rest piece old new pending (Ok (used, stage)) → CanGoOn kind stage pending
-goes_on kind rest piece old new pending used stage (some, inl next) = (rest ++ take used piece, next.1)
-goes_on kind rest piece old new pending used stage (some, inr next) = ([], next.3)
+pub goes_on : (kind : Kind) (asks : Bool) (rest piece : List ℕ) (old new : List Message) (pending : List ℕ) (used : ℕ) (stage : Stage)
+    → AdvanceIs kind asks rest piece old new pending (Ok (used, stage)) → CanGoOn kind stage pending
+goes_on kind asks rest piece old new pending used stage (some, inl next) = (rest ++ take used piece, next.1)
+goes_on kind asks rest piece old new pending used stage (some, inr next) = ([], next.3)
 
 -- a step leads from all the bytes before to those with what it used
 pub next_all : (kind : Kind) (bytes rest : List ℕ) (taken : List Message) (old new : List Message) (stage : Stage) (pending : List ℕ)
@@ -60,21 +62,21 @@ rest_of_piece piece front left used is =
     ∙ ap (λ (t : List ℕ). (front ++ take used left) ++ t) (sym (take_rest left used))
 
 -- one step more
-pub step_all : (kind : Kind) (bytes front left : List ℕ) (taken : List Message) (old new : List Message) (before after : Stage) (kept pending : List ℕ) (used : ℕ)
+pub step_all : (kind : Kind) (asks : Bool) (bytes front left : List ℕ) (taken : List Message) (old new : List Message) (before after : Stage) (kept pending : List ℕ) (used : ℕ)
     → HoldsAll kind (bytes ++ front) taken old before kept
-    → ((rest : List ℕ) → Holds kind before kept rest → AdvanceIs kind rest left old new pending (Ok (used, after)))
+    → ((rest : List ℕ) → Holds kind before kept rest → AdvanceIs kind asks rest left old new pending (Ok (used, after)))
     → HoldsAll kind (bytes ++ (front ++ take used left)) taken new after pending
-step_all kind bytes front left taken old new before after kept pending used (rest, are, held) step =
+step_all kind asks bytes front left taken old new before after kept pending used (rest, are, held) step =
     subst (λ (b : List ℕ). HoldsAll kind b taken new after pending) (append_assoc bytes front (take used left))
     (next_all kind ((bytes ++ front) ++ take used left) (rest ++ take used left) taken old new after pending
     (messages_grow kind (taken ++ old) (bytes ++ front) rest (take used left) are) (step rest held).1)
 
 -- a step meets a fault
-pub fault_all : (kind : Kind) (bytes piece front left : List ℕ) (taken : List Message) (old new : List Message) (before : Stage) (kept pending : List ℕ) (fault : FrameFault)
+pub fault_all : (kind : Kind) (asks : Bool) (bytes piece front left : List ℕ) (taken : List Message) (old new : List Message) (before : Stage) (kept pending : List ℕ) (fault : FrameFault)
     → piece ≡ front ++ left → HoldsAll kind (bytes ++ front) taken old before kept
-    → ((rest : List ℕ) → Holds kind before kept rest → AdvanceIs kind rest left old new pending (Err fault))
-    → HoldsFaulty kind (bytes ++ piece) taken new fault
-fault_all kind bytes piece front left taken old new before kept pending fault is (rest, are, held) step =
+    → ((rest : List ℕ) → Holds kind before kept rest → AdvanceIs kind asks rest left old new pending (Err fault))
+    → HoldsFaulty kind (bytes ++ piece) taken new (record { fault = fault; expects = asks })
+fault_all kind asks bytes piece front left taken old new before kept pending fault is (rest, are, held) step =
     let failed = step rest held in
     let whole : (bytes ++ front) ++ left ≡ bytes ++ piece = append_assoc bytes front left ∙ ap (λ (t : List ℕ). bytes ++ t) (sym is) in (
       rest ++ left,
@@ -93,7 +95,7 @@ all_read kind bytes piece front (b ∷ left) taken queue stage pending is none a
 
 -- ---- the fault
 
-pub not_faulty : (kind : Kind) (stage : Stage) (pending rest : List ℕ) → ((fault : FrameFault) → stage ≡ stages.Faulty fault → ⊥) → HoldsStage kind stage pending rest → Holds kind stage pending rest
+pub not_faulty : (kind : Kind) (stage : Stage) (pending rest : List ℕ) → ((broken : Broken) → stage ≡ stages.Faulty broken → ⊥) → HoldsStage kind stage pending rest → Holds kind stage pending rest
 not_faulty kind (stages.Head room progress) pending rest good held = held
 not_faulty kind (stages.Body message body part) pending rest good held = held
 not_faulty kind (stages.Faulty fault) pending rest good held = absurd (good fault refl)
@@ -108,28 +110,29 @@ no_fault kind (stages.Head room progress) pending rest held = refl
 no_fault kind (stages.Body message body part) pending rest held = refl
 no_fault kind (stages.Faulty fault) pending rest held = absurd held
 
--- a stage with a fault is that fault
-pub faulty_stage : (stage : Stage) (fault : FrameFault) → stage_fault stage ≡ Some fault → stage ≡ stages.Faulty fault
+-- a stage with a fault was broken by it
+pub faulty_stage : (stage : Stage) (fault : FrameFault) → stage_fault stage ≡ Some fault → (broken : Broken) × (stage ≡ stages.Faulty broken)
 faulty_stage (stages.Head room progress) fault is = cc
 faulty_stage (stages.Body message body part) fault is = cc
-faulty_stage (stages.Faulty other) fault is = let same : other ≡ fault = cc in ap stages.Faulty same
+faulty_stage (stages.Faulty broken) fault is = (broken, refl)
 
-pub same_fault : (one two : FrameFault) → stages.Faulty one ≡ stages.Faulty two → one ≡ two
-same_fault one two same = cc
+pub same_fault : (stage : Stage) (broken : Broken) (fault : FrameFault) → stage ≡ stages.Faulty broken → stage_fault stage ≡ Some fault → broken.fault ≡ fault
+same_fault stage broken fault is met = let both : Some broken.fault ≡ Some fault = sym (ap stage_fault is) ∙ met in cc
 
 -- a fault stays where more bytes come
-pub fault_again : (kind : Kind) (bytes piece rest : List ℕ) (messages : List Message) (fault : FrameFault) → AreMessages kind bytes messages rest → TellsFault kind rest fault
-    → (after : List ℕ) × AreMessages kind (bytes ++ piece) messages after × TellsFault kind after fault
-fault_again kind bytes piece rest messages fault are tells = (rest ++ piece, messages_grow kind messages bytes rest piece are, tells_stays kind rest piece fault tells)
+pub fault_again : (kind : Kind) (bytes piece rest : List ℕ) (messages : List Message) (broken : Broken) → AreMessages kind bytes messages rest → BreaksAs kind rest broken
+    → (after : List ℕ) × AreMessages kind (bytes ++ piece) messages after × BreaksAs kind after broken
+fault_again kind bytes piece rest messages broken are breaks = (rest ++ piece, messages_grow kind messages bytes rest piece are, broken_stays kind rest piece broken breaks)
 
 -- where memory ran out nothing more is known
-pub no_memory : (kind : Kind) (bytes piece rest pending : List ℕ) (messages : List Message) (stage : Stage) → stage ≡ stages.Faulty OutOfMemory → AreMessages kind bytes messages rest
+no_memory_breaks : (kind : Kind) (rest : List ℕ) → BreaksAs kind rest (record { fault = OutOfMemory; expects = false })
+no_memory_breaks kind rest = (tt, inl ([], rest, passes_none kind rest, tt))
+
+pub no_memory : (kind : Kind) (bytes piece rest pending : List ℕ) (messages : List Message) (stage : Stage) → stage ≡ stages.Faulty (record { fault = OutOfMemory; expects = false })
+    → AreMessages kind bytes messages rest
     → (after : List ℕ) × AreMessages kind (bytes ++ piece) messages after × HoldsStage kind stage pending after
 no_memory kind bytes piece rest pending messages stage is are =
-    (rest ++ piece, messages_grow kind messages bytes rest piece are, subst (λ (s : Stage). HoldsStage kind s pending (rest ++ piece)) (sym is) tt)
-
-pub no_memory_held : (kind : Kind) (pending : List ℕ) (stage : Stage) → stage ≡ stages.Faulty OutOfMemory → (rest : List ℕ) × HoldsStage kind stage pending rest
-no_memory_held kind pending stage is = ([], subst (λ (s : Stage). HoldsStage kind s pending []) (sym is) tt)
+    (rest ++ piece, messages_grow kind messages bytes rest piece are, subst (λ (s : Stage). HoldsStage kind s pending (rest ++ piece)) (sym is) (no_memory_breaks kind (rest ++ piece)))
 
 -- ---- the end
 

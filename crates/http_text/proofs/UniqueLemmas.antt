@@ -45,7 +45,7 @@ body_unique Chunked a b x y more other (c, is_c, a_is, x_is) (d, is_d, b_is, y_i
     (x_is ∙ ap data_of place.0 ∙ sym y_is, section.2)
 
 -- two messages at the front of a text are one
-message_same : (kind : Kind) (a b more other : List ℕ) (x y : Message) → IsMessage kind a x → IsMessage kind b y → a ++ more ≡ b ++ other → (x ≡ y) × (more ≡ other)
+pub message_same : (kind : Kind) (a b more other : List ℕ) (x y : Message) → IsMessage kind a x → IsMessage kind b y → a ++ more ≡ b ++ other → (x ≡ y) × (more ≡ other)
 message_same kind a b more other x y one two is =
     let grown = begins_grows kind (room_behind one.passed) one.from one.behind more one.head one.begins in
     let longer = begins_grows kind (room_behind two.passed) two.from two.behind other two.head two.begins in

@@ -5,12 +5,13 @@ use Rattle.httparse.specs.declared.spans.RequestSpans.{RequestSpans}
 use Rattle.httparse.specs.declared.spans.ResponseSpans.{ResponseSpans}
 use Rattle.http_text.specs.Heads.{Head, print_head, ReadsHead, HasNoHead, IsBadHead, IsInterim}
 use Rattle.http_text.specs.Fields.{Row, values_of, first_of, closes}
+use Rattle.http_text.specs.Framing.{expects}
 use Rattle.http_text.specs.Messages.{message_of, path_of, BeginsWithHead, framing_behind, IsFaultAt}
 use Rattle.http_text.specs.declared.message.Kind.{Kind}
 use Rattle.http_text.specs.declared.message.RawRequest.{RawRequest}
 use Rattle.http_text.specs.declared.message.RawReply.{RawReply}
 use Rattle.http_text.specs.declared.framing.FrameFault.{FrameFault}
-use Rattle.http_text.specs.declared.framing.FrameFault.TheVariants.{OutOfMemory}
+use Rattle.http_text.specs.declared.framing.FrameFault.TheVariants.{BadHead, TooManyFields, HeadTooLong, OutOfMemory}
 use Rattle.http_text.specs.declared.front.Front.{Front}
 use Rattle.http_text.specs.declared.front.Front.TheVariants.{Whole, Interim, Open}
 
@@ -21,6 +22,7 @@ request_at text head rows = record {
   path = path_of (span_bytes text head.path);
   http10 = head.version == 0;
   close = closes head.version rows;
+  expects = expects head.version rows;
   content_type = first_of (values_of (codes "content-type") rows);
   encoding = first_of (values_of (codes "content-encoding") rows);
   body = [];
@@ -35,10 +37,17 @@ reply_at head rows = record {
   body = [];
 }
 
--- the fault is that of the text, unless memory ran out
+-- the text begins with a head, and this is its first fault
+abbrev pub IsOwnFault : Kind → ℕ → List ℕ → FrameFault → Type 0
+IsOwnFault kind room text fault = (head : Head) × (behind : List ℕ) × BeginsWithHead kind room text head behind × (framing_behind head ≡ Err fault)
+
+-- the fault is that of the text's head, unless memory ran out
 abbrev pub TellsFaultAt : Kind → ℕ → List ℕ → FrameFault → Type 0
 TellsFaultAt kind room text OutOfMemory = Unit {0}
-TellsFaultAt kind room text fault = IsFaultAt kind room text fault
+TellsFaultAt kind room text BadHead = IsFaultAt kind room text BadHead
+TellsFaultAt kind room text TooManyFields = IsFaultAt kind room text TooManyFields
+TellsFaultAt kind room text HeadTooLong = IsFaultAt kind room text HeadTooLong
+TellsFaultAt kind room text fault = IsOwnFault kind room text fault
 
 -- what was read is what stands at the front
 abbrev pub FrontIs : Kind → ℕ → List ℕ → Result Front FrameFault → Type 0

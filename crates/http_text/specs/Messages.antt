@@ -1,10 +1,10 @@
 -- The messages of a stream, requests or replies, and how it ends.
-use Rattle.std.specs.Prelude.{◌≡◌, ◌≢◌, ◌⊎◌, ◌≤◌, ◌==◌, ℕ, false, List, [], ◌∷◌, ◌++◌, length, take, drop, Result, Ok, Err, codes, nat_eq, if◌then◌else◌}
+use Rattle.std.specs.Prelude.{◌≡◌, ◌≢◌, ◌⊎◌, ◌≤◌, ◌==◌, ℕ, Bool, false, List, [], ◌∷◌, ◌++◌, length, take, drop, Result, Ok, Err, codes, nat_eq, if◌then◌else◌}
 use Rattle.std.specs.List.{starts_with}
 use Rattle.httparse.specs.Grammar.{RequestHead, ResponseHead, status_code}
 use Rattle.http_text.specs.Heads.{Head, request, reply, print_head, fields_of, minor_of, most_fields, ReadsHead, HasNoHead, HasTooManyFields, IsBadHead, is_interim, PassesOver, room_behind}
 use Rattle.http_text.specs.Fields.{rows_of, values_of, first_of, closes}
-use Rattle.http_text.specs.Framing.{framing_of}
+use Rattle.http_text.specs.Framing.{framing_of, expects}
 use Rattle.http_text.specs.Chunks.{ChunkedBody, IsChunkedBody, print_chunked, data_of, IsChunkedFault}
 use Rattle.http_text.specs.declared.framing.FrameFault.{FrameFault}
 use Rattle.http_text.specs.declared.framing.FrameFault.TheVariants.{BadHead, TooManyFields, HeadTooLong, OutOfMemory}
@@ -42,6 +42,7 @@ request_of head body = record {
   path = path_of head.target;
   http10 = head.minor == 0;
   close = closes head.minor (rows_of head.fields);
+  expects = expects head.minor (rows_of head.fields);
   content_type = first_of (values_of (codes "content-type") (rows_of head.fields));
   encoding = first_of (values_of (codes "content-encoding") (rows_of head.fields));
   body = body;
@@ -60,6 +61,15 @@ abbrev pub message_of : Head → List ℕ → Message
 message_of (request head) body = forms.Request (request_of head body)
 message_of (reply head) body = forms.Reply (reply_of head body)
 
+-- whether a head asks for 100 Continue
+abbrev pub head_expects : Head → Bool
+head_expects (request head) = expects head.minor (rows_of head.fields)
+head_expects (reply head) = false
+
+abbrev pub message_expects : Message → Bool
+message_expects (forms.Request asked) = asked.expects
+message_expects (forms.Reply given) = false
+
 -- the kind of a head
 abbrev pub kind_of : Head → Kind
 kind_of (request head) = Requests
@@ -75,6 +85,18 @@ pub record BeginsWithHead (kind : Kind) (room : ℕ) (text : List ℕ) (head : H
   pub short : length (print_head head) ≤ room
   pub few : length (fields_of head) ≤ most_fields
   pub final : is_interim head ≡ false
+
+-- the text begins with what is passed over and a whole head without a fault, which asks for 100 Continue or doesn't
+pub record BeginsWithGoodHead (kind : Kind) (text : List ℕ) (asks : Bool) : Type 0 where
+  pub passed : List Head
+  pub from : List ℕ
+  pub passes : PassesOver kind text passed from
+  pub head : Head
+  pub behind : List ℕ
+  pub begins : BeginsWithHead kind (room_behind passed) from head behind
+  pub framing : Framing
+  pub faultless : framing_behind head ≡ Ok framing
+  pub asks_is : head_expects head ≡ asks
 
 -- the text is that body, by its framing
 abbrev pub IsBody : Framing → List ℕ → List ℕ → Type 0

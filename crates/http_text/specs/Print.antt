@@ -54,6 +54,7 @@ pub record IsPrintable (request : RawRequest) (host : List ℕ) : Type 0 where
   pub host_bytes : list_all is_visible host ≡ true
   pub http11 : request.http10 ≡ false
   pub stays : request.close ≡ false
+  pub asks_nothing : request.expects ≡ false
   pub encoding : request.encoding ≡ None
 
 -- a head and a body within the limits of a reader

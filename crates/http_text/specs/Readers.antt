@@ -1,8 +1,9 @@
 -- What a reader stands for.
-use Rattle.std.specs.Prelude.{◌≡◌, ◌⊎◌, ℕ, List, [], ◌∷◌, ◌++◌, take, Option, Some, None, Result, Ok, Err}
+use Rattle.std.specs.Prelude.{◌≡◌, ◌⊎◌, ℕ, Bool, true, false, List, [], ◌∷◌, ◌++◌, take, Option, Some, None, Result, Ok, Err}
 use Rattle.http_text.specs.Heads.{Head, PassesOver, room_behind}
-use Rattle.http_text.specs.Messages.{message_of, BeginsWithHead, framing_behind, IsMessage, IsFrameFault, AreMessages, Reads, between, inside, faulty}
+use Rattle.http_text.specs.Messages.{message_of, message_expects, BeginsWithHead, BeginsWithGoodHead, framing_behind, IsMessage, IsFrameFault, AreMessages, Reads, between, inside, faulty}
 use Rattle.http_text.specs.Follow.{Follows}
+use Rattle.http_text.specs.Front.{TellsFaultAt}
 use Rattle.http_text.specs.declared.follow.Progress.{Progress}
 use Rattle.http_text.specs.Stages.{IsOpenHead, HoldsPart, UsesSome}
 use Rattle.http_text.specs.declared.framing.FrameFault.{FrameFault}
@@ -11,6 +12,7 @@ use Rattle.http_text.specs.declared.framing.Framing.{Framing}
 use Rattle.http_text.specs.declared.message.Kind.{Kind}
 use Rattle.http_text.specs.declared.message.Message.{Message}
 use Rattle.http_text.specs.declared.stage.Part.{Part}
+use Rattle.http_text.specs.declared.reader.Broken.{Broken}
 use Rattle.http_text.specs.declared.reader.Stage.{Stage}
 use Rattle.http_text.specs.declared.reader.Stage.TheVariants.{Head as InHead, Body, Faulty}
 use Rattle.http_text.specs.declared.reader.MessageReader.{MessageReader}
@@ -40,16 +42,28 @@ pub record HoldsBody (kind : Kind) (rest : List ℕ) (message : Message) (body :
 abbrev pub Holds : Kind → Stage → List ℕ → List ℕ → Type 0
 Holds kind (InHead room progress) pending rest = HoldsHead kind rest room progress pending
 Holds kind (Body message body part) pending rest = HoldsBody kind rest message body.items part pending
-Holds kind (Faulty fault) pending rest = ⊥
+Holds kind (Faulty broken) pending rest = ⊥
 
 -- the fault is that of the rest, unless memory ran out
 abbrev pub TellsFault : Kind → List ℕ → FrameFault → Type 0
 TellsFault kind rest OutOfMemory = Unit {0}
 TellsFault kind rest fault = IsFrameFault kind rest fault
 
+-- the rest is what was passed over and a head with this fault, unless memory ran out
+abbrev pub HasHeadFault : Kind → List ℕ → FrameFault → Type 0
+HasHeadFault kind rest fault = (passed : List Head) × (text : List ℕ) × PassesOver kind rest passed text × TellsFaultAt kind (room_behind passed) text fault
+
+-- whether the head in front of a fault is whole, without a fault, and asks for 100 Continue
+abbrev pub KnowsAsk : Kind → List ℕ → FrameFault → Bool → Type 0
+KnowsAsk kind rest fault true = BeginsWithGoodHead kind rest true
+KnowsAsk kind rest fault false = HasHeadFault kind rest fault ⊎ BeginsWithGoodHead kind rest false
+
+abbrev pub BreaksAs : Kind → List ℕ → Broken → Type 0
+BreaksAs kind rest broken = TellsFault kind rest broken.fault × KnowsAsk kind rest broken.fault broken.expects
+
 -- and else it has this fault, unless memory ran out
 abbrev pub HoldsStage : Kind → Stage → List ℕ → List ℕ → Type 0
-HoldsStage kind (Faulty fault) pending rest = TellsFault kind rest fault
+HoldsStage kind (Faulty broken) pending rest = BreaksAs kind rest broken
 HoldsStage kind (InHead room progress) pending rest = Holds kind (InHead room progress) pending rest
 HoldsStage kind (Body message body part) pending rest = Holds kind (Body message body part) pending rest
 
@@ -64,9 +78,9 @@ NextIs kind text old new stage pending =
     ⊎ ((message : Message) × (new ≡ old ++ message ∷ []) × IsMessage kind text message × Holds kind stage pending [])
 
 -- a step used some of a piece, or met a fault
-abbrev pub AdvanceIs : Kind → List ℕ → List ℕ → List Message → List Message → List ℕ → Result (ℕ × Stage) FrameFault → Type 0
-AdvanceIs kind rest piece old new pending (Ok (used, stage)) = UsesSome piece used × NextIs kind (rest ++ take used piece) old new stage pending
-AdvanceIs kind rest piece old new pending (Err fault) = (new ≡ old) × TellsFault kind (rest ++ piece) fault
+abbrev pub AdvanceIs : Kind → Bool → List ℕ → List ℕ → List Message → List Message → List ℕ → Result (ℕ × Stage) FrameFault → Type 0
+AdvanceIs kind asks rest piece old new pending (Ok (used, stage)) = UsesSome piece used × NextIs kind (rest ++ take used piece) old new stage pending
+AdvanceIs kind asks rest piece old new pending (Err fault) = (new ≡ old) × BreaksAs kind (rest ++ piece) (record { fault = fault; expects = asks })
 
 -- the text is what is passed over and a whole head without a fault, of this message
 pub record IsHeadOf (kind : Kind) (text : List ℕ) (message : Message) (framing : Framing) : Type 0 where
@@ -86,20 +100,20 @@ BeginsBody kind text old new (Err fault) = (new ≡ old) × (fault ≡ OutOfMemo
 -- where a reader is behind a step in a head, or the fault of the text
 abbrev pub EndsHead : Kind → List ℕ → List ℕ → List Message → List Message → Result Stage FrameFault → Type 0
 EndsHead kind text pending old new (Ok stage) = NextIs kind text old new stage pending
-EndsHead kind text pending old new (Err fault) = (new ≡ old) × TellsFault kind text fault
+EndsHead kind text pending old new (Err fault) = (new ≡ old) × HasHeadFault kind text fault
 
 -- the bytes are the messages taken and those that wait, and then a rest of which this much is kept
 abbrev pub HoldsAll : Kind → List ℕ → List Message → List Message → Stage → List ℕ → Type 0
 HoldsAll kind bytes taken queue stage pending = (rest : List ℕ) × AreMessages kind bytes (taken ++ queue) rest × Holds kind stage pending rest
 
 -- the bytes are the messages taken and those that wait, and then a rest with this fault
-abbrev pub HoldsFaulty : Kind → List ℕ → List Message → List Message → FrameFault → Type 0
-HoldsFaulty kind bytes taken queue fault = (rest : List ℕ) × AreMessages kind bytes (taken ++ queue) rest × TellsFault kind rest fault
+abbrev pub HoldsFaulty : Kind → List ℕ → List Message → List Message → Broken → Type 0
+HoldsFaulty kind bytes taken queue broken = (rest : List ℕ) × AreMessages kind bytes (taken ++ queue) rest × BreaksAs kind rest broken
 
 -- a piece was read
-abbrev pub ReadsPiece : Kind → List ℕ → List Message → List Message → List ℕ → Result Stage FrameFault → Type 0
+abbrev pub ReadsPiece : Kind → List ℕ → List Message → List Message → List ℕ → Result Stage Broken → Type 0
 ReadsPiece kind bytes taken queue pending (Ok stage) = HoldsAll kind bytes taken queue stage pending
-ReadsPiece kind bytes taken queue pending (Err fault) = HoldsFaulty kind bytes taken queue fault
+ReadsPiece kind bytes taken queue pending (Err broken) = HoldsFaulty kind bytes taken queue broken
 
 -- the messages that wait to be taken
 abbrev pub waiting : MessageReader → List Message
@@ -109,10 +123,25 @@ waiting reader = reader.queue.items
 abbrev pub stage_fault : Stage → Option FrameFault
 stage_fault (InHead room progress) = None
 stage_fault (Body message body part) = None
-stage_fault (Faulty fault) = Some fault
+stage_fault (Faulty broken) = Some broken.fault
+
+-- whether the head behind which the stage is asks for 100 Continue
+abbrev pub stage_expects : Stage → Bool
+stage_expects (InHead room progress) = false
+stage_expects (Body message body part) = message_expects message
+stage_expects (Faulty broken) = broken.expects
 
 abbrev pub fault_of : MessageReader → Option FrameFault
 fault_of reader = stage_fault reader.stage
+
+-- it was answered that the head at the front asks for 100 Continue
+abbrev pub was_told : MessageReader → Bool
+was_told reader = reader.told
+
+-- whether the head of the next message that waits asks for it, or else the head of the stage
+abbrev pub asks_first : List Message → Stage → Bool
+asks_first [] stage = stage_expects stage
+asks_first (message ∷ messages) stage = message_expects message
 
 -- the reader was given these bytes, and of their messages these were taken
 abbrev pub StandsFor : Kind → List ℕ → List Message → MessageReader → Type 0

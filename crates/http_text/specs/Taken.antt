@@ -1,6 +1,8 @@
 -- What callers have taken of a reader.
-use Rattle.std.specs.Prelude.{ℕ, List, [], ◌∷◌, ◌++◌, map, Option, Some, None}
+use Rattle.std.specs.Prelude.{ℕ, true, List, [], ◌∷◌, ◌++◌, map, Option, Some, None}
+use Rattle.http_text.specs.Messages.{AreMessages, BeginsWithGoodHead}
 use Rattle.http_text.specs.Readers.{StandsFor}
+use Rattle.http_text.specs.declared.message.Kind.{Kind}
 use Rattle.http_text.specs.declared.message.Kind.TheVariants.{Requests, Replies}
 use Rattle.http_text.specs.declared.message.Message.{Message}
 use Rattle.http_text.specs.declared.message.Message.TheVariants as forms
@@ -22,6 +24,13 @@ GaveRequests bytes taken reader = StandsFor Requests bytes (request_messages tak
 -- and the same of replies
 abbrev pub GaveReplies : List ℕ → List RawReply → MessageReader → Type 0
 GaveReplies bytes taken reader = StandsFor Replies bytes (reply_messages taken) reader
+
+-- behind the messages taken stand what is passed over and a whole head without a fault, which asks for 100 Continue
+abbrev pub AsksBehind : Kind → List ℕ → List Message → Type 0
+AsksBehind kind bytes taken = (rest : List ℕ) × AreMessages kind bytes taken rest × BeginsWithGoodHead kind rest true
+
+abbrev pub AsksAtFront : List ℕ → List RawRequest → Type 0
+AsksAtFront bytes taken = AsksBehind Requests bytes (request_messages taken)
 
 -- what was taken after a call of take
 abbrev pub taken_after : {T : Type 0} → List T → Option T → List T

@@ -1,11 +1,12 @@
 //! How the body of a message is framed.
-ghost use Rattle.std.specs.Prelude.{◌≡◌, List, ℕ, ◌≤◌, All, length, map, Option, Some, None, true};
+ghost use Rattle.std.specs.Prelude.{◌≡◌, List, ℕ, ◌≤◌, All, length, map, Ok, Option, Some, None, true};
 ghost use Rattle.std.specs.List.{list_all};
 ghost use Rattle.std.specs.Char.{is_ascii_digit};
 ghost use Rattle.std.specs.Str.Parse.{digits_value};
 ghost use Rattle.httparse.specs.Spans.{IsHeaderWithin, header_bytes};
-ghost use Rattle.http_text.specs.Framing.{framing_by_length, framing_of, lacks_host, length_of};
+ghost use Rattle.http_text.specs.Framing.{expects, framing_by_length, framing_of, has_body, is_continue, lacks_host, length_of};
 ghost use Rattle.http_text.specs.Fields.{first_of};
+ghost use Rattle.http_text.specs.declared.message.Kind.TheVariants as kinds;
 ghost use Rattle.std.specs.Option.{option_copied};
 ghost use Rattle.http_text.specs.declared.framing.FrameFault.TheVariants.{OutOfMemory};
 
@@ -159,4 +160,33 @@ pub fn read_framing(
         }
         _ => Err(FrameFault::BadLength),
     }
+}
+
+// Whether a body is to come.
+fn has_body(framing: Framing) -> bool
+    ensures { result ≡ has_body (Ok framing) }
+{
+    match framing {
+        Framing::Chunked => true,
+        Framing::Sized(size) => size != 0,
+    }
+}
+
+// Whether the value of Expect is 100-continue.
+fn is_continue(value: Option<&[u8]>) -> bool
+    ensures { result ≡ is_continue (option_copied value.entry) }
+{
+    match value {
+        Some(value) => value.eq_ignore_ascii_case(b"100-continue"),
+        None => false,
+    }
+}
+
+/// Whether a request of that version with these fields asks for 100 Continue before its body.
+pub fn expects(text: &[u8], version: u8, headers: &[HeaderSpan], framing: Framing) -> bool
+    requires headers { All (IsHeaderWithin (length text.now)) headers.now }
+    requires framing { framing_of kinds.Requests version (map (header_bytes text.now) headers.now) ≡ Ok framing }
+    ensures { result ≡ expects version (map (header_bytes text.now) headers.now) }
+{
+    version == 1 && is_continue(first_named(text, headers, b"expect")) && has_body(framing)
 }

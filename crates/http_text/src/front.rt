@@ -1,13 +1,14 @@
 //! The head at the front of a text, with what it says of its body.
-ghost use Rattle.std.specs.Prelude.{◌≡◌, ◌≤◌, ◌==◌, All, IfOk, length, map, take, List, [], ℕ, Option};
+ghost use Rattle.std.specs.Prelude.{◌≡◌, ◌≤◌, ◌==◌, All, IfOk, length, map, take, List, [], ℕ, Ok, Option};
 ghost use Rattle.std.specs.Option.{option_copied, option_map};
 ghost use Rattle.httparse.specs.Spans.{IsHeaderWithin, IsWithin, header_bytes};
 ghost use Rattle.http_text.specs.Front.{FrontIs, reply_at, request_at};
+ghost use Rattle.http_text.specs.Framing.{framing_of};
 ghost use Rattle.http_text.specs.Messages.{before_query, from_slash, path_of};
 ghost use Rattle.http_text.specs.declared.message.Kind.TheVariants as kinds;
 
 use crate::fields::{closes, first_named};
-use crate::framing::{FrameFault, Framing, read_framing};
+use crate::framing::{FrameFault, Framing, expects, read_framing};
 use crate::heads::{HeadStep, read_reply_head, read_request_head};
 use crate::message::{Kind, Message, RawReply, RawRequest};
 use delta_base::{Bytes, OutOfMemory};
@@ -79,10 +80,12 @@ fn read_request(
     text: &[u8],
     head: RequestSpans,
     headers: &[HeaderSpan],
+    framing: Framing,
 ) -> Result<RawRequest, OutOfMemory>
     requires method { IsWithin (length text.now) head.method }
     requires path { IsWithin (length text.now) head.path }
     requires headers { All (IsHeaderWithin (length text.now)) headers.now }
+    requires framing { framing_of kinds.Requests head.version (map (header_bytes text.now) headers.now) ≡ Ok framing }
     ensures { IfOk result (λ request. request ≡ request_at text.now head (map (header_bytes text.now) headers.now)) }
 {
     let content_type = copy_of(alloc, first_named(text, headers, b"content-type"))?;
@@ -92,6 +95,7 @@ fn read_request(
         path: Bytes::from_slice(alloc, path_of(head.path.of(text)))?,
         http10: head.version == 0,
         close: closes(text, head.version, headers),
+        expects: expects(text, head.version, headers, framing),
         content_type,
         encoding,
         body: Bytes::from_vec(Vec::new(alloc)),
@@ -131,7 +135,7 @@ fn request_front(
         HeadStep::Whole(head) => {
             let headers = &headers[..head.headers];
             let framing = read_framing(Kind::Requests, text, head.version, headers)?;
-            let request = read_request(alloc, text, head, headers)?;
+            let request = read_request(alloc, text, head, headers, framing)?;
             Ok(Front::Whole {
                 message: Message::Request(request),
                 framing,

@@ -10,6 +10,8 @@ pub struct RawRequest {
     pub http10: bool,
     /// The connection ends behind it.
     pub close: bool,
+    /// It asks for 100 Continue before its body.
+    pub expects: bool,
     pub content_type: Option<Bytes>,
     pub encoding: Option<Bytes>,
     pub body: Bytes,
@@ -30,6 +32,21 @@ pub struct RawReply {
 pub enum Message {
     Request(RawRequest),
     Reply(RawReply),
+}
+
+impl Message {
+    ghost use Rattle.std.specs.Prelude.{◌≡◌};
+    ghost use Rattle.http_text.specs.Messages.{message_expects};
+
+    /// Whether it asks for 100 Continue before its body.
+    pub fn expects(&self) -> bool
+        ensures { result ≡ message_expects self.now }
+    {
+        match self {
+            Message::Request(request) => request.expects,
+            Message::Reply(_) => false,
+        }
+    }
 }
 
 /// What a stream holds.

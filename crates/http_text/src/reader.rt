@@ -1,10 +1,11 @@
 //! Messages from a stream of bytes that comes in any pieces.
-ghost use Rattle.std.specs.Prelude.{◌≡◌, ◌<◌, ◌≤◌, ◌++◌, ◌∷◌, length, take, List, ℕ, [], IfErr, IfNone, IfSome, MatchResult, OnErr, OnOk, Some, None, Err};
-ghost use Rattle.http_text.specs.Readers.{AdvanceIs, BeginsBody, CanGoOn, Decides, EndsHead, Holds, HoldsAll, HoldsHead, IsHeadOf, IsReader, ReadsPiece, StandsFor, TellsFault, fault_of, stage_fault, waiting};
+ghost use Rattle.std.specs.Prelude.{◌≡◌, ◌⊎◌, ◌||◌, ◌<◌, ◌≤◌, ◌++◌, ◌∷◌, length, take, false, List, ℕ, [], IfErr, IfNone, IfOk, IfSome, IsTrue, MatchOption, OnErr, OnOk, Some, None, Err};
+ghost use Rattle.http_text.specs.Readers.{AdvanceIs, BeginsBody, CanGoOn, Decides, EndsHead, Holds, HoldsAll, HoldsHead, IsHeadOf, IsReader, ReadsPiece, StandsFor, asks_first, fault_of, stage_expects, stage_fault, waiting, was_told};
 ghost use Rattle.http_text.specs.Messages.{End, Reads, between, inside};
-ghost use Rattle.http_text.specs.Taken.{taken_after};
+ghost use Rattle.http_text.specs.Taken.{AsksBehind, taken_after};
 ghost use Rattle.http_text.specs.declared.follow.Progress.{Progress as At};
 ghost use Rattle.http_text.specs.declared.framing.FrameFault.{FrameFault as Fault};
+ghost use Rattle.http_text.specs.declared.framing.FrameFault.TheVariants.{OutOfMemory};
 ghost use Rattle.http_text.specs.declared.message.Kind.{Kind};
 ghost use Rattle.http_text.specs.declared.message.Message.{Message};
 ghost use Rattle.http_text.specs.declared.message.Message.TheVariants as forms;
@@ -22,6 +23,14 @@ use std::alloc::{AllocError, Global};
 use std::collections::VecDeque;
 use std::mem;
 
+/// What broke a stream.
+#[derive(Clone, Copy, Debug)]
+pub struct Broken {
+    pub fault: FrameFault,
+    /// The head before the fault is whole and asks for 100 Continue.
+    pub expects: bool,
+}
+
 /// How far the message has come of which the end has not.
 #[derive(Drop)]
 pub enum Stage {
@@ -35,7 +44,7 @@ pub enum Stage {
         body: Vec<u8>,
         part: Part,
     },
-    Faulty(FrameFault),
+    Faulty(Broken),
 }
 
 /// Takes a stream of messages in pieces.
@@ -47,6 +56,20 @@ pub struct MessageReader {
     pending: Vec<u8>,
     stage: Stage,
     queue: VecDeque<Message>,
+    told: bool,
+}
+
+impl Stage {
+    /// Whether the head behind which it is asks for 100 Continue.
+    fn expects(&self) -> bool
+        ensures { result ≡ stage_expects self.now }
+    {
+        match self {
+            Stage::Head { .. } => false,
+            Stage::Body { message, .. } => message.expects(),
+            Stage::Faulty(broken) => broken.expects,
+        }
+    }
 }
 
 // Where no byte of a message has come.
@@ -166,10 +189,10 @@ fn advance(
     requires room { 5461 ≤ length headers.old }
     requires held { CanGoOn kind stage pending.old.items }
     ensures { (rest : List ℕ) → Holds kind stage pending.old.items rest
-        → AdvanceIs kind rest piece.now queue.old.items queue.new.items pending.new.items result }
+        → AdvanceIs kind (stage_expects stage) rest piece.now queue.old.items queue.new.items pending.new.items result }
 {
     match stage {
-        Stage::Faulty(fault) => Err(fault),
+        Stage::Faulty(broken) => Err(broken.fault),
         Stage::Head { room, progress } => {
             let (used, end) = step_head(alloc, kind, room, progress, pending, headers, piece)?;
             let stage = after_head(alloc, room, queue, end)?;
@@ -208,19 +231,24 @@ fn read_piece(
     headers: &mut [HeaderSpan],
     queue: &mut VecDeque<Message>,
     piece: &[u8],
-) -> Result<Stage, FrameFault>
+) -> Result<Stage, Broken>
     requires room { 5461 ≤ length headers.old }
     requires held { CanGoOn kind stage pending.old.items }
-    ensures held { MatchResult result (λ next. CanGoOn kind next pending.new.items) (λ fault. (rest : List ℕ) × TellsFault kind rest fault) }
+    ensures held { IfOk result (λ next. CanGoOn kind next pending.new.items) }
     ensures read { (bytes : List ℕ) (taken : List Message) → HoldsAll kind bytes taken queue.old.items stage pending.old.items
         → ReadsPiece kind (bytes ++ piece.now) taken queue.new.items pending.new.items result }
 {
     let mut stage = stage;
     let mut left = piece;
     while !left.is_empty() {
-        let (used, next) = advance(alloc, kind, stage, pending, headers, queue, left)?;
-        stage = next;
-        left = &left[used..];
+        let expects = stage.expects();
+        match advance(alloc, kind, stage, pending, headers, queue, left) {
+            Ok((used, next)) => {
+                stage = next;
+                left = &left[used..];
+            }
+            Err(fault) => return Err(Broken { fault, expects }),
+        }
     }
     Ok(stage)
 }
@@ -248,6 +276,7 @@ impl MessageReader {
         ensures kind { result.kind ≡ kind }
         ensures stands { StandsFor kind [] [] result }
         ensures fault { fault_of result ≡ None }
+        ensures told { was_told result ≡ false }
     {
         MessageReader {
             alloc,
@@ -256,6 +285,7 @@ impl MessageReader {
             pending: Vec::new(alloc),
             stage: at_start(),
             queue: VecDeque::new(alloc),
+            told: false,
         }
     }
 
@@ -274,11 +304,18 @@ impl MessageReader {
         ensures fault { IfErr result (λ fault. fault_of self.new ≡ Some fault) }
         // A fault that was met is answered again, want of memory among them.
         ensures again { (met : Fault) → fault_of self.old ≡ Some met → (result ≡ Err met) × (fault_of self.new ≡ Some met) }
+        ensures told { was_told self.new ≡ was_told self.old }
     {
-        let stage = mem::replace(&mut self.stage, Stage::Faulty(FrameFault::OutOfMemory));
-        if let Stage::Faulty(fault) = stage {
-            self.stage = Stage::Faulty(fault);
-            return Err(fault);
+        let stage = mem::replace(
+            &mut self.stage,
+            Stage::Faulty(Broken {
+                fault: FrameFault::OutOfMemory,
+                expects: false,
+            }),
+        );
+        if let Stage::Faulty(broken) = stage {
+            self.stage = Stage::Faulty(broken);
+            return Err(broken.fault);
         }
         make_room(self.alloc, &mut self.headers)?;
         match read_piece(
@@ -294,9 +331,9 @@ impl MessageReader {
                 self.stage = stage;
                 Ok(())
             }
-            Err(fault) => {
-                self.stage = Stage::Faulty(fault);
-                Err(fault)
+            Err(broken) => {
+                self.stage = Stage::Faulty(broken);
+                Err(broken.fault)
             }
         }
     }
@@ -311,8 +348,46 @@ impl MessageReader {
             → StandsFor self.old.kind bytes (taken_after taken result) self.new }
         ensures fault { fault_of self.new ≡ fault_of self.old }
         ensures reader { IsReader self.new }
+        ensures told { MatchOption result (was_told self.new ≡ was_told self.old) (λ _. was_told self.new ≡ false) }
     {
-        self.queue.pop_front()
+        let next = self.queue.pop_front();
+        if next.is_some() {
+            self.told = false;
+        }
+        next
+    }
+
+    // Whether the head of the next message asks for 100 Continue.
+    fn expects(&self) -> bool
+        ensures { result ≡ asks_first (waiting self.now) self.now.stage }
+    {
+        match self.queue.front() {
+            Some(message) => message.expects(),
+            None => self.stage.expects(),
+        }
+    }
+
+    /// Whether the head of the next message, or else that of the rest behind the last one, asks for 100 Continue before its body.
+    /// It answers so once for each head.
+    pub fn take_expect(&mut self) -> bool
+        requires { IsReader self.old }
+        ensures kind { self.new.kind ≡ self.old.kind }
+        ensures reader { IsReader self.new }
+        ensures stands { (bytes : List ℕ) (taken : List Message) → StandsFor self.old.kind bytes taken self.old → StandsFor self.old.kind bytes taken self.new }
+        ensures told { was_told self.new ≡ (was_told self.old || result) }
+        ensures once { IsTrue result → was_told self.old ≡ false }
+        ensures asks { IsTrue result → (bytes : List ℕ) (taken : List Message) → StandsFor self.old.kind bytes taken self.old
+            → AsksBehind self.old.kind bytes taken }
+        ensures quiet { result ≡ false → was_told self.old ≡ false → (bytes : List ℕ) (taken : List Message) → StandsFor self.old.kind bytes taken self.old
+            → ((waiting self.old ≡ []) × (fault_of self.old ≡ Some OutOfMemory)) ⊎ ¬ (AsksBehind self.old.kind bytes taken) }
+        ensures waiting { waiting self.new ≡ waiting self.old }
+        ensures fault { fault_of self.new ≡ fault_of self.old }
+    {
+        if self.told || !self.expects() {
+            return false;
+        }
+        self.told = true;
+        true
     }
 
     /// Tests that the stream may end here.

@@ -26,12 +26,13 @@ impl Model for RequestReader {
 }
 
 impl RequestReader {
-    ghost use Rattle.std.specs.Prelude.{◌≡◌, ◌++◌, ◌∷◌, ℕ, List, [], map, None, Some, IfErr, IfNone, IfSome, OnErr, OnOk};
+    ghost use Rattle.std.specs.Prelude.{◌≡◌, ◌⊎◌, ◌||◌, ◌++◌, ◌∷◌, ℕ, false, List, [], map, None, Some, IfErr, IfNone, IfSome, IsTrue, MatchOption, OnErr, OnOk};
     ghost use Rattle.http_text.specs.Messages.{Reads, between, inside};
-    ghost use Rattle.http_text.specs.Readers.{Decides, fault_of, waiting};
-    ghost use Rattle.http_text.specs.Taken.{GaveRequests, request_messages, taken_after};
+    ghost use Rattle.http_text.specs.Readers.{Decides, fault_of, waiting, was_told};
+    ghost use Rattle.http_text.specs.Taken.{AsksAtFront, GaveRequests, request_messages, taken_after};
     ghost use Rattle.http_text.specs.declared.framing.FrameFault.{FrameFault as Fault};
     ghost use Rattle.http_text.specs.declared.message.Kind.TheVariants as kinds;
+    ghost use Rattle.http_text.specs.declared.framing.FrameFault.TheVariants.{OutOfMemory};
     ghost use Rattle.http_text.specs.declared.message.Message.TheVariants as forms;
     ghost use Rattle.http_text.specs.declared.message.RawRequest.{RawRequest as Taken};
 
@@ -39,6 +40,7 @@ impl RequestReader {
     pub fn new(alloc: Global) -> RequestReader
         ensures stands { GaveRequests [] [] result }
         ensures fault { fault_of result ≡ None }
+        ensures told { was_told result ≡ false }
     {
         RequestReader {
             reader: MessageReader::new(alloc, Kind::Requests),
@@ -56,6 +58,7 @@ impl RequestReader {
         ensures fault { IfErr result (λ fault. fault_of self.new ≡ Some fault) }
         // A fault that was met is answered again, want of memory among them.
         ensures again { (met : Fault) → fault_of self.old ≡ Some met → (result ≡ Err met) × (fault_of self.new ≡ Some met) }
+        ensures told { was_told self.new ≡ was_told self.old }
     {
         self.reader.feed(piece)
     }
@@ -66,12 +69,30 @@ impl RequestReader {
         ensures first { IfSome result (λ request. waiting self.old ≡ forms.Request request ∷ waiting self.new) }
         ensures rest { (bytes : List ℕ) (taken : List Taken) → GaveRequests bytes taken self.old → GaveRequests bytes (taken_after taken result) self.new }
         ensures fault { fault_of self.new ≡ fault_of self.old }
+        // Of the next head nothing was told.
+        ensures told { MatchOption result (was_told self.new ≡ was_told self.old) (λ _. was_told self.new ≡ false) }
     {
         match self.reader.take() {
             Some(Message::Request(request)) => Some(request),
             Some(Message::Reply(_)) => unreachable!(),
             None => None,
         }
+    }
+
+    /// Whether the head at the front asks for 100 Continue before its body: that of the next request, or else of the rest behind
+    /// the last one. It answers so once for each head, also where the body behind it has a fault.
+    pub fn take_expect(&mut self) -> bool
+        ensures stands { (bytes : List ℕ) (taken : List Taken) → GaveRequests bytes taken self.old → GaveRequests bytes taken self.new }
+        ensures told { was_told self.new ≡ (was_told self.old || result) }
+        ensures once { IsTrue result → was_told self.old ≡ false }
+        ensures asks { IsTrue result → (bytes : List ℕ) (taken : List Taken) → GaveRequests bytes taken self.old → AsksAtFront bytes taken }
+        // Where memory ran out before a head was read, nothing more is known of it.
+        ensures quiet { result ≡ false → was_told self.old ≡ false → (bytes : List ℕ) (taken : List Taken) → GaveRequests bytes taken self.old
+            → ((waiting self.old ≡ []) × (fault_of self.old ≡ Some OutOfMemory)) ⊎ ¬ (AsksAtFront bytes taken) }
+        ensures waiting { waiting self.new ≡ waiting self.old }
+        ensures fault { fault_of self.new ≡ fault_of self.old }
+    {
+        self.reader.take_expect()
     }
 
     /// Tests that the stream may end here.

@@ -246,3 +246,73 @@ fn replies_are_read(rt: HostRuntime) -> Result<(), Fail> {
     );
     Ok(())
 }
+
+/// A request that asks for 100 Continue, up to its body.
+const ASKS: &[u8] =
+    b"POST / HTTP/1.1\r\nHost: a\r\nExpect: 100-Continue\r\nContent-Length: 5\r\n\r\n";
+
+#[test]
+fn continue_is_asked_for_once_a_head(rt: HostRuntime) -> Result<(), Fail> {
+    let mut reader = RequestReader::new(rt.alloc());
+    assert!(rt; !reader.take_expect());
+    reader.feed(ASKS)?;
+    assert!(rt; reader.take_expect());
+    assert!(rt; !reader.take_expect());
+    reader.feed(b"hello")?;
+    reader.feed(ASKS)?;
+    assert!(rt; !reader.take_expect());
+    let first = reader.take().ok_or("a first request")?;
+    assert!(rt; first.expects);
+    assert!(rt; reader.take_expect());
+    assert!(rt; !reader.take_expect());
+    Ok(())
+}
+
+#[test]
+fn continue_is_asked_for_before_a_fault_of_the_body(rt: HostRuntime) {
+    let mut reader = RequestReader::new(rt.alloc());
+    assert_eq!(rt;
+        reader.feed(
+            b"POST / HTTP/1.1\r\nHost: a\r\nExpect: 100-continue\r\nTransfer-Encoding: chunked\r\n\r\nx\r\n"
+        ),
+        Err(FrameFault::BadChunk)
+    );
+    assert!(rt; reader.take_expect());
+    assert!(rt; !reader.take_expect());
+}
+
+/// A text that asks for nothing, with what feeding it answers.
+fn asks_for_nothing(rt: &impl Abort, alloc: Global, text: &[u8], answer: Result<(), FrameFault>) {
+    let mut reader = RequestReader::new(alloc);
+    assert_eq!(rt; reader.feed(text), answer);
+    assert!(rt; !reader.take_expect());
+}
+
+#[test]
+fn continue_is_not_asked_for(rt: HostRuntime) {
+    let alloc = rt.alloc();
+    asks_for_nothing(
+        &rt,
+        alloc,
+        b"POST / HTTP/1.0\r\nExpect: 100-continue\r\nContent-Length: 5\r\n\r\n",
+        Ok(()),
+    );
+    asks_for_nothing(
+        &rt,
+        alloc,
+        b"POST / HTTP/1.1\r\nHost: a\r\nExpect: 100-continue\r\n\r\n",
+        Ok(()),
+    );
+    asks_for_nothing(
+        &rt,
+        alloc,
+        b"POST / HTTP/1.1\r\nHost: a\r\nExpect: x\r\nContent-Length: 5\r\n\r\n",
+        Ok(()),
+    );
+    asks_for_nothing(
+        &rt,
+        alloc,
+        b"POST / HTTP/1.1\r\nExpect: 100-continue\r\nContent-Length: 5\r\n\r\n",
+        Err(FrameFault::BadHost),
+    );
+}

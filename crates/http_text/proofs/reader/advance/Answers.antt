@@ -4,8 +4,8 @@ use Rattle.http_text.specs.Stages.{PartStepIs}
 use Rattle.http_text.specs.Readers.{Holds}
 use Rattle.http_text.specs.declared.reader.Stage.{Stage}
 use Rattle.http_text.specs.declared.stage.Part.{Part}
-use Rattle.http_text.proofs.ReaderLemmas.{body_goes_on, body_is_whole, body_fault_tells, head_fault_tells, start_with, room_fits, uses_some}
-use Rattle.http_text.proofs.StayLemmas.{tells_used}
+use Rattle.http_text.proofs.ReaderLemmas.{body_goes_on, body_is_whole, body_breaks, memory_breaks, head_breaks, head_fault_tells, start_with, room_fits, uses_some}
+use Rattle.http_text.proofs.StayLemmas.{head_fault_used}
 use Rattle.http_text.proofs.reader.advance.Goals as goal
 
 pub step_head-requires : goal.step_head-requires
@@ -17,14 +17,14 @@ pub returns-in_err-used-in-Head : goal.returns-in_err-used-in-Head
 returns-in_err-used-in-Head c = λ rest held.
     let p = err_from_is_err_and c.from_residual.result c.from_residual.ensures.1 in
     let head = subst (λ (s : Stage). Holds c.args.kind s c.args.pending.now.items rest) c.in-Head.is held in
-    rw (p.1, p.2) (refl, head_fault_tells c.args.kind rest c.args.pending.now.items c.args.piece.now c.in-Head.room c.in-Head.progress _ head c.in_err-used-in-Head.ensures)
+    rw (p.1, p.2, c.in-Head.is) (refl, head_breaks c.args.kind _ _ (head_fault_tells c.args.kind rest c.args.pending.now.items c.args.piece.now c.in-Head.room c.in-Head.progress _ head c.in_err-used-in-Head.ensures))
 
 pub returns-in_err-stage-in-Head : goal.returns-in_err-stage-in-Head
 returns-in_err-stage-in-Head c = λ rest held.
     let p = err_from_is_err_and c.from_residual-in_err-stage-in-Head.result c.from_residual-in_err-stage-in-Head.ensures.1 in
     let head = subst (λ (s : Stage). Holds c.args.kind s c.args.pending.now.items rest) c.in-Head.is held in
     let failed = c.in_err-stage-in-Head.ensures c.args.kind rest c.args.pending.now.items c.step_head.new.pending.items c.args.piece.now c.in_ok-used-in-Head.used c.in-Head.progress head c.in_ok-used-in-Head.ensures in
-    rw (p.1, p.2) (failed.0, tells_used c.args.kind rest c.args.piece.now c.in_ok-used-in-Head.used _ failed.1)
+    rw (p.1, p.2, c.in-Head.is) (failed.0, head_breaks c.args.kind _ _ (head_fault_used c.args.kind rest c.args.piece.now c.in_ok-used-in-Head.used _ failed.1))
 
 pub returns-in_ok-stage-in-Head : goal.returns-in_ok-stage-in-Head
 returns-in_ok-stage-in-Head c = λ rest held.
@@ -38,7 +38,7 @@ returns-in_err-used-in-Body c = λ rest held.
     let p = err_from_is_err_and c.from_residual-in_err-used-in-Body.result c.from_residual-in_err-used-in-Body.ensures.1 in
     let body = subst (λ (s : Stage). Holds c.args.kind s c.args.pending.now.items rest) c.in-Body.is held in
     let failed = c.in_err-used-in-Body.ensures body.framing body.behind body.part_is in
-    rw (p.1, p.2) (refl, body_fault_tells c.args.kind rest c.args.piece.now c.in-Body.message c.in-Body.part c.args.pending.now.items _ _ body failed)
+    rw (p.1, p.2, c.in-Body.is) (refl, body_breaks c.args.kind rest c.args.piece.now c.in-Body.message c.in-Body.part c.args.pending.now.items _ _ body failed)
 
 pub returns-in-Some : goal.returns-in-Some
 returns-in-Some c = λ rest held.
@@ -61,3 +61,10 @@ returns-in_ok-push_back-in-None c = λ rest held.
         start_with c.args.kind c.at_start.result _ (c.at_start.ensures.held c.args.kind) step.2,
       ),
     )
+
+pub returns-in_err-push_back-in-None : goal.returns-in_err-push_back-in-None
+returns-in_err-push_back-in-None c = λ rest held.
+    let p = err_from_is_err_and c.from_residual-in_err-push_back-in-None.result c.from_residual-in_err-push_back-in-None.ensures.1 in
+    let body = subst (λ (s : Stage). Holds c.args.kind s c.args.pending.now.items rest) c.in-Body.is held in
+    rw (p.1, c.in-Body.is)
+    (c.in_err-push_back-in-None.ensures.items, memory_breaks c.args.kind rest c.args.piece.now c.in-Body.message c.in-Body.part c.args.pending.now.items c.in-Body.body.items _ p.2 body)

@@ -8,24 +8,24 @@ use Rattle.http_text.proofs.reader.MessageReader.feed.Goals as goal
 pub returns-in-Faulty-clause-stands : goal.returns-in-Faulty-clause-stands
 returns-in-Faulty-clause-stands c = λ bytes taken stands.
     let held = subst (λ (s : Stage). HoldsStage c.args.self.now.kind s c.args.self.now.pending.items stands.0) (sym c.replace-stage.ensures.value ∙ c.in-Faulty.is) stands.2 in
-    fault_again c.args.self.now.kind bytes c.args.piece.now stands.0 _ c.in-Faulty.fault stands.1 held
+    fault_again c.args.self.now.kind bytes c.args.piece.now stands.0 _ c.in-Faulty.broken stands.1 held
 
 pub returns-in-Faulty-clause-reader : goal.returns-in-Faulty-clause-reader
 returns-in-Faulty-clause-reader c =
     let stands = c.requires.2 in
     let held = subst (λ (s : Stage). HoldsStage c.args.self.now.kind s c.args.self.now.pending.items stands.0) (sym c.replace-stage.ensures.value ∙ c.in-Faulty.is) stands.2 in
-    (c.requires.0 ++ c.args.piece.now, c.requires.1, fault_again c.args.self.now.kind c.requires.0 c.args.piece.now stands.0 _ c.in-Faulty.fault stands.1 held)
+    (c.requires.0 ++ c.args.piece.now, c.requires.1, fault_again c.args.self.now.kind c.requires.0 c.args.piece.now stands.0 _ c.in-Faulty.broken stands.1 held)
 
 pub returns-in-Faulty-clause-again : goal.returns-in-Faulty-clause-again
 returns-in-Faulty-clause-again c = λ met is.
-    let same : c.in-Faulty.fault ≡ met = same_fault _ _ (sym (sym c.replace-stage.ensures.value ∙ c.in-Faulty.is) ∙ faulty_stage c.args.self.now.stage met is) in
+    let same : c.in-Faulty.broken.fault ≡ met = same_fault c.args.self.now.stage c.in-Faulty.broken met (sym c.replace-stage.ensures.value ∙ c.in-Faulty.is) is in
     (ap Err same, ap Some same)
 
 pub returns-in-Faulty-clause-decides : goal.returns-in-Faulty-clause-decides
 returns-in-Faulty-clause-decides c = λ bytes taken stands.
     let held = subst (λ (s : Stage). HoldsStage c.args.self.now.kind s c.args.self.now.pending.items stands.0) (sym c.replace-stage.ensures.value ∙ c.in-Faulty.is) stands.2 in
-    let again = fault_again c.args.self.now.kind bytes c.args.piece.now stands.0 _ c.in-Faulty.fault stands.1 held in
-    decided_fault c.args.self.now.kind _ again.0 _ c.in-Faulty.fault again.1 again.2
+    let again = fault_again c.args.self.now.kind bytes c.args.piece.now stands.0 _ c.in-Faulty.broken stands.1 held in
+    decided_fault c.args.self.now.kind _ again.0 _ c.in-Faulty.broken.fault again.1 again.2.0
 
 pub returns-in_err-make_room : goal.returns-in_err-make_room
 returns-in_err-make_room c =
@@ -41,7 +41,8 @@ returns-in_err-make_room c =
       decides = λ bytes taken stands. rw (p.1, p.2) (stands.0 ++ c.args.piece.now, messages_grow c.args.self.now.kind _ bytes stands.0 c.args.piece.now stands.1);
       ok = rw p.1 tt;
       fault = rw (p.1, p.2, c.replace-stage.ensures.after) refl;
-      again = λ met is. absurd (c.in_default.not-Faulty met (c.replace-stage.ensures.value ∙ faulty_stage c.args.self.now.stage met is));
+      again = λ met is. let was = faulty_stage c.args.self.now.stage met is in absurd (c.in_default.not-Faulty was.0 (c.replace-stage.ensures.value ∙ was.1));
+      told = refl;
     }
 
 pub read_piece-requires : goal.read_piece-requires
@@ -72,7 +73,8 @@ returns-in-Ok c =
           decided_open c.args.self.now.kind _ all.0 _ _ _ all.1 all.2;
       ok = no_fault c.args.self.now.kind _ _ next.0 next.1;
       fault = tt;
-      again = λ met is. absurd (c.in_default.not-Faulty met (c.replace-stage.ensures.value ∙ faulty_stage c.args.self.now.stage met is));
+      again = λ met is. let was = faulty_stage c.args.self.now.stage met is in absurd (c.in_default.not-Faulty was.0 (c.replace-stage.ensures.value ∙ was.1));
+      told = refl;
     }
 
 pub returns-in-Err : goal.returns-in-Err
@@ -92,8 +94,9 @@ returns-in-Err c =
       decides = λ bytes taken stands.
           let held = subst (λ (s : Stage). HoldsStage c.args.self.now.kind s c.args.self.now.pending.items stands.0) (sym c.replace-stage.ensures.value) stands.2 in
           let all = c.in-Err.ensures.read bytes taken (stands.0, stands.1, not_faulty c.args.self.now.kind _ _ stands.0 c.in_default.not-Faulty held) in
-          decided_fault c.args.self.now.kind _ all.0 _ c.in-Err.fault all.1 all.2;
+          decided_fault c.args.self.now.kind _ all.0 _ c.in-Err.broken.fault all.1 all.2.0;
       ok = tt;
       fault = refl;
-      again = λ met is. absurd (c.in_default.not-Faulty met (c.replace-stage.ensures.value ∙ faulty_stage c.args.self.now.stage met is));
+      again = λ met is. let was = faulty_stage c.args.self.now.stage met is in absurd (c.in_default.not-Faulty was.0 (c.replace-stage.ensures.value ∙ was.1));
+      told = refl;
     }
