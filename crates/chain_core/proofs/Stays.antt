@@ -8,7 +8,7 @@ use Rattle.delta_base.specs.declared.id.Id.{Id}
 use Rattle.chain_core.specs.declared.chain.Patch.{Patch}
 use Rattle.chain_core.specs.declared.link.Link.{Link}
 use Rattle.chain_core.specs.declared.limits.LogLimits.{LogLimits}
-use Rattle.chain_core.specs.declared.fate.Phase.TheVariants.{Settling, Body, Gate}
+use Rattle.delta_base.specs.declared.phase.Phase.TheVariants.{Settling, Body, Gate}
 use Rattle.chain_core.specs.declared.fate.Fate.{Fate}
 use Rattle.chain_core.specs.declared.fate.Fate.TheVariants.{Done, Fails, Stops}
 use Rattle.chain_core.specs.declared.answer.Decision.{Decision}

@@ -1,8 +1,10 @@
 -- One stay in a log's turn: what an append makes of the log.
-use Rattle.std.specs.Prelude.{◌≡◌, ℕ, zero, suc, ◌+◌, List, [], ◌∷◌, ◌++◌, length, Option, Some, None, if◌then◌else◌}
+use Rattle.std.specs.Prelude.{◌≡◌, ℕ, ◌+◌, List, [], ◌∷◌, ◌++◌, length, Option, Some, None, if◌then◌else◌}
 use Rattle.chain_core.specs.declared.limits.LogLimits.{LogLimits}
 use Rattle.chain_core.specs.declared.chain.Patch.{Patch}
-use Rattle.chain_core.specs.declared.fate.Phase.TheVariants.{Settling, Body, Gate}
+use Rattle.delta_base.specs.declared.phase.Phase.{Phase}
+use Rattle.delta_base.specs.declared.phase.Phase.TheVariants.{Settling, Body, Gate}
+use Rattle.delta_base.specs.Phases.{phase_by_syncs}
 use Rattle.chain_core.specs.declared.fate.Fate.{Fate}
 use Rattle.chain_core.specs.declared.fate.Fate.TheVariants.{Done, Fails, Stops}
 use Rattle.chain_core.specs.declared.answer.Decision.{Decision}
@@ -52,12 +54,11 @@ stay limits (down chain) patch fate = (down chain, None)
 abbrev pub Stay : LogLimits → LogPoint → Patch → Fate → LogPoint → LogAnswer → Type 0
 Stay limits before patch fate after answer = stay limits before patch fate ≡ (after, Some answer)
 
--- the fate by the number of syncs that were done: of the doubtful gate, if there is one, of the body and of the gate
+-- how the device calls of an append end of which this phase failed, or none
+abbrev pub fate_of : Option Phase → Fate
+fate_of None = Done
+fate_of (Some phase) = Fails phase
+
+-- the fate by the number of syncs that were done
 abbrev pub fate_by_syncs : {T : Type 0} → Option T → ℕ → Fate
-fate_by_syncs (Some doubtful) zero = Fails Settling
-fate_by_syncs (Some doubtful) (suc zero) = Fails Body
-fate_by_syncs (Some doubtful) (suc (suc zero)) = Fails Gate
-fate_by_syncs (Some doubtful) (suc (suc (suc more))) = Done
-fate_by_syncs None zero = Fails Body
-fate_by_syncs None (suc zero) = Fails Gate
-fate_by_syncs None (suc (suc more)) = Done
+fate_by_syncs doubt syncs = fate_of (phase_by_syncs doubt syncs)

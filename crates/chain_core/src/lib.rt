@@ -15,7 +15,7 @@ mod tests;
 pub use answer::{Decision, LogAnswer};
 pub use chain::{Chain, Entry, Patch};
 pub use deciding::{Places, decide, decide_found};
-pub use fate::{Fate, Phase};
+pub use fate::Fate;
 pub use laws::{chains_have_no_fault, patches_have_one_fault, stays_keep_logs, stops_keep_logs};
 pub use limits::{FullKind, LogLimits};
 pub use link::Link;

@@ -3,3 +3,4 @@ pub mod Ids
 pub mod Listed
 pub mod Outside
 pub mod Memory
+pub mod Phases

@@ -10,6 +10,7 @@ mod link;
 mod list;
 mod memory;
 mod outside;
+mod phase;
 mod standard;
 mod text;
 
@@ -19,6 +20,7 @@ pub use link::{Link, MemLink, StdLink};
 pub use list::{Back, Calls, Listing};
 pub use memory::{MemSink, MemSource};
 pub use outside::{Sink, Source};
+pub use phase::Phase;
 pub use standard::{StdSink, StdSource};
 pub use text::{Bytes, Text};
 

@@ -1,10 +1,10 @@
 -- What settling and appending leave of a journal.
-use Rattle.std.specs.Prelude.{◌⊎◌, ℕ, zero, suc, ◌+◌, List, [], ◌∷◌, ◌++◌, Option, Some, None, Result, Ok, Err}
+use Rattle.std.specs.Prelude.{◌⊎◌, ℕ, ◌+◌, List, [], ◌∷◌, ◌++◌, Option, Some, None, Result, Ok, Err}
 use Rattle.disk_model.specs.declared.disk.Disk.{Ghosts}
 use Rattle.log_journal.specs.Journal.{HoldsWithOrWithout}
 use Rattle.log_journal.specs.declared.journal.Journal.{Journal}
-use Rattle.log_journal.specs.declared.writing.Phase.{Phase}
-use Rattle.log_journal.specs.declared.writing.Phase.TheVariants.{Settling, Body, Gate}
+use Rattle.delta_base.specs.declared.phase.Phase.{Phase}
+use Rattle.delta_base.specs.declared.phase.Phase.TheVariants.{Settling, Body, Gate}
 use Rattle.log_journal.specs.StandsFor.{StandsFor, StandsInDoubt}
 
 -- a journal stands for payloads, with one in doubt or none
@@ -33,16 +33,6 @@ HoldsDuring number payloads (Some doubt) payload image = HoldsWithOrWithout numb
 abbrev pub failing : {T : Type 0} → Result T Phase → Option Phase
 failing (Ok done) = None
 failing (Err phase) = Some phase
-
--- the phase that failed, by the number of syncs that were done: of the doubtful gate, if there is one, of the body and of the gate
-abbrev pub phase_by_syncs : {T : Type 0} → Option T → ℕ → Option Phase
-phase_by_syncs (Some doubtful) zero = Some Settling
-phase_by_syncs (Some doubtful) (suc zero) = Some Body
-phase_by_syncs (Some doubtful) (suc (suc zero)) = Some Gate
-phase_by_syncs (Some doubtful) (suc (suc (suc more))) = None
-phase_by_syncs None zero = Some Body
-phase_by_syncs None (suc zero) = Some Gate
-phase_by_syncs None (suc (suc more)) = None
 
 -- how much longer the journal is
 abbrev pub longer_by : {T : Type 0} → Result T Phase → ℕ → ℕ

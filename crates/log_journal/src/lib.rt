@@ -21,7 +21,7 @@ pub use journal::{AppendFault, Journal, OpenRefusal, StartRefusal};
 pub use laws::one_reading;
 pub use making::make_block;
 pub use open::{Payloads, format};
-pub use writing::{Phase, write};
+pub use writing::write;
 
 #[cfg(test)]
 mod tests;

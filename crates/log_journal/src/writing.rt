@@ -1,22 +1,16 @@
 //! Writes a payload to a journal that may have to be settled first.
 ghost use Rattle.std.specs.Prelude.{◌≡◌, ℕ, ◌+◌, ◌-◌, ◌≤◌, List, Option, length, Err, false};
 ghost use Rattle.delta_base.specs.Outside.{HasCause};
+ghost use Rattle.delta_base.specs.Phases.{phase_by_syncs};
 ghost use Rattle.disk_model.specs.Past.{ok_syncs};
 ghost use Rattle.log_journal.specs.Payload.{payload_of};
 ghost use Rattle.log_journal.specs.StandsFor.{Leaves, length_of, limit_of, is_settled, disk_of};
-ghost use Rattle.log_journal.specs.Writing.{StandsWith, HoldsDuring, payloads_left, doubt_left, failing, phase_by_syncs, longer_by};
+ghost use Rattle.log_journal.specs.Writing.{StandsWith, HoldsDuring, payloads_left, doubt_left, failing, longer_by};
 
 use crate::block::Block;
 use crate::journal::{AppendFault, Journal};
+use delta_base::Phase;
 use disk_model::Disk;
-
-/// A part of a write. Settling is run only where a gate is in doubt.
-#[derive(Clone, Copy, Debug, PartialEq, Eq)]
-pub enum Phase {
-    Settling,
-    Body,
-    Gate,
-}
 
 /// Closes a doubtful gate, if there is one, and appends. Says which phase failed.
 pub fn write<D: Disk>(journal: &mut Journal<D>, block: &Block) -> Result<(), Phase>

@@ -8,15 +8,14 @@ use Rattle.disk_model.proofs.Moments.{starts}
 use Rattle.log_journal.specs.File.{journal_length as payloads_length}
 use Rattle.log_journal.specs.Journal.{HoldsWithOrWithout}
 use Rattle.log_journal.specs.declared.journal.Journal.{Journal}
-use Rattle.log_journal.specs.declared.writing.Phase.{Phase as Written}
-use Rattle.log_journal.specs.declared.writing.Phase.TheVariants as written
 use Rattle.log_journal.specs.StandsFor.{StandsFor, StandsInDoubt, Leaves, length_of, limit_of, is_settled, disk_of}
-use Rattle.log_journal.specs.Writing.{StandsWith, HoldsDuring, phase_by_syncs}
+use Rattle.log_journal.specs.Writing.{StandsWith, HoldsDuring}
+use Rattle.delta_base.specs.Phases.{phase_by_syncs}
 use Rattle.log_journal.proofs.Steps.{either}
 use Rattle.chain_core.specs.declared.chain.Patch.{Patch}
 use Rattle.chain_core.specs.declared.chain.Entry.{Entry}
 use Rattle.chain_core.specs.declared.limits.LogLimits.{LogLimits}
-use Rattle.chain_core.specs.declared.fate.Phase.TheVariants.{Settling, Body, Gate}
+use Rattle.delta_base.specs.declared.phase.Phase.TheVariants.{Settling, Body, Gate}
 use Rattle.chain_core.specs.declared.fate.Fate.{Fate}
 use Rattle.chain_core.specs.declared.fate.Fate.TheVariants.{Done, Fails}
 use Rattle.chain_core.specs.declared.answer.Decision.{Decision}
@@ -27,7 +26,7 @@ use Rattle.chain_core.specs.Chain.{IsKept as IsKeptChain, patch_of}
 use Rattle.chain_core.specs.Decision.{decision}
 use Rattle.chain_core.specs.Log.{up}
 use Rattle.chain_core.specs.Patches.{patches_of, texts_of}
-use Rattle.chain_core.specs.Stay.{answer_of, decided_by, accepted_by, fate_by_syncs}
+use Rattle.chain_core.specs.Stay.{answer_of, decided_by, accepted_by, fate_of, fate_by_syncs}
 use Rattle.chain_core.proofs.Decided.{IsAcceptable, accepted}
 use Rattle.chain_core.proofs.Fronts.{entries_kept}
 use Rattle.chain_core.proofs.Patches.{length-push, patches_of-push}
@@ -66,13 +65,7 @@ told_is (Known version same) other = record { not_accepted = λ v is. cc; no_fau
 told_is (Conflict version head prev_version) other = record { not_accepted = λ v is. cc; no_fault = λ is. cc; no_want = λ is. cc }
 told_is (Full what have limit) other = record { not_accepted = λ v is. cc; no_fault = λ is. cc; no_want = λ is. cc }
 
--- the fate of an append by the phase of its write that failed
-abbrev pub fate_of : Option Written → Fate
-fate_of None = Done
-fate_of (Some written.Settling) = Fails Settling
-fate_of (Some written.Body) = Fails Body
-fate_of (Some written.Gate) = Fails Gate
-
+-- the text in doubt tells as much as the patch
 pub same_fate : (doubt : Option Patch) (syncs : ℕ) → fate_of (phase_by_syncs (text_in doubt) syncs) ≡ fate_by_syncs doubt syncs
 same_fate None zero = refl
 same_fate None (suc zero) = refl

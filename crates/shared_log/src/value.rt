@@ -44,17 +44,6 @@ impl<D: Disk> Model for LogValue<D> {
     ghost invariant = { λ v. Lies D.tells D.past v.log };
 }
 
-// Equal to a patch.
-fn copy_of(patch: &Patch) -> Result<Patch, OutOfMemory>
-    ensures { IfOk result (λ copy. copy ≡ patch.now) }
-{
-    Ok(Patch {
-        id: patch.id,
-        prev: patch.prev,
-        text: patch.text.copy()?,
-    })
-}
-
 impl<D: Disk> LogValue<D> {
     pub(crate) fn of(log: LogState<D>) -> LogValue<D>
         ensures value { result ≡ log }
@@ -93,7 +82,7 @@ impl<D: Disk> LogValue<D> {
     {
         match self.log.chain().by_version(version) {
             Some(patch) => Ok(Fetched::Found {
-                patch: copy_of(patch)?,
+                patch: patch.copy()?,
             }),
             None => Ok(Fetched::Missing {
                 version: self.version(),

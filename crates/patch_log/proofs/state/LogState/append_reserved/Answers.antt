@@ -1,20 +1,19 @@
 use Rattle.std.proofs.Common.{◌≡◌, ◌+◌, [], ◌∷◌, ◌++◌, length, Some, Result, Err, refl, sym, ◌∙◌, ap, subst, arith}
 use Rattle.disk_model.proofs.Moments.{starts}
-use Rattle.log_journal.specs.declared.writing.Phase.{Phase as Written}
-use Rattle.log_journal.specs.declared.writing.Phase.TheVariants as written
 use Rattle.log_journal.specs.Payload.{payload_of}
 use Rattle.log_journal.specs.StandsFor.{length_of}
 use Rattle.log_journal.specs.Writing.{StandsWith, payloads_left, doubt_left, failing, longer_by}
-use Rattle.chain_core.specs.declared.fate.Phase.TheVariants.{Settling, Body, Gate}
+use Rattle.delta_base.specs.declared.phase.Phase.{Phase}
+use Rattle.delta_base.specs.declared.phase.Phase.TheVariants.{Settling, Body, Gate}
 use Rattle.chain_core.specs.declared.fate.Fate.TheVariants.{Done, Fails}
 use Rattle.chain_core.specs.declared.answer.Decision.{Decision}
 use Rattle.chain_core.specs.Decision.{decision}
 use Rattle.chain_core.specs.Log.{up}
 use Rattle.chain_core.specs.Patches.{patches_of, texts_of}
-use Rattle.chain_core.specs.Stay.{answer_of, decided_by}
+use Rattle.chain_core.specs.Stay.{answer_of, decided_by, fate_of}
 use Rattle.chain_core.proofs.Patches.{patches_of-push}
 use Rattle.patch_log.specs.Log.{MayHoldDuring}
-use Rattle.patch_log.proofs.States.{text_in, outcome_of, outcome_told, IsTold, told_is, fate_of, same_fate, during, each_holds, still_during, settling_fails, room, chain_kept, version_is, kept_done, kept_in_doubt}
+use Rattle.patch_log.proofs.States.{text_in, outcome_of, outcome_told, IsTold, told_is, same_fate, during, each_holds, still_during, settling_fails, room, chain_kept, version_is, kept_done, kept_in_doubt}
 use Rattle.patch_log.proofs.state.LogState.append_reserved.Goals as goal
 
 pub write-requires : goal.write-requires
@@ -65,12 +64,12 @@ returns-in-Err-Settling-clause-stay g c =
     let log = c.self.inside in
     let patch = c.ready.inside.patch in
     let chain = patches_of log.chain.items in
-    let failed : c.write.result ≡ Err written.Settling = c.in-Err-Settling.is ∙ ap (λ (phase : Written). Err phase) c.in-Err-Settling.field-0-is in
+    let failed : c.write.result ≡ Err Settling = c.in-Err-Settling.is ∙ ap (λ (phase : Phase). Err phase) c.in-Err-Settling.field-0-is in
     let phase = c.write.ensures.phase log.number (texts_of chain) (text_in log.doubt) c.self.invariant.stands in
     rw (← c.self.view_is, ← c.ready.view_is) (
       Fails Settling,
       outcome_of chain log.doubt patch log.limits c.in-Accept.version (Fails Settling) (rw c.as_slice.ensures at c.in-Accept.ensures) ∙ settling_fails log.number log.journal chain log.doubt patch c.self.invariant.stands (c.write.ensures.settling failed),
-      λ told version is. ap (λ (r : Result Unit Written). fate_of (failing r)) (sym failed) ∙ ap fate_of (phase told) ∙ same_fate log.doubt _,
+      λ told version is. ap (λ (r : Result Unit Phase). fate_of (failing r)) (sym failed) ∙ ap fate_of (phase told) ∙ same_fate log.doubt _,
     )
 
 pub returns-in-Err-Settling-clause-any_moment : goal.returns-in-Err-Settling-clause-any_moment
@@ -86,12 +85,12 @@ returns-in-Err-Body-clause-stay g c =
     let log = c.self.inside in
     let patch = c.ready.inside.patch in
     let chain = patches_of log.chain.items in
-    let failed : c.write.result ≡ Err written.Body = c.in-Err-Body.is ∙ ap (λ (phase : Written). Err phase) c.in-Err-Body.field-0-is in
+    let failed : c.write.result ≡ Err Body = c.in-Err-Body.is ∙ ap (λ (phase : Phase). Err phase) c.in-Err-Body.field-0-is in
     let phase = c.write.ensures.phase log.number (texts_of chain) (text_in log.doubt) c.self.invariant.stands in
     rw (← c.self.view_is, ← c.ready.view_is) (
       Fails Body,
       outcome_of chain log.doubt patch log.limits c.in-Accept.version (Fails Body) (rw c.as_slice.ensures at c.in-Accept.ensures),
-      λ told version is. ap (λ (r : Result Unit Written). fate_of (failing r)) (sym failed) ∙ ap fate_of (phase told) ∙ same_fate log.doubt _,
+      λ told version is. ap (λ (r : Result Unit Phase). fate_of (failing r)) (sym failed) ∙ ap fate_of (phase told) ∙ same_fate log.doubt _,
     )
 
 pub returns-in-Err-Body-clause-any_moment : goal.returns-in-Err-Body-clause-any_moment
@@ -108,9 +107,9 @@ invariant_of-self-in-Err-Gate g c =
     let patch = c.ready.inside.patch in
     let chain = patches_of log.chain.items in
     let payload = payload_of c.ready.inside.block in
-    let failed : c.write.result ≡ Err written.Gate = c.in-Err-Gate.is ∙ ap (λ (phase : Written). Err phase) c.in-Err-Gate.field-0-is in
-    let stands = subst (λ (r : Result Unit Written). StandsWith c.write.new.journal log.number (payloads_left r (texts_of chain) payload) (doubt_left r (text_in log.doubt) payload)) failed (c.write.ensures.stands log.number (texts_of chain) (text_in log.doubt) c.self.invariant.stands) in
-    let same_length = subst (λ (r : Result Unit Written). length_of c.write.new.journal ≡ length_of log.journal + longer_by r (length payload)) failed c.write.ensures.length in
+    let failed : c.write.result ≡ Err Gate = c.in-Err-Gate.is ∙ ap (λ (phase : Phase). Err phase) c.in-Err-Gate.field-0-is in
+    let stands = subst (λ (r : Result Unit Phase). StandsWith c.write.new.journal log.number (payloads_left r (texts_of chain) payload) (doubt_left r (text_in log.doubt) payload)) failed (c.write.ensures.stands log.number (texts_of chain) (text_in log.doubt) c.self.invariant.stands) in
+    let same_length = subst (λ (r : Result Unit Phase). length_of c.write.new.journal ≡ length_of log.journal + longer_by r (length payload)) failed c.write.ensures.length in
     kept_in_doubt log.journal c.write.new.journal log.chain.items log.doubt log.number log.limits c.self.invariant patch c.in-Accept.version (rw c.as_slice.ensures at c.in-Accept.ensures) c.ready.invariant.sound (payload_of c.ready.inside.block) c.ready.invariant.block_is stands same_length c.write.ensures.limit
 
 pub returns-in-Accept-clause-stay : goal.returns-in-Accept-clause-stay
@@ -118,12 +117,12 @@ returns-in-Accept-clause-stay g c =
     let log = c.self.inside in
     let patch = c.ready.inside.patch in
     let chain = patches_of log.chain.items in
-    let failed : c.write.result ≡ Err written.Gate = c.in-Err-Gate.is ∙ ap (λ (phase : Written). Err phase) c.in-Err-Gate.field-0-is in
+    let failed : c.write.result ≡ Err Gate = c.in-Err-Gate.is ∙ ap (λ (phase : Phase). Err phase) c.in-Err-Gate.field-0-is in
     let phase = c.write.ensures.phase log.number (texts_of chain) (text_in log.doubt) c.self.invariant.stands in
     rw (← c.self.view_is, ← c.ready.view_is) (
       Fails Gate,
       outcome_of chain log.doubt patch log.limits c.in-Accept.version (Fails Gate) (rw c.as_slice.ensures at c.in-Accept.ensures),
-      λ told version is. ap (λ (r : Result Unit Written). fate_of (failing r)) (sym failed) ∙ ap fate_of (phase told) ∙ same_fate log.doubt _,
+      λ told version is. ap (λ (r : Result Unit Phase). fate_of (failing r)) (sym failed) ∙ ap fate_of (phase told) ∙ same_fate log.doubt _,
     )
 
 pub returns-in-Accept-clause-any_moment : goal.returns-in-Accept-clause-any_moment
