@@ -4,6 +4,7 @@
 //! calls, so that a caller's contract can say that a fault has its cause outside.
 #![tactic(auto)]
 
+mod count;
 mod fault;
 mod id;
 mod link;

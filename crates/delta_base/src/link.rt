@@ -5,6 +5,7 @@ ghost use Rattle.delta_base.specs.Counted.{Counted};
 ghost use Rattle.delta_base.specs.Memory.{CountsOnLink};
 ghost use Rattle.delta_base.specs.Outside.{HasCause};
 
+use crate::count::CallCount;
 use crate::fault::Failed;
 use crate::list::Calls;
 use crate::memory::move_front;
@@ -53,9 +54,7 @@ pub struct MemLink {
     at: usize,
     piece: usize,
     sent: Vec<u8>,
-    failing: Calls,
-    calls: u64,
-    faults: u64,
+    count: CallCount,
 }
 
 impl Model for MemLink {
@@ -68,9 +67,9 @@ impl Model for MemLink {
       left = drop s.at s.content;
       sent = s.sent.items;
       piece = s.piece;
-      failing = s.failing.items;
-      calls = s.calls;
-      faults = s.faults;
+      failing = s.count.failing.items;
+      calls = s.count.calls;
+      faults = s.count.faults;
     } };
 
     ghost invariant = { λ s. (s.at ≤ length s.content) × (0 < s.piece) };
@@ -93,9 +92,7 @@ impl MemLink {
             at: 0,
             piece,
             sent: Vec::new(alloc),
-            failing,
-            calls: 0,
-            faults: 0,
+            count: CallCount::new(failing),
         }
     }
 
@@ -125,12 +122,7 @@ impl Link for MemLink {
         ensures faults { OnOk result (self.new.faults ≡ self.old.faults) }
         ensures next { CountsOnLink self.old self.new }
     {
-        let number = self.calls;
-        self.calls = self.calls.saturating_add(1);
-        if self.failing.as_slice().contains(&number) {
-            self.faults = self.faults.saturating_add(1);
-            return Err(Failed);
-        }
+        self.count.start()?;
         let count = move_front(&self.content.as_slice()[self.at..], self.piece, into);
         self.at += count;
         Ok(count)
@@ -149,19 +141,15 @@ impl Link for MemLink {
         ensures faults { OnOk result (self.new.faults ≡ self.old.faults) }
         ensures next { CountsOnLink self.old self.new }
     {
-        let number = self.calls;
-        self.calls = self.calls.saturating_add(1);
-        if self.failing.as_slice().contains(&number)
-            || self.sent.extend_from_slice(bytes).is_err()
-        {
-            self.faults = self.faults.saturating_add(1);
-            return Err(Failed);
+        self.count.start()?;
+        if self.sent.extend_from_slice(bytes).is_err() {
+            return Err(self.count.fail());
         }
         Ok(bytes.len())
     }
 
     fn faults(&self) -> u64 {
-        self.faults
+        self.count.faults
     }
 }
 

@@ -4,6 +4,7 @@ ghost use Rattle.std.specs.Io.KnownBytes.{ReadConsumes, WriteAppends};
 ghost use Rattle.delta_base.specs.Outside.{HasCause};
 ghost use Rattle.delta_base.specs.Memory.{CountsOn, CountsOnWrites};
 
+use crate::count::CallCount;
 use crate::fault::Failed;
 use crate::list::Calls;
 use crate::outside::{Sink, Source};
@@ -18,9 +19,7 @@ pub struct MemSource {
     /// How many bytes were read.
     at: usize,
     piece: usize,
-    failing: Calls,
-    calls: u64,
-    faults: u64,
+    count: CallCount,
 }
 
 impl Model for MemSource {
@@ -32,9 +31,9 @@ impl Model for MemSource {
     ghost view = { λ s. record {
       left = drop s.at s.content;
       piece = s.piece;
-      failing = s.failing.items;
-      calls = s.calls;
-      faults = s.faults;
+      failing = s.count.failing.items;
+      calls = s.count.calls;
+      faults = s.count.faults;
     } };
 
     ghost invariant = { λ s. (s.at ≤ length s.content) × (0 < s.piece) };
@@ -54,9 +53,7 @@ impl MemSource {
             content,
             at: 0,
             piece,
-            failing,
-            calls: 0,
-            faults: 0,
+            count: CallCount::new(failing),
         }
     }
 }
@@ -91,19 +88,14 @@ impl Source for MemSource {
         ensures faults { OnOk result (self.new.faults ≡ self.old.faults) }
         ensures next { CountsOn self.old self.new }
     {
-        let number = self.calls;
-        self.calls = self.calls.saturating_add(1);
-        if self.failing.as_slice().contains(&number) {
-            self.faults = self.faults.saturating_add(1);
-            return Err(Failed);
-        }
+        self.count.start()?;
         let count = move_front(&self.content.as_slice()[self.at..], self.piece, into);
         self.at += count;
         Ok(count)
     }
 
     fn faults(&self) -> u64 {
-        self.faults
+        self.count.faults
     }
 }
 
@@ -111,9 +103,7 @@ impl Source for MemSource {
 #[derive(Debug, Drop)]
 pub struct MemSink {
     content: Vec<u8>,
-    failing: Calls,
-    calls: u64,
-    faults: u64,
+    count: CallCount,
 }
 
 impl Model for MemSink {
@@ -123,9 +113,9 @@ impl Model for MemSink {
 
     ghost view = { λ s. record {
       written = s.content.items;
-      failing = s.failing.items;
-      calls = s.calls;
-      faults = s.faults;
+      failing = s.count.failing.items;
+      calls = s.count.calls;
+      faults = s.count.faults;
     } };
 }
 
@@ -139,9 +129,7 @@ impl MemSink {
     {
         MemSink {
             content: Vec::new(alloc),
-            failing,
-            calls: 0,
-            faults: 0,
+            count: CallCount::new(failing),
         }
     }
 
@@ -169,18 +157,14 @@ impl Sink for MemSink {
         ensures faults { OnOk result (self.new.faults ≡ self.old.faults) }
         ensures next { CountsOnWrites self.old self.new }
     {
-        let number = self.calls;
-        self.calls = self.calls.saturating_add(1);
-        if self.failing.as_slice().contains(&number)
-            || self.content.extend_from_slice(bytes).is_err()
-        {
-            self.faults = self.faults.saturating_add(1);
-            return Err(Failed);
+        self.count.start()?;
+        if self.content.extend_from_slice(bytes).is_err() {
+            return Err(self.count.fail());
         }
         Ok(bytes.len())
     }
 
     fn faults(&self) -> u64 {
-        self.faults
+        self.count.faults
     }
 }
