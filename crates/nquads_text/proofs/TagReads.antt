@@ -18,7 +18,8 @@ use Rattle.nquads_text.proofs.Steps.{bind_ok, bind_err, chosen, ok_is, not_both,
 use Rattle.nquads_text.proofs.Plain.{with_nothing}
 use Rattle.nquads_text.proofs.Runs.{with_front-twice}
 use Rattle.nquads_text.proofs.Inside.{low_char}
-use Rattle.nquads_text.proofs.TagLaws.{dashed, tag_found}
+use Rattle.rdf_terms.proofs.Tags.{dashed}
+use Rattle.nquads_text.proofs.TagLaws.{tag_found}
 use Rattle.nquads_text.proofs.Needed.{char_fault, no_character, char_stands}
 
 -- ---- words are read whatever follows

@@ -24,8 +24,10 @@ pub use laws::{
     blanks_are_skipped, characters_are_read, iris_are_read, labels_are_read, printed_is_read,
     strings_are_read, tags_are_read, terms_are_read, terms_are_settled,
 };
+pub use pieces::{iri_piece, string_piece};
 pub use printing::{print_term, push_iri, push_quoted, push_term};
 pub use statement::read_statement;
+pub use tags::is_tag_byte;
 pub use terms::{read_term, skip_blanks};
 
 #[cfg(test)]

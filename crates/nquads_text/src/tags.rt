@@ -11,7 +11,7 @@ use rdf_terms::Tag;
 use std::alloc::Global;
 
 /// Whether the byte is a letter, or behind the first dash a letter or a digit.
-fn is_tag_byte(first: bool, b: u8) -> bool
+pub fn is_tag_byte(first: bool, b: u8) -> bool
     ensures { result ≡ in_tag first b }
 {
     if first {

@@ -1,6 +1,5 @@
 -- One step through an unfinished row, by places.
 use Rattle.std.proofs.Common.{◌≡◌, ℕ, ◌+◌, ◌<◌, ◌≤◌, Bool, true, false, List, [], ◌∷◌, ◌++◌, length, drop, get_or, Option, Some, Ok, Err, nat_eq, refl, sym, ap, subst, ◌∙◌, ◌⊎◌, inl, inr, ⊎_elim, append-nil, arith}
-use Rattle.std.specs.Option.{option_map}
 use Rattle.std.specs.Char.{is_ascii_alphabetic}
 use Rattle.std.proofs.lemmas.Bool.{false≢true, cases_lt, eqb-true}
 use Rattle.std.proofs.lemmas.List.{drop-append-le, drop_more, drop_all}
@@ -9,7 +8,7 @@ use Rattle.nquads_text.specs.Faults.{begins_term}
 use Rattle.nquads_text.specs.Reading.{char_at}
 use Rattle.patch_rows.specs.declared.fault.RowKind.{RowKind}
 use Rattle.patch_rows.specs.Reading.{skip_space, space_behind, stands, word_at, code_named}
-use Rattle.patch_reader.specs.declared.codes.Code.{Code}
+use Rattle.patch_rows.specs.declared.codes.Code.{Code}
 use Rattle.patch_reader.specs.declared.inside.Inside.{Inside}
 use Rattle.patch_reader.specs.declared.inside.Inside.TheVariants as inside
 use Rattle.patch_reader.specs.declared.progress.Part.{Part}
@@ -19,7 +18,6 @@ use Rattle.patch_reader.specs.declared.progress.Place.TheVariants as place
 use Rattle.patch_reader.specs.declared.progress.Progress.{Progress}
 use Rattle.patch_reader.specs.declared.progress.Step.{Step}
 use Rattle.patch_reader.specs.declared.progress.Step.TheVariants as step
-use Rattle.patch_reader.specs.Codes.{row_code}
 use Rattle.patch_reader.specs.Cut.{AtEnd, is_cut, ends_row}
 use Rattle.patch_reader.specs.Inside.{OpenInside, IsInsideWithin, IsFurther}
 use Rattle.patch_reader.specs.Live.{live_row}
@@ -118,7 +116,7 @@ from_place text old known step.Unknown is = tt
 
 -- ---- a row's code
 
-pub code_leads : (text letters : List ℕ) (start after : ℕ) (c : Code) → start ≤ length text → after ≤ length text → word_at (drop start text) ≡ Ok (letters, drop after text) → code_named letters ≡ Some (row_code c)
+pub code_leads : (text letters : List ℕ) (start after : ℕ) (c : Code) → start ≤ length text → after ≤ length text → word_at (drop start text) ≡ Ok (letters, drop after text) → code_named letters ≡ Some c
     → Leads text (place.Row start) (place.Gap (first_part c) after false)
 code_leads text letters start after c low high e named = λ more o.
     subst (λ (t : List ℕ). AtEnd (live_row t)) (behind text more start low)
@@ -159,6 +157,3 @@ followed_inside text first old new within so_far is = (
       let leads : (more : List ℕ) → OpenInside new (text ++ more) → IsUnfinished (text ++ more) = λ more o. ⊎_elim (λ a. here.0 more a) (λ b. here.1 more b) (is.0 more o) in
       ((here.0, leads), now_open text (OpenInside new) leads is.2),
 )
-
-pub named_code : (o : Option Code) (c : Code) (word : List ℕ) → option_map row_code o ≡ code_named word → o ≡ Some c → code_named word ≡ Some (row_code c)
-named_code o c word e is = sym e ∙ ap (option_map row_code) is

@@ -15,11 +15,10 @@ use Rattle.patch_rows.specs.Fault.{Fault, Read, ◌>>=◌}
 use Rattle.patch_rows.specs.Faults.{is_dot}
 use Rattle.patch_rows.specs.Grammar.{is_word_byte, is_any, is_node}
 use Rattle.patch_rows.specs.Reading.{skip_space, stands, placed_at, run_of, key_at, past_colon, quoted_at, prefix_iri_at, uncut, other, dot_at, end_at, code_named, word_at}
-use Rattle.patch_reader.specs.declared.codes.Code.{Code}
-use Rattle.patch_reader.specs.declared.codes.Code.TheVariants as code
+use Rattle.patch_rows.specs.declared.codes.Code.{Code}
+use Rattle.patch_rows.specs.declared.codes.Code.TheVariants as code
 use Rattle.patch_reader.specs.declared.progress.Part.{Part}
 use Rattle.patch_reader.specs.declared.progress.Part.TheVariants as part
-use Rattle.patch_reader.specs.Codes.{row_code}
 use Rattle.patch_reader.specs.Cut.{AtEnd, is_cut}
 use Rattle.patch_reader.specs.Live.{live_placed, live_key, live_quoted, live_word_prefix, live_prefix, live_prefix_iri, live_graph_or_dot, live_header, live_bare, live_quad, live_added, live_removed, live_parts, live_row}
 use Rattle.patch_reader.specs.Progress.{Rest, end_from, graph_from, object_from, predicate_from, subject_from, value_from, key_from, iri_from, added_from, removed_from, rest_from, part_at, part_behind, first_part}
@@ -285,7 +284,7 @@ removed_end : (rest : List ℕ) → AtEnd (removed_from (skip_space rest)) → A
 unfolding removed_from live_removed
 removed_end rest a = map_end (live_prefix (skip_space rest)) _ _ (λ p w. end_then (live_graph_or_dot (skip_space p.1)) _ (graph_end (skip_space p.1) w)) a
 
-parts_end : (c : Code) (rest : List ℕ) → AtEnd (rest_from (first_part c) (skip_space rest)) → AtEnd (live_parts (row_code c) rest)
+parts_end : (c : Code) (rest : List ℕ) → AtEnd (rest_from (first_part c) (skip_space rest)) → AtEnd (live_parts c rest)
 unfolding live_parts
 parts_end code.Header rest a = header_end rest a
 parts_end code.Begin rest a = bare_end change.Begin rest a
@@ -303,7 +302,7 @@ word_again rest more letters after e = by (subst (λ (r : Read (List ℕ)). Keep
     by (inl h) = absurd h
     by (inr h) = h
 
-pub row_over : (rest more letters after : List ℕ) (c : Code) → word_at rest ≡ Ok (letters, after) → code_named letters ≡ Some (row_code c) → AtEnd (rest_from (first_part c) (skip_space (after ++ more)))
+pub row_over : (rest more letters after : List ℕ) (c : Code) → word_at rest ≡ Ok (letters, after) → code_named letters ≡ Some c → AtEnd (rest_from (first_part c) (skip_space (after ++ more)))
     → AtEnd (live_row (rest ++ more))
 unfolding live_row
 row_over rest more letters after c e named a =

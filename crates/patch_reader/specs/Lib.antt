@@ -1,4 +1,3 @@
-pub mod Codes
 pub mod Cut
 pub mod Decided
 pub mod Inside

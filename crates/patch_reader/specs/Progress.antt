@@ -7,8 +7,8 @@ use Rattle.patch_rows.specs.declared.fault.RowKind.TheVariants.{Common}
 use Rattle.patch_rows.specs.Fault.{Fault, ◌>>=◌}
 use Rattle.patch_rows.specs.Grammar.{is_any, is_node}
 use Rattle.patch_rows.specs.Reading.{space_behind, skip_space, stands, dot_at}
-use Rattle.patch_reader.specs.declared.codes.Code.{Code}
-use Rattle.patch_reader.specs.declared.codes.Code.TheVariants as code
+use Rattle.patch_rows.specs.declared.codes.Code.{Code}
+use Rattle.patch_rows.specs.declared.codes.Code.TheVariants as code
 use Rattle.patch_reader.specs.declared.inside.Inside.{Inside}
 use Rattle.patch_reader.specs.declared.inside.Inside.TheVariants as inside
 use Rattle.patch_reader.specs.declared.progress.Part.{Part}

@@ -9,26 +9,16 @@ ghost use Rattle.patch_rows.specs.declared.fault.RowFault.TheVariants as faults;
 ghost use Rattle.nquads_text.specs.declared.fault.TextKind.TheVariants.{Truncated};
 ghost use Rattle.patch_reader.specs.Cut.{is_front as front, begins_name_char as names, label_open, is_cut, ends_quoted as ends_in_quote, kind_open, literal_open, blank_open, ends_row};
 
-use crate::terms::is_at;
 use nquads_text::TextKind;
+use patch_rows::tokens::is_at;
 use patch_rows::{RowFault, RowKind};
 use rdf_terms::{LiteralKind, Term};
-
-/// The fault at a place.
-pub fn fault_at(at: usize, kind: RowKind) -> RowFault
-    ensures { result ≡ faults.At at kind }
-{
-    RowFault::At {
-        at: at as u64,
-        kind,
-    }
-}
 
 /// The fault of what the text's end cuts off.
 pub fn cut_off(text: &[u8]) -> RowFault
     ensures { IsThere text.now result (Common Truncated, []) }
 {
-    fault_at(text.len(), RowKind::Common(TextKind::Truncated))
+    RowFault::at(text.len(), RowKind::Common(TextKind::Truncated))
 }
 
 /// Whether these bytes are the front of a character.

@@ -2,15 +2,13 @@
 
 ghost use Rattle.std.specs.Prelude.{◌≡◌, ◌⊎◌, ◌≤◌, ◌<◌, ◌++◌, ℕ, List, true, length, drop};
 ghost use Rattle.rdf_terms.specs.Names.{is_name_char as in_name};
-ghost use Rattle.nquads_text.specs.Terms.{is_tag_byte as in_tag};
 ghost use Rattle.patch_reader.specs.Inside.{OpenInside, IsInsideWithin, IsFurther};
 ghost use Rattle.patch_reader.specs.declared.inside.Inside.TheVariants as inside;
 
-use crate::characters::{iri_piece, string_piece};
 use crate::cut::{ends, is_cut_at, is_name_at};
-use crate::words::{letters_end, word_end};
-use nquads_text::{ReadFault, char_at, skip_blanks};
+use nquads_text::{ReadFault, char_at, iri_piece, is_tag_byte, skip_blanks, string_piece};
 use patch_rows::RowKind;
+use patch_rows::tokens::{letters_end, word_end};
 use rdf_terms::is_name_char;
 
 /// What is known of a token: it goes on up to a mark.
@@ -157,17 +155,6 @@ fn blanks_run(text: &[u8], from: usize) -> Inside
         return Inside::Datatype { mark: at + 2 };
     }
     Inside::Blanks { mark: at }
-}
-
-/// Whether the byte is a letter, or behind the first dash a letter or a digit.
-fn is_tag_byte(first: bool, b: u8) -> bool
-    ensures { result ≡ in_tag first b }
-{
-    if first {
-        b.is_ascii_alphabetic()
-    } else {
-        b.is_ascii_alphanumeric()
-    }
 }
 
 /// Over the bytes of a tag.

@@ -8,8 +8,6 @@
 //! `specs/Progress.antt` is what it knows of an unfinished row. `read_row` reads a row within its limit in a whole text.
 #![tactic(auto)]
 
-mod characters;
-mod codes;
 mod cut;
 mod inside;
 mod laws;

@@ -11,13 +11,12 @@ ghost use Rattle.patch_reader.specs.Progress.{part_at, part_behind as part_behin
 ghost use Rattle.patch_reader.specs.declared.progress.Part.TheVariants as parts;
 ghost use Rattle.patch_reader.specs.declared.progress.Place.TheVariants as place;
 
-use crate::codes::{Code, find_code};
 use crate::cut::{ends, is_cut_at};
 use crate::inside::{Inside, is_inside_within, is_open, pass};
-use crate::rows::dot;
-use crate::terms::{any, iri, is_at, is_letter_at, is_term_at, node};
-use crate::words::{key, prefix, prefix_iri, word};
+use crate::terms::{any, iri, node};
+use crate::words::{key, prefix, prefix_iri};
 use nquads_text::{TextKind, char_at};
+use patch_rows::tokens::{Code, dot, find_code, is_at, is_letter_at, is_term_at, word};
 use patch_rows::{RowFault, RowKind, is_line_end, is_space};
 use rdf_terms::begins_name;
 use std::alloc::Global;

@@ -9,7 +9,7 @@ ghost use Rattle.patch_rows.specs.Grammar.{begins_space, IsRowAt, row_limit};
 ghost use Rattle.patch_reader.specs.Decided.{Decides};
 ghost use Rattle.patch_reader.specs.Limit.{front_row_at, limited_row_at};
 
-use crate::cut::{ends, fault_at};
+use crate::cut::ends;
 use crate::rows::row;
 use patch_rows::{Row, RowFault, RowKind, unlimited_row};
 use std::alloc::Global;
@@ -46,13 +46,13 @@ fn front_row(alloc: Global, text: &[u8], at: usize) -> Result<(Row, usize), RowF
     match row(alloc, front, at) {
         Ok((row, end)) => {
             if end == front.len() {
-                return Err(fault_at(at, RowKind::TooLong));
+                return Err(RowFault::at(at, RowKind::TooLong));
             }
             Ok((row, end))
         }
         Err(RowFault::At { at: place, kind }) => {
             if ends(front, place as usize, kind) {
-                return Err(fault_at(at, RowKind::TooLong));
+                return Err(RowFault::at(at, RowKind::TooLong));
             }
             Err(RowFault::At { at: place, kind })
         }

@@ -3,52 +3,16 @@
 ghost use Rattle.std.specs.Prelude.{◌≡◌, ◌≤◌, ◌<◌, length, drop, true, false, IfOk};
 ghost use Rattle.rdf_terms.specs.Quad.{may_be_graph};
 ghost use Rattle.patch_rows.specs.declared.codes.Code.TheVariants as codes;
-ghost use Rattle.patch_rows.specs.Fault.{Gives, Ends};
-ghost use Rattle.patch_rows.specs.Reading.{skip_space as behind_space, dot_at, end_at};
+ghost use Rattle.patch_rows.specs.Fault.{Gives};
 ghost use Rattle.patch_reader.specs.Live.{live_graph_or_dot, live_graph, live_header, live_bare, live_quad, live_added, live_removed, live_parts, live_row};
-ghost use Rattle.patch_reader.specs.Codes.{row_code};
 
-use crate::codes::{Code, find_code};
-use crate::cut::fault_at;
-use crate::terms::{any, iri, is_at, is_term_at, node, other};
-use crate::words::{key, prefix, prefix_iri, word};
+use crate::terms::{any, iri, node};
+use crate::words::{key, prefix, prefix_iri};
 use nquads_text::TextKind;
-use patch_rows::{Row, RowFault, RowKind, skip_space};
+use patch_rows::tokens::{Code, dot, end, find_code, is_term_at, pass_space, word};
+use patch_rows::{Row, RowFault, RowKind};
 use rdf_terms::{Change, Quad, Term};
 use std::alloc::Global;
-
-/// The dot of a row; `missing` is the kind of a byte that begins no term.
-#[tactic(auto, unfolding(patch_rows::specs::Reading::dot_at), using(patch_rows::proofs::Steps::met))]
-pub fn dot(text: &[u8], at: usize, missing: RowKind) -> Result<usize, RowFault>
-    requires { at ≤ length text.now }
-    ensures { Ends text.now result (dot_at missing (drop at text.now)) }
-{
-    if is_at(text, at, b'.') {
-        return Ok(at + 1);
-    }
-    if is_term_at(text, at) {
-        return Err(fault_at(at, RowKind::WrongCount));
-    }
-    Err(other(text, at, missing))
-}
-
-/// The place behind white space and comments, read from left to right.
-pub fn pass_space(text: &[u8], from: usize) -> usize
-    requires { from ≤ length text.now }
-    ensures behind { drop result text.now ≡ behind_space (drop from text.now) }
-    ensures low { from ≤ result }
-    ensures high { result ≤ length text.now }
-{
-    skip_space(text, from)
-}
-
-/// White space and comments, and the dot of a row.
-fn end(text: &[u8], at: usize, missing: RowKind) -> Result<usize, RowFault>
-    requires { at ≤ length text.now }
-    ensures { Ends text.now result (end_at missing (drop at text.now)) }
-{
-    dot(text, pass_space(text, at), missing)
-}
 
 /// A graph and the dot, or the dot.
 #[tactic(auto, unfolding(crate::specs::Live::live_graph_or_dot))]
@@ -171,7 +135,7 @@ fn removed(alloc: Global, text: &[u8], at: usize) -> Result<(Row, usize), RowFau
 #[tactic(auto, unfolding(crate::specs::Live::live_parts))]
 fn parts(alloc: Global, code: Code, text: &[u8], at: usize) -> Result<(Row, usize), RowFault>
     requires { at ≤ length text.now }
-    ensures { Gives text.now result (live_parts (row_code code) (drop at text.now)) }
+    ensures { Gives text.now result (live_parts code (drop at text.now)) }
 {
     match code {
         Code::Header => header(alloc, text, at),
@@ -194,6 +158,6 @@ pub fn row(alloc: Global, text: &[u8], at: usize) -> Result<(Row, usize), RowFau
     let (word, behind) = word(text, at)?;
     match find_code(word) {
         Some(code) => parts(alloc, code, text, behind),
-        None => Err(fault_at(at, RowKind::UnknownCode)),
+        None => Err(RowFault::at(at, RowKind::UnknownCode)),
     }
 }

@@ -1,158 +1,17 @@
 //! The terms of rows whose text may go on.
 
-ghost use Rattle.std.specs.Prelude.{◌≡◌, ◌≤◌, ◌<◌, ◌==◌, ◌+◌, IsTrue, length, drop, IfOk, true, false};
-ghost use Rattle.std.specs.Char.{is_ascii_alphabetic};
-ghost use Rattle.rdf_terms.specs.Iri.{IsIri, has_scheme as spells_scheme};
+ghost use Rattle.std.specs.Prelude.{◌≡◌, ◌≤◌, length, drop, IfOk, true, false};
 ghost use Rattle.rdf_terms.specs.Quad.{is_iri as iri_stands, is_literal as literal_stands};
-ghost use Rattle.nquads_text.specs.Faults.{begins_term as opens_term};
-ghost use Rattle.nquads_text.specs.Reading.{iri_body_at};
-ghost use Rattle.nquads_text.specs.Terms.{label_at, term_at};
-ghost use Rattle.patch_rows.specs.Fault.{Gives, IsThere, in_row};
+ghost use Rattle.patch_rows.specs.Fault.{Gives};
 ghost use Rattle.patch_rows.specs.Grammar.{is_any, is_node};
-ghost use Rattle.patch_rows.specs.Faults.{is_dot};
-ghost use Rattle.patch_rows.specs.Reading.{stands, other as other_of, begins_blank as blank_begins, whole_label, bracketed as bracketed_of, bracket_at, row_term_at, needed_term_at};
 ghost use Rattle.patch_reader.specs.Live.{live_term, live_placed, unless_open_blank};
 
-use crate::cut::{cut_off, fault_at, is_open_blank, is_open_literal};
-use delta_base::Text;
-use nquads_text::{ReadFault, TextKind, char_at, iri_body, label, read_term};
+use crate::cut::{cut_off, is_open_blank, is_open_literal};
+use nquads_text::TextKind;
+use patch_rows::tokens::{is_iri, is_literal, needed_term};
 use patch_rows::{RowFault, RowKind};
-use rdf_terms::{Iri, Term, has_scheme};
+use rdf_terms::Term;
 use std::alloc::Global;
-
-/// Whether the byte stands at a place.
-pub fn is_at(text: &[u8], at: usize, b: u8) -> bool
-    requires { at ≤ length text.now }
-    ensures stands { result ≡ stands (λ c. c == b) (drop at text.now) }
-    ensures some { IsTrue result → at < length text.now }
-    ensures next { IsTrue result → drop (at + 1) text.now ≡ drop 1 (drop at text.now) }
-{
-    at < text.len() && text[at] == b
-}
-
-/// Whether a letter stands at a place.
-pub fn is_letter_at(text: &[u8], at: usize) -> bool
-    requires { at ≤ length text.now }
-    ensures { result ≡ stands is_ascii_alphabetic (drop at text.now) }
-{
-    at < text.len() && text[at].is_ascii_alphabetic()
-}
-
-/// Whether a term begins at a place.
-pub fn is_term_at(text: &[u8], at: usize) -> bool
-    requires { at ≤ length text.now }
-    ensures { result ≡ stands opens_term (drop at text.now) }
-{
-    at < text.len() && matches!(text[at], b'<' | b'_' | b'"')
-}
-
-/// The fault where none of the bytes that are allowed stands.
-#[tactic(auto, unfolding(patch_rows::specs::Reading::other))]
-pub fn other(text: &[u8], at: usize, kind: RowKind) -> RowFault
-    requires { at ≤ length text.now }
-    ensures { IsThere text.now result (other_of kind (drop at text.now)) }
-{
-    match char_at(text, at) {
-        Ok(_) => fault_at(at, kind),
-        Err(e) => RowFault::from(e),
-    }
-}
-
-/// A term as in N-Triples.
-fn plain_term(alloc: Global, text: &[u8], at: usize) -> Result<(Term, usize), RowFault>
-    requires { at ≤ length text.now }
-    ensures { Gives text.now result (in_row (term_at (drop at text.now))) }
-{
-    let term = read_term(alloc, text, at)?;
-    Ok(term)
-}
-
-/// What stands between the brackets of an IRIREF, and the place behind them.
-fn body(alloc: Global, text: &[u8], at: usize) -> Result<(Text, usize), RowFault>
-    requires { at ≤ length text.now }
-    ensures { Gives text.now result (in_row (iri_body_at (drop at text.now))) }
-{
-    let (body, end) = iri_body(alloc, text, at)?;
-    Ok((Text::from_string(body), end))
-}
-
-fn begins_blank(bytes: &[u8]) -> bool
-    ensures { result ≡ blank_begins bytes.now }
-{
-    match bytes {
-        [] => false,
-        [_] => false,
-        [a, b, ..] => *a == b'_' && *b == b':',
-    }
-}
-
-/// The blank node whose label, behind `_:`, is all of what stands between the brackets.
-#[tactic(auto, using(patch_rows::proofs::BracketSteps::whole_steps))]
-fn blank(
-    alloc: Global,
-    text: &[u8],
-    start: usize,
-    body: &[u8],
-    end: usize,
-) -> Result<(Term, usize), RowFault>
-    requires begins { start ≤ length text.now }
-    requires within { end ≤ length text.now }
-    requires some { 1 ≤ length body.now }
-    ensures { Gives text.now result (whole_label (drop start text.now) (drop end text.now) (label_at body.now (drop 1 body.now))) }
-{
-    let bad = fault_at(start, RowKind::Common(TextKind::BadLabel));
-    match label(alloc, body, 0, 1) {
-        Ok((label, size)) => {
-            if size == body.len() {
-                return Ok((Term::Blank(label), end));
-            }
-            Err(bad)
-        }
-        Err(ReadFault::At { .. }) => Err(bad),
-        Err(ReadFault::OutOfMemory) => Err(RowFault::OutOfMemory),
-    }
-}
-
-/// The IRIREF, or the blank node in brackets, whose `<` stands at `start`.
-#[tactic(auto, unfolding(patch_rows::specs::Reading::bracket_at, patch_rows::specs::Reading::bracketed), using(patch_rows::proofs::BracketSteps::bracket_steps))]
-fn bracket(alloc: Global, text: &[u8], start: usize, at: usize) -> Result<(Term, usize), RowFault>
-    requires begins { start ≤ length text.now }
-    requires within { at ≤ length text.now }
-    ensures { Gives text.now result (bracket_at (drop start text.now) (drop at text.now)) }
-{
-    let (body, end) = body(alloc, text, at)?;
-    if begins_blank(body.as_bytes()) {
-        return blank(alloc, text, start, body.as_bytes(), end);
-    }
-    if !has_scheme(body.as_bytes()) {
-        return Err(fault_at(start, RowKind::Common(TextKind::RelativeIri)));
-    }
-    Ok((Term::Iri(Iri::of_checked(body)), end))
-}
-
-/// A term of a row.
-#[tactic(auto, using(patch_rows::proofs::BracketSteps::term_steps))]
-fn row_term(alloc: Global, text: &[u8], at: usize) -> Result<(Term, usize), RowFault>
-    requires { at ≤ length text.now }
-    ensures { Gives text.now result (row_term_at (drop at text.now)) }
-{
-    if is_at(text, at, b'<') {
-        return bracket(alloc, text, at, at + 1);
-    }
-    plain_term(alloc, text, at)
-}
-
-/// A term, where a dot means that the row has too few.
-#[tactic(auto, unfolding(patch_rows::specs::Reading::needed_term_at))]
-fn needed_term(alloc: Global, text: &[u8], at: usize) -> Result<(Term, usize), RowFault>
-    requires { at ≤ length text.now }
-    ensures { Gives text.now result (needed_term_at (drop at text.now)) }
-{
-    if is_at(text, at, b'.') {
-        return Err(fault_at(at, RowKind::WrongCount));
-    }
-    row_term(alloc, text, at)
-}
 
 /// A term that more text doesn't change, but for the end of a label.
 #[tactic(auto, unfolding(crate::specs::Live::live_term))]
@@ -191,18 +50,6 @@ pub fn any(alloc: Global, text: &[u8], at: usize) -> Result<(Term, usize), RowFa
     unless_open(text, at, term, end)
 }
 
-fn is_literal(term: &Term) -> bool
-    ensures { result ≡ literal_stands term.now }
-{
-    matches!(term, Term::Literal(_))
-}
-
-fn is_iri(term: &Term) -> bool
-    ensures { result ≡ iri_stands term.now }
-{
-    matches!(term, Term::Iri(_))
-}
-
 /// An IRI or a blank node.
 #[tactic(auto, unfolding(crate::specs::Live::live_placed))]
 pub fn node(alloc: Global, text: &[u8], at: usize) -> Result<(Term, usize), RowFault>
@@ -212,7 +59,7 @@ pub fn node(alloc: Global, text: &[u8], at: usize) -> Result<(Term, usize), RowF
 {
     let (term, end) = term(alloc, text, at)?;
     if is_literal(&term) {
-        return Err(fault_at(at, RowKind::Common(TextKind::BadPosition)));
+        return Err(RowFault::at(at, RowKind::Common(TextKind::BadPosition)));
     }
     unless_open(text, at, term, end)
 }
@@ -226,7 +73,7 @@ pub fn iri(alloc: Global, text: &[u8], at: usize) -> Result<(Term, usize), RowFa
 {
     let (term, end) = term(alloc, text, at)?;
     if !is_iri(&term) {
-        return Err(fault_at(at, RowKind::Common(TextKind::BadPosition)));
+        return Err(RowFault::at(at, RowKind::Common(TextKind::BadPosition)));
     }
     unless_open(text, at, term, end)
 }

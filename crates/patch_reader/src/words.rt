@@ -1,114 +1,31 @@
-//! Words, keys, prefixes and their IRIs in rows whose text may go on.
+//! Keys, prefixes and their IRIs in rows whose text may go on.
 
-ghost use Rattle.std.specs.Prelude.{◌≡◌, ◌≤◌, ◌<◌, ◌+◌, List, ℕ, [], length, drop, take, IfOk, IsUtf8, slice_range};
-ghost use Rattle.std.specs.Char.{is_ascii_alphabetic};
-ghost use Rattle.std.specs.List.{prefix_len};
-ghost use Rattle.patch_rows.specs.Fault.{Gives, GivesSlice};
-ghost use Rattle.patch_rows.specs.Grammar.{is_word_byte as in_word};
-ghost use Rattle.patch_rows.specs.Reading.{word_at, iri_of_string as iri_for, past_colon as behind_colon};
+ghost use Rattle.std.specs.Prelude.{◌≡◌, ◌≤◌, List, ℕ, [], length, drop};
+ghost use Rattle.patch_rows.specs.Fault.{Gives};
 ghost use Rattle.patch_reader.specs.Live.{live_key, live_quoted, live_word_prefix, live_prefix, live_prefix_iri};
 
-use crate::cut::{cut_off, fault_at};
-use crate::terms::{is_at, is_letter_at, is_term_at, other, term};
-use delta_base::{OutOfMemory, Text};
+use crate::cut::cut_off;
+use crate::terms::term;
+use delta_base::Text;
 use nquads_text::TextKind;
-use patch_rows::{RowFault, RowKind};
-use rdf_terms::{Iri, Literal, LiteralKind, Term, TermFault};
+use patch_rows::tokens::{
+    iri_of_string, is_at, is_letter_at, is_term_at, other, past_colon, word_text,
+};
+use patch_rows::{RowFault, RowKind, tokens};
+use rdf_terms::{Iri, Literal, LiteralKind, Term};
 use std::alloc::Global;
 
-fn is_word_byte(b: u8) -> bool
-    ensures { result ≡ in_word b }
-{
-    b.is_ascii_alphanumeric() || b == b'_' || b == b'-'
-}
-
-/// The place behind letters.
-#[tactic(auto, using(patch_rows::proofs::WordSteps::run_steps))]
-pub fn letters_end(text: &[u8], from: usize) -> usize
-    requires { from ≤ length text.now }
-    ensures end { result ≡ from + prefix_len is_ascii_alphabetic (drop from text.now) }
-    ensures high { result ≤ length text.now }
-{
-    for at in from..text.len() {
-        if !text[at].is_ascii_alphabetic() {
-            return at;
-        }
-    }
-    text.len()
-}
-
-/// The place behind letters, digits, `_` and `-`.
-#[tactic(auto, using(patch_rows::proofs::WordSteps::run_steps))]
-pub fn word_end(text: &[u8], from: usize) -> usize
-    requires { from ≤ length text.now }
-    ensures end { result ≡ from + prefix_len in_word (drop from text.now) }
-    ensures high { result ≤ length text.now }
-{
-    for at in from..text.len() {
-        if !is_word_byte(text[at]) {
-            return at;
-        }
-    }
-    text.len()
-}
-
-/// The word of letters at a place, which the text's end doesn't cut.
-#[tactic(auto, unfolding(patch_rows::specs::Reading::word_at), using(patch_rows::proofs::Steps::met, patch_rows::proofs::WordSteps::whole_word, patch_rows::proofs::WordSteps::cut_word))]
-pub fn word(text: &[u8], at: usize) -> Result<(&[u8], usize), RowFault>
-    requires { at ≤ length text.now }
-    ensures { GivesSlice text.now result (word_at (drop at text.now)) }
-{
-    if !is_letter_at(text, at) {
-        return Err(other(text, at, RowKind::Common(TextKind::BadToken)));
-    }
-    let end = letters_end(text, at);
-    if end == text.len() {
-        return Err(fault_at(end, RowKind::Common(TextKind::Truncated)));
-    }
-    Ok((&text[at..end], end))
-}
-
-/// The text of the word at a place.
-fn word_text(alloc: Global, text: &[u8], at: usize) -> Result<(Text, usize), OutOfMemory>
-    requires { at ≤ length text.now }
-    ensures word { IfOk result (λ w. w.0 ≡ take (prefix_len in_word (drop at text.now)) (drop at text.now)) }
-    ensures end { IfOk result (λ w. drop w.1 text.now ≡ drop (prefix_len in_word (drop at text.now)) (drop at text.now)) }
-    ensures high { IfOk result (λ w. w.1 ≤ length text.now) }
-{
-    let end = word_end(text, at);
-    let word = unsafe { str::from_utf8_unchecked(&text[at..end]) };
-    Ok((Text::from_str(alloc, word)?, end))
-}
-
 /// The key of a header row.
-#[tactic(auto, unfolding(crate::specs::Live::live_key, patch_rows::specs::Reading::key_at), using(patch_rows::proofs::Steps::met))]
+#[tactic(auto, unfolding(crate::specs::Live::live_key))]
 pub fn key(alloc: Global, text: &[u8], at: usize) -> Result<(Text, usize), RowFault>
     requires { at ≤ length text.now }
     ensures { Gives text.now result (live_key (drop at text.now)) }
 {
-    if is_at(text, at, b'.') {
-        return Err(fault_at(at, RowKind::WrongCount));
-    }
-    if !is_letter_at(text, at) {
-        return Err(other(text, at, RowKind::Common(TextKind::BadToken)));
-    }
-    let (key, end) = word_text(alloc, text, at)?;
+    let (key, end) = tokens::key(alloc, text, at)?;
     if end == text.len() {
         return Err(cut_off(text));
     }
     Ok((key, end))
-}
-
-/// The place behind a colon, if one stands there.
-fn past_colon(text: &[u8], at: usize) -> usize
-    requires { at ≤ length text.now }
-    ensures behind { drop result text.now ≡ behind_colon (drop at text.now) }
-    ensures high { result ≤ length text.now }
-{
-    if at < text.len() && text[at] == b':' {
-        return at + 1;
-    }
-    at
 }
 
 /// A prefix that is written as a plain string.
@@ -125,7 +42,7 @@ fn quoted_prefix(alloc: Global, text: &[u8], at: usize) -> Result<(Text, usize),
                 kind: LiteralKind::Plain,
             },
         ) => Ok((lexical, end)),
-        _ => Err(fault_at(at, RowKind::Common(TextKind::BadPosition))),
+        _ => Err(RowFault::at(at, RowKind::Common(TextKind::BadPosition))),
     }
 }
 
@@ -160,26 +77,6 @@ pub fn prefix(alloc: Global, text: &[u8], at: usize) -> Result<(Text, usize), Ro
     Err(other(text, at, RowKind::Common(TextKind::BadToken)))
 }
 
-/// The IRI that a string spells, whose quote stands at `start`.
-#[tactic(auto, unfolding(patch_rows::specs::Reading::iri_of_string))]
-fn iri_of_string(
-    text: &[u8],
-    start: usize,
-    string: Text,
-    end: usize,
-) -> Result<(Iri, usize), RowFault>
-    requires begins { start ≤ length text.now }
-    requires within { end ≤ length text.now }
-    ensures { Gives text.now result (iri_for (drop start text.now) string (drop end text.now)) }
-{
-    match Iri::new(string) {
-        Ok(iri) => Ok((iri, end)),
-        Err(TermFault::BadIri { .. }) => Err(fault_at(start, RowKind::Common(TextKind::BadIri))),
-        Err(TermFault::RelativeIri) => Err(fault_at(start, RowKind::Common(TextKind::RelativeIri))),
-        Err(_) => Err(RowFault::OutOfMemory),
-    }
-}
-
 /// The IRI of a PA row: an IRIREF, or a plain string.
 #[tactic(auto, unfolding(crate::specs::Live::live_prefix_iri))]
 pub fn prefix_iri(alloc: Global, text: &[u8], at: usize) -> Result<(Iri, usize), RowFault>
@@ -195,6 +92,6 @@ pub fn prefix_iri(alloc: Global, text: &[u8], at: usize) -> Result<(Iri, usize),
                 kind: LiteralKind::Plain,
             },
         ) => iri_of_string(text, at, lexical, end),
-        _ => Err(fault_at(at, RowKind::Common(TextKind::BadPosition))),
+        _ => Err(RowFault::at(at, RowKind::Common(TextKind::BadPosition))),
     }
 }

@@ -29,7 +29,8 @@ pub enum RowFault {
 }
 
 impl RowFault {
-    pub(crate) fn at(at: usize, kind: RowKind) -> RowFault
+    /// The fault at a place.
+    pub fn at(at: usize, kind: RowKind) -> RowFault
         ensures { result ≡ faults.At at kind }
     {
         RowFault::At {

@@ -13,6 +13,7 @@ mod row;
 mod rows;
 mod space;
 mod terms;
+pub mod tokens;
 mod words;
 
 pub use fault::{RowFault, RowKind};

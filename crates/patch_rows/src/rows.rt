@@ -17,7 +17,7 @@ use std::alloc::Global;
 
 /// The dot of a row; `missing` is the kind of a byte that begins no term.
 #[tactic(auto, unfolding(crate::specs::Reading::dot_at), using(crate::proofs::Steps::met))]
-fn dot(text: &[u8], at: usize, missing: RowKind) -> Result<usize, RowFault>
+pub fn dot(text: &[u8], at: usize, missing: RowKind) -> Result<usize, RowFault>
     requires { at ≤ length text.now }
     ensures { Ends text.now result (dot_at missing (drop at text.now)) }
 {
@@ -31,7 +31,7 @@ fn dot(text: &[u8], at: usize, missing: RowKind) -> Result<usize, RowFault>
 }
 
 /// White space and comments, and the dot of a row.
-fn end(text: &[u8], at: usize, missing: RowKind) -> Result<usize, RowFault>
+pub fn end(text: &[u8], at: usize, missing: RowKind) -> Result<usize, RowFault>
     requires { at ≤ length text.now }
     ensures { Ends text.now result (end_at missing (drop at text.now)) }
 {

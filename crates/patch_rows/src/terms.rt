@@ -161,13 +161,15 @@ pub fn any(alloc: Global, text: &[u8], at: usize) -> Result<(Term, usize), RowFa
     needed_term(alloc, text, at)
 }
 
-fn is_literal(term: &Term) -> bool
+/// Whether the term is a literal.
+pub fn is_literal(term: &Term) -> bool
     ensures { result ≡ literal_stands term.now }
 {
     matches!(term, Term::Literal(_))
 }
 
-fn is_iri(term: &Term) -> bool
+/// Whether the term is an IRI.
+pub fn is_iri(term: &Term) -> bool
     ensures { result ≡ iri_stands term.now }
 {
     matches!(term, Term::Iri(_))

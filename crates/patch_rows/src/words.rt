@@ -22,7 +22,7 @@ fn is_word_byte(b: u8) -> bool
 
 /// The place behind letters.
 #[tactic(auto, using(crate::proofs::WordSteps::run_steps))]
-fn letters_end(text: &[u8], from: usize) -> usize
+pub fn letters_end(text: &[u8], from: usize) -> usize
     requires { from ≤ length text.now }
     ensures end { result ≡ from + prefix_len is_ascii_alphabetic (drop from text.now) }
     ensures high { result ≤ length text.now }
@@ -37,7 +37,7 @@ fn letters_end(text: &[u8], from: usize) -> usize
 
 /// The place behind letters, digits, `_` and `-`.
 #[tactic(auto, using(crate::proofs::WordSteps::run_steps))]
-fn word_end(text: &[u8], from: usize) -> usize
+pub fn word_end(text: &[u8], from: usize) -> usize
     requires { from ≤ length text.now }
     ensures end { result ≡ from + prefix_len in_word (drop from text.now) }
     ensures high { result ≤ length text.now }
@@ -67,7 +67,7 @@ pub fn word(text: &[u8], at: usize) -> Result<(&[u8], usize), RowFault>
 }
 
 /// The text of the word at a place.
-fn word_text(alloc: Global, text: &[u8], at: usize) -> Result<(Text, usize), OutOfMemory>
+pub fn word_text(alloc: Global, text: &[u8], at: usize) -> Result<(Text, usize), OutOfMemory>
     requires { at ≤ length text.now }
     ensures word { IfOk result (λ w. w.0 ≡ take (prefix_len in_word (drop at text.now)) (drop at text.now)) }
     ensures end { IfOk result (λ w. drop w.1 text.now ≡ drop (prefix_len in_word (drop at text.now)) (drop at text.now)) }
@@ -95,7 +95,7 @@ pub fn key(alloc: Global, text: &[u8], at: usize) -> Result<(Text, usize), RowFa
 }
 
 /// The place behind a colon, if one stands there.
-fn past_colon(text: &[u8], at: usize) -> usize
+pub fn past_colon(text: &[u8], at: usize) -> usize
     requires { at ≤ length text.now }
     ensures behind { drop result text.now ≡ behind_colon (drop at text.now) }
     ensures high { result ≤ length text.now }
@@ -145,7 +145,7 @@ pub fn prefix(alloc: Global, text: &[u8], at: usize) -> Result<(Text, usize), Ro
 
 /// The IRI that a string spells, whose quote stands at `start`.
 #[tactic(auto, unfolding(crate::specs::Reading::iri_of_string))]
-fn iri_of_string(
+pub fn iri_of_string(
     text: &[u8],
     start: usize,
     string: Text,

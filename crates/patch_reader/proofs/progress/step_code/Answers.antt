@@ -5,7 +5,7 @@ use Rattle.patch_rows.specs.Reading.{word_at}
 use Rattle.patch_reader.specs.declared.progress.Part.{Part}
 use Rattle.patch_reader.specs.declared.progress.Place.TheVariants as place
 use Rattle.patch_reader.specs.Progress.{Leads}
-use Rattle.patch_reader.proofs.ProgressSteps.{code_leads, word_ends, named_code}
+use Rattle.patch_reader.proofs.ProgressSteps.{code_leads, word_ends}
 use Rattle.patch_reader.proofs.progress.step_code.Goals as goal
 
 pub returns-then-ends : goal.returns-then-ends
@@ -17,6 +17,6 @@ pub returns-in-Some : goal.returns-in-Some
 returns-in-Some c = (
   subst (λ (p : Part). Leads c.args.text.now (place.Row c.args.start) (place.Gap p c.in-Ok.behind false)) (sym c.first_part.ensures)
       (code_leads c.args.text.now c.in-Ok.letters.now c.args.start c.in-Ok.behind c.in-Some.code c.requires c.in-Ok.ensures.1 c.in-Ok.ensures.0
-      (named_code c.find_code.result c.in-Some.code c.in-Ok.letters.now c.find_code.ensures c.in-Some.is)),
+      (sym c.find_code.ensures ∙ c.in-Some.is)),
   c.in-Ok.ensures.1,
 )
