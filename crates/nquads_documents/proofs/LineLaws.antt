@@ -10,14 +10,14 @@ use Rattle.rdf_terms.specs.Quad.{Statement, is_iri, is_literal, may_be_graph}
 use Rattle.nquads_text.specs.Terms.{skip_blanks, term_at}
 use Rattle.nquads_text.specs.Statement.{node_at, predicate_at, dot_at, graph_at, statement_at}
 use Rattle.nquads_text.specs.Grammar.{is_blank}
-use Rattle.nquads_text.specs.Printing.{IsTermValue, EndsTerm}
+use Rattle.nquads_text.specs.Printing.{IsTermValue, IsGraphValue, EndsTerm}
 use Rattle.rdf_terms.specs.Line.{term_text}
 use Rattle.nquads_text.proofs.Printed.{printed, space_ends}
 use Rattle.nquads_text.proofs.TermReads.{term_is_read}
 use Rattle.nquads_text.proofs.Fronts.{char_at-ascii}
 use Rattle.nquads_text.proofs.Steps.{ok_is}
 use Rattle.rdf_terms.specs.Line.{line, graph_text}
-use Rattle.nquads_documents.specs.Laws.{IsGraphValue, IsQuadValue, LinesRead, LinesApart}
+use Rattle.nquads_documents.specs.Laws.{IsQuadValue, LinesRead, LinesApart}
 use Rattle.nquads_documents.specs.Reading.{line_end_at, statement_part, part_by, part_at, with_part, document_at}
 use Rattle.nquads_documents.proofs.Documents.{document_part}
 
@@ -123,10 +123,10 @@ statement_here q after v =
     let inner = and_parts (not (is_literal q.subject)) (is_iri q.predicate) outer.0 in
     let third : List ℕ = term_text q.object ++ 32 ∷ graph_tail q.graph after in
     let second : List ℕ = term_text q.predicate ++ 32 ∷ third in
-    let s = node_here q.subject second v.1 (other (is_literal q.subject) inner.0) (stands_term q.predicate (32 ∷ third)) in
-    let p = predicate_here q.predicate third v.2 inner.1 (stands_term q.object (32 ∷ graph_tail q.graph after)) in
-    let o = term_here q.object (graph_tail q.graph after) v.3 (stands_tail q.graph after) in
-    let g = graph_here q.graph after v.4 outer.1 in
+    let s = node_here q.subject second v.1.0 (other (is_literal q.subject) inner.0) (stands_term q.predicate (32 ∷ third)) in
+    let p = predicate_here q.predicate third v.1.1 inner.1 (stands_term q.object (32 ∷ graph_tail q.graph after)) in
+    let o = term_here q.object (graph_tail q.graph after) v.1.2 (stands_tail q.graph after) in
+    let g = graph_here q.graph after v.1.3 outer.1 in
     let to_p = space_to_term q.predicate (32 ∷ third) in
     let to_o = space_to_term q.object (32 ∷ graph_tail q.graph after) in
     let to_g = skip_space (graph_tail q.graph after) ∙ skip_tail q.graph after in

@@ -1,10 +1,10 @@
 -- What terms, printed lines and documents promise to their reader.
-use Rattle.std.specs.Prelude.{◌≡◌, ◌↔◌, ◌⊎◌, ℕ, List, [], ◌∷◌, ◌++◌, Ok, Err, Option, Some, None, IsTrue}
+use Rattle.std.specs.Prelude.{◌≡◌, ◌↔◌, ◌⊎◌, ℕ, List, [], ◌∷◌, ◌++◌, Ok, Err, IsTrue}
 use Rattle.std.specs.List.{All, Contains, flat_map}
 use Rattle.rdf_terms.specs.declared.term.Term.{Term}
 use Rattle.rdf_terms.specs.Quad.{Statement, is_quad}
 use Rattle.nquads_text.specs.Fault.{Fault}
-use Rattle.nquads_text.specs.Printing.{IsTermValue}
+use Rattle.nquads_text.specs.Printing.{HasTermValues}
 use Rattle.nquads_text.specs.Terms.{term_at}
 use Rattle.nquads_documents.specs.Canonical.{IsCanonical}
 use Rattle.nquads_documents.specs.Faults.{DocumentFault}
@@ -13,14 +13,9 @@ use Rattle.nquads_documents.specs.Grammar.{IsDocument}
 use Rattle.rdf_terms.specs.Line.{line}
 use Rattle.nquads_documents.specs.Reading.{document_at}
 
--- no graph, or a term
-abbrev pub IsGraphValue : Option Term → Type 0
-IsGraphValue None = Unit {0}
-IsGraphValue (Some g) = IsTermValue g
-
 -- a statement that a program can hold: each part is a term, and stands where it may
 abbrev pub IsQuadValue : Statement → Type 0
-IsQuadValue q = IsTrue (is_quad q) × IsTermValue q.subject × IsTermValue q.predicate × IsTermValue q.object × IsGraphValue q.graph
+IsQuadValue q = IsTrue (is_quad q) × HasTermValues q
 
 -- printed lines, one behind another, are read as their statements
 abbrev pub LinesRead : Type 0

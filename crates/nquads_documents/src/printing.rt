@@ -4,24 +4,13 @@ ghost use Rattle.std.specs.Prelude.{◌≡◌, ◌++◌, ◌∷◌, [], OnOk, If
 ghost use Rattle.std.specs.List.{All};
 ghost use Rattle.nquads_documents.specs.Canonical.{IsCanonical};
 ghost use Rattle.nquads_documents.specs.Grammar.{IsDocument};
-ghost use Rattle.nquads_documents.specs.Laws.{IsGraphValue, IsQuadValue, IsDocumentOf};
-ghost use Rattle.rdf_terms.specs.Line.{line, graph_text};
+ghost use Rattle.nquads_documents.specs.Laws.{IsQuadValue, IsDocumentOf};
+ghost use Rattle.rdf_terms.specs.Line.{line};
 
 use delta_base::{Bytes, OutOfMemory};
-use nquads_text::push_term;
+use nquads_text::{push_graph, push_term};
 use rdf_terms::{LiteralKind, Quad, Quads, Term};
 use std::alloc::Global;
-
-fn push_graph(out: &mut Vec<u8>, graph: &Option<Term>) -> Result<(), OutOfMemory>
-    ensures text { OnOk result (out.new.items ≡ out.old.items ++ graph_text graph.now) }
-    ensures value { OnOk result (IsGraphValue graph.now) }
-{
-    if let Some(term) = graph {
-        out.push(b' ')?;
-        push_term(out, term)?;
-    }
-    Ok(())
-}
 
 /// Appends the canonical line of a quad.
 #[tactic(auto, using(crate::proofs::Parted::line_parts))]

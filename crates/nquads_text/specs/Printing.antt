@@ -1,5 +1,5 @@
 -- The canonical text of a term, and what may follow it.
-use Rattle.std.specs.Prelude.{◌≡◌, ℕ, List, [], ◌∷◌, ◌++◌, IsTrue, ◌==◌, ◌||◌, IsUtf8}
+use Rattle.std.specs.Prelude.{◌≡◌, ℕ, List, ◌++◌, IsTrue, ◌==◌, ◌||◌, IsUtf8, Option, Some, None}
 use Rattle.std.specs.List.{list_all}
 use Rattle.std.specs.Char.{is_ascii_alphanumeric}
 use Rattle.rdf_terms.specs.Iri.{IsIri}
@@ -7,6 +7,7 @@ use Rattle.rdf_terms.specs.Datatype.{IsDatatype}
 use Rattle.rdf_terms.specs.Label.{IsLabel}
 use Rattle.rdf_terms.specs.Names.{is_name_char}
 use Rattle.rdf_terms.specs.Tag.{IsTag}
+use Rattle.rdf_terms.specs.Quad.{Statement}
 use Rattle.rdf_terms.specs.declared.term.LiteralKind.{LiteralKind}
 use Rattle.rdf_terms.specs.declared.term.LiteralKind.TheVariants.{Plain, Typed, Tagged}
 use Rattle.rdf_terms.specs.declared.term.Term.{Term}
@@ -26,6 +27,15 @@ abbrev pub IsTermValue : Term → Type 0
 IsTermValue (term.Iri iri) = IsUtf8 iri × IsIri iri
 IsTermValue (term.Blank label) = IsLabel label
 IsTermValue (term.Literal literal) = IsUtf8 literal.lexical × IsKind literal.kind
+
+-- no graph, or a term
+abbrev pub IsGraphValue : Option Term → Type 0
+IsGraphValue None = Unit {0}
+IsGraphValue (Some g) = IsTermValue g
+
+-- what each quad keeps of its terms
+abbrev pub HasTermValues : Statement → Type 0
+HasTermValues q = IsTermValue q.subject × IsTermValue q.predicate × IsTermValue q.object × IsGraphValue q.graph
 
 -- ---- what can't go on with a term that stands before it
 

@@ -25,7 +25,7 @@ pub use laws::{
     strings_are_read, tags_are_read, terms_are_read, terms_are_settled,
 };
 pub use pieces::{iri_piece, string_piece};
-pub use printing::{print_term, push_iri, push_quoted, push_term};
+pub use printing::{print_term, push_graph, push_iri, push_quoted, push_term};
 pub use statement::read_statement;
 pub use tags::is_tag_byte;
 pub use terms::{read_term, skip_blanks};

@@ -3,8 +3,8 @@
 ghost use Rattle.std.specs.Prelude.{◌≡◌, ◌++◌, ◌∷◌, [], ℕ, List, OnOk, IfOk};
 ghost use Rattle.std.specs.List.{flat_map};
 ghost use Rattle.nquads_text.specs.Grammar.{TermAt};
-ghost use Rattle.nquads_text.specs.Printing.{IsKind, IsTermValue, EndsTerm};
-ghost use Rattle.rdf_terms.specs.Line.{escaped, quoted, iri_text, kind_text, term_text};
+ghost use Rattle.nquads_text.specs.Printing.{IsKind, IsGraphValue, IsTermValue, EndsTerm};
+ghost use Rattle.rdf_terms.specs.Line.{escaped, quoted, iri_text, kind_text, term_text, graph_text};
 
 use delta_base::{Bytes, OutOfMemory};
 use rdf_terms::{LiteralKind, Term};
@@ -78,6 +78,18 @@ pub fn push_term(out: &mut Vec<u8>, term: &Term) -> Result<(), OutOfMemory>
             push_quoted(out, literal.lexical.as_bytes())?;
             push_kind(out, &literal.kind)?;
         }
+    }
+    Ok(())
+}
+
+/// Appends a graph behind a space, where there is one.
+pub fn push_graph(out: &mut Vec<u8>, graph: &Option<Term>) -> Result<(), OutOfMemory>
+    ensures text { OnOk result (out.new.items ≡ out.old.items ++ graph_text graph.now) }
+    ensures value { OnOk result (IsGraphValue graph.now) }
+{
+    if let Some(term) = graph {
+        out.push(b' ')?;
+        push_term(out, term)?;
     }
     Ok(())
 }

@@ -16,7 +16,7 @@ use Rattle.rdf_terms.specs.Line.{quoted, iri_text, term_text, graph_text}
 use Rattle.rdf_terms.specs.Quad.{Statement, is_iri, is_literal, is_quad, may_be_graph}
 use Rattle.rdf_terms.specs.Tag.{IsWord}
 use Rattle.nquads_text.specs.Grammar.{is_blank, Longest}
-use Rattle.nquads_text.specs.Printing.{IsTermValue}
+use Rattle.nquads_text.specs.Printing.{IsTermValue, IsGraphValue, HasTermValues}
 use Rattle.nquads_text.proofs.Printed.{printed, space_ends}
 use Rattle.patch_rows.specs.declared.codes.Code.{Code}
 use Rattle.patch_rows.specs.declared.codes.Code.TheVariants as code
@@ -24,7 +24,7 @@ use Rattle.patch_rows.specs.declared.row.Row.{Row}
 use Rattle.patch_rows.specs.declared.row.Row.TheVariants as row
 use Rattle.patch_rows.specs.Grammar.{is_word_byte, is_space, begins_space, Space, Spaced, IsKey, KeyAt, letters, WordAt, RowTerm, Placed, is_any, is_node, plain, PrefixAt, PrefixIriAt, EndAt, GraphAt, QuadAt, code_of, ChangeAt, PartsAt, RowAt, row_limit, row_front, IsSettled, ShortRowAt, IsRowAt, IsDecidedRow}
 use Rattle.patch_rows.proofs.Shorter.{row_shorter}
-use Rattle.patch_rows.specs.Printing.{quad_text, change_text, parts_text, row_text, IsGraphValue, IsQuadValue, IsChangeValue, IsRowValue, IsWellPlaced, IsWritable}
+use Rattle.patch_rows.specs.Printing.{quad_text, change_text, parts_text, row_text, IsChangeValue, IsRowValue, IsWellPlaced, IsWritable}
 use Rattle.patch_rows.specs.Reading.{space_behind, skip_space}
 use Rattle.patch_rows.proofs.RunLaws.{run_longest, key_bytes}
 use Rattle.patch_rows.proofs.SpaceLaws.{skipped}
@@ -110,7 +110,7 @@ quad_shape q rest =
     (append_assoc s (32 ∷ (p ++ 32 ∷ (o ++ g))) (ending rest)
     ∙ ap (λ (t : List ℕ). s ++ 32 ∷ t) (append_assoc p (32 ∷ (o ++ g)) (ending rest) ∙ ap (λ (t : List ℕ). p ++ 32 ∷ t) (append_assoc o g (ending rest))))
 
-quad_again : (q : Statement) (rest : List ℕ) → IsQuadValue q → is_quad q ≡ true → QuadAt (quad_text q ++ ending rest) q rest
+quad_again : (q : Statement) (rest : List ℕ) → HasTermValues q → is_quad q ≡ true → QuadAt (quad_text q ++ ending rest) q rest
 quad_again q rest v e =
     let parts = quad_parts q e in
     let g : List ℕ = graph_text q.graph ++ ending rest in

@@ -1,10 +1,9 @@
 -- The canonical text of a row, and of which rows it is one.
-use Rattle.std.specs.Prelude.{ℕ, List, [], ◌∷◌, ◌++◌, IsTrue, IsUtf8, Option, Some, None}
-use Rattle.rdf_terms.specs.declared.term.Term.{Term}
+use Rattle.std.specs.Prelude.{ℕ, List, [], ◌∷◌, ◌++◌, IsTrue, IsUtf8}
 use Rattle.rdf_terms.specs.declared.change.Change.{Change}
 use Rattle.rdf_terms.specs.declared.change.Change.TheVariants as change
 use Rattle.rdf_terms.specs.Iri.{IsIri}
-use Rattle.nquads_text.specs.Printing.{IsTermValue}
+use Rattle.nquads_text.specs.Printing.{IsTermValue, IsGraphValue, HasTermValues}
 use Rattle.rdf_terms.specs.Line.{quoted, iri_text, term_text, graph_text}
 use Rattle.rdf_terms.specs.Quad.{Statement, is_quad, may_be_graph}
 use Rattle.patch_rows.specs.declared.row.Row.{Row}
@@ -36,19 +35,10 @@ row_text r = letters (code_of r) ++ (parts_text r ++ 32 ∷ 46 ∷ [])
 
 -- ---- the values
 
--- what each graph of a row keeps
-abbrev pub IsGraphValue : Option Term → Type 0
-IsGraphValue None = Unit {0}
-IsGraphValue (Some g) = IsTermValue g
-
--- what each quad keeps of its terms
-abbrev pub IsQuadValue : Statement → Type 0
-IsQuadValue q = IsTermValue q.subject × IsTermValue q.predicate × IsTermValue q.object × IsGraphValue q.graph
-
 -- what each value of the type `Change` keeps
 abbrev pub IsChangeValue : Change → Type 0
-IsChangeValue (change.Add q) = IsQuadValue q
-IsChangeValue (change.Delete q) = IsQuadValue q
+IsChangeValue (change.Add q) = HasTermValues q
+IsChangeValue (change.Delete q) = HasTermValues q
 IsChangeValue (change.PrefixAdd prefix iri graph) = IsUtf8 prefix × IsUtf8 iri × IsIri iri × IsGraphValue graph
 IsChangeValue (change.PrefixDelete prefix graph) = IsUtf8 prefix × IsGraphValue graph
 IsChangeValue change.Begin = Unit {0}

@@ -1,15 +1,15 @@
 //! The canonical text of a row.
 
 ghost use Rattle.std.specs.Prelude.{◌≡◌, ◌≤◌, ◌+◌, ◌-◌, ◌++◌, ◌∷◌, [], ℕ, List, OnOk, IfOk, length};
-ghost use Rattle.rdf_terms.specs.Line.{graph_text};
+ghost use Rattle.nquads_text.specs.Printing.{HasTermValues};
 ghost use Rattle.patch_rows.specs.Grammar.{RowAt, row_limit, IsDecidedRow, letters, code_of as code_for, code_of_change as code_for_change};
-ghost use Rattle.patch_rows.specs.Printing.{quad_text, change_text, parts_text, row_text, IsGraphValue, IsQuadValue, IsChangeValue, IsRowValue, IsWritable};
+ghost use Rattle.patch_rows.specs.Printing.{quad_text, change_text, parts_text, row_text, IsChangeValue, IsRowValue, IsWritable};
 
 use crate::codes::Code;
 use crate::row::Row;
 use delta_base::{Bytes, OutOfMemory};
-use nquads_text::{push_iri, push_quoted, push_term};
-use rdf_terms::{Change, Quad, Term};
+use nquads_text::{push_graph, push_iri, push_quoted, push_term};
+use rdf_terms::{Change, Quad};
 use std::alloc::Global;
 
 fn code_of_change(change: &Change) -> Code
@@ -35,22 +35,10 @@ fn code_of(row: &Row) -> Code
     }
 }
 
-/// Appends a graph behind a space, where there is one.
-fn push_graph(out: &mut Vec<u8>, graph: &Option<Term>) -> Result<(), OutOfMemory>
-    ensures text { OnOk result (out.new.items ≡ out.old.items ++ graph_text graph.now) }
-    ensures value { OnOk result (IsGraphValue graph.now) }
-{
-    if let Some(term) = graph {
-        out.push(b' ')?;
-        push_term(out, term)?;
-    }
-    Ok(())
-}
-
 /// Appends the terms of a quad, each behind a space.
 fn push_quad(out: &mut Vec<u8>, quad: &Quad) -> Result<(), OutOfMemory>
     ensures text { OnOk result (out.new.items ≡ out.old.items ++ quad_text quad.now) }
-    ensures value { OnOk result (IsQuadValue quad.now) }
+    ensures value { OnOk result (HasTermValues quad.now) }
 {
     out.push(b' ')?;
     push_term(out, quad.subject())?;
