@@ -1,6 +1,6 @@
 //! The command `replay`: the canonical lines of the dataset that a stream of patches makes.
 ghost use Rattle.std.specs.Prelude.{◌≡◌, IfErr, OnOk};
-ghost use Rattle.sink_writing.specs.Writing.{joined};
+ghost use Rattle.stream_replay.specs.Lines.{bytes_of};
 ghost use Rattle.delta_cli.specs.Channels.{Writes, channel};
 ghost use Rattle.delta_cli.specs.Results.{HasLines, Prints, Reads, StopsPrinting, StopsReplay, refusal_of};
 
@@ -27,8 +27,8 @@ pub fn replay<S: Source, K: Sink>(alloc: Global, input: &mut S, out: &mut K) -> 
 
 // Writes the lines.
 fn print_lines<K: Sink>(alloc: Global, lines: &Lines, out: &mut K) -> Result<(), Refusal>
-    ensures done { OnOk result (Writes (channel (K.written out.old) (K.faults out.old)) (channel (K.written out.new) (K.faults out.new)) (joined lines.now.keys)) }
-    ensures stopped { IfErr result (StopsPrinting (joined lines.now.keys) (channel (K.written out.old) (K.faults out.old)) (channel (K.written out.new) (K.faults out.new))) }
+    ensures done { OnOk result (Writes (channel (K.written out.old) (K.faults out.old)) (channel (K.written out.new) (K.faults out.new)) (bytes_of lines.now.keys)) }
+    ensures stopped { IfErr result (StopsPrinting (bytes_of lines.now.keys) (channel (K.written out.old) (K.faults out.old)) (channel (K.written out.new) (K.faults out.new))) }
 {
     let Ok(room) = Vec::with_capacity(alloc, PIECE) else {
         return Err(Refusal::OutOfMemory);

@@ -19,3 +19,4 @@ pub mod StatementLaws
 pub mod Steps
 pub mod Tails
 pub mod TermsRead
+pub mod Utf8Lines

@@ -1,6 +1,6 @@
 //! Canonical lines, and documents of them.
 
-ghost use Rattle.std.specs.Prelude.{◌≡◌, ◌++◌, ◌∷◌, [], OnOk, IfOk, map};
+ghost use Rattle.std.specs.Prelude.{◌≡◌, ◌++◌, ◌∷◌, [], OnOk, IfOk, map, string_bytes};
 ghost use Rattle.std.specs.List.{All};
 ghost use Rattle.nquads_documents.specs.Canonical.{IsCanonical};
 ghost use Rattle.nquads_documents.specs.Grammar.{IsDocument};
@@ -74,12 +74,13 @@ pub fn line_of(alloc: Global, quad: &Quad) -> Result<Vec<u8>, OutOfMemory>
 }
 
 /// The canonical line of a quad, which is read again as that quad.
-#[tactic(auto, using(crate::proofs::Again::line_again))]
-pub fn print_line(alloc: Global, quad: &Quad) -> Result<Bytes, OutOfMemory>
-    ensures text { IfOk result (λ bytes. bytes ≡ line quad.now) }
-    ensures read_again { IfOk result (λ bytes. IsDocument bytes (quad.now ∷ [])) }
+pub fn print_line(alloc: Global, quad: &Quad) -> Result<String, OutOfMemory>
+    ensures text { IfOk result (λ text. string_bytes text ≡ line quad.now) }
+    ensures read_again { IfOk result (λ text. IsDocument (string_bytes text) (quad.now ∷ [])) }
 {
-    Ok(Bytes::from_vec(line_of(alloc, quad)?))
+    let line = line_of(alloc, quad)?;
+    // Its terms are in UTF-8, and what stands between them is ASCII.
+    Ok(unsafe { String::from_utf8_unchecked(line) })
 }
 
 // The canonical line of each quad.

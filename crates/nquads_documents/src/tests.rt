@@ -78,7 +78,7 @@ fn a_line_is_printed_with_its_line_feed(rt: HostRuntime) -> Result<(), Fail> {
         .ok_or("refused")?;
     assert_eq!(rt; quads.len(), 1);
     let line = print_line(rt.alloc(), quads.get(0).ok_or("no quad")?)?;
-    assert!(rt; line.as_slice() == b"_:a <a:p> _:o .\n".as_slice());
+    assert!(rt; line.as_str() == "_:a <a:p> _:o .\n");
     Ok(())
 }
 

@@ -1,6 +1,7 @@
 -- The lines of a dataset while changes are made.
 use Rattle.std.proofs.Common.{◌≡◌, ℕ, ◌+◌, ◌<◌, ◌≤◌, Bool, true, false, cond, List, [], ◌∷◌, ◌++◌, length, drop, get_or, refl, sym, ap, ◌∙◌, append_assoc, append-nil, subst, map}
-use Rattle.std.specs.Global.{Vec}
+use Rattle.std.specs.Prelude.{String, string_bytes}
+use Rattle.std.specs.declared.alloc.Global.{Global}
 use Rattle.std.specs.Ordering.{nat_cmp, match_ordering, is_eq}
 use Rattle.std.specs.declared.cmp.Ordering.{Ordering}
 use Rattle.std.specs.declared.cmp.Ordering.TheVariants.{Less, Equal, Greater}
@@ -17,9 +18,8 @@ use Rattle.rdf_terms.specs.Line.{line, lines}
 use Rattle.rdf_terms.specs.Dataset.{Dataset, effect, effects, kept, kept_behind}
 use Rattle.stream_replay.specs.declared.lines.Block.{Block}
 use Rattle.stream_replay.specs.declared.lines.Block.TheVariants as block
-use Rattle.sink_writing.specs.Writing.{joined}
 use Rattle.sink_writing.proofs.Pieces.{drop_item}
-use Rattle.stream_replay.specs.Lines.{AreLinesOf, aborts, block_behind, effect_in}
+use Rattle.stream_replay.specs.Lines.{AreLinesOf, aborts, block_behind, bytes_of, effect_in}
 
 -- ---- a key goes in where its image goes in
 
@@ -128,31 +128,30 @@ steps block.Dropped (PrefixDelete prefix graph) cs d fits = (fits, in_dropped (P
 
 -- ---- one change
 
-abbrev pub items_of : Vec ℕ → List ℕ
-items_of v = v.items
-
-pub lines_after_add : (keys keys' : List (Vec ℕ)) (v : Vec ℕ) (q : Statement) (d : Dataset) → keys' ≡ insert_key (λ (x y : Vec ℕ). slice_cmp nat_cmp x.items y.items) keys v → v.items ≡ line q → AreLinesOf keys d → AreLinesOf keys' (effect (Add q) d)
-lines_after_add keys keys' v q d e is are =
-    ap (map items_of) e ∙ map-insert_key items_of (slice_cmp nat_cmp) keys v
-    ∙ ap (λ (l : List (List ℕ)). insert_key (slice_cmp nat_cmp) l v.items) are ∙ ap (insert_key (slice_cmp nat_cmp) (map line d.quads)) is
+pub lines_after_add : (keys keys' : List (String Global)) (text : String Global) (q : Statement) (d : Dataset) → keys' ≡ insert_key (λ (x y : String Global). slice_cmp nat_cmp (string_bytes x) (string_bytes y)) keys text → string_bytes text ≡ line q
+    → AreLinesOf keys d → AreLinesOf keys' (effect (Add q) d)
+lines_after_add keys keys' text q d e is are =
+    ap (map string_bytes) e ∙ map-insert_key string_bytes (slice_cmp nat_cmp) keys text
+    ∙ ap (λ (l : List (List ℕ)). insert_key (slice_cmp nat_cmp) l (string_bytes text)) are ∙ ap (insert_key (slice_cmp nat_cmp) (map line d.quads)) is
     ∙ sym (map-insert_key line (slice_cmp nat_cmp) d.quads q)
 
-pub lines_after_delete : (keys keys' : List (Vec ℕ)) (bytes : List ℕ) (q : Statement) (d : Dataset) → keys' ≡ remove_key (λ (v : Vec ℕ). is_eq (slice_cmp nat_cmp bytes v.items)) keys → bytes ≡ line q → AreLinesOf keys d → AreLinesOf keys' (effect (Delete q) d)
+pub lines_after_delete : (keys keys' : List (String Global)) (bytes : List ℕ) (q : Statement) (d : Dataset) → keys' ≡ remove_key (λ (text : String Global). is_eq (slice_cmp nat_cmp bytes (string_bytes text))) keys → bytes ≡ line q
+    → AreLinesOf keys d → AreLinesOf keys' (effect (Delete q) d)
 lines_after_delete keys keys' bytes q d e is are =
-    ap (map items_of) e ∙ map-remove_key items_of (λ l. is_eq (slice_cmp nat_cmp bytes l)) keys
+    ap (map string_bytes) e ∙ map-remove_key string_bytes (λ l. is_eq (slice_cmp nat_cmp bytes l)) keys
     ∙ ap (remove_key (λ l. is_eq (slice_cmp nat_cmp bytes l))) are ∙ ap (λ (b : List ℕ). remove_key (λ l. is_eq (slice_cmp nat_cmp b l)) (map line d.quads)) is
     ∙ sym (map-remove_key line (λ l. is_eq (slice_cmp nat_cmp (line q) l)) d.quads)
 
 -- ---- loops
 
--- a dataset whose lines the vectors are, from which the changes that are left lead to the end
-pub record Leads (b : Block) (keys : List (Vec ℕ)) (left : List Change) (end : Dataset) : Type 0 where
+-- a dataset whose lines the texts are, from which the changes that are left lead to the end
+pub record Leads (b : Block) (keys : List (String Global)) (left : List Change) (end : Dataset) : Type 0 where
   pub now : Dataset
   pub lines : AreLinesOf keys now
   pub fits : Fits b left
   pub to : run b left now ≡ end
 
-pub leads_more : (b next : Block) (keys keys' : List (Vec ℕ)) (cs : List Change) (i : ℕ) (item : Change) (end : Dataset) → i < length cs → item ≡ get_or cs i item → next ≡ block_behind b item (drop (i + 1) cs)
+pub leads_more : (b next : Block) (keys keys' : List (String Global)) (cs : List Change) (i : ℕ) (item : Change) (end : Dataset) → i < length cs → item ≡ get_or cs i item → next ≡ block_behind b item (drop (i + 1) cs)
     → ((d : Dataset) → AreLinesOf keys d → AreLinesOf keys' (effect_in b item d)) → Leads b keys (drop i cs) end → Leads next keys' (drop (i + 1) cs) end
 leads_more b next keys keys' cs i item end lt is next_is step l =
     let here = drop_item cs i item lt is in
@@ -170,7 +169,7 @@ run_none block.Outside d = refl
 run_none block.Kept d = refl
 run_none block.Dropped d = refl
 
-pub leads_end : (b : Block) (keys : List (Vec ℕ)) (cs : List Change) (i : ℕ) (end : Dataset) → length cs ≤ i → Leads b keys (drop i cs) end → AreLinesOf keys end
+pub leads_end : (b : Block) (keys : List (String Global)) (cs : List Change) (i : ℕ) (end : Dataset) → length cs ≤ i → Leads b keys (drop i cs) end → AreLinesOf keys end
 leads_end b keys cs i end le l =
     let same : l.now ≡ end = sym (run_none b l.now) ∙ sym (ap (λ (left : List Change). run b left l.now) (drop_all i cs le)) ∙ l.to in
     subst (AreLinesOf keys) same l.lines
@@ -192,10 +191,10 @@ flat_by_map : {X : Type 0} (f : X → List ℕ) (xs : List X) → flat_map f xs 
 flat_by_map f [] = refl
 flat_by_map f (x ∷ xs) = flat_map-cons f x xs ∙ ap (λ (l : List ℕ). f x ++ l) (flat_by_map f xs) ∙ sym (flat_map-cons (λ (l : List ℕ). l) (f x) (map f xs))
 
--- the bytes of the vectors are the dataset's lines
-pub joined_lines : (keys : List (Vec ℕ)) (d : Dataset) → AreLinesOf keys d → joined keys ≡ lines d.quads
-joined_lines keys d are = flat_by_map items_of keys ∙ ap (flat_map (λ (l : List ℕ). l)) are ∙ sym (flat_by_map line d.quads)
+-- the bytes of the texts are the dataset's lines
+pub joined_lines : (keys : List (String Global)) (d : Dataset) → AreLinesOf keys d → bytes_of keys ≡ lines d.quads
+joined_lines keys d are = flat_by_map string_bytes keys ∙ ap (flat_map (λ (l : List ℕ). l)) are ∙ sym (flat_by_map line d.quads)
 
--- there are as many vectors as quads
-pub as_many : (keys : List (Vec ℕ)) (d : Dataset) → AreLinesOf keys d → length keys ≡ length d.quads
-as_many keys d are = sym (length-map keys items_of) ∙ ap length are ∙ length-map d.quads line
+-- there are as many texts as quads
+pub as_many : (keys : List (String Global)) (d : Dataset) → AreLinesOf keys d → length keys ≡ length d.quads
+as_many keys d are = sym (length-map keys string_bytes) ∙ ap length are ∙ length-map d.quads line

@@ -6,3 +6,4 @@ pub mod Finds
 pub mod Fed
 pub mod Inputs
 pub mod PassedSpace
+pub mod Printed

@@ -1,6 +1,7 @@
 -- A dataset as the lines of its quads.
-use Rattle.std.specs.Prelude.{◌≡◌, ℕ, Bool, true, false, List, [], ◌∷◌, map, if◌then◌else◌}
-use Rattle.std.specs.Global.{Vec}
+use Rattle.std.specs.Prelude.{◌≡◌, ℕ, Bool, true, false, List, [], ◌∷◌, map, String, string_bytes, if◌then◌else◌}
+use Rattle.std.specs.declared.alloc.Global.{Global}
+use Rattle.std.specs.List.{flat_map}
 use Rattle.rdf_terms.specs.declared.change.Change.{Change}
 use Rattle.rdf_terms.specs.declared.change.Change.TheVariants.{Begin, Commit, Abort}
 use Rattle.rdf_terms.specs.Line.{line}
@@ -8,9 +9,13 @@ use Rattle.rdf_terms.specs.Dataset.{Dataset, effect}
 use Rattle.stream_replay.specs.declared.lines.Block.{Block}
 use Rattle.stream_replay.specs.declared.lines.Block.TheVariants as block
 
--- the vectors hold the lines of the dataset's quads, in their order
-abbrev pub AreLinesOf : List (Vec ℕ) → Dataset → Type 0
-AreLinesOf keys d = map (λ v. v.items) keys ≡ map line d.quads
+-- the texts are the lines of the dataset's quads, in their order
+abbrev pub AreLinesOf : List (String Global) → Dataset → Type 0
+AreLinesOf keys d = map string_bytes keys ≡ map line d.quads
+
+-- the bytes of texts, one after another
+abbrev pub bytes_of : List (String Global) → List ℕ
+bytes_of keys = flat_map string_bytes keys
 
 -- the next TC or TA is TA
 abbrev pub aborts : List Change → Bool

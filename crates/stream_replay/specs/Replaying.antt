@@ -11,8 +11,7 @@ use Rattle.stream_replay.specs.declared.fault.ReplayFault.{ReplayFault}
 use Rattle.stream_replay.specs.declared.fault.ReplayFault.TheVariants as ends
 use Rattle.stream_replay.specs.declared.replay.Replay.{Replay}
 use Rattle.stream_replay.specs.declared.replay.Replayed.{Replayed}
-use Rattle.sink_writing.specs.Writing.{joined}
-use Rattle.stream_replay.specs.Lines.{AreLinesOf}
+use Rattle.stream_replay.specs.Lines.{AreLinesOf, bytes_of}
 
 -- a chain so far, and the lines of its dataset
 pub record IsWhole (ms : List Meaning) (r : Replay) : Type 0 where
@@ -35,7 +34,7 @@ IsReplay ms r = HasTaken ms r.fault r
 pub record AreReplayed (ms : List Meaning) (r : Replayed) : Type 0 where
   pub chain : IsChain (links_of ms)
   pub lines_are : AreLinesOf r.lines.keys (replay ms)
-  pub bytes_are : joined r.lines.keys ≡ lines (replay ms).quads
+  pub bytes_are : bytes_of r.lines.keys ≡ lines (replay ms).quads
   pub patches_is : r.patches ≡ length ms
   pub quads_is : r.quads ≡ length (replay ms).quads
   pub head_is : r.head ≡ last_or None (links_of ms)

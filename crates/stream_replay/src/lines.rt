@@ -1,21 +1,20 @@
 //! A dataset as the set of its lines, in the order of their bytes.
-ghost use Rattle.std.specs.Prelude.{◌≡◌, ◌+◌, ◌<◌, ◌≤◌, ◌++◌, ℕ, List, [], length, true, false, IfOk, OnOk, vec_len, vec_capacity};
+ghost use Rattle.std.specs.Prelude.{◌≡◌, ◌+◌, ◌<◌, ◌≤◌, ◌++◌, ℕ, List, [], length, true, false, OnOk, vec_len, vec_capacity};
 ghost use Rattle.std.specs.Io.KnownBytes.{Appends};
 ghost use Rattle.delta_base.specs.Outside.{Rose};
-ghost use Rattle.rdf_terms.specs.Line.{line};
 ghost use Rattle.rdf_terms.specs.Dataset.{Dataset, apply, effect};
-ghost use Rattle.sink_writing.specs.Writing.{AppendsFront, joined};
-ghost use Rattle.stream_replay.specs.Lines.{AreLinesOf, aborts, block_behind, effect_in};
+ghost use Rattle.sink_writing.specs.Writing.{AppendsFront};
+ghost use Rattle.stream_replay.specs.Lines.{AreLinesOf, aborts, block_behind, bytes_of, effect_in};
 
 use delta_base::{OutOfMemory, Sink};
 use nquads_documents::print_line;
-use rdf_terms::{Change, Quad};
+use rdf_terms::Change;
 use sink_writing::{PIECE, put, write_all};
 use std::alloc::Global;
 use std::collections::BTreeSet;
 
-/// The lines of a dataset.
-pub type Lines = BTreeSet<Vec<u8>>;
+/// The lines of a dataset. The order of texts is that of their bytes.
+pub type Lines = BTreeSet<String>;
 
 /// Where a change stands.
 #[derive(Clone, Copy)]
@@ -92,35 +91,28 @@ fn apply_one(alloc: Global, change: &Change, lines: &mut Lines) -> Result<(), Ou
 {
     match change {
         Change::Add(quad) => {
-            lines.insert(line_of(alloc, quad)?)?;
+            lines.insert(print_line(alloc, quad)?)?;
             Ok(())
         }
         Change::Delete(quad) => {
-            let line = line_of(alloc, quad)?;
-            lines.remove(line.as_slice());
+            let line = print_line(alloc, quad)?;
+            lines.remove(line.as_str());
             Ok(())
         }
         _ => Ok(()),
     }
 }
 
-// The canonical line.
-fn line_of(alloc: Global, quad: &Quad) -> Result<Vec<u8>, OutOfMemory>
-    ensures { IfOk result (λ text. text.items ≡ line quad.now) }
-{
-    Ok(print_line(alloc, quad)?.into_vec())
-}
-
 /// Writes the lines one after another, and says whether it could. The room takes a piece of them.
 pub fn write_lines<K: Sink>(out: &mut K, lines: &Lines, mut room: Vec<u8>) -> bool
     requires empty { vec_len room ≡ 0 }
     requires large { PIECE ≤ vec_capacity room }
-    ensures whole { result ≡ true → Appends (K.written out.old) (K.written out.new) (joined lines.now.keys) }
-    ensures front { AppendsFront (K.written out.old) (K.written out.new) (joined lines.now.keys) }
+    ensures whole { result ≡ true → Appends (K.written out.old) (K.written out.new) (bytes_of lines.now.keys) }
+    ensures front { AppendsFront (K.written out.old) (K.written out.new) (bytes_of lines.now.keys) }
     ensures failed { result ≡ false → Rose (K.faults out.old) (K.faults out.new) }
 {
     for line in lines {
-        if !put(out, &mut room, line.as_slice()) {
+        if !put(out, &mut room, line.as_bytes()) {
             return false;
         }
     }

@@ -1,5 +1,5 @@
 //! The next row of a window.
-ghost use Rattle.std.specs.Prelude.{◌≤◌, ◌<◌, ◌^◌, false, length};
+ghost use Rattle.std.specs.Prelude.{◌≤◌, ◌<◌, ◌^◌, true, false, length};
 ghost use Rattle.stream_replay.specs.Streaming.{FindsNext};
 
 use patch_meaning::{Next, next_row, role_of};
@@ -20,9 +20,18 @@ pub fn next_in(
     ensures { FindsNext whole bytes.now from result }
 {
     if whole {
-        return next_row(alloc, bytes, from);
+        return whole_next(alloc, bytes, from);
     }
     decided_next(alloc, bytes, from)
+}
+
+// The same of a whole text. Few rows are left to it, so the loop over those that a piece decides holds no second reader.
+#[inline(never)]
+fn whole_next(alloc: Global, bytes: &[u8], from: usize) -> Result<Option<Next>, RowFault>
+    requires { from ≤ length bytes.now }
+    ensures { FindsNext true bytes.now from result }
+{
+    next_row(alloc, bytes, from)
 }
 
 // The same of a text that may go on.

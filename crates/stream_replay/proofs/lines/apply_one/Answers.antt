@@ -8,9 +8,9 @@ use Rattle.stream_replay.proofs.lines.apply_one.Goals as goal
 pub returns-in_ok-insert-in-Add : goal.returns-in_ok-insert-in-Add
 returns-in_ok-insert-in-Add c = λ d are.
     subst (λ (change : Change). AreLinesOf c.insert.new.self.keys (effect change d)) (sym c.in-Add.is)
-    (lines_after_add c.args.lines.now.keys c.insert.new.self.keys c.in_ok-line_of-in-Add.field-0 c.in-Add.quad d c.in_ok-insert-in-Add.ensures.keys c.in_ok-line_of-in-Add.ensures are)
+    (lines_after_add c.args.lines.now.keys c.insert.new.self.keys c.in_ok-print_line-in-Add.field-0 c.in-Add.quad d c.in_ok-insert-in-Add.ensures.keys c.in_ok-print_line-in-Add.ensures.text are)
 
 pub returns-in_ok-line-in-Delete : goal.returns-in_ok-line-in-Delete
 returns-in_ok-line-in-Delete c = λ d are.
     subst (λ (change : Change). AreLinesOf c.remove.new.self.keys (effect change d)) (sym c.in-Delete.is)
-    (lines_after_delete c.args.lines.now.keys c.remove.new.self.keys c.as_slice.result.now c.in-Delete.quad d c.remove.ensures.keys (c.as_slice.ensures.value ∙ c.in_ok-line-in-Delete.ensures) are)
+    (lines_after_delete c.args.lines.now.keys c.remove.new.self.keys c.as_str.result.now c.in-Delete.quad d c.remove.ensures.keys (c.as_str.ensures.value ∙ c.in_ok-line-in-Delete.ensures.text) are)

@@ -1,6 +1,6 @@
 use Rattle.std.proofs.Common.{◌≤◌, ◌++◌, vec_len, vec_capacity}
-use Rattle.sink_writing.specs.Writing.{joined}
 use Rattle.sink_writing.proofs.Pieces.{Written}
+use Rattle.stream_replay.specs.Lines.{bytes_of}
 use Rattle.stream_replay.proofs.lines.write_lines.Given as goal
 
 -- what isn't written stands in the room and in the lines that are left
@@ -8,7 +8,7 @@ abbrev pub invariant-loop-line : goal.invariant-loop-line
 invariant-loop-line g l = record {
   can : (goal.iterator-loop-line g).can_next l.line-iterator;
   finite : (goal.iterator-loop-line g).is_finite l.line-iterator;
-  written : Written (g.K.Sink.written l.fn.out) (g.K.Sink.written l.out) (joined l.fn.lines.keys) (l.room.items ++ joined l.line-iterator);
+  written : Written (g.K.Sink.written l.fn.out) (g.K.Sink.written l.out) (bytes_of l.fn.lines.keys) (l.room.items ++ bytes_of l.line-iterator);
   fits : vec_len l.room ≤ 65536;
   large : 65536 ≤ vec_capacity l.room;
   faults : g.K.Sink.faults l.fn.out ≤ g.K.Sink.faults l.out;
