@@ -17,8 +17,8 @@ use Rattle.rdf_terms.specs.declared.term.LiteralKind.{LiteralKind}
 use Rattle.rdf_terms.specs.declared.term.LiteralKind.TheVariants.{Plain, Typed, Tagged}
 use Rattle.rdf_terms.specs.declared.term.Term.{Term}
 use Rattle.rdf_terms.specs.declared.term.Term.TheVariants as term
-use Rattle.nquads_text.specs.Printing.{IsKind, IsTermValue}
-use Rattle.nquads_documents.specs.Laws.{IsGraphValue, IsQuadValue}
+use Rattle.nquads_text.specs.Printing.{IsKind, IsGraphValue, IsTermValue}
+use Rattle.nquads_documents.specs.Laws.{IsQuadValue}
 
 -- ---- ASCII
 
@@ -129,7 +129,7 @@ pub line_utf8 : (q : Statement) → IsQuadValue q → IsUtf8 (line q)
 unfolding line
 line_utf8 q is =
     let stop : IsUtf8 (32 ∷ 46 ∷ 10 ∷ []) = behind 32 _ (omega arith) (between 46 10 [] (omega arith) (omega arith) IsUtf8-nil) in
-    IsUtf8-append (term_text q.subject) _ (term_utf8 q.subject is.1)
+    IsUtf8-append (term_text q.subject) _ (term_utf8 q.subject is.1.0)
     (behind 32 _ (omega arith)
-    (IsUtf8-append (term_text q.predicate) _ (term_utf8 q.predicate is.2)
-    (behind 32 _ (omega arith) (IsUtf8-append (term_text q.object) _ (term_utf8 q.object is.3) (IsUtf8-append (graph_text q.graph) _ (graph_utf8 q.graph is.4) stop)))))
+    (IsUtf8-append (term_text q.predicate) _ (term_utf8 q.predicate is.1.1)
+    (behind 32 _ (omega arith) (IsUtf8-append (term_text q.object) _ (term_utf8 q.object is.1.2) (IsUtf8-append (graph_text q.graph) _ (graph_utf8 q.graph is.1.3) stop)))))
