@@ -1,6 +1,6 @@
 //! Messages from a stream of bytes that comes in any pieces.
-ghost use Rattle.std.specs.Prelude.{◌≡◌, ◌⊎◌, ◌||◌, ◌<◌, ◌≤◌, ◌++◌, ◌∷◌, length, take, false, List, ℕ, [], IfErr, IfNone, IfOk, IfSome, IsTrue, MatchOption, OnErr, OnOk, Some, None, Err};
-ghost use Rattle.http_text.specs.Readers.{AdvanceIs, BeginsBody, CanGoOn, Decides, EndsHead, Holds, HoldsAll, HoldsHead, IsHeadOf, IsReader, ReadsPiece, StandsFor, asks_first, fault_of, stage_expects, stage_fault, waiting, was_told};
+ghost use Rattle.std.specs.Prelude.{◌≡◌, ◌⊎◌, ◌||◌, ◌+◌, ◌<◌, ◌≤◌, ◌++◌, ◌∷◌, length, take, false, List, ℕ, [], IfErr, IfNone, IfOk, IfSome, IsTrue, MatchOption, OnErr, OnOk, Some, None, Err};
+ghost use Rattle.http_text.specs.Readers.{AdvanceIs, BeginsBody, CanGoOn, Decides, EndsHead, Holds, HoldsAll, HoldsHead, HoldsStage, IsHeadOf, IsReader, ReadsPiece, StandsFor, asks_first, fault_of, stage_expects, stage_fault, waiting, was_told};
 ghost use Rattle.http_text.specs.Messages.{End, Reads, between, inside};
 ghost use Rattle.http_text.specs.Taken.{AsksBehind, taken_after};
 ghost use Rattle.http_text.specs.declared.follow.Progress.{Progress as At};
@@ -69,6 +69,41 @@ impl Stage {
             Stage::Body { message, .. } => message.expects(),
             Stage::Faulty(broken) => broken.expects,
         }
+    }
+
+    /// Adds a piece to a body that goes on behind it, where its bytes have room. The stage stays in place, so small pieces cost little.
+    fn extend_body(&mut self, piece: &[u8]) -> bool
+        ensures same { result ≡ false → self.new ≡ self.old }
+        ensures good { IsTrue result → stage_fault self.old ≡ None }
+        ensures held { IsTrue result → (kind : Kind) (pending rest : List ℕ) → HoldsStage kind self.old pending rest
+            → Holds kind self.new pending (rest ++ piece.now) }
+    {
+        match self {
+            Stage::Body { body, part, .. } => match part {
+                Part::Sized { left } => add_within(body, left, piece),
+                Part::Content { left } => add_within(body, left, piece),
+                _ => false,
+            },
+            _ => false,
+        }
+    }
+}
+
+// Adds a piece to bytes of which more are left, where they have room.
+fn add_within(bytes: &mut Vec<u8>, left: &mut usize, piece: &[u8]) -> bool
+    ensures same { result ≡ false → (bytes.new ≡ bytes.old) × (left.new ≡ left.old) }
+    ensures bytes { IsTrue result → bytes.new.items ≡ bytes.old.items ++ piece.now }
+    ensures left { IsTrue result → (0 < left.new) × (length piece.now + left.new ≡ left.old) }
+{
+    if piece.len() >= *left || piece.len() > bytes.capacity() - bytes.len() {
+        return false;
+    }
+    match bytes.extend_from_slice(piece) {
+        Ok(()) => {
+            *left -= piece.len();
+            true
+        }
+        Err(_) => unreachable!(),
     }
 }
 
@@ -306,6 +341,9 @@ impl MessageReader {
         ensures again { (met : Fault) → fault_of self.old ≡ Some met → (result ≡ Err met) × (fault_of self.new ≡ Some met) }
         ensures told { was_told self.new ≡ was_told self.old }
     {
+        if self.stage.extend_body(piece) {
+            return Ok(());
+        }
         let stage = mem::replace(
             &mut self.stage,
             Stage::Faulty(Broken {
