@@ -119,17 +119,17 @@ lines_more begin text fields more last is =
     ∙ ap (λ (t : List ℕ). begin ++ t) (sym (append_assoc (flat_map print_field fields) (flat_map print_field more) (print_end last)) ∙ ap (λ (t : List ℕ). t ++ print_end last) (sym (flat_map-append print_field fields more)))
     ∙ sym (append-nil (begin ++ print_section (fields ++ more) last))
 
-request_start : RequestHead → List ℕ
+pub request_start : RequestHead → List ℕ
 request_start h = print_blank h.blank ++ h.method ++ 32 ∷ h.target ++ 32 ∷ print_version h.minor ++ print_end h.line_end
 
-reply_start : ResponseHead → List ℕ
+pub reply_start : ResponseHead → List ℕ
 reply_start h = print_blank h.blank ++ print_version h.minor ++ 32 ∷ h.digits ++ print_reason h.reason ++ print_end h.line_end
 
-request_parts : (h : RequestHead) → print_request h ≡ request_start h ++ print_section h.fields h.last
+pub request_parts : (h : RequestHead) → print_request h ≡ request_start h ++ print_section h.fields h.last
 unfolding request_start print_request
 request_parts h = refl
 
-reply_parts : (h : ResponseHead) → print_response h ≡ reply_start h ++ print_section h.fields h.last
+pub reply_parts : (h : ResponseHead) → print_response h ≡ reply_start h ++ print_section h.fields h.last
 unfolding reply_start print_response
 reply_parts h = refl
 

@@ -18,8 +18,8 @@ use crate::framing::{FrameFault, Framing};
 use crate::message::{Kind, Message, RawReply, RawRequest};
 use crate::stage::{HeadEnd, MOST_HEAD, Part, step_head, step_sized};
 use delta_base::Bytes;
-use httparse::spans::{EMPTY_HEADER_SPAN, HeaderSpan};
-use std::alloc::{AllocError, Global};
+use httparse::spans::HeaderSpan;
+use std::alloc::Global;
 use std::collections::VecDeque;
 use std::mem;
 
@@ -151,14 +151,14 @@ fn begin_body(
 
 // Reads on in a body.
 fn step_part(
+    alloc: Global,
     part: Part,
     body: &mut Vec<u8>,
     pending: &mut Vec<u8>,
-    headers: &mut [HeaderSpan],
+    headers: &mut Vec<HeaderSpan>,
     piece: &[u8],
 ) -> Result<(usize, Option<Part>), FrameFault>
     requires piece { 0 < length piece.now }
-    requires room { 5461 ≤ length headers.old }
     requires held { IsSomePart part body.old.items pending.old.items }
     ensures { (framing : framings.Framing) (behind : List ℕ) → HoldsPart part body.old.items pending.old.items framing behind
         → PartStepIs framing behind piece.now body.new.items pending.new.items result }
@@ -168,7 +168,7 @@ fn step_part(
         Part::Line => step_line(body.len(), pending, piece),
         Part::Content { left } => step_content(body, left, piece),
         Part::ContentEnd => step_content_end(pending, piece),
-        Part::Trailers => step_trailers(pending, headers, piece),
+        Part::Trailers => step_trailers(alloc, pending, headers, piece),
     }
 }
 
@@ -216,12 +216,11 @@ fn advance(
     kind: Kind,
     stage: Stage,
     pending: &mut Vec<u8>,
-    headers: &mut [HeaderSpan],
+    headers: &mut Vec<HeaderSpan>,
     queue: &mut VecDeque<Message>,
     piece: &[u8],
 ) -> Result<(usize, Stage), FrameFault>
     requires piece { 0 < length piece.now }
-    requires room { 5461 ≤ length headers.old }
     requires held { CanGoOn kind stage pending.old.items }
     ensures { (rest : List ℕ) → Holds kind stage pending.old.items rest
         → AdvanceIs kind (stage_expects stage) rest piece.now queue.old.items queue.new.items pending.new.items result }
@@ -238,7 +237,7 @@ fn advance(
             mut body,
             part,
         } => {
-            let (used, next) = step_part(part, &mut body, pending, headers, piece)?;
+            let (used, next) = step_part(alloc, part, &mut body, pending, headers, piece)?;
             match next {
                 Some(part) => Ok((
                     used,
@@ -263,11 +262,10 @@ fn read_piece(
     kind: Kind,
     stage: Stage,
     pending: &mut Vec<u8>,
-    headers: &mut [HeaderSpan],
+    headers: &mut Vec<HeaderSpan>,
     queue: &mut VecDeque<Message>,
     piece: &[u8],
 ) -> Result<Stage, Broken>
-    requires room { 5461 ≤ length headers.old }
     requires held { CanGoOn kind stage pending.old.items }
     ensures held { IfOk result (λ next. CanGoOn kind next pending.new.items) }
     ensures read { (bytes : List ℕ) (taken : List Message) → HoldsAll kind bytes taken queue.old.items stage pending.old.items
@@ -286,19 +284,6 @@ fn read_piece(
         }
     }
     Ok(stage)
-}
-
-// As many fields as a head or a trailer section of the allowed length can have.
-const ROOM: usize = 5461;
-
-// Makes room for those fields.
-fn make_room(alloc: Global, headers: &mut Vec<HeaderSpan>) -> Result<(), AllocError>
-    ensures { OnOk result (5461 ≤ length headers.new.items) }
-{
-    if headers.len() < ROOM {
-        *headers = vec![in alloc; EMPTY_HEADER_SPAN; ROOM]?;
-    }
-    Ok(())
 }
 
 /// The stream ends inside a message.
@@ -355,13 +340,12 @@ impl MessageReader {
             self.stage = Stage::Faulty(broken);
             return Err(broken.fault);
         }
-        make_room(self.alloc, &mut self.headers)?;
         match read_piece(
             self.alloc,
             self.kind,
             stage,
             &mut self.pending,
-            self.headers.as_mut_slice(),
+            &mut self.headers,
             &mut self.queue,
             piece,
         ) {

@@ -1,8 +1,7 @@
 use Rattle.std.proofs.Common.{◌≡◌, ◌∙◌, ◌++◌, Some, Err, sym, ap, subst, refl}
-use Rattle.std.proofs.lemmas.Result.{err_from_is_err_and}
 use Rattle.http_text.specs.Readers.{HoldsStage}
 use Rattle.http_text.specs.declared.reader.Stage.{Stage}
-use Rattle.http_text.proofs.RunLemmas.{faulty_stage, same_fault, not_faulty, still_held, no_fault, fault_again, no_memory, messages_grow, decided_open, decided_fault}
+use Rattle.http_text.proofs.RunLemmas.{faulty_stage, same_fault, not_faulty, still_held, no_fault, fault_again, messages_grow, decided_open, decided_fault}
 use Rattle.http_text.proofs.reader.MessageReader.feed.Goals as goal
 
 pub returns-then-extend_body : goal.returns-then-extend_body
@@ -48,32 +47,11 @@ returns-in-Faulty-clause-decides c = λ bytes taken stands.
     let again = fault_again c.args.self.now.kind bytes c.args.piece.now stands.0 _ c.in-Faulty.broken stands.1 held in
     decided_fault c.args.self.now.kind _ again.0 _ c.in-Faulty.broken.fault again.1 again.2.0
 
-pub returns-in_err-make_room : goal.returns-in_err-make_room
-returns-in_err-make_room c =
-    let p = err_from_is_err_and c.from_residual.result c.from_residual.ensures.1 in
-    record {
-      kind = refl;
-      reader = (
-        c.requires.0 ++ c.args.piece.now,
-        c.requires.1,
-        no_memory c.args.self.now.kind c.requires.0 c.args.piece.now c.requires.2.0 c.args.self.now.pending.items _ _ c.replace-stage.ensures.after c.requires.2.1,
-      );
-      stands = λ bytes taken stands. no_memory c.args.self.now.kind bytes c.args.piece.now stands.0 c.args.self.now.pending.items _ _ c.replace-stage.ensures.after stands.1;
-      decides = λ bytes taken stands. rw (p.1, p.2) (stands.0 ++ c.args.piece.now, messages_grow c.args.self.now.kind _ bytes stands.0 c.args.piece.now stands.1);
-      ok = rw p.1 tt;
-      fault = rw (p.1, p.2, c.replace-stage.ensures.after) refl;
-      again = λ met is. let was = faulty_stage c.args.self.now.stage met is in absurd (c.in_default.not-Faulty was.0 ((c.replace-stage.ensures.value ∙ c.extend_body.ensures.same c.if-extend_body.false) ∙ was.1));
-      told = refl;
-    }
-
 pub read_piece-requires : goal.read_piece-requires
 read_piece-requires c =
     let stands = c.requires.2 in
     let held = subst (λ (s : Stage). HoldsStage c.args.self.now.kind s c.args.self.now.pending.items stands.0) (sym (c.replace-stage.ensures.value ∙ c.extend_body.ensures.same c.if-extend_body.false)) stands.2 in
-    record {
-      room = rw c.as_mut_slice.ensures.value c.in_ok-make_room.ensures;
-      held = (stands.0, not_faulty c.args.self.now.kind _ _ stands.0 c.in_default.not-Faulty held);
-    }
+    record { held = (stands.0, not_faulty c.args.self.now.kind _ _ stands.0 c.in_default.not-Faulty held) }
 
 pub returns-in-Ok : goal.returns-in-Ok
 returns-in-Ok c =
