@@ -168,7 +168,7 @@ fn step_part(
         Part::Line => step_line(body.len(), pending, piece),
         Part::Content { left } => step_content(body, left, piece),
         Part::ContentEnd => step_content_end(pending, piece),
-        Part::Trailers => step_trailers(alloc, pending, headers, piece),
+        Part::Trailers { progress } => step_trailers(alloc, progress, pending, headers, piece),
     }
 }
 
