@@ -171,7 +171,7 @@ part_no_fault parts.ContentEnd body pending behind framing fault (chunked, insid
     short : (pending ≡ []) ⊎ (pending ≡ 13 ∷ []) → length pending ≤ 1
     short (inl empty) = omega (arith, ap length empty)
     short (inr one) = omega (arith, ap length one)
-part_no_fault parts.Trailers body pending behind framing fault (chunked, at, still) bad =
+part_no_fault (parts.Trailers progress) body pending behind framing fault ((chunked, at), still, follows) bad =
     behind_line (length (data_of at.chunks)) at.last pending fault at.short (omega (arith, at.zero, at.before.fit)) (trailers_good (chunk_size at.last) pending at.zero still)
     (fault_here at.chunks (print_chunk_line at.last ++ pending) behind fault at.before
     (last_place (length (data_of at.chunks)) at.last pending at.short.line at.zero) at.behind_is

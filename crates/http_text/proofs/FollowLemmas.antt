@@ -4,7 +4,7 @@ use Rattle.std.specs.Prelude.{IsTrue}
 use Rattle.std.proofs.lemmas.List.{flat_map_more}
 use Rattle.std.proofs.lemmas.List.Elements.{All-nil, All-cons, All-append}
 use Rattle.std.specs.List.{flat_map}
-use Rattle.httparse.specs.Grammar.{LineEnd, crlf, lf, print_end, print_blank, IsToken, is_token, is_token_byte, is_value_byte, Field, IsField, print_field, print_section}
+use Rattle.httparse.specs.Grammar.{LineEnd, crlf, lf, print_end, print_blank, print_version, IsToken, is_token, is_token_byte, is_value_byte, Field, IsField, print_field, print_section}
 use Rattle.http_text.specs.Heads.{ReadsHead, EndsInTarget, goes_on}
 use Rattle.http_text.specs.Follow.{Follows, TakesFields, IsInValue}
 use Rattle.http_text.specs.declared.message.Kind.{Kind}
@@ -74,6 +74,28 @@ module _ (kind : Kind) (text : List ℕ) (byte : ℕ) where
         token,
         All-append P target (byte ∷ []) passes (All-cons P byte [] is (All-nil P)),
         ap (λ (t : List ℕ). t ++ byte ∷ []) text_is ∙ joined (print_blank blank ++ method) (32 ∷ target) byte,
+      )
+
+  pub reason_more : is_value_byte byte ≡ true → Follows kind text at.Reason → Follows kind (text ++ byte ∷ []) at.Reason
+  reason_more is (same, (blank, line, (minor, digits, phrase, version, three, are_digits, passes, line_is), text_is)) =
+      let P : ℕ → Type 0 = λ b. IsTrue (is_value_byte b) in (
+        same,
+        (
+          blank,
+          line ++ byte ∷ [],
+          (
+            minor,
+            digits,
+            phrase ++ byte ∷ [],
+            version,
+            three,
+            are_digits,
+            All-append P phrase (byte ∷ []) passes (All-cons P byte [] is (All-nil P)),
+            ap (λ (t : List ℕ). t ++ byte ∷ []) line_is ∙ joined (print_version minor) (32 ∷ (digits ++ 32 ∷ phrase)) byte
+                ∙ ap (λ (t : List ℕ). print_version minor ++ 32 ∷ t) (joined digits (32 ∷ phrase) byte),
+          ),
+          ap (λ (t : List ℕ). t ++ byte ∷ []) text_is ∙ joined (print_blank blank) line byte,
+        ),
       )
 
   pub line_name : is_token_byte byte ≡ true → Follows kind text at.Line → Follows kind (text ++ byte ∷ []) at.Name

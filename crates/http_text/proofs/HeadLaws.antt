@@ -62,7 +62,7 @@ module _ (blank : List LineEnd) (method : List ℕ) where
     append_assoc (print_blank blank ++ method) (32 ∷ []) ending ∙ append_assoc (print_blank blank) method (32 ∷ ending) ∙ sym (print_request-append head_to_target []),
   )
 
-pub some_reply : List LineEnd → ResponseHead
+unfoldable pub some_reply : List LineEnd → ResponseHead
 some_reply blank = record { blank = blank; minor = 1; digits = codes "200"; reason = None; line_end = lf; fields = []; last = lf }
 
 is_digit : ℕ → Type 0

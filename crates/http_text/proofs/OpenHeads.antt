@@ -1,11 +1,12 @@
 -- What is followed of a head is open.
-use Rattle.std.proofs.Common.{◌≡◌, ℕ, ◌+◌, true, List, [], ◌∷◌, ◌++◌, length, refl, sym, ap, ◌∙◌, subst, arith, append_assoc, length-append}
+use Rattle.std.proofs.Common.{◌≡◌, ℕ, ◌+◌, true, List, [], ◌∷◌, ◌++◌, length, Some, refl, sym, ap, ◌∙◌, subst, arith, append_assoc, length-append}
 use Rattle.std.specs.Prelude.{IsTrue}
 use Rattle.std.specs.List.{flat_map}
 use Rattle.std.proofs.lemmas.Grind.{flat_map-append}
 use Rattle.std.proofs.lemmas.List.{append-nil}
 use Rattle.std.proofs.lemmas.List.Elements.{All-nil, All-cons, All-append}
 use Rattle.httparse.specs.Grammar.{LineEnd, crlf, lf, print_end, print_blank, IsToken, is_token_byte, Field, IsField, print_field, print_section, RequestHead, print_request, ResponseHead, print_response, print_version, print_reason}
+use Rattle.httparse.proofs.GrammarLemmas.{cons-append, print_response-append}
 use Rattle.httparse.proofs.OpenLemmas.{letter_is_token}
 use Rattle.http_text.specs.Heads.{Head, request, reply, ReadsHead, HasNoHead, IsBadHead, EndsInTarget}
 use Rattle.http_text.specs.Follow.{Follows, TakesFields, IsInName, is_known}
@@ -77,12 +78,26 @@ target_opens : (kind : Kind) (text : List ℕ) → EndsInTarget kind text → Is
 target_opens Requests text ends = (target_no_head text ends, λ bad. bad.0 ends)
 target_opens Replies text ends = absurd ends
 
+-- a reason phrase and two line ends make a head
+reason_opens : (kind : Kind) (text : List ℕ) → Follows kind text at.Reason → IsOpen kind text
+reason_opens kind text (same, (blank, line, (minor, digits, phrase, version, three, are_digits, passes, line_is), text_is)) =
+    let head : ResponseHead = record { blank = blank; minor = minor; digits = digits; reason = Some phrase; line_end = lf; fields = []; last = lf } in
+    let whole : text ++ 10 ∷ 10 ∷ [] ≡ print_response head ++ [] =
+    ap (λ (t : List ℕ). t ++ 10 ∷ 10 ∷ []) (text_is ∙ ap (λ (t : List ℕ). print_blank blank ++ t) line_is)
+    ∙ regroup (print_blank blank) (print_version minor) digits phrase (10 ∷ 10 ∷ []) ∙ sym (print_response-append head []) in
+    subst (λ (k : Kind). IsOpen k text) (sym same)
+    (goes_on_open Replies text 10 (10 ∷ []) (reply head) (record { minor = version; digits = (three, are_digits); reason = passes; fields = All-nil IsField }, whole))
+  where
+    regroup : (a b c d e : List ℕ) → (a ++ (b ++ 32 ∷ (c ++ 32 ∷ d))) ++ e ≡ a ++ (b ++ 32 ∷ (c ++ ((32 ∷ d) ++ e)))
+    regroup a b c d e = simp (append_assoc, cons-append)
+
 -- what is followed is open
 pub follows_open : (kind : Kind) (text : List ℕ) (progress : Progress) → is_known progress ≡ true → Follows kind text progress → IsOpen kind text
 follows_open kind text at.Blank known follows = blank_opens kind text follows
 follows_open kind text at.BlankEnd known follows = blank_end_opens kind text follows
 follows_open kind text at.Method known follows = method_opens kind text follows
 follows_open kind text at.Target known follows = target_opens kind text follows
+follows_open kind text at.Reason known follows = reason_opens kind text follows
 follows_open kind text at.Line known follows = line_opens kind text follows
 follows_open kind text at.Name known follows = name_opens kind text follows
 follows_open kind text at.Value known follows = line_behind_opens kind text 10 [] (value_line kind text lf follows)
@@ -119,17 +134,17 @@ lines_more begin text fields more last is =
     ∙ ap (λ (t : List ℕ). begin ++ t) (sym (append_assoc (flat_map print_field fields) (flat_map print_field more) (print_end last)) ∙ ap (λ (t : List ℕ). t ++ print_end last) (sym (flat_map-append print_field fields more)))
     ∙ sym (append-nil (begin ++ print_section (fields ++ more) last))
 
-request_start : RequestHead → List ℕ
+pub request_start : RequestHead → List ℕ
 request_start h = print_blank h.blank ++ h.method ++ 32 ∷ h.target ++ 32 ∷ print_version h.minor ++ print_end h.line_end
 
-reply_start : ResponseHead → List ℕ
+pub reply_start : ResponseHead → List ℕ
 reply_start h = print_blank h.blank ++ print_version h.minor ++ 32 ∷ h.digits ++ print_reason h.reason ++ print_end h.line_end
 
-request_parts : (h : RequestHead) → print_request h ≡ request_start h ++ print_section h.fields h.last
+pub request_parts : (h : RequestHead) → print_request h ≡ request_start h ++ print_section h.fields h.last
 unfolding request_start print_request
 request_parts h = refl
 
-reply_parts : (h : ResponseHead) → print_response h ≡ reply_start h ++ print_section h.fields h.last
+pub reply_parts : (h : ResponseHead) → print_response h ≡ reply_start h ++ print_section h.fields h.last
 unfolding reply_start print_response
 reply_parts h = refl
 

@@ -102,7 +102,7 @@ part_not_whole parts.ContentEnd body pending behind front more b framing (chunke
     short : (pending ≡ []) ⊎ (pending ≡ 13 ∷ []) → length pending ≤ 1
     short (inl empty) = omega (arith, ap length empty)
     short (inr one) = omega (arith, ap length one)
-part_not_whole parts.Trailers body pending behind front more b framing (chunked, at, still) whole is =
+part_not_whole (parts.Trailers progress) body pending behind front more b framing ((chunked, at), still, follows) whole is =
     let it = subst (λ (f : Framing). IsBody f front b) chunked whole in
     let text : List ℕ = print_chunk_line at.last ++ pending in
     let last = place_of_last at.chunks text front more behind it.0 at.before (last_place (length (data_of at.chunks)) at.last pending at.short.line at.zero) at.behind_is it.1 it.2 is in

@@ -1,5 +1,5 @@
 -- Facts about the messages of more and more bytes.
-use Rattle.std.proofs.Common.{◌≡◌, ◌≢◌, ℕ, Bool, false, ◌+◌, ◌-◌, ◌<◌, ◌≤◌, ◌⊎◌, List, [], ◌∷◌, ◌++◌, length, take, drop, Option, None, Some, Ok, Err, refl, sym, ap, ◌∙◌, subst, inl, inr, arith, append_assoc, length-append}
+use Rattle.std.proofs.Common.{◌≡◌, ◌≢◌, ℕ, Bool, ◌+◌, ◌-◌, ◌<◌, ◌≤◌, ◌⊎◌, List, [], ◌∷◌, ◌++◌, length, take, drop, Option, None, Some, Ok, Err, refl, sym, ap, ◌∙◌, subst, inl, inr, arith, append_assoc, length-append}
 use Rattle.std.specs.Prelude.{IfNone, IfSome}
 use Rattle.std.proofs.lemmas.List.{append-nil, take_rest, take-append-drop}
 use Rattle.http_text.specs.Heads.{print_head, print_heads}
@@ -9,7 +9,6 @@ use Rattle.http_text.proofs.FaultLemmas.{open_no_fault}
 use Rattle.http_text.proofs.GrowLemmas.{lt_or_le}
 use Rattle.http_text.proofs.OpenLemmas.{open_no_message}
 use Rattle.http_text.proofs.StayLemmas.{broken_stays}
-use Rattle.http_text.proofs.PassLemmas.{passes_none}
 use Rattle.http_text.specs.Readers.{TellsFault, BreaksAs, HoldsHead, Holds, CanGoOn, NextIs, AdvanceIs, HoldsAll, HoldsFaulty, HoldsStage, stage_fault, Decides}
 use Rattle.http_text.specs.declared.framing.FrameFault.{FrameFault}
 use Rattle.http_text.specs.declared.framing.FrameFault.TheVariants as faults
@@ -123,16 +122,6 @@ same_fault stage broken fault is met = let both : Some broken.fault ≡ Some fau
 pub fault_again : (kind : Kind) (bytes piece rest : List ℕ) (messages : List Message) (broken : Broken) → AreMessages kind bytes messages rest → BreaksAs kind rest broken
     → (after : List ℕ) × AreMessages kind (bytes ++ piece) messages after × BreaksAs kind after broken
 fault_again kind bytes piece rest messages broken are breaks = (rest ++ piece, messages_grow kind messages bytes rest piece are, broken_stays kind rest piece broken breaks)
-
--- where memory ran out nothing more is known
-no_memory_breaks : (kind : Kind) (rest : List ℕ) → BreaksAs kind rest (record { fault = OutOfMemory; expects = false })
-no_memory_breaks kind rest = (tt, inl ([], rest, passes_none kind rest, tt))
-
-pub no_memory : (kind : Kind) (bytes piece rest pending : List ℕ) (messages : List Message) (stage : Stage) → stage ≡ stages.Faulty (record { fault = OutOfMemory; expects = false })
-    → AreMessages kind bytes messages rest
-    → (after : List ℕ) × AreMessages kind (bytes ++ piece) messages after × HoldsStage kind stage pending after
-no_memory kind bytes piece rest pending messages stage is are =
-    (rest ++ piece, messages_grow kind messages bytes rest piece are, subst (λ (s : Stage). HoldsStage kind s pending (rest ++ piece)) (sym is) (no_memory_breaks kind (rest ++ piece)))
 
 -- ---- the end
 

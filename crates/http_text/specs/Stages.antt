@@ -1,14 +1,16 @@
 -- What a reader keeps of the rest behind the last whole message.
-use Rattle.std.specs.Prelude.{◌≡◌, ◌⊎◌, ◌+◌, ◌<◌, ◌≤◌, ◌-◌, ℕ, List, [], ◌∷◌, ◌++◌, length, take, Option, Some, None, Result, Ok, Err}
+use Rattle.std.specs.Prelude.{◌≡◌, ◌⊎◌, ◌+◌, ◌<◌, ◌≤◌, ◌-◌, ℕ, List, [], ◌∷◌, ◌++◌, length, take, Option, Some, None, Result, Ok, Err, codes}
 use Rattle.std.specs.List.{flat_map}
-use Rattle.httparse.specs.Grammar.{ChunkLine, print_chunk_line, chunk_size, HasNoChunkLine, NeverHasChunkLine, HasNoSection, NeverHasSection}
+use Rattle.httparse.specs.Grammar.{print_version, ChunkLine, print_chunk_line, chunk_size, HasNoChunkLine, NeverHasChunkLine, HasNoSection, NeverHasSection}
 use Rattle.http_text.specs.Heads.{Head, print_head, HasNoHead, IsBadHead, IsInterim}
 use Rattle.http_text.specs.Framing.{most_body}
 use Rattle.http_text.specs.Chunks.{most_line, most_trailers, IsShortLine, AreChunks, data_of, print_chunk, Chunk}
 use Rattle.http_text.specs.Messages.{message_of, BeginsWithHead, framing_behind, IsBody, IsBodyFault}
 use Rattle.http_text.specs.Follow.{Follows}
 use Rattle.http_text.specs.Front.{TellsFaultAt}
+use Rattle.http_text.specs.declared.follow.Progress.{Progress}
 use Rattle.http_text.specs.declared.message.Kind.{Kind}
+use Rattle.http_text.specs.declared.message.Kind.TheVariants.{Replies}
 use Rattle.http_text.specs.declared.framing.FrameFault.{FrameFault}
 use Rattle.http_text.specs.declared.framing.FrameFault.TheVariants.{OutOfMemory}
 use Rattle.http_text.specs.declared.framing.Framing.{Framing}
@@ -65,6 +67,17 @@ pub record IsAtTrailers (body behind text : List ℕ) : Type 0 where
   pub body_is : body ≡ data_of chunks
   pub behind_is : behind ≡ flat_map print_chunk chunks ++ (print_chunk_line last ++ text)
 
+-- the same of a chunked body
+abbrev pub HoldsTrailers : Framing → List ℕ → List ℕ → List ℕ → Type 0
+HoldsTrailers framing body behind text = (framing ≡ framings.Chunked) × IsAtTrailers body behind text
+
+-- trailers are followed as the fields behind a status line are
+abbrev pub some_status_line : List ℕ
+some_status_line = print_version 1 ++ 32 ∷ (codes "200" ++ 10 ∷ [])
+
+abbrev pub FollowsTrailers : List ℕ → Progress → Type 0
+FollowsTrailers text progress = Follows Replies (some_status_line ++ text) progress
+
 -- of what stands behind a head, the body has come so far, and pending is the start of this part
 abbrev pub HoldsPart : Part → List ℕ → List ℕ → Framing → List ℕ → Type 0
 HoldsPart (Sized left) body pending framing behind =
@@ -74,7 +87,7 @@ HoldsPart (Content left) body pending framing behind =
     (framing ≡ framings.Chunked) × (0 < left) × ((content : List ℕ) × IsInChunk body behind content left) × (pending ≡ [])
 HoldsPart ContentEnd body pending framing behind =
     (framing ≡ framings.Chunked) × ((content before : List ℕ) × IsInChunk body before content 0 × (behind ≡ before ++ pending)) × ((pending ≡ []) ⊎ (pending ≡ 13 ∷ []))
-HoldsPart Trailers body pending framing behind = (framing ≡ framings.Chunked) × IsAtTrailers body behind pending × AreOpenTrailers pending
+HoldsPart (Trailers progress) body pending framing behind = HoldsTrailers framing body behind pending × AreOpenTrailers pending × FollowsTrailers pending progress
 
 -- some bytes behind some head are a body that has come so far
 abbrev pub IsSomePart : Part → List ℕ → List ℕ → Type 0

@@ -2,12 +2,12 @@
 //!
 //! What is followed is open: it has no fault, and no head ends in it. What isn't followed is left to `httparse`.
 ghost use Rattle.std.specs.Prelude.{◌≡◌, ◌≤◌, ◌<◌, ◌++◌, ◌∷◌, [], ℕ, List, true, length, take};
-ghost use Rattle.httparse.specs.Grammar.{is_token_byte, is_value_byte};
+ghost use Rattle.httparse.specs.Grammar.{is_token_byte};
 ghost use Rattle.http_text.specs.Follow.{Follows, is_known};
 ghost use Rattle.http_text.specs.Heads.{goes_on};
 ghost use Rattle.http_text.specs.declared.follow.Progress.TheVariants as at;
 
-use crate::heads::goes_on;
+use crate::heads::{goes_on, is_value_byte};
 use crate::message::Kind;
 use httparse::is_token;
 
@@ -20,6 +20,8 @@ pub enum Progress {
     BlankEnd,
     Method,
     Target,
+    /// In the reason phrase of a reply.
+    Reason,
     /// Where a field may begin.
     Line,
     Name,
@@ -35,13 +37,6 @@ fn is_token_byte(byte: u8) -> bool
     ensures { result ≡ is_token_byte byte }
 {
     is_token(&[byte])
-}
-
-// Whether the byte may stand in a field's value.
-fn is_value_byte(byte: u8) -> bool
-    ensures { result ≡ is_value_byte byte }
-{
-    byte == b'\t' || (byte >= b' ' && byte != 127)
 }
 
 fn after_blank(kind: Kind, byte: u8) -> Progress
@@ -90,6 +85,15 @@ fn after_target(kind: Kind, byte: u8) -> Progress
 {
     if goes_on(byte) {
         return Progress::Target;
+    }
+    Progress::Unknown
+}
+
+fn after_reason(kind: Kind, byte: u8) -> Progress
+    ensures { (text : List ℕ) → Follows kind text at.Reason → Follows kind (text ++ byte ∷ []) result }
+{
+    if is_value_byte(byte) {
+        return Progress::Reason;
     }
     Progress::Unknown
 }
@@ -147,6 +151,7 @@ fn after_byte(kind: Kind, progress: Progress, byte: u8) -> Progress
         Progress::BlankEnd => after_blank_end(kind, byte),
         Progress::Method => after_method(kind, byte),
         Progress::Target => after_target(kind, byte),
+        Progress::Reason => after_reason(kind, byte),
         Progress::Line => after_line(kind, byte),
         Progress::Name => after_name(kind, byte),
         Progress::Value => after_value(kind, byte),

@@ -74,7 +74,8 @@ fn parse_length(value: &[u8]) -> Option<u64>
     Some(digits_value(value))
 }
 
-fn are_digits(bytes: &[u8]) -> bool
+/// Whether each byte is a digit.
+pub fn are_digits(bytes: &[u8]) -> bool
     ensures { result ≡ list_all is_ascii_digit bytes.now }
 {
     bytes.iter().all(|byte| byte.is_ascii_digit())

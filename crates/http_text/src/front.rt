@@ -5,6 +5,7 @@ ghost use Rattle.httparse.specs.Spans.{IsHeaderWithin, IsWithin, header_bytes};
 ghost use Rattle.http_text.specs.Front.{FrontIs, reply_at, request_at};
 ghost use Rattle.http_text.specs.Framing.{framing_of};
 ghost use Rattle.http_text.specs.Messages.{before_query, from_slash, path_of};
+ghost use Rattle.http_text.specs.Room.{most_spans};
 ghost use Rattle.http_text.specs.declared.message.Kind.TheVariants as kinds;
 
 use crate::fields::{closes, first_named};
@@ -128,7 +129,7 @@ fn request_front(
     headers: &mut [HeaderSpan],
 ) -> Result<Front, FrameFault>
     requires short { length text.now ≤ 16384 }
-    requires room { 5461 ≤ length headers.old }
+    requires room { most_spans text.now ≤ length headers.old }
     ensures { (room : ℕ) → length text.now ≤ room → FrontIs kinds.Requests room text.now result }
 {
     match read_request_head(text, headers) {
@@ -151,7 +152,7 @@ fn request_front(
 // The head of a reply at the front of a text.
 fn reply_front(alloc: Global, text: &[u8], headers: &mut [HeaderSpan]) -> Result<Front, FrameFault>
     requires short { length text.now ≤ 16384 }
-    requires room { 5461 ≤ length headers.old }
+    requires room { most_spans text.now ≤ length headers.old }
     ensures { (room : ℕ) → length text.now ≤ room → FrontIs kinds.Replies room text.now result }
 {
     match read_reply_head(text, headers) {
@@ -182,7 +183,7 @@ pub fn read_front(
     headers: &mut [HeaderSpan],
 ) -> Result<Front, FrameFault>
     requires short { length text.now ≤ 16384 }
-    requires room { 5461 ≤ length headers.old }
+    requires room { most_spans text.now ≤ length headers.old }
     ensures { (room : ℕ) → length text.now ≤ room → FrontIs kind room text.now result }
 {
     match kind {

@@ -1,6 +1,6 @@
 //! Messages from a stream of bytes that comes in any pieces.
-ghost use Rattle.std.specs.Prelude.{◌≡◌, ◌⊎◌, ◌||◌, ◌<◌, ◌≤◌, ◌++◌, ◌∷◌, length, take, false, List, ℕ, [], IfErr, IfNone, IfOk, IfSome, IsTrue, MatchOption, OnErr, OnOk, Some, None, Err};
-ghost use Rattle.http_text.specs.Readers.{AdvanceIs, BeginsBody, CanGoOn, Decides, EndsHead, Holds, HoldsAll, HoldsHead, IsHeadOf, IsReader, ReadsPiece, StandsFor, asks_first, fault_of, stage_expects, stage_fault, waiting, was_told};
+ghost use Rattle.std.specs.Prelude.{◌≡◌, ◌⊎◌, ◌||◌, ◌+◌, ◌<◌, ◌≤◌, ◌++◌, ◌∷◌, length, take, false, List, ℕ, [], IfErr, IfNone, IfOk, IfSome, IsTrue, MatchOption, OnErr, OnOk, Some, None, Err};
+ghost use Rattle.http_text.specs.Readers.{AdvanceIs, BeginsBody, CanGoOn, Decides, EndsHead, Holds, HoldsAll, HoldsHead, HoldsStage, IsHeadOf, IsReader, ReadsPiece, StandsFor, asks_first, fault_of, stage_expects, stage_fault, waiting, was_told};
 ghost use Rattle.http_text.specs.Messages.{End, Reads, between, inside};
 ghost use Rattle.http_text.specs.Taken.{AsksBehind, taken_after};
 ghost use Rattle.http_text.specs.declared.follow.Progress.{Progress as At};
@@ -18,8 +18,8 @@ use crate::framing::{FrameFault, Framing};
 use crate::message::{Kind, Message, RawReply, RawRequest};
 use crate::stage::{HeadEnd, MOST_HEAD, Part, step_head, step_sized};
 use delta_base::Bytes;
-use httparse::spans::{EMPTY_HEADER_SPAN, HeaderSpan};
-use std::alloc::{AllocError, Global};
+use httparse::spans::HeaderSpan;
+use std::alloc::Global;
 use std::collections::VecDeque;
 use std::mem;
 
@@ -70,6 +70,41 @@ impl Stage {
             Stage::Faulty(broken) => broken.expects,
         }
     }
+
+    /// Adds a piece to a body that goes on behind it, where its bytes have room. The stage stays in place, so small pieces cost little.
+    fn extend_body(&mut self, piece: &[u8]) -> bool
+        ensures same { result ≡ false → self.new ≡ self.old }
+        ensures good { IsTrue result → stage_fault self.old ≡ None }
+        ensures held { IsTrue result → (kind : Kind) (pending rest : List ℕ) → HoldsStage kind self.old pending rest
+            → Holds kind self.new pending (rest ++ piece.now) }
+    {
+        match self {
+            Stage::Body { body, part, .. } => match part {
+                Part::Sized { left } => add_within(body, left, piece),
+                Part::Content { left } => add_within(body, left, piece),
+                _ => false,
+            },
+            _ => false,
+        }
+    }
+}
+
+// Adds a piece to bytes of which more are left, where they have room.
+fn add_within(bytes: &mut Vec<u8>, left: &mut usize, piece: &[u8]) -> bool
+    ensures same { result ≡ false → (bytes.new ≡ bytes.old) × (left.new ≡ left.old) }
+    ensures bytes { IsTrue result → bytes.new.items ≡ bytes.old.items ++ piece.now }
+    ensures left { IsTrue result → (0 < left.new) × (length piece.now + left.new ≡ left.old) }
+{
+    if piece.len() >= *left || piece.len() > bytes.capacity() - bytes.len() {
+        return false;
+    }
+    match bytes.extend_from_slice(piece) {
+        Ok(()) => {
+            *left -= piece.len();
+            true
+        }
+        Err(_) => unreachable!(),
+    }
 }
 
 // Where no byte of a message has come.
@@ -116,14 +151,14 @@ fn begin_body(
 
 // Reads on in a body.
 fn step_part(
+    alloc: Global,
     part: Part,
     body: &mut Vec<u8>,
     pending: &mut Vec<u8>,
-    headers: &mut [HeaderSpan],
+    headers: &mut Vec<HeaderSpan>,
     piece: &[u8],
 ) -> Result<(usize, Option<Part>), FrameFault>
     requires piece { 0 < length piece.now }
-    requires room { 5461 ≤ length headers.old }
     requires held { IsSomePart part body.old.items pending.old.items }
     ensures { (framing : framings.Framing) (behind : List ℕ) → HoldsPart part body.old.items pending.old.items framing behind
         → PartStepIs framing behind piece.now body.new.items pending.new.items result }
@@ -133,7 +168,7 @@ fn step_part(
         Part::Line => step_line(body.len(), pending, piece),
         Part::Content { left } => step_content(body, left, piece),
         Part::ContentEnd => step_content_end(pending, piece),
-        Part::Trailers => step_trailers(pending, headers, piece),
+        Part::Trailers { progress } => step_trailers(alloc, progress, pending, headers, piece),
     }
 }
 
@@ -181,12 +216,11 @@ fn advance(
     kind: Kind,
     stage: Stage,
     pending: &mut Vec<u8>,
-    headers: &mut [HeaderSpan],
+    headers: &mut Vec<HeaderSpan>,
     queue: &mut VecDeque<Message>,
     piece: &[u8],
 ) -> Result<(usize, Stage), FrameFault>
     requires piece { 0 < length piece.now }
-    requires room { 5461 ≤ length headers.old }
     requires held { CanGoOn kind stage pending.old.items }
     ensures { (rest : List ℕ) → Holds kind stage pending.old.items rest
         → AdvanceIs kind (stage_expects stage) rest piece.now queue.old.items queue.new.items pending.new.items result }
@@ -203,7 +237,7 @@ fn advance(
             mut body,
             part,
         } => {
-            let (used, next) = step_part(part, &mut body, pending, headers, piece)?;
+            let (used, next) = step_part(alloc, part, &mut body, pending, headers, piece)?;
             match next {
                 Some(part) => Ok((
                     used,
@@ -228,11 +262,10 @@ fn read_piece(
     kind: Kind,
     stage: Stage,
     pending: &mut Vec<u8>,
-    headers: &mut [HeaderSpan],
+    headers: &mut Vec<HeaderSpan>,
     queue: &mut VecDeque<Message>,
     piece: &[u8],
 ) -> Result<Stage, Broken>
-    requires room { 5461 ≤ length headers.old }
     requires held { CanGoOn kind stage pending.old.items }
     ensures held { IfOk result (λ next. CanGoOn kind next pending.new.items) }
     ensures read { (bytes : List ℕ) (taken : List Message) → HoldsAll kind bytes taken queue.old.items stage pending.old.items
@@ -251,19 +284,6 @@ fn read_piece(
         }
     }
     Ok(stage)
-}
-
-// As many fields as a head or a trailer section of the allowed length can have.
-const ROOM: usize = 5461;
-
-// Makes room for those fields.
-fn make_room(alloc: Global, headers: &mut Vec<HeaderSpan>) -> Result<(), AllocError>
-    ensures { OnOk result (5461 ≤ length headers.new.items) }
-{
-    if headers.len() < ROOM {
-        *headers = vec![in alloc; EMPTY_HEADER_SPAN; ROOM]?;
-    }
-    Ok(())
 }
 
 /// The stream ends inside a message.
@@ -306,6 +326,9 @@ impl MessageReader {
         ensures again { (met : Fault) → fault_of self.old ≡ Some met → (result ≡ Err met) × (fault_of self.new ≡ Some met) }
         ensures told { was_told self.new ≡ was_told self.old }
     {
+        if self.stage.extend_body(piece) {
+            return Ok(());
+        }
         let stage = mem::replace(
             &mut self.stage,
             Stage::Faulty(Broken {
@@ -317,13 +340,12 @@ impl MessageReader {
             self.stage = Stage::Faulty(broken);
             return Err(broken.fault);
         }
-        make_room(self.alloc, &mut self.headers)?;
         match read_piece(
             self.alloc,
             self.kind,
             stage,
             &mut self.pending,
-            self.headers.as_mut_slice(),
+            &mut self.headers,
             &mut self.queue,
             piece,
         ) {

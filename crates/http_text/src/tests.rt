@@ -1,6 +1,10 @@
 ghost use Rattle.std.specs.Prelude.{◌<◌};
 
-use crate::{CutShort, FrameFault, ReplyReader, RequestReader};
+use crate::{
+    CutShort, FrameFault, RawReply, RawRequest, ReplyReader, RequestReader, print_reply,
+    print_request,
+};
+use delta_base::{Bytes, Text};
 use std::alloc::{AllocError, Global};
 use std::process::Abort;
 use std::test::Fail;
@@ -315,4 +319,51 @@ fn continue_is_not_asked_for(rt: HostRuntime) {
         b"POST / HTTP/1.1\r\nExpect: 100-continue\r\nContent-Length: 5\r\n\r\n",
         Err(FrameFault::BadHost),
     );
+}
+
+#[test]
+fn printed_requests_are_read_again(rt: HostRuntime) -> Result<(), Fail> {
+    let alloc = rt.alloc();
+    let request = RawRequest {
+        method: Bytes::from_slice(alloc, b"GET")?,
+        path: Bytes::from_slice(alloc, b"/")?,
+        http10: false,
+        close: false,
+        expects: false,
+        content_type: None,
+        encoding: None,
+        body: Bytes::from_vec(Vec::new(alloc)),
+    };
+    let text = print_request(alloc, &request, &Text::from_str(alloc, "a")?)?;
+    assert_eq!(rt;
+        text.as_slice(),
+        b"GET / HTTP/1.1\r\nHost: a\r\n\r\n".as_slice()
+    );
+    let mut reader = RequestReader::new(alloc);
+    reader.feed(text.as_slice())?;
+    let again = reader.take().ok_or("a request")?;
+    assert_eq!(rt; again.path.as_slice(), b"/".as_slice());
+    Ok(())
+}
+
+#[test]
+fn printed_replies_are_read_again(rt: HostRuntime) -> Result<(), Fail> {
+    let alloc = rt.alloc();
+    let reply = RawReply {
+        status: 404,
+        close: true,
+        content_type: Some(Bytes::from_slice(alloc, b"a/b")?),
+        body: Bytes::from_slice(alloc, b"{}")?,
+    };
+    let text = print_reply(alloc, &reply, None)?;
+    assert_eq!(rt;
+        text.as_slice(),
+        b"HTTP/1.1 404 Not Found\r\nConnection: close\r\nContent-Type: a/b\r\nContent-Length: 2\r\n\r\n{}".as_slice()
+    );
+    let mut reader = ReplyReader::new(alloc);
+    reader.feed(text.as_slice())?;
+    let again = reader.take().ok_or("a reply")?;
+    assert_eq!(rt; again.status, 404);
+    assert_eq!(rt; again.body.as_slice(), b"{}".as_slice());
+    Ok(())
 }

@@ -12,6 +12,9 @@ returns-in-BlankEnd c = λ text follows. c.after_blank_end.ensures text (subst (
 pub returns-in-Method : goal.returns-in-Method
 returns-in-Method c = λ text follows. c.after_method.ensures text (subst (λ (p : Progress). Follows c.args.kind text p) c.in-Method.is follows)
 
+pub returns-in-Reason : goal.returns-in-Reason
+returns-in-Reason c = λ text follows. c.after_reason.ensures text (subst (λ (p : Progress). Follows c.args.kind text p) c.in-Reason.is follows)
+
 pub returns-in-Name : goal.returns-in-Name
 returns-in-Name c = λ text follows. c.after_name.ensures text (subst (λ (p : Progress). Follows c.args.kind text p) c.in-Name.is follows)
 

@@ -1,5 +1,6 @@
 use Rattle.std.proofs.Common.{◌∙◌, ap, length, Err}
-use Rattle.http_text.proofs.HeadLemmas.{short_of_reply_room, no_reply_head, may_be_reply}
+use Rattle.http_text.proofs.HeadLemmas.{no_reply_head, may_be_reply}
+use Rattle.http_text.proofs.RoomLemmas.{reply_fits_room}
 use Rattle.http_text.proofs.FrontLemmas.{many_reply}
 use Rattle.http_text.proofs.heads.read_reply_head.Goals as goal
 
@@ -17,4 +18,4 @@ returns-in-Ok-Partial c =
 pub unreachable-requires : goal.unreachable-requires
 unreachable-requires c =
     let many = c.parse_response.ensures.too_many (c.in-Err-TooManyHeaders.is ∙ ap Err c.in-Err-TooManyHeaders.field-0-is) in
-    short_of_reply_room _ many.0 many.1 (length c.args.headers.now) many.3 c.requires.short c.requires.room many.2 many.4 many.5
+    reply_fits_room _ many.0 many.1 (length c.args.headers.now) c.requires.short c.requires.room many.2 many.3 many.4 many.5

@@ -2,7 +2,8 @@ use Rattle.std.proofs.Common.{◌∙◌, ap, length, Err, rules}
 use Rattle.httparse.specs.Grammar.{NeverHasRequest}
 use Rattle.http_text.specs.Heads.{EndsInTarget}
 use Rattle.http_text.specs.declared.message.Kind.TheVariants.{Requests}
-use Rattle.http_text.proofs.HeadLemmas.{short_of_room, no_request_head, may_be_request, never_has_none}
+use Rattle.http_text.proofs.HeadLemmas.{no_request_head, may_be_request, never_has_none}
+use Rattle.http_text.proofs.RoomLemmas.{request_fits_room}
 use Rattle.http_text.proofs.FrontLemmas.{many_request}
 use Rattle.http_text.proofs.heads.read_request_head.Goals as goal
 
@@ -26,4 +27,4 @@ returns-then-ends_in_target c =
 pub unreachable-requires : goal.unreachable-requires
 unreachable-requires c =
     let many = c.parse_request.ensures.too_many (c.in-Err-TooManyHeaders.is ∙ ap Err c.in-Err-TooManyHeaders.field-0-is) in
-    short_of_room _ many.0 many.1 (length c.args.headers.now) many.3 c.requires.short c.requires.room many.2 many.4 many.5
+    request_fits_room _ many.0 many.1 (length c.args.headers.now) c.requires.short c.requires.room many.2 many.3 many.4 many.5

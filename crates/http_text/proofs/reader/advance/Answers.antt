@@ -11,7 +11,7 @@ use Rattle.http_text.proofs.reader.advance.Goals as goal
 pub step_head-requires : goal.step_head-requires
 step_head-requires c =
     let head = subst (λ (s : Stage). Holds c.args.kind s c.args.pending.now.items c.requires.held.0) c.in-Head.is c.requires.held.1 in
-    record { «open» = head.still; follows = head.follows; limit = room_fits c.args.kind _ _ _ _ head; piece = c.requires.piece; spans = c.requires.room }
+    record { «open» = head.still; follows = head.follows; limit = room_fits c.args.kind _ _ _ _ head; piece = c.requires.piece }
 
 pub returns-in_err-used-in-Head : goal.returns-in_err-used-in-Head
 returns-in_err-used-in-Head c = λ rest held.

@@ -1,7 +1,12 @@
-use Rattle.std.proofs.Common.{◌∙◌, sym}
+use Rattle.std.proofs.Common.{◌∙◌, sym, subst, List, ℕ}
+use Rattle.http_text.specs.Follow.{Follows}
 use Rattle.http_text.proofs.OpenHeads.{takes_fields}
 use Rattle.http_text.proofs.StepLemmas.{reads_along}
 use Rattle.http_text.proofs.stage.find_progress.Goals as goal
+
+pub returns-then-not-ends_line-clause-follows : goal.returns-then-not-ends_line-clause-follows
+returns-then-not-ends_line-clause-follows c =
+    subst (λ (t : List ℕ). Follows c.args.kind t c.within_line.result) c.as_slice-then-not-ends_line.ensures.value c.within_line.ensures
 
 pub returns-then-is_head-clause-follows : goal.returns-then-is_head-clause-follows
 returns-then-is_head-clause-follows c =
