@@ -23,9 +23,10 @@ use Rattle.patch_meaning.specs.Stream.{Cut, ArePatches, IsStream, IsStreamFault,
 use Rattle.patch_meaning.specs.Stream as stream
 use Rattle.patch_meaning.proofs.Cuts.{cut_begun, cut_longer, not_empty, patches_more, stream_by}
 use Rattle.patch_meaning.proofs.Drafts.{taken_with, ends, part_settled, broken_settled}
-use Rattle.patch_meaning.proofs.FaultPlaces.{first_end, end_place}
+use Rattle.patch_rows.proofs.FaultPlaces.{first_end}
+use Rattle.patch_meaning.proofs.Read.{lacks_text}
 use Rattle.patch_meaning.proofs.Rowed.{rows_more}
-use Rattle.patch_meaning.proofs.Slices.{space_end, row_end}
+use Rattle.patch_rows.proofs.Slices.{end_place, space_end, row_end}
 
 -- ---- the next row
 
@@ -81,13 +82,9 @@ module _ (text : List ℕ) (short : length text ≤ patch_limit) where
   ended : (at to : ℕ) (rs : List PlacedRow) → HasRead text at rs → Gap text at to → to ≡ length text → PatchOr text
   ended at to rs h gap last = by (ends (said rs) to h.1)
     where
-      lacking : (fault : PatchFault) → LacksEnd (said rs) to fault → IsPatchFault text fault
-      lacking fault (taken, inl is) = patch.rows_ rs to short (at, h.0, gap) taken (patch.open_block last is.0 is.1)
-      lacking fault (taken, inr is) = patch.rows_ rs to short (at, h.0, gap) taken (patch.no_id last is.0 is.1 is.2)
-
       by : ((m : Meaning) × IsWell (said rs) m) ⊎ ((fault : PatchFault) × LacksEnd (said rs) to fault) → PatchOr text
       by (inl m) = inl (m.0, record { short = short; rows_ = rs; reads = (at, h.0, subst (Gap text at) last gap); well = m.1 })
-      by (inr lacks) = inr (lacks.0, lacking lacks.0 lacks.1)
+      by (inr lacks) = inr (lacks.0, lacks_text text rs to lacks.0 short (at, h.0, gap) last lacks.1)
 
   -- the next row, if the rest of the text is settled behind it
   step : (at : ℕ) (rs : List PlacedRow) → at ≤ length text → HasRead text at rs

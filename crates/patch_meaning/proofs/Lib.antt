@@ -11,7 +11,6 @@ pub mod Read
 pub mod Rowed
 pub mod SameRows
 pub mod Settled
-pub mod Slices
 pub mod Splits
 pub mod Taking
 pub mod WellTaken

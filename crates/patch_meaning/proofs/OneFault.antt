@@ -13,7 +13,7 @@ use Rattle.patch_meaning.specs.declared.fault.PatchFault.TheVariants as faults
 use Rattle.patch_meaning.specs.declared.fault.Refusal.{Refusal}
 use Rattle.patch_meaning.specs.declared.role.Role.{Role}
 use Rattle.patch_meaning.specs.Patch.{Meaning, AreTaken, AreTakenFrom, refusal, refused_at, patch_limit}
-use Rattle.patch_meaning.specs.Roles.{role, said, ids_of, is_open}
+use Rattle.patch_meaning.specs.Roles.{role, said, is_open}
 use Rattle.patch_meaning.specs.Stream.{Part, Cut, ArePatches, IsPartFault, IsStreamFault, StopsAt, begins, cut, cut_with, stop_of, too_long, refused, open_block, no_id, next, over}
 use Rattle.patch_meaning.specs.Stream as stream
 use Rattle.patch_meaning.proofs.OneStream.{IsGood, good_part, begun, grown}

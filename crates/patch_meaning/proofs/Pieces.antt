@@ -18,7 +18,7 @@ use Rattle.patch_meaning.specs.Rows.{RowsTo}
 use Rattle.patch_meaning.specs.Stream.{Part, Cut, begins, cut, cut_with, stop_of}
 use Rattle.patch_meaning.proofs.Cuts.{begun, longer, stop_more}
 use Rattle.patch_meaning.proofs.Rowed.{rows_more, row_within, rows_order}
-use Rattle.patch_meaning.proofs.Slices.{row_shorter, space_shorter}
+use Rattle.patch_rows.proofs.Slices.{row_shorter, space_shorter}
 
 -- ---- places of a piece
 

@@ -1,19 +1,19 @@
 -- A text while its rows are taken, and what it is at its end.
-use Rattle.std.proofs.Common.{◌≡◌, ℕ, ◌<◌, ◌≤◌, Bool, true, false, List, [], ◌∷◌, ◌++◌, length, Some, None, Err, refl, sym, ap, subst, ◌∙◌, append-nil, inl, inr, arith}
+use Rattle.std.proofs.Common.{◌≡◌, ℕ, ◌<◌, ◌≤◌, List, [], ◌∷◌, ◌++◌, length, Err, refl, sym, ap, subst, ◌∙◌, inl, inr, arith}
 use Rattle.std.proofs.lemmas.List.{map-append}
-use Rattle.delta_base.specs.declared.id.Id.{Id}
 use Rattle.patch_rows.specs.declared.fault.RowFault.{RowFault}
 use Rattle.patch_rows.specs.declared.fault.RowFault.TheVariants as row
 use Rattle.patch_meaning.specs.declared.draft.Draft.{Draft}
 use Rattle.patch_meaning.specs.declared.fault.PatchFault.{PatchFault}
-use Rattle.patch_meaning.specs.declared.fault.PatchFault.TheVariants as faults
 use Rattle.patch_meaning.specs.declared.role.Role.{Role}
 use Rattle.patch_meaning.specs.declared.rows.Next.{Next}
 use Rattle.patch_meaning.specs.Checked.{Refuses, IsStopped, HasRead}
-use Rattle.patch_meaning.specs.Draft.{AreBehind, Stands}
+use Rattle.patch_meaning.specs.Draft.{Stands}
 use Rattle.patch_meaning.specs.Next.{IsNextRow, IsNext}
-use Rattle.patch_meaning.specs.Patch.{AreOutside, IsPatch, rows_, no_row, refused, open_block, no_id, patch_limit, prev_list, refusal, row_refused}
+use Rattle.patch_meaning.specs.PartRead.{LacksEnd}
+use Rattle.patch_meaning.specs.Patch.{IsPatchFault, rows_, no_row, refused, open_block, no_id, patch_limit, refusal, row_refused}
 use Rattle.patch_meaning.specs.Roles.{role, said}
+use Rattle.patch_meaning.specs.Rows.{RowsTo}
 use Rattle.patch_reader.specs.declared.placed.PlacedRow.{PlacedRow}
 use Rattle.patch_reader.specs.Rows.{Gap, RowsUpTo}
 use Rattle.patch_meaning.proofs.Rowed.{rows_more, row_within}
@@ -66,22 +66,10 @@ broken text at d row.OutOfMemory short h is = inl refl
 
 -- ---- the end
 
-pub open_at_end : (text : List ℕ) (d : Draft) → length text ≤ patch_limit → HasRead text d → d.in_block ≡ true → Refuses text (faults.OpenBlock (length text))
-open_at_end text d short h inside = inr (rows_ h.0 (length text) short h.1 h.2.taken (open_block refl (h.2.inside ∙ inside) refl))
+-- all rows were taken, and yet it is no patch
+pub lacks_text : (text : List ℕ) (rs : List PlacedRow) (to : ℕ) (fault : PatchFault) → length text ≤ patch_limit → RowsTo text 0 rs to → to ≡ length text → LacksEnd (said rs) to fault → IsPatchFault text fault
+lacks_text text rs to fault short reads last (taken, inl is) = rows_ rs to short reads taken (open_block last is.0 is.1)
+lacks_text text rs to fault short reads last (taken, inr is) = rows_ rs to short reads taken (no_id last is.0 is.1 is.2)
 
-pub no_id_at_end : (text : List ℕ) (d : Draft) → length text ≤ patch_limit → HasRead text d → d.in_block ≡ false → d.id ≡ None → Refuses text (faults.NoId (length text))
-no_id_at_end text d short h outside none = inr (rows_ h.0 (length text) short h.1 h.2.taken (no_id refl (h.2.inside ∙ outside) (h.2.ids ∙ ap prev_list none) refl))
-
-pub is_patch : (text : List ℕ) (d : Draft) (id : Id) → length text ≤ patch_limit → HasRead text d → d.in_block ≡ false → d.id ≡ Some id → IsPatch text (record { id = id; prev = d.prev; changes = d.changes.items })
-is_patch text d id short h outside is = record {
-  short = short;
-  rows_ = h.0;
-  reads = h.1;
-  well = record {
-    parted = h.2.parted;
-    one_id = h.2.ids ∙ ap prev_list is;
-    prev_is = h.2.prevs;
-    changes_are = h.2.changes;
-    blocks = subst AreOutside (append-nil d.changes.items) (h.2.blocks [] (subst (λ (b : Bool). AreBehind b []) (sym outside) tt));
-  };
-}
+pub lacks_end : (text : List ℕ) (d : Draft) (fault : PatchFault) → length text ≤ patch_limit → HasRead text d → ((rs : List Role) → Stands rs d → LacksEnd rs (length text) fault) → Refuses text fault
+lacks_end text d fault short h why = inr (lacks_text text h.0 (length text) fault short h.1 refl (why (said h.0) h.2))

@@ -9,15 +9,12 @@ ghost use Rattle.patch_meaning.specs.Patch.{IsPatch, patch_limit};
 
 use crate::draft::Draft;
 use crate::fault::{PatchFault, Stop};
-use crate::part::StreamPatch;
+use crate::part::{PATCH_LIMIT, StreamPatch, whole};
 use crate::rows::{Next, next_row};
-use delta_base::{Bytes, Id, OutOfMemory};
+use delta_base::{Bytes, Id, Listing, OutOfMemory};
 use rdf_terms::Changes;
 use std::alloc::Global;
 use std::marker::Model;
-
-/// The bytes that a patch may have.
-const PATCH_LIMIT: usize = 4_194_304;
 
 /// A patch whose text was checked: its id, the id of the patch before it, its changes and its text are those of one
 /// patch.
@@ -88,6 +85,29 @@ impl Checked {
     {
         &self.text
     }
+
+    /// An equal patch.
+    pub fn copy(&self, alloc: Global) -> Result<Checked, OutOfMemory>
+        ensures { IfOk result (λ c. c ≡ self.now) }
+    {
+        Ok(Checked {
+            id: self.id,
+            prev: self.prev,
+            text: self.text.copy()?,
+            changes: copy_changes(alloc, &self.changes)?,
+        })
+    }
+}
+
+// Equal changes.
+fn copy_changes(alloc: Global, changes: &Changes) -> Result<Changes, OutOfMemory>
+    ensures { IfOk result (λ copy. copy.items ≡ changes.now.items) }
+{
+    let mut copy = Listing::new(alloc);
+    for change in changes.as_slice() {
+        copy.push(change.copy()?)?;
+    }
+    Ok(copy)
 }
 
 /// Reads one patch. A fault is the text's first.
@@ -95,10 +115,11 @@ pub fn check_patch(alloc: Global, text: &[u8]) -> Result<Checked, PatchFault>
     ensures ok { IfOk result (λ patch. (patch.text ≡ text.now) × IsPatch text.now patch.meaning) }
     ensures fault { IfErr result (Refuses text.now) }
 {
-    if text.len() > PATCH_LIMIT {
+    let length = text.len() as u64;
+    if length > PATCH_LIMIT {
         return Err(PatchFault::TooLong {
-            length: text.len() as u64,
-            limit: PATCH_LIMIT as u64,
+            length,
+            limit: PATCH_LIMIT,
         });
     }
     let draft = read_rows(alloc, text)?;
@@ -140,23 +161,6 @@ fn finish(alloc: Global, draft: Draft, text: &[u8]) -> Result<Checked, PatchFaul
     ensures ok { IfOk result (λ patch. (patch.text ≡ text.now) × IsPatch text.now patch.meaning) }
     ensures fault { IfErr result (Refuses text.now) }
 {
-    let Draft {
-        id,
-        prev,
-        changes,
-        in_block,
-    } = draft;
-    let at = text.len() as u64;
-    if in_block {
-        return Err(PatchFault::OpenBlock { at });
-    }
-    match id {
-        None => Err(PatchFault::NoId { at }),
-        Some(id) => Ok(Checked {
-            id,
-            prev,
-            text: Bytes::from_slice(alloc, text)?,
-            changes,
-        }),
-    }
+    let patch = whole(draft, text.len() as u64)?;
+    Ok(Checked::of_stream(alloc, text, patch)?)
 }

@@ -166,8 +166,8 @@ impl Part {
     }
 }
 
-// The patch of which all rows were taken.
-fn whole(draft: Draft, stop: u64) -> Result<StreamPatch, PatchFault>
+/// The patch of which all rows were taken.
+pub fn whole(draft: Draft, stop: u64) -> Result<StreamPatch, PatchFault>
     ensures ok { IfOk result (λ p. (rs : List Said) → Stands rs draft → IsWell rs (meaning_of p)) }
     ensures fault { IfErr result (λ fault. (rs : List Said) → Stands rs draft → LacksEnd rs stop fault) }
     ensures told { IfErr result (λ fault. place_of fault ≡ Some stop) }
