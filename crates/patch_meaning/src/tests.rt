@@ -34,6 +34,8 @@ fn a_patch_has_its_id_and_its_changes(rt: HostRuntime) -> Result<(), Fail> {
     assert_eq!(rt; patch.changes().len(), 3);
     assert!(rt; patch.text().as_slice() == text.as_bytes());
     assert_eq!(rt; text.len(), 104);
+    let copy = patch.copy(rt.alloc()).ok().ok_or("no memory")?;
+    assert_eq!(rt; copy.changes().len(), 3);
     Ok(())
 }
 

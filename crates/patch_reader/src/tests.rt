@@ -1,3 +1,8 @@
+// A row is let go by `drop`: where it goes out of scope instead, the proof of the function takes a minute longer.
+ghost use Rattle.std.specs.Prelude.{◌<◌, length, drop};
+ghost use Rattle.nquads_text.specs.Grammar.{StartsWith};
+ghost use Rattle.patch_rows.specs.Grammar.{begins_space};
+
 use crate::{PatchReader, PlacedRow, decided_row, read_row};
 use nquads_text::TextKind;
 use patch_rows::{RowFault, RowKind, skip_space};
@@ -5,110 +10,139 @@ use std::alloc::{AllocError, Global};
 use std::process::Abort;
 use std::test::Fail;
 
-/// Where the row at the front ends, or none where more text decides.
-fn decided_end(alloc: Global, text: &[u8]) -> Result<Option<usize>, RowFault> {
-    match decided_row(alloc, text, 0)? {
-        Some((_row, end)) => Ok(Some(end)),
-        None => Ok(None),
-    }
-}
+/// Texts of whose row more text decides.
+static WAIT: [&[u8]; 19] = [
+    // a label may go on behind dots
+    b"H id _:a",
+    b"H id _:a.",
+    b"H id _:a..",
+    b"H id _:a.\xC3",
+    b"H id _:a.\xE2",
+    b"A _:a.",
+    // a label is no predicate before its end is known
+    b"A <a:b> _:",
+    // a literal may get a tag or a datatype
+    b"A \"x\"",
+    b"A \"x\" \t",
+    b"A \"x\"@en",
+    b"A \"x\"@en-",
+    b"A \"x\" ^",
+    b"PA ex \"a b\"",
+    // the front of a character
+    b"H \xC3",
+    // words wait for their ends
+    b"",
+    b"TX",
+    b"TX ",
+    b"PD ex",
+    b"TX # x",
+];
 
-/// The row at the front ends there, whatever follows.
-fn ends(rt: &impl Abort, alloc: Global, text: &[u8], end: usize) {
-    assert_eq!(rt; decided_end(alloc, text), Ok(Some(end)));
-}
+/// Texts whose row ends there, whatever follows.
+static END: [(&[u8], usize); 9] = [
+    (b"H id _:a.\xE2\x88", 9),
+    (b"H id _:a.\xFF", 9),
+    (b"H id _:a.\n", 9),
+    (b"H id _:a..\n", 9),
+    (b"H id _:a.b.\n", 11),
+    (b"H id <_:a>.", 11),
+    (b"TX.", 3),
+    (b"PD ex:.", 7),
+    (b"TX # x\n.", 8),
+];
 
-/// More text decides.
-fn waits(rt: &impl Abort, alloc: Global, text: &[u8]) {
-    assert_eq!(rt; decided_end(alloc, text), Ok(None));
-}
-
-/// The row at the front has this fault, whatever follows.
-fn fails(rt: &impl Abort, alloc: Global, text: &[u8], at: u64, kind: TextKind) {
-    let fault = RowFault::At {
-        at,
-        kind: RowKind::Common(kind),
-    };
-    assert_eq!(rt; decided_end(alloc, text), Err(fault));
-}
-
-#[test]
-fn a_label_may_go_on_behind_dots(rt: HostRuntime) {
-    let alloc = rt.alloc();
-    waits(&rt, alloc, b"H id _:a");
-    waits(&rt, alloc, b"H id _:a.");
-    waits(&rt, alloc, b"H id _:a..");
-    waits(&rt, alloc, b"H id _:a.\xC3");
-    waits(&rt, alloc, b"H id _:a.\xE2");
-    ends(&rt, alloc, b"H id _:a.\xE2\x88", 9);
-    ends(&rt, alloc, b"H id _:a.\xFF", 9);
-    ends(&rt, alloc, b"H id _:a.\n", 9);
-    ends(&rt, alloc, b"H id _:a..\n", 9);
-    ends(&rt, alloc, b"H id _:a.b.\n", 11);
-    ends(&rt, alloc, b"H id <_:a>.", 11);
-    waits(&rt, alloc, b"A _:a.");
-}
-
-#[test]
-fn a_literal_may_get_a_tag_or_a_datatype(rt: HostRuntime) {
-    let alloc = rt.alloc();
-    waits(&rt, alloc, b"A \"x\"");
-    waits(&rt, alloc, b"A \"x\" \t");
-    fails(&rt, alloc, b"A \"x\"\n", 2, TextKind::BadPosition);
-    fails(&rt, alloc, b"A \"x\" .", 2, TextKind::BadPosition);
-    waits(&rt, alloc, b"A \"x\"@en");
-    waits(&rt, alloc, b"A \"x\"@en-");
-    fails(&rt, alloc, b"A \"x\"@en ", 2, TextKind::BadPosition);
-    fails(&rt, alloc, b"A \"x\"@en-.", 5, TextKind::BadLang);
-    waits(&rt, alloc, b"A \"x\" ^");
-    fails(
-        &rt,
-        alloc,
+/// Texts whose row has this fault, whatever follows.
+static FAIL: [(&[u8], u64, TextKind); 10] = [
+    (b"A <a:b> _:a", 8, TextKind::BadPosition),
+    (b"A \"x\"\n", 2, TextKind::BadPosition),
+    (b"A \"x\" .", 2, TextKind::BadPosition),
+    (b"A \"x\"@en ", 2, TextKind::BadPosition),
+    (b"A \"x\"@en-.", 5, TextKind::BadLang),
+    (
         b"A \"x\"^^<http://www.w3.org/2001/XMLSchema#string>",
         2,
         TextKind::BadPosition,
-    );
-    waits(&rt, alloc, b"PA ex \"a b\"");
-    fails(&rt, alloc, b"PA ex \"a b\".", 6, TextKind::BadIri);
+    ),
+    (b"PA ex \"a b\".", 6, TextKind::BadIri),
+    (b"H \xC3\xA9", 2, TextKind::BadToken),
+    (b"H \xFF", 2, TextKind::NotUtf8),
+    (b"H \xC3x", 2, TextKind::NotUtf8),
+];
+
+/// Where the row at the front ends, or none where more text decides.
+fn decided_end(alloc: Global, text: &[u8]) -> Result<Option<usize>, RowFault> {
+    match decided_row(alloc, text, 0) {
+        Ok(Some((row, end))) => {
+            drop(row);
+            Ok(Some(end))
+        }
+        Ok(None) => Ok(None),
+        Err(fault) => Err(fault),
+    }
+}
+
+/// A fault as in N-Quads.
+fn fault(at: u64, kind: TextKind) -> RowFault {
+    RowFault::At {
+        at,
+        kind: RowKind::Common(kind),
+    }
 }
 
 #[test]
-fn a_label_is_no_predicate_before_its_end_is_known(rt: HostRuntime) {
-    let alloc = rt.alloc();
-    waits(&rt, alloc, b"A <a:b> _:");
-    fails(&rt, alloc, b"A <a:b> _:a", 8, TextKind::BadPosition);
+fn more_text_decides(rt: HostRuntime) {
+    for text in WAIT {
+        assert_eq!(rt; decided_end(rt.alloc(), text), Ok(None), "{text:?}");
+    }
 }
 
 #[test]
-fn the_front_of_a_character_waits(rt: HostRuntime) {
-    let alloc = rt.alloc();
-    waits(&rt, alloc, b"H \xC3");
-    fails(&rt, alloc, b"H \xC3\xA9", 2, TextKind::BadToken);
-    fails(&rt, alloc, b"H \xFF", 2, TextKind::NotUtf8);
-    fails(&rt, alloc, b"H \xC3x", 2, TextKind::NotUtf8);
+fn a_row_ends_whatever_follows(rt: HostRuntime) {
+    for (text, end) in END {
+        assert_eq!(rt; decided_end(rt.alloc(), text), Ok(Some(end)), "{text:?}");
+    }
 }
 
 #[test]
-fn words_wait_for_their_ends(rt: HostRuntime) {
-    let alloc = rt.alloc();
-    waits(&rt, alloc, b"");
-    waits(&rt, alloc, b"TX");
-    waits(&rt, alloc, b"TX ");
-    ends(&rt, alloc, b"TX.", 3);
-    waits(&rt, alloc, b"PD ex");
-    ends(&rt, alloc, b"PD ex:.", 7);
-    waits(&rt, alloc, b"TX # x");
-    ends(&rt, alloc, b"TX # x\n.", 8);
+fn a_row_fails_whatever_follows(rt: HostRuntime) {
+    for (text, at, kind) in FAIL {
+        assert_eq!(rt;
+            decided_end(rt.alloc(), text),
+            Err(fault(at, kind)),
+            "{text:?}"
+        );
+    }
+}
+
+/// Texts of one row.
+static ROWS: [&[u8]; 6] = [
+    b"H id <uuid:00000000-0000-4000-8000-000000000001> .\n",
+    b"A _:a <http://e/p> \"x\"@EN <_:g> .\n",
+    b"A <http://e/s> <http://e/p> _:a.\n",
+    b"A <http://e/s> <http://e/p> \"\\u0041\\n\\\"\"^^<http://www.w3.org/2001/XMLSchema#string> .\n",
+    b"PA \"ex\" \"http://e/\" .\n",
+    b"A <http://e/\\u0020> <http://e/p> <http://e/o> .\n",
+];
+
+/// Where the row at a place of a whole text ends.
+fn whole_end(alloc: Global, text: &[u8], at: usize) -> Result<usize, RowFault>
+    requires some { at < length text.now }
+    requires begins { StartsWith begins_space (drop at text.now) → ⊥ }
+{
+    match read_row(alloc, text, at) {
+        Ok((row, end)) => {
+            drop(row);
+            Ok(end)
+        }
+        Err(fault) => Err(fault),
+    }
 }
 
 /// Each front of a text whose row is decided has the row of the whole text, and a longer front decides it too.
 fn agrees(rt: &impl Abort, alloc: Global, text: &[u8]) {
     let at = skip_space(text, 0);
     assert!(rt; at < text.len());
-    let whole = match read_row(alloc, text, at) {
-        Ok((_row, end)) => Ok(end),
-        Err(fault) => Err(fault),
-    };
+    let whole = whole_end(alloc, text, at);
     let mut known = false;
     for size in 0..text.len() {
         match decided_end(alloc, &text[..size + 1]) {
@@ -128,29 +162,15 @@ fn agrees(rt: &impl Abort, alloc: Global, text: &[u8]) {
 
 #[test]
 fn fronts_agree_with_the_whole(rt: HostRuntime) {
-    let alloc = rt.alloc();
-    agrees(
-        &rt,
-        alloc,
-        b"H id <uuid:00000000-0000-4000-8000-000000000001> .\n",
-    );
-    agrees(&rt, alloc, b"A _:a <http://e/p> \"x\"@EN <_:g> .\n");
-    agrees(&rt, alloc, b"A <http://e/s> <http://e/p> _:a.\n");
-    agrees(
-        &rt,
-        alloc,
-        b"A <http://e/s> <http://e/p> \"\\u0041\\n\\\"\"^^<http://www.w3.org/2001/XMLSchema#string> .\n",
-    );
-    agrees(&rt, alloc, b"PA \"ex\" \"http://e/\" .\n");
-    agrees(
-        &rt,
-        alloc,
-        b"A <http://e/\\u0020> <http://e/p> <http://e/o> .\n",
-    );
+    for text in ROWS {
+        agrees(&rt, rt.alloc(), text);
+    }
 }
 
 fn end_of(placed: PlacedRow) -> u64 {
-    placed.end
+    let end = placed.end;
+    drop(placed);
+    end
 }
 
 /// Takes up to eight rows, and keeps the places behind them.
@@ -216,53 +236,58 @@ fn reads(
     Ok(())
 }
 
-/// A fault as in N-Quads.
-fn fault(at: u64, kind: TextKind) -> Result<(), RowFault> {
-    Err(RowFault::At {
-        at,
-        kind: RowKind::Common(kind),
-    })
-}
+/// Texts and the places behind their rows.
+static WELL: [(&[u8], &[u64]); 3] = [
+    (
+        b"H id <uuid:00000000-0000-4000-8000-000000000001> .\nTX .\nA <http://e/s> <http://e/p> <http://e/o> .\nTC .\n",
+        &[50, 55, 98, 103],
+    ),
+    (
+        b"A _:a <http://e/p> \"x\\n\xC3\xA9\"@EN <_:g> .A <a:b> <a:b> _:a.",
+        &[37, 55],
+    ),
+    (b"# \xC3\xA9\n PA ex: # :\n\"a:b\" .\r# end", &[24]),
+];
+
+/// Texts that end in a fault.
+static BROKEN: [(&[u8], &[u64], u64, TextKind); 6] = [
+    (b"TX .\nTC", &[4], 7, TextKind::Truncated),
+    (b"TX .# \xFF", &[4], 6, TextKind::NotUtf8),
+    (b"TX .# \xC3", &[4], 6, TextKind::NotUtf8),
+    (b"TX ..", &[4], 4, TextKind::BadToken),
+    (b"A <a:b> <a:b> \"\\q\" .", &[], 15, TextKind::BadEscape),
+    (
+        b"A <a:b> <a:b> \"x\"^^<a> .",
+        &[],
+        19,
+        TextKind::RelativeIri,
+    ),
+];
 
 #[test]
 fn a_patch_has_its_rows_in_any_pieces(rt: HostRuntime) -> Result<(), Fail> {
-    let alloc = rt.alloc();
-    let text =
-        b"H id <uuid:00000000-0000-4000-8000-000000000001> .\nTX .\nA <http://e/s> <http://e/p> <http://e/o> .\nTC .\n";
-    reads(&rt, alloc, text, &[50, 55, 98, 103], Ok(()))?;
-    let text = b"A _:a <http://e/p> \"x\\n\xC3\xA9\"@EN <_:g> .A <a:b> <a:b> _:a.";
-    reads(&rt, alloc, text, &[37, 55], Ok(()))?;
-    let text = b"# \xC3\xA9\n PA ex: # :\n\"a:b\" .\r# end";
-    reads(&rt, alloc, text, &[24], Ok(()))?;
+    for (text, ends) in WELL {
+        reads(&rt, rt.alloc(), text, ends, Ok(()))?;
+    }
     Ok(())
 }
 
 #[test]
 fn a_text_has_its_first_fault_in_any_pieces(rt: HostRuntime) -> Result<(), Fail> {
-    let alloc = rt.alloc();
-    reads(&rt, alloc, b"TX .\nTC", &[4], fault(7, TextKind::Truncated))?;
-    reads(&rt, alloc, b"TX .# \xFF", &[4], fault(6, TextKind::NotUtf8))?;
-    reads(&rt, alloc, b"TX .# \xC3", &[4], fault(6, TextKind::NotUtf8))?;
-    reads(&rt, alloc, b"TX ..", &[4], fault(4, TextKind::BadToken))?;
-    reads(
-        &rt,
-        alloc,
-        b"A <a:b> <a:b> \"\\q\" .",
-        &[],
-        fault(15, TextKind::BadEscape),
-    )?;
-    reads(
-        &rt,
-        alloc,
-        b"A <a:b> <a:b> \"x\"^^<a> .",
-        &[],
-        fault(19, TextKind::RelativeIri),
-    )?;
+    for (text, ends, at, kind) in BROKEN {
+        reads(&rt, rt.alloc(), text, ends, Err(fault(at, kind)))?;
+    }
     Ok(())
 }
 
 fn takes_row(reader: &mut PatchReader) -> bool {
-    reader.take_row().is_some()
+    match reader.take_row() {
+        Some(row) => {
+            drop(row);
+            true
+        }
+        None => false,
+    }
 }
 
 #[test]
