@@ -10,6 +10,7 @@ use Rattle.patch_reader.specs.Decided.{Decides}
 use Rattle.patch_reader.specs.Places.{further_place}
 use Rattle.patch_reader.specs.Rows.{Keeps}
 use Rattle.patch_reader.proofs.Kept.{next_given}
+use Rattle.patch_meaning.specs.declared.role.Role.{Role}
 use Rattle.patch_meaning.specs.declared.rows.Next.{Next}
 use Rattle.patch_meaning.specs.Next.{IsNext}
 use Rattle.patch_meaning.specs.Roles.{role}
@@ -43,7 +44,7 @@ near bytes n le small = omega arith
 kept_all : (bytes : List ℕ) → length bytes < 2 ^ 63 → Keeps bytes 0 bytes
 kept_all bytes small = (refl, omega arith, omega arith)
 
-pub finds_decided : (bytes : List ℕ) (from at end : ℕ) (r : Row) → from ≤ at → at ≤ length bytes → length bytes < 2 ^ 63 → Space (drop from bytes) (drop at bytes) → Decides bytes at (Ok (Some (r, end)))
+finds_decided : (bytes : List ℕ) (from at end : ℕ) (r : Row) → from ≤ at → at ≤ length bytes → length bytes < 2 ^ 63 → Space (drop from bytes) (drop at bytes) → Decides bytes at (Ok (Some (r, end)))
     → IsNextIn false bytes from (record { role = role r; at = at; end = end })
 finds_decided bytes from at end r low high small space d = (
   r,
@@ -57,7 +58,7 @@ finds_decided bytes from at end r low high small space d = (
       ),
 )
 
-pub finds_fault : (bytes : List ℕ) (from at place : ℕ) (kind : RowKind) → from ≤ at → at ≤ length bytes → length bytes < 2 ^ 63 → Space (drop from bytes) (drop at bytes) → Decides bytes at (Err (row.At place kind))
+finds_fault : (bytes : List ℕ) (from at place : ℕ) (kind : RowKind) → from ≤ at → at ≤ length bytes → length bytes < 2 ^ 63 → Space (drop from bytes) (drop at bytes) → Decides bytes at (Err (row.At place kind))
     → FindsFault false bytes from kind place
 finds_fault bytes from at place kind low high small space d =
     let given = next_given ends.Open bytes bytes 0 from at (Err (row.At place kind)) low high space d (kept_all bytes small) in
@@ -72,7 +73,15 @@ finds_fault bytes from at place kind low high small space d =
       ),
     )
 
-pub finds_other : (bytes : List ℕ) (from at : ℕ) (fault : RowFault) → from ≤ at → at ≤ length bytes → length bytes < 2 ^ 63 → Space (drop from bytes) (drop at bytes) → Decides bytes at (Err fault)
-    → FindsNext false bytes from (Err fault)
-finds_other bytes from at (row.At place kind) low high small space d = finds_fault bytes from at place kind low high small space d
-finds_other bytes from at row.OutOfMemory low high small space d = tt
+-- what a decided row says
+pub decided_next : (bytes items : List ℕ) (from at end : ℕ) (r : Row) (says : Role) (o : Option (Row × ℕ)) → bytes ≡ items → from ≤ at → at ≤ length bytes → length bytes < 2 ^ 63 → Space (drop from bytes) (drop at bytes)
+    → o ≡ Some (r, end) → Decides bytes at (Ok o) → says ≡ role r → IsNextIn false items from (record { role = says; at = at; end = end })
+decided_next bytes items from at end r says o same low high small space found d is =
+    let n = finds_decided bytes from at end r low high small space (subst (λ (o : Option (Row × ℕ)). Decides bytes at (Ok o)) found d) in
+    subst (λ (l : List ℕ). IsNextIn false l from (record { role = says; at = at; end = end })) same (n.0, n.1 ∙ sym is, n.2)
+
+-- a decided fault
+pub decided_fault : (bytes items : List ℕ) (from at place : ℕ) (kind : RowKind) (fault : RowFault) → bytes ≡ items → from ≤ at → at ≤ length bytes → length bytes < 2 ^ 63 → Space (drop from bytes) (drop at bytes)
+    → fault ≡ row.At place kind → Decides bytes at (Err fault) → FindsFault false items from kind place
+decided_fault bytes items from at place kind fault same low high small space found d =
+    subst (λ (l : List ℕ). FindsFault false l from kind place) same (finds_fault bytes from at place kind low high small space (subst (λ (fault : RowFault). Decides bytes at (Err fault)) found d))

@@ -6,7 +6,6 @@
 
 mod fault;
 mod lines;
-mod next;
 mod place;
 mod progress;
 mod replay;

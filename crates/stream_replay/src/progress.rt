@@ -13,7 +13,7 @@ use crate::fault::ReplayFault;
 use crate::place::{Told, line_of, tell};
 use crate::replay::{Replay, Replayed};
 use crate::window::Window;
-use patch_meaning::{Next, Part, Role, StreamPatch};
+use patch_meaning::{Part, Role, StreamPatch};
 use patch_rows::RowKind;
 use std::alloc::Global;
 
@@ -42,20 +42,23 @@ impl Progress {
         }
     }
 
-    /// Takes the next row of the window.
-    pub fn take(&mut self, alloc: Global, window: &Window, next: Next) -> Result<(), Told>
+    /// Takes what the next row of the window says, which stands at a place.
+    pub fn take(&mut self, alloc: Global, window: &Window, says: Role, at: usize) -> Result<(), Told>
         requires room { self.old.replay.chain.version < 2 ^ 32 - 1 }
-        requires within { next.at ≤ vec_len window.now.bytes }
-        ensures ok { OnOk result ((whole : Bool) (text : List ℕ) → IsWindow text window.now → IsNextIn whole window.now.bytes.items window.now.from next
-            → HasStreamed whole text (window.now.base + window.now.from) self.old → HasStreamed whole text (window.now.base + next.end) self.new) }
+        requires within { at ≤ vec_len window.now.bytes }
+        ensures ok { OnOk result ((whole : Bool) (text : List ℕ) (end : ℕ) → IsWindow text window.now → IsNextIn whole window.now.bytes.items window.now.from (record { role = says; at = at; end = end })
+            → HasStreamed whole text (window.now.base + window.now.from) self.old → HasStreamed whole text (window.now.base + end) self.new) }
         ensures version { OnOk result (self.new.replay.chain.version ≤ self.old.replay.chain.version + 1) }
-        ensures fault { IfErr result (λ told. (whole : Bool) (text : List ℕ) → IsWindow text window.now → IsNextIn whole window.now.bytes.items window.now.from next
+        ensures fault { IfErr result (λ told. (whole : Bool) (text : List ℕ) (end : ℕ) → IsWindow text window.now → IsNextIn whole window.now.bytes.items window.now.from (record { role = says; at = at; end = end })
             → HasStreamed whole text (window.now.base + window.now.from) self.old → IsTold whole text told) }
     {
-        let Next { role, at, .. } = next;
-        let done = self.take_row(alloc, window, role, window.base + at as u64)?;
-        self.replay.take_done(alloc, done)?;
-        Ok(())
+        match self.take_row(alloc, window, says, window.base + at as u64) {
+            Ok(done) => {
+                self.replay.take_done(alloc, done)?;
+                Ok(())
+            }
+            Err(told) => Err(told),
+        }
     }
 
     // Takes what the row at a place says, and answers the patch that was completed before it.

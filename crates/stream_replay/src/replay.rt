@@ -66,7 +66,8 @@ impl Replay {
         }
     }
 
-    // Tests a patch against the chain, and applies it.
+    // Tests a patch against the chain, and applies it. Most rows complete none, so this stays out of the way of those.
+    #[inline(never)]
     fn take(&mut self, alloc: Global, patch: &StreamPatch) -> Result<(), OutOfMemory>
         requires room { self.old.chain.version < 2 ^ 32 - 1 }
         ensures replay { OnOk result ((ms : List Meaning) → IsReplay ms self.old → IsReplay (ms ++ meaning_of patch.now ∷ []) self.new) }

@@ -1,16 +1,16 @@
 //! A stream that is read in pieces.
-ghost use Rattle.std.specs.Prelude.{◌≡◌, ◌+◌, ◌-◌, ◌<◌, ◌≤◌, ◌^◌, ◌++◌, ◌∷◌, ℕ, List, [], Bool, true, false, None, Some, IfOk, IfErr, OnOk, IfSome, length, vec_len};
+ghost use Rattle.std.specs.Prelude.{◌≡◌, ◌+◌, ◌-◌, ◌<◌, ◌≤◌, ◌^◌, ◌++◌, ◌∷◌, ℕ, List, [], Bool, true, false, None, Some, IfOk, IfErr, OnOk, length, vec_len};
 ghost use Rattle.patch_reader.specs.Rows.{Gap};
 
 use crate::fault::ReplayFault;
-use crate::next::next_in;
 use crate::place::Told;
 use crate::progress::Progress;
 use crate::replay::Replayed;
 use crate::window::Window;
 use delta_base::OutOfMemory;
-use patch_meaning::{Next, PatchFault};
-use patch_rows::RowFault;
+use patch_meaning::{Next, PatchFault, Role, next_row, role_of};
+use patch_reader::decided_row;
+use patch_rows::{RowFault, skip_space};
 use std::alloc::Global;
 
 /// A stream of which some pieces were read.
@@ -70,7 +70,7 @@ impl Streaming {
         ensures few { OnOk result (IsFew self.new) }
         ensures end { OnOk result (self.new.window.base + vec_len self.new.window.bytes ≡ self.old.window.base + vec_len self.old.window.bytes) }
     {
-        match self.advance(alloc, false) {
+        match self.advance(alloc) {
             Ok(()) => self.settle(alloc),
             Err(told) => self.stop(told),
         }
@@ -103,53 +103,86 @@ impl Streaming {
         Ok(())
     }
 
-    // Takes all rows that the window decides; where the text is whole, all rows.
-    fn advance(&mut self, alloc: Global, whole: bool) -> Result<(), Told>
+    // Takes all rows that the window decides.
+    fn advance(&mut self, alloc: Global) -> Result<(), Told>
         requires room { self.old.window.base + vec_len self.old.window.bytes ≤ 2 ^ 31 }
         requires few { self.old.progress.replay.chain.version ≤ self.old.window.base + self.old.window.from }
-        ensures ok { OnOk result ((text : List ℕ) → IsStreaming whole text self.old → IsStreaming whole text self.new) }
-        ensures end_of_text { OnOk result (whole ≡ true → Gap self.new.window.bytes.items self.new.window.from (length self.new.window.bytes.items)) }
-        ensures fault { IfErr result (λ told. (text : List ℕ) → IsStreaming whole text self.old → IsTold whole text told) }
+        ensures ok { OnOk result ((text : List ℕ) → IsStreaming false text self.old → IsStreaming false text self.new) }
+        ensures fault { IfErr result (λ told. (text : List ℕ) → IsStreaming false text self.old → IsTold false text told) }
         ensures few { OnOk result (self.new.progress.replay.chain.version ≤ self.new.window.base + self.new.window.from) }
         ensures base { self.new.window.base ≡ self.old.window.base }
         ensures len { vec_len self.new.window.bytes ≡ vec_len self.old.window.bytes }
         ensures same { self.new.fault ≡ self.old.fault }
     {
-        'rows: while let Some(next) = self.next(alloc, whole)? {
-            self.step(alloc, next)?;
+        'rows: loop {
+            let bytes = self.window.bytes.as_slice();
+            let at = skip_space(bytes, self.window.from);
+            match decided_row(alloc, bytes, at) {
+                Ok(Some((row, end))) => match self.step(alloc, role_of(row), at, end) {
+                    Ok(()) => {}
+                    Err(told) => return Err(told),
+                },
+                Ok(None) => return Ok(()),
+                Err(RowFault::At { at, kind }) => {
+                    return Err(self.progress.break_off(&self.window, at, kind));
+                }
+                Err(RowFault::OutOfMemory) => return Err(Told::from(OutOfMemory)),
+            }
+        }
+    }
+
+    // Takes all rows of a text that is whole.
+    fn advance_to_end(&mut self, alloc: Global) -> Result<(), Told>
+        requires room { self.old.window.base + vec_len self.old.window.bytes ≤ 2 ^ 31 }
+        requires few { self.old.progress.replay.chain.version ≤ self.old.window.base + self.old.window.from }
+        ensures ok { OnOk result ((text : List ℕ) → IsStreaming true text self.old → IsStreaming true text self.new) }
+        ensures end_of_text { OnOk result (Gap self.new.window.bytes.items self.new.window.from (length self.new.window.bytes.items)) }
+        ensures fault { IfErr result (λ told. (text : List ℕ) → IsStreaming true text self.old → IsTold true text told) }
+        ensures few { OnOk result (self.new.progress.replay.chain.version ≤ self.new.window.base + self.new.window.from) }
+        ensures base { self.new.window.base ≡ self.old.window.base }
+        ensures len { vec_len self.new.window.bytes ≡ vec_len self.old.window.bytes }
+    {
+        'rows: while let Some(next) = self.next(alloc)? {
+            let Next { role, at, end } = next;
+            self.step(alloc, role, at, end)?;
         }
         Ok(())
     }
 
-    // The next row of the window, or the fault.
-    fn next(&self, alloc: Global, whole: bool) -> Result<Option<Next>, Told>
-        ensures ok { IfOk result (FindsRow whole self.now.window.bytes.items self.now.window.from) }
-        ensures fault { IfErr result (λ told. (text : List ℕ) → IsStreaming whole text self.now → IsTold whole text told) }
+    // The next row of a text that is whole, or the fault.
+    fn next(&self, alloc: Global) -> Result<Option<Next>, Told>
+        ensures ok { IfOk result (FindsRow true self.now.window.bytes.items self.now.window.from) }
+        ensures fault { IfErr result (λ told. (text : List ℕ) → IsStreaming true text self.now → IsTold true text told) }
     {
-        match next_in(alloc, self.window.bytes.as_slice(), self.window.from, whole) {
+        match next_row(alloc, self.window.bytes.as_slice(), self.window.from) {
             Ok(next) => Ok(next),
             Err(RowFault::At { at, kind }) => Err(self.progress.break_off(&self.window, at, kind)),
             Err(RowFault::OutOfMemory) => Err(Told::from(OutOfMemory)),
         }
     }
 
-    // Takes a row.
-    fn step(&mut self, alloc: Global, next: Next) -> Result<(), Told>
+    // Takes what the row at a place says, which ends at another.
+    fn step(&mut self, alloc: Global, says: Role, at: usize, end: usize) -> Result<(), Told>
         requires room { self.old.progress.replay.chain.version < 2 ^ 32 - 1 }
-        requires low { next.at ≤ next.end }
-        requires within { next.end ≤ vec_len self.old.window.bytes }
-        ensures ok { OnOk result ((whole : Bool) (text : List ℕ) → IsNextIn whole self.old.window.bytes.items self.old.window.from next → IsStreaming whole text self.old → IsStreaming whole text self.new) }
-        ensures fault { IfErr result (λ told. (whole : Bool) (text : List ℕ) → IsNextIn whole self.old.window.bytes.items self.old.window.from next → IsStreaming whole text self.old → IsTold whole text told) }
+        requires low { at ≤ end }
+        requires within { end ≤ vec_len self.old.window.bytes }
+        ensures ok { OnOk result ((whole : Bool) (text : List ℕ) → IsNextIn whole self.old.window.bytes.items self.old.window.from (record { role = says; at = at; end = end })
+            → IsStreaming whole text self.old → IsStreaming whole text self.new) }
+        ensures fault { IfErr result (λ told. (whole : Bool) (text : List ℕ) → IsNextIn whole self.old.window.bytes.items self.old.window.from (record { role = says; at = at; end = end })
+            → IsStreaming whole text self.old → IsTold whole text told) }
         ensures version { OnOk result (self.new.progress.replay.chain.version ≤ self.old.progress.replay.chain.version + 1) }
-        ensures from { OnOk result (self.new.window.from ≡ next.end) }
+        ensures from { OnOk result (self.new.window.from ≡ end) }
         ensures base { self.new.window.base ≡ self.old.window.base }
         ensures bytes { self.new.window.bytes ≡ self.old.window.bytes }
         ensures same { self.new.fault ≡ self.old.fault }
     {
-        let end = next.end;
-        self.progress.take(alloc, &self.window, next)?;
-        self.window.from = end;
-        Ok(())
+        match self.progress.take(alloc, &self.window, says, at) {
+            Ok(()) => {
+                self.window.from = end;
+                Ok(())
+            }
+            Err(told) => Err(told),
+        }
     }
 
     /// The replay of the whole text.
@@ -162,7 +195,7 @@ impl Streaming {
         if let Some(told) = self.fault {
             return Err(ReplayFault::from(told));
         }
-        self.advance(alloc, true)?;
+        self.advance_to_end(alloc)?;
         let Streaming {
             window,
             progress,

@@ -1,16 +1,34 @@
-use Rattle.std.proofs.Common.{subst}
-use Rattle.std.proofs.lemmas.Result.{err_from_is_err_and}
-use Rattle.stream_replay.specs.Streaming.{FindsRow}
+use Rattle.std.proofs.Common.{rules, false, Some, ◌+◌, ◌<◌, ◌^◌, length, vec_len, ap, arith}
+use Rattle.patch_meaning.specs.Cutting.{IsFaultOf}
+use Rattle.stream_replay.proofs.Finds.{decided_next, decided_fault}
+use Rattle.stream_replay.proofs.Streams.{told_there}
 use Rattle.stream_replay.proofs.stream.Streaming.advance.Goals as goal
 
-pub returns-in_err-next-clause-fault : goal.returns-in_err-next-clause-fault
-returns-in_err-next-clause-fault c =
-    let p = err_from_is_err_and c.from_residual.result c.from_residual.ensures.1 in
-    rw (p.1, p.2) (λ text s. c.in_err-next.ensures.fault text (c.rows.invariant.streaming text s))
+pub returns-in-Err-clause-fault : goal.returns-in-Err-clause-fault
+returns-in-Err-clause-fault c =
+    let w = c.rows.self.window in let bytes = c.as_slice-bytes in let space = c.skip_space-at in let row = c.in-Ok-Some in
+    let small : length bytes.result.now < 2 ^ 63 = omega (arith, c.requires.room, bytes.ensures.len, ap vec_len c.rows.invariant.bytes) in
+    let here = decided_next bytes.result.now w.bytes.items w.from space.result row.end row.row c.role_of.result row.field-0 bytes.ensures.value space.ensures.low space.ensures.high small space.ensures.space row.field-0-is row.ensures c.role_of.ensures in
+    λ text s. c.in-Err.ensures.fault false text here (c.rows.invariant.streaming text s)
 
-pub returns-in_err-step-clause-fault : goal.returns-in_err-step-clause-fault
-returns-in_err-step-clause-fault c =
-    let p = err_from_is_err_and c.from_residual-in_err-step.result c.from_residual-in_err-step.ensures.1 in
-    let w = c.rows.self.window in
-    let found = subst (FindsRow c.args.whole w.bytes.items w.from) c.in-Some.is c.in_ok-next.ensures.ok in
-    rw (p.1, p.2) (λ text s. c.in_err-step.ensures.fault c.args.whole text found.0 (c.rows.invariant.streaming text s))
+pub rows-preserved : goal.rows-preserved
+rows-preserved c =
+    let w = c.rows.self.window in let bytes = c.as_slice-bytes in let space = c.skip_space-at in let row = c.in-Ok-Some in
+    let small : length bytes.result.now < 2 ^ 63 = omega (arith, c.requires.room, bytes.ensures.len, ap vec_len c.rows.invariant.bytes) in
+    let here = decided_next bytes.result.now w.bytes.items w.from space.result row.end row.row c.role_of.result row.field-0 bytes.ensures.value space.ensures.low space.ensures.high small space.ensures.space row.field-0-is row.ensures c.role_of.ensures in
+    record {
+      streaming = λ text s. c.in-Ok.ensures.ok false text here (c.rows.invariant.streaming text s);
+      few = search rules;
+      base = search rules;
+      bytes = search rules;
+      same = search rules;
+    }
+
+pub returns-in-Err-At-clause-fault : goal.returns-in-Err-At-clause-fault
+returns-in-Err-At-clause-fault c = λ text before.
+    let w = c.rows.self.window in let bytes = c.as_slice-bytes in let space = c.skip_space-at in let stop = c.in-Err-At in
+    let small : length bytes.result.now < 2 ^ 63 = omega (arith, c.requires.room, bytes.ensures.len, ap vec_len c.rows.invariant.bytes) in
+    let found = decided_fault bytes.result.now w.bytes.items w.from space.result stop.at stop.kind stop.field-0 bytes.ensures.value space.ensures.low space.ensures.high small space.ensures.space stop.field-0-is stop.ensures in
+    let s = c.rows.invariant.streaming text before in
+    let why : IsFaultOf c.rows.self.progress.part (w.base + stop.at) (Some stop.kind) c.break_off.result.fault = rw (← stop.at-is, ← stop.kind-is) c.break_off.ensures.fault in
+    told_there false text w.base w.from stop.at w.bytes.items w.feeds c.rows.self.progress stop.kind c.break_off.result s.window_ found s.progress_ why (c.break_off.ensures.line text s.window_ s.progress_.line_is)
