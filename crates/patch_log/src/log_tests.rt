@@ -368,15 +368,20 @@ fn what_was_acknowledged_is_found_again(rt: HostRuntime) -> Result<(), Fail> {
     Ok(())
 }
 
+// The patches that these texts are.
+fn patches_of(alloc: Global, texts: &[&[u8]]) -> Result<Vec<Checked>, Fail> {
+    let mut patches = Vec::new(alloc);
+    for text in texts {
+        patches.push(check_patch(alloc, text)?)?;
+    }
+    Ok(patches)
+}
+
 #[test]
 fn many_appends_are_answered_in_order(rt: HostRuntime) -> Result<(), Fail> {
     let alloc = rt.alloc();
     let mut log = open(alloc, disk_of(alloc, EMPTY, &[])?, LIMITS)?;
-    let patches = vec![in alloc;
-        check_patch(alloc, FIRST)?,
-        check_patch(alloc, SECOND)?,
-        check_patch(alloc, FIRST)?,
-    ]?;
+    let patches = patches_of(alloc, &[FIRST, SECOND, FIRST])?;
     let answers = append_all(alloc, &mut log, &patches, 3)?;
     assert_eq!(rt;
         answers.as_slice(),
