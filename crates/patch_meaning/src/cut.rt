@@ -114,9 +114,10 @@ impl Part {
     }
 }
 
-fn refuse(_says: Role, fault: PatchFault) -> Result<Option<StreamPatch>, PatchFault>
+fn refuse(says: Role, fault: PatchFault) -> Result<Option<StreamPatch>, PatchFault>
     ensures { result ≡ Err fault }
 {
+    drop(says);
     Err(fault)
 }
 

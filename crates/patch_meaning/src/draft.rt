@@ -133,9 +133,10 @@ fn push(changes: &mut Changes, change: Change) -> Result<(), Stop>
     Ok(())
 }
 
-fn refuse(_change: Change, why: Refusal) -> Result<(), Stop>
+fn refuse(change: Change, why: Refusal) -> Result<(), Stop>
     ensures { result ≡ Err (stops.Refused why) }
 {
+    drop(change);
     Err(Stop::Refused(why))
 }
 

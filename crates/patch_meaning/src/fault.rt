@@ -111,7 +111,8 @@ impl From<RowFault> for PatchFault {
 impl From<Back<Change>> for Stop {
     ghost from_gives = { λ _ e. e ≡ stops.OutOfMemory };
 
-    fn from(_: Back<Change>) -> Stop {
+    fn from(back: Back<Change>) -> Stop {
+        drop(back);
         Stop::OutOfMemory
     }
 }

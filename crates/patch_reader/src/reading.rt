@@ -46,6 +46,7 @@ fn front_row(alloc: Global, text: &[u8], at: usize) -> Result<(Row, usize), RowF
     match row(alloc, front, at) {
         Ok((row, end)) => {
             if end == front.len() {
+                drop(row);
                 return Err(RowFault::at(at, RowKind::TooLong));
             }
             Ok((row, end))

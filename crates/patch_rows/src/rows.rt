@@ -81,8 +81,13 @@ fn bare(text: &[u8], at: usize, change: Change) -> Result<(Row, usize), RowFault
     requires { at ≤ length text.now }
     ensures { Gives text.now result (bare_at change (drop at text.now)) }
 {
-    let behind = end(text, at, RowKind::Common(TextKind::BadToken))?;
-    Ok((Row::Change(change), behind))
+    match end(text, at, RowKind::Common(TextKind::BadToken)) {
+        Ok(behind) => Ok((Row::Change(change), behind)),
+        Err(fault) => {
+            drop(change);
+            Err(fault)
+        }
+    }
 }
 
 /// The quad of a row that adds or deletes one.

@@ -16,8 +16,13 @@ fn first_row(alloc: Global, text: &[u8]) -> Result<(Row, usize), RowFault> {
 
 /// Where the first row ends, or its first fault.
 fn outcome(alloc: Global, text: &[u8]) -> Result<usize, RowFault> {
-    let (_row, end) = first_row(alloc, text)?;
-    Ok(end)
+    match first_row(alloc, text) {
+        Ok((row, end)) => {
+            drop(row);
+            Ok(end)
+        }
+        Err(fault) => Err(fault),
+    }
 }
 
 /// The first row of a text has this fault.
@@ -129,12 +134,16 @@ fn brackets_hold_a_whole_label(rt: HostRuntime) {
 
 /// The canonical text of a row.
 fn printed(alloc: Global, row: Row) -> Result<Bytes, OutOfMemory> {
-    print_row(alloc, &row)
+    let line = print_row(alloc, &row);
+    drop(row);
+    line
 }
 
 /// A copy of a row, which goes.
 fn copied(row: Row) -> Result<Row, OutOfMemory> {
-    row.copy()
+    let copy = row.copy();
+    drop(row);
+    copy
 }
 
 /// The canonical text of the first row of a text.
