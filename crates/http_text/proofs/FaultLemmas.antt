@@ -157,7 +157,7 @@ chunk_good body behind content kept left fault at short place bad =
 part_no_fault : (part : Part) (body pending behind : List ℕ) (framing : Framing) (fault : FrameFault) → HoldsPart part body pending framing behind
     → IsBodyFault framing behind fault → ⊥
 part_no_fault (parts.Sized left) body pending behind framing fault (some, sized, is, none) bad = subst (λ (f : Framing). IsBodyFault f behind fault) sized bad
-part_no_fault parts.Line body pending behind framing fault (chunked, at, still) bad =
+part_no_fault (parts.Line place) body pending behind framing fault ((chunked, at), still, follows) bad =
     line_good (length (data_of at.chunks)) pending fault still
     (fault_here at.chunks pending behind fault at.before (line_place (length (data_of at.chunks)) pending still.none) at.behind_is
     (subst (λ (f : Framing). IsBodyFault f behind fault) chunked bad))

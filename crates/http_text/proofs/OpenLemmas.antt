@@ -88,7 +88,7 @@ part_not_whole (parts.Sized left) body pending behind front more b framing (some
     let it = subst (λ (f : Framing). IsBody f front b) sized whole in
     let long : length front + length more ≡ length body = sym (length-append front more) ∙ ap length (is ∙ behind_is) in
     omega (arith, it.0)
-part_not_whole parts.Line body pending behind front more b framing (chunked, at, still) whole is =
+part_not_whole (parts.Line place) body pending behind front more b framing ((chunked, at), still, follows) whole is =
     let it = subst (λ (f : Framing). IsBody f front b) chunked whole in
     let last = place_of_last at.chunks pending front more behind it.0 at.before (line_place (length (data_of at.chunks)) pending still.none) at.behind_is it.1 it.2 is in
     still.none it.0.last _ (it.1.last.line, last)

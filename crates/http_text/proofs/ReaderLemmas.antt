@@ -19,6 +19,7 @@ use Rattle.http_text.specs.declared.message.Message.{Message}
 use Rattle.http_text.specs.declared.message.Message.TheVariants as forms
 use Rattle.http_text.specs.declared.message.RawRequest.{RawRequest}
 use Rattle.http_text.specs.declared.message.RawReply.{RawReply}
+use Rattle.http_text.specs.declared.line.LineAt.TheVariants as lines
 use Rattle.http_text.specs.declared.stage.Part.{Part}
 use Rattle.http_text.specs.declared.stage.Part.TheVariants as parts
 use Rattle.http_text.specs.declared.stage.HeadEnd.TheVariants as ends
@@ -78,7 +79,7 @@ sized_begins kind text message framing size body whole is some empty = record {
 
 -- a chunked body begins with a chunk line
 pub chunked_begins : (kind : Kind) (text : List ℕ) (message : Message) (framing : Framing) (body : Vec ℕ) → IsHeadOf kind text message framing → framing ≡ Chunked → body.items ≡ []
-    → Holds kind (stages.Body message body parts.Line) [] text
+    → Holds kind (stages.Body message body (parts.Line lines.Unknown)) [] text
 chunked_begins kind text message framing body whole is empty = record {
   passed = whole.passed;
   from = whole.from;
@@ -90,9 +91,9 @@ chunked_begins kind text message framing body whole is empty = record {
   faultless = whole.faultless ∙ ap Ok is;
   message_is = whole.message_is;
   part_is = (
-    refl,
-    record { chunks = []; before = record { each = All-nil IsChunk; fit = omega arith }; body_is = empty; behind_is = refl },
+    (refl, record { chunks = []; before = record { each = All-nil IsChunk; fit = omega arith }; body_is = empty; behind_is = refl }),
     open_line,
+    tt,
   );
 }
 

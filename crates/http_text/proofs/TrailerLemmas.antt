@@ -1,24 +1,19 @@
 -- Facts about trailers that are followed as the fields behind a status line.
-use Rattle.std.proofs.Common.{◌≡◌, ℕ, ◌-◌, ◌<◌, ◌≤◌, List, [], ◌∷◌, ◌++◌, length, take, drop, true, None, Some, Option, Result, Ok, Err, sym, ap, ◌∙◌, subst, inr, arith, append_assoc}
+use Rattle.std.proofs.Common.{◌≡◌, ℕ, ◌-◌, ◌<◌, ◌≤◌, List, [], ◌∷◌, ◌++◌, length, take, drop, true, None, Some, Option, Ok, sym, ap, ◌∙◌, subst, inr, arith, append_assoc}
 use Rattle.std.specs.Prelude.{codes}
-use Rattle.std.proofs.lemmas.List.{append-nil, take_all, take-append-le, take-append-drop, length-take-le}
+use Rattle.std.proofs.lemmas.List.{append-nil, take_all}
 use Rattle.std.specs.List.{All}
 use Rattle.httparse.specs.Grammar.{LineEnd, crlf, lf, print_end, print_blank, print_version, print_reason, Field, IsField, print_section, ReadsSection, HasNoSection, NeverHasSection, ResponseHead, IsResponseHead, print_response}
 use Rattle.httparse.proofs.GrammarLemmas.{print_response-append}
 use Rattle.http_text.specs.Heads.{Head, request, reply, ReadsHead}
 use Rattle.http_text.specs.Chunks.{most_trailers, AreBadTrailers}
-use Rattle.http_text.specs.Messages.{IsBody}
 use Rattle.http_text.specs.Follow.{Follows, is_known, TakesFields}
-use Rattle.http_text.specs.Stages.{AreOpenTrailers, HoldsPart, HoldsTrailers, FollowsTrailers, some_status_line, PartStepIs, TellsBodyFault}
+use Rattle.http_text.specs.Stages.{AreOpenTrailers, HoldsTrailers, FollowsTrailers, some_status_line, PartStepIs}
 use Rattle.http_text.specs.declared.follow.Progress.{Progress}
-use Rattle.http_text.specs.declared.framing.FrameFault.{FrameFault}
-use Rattle.http_text.specs.declared.framing.FrameFault.TheVariants as faults
 use Rattle.http_text.specs.declared.framing.Framing.{Framing}
 use Rattle.http_text.specs.declared.message.Kind.TheVariants.{Replies}
-use Rattle.http_text.specs.declared.stage.Part.{Part}
 use Rattle.http_text.specs.declared.stage.Part.TheVariants as parts
 use Rattle.http_text.proofs.ChunkLemmas.{trailers_more}
-use Rattle.http_text.proofs.GrowLemmas.{body_fault_grows}
 use Rattle.http_text.proofs.HeadLaws.{some_reply, reply_reads}
 use Rattle.http_text.proofs.OpenHeads.{follows_open}
 use Rattle.http_text.proofs.PieceLemmas.{IsMost}
@@ -112,32 +107,3 @@ pub follows_piece : (old front : List ℕ) (passed : ℕ) (progress : Progress) 
 follows_piece old front passed progress all follows =
     subst (λ (t : List ℕ). Follows Replies t progress)
     (append_assoc some_status_line old (take passed front) ∙ ap (λ (t : List ℕ). some_status_line ++ (old ++ t)) (take_all passed front (omega arith))) follows
-
--- ---- a step over the front of a piece is one over the piece
-
-tells_grows : (framing : Framing) (behind more : List ℕ) (fault : FrameFault) → TellsBodyFault framing behind fault → TellsBodyFault framing (behind ++ more) fault
-tells_grows framing behind more faults.OutOfMemory tells = tt
-tells_grows framing behind more faults.BadHead tells = body_fault_grows framing behind more faults.BadHead tells
-tells_grows framing behind more faults.TooManyFields tells = body_fault_grows framing behind more faults.TooManyFields tells
-tells_grows framing behind more faults.HeadTooLong tells = body_fault_grows framing behind more faults.HeadTooLong tells
-tells_grows framing behind more faults.BadHost tells = body_fault_grows framing behind more faults.BadHost tells
-tells_grows framing behind more faults.TwoLengths tells = body_fault_grows framing behind more faults.TwoLengths tells
-tells_grows framing behind more faults.BadLength tells = body_fault_grows framing behind more faults.BadLength tells
-tells_grows framing behind more (faults.BodyTooLong size limit) tells = body_fault_grows framing behind more (faults.BodyTooLong size limit) tells
-tells_grows framing behind more faults.BadChunk tells = body_fault_grows framing behind more faults.BadChunk tells
-
-module _ (framing : Framing) (behind piece body pending : List ℕ) (end : ℕ) (within : end ≤ length piece) where
-  front_used : (used : ℕ) → used ≤ length (take end piece) → take used (take end piece) ≡ take used piece
-  front_used used fits = sym (take-append-le used (take end piece) (drop end piece) fits) ∙ ap (take used) (take-append-drop end piece)
-
-  front_fits : (used : ℕ) → used ≤ length (take end piece) → used ≤ length piece
-  front_fits used fits = let long = length-take-le end piece within in omega arith
-
-  pub part_lifts : (r : Result (ℕ × Option Part) FrameFault) → PartStepIs framing behind (take end piece) body pending r → PartStepIs framing behind piece body pending r
-  part_lifts (Ok (used, None)) (some, is, empty) =
-      ((some.0, front_fits used some.1), subst (λ (t : List ℕ). IsBody framing (behind ++ t) body) (front_used used some.1) is, empty)
-  part_lifts (Ok (used, Some part)) (some, holds) =
-      ((some.0, front_fits used some.1), subst (λ (t : List ℕ). HoldsPart part body pending framing (behind ++ t)) (front_used used some.1) holds)
-  part_lifts (Err fault) tells =
-      let whole : (behind ++ take end piece) ++ drop end piece ≡ behind ++ piece = append_assoc behind (take end piece) (drop end piece) ∙ ap (λ (t : List ℕ). behind ++ t) (take-append-drop end piece) in
-      subst (λ (t : List ℕ). TellsBodyFault framing t fault) whole (tells_grows framing (behind ++ take end piece) (drop end piece) fault tells)

@@ -7,6 +7,7 @@ use Rattle.http_text.specs.Framing.{most_body}
 use Rattle.http_text.specs.Chunks.{most_line, most_trailers, IsShortLine, AreChunks, data_of, print_chunk, Chunk}
 use Rattle.http_text.specs.Messages.{message_of, BeginsWithHead, framing_behind, IsBody, IsBodyFault}
 use Rattle.http_text.specs.Follow.{Follows}
+use Rattle.http_text.specs.Line.{FollowsLine}
 use Rattle.http_text.specs.Front.{TellsFaultAt}
 use Rattle.http_text.specs.declared.follow.Progress.{Progress}
 use Rattle.http_text.specs.declared.message.Kind.{Kind}
@@ -67,7 +68,11 @@ pub record IsAtTrailers (body behind text : List ℕ) : Type 0 where
   pub body_is : body ≡ data_of chunks
   pub behind_is : behind ≡ flat_map print_chunk chunks ++ (print_chunk_line last ++ text)
 
--- the same of a chunked body
+-- a chunked body in which the line of a chunk comes next, of which this much has come
+abbrev pub HoldsLine : Framing → List ℕ → List ℕ → List ℕ → Type 0
+HoldsLine framing body behind text = (framing ≡ framings.Chunked) × IsAtLine body behind text
+
+-- and one in which the trailers do
 abbrev pub HoldsTrailers : Framing → List ℕ → List ℕ → List ℕ → Type 0
 HoldsTrailers framing body behind text = (framing ≡ framings.Chunked) × IsAtTrailers body behind text
 
@@ -82,7 +87,7 @@ FollowsTrailers text progress = Follows Replies (some_status_line ++ text) progr
 abbrev pub HoldsPart : Part → List ℕ → List ℕ → Framing → List ℕ → Type 0
 HoldsPart (Sized left) body pending framing behind =
     (0 < left) × (framing ≡ framings.Sized (length body + left)) × (behind ≡ body) × (pending ≡ [])
-HoldsPart Line body pending framing behind = (framing ≡ framings.Chunked) × IsAtLine body behind pending × IsOpenLine pending
+HoldsPart (Line at) body pending framing behind = HoldsLine framing body behind pending × IsOpenLine pending × FollowsLine pending at
 HoldsPart (Content left) body pending framing behind =
     (framing ≡ framings.Chunked) × (0 < left) × ((content : List ℕ) × IsInChunk body behind content left) × (pending ≡ [])
 HoldsPart ContentEnd body pending framing behind =

@@ -15,6 +15,7 @@ ghost use Rattle.http_text.specs.declared.framing.Framing as framings;
 use crate::chunk::{step_content, step_content_end, step_line, step_trailers};
 use crate::follow::Progress;
 use crate::framing::{FrameFault, Framing};
+use crate::line::LineAt;
 use crate::message::{Kind, Message, RawReply, RawRequest};
 use crate::stage::{HeadEnd, MOST_HEAD, Part, step_head, step_sized};
 use delta_base::Bytes;
@@ -132,7 +133,9 @@ fn begin_body(
         Framing::Chunked => Ok(Stage::Body {
             message,
             body: Vec::new(alloc),
-            part: Part::Line,
+            part: Part::Line {
+                at: LineAt::Unknown,
+            },
         }),
         Framing::Sized(size) => {
             if size == 0 {
@@ -165,7 +168,7 @@ fn step_part(
 {
     match part {
         Part::Sized { left } => step_sized(body, left, piece),
-        Part::Line => step_line(body.len(), pending, piece),
+        Part::Line { at } => step_line(body.len(), at, pending, piece),
         Part::Content { left } => step_content(body, left, piece),
         Part::ContentEnd => step_content_end(pending, piece),
         Part::Trailers { progress } => step_trailers(alloc, progress, pending, headers, piece),
