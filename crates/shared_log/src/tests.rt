@@ -95,10 +95,10 @@ fn entry_of(log: &LogState<MemDisk>, version: u32) -> Option<(u32, Id)> {
 #[test]
 fn what_one_pass_brings_the_other_sees(rt: HostRuntime) -> Result<(), Fail> {
     let alloc = rt.alloc();
-    let (log, mut passes) = share(alloc, &[])?;
     let first = check_patch(alloc, FIRST)?;
     let second = check_patch(alloc, SECOND)?;
     let third = check_patch(alloc, THIRD)?;
+    let (log, mut passes) = share(alloc, &[])?;
     assert_eq!(rt;
         log.append(&rt, &mut passes.one, &first),
         LogAnswer::Accepted { version: 1 }
@@ -134,8 +134,8 @@ fn what_one_pass_brings_the_other_sees(rt: HostRuntime) -> Result<(), Fail> {
 #[test]
 fn a_fault_is_that_of_its_own_pass(rt: HostRuntime) -> Result<(), Fail> {
     let alloc = rt.alloc();
-    let (log, mut passes) = share(alloc, &[4])?;
     let first = check_patch(alloc, FIRST)?;
+    let (log, mut passes) = share(alloc, &[4])?;
     assert_eq!(rt;
         log.append(&rt, &mut passes.one, &first),
         LogAnswer::DiskFault
@@ -163,9 +163,11 @@ fn text_of(fetched: &Fetched) -> Result<&[u8], u32> {
 fn share_two<R: Wait>(rt: &R, alloc: Global) -> Result<(SharedLog<MemDisk>, Passes), Fail>
     ensures { IfOk result (λ r. IsPassOf memory_mark r.0 r.1.two) }
 {
+    let first = check_patch(alloc, FIRST)?;
+    let second = check_patch(alloc, SECOND)?;
     let (log, mut passes) = share(alloc, &[])?;
-    log.append(rt, &mut passes.one, &check_patch(alloc, FIRST)?);
-    log.append(rt, &mut passes.one, &check_patch(alloc, SECOND)?);
+    log.append(rt, &mut passes.one, &first);
+    log.append(rt, &mut passes.one, &second);
     Ok((log, passes))
 }
 
