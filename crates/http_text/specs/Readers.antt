@@ -58,6 +58,7 @@ abbrev pub KnowsAsk : Kind → List ℕ → FrameFault → Bool → Type 0
 KnowsAsk kind rest fault true = BeginsWithGoodHead kind rest true
 KnowsAsk kind rest fault false = HasHeadFault kind rest fault ⊎ BeginsWithGoodHead kind rest false
 
+-- the rest has this fault, unless memory ran out, and what is told of the head in front of it holds
 abbrev pub BreaksAs : Kind → List ℕ → Broken → Type 0
 BreaksAs kind rest broken = TellsFault kind rest broken.fault × KnowsAsk kind rest broken.fault broken.expects
 
