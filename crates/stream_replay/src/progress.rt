@@ -43,7 +43,13 @@ impl Progress {
     }
 
     /// Takes what the next row of the window says, which stands at a place.
-    pub fn take(&mut self, alloc: Global, window: &Window, says: Role, at: usize) -> Result<(), Told>
+    pub fn take(
+        &mut self,
+        alloc: Global,
+        window: &Window,
+        says: Role,
+        at: usize,
+    ) -> Result<(), Told>
         requires room { self.old.replay.chain.version < 2 ^ 32 - 1 }
         requires within { at ≤ vec_len window.now.bytes }
         ensures ok { OnOk result ((whole : Bool) (text : List ℕ) (end : ℕ) → IsWindow text window.now → IsNextIn whole window.now.bytes.items window.now.from (record { role = says; at = at; end = end })
