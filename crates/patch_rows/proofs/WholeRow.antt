@@ -1,16 +1,16 @@
 -- A row of any length is read exactly where the grammar has one, and else its first fault is met.
-use Rattle.std.proofs.Common.{◌≡◌, ℕ, List, Option, Some, None, Ok, Err, refl, sym, ap, subst, ◌∙◌, ◌⊎◌, inl, inr, ⊎_elim}
+use Rattle.std.proofs.Common.{◌≡◌, ℕ, List, Option, Some, None, refl, sym, ap, subst, ◌∙◌, ◌⊎◌, inl, inr, ⊎_elim}
 use Rattle.patch_rows.specs.declared.codes.Code.{Code}
 use Rattle.patch_rows.specs.declared.fault.RowKind.TheVariants.{UnknownCode}
 use Rattle.patch_rows.specs.declared.row.Row.{Row}
-use Rattle.patch_rows.specs.Fault.{Fault, Read}
+use Rattle.patch_rows.specs.Fault.{Fault}
 use Rattle.patch_rows.specs.Grammar.{letters, WordAt, code_of, PartsAt, RowAt}
 use Rattle.patch_rows.specs.Faults.{PartsFault, RowFault}
 use Rattle.patch_rows.specs.Reading.{code_named}
 use Rattle.patch_rows.specs.declared.cut.TextEnd.TheVariants.{Known}
 use Rattle.patch_rows.specs.Rows.{by_code, row_of, row_at}
 use Rattle.patch_rows.proofs.CodeTable.{named, one_code, code_spelled}
-use Rattle.patch_rows.proofs.Exact.{Exact, exact_ok, exact_err, restated, chained}
+use Rattle.patch_rows.proofs.Exact.{Exact, exact_err, restated, chained}
 use Rattle.patch_rows.proofs.RowLaws.{exact_parts}
 use Rattle.patch_rows.proofs.RunLaws.{exact_word, WordFault}
 

@@ -16,7 +16,7 @@ use Rattle.patch_rows.specs.declared.fault.RowKind.{RowKind}
 use Rattle.patch_rows.specs.declared.fault.RowKind.TheVariants.{Common, UnknownCode, WrongCount, TooLong}
 use Rattle.patch_rows.specs.declared.row.Row.{Row}
 use Rattle.patch_rows.specs.Fault.{Fault, as_row_fault}
-use Rattle.patch_rows.specs.Grammar.{Space, Spaced, KeyAt, letters, WordAt, InBrackets, RowTerm, Placed, is_any, is_node, plain, PrefixAt, PrefixIriAt, RowAt, RowDecided, row_limit, row_front}
+use Rattle.patch_rows.specs.Grammar.{Space, Spaced, KeyAt, letters, WordAt, InBrackets, RowTerm, Placed, is_any, is_node, plain, PrefixAt, PrefixIriAt, RowDecided, row_limit, row_front}
 
 -- ---- tokens
 

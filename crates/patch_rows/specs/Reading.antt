@@ -1,17 +1,14 @@
 -- Reading the tokens of a row from left to right, with the first fault that is met.
-use Rattle.std.specs.Prelude.{ℕ, zero, suc, ◌-◌, ◌+◌, Bool, true, false, List, [], ◌∷◌, length, take, drop, Option, Some, None, Result, Ok, Err, ◌==◌, ◌||◌, ◌&&◌, not, if◌then◌else◌}
+use Rattle.std.specs.Prelude.{ℕ, zero, suc, ◌-◌, Bool, true, false, List, [], ◌∷◌, length, take, drop, Option, Some, None, Result, Ok, Err, ◌==◌, ◌&&◌, not, if◌then◌else◌}
 use Rattle.std.specs.Char.{is_ascii_alphabetic}
 use Rattle.std.specs.List.{list_all, prefix_len}
 use Rattle.std.specs.Str.{bytes_eq}
 use Rattle.rdf_terms.specs.Iri.{has_scheme, is_forbidden}
-use Rattle.rdf_terms.specs.declared.change.Change.{Change}
-use Rattle.rdf_terms.specs.declared.change.Change.TheVariants as change
 use Rattle.rdf_terms.specs.declared.term.LiteralKind.{LiteralKind}
 use Rattle.rdf_terms.specs.declared.term.LiteralKind.TheVariants.{Plain, Typed, Tagged}
 use Rattle.rdf_terms.specs.declared.term.Term.{Term}
 use Rattle.rdf_terms.specs.declared.term.Term.TheVariants as term
-use Rattle.rdf_terms.specs.Quad.{Statement, statement, is_iri}
-use Rattle.nquads_text.specs.declared.fault.TextKind.TheVariants.{BadIri, RelativeIri, BadLabel, BadPosition, MissingDot, BadToken, Truncated}
+use Rattle.nquads_text.specs.declared.fault.TextKind.TheVariants.{BadIri, RelativeIri, BadLabel, BadPosition, BadToken, Truncated}
 use Rattle.nquads_text.specs.Fault.{Read as TextRead}
 use Rattle.nquads_text.specs.Faults.{begins_term}
 use Rattle.nquads_text.specs.Reading.{char_at, iri_body_at}
@@ -19,11 +16,9 @@ use Rattle.nquads_text.specs.Terms.{label_at, term_at}
 use Rattle.patch_rows.specs.declared.codes.Code.{Code}
 use Rattle.patch_rows.specs.declared.codes.Code.TheVariants as code
 use Rattle.patch_rows.specs.declared.fault.RowKind.{RowKind}
-use Rattle.patch_rows.specs.declared.fault.RowKind.TheVariants.{Common, UnknownCode, WrongCount}
-use Rattle.patch_rows.specs.declared.row.Row.{Row}
-use Rattle.patch_rows.specs.declared.row.Row.TheVariants as row
+use Rattle.patch_rows.specs.declared.fault.RowKind.TheVariants.{Common, WrongCount}
 use Rattle.patch_rows.specs.Fault.{Fault, Read, ◌>>=◌, in_row, as_row_fault}
-use Rattle.patch_rows.specs.Grammar.{is_line_end, is_space, is_word_byte, letters, is_any, is_node}
+use Rattle.patch_rows.specs.Grammar.{is_line_end, is_space, is_word_byte, letters}
 use Rattle.patch_rows.specs.Faults.{is_dot}
 
 -- a character of a comment at the front of `here`, `room` bytes being behind its first, and what `more` finds behind it
