@@ -1,8 +1,8 @@
 -- Rows put behind others.
 use Rattle.std.proofs.Common.{◌≡◌, ℕ, List, [], ◌∷◌, ◌++◌, refl, sym, ap, subst, ◌∙◌}
 use Rattle.patch_reader.specs.declared.placed.PlacedRow.{PlacedRow}
-use Rattle.patch_reader.specs.declared.placed.TextEnd.{TextEnd}
-use Rattle.patch_reader.specs.declared.placed.TextEnd.TheVariants as ends
+use Rattle.patch_rows.specs.declared.cut.TextEnd.{TextEnd}
+use Rattle.patch_rows.specs.declared.cut.TextEnd.TheVariants as ends
 use Rattle.patch_reader.specs.Rows.{RowsUpTo, RowsStand, Adds}
 
 pub rows_joined : (text : List ℕ) (from mid to : ℕ) (rows_ others : List PlacedRow) → RowsUpTo text from rows_ mid → RowsUpTo text mid others to → RowsUpTo text from (rows_ ++ others) to

@@ -10,10 +10,10 @@ use Rattle.patch_rows.specs.declared.row.Row.{Row}
 use Rattle.patch_rows.specs.Fault.{Fault, Read, Gives}
 use Rattle.patch_rows.specs.Grammar.{row_limit, row_front}
 use Rattle.patch_rows.proofs.Shorter.{row_shorter}
-use Rattle.patch_reader.specs.Cut.{AtEnd, is_cut, ends_row}
+use Rattle.patch_rows.specs.Cut.{AtEnd, is_cut, ends_row}
 use Rattle.patch_reader.specs.Decided.{ShortRowDecided, FirstFaultDecided, MoreDecides, Decides}
 use Rattle.patch_reader.specs.Limit.{of_front, front_row_at}
-use Rattle.patch_reader.specs.Live.{live_row}
+use Rattle.patch_rows.specs.Rows.{live_row}
 use Rattle.patch_reader.proofs.RowEnds.{cut_row}
 use Rattle.patch_reader.proofs.Limits.{short_row, front_row, short_fault, front_fault, long_row, long_open, more_decides, row_now}
 

@@ -24,11 +24,12 @@ use Rattle.patch_rows.specs.Fault.{Read, ◌>>=◌, in_row}
 use Rattle.patch_rows.specs.Faults.{is_dot}
 use Rattle.patch_rows.specs.Grammar.{is_word_byte, is_any, is_node}
 use Rattle.patch_rows.specs.Reading.{stands, row_term_at, bracket_at, needed_term_at, run_of, key_at, other, uncut, word_at}
+use Rattle.patch_rows.specs.declared.cut.TextEnd.TheVariants.{Open}
+use Rattle.patch_rows.specs.Rows.{live_row, open_key, open_term, open_word_prefix, placed_of, prefix_iri_of, prefix_of, quoted_of}
 use Rattle.patch_reader.specs.declared.progress.Part.{Part}
 use Rattle.patch_reader.specs.declared.progress.Part.TheVariants as part
-use Rattle.patch_reader.specs.Cut.{TextAtEnd, AtEnd, ends_row, ends_text, label_open, literal_open}
+use Rattle.patch_rows.specs.Cut.{TextAtEnd, AtEnd, ends_row, ends_text, label_open, literal_open}
 use Rattle.patch_reader.specs.Inside.{IsLabelOpen, IsTagOpen, IsSuffixOpen, IsStringOpen}
-use Rattle.patch_reader.specs.Live.{live_term, live_placed, live_key, live_quoted, live_word_prefix, live_prefix, live_prefix_iri, live_row}
 use Rattle.patch_reader.specs.Progress.{graph_from, object_from, predicate_from, subject_from, value_from, key_from, iri_from, added_from, removed_from, rest_from, takes_term, takes_node, takes_word}
 use Rattle.patch_reader.proofs.InsideSteps.{text_end_then}
 use Rattle.patch_reader.proofs.RowParts.{row_open}
@@ -109,8 +110,8 @@ quote_first : (body : List ℕ) → term_at (34 ∷ body) ≡ ◌and_then◌ (li
 unfolding term_at
 quote_first body = rw (char_at-ascii 34 body (omega arith)) refl
 
-string_term : (body : List ℕ) → IsStringOpen (string_body_at body) → AtEnd (live_term (34 ∷ body))
-unfolding live_term needed_term_at row_term_at
+string_term : (body : List ℕ) → IsStringOpen (string_body_at body) → AtEnd (open_term (34 ∷ body))
+unfolding open_term needed_term_at row_term_at
 string_term body o = rw (quote_first body) (by (literal_at (34 ∷ body) body) (literal_cut body o))
   where
     by : (r : TextRead Literal) → CutLiteral (34 ∷ body) r
@@ -118,14 +119,14 @@ string_term body o = rw (quote_first body) (by (literal_at (34 ∷ body) body) (
     by r (inl end) = end_then (in_row (◌and_then◌ r (λ l. Ok (term.Literal l.0, l.1)))) _ (text_at_end (◌and_then◌ r (λ l. Ok (term.Literal l.0, l.1))) (text_end_then r _ end))
     by r (inr l) = rw l.1 (rw l.2 truncated)
 
-iri_term : (body : List ℕ) → TextAtEnd (iri_body_at body) → AtEnd (live_term (60 ∷ body))
-unfolding live_term needed_term_at row_term_at bracket_at
+iri_term : (body : List ℕ) → TextAtEnd (iri_body_at body) → AtEnd (open_term (60 ∷ body))
+unfolding open_term needed_term_at row_term_at bracket_at
 iri_term body a = end_then (row_term_at (60 ∷ body)) _ (end_then (in_row (iri_body_at body)) _ (text_at_end (iri_body_at body) a))
 
 -- the first byte is one of these, and the term is cut off
 data IsCutTerm (rest : List ℕ) : Type 0 where
-  string : (body : List ℕ) → rest ≡ 34 ∷ body → AtEnd (live_term rest) → IsCutTerm rest
-  iri : (body : List ℕ) → rest ≡ 60 ∷ body → AtEnd (live_term rest) → IsCutTerm rest
+  string : (body : List ℕ) → rest ≡ 34 ∷ body → AtEnd (open_term rest) → IsCutTerm rest
+  iri : (body : List ℕ) → rest ≡ 60 ∷ body → AtEnd (open_term rest) → IsCutTerm rest
 
 term_there : (rest : List ℕ) → IsCutTerm rest → stands begins_term rest ≡ true
 term_there rest (IsCutTerm.string body is a) = ap (stands begins_term) is
@@ -139,46 +140,46 @@ no_letter_there : (rest : List ℕ) → IsCutTerm rest → stands is_ascii_alpha
 no_letter_there rest (IsCutTerm.string body is a) = ap (stands is_ascii_alphabetic) is
 no_letter_there rest (IsCutTerm.iri body is a) = ap (stands is_ascii_alphabetic) is
 
-cut_term : (rest : List ℕ) → IsCutTerm rest → AtEnd (live_term rest)
+cut_term : (rest : List ℕ) → IsCutTerm rest → AtEnd (open_term rest)
 cut_term rest (IsCutTerm.string body is a) = a
 cut_term rest (IsCutTerm.iri body is a) = a
 
-cut_placed : (fits : Term → Bool) (rest : List ℕ) → IsCutTerm rest → AtEnd (live_placed fits rest)
-unfolding live_placed
-cut_placed fits rest o = end_then (live_term rest) _ (cut_term rest o)
+cut_placed : (fits : Term → Bool) (rest : List ℕ) → IsCutTerm rest → AtEnd (placed_of Open fits rest)
+unfolding placed_of
+cut_placed fits rest o = end_then (open_term rest) _ (cut_term rest o)
 
 either_true : (a b : Bool) → b ≡ true → (a || b) ≡ true
 either_true true b e = refl
 either_true false b e = e
 
-cut_prefix : (rest : List ℕ) → IsCutTerm rest → AtEnd (live_prefix rest)
-unfolding live_prefix live_quoted
+cut_prefix : (rest : List ℕ) → IsCutTerm rest → AtEnd (prefix_of Open rest)
+unfolding prefix_of quoted_of
 cut_prefix rest o =
-    rw (no_colon_there rest o) (rw (no_letter_there rest o) (rw (either_true (stands is_dot rest) (stands begins_term rest) (term_there rest o)) (end_then (live_term rest) _ (cut_term rest o))))
+    rw (no_colon_there rest o) (rw (no_letter_there rest o) (rw (either_true (stands is_dot rest) (stands begins_term rest) (term_there rest o)) (end_then (open_term rest) _ (cut_term rest o))))
 
-cut_prefix_iri : (rest : List ℕ) → IsCutTerm rest → AtEnd (live_prefix_iri rest)
-unfolding live_prefix_iri
-cut_prefix_iri rest o = end_then (live_term rest) _ (cut_term rest o)
+cut_prefix_iri : (rest : List ℕ) → IsCutTerm rest → AtEnd (prefix_iri_of Open rest)
+unfolding prefix_iri_of
+cut_prefix_iri rest o = end_then (open_term rest) _ (cut_term rest o)
 
 term_opens : (p : Part) (rest : List ℕ) → takes_term p ≡ true → IsCutTerm rest → AtEnd (rest_from p rest)
 unfolding graph_from object_from predicate_from subject_from value_from iri_from added_from removed_from
 term_opens part.Key rest t o = absurd (false≢true t)
-term_opens part.Value rest t o = end_then (live_placed is_any rest) _ (cut_placed is_any rest o)
+term_opens part.Value rest t o = end_then (placed_of Open is_any rest) _ (cut_placed is_any rest o)
 term_opens part.Bare rest t o = absurd (false≢true t)
-term_opens part.Added rest t o = end_then (live_prefix rest) _ (cut_prefix rest o)
-term_opens part.Iri rest t o = end_then (live_prefix_iri rest) _ (cut_prefix_iri rest o)
-term_opens part.Removed rest t o = end_then (live_prefix rest) _ (cut_prefix rest o)
-term_opens part.Subject rest t o = end_then (live_placed is_node rest) _ (cut_placed is_node rest o)
-term_opens part.Predicate rest t o = end_then (live_placed is_iri rest) _ (cut_placed is_iri rest o)
-term_opens part.Object rest t o = end_then (live_placed is_any rest) _ (cut_placed is_any rest o)
-term_opens part.Graph rest t o = rw (term_there rest o) (end_then (live_placed is_node rest) _ (cut_placed is_node rest o))
+term_opens part.Added rest t o = end_then (prefix_of Open rest) _ (cut_prefix rest o)
+term_opens part.Iri rest t o = end_then (prefix_iri_of Open rest) _ (cut_prefix_iri rest o)
+term_opens part.Removed rest t o = end_then (prefix_of Open rest) _ (cut_prefix rest o)
+term_opens part.Subject rest t o = end_then (placed_of Open is_node rest) _ (cut_placed is_node rest o)
+term_opens part.Predicate rest t o = end_then (placed_of Open is_iri rest) _ (cut_placed is_iri rest o)
+term_opens part.Object rest t o = end_then (placed_of Open is_any rest) _ (cut_placed is_any rest o)
+term_opens part.Graph rest t o = rw (term_there rest o) (end_then (placed_of Open is_node rest) _ (cut_placed is_node rest o))
 term_opens part.End rest t o = absurd (false≢true t)
 
 pub string_opens : (p : Part) (rest body : List ℕ) → takes_term p ≡ true → rest ≡ 34 ∷ body → IsStringOpen (string_body_at body) → AtEnd (rest_from p rest)
-string_opens p rest body t is a = term_opens p rest t (IsCutTerm.string body is (subst (λ (r : List ℕ). AtEnd (live_term r)) (sym is) (string_term body a)))
+string_opens p rest body t is a = term_opens p rest t (IsCutTerm.string body is (subst (λ (r : List ℕ). AtEnd (open_term r)) (sym is) (string_term body a)))
 
 pub iri_opens : (p : Part) (rest body : List ℕ) → takes_term p ≡ true → rest ≡ 60 ∷ body → TextAtEnd (iri_body_at body) → AtEnd (rest_from p rest)
-iri_opens p rest body t is a = term_opens p rest t (IsCutTerm.iri body is (subst (λ (r : List ℕ). AtEnd (live_term r)) (sym is) (iri_term body a)))
+iri_opens p rest body t is a = term_opens p rest t (IsCutTerm.iri body is (subst (λ (r : List ℕ). AtEnd (open_term r)) (sym is) (iri_term body a)))
 
 -- ---- labels
 
@@ -198,8 +199,8 @@ unfolding term_at label_at
 line_first rest = rw (char_at-ascii 95 (58 ∷ rest) (omega arith)) (rw (char_at-ascii 58 rest (omega arith)) refl)
 
 label_placed : (fits : Term → Bool) → ((l : List ℕ) → fits (term.Blank l) ≡ true) → (rest : List ℕ) (c : ℕ) (after : List ℕ) → char_at rest ≡ Ok (c, after) → begins_name c ≡ true → IsLabelOpen after
-    → AtEnd (live_placed fits (95 ∷ 58 ∷ rest))
-unfolding live_placed live_term needed_term_at row_term_at
+    → AtEnd (placed_of Open fits (95 ∷ 58 ∷ rest))
+unfolding placed_of open_term needed_term_at row_term_at
 label_placed fits blank rest c after e begins o =
     let l = label_read (95 ∷ 58 ∷ rest) rest c after e begins o in
     rw (line_first rest, l.1, blank l.0.0, l.2) truncated
@@ -213,15 +214,15 @@ node_blank l = refl
 pub label_opens : (p : Part) (rest : List ℕ) (c : ℕ) (after : List ℕ) → takes_node p ≡ true → char_at rest ≡ Ok (c, after) → begins_name c ≡ true → IsLabelOpen after → AtEnd (rest_from p (95 ∷ 58 ∷ rest))
 unfolding graph_from object_from subject_from value_from
 label_opens part.Key rest c after t e begins o = absurd (false≢true t)
-label_opens part.Value rest c after t e begins o = end_then (live_placed is_any (95 ∷ 58 ∷ rest)) _ (label_placed is_any any_blank rest c after e begins o)
+label_opens part.Value rest c after t e begins o = end_then (placed_of Open is_any (95 ∷ 58 ∷ rest)) _ (label_placed is_any any_blank rest c after e begins o)
 label_opens part.Bare rest c after t e begins o = absurd (false≢true t)
 label_opens part.Added rest c after t e begins o = absurd (false≢true t)
 label_opens part.Iri rest c after t e begins o = absurd (false≢true t)
 label_opens part.Removed rest c after t e begins o = absurd (false≢true t)
-label_opens part.Subject rest c after t e begins o = end_then (live_placed is_node (95 ∷ 58 ∷ rest)) _ (label_placed is_node node_blank rest c after e begins o)
+label_opens part.Subject rest c after t e begins o = end_then (placed_of Open is_node (95 ∷ 58 ∷ rest)) _ (label_placed is_node node_blank rest c after e begins o)
 label_opens part.Predicate rest c after t e begins o = absurd (false≢true t)
-label_opens part.Object rest c after t e begins o = end_then (live_placed is_any (95 ∷ 58 ∷ rest)) _ (label_placed is_any any_blank rest c after e begins o)
-label_opens part.Graph rest c after t e begins o = end_then (live_placed is_node (95 ∷ 58 ∷ rest)) _ (label_placed is_node node_blank rest c after e begins o)
+label_opens part.Object rest c after t e begins o = end_then (placed_of Open is_any (95 ∷ 58 ∷ rest)) _ (label_placed is_any any_blank rest c after e begins o)
+label_opens part.Graph rest c after t e begins o = end_then (placed_of Open is_node (95 ∷ 58 ∷ rest)) _ (label_placed is_node node_blank rest c after e begins o)
 label_opens part.End rest c after t e begins o = absurd (false≢true t)
 
 -- ---- words
@@ -257,23 +258,23 @@ word_is_run b rest letter = ap (λ (t : Bool). cond {A = Read (List ℕ)} t (unc
 pub letters_open : (b : ℕ) (rest : List ℕ) → is_ascii_alphabetic b ≡ true → list_all is_ascii_alphabetic rest ≡ true → AtEnd (live_row (b ∷ rest))
 letters_open b rest letter all = row_open (b ∷ rest) (subst AtEnd (sym (word_is_run b rest letter)) (run_cut is_ascii_alphabetic b rest letter all))
 
-key_open : (b : ℕ) (rest : List ℕ) → is_ascii_alphabetic b ≡ true → list_all is_word_byte rest ≡ true → AtEnd (live_key (b ∷ rest))
-unfolding live_key key_at
+key_open : (b : ℕ) (rest : List ℕ) → is_ascii_alphabetic b ≡ true → list_all is_word_byte rest ≡ true → AtEnd (open_key (b ∷ rest))
+unfolding open_key key_at
 key_open b rest letter all = rw (letter_is_no_dot b letter) (rw letter (run_cut is_word_byte b rest (letter_in_word b letter) all))
 
-word_prefix_open : (b : ℕ) (rest : List ℕ) → is_ascii_alphabetic b ≡ true → list_all is_word_byte rest ≡ true → AtEnd (live_prefix (b ∷ rest))
-unfolding live_prefix live_word_prefix
+word_prefix_open : (b : ℕ) (rest : List ℕ) → is_ascii_alphabetic b ≡ true → list_all is_word_byte rest ≡ true → AtEnd (prefix_of Open (b ∷ rest))
+unfolding prefix_of open_word_prefix
 word_prefix_open b rest letter all =
     rw (letter_is_no_colon b letter) (rw letter (end_then (uncut (run_of is_word_byte (b ∷ rest))) _ (run_cut is_word_byte b rest (letter_in_word b letter) all)))
 
 pub word_opens : (p : Part) (b : ℕ) (rest : List ℕ) → takes_word p ≡ true → is_ascii_alphabetic b ≡ true → list_all is_word_byte rest ≡ true → AtEnd (rest_from p (b ∷ rest))
 unfolding key_from added_from removed_from
-word_opens part.Key b rest t letter all = end_then (live_key (b ∷ rest)) _ (key_open b rest letter all)
+word_opens part.Key b rest t letter all = end_then (open_key (b ∷ rest)) _ (key_open b rest letter all)
 word_opens part.Value b rest t letter all = absurd (false≢true t)
 word_opens part.Bare b rest t letter all = absurd (false≢true t)
-word_opens part.Added b rest t letter all = end_then (live_prefix (b ∷ rest)) _ (word_prefix_open b rest letter all)
+word_opens part.Added b rest t letter all = end_then (prefix_of Open (b ∷ rest)) _ (word_prefix_open b rest letter all)
 word_opens part.Iri b rest t letter all = absurd (false≢true t)
-word_opens part.Removed b rest t letter all = end_then (live_prefix (b ∷ rest)) _ (word_prefix_open b rest letter all)
+word_opens part.Removed b rest t letter all = end_then (prefix_of Open (b ∷ rest)) _ (word_prefix_open b rest letter all)
 word_opens part.Subject b rest t letter all = absurd (false≢true t)
 word_opens part.Predicate b rest t letter all = absurd (false≢true t)
 word_opens part.Object b rest t letter all = absurd (false≢true t)

@@ -23,7 +23,7 @@ use Rattle.nquads_text.proofs.Fronts.{char_spelled, char_at-ascii}
 use Rattle.nquads_text.proofs.NameRuns.{name-char, name-none}
 use Rattle.nquads_text.proofs.BlankRuns.{blanks_parted, blanks_skipped}
 use Rattle.nquads_text.proofs.LiteralReads.{iri_found, string_found}
-use Rattle.patch_reader.specs.Cut.{TextAtEnd, ends_quoted, kind_open, literal_open, blank_open, label_open, leads, is_front, no_name_begins, begins_name_char}
+use Rattle.patch_rows.specs.Cut.{TextAtEnd, ends_quoted, kind_open, literal_open, blank_open, label_open, leads, is_front, no_name_begins, begins_name_char}
 use Rattle.patch_reader.proofs.Stays.{with_more, string_body_stays, ok_char, bad_char, good_char, rooms_same}
 use Rattle.patch_reader.proofs.TokenStays.{behind_char, dot_front, IsBlank, quote_front, drop_back, label_size, label_read}
 use Rattle.patch_reader.proofs.Completions.{stop, Completes, completed}

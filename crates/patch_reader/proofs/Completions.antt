@@ -6,7 +6,7 @@ use Rattle.bstr.specs.Utf8.{Decoded, decoded, decoded_by, second, continues, cod
 use Rattle.bstr.proofs.lemmas.PieceLemmas.{by-shape, value-6, value-9, value-12}
 use Rattle.rdf_terms.specs.Names.{is_name_char}
 use Rattle.nquads_text.specs.Reading.{char_at}
-use Rattle.patch_reader.specs.Cut.{leads, is_front, no_name_pair, no_name_begins, begins_name_char}
+use Rattle.patch_rows.specs.Cut.{leads, is_front, no_name_pair, no_name_begins, begins_name_char}
 use Rattle.patch_reader.proofs.Stays.{good_char}
 
 -- ---- characters of labels

@@ -7,10 +7,9 @@ use Rattle.patch_rows.specs.declared.fault.RowKind.TheVariants.{TooLong}
 use Rattle.patch_rows.specs.declared.row.Row.{Row}
 use Rattle.patch_rows.specs.Fault.{Read}
 use Rattle.patch_rows.specs.Grammar.{row_limit, row_front}
-use Rattle.patch_rows.specs.Reading.{row_at}
-use Rattle.patch_reader.specs.Cut.{ends_row}
+use Rattle.patch_rows.specs.Rows.{live_row, row_at}
+use Rattle.patch_rows.specs.Cut.{ends_row}
 use Rattle.patch_reader.specs.Limit.{of_front, front_row_at, limited_row_at}
-use Rattle.patch_reader.specs.Live.{live_row}
 
 -- with `size` bytes from a place on in front
 module _ (text : List ℕ) (at size : ℕ) where

@@ -17,7 +17,7 @@ use Rattle.nquads_text.proofs.Plain.{with_nothing, string_piece-nil, iri_piece-n
 use Rattle.nquads_text.proofs.Runs.{more as piece_more, last as piece_last, pieces-fault}
 use Rattle.patch_rows.specs.declared.fault.RowKind.TheVariants.{Common}
 use Rattle.patch_reader.specs.declared.inside.Inside.TheVariants as inside
-use Rattle.patch_reader.specs.Cut.{leads, is_front, is_cut, ends_text, ends_row, TextAtEnd, label_open, begins_name_char}
+use Rattle.patch_rows.specs.Cut.{leads, is_front, is_cut, ends_text, ends_row, TextAtEnd, label_open, begins_name_char}
 use Rattle.patch_reader.specs.Inside.{IsLabelOpen, AreBlanksOpen, IsTagOpen, IsSuffixOpen, IsStringOpen, OpenInside}
 use Rattle.patch_reader.proofs.GapSteps.{char_longer}
 use Rattle.patch_reader.proofs.RowStays.{cut_char}

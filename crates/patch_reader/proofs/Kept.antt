@@ -12,9 +12,9 @@ use Rattle.patch_rows.specs.Grammar.{Space, ShortRowAt, IsRowAt}
 use Rattle.patch_rows.specs.Reading.{skip_space}
 use Rattle.patch_rows.proofs.SpaceLaws.{skips}
 use Rattle.patch_reader.specs.declared.placed.PlacedRow.{PlacedRow}
-use Rattle.patch_reader.specs.declared.placed.TextEnd.{TextEnd}
-use Rattle.patch_reader.specs.declared.placed.TextEnd.TheVariants as ends
-use Rattle.patch_reader.specs.Cut.{AtEnd, is_cut}
+use Rattle.patch_rows.specs.declared.cut.TextEnd.{TextEnd}
+use Rattle.patch_rows.specs.declared.cut.TextEnd.TheVariants as ends
+use Rattle.patch_rows.specs.Cut.{AtEnd, is_cut}
 use Rattle.patch_reader.specs.Decided.{ShortRowDecided, FirstFaultDecided, MoreDecides, Reads, GivesRow}
 use Rattle.patch_reader.specs.Places.{further_place, moved_fault, placed_row}
 use Rattle.patch_reader.specs.Rows.{Gap, RowsUpTo, NoRowAt, FaultBehind, RowsDecided, NextFault, NothingDecided, GivesNext, Keeps}

@@ -19,6 +19,5 @@ pub mod InsideSteps
 pub mod RowParts
 pub mod Begun
 pub mod ProgressSteps
-pub mod CutSteps
 pub mod Answered
 pub mod RowEnds

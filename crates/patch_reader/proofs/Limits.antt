@@ -9,13 +9,12 @@ use Rattle.patch_rows.specs.declared.row.Row.{Row}
 use Rattle.patch_rows.specs.Fault.{Fault, Read}
 use Rattle.patch_rows.specs.Faults.{RowFault, FaultDecided, FirstFault}
 use Rattle.patch_rows.specs.Grammar.{RowAt, RowDecided, row_limit, row_front, IsSettled, ShortRowAt}
-use Rattle.patch_rows.specs.Reading.{row_at}
+use Rattle.patch_rows.specs.Rows.{live_row, row_at}
 use Rattle.patch_rows.proofs.Exact.{Exact, exact_ok, exact_err, restated, ok_is, err_is, ok_no_err, err_no_ok}
 use Rattle.patch_rows.proofs.WholeRow.{exact_row}
-use Rattle.patch_reader.specs.Cut.{ends_row}
+use Rattle.patch_rows.specs.Cut.{ends_row}
 use Rattle.patch_reader.specs.Decided.{ShortRowDecided, FirstFaultDecided, MoreDecides}
 use Rattle.patch_reader.specs.Limit.{of_front, front_row_at, limited_row_at}
-use Rattle.patch_reader.specs.Live.{live_row}
 use Rattle.patch_reader.proofs.RowStays.{row_decided, fault_decided}
 use Rattle.patch_reader.proofs.Settled.{undecided, only_row, only_fault}
 use Rattle.patch_reader.proofs.Unlimited.{never_too_long}

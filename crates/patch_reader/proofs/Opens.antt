@@ -23,9 +23,10 @@ use Rattle.patch_rows.specs.declared.row.Row.TheVariants as row
 use Rattle.patch_rows.specs.Fault.{Fault, Read, ◌>>=◌, in_row}
 use Rattle.patch_rows.specs.Faults.{is_dot}
 use Rattle.patch_rows.specs.Grammar.{is_space, is_word_byte, is_any, is_node}
-use Rattle.patch_rows.specs.Reading.{space_behind, skip_space, stands, other, begins_blank, whole_label, bracketed, bracket_at, row_term_at, needed_term_at, placed_at, key_at, past_colon, plain_text, plain_of, or_bad_position, quoted_at, prefix_at, iri_of_string, iri_of_term, prefix_iri_at, dot_at, end_at, graph_or_dot, graph_at, header_at, bare_at, quad_at, added_at, removed_at, parts_at, code_named, by_code, uncut, word_at, row_at}
-use Rattle.patch_reader.specs.Cut.{AtEnd, leads, is_cut, ends_text, ends_row, literal_open, blank_open}
-use Rattle.patch_reader.specs.Live.{live_term, live_placed, live_key, live_quoted, live_word_prefix, live_prefix, live_prefix_iri, live_graph_or_dot, live_graph, live_header, live_bare, live_quad, live_added, live_removed, live_parts, live_by_code, live_row}
+use Rattle.patch_rows.specs.Reading.{space_behind, skip_space, stands, other, begins_blank, whole_label, bracketed, bracket_at, row_term_at, needed_term_at, key_at, past_colon, plain_text, plain_of, or_bad_position, iri_of_string, iri_of_term, dot_at, end_at, code_named, uncut, word_at}
+use Rattle.patch_rows.specs.declared.cut.TextEnd.TheVariants.{Open, Known}
+use Rattle.patch_rows.specs.Rows.{added_of, bare_at, by_code, graph_of, graph_or_dot_of, header_of, live_row, open_key, open_term, open_word_prefix, parts_of, placed_of, prefix_iri_of, prefix_of, quad_of, quoted_of, removed_of, row_at, row_of}
+use Rattle.patch_rows.specs.Cut.{AtEnd, leads, is_cut, ends_text, ends_row, literal_open, blank_open}
 use Rattle.patch_reader.proofs.TokenStays.{IsBlank}
 use Rattle.patch_reader.proofs.Completions.{stop}
 use Rattle.patch_reader.proofs.Breaks.{TermBreaks, IsOpen, term_breaks}
@@ -157,28 +158,28 @@ needed_stops : needed_term_at stop ≡ Err row_stop
 unfolding needed_term_at row_term_at term_at char_at
 needed_stops = refl
 
-placed_stops : (fits : Term → Bool) → placed_at fits stop ≡ Err row_stop
-unfolding placed_at
+placed_stops : (fits : Term → Bool) → placed_of Known fits stop ≡ Err row_stop
+unfolding placed_of
 placed_stops fits = rw needed_stops refl
 
-prefix_iri_stops : prefix_iri_at stop ≡ Err row_stop
-unfolding prefix_iri_at
+prefix_iri_stops : prefix_iri_of Known stop ≡ Err row_stop
+unfolding prefix_iri_of
 prefix_iri_stops = rw needed_stops refl
 
 dot_stops : (missing : RowKind) → dot_at missing stop ≡ Err row_stop
 unfolding dot_at other char_at
 dot_stops missing = refl
 
-graph_stops : graph_or_dot stop ≡ Err row_stop
-unfolding graph_or_dot dot_at other char_at
+graph_stops : graph_or_dot_of Known stop ≡ Err row_stop
+unfolding graph_or_dot_of dot_at other char_at
 graph_stops = refl
 
-cut_whole_placed : (fits : Term → Bool) (rest : List ℕ) → is_cut rest ≡ true → AtEnd (placed_at fits rest)
-unfolding placed_at
+cut_whole_placed : (fits : Term → Bool) (rest : List ℕ) → is_cut rest ≡ true → AtEnd (placed_of Known fits rest)
+unfolding placed_of
 cut_whole_placed fits rest e = end_then (needed_term_at rest) _ (cut_needed rest e)
 
-cut_whole_prefix : (rest : List ℕ) → is_cut rest ≡ true → AtEnd (prefix_at rest)
-unfolding prefix_at
+cut_whole_prefix : (rest : List ℕ) → is_cut rest ≡ true → AtEnd (prefix_of Known rest)
+unfolding prefix_of
 cut_whole_prefix rest e =
     rw (cut_stands (λ b. nat_eq b 58) rest no_colon e, cut_stands is_ascii_alphabetic rest no_letter e, cut_stands is_dot rest no_dot e, cut_stands begins_term rest no_term e)
     (cut_other (Common BadToken) rest e)
@@ -187,12 +188,12 @@ cut_whole_key : (rest : List ℕ) → is_cut rest ≡ true → AtEnd (key_at res
 unfolding key_at
 cut_whole_key rest e = rw (cut_stands is_dot rest no_dot e, cut_stands is_ascii_alphabetic rest no_letter e) (cut_other (Common BadToken) rest e)
 
-cut_whole_iri : (rest : List ℕ) → is_cut rest ≡ true → AtEnd (prefix_iri_at rest)
-unfolding prefix_iri_at
+cut_whole_iri : (rest : List ℕ) → is_cut rest ≡ true → AtEnd (prefix_iri_of Known rest)
+unfolding prefix_iri_of
 cut_whole_iri rest e = end_then (needed_term_at rest) _ (cut_needed rest e)
 
-cut_whole_graph : (rest : List ℕ) → is_cut rest ≡ true → AtEnd (graph_or_dot rest)
-unfolding graph_or_dot
+cut_whole_graph : (rest : List ℕ) → is_cut rest ≡ true → AtEnd (graph_or_dot_of Known rest)
+unfolding graph_or_dot_of
 cut_whole_graph rest e = rw (cut_stands begins_term rest no_term e) (end_then (dot_at (Common MissingDot) rest) _ (cut_dot (Common MissingDot) rest e))
 
 -- ---- terms
@@ -280,8 +281,8 @@ needed_breaks (b ∷ bs) x e is = by (is_dot b) refl e
 abbrev settled : List ℕ → Read Term → Read Term
 settled start r = r >>= λ t. cond (literal_open start t.0 t.1) (Err (Common Truncated, [])) (Ok t)
 
-term_ends : (rest : List ℕ) → Ends (live_term rest) (λ bytes. needed_term_at (rest ++ bytes))
-unfolding live_term
+term_ends : (rest : List ℕ) → Ends (open_term rest) (λ bytes. needed_term_at (rest ++ bytes))
+unfolding open_term
 term_ends rest h = by (needed_term_at rest) refl h
   where
     by : (r : Read Term) → needed_term_at rest ≡ r → AtEnd (settled rest r) → Final (λ bytes. needed_term_at (rest ++ bytes))
@@ -297,8 +298,8 @@ term_ends rest h = by (needed_term_at rest) refl h
         opened false o h = absurd h
 
 -- a term that is read is the one that is needed
-live_is_needed : (rest : List ℕ) (x : Term × List ℕ) → live_term rest ≡ Ok x → needed_term_at rest ≡ Ok x
-unfolding live_term
+live_is_needed : (rest : List ℕ) (x : Term × List ℕ) → open_term rest ≡ Ok x → needed_term_at rest ≡ Ok x
+unfolding open_term
 live_is_needed rest x e =
     let p = row_bind_ok (needed_term_at rest) (λ t. cond (literal_open rest t.0 t.1) (Err (Common Truncated, [])) (Ok t)) x e in
     p.1 ∙ by p.0 (literal_open rest p.0.0 p.0.1) p.2
@@ -315,9 +316,9 @@ no_position_end : (rest : List ℕ) → ends_row (Common BadPosition) rest ≡ t
 unfolding ends_row ends_text
 no_position_end rest e = false≢true e
 
-pub placed_changes : (fits : Term → Bool) (rest : List ℕ) → ((a b : List ℕ) → fits (term.Blank a) ≡ fits (term.Blank b)) → AtEnd (live_placed fits rest) → Changes (λ bytes. placed_at fits (rest ++ bytes))
-unfolding live_placed placed_at
-placed_changes fits rest alike h = by (live_term rest) refl h
+pub placed_changes : (fits : Term → Bool) (rest : List ℕ) → ((a b : List ℕ) → fits (term.Blank a) ≡ fits (term.Blank b)) → AtEnd (placed_of Open fits rest) → Changes (λ bytes. placed_of Known fits (rest ++ bytes))
+unfolding placed_of
+placed_changes fits rest alike h = by (open_term rest) refl h
   where
     placed : Read Term → Read Term
     placed r = r >>= λ t. cond (fits t.0) (cond (blank_open rest t.0 t.1) (Err (Common Truncated, [])) (Ok t)) (Err (Common BadPosition, rest))
@@ -333,27 +334,27 @@ placed_changes fits rest alike h = by (live_term rest) refl h
         let same : fits (term.Blank label) ≡ true = alike label blank.0 ∙ ap fits (sym blank.1) ∙ fit in
         Changes.gone_on bytes two (term.Blank label) (rw is (rw same refl))
 
-    chosen : (x : Term × List ℕ) → live_term rest ≡ Ok x → (fit o : Bool) → fits x.0 ≡ fit → blank_open rest x.0 x.1 ≡ o
+    chosen : (x : Term × List ℕ) → open_term rest ≡ Ok x → (fit o : Bool) → fits x.0 ≡ fit → blank_open rest x.0 x.1 ≡ o
         → AtEnd (cond {A = Read Term} fit (cond o (Err (Common Truncated, [])) (Ok x)) (Err (Common BadPosition, rest)))
         → Changes (λ bytes. needed_term_at (rest ++ bytes) >>= λ t. cond (fits t.0) (Ok t) (Err (Common BadPosition, rest ++ bytes)))
     chosen x e true true f o h = breaks x f (needed_breaks rest x (live_is_needed rest x e) (inr o))
     chosen x e true false f o h = absurd h
     chosen x e false o f p h = absurd (no_position_end rest h)
 
-    by : (r : Read Term) → live_term rest ≡ r → AtEnd (placed r) → Changes (λ bytes. needed_term_at (rest ++ bytes) >>= λ t. cond (fits t.0) (Ok t) (Err (Common BadPosition, rest ++ bytes)))
+    by : (r : Read Term) → open_term rest ≡ r → AtEnd (placed r) → Changes (λ bytes. needed_term_at (rest ++ bytes) >>= λ t. cond (fits t.0) (Ok t) (Err (Common BadPosition, rest ++ bytes)))
     by (Err f) e h = final (term_ends rest (subst AtEnd (sym e) h))
     by (Ok x) e h = chosen x e (fits x.0) (blank_open rest x.0 x.1) refl refl h
 
-placed_opens : (fits : Term → Bool) (rest : List ℕ) → ((a b : List ℕ) → fits (term.Blank a) ≡ fits (term.Blank b)) → Opens (live_placed fits rest) (λ bytes. placed_at fits (rest ++ bytes))
-placed_opens fits rest alike h = changed (λ bytes. placed_at fits (rest ++ bytes)) (placed_changes fits rest alike h)
+placed_opens : (fits : Term → Bool) (rest : List ℕ) → ((a b : List ℕ) → fits (term.Blank a) ≡ fits (term.Blank b)) → Opens (placed_of Open fits rest) (λ bytes. placed_of Known fits (rest ++ bytes))
+placed_opens fits rest alike h = changed (λ bytes. placed_of Known fits (rest ++ bytes)) (placed_changes fits rest alike h)
 
 no_end_position : (o : Option (List ℕ)) (start after : List ℕ) → AtEnd (or_bad_position o start after) → ⊥
 no_end_position (Some text) start after h = h
 no_end_position None start after h = no_position_end start h
 
-pub quoted_ends : (rest : List ℕ) → Ends (live_quoted rest) (λ bytes. quoted_at (rest ++ bytes))
-unfolding live_quoted quoted_at
-quoted_ends rest = then_sure (live_term rest) (λ bytes. needed_term_at (rest ++ bytes)) (λ t. or_bad_position (plain_text t.0) rest t.1) (λ bytes t. or_bad_position (plain_text t.0) (rest ++ bytes) t.1) (term_ends rest)
+pub quoted_ends : (rest : List ℕ) → Ends (quoted_of Open rest) (λ bytes. quoted_of Known (rest ++ bytes))
+unfolding quoted_of
+quoted_ends rest = then_sure (open_term rest) (λ bytes. needed_term_at (rest ++ bytes)) (λ t. or_bad_position (plain_text t.0) rest t.1) (λ bytes t. or_bad_position (plain_text t.0) (rest ++ bytes) t.1) (term_ends rest)
     (λ x h. no_end_position (plain_text x.0) rest x.1 h)
 
 no_end_iri : (start string after : List ℕ) → AtEnd (iri_of_string start string after) → ⊥
@@ -374,15 +375,15 @@ no_end_iri_of_term start (term.Literal literal) after h = by (plain_of literal.k
     by (Some text) h = no_end_iri start text after h
     by None h = no_position_end start h
 
-pub prefix_iri_ends : (rest : List ℕ) → Ends (live_prefix_iri rest) (λ bytes. prefix_iri_at (rest ++ bytes))
-unfolding live_prefix_iri prefix_iri_at
-prefix_iri_ends rest = then_sure (live_term rest) (λ bytes. needed_term_at (rest ++ bytes)) (λ t. iri_of_term rest t.0 t.1) (λ bytes t. iri_of_term (rest ++ bytes) t.0 t.1) (term_ends rest)
+pub prefix_iri_ends : (rest : List ℕ) → Ends (prefix_iri_of Open rest) (λ bytes. prefix_iri_of Known (rest ++ bytes))
+unfolding prefix_iri_of
+prefix_iri_ends rest = then_sure (open_term rest) (λ bytes. needed_term_at (rest ++ bytes)) (λ t. iri_of_term rest t.0 t.1) (λ bytes t. iri_of_term (rest ++ bytes) t.0 t.1) (term_ends rest)
     (λ x h. no_end_iri_of_term rest x.0 x.1 h)
 
 -- ---- words
 
-key_opens : (rest : List ℕ) → Opens (live_key rest) (λ bytes. key_at (rest ++ bytes))
-unfolding live_key
+key_opens : (rest : List ℕ) → Opens (open_key rest) (λ bytes. key_at (rest ++ bytes))
+unfolding open_key
 key_opens rest h = by (key_at rest) refl h
   where
     empty : (s : List ℕ) → nat_eq (length s) 0 ≡ true → is_cut s ≡ true
@@ -404,8 +405,8 @@ abbrev past_word : Read (List ℕ) → Read (List ℕ)
 past_word r = r >>= λ word. Ok (word.0, past_colon word.1)
 
 -- a word that the text's end cuts is read whole
-word_at_cut : (rest : List ℕ) → AtEnd (live_word_prefix rest) → drop (prefix_len is_word_byte rest) rest ≡ []
-unfolding live_word_prefix
+word_at_cut : (rest : List ℕ) → AtEnd (open_word_prefix rest) → drop (prefix_len is_word_byte rest) rest ≡ []
+unfolding open_word_prefix
 word_at_cut rest h = by (drop (prefix_len is_word_byte rest) rest) h
   where
     by : (s : List ℕ) → AtEnd (past_word (cut_word (take (prefix_len is_word_byte rest) rest) s (nat_eq (length s) 0))) → s ≡ []
@@ -419,25 +420,25 @@ word_at_cut rest h = by (drop (prefix_len is_word_byte rest) rest) h
 abbrev by_tests : Bool → Bool → Bool → Read (List ℕ) → Read (List ℕ) → Read (List ℕ) → Read (List ℕ) → Read (List ℕ)
 by_tests colon letter term x y z u = cond colon x (cond letter y (cond term z u))
 
-prefix_opens : (rest : List ℕ) → Opens (live_prefix rest) (λ bytes. prefix_at (rest ++ bytes))
-unfolding live_prefix prefix_at
+prefix_opens : (rest : List ℕ) → Opens (prefix_of Open rest) (λ bytes. prefix_of Known (rest ++ bytes))
+unfolding prefix_of
 prefix_opens [] h = Outcome.ended (cut_whole_prefix [] refl)
 prefix_opens (b ∷ bs) h = by (nat_eq b 58) (is_ascii_alphabetic b) (is_dot b || begins_term b) refl refl refl h
   where
-    at_end : AtEnd (prefix_at (b ∷ bs)) → Outcome (λ bytes. prefix_at ((b ∷ bs) ++ bytes))
-    at_end h = Outcome.ended (subst (λ (t : List ℕ). AtEnd (prefix_at t)) (sym (append-nil (b ∷ bs))) h)
+    at_end : AtEnd (prefix_of Known (b ∷ bs)) → Outcome (λ bytes. prefix_of Known ((b ∷ bs) ++ bytes))
+    at_end h = Outcome.ended (subst (λ (t : List ℕ). AtEnd (prefix_of Known t)) (sym (append-nil (b ∷ bs))) h)
 
-    quoted : nat_eq b 58 ≡ false → is_ascii_alphabetic b ≡ false → (is_dot b || begins_term b) ≡ true → Final (λ bytes. quoted_at ((b ∷ bs) ++ bytes)) → Outcome (λ bytes. prefix_at ((b ∷ bs) ++ bytes))
+    quoted : nat_eq b 58 ≡ false → is_ascii_alphabetic b ≡ false → (is_dot b || begins_term b) ≡ true → Final (λ bytes. quoted_of Known ((b ∷ bs) ++ bytes)) → Outcome (λ bytes. prefix_of Known ((b ∷ bs) ++ bytes))
     quoted c l t (Final.ended a) = Outcome.ended (rw (c, l, t) a)
     quoted c l t (Final.broken bytes two is) = Outcome.broken bytes two (rw (c, l, t) is)
 
     by : (colon letter term : Bool) → nat_eq b 58 ≡ colon → is_ascii_alphabetic b ≡ letter → (is_dot b || begins_term b) ≡ term
-        → AtEnd (by_tests colon letter term (Ok ([], bs)) (live_word_prefix (b ∷ bs)) (live_quoted (b ∷ bs)) (Err (other (Common BadToken) (b ∷ bs)))) → Outcome (λ bytes. prefix_at ((b ∷ bs) ++ bytes))
+        → AtEnd (by_tests colon letter term (Ok ([], bs)) (open_word_prefix (b ∷ bs)) (quoted_of Open (b ∷ bs)) (Err (other (Common BadToken) (b ∷ bs)))) → Outcome (λ bytes. prefix_of Known ((b ∷ bs) ++ bytes))
     by true letter term c l t h = absurd h
     by false true term c l t h =
         let none = word_at_cut (b ∷ bs) h in
-        let read : prefix_at (b ∷ bs) ≡ Ok (take (prefix_len is_word_byte (b ∷ bs)) (b ∷ bs), []) = rw (c, l) (ap (λ (s : List ℕ). Ok (take (prefix_len is_word_byte (b ∷ bs)) (b ∷ bs), past_colon s)) none) in
-        Outcome.at_cut (take (prefix_len is_word_byte (b ∷ bs)) (b ∷ bs), []) (ap prefix_at (append-nil (b ∷ bs)) ∙ read) refl
+        let read : prefix_of Known (b ∷ bs) ≡ Ok (take (prefix_len is_word_byte (b ∷ bs)) (b ∷ bs), []) = rw (c, l) (ap (λ (s : List ℕ). Ok (take (prefix_len is_word_byte (b ∷ bs)) (b ∷ bs), past_colon s)) none) in
+        Outcome.at_cut (take (prefix_len is_word_byte (b ∷ bs)) (b ∷ bs), []) (ap (prefix_of Known) (append-nil (b ∷ bs)) ∙ read) refl
     by false false true c l t h = quoted c l t (quoted_ends (b ∷ bs) h)
     by false false false c l t h = at_end (rw (c, l, t) h)
 
@@ -485,133 +486,133 @@ cut_end_at missing rest e = cut_dot missing (skip_space rest) (cut_space rest e)
 abbrev graph_end : Term → List ℕ → Read (Option Term)
 graph_end g rest = end_at (Common MissingDot) rest >>= λ after. Ok (Some g, after)
 
-graph_or_dot_ends : (rest : List ℕ) → Ends (live_graph_or_dot rest) (λ bytes. graph_or_dot (rest ++ bytes))
-unfolding live_graph_or_dot graph_or_dot
+graph_or_dot_ends : (rest : List ℕ) → Ends (graph_or_dot_of Open rest) (λ bytes. graph_or_dot_of Known (rest ++ bytes))
+unfolding graph_or_dot_of
 graph_or_dot_ends [] h = Final.ended (cut_whole_graph [] refl)
 graph_or_dot_ends (b ∷ bs) h = by (begins_term b) refl h
   where
-    graphs : Ends (live_placed is_node (b ∷ bs) >>= λ g. graph_end g.0 g.1) (λ bytes. placed_at is_node ((b ∷ bs) ++ bytes) >>= λ g. graph_end g.0 g.1)
-    graphs = then_ends (live_placed is_node (b ∷ bs)) (λ bytes. placed_at is_node ((b ∷ bs) ++ bytes)) (λ g. graph_end g.0 g.1) (λ bytes g. graph_end g.0 g.1)
+    graphs : Ends (placed_of Open is_node (b ∷ bs) >>= λ g. graph_end g.0 g.1) (λ bytes. placed_of Known is_node ((b ∷ bs) ++ bytes) >>= λ g. graph_end g.0 g.1)
+    graphs = then_ends (placed_of Open is_node (b ∷ bs)) (λ bytes. placed_of Known is_node ((b ∷ bs) ++ bytes)) (λ g. graph_end g.0 g.1) (λ bytes g. graph_end g.0 g.1)
         (λ more. placed_stays is_node more (b ∷ bs) node_alike) (placed_opens is_node (b ∷ bs) node_alike)
         (λ x. whole_ends (graph_end x.0) x.1)
         (λ more x. rw (end_stops (Common MissingDot)) refl)
         (λ x e. end_then (end_at (Common MissingDot) x.1) _ (cut_end_at (Common MissingDot) x.1 e))
 
-    moved : begins_term b ≡ true → Final (λ bytes. placed_at is_node ((b ∷ bs) ++ bytes) >>= λ g. graph_end g.0 g.1) → Final (λ bytes. graph_or_dot ((b ∷ bs) ++ bytes))
+    moved : begins_term b ≡ true → Final (λ bytes. placed_of Known is_node ((b ∷ bs) ++ bytes) >>= λ g. graph_end g.0 g.1) → Final (λ bytes. graph_or_dot_of Known ((b ∷ bs) ++ bytes))
     moved t (Final.ended a) = Final.ended (rw t a)
     moved t (Final.broken bytes two is) = Final.broken bytes two (rw t is)
 
-    by : (t : Bool) → begins_term b ≡ t → AtEnd (cond t (live_placed is_node (b ∷ bs) >>= λ g. graph_end g.0 g.1) (dot_at (Common MissingDot) (b ∷ bs) >>= λ after. Ok (None, after))) → Final (λ bytes. graph_or_dot ((b ∷ bs) ++ bytes))
+    by : (t : Bool) → begins_term b ≡ t → AtEnd (cond t (placed_of Open is_node (b ∷ bs) >>= λ g. graph_end g.0 g.1) (dot_at (Common MissingDot) (b ∷ bs) >>= λ after. Ok (None, after))) → Final (λ bytes. graph_or_dot_of Known ((b ∷ bs) ++ bytes))
     by true t h = moved t (graphs h)
-    by false t h = Final.ended (subst (λ (s : List ℕ). AtEnd (graph_or_dot s)) (sym (append-nil (b ∷ bs))) (rw t h))
+    by false t h = Final.ended (subst (λ (s : List ℕ). AtEnd (graph_or_dot_of Known s)) (sym (append-nil (b ∷ bs))) (rw t h))
 
-graph_ends : (rest : List ℕ) → Ends (live_graph rest) (λ bytes. graph_at (rest ++ bytes))
-graph_ends rest = spaced_ends live_graph_or_dot graph_or_dot cut_whole_graph rest (graph_or_dot_ends (skip_space rest))
+graph_ends : (rest : List ℕ) → Ends (graph_of Open rest) (λ bytes. graph_of Known (rest ++ bytes))
+graph_ends rest = spaced_ends (graph_or_dot_of Open) (graph_or_dot_of Known) cut_whole_graph rest (graph_or_dot_ends (skip_space rest))
 
 -- ---- rows
 
-placed_row : (fits : Term → Bool) (rest : List ℕ) → ((a b : List ℕ) → fits (term.Blank a) ≡ fits (term.Blank b)) → Opens (live_placed fits (skip_space rest)) (λ bytes. placed_at fits (skip_space (rest ++ bytes)))
-placed_row fits rest alike = spaced_opens (live_placed fits) (placed_at fits) (cut_whole_placed fits) rest (placed_opens fits (skip_space rest) alike)
+placed_row : (fits : Term → Bool) (rest : List ℕ) → ((a b : List ℕ) → fits (term.Blank a) ≡ fits (term.Blank b)) → Opens (placed_of Open fits (skip_space rest)) (λ bytes. placed_of Known fits (skip_space (rest ++ bytes)))
+placed_row fits rest alike = spaced_opens (placed_of Open fits) (placed_of Known fits) (cut_whole_placed fits) rest (placed_opens fits (skip_space rest) alike)
 
-placed_keeps : (fits : Term → Bool) (rest : List ℕ) → ((a b : List ℕ) → fits (term.Blank a) ≡ fits (term.Blank b)) → KeepsAll (live_placed fits (skip_space rest)) (λ bytes. placed_at fits (skip_space (rest ++ bytes)))
-placed_keeps fits rest alike = λ more. spaced more (live_placed fits) (placed_at fits) (λ r. placed_stays fits more r alike) (cut_placed fits) rest
+placed_keeps : (fits : Term → Bool) (rest : List ℕ) → ((a b : List ℕ) → fits (term.Blank a) ≡ fits (term.Blank b)) → KeepsAll (placed_of Open fits (skip_space rest)) (λ bytes. placed_of Known fits (skip_space (rest ++ bytes)))
+placed_keeps fits rest alike = λ more. spaced more (placed_of Open fits) (placed_of Known fits) (λ r. placed_stays fits more r alike) (cut_placed fits) rest
 
-placed_next : (fits : Term → Bool) → placed_at fits (skip_space stop) ≡ Err row_stop
+placed_next : (fits : Term → Bool) → placed_of Known fits (skip_space stop) ≡ Err row_stop
 placed_next fits = rw stop_space (placed_stops fits)
 
-placed_cut : (fits : Term → Bool) (rest : List ℕ) → is_cut rest ≡ true → AtEnd (placed_at fits (skip_space rest))
+placed_cut : (fits : Term → Bool) (rest : List ℕ) → is_cut rest ≡ true → AtEnd (placed_of Known fits (skip_space rest))
 placed_cut fits rest e = cut_whole_placed fits (skip_space rest) (cut_space rest e)
 
-iri_next : prefix_iri_at (skip_space stop) ≡ Err row_stop
+iri_next : prefix_iri_of Known (skip_space stop) ≡ Err row_stop
 iri_next = rw stop_space prefix_iri_stops
 
-iri_cut : (rest : List ℕ) → is_cut rest ≡ true → AtEnd (prefix_iri_at (skip_space rest))
+iri_cut : (rest : List ℕ) → is_cut rest ≡ true → AtEnd (prefix_iri_of Known (skip_space rest))
 iri_cut rest e = cut_whole_iri (skip_space rest) (cut_space rest e)
 
-graph_next : graph_at stop ≡ Err row_stop
+graph_next : graph_of Known stop ≡ Err row_stop
 graph_next = rw stop_space graph_stops
 
-graph_cut : (rest : List ℕ) → is_cut rest ≡ true → AtEnd (graph_at rest)
+graph_cut : (rest : List ℕ) → is_cut rest ≡ true → AtEnd (graph_of Known rest)
 graph_cut rest e = cut_whole_graph (skip_space rest) (cut_space rest e)
 
-header_ends : (rest : List ℕ) → Ends (live_header rest) (λ bytes. header_at (rest ++ bytes))
-unfolding live_header header_at
+header_ends : (rest : List ℕ) → Ends (header_of Open rest) (λ bytes. header_of Known (rest ++ bytes))
+unfolding header_of
 header_ends rest =
-    then_ends (live_key (skip_space rest)) (λ bytes. key_at (skip_space (rest ++ bytes))) _ _
-    (λ more. spaced more live_key key_at (key_stays more) cut_key rest) (spaced_opens live_key key_at cut_whole_key rest (key_opens (skip_space rest)))
-    (λ key. then_ends (live_placed is_any (skip_space key.1)) (λ bytes. placed_at is_any (skip_space (key.1 ++ bytes))) _ _
+    then_ends (open_key (skip_space rest)) (λ bytes. key_at (skip_space (rest ++ bytes))) _ _
+    (λ more. spaced more open_key key_at (key_stays more) cut_key rest) (spaced_opens open_key key_at cut_whole_key rest (key_opens (skip_space rest)))
+    (λ key. then_ends (placed_of Open is_any (skip_space key.1)) (λ bytes. placed_of Known is_any (skip_space (key.1 ++ bytes))) _ _
     (placed_keeps is_any key.1 any_alike) (placed_row is_any key.1 any_alike)
     (λ v. whole_ends (λ t. end_at (Common MissingDot) t >>= λ after. Ok (row.Header key.0 v.0, after)) v.1)
     (λ more x. rw (end_stops (Common MissingDot)) refl)
     (λ x e. end_then (end_at (Common MissingDot) x.1) _ (cut_end_at (Common MissingDot) x.1 e)))
     (λ more x. rw (placed_next is_any) refl)
-    (λ x e. end_then (placed_at is_any (skip_space x.1)) _ (placed_cut is_any x.1 e))
+    (λ x e. end_then (placed_of Known is_any (skip_space x.1)) _ (placed_cut is_any x.1 e))
 
-quad_ends : (rest : List ℕ) → Ends (live_quad rest) (λ bytes. quad_at (rest ++ bytes))
-unfolding live_quad quad_at
+quad_ends : (rest : List ℕ) → Ends (quad_of Open rest) (λ bytes. quad_of Known (rest ++ bytes))
+unfolding quad_of
 quad_ends rest =
-    then_ends (live_placed is_node (skip_space rest)) (λ bytes. placed_at is_node (skip_space (rest ++ bytes))) _ _
+    then_ends (placed_of Open is_node (skip_space rest)) (λ bytes. placed_of Known is_node (skip_space (rest ++ bytes))) _ _
     (placed_keeps is_node rest node_alike) (placed_row is_node rest node_alike)
-    (λ s. then_ends (live_placed is_iri (skip_space s.1)) (λ bytes. placed_at is_iri (skip_space (s.1 ++ bytes))) _ _
+    (λ s. then_ends (placed_of Open is_iri (skip_space s.1)) (λ bytes. placed_of Known is_iri (skip_space (s.1 ++ bytes))) _ _
     (placed_keeps is_iri s.1 iri_alike) (placed_row is_iri s.1 iri_alike)
-    (λ p. then_ends (live_placed is_any (skip_space p.1)) (λ bytes. placed_at is_any (skip_space (p.1 ++ bytes))) _ _
+    (λ p. then_ends (placed_of Open is_any (skip_space p.1)) (λ bytes. placed_of Known is_any (skip_space (p.1 ++ bytes))) _ _
     (placed_keeps is_any p.1 any_alike) (placed_row is_any p.1 any_alike)
-    (λ o. then_sure (live_graph o.1) (λ bytes. graph_at (o.1 ++ bytes)) (λ graph. Ok (statement s.0 p.0 o.0 graph.0, graph.1)) (λ bytes graph. Ok (statement s.0 p.0 o.0 graph.0, graph.1)) (graph_ends o.1) (λ x h. h))
+    (λ o. then_sure (graph_of Open o.1) (λ bytes. graph_of Known (o.1 ++ bytes)) (λ graph. Ok (statement s.0 p.0 o.0 graph.0, graph.1)) (λ bytes graph. Ok (statement s.0 p.0 o.0 graph.0, graph.1)) (graph_ends o.1) (λ x h. h))
     (λ more x. rw graph_next refl)
-    (λ x e. end_then (graph_at x.1) _ (graph_cut x.1 e)))
+    (λ x e. end_then (graph_of Known x.1) _ (graph_cut x.1 e)))
     (λ more x. rw (placed_next is_any) refl)
-    (λ x e. end_then (placed_at is_any (skip_space x.1)) _ (placed_cut is_any x.1 e)))
+    (λ x e. end_then (placed_of Known is_any (skip_space x.1)) _ (placed_cut is_any x.1 e)))
     (λ more x. rw (placed_next is_iri) refl)
-    (λ x e. end_then (placed_at is_iri (skip_space x.1)) _ (placed_cut is_iri x.1 e))
+    (λ x e. end_then (placed_of Known is_iri (skip_space x.1)) _ (placed_cut is_iri x.1 e))
 
-prefix_row : (rest : List ℕ) → Opens (live_prefix (skip_space rest)) (λ bytes. prefix_at (skip_space (rest ++ bytes)))
-prefix_row rest = spaced_opens live_prefix prefix_at cut_whole_prefix rest (prefix_opens (skip_space rest))
+prefix_row : (rest : List ℕ) → Opens (prefix_of Open (skip_space rest)) (λ bytes. prefix_of Known (skip_space (rest ++ bytes)))
+prefix_row rest = spaced_opens (prefix_of Open) (prefix_of Known) cut_whole_prefix rest (prefix_opens (skip_space rest))
 
-prefix_keeps : (rest : List ℕ) → KeepsAll (live_prefix (skip_space rest)) (λ bytes. prefix_at (skip_space (rest ++ bytes)))
-prefix_keeps rest = λ more. spaced more live_prefix prefix_at (prefix_stays more) cut_prefix rest
+prefix_keeps : (rest : List ℕ) → KeepsAll (prefix_of Open (skip_space rest)) (λ bytes. prefix_of Known (skip_space (rest ++ bytes)))
+prefix_keeps rest = λ more. spaced more (prefix_of Open) (prefix_of Known) (prefix_stays more) cut_prefix rest
 
-added_ends : (rest : List ℕ) → Ends (live_added rest) (λ bytes. added_at (rest ++ bytes))
-unfolding live_added added_at
+added_ends : (rest : List ℕ) → Ends (added_of Open rest) (λ bytes. added_of Known (rest ++ bytes))
+unfolding added_of
 added_ends rest =
-    then_ends (live_prefix (skip_space rest)) (λ bytes. prefix_at (skip_space (rest ++ bytes))) _ _ (prefix_keeps rest) (prefix_row rest)
-    (λ prefix. then_final (live_prefix_iri (skip_space prefix.1)) (λ bytes. prefix_iri_at (skip_space (prefix.1 ++ bytes))) _ _
-    (λ more. spaced more live_prefix_iri prefix_iri_at (prefix_iri_stays more) cut_prefix_iri prefix.1)
-    (spaced_ends live_prefix_iri prefix_iri_at cut_whole_iri prefix.1 (prefix_iri_ends (skip_space prefix.1)))
-    (λ iri. then_sure (live_graph iri.1) (λ bytes. graph_at (iri.1 ++ bytes)) (λ graph. Ok (row.Change (change.PrefixAdd prefix.0 iri.0 graph.0), graph.1)) (λ bytes graph. Ok (row.Change (change.PrefixAdd prefix.0 iri.0 graph.0), graph.1)) (graph_ends iri.1) (λ x h. h)))
+    then_ends (prefix_of Open (skip_space rest)) (λ bytes. prefix_of Known (skip_space (rest ++ bytes))) _ _ (prefix_keeps rest) (prefix_row rest)
+    (λ prefix. then_final (prefix_iri_of Open (skip_space prefix.1)) (λ bytes. prefix_iri_of Known (skip_space (prefix.1 ++ bytes))) _ _
+    (λ more. spaced more (prefix_iri_of Open) (prefix_iri_of Known) (prefix_iri_stays more) cut_prefix_iri prefix.1)
+    (spaced_ends (prefix_iri_of Open) (prefix_iri_of Known) cut_whole_iri prefix.1 (prefix_iri_ends (skip_space prefix.1)))
+    (λ iri. then_sure (graph_of Open iri.1) (λ bytes. graph_of Known (iri.1 ++ bytes)) (λ graph. Ok (row.Change (change.PrefixAdd prefix.0 iri.0 graph.0), graph.1)) (λ bytes graph. Ok (row.Change (change.PrefixAdd prefix.0 iri.0 graph.0), graph.1)) (graph_ends iri.1) (λ x h. h)))
     (λ more x. rw iri_next refl)
-    (λ x e. end_then (prefix_iri_at (skip_space x.1)) _ (iri_cut x.1 e))
+    (λ x e. end_then (prefix_iri_of Known (skip_space x.1)) _ (iri_cut x.1 e))
 
-removed_ends : (rest : List ℕ) → Ends (live_removed rest) (λ bytes. removed_at (rest ++ bytes))
-unfolding live_removed removed_at
+removed_ends : (rest : List ℕ) → Ends (removed_of Open rest) (λ bytes. removed_of Known (rest ++ bytes))
+unfolding removed_of
 removed_ends rest =
-    then_ends (live_prefix (skip_space rest)) (λ bytes. prefix_at (skip_space (rest ++ bytes))) _ _ (prefix_keeps rest) (prefix_row rest)
-    (λ prefix. then_sure (live_graph prefix.1) (λ bytes. graph_at (prefix.1 ++ bytes)) (λ graph. Ok (row.Change (change.PrefixDelete prefix.0 graph.0), graph.1)) (λ bytes graph. Ok (row.Change (change.PrefixDelete prefix.0 graph.0), graph.1)) (graph_ends prefix.1) (λ x h. h))
+    then_ends (prefix_of Open (skip_space rest)) (λ bytes. prefix_of Known (skip_space (rest ++ bytes))) _ _ (prefix_keeps rest) (prefix_row rest)
+    (λ prefix. then_sure (graph_of Open prefix.1) (λ bytes. graph_of Known (prefix.1 ++ bytes)) (λ graph. Ok (row.Change (change.PrefixDelete prefix.0 graph.0), graph.1)) (λ bytes graph. Ok (row.Change (change.PrefixDelete prefix.0 graph.0), graph.1)) (graph_ends prefix.1) (λ x h. h))
     (λ more x. rw graph_next refl)
-    (λ x e. end_then (graph_at x.1) _ (graph_cut x.1 e))
+    (λ x e. end_then (graph_of Known x.1) _ (graph_cut x.1 e))
 
-bare_ends : (c : Change) (rest : List ℕ) → Ends (live_bare c rest) (λ bytes. bare_at c (rest ++ bytes))
-unfolding live_bare bare_at
+bare_ends : (c : Change) (rest : List ℕ) → Ends (bare_at c rest) (λ bytes. bare_at c (rest ++ bytes))
+unfolding bare_at
 bare_ends c rest = whole_ends (λ t. end_at (Common BadToken) t >>= λ after. Ok (row.Change c, after)) rest
 
-parts_end : (c : Code) (rest : List ℕ) → Ends (live_parts c rest) (λ bytes. parts_at c (rest ++ bytes))
-unfolding live_parts parts_at
+parts_end : (c : Code) (rest : List ℕ) → Ends (parts_of Open c rest) (λ bytes. parts_of Known c (rest ++ bytes))
+unfolding parts_of
 parts_end code.Header rest = header_ends rest
 parts_end code.Begin rest = bare_ends change.Begin rest
 parts_end code.Commit rest = bare_ends change.Commit rest
 parts_end code.Abort rest = bare_ends change.Abort rest
 parts_end code.PrefixAdd rest = added_ends rest
 parts_end code.PrefixDelete rest = removed_ends rest
-parts_end code.Add rest = then_sure (live_quad rest) (λ bytes. quad_at (rest ++ bytes)) (λ q. Ok (row.Change (change.Add q.0), q.1)) (λ bytes q. Ok (row.Change (change.Add q.0), q.1)) (quad_ends rest) (λ x h. h)
-parts_end code.Delete rest = then_sure (live_quad rest) (λ bytes. quad_at (rest ++ bytes)) (λ q. Ok (row.Change (change.Delete q.0), q.1)) (λ bytes q. Ok (row.Change (change.Delete q.0), q.1)) (quad_ends rest) (λ x h. h)
+parts_end code.Add rest = then_sure (quad_of Open rest) (λ bytes. quad_of Known (rest ++ bytes)) (λ q. Ok (row.Change (change.Add q.0), q.1)) (λ bytes q. Ok (row.Change (change.Add q.0), q.1)) (quad_ends rest) (λ x h. h)
+parts_end code.Delete rest = then_sure (quad_of Open rest) (λ bytes. quad_of Known (rest ++ bytes)) (λ q. Ok (row.Change (change.Delete q.0), q.1)) (λ bytes q. Ok (row.Change (change.Delete q.0), q.1)) (quad_ends rest) (λ x h. h)
 
-code_ends : (o : Option Code) (start : List ℕ) (rest : List ℕ) → Ends (live_by_code o start rest) (λ bytes. by_code o (start ++ bytes) (rest ++ bytes))
+code_ends : (o : Option Code) (start : List ℕ) (rest : List ℕ) → Ends (by_code Open o start rest) (λ bytes. by_code Known o (start ++ bytes) (rest ++ bytes))
 unfolding ends_row
 code_ends (Some c) start rest = parts_end c rest
 code_ends None start rest = λ h. absurd (false≢true h)
 
 -- a row that is open at its end is open in the whole text, or more text breaks it
 pub row_ends : (rest : List ℕ) → Ends (live_row rest) (λ bytes. row_at (rest ++ bytes))
-unfolding live_row row_at
+unfolding row_of
 row_ends rest =
-    then_final (word_at rest) (λ bytes. word_at (rest ++ bytes)) (λ word. live_by_code (code_named word.0) rest word.1) (λ bytes word. by_code (code_named word.0) (rest ++ bytes) word.1)
+    then_final (word_at rest) (λ bytes. word_at (rest ++ bytes)) (λ word. by_code Open (code_named word.0) rest word.1) (λ bytes word. by_code Known (code_named word.0) (rest ++ bytes) word.1)
     (λ more. word_stays more rest) (whole_ends word_at rest) (λ word. code_ends (code_named word.0) rest word.1)

@@ -1,5 +1,5 @@
 -- One step through an unfinished row, by places.
-use Rattle.std.proofs.Common.{◌≡◌, ℕ, ◌+◌, ◌<◌, ◌≤◌, Bool, true, false, List, [], ◌∷◌, ◌++◌, length, drop, get_or, Option, Some, Ok, Err, nat_eq, refl, sym, ap, subst, ◌∙◌, ◌⊎◌, inl, inr, ⊎_elim, append-nil, arith}
+use Rattle.std.proofs.Common.{◌≡◌, ℕ, ◌+◌, ◌<◌, ◌≤◌, Bool, true, false, List, [], ◌∷◌, ◌++◌, length, drop, get_or, Some, Ok, Err, nat_eq, refl, sym, ap, subst, ◌∙◌, ◌⊎◌, inl, inr, ⊎_elim, append-nil, arith}
 use Rattle.std.specs.Char.{is_ascii_alphabetic}
 use Rattle.std.proofs.lemmas.Bool.{false≢true, cases_lt, eqb-true}
 use Rattle.std.proofs.lemmas.List.{drop-append-le, drop_more, drop_all}
@@ -8,6 +8,7 @@ use Rattle.nquads_text.specs.Faults.{begins_term}
 use Rattle.nquads_text.specs.Reading.{char_at}
 use Rattle.patch_rows.specs.declared.fault.RowKind.{RowKind}
 use Rattle.patch_rows.specs.Reading.{skip_space, space_behind, stands, word_at, code_named}
+use Rattle.patch_rows.specs.Rows.{live_row}
 use Rattle.patch_rows.specs.declared.codes.Code.{Code}
 use Rattle.patch_reader.specs.declared.inside.Inside.{Inside}
 use Rattle.patch_reader.specs.declared.inside.Inside.TheVariants as inside
@@ -18,9 +19,8 @@ use Rattle.patch_reader.specs.declared.progress.Place.TheVariants as place
 use Rattle.patch_reader.specs.declared.progress.Progress.{Progress}
 use Rattle.patch_reader.specs.declared.progress.Step.{Step}
 use Rattle.patch_reader.specs.declared.progress.Step.TheVariants as step
-use Rattle.patch_reader.specs.Cut.{AtEnd, is_cut, ends_row}
+use Rattle.patch_rows.specs.Cut.{AtEnd, is_cut, ends_row}
 use Rattle.patch_reader.specs.Inside.{OpenInside, IsInsideWithin, IsFurther}
-use Rattle.patch_reader.specs.Live.{live_row}
 use Rattle.patch_reader.specs.Progress.{rest_from, part_at, part_behind, takes_term, takes_node, takes_word, first_part, OpenAt, Leads, LeadsInside, Follows, IsUnfinished, IsPlaceWithin, IsStep, IsFollowed, progress_at}
 use Rattle.patch_reader.proofs.Begun.{letters_open, string_opens, iri_opens, label_opens, word_opens}
 use Rattle.patch_reader.proofs.GapSteps.{char_longer}

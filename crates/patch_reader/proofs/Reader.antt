@@ -13,20 +13,20 @@ use Rattle.patch_rows.specs.declared.fault.RowKind.{RowKind}
 use Rattle.patch_rows.specs.Fault.{Fault, Read}
 use Rattle.patch_rows.specs.Grammar.{Space, is_space, IsRowAt, row_limit}
 use Rattle.patch_rows.specs.Reading.{space_behind, skip_space}
+use Rattle.patch_rows.specs.Rows.{live_row}
 use Rattle.patch_rows.proofs.Shorter.{space_le}
 use Rattle.patch_rows.proofs.SpaceLaws.{skipped, skips}
 use Rattle.patch_rows.proofs.SpaceSteps.{no_char}
 use Rattle.patch_reader.specs.declared.pieces.PatchReader.{PatchReader}
 use Rattle.patch_reader.specs.declared.placed.PlacedRow.{PlacedRow}
-use Rattle.patch_reader.specs.declared.placed.TextEnd.{TextEnd}
-use Rattle.patch_reader.specs.declared.placed.TextEnd.TheVariants as ends
+use Rattle.patch_rows.specs.declared.cut.TextEnd.{TextEnd}
+use Rattle.patch_rows.specs.declared.cut.TextEnd.TheVariants as ends
 use Rattle.patch_reader.specs.declared.progress.Phase.{Phase}
 use Rattle.patch_reader.specs.declared.progress.Phase.TheVariants as phase
 use Rattle.patch_reader.specs.declared.progress.Place.TheVariants as place
 use Rattle.patch_reader.specs.declared.progress.Progress.{Progress}
-use Rattle.patch_reader.specs.Cut.{AtEnd, is_cut, ends_row}
+use Rattle.patch_rows.specs.Cut.{AtEnd, is_cut, ends_row}
 use Rattle.patch_reader.specs.Decided.{MoreDecides}
-use Rattle.patch_reader.specs.Live.{live_row}
 use Rattle.patch_reader.specs.Pieces.{IsPhase, IsStuck, IsTail, IsHeld, IsSameGap, Stands}
 use Rattle.patch_reader.specs.Places.{further_place}
 use Rattle.patch_reader.specs.Inside.{OpenInside}

@@ -5,9 +5,9 @@ use Rattle.nquads_text.specs.declared.fault.TextKind.TheVariants.{BadToken}
 use Rattle.patch_rows.specs.declared.fault.RowKind.TheVariants.{Common}
 use Rattle.patch_rows.specs.Grammar.{Space, row_limit}
 use Rattle.patch_rows.specs.Reading.{skip_space, word_at}
+use Rattle.patch_rows.specs.Rows.{live_row, row_of}
 use Rattle.patch_rows.proofs.SpaceLaws.{skipped, skips}
-use Rattle.patch_reader.specs.Cut.{AtEnd, is_cut}
-use Rattle.patch_reader.specs.Live.{live_row}
+use Rattle.patch_rows.specs.Cut.{AtEnd, is_cut}
 use Rattle.patch_reader.proofs.Completions.{front_length}
 use Rattle.patch_reader.proofs.RowStays.{end_then, cut_stands, no_letter, cut_other, space_stays}
 
@@ -25,7 +25,7 @@ unfolding word_at
 cut_word from e = rw (cut_stands is_ascii_alphabetic from no_letter e) (cut_other (Common BadToken) from e)
 
 pub cut_row : (from : List ℕ) → is_cut from ≡ true → AtEnd (live_row from)
-unfolding live_row
+unfolding row_of
 cut_row from e = end_then (word_at from) _ (cut_word from e)
 
 pub cut_short : (from : List ℕ) → is_cut from ≡ true → length from ≤ row_limit

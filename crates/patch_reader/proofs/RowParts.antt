@@ -14,13 +14,14 @@ use Rattle.patch_rows.specs.declared.fault.RowKind.TheVariants.{Common}
 use Rattle.patch_rows.specs.Fault.{Fault, Read, ◌>>=◌}
 use Rattle.patch_rows.specs.Faults.{is_dot}
 use Rattle.patch_rows.specs.Grammar.{is_word_byte, is_any, is_node}
-use Rattle.patch_rows.specs.Reading.{skip_space, stands, placed_at, run_of, key_at, past_colon, quoted_at, prefix_iri_at, uncut, other, dot_at, end_at, code_named, word_at}
+use Rattle.patch_rows.specs.Reading.{skip_space, stands, run_of, key_at, past_colon, uncut, other, dot_at, end_at, code_named, word_at}
+use Rattle.patch_rows.specs.declared.cut.TextEnd.TheVariants.{Open, Known}
+use Rattle.patch_rows.specs.Rows.{added_of, bare_at, graph_or_dot_of, header_of, live_row, open_key, open_word_prefix, parts_of, placed_of, prefix_iri_of, prefix_of, quad_of, quoted_of, removed_of, row_of}
 use Rattle.patch_rows.specs.declared.codes.Code.{Code}
 use Rattle.patch_rows.specs.declared.codes.Code.TheVariants as code
 use Rattle.patch_reader.specs.declared.progress.Part.{Part}
 use Rattle.patch_reader.specs.declared.progress.Part.TheVariants as part
-use Rattle.patch_reader.specs.Cut.{AtEnd, is_cut}
-use Rattle.patch_reader.specs.Live.{live_placed, live_key, live_quoted, live_word_prefix, live_prefix, live_prefix_iri, live_graph_or_dot, live_header, live_bare, live_quad, live_added, live_removed, live_parts, live_row}
+use Rattle.patch_rows.specs.Cut.{AtEnd, is_cut}
 use Rattle.patch_reader.specs.Progress.{Rest, end_from, graph_from, object_from, predicate_from, subject_from, value_from, key_from, iri_from, added_from, removed_from, rest_from, part_at, part_behind, first_part}
 use Rattle.patch_reader.proofs.Completions.{stop}
 use Rattle.patch_reader.proofs.Opens.{Changes, Final, placed_changes, quoted_ends, prefix_iri_ends}
@@ -77,14 +78,14 @@ final_changes : {X : Type 0} (longer : List ℕ → Read X) → Final longer →
 final_changes longer (Final.ended a) = Changes.ended a
 final_changes longer (Final.broken bytes two is) = Changes.broken bytes two is
 
-placed_again : (fits : Term → Bool) → ((a b : List ℕ) → fits (term.Blank a) ≡ fits (term.Blank b)) → (rest more : List ℕ) (x : Term × List ℕ) → live_placed fits rest ≡ Ok x → live_placed fits (rest ++ more) ≡ Ok (x.0, x.1 ++ more)
-placed_again fits alike = stays (live_placed fits) (placed_at fits) (λ more rest. placed_stays fits more rest alike) (λ rest a. placed_changes fits rest alike a)
+placed_again : (fits : Term → Bool) → ((a b : List ℕ) → fits (term.Blank a) ≡ fits (term.Blank b)) → (rest more : List ℕ) (x : Term × List ℕ) → placed_of Open fits rest ≡ Ok x → placed_of Open fits (rest ++ more) ≡ Ok (x.0, x.1 ++ more)
+placed_again fits alike = stays (placed_of Open fits) (placed_of Known fits) (λ more rest. placed_stays fits more rest alike) (λ rest a. placed_changes fits rest alike a)
 
-quoted_again : (rest more : List ℕ) (x : List ℕ × List ℕ) → live_quoted rest ≡ Ok x → live_quoted (rest ++ more) ≡ Ok (x.0, x.1 ++ more)
-quoted_again = stays live_quoted quoted_at quoted_stays (λ rest a. final_changes (λ bytes. quoted_at (rest ++ bytes)) (quoted_ends rest a))
+quoted_again : (rest more : List ℕ) (x : List ℕ × List ℕ) → quoted_of Open rest ≡ Ok x → quoted_of Open (rest ++ more) ≡ Ok (x.0, x.1 ++ more)
+quoted_again = stays (quoted_of Open) (quoted_of Known) quoted_stays (λ rest a. final_changes (λ bytes. quoted_of Known (rest ++ bytes)) (quoted_ends rest a))
 
-prefix_iri_again : (rest more : List ℕ) (x : List ℕ × List ℕ) → live_prefix_iri rest ≡ Ok x → live_prefix_iri (rest ++ more) ≡ Ok (x.0, x.1 ++ more)
-prefix_iri_again = stays live_prefix_iri prefix_iri_at prefix_iri_stays (λ rest a. final_changes (λ bytes. prefix_iri_at (rest ++ bytes)) (prefix_iri_ends rest a))
+prefix_iri_again : (rest more : List ℕ) (x : List ℕ × List ℕ) → prefix_iri_of Open rest ≡ Ok x → prefix_iri_of Open (rest ++ more) ≡ Ok (x.0, x.1 ++ more)
+prefix_iri_again = stays (prefix_iri_of Open) (prefix_iri_of Known) prefix_iri_stays (λ rest a. final_changes (λ bytes. prefix_iri_of Known (rest ++ bytes)) (prefix_iri_ends rest a))
 
 -- words aren't cut
 
@@ -104,8 +105,8 @@ uncut_again word after more some =
     let no : nat_eq (length (after ++ more)) 0 ≡ false = ne_eqb (length (after ++ more)) 0 (λ none. some (omega (arith, none, length-append after more))) in
     rw no refl
 
-key_again : (rest more : List ℕ) (x : List ℕ × List ℕ) → live_key rest ≡ Ok x → live_key (rest ++ more) ≡ Ok (x.0, x.1 ++ more)
-unfolding live_key
+key_again : (rest more : List ℕ) (x : List ℕ × List ℕ) → open_key rest ≡ Ok x → open_key (rest ++ more) ≡ Ok (x.0, x.1 ++ more)
+unfolding open_key
 key_again rest more x e = by (key_at rest) refl e
   where
     by : (r : Read (List ℕ)) → key_at rest ≡ r → (r >>= λ k. uncut k) ≡ Ok x → (key_at (rest ++ more) >>= λ k. uncut k) ≡ Ok (x.0, x.1 ++ more)
@@ -130,8 +131,8 @@ past_word r = r >>= λ w. Ok (w.0, past_colon w.1)
 abbrev run_there : List ℕ → Read (List ℕ)
 run_there rest = uncut (run_of is_word_byte rest)
 
-word_prefix_again : (rest more : List ℕ) (x : List ℕ × List ℕ) → live_word_prefix rest ≡ Ok x → live_word_prefix (rest ++ more) ≡ Ok (x.0, x.1 ++ more)
-unfolding live_word_prefix
+word_prefix_again : (rest more : List ℕ) (x : List ℕ × List ℕ) → open_word_prefix rest ≡ Ok x → open_word_prefix (rest ++ more) ≡ Ok (x.0, x.1 ++ more)
+unfolding open_word_prefix
 word_prefix_again rest more x e = by (run_there rest) refl e
   where
     by : (r : Read (List ℕ)) → run_there rest ≡ r → past_word r ≡ Ok x → past_word (run_there (rest ++ more)) ≡ Ok (x.0, x.1 ++ more)
@@ -143,17 +144,17 @@ word_prefix_again rest more x e = by (run_there rest) refl e
         rw longer (ap (λ (t : List ℕ). given (w.0, t)) (past_again w.1 more some) ∙ ap (λ (y : List ℕ × List ℕ). given (y.0, y.1 ++ more)) same)
     by (Err f) is u = absurd cc
 
-prefix_again : (rest more : List ℕ) (x : List ℕ × List ℕ) → live_prefix rest ≡ Ok x → live_prefix (rest ++ more) ≡ Ok (x.0, x.1 ++ more)
-unfolding live_prefix
+prefix_again : (rest more : List ℕ) (x : List ℕ × List ℕ) → prefix_of Open rest ≡ Ok x → prefix_of Open (rest ++ more) ≡ Ok (x.0, x.1 ++ more)
+unfolding prefix_of
 prefix_again [] more x e = absurd (none_there e)
   where
-    none_there : live_prefix [] ≡ Ok x → ⊥
-    none_there e = none_both x _ (live_prefix []) e refl
+    none_there : prefix_of Open [] ≡ Ok x → ⊥
+    none_there e = none_both x _ (prefix_of Open []) e refl
 prefix_again (b ∷ bs) more x e = by (nat_eq b 58) (is_ascii_alphabetic b) (is_dot b || begins_term b) refl refl refl e
   where
     by : (colon letter term : Bool) → nat_eq b 58 ≡ colon → is_ascii_alphabetic b ≡ letter → (is_dot b || begins_term b) ≡ term
-        → cond {A = Read (List ℕ)} colon (Ok ([], bs)) (cond letter (live_word_prefix (b ∷ bs)) (cond term (live_quoted (b ∷ bs)) (Err (other (Common BadToken) (b ∷ bs))))) ≡ Ok x
-        → cond {A = Read (List ℕ)} colon (Ok ([], bs ++ more)) (cond letter (live_word_prefix (b ∷ (bs ++ more))) (cond term (live_quoted (b ∷ (bs ++ more))) (Err (other (Common BadToken) (b ∷ (bs ++ more)))))) ≡ Ok (x.0, x.1 ++ more)
+        → cond {A = Read (List ℕ)} colon (Ok ([], bs)) (cond letter (open_word_prefix (b ∷ bs)) (cond term (quoted_of Open (b ∷ bs)) (Err (other (Common BadToken) (b ∷ bs))))) ≡ Ok x
+        → cond {A = Read (List ℕ)} colon (Ok ([], bs ++ more)) (cond letter (open_word_prefix (b ∷ (bs ++ more))) (cond term (quoted_of Open (b ∷ (bs ++ more))) (Err (other (Common BadToken) (b ∷ (bs ++ more)))))) ≡ Ok (x.0, x.1 ++ more)
     by true letter term c l t e = ap (λ (y : List ℕ × List ℕ). given (y.0, y.1 ++ more)) (ok_is ([], bs) x e)
     by false true term c l t e = word_prefix_again (b ∷ bs) more x e
     by false false true c l t e = quoted_again (b ∷ bs) more x e
@@ -192,18 +193,18 @@ stands_longer test (b ∷ rest) more e = e
 pub part_over : (p next : Part) (rest after more : List ℕ) → part_behind p ≡ Some next → (p ≡ part.Graph → stands begins_term rest ≡ true) → part_at p rest ≡ Ok after
     → AtEnd (rest_from next (skip_space (after ++ more))) → AtEnd (rest_from p (rest ++ more))
 unfolding graph_from object_from predicate_from subject_from value_from key_from iri_from added_from removed_from
-part_over part.Key next rest after more n g e o = over live_key key_again (λ t. value_from (skip_space t)) rest after more e (subst (λ (q : Part). AtEnd (rest_from q (skip_space (after ++ more)))) (is_some next part.Value n) o)
-part_over part.Value next rest after more n g e o = over (live_placed is_any) (placed_again is_any any_alike) (λ t. end_from (skip_space t)) rest after more e (subst (λ (q : Part). AtEnd (rest_from q (skip_space (after ++ more)))) (is_some next part.End n) o)
+part_over part.Key next rest after more n g e o = over open_key key_again (λ t. value_from (skip_space t)) rest after more e (subst (λ (q : Part). AtEnd (rest_from q (skip_space (after ++ more)))) (is_some next part.Value n) o)
+part_over part.Value next rest after more n g e o = over (placed_of Open is_any) (placed_again is_any any_alike) (λ t. end_from (skip_space t)) rest after more e (subst (λ (q : Part). AtEnd (rest_from q (skip_space (after ++ more)))) (is_some next part.End n) o)
 part_over part.Bare next rest after more n g e o = absurd (no_next next n)
-part_over part.Added next rest after more n g e o = over live_prefix prefix_again (λ t. iri_from (skip_space t)) rest after more e (subst (λ (q : Part). AtEnd (rest_from q (skip_space (after ++ more)))) (is_some next part.Iri n) o)
-part_over part.Iri next rest after more n g e o = over live_prefix_iri prefix_iri_again (λ t. graph_from (skip_space t)) rest after more e (subst (λ (q : Part). AtEnd (rest_from q (skip_space (after ++ more)))) (is_some next part.Graph n) o)
-part_over part.Removed next rest after more n g e o = over live_prefix prefix_again (λ t. graph_from (skip_space t)) rest after more e (subst (λ (q : Part). AtEnd (rest_from q (skip_space (after ++ more)))) (is_some next part.Graph n) o)
-part_over part.Subject next rest after more n g e o = over (live_placed is_node) (placed_again is_node node_alike) (λ t. predicate_from (skip_space t)) rest after more e (subst (λ (q : Part). AtEnd (rest_from q (skip_space (after ++ more)))) (is_some next part.Predicate n) o)
-part_over part.Predicate next rest after more n g e o = over (live_placed is_iri) (placed_again is_iri iri_alike) (λ t. object_from (skip_space t)) rest after more e (subst (λ (q : Part). AtEnd (rest_from q (skip_space (after ++ more)))) (is_some next part.Object n) o)
-part_over part.Object next rest after more n g e o = over (live_placed is_any) (placed_again is_any any_alike) (λ t. graph_from (skip_space t)) rest after more e (subst (λ (q : Part). AtEnd (rest_from q (skip_space (after ++ more)))) (is_some next part.Graph n) o)
+part_over part.Added next rest after more n g e o = over (prefix_of Open) prefix_again (λ t. iri_from (skip_space t)) rest after more e (subst (λ (q : Part). AtEnd (rest_from q (skip_space (after ++ more)))) (is_some next part.Iri n) o)
+part_over part.Iri next rest after more n g e o = over (prefix_iri_of Open) prefix_iri_again (λ t. graph_from (skip_space t)) rest after more e (subst (λ (q : Part). AtEnd (rest_from q (skip_space (after ++ more)))) (is_some next part.Graph n) o)
+part_over part.Removed next rest after more n g e o = over (prefix_of Open) prefix_again (λ t. graph_from (skip_space t)) rest after more e (subst (λ (q : Part). AtEnd (rest_from q (skip_space (after ++ more)))) (is_some next part.Graph n) o)
+part_over part.Subject next rest after more n g e o = over (placed_of Open is_node) (placed_again is_node node_alike) (λ t. predicate_from (skip_space t)) rest after more e (subst (λ (q : Part). AtEnd (rest_from q (skip_space (after ++ more)))) (is_some next part.Predicate n) o)
+part_over part.Predicate next rest after more n g e o = over (placed_of Open is_iri) (placed_again is_iri iri_alike) (λ t. object_from (skip_space t)) rest after more e (subst (λ (q : Part). AtEnd (rest_from q (skip_space (after ++ more)))) (is_some next part.Object n) o)
+part_over part.Object next rest after more n g e o = over (placed_of Open is_any) (placed_again is_any any_alike) (λ t. graph_from (skip_space t)) rest after more e (subst (λ (q : Part). AtEnd (rest_from q (skip_space (after ++ more)))) (is_some next part.Graph n) o)
 part_over part.Graph next rest after more n g e o =
     rw (stands_longer begins_term rest more (g refl))
-    (over (live_placed is_node) (placed_again is_node node_alike) (λ t. end_from (skip_space t)) rest after more e (subst (λ (q : Part). AtEnd (rest_from q (skip_space (after ++ more)))) (is_some next part.End n) o))
+    (over (placed_of Open is_node) (placed_again is_node node_alike) (λ t. end_from (skip_space t)) rest after more e (subst (λ (q : Part). AtEnd (rest_from q (skip_space (after ++ more)))) (is_some next part.End n) o))
 part_over part.End next rest after more n g e o = absurd (no_next next n)
 
 -- ---- a part that is open
@@ -214,16 +215,16 @@ at_end_of (Err f) a = a
 
 pub part_open : (p : Part) (rest : List ℕ) → (p ≡ part.Graph → stands begins_term rest ≡ true) → AtEnd (part_at p rest) → AtEnd (rest_from p rest)
 unfolding graph_from object_from predicate_from subject_from value_from key_from iri_from added_from removed_from
-part_open part.Key rest g a = end_then (live_key rest) _ (at_end_of (live_key rest) a)
-part_open part.Value rest g a = end_then (live_placed is_any rest) _ (at_end_of (live_placed is_any rest) a)
+part_open part.Key rest g a = end_then (open_key rest) _ (at_end_of (open_key rest) a)
+part_open part.Value rest g a = end_then (placed_of Open is_any rest) _ (at_end_of (placed_of Open is_any rest) a)
 part_open part.Bare rest g a = a
-part_open part.Added rest g a = end_then (live_prefix rest) _ (at_end_of (live_prefix rest) a)
-part_open part.Iri rest g a = end_then (live_prefix_iri rest) _ (at_end_of (live_prefix_iri rest) a)
-part_open part.Removed rest g a = end_then (live_prefix rest) _ (at_end_of (live_prefix rest) a)
-part_open part.Subject rest g a = end_then (live_placed is_node rest) _ (at_end_of (live_placed is_node rest) a)
-part_open part.Predicate rest g a = end_then (live_placed is_iri rest) _ (at_end_of (live_placed is_iri rest) a)
-part_open part.Object rest g a = end_then (live_placed is_any rest) _ (at_end_of (live_placed is_any rest) a)
-part_open part.Graph rest g a = rw (g refl) (end_then (live_placed is_node rest) _ (at_end_of (live_placed is_node rest) a))
+part_open part.Added rest g a = end_then (prefix_of Open rest) _ (at_end_of (prefix_of Open rest) a)
+part_open part.Iri rest g a = end_then (prefix_iri_of Open rest) _ (at_end_of (prefix_iri_of Open rest) a)
+part_open part.Removed rest g a = end_then (prefix_of Open rest) _ (at_end_of (prefix_of Open rest) a)
+part_open part.Subject rest g a = end_then (placed_of Open is_node rest) _ (at_end_of (placed_of Open is_node rest) a)
+part_open part.Predicate rest g a = end_then (placed_of Open is_iri rest) _ (at_end_of (placed_of Open is_iri rest) a)
+part_open part.Object rest g a = end_then (placed_of Open is_any rest) _ (at_end_of (placed_of Open is_any rest) a)
+part_open part.Graph rest g a = rw (g refl) (end_then (placed_of Open is_node rest) _ (at_end_of (placed_of Open is_node rest) a))
 part_open part.End rest g a = a
 
 pub no_graph : (rest : List ℕ) → stands begins_term rest ≡ false → graph_from rest ≡ end_from rest
@@ -234,15 +235,15 @@ no_graph rest e = rw e refl
 
 pub cut_rest : (p : Part) (rest : List ℕ) → is_cut rest ≡ true → AtEnd (rest_from p rest)
 unfolding end_from graph_from object_from predicate_from subject_from value_from key_from iri_from added_from removed_from
-cut_rest part.Key rest e = end_then (live_key rest) _ (cut_key rest e)
-cut_rest part.Value rest e = end_then (live_placed is_any rest) _ (cut_placed is_any rest e)
+cut_rest part.Key rest e = end_then (open_key rest) _ (cut_key rest e)
+cut_rest part.Value rest e = end_then (placed_of Open is_any rest) _ (cut_placed is_any rest e)
 cut_rest part.Bare rest e = cut_dot (Common BadToken) rest e
-cut_rest part.Added rest e = end_then (live_prefix rest) _ (cut_prefix rest e)
-cut_rest part.Iri rest e = end_then (live_prefix_iri rest) _ (cut_prefix_iri rest e)
-cut_rest part.Removed rest e = end_then (live_prefix rest) _ (cut_prefix rest e)
-cut_rest part.Subject rest e = end_then (live_placed is_node rest) _ (cut_placed is_node rest e)
-cut_rest part.Predicate rest e = end_then (live_placed is_iri rest) _ (cut_placed is_iri rest e)
-cut_rest part.Object rest e = end_then (live_placed is_any rest) _ (cut_placed is_any rest e)
+cut_rest part.Added rest e = end_then (prefix_of Open rest) _ (cut_prefix rest e)
+cut_rest part.Iri rest e = end_then (prefix_iri_of Open rest) _ (cut_prefix_iri rest e)
+cut_rest part.Removed rest e = end_then (prefix_of Open rest) _ (cut_prefix rest e)
+cut_rest part.Subject rest e = end_then (placed_of Open is_node rest) _ (cut_placed is_node rest e)
+cut_rest part.Predicate rest e = end_then (placed_of Open is_iri rest) _ (cut_placed is_iri rest e)
+cut_rest part.Object rest e = end_then (placed_of Open is_any rest) _ (cut_placed is_any rest e)
 cut_rest part.Graph rest e = rw (cut_stands begins_term rest no_term e) (cut_dot (Common MissingDot) rest e)
 cut_rest part.End rest e = cut_dot (Common MissingDot) rest e
 
@@ -256,44 +257,44 @@ choice_end : {X : Type 0} (b : Bool) (x y : Read X) (u v : Rest) → (AtEnd u �
 choice_end true x y u v first second a = first a
 choice_end false x y u v first second a = second a
 
-graph_end : (rest : List ℕ) → AtEnd (graph_from rest) → AtEnd (live_graph_or_dot rest)
-unfolding graph_from end_from live_graph_or_dot
+graph_end : (rest : List ℕ) → AtEnd (graph_from rest) → AtEnd (graph_or_dot_of Open rest)
+unfolding graph_from end_from graph_or_dot_of
 graph_end rest a = choice_end (stands begins_term rest) _ _ _ _
-    (λ u. map_end (live_placed is_node rest) _ _ (λ g o. end_then (end_at (Common MissingDot) g.1) _ o) u)
+    (λ u. map_end (placed_of Open is_node rest) _ _ (λ g o. end_then (end_at (Common MissingDot) g.1) _ o) u)
     (λ v. end_then (dot_at (Common MissingDot) rest) _ v) a
 
-quad_end : (rest : List ℕ) → AtEnd (subject_from (skip_space rest)) → AtEnd (live_quad rest)
-unfolding subject_from predicate_from object_from live_quad
-quad_end rest a = map_end (live_placed is_node (skip_space rest)) _ _ (λ s u. map_end (live_placed is_iri (skip_space s.1)) _ _ (λ p v. map_end (live_placed is_any (skip_space p.1)) _ _
-    (λ o w. end_then (live_graph_or_dot (skip_space o.1)) _ (graph_end (skip_space o.1) w)) v) u) a
+quad_end : (rest : List ℕ) → AtEnd (subject_from (skip_space rest)) → AtEnd (quad_of Open rest)
+unfolding subject_from predicate_from object_from quad_of
+quad_end rest a = map_end (placed_of Open is_node (skip_space rest)) _ _ (λ s u. map_end (placed_of Open is_iri (skip_space s.1)) _ _ (λ p v. map_end (placed_of Open is_any (skip_space p.1)) _ _
+    (λ o w. end_then (graph_or_dot_of Open (skip_space o.1)) _ (graph_end (skip_space o.1) w)) v) u) a
 
-header_end : (rest : List ℕ) → AtEnd (key_from (skip_space rest)) → AtEnd (live_header rest)
-unfolding key_from value_from end_from live_header
-header_end rest a = map_end (live_key (skip_space rest)) _ _ (λ k u. map_end (live_placed is_any (skip_space k.1)) _ _ (λ v w. end_then (end_at (Common MissingDot) v.1) _ w) u) a
+header_end : (rest : List ℕ) → AtEnd (key_from (skip_space rest)) → AtEnd (header_of Open rest)
+unfolding key_from value_from end_from header_of
+header_end rest a = map_end (open_key (skip_space rest)) _ _ (λ k u. map_end (placed_of Open is_any (skip_space k.1)) _ _ (λ v w. end_then (end_at (Common MissingDot) v.1) _ w) u) a
 
-bare_end : (c : Change) (rest : List ℕ) → AtEnd (dot_at (Common BadToken) (skip_space rest)) → AtEnd (live_bare c rest)
-unfolding live_bare
+bare_end : (c : Change) (rest : List ℕ) → AtEnd (dot_at (Common BadToken) (skip_space rest)) → AtEnd (bare_at c rest)
+unfolding bare_at
 bare_end c rest a = end_then (end_at (Common BadToken) rest) _ a
 
-added_end : (rest : List ℕ) → AtEnd (added_from (skip_space rest)) → AtEnd (live_added rest)
-unfolding added_from iri_from live_added
-added_end rest a = map_end (live_prefix (skip_space rest)) _ _ (λ p u. map_end (live_prefix_iri (skip_space p.1)) _ _
-    (λ i w. end_then (live_graph_or_dot (skip_space i.1)) _ (graph_end (skip_space i.1) w)) u) a
+added_end : (rest : List ℕ) → AtEnd (added_from (skip_space rest)) → AtEnd (added_of Open rest)
+unfolding added_from iri_from added_of
+added_end rest a = map_end (prefix_of Open (skip_space rest)) _ _ (λ p u. map_end (prefix_iri_of Open (skip_space p.1)) _ _
+    (λ i w. end_then (graph_or_dot_of Open (skip_space i.1)) _ (graph_end (skip_space i.1) w)) u) a
 
-removed_end : (rest : List ℕ) → AtEnd (removed_from (skip_space rest)) → AtEnd (live_removed rest)
-unfolding removed_from live_removed
-removed_end rest a = map_end (live_prefix (skip_space rest)) _ _ (λ p w. end_then (live_graph_or_dot (skip_space p.1)) _ (graph_end (skip_space p.1) w)) a
+removed_end : (rest : List ℕ) → AtEnd (removed_from (skip_space rest)) → AtEnd (removed_of Open rest)
+unfolding removed_from removed_of
+removed_end rest a = map_end (prefix_of Open (skip_space rest)) _ _ (λ p w. end_then (graph_or_dot_of Open (skip_space p.1)) _ (graph_end (skip_space p.1) w)) a
 
-parts_end : (c : Code) (rest : List ℕ) → AtEnd (rest_from (first_part c) (skip_space rest)) → AtEnd (live_parts c rest)
-unfolding live_parts
+parts_end : (c : Code) (rest : List ℕ) → AtEnd (rest_from (first_part c) (skip_space rest)) → AtEnd (parts_of Open c rest)
+unfolding parts_of
 parts_end code.Header rest a = header_end rest a
 parts_end code.Begin rest a = bare_end change.Begin rest a
 parts_end code.Commit rest a = bare_end change.Commit rest a
 parts_end code.Abort rest a = bare_end change.Abort rest a
 parts_end code.PrefixAdd rest a = added_end rest a
 parts_end code.PrefixDelete rest a = removed_end rest a
-parts_end code.Add rest a = end_then (live_quad rest) _ (quad_end rest a)
-parts_end code.Delete rest a = end_then (live_quad rest) _ (quad_end rest a)
+parts_end code.Add rest a = end_then (quad_of Open rest) _ (quad_end rest a)
+parts_end code.Delete rest a = end_then (quad_of Open rest) _ (quad_end rest a)
 
 word_again : (rest more letters after : List ℕ) → word_at rest ≡ Ok (letters, after) → word_at (rest ++ more) ≡ Ok (letters, after ++ more)
 word_again rest more letters after e = by (subst (λ (r : Read (List ℕ)). Keeps more r (word_at (rest ++ more))) e (word_stays more rest))
@@ -304,10 +305,10 @@ word_again rest more letters after e = by (subst (λ (r : Read (List ℕ)). Keep
 
 pub row_over : (rest more letters after : List ℕ) (c : Code) → word_at rest ≡ Ok (letters, after) → code_named letters ≡ Some c → AtEnd (rest_from (first_part c) (skip_space (after ++ more)))
     → AtEnd (live_row (rest ++ more))
-unfolding live_row
+unfolding row_of
 row_over rest more letters after c e named a =
     rw (word_again rest more letters after e) (rw named (parts_end c (after ++ more) a))
 
 pub row_open : (rest : List ℕ) → AtEnd (word_at rest) → AtEnd (live_row rest)
-unfolding live_row
+unfolding row_of
 row_open rest a = end_then (word_at rest) _ a

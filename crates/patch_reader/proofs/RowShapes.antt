@@ -20,7 +20,9 @@ use Rattle.patch_rows.specs.declared.fault.RowKind.TheVariants.{Common, UnknownC
 use Rattle.patch_rows.specs.Fault.{Fault, ◌>>=◌, in_row}
 use Rattle.patch_rows.specs.Faults.{is_dot}
 use Rattle.patch_rows.specs.Grammar.{is_any, is_node}
-use Rattle.patch_rows.specs.Reading.{skip_space, stands, other, begins_blank, whole_label, bracketed, bracket_at, row_term_at, needed_term_at, placed_at, key_at, plain_of, plain_text, or_bad_position, quoted_at, prefix_at, iri_of_string, iri_of_term, prefix_iri_at, dot_at, end_at, graph_or_dot, graph_at, header_at, bare_at, quad_at, added_at, removed_at, parts_at, code_named, by_code, word_at, row_at}
+use Rattle.patch_rows.specs.Reading.{skip_space, stands, other, begins_blank, whole_label, bracketed, bracket_at, row_term_at, needed_term_at, key_at, plain_of, plain_text, or_bad_position, iri_of_string, iri_of_term, dot_at, end_at, code_named, word_at}
+use Rattle.patch_rows.specs.declared.cut.TextEnd.TheVariants.{Known}
+use Rattle.patch_rows.specs.Rows.{added_of, bare_at, by_code, graph_of, graph_or_dot_of, header_of, parts_of, placed_of, prefix_iri_of, prefix_of, quad_of, quoted_of, removed_of, row_at, row_of}
 use Rattle.patch_reader.proofs.Shapes.{Place, Text, char_placed, pieces_placed, iri_piece_placed, term_placed}
 
 -- where a fault of this kind stands
@@ -85,8 +87,8 @@ needed_placed : (rest : List ℕ) → Placed (needed_term_at rest)
 unfolding needed_term_at RowPlace
 needed_placed rest = if_placed (stands is_dot rest) _ _ tt (row_term_placed rest)
 
-placed_placed : (fits : Term → Bool) (rest : List ℕ) → Placed (placed_at fits rest)
-unfolding placed_at RowPlace Place
+placed_placed : (fits : Term → Bool) (rest : List ℕ) → Placed (placed_of Known fits rest)
+unfolding placed_of RowPlace Place
 placed_placed fits rest = then_placed (needed_term_at rest) _ (needed_placed rest) (λ t. if_placed (fits t.0) _ _ tt tt)
 
 key_placed : (rest : List ℕ) → Placed (key_at rest)
@@ -98,12 +100,12 @@ unfolding RowPlace Place
 position_placed (Some text) start after = tt
 position_placed None start after = tt
 
-quoted_placed : (rest : List ℕ) → Placed (quoted_at rest)
-unfolding quoted_at
+quoted_placed : (rest : List ℕ) → Placed (quoted_of Known rest)
+unfolding quoted_of
 quoted_placed rest = then_placed (needed_term_at rest) _ (needed_placed rest) (λ t. position_placed (plain_text t.0) rest t.1)
 
-prefix_placed : (rest : List ℕ) → Placed (prefix_at rest)
-unfolding prefix_at
+prefix_placed : (rest : List ℕ) → Placed (prefix_of Known rest)
+unfolding prefix_of
 prefix_placed rest = if_placed (stands (λ b. nat_eq b 58) rest) _ _ tt (if_placed (stands is_ascii_alphabetic rest) _ _ tt
     (if_placed (stands is_dot rest || stands begins_term rest) _ _ (quoted_placed rest) (other_placed (Common BadToken) rest (bad_token rest))))
 
@@ -117,60 +119,60 @@ iri_of_term_placed start (term.Iri iri) after = tt
 iri_of_term_placed start (term.Blank label) after = tt
 iri_of_term_placed start (term.Literal literal) after = then_placed (or_bad_position (plain_of literal.kind literal.lexical) start after) _ (position_placed (plain_of literal.kind literal.lexical) start after) (λ s. string_iri_placed start s.0 s.1)
 
-prefix_iri_placed : (rest : List ℕ) → Placed (prefix_iri_at rest)
-unfolding prefix_iri_at
+prefix_iri_placed : (rest : List ℕ) → Placed (prefix_iri_of Known rest)
+unfolding prefix_iri_of
 prefix_iri_placed rest = then_placed (needed_term_at rest) _ (needed_placed rest) (λ t. iri_of_term_placed rest t.0 t.1)
 
 dot_placed : (missing : RowKind) (rest : List ℕ) → RowPlace missing rest → Placed (dot_at missing rest)
 unfolding dot_at RowPlace
 dot_placed missing rest h = if_placed (stands is_dot rest) _ _ tt (if_placed (stands begins_term rest) _ _ tt (other_placed missing rest h))
 
-graph_or_dot_placed : (rest : List ℕ) → Placed (graph_or_dot rest)
-unfolding graph_or_dot
+graph_or_dot_placed : (rest : List ℕ) → Placed (graph_or_dot_of Known rest)
+unfolding graph_or_dot_of
 graph_or_dot_placed rest = if_placed (stands begins_term rest) _ _
-    (then_placed (placed_at is_node rest) _ (placed_placed is_node rest) (λ g. then_placed (end_at (Common MissingDot) g.1) _ (dot_placed (Common MissingDot) (skip_space g.1) (missing_dot (skip_space g.1))) (λ after. tt)))
+    (then_placed (placed_of Known is_node rest) _ (placed_placed is_node rest) (λ g. then_placed (end_at (Common MissingDot) g.1) _ (dot_placed (Common MissingDot) (skip_space g.1) (missing_dot (skip_space g.1))) (λ after. tt)))
     (then_placed (dot_at (Common MissingDot) rest) _ (dot_placed (Common MissingDot) rest (missing_dot rest)) (λ after. tt))
 
-header_placed : (rest : List ℕ) → Placed (header_at rest)
-unfolding header_at
+header_placed : (rest : List ℕ) → Placed (header_of Known rest)
+unfolding header_of
 header_placed rest = then_placed (key_at (skip_space rest)) _ (key_placed (skip_space rest)) (λ key.
-    then_placed (placed_at is_any (skip_space key.1)) _ (placed_placed is_any (skip_space key.1)) (λ v.
+    then_placed (placed_of Known is_any (skip_space key.1)) _ (placed_placed is_any (skip_space key.1)) (λ v.
     then_placed (end_at (Common MissingDot) v.1) _ (dot_placed (Common MissingDot) (skip_space v.1) (missing_dot (skip_space v.1))) (λ after. tt)))
 
 bare_placed : (c : Change) (rest : List ℕ) → Placed (bare_at c rest)
 unfolding bare_at
 bare_placed c rest = then_placed (end_at (Common BadToken) rest) _ (dot_placed (Common BadToken) (skip_space rest) (bad_token (skip_space rest))) (λ after. tt)
 
-quad_placed : (rest : List ℕ) → Placed (quad_at rest)
-unfolding quad_at
-quad_placed rest = then_placed (placed_at is_node (skip_space rest)) _ (placed_placed is_node (skip_space rest)) (λ s.
-    then_placed (placed_at is_iri (skip_space s.1)) _ (placed_placed is_iri (skip_space s.1)) (λ p.
-    then_placed (placed_at is_any (skip_space p.1)) _ (placed_placed is_any (skip_space p.1)) (λ o.
-    then_placed (graph_at o.1) _ (graph_or_dot_placed (skip_space o.1)) (λ g. tt))))
+quad_placed : (rest : List ℕ) → Placed (quad_of Known rest)
+unfolding quad_of
+quad_placed rest = then_placed (placed_of Known is_node (skip_space rest)) _ (placed_placed is_node (skip_space rest)) (λ s.
+    then_placed (placed_of Known is_iri (skip_space s.1)) _ (placed_placed is_iri (skip_space s.1)) (λ p.
+    then_placed (placed_of Known is_any (skip_space p.1)) _ (placed_placed is_any (skip_space p.1)) (λ o.
+    then_placed (graph_of Known o.1) _ (graph_or_dot_placed (skip_space o.1)) (λ g. tt))))
 
-added_placed : (rest : List ℕ) → Placed (added_at rest)
-unfolding added_at
-added_placed rest = then_placed (prefix_at (skip_space rest)) _ (prefix_placed (skip_space rest)) (λ prefix.
-    then_placed (prefix_iri_at (skip_space prefix.1)) _ (prefix_iri_placed (skip_space prefix.1)) (λ iri.
-    then_placed (graph_at iri.1) _ (graph_or_dot_placed (skip_space iri.1)) (λ g. tt)))
+added_placed : (rest : List ℕ) → Placed (added_of Known rest)
+unfolding added_of
+added_placed rest = then_placed (prefix_of Known (skip_space rest)) _ (prefix_placed (skip_space rest)) (λ prefix.
+    then_placed (prefix_iri_of Known (skip_space prefix.1)) _ (prefix_iri_placed (skip_space prefix.1)) (λ iri.
+    then_placed (graph_of Known iri.1) _ (graph_or_dot_placed (skip_space iri.1)) (λ g. tt)))
 
-removed_placed : (rest : List ℕ) → Placed (removed_at rest)
-unfolding removed_at
-removed_placed rest = then_placed (prefix_at (skip_space rest)) _ (prefix_placed (skip_space rest)) (λ prefix.
-    then_placed (graph_at prefix.1) _ (graph_or_dot_placed (skip_space prefix.1)) (λ g. tt))
+removed_placed : (rest : List ℕ) → Placed (removed_of Known rest)
+unfolding removed_of
+removed_placed rest = then_placed (prefix_of Known (skip_space rest)) _ (prefix_placed (skip_space rest)) (λ prefix.
+    then_placed (graph_of Known prefix.1) _ (graph_or_dot_placed (skip_space prefix.1)) (λ g. tt))
 
-parts_placed : (c : Code) (rest : List ℕ) → Placed (parts_at c rest)
-unfolding parts_at
+parts_placed : (c : Code) (rest : List ℕ) → Placed (parts_of Known c rest)
+unfolding parts_of
 parts_placed code.Header rest = header_placed rest
 parts_placed code.Begin rest = bare_placed change.Begin rest
 parts_placed code.Commit rest = bare_placed change.Commit rest
 parts_placed code.Abort rest = bare_placed change.Abort rest
 parts_placed code.PrefixAdd rest = added_placed rest
 parts_placed code.PrefixDelete rest = removed_placed rest
-parts_placed code.Add rest = then_placed (quad_at rest) _ (quad_placed rest) (λ q. tt)
-parts_placed code.Delete rest = then_placed (quad_at rest) _ (quad_placed rest) (λ q. tt)
+parts_placed code.Add rest = then_placed (quad_of Known rest) _ (quad_placed rest) (λ q. tt)
+parts_placed code.Delete rest = then_placed (quad_of Known rest) _ (quad_placed rest) (λ q. tt)
 
-by_code_placed : (o : Option Code) (start rest : List ℕ) → Placed (by_code o start rest)
+by_code_placed : (o : Option Code) (start rest : List ℕ) → Placed (by_code Known o start rest)
 unfolding RowPlace
 by_code_placed (Some c) start rest = parts_placed c rest
 by_code_placed None start rest = tt
@@ -181,7 +183,7 @@ word_placed rest = if_placed (stands is_ascii_alphabetic rest) _ _ (if_placed (n
     (other_placed (Common BadToken) rest (bad_token rest))
 
 pub row_placed : (rest : List ℕ) → Placed (row_at rest)
-unfolding row_at
+unfolding row_of
 row_placed rest = then_placed (word_at rest) _ (word_placed rest) (λ word. by_code_placed (code_named word.0) rest word.1)
 
 pub truncated_ends : (text rest : List ℕ) → row_at text ≡ Err (Common Truncated, rest) → rest ≡ []

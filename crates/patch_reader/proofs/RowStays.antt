@@ -27,9 +27,10 @@ use Rattle.patch_rows.specs.declared.row.Row.TheVariants as row
 use Rattle.patch_rows.specs.Fault.{Fault, Read, ◌>>=◌, in_row}
 use Rattle.patch_rows.specs.Faults.{is_dot}
 use Rattle.patch_rows.specs.Grammar.{is_line_end, is_space, is_word_byte, is_any, is_node}
-use Rattle.patch_rows.specs.Reading.{comment_step, space_behind, skip_space, stands, other, begins_blank, whole_label, bracketed, bracket_at, row_term_at, needed_term_at, placed_at, run_of, key_at, past_colon, plain_of, plain_text, or_bad_position, quoted_at, prefix_at, iri_of_string, iri_of_term, prefix_iri_at, dot_at, end_at, graph_or_dot, graph_at, header_at, bare_at, quad_at, added_at, removed_at, parts_at, code_named, by_code, uncut, word_at, row_at}
-use Rattle.patch_reader.specs.Cut.{leads, is_front, is_cut, ends_text, ends_row, TextAtEnd, AtEnd, literal_open, blank_open}
-use Rattle.patch_reader.specs.Live.{live_term, live_placed, live_key, live_quoted, live_word_prefix, live_prefix, live_prefix_iri, live_graph_or_dot, live_graph, live_header, live_bare, live_quad, live_added, live_removed, live_parts, live_by_code, live_row}
+use Rattle.patch_rows.specs.Reading.{comment_step, space_behind, skip_space, stands, other, begins_blank, whole_label, bracketed, bracket_at, row_term_at, needed_term_at, run_of, key_at, past_colon, plain_of, plain_text, or_bad_position, iri_of_string, iri_of_term, dot_at, end_at, code_named, uncut, word_at}
+use Rattle.patch_rows.specs.declared.cut.TextEnd.TheVariants.{Open, Known}
+use Rattle.patch_rows.specs.Rows.{added_of, bare_at, by_code, graph_of, graph_or_dot_of, header_of, live_row, open_key, open_term, open_word_prefix, parts_of, placed_of, prefix_iri_of, prefix_of, quad_of, quoted_of, removed_of, row_at, row_of}
+use Rattle.patch_rows.specs.Cut.{leads, is_front, is_cut, ends_text, ends_row, TextAtEnd, AtEnd, literal_open, blank_open}
 use Rattle.patch_reader.proofs.Stays.{with_more as text_with_more, Stays, char_stays, bad_char, good_char, rooms_same, iri_body_stays}
 use Rattle.patch_rows.proofs.WholeRow.{exact_row}
 use Rattle.patch_rows.specs.Faults.{FaultDecided}
@@ -148,34 +149,34 @@ pub cut_needed : (rest : List ℕ) → is_cut rest ≡ true → AtEnd (needed_te
 unfolding needed_term_at
 cut_needed rest e = rw (cut_stands is_dot rest no_dot e) (cut_term rest e)
 
-cut_live_term : (rest : List ℕ) → is_cut rest ≡ true → AtEnd (live_term rest)
-unfolding live_term
+cut_live_term : (rest : List ℕ) → is_cut rest ≡ true → AtEnd (open_term rest)
+unfolding open_term
 cut_live_term rest e = end_then (needed_term_at rest) _ (cut_needed rest e)
 
-pub cut_placed : (fits : Term → Bool) (rest : List ℕ) → is_cut rest ≡ true → AtEnd (live_placed fits rest)
-unfolding live_placed
-cut_placed fits rest e = end_then (live_term rest) _ (cut_live_term rest e)
+pub cut_placed : (fits : Term → Bool) (rest : List ℕ) → is_cut rest ≡ true → AtEnd (placed_of Open fits rest)
+unfolding placed_of
+cut_placed fits rest e = end_then (open_term rest) _ (cut_live_term rest e)
 
-pub cut_key : (rest : List ℕ) → is_cut rest ≡ true → AtEnd (live_key rest)
-unfolding live_key key_at
+pub cut_key : (rest : List ℕ) → is_cut rest ≡ true → AtEnd (open_key rest)
+unfolding open_key key_at
 cut_key rest e = rw (cut_stands is_dot rest no_dot e, cut_stands is_ascii_alphabetic rest no_letter e) (cut_other (Common BadToken) rest e)
 
-pub cut_prefix : (rest : List ℕ) → is_cut rest ≡ true → AtEnd (live_prefix rest)
-unfolding live_prefix
+pub cut_prefix : (rest : List ℕ) → is_cut rest ≡ true → AtEnd (prefix_of Open rest)
+unfolding prefix_of
 cut_prefix rest e =
     rw (cut_stands (λ b. nat_eq b 58) rest no_colon e, cut_stands is_ascii_alphabetic rest no_letter e, cut_stands is_dot rest no_dot e, cut_stands begins_term rest no_term e)
     (cut_other (Common BadToken) rest e)
 
-pub cut_prefix_iri : (rest : List ℕ) → is_cut rest ≡ true → AtEnd (live_prefix_iri rest)
-unfolding live_prefix_iri
-cut_prefix_iri rest e = end_then (live_term rest) _ (cut_live_term rest e)
+pub cut_prefix_iri : (rest : List ℕ) → is_cut rest ≡ true → AtEnd (prefix_iri_of Open rest)
+unfolding prefix_iri_of
+cut_prefix_iri rest e = end_then (open_term rest) _ (cut_live_term rest e)
 
 pub cut_dot : (missing : RowKind) (rest : List ℕ) → is_cut rest ≡ true → AtEnd (dot_at missing rest)
 unfolding dot_at
 cut_dot missing rest e = rw (cut_stands is_dot rest no_dot e, cut_stands begins_term rest no_term e) (cut_other missing rest e)
 
-pub cut_graph : (rest : List ℕ) → is_cut rest ≡ true → AtEnd (live_graph_or_dot rest)
-unfolding live_graph_or_dot
+pub cut_graph : (rest : List ℕ) → is_cut rest ≡ true → AtEnd (graph_or_dot_of Open rest)
+unfolding graph_or_dot_of
 cut_graph rest e = rw (cut_stands begins_term rest no_term e) (end_then (dot_at (Common MissingDot) rest) _ (cut_dot (Common MissingDot) rest e))
 
 -- ---- white space and comments
@@ -315,12 +316,12 @@ settled_late start more r longer (inr (x, e, inr (still_open, y))) =
     let none = blank_is_no_literal start x.0 x.1 blank in
     rw (e, none) (inr (x, refl, blank, still_open, y))
 
-pub live_term_late : (more rest : List ℕ) → LateTerm rest more (live_term rest) (needed_term_at (rest ++ more))
-unfolding live_term
+pub live_term_late : (more rest : List ℕ) → LateTerm rest more (open_term rest) (needed_term_at (rest ++ more))
+unfolding open_term
 live_term_late more [] = inl (inl (cut_live_term [] refl))
 live_term_late more (b ∷ bs) = by (needed_late more (b ∷ bs) (λ none. absurd cc))
   where
-    by : LateRowTerm (b ∷ bs) more (needed_term_at (b ∷ bs)) (needed_term_at ((b ∷ bs) ++ more)) → LateTerm (b ∷ bs) more (live_term (b ∷ bs)) (needed_term_at ((b ∷ bs) ++ more))
+    by : LateRowTerm (b ∷ bs) more (needed_term_at (b ∷ bs)) (needed_term_at ((b ∷ bs) ++ more)) → LateTerm (b ∷ bs) more (open_term (b ∷ bs)) (needed_term_at ((b ∷ bs) ++ more))
     by h = settled_late (b ∷ bs) more (needed_term_at (b ∷ bs)) (needed_term_at ((b ∷ bs) ++ more)) h
 
 -- what is made of a term, where all labels are treated alike
@@ -334,10 +335,10 @@ late_then start more r longer f g (inr (x, e, blank, is, rest)) stays still_open
 blanks_alike : (fits : Term → Bool) → Type 0
 blanks_alike fits = (a b : List ℕ) → fits (term.Blank a) ≡ fits (term.Blank b)
 
-pub placed_stays : (fits : Term → Bool) (more rest : List ℕ) → ((a b : List ℕ) → fits (term.Blank a) ≡ fits (term.Blank b)) → Keeps more (live_placed fits rest) (placed_at fits (rest ++ more))
-unfolding live_placed placed_at
+pub placed_stays : (fits : Term → Bool) (more rest : List ℕ) → ((a b : List ℕ) → fits (term.Blank a) ≡ fits (term.Blank b)) → Keeps more (placed_of Open fits rest) (placed_of Known fits (rest ++ more))
+unfolding placed_of
 placed_stays fits more rest alike =
-    late_then rest more (live_term rest) (needed_term_at (rest ++ more)) _ _ (live_term_late more rest)
+    late_then rest more (open_term rest) (needed_term_at (rest ++ more)) _ _ (live_term_late more rest)
     (λ x. closed x (fits x.0) (blank_open rest x.0 x.1))
     (λ x y a b is. still_open x y a b is)
   where
@@ -360,10 +361,10 @@ position_stays : (more : List ℕ) (o : Option (List ℕ)) (start after : List �
 position_stays more (Some text) start after = value more text after
 position_stays more None start after = fault more (Common BadPosition) start
 
-pub quoted_stays : (more rest : List ℕ) → Keeps more (live_quoted rest) (quoted_at (rest ++ more))
-unfolding live_quoted quoted_at
+pub quoted_stays : (more rest : List ℕ) → Keeps more (quoted_of Open rest) (quoted_of Known (rest ++ more))
+unfolding quoted_of
 quoted_stays more rest =
-    late_then rest more (live_term rest) (needed_term_at (rest ++ more)) _ _ (live_term_late more rest)
+    late_then rest more (open_term rest) (needed_term_at (rest ++ more)) _ _ (live_term_late more rest)
     (λ x. position_stays more (plain_text x.0) rest x.1)
     (λ x y a b is. rw (a.1, b.1) (fault more (Common BadPosition) rest))
 
@@ -381,10 +382,10 @@ iri_of_term_stays more start (term.Literal literal) after =
     chained more (or_bad_position (plain_of literal.kind literal.lexical) start after) (or_bad_position (plain_of literal.kind literal.lexical) (start ++ more) (after ++ more)) _ _
     (position_stays more (plain_of literal.kind literal.lexical) start after) (λ string e. string_iri_stays more start string.0 string.1)
 
-pub prefix_iri_stays : (more rest : List ℕ) → Keeps more (live_prefix_iri rest) (prefix_iri_at (rest ++ more))
-unfolding live_prefix_iri prefix_iri_at
+pub prefix_iri_stays : (more rest : List ℕ) → Keeps more (prefix_iri_of Open rest) (prefix_iri_of Known (rest ++ more))
+unfolding prefix_iri_of
 prefix_iri_stays more rest =
-    late_then rest more (live_term rest) (needed_term_at (rest ++ more)) _ _ (live_term_late more rest)
+    late_then rest more (open_term rest) (needed_term_at (rest ++ more)) _ _ (live_term_late more rest)
     (λ x. iri_of_term_stays more rest x.0 x.1)
     (λ x y a b is. rw (a.1, b.1) (fault more (Common BadPosition) rest))
 
@@ -448,12 +449,12 @@ word_stays more (b ∷ bs) = by
     by : Keeps more (word_at (b ∷ bs)) (word_at ((b ∷ bs) ++ more))
     by = choice more (is_ascii_alphabetic b) _ _ _ _ (word_run_stays is_ascii_alphabetic more (b ∷ bs)) (other_stays (List ℕ) more (Common BadToken) (b ∷ bs))
 
-pub key_stays : (more rest : List ℕ) → Keeps more (live_key rest) (key_at (rest ++ more))
-unfolding live_key key_at
+pub key_stays : (more rest : List ℕ) → Keeps more (open_key rest) (key_at (rest ++ more))
+unfolding open_key key_at
 key_stays more [] = inl (cut_key [] refl)
 key_stays more (b ∷ bs) = by (is_dot b) (is_ascii_alphabetic b) refl refl
   where
-    by : (dot letter : Bool) → is_dot b ≡ dot → is_ascii_alphabetic b ≡ letter → Keeps more (live_key (b ∷ bs)) (key_at ((b ∷ bs) ++ more))
+    by : (dot letter : Bool) → is_dot b ≡ dot → is_ascii_alphabetic b ≡ letter → Keeps more (open_key (b ∷ bs)) (key_at ((b ∷ bs) ++ more))
     by true letter e f = rw e (fault more WrongCount (b ∷ bs))
     by false true e f = rw (e, f) (run_stays is_word_byte more (b ∷ bs))
     by false false e f = rw (e, f) (other_stays (List ℕ) more (Common BadToken) (b ∷ bs))
@@ -466,12 +467,12 @@ colon_stays more word (b ∷ after) some = by (nat_eq b 58)
     by true = value more word after
     by false = value more word (b ∷ after)
 
-word_prefix_stays : (more rest : List ℕ) → Keeps more (live_word_prefix rest) (Ok (take (prefix_len is_word_byte (rest ++ more)) (rest ++ more), past_colon (drop (prefix_len is_word_byte (rest ++ more)) (rest ++ more))))
-unfolding live_word_prefix
+word_prefix_stays : (more rest : List ℕ) → Keeps more (open_word_prefix rest) (Ok (take (prefix_len is_word_byte (rest ++ more)) (rest ++ more), past_colon (drop (prefix_len is_word_byte (rest ++ more)) (rest ++ more))))
+unfolding open_word_prefix
 word_prefix_stays more rest = by (nat_eq (length (drop (prefix_len is_word_byte rest) rest)) 0) refl
   where
     by : (none : Bool) → nat_eq (length (drop (prefix_len is_word_byte rest) rest)) 0 ≡ none
-        → Keeps more (live_word_prefix rest) (Ok (take (prefix_len is_word_byte (rest ++ more)) (rest ++ more), past_colon (drop (prefix_len is_word_byte (rest ++ more)) (rest ++ more))))
+        → Keeps more (open_word_prefix rest) (Ok (take (prefix_len is_word_byte (rest ++ more)) (rest ++ more), past_colon (drop (prefix_len is_word_byte (rest ++ more)) (rest ++ more))))
     by true e = rw e (inl cut_end)
     by false e =
         let some : (length (drop (prefix_len is_word_byte rest) rest) ≡ 0) → ⊥ = grind (arith, nat_tests, e) in
@@ -479,12 +480,12 @@ word_prefix_stays more rest = by (nat_eq (length (drop (prefix_len is_word_byte 
         rw (e, same.0, take-append-le (prefix_len is_word_byte rest) rest more same.1, drop-append-le (prefix_len is_word_byte rest) rest more same.1)
         (colon_stays more (take (prefix_len is_word_byte rest) rest) (drop (prefix_len is_word_byte rest) rest) some)
 
-pub prefix_stays : (more rest : List ℕ) → Keeps more (live_prefix rest) (prefix_at (rest ++ more))
-unfolding live_prefix prefix_at
+pub prefix_stays : (more rest : List ℕ) → Keeps more (prefix_of Open rest) (prefix_of Known (rest ++ more))
+unfolding prefix_of
 prefix_stays more [] = inl (cut_prefix [] refl)
 prefix_stays more (b ∷ bs) = by
   where
-    by : Keeps more (live_prefix (b ∷ bs)) (prefix_at ((b ∷ bs) ++ more))
+    by : Keeps more (prefix_of Open (b ∷ bs)) (prefix_of Known ((b ∷ bs) ++ more))
     by =
         choice more (nat_eq b 58) _ _ _ _ (value more [] bs)
         (choice more (is_ascii_alphabetic b) _ _ _ _ (word_prefix_stays more (b ∷ bs))
@@ -532,65 +533,65 @@ no_graph r = r >>= λ after. Ok (None, after)
 no_graph_stays : (more rest : List ℕ) → Keeps more (no_graph (dot_at (Common MissingDot) rest)) (no_graph (dot_at (Common MissingDot) (rest ++ more)))
 no_graph_stays more rest = chained_end more (dot_at (Common MissingDot) rest) (dot_at (Common MissingDot) (rest ++ more)) _ _ (dot_stays more (Common MissingDot) rest) (λ after. value more None after)
 
-pub graph_or_dot_stays : (more rest : List ℕ) → Keeps more (live_graph_or_dot rest) (graph_or_dot (rest ++ more))
-unfolding live_graph_or_dot graph_or_dot
+pub graph_or_dot_stays : (more rest : List ℕ) → Keeps more (graph_or_dot_of Open rest) (graph_or_dot_of Known (rest ++ more))
+unfolding graph_or_dot_of
 graph_or_dot_stays more [] = inl (cut_graph [] refl)
 graph_or_dot_stays more (b ∷ bs) = by
   where
-    by : Keeps more (live_graph_or_dot (b ∷ bs)) (graph_or_dot ((b ∷ bs) ++ more))
+    by : Keeps more (graph_or_dot_of Open (b ∷ bs)) (graph_or_dot_of Known ((b ∷ bs) ++ more))
     by =
         choice more (begins_term b) _ _ _ _
-        (chained more (live_placed is_node (b ∷ bs)) (placed_at is_node (b ∷ (bs ++ more))) _ _ (placed_stays is_node more (b ∷ bs) node_alike) (λ g e.
+        (chained more (placed_of Open is_node (b ∷ bs)) (placed_of Known is_node (b ∷ (bs ++ more))) _ _ (placed_stays is_node more (b ∷ bs) node_alike) (λ g e.
         chained_end more (end_at (Common MissingDot) g.1) (end_at (Common MissingDot) (g.1 ++ more)) _ _ (end_stays more (Common MissingDot) g.1) (λ after. value more (Some g.0) after)))
         (no_graph_stays more (b ∷ bs))
 
-pub graph_stays : (more rest : List ℕ) → Keeps more (live_graph rest) (graph_at (rest ++ more))
-graph_stays more rest = spaced more live_graph_or_dot graph_or_dot (graph_or_dot_stays more) cut_graph rest
+pub graph_stays : (more rest : List ℕ) → Keeps more (graph_of Open rest) (graph_of Known (rest ++ more))
+graph_stays more rest = spaced more (graph_or_dot_of Open) (graph_or_dot_of Known) (graph_or_dot_stays more) cut_graph rest
 
-pub spaced_placed : (fits : Term → Bool) (more rest : List ℕ) → ((a b : List ℕ) → fits (term.Blank a) ≡ fits (term.Blank b)) → Keeps more (live_placed fits (skip_space rest)) (placed_at fits (skip_space (rest ++ more)))
-spaced_placed fits more rest alike = spaced more (live_placed fits) (placed_at fits) (λ r. placed_stays fits more r alike) (cut_placed fits) rest
+pub spaced_placed : (fits : Term → Bool) (more rest : List ℕ) → ((a b : List ℕ) → fits (term.Blank a) ≡ fits (term.Blank b)) → Keeps more (placed_of Open fits (skip_space rest)) (placed_of Known fits (skip_space (rest ++ more)))
+spaced_placed fits more rest alike = spaced more (placed_of Open fits) (placed_of Known fits) (λ r. placed_stays fits more r alike) (cut_placed fits) rest
 
 -- ---- rows
 
-pub header_stays : (more rest : List ℕ) → Keeps more (live_header rest) (header_at (rest ++ more))
-unfolding live_header header_at
+pub header_stays : (more rest : List ℕ) → Keeps more (header_of Open rest) (header_of Known (rest ++ more))
+unfolding header_of
 header_stays more rest =
-    chained more (live_key (skip_space rest)) (key_at (skip_space (rest ++ more))) _ _ (spaced more live_key key_at (key_stays more) cut_key rest) (λ key e.
-    chained more (live_placed is_any (skip_space key.1)) (placed_at is_any (skip_space (key.1 ++ more))) _ _ (spaced_placed is_any more key.1 any_alike) (λ v f.
+    chained more (open_key (skip_space rest)) (key_at (skip_space (rest ++ more))) _ _ (spaced more open_key key_at (key_stays more) cut_key rest) (λ key e.
+    chained more (placed_of Open is_any (skip_space key.1)) (placed_of Known is_any (skip_space (key.1 ++ more))) _ _ (spaced_placed is_any more key.1 any_alike) (λ v f.
     chained_end more (end_at (Common MissingDot) v.1) (end_at (Common MissingDot) (v.1 ++ more)) _ _ (end_stays more (Common MissingDot) v.1) (λ after.
     value more (row.Header key.0 v.0) after)))
 
-bare_stays : (more : List ℕ) (c : Change) (rest : List ℕ) → Keeps more (live_bare c rest) (bare_at c (rest ++ more))
-unfolding live_bare bare_at
+bare_stays : (more : List ℕ) (c : Change) (rest : List ℕ) → Keeps more (bare_at c rest) (bare_at c (rest ++ more))
+unfolding bare_at
 bare_stays more c rest =
     chained_end more (end_at (Common BadToken) rest) (end_at (Common BadToken) (rest ++ more)) _ _ (end_stays more (Common BadToken) rest) (λ after. value more (row.Change c) after)
 
-pub quad_stays : (more rest : List ℕ) → Keeps more (live_quad rest) (quad_at (rest ++ more))
-unfolding live_quad quad_at
+pub quad_stays : (more rest : List ℕ) → Keeps more (quad_of Open rest) (quad_of Known (rest ++ more))
+unfolding quad_of
 quad_stays more rest =
-    chained more (live_placed is_node (skip_space rest)) (placed_at is_node (skip_space (rest ++ more))) _ _ (spaced_placed is_node more rest node_alike) (λ s e.
-    chained more (live_placed is_iri (skip_space s.1)) (placed_at is_iri (skip_space (s.1 ++ more))) _ _ (spaced_placed is_iri more s.1 iri_alike) (λ p f.
-    chained more (live_placed is_any (skip_space p.1)) (placed_at is_any (skip_space (p.1 ++ more))) _ _ (spaced_placed is_any more p.1 any_alike) (λ o g.
-    chained more (live_graph o.1) (graph_at (o.1 ++ more)) _ _ (graph_stays more o.1) (λ graph h.
+    chained more (placed_of Open is_node (skip_space rest)) (placed_of Known is_node (skip_space (rest ++ more))) _ _ (spaced_placed is_node more rest node_alike) (λ s e.
+    chained more (placed_of Open is_iri (skip_space s.1)) (placed_of Known is_iri (skip_space (s.1 ++ more))) _ _ (spaced_placed is_iri more s.1 iri_alike) (λ p f.
+    chained more (placed_of Open is_any (skip_space p.1)) (placed_of Known is_any (skip_space (p.1 ++ more))) _ _ (spaced_placed is_any more p.1 any_alike) (λ o g.
+    chained more (graph_of Open o.1) (graph_of Known (o.1 ++ more)) _ _ (graph_stays more o.1) (λ graph h.
     value more (statement s.0 p.0 o.0 graph.0) graph.1))))
 
-added_stays : (more rest : List ℕ) → Keeps more (live_added rest) (added_at (rest ++ more))
-unfolding live_added added_at
+added_stays : (more rest : List ℕ) → Keeps more (added_of Open rest) (added_of Known (rest ++ more))
+unfolding added_of
 added_stays more rest =
-    chained more (live_prefix (skip_space rest)) (prefix_at (skip_space (rest ++ more))) _ _ (spaced more live_prefix prefix_at (prefix_stays more) cut_prefix rest) (λ prefix e.
-    chained more (live_prefix_iri (skip_space prefix.1)) (prefix_iri_at (skip_space (prefix.1 ++ more))) _ _ (spaced more live_prefix_iri prefix_iri_at (prefix_iri_stays more) cut_prefix_iri prefix.1) (λ iri f.
-    chained more (live_graph iri.1) (graph_at (iri.1 ++ more)) _ _ (graph_stays more iri.1) (λ graph h.
+    chained more (prefix_of Open (skip_space rest)) (prefix_of Known (skip_space (rest ++ more))) _ _ (spaced more (prefix_of Open) (prefix_of Known) (prefix_stays more) cut_prefix rest) (λ prefix e.
+    chained more (prefix_iri_of Open (skip_space prefix.1)) (prefix_iri_of Known (skip_space (prefix.1 ++ more))) _ _ (spaced more (prefix_iri_of Open) (prefix_iri_of Known) (prefix_iri_stays more) cut_prefix_iri prefix.1) (λ iri f.
+    chained more (graph_of Open iri.1) (graph_of Known (iri.1 ++ more)) _ _ (graph_stays more iri.1) (λ graph h.
     value more (row.Change (change.PrefixAdd prefix.0 iri.0 graph.0)) graph.1)))
 
-removed_stays : (more rest : List ℕ) → Keeps more (live_removed rest) (removed_at (rest ++ more))
-unfolding live_removed removed_at
+removed_stays : (more rest : List ℕ) → Keeps more (removed_of Open rest) (removed_of Known (rest ++ more))
+unfolding removed_of
 removed_stays more rest =
-    chained more (live_prefix (skip_space rest)) (prefix_at (skip_space (rest ++ more))) _ _ (spaced more live_prefix prefix_at (prefix_stays more) cut_prefix rest) (λ prefix e.
-    chained more (live_graph prefix.1) (graph_at (prefix.1 ++ more)) _ _ (graph_stays more prefix.1) (λ graph h.
+    chained more (prefix_of Open (skip_space rest)) (prefix_of Known (skip_space (rest ++ more))) _ _ (spaced more (prefix_of Open) (prefix_of Known) (prefix_stays more) cut_prefix rest) (λ prefix e.
+    chained more (graph_of Open prefix.1) (graph_of Known (prefix.1 ++ more)) _ _ (graph_stays more prefix.1) (λ graph h.
     value more (row.Change (change.PrefixDelete prefix.0 graph.0)) graph.1))
 
-parts_stay : (more : List ℕ) (c : Code) (rest : List ℕ) → Keeps more (live_parts c rest) (parts_at c (rest ++ more))
-unfolding live_parts parts_at
+parts_stay : (more : List ℕ) (c : Code) (rest : List ℕ) → Keeps more (parts_of Open c rest) (parts_of Known c (rest ++ more))
+unfolding parts_of
 parts_stay more code.Header rest = header_stays more rest
 parts_stay more code.Begin rest = bare_stays more change.Begin rest
 parts_stay more code.Commit rest = bare_stays more change.Commit rest
@@ -598,17 +599,17 @@ parts_stay more code.Abort rest = bare_stays more change.Abort rest
 parts_stay more code.PrefixAdd rest = added_stays more rest
 parts_stay more code.PrefixDelete rest = removed_stays more rest
 parts_stay more code.Add rest =
-    chained more (live_quad rest) (quad_at (rest ++ more)) _ _ (quad_stays more rest) (λ q e. value more (row.Change (change.Add q.0)) q.1)
+    chained more (quad_of Open rest) (quad_of Known (rest ++ more)) _ _ (quad_stays more rest) (λ q e. value more (row.Change (change.Add q.0)) q.1)
 parts_stay more code.Delete rest =
-    chained more (live_quad rest) (quad_at (rest ++ more)) _ _ (quad_stays more rest) (λ q e. value more (row.Change (change.Delete q.0)) q.1)
+    chained more (quad_of Open rest) (quad_of Known (rest ++ more)) _ _ (quad_stays more rest) (λ q e. value more (row.Change (change.Delete q.0)) q.1)
 
-by_code_stays : (more : List ℕ) (o : Option Code) (start rest : List ℕ) → Keeps more (live_by_code o start rest) (by_code o (start ++ more) (rest ++ more))
+by_code_stays : (more : List ℕ) (o : Option Code) (start rest : List ℕ) → Keeps more (by_code Open o start rest) (by_code Known o (start ++ more) (rest ++ more))
 by_code_stays more (Some c) start rest = parts_stay more c rest
 by_code_stays more None start rest = fault more UnknownCode start
 
 -- a row that is read while its text may go on is read of every longer text, and so is its fault
 pub row_stays : (more rest : List ℕ) → Keeps more (live_row rest) (row_at (rest ++ more))
-unfolding live_row row_at
+unfolding row_of
 row_stays more rest =
     chained more (word_at rest) (word_at (rest ++ more)) _ _ (word_stays more rest) (λ word e. by_code_stays more (code_named word.0) rest word.1)
 

@@ -8,13 +8,12 @@ use Rattle.patch_rows.specs.declared.fault.RowKind.{RowKind}
 use Rattle.patch_rows.specs.declared.fault.RowKind.TheVariants.{Common, UnknownCode, WrongCount, TooLong}
 use Rattle.patch_rows.specs.declared.row.Row.{Row}
 use Rattle.patch_rows.specs.Fault.{Fault, Read}
-use Rattle.patch_rows.specs.Reading.{row_at}
+use Rattle.patch_rows.specs.Rows.{live_row, row_at}
 use Rattle.patch_rows.proofs.WholeRow.{exact_row}
-use Rattle.patch_reader.specs.Cut.{AtEnd, is_front, ends_text, ends_row}
+use Rattle.patch_rows.specs.Cut.{AtEnd, is_front, ends_text, ends_row}
 use Rattle.patch_rows.specs.Faults.{FaultDecided}
 use Rattle.patch_rows.specs.Grammar.{RowDecided}
 use Rattle.patch_reader.specs.Decided.{Undecided}
-use Rattle.patch_reader.specs.Live.{live_row}
 use Rattle.patch_reader.proofs.Completions.{stop, front_completed}
 use Rattle.patch_reader.proofs.Opens.{row_stop, Final, row_ends}
 use Rattle.patch_reader.proofs.RowShapes.{truncated_ends, ill_formed_stands}

@@ -14,7 +14,7 @@ use Rattle.nquads_text.specs.Reading.{char_at, digit_at, four_digits_at, eight_d
 use Rattle.nquads_text.specs.Terms.{iri_at}
 use Rattle.nquads_text.specs.Grammar.{echar}
 use lib.Utf8.{scalar}
-use Rattle.patch_reader.specs.Cut.{leads, is_front, ends_text, TextAtEnd}
+use Rattle.patch_rows.specs.Cut.{leads, is_front, ends_text, TextAtEnd}
 use Rattle.nquads_text.proofs.Fronts.{char_spelled, char_again}
 
 -- ---- one reading behind another

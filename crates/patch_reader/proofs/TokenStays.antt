@@ -24,7 +24,7 @@ use Rattle.nquads_text.proofs.Fronts.{char_spelled}
 use Rattle.nquads_text.proofs.NameRuns.{name-none}
 use Rattle.nquads_text.proofs.LabelLaws.{inner_taken}
 use Rattle.nquads_text.proofs.LiteralReads.{string_found}
-use Rattle.patch_reader.specs.Cut.{leads, is_front, ends_text, TextAtEnd, no_name_pair, no_name_begins, begins_name_char, label_open, ends_quoted, literal_open, blank_open}
+use Rattle.patch_rows.specs.Cut.{leads, is_front, ends_text, TextAtEnd, no_name_pair, no_name_begins, begins_name_char, label_open, ends_quoted, literal_open, blank_open}
 use Rattle.patch_rows.specs.Reading.{stands}
 use Rattle.patch_reader.proofs.Stays.{with_more, Stays, stays_then, stays_if, ok_stays, err_stays, char_stays, ok_char, bad_char, good_char, still_bad, rooms_same, string_body_stays, iri_stays}
 

@@ -22,7 +22,9 @@ use Rattle.patch_rows.specs.declared.row.Row.{Row}
 use Rattle.patch_rows.specs.Fault.{Fault, Read, ◌>>=◌, in_row}
 use Rattle.patch_rows.specs.Faults.{is_dot, RowFault}
 use Rattle.patch_rows.specs.Grammar.{is_word_byte, is_any, is_node}
-use Rattle.patch_rows.specs.Reading.{skip_space, stands, fault_or, other, begins_blank, whole_label, bracketed, bracket_at, row_term_at, needed_term_at, placed_at, run_of, key_at, past_colon, plain_of, plain_text, or_bad_position, quoted_at, prefix_at, iri_of_string, iri_of_term, prefix_iri_at, dot_at, end_at, graph_or_dot, graph_at, header_at, bare_at, quad_at, added_at, removed_at, parts_at, code_named, by_code, uncut, word_at, row_at}
+use Rattle.patch_rows.specs.Reading.{skip_space, stands, fault_or, other, begins_blank, whole_label, bracketed, bracket_at, row_term_at, needed_term_at, run_of, key_at, past_colon, plain_of, plain_text, or_bad_position, iri_of_string, iri_of_term, dot_at, end_at, code_named, uncut, word_at}
+use Rattle.patch_rows.specs.declared.cut.TextEnd.TheVariants.{Known}
+use Rattle.patch_rows.specs.Rows.{added_of, bare_at, by_code, graph_of, graph_or_dot_of, header_of, parts_of, placed_of, prefix_iri_of, prefix_of, quad_of, quoted_of, removed_of, row_at, row_of}
 use Rattle.patch_rows.proofs.WholeRow.{exact_row}
 
 abbrev Unlimited : {X : Type 0} → Result X Fault → Type 0
@@ -82,8 +84,8 @@ needed : (rest : List ℕ) → Unlimited (needed_term_at rest)
 unfolding needed_term_at
 needed rest = either (stands is_dot rest) (Err (WrongCount, rest)) _ count (row_term rest)
 
-placed : (fits : Term → Bool) (rest : List ℕ) → Unlimited (placed_at fits rest)
-unfolding placed_at
+placed : (fits : Term → Bool) (rest : List ℕ) → Unlimited (placed_of Known fits rest)
+unfolding placed_of
 placed fits rest = then (needed_term_at rest) _ (needed rest) (λ t. either (fits t.0) (Ok t) (Err (Common BadPosition, rest)) tt (common BadPosition))
 
 -- ---- keys and prefixes
@@ -97,12 +99,12 @@ position : (o : Option (List ℕ)) (start after : List ℕ) → Unlimited (or_ba
 position (Some text) start after = tt
 position None start after = common BadPosition
 
-quoted : (rest : List ℕ) → Unlimited (quoted_at rest)
-unfolding quoted_at
+quoted : (rest : List ℕ) → Unlimited (quoted_of Known rest)
+unfolding quoted_of
 quoted rest = then (needed_term_at rest) _ (needed rest) (λ t. position (plain_text t.0) rest t.1)
 
-prefix : (rest : List ℕ) → Unlimited (prefix_at rest)
-unfolding prefix_at
+prefix : (rest : List ℕ) → Unlimited (prefix_of Known rest)
+unfolding prefix_of
 prefix rest = either (stands (λ b. nat_eq b 58) rest) (Ok ([], drop 1 rest)) _ tt
     (either (stands is_ascii_alphabetic rest) (Ok (take (prefix_len is_word_byte rest) rest, past_colon (drop (prefix_len is_word_byte rest) rest))) _ tt
     (either (stands is_dot rest || stands begins_term rest) _ (Err (other (Common BadToken) rest)) (quoted rest) (other_fault (List ℕ × List ℕ) (Common BadToken) rest (common BadToken))))
@@ -118,8 +120,8 @@ term_iri start (term.Blank label) after = common BadPosition
 term_iri start (term.Literal literal) after = then (or_bad_position (plain_of literal.kind literal.lexical) start after) _ (position (plain_of literal.kind literal.lexical) start after)
     (λ string. string_iri start string.0 string.1)
 
-prefix_iri : (rest : List ℕ) → Unlimited (prefix_iri_at rest)
-unfolding prefix_iri_at
+prefix_iri : (rest : List ℕ) → Unlimited (prefix_iri_of Known rest)
+unfolding prefix_iri_of
 prefix_iri rest = then (needed_term_at rest) _ (needed rest) (λ t. term_iri rest t.0 t.1)
 
 -- ---- the ends of rows
@@ -132,49 +134,49 @@ dot missing rest differs = either (stands is_dot rest) (Ok (drop 1 rest)) _ tt
 end : (kind : TextKind) (rest : List ℕ) → Unlimited (end_at (Common kind) rest)
 end kind rest = dot (Common kind) (skip_space rest) (common kind)
 
-graph : (rest : List ℕ) → Unlimited (graph_or_dot rest)
-unfolding graph_or_dot
+graph : (rest : List ℕ) → Unlimited (graph_or_dot_of Known rest)
+unfolding graph_or_dot_of
 graph rest = either (stands begins_term rest) _ _
-    (then (placed_at is_node rest) _ (placed is_node rest) (λ g. then (end_at (Common MissingDot) g.1) _ (end MissingDot g.1) (λ after. tt)))
+    (then (placed_of Known is_node rest) _ (placed is_node rest) (λ g. then (end_at (Common MissingDot) g.1) _ (end MissingDot g.1) (λ after. tt)))
     (then (dot_at (Common MissingDot) rest) _ (dot (Common MissingDot) rest (common MissingDot)) (λ after. tt))
 
 -- ---- rows
 
-header : (rest : List ℕ) → Unlimited (header_at rest)
-unfolding header_at
-header rest = then (key_at (skip_space rest)) _ (key (skip_space rest)) (λ k. then (placed_at is_any (skip_space k.1)) _ (placed is_any (skip_space k.1))
+header : (rest : List ℕ) → Unlimited (header_of Known rest)
+unfolding header_of
+header rest = then (key_at (skip_space rest)) _ (key (skip_space rest)) (λ k. then (placed_of Known is_any (skip_space k.1)) _ (placed is_any (skip_space k.1))
     (λ v. then (end_at (Common MissingDot) v.1) _ (end MissingDot v.1) (λ after. tt)))
 
 bare : (c : Change) (rest : List ℕ) → Unlimited (bare_at c rest)
 unfolding bare_at
 bare c rest = then (end_at (Common BadToken) rest) _ (end BadToken rest) (λ after. tt)
 
-quad : (rest : List ℕ) → Unlimited (quad_at rest)
-unfolding quad_at
-quad rest = then (placed_at is_node (skip_space rest)) _ (placed is_node (skip_space rest)) (λ s. then (placed_at is_iri (skip_space s.1)) _ (placed is_iri (skip_space s.1))
-    (λ p. then (placed_at is_any (skip_space p.1)) _ (placed is_any (skip_space p.1)) (λ o. then (graph_at o.1) _ (graph (skip_space o.1)) (λ g. tt))))
+quad : (rest : List ℕ) → Unlimited (quad_of Known rest)
+unfolding quad_of
+quad rest = then (placed_of Known is_node (skip_space rest)) _ (placed is_node (skip_space rest)) (λ s. then (placed_of Known is_iri (skip_space s.1)) _ (placed is_iri (skip_space s.1))
+    (λ p. then (placed_of Known is_any (skip_space p.1)) _ (placed is_any (skip_space p.1)) (λ o. then (graph_of Known o.1) _ (graph (skip_space o.1)) (λ g. tt))))
 
-added : (rest : List ℕ) → Unlimited (added_at rest)
-unfolding added_at
-added rest = then (prefix_at (skip_space rest)) _ (prefix (skip_space rest)) (λ p. then (prefix_iri_at (skip_space p.1)) _ (prefix_iri (skip_space p.1))
-    (λ i. then (graph_at i.1) _ (graph (skip_space i.1)) (λ g. tt)))
+added : (rest : List ℕ) → Unlimited (added_of Known rest)
+unfolding added_of
+added rest = then (prefix_of Known (skip_space rest)) _ (prefix (skip_space rest)) (λ p. then (prefix_iri_of Known (skip_space p.1)) _ (prefix_iri (skip_space p.1))
+    (λ i. then (graph_of Known i.1) _ (graph (skip_space i.1)) (λ g. tt)))
 
-removed : (rest : List ℕ) → Unlimited (removed_at rest)
-unfolding removed_at
-removed rest = then (prefix_at (skip_space rest)) _ (prefix (skip_space rest)) (λ p. then (graph_at p.1) _ (graph (skip_space p.1)) (λ g. tt))
+removed : (rest : List ℕ) → Unlimited (removed_of Known rest)
+unfolding removed_of
+removed rest = then (prefix_of Known (skip_space rest)) _ (prefix (skip_space rest)) (λ p. then (graph_of Known p.1) _ (graph (skip_space p.1)) (λ g. tt))
 
-parts : (c : Code) (rest : List ℕ) → Unlimited (parts_at c rest)
-unfolding parts_at
+parts : (c : Code) (rest : List ℕ) → Unlimited (parts_of Known c rest)
+unfolding parts_of
 parts code.Header rest = header rest
 parts code.Begin rest = bare change.Begin rest
 parts code.Commit rest = bare change.Commit rest
 parts code.Abort rest = bare change.Abort rest
 parts code.PrefixAdd rest = added rest
 parts code.PrefixDelete rest = removed rest
-parts code.Add rest = then (quad_at rest) _ (quad rest) (λ q. tt)
-parts code.Delete rest = then (quad_at rest) _ (quad rest) (λ q. tt)
+parts code.Add rest = then (quad_of Known rest) _ (quad rest) (λ q. tt)
+parts code.Delete rest = then (quad_of Known rest) _ (quad rest) (λ q. tt)
 
-coded : (o : Option Code) (start rest : List ℕ) → Unlimited (by_code o start rest)
+coded : (o : Option Code) (start rest : List ℕ) → Unlimited (by_code Known o start rest)
 coded (Some c) start rest = parts c rest
 coded None start rest = unknown
 
@@ -186,7 +188,7 @@ unfolding word_at
 word rest = either (stands is_ascii_alphabetic rest) _ (Err (other (Common BadToken) rest)) (cut (run_of is_ascii_alphabetic rest)) (other_fault (List ℕ × List ℕ) (Common BadToken) rest (common BadToken))
 
 whole_row : (rest : List ℕ) → Unlimited (row_at rest)
-unfolding row_at
+unfolding row_of
 whole_row rest = then (word_at rest) _ (word rest) (λ w. coded (code_named w.0) rest w.1)
 
 -- so no fault of a row of any length is the limit's

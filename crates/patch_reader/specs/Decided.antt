@@ -6,8 +6,8 @@ use Rattle.patch_rows.specs.declared.fault.RowFault.TheVariants as faults
 use Rattle.patch_rows.specs.Fault.{Fault}
 use Rattle.patch_rows.specs.Faults.{FaultDecided, FirstFault}
 use Rattle.patch_rows.specs.Grammar.{RowDecided, ShortRowAt, IsRowAt}
-use Rattle.patch_reader.specs.declared.placed.TextEnd.{TextEnd}
-use Rattle.patch_reader.specs.declared.placed.TextEnd.TheVariants as ends
+use Rattle.patch_rows.specs.declared.cut.TextEnd.{TextEnd}
+use Rattle.patch_rows.specs.declared.cut.TextEnd.TheVariants as ends
 
 -- more text decides the row of any length
 abbrev pub Undecided : List ℕ → Type 0

@@ -9,7 +9,7 @@ use Rattle.nquads_text.specs.Terms.{name_len, tag_at, skip_blanks, typed_at, iri
 use Rattle.patch_rows.specs.Grammar.{is_word_byte}
 use Rattle.patch_reader.specs.declared.inside.Inside.{Inside}
 use Rattle.patch_reader.specs.declared.inside.Inside.TheVariants as inside
-use Rattle.patch_reader.specs.Cut.{ends_text, TextAtEnd, label_open}
+use Rattle.patch_rows.specs.Cut.{ends_text, TextAtEnd, label_open}
 
 -- behind the first character of a label: it may go on
 abbrev pub IsLabelOpen : List ℕ → Type 0

@@ -1,8 +1,6 @@
-pub mod Cut
 pub mod Decided
 pub mod Inside
 pub mod Limit
-pub mod Live
 pub mod Pieces
 pub mod Places
 pub mod Progress

@@ -4,9 +4,8 @@ use Rattle.patch_rows.specs.declared.fault.RowKind.TheVariants.{TooLong}
 use Rattle.patch_rows.specs.declared.row.Row.{Row}
 use Rattle.patch_rows.specs.Fault.{Read}
 use Rattle.patch_rows.specs.Grammar.{row_limit, row_front}
-use Rattle.patch_rows.specs.Reading.{row_at}
-use Rattle.patch_reader.specs.Cut.{ends_row}
-use Rattle.patch_reader.specs.Live.{live_row}
+use Rattle.patch_rows.specs.Rows.{live_row, row_at}
+use Rattle.patch_rows.specs.Cut.{ends_row}
 
 -- what is read of the front, as of the text that goes on with `tail`: an end of the front, or a row up to its last byte, is too long
 abbrev pub of_front : List ℕ → List ℕ → Read Row → Read Row

@@ -5,8 +5,8 @@ use Rattle.nquads_text.specs.Reading.{char_at}
 use Rattle.patch_rows.specs.declared.row.Row.{Row}
 use Rattle.patch_rows.specs.Reading.{space_behind, skip_space}
 use Rattle.patch_reader.specs.declared.placed.PlacedRow.{PlacedRow}
-use Rattle.patch_reader.specs.declared.placed.TextEnd.{TextEnd}
-use Rattle.patch_reader.specs.declared.placed.TextEnd.TheVariants as ends
+use Rattle.patch_rows.specs.declared.cut.TextEnd.{TextEnd}
+use Rattle.patch_rows.specs.declared.cut.TextEnd.TheVariants as ends
 use Rattle.patch_reader.specs.declared.pieces.PatchReader.{PatchReader}
 use Rattle.patch_reader.specs.declared.progress.Phase.{Phase}
 use Rattle.patch_reader.specs.declared.progress.Phase.TheVariants as phase

@@ -7,6 +7,8 @@ use Rattle.patch_rows.specs.declared.fault.RowKind.TheVariants.{Common}
 use Rattle.patch_rows.specs.Fault.{Fault, ◌>>=◌}
 use Rattle.patch_rows.specs.Grammar.{is_any, is_node}
 use Rattle.patch_rows.specs.Reading.{space_behind, skip_space, stands, dot_at}
+use Rattle.patch_rows.specs.declared.cut.TextEnd.TheVariants.{Open}
+use Rattle.patch_rows.specs.Rows.{live_row, open_key, placed_of, prefix_iri_of, prefix_of}
 use Rattle.patch_rows.specs.declared.codes.Code.{Code}
 use Rattle.patch_rows.specs.declared.codes.Code.TheVariants as code
 use Rattle.patch_reader.specs.declared.inside.Inside.{Inside}
@@ -18,9 +20,8 @@ use Rattle.patch_reader.specs.declared.progress.Place.TheVariants as place
 use Rattle.patch_reader.specs.declared.progress.Progress.{Progress}
 use Rattle.patch_reader.specs.declared.progress.Step.{Step}
 use Rattle.patch_reader.specs.declared.progress.Step.TheVariants as step
-use Rattle.patch_reader.specs.Cut.{AtEnd}
+use Rattle.patch_rows.specs.Cut.{AtEnd}
 use Rattle.patch_reader.specs.Inside.{OpenInside, IsInsideWithin}
-use Rattle.patch_reader.specs.Live.{live_placed, live_key, live_prefix, live_prefix_iri, live_row}
 
 -- ---- the rest of a row, of which only what stands behind it is given; white space and comments are behind us
 
@@ -32,32 +33,32 @@ end_from rest = dot_at (Common MissingDot) rest
 
 unfoldable pub graph_from : List ℕ → Rest
 graph_from rest =
-    if stands begins_term rest then (live_placed is_node rest >>= λ g. end_from (skip_space g.1))
+    if stands begins_term rest then (placed_of Open is_node rest >>= λ g. end_from (skip_space g.1))
     else end_from rest
 
 unfoldable pub object_from : List ℕ → Rest
-object_from rest = live_placed is_any rest >>= λ t. graph_from (skip_space t.1)
+object_from rest = placed_of Open is_any rest >>= λ t. graph_from (skip_space t.1)
 
 unfoldable pub predicate_from : List ℕ → Rest
-predicate_from rest = live_placed is_iri rest >>= λ t. object_from (skip_space t.1)
+predicate_from rest = placed_of Open is_iri rest >>= λ t. object_from (skip_space t.1)
 
 unfoldable pub subject_from : List ℕ → Rest
-subject_from rest = live_placed is_node rest >>= λ t. predicate_from (skip_space t.1)
+subject_from rest = placed_of Open is_node rest >>= λ t. predicate_from (skip_space t.1)
 
 unfoldable pub value_from : List ℕ → Rest
-value_from rest = live_placed is_any rest >>= λ v. end_from (skip_space v.1)
+value_from rest = placed_of Open is_any rest >>= λ v. end_from (skip_space v.1)
 
 unfoldable pub key_from : List ℕ → Rest
-key_from rest = live_key rest >>= λ k. value_from (skip_space k.1)
+key_from rest = open_key rest >>= λ k. value_from (skip_space k.1)
 
 unfoldable pub iri_from : List ℕ → Rest
-iri_from rest = live_prefix_iri rest >>= λ i. graph_from (skip_space i.1)
+iri_from rest = prefix_iri_of Open rest >>= λ i. graph_from (skip_space i.1)
 
 unfoldable pub added_from : List ℕ → Rest
-added_from rest = live_prefix rest >>= λ p. iri_from (skip_space p.1)
+added_from rest = prefix_of Open rest >>= λ p. iri_from (skip_space p.1)
 
 unfoldable pub removed_from : List ℕ → Rest
-removed_from rest = live_prefix rest >>= λ p. graph_from (skip_space p.1)
+removed_from rest = prefix_of Open rest >>= λ p. graph_from (skip_space p.1)
 
 -- from a part on
 abbrev pub rest_from : Part → List ℕ → Rest
@@ -75,16 +76,16 @@ rest_from part.End rest = end_from rest
 
 -- the part alone; a graph is one that is there
 abbrev pub part_at : Part → List ℕ → Rest
-part_at part.Key rest = live_key rest >>= λ k. Ok k.1
-part_at part.Value rest = live_placed is_any rest >>= λ t. Ok t.1
+part_at part.Key rest = open_key rest >>= λ k. Ok k.1
+part_at part.Value rest = placed_of Open is_any rest >>= λ t. Ok t.1
 part_at part.Bare rest = dot_at (Common BadToken) rest
-part_at part.Added rest = live_prefix rest >>= λ p. Ok p.1
-part_at part.Iri rest = live_prefix_iri rest >>= λ i. Ok i.1
-part_at part.Removed rest = live_prefix rest >>= λ p. Ok p.1
-part_at part.Subject rest = live_placed is_node rest >>= λ t. Ok t.1
-part_at part.Predicate rest = live_placed is_iri rest >>= λ t. Ok t.1
-part_at part.Object rest = live_placed is_any rest >>= λ t. Ok t.1
-part_at part.Graph rest = live_placed is_node rest >>= λ t. Ok t.1
+part_at part.Added rest = prefix_of Open rest >>= λ p. Ok p.1
+part_at part.Iri rest = prefix_iri_of Open rest >>= λ i. Ok i.1
+part_at part.Removed rest = prefix_of Open rest >>= λ p. Ok p.1
+part_at part.Subject rest = placed_of Open is_node rest >>= λ t. Ok t.1
+part_at part.Predicate rest = placed_of Open is_iri rest >>= λ t. Ok t.1
+part_at part.Object rest = placed_of Open is_any rest >>= λ t. Ok t.1
+part_at part.Graph rest = placed_of Open is_node rest >>= λ t. Ok t.1
 part_at part.End rest = end_from rest
 
 -- the part behind it; none behind the row's dot

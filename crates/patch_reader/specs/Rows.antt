@@ -6,8 +6,8 @@ use Rattle.patch_rows.specs.declared.fault.RowKind.{RowKind}
 use Rattle.patch_rows.specs.Faults.{FirstFault}
 use Rattle.patch_rows.specs.Grammar.{Space, IsRowAt}
 use Rattle.patch_reader.specs.declared.placed.PlacedRow.{PlacedRow}
-use Rattle.patch_reader.specs.declared.placed.TextEnd.{TextEnd}
-use Rattle.patch_reader.specs.declared.placed.TextEnd.TheVariants as ends
+use Rattle.patch_rows.specs.declared.cut.TextEnd.{TextEnd}
+use Rattle.patch_rows.specs.declared.cut.TextEnd.TheVariants as ends
 
 -- ---- of a whole text
 

@@ -5,10 +5,9 @@ ghost use Rattle.rdf_terms.specs.Names.{is_name_char as in_name};
 ghost use Rattle.patch_reader.specs.Inside.{OpenInside, IsInsideWithin, IsFurther};
 ghost use Rattle.patch_reader.specs.declared.inside.Inside.TheVariants as inside;
 
-use crate::cut::{ends, is_cut_at, is_name_at};
 use nquads_text::{ReadFault, char_at, iri_piece, is_tag_byte, skip_blanks, string_piece};
 use patch_rows::RowKind;
-use patch_rows::tokens::{letters_end, word_end};
+use patch_rows::parts::{ends, is_cut_at, is_name_at, letters_end, word_end};
 use rdf_terms::is_name_char;
 
 /// What is known of a token: it goes on up to a mark.

@@ -5,11 +5,10 @@ ghost use Rattle.patch_rows.specs.declared.row.Row.{Row};
 ghost use Rattle.patch_rows.specs.Fault.{Fault};
 ghost use Rattle.patch_rows.specs.Faults.{FaultDecided, FirstFault};
 ghost use Rattle.patch_rows.specs.Grammar.{RowDecided, ShortRowAt};
-ghost use Rattle.patch_rows.specs.Reading.{row_at};
-ghost use Rattle.patch_reader.specs.Cut.{ends_row};
+ghost use Rattle.patch_rows.specs.Rows.{live_row, row_at};
+ghost use Rattle.patch_rows.specs.Cut.{ends_row};
 ghost use Rattle.patch_reader.specs.Decided.{Undecided};
 ghost use Rattle.patch_reader.specs.Limit.{limited_row_at};
-ghost use Rattle.patch_reader.specs.Live.{live_row};
 
 /// What is read of a row whose text may go on is decided, unless the text's end was met; then nothing is decided.
 pub fn rows_are_decided()

@@ -1,14 +1,13 @@
 //! Rows of a patch from a stream that comes in any pieces: what is decided before the end of the text is known.
 //!
 //! `decided_row` answers the row at a place of a text that may go on, as far as the text decides it (`specs/Decided.antt`).
-//! `specs/Live.antt` is how it reads: what more text may change counts as cut by the text's end. The functions of `laws` do
+//! What more text may change counts as cut by the text's end (`specs/Rows.antt` of `patch_rows`). The functions of `laws` do
 //! nothing: their contracts say that what is read so is decided, and that nothing else is.
 //!
 //! `PatchReader` takes the text in pieces and gives its rows with their places (`specs/Pieces.antt`, `specs/Rows.antt`);
 //! `specs/Progress.antt` is what it knows of an unfinished row. `read_row` reads a row within its limit in a whole text.
 #![tactic(auto)]
 
-mod cut;
 mod inside;
 mod laws;
 mod next;
@@ -16,9 +15,6 @@ mod pieces;
 mod placed;
 mod progress;
 mod reading;
-mod rows;
-mod terms;
-mod words;
 
 pub use laws::{rows_are_decided, rows_are_read_within_their_limit, rows_are_settled, rows_stay};
 pub use pieces::PatchReader;

@@ -7,9 +7,9 @@ ghost use Rattle.patch_reader.specs.Decided.{Reads, GivesRow};
 ghost use Rattle.patch_reader.specs.Places.{moved_fault, placed_row};
 ghost use Rattle.patch_reader.specs.Rows.{GivesNext, TakesNext, Adds, Stops, Keeps};
 
-use crate::placed::{PlacedRow, TextEnd};
+use crate::placed::PlacedRow;
 use crate::reading::{decided_row, read_row};
-use patch_rows::{Row, RowFault, skip_space};
+use patch_rows::{Row, RowFault, TextEnd, skip_space};
 use std::alloc::Global;
 use std::collections::VecDeque;
 

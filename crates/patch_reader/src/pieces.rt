@@ -4,21 +4,21 @@ ghost use Rattle.std.specs.Prelude.{◌≡◌, ◌≤◌, ◌<◌, ◌^◌, ◌+
 ghost use Rattle.patch_rows.specs.declared.fault.RowFault.{RowFault as Answer};
 ghost use Rattle.patch_rows.specs.Grammar.{row_limit};
 ghost use Rattle.patch_reader.specs.declared.placed.PlacedRow.{PlacedRow as Placed};
-ghost use Rattle.patch_reader.specs.declared.placed.TextEnd.{TextEnd as End};
-ghost use Rattle.patch_reader.specs.declared.placed.TextEnd.TheVariants as ends;
+ghost use Rattle.patch_rows.specs.declared.cut.TextEnd.{TextEnd as End};
+ghost use Rattle.patch_rows.specs.declared.cut.TextEnd.TheVariants as ends;
 ghost use Rattle.patch_reader.specs.declared.progress.Phase.TheVariants as phases;
-ghost use Rattle.patch_reader.specs.Cut.{is_cut};
+ghost use Rattle.patch_rows.specs.Cut.{is_cut};
 ghost use Rattle.patch_reader.specs.Pieces.{IsHeld, IsStuck, IsSameGap, Stands, Takes, TakesRow};
 ghost use Rattle.patch_reader.specs.Places.{further_place};
 ghost use Rattle.patch_reader.specs.Progress.{IsUnfinished, Follows};
 ghost use Rattle.patch_reader.specs.Rows.{Adds, Stops, NothingDecided};
 
-use crate::cut::is_cut_at;
 use crate::next::take_rows;
-use crate::placed::{PlacedRow, TextEnd};
+use crate::placed::PlacedRow;
 use crate::progress::{Phase, Progress, at_row, follow, is_past_gap, is_within, pass_gap};
 use crate::reading::ROW_LIMIT;
-use patch_rows::{Row, RowFault};
+use patch_rows::parts::is_cut_at;
+use patch_rows::{Row, RowFault, TextEnd};
 use std::alloc::Global;
 use std::collections::VecDeque;
 

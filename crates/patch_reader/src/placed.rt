@@ -9,10 +9,3 @@ pub struct PlacedRow {
     pub at: u64,
     pub end: u64,
 }
-
-/// Whether the end of a text is known, or more may follow.
-#[derive(Clone, Copy)]
-pub enum TextEnd {
-    Open,
-    Known,
-}

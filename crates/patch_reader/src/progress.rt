@@ -11,13 +11,13 @@ ghost use Rattle.patch_reader.specs.Progress.{part_at, part_behind as part_behin
 ghost use Rattle.patch_reader.specs.declared.progress.Part.TheVariants as parts;
 ghost use Rattle.patch_reader.specs.declared.progress.Place.TheVariants as place;
 
-use crate::cut::{ends, is_cut_at};
 use crate::inside::{Inside, is_inside_within, is_open, pass};
-use crate::terms::{any, iri, node};
-use crate::words::{key, prefix, prefix_iri};
 use nquads_text::{TextKind, char_at};
-use patch_rows::tokens::{Code, dot, find_code, is_at, is_letter_at, is_term_at, word};
-use patch_rows::{RowFault, RowKind, is_line_end, is_space};
+use patch_rows::parts::{
+    Code, any, dot, ends, find_code, iri, is_at, is_cut_at, is_letter_at, is_term_at, key, node,
+    prefix, prefix_iri, word,
+};
+use patch_rows::{RowFault, RowKind, TextEnd, is_line_end, is_space};
 use rdf_terms::begins_name;
 use std::alloc::Global;
 
@@ -249,12 +249,12 @@ fn read_part(alloc: Global, text: &[u8], part: Part, start: usize) -> Result<usi
     ensures { Ends text.now result (part_at part (drop start text.now)) }
 {
     match part {
-        Part::Key => Ok(key(alloc, text, start)?.1),
-        Part::Value | Part::Object => Ok(any(alloc, text, start)?.1),
-        Part::Subject | Part::Graph => Ok(node(alloc, text, start)?.1),
-        Part::Predicate => Ok(iri(alloc, text, start)?.1),
-        Part::Added | Part::Removed => Ok(prefix(alloc, text, start)?.1),
-        Part::Iri => Ok(prefix_iri(alloc, text, start)?.1),
+        Part::Key => Ok(key(alloc, text, start, TextEnd::Open)?.1),
+        Part::Value | Part::Object => Ok(any(alloc, text, start, TextEnd::Open)?.1),
+        Part::Subject | Part::Graph => Ok(node(alloc, text, start, TextEnd::Open)?.1),
+        Part::Predicate => Ok(iri(alloc, text, start, TextEnd::Open)?.1),
+        Part::Added | Part::Removed => Ok(prefix(alloc, text, start, TextEnd::Open)?.1),
+        Part::Iri => Ok(prefix_iri(alloc, text, start, TextEnd::Open)?.1),
         Part::Bare => dot(text, start, RowKind::Common(TextKind::BadToken)),
         Part::End => dot(text, start, RowKind::Common(TextKind::MissingDot)),
     }

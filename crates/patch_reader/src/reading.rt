@@ -9,9 +9,8 @@ ghost use Rattle.patch_rows.specs.Grammar.{begins_space, IsRowAt, row_limit};
 ghost use Rattle.patch_reader.specs.Decided.{Decides};
 ghost use Rattle.patch_reader.specs.Limit.{front_row_at, limited_row_at};
 
-use crate::cut::ends;
-use crate::rows::row;
-use patch_rows::{Row, RowFault, RowKind, unlimited_row};
+use patch_rows::parts::ends;
+use patch_rows::{Row, RowFault, RowKind, TextEnd, row_of, unlimited_row};
 use std::alloc::Global;
 
 /// The bytes that a row may have.
@@ -43,7 +42,7 @@ fn front_row(alloc: Global, text: &[u8], at: usize) -> Result<(Row, usize), RowF
     ensures { Gives text.now result (front_row_at (drop at text.now)) }
 {
     let front = front_of(text, at);
-    match row(alloc, front, at) {
+    match row_of(alloc, front, at, TextEnd::Open) {
         Ok((row, end)) => {
             if end == front.len() {
                 drop(row);
@@ -84,7 +83,7 @@ pub fn decided_row(alloc: Global, text: &[u8], at: usize) -> Result<Option<(Row,
     if is_long(text, at) {
         return long_row(alloc, text, at);
     }
-    match row(alloc, text, at) {
+    match row_of(alloc, text, at, TextEnd::Open) {
         Ok(found) => Ok(Some(found)),
         Err(RowFault::At { at: place, kind }) => {
             if ends(text, place as usize, kind) {

@@ -17,7 +17,9 @@ use Rattle.patch_rows.specs.declared.fault.RowKind.TheVariants.{Common, WrongCou
 use Rattle.patch_rows.specs.Fault.{Fault}
 use Rattle.patch_rows.specs.Grammar.{RowTerm, Placed, EndAt}
 use Rattle.patch_rows.specs.Faults.{is_dot, Lacks, RowTermFault, DotFault, PlacedFault, NoDot, EndFault}
-use Rattle.patch_rows.specs.Reading.{stands, fault_or, other, placed_at, dot_at, end_at, skip_space}
+use Rattle.patch_rows.specs.Reading.{stands, fault_or, other, dot_at, end_at, skip_space}
+use Rattle.patch_rows.specs.declared.cut.TextEnd.TheVariants.{Known}
+use Rattle.patch_rows.specs.Rows.{placed_of}
 use Rattle.patch_rows.proofs.SpaceLaws.{exact_behind}
 use Rattle.patch_rows.proofs.Exact.{Exact, exact_ok, exact_err, restated, chained, choice}
 use Rattle.patch_rows.proofs.TermLaws.{exact_needed, starts, started}
@@ -100,8 +102,8 @@ placed_shape fits text f (PlacedFault.dot d) = inl (inl d)
 placed_shape fits text f (PlacedFault.term none t) = inl (inr (none, t))
 placed_shape fits text f (PlacedFault.position t after is bad e) = inr ((t, after), is, inr (bad, e))
 
-pub exact_placed : (fits : Term → Bool) (text : List ℕ) → Exact (placed_at fits text) (λ x. Placed fits text x.0 x.1) (λ f. PlacedFault fits text f)
-unfolding placed_at
+pub exact_placed : (fits : Term → Bool) (text : List ℕ) → Exact (placed_of Known fits text) (λ x. Placed fits text x.0 x.1) (λ f. PlacedFault fits text f)
+unfolding placed_of
 exact_placed fits text =
     restated
     (chained (exact_needed text) (λ t. choice (fits t.0) (λ yes. exact_ok t) (λ other. exact_err (Term × List ℕ) (Common BadPosition, text))))

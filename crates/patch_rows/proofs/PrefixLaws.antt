@@ -17,7 +17,9 @@ use Rattle.patch_rows.specs.declared.fault.RowKind.TheVariants.{Common}
 use Rattle.patch_rows.specs.Fault.{Fault}
 use Rattle.patch_rows.specs.Grammar.{is_word_byte, IsKey, RowTerm, plain, PrefixAt, PrefixIriAt}
 use Rattle.patch_rows.specs.Faults.{is_dot, Lacks, RowTermFault, DotFault, PrefixFault, PrefixIriFault}
-use Rattle.patch_rows.specs.Reading.{stands, past_colon, plain_of, plain_text, or_bad_position, quoted_at, prefix_at, iri_of_string, iri_of_term, prefix_iri_at}
+use Rattle.patch_rows.specs.Reading.{stands, past_colon, plain_of, plain_text, or_bad_position, iri_of_string, iri_of_term}
+use Rattle.patch_rows.specs.declared.cut.TextEnd.TheVariants.{Known}
+use Rattle.patch_rows.specs.Rows.{quoted_of, prefix_of, prefix_iri_of}
 use Rattle.patch_rows.proofs.Exact.{Exact, exact_ok, exact_err, exact_of, restated, chained, choice}
 use Rattle.patch_rows.proofs.TermLaws.{exact_needed, starts, started}
 use Rattle.patch_rows.proofs.PartLaws.{or_none, none_or, apart, byte_there, exact_other, lacks_stands, term_no_dot}
@@ -108,8 +110,8 @@ NeededFault text f = DotFault text f ⊎ ((StartsWith is_dot text → ⊥) × Ro
 abbrev QuotedFault : List ℕ → Fault → Type 0
 QuotedFault text f = NeededFault text f ⊎ ((x : Term × List ℕ) × RowTerm text x.0 x.1 × (NotPlain x.0 × (f ≡ (Common BadPosition, text))))
 
-exact_quoted : (text : List ℕ) → Exact (quoted_at text) (λ x. RowTerm text (plain x.0) x.1) (λ f. QuotedFault text f)
-unfolding quoted_at
+exact_quoted : (text : List ℕ) → Exact (quoted_of Known text) (λ x. RowTerm text (plain x.0) x.1) (λ f. QuotedFault text f)
+unfolding quoted_of
 exact_quoted text =
     restated (chained (exact_needed text) (λ t. exact_plain_text text t.1 t.0 (shape t.0)))
     (λ x t. subst (λ (v : Term). RowTerm text v x.1) t.2.0 (subst (λ (s : List ℕ). RowTerm text t.0.0 s) (sym t.2.1) t.1))
@@ -225,12 +227,12 @@ abbrev PrefixShape : List ℕ → List ℕ × List ℕ → Type 0
 PrefixShape text x = ((stands colon text ≡ true) × (x ≡ pair [] (drop 1 text))) ⊎ ((stands colon text ≡ false) × (((stands letter text ≡ true) × (x ≡ pair (word_of text) (behind_word text)))
     ⊎ ((stands letter text ≡ false) × (((dot_or_term text ≡ true) × RowTerm text (plain x.0) x.1) ⊎ ((dot_or_term text ≡ false) × ⊥)))))
 
-prefix_of : (text : List ℕ) (x : List ℕ × List ℕ) → PrefixShape text x → PrefixAt text x.0 x.1
-prefix_of text x (inl a) = PrefixAt.colon (byte_there 58 text a.0 ∙ ap (λ (v : List ℕ × List ℕ). 58 ∷ v.1) (sym a.1)) (ap (λ (v : List ℕ × List ℕ). v.0) a.1)
-prefix_of text x (inr (_, inl b)) =
+prefix_found : (text : List ℕ) (x : List ℕ × List ℕ) → PrefixShape text x → PrefixAt text x.0 x.1
+prefix_found text x (inl a) = PrefixAt.colon (byte_there 58 text a.0 ∙ ap (λ (v : List ℕ × List ℕ). 58 ∷ v.1) (sym a.1)) (ap (λ (v : List ℕ × List ℕ). v.0) a.1)
+prefix_found text x (inr (_, inl b)) =
     subst (λ (v : List ℕ × List ℕ). PrefixAt text v.0 v.1) (sym b.1) (word_prefix text (word_of text) (drop (prefix_len is_word_byte text) text) (key_there text b.0))
-prefix_of text x (inr (_, inr (_, inl c))) = PrefixAt.string c.1
-prefix_of text x (inr (_, inr (_, inr d))) = absurd d.1
+prefix_found text x (inr (_, inr (_, inl c))) = PrefixAt.string c.1
+prefix_found text x (inr (_, inr (_, inr d))) = absurd d.1
 
 at_word : (text : List ℕ) (x : List ℕ × List ℕ) → stands letter text ≡ true → x ≡ pair (word_of text) (behind_word text) → PrefixShape text x
 at_word text x e same = inr (apart letter colon text letter_no_colon e, inl (e, same))
@@ -246,8 +248,8 @@ shape_of_prefix text x (PrefixAt.word_colon k) =
 shape_of_prefix text x (PrefixAt.colon shape none) =
     inl (ap (stands colon) shape, ap (λ (a : List ℕ). pair a x.1) none ∙ ap (λ (s : List ℕ). pair [] (drop 1 s)) (sym shape))
 
-pub exact_prefix : (text : List ℕ) → Exact (prefix_at text) (λ x. PrefixAt text x.0 x.1) (λ f. PrefixFault text f)
-unfolding prefix_at
+pub exact_prefix : (text : List ℕ) → Exact (prefix_of Known text) (λ x. PrefixAt text x.0 x.1) (λ f. PrefixFault text f)
+unfolding prefix_of
 exact_prefix text =
     restated
     (choice (stands colon text) (λ a. exact_ok (pair [] (drop 1 text)))
@@ -255,7 +257,7 @@ exact_prefix text =
     (λ no_letter. choice (dot_or_term text) (λ c. exact_quoted text)
     (λ none. let n = either_none (stands is_dot text) (stands begins_term text) none in
     exact_other opens opens_low text (List ℕ × List ℕ) (Common BadToken) (none_opens text no_colon no_letter n.0 n.1)))))
-    (λ x t. prefix_of text x t)
+    (λ x t. prefix_found text x t)
     (λ x t. shape_of_prefix text x t)
     (λ f t. prefix_fault text f t)
     (λ f t. prefix_shape text f t)
@@ -371,8 +373,8 @@ prefix_iri_shape text f (PrefixIriFault.position t after is no_iri none e) = inr
 prefix_iri_shape text f (PrefixIriFault.forbidden s after is none e) = inr ((plain s, after), is, inr (s, refl, inl (none, e)))
 prefix_iri_shape text f (PrefixIriFault.relative s after is all none e) = inr ((plain s, after), is, inr (s, refl, inr (all, none, e)))
 
-prefix_iri_of : (text : List ℕ) (x : List ℕ × List ℕ) (y : Term × List ℕ) → RowTerm text y.0 y.1 → IriRead text y.1 y.0 x → PrefixIriAt text x.0 x.1
-prefix_iri_of text x y is r =
+prefix_iri_found : (text : List ℕ) (x : List ℕ × List ℕ) (y : Term × List ℕ) → RowTerm text y.0 y.1 → IriRead text y.1 y.0 x → PrefixIriAt text x.0 x.1
+prefix_iri_found text x y is r =
     let there : RowTerm text y.0 x.1 = subst (λ (s : List ℕ). RowTerm text y.0 s) (sym r.1) is in
     ⊎_elim
     (λ e. PrefixIriAt.reference (subst (λ (t : Term). RowTerm text t x.1) e there))
@@ -383,11 +385,11 @@ shape_of_iri : (text : List ℕ) (x : List ℕ × List ℕ) → PrefixIriAt text
 shape_of_iri text x (PrefixIriAt.reference r) = ((term.Iri x.0, x.1), r, (inl refl, refl))
 shape_of_iri text x (PrefixIriAt.string r is) = ((plain x.0, x.1), r, (inr (refl, is), refl))
 
-pub exact_prefix_iri : (text : List ℕ) → Exact (prefix_iri_at text) (λ x. PrefixIriAt text x.0 x.1) (λ f. PrefixIriFault text f)
-unfolding prefix_iri_at
+pub exact_prefix_iri : (text : List ℕ) → Exact (prefix_iri_of Known text) (λ x. PrefixIriAt text x.0 x.1) (λ f. PrefixIriFault text f)
+unfolding prefix_iri_of
 exact_prefix_iri text =
     restated (chained (exact_needed text) (λ t. exact_iri_of text t.1 t.0 (shape t.0)))
-    (λ x t. prefix_iri_of text x t.0 t.1 t.2)
+    (λ x t. prefix_iri_found text x t.0 t.1 t.2)
     (λ x t. shape_of_iri text x t)
     (λ f t. prefix_iri_fault text f t)
     (λ f t. prefix_iri_shape text f t)

@@ -16,7 +16,9 @@ use Rattle.patch_rows.specs.declared.row.Row.TheVariants as row
 use Rattle.patch_rows.specs.Fault.{Fault}
 use Rattle.patch_rows.specs.Grammar.{Space, Spaced, KeyAt, Placed, is_any, is_node, PrefixAt, PrefixIriAt, EndAt, GraphAt, QuadAt, code_of_change, code_of, PartsAt}
 use Rattle.patch_rows.specs.Faults.{SpacedFault, KeyFault, PlacedFault, PrefixFault, PrefixIriFault, NoDot, EndFault, GraphFault, HeaderFault, QuadFault, AddedFault, RemovedFault, PartsFault}
-use Rattle.patch_rows.specs.Reading.{stands, skip_space, placed_at, key_at, prefix_at, prefix_iri_at, graph_or_dot, graph_at, header_at, bare_at, quad_at, added_at, removed_at, parts_at}
+use Rattle.patch_rows.specs.Reading.{stands, skip_space, key_at}
+use Rattle.patch_rows.specs.declared.cut.TextEnd.TheVariants.{Known}
+use Rattle.patch_rows.specs.Rows.{placed_of, prefix_of, prefix_iri_of, graph_or_dot_of, graph_of, header_of, quad_of, added_of, removed_of, parts_of, bare_at}
 use Rattle.patch_rows.proofs.Exact.{Exact, exact_ok, restated, chained, choice}
 use Rattle.patch_rows.proofs.SpaceLaws.{exact_behind}
 use Rattle.patch_rows.proofs.TermLaws.{starts, started}
@@ -29,14 +31,14 @@ use Rattle.patch_rows.proofs.PrefixLaws.{exact_prefix, exact_prefix_iri, term_be
 spaced_key : (text : List ℕ) → Exact (key_at (skip_space text)) (λ x. Spaced KeyAt text x.0 x.1) (λ f. SpacedFault KeyFault text f)
 spaced_key text = exact_behind key_at (λ from x. KeyAt from x.0 x.1) (λ from f. KeyFault from f) text (exact_key (skip_space text))
 
-spaced_term : (fits : Term → Bool) (text : List ℕ) → Exact (placed_at fits (skip_space text)) (λ x. Spaced (Placed fits) text x.0 x.1) (λ f. SpacedFault (PlacedFault fits) text f)
-spaced_term fits text = exact_behind (placed_at fits) (λ from x. Placed fits from x.0 x.1) (λ from f. PlacedFault fits from f) text (exact_placed fits (skip_space text))
+spaced_term : (fits : Term → Bool) (text : List ℕ) → Exact (placed_of Known fits (skip_space text)) (λ x. Spaced (Placed fits) text x.0 x.1) (λ f. SpacedFault (PlacedFault fits) text f)
+spaced_term fits text = exact_behind (placed_of Known fits) (λ from x. Placed fits from x.0 x.1) (λ from f. PlacedFault fits from f) text (exact_placed fits (skip_space text))
 
-spaced_prefix : (text : List ℕ) → Exact (prefix_at (skip_space text)) (λ x. Spaced PrefixAt text x.0 x.1) (λ f. SpacedFault PrefixFault text f)
-spaced_prefix text = exact_behind prefix_at (λ from x. PrefixAt from x.0 x.1) (λ from f. PrefixFault from f) text (exact_prefix (skip_space text))
+spaced_prefix : (text : List ℕ) → Exact (prefix_of Known (skip_space text)) (λ x. Spaced PrefixAt text x.0 x.1) (λ f. SpacedFault PrefixFault text f)
+spaced_prefix text = exact_behind (prefix_of Known) (λ from x. PrefixAt from x.0 x.1) (λ from f. PrefixFault from f) text (exact_prefix (skip_space text))
 
-spaced_iri : (text : List ℕ) → Exact (prefix_iri_at (skip_space text)) (λ x. Spaced PrefixIriAt text x.0 x.1) (λ f. SpacedFault PrefixIriFault text f)
-spaced_iri text = exact_behind prefix_iri_at (λ from x. PrefixIriAt from x.0 x.1) (λ from f. PrefixIriFault from f) text (exact_prefix_iri (skip_space text))
+spaced_iri : (text : List ℕ) → Exact (prefix_iri_of Known (skip_space text)) (λ x. Spaced PrefixIriAt text x.0 x.1) (λ f. SpacedFault PrefixIriFault text f)
+spaced_iri text = exact_behind (prefix_iri_of Known) (λ from x. PrefixIriAt from x.0 x.1) (λ from f. PrefixIriFault from f) text (exact_prefix_iri (skip_space text))
 
 -- ---- graphs
 
@@ -56,15 +58,15 @@ abbrev GraphFaultHere : List ℕ → Fault → Type 0
 GraphFaultHere from f = ((stands begins_term from ≡ true) × (PlacedFault is_node from f ⊎ ((g : Term × List ℕ) × Placed is_node from g.0 g.1 × (EndFault (Common MissingDot) g.1 f ⊎ ((after : List ℕ) × EndAt g.1 after × ⊥)))))
     ⊎ ((stands begins_term from ≡ false) × (NoDot (Common MissingDot) from f ⊎ ((after : List ℕ) × (from ≡ 46 ∷ after) × ⊥)))
 
-exact_graph_here : (from : List ℕ) → Exact (graph_or_dot from) (λ x. GraphHere from x) (λ f. GraphFaultHere from f)
-unfolding graph_or_dot
+exact_graph_here : (from : List ℕ) → Exact (graph_or_dot_of Known from) (λ x. GraphHere from x) (λ f. GraphFaultHere from f)
+unfolding graph_or_dot_of
 exact_graph_here from =
     choice (stands begins_term from)
     (λ some. chained (exact_placed is_node from) (λ g. chained (exact_end (Common MissingDot) g.1) (λ after. exact_ok (graph_and (Some g.0) after))))
     (λ none. chained (exact_dot (Common MissingDot) from) (λ after. exact_ok (graph_and None after)))
 
-graph_of : (text : List ℕ) (x : Option Term × List ℕ) → (from : List ℕ) × Space text from × GraphHere from x → GraphAt text x.0 x.1
-graph_of text x t =
+graph_found : (text : List ℕ) (x : Option Term × List ℕ) → (from : List ℕ) × Space text from × GraphHere from x → GraphAt text x.0 x.1
+graph_found text x t =
     ⊎_elim
     (λ some.
     let g = some.1 in
@@ -97,10 +99,10 @@ graph_fault_parts text f (GraphFault.graph from s begins bad) = (from, s, inl (s
 graph_fault_parts text f (GraphFault.end g behind is bad) = (is.0, is.1, inl (term_begins is.0 g behind is.2.0, inr ((g, behind), is.2, inl bad)))
 graph_fault_parts text f (GraphFault.none from s begins bad) = (from, s, inr (not_started from (stands begins_term from) refl begins, inl bad))
 
-exact_graph : (text : List ℕ) → Exact (graph_at text) (λ x. GraphAt text x.0 x.1) (λ f. GraphFault text f)
+exact_graph : (text : List ℕ) → Exact (graph_of Known text) (λ x. GraphAt text x.0 x.1) (λ f. GraphFault text f)
 exact_graph text =
-    restated (exact_behind graph_or_dot (λ from x. GraphHere from x) (λ from f. GraphFaultHere from f) text (exact_graph_here (skip_space text)))
-    (λ x t. graph_of text x t)
+    restated (exact_behind (graph_or_dot_of Known) (λ from x. GraphHere from x) (λ from f. GraphFaultHere from f) text (exact_graph_here (skip_space text)))
+    (λ x t. graph_found text x t)
     (λ x t. graph_parts text x.0 x.1 t)
     (λ f t. graph_fault text f t)
     (λ f t. graph_fault_parts text f t)
@@ -146,8 +148,8 @@ header_fault_shape text f (HeaderFault.key bad) = inl bad
 header_fault_shape text f (HeaderFault.value key k is bad) = inr ((key, k), is, inl bad)
 header_fault_shape text f (HeaderFault.end key k t v is there bad) = inr ((key, k), is, inr ((t, v), there, inl bad))
 
-exact_header : (text : List ℕ) → Exact (header_at text) (RowFor code.Header text) (λ f. HeaderFault text f)
-unfolding header_at
+exact_header : (text : List ℕ) → Exact (header_of Known text) (RowFor code.Header text) (λ f. HeaderFault text f)
+unfolding header_of
 exact_header text =
     restated
     (chained (spaced_key text) (λ k. chained (spaced_term is_any k.1) (λ v. chained (exact_end (Common MissingDot) v.1) (λ after. exact_ok (row_and (row.Header k.0 v.0) after)))))
@@ -207,8 +209,8 @@ quad_fault_shape text f (QuadFault.predicate s b x bad) = inr ((s, b), x, inl ba
 quad_fault_shape text f (QuadFault.object s p b d x y bad) = inr ((s, b), x, inr ((p, d), y, inl bad))
 quad_fault_shape text f (QuadFault.graph s p o b d e x y z bad) = inr ((s, b), x, inr ((p, d), y, inr ((o, e), z, inl bad)))
 
-exact_quad : (text : List ℕ) → Exact (quad_at text) (λ x. QuadAt text x.0 x.1) (λ f. QuadFault text f)
-unfolding quad_at
+exact_quad : (text : List ℕ) → Exact (quad_of Known text) (λ x. QuadAt text x.0 x.1) (λ f. QuadFault text f)
+unfolding quad_of
 exact_quad text =
     restated
     (chained (spaced_term is_node text) (λ s. chained (spaced_term is_iri s.1) (λ p. chained (spaced_term is_any p.1)
@@ -256,8 +258,8 @@ added_parts : (text : List ℕ) (r : Row) (after : List ℕ) → code_of r ≡ c
 added_parts text (row.Change (change.PrefixAdd prefix iri graph)) after e p = ((prefix, p.0), p.2, ((iri, p.1), p.3, ((graph, after), p.4, refl)))
 added_parts text r after e p = absurd cc
 
-exact_added : (text : List ℕ) → Exact (added_at text) (RowFor code.PrefixAdd text) (λ f. AddedFault text f)
-unfolding added_at
+exact_added : (text : List ℕ) → Exact (added_of Known text) (RowFor code.PrefixAdd text) (λ f. AddedFault text f)
+unfolding added_of
 exact_added text =
     restated
     (chained (spaced_prefix text) (λ p. chained (spaced_iri p.1) (λ i. chained (exact_graph i.1) (λ g. exact_ok (row_and (row.Change (change.PrefixAdd p.0 i.0 g.0)) g.1)))))
@@ -285,8 +287,8 @@ removed_parts : (text : List ℕ) (r : Row) (after : List ℕ) → code_of r ≡
 removed_parts text (row.Change (change.PrefixDelete prefix graph)) after e p = ((prefix, p.0), p.1, ((graph, after), p.2, refl))
 removed_parts text r after e p = absurd cc
 
-exact_removed : (text : List ℕ) → Exact (removed_at text) (RowFor code.PrefixDelete text) (λ f. RemovedFault text f)
-unfolding removed_at
+exact_removed : (text : List ℕ) → Exact (removed_of Known text) (RowFor code.PrefixDelete text) (λ f. RemovedFault text f)
+unfolding removed_of
 exact_removed text =
     restated
     (chained (spaced_prefix text) (λ p. chained (exact_graph p.1) (λ g. exact_ok (row_and (row.Change (change.PrefixDelete p.0 g.0)) g.1))))
@@ -297,8 +299,8 @@ exact_removed text =
 
 -- ---- any code
 
-pub exact_parts : (c : Code) (text : List ℕ) → Exact (parts_at c text) (RowFor c text) (λ f. PartsFault c text f)
-unfolding parts_at
+pub exact_parts : (c : Code) (text : List ℕ) → Exact (parts_of Known c text) (RowFor c text) (λ f. PartsFault c text f)
+unfolding parts_of
 exact_parts code.Header text = exact_header text
 exact_parts code.Begin text =
     restated (exact_bare change.Begin text) (λ y p. bare_of text y.0 y.1 change.Begin code.Begin (refl, p.1) p.0) (λ y p. begin_parts text y.0 y.1 p.0 p.1) (λ f t. t) (λ f t. t)

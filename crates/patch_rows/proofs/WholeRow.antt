@@ -6,7 +6,9 @@ use Rattle.patch_rows.specs.declared.row.Row.{Row}
 use Rattle.patch_rows.specs.Fault.{Fault}
 use Rattle.patch_rows.specs.Grammar.{letters, WordAt, code_of, PartsAt, RowAt}
 use Rattle.patch_rows.specs.Faults.{PartsFault, RowFault}
-use Rattle.patch_rows.specs.Reading.{code_named, by_code, row_at}
+use Rattle.patch_rows.specs.Reading.{code_named}
+use Rattle.patch_rows.specs.declared.cut.TextEnd.TheVariants.{Known}
+use Rattle.patch_rows.specs.Rows.{by_code, row_of, row_at}
 use Rattle.patch_rows.proofs.CodeTable.{named, one_code, code_spelled}
 use Rattle.patch_rows.proofs.Exact.{Exact, exact_err, restated, chained}
 use Rattle.patch_rows.proofs.RowLaws.{exact_parts}
@@ -20,7 +22,7 @@ NamedParts w y = (w.0 ≡ letters (code_of y.0)) × PartsAt w.1 y.0 y.1
 abbrev NamedFault : List ℕ → List ℕ × List ℕ → Fault → Type 0
 NamedFault text w f = ((c : Code) × (w.0 ≡ letters c) × PartsFault c w.1 f) ⊎ (((c : Code) → w.0 ≡ letters c → ⊥) × (f ≡ (UnknownCode, text)))
 
-exact_named : (text : List ℕ) (w : List ℕ × List ℕ) (o : Option Code) → code_named w.0 ≡ o → Exact (by_code o text w.1) (NamedParts w) (NamedFault text w)
+exact_named : (text : List ℕ) (w : List ℕ × List ℕ) (o : Option Code) → code_named w.0 ≡ o → Exact (by_code Known o text w.1) (NamedParts w) (NamedFault text w)
 exact_named text w (Some c) e =
     let is = code_spelled w.0 c e in
     restated (exact_parts c w.1)
@@ -52,7 +54,7 @@ row_fault_shape text f (RowFault.unknown word behind at none is) = inr ((word, b
 row_fault_shape text f (RowFault.parts c behind at bad) = inr ((letters c, behind), at, inl (c, refl, bad))
 
 pub exact_row : (text : List ℕ) → Exact (row_at text) (λ y. RowAt text y.0 y.1) (λ f. RowFault text f)
-unfolding row_at RowAt
+unfolding row_of RowAt
 exact_row text =
     restated (chained (exact_word text) (λ w. exact_named text w (code_named w.0) refl))
     (λ y t. (t.0.1, subst (λ (word : List ℕ). WordAt text word t.0.1) t.2.0 t.1, t.2.1))

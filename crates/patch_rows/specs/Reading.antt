@@ -1,17 +1,14 @@
--- Reading a row from left to right, with the first fault that is met.
-use Rattle.std.specs.Prelude.{ℕ, zero, suc, ◌-◌, Bool, true, false, List, [], ◌∷◌, length, take, drop, Option, Some, None, Result, Ok, Err, ◌==◌, ◌||◌, ◌&&◌, not, if◌then◌else◌}
+-- Reading the tokens of a row from left to right, with the first fault that is met.
+use Rattle.std.specs.Prelude.{ℕ, zero, suc, ◌-◌, Bool, true, false, List, [], ◌∷◌, length, take, drop, Option, Some, None, Result, Ok, Err, ◌==◌, ◌&&◌, not, if◌then◌else◌}
 use Rattle.std.specs.Char.{is_ascii_alphabetic}
 use Rattle.std.specs.List.{list_all, prefix_len}
 use Rattle.std.specs.Str.{bytes_eq}
 use Rattle.rdf_terms.specs.Iri.{has_scheme, is_forbidden}
-use Rattle.rdf_terms.specs.declared.change.Change.{Change}
-use Rattle.rdf_terms.specs.declared.change.Change.TheVariants as change
 use Rattle.rdf_terms.specs.declared.term.LiteralKind.{LiteralKind}
 use Rattle.rdf_terms.specs.declared.term.LiteralKind.TheVariants.{Plain, Typed, Tagged}
 use Rattle.rdf_terms.specs.declared.term.Term.{Term}
 use Rattle.rdf_terms.specs.declared.term.Term.TheVariants as term
-use Rattle.rdf_terms.specs.Quad.{Statement, statement, is_iri}
-use Rattle.nquads_text.specs.declared.fault.TextKind.TheVariants.{BadIri, RelativeIri, BadLabel, BadPosition, MissingDot, BadToken, Truncated}
+use Rattle.nquads_text.specs.declared.fault.TextKind.TheVariants.{BadIri, RelativeIri, BadLabel, BadPosition, BadToken, Truncated}
 use Rattle.nquads_text.specs.Fault.{Read as TextRead}
 use Rattle.nquads_text.specs.Faults.{begins_term}
 use Rattle.nquads_text.specs.Reading.{char_at, iri_body_at}
@@ -19,11 +16,9 @@ use Rattle.nquads_text.specs.Terms.{label_at, term_at}
 use Rattle.patch_rows.specs.declared.codes.Code.{Code}
 use Rattle.patch_rows.specs.declared.codes.Code.TheVariants as code
 use Rattle.patch_rows.specs.declared.fault.RowKind.{RowKind}
-use Rattle.patch_rows.specs.declared.fault.RowKind.TheVariants.{Common, UnknownCode, WrongCount}
-use Rattle.patch_rows.specs.declared.row.Row.{Row}
-use Rattle.patch_rows.specs.declared.row.Row.TheVariants as row
+use Rattle.patch_rows.specs.declared.fault.RowKind.TheVariants.{Common, WrongCount}
 use Rattle.patch_rows.specs.Fault.{Fault, Read, ◌>>=◌, in_row, as_row_fault}
-use Rattle.patch_rows.specs.Grammar.{is_line_end, is_space, is_word_byte, letters, is_any, is_node}
+use Rattle.patch_rows.specs.Grammar.{is_line_end, is_space, is_word_byte, letters}
 use Rattle.patch_rows.specs.Faults.{is_dot}
 
 -- a character of a comment at the front of `here`, `room` bytes being behind its first, and what `more` finds behind it
@@ -86,12 +81,6 @@ row_term_at (b ∷ rest) = if b == 60 then bracket_at (b ∷ rest) rest else in_
 unfoldable pub needed_term_at : List ℕ → Read Term
 needed_term_at rest = if stands is_dot rest then Err (WrongCount, rest) else row_term_at rest
 
--- a term that may stand in its place
-unfoldable pub placed_at : (Term → Bool) → List ℕ → Read Term
-placed_at fits rest = do
-  t ← needed_term_at rest
-  if fits t.0 then Ok t else Err (Common BadPosition, rest)
-
 -- ---- words, keys and prefixes
 
 -- the bytes in front that pass a test, and the text behind them
@@ -124,19 +113,6 @@ abbrev pub or_bad_position : Option (List ℕ) → List ℕ → List ℕ → Rea
 or_bad_position (Some text) start after = Ok (text, after)
 or_bad_position None start after = Err (Common BadPosition, start)
 
--- a prefix that is written as a plain string
-unfoldable pub quoted_at : List ℕ → Read (List ℕ)
-quoted_at rest = do
-  t ← needed_term_at rest
-  or_bad_position (plain_text t.0) rest t.1
-
-unfoldable pub prefix_at : List ℕ → Read (List ℕ)
-prefix_at rest =
-    if stands (λ b. b == 58) rest then Ok ([], drop 1 rest)
-    else (if stands is_ascii_alphabetic rest then Ok (take (prefix_len is_word_byte rest) rest, past_colon (drop (prefix_len is_word_byte rest) rest))
-    else (if stands is_dot rest || stands begins_term rest then quoted_at rest
-    else Err (other (Common BadToken) rest)))
-
 -- an IRI that is written as a string
 unfoldable pub iri_of_string : List ℕ → List ℕ → List ℕ → Read (List ℕ)
 iri_of_string start string after =
@@ -147,11 +123,6 @@ abbrev pub iri_of_term : List ℕ → Term → List ℕ → Read (List ℕ)
 iri_of_term start (term.Iri iri) after = Ok (iri, after)
 iri_of_term start (term.Blank label) after = Err (Common BadPosition, start)
 iri_of_term start (term.Literal literal) after = or_bad_position (plain_of literal.kind literal.lexical) start after >>= λ string. iri_of_string start string.0 string.1
-
-unfoldable pub prefix_iri_at : List ℕ → Read (List ℕ)
-prefix_iri_at rest = do
-  t ← needed_term_at rest
-  iri_of_term rest t.0 t.1
 
 -- ---- the ends of rows
 
@@ -165,60 +136,7 @@ dot_at missing rest =
 abbrev pub end_at : RowKind → List ℕ → Result (List ℕ) Fault
 end_at missing rest = dot_at missing (skip_space rest)
 
--- a graph and the dot, or the dot; white space and comments are behind us
-unfoldable pub graph_or_dot : List ℕ → Read (Option Term)
-graph_or_dot rest =
-    if stands begins_term rest then (placed_at is_node rest >>= λ g. end_at (Common MissingDot) g.1 >>= λ after. Ok (Some g.0, after))
-    else (dot_at (Common MissingDot) rest >>= λ after. Ok (None, after))
-
-abbrev pub graph_at : List ℕ → Read (Option Term)
-graph_at rest = graph_or_dot (skip_space rest)
-
--- ---- rows, from behind their codes on
-
-unfoldable pub header_at : List ℕ → Read Row
-header_at rest = do
-  key ← key_at (skip_space rest)
-  value ← placed_at is_any (skip_space key.1)
-  after ← end_at (Common MissingDot) value.1
-  Ok (row.Header key.0 value.0, after)
-
-unfoldable pub bare_at : Change → List ℕ → Read Row
-bare_at c rest = do
-  after ← end_at (Common BadToken) rest
-  Ok (row.Change c, after)
-
-unfoldable pub quad_at : List ℕ → Read Statement
-quad_at rest = do
-  subject ← placed_at is_node (skip_space rest)
-  predicate ← placed_at is_iri (skip_space subject.1)
-  object ← placed_at is_any (skip_space predicate.1)
-  graph ← graph_at object.1
-  Ok (statement subject.0 predicate.0 object.0 graph.0, graph.1)
-
-unfoldable pub added_at : List ℕ → Read Row
-added_at rest = do
-  prefix ← prefix_at (skip_space rest)
-  iri ← prefix_iri_at (skip_space prefix.1)
-  graph ← graph_at iri.1
-  Ok (row.Change (change.PrefixAdd prefix.0 iri.0 graph.0), graph.1)
-
-unfoldable pub removed_at : List ℕ → Read Row
-removed_at rest = do
-  prefix ← prefix_at (skip_space rest)
-  graph ← graph_at prefix.1
-  Ok (row.Change (change.PrefixDelete prefix.0 graph.0), graph.1)
-
--- by the code
-unfoldable pub parts_at : Code → List ℕ → Read Row
-parts_at code.Header rest = header_at rest
-parts_at code.Begin rest = bare_at change.Begin rest
-parts_at code.Commit rest = bare_at change.Commit rest
-parts_at code.Abort rest = bare_at change.Abort rest
-parts_at code.PrefixAdd rest = added_at rest
-parts_at code.PrefixDelete rest = removed_at rest
-parts_at code.Add rest = quad_at rest >>= λ q. Ok (row.Change (change.Add q.0), q.1)
-parts_at code.Delete rest = quad_at rest >>= λ q. Ok (row.Change (change.Delete q.0), q.1)
+-- ---- codes
 
 -- the code at a place of the table of codes
 abbrev pub code_of_place : ℕ → Option Code
@@ -246,20 +164,9 @@ code_named word =
     else (if bytes_eq (letters code.Delete) word then Some code.Delete
     else None)))))))
 
--- the parts, where the word in front of the row, which begins where start does, is a code
-abbrev pub by_code : Option Code → List ℕ → List ℕ → Read Row
-by_code (Some c) start rest = parts_at c rest
-by_code None start rest = Err (UnknownCode, start)
-
 -- a word of letters that the text's end doesn't cut
 abbrev pub uncut : List ℕ × List ℕ → Read (List ℕ)
 uncut x = if length x.1 == 0 then Err (Common Truncated, []) else Ok x
 
 unfoldable pub word_at : List ℕ → Read (List ℕ)
 word_at rest = if stands is_ascii_alphabetic rest then uncut (run_of is_ascii_alphabetic rest) else Err (other (Common BadToken) rest)
-
--- a row of any length
-unfoldable pub row_at : List ℕ → Read Row
-row_at rest = do
-  word ← word_at rest
-  by_code (code_named word.0) rest word.1

@@ -7,7 +7,8 @@ ghost use Rattle.patch_rows.specs.Fault.{Fault};
 ghost use Rattle.patch_rows.specs.Faults.{RowTermFault, RowFault};
 ghost use Rattle.patch_rows.specs.Grammar.{Space, RowTerm, RowAt};
 ghost use Rattle.patch_rows.specs.Printing.{IsWritable};
-ghost use Rattle.patch_rows.specs.Reading.{skip_space, row_term_at, row_at};
+ghost use Rattle.patch_rows.specs.Reading.{skip_space, row_term_at};
+ghost use Rattle.patch_rows.specs.Rows.{row_at};
 
 /// A row of any length is read exactly where the grammar has one; else its first fault is met.
 pub fn rows_are_read()

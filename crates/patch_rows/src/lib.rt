@@ -6,22 +6,24 @@
 #![tactic(auto)]
 
 mod codes;
+mod cut;
 mod fault;
 mod laws;
+pub mod parts;
 mod printing;
 mod row;
 mod rows;
 mod space;
 mod terms;
-pub mod tokens;
 mod words;
 
+pub use cut::TextEnd;
 pub use fault::{RowFault, RowKind};
 pub use laws::{row_terms_are_read, rows_are_read, rows_are_writable, space_is_skipped};
 pub use printing::print_row;
 pub use rdf_terms::Change;
 pub use row::Row;
-pub use rows::unlimited_row;
+pub use rows::{row_of, unlimited_row};
 pub use space::{is_line_end, is_space, skip_space};
 
 #[cfg(test)]

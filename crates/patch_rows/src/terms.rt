@@ -10,8 +10,10 @@ ghost use Rattle.nquads_text.specs.Terms.{label_at, term_at};
 ghost use Rattle.patch_rows.specs.Fault.{Gives, IsThere, in_row};
 ghost use Rattle.patch_rows.specs.Grammar.{is_any, is_node};
 ghost use Rattle.patch_rows.specs.Faults.{is_dot};
-ghost use Rattle.patch_rows.specs.Reading.{stands, other as other_of, begins_blank as blank_begins, whole_label, bracketed as bracketed_of, bracket_at, row_term_at, needed_term_at, placed_at};
+ghost use Rattle.patch_rows.specs.Reading.{stands, other as other_of, begins_blank as blank_begins, whole_label, bracketed as bracketed_of, bracket_at, row_term_at, needed_term_at};
+ghost use Rattle.patch_rows.specs.Rows.{open_term as open_term_of, term_of, unless_open as unless_open_of, placed_of};
 
+use crate::cut::{TextEnd, cut_off, is_open_blank, is_open_literal};
 use crate::fault::{RowFault, RowKind};
 use delta_base::Text;
 use nquads_text::{ReadFault, TextKind, char_at, iri_body, label, read_term};
@@ -142,7 +144,7 @@ fn row_term(alloc: Global, text: &[u8], at: usize) -> Result<(Term, usize), RowF
 
 /// A term, where a dot means that the row has too few.
 #[tactic(auto, unfolding(crate::specs::Reading::needed_term_at))]
-pub fn needed_term(alloc: Global, text: &[u8], at: usize) -> Result<(Term, usize), RowFault>
+fn needed_term(alloc: Global, text: &[u8], at: usize) -> Result<(Term, usize), RowFault>
     requires { at ≤ length text.now }
     ensures { Gives text.now result (needed_term_at (drop at text.now)) }
 {
@@ -152,53 +154,121 @@ pub fn needed_term(alloc: Global, text: &[u8], at: usize) -> Result<(Term, usize
     row_term(alloc, text, at)
 }
 
-/// Any term.
-#[tactic(auto, unfolding(crate::specs::Reading::placed_at), using(crate::proofs::Steps::any_placed))]
-pub fn any(alloc: Global, text: &[u8], at: usize) -> Result<(Term, usize), RowFault>
+/// A term of a text that may go on, which more text doesn't change, but for the end of a label.
+#[tactic(auto, unfolding(crate::specs::Rows::open_term))]
+fn open_term(alloc: Global, text: &[u8], at: usize) -> Result<(Term, usize), RowFault>
     requires { at ≤ length text.now }
-    ensures { Gives text.now result (placed_at is_any (drop at text.now)) }
+    ensures { Gives text.now result (open_term_of (drop at text.now)) }
 {
-    needed_term(alloc, text, at)
+    let (term, end) = needed_term(alloc, text, at)?;
+    if is_open_literal(text, at, &term, end) {
+        return Err(cut_off(text));
+    }
+    Ok((term, end))
 }
 
-/// Whether the term is a literal.
-pub fn is_literal(term: &Term) -> bool
+/// A term whose end is known, but for a label's.
+pub fn term(
+    alloc: Global,
+    text: &[u8],
+    at: usize,
+    text_end: TextEnd,
+) -> Result<(Term, usize), RowFault>
+    requires { at ≤ length text.now }
+    ensures { Gives text.now result (term_of text_end (drop at text.now)) }
+{
+    match text_end {
+        TextEnd::Known => needed_term(alloc, text, at),
+        TextEnd::Open => open_term(alloc, text, at),
+    }
+}
+
+/// The same, unless it is a label that more text may change.
+#[inline(always)]
+fn unless_open(
+    text: &[u8],
+    at: usize,
+    term: Term,
+    end: usize,
+    text_end: TextEnd,
+) -> Result<(Term, usize), RowFault>
+    requires begins { at ≤ length text.now }
+    requires within { end ≤ length text.now }
+    ensures gives { Gives text.now result (unless_open_of text_end (drop at text.now) term (drop end text.now)) }
+    ensures same { IfOk result (λ x. x.0 ≡ term) }
+{
+    match text_end {
+        TextEnd::Known => Ok((term, end)),
+        TextEnd::Open => {
+            if is_open_blank(text, at, &term, end) {
+                return Err(cut_off(text));
+            }
+            Ok((term, end))
+        }
+    }
+}
+
+/// Any term.
+#[tactic(auto, unfolding(crate::specs::Rows::placed_of))]
+pub fn any(
+    alloc: Global,
+    text: &[u8],
+    at: usize,
+    text_end: TextEnd,
+) -> Result<(Term, usize), RowFault>
+    requires { at ≤ length text.now }
+    ensures { Gives text.now result (placed_of text_end is_any (drop at text.now)) }
+{
+    let (term, end) = term(alloc, text, at, text_end)?;
+    unless_open(text, at, term, end, text_end)
+}
+
+fn is_literal(term: &Term) -> bool
     ensures { result ≡ literal_stands term.now }
 {
     matches!(term, Term::Literal(_))
 }
 
-/// Whether the term is an IRI.
-pub fn is_iri(term: &Term) -> bool
+fn is_iri(term: &Term) -> bool
     ensures { result ≡ iri_stands term.now }
 {
     matches!(term, Term::Iri(_))
 }
 
 /// An IRI or a blank node.
-#[tactic(auto, unfolding(crate::specs::Reading::placed_at))]
-pub fn node(alloc: Global, text: &[u8], at: usize) -> Result<(Term, usize), RowFault>
+#[tactic(auto, unfolding(crate::specs::Rows::placed_of))]
+pub fn node(
+    alloc: Global,
+    text: &[u8],
+    at: usize,
+    text_end: TextEnd,
+) -> Result<(Term, usize), RowFault>
     requires { at ≤ length text.now }
-    ensures gives { Gives text.now result (placed_at is_node (drop at text.now)) }
+    ensures gives { Gives text.now result (placed_of text_end is_node (drop at text.now)) }
     ensures node { IfOk result (λ x. literal_stands x.0 ≡ false) }
 {
-    let (term, end) = needed_term(alloc, text, at)?;
+    let (term, end) = term(alloc, text, at, text_end)?;
     if is_literal(&term) {
         return Err(RowFault::at(at, RowKind::Common(TextKind::BadPosition)));
     }
-    Ok((term, end))
+    unless_open(text, at, term, end, text_end)
 }
 
 /// An IRI.
-#[tactic(auto, unfolding(crate::specs::Reading::placed_at))]
-pub fn iri(alloc: Global, text: &[u8], at: usize) -> Result<(Term, usize), RowFault>
+#[tactic(auto, unfolding(crate::specs::Rows::placed_of))]
+pub fn iri(
+    alloc: Global,
+    text: &[u8],
+    at: usize,
+    text_end: TextEnd,
+) -> Result<(Term, usize), RowFault>
     requires { at ≤ length text.now }
-    ensures gives { Gives text.now result (placed_at iri_stands (drop at text.now)) }
+    ensures gives { Gives text.now result (placed_of text_end iri_stands (drop at text.now)) }
     ensures iri { IfOk result (λ x. iri_stands x.0 ≡ true) }
 {
-    let (term, end) = needed_term(alloc, text, at)?;
+    let (term, end) = term(alloc, text, at, text_end)?;
     if !is_iri(&term) {
         return Err(RowFault::at(at, RowKind::Common(TextKind::BadPosition)));
     }
-    Ok((term, end))
+    unless_open(text, at, term, end, text_end)
 }

@@ -5,10 +5,12 @@ ghost use Rattle.std.specs.Char.{is_ascii_alphabetic};
 ghost use Rattle.std.specs.List.{prefix_len};
 ghost use Rattle.patch_rows.specs.Fault.{Gives, GivesSlice};
 ghost use Rattle.patch_rows.specs.Grammar.{is_word_byte as in_word};
-ghost use Rattle.patch_rows.specs.Reading.{word_at, key_at, quoted_at, prefix_at, prefix_iri_at, iri_of_string as iri_for, past_colon as behind_colon};
+ghost use Rattle.patch_rows.specs.Reading.{word_at, key_at, uncut, iri_of_string as iri_for, past_colon as behind_colon};
+ghost use Rattle.patch_rows.specs.Rows.{open_key as open_key_of, key_of, quoted_of, open_word_prefix as open_word_prefix_of, word_prefix_of, prefix_of, prefix_iri_of};
 
+use crate::cut::{TextEnd, cut_off};
 use crate::fault::{RowFault, RowKind};
-use crate::terms::{is_at, is_letter_at, is_term_at, needed_term, other};
+use crate::terms::{is_at, is_letter_at, is_term_at, other, term};
 use delta_base::{OutOfMemory, Text};
 use nquads_text::TextKind;
 use rdf_terms::{Iri, Literal, LiteralKind, Term, TermFault};
@@ -67,7 +69,7 @@ pub fn word(text: &[u8], at: usize) -> Result<(&[u8], usize), RowFault>
 }
 
 /// The text of the word at a place.
-pub fn word_text(alloc: Global, text: &[u8], at: usize) -> Result<(Text, usize), OutOfMemory>
+fn word_text(alloc: Global, text: &[u8], at: usize) -> Result<(Text, usize), OutOfMemory>
     requires { at ≤ length text.now }
     ensures word { IfOk result (λ w. w.0 ≡ take (prefix_len in_word (drop at text.now)) (drop at text.now)) }
     ensures end { IfOk result (λ w. drop w.1 text.now ≡ drop (prefix_len in_word (drop at text.now)) (drop at text.now)) }
@@ -78,9 +80,9 @@ pub fn word_text(alloc: Global, text: &[u8], at: usize) -> Result<(Text, usize),
     Ok((Text::from_str(alloc, word)?, end))
 }
 
-/// The key of a header row.
+/// A key, as far as the text has it.
 #[tactic(auto, unfolding(crate::specs::Reading::key_at), using(crate::proofs::Steps::met))]
-pub fn key(alloc: Global, text: &[u8], at: usize) -> Result<(Text, usize), RowFault>
+fn key_there(alloc: Global, text: &[u8], at: usize) -> Result<(Text, usize), RowFault>
     requires { at ≤ length text.now }
     ensures { Gives text.now result (key_at (drop at text.now)) }
 {
@@ -94,8 +96,45 @@ pub fn key(alloc: Global, text: &[u8], at: usize) -> Result<(Text, usize), RowFa
     Ok(key)
 }
 
+/// The word, unless the text's end may cut it.
+fn unless_cut(text: &[u8], word: Text, end: usize) -> Result<(Text, usize), RowFault>
+    requires { end ≤ length text.now }
+    ensures { Gives text.now result (uncut (word, drop end text.now)) }
+{
+    if end == text.len() {
+        return Err(cut_off(text));
+    }
+    Ok((word, end))
+}
+
+/// A key of a text that may go on.
+#[tactic(auto, unfolding(crate::specs::Rows::open_key))]
+fn open_key(alloc: Global, text: &[u8], at: usize) -> Result<(Text, usize), RowFault>
+    requires { at ≤ length text.now }
+    ensures { Gives text.now result (open_key_of (drop at text.now)) }
+{
+    let (key, end) = key_there(alloc, text, at)?;
+    unless_cut(text, key, end)
+}
+
+/// The key of a header row.
+pub fn key(
+    alloc: Global,
+    text: &[u8],
+    at: usize,
+    text_end: TextEnd,
+) -> Result<(Text, usize), RowFault>
+    requires { at ≤ length text.now }
+    ensures { Gives text.now result (key_of text_end (drop at text.now)) }
+{
+    match text_end {
+        TextEnd::Known => key_there(alloc, text, at),
+        TextEnd::Open => open_key(alloc, text, at),
+    }
+}
+
 /// The place behind a colon, if one stands there.
-pub fn past_colon(text: &[u8], at: usize) -> usize
+fn past_colon(text: &[u8], at: usize) -> usize
     requires { at ≤ length text.now }
     ensures behind { drop result text.now ≡ behind_colon (drop at text.now) }
     ensures high { result ≤ length text.now }
@@ -107,13 +146,18 @@ pub fn past_colon(text: &[u8], at: usize) -> usize
 }
 
 /// A prefix that is written as a plain string.
-#[tactic(auto, unfolding(crate::specs::Reading::quoted_at))]
-fn quoted_prefix(alloc: Global, text: &[u8], at: usize) -> Result<(Text, usize), RowFault>
+#[tactic(auto, unfolding(crate::specs::Rows::quoted_of))]
+fn quoted_prefix(
+    alloc: Global,
+    text: &[u8],
+    at: usize,
+    text_end: TextEnd,
+) -> Result<(Text, usize), RowFault>
     requires { at ≤ length text.now }
-    ensures { Gives text.now result (quoted_at (drop at text.now)) }
+    ensures { Gives text.now result (quoted_of text_end (drop at text.now)) }
 {
-    let (term, end) = needed_term(alloc, text, at)?;
-    match term {
+    let (found, end) = term(alloc, text, at, text_end)?;
+    match found {
         Term::Literal(
             Literal {
                 lexical,
@@ -124,28 +168,62 @@ fn quoted_prefix(alloc: Global, text: &[u8], at: usize) -> Result<(Text, usize),
     }
 }
 
-/// The prefix of a PA or PD row.
-#[tactic(auto, unfolding(crate::specs::Reading::prefix_at), using(crate::proofs::Steps::met))]
-pub fn prefix(alloc: Global, text: &[u8], at: usize) -> Result<(Text, usize), RowFault>
+/// A prefix that is written as a word, in a text that may go on, and the colon behind it.
+#[tactic(auto, unfolding(crate::specs::Rows::open_word_prefix))]
+fn open_word_prefix(alloc: Global, text: &[u8], at: usize) -> Result<(Text, usize), RowFault>
     requires { at ≤ length text.now }
-    ensures { Gives text.now result (prefix_at (drop at text.now)) }
+    ensures { Gives text.now result (open_word_prefix_of (drop at text.now)) }
+{
+    let (word, end) = word_text(alloc, text, at)?;
+    let (word, end) = unless_cut(text, word, end)?;
+    Ok((word, past_colon(text, end)))
+}
+
+/// A prefix that is written as a word, and the colon behind it.
+fn word_prefix(
+    alloc: Global,
+    text: &[u8],
+    at: usize,
+    text_end: TextEnd,
+) -> Result<(Text, usize), RowFault>
+    requires { at ≤ length text.now }
+    ensures { Gives text.now result (word_prefix_of text_end (drop at text.now)) }
+{
+    match text_end {
+        TextEnd::Known => {
+            let (word, end) = word_text(alloc, text, at)?;
+            Ok((word, past_colon(text, end)))
+        }
+        TextEnd::Open => open_word_prefix(alloc, text, at),
+    }
+}
+
+/// The prefix of a PA or PD row.
+#[tactic(auto, unfolding(crate::specs::Rows::prefix_of), using(crate::proofs::Steps::met))]
+pub fn prefix(
+    alloc: Global,
+    text: &[u8],
+    at: usize,
+    text_end: TextEnd,
+) -> Result<(Text, usize), RowFault>
+    requires { at ≤ length text.now }
+    ensures { Gives text.now result (prefix_of text_end (drop at text.now)) }
 {
     if is_at(text, at, b':') {
         return Ok((Text::from_string(String::new(alloc)), at + 1));
     }
     if is_letter_at(text, at) {
-        let (word, end) = word_text(alloc, text, at)?;
-        return Ok((word, past_colon(text, end)));
+        return word_prefix(alloc, text, at, text_end);
     }
     if is_at(text, at, b'.') || is_term_at(text, at) {
-        return quoted_prefix(alloc, text, at);
+        return quoted_prefix(alloc, text, at, text_end);
     }
     Err(other(text, at, RowKind::Common(TextKind::BadToken)))
 }
 
 /// The IRI that a string spells, whose quote stands at `start`.
 #[tactic(auto, unfolding(crate::specs::Reading::iri_of_string))]
-pub fn iri_of_string(
+fn iri_of_string(
     text: &[u8],
     start: usize,
     string: Text,
@@ -170,13 +248,18 @@ pub fn iri_of_string(
 }
 
 /// The IRI of a PA row: an IRIREF, or a plain string.
-#[tactic(auto, unfolding(crate::specs::Reading::prefix_iri_at))]
-pub fn prefix_iri(alloc: Global, text: &[u8], at: usize) -> Result<(Iri, usize), RowFault>
+#[tactic(auto, unfolding(crate::specs::Rows::prefix_iri_of))]
+pub fn prefix_iri(
+    alloc: Global,
+    text: &[u8],
+    at: usize,
+    text_end: TextEnd,
+) -> Result<(Iri, usize), RowFault>
     requires { at ≤ length text.now }
-    ensures { Gives text.now result (prefix_iri_at (drop at text.now)) }
+    ensures { Gives text.now result (prefix_iri_of text_end (drop at text.now)) }
 {
-    let (term, end) = needed_term(alloc, text, at)?;
-    match term {
+    let (found, end) = term(alloc, text, at, text_end)?;
+    match found {
         Term::Iri(iri) => Ok((iri, end)),
         Term::Literal(
             Literal {

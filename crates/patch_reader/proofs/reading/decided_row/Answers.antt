@@ -1,7 +1,7 @@
 use Rattle.std.proofs.Common.{sym, subst, ◌∙◌, drop}
 use Rattle.patch_rows.specs.Fault.{Fails}
 use Rattle.patch_rows.specs.declared.fault.RowFault.{RowFault}
-use Rattle.patch_reader.specs.Live.{live_row}
+use Rattle.patch_rows.specs.Rows.{live_row}
 use Rattle.patch_reader.proofs.Answered.{fault_there}
 use Rattle.patch_reader.proofs.reading.decided_row.Goals as goal
 

@@ -1,5 +1,5 @@
 use Rattle.std.proofs.Common.{sym, ap, ◌∙◌, ◌++◌}
-use Rattle.patch_reader.specs.declared.placed.TextEnd.TheVariants as ends
+use Rattle.patch_rows.specs.declared.cut.TextEnd.TheVariants as ends
 use Rattle.patch_reader.proofs.Reader.{fault_stays, tail_more, rows_longer, goes_on, extended, adds_same}
 use Rattle.patch_reader.proofs.pieces.PatchReader.feed.Goals as goal
 

@@ -1,5 +1,5 @@
 use Rattle.std.proofs.Common.{◌++◌}
-use Rattle.patch_reader.specs.declared.placed.TextEnd.TheVariants as ends
+use Rattle.patch_rows.specs.declared.cut.TextEnd.TheVariants as ends
 use Rattle.patch_reader.proofs.Reader.{fault_known, gap_known, rows_known, goes_on}
 use Rattle.patch_reader.proofs.pieces.PatchReader.finish.Goals as goal
 

@@ -1,6 +1,6 @@
 use Rattle.std.proofs.Common.{◌≤◌, List, ℕ, length, sym, ap, subst, ◌∙◌}
 use Rattle.patch_reader.specs.declared.progress.Phase.{Phase}
-use Rattle.patch_reader.specs.Cut.{is_cut}
+use Rattle.patch_rows.specs.Cut.{is_cut}
 use Rattle.patch_rows.specs.Grammar.{row_limit}
 use Rattle.patch_reader.specs.Pieces.{IsTail}
 use Rattle.patch_reader.specs.Progress.{Follows, IsUnfinished}

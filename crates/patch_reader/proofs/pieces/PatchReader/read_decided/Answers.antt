@@ -1,6 +1,6 @@
 use Rattle.std.proofs.Common.{ℕ, Option, sym, subst, ◌∙◌}
 use Rattle.patch_rows.specs.declared.fault.RowFault.{RowFault}
-use Rattle.patch_reader.specs.declared.placed.TextEnd.TheVariants as ends
+use Rattle.patch_rows.specs.declared.cut.TextEnd.TheVariants as ends
 use Rattle.patch_reader.specs.Rows.{Stops}
 use Rattle.patch_reader.proofs.pieces.PatchReader.read_decided.Goals as goal
 

@@ -7,12 +7,19 @@ ghost use Rattle.patch_rows.specs.Fault.{IsThere};
 ghost use Rattle.patch_rows.specs.declared.fault.RowKind.TheVariants.{Common};
 ghost use Rattle.patch_rows.specs.declared.fault.RowFault.TheVariants as faults;
 ghost use Rattle.nquads_text.specs.declared.fault.TextKind.TheVariants.{Truncated};
-ghost use Rattle.patch_reader.specs.Cut.{is_front as front, begins_name_char as names, label_open, is_cut, ends_quoted as ends_in_quote, kind_open, literal_open, blank_open, ends_row};
+ghost use Rattle.patch_rows.specs.Cut.{is_front as front, begins_name_char as names, label_open, is_cut, ends_quoted as ends_in_quote, kind_open, literal_open, blank_open, ends_row};
 
+use crate::fault::{RowFault, RowKind};
+use crate::terms::is_at;
 use nquads_text::TextKind;
-use patch_rows::tokens::is_at;
-use patch_rows::{RowFault, RowKind};
 use rdf_terms::{LiteralKind, Term};
+
+/// Whether the end of a text is known, or more may follow.
+#[derive(Clone, Copy)]
+pub enum TextEnd {
+    Open,
+    Known,
+}
 
 /// The fault of what the text's end cuts off.
 pub fn cut_off(text: &[u8]) -> RowFault

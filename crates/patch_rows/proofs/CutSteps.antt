@@ -5,7 +5,7 @@ use Rattle.std.proofs.lemmas.List.{drop_more, drop_all, length-drop, get_or-drop
 use Rattle.std.proofs.lemmas.Bool.{ne_eqb}
 use Rattle.std.proofs.lemmas.Bool.Decides.{nat_tests}
 use Rattle.nquads_text.specs.Grammar.{is_blank}
-use Rattle.patch_reader.specs.Cut.{begins_name_char, label_open, ends_quoted}
+use Rattle.patch_rows.specs.Cut.{begins_name_char, label_open, ends_quoted}
 
 pub dot_more : (text : List ℕ) (at : ℕ) → at < length text → get_or text at 0 ≡ 46 → label_open (drop (at + 1) text) ≡ label_open (drop at text)
 unfolding label_open

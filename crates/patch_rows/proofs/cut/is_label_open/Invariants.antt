@@ -1,6 +1,6 @@
 use Rattle.std.proofs.Common.{◌≡◌, drop}
-use Rattle.patch_reader.specs.Cut.{label_open}
-use Rattle.patch_reader.proofs.cut.is_label_open.Given as goal
+use Rattle.patch_rows.specs.Cut.{label_open}
+use Rattle.patch_rows.proofs.cut.is_label_open.Given as goal
 
 -- only dots were passed
 abbrev pub invariant-loop-at : goal.invariant-loop-at

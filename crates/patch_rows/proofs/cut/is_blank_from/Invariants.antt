@@ -1,7 +1,7 @@
 use Rattle.std.proofs.Common.{◌≡◌, drop}
 use Rattle.std.specs.List.{list_all}
 use Rattle.nquads_text.specs.Grammar.{is_blank}
-use Rattle.patch_reader.proofs.cut.is_blank_from.Given as goal
+use Rattle.patch_rows.proofs.cut.is_blank_from.Given as goal
 
 -- only blanks were passed
 abbrev pub invariant-loop-at : goal.invariant-loop-at
