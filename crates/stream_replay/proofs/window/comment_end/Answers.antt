@@ -1,4 +1,4 @@
-use Rattle.std.proofs.Common.{◌<◌, Bool, true, false, length, not, refl, subst, arith}
+use Rattle.std.proofs.Common.{◌<◌, Bool, false, length, not, refl, subst, arith}
 use Rattle.patch_reader.proofs.GapSteps.{Passed, over_char, over_hash}
 use Rattle.stream_replay.proofs.PassedSpace.{passed_over}
 use Rattle.stream_replay.proofs.window.comment_end.Goals as goal

@@ -1,4 +1,4 @@
-use Rattle.std.proofs.Common.{◌+◌, Option, refl, sym, subst}
+use Rattle.std.proofs.Common.{◌+◌, Option, sym, subst}
 use Rattle.std.proofs.lemmas.Result.{err_from_is_err_and}
 use Rattle.patch_meaning.proofs.Cuts.{if_ok, if_err}
 use Rattle.stream_replay.specs.declared.fault.ReplayFault.{ReplayFault}
