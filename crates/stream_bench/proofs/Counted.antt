@@ -6,8 +6,8 @@ use Rattle.patch_rows.specs.declared.fault.RowFault.{RowFault}
 use Rattle.patch_rows.specs.Grammar.{IsRowAt}
 use Rattle.patch_reader.specs.declared.pieces.PatchReader.{PatchReader}
 use Rattle.patch_reader.specs.declared.placed.PlacedRow.{PlacedRow}
-use Rattle.patch_reader.specs.declared.placed.TextEnd.{TextEnd}
-use Rattle.patch_reader.specs.declared.placed.TextEnd.TheVariants as ends
+use Rattle.patch_rows.specs.declared.cut.TextEnd.{TextEnd}
+use Rattle.patch_rows.specs.declared.cut.TextEnd.TheVariants as ends
 use Rattle.patch_reader.specs.Pieces.{Stands, TakesRow}
 use Rattle.patch_reader.specs.Rows.{Gap, RowsUpTo, RowsStand, Stops}
 use Rattle.stream_bench.specs.Counting.{HasRows, TakesSome}

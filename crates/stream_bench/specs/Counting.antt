@@ -2,7 +2,7 @@
 use Rattle.std.specs.Prelude.{◌≡◌, ℕ, List, length}
 use Rattle.patch_reader.specs.declared.pieces.PatchReader.{PatchReader}
 use Rattle.patch_reader.specs.declared.placed.PlacedRow.{PlacedRow}
-use Rattle.patch_reader.specs.declared.placed.TextEnd.{TextEnd}
+use Rattle.patch_rows.specs.declared.cut.TextEnd.{TextEnd}
 use Rattle.patch_reader.specs.Pieces.{Stands}
 use Rattle.patch_reader.specs.Rows.{Gap, RowsUpTo}
 

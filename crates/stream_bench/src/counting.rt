@@ -1,7 +1,7 @@
 //! Counts the rows of a text that is fed in pieces.
 
 ghost use Rattle.std.specs.Prelude.{◌≡◌, ◌<◌, ◌^◌, ◌+◌, ◌-◌, ℕ, List, [], true, false, length, min, IfOk};
-ghost use Rattle.patch_reader.specs.declared.placed.TextEnd.{TextEnd as End};
+ghost use Rattle.patch_rows.specs.declared.cut.TextEnd.{TextEnd as End};
 ghost use Rattle.stream_bench.specs.Counting.{HasRows, TakesSome};
 
 use patch_reader::PatchReader;

@@ -5,7 +5,7 @@ use Rattle.patch_rows.specs.declared.fault.RowFault.TheVariants as row
 use Rattle.patch_rows.specs.declared.fault.RowKind.{RowKind}
 use Rattle.patch_rows.specs.declared.row.Row.{Row}
 use Rattle.patch_rows.specs.Grammar.{Space, IsRowAt}
-use Rattle.patch_reader.specs.declared.placed.TextEnd.TheVariants as ends
+use Rattle.patch_rows.specs.declared.cut.TextEnd.TheVariants as ends
 use Rattle.patch_reader.specs.Decided.{Decides}
 use Rattle.patch_reader.specs.Places.{further_place}
 use Rattle.patch_reader.specs.Rows.{Keeps}

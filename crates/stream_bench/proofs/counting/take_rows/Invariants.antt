@@ -1,5 +1,5 @@
 use Rattle.std.proofs.Common.{◌≡◌, ℕ, ◌^◌, ◌<◌, List, length}
-use Rattle.patch_reader.specs.declared.placed.TextEnd.{TextEnd}
+use Rattle.patch_rows.specs.declared.cut.TextEnd.{TextEnd}
 use Rattle.stream_bench.specs.Counting.{TakesSome}
 use Rattle.stream_bench.proofs.counting.take_rows.Given as goal
 
