@@ -1,4 +1,5 @@
 """Runs programs side by side on one input, and compares their time and peak memory."""
+import filecmp
 import os
 import statistics
 import subprocess
@@ -49,7 +50,7 @@ def compare(title, programs, source):
     for name in programs:
         print(f"  {name:10} {seconds[name]:8.3f} s {memory[name]:8.1f} MiB")
     for name in others:
-        same = "the same output" if outs[ours].read_bytes() == outs[name].read_bytes() else "ANOTHER OUTPUT"
+        same = "the same output" if filecmp.cmp(outs[ours], outs[name], shallow=False) else "ANOTHER OUTPUT"
         print(f"  against {name}: {seconds[name] / seconds[ours]:.2f} of its rate, {memory[ours] / memory[name]:.2f} times its memory, {same}")
     for out in outs.values():
         out.unlink()
