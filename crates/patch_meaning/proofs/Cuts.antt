@@ -1,17 +1,20 @@
 -- A stream while its rows are cut into patches.
 use Rattle.std.proofs.Common.{◌≡◌, ℕ, ◌+◌, ◌≤◌, Bool, true, false, cond, List, [], ◌∷◌, ◌++◌, Option, Some, None, Result, Ok, Err, refl, sym, ap, subst, ◌∙◌, append-nil}
 use Rattle.std.specs.Prelude.{fold, OnOk, IfOk, IfErr}
+use Rattle.std.proofs.lemmas.List.{map-append}
 use Rattle.std.proofs.lemmas.List.Sums.{fold-append}
+use Rattle.std.proofs.lemmas.Grind.{flat_map-append}
+use Rattle.chain_core.specs.declared.link.Link.{Link}
+use Rattle.rdf_terms.specs.declared.change.Change.{Change}
 use Rattle.patch_rows.specs.declared.fault.RowKind.{RowKind}
 use Rattle.patch_reader.specs.declared.placed.PlacedRow.{PlacedRow}
 use Rattle.patch_meaning.specs.declared.fault.PatchFault.{PatchFault}
 use Rattle.patch_meaning.specs.declared.part.Part.{Part as PartRead}
-use Rattle.patch_meaning.specs.declared.part.StreamPatch.{StreamPatch}
 use Rattle.patch_meaning.specs.declared.role.Role.{Role}
-use Rattle.patch_meaning.specs.Cutting.{IsCutInto, Begins, GoesOn, IsCutAt, IsLeft, HasTakenNext, IsFaultOf, IsBrokenBefore, IsLast, EndsStream, IsBrokenAtEnd}
-use Rattle.patch_meaning.specs.PartRead.{HasPart, IsComplete, meaning_of}
+use Rattle.patch_meaning.specs.Cutting.{IsCutInto, Begins, GoesOn, IsCutAt, IsLeft, HasTakenNext, IsFaultOf, IsBrokenBefore, IsLast, EndsStream, IsBrokenAtEnd, changes_behind, meanings_of}
+use Rattle.patch_meaning.specs.PartRead.{HasPart, IsComplete, is_sound, meaning_of}
 use Rattle.patch_meaning.specs.Patch.{Meaning, IsWell, patch_limit, has_some}
-use Rattle.patch_meaning.specs.Roles.{role, said}
+use Rattle.patch_meaning.specs.Roles.{role, said, change_of, changes_of}
 use Rattle.patch_meaning.specs.Rows.{AreUpTo}
 use Rattle.patch_meaning.specs.Stream.{Part, Cut, ArePatches, AreStream, IsPartFault, begins, cut, cut_with, stop_of}
 use Rattle.patch_meaning.proofs.Rowed.{more_up_to}
@@ -52,13 +55,30 @@ not_empty [] x e = cc
 not_empty (y ∷ xs) x e = cc
 
 -- the cut with one more row
-cut_is : (rs : List PlacedRow) (ms : List Meaning) (r : PlacedRow) (new : PartRead) (c : Cut) → cut (rs ++ r ∷ []) ≡ c → (c.last.rows_ ≡ [] → ⊥) → c.last.from ≡ new.from → HasPart c.last.rows_ new
-    → ArePatches c.done c.last.from ms → IsCutInto (rs ++ r ∷ []) ms new
-cut_is rs ms r new c e some from part before = record {
+cut_is : (rs : List PlacedRow) (ms : List Meaning) (changes : List Change) (r : PlacedRow) (new : PartRead) (c : Cut) → cut (rs ++ r ∷ []) ≡ c → (c.last.rows_ ≡ [] → ⊥) → c.last.from ≡ new.from
+    → HasPart c.last.rows_ new → ArePatches c.done c.last.from ms → (is_sound new ≡ true → changes_of (said c.last.rows_) ≡ changes) → IsCutInto (rs ++ r ∷ []) ms changes new
+cut_is rs ms changes r new c e some from part before all = record {
   some = λ empty. absurd (some (sym (ap (λ (k : Cut). k.last.rows_) e) ∙ empty));
   from_is = ap (λ (k : Cut). k.last.from) e ∙ from;
   part = subst (λ (k : Cut). HasPart k.last.rows_ new) (sym e) part;
   before = subst (λ (k : Cut). ArePatches k.done k.last.from ms) (sym e) before;
+  changes_are = λ sound. ap (λ (k : Cut). changes_of (said k.last.rows_)) e ∙ all sound;
+}
+
+-- the changes with those of one more row
+changes_more : (rs : List PlacedRow) (r : PlacedRow) → changes_of (said (rs ++ r ∷ [])) ≡ changes_of (said rs) ++ change_of (role r.row)
+changes_more rs r =
+    ap changes_of (map-append (λ (q : PlacedRow). role q.row) rs (r ∷ [])) ∙ flat_map-append change_of (said rs) (role r.row ∷ [])
+    ∙ ap (λ (cs : List Change). changes_of (said rs) ++ cs) (append-nil (change_of (role r.row)))
+
+-- where a row was not taken, nobody needs the changes
+pub with_changes : (rs : List PlacedRow) (ms : List Meaning) (changes other : List Change) (p : PartRead) → (is_sound p ≡ true → changes ≡ other) → IsCutInto rs ms changes p → IsCutInto rs ms other p
+with_changes rs ms changes other p same h = record {
+  some = h.some;
+  from_is = h.from_is;
+  part = h.part;
+  before = h.before;
+  changes_are = λ sound. h.changes_are sound ∙ same sound;
 }
 
 -- the rows of the last part come no further than all rows
@@ -77,47 +97,51 @@ cut_up_to rs stop up = fold_up_to (record { done = []; last = record { from = 0;
 abbrev pub Adds : PartRead → Role → ℕ → PartRead → Type 0
 Adds old says at new = (rs : List PlacedRow) (r : PlacedRow) → HasPart rs old → role r.row ≡ says → r.at ≡ at → HasPart (rs ++ r ∷ []) new
 
-added : (old new : PartRead) (says : Role) (at : ℕ) → GoesOn says old → Adds old says at new → new.from ≡ old.from → HasTakenNext old says at None new
-added old new says at same step from rs ms r h up is place =
-    cut_is rs (ms ++ []) r new (longer (cut rs) r)
+added : (old new : PartRead) (says : Role) (at : ℕ) → GoesOn says old → Adds old says at new → new.from ≡ old.from → (is_sound new ≡ true → is_sound old ≡ true) → HasTakenNext old says at None new
+added old new says at same step from sound rs ms changes r h up is place =
+    cut_is rs (ms ++ []) (changes_behind None changes says) r new (longer (cut rs) r)
     (cut_longer rs r (ap (begins (said (cut rs).last.rows_)) is ∙ same (cut rs).last.rows_ h.part))
     (not_empty (cut rs).last.rows_ r) (h.from_is ∙ sym from) (step (cut rs).last.rows_ r h.part is place)
     (subst (ArePatches (cut rs).done (cut rs).last.from) (sym (append-nil ms)) h.before)
+    (λ now. changes_more (cut rs).last.rows_ r ∙ ap (λ (cs : List Change). cs ++ change_of (role r.row)) (h.changes_are (sound now)) ∙ ap (λ (q : Role). changes ++ change_of q) is)
 
-begun_with : (old mid new : PartRead) (says : Role) (at : ℕ) (patch : StreamPatch) → Begins says old → IsComplete old at (meaning_of patch) → HasPart [] mid → mid.from ≡ at → Adds mid says at new → new.from ≡ mid.from
-    → HasTakenNext old says at (Some patch) new
-begun_with old mid new says at patch first done none starts step from rs ms r h up is place =
+-- a patch that is complete says what its rows say
+pub well_with : (rs : List Role) (link : Link) (changes : List Change) → changes_of rs ≡ changes → IsWell rs (meaning_of link (changes_of rs)) → IsWell rs (meaning_of link changes)
+well_with rs link changes are well = subst (λ (cs : List Change). IsWell rs (meaning_of link cs)) are well
+
+begun_with : (old mid new : PartRead) (says : Role) (at : ℕ) (link : Link) → Begins says old → IsComplete old at link → HasPart [] mid → mid.from ≡ at → Adds mid says at new → new.from ≡ mid.from
+    → HasTakenNext old says at (Some link) new
+begun_with old mid new says at link first done none starts step from rs ms changes r h up is place =
     let last = done (cut rs).last.rows_ h.part (cut_up_to rs at up) in
-    cut_is rs (ms ++ meaning_of patch ∷ []) r new (begun (cut rs) r)
+    let well = well_with (said (cut rs).last.rows_) link changes (h.changes_are last.2) last.0 in
+    cut_is rs (ms ++ meaning_of link changes ∷ []) (changes_behind (Some link) changes says) r new (begun (cut rs) r)
     (cut_begun rs r (ap (begins (said (cut rs).last.rows_)) is ∙ first (cut rs).last.rows_ h.part))
     (λ empty. cc) (place ∙ sym (from ∙ starts)) (step [] r none is place)
-    (subst (λ (n : ℕ). ArePatches ((cut rs).done ++ (cut rs).last ∷ []) n (ms ++ meaning_of patch ∷ [])) (sym place)
-    (patches_more (cut rs).done (cut rs).last ms (meaning_of patch) at h.before last.0 (subst (λ (n : ℕ). at ≤ n + patch_limit) (sym h.from_is) last.1)))
+    (subst (λ (n : ℕ). ArePatches ((cut rs).done ++ (cut rs).last ∷ []) n (ms ++ meaning_of link changes ∷ [])) (sym place)
+    (patches_more (cut rs).done (cut rs).last ms (meaning_of link changes) at h.before well (subst (λ (n : ℕ). at ≤ n + patch_limit) (sym h.from_is) last.1)))
+    (λ now. changes_more [] r ∙ ap change_of is)
 
-taken_next : (old mid new : PartRead) (says : Role) (at : ℕ) (done : Option StreamPatch) → IsCutAt old says at done → IsLeft old at done mid → Adds mid says at new → new.from ≡ mid.from → HasTakenNext old says at done new
-taken_next old mid new says at None is left step from = added old new says at is (λ rs r h. step rs r (subst (HasPart rs) (sym left) h)) (from ∙ ap (λ (p : PartRead). p.from) left)
-taken_next old mid new says at (Some patch) is left step from = begun_with old mid new says at patch is.0 is.1 left.0 left.1 step from
-
-pub taken_result : (r : Result (Option StreamPatch) PatchFault) (old mid new : PartRead) (says : Role) (at : ℕ) (done : Option StreamPatch) → IsCutAt old says at done → IsLeft old at done mid → IfOk r (λ d. d ≡ done)
-    → OnOk r (Adds mid says at new) → new.from ≡ mid.from → IfOk r (λ d. HasTakenNext old says at d new)
-taken_result (Ok d) old mid new says at patch is left same step from = subst (λ (o : Option StreamPatch). HasTakenNext old says at o new) (sym same) (taken_next old mid new says at patch is left step from)
-taken_result (Err e) old mid new says at patch is left same step from = tt
+pub taken_next : (old mid new : PartRead) (says : Role) (at : ℕ) (done : Option Link) → IsCutAt old says at done → IsLeft old at done mid → Adds mid says at new → new.from ≡ mid.from → (is_sound new ≡ true → is_sound mid ≡ true)
+    → HasTakenNext old says at done new
+taken_next old mid new says at None is left step from sound =
+    added old new says at is (λ rs r h. step rs r (subst (HasPart rs) (sym left) h)) (from ∙ ap (λ (p : PartRead). p.from) left) (λ now. sym (ap is_sound left) ∙ sound now)
+taken_next old mid new says at (Some link) is left step from sound = begun_with old mid new says at link is.0 is.1 left.0 left.1 step from
 
 -- ---- faults
 
 pub fault_of : (p : PartRead) (stop : ℕ) (broken : Option RowKind) (fault : PatchFault) → ((rs : List PlacedRow) → HasPart rs p → AreUpTo rs stop → IsPartFault (record { from = p.from; rows_ = rs }) stop broken fault) → IsFaultOf p stop broken fault
-fault_of p stop broken fault why rs ms h up =
+fault_of p stop broken fault why rs ms changes h up =
     subst (λ (n : ℕ). IsPartFault (record { from = n; rows_ = (cut rs).last.rows_ }) stop broken fault) (sym h.from_is) (why (cut rs).last.rows_ h.part (cut_up_to rs stop up))
 
 pub broken_before : (p : PartRead) (says : Role) (stop : ℕ) (fault : PatchFault) → Begins says p → IsFaultOf p stop None fault → IsBrokenBefore p says stop fault
-broken_before p says stop fault first why = (why, λ rs ms h. first (cut rs).last.rows_ h.part)
+broken_before p says stop fault first why = (why, λ rs ms changes h. first (cut rs).last.rows_ h.part)
 
 has_none : (rs : List PlacedRow) → rs ≡ [] → has_some rs ≡ true → ⊥
 has_none [] e some = cc
 has_none (r ∷ rs) e some = cc
 
 pub broken_at_end : (p : PartRead) (stop : ℕ) (fault : PatchFault) → ((rs : List PlacedRow) → HasPart rs p → has_some rs ≡ true) → IsFaultOf p stop None fault → IsBrokenAtEnd p stop fault
-broken_at_end p stop fault some why = (why, λ rs ms h empty. has_none (cut rs).last.rows_ empty (some (cut rs).last.rows_ h.part))
+broken_at_end p stop fault some why = (why, λ rs ms changes h empty. has_none (cut rs).last.rows_ empty (some (cut rs).last.rows_ h.part))
 
 -- ---- the end
 
@@ -125,11 +149,12 @@ pub stream_by : (rs : List PlacedRow) (stop : ℕ) (ms : List Meaning) → has_s
 stream_by [] stop ms some are = absurd cc
 stream_by (r ∷ rs) stop ms some are = are
 
-stream_ends : (p : PartRead) (stop : ℕ) (patch : StreamPatch) → ((rs : List PlacedRow) → HasPart rs p → has_some rs ≡ true) → IsComplete p stop (meaning_of patch) → EndsStream p stop (Some patch)
-stream_ends p stop patch some is rs ms h up =
+stream_ends : (p : PartRead) (stop : ℕ) (link : Link) → ((rs : List PlacedRow) → HasPart rs p → has_some rs ≡ true) → IsComplete p stop link → EndsStream p stop (Some link)
+stream_ends p stop link some is rs ms changes h up =
     let last = is (cut rs).last.rows_ h.part (cut_up_to rs stop up) in
-    stream_by rs stop (ms ++ meaning_of patch ∷ []) (some (cut rs).last.rows_ h.part)
-    (patches_more (cut rs).done (cut rs).last ms (meaning_of patch) stop h.before last.0 (subst (λ (n : ℕ). stop ≤ n + patch_limit) (sym h.from_is) last.1))
+    let well = well_with (said (cut rs).last.rows_) link changes (h.changes_are last.2) last.0 in
+    stream_by rs stop (ms ++ meaning_of link changes ∷ []) (some (cut rs).last.rows_ h.part)
+    (patches_more (cut rs).done (cut rs).last ms (meaning_of link changes) stop h.before well (subst (λ (n : ℕ). stop ≤ n + patch_limit) (sym h.from_is) last.1))
 
 pub none_there : (rs : List PlacedRow) → has_some rs ≡ false → rs ≡ []
 none_there [] none = refl
@@ -144,15 +169,15 @@ empty_by [] stop ms e are = no_patches 0 ms are
 empty_by (r ∷ rs) stop ms e are = absurd cc
 
 no_rows : (p : PartRead) (stop : ℕ) → ((rs : List PlacedRow) → HasPart rs p → has_some rs ≡ false) → EndsStream p stop None
-no_rows p stop none rs ms h up =
+no_rows p stop none rs ms changes h up =
     subst (AreStream rs stop) (sym (append-nil ms)) (empty_by rs stop ms (h.some (none_there (cut rs).last.rows_ (none (cut rs).last.rows_ h.part))) h.before)
 
-pub ends_stream : (p : PartRead) (stop : ℕ) (done : Option StreamPatch) → IsLast p stop done → EndsStream p stop done
+pub ends_stream : (p : PartRead) (stop : ℕ) (done : Option Link) → IsLast p stop done → EndsStream p stop done
 ends_stream p stop None last = no_rows p stop last
-ends_stream p stop (Some patch) last = stream_ends p stop patch last.0 last.1
+ends_stream p stop (Some link) last = stream_ends p stop link last.0 last.1
 
-pub nothing_cut : (p : PartRead) → HasPart [] p → p.from ≡ 0 → IsCutInto [] [] p
-nothing_cut p part from = record { some = λ empty. refl; from_is = sym from; part = part; before = tt }
+pub nothing_cut : (p : PartRead) → HasPart [] p → p.from ≡ 0 → IsCutInto [] [] [] p
+nothing_cut p part from = record { some = λ empty. refl; from_is = sym from; part = part; before = tt; changes_are = λ sound. refl }
 
 -- ---- results
 

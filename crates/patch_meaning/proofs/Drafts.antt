@@ -17,7 +17,7 @@ use Rattle.patch_meaning.specs.declared.role.Role.TheVariants as roles
 use Rattle.patch_meaning.specs.Draft.{Stands}
 use Rattle.patch_meaning.specs.PartRead.{IsRefused, LacksEnd}
 use Rattle.patch_meaning.specs.Patch.{Meaning, IsWell, AreTaken, AreTakenFrom, block_refusal, refusal, refused_at, patch_limit, prev_list}
-use Rattle.patch_meaning.specs.Roles.{role, said, open_after}
+use Rattle.patch_meaning.specs.Roles.{role, said, changes_of, open_after}
 use Rattle.patch_meaning.specs.Stream.{Part, IsPartFault, too_long, no_row}
 use Rattle.patch_meaning.proofs.Parts.{whole_is, lacks_end, refused_part}
 use Rattle.patch_meaning.proofs.Taking.{taken_more, second_id, late_id, second_prev, late_prev, late_other, change_refused, first_stands, id_stands, prev_stands, other_stands, change_stands}
@@ -27,31 +27,27 @@ use Rattle.patch_meaning.proofs.Taking.{taken_more, second_id, late_id, second_p
 refuses : {X : Type 0} (rs : List Role) (r : Role) (why : Refusal) → refusal rs r ≡ None → refusal rs r ≡ Some why → X
 refuses rs r why free refused = absurd cc
 
-empty_or : (cs : List Change) → (cs ≡ []) ⊎ (cs ≡ [] → ⊥)
-empty_or [] = inl refl
-empty_or (c ∷ cs) = inr (λ none. cc)
-
 -- one more row may stand behind those of a draft
 abbrev Follows : List Role → Role → Type 0
 Follows rs r = (new : Draft) × Stands (rs ++ r ∷ []) new
 
-id_follows : (rs : List Role) (id : Id) (d : Draft) (some : Bool) → is_some d.id ≡ some → (d.changes.items ≡ []) ⊎ (d.changes.items ≡ [] → ⊥) → Stands rs d → refusal rs (roles.Id (Some id)) ≡ None → Follows rs (roles.Id (Some id))
-id_follows rs id d true has empty s free = refuses rs (roles.Id (Some id)) refusals.TwoIds free (second_id rs id d s has)
-id_follows rs id d false has (inr late) s free = refuses rs (roles.Id (Some id)) refusals.LateHeader free (late_id rs id d s has late)
-id_follows rs id d false has (inl none) s free = let new : Draft = record d { id = Some id } in (new, id_stands rs id d new s none free has refl refl refl refl)
+id_follows : (rs : List Role) (id : Id) (d : Draft) (some late : Bool) → is_some d.id ≡ some → d.has_change ≡ late → Stands rs d → refusal rs (roles.Id (Some id)) ≡ None → Follows rs (roles.Id (Some id))
+id_follows rs id d true late has change s free = refuses rs (roles.Id (Some id)) refusals.TwoIds free (second_id rs id d s has)
+id_follows rs id d false true has change s free = refuses rs (roles.Id (Some id)) refusals.LateHeader free (late_id rs id d s has change)
+id_follows rs id d false false has change s free = let new : Draft = record d { id = Some id } in (new, id_stands rs id d new s change free has refl refl refl refl)
 
-prev_follows : (rs : List Role) (id : Id) (d : Draft) (some : Bool) → is_some d.prev ≡ some → (d.changes.items ≡ []) ⊎ (d.changes.items ≡ [] → ⊥) → Stands rs d → refusal rs (roles.Prev (Some id)) ≡ None → Follows rs (roles.Prev (Some id))
-prev_follows rs id d true has empty s free = refuses rs (roles.Prev (Some id)) refusals.TwoPrevs free (second_prev rs id d s has)
-prev_follows rs id d false has (inr late) s free = refuses rs (roles.Prev (Some id)) refusals.LateHeader free (late_prev rs id d s has late)
-prev_follows rs id d false has (inl none) s free = let new : Draft = record d { prev = Some id } in (new, prev_stands rs id d new s none free has refl refl refl refl)
+prev_follows : (rs : List Role) (id : Id) (d : Draft) (some late : Bool) → is_some d.prev ≡ some → d.has_change ≡ late → Stands rs d → refusal rs (roles.Prev (Some id)) ≡ None → Follows rs (roles.Prev (Some id))
+prev_follows rs id d true late has change s free = refuses rs (roles.Prev (Some id)) refusals.TwoPrevs free (second_prev rs id d s has)
+prev_follows rs id d false true has change s free = refuses rs (roles.Prev (Some id)) refusals.LateHeader free (late_prev rs id d s has change)
+prev_follows rs id d false false has change s free = let new : Draft = record d { prev = Some id } in (new, prev_stands rs id d new s change free has refl refl refl refl)
 
-other_follows : (rs : List Role) (d : Draft) → (d.changes.items ≡ []) ⊎ (d.changes.items ≡ [] → ⊥) → Stands rs d → refusal rs roles.Other ≡ None → Follows rs roles.Other
-other_follows rs d (inr late) s free = refuses rs roles.Other refusals.LateHeader free (late_other rs d s late)
-other_follows rs d (inl none) s free = (d, other_stands rs d s none free)
+other_follows : (rs : List Role) (d : Draft) (late : Bool) → d.has_change ≡ late → Stands rs d → refusal rs roles.Other ≡ None → Follows rs roles.Other
+other_follows rs d true change s free = refuses rs roles.Other refusals.LateHeader free (late_other rs d s change)
+other_follows rs d false change s free = (d, other_stands rs d s change free)
 
 change_follows : (rs : List Role) (c : Change) (d : Draft) → Stands rs d → refusal rs (roles.Change c) ≡ None → Follows rs (roles.Change c)
 change_follows rs c d s free =
-    let new : Draft = record d { changes = record { items = d.changes.items ++ c ∷ []; spare = 0 }; in_block = open_after d.in_block c } in
+    let new : Draft = record d { has_change = true; in_block = open_after d.in_block c } in
     (new, change_stands rs c d new s (sym (change_refused rs c d (block_refusal d.in_block c) s refl) ∙ free) refl refl refl refl)
 
 bad_id : (rs : List Role) → refusal rs (roles.Id None) ≡ Some refusals.BadId
@@ -64,10 +60,10 @@ bad_prev rs = refl
 
 follows : (rs : List Role) (r : Role) (d : Draft) → Stands rs d → refusal rs r ≡ None → Follows rs r
 follows rs (roles.Id None) d s free = refuses rs (roles.Id None) refusals.BadId free (bad_id rs)
-follows rs (roles.Id (Some id)) d s free = id_follows rs id d (is_some d.id) refl (empty_or d.changes.items) s free
+follows rs (roles.Id (Some id)) d s free = id_follows rs id d (is_some d.id) d.has_change refl refl s free
 follows rs (roles.Prev None) d s free = refuses rs (roles.Prev None) refusals.BadId free (bad_prev rs)
-follows rs (roles.Prev (Some id)) d s free = prev_follows rs id d (is_some d.prev) refl (empty_or d.changes.items) s free
-follows rs roles.Other d s free = other_follows rs d (empty_or d.changes.items) s free
+follows rs (roles.Prev (Some id)) d s free = prev_follows rs id d (is_some d.prev) d.has_change refl refl s free
+follows rs roles.Other d s free = other_follows rs d d.has_change refl s free
 follows rs (roles.Change c) d s free = change_follows rs c d s free
 
 all_follow : (before rs : List Role) (d : Draft) → Stands before d → AreTakenFrom before rs → (new : Draft) × Stands (before ++ rs) new
@@ -79,7 +75,7 @@ all_follow before (r ∷ rs) d s taken =
 
 drafted : (rs : List Role) → AreTaken rs → (d : Draft) × Stands rs d
 drafted rs taken =
-    let first : Draft = record { id = None; prev = None; changes = record { items = []; spare = 0 }; in_block = false } in
+    let first : Draft = record { id = None; prev = None; has_change = false; in_block = false } in
     all_follow [] rs first (first_stands first refl refl refl refl) taken
 
 -- ---- the end of a patch
@@ -91,7 +87,7 @@ Ends rs stop = ((m : Meaning) × IsWell rs m) ⊎ ((fault : PatchFault) × Lacks
 ends_by : (rs : List Role) (stop : ℕ) (d : Draft) (inside : Bool) (id : Option Id) → Stands rs d → d.in_block ≡ inside → d.id ≡ id → Ends rs stop
 ends_by rs stop d true id s open_block is = inr (faults.OpenBlock stop, (s.taken, inl (s.inside ∙ open_block, refl)))
 ends_by rs stop d false None s closed is = inr (faults.NoId stop, (s.taken, inr (s.inside ∙ closed, s.ids ∙ ap prev_list is, refl)))
-ends_by rs stop d false (Some id) s closed is = inl (record { id = id; prev = d.prev; changes = d.changes.items }, whole_is rs d id s closed is)
+ends_by rs stop d false (Some id) s closed is = inl (record { id = id; prev = d.prev; changes = changes_of rs }, whole_is rs d id s closed is)
 
 pub ends : (rs : List Role) (stop : ℕ) → AreTaken rs → Ends rs stop
 ends rs stop taken = let d = drafted rs taken in ends_by rs stop d.0 d.0.in_block d.0.id d.1 refl refl

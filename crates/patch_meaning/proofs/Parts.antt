@@ -1,10 +1,12 @@
 -- A patch of a stream while its rows are taken.
-use Rattle.std.proofs.Common.{◌≡◌, ℕ, ◌+◌, ◌<◌, ◌≤◌, nat_lt, Bool, true, false, ◌||◌, List, [], ◌∷◌, ◌++◌, Option, Some, None, Ok, refl, sym, ap, subst, ◌∙◌, append_assoc, append-nil, ◌⊎◌, inl, inr, arith}
+use Rattle.std.proofs.Common.{◌≡◌, ℕ, ◌+◌, ◌<◌, ◌≤◌, nat_lt, Bool, true, false, ◌||◌, List, [], ◌∷◌, ◌++◌, Option, Some, None, refl, sym, ap, subst, ◌∙◌, append_assoc, append-nil, ◌⊎◌, inl, inr, arith}
+use Rattle.std.specs.Prelude.{◌&&◌, not, is_some}
 use Rattle.std.specs.List.{flat_map}
 use Rattle.std.proofs.lemmas.List.{map-append}
 use Rattle.std.proofs.lemmas.Grind.{flat_map-append}
 use Rattle.std.proofs.lemmas.Bool.Decides.{nat_tests}
 use Rattle.delta_base.specs.declared.id.Id.{Id}
+use Rattle.chain_core.specs.declared.link.Link.{Link}
 use Rattle.patch_rows.specs.declared.fault.RowKind.{RowKind}
 use Rattle.patch_meaning.specs.declared.draft.Draft.{Draft}
 use Rattle.patch_meaning.specs.declared.fault.PatchFault.{PatchFault}
@@ -13,7 +15,7 @@ use Rattle.patch_meaning.specs.declared.part.Part.{Part as PartRead}
 use Rattle.patch_meaning.specs.declared.role.Role.{Role}
 use Rattle.patch_meaning.specs.Draft.{AreBehind, Stands}
 use Rattle.patch_meaning.specs.Patch.{AreOutside, AreTaken, IsWell, patch_limit, prev_list, refusal, has_some}
-use Rattle.patch_meaning.specs.PartRead.{IsNoted, IsRefused, HasRows, HasPart, LacksEnd, TakesRow}
+use Rattle.patch_meaning.specs.PartRead.{IsNoted, IsRefused, HasRows, HasPart, LacksEnd, TakesRow, is_sound, meaning_of}
 use Rattle.patch_meaning.specs.Roles.{role, said, id_of, change_of, ids_of, changes_of, is_open}
 use Rattle.patch_reader.specs.declared.placed.PlacedRow.{PlacedRow}
 use Rattle.patch_meaning.specs.Rows.{AreUpTo}
@@ -81,17 +83,31 @@ both : (b : Bool) → b ≡ true → b ≡ false → ⊥
 both b e f = cc
 
 -- behind the limit nothing is kept
-pub kept_long : (rs : List PlacedRow) (r : PlacedRow) (says : Role) (at : ℕ) (old new : PartRead) → HasPart rs old → role r.row ≡ says → r.at ≡ at → IsNoted old says at new → new.is_long ≡ true → HasPart (rs ++ r ∷ []) new
+kept_long : (rs : List PlacedRow) (r : PlacedRow) (says : Role) (at : ℕ) (old new : PartRead) → HasPart rs old → role r.row ≡ says → r.at ≡ at → IsNoted old says at new → new.is_long ≡ true → HasPart (rs ++ r ∷ []) new
 kept_long rs r says at old new h is place n long = noted rs r says at old new new.draft new.fault h is place n (λ was short. absurd (both new.is_long long short))
 
 -- behind a refused row
-pub kept_fault : (rs : List PlacedRow) (r : PlacedRow) (says : Role) (at : ℕ) (old new : PartRead) (fault : PatchFault) → HasPart rs old → role r.row ≡ says → r.at ≡ at → IsNoted old says at new → new.fault ≡ Some fault
+kept_fault : (rs : List PlacedRow) (r : PlacedRow) (says : Role) (at : ℕ) (old new : PartRead) (fault : PatchFault) → HasPart rs old → role r.row ≡ says → r.at ≡ at → IsNoted old says at new → new.fault ≡ Some fault
     → HasPart (rs ++ r ∷ []) new
 kept_fault rs r says at old new fault h is place n was =
     noted rs r says at old new new.draft new.fault h is place n
     (λ short now. subst (λ (f : Option PatchFault). HasRows f (rs ++ r ∷ []) new) (sym was) (still_refused rs r fault (subst (λ (f : Option PatchFault). HasRows f rs old) (sym n.fault ∙ was) (h.rows_ short))))
 
-taken_rows : (rs : List PlacedRow) (r : PlacedRow) (says : Role) (p : PartRead) (fault : Option PatchFault) → AreTaken (said rs) → role r.row ≡ says → TakesRow (said rs) says r.at (Ok fault) p.draft
+-- where a row so far was not taken
+pub kept : (rs : List PlacedRow) (r : PlacedRow) (says : Role) (at : ℕ) (old new : PartRead) → HasPart rs old → role r.row ≡ says → r.at ≡ at → IsNoted old says at new → is_sound new ≡ false → HasPart (rs ++ r ∷ []) new
+kept rs r says at old new h is place n unsound = by new.is_long new.fault refl refl unsound
+  where
+    by : (long : Bool) (fault : Option PatchFault) → new.is_long ≡ long → new.fault ≡ fault → not long && not (is_some fault) ≡ false → HasPart (rs ++ r ∷ []) new
+    by true fault long f broken = kept_long rs r says at old new h is place n long
+    by false (Some fault) long f broken = kept_fault rs r says at old new fault h is place n f
+    by false None long f broken = absurd cc
+
+no_fault : (long : Bool) (fault : Option PatchFault) → not long && not (is_some fault) ≡ true → fault ≡ None
+no_fault true fault sound = absurd cc
+no_fault false None sound = refl
+no_fault false (Some fault) sound = absurd cc
+
+taken_rows : (rs : List PlacedRow) (r : PlacedRow) (says : Role) (p : PartRead) (fault : Option PatchFault) → AreTaken (said rs) → role r.row ≡ says → TakesRow (said rs) says r.at fault p.draft
     → HasRows fault (rs ++ r ∷ []) p
 taken_rows rs r says p None taken is t = subst (λ (l : List Role). Stands l p.draft) (ap (λ (q : Role). said rs ++ q ∷ []) (sym is) ∙ sym (said_more rs r)) t
 taken_rows rs r says p (Some fault) taken is t = record {
@@ -106,23 +122,24 @@ taken_rows rs r says p (Some fault) taken is t = record {
 }
 
 pub taken_row : (rs : List PlacedRow) (r : PlacedRow) (says : Role) (at : ℕ) (old mid : PartRead) (d : Draft) (f : Option PatchFault) → HasPart rs old → role r.row ≡ says → r.at ≡ at → IsNoted old says at mid
-    → mid.fault ≡ None → ((l : List Role) → Stands l mid.draft → TakesRow l says at (Ok f) d) → HasPart (rs ++ r ∷ []) (record mid { draft = d; fault = f })
-taken_row rs r says at old mid d f h is place n was step =
+    → is_sound mid ≡ true → ((l : List Role) → Stands l mid.draft → TakesRow l says at f d) → HasPart (rs ++ r ∷ []) (record mid { draft = d; fault = f })
+taken_row rs r says at old mid d f h is place n sound step =
+    let was : mid.fault ≡ None = no_fault mid.is_long mid.fault sound in
     noted rs r says at old mid d f h is place n
     (λ short now.
     let s = subst (λ (g : Option PatchFault). HasRows g rs old) (sym n.fault ∙ was) (h.rows_ short) in
     taken_rows rs r says (record mid { draft = d; fault = f }) f s.taken is
-    (subst (λ (n : ℕ). TakesRow (said rs) says n (Ok f) d) (sym place) (step (said rs) (subst (Stands (said rs)) (sym n.draft) s))))
+    (subst (λ (n : ℕ). TakesRow (said rs) says n f d) (sym place) (step (said rs) (subst (Stands (said rs)) (sym n.draft) s))))
 
 -- ---- the end of a patch
 
-pub whole_is : (rs : List Role) (d : Draft) (id : Id) → Stands rs d → d.in_block ≡ false → d.id ≡ Some id → IsWell rs (record { id = id; prev = d.prev; changes = d.changes.items })
+pub whole_is : (rs : List Role) (d : Draft) (id : Id) → Stands rs d → d.in_block ≡ false → d.id ≡ Some id → IsWell rs (record { id = id; prev = d.prev; changes = changes_of rs })
 whole_is rs d id s outside is = record {
   parted = s.parted;
   one_id = s.ids ∙ ap prev_list is;
   prev_is = s.prevs;
-  changes_are = s.changes;
-  blocks = subst AreOutside (append-nil d.changes.items) (s.blocks [] (subst (λ (b : Bool). AreBehind b []) (sym outside) tt));
+  changes_are = refl;
+  blocks = subst AreOutside (append-nil (changes_of rs)) (s.blocks [] (subst (λ (b : Bool). AreBehind b []) (sym outside) tt));
 }
 
 pub lacks_end : (rs : List PlacedRow) (from stop : ℕ) (fault : PatchFault) → stop ≤ from + patch_limit → LacksEnd (said rs) stop fault → IsPartFault (record { from = from; rows_ = rs }) stop None fault
@@ -151,3 +168,12 @@ refused_rows rs p stop fault h up short is = subst (λ (f : Option PatchFault). 
 
 pub stands_rows : (rs : List PlacedRow) (p : PartRead) (stop : ℕ) → HasPart rs p → AreUpTo rs stop → stop ≤ p.from + patch_limit → p.fault ≡ None → Stands (said rs) p.draft
 stands_rows rs p stop h up short is = subst (λ (f : Option PatchFault). HasRows f rs p) is (within rs p stop h up short)
+
+sound_by : (p : PartRead) → p.is_long ≡ false → p.fault ≡ None → is_sound p ≡ true
+sound_by p short none = ap (λ (b : Bool). not b && not (is_some p.fault)) short ∙ ap (λ (f : Option PatchFault). not (is_some f)) none
+
+-- the patch of which all rows were taken
+pub complete_part : (rs : List PlacedRow) (p : PartRead) (stop : ℕ) (link : Link) → HasPart rs p → AreUpTo rs stop → stop ≤ p.from + patch_limit → p.fault ≡ None
+    → ((l : List Role) → Stands l p.draft → IsWell l (meaning_of link (changes_of l))) → IsWell (said rs) (meaning_of link (changes_of (said rs))) × (stop ≤ p.from + patch_limit) × (is_sound p ≡ true)
+complete_part rs p stop link h up short none well =
+    (well (said rs) (stands_rows rs p stop h up short none), short, sound_by p (not_long rs p stop p.is_long h.long up short) none)

@@ -3,11 +3,11 @@ use Rattle.std.proofs.Common.{◌≡◌, ℕ, ◌<◌, ◌≤◌, List, [], ◌�
 use Rattle.std.proofs.lemmas.List.{map-append}
 use Rattle.patch_rows.specs.declared.fault.RowFault.{RowFault}
 use Rattle.patch_rows.specs.declared.fault.RowFault.TheVariants as row
-use Rattle.patch_meaning.specs.declared.draft.Draft.{Draft}
+use Rattle.patch_meaning.specs.declared.checked.ReadRows.{ReadRows}
 use Rattle.patch_meaning.specs.declared.fault.PatchFault.{PatchFault}
 use Rattle.patch_meaning.specs.declared.role.Role.{Role}
 use Rattle.patch_meaning.specs.declared.rows.Next.{Next}
-use Rattle.patch_meaning.specs.Checked.{Refuses, IsStopped, HasRead}
+use Rattle.patch_meaning.specs.Checked.{AreRead, Refuses, IsStopped, HasRead}
 use Rattle.patch_meaning.specs.Draft.{Stands}
 use Rattle.patch_meaning.specs.Next.{IsNextRow, IsNext}
 use Rattle.patch_meaning.specs.PartRead.{LacksEnd}
@@ -19,23 +19,23 @@ use Rattle.patch_reader.specs.Rows.{Gap, RowsUpTo}
 use Rattle.patch_meaning.proofs.Rowed.{rows_more, row_within}
 
 -- the rows up to a place were taken
-pub record HasTaken (text : List ℕ) (at : ℕ) (d : Draft) : Type 0 where
+pub record HasTaken (text : List ℕ) (at : ℕ) (d : ReadRows) : Type 0 where
   pub rs : List PlacedRow
   pub reads : RowsUpTo text 0 rs at
   pub within : at ≤ length text
-  pub stands : Stands (said rs) d
+  pub stands : AreRead (said rs) d
 
-pub started : (text : List ℕ) (d : Draft) → Stands [] d → HasTaken text 0 d
+pub started : (text : List ℕ) (d : ReadRows) → AreRead [] d → HasTaken text 0 d
 started text d s = record { rs = []; reads = refl; within = omega arith; stands = s }
 
-pub taken : (text : List ℕ) (at : ℕ) (old new : Draft) (next : Next) → HasTaken text at old → IsNextRow text at next → ((rs : List Role) → Stands rs old → Stands (rs ++ next.role ∷ []) new) → HasTaken text next.end new
+pub taken : (text : List ℕ) (at : ℕ) (old new : ReadRows) (next : Next) → HasTaken text at old → IsNextRow text at next → ((rs : List Role) → AreRead rs old → AreRead (rs ++ next.role ∷ []) new) → HasTaken text next.end new
 taken text at old new next h is step =
     let placed : PlacedRow = record { row = is.0; at = next.at; end = next.end } in
     record {
       rs = h.rs ++ placed ∷ [];
       reads = rows_more text 0 at h.rs placed h.reads is.1 is.2;
       within = (row_within text next.at is.0 next.end is.2).1;
-      stands = subst (λ (rs : List Role). Stands rs new)
+      stands = subst (λ (rs : List Role). AreRead rs new)
           (ap (λ (r : Role). said h.rs ++ r ∷ []) is.3 ∙ sym (map-append (λ (r : PlacedRow). role r.row) h.rs (placed ∷ [])))
           (step (said h.rs) h.stands);
     }
@@ -47,21 +47,21 @@ further text at next is =
     let low = is.1.1 in
     (omega (arith, row.0, low), row.1)
 
-pub ended : (text : List ℕ) (at : ℕ) (d : Draft) → HasTaken text at d → Gap text at (length text) → HasRead text d
+pub ended : (text : List ℕ) (at : ℕ) (d : ReadRows) → HasTaken text at d → Gap text at (length text) → HasRead text d
 ended text at d h gap = (h.rs, (at, h.reads, gap), h.stands)
 
-pub stopped : (text : List ℕ) (at : ℕ) (d : Draft) (next : Next) (fault : PatchFault) → length text ≤ patch_limit → HasTaken text at d → IsNextRow text at next
-    → ((rs : List Role) → Stands rs d → IsStopped rs next fault) → Refuses text fault
+pub stopped : (text : List ℕ) (at : ℕ) (d : ReadRows) (next : Next) (fault : PatchFault) → length text ≤ patch_limit → HasTaken text at d → IsNextRow text at next
+    → ((rs : List Role) → AreRead rs d → IsStopped rs next fault) → Refuses text fault
 stopped text at d next fault short h is stop = by (stop (said h.rs) h.stands)
   where
     by : IsStopped (said h.rs) next fault → Refuses text fault
     by (inl memory) = inl memory
     by (inr s) =
-        inr (rows_ h.rs next.at short (at, h.reads, is.1) h.stands.taken
+        inr (rows_ h.rs next.at short (at, h.reads, is.1) h.stands.0.taken
         (refused is.0 next.end s.0 is.2 (ap (refusal (said h.rs)) (sym is.3) ∙ s.1) s.2))
 
-pub broken : (text : List ℕ) (at : ℕ) (d : Draft) (fault : RowFault) → length text ≤ patch_limit → HasTaken text at d → IsNext text at (Err fault) → Refuses text (row_refused fault)
-broken text at d (row.At place kind) short h is = inr (rows_ h.rs is.0 short (at, h.reads, is.1) h.stands.taken (no_row place kind is.2 refl))
+pub broken : (text : List ℕ) (at : ℕ) (d : ReadRows) (fault : RowFault) → length text ≤ patch_limit → HasTaken text at d → IsNext text at (Err fault) → Refuses text (row_refused fault)
+broken text at d (row.At place kind) short h is = inr (rows_ h.rs is.0 short (at, h.reads, is.1) h.stands.0.taken (no_row place kind is.2 refl))
 broken text at d row.OutOfMemory short h is = inl refl
 
 -- ---- the end
@@ -71,5 +71,5 @@ pub lacks_text : (text : List ℕ) (rs : List PlacedRow) (to : ℕ) (fault : Pat
 lacks_text text rs to fault short reads last (taken, inl is) = rows_ rs to short reads taken (open_block last is.0 is.1)
 lacks_text text rs to fault short reads last (taken, inr is) = rows_ rs to short reads taken (no_id last is.0 is.1 is.2)
 
-pub lacks_end : (text : List ℕ) (d : Draft) (fault : PatchFault) → length text ≤ patch_limit → HasRead text d → ((rs : List Role) → Stands rs d → LacksEnd rs (length text) fault) → Refuses text fault
-lacks_end text d fault short h why = inr (lacks_text text h.0 (length text) fault short h.1 refl (why (said h.0) h.2))
+pub lacks_end : (text : List ℕ) (d : ReadRows) (fault : PatchFault) → length text ≤ patch_limit → HasRead text d → ((rs : List Role) → Stands rs d.draft → LacksEnd rs (length text) fault) → Refuses text fault
+lacks_end text d fault short h why = inr (lacks_text text h.0 (length text) fault short h.1 refl (why (said h.0) h.2.0))

@@ -2,33 +2,34 @@
 use Rattle.std.proofs.Common.{◌≡◌, ℕ, ◌≤◌, true, List, [], ◌∷◌, ◌++◌, length, Option, Some, None, refl, sym, ap, subst, ◌∙◌, append-nil, ◌⊎◌, inl, inr, arith}
 use Rattle.std.specs.List.{slice_range}
 use Rattle.std.proofs.lemmas.List.{map-append}
+use Rattle.chain_core.specs.declared.link.Link.{Link}
+use Rattle.rdf_terms.specs.declared.change.Change.{Change}
 use Rattle.patch_rows.specs.declared.row.Row.{Row}
 use Rattle.patch_reader.specs.declared.placed.PlacedRow.{PlacedRow}
 use Rattle.patch_reader.specs.Rows.{Gap}
 use Rattle.patch_meaning.specs.declared.fault.PatchFault.{PatchFault}
 use Rattle.patch_meaning.specs.declared.fault.PatchFault.TheVariants as faults
 use Rattle.patch_meaning.specs.declared.part.Part.{Part as PartRead}
-use Rattle.patch_meaning.specs.declared.part.StreamPatch.{StreamPatch}
 use Rattle.patch_meaning.specs.declared.rows.Next.{Next}
 use Rattle.patch_meaning.specs.declared.stream.Cutting.{Cutting}
 use Rattle.patch_meaning.specs.Checked.{CheckedPatch, meanings, texts}
-use Rattle.patch_meaning.specs.Cutting.{IsCutInto, IsCutAt, HasTakenNext, IsBrokenBefore, IsLast, EndsStream, IsBrokenAtEnd, HasCut, IsTextOf, checked_of, IsNextOf, Stops, RefusesStream, meanings_of}
+use Rattle.patch_meaning.specs.Cutting.{IsCutInto, IsCutAt, HasTakenNext, IsBrokenBefore, IsLast, EndsStream, IsBrokenAtEnd, HasCut, IsTextOf, checked_of, IsNextOf, Stops, RefusesStream, changes_behind, meanings_of}
 use Rattle.patch_meaning.specs.Next.{IsNextRow}
-use Rattle.patch_meaning.specs.PartRead.{HasPart, meaning_of}
-use Rattle.patch_meaning.specs.Patch.{Meaning, has_some}
+use Rattle.patch_meaning.specs.PartRead.{HasPart, IsComplete, meaning_of}
+use Rattle.patch_meaning.specs.Patch.{Meaning, IsPatch, has_some}
 use Rattle.patch_meaning.specs.Roles.{role, said}
 use Rattle.patch_meaning.specs.Rows.{AreUpTo, RowsTo}
 use Rattle.patch_meaning.specs.Stream.{Part, Cut, AreStream, IsStream, IsSplit, begins, cut, stop_of, texts_of, cut_texts, next, over, no_row}
-use Rattle.patch_meaning.proofs.Cuts.{cut_begun, cut_longer, stop_more, none_there, nothing_cut}
+use Rattle.patch_meaning.proofs.Cuts.{cut_begun, cut_longer, stop_more, none_there, nothing_cut, well_with}
 use Rattle.patch_meaning.proofs.FaultPlaces.{fault_behind}
 use Rattle.patch_meaning.proofs.Pieces.{piece_patch, last_rows}
 use Rattle.patch_meaning.proofs.Rowed.{rows_more, row_within, rows_order, rows_up_to}
 
 -- ---- texts
 
-meanings_more : (ps : List CheckedPatch) (text : List ℕ) (done : Option StreamPatch) → meanings (ps ++ checked_of text done) ≡ meanings ps ++ meanings_of done
-meanings_more ps text None = map-append (λ (p : CheckedPatch). p.meaning) ps []
-meanings_more ps text (Some patch) = map-append (λ (p : CheckedPatch). p.meaning) ps (checked_of text (Some patch))
+meanings_more : (ps : List CheckedPatch) (text : List ℕ) (done : Option Link) (changes : List Change) → meanings (ps ++ checked_of text done changes) ≡ meanings ps ++ meanings_of done changes
+meanings_more ps text None changes = map-append (λ (p : CheckedPatch). p.meaning) ps []
+meanings_more ps text (Some link) changes = map-append (λ (p : CheckedPatch). p.meaning) ps (checked_of text (Some link) changes)
 
 texts_more : (text : List ℕ) (done : List Part) (last : Part) (stop : ℕ) → texts_of text (done ++ last ∷ []) stop ≡ texts_of text done last.from ++ slice_range text last.from stop ∷ []
 texts_more text [] last stop = refl
@@ -37,21 +38,21 @@ texts_more text (part ∷ done) last stop =
     ∙ ap (λ (l : List (List ℕ)). slice_range text part.from (stop_of done last.from) ∷ l) (texts_more text done last stop)
 
 -- one more patch with its text
-texts_with : (text : List ℕ) (c : Cut) (p : PartRead) (ps : List CheckedPatch) (patch : StreamPatch) (stop : ℕ) → c.last.from ≡ p.from → texts ps ≡ texts_of text c.done c.last.from
-    → texts (ps ++ checked_of (slice_range text p.from stop) (Some patch)) ≡ texts_of text (c.done ++ c.last ∷ []) stop
-texts_with text c p ps patch stop from are =
-    map-append (λ (q : CheckedPatch). q.text) ps (checked_of (slice_range text p.from stop) (Some patch))
+texts_with : (text : List ℕ) (c : Cut) (p : PartRead) (ps : List CheckedPatch) (link : Link) (changes : List Change) (stop : ℕ) → c.last.from ≡ p.from → texts ps ≡ texts_of text c.done c.last.from
+    → texts (ps ++ checked_of (slice_range text p.from stop) (Some link) changes) ≡ texts_of text (c.done ++ c.last ∷ []) stop
+texts_with text c p ps link changes stop from are =
+    map-append (λ (q : CheckedPatch). q.text) ps (checked_of (slice_range text p.from stop) (Some link) changes)
     ∙ ap (λ (l : List (List ℕ)). l ++ slice_range text p.from stop ∷ []) are
     ∙ ap (λ (n : ℕ). texts_of text c.done c.last.from ++ slice_range text n stop ∷ []) (sym from) ∙ sym (texts_more text c.done c.last stop)
 
 abbrev texts_so_far : List ℕ → Cut → List (List ℕ)
 texts_so_far text c = texts_of text c.done c.last.from
 
-texts_next : (text : List ℕ) (rs : List PlacedRow) (r : PlacedRow) (p : PartRead) (ps : List CheckedPatch) (done : Option StreamPatch) → HasPart (cut rs).last.rows_ p → (cut rs).last.from ≡ p.from
-    → IsCutAt p (role r.row) r.at done → texts ps ≡ texts_so_far text (cut rs) → texts (ps ++ checked_of (slice_range text p.from r.at) done) ≡ texts_so_far text (cut (rs ++ r ∷ []))
-texts_next text rs r p ps None h from same are = ap texts (append-nil ps) ∙ are ∙ sym (ap (texts_so_far text) (cut_longer rs r (same (cut rs).last.rows_ h)))
-texts_next text rs r p ps (Some patch) h from is are =
-    texts_with text (cut rs) p ps patch r.at from are ∙ sym (ap (texts_so_far text) (cut_begun rs r (is.0 (cut rs).last.rows_ h)))
+texts_next : (text : List ℕ) (rs : List PlacedRow) (r : PlacedRow) (p : PartRead) (ps : List CheckedPatch) (done : Option Link) (changes : List Change) → HasPart (cut rs).last.rows_ p → (cut rs).last.from ≡ p.from
+    → IsCutAt p (role r.row) r.at done → texts ps ≡ texts_so_far text (cut rs) → texts (ps ++ checked_of (slice_range text p.from r.at) done changes) ≡ texts_so_far text (cut (rs ++ r ∷ []))
+texts_next text rs r p ps None changes h from same are = ap texts (append-nil ps) ∙ are ∙ sym (ap (texts_so_far text) (cut_longer rs r (same (cut rs).last.rows_ h)))
+texts_next text rs r p ps (Some link) changes h from is are =
+    texts_with text (cut rs) p ps link changes r.at from are ∙ sym (ap (texts_so_far text) (cut_begun rs r (is.0 (cut rs).last.rows_ h)))
 
 no_rows_left : (text : List ℕ) (rs : List PlacedRow) (ps : List CheckedPatch) → rs ≡ [] → texts ps ≡ texts_so_far text (cut rs) → texts ps ≡ cut_texts text rs
 no_rows_left text [] ps none are = are
@@ -61,11 +62,11 @@ last_text : (text : List ℕ) (rs : List PlacedRow) (texts_are : List (List ℕ)
 last_text text [] texts_are some are = absurd cc
 last_text text (r ∷ rs) texts_are some are = are
 
-texts_last : (text : List ℕ) (rs : List PlacedRow) (p : PartRead) (ps : List CheckedPatch) (done : Option StreamPatch) → IsCutInto rs (meanings ps) p → IsLast p (length text) done
-    → texts ps ≡ texts_so_far text (cut rs) → texts (ps ++ checked_of (slice_range text p.from (length text)) done) ≡ cut_texts text rs
-texts_last text rs p ps None h none are = ap texts (append-nil ps) ∙ no_rows_left text rs ps (h.some (none_there (cut rs).last.rows_ (none (cut rs).last.rows_ h.part))) are
-texts_last text rs p ps (Some patch) h is are =
-    last_text text rs _ (is.0 (cut rs).last.rows_ h.part) (texts_with text (cut rs) p ps patch (length text) h.from_is are)
+texts_last : (text : List ℕ) (rs : List PlacedRow) (p : PartRead) (ps : List CheckedPatch) (done : Option Link) (changes : List Change) → IsCutInto rs (meanings ps) changes p → IsLast p (length text) done
+    → texts ps ≡ texts_so_far text (cut rs) → texts (ps ++ checked_of (slice_range text p.from (length text)) done changes) ≡ cut_texts text rs
+texts_last text rs p ps None changes h none are = ap texts (append-nil ps) ∙ no_rows_left text rs ps (h.some (none_there (cut rs).last.rows_ (none (cut rs).last.rows_ h.part))) are
+texts_last text rs p ps (Some link) changes h is are =
+    last_text text rs _ (is.0 (cut rs).last.rows_ h.part) (texts_with text (cut rs) p ps link changes (length text) h.from_is are)
 
 -- ---- where a patch begins and stops
 
@@ -78,20 +79,22 @@ rows_before text at stop k h le = rows_up_to text (cut h.rs).last.from at stop (
 rows_there : (text : List ℕ) (at stop : ℕ) (k : Cutting) → (h : HasCut text at k) → Gap text at stop → RowsTo text k.part.from (cut h.rs).last.rows_ stop
 rows_there text at stop k h gap = subst (λ (n : ℕ). RowsTo text n (cut h.rs).last.rows_ stop) h.parts.from_is (at, last_rows text h.rs at h.reads, gap)
 
-pub next_piece : (text : List ℕ) (at : ℕ) (k : Cutting) (row : Next) (done : Option StreamPatch) → HasCut text at k → IsNextRow text at row → IsCutAt k.part row.role row.at done
-    → IsTextOf (slice_range text k.part.from row.at) done
-next_piece text at k row None h is c = tt
-next_piece text at k row (Some patch) h is c =
-    let low = is.1.1 in
-    let whole = c.1 (cut h.rs).last.rows_ h.parts.part (rows_before text at row.at k h low) in
-    piece_patch text k.part.from row.at (cut h.rs).last.rows_ (meaning_of patch) (rows_there text at row.at k h is.1) whole.1 whole.0
+-- the text from where a patch begins to where it stops is that patch
+whole_piece : (text : List ℕ) (at stop : ℕ) (k : Cutting) (link : Link) → (h : HasCut text at k) → Gap text at stop → IsComplete k.part stop link → IsPatch (slice_range text k.part.from stop) (meaning_of link k.changes.items)
+whole_piece text at stop k link h gap is =
+    let whole = is (cut h.rs).last.rows_ h.parts.part (rows_before text at stop k h gap.1) in
+    piece_patch text k.part.from stop (cut h.rs).last.rows_ (meaning_of link k.changes.items) (rows_there text at stop k h gap) whole.1
+    (well_with (said (cut h.rs).last.rows_) link k.changes.items (h.parts.changes_are whole.2) whole.0)
 
-pub last_piece : (text : List ℕ) (at : ℕ) (k : Cutting) (done : Option StreamPatch) → HasCut text at k → Gap text at (length text) → IsLast k.part (length text) done
-    → IsTextOf (slice_range text k.part.from (length text)) done
+pub next_piece : (text : List ℕ) (at : ℕ) (k : Cutting) (row : Next) (done : Option Link) → HasCut text at k → IsNextRow text at row → IsCutAt k.part row.role row.at done
+    → IsTextOf (slice_range text k.part.from row.at) done k.changes.items
+next_piece text at k row None h is c = tt
+next_piece text at k row (Some link) h is c = whole_piece text at row.at k link h is.1 c.1
+
+pub last_piece : (text : List ℕ) (at : ℕ) (k : Cutting) (done : Option Link) → HasCut text at k → Gap text at (length text) → IsLast k.part (length text) done
+    → IsTextOf (slice_range text k.part.from (length text)) done k.changes.items
 last_piece text at k None h gap last = tt
-last_piece text at k (Some patch) h gap last =
-    let whole = last.1 (cut h.rs).last.rows_ h.parts.part (rows_before text at (length text) k h gap.1) in
-    piece_patch text k.part.from (length text) (cut h.rs).last.rows_ (meaning_of patch) (rows_there text at (length text) k h gap) whole.1 whole.0
+last_piece text at k (Some link) h gap last = whole_piece text at (length text) k link h gap last.1
 
 -- ---- a whole text
 
@@ -101,31 +104,33 @@ placed row r = record { row = r; at = row.at; end = row.end }
 all_before : (text : List ℕ) (at stop : ℕ) (k : Cutting) → (h : HasCut text at k) → at ≤ stop → AreUpTo h.rs stop
 all_before text at stop k h le = rows_up_to text 0 at stop h.rs h.reads le
 
-pub begun_text : (text : List ℕ) (k : Cutting) → HasPart [] k.part → k.part.from ≡ 0 → k.patches.items ≡ [] → HasCut text 0 k
-begun_text text k part from none = record {
+pub begun_text : (text : List ℕ) (k : Cutting) → HasPart [] k.part → k.part.from ≡ 0 → k.patches.items ≡ [] → k.changes.items ≡ [] → HasCut text 0 k
+begun_text text k part from none silent = record {
   rs = [];
   reads = refl;
   within = omega arith;
-  parts = subst (λ (ps : List CheckedPatch). IsCutInto [] (meanings ps) k.part) (sym none) (nothing_cut k.part part from);
+  parts = subst (λ (ps : List CheckedPatch). IsCutInto [] (meanings ps) k.changes.items k.part) (sym none) (subst (λ (cs : List Change). IsCutInto [] [] cs k.part) (sym silent) (nothing_cut k.part part from));
   texts_are = ap texts none;
 }
 
-pub taken_behind : (text : List ℕ) (at : ℕ) (old new : Cutting) (row : Next) (done : Option StreamPatch) → IsNextRow text at row → HasCut text at old → IsCutAt old.part row.role row.at done
-    → HasTakenNext old.part row.role row.at done new.part → new.patches.items ≡ old.patches.items ++ checked_of (slice_range text old.part.from row.at) done → HasCut text row.end new
-taken_behind text at old new row patch is h cuts taken patches =
+pub taken_behind : (text : List ℕ) (at : ℕ) (old new : Cutting) (row : Next) (done : Option Link) → IsNextRow text at row → HasCut text at old → IsCutAt old.part row.role row.at done
+    → HasTakenNext old.part row.role row.at done new.part → new.patches.items ≡ old.patches.items ++ checked_of (slice_range text old.part.from row.at) done old.changes.items
+    → new.changes.items ≡ changes_behind done old.changes.items row.role → HasCut text row.end new
+taken_behind text at old new row done is h cuts taken patches changes =
     let low = is.1.1 in
     let piece : List ℕ = slice_range text old.part.from row.at in
     record {
       rs = h.rs ++ placed row is.0 ∷ [];
       reads = rows_more text 0 at h.rs (placed row is.0) h.reads is.1 is.2;
       within = (row_within text row.at is.0 row.end is.2).1;
-      parts = subst (λ (ms : List Meaning). IsCutInto (h.rs ++ placed row is.0 ∷ []) ms new.part) (sym (ap meanings patches ∙ meanings_more old.patches.items piece patch))
-          (taken h.rs (meanings old.patches.items) (placed row is.0) h.parts (all_before text at row.at old h low) (sym is.3) refl);
+      parts = subst (λ (ms : List Meaning). IsCutInto (h.rs ++ placed row is.0 ∷ []) ms new.changes.items new.part) (sym (ap meanings patches ∙ meanings_more old.patches.items piece done old.changes.items))
+          (subst (λ (cs : List Change). IsCutInto (h.rs ++ placed row is.0 ∷ []) (meanings old.patches.items ++ meanings_of done old.changes.items) cs new.part) (sym changes)
+          (taken h.rs (meanings old.patches.items) old.changes.items (placed row is.0) h.parts (all_before text at row.at old h low) (sym is.3) refl));
       texts_are = ap texts patches
-          ∙ texts_next text h.rs (placed row is.0) old.part old.patches.items patch h.parts.part h.parts.from_is (subst (λ (says : _). IsCutAt old.part says row.at patch) is.3 cuts) h.texts_are;
+          ∙ texts_next text h.rs (placed row is.0) old.part old.patches.items done old.changes.items h.parts.part h.parts.from_is (subst (λ (says : _). IsCutAt old.part says row.at done) is.3 cuts) h.texts_are;
     }
 
-broken_row : (text : List ℕ) (at : ℕ) (k : Cutting) (row : Next) (fault : PatchFault) → IsNextRow text at row → HasCut text at k → IsBrokenBefore k.part row.role row.at fault → RefusesStream text fault
+pub broken_row : (text : List ℕ) (at : ℕ) (k : Cutting) (row : Next) (fault : PatchFault) → IsNextRow text at row → HasCut text at k → IsBrokenBefore k.part row.role row.at fault → RefusesStream text fault
 broken_row text at k row fault is h why = inr (record {
   rows_ = h.rs;
   to = row.at;
@@ -134,14 +139,9 @@ broken_row text at k row fault is h why = inr (record {
   well = h.parts.before;
   stop = row.at;
   broken = None;
-  stops = next is.0 row.end is.2 (ap (begins (said (cut h.rs).last.rows_)) (sym is.3) ∙ why.1 h.rs (meanings k.patches.items) h.parts) refl refl;
-  fault_is = why.0 h.rs (meanings k.patches.items) h.parts (all_before text at row.at k h is.1.1);
+  stops = next is.0 row.end is.2 (ap (begins (said (cut h.rs).last.rows_)) (sym is.3) ∙ why.1 h.rs (meanings k.patches.items) k.changes.items h.parts) refl refl;
+  fault_is = why.0 h.rs (meanings k.patches.items) k.changes.items h.parts (all_before text at row.at k h is.1.1);
 })
-
-pub refused_row : (text : List ℕ) (at : ℕ) (k : Cutting) (row : Next) (fault : PatchFault) → IsNextRow text at row → HasCut text at k → (fault ≡ faults.OutOfMemory) ⊎ IsBrokenBefore k.part row.role row.at fault
-    → RefusesStream text fault
-refused_row text at k row fault is h (inl memory) = inl memory
-refused_row text at k row fault is h (inr why) = broken_row text at k row fault is h why
 
 pub stopped_there : (text : List ℕ) (at : ℕ) (k : Cutting) (fault : PatchFault) → HasCut text at k → Stops text at k.part fault → RefusesStream text fault
 stopped_there text at k fault h (inl memory) = inl memory
@@ -154,7 +154,7 @@ stopped_there text at k fault h (inr s) = inr (record {
   stop = s.1;
   broken = Some s.2;
   stops = no_row s.2 s.4 refl;
-  fault_is = s.5 h.rs (meanings k.patches.items) h.parts
+  fault_is = s.5 h.rs (meanings k.patches.items) k.changes.items h.parts
       (all_before text at s.1 k h (let low = s.3.1 in omega (arith, low, fault_behind text s.0 s.2 s.1 s.4)));
 })
 
@@ -167,18 +167,18 @@ unfinished text at k fault h gap why = inr (record {
   well = h.parts.before;
   stop = length text;
   broken = None;
-  stops = over refl (why.1 h.rs (meanings k.patches.items) h.parts) refl refl;
-  fault_is = why.0 h.rs (meanings k.patches.items) h.parts (all_before text at (length text) k h gap.1);
+  stops = over refl (why.1 h.rs (meanings k.patches.items) k.changes.items h.parts) refl refl;
+  fault_is = why.0 h.rs (meanings k.patches.items) k.changes.items h.parts (all_before text at (length text) k h gap.1);
 })
 
-pub finished : (text : List ℕ) (at : ℕ) (k : Cutting) (done : Option StreamPatch) (ps : List CheckedPatch) → HasCut text at k → Gap text at (length text) → EndsStream k.part (length text) done
-    → IsLast k.part (length text) done → ps ≡ k.patches.items ++ checked_of (slice_range text k.part.from (length text)) done → IsSplit text ps
-finished text at k patch ps h gap ends last same = record {
+pub finished : (text : List ℕ) (at : ℕ) (k : Cutting) (done : Option Link) (ps : List CheckedPatch) → HasCut text at k → Gap text at (length text) → EndsStream k.part (length text) done
+    → IsLast k.part (length text) done → ps ≡ k.patches.items ++ checked_of (slice_range text k.part.from (length text)) done k.changes.items → IsSplit text ps
+finished text at k done ps h gap ends last same = record {
   rows_ = h.rs;
   reads = (at, h.reads, gap);
-  stream = subst (AreStream h.rs (length text)) (sym (ap meanings same ∙ meanings_more k.patches.items (slice_range text k.part.from (length text)) patch))
-      (ends h.rs (meanings k.patches.items) h.parts (all_before text at (length text) k h gap.1));
-  texts_are = ap texts same ∙ texts_last text h.rs k.part k.patches.items patch h.parts last h.texts_are;
+  stream = subst (AreStream h.rs (length text)) (sym (ap meanings same ∙ meanings_more k.patches.items (slice_range text k.part.from (length text)) done k.changes.items))
+      (ends h.rs (meanings k.patches.items) k.changes.items h.parts (all_before text at (length text) k h gap.1));
+  texts_are = ap texts same ∙ texts_last text h.rs k.part k.patches.items done k.changes.items h.parts last h.texts_are;
 }
 
 pub is_stream : (text : List ℕ) (ps : List CheckedPatch) → IsSplit text ps → IsStream text (meanings ps)

@@ -5,7 +5,6 @@ use Rattle.std.specs.List.{flat_map}
 use Rattle.std.proofs.lemmas.List.{map-append}
 use Rattle.std.proofs.lemmas.Grind.{flat_map-append}
 use Rattle.delta_base.specs.declared.id.Id.{Id}
-use Rattle.delta_base.specs.Listed.{Listed}
 use Rattle.rdf_terms.specs.declared.change.Change.{Change}
 use Rattle.rdf_terms.specs.declared.change.Change.TheVariants as change
 use Rattle.patch_meaning.specs.declared.draft.Draft.{Draft}
@@ -72,15 +71,12 @@ behind_more false (change.PrefixDelete prefix graph) more none behind = behind
 
 -- ---- refusals
 
-nothing_late : (rs : List Role) → changes_of rs ≡ [] → late rs ≡ None
-nothing_late rs none = ap (λ (cs : List Change). cond (has_some cs) (Some refusals.LateHeader) None) none
+late_by : (rs : List Role) (d : Draft) (some : Bool) → Stands rs d → d.has_change ≡ some → late rs ≡ cond some (Some refusals.LateHeader) None
+late_by rs d some s is = ap (λ (b : Bool). cond b (Some refusals.LateHeader) None) (s.change ∙ is)
 
-late_from : (cs items : List Change) → cs ≡ items → (items ≡ [] → ⊥) → cond (has_some cs) (Some refusals.LateHeader) None ≡ Some refusals.LateHeader
-late_from [] items e some = absurd (some (sym e))
-late_from (c ∷ cs) items e some = refl
-
-is_late : (rs : List Role) (d : Draft) → Stands rs d → (d.changes.items ≡ [] → ⊥) → late rs ≡ Some refusals.LateHeader
-is_late rs d s some = late_from (changes_of rs) d.changes.items s.changes some
+no_changes : (cs : List Change) → has_some cs ≡ false → cs ≡ []
+no_changes [] none = refl
+no_changes (c ∷ cs) none = absurd cc
 
 second : (ids : List (Option Id)) (id : Option Id) (why : Refusal) (other : Option Refusal) → ids ≡ prev_list id → is_some id ≡ true → cond (has_some ids) (Some why) other ≡ Some why
 second ids None why other e some = absurd cc
@@ -94,33 +90,33 @@ pub second_id : (rs : List Role) (id : Id) (d : Draft) → Stands rs d → is_so
 unfolding refusal
 second_id rs id d s some = second (ids_of rs) d.id refusals.TwoIds (late rs) s.ids some
 
-pub late_id : (rs : List Role) (id : Id) (d : Draft) → Stands rs d → is_some d.id ≡ false → (d.changes.items ≡ [] → ⊥) → refusal rs (roles.Id (Some id)) ≡ Some refusals.LateHeader
+pub late_id : (rs : List Role) (id : Id) (d : Draft) → Stands rs d → is_some d.id ≡ false → d.has_change ≡ true → refusal rs (roles.Id (Some id)) ≡ Some refusals.LateHeader
 unfolding refusal
-late_id rs id d s none some = first (ids_of rs) d.id refusals.TwoIds (late rs) s.ids none ∙ is_late rs d s some
+late_id rs id d s none some = first (ids_of rs) d.id refusals.TwoIds (late rs) s.ids none ∙ late_by rs d true s some
 
-pub id_taken : (rs : List Role) (id : Id) (d : Draft) → Stands rs d → is_some d.id ≡ false → d.changes.items ≡ [] → refusal rs (roles.Id (Some id)) ≡ None
+pub id_taken : (rs : List Role) (id : Id) (d : Draft) → Stands rs d → is_some d.id ≡ false → d.has_change ≡ false → refusal rs (roles.Id (Some id)) ≡ None
 unfolding refusal
-id_taken rs id d s none empty = first (ids_of rs) d.id refusals.TwoIds (late rs) s.ids none ∙ nothing_late rs (s.changes ∙ empty)
+id_taken rs id d s none empty = first (ids_of rs) d.id refusals.TwoIds (late rs) s.ids none ∙ late_by rs d false s empty
 
 pub second_prev : (rs : List Role) (id : Id) (d : Draft) → Stands rs d → is_some d.prev ≡ true → refusal rs (roles.Prev (Some id)) ≡ Some refusals.TwoPrevs
 unfolding refusal
 second_prev rs id d s some = second (prevs_of rs) d.prev refusals.TwoPrevs (late rs) s.prevs some
 
-pub late_prev : (rs : List Role) (id : Id) (d : Draft) → Stands rs d → is_some d.prev ≡ false → (d.changes.items ≡ [] → ⊥) → refusal rs (roles.Prev (Some id)) ≡ Some refusals.LateHeader
+pub late_prev : (rs : List Role) (id : Id) (d : Draft) → Stands rs d → is_some d.prev ≡ false → d.has_change ≡ true → refusal rs (roles.Prev (Some id)) ≡ Some refusals.LateHeader
 unfolding refusal
-late_prev rs id d s none some = first (prevs_of rs) d.prev refusals.TwoPrevs (late rs) s.prevs none ∙ is_late rs d s some
+late_prev rs id d s none some = first (prevs_of rs) d.prev refusals.TwoPrevs (late rs) s.prevs none ∙ late_by rs d true s some
 
-pub prev_taken : (rs : List Role) (id : Id) (d : Draft) → Stands rs d → is_some d.prev ≡ false → d.changes.items ≡ [] → refusal rs (roles.Prev (Some id)) ≡ None
+pub prev_taken : (rs : List Role) (id : Id) (d : Draft) → Stands rs d → is_some d.prev ≡ false → d.has_change ≡ false → refusal rs (roles.Prev (Some id)) ≡ None
 unfolding refusal
-prev_taken rs id d s none empty = first (prevs_of rs) d.prev refusals.TwoPrevs (late rs) s.prevs none ∙ nothing_late rs (s.changes ∙ empty)
+prev_taken rs id d s none empty = first (prevs_of rs) d.prev refusals.TwoPrevs (late rs) s.prevs none ∙ late_by rs d false s empty
 
-pub late_other : (rs : List Role) (d : Draft) → Stands rs d → (d.changes.items ≡ [] → ⊥) → refusal rs roles.Other ≡ Some refusals.LateHeader
+pub late_other : (rs : List Role) (d : Draft) → Stands rs d → d.has_change ≡ true → refusal rs roles.Other ≡ Some refusals.LateHeader
 unfolding refusal
-late_other rs d s some = is_late rs d s some
+late_other rs d s some = late_by rs d true s some
 
-pub other_taken : (rs : List Role) (d : Draft) → Stands rs d → d.changes.items ≡ [] → refusal rs roles.Other ≡ None
+pub other_taken : (rs : List Role) (d : Draft) → Stands rs d → d.has_change ≡ false → refusal rs roles.Other ≡ None
 unfolding refusal
-other_taken rs d s empty = nothing_late rs (s.changes ∙ empty)
+other_taken rs d s empty = late_by rs d false s empty
 
 pub change_refused : (rs : List Role) (c : Change) (d : Draft) (why : Option Refusal) → Stands rs d → block_refusal d.in_block c ≡ why → refusal rs (roles.Change c) ≡ why
 unfolding refusal
@@ -131,57 +127,60 @@ change_taken rs c d s free = change_refused rs c d None s free
 
 -- ---- drafts
 
-pub first_stands : (d : Draft) → d.id ≡ None → d.prev ≡ None → d.changes.items ≡ [] → d.in_block ≡ false → Stands [] d
+pub first_stands : (d : Draft) → d.id ≡ None → d.prev ≡ None → d.has_change ≡ false → d.in_block ≡ false → Stands [] d
 first_stands d id prev changes inside = record {
   taken = tt;
   parted = record { headers = []; changes = []; parts = refl; no_change = refl };
   ids = ap prev_list (sym id);
   prevs = ap prev_list (sym prev);
-  changes = sym changes;
+  change = sym changes;
   inside = sym inside;
-  blocks = λ more behind.
-      subst (λ (cs : List Change). AreOutside (cs ++ more)) (sym changes) (subst (λ (b : Bool). AreBehind b more) inside behind);
+  blocks = λ more behind. subst (λ (b : Bool). AreBehind b more) inside behind;
 }
 
-header_stands : (rs : List Role) (r : Role) (old new : Draft) → Stands rs old → old.changes.items ≡ [] → refusal rs r ≡ None → change_of r ≡ []
-    → ids_of (rs ++ r ∷ []) ≡ prev_list new.id → prevs_of (rs ++ r ∷ []) ≡ prev_list new.prev → new.changes ≡ old.changes → new.in_block ≡ old.in_block → Stands (rs ++ r ∷ []) new
+header_stands : (rs : List Role) (r : Role) (old new : Draft) → Stands rs old → old.has_change ≡ false → refusal rs r ≡ None → change_of r ≡ []
+    → ids_of (rs ++ r ∷ []) ≡ prev_list new.id → prevs_of (rs ++ r ∷ []) ≡ prev_list new.prev → new.has_change ≡ old.has_change → new.in_block ≡ old.in_block → Stands (rs ++ r ∷ []) new
 header_stands rs r old new s none taken silent ids prevs changes inside =
     let unchanged : changes_of (rs ++ r ∷ []) ≡ changes_of rs = same change_of rs r silent in
     record {
       taken = taken_more [] rs r s.taken taken;
-      parted = header_more rs r (s.changes ∙ none) silent;
+      parted = header_more rs r (no_changes (changes_of rs) (s.change ∙ none)) silent;
       ids = ids;
       prevs = prevs;
-      changes = unchanged ∙ s.changes ∙ ap (λ (l : Listed Change). l.items) (sym changes);
+      change = ap has_some unchanged ∙ s.change ∙ sym changes;
       inside = ap (open_from false) unchanged ∙ s.inside ∙ sym inside;
       blocks = λ more behind.
-          subst (λ (l : Listed Change). AreOutside (l.items ++ more)) (sym changes) (s.blocks more (subst (λ (b : Bool). AreBehind b more) inside behind));
+          subst (λ (cs : List Change). AreOutside (cs ++ more)) (sym unchanged) (s.blocks more (subst (λ (b : Bool). AreBehind b more) inside behind));
     }
 
 no_list : (id : Option Id) → is_some id ≡ false → prev_list id ≡ []
 no_list None none = refl
 no_list (Some id) none = absurd cc
 
-pub id_stands : (rs : List Role) (id : Id) (old new : Draft) → Stands rs old → old.changes.items ≡ [] → refusal rs (roles.Id (Some id)) ≡ None → is_some old.id ≡ false
-    → new.id ≡ Some id → new.prev ≡ old.prev → new.changes ≡ old.changes → new.in_block ≡ old.in_block → Stands (rs ++ roles.Id (Some id) ∷ []) new
+pub id_stands : (rs : List Role) (id : Id) (old new : Draft) → Stands rs old → old.has_change ≡ false → refusal rs (roles.Id (Some id)) ≡ None → is_some old.id ≡ false
+    → new.id ≡ Some id → new.prev ≡ old.prev → new.has_change ≡ old.has_change → new.in_block ≡ old.in_block → Stands (rs ++ roles.Id (Some id) ∷ []) new
 id_stands rs id old new s none taken free is prev changes inside =
     header_stands rs (roles.Id (Some id)) old new s none taken refl
     (says_more id_of rs (roles.Id (Some id)) ∙ ap (λ (l : List (Option Id)). l ++ Some id ∷ []) (s.ids ∙ no_list old.id free) ∙ ap prev_list (sym is))
     (same prev_of rs (roles.Id (Some id)) refl ∙ s.prevs ∙ ap prev_list (sym prev)) changes inside
 
-pub prev_stands : (rs : List Role) (id : Id) (old new : Draft) → Stands rs old → old.changes.items ≡ [] → refusal rs (roles.Prev (Some id)) ≡ None → is_some old.prev ≡ false
-    → new.prev ≡ Some id → new.id ≡ old.id → new.changes ≡ old.changes → new.in_block ≡ old.in_block → Stands (rs ++ roles.Prev (Some id) ∷ []) new
+pub prev_stands : (rs : List Role) (id : Id) (old new : Draft) → Stands rs old → old.has_change ≡ false → refusal rs (roles.Prev (Some id)) ≡ None → is_some old.prev ≡ false
+    → new.prev ≡ Some id → new.id ≡ old.id → new.has_change ≡ old.has_change → new.in_block ≡ old.in_block → Stands (rs ++ roles.Prev (Some id) ∷ []) new
 prev_stands rs id old new s none taken free is same_id changes inside =
     header_stands rs (roles.Prev (Some id)) old new s none taken refl
     (same id_of rs (roles.Prev (Some id)) refl ∙ s.ids ∙ ap prev_list (sym same_id))
     (says_more prev_of rs (roles.Prev (Some id)) ∙ ap (λ (l : List (Option Id)). l ++ Some id ∷ []) (s.prevs ∙ no_list old.prev free) ∙ ap prev_list (sym is)) changes inside
 
-pub other_stands : (rs : List Role) (d : Draft) → Stands rs d → d.changes.items ≡ [] → refusal rs roles.Other ≡ None → Stands (rs ++ roles.Other ∷ []) d
+pub other_stands : (rs : List Role) (d : Draft) → Stands rs d → d.has_change ≡ false → refusal rs roles.Other ≡ None → Stands (rs ++ roles.Other ∷ []) d
 other_stands rs d s none taken =
     header_stands rs roles.Other d d s none taken refl (same id_of rs roles.Other refl ∙ s.ids) (same prev_of rs roles.Other refl ∙ s.prevs) refl refl
 
+some_more : (cs : List Change) (c : Change) → has_some (cs ++ c ∷ []) ≡ true
+some_more [] c = refl
+some_more (d ∷ cs) c = refl
+
 pub change_stands : (rs : List Role) (c : Change) (old new : Draft) → Stands rs old → block_refusal old.in_block c ≡ None → new.id ≡ old.id → new.prev ≡ old.prev
-    → new.changes.items ≡ old.changes.items ++ c ∷ [] → new.in_block ≡ open_after old.in_block c → Stands (rs ++ roles.Change c ∷ []) new
+    → new.has_change ≡ true → new.in_block ≡ open_after old.in_block c → Stands (rs ++ roles.Change c ∷ []) new
 change_stands rs c old new s free id prev changes inside =
     let now : changes_of (rs ++ roles.Change c ∷ []) ≡ changes_of rs ++ c ∷ [] = says_more change_of rs (roles.Change c) in
     record {
@@ -189,9 +188,9 @@ change_stands rs c old new s free id prev changes inside =
       parted = change_more rs c s.parted;
       ids = same id_of rs (roles.Change c) refl ∙ s.ids ∙ ap prev_list (sym id);
       prevs = same prev_of rs (roles.Change c) refl ∙ s.prevs ∙ ap prev_list (sym prev);
-      changes = now ∙ ap (λ (l : List Change). l ++ c ∷ []) s.changes ∙ sym changes;
+      change = ap has_some now ∙ some_more (changes_of rs) c ∙ sym changes;
       inside = ap (open_from false) now ∙ open_more false (changes_of rs) c ∙ ap (λ (b : Bool). open_after b c) s.inside ∙ sym inside;
       blocks = λ more behind.
-          subst AreOutside (sym (ap (λ (l : List Change). l ++ more) changes ∙ append_assoc old.changes.items (c ∷ []) more))
+          subst AreOutside (sym (ap (λ (l : List Change). l ++ more) now ∙ append_assoc (changes_of rs) (c ∷ []) more))
           (s.blocks (c ∷ more) (behind_more old.in_block c more free (subst (λ (b : Bool). AreBehind b more) inside behind)));
     }

@@ -2,10 +2,9 @@
 use Rattle.std.specs.Prelude.{◌≡◌, Bool, true, false, List, [], ◌∷◌, ◌++◌, Some, Result, Ok, Err}
 use Rattle.rdf_terms.specs.declared.change.Change.{Change}
 use Rattle.patch_meaning.specs.declared.draft.Draft.{Draft}
-use Rattle.patch_meaning.specs.declared.fault.Stop.{Stop}
-use Rattle.patch_meaning.specs.declared.fault.Stop.TheVariants as stops
+use Rattle.patch_meaning.specs.declared.fault.Refusal.{Refusal}
 use Rattle.patch_meaning.specs.declared.role.Role.{Role}
-use Rattle.patch_meaning.specs.Patch.{AreOutside, AreInside, AreParted, AreTaken, prev_list, refusal}
+use Rattle.patch_meaning.specs.Patch.{AreOutside, AreInside, AreParted, AreTaken, has_some, prev_list, refusal}
 use Rattle.patch_meaning.specs.Roles.{ids_of, prevs_of, changes_of, is_open}
 
 -- changes that may follow where a block is open, or none is
@@ -19,12 +18,11 @@ pub record Stands (rs : List Role) (d : Draft) : Type 0 where
   pub parted : AreParted rs
   pub ids : ids_of rs ≡ prev_list d.id
   pub prevs : prevs_of rs ≡ prev_list d.prev
-  pub changes : changes_of rs ≡ d.changes.items
+  pub change : has_some (changes_of rs) ≡ d.has_change
   pub inside : is_open rs ≡ d.in_block
-  pub blocks : (more : List Change) → AreBehind d.in_block more → AreOutside (d.changes.items ++ more)
+  pub blocks : (more : List Change) → AreBehind d.in_block more → AreOutside (changes_of rs ++ more)
 
 -- the row was taken, or the first reason why it may not stand there
-abbrev pub Takes : List Role → Role → Result Unit Stop → Draft → Type 0
+abbrev pub Takes : List Role → Role → Result Unit Refusal → Draft → Type 0
 Takes rs r (Ok done) d = Stands (rs ++ r ∷ []) d
-Takes rs r (Err (stops.Refused why)) d = refusal rs r ≡ Some why
-Takes rs r (Err stops.OutOfMemory) d = Unit {0}
+Takes rs r (Err why) d = refusal rs r ≡ Some why

@@ -1,12 +1,12 @@
 -- A patch of a stream of which some rows were taken.
-use Rattle.std.specs.Prelude.{◌≡◌, ◌⊎◌, ℕ, ◌+◌, ◌≤◌, ◌<◌, nat_lt, true, false, ◌||◌, List, [], ◌∷◌, ◌++◌, Option, Some, None, Result, Ok, Err}
-use Rattle.delta_base.specs.declared.fault.OutOfMemory.{OutOfMemory}
+use Rattle.std.specs.Prelude.{◌≡◌, ◌⊎◌, ℕ, ◌+◌, ◌≤◌, ◌<◌, nat_lt, Bool, true, false, ◌||◌, ◌&&◌, not, is_some, List, [], ◌∷◌, ◌++◌, Option, Some, None}
+use Rattle.rdf_terms.specs.declared.change.Change.{Change}
+use Rattle.chain_core.specs.declared.link.Link.{Link}
 use Rattle.patch_meaning.specs.declared.draft.Draft.{Draft}
 use Rattle.patch_meaning.specs.declared.fault.PatchFault.{PatchFault}
 use Rattle.patch_meaning.specs.declared.fault.PatchFault.TheVariants as faults
 use Rattle.patch_meaning.specs.declared.fault.Refusal.{Refusal}
 use Rattle.patch_meaning.specs.declared.part.Part.{Part as PartRead}
-use Rattle.patch_meaning.specs.declared.part.StreamPatch.{StreamPatch}
 use Rattle.patch_meaning.specs.declared.role.Role.{Role}
 use Rattle.patch_meaning.specs.Draft.{Stands}
 use Rattle.patch_meaning.specs.Patch.{Meaning, IsWell, AreTaken, refusal, refused_at, has_some, patch_limit, place_of}
@@ -14,9 +14,9 @@ use Rattle.patch_meaning.specs.Roles.{role, said, id_of, change_of, ids_of, chan
 use Rattle.patch_meaning.specs.Rows.{AreUpTo}
 use Rattle.patch_reader.specs.declared.placed.PlacedRow.{PlacedRow}
 
--- what it says
-abbrev pub meaning_of : StreamPatch → Meaning
-meaning_of p = record { id = p.id; prev = p.prev; changes = p.changes.items }
+-- what a patch with these ids and changes says
+abbrev pub meaning_of : Link → List Change → Meaning
+meaning_of link changes = record { id = link.id; prev = link.prev; changes = changes }
 
 -- one of the rows was refused, and that is the fault
 pub record IsRefused (rs : List PlacedRow) (fault : PatchFault) : Type 0 where
@@ -52,9 +52,14 @@ pub record IsNoted (old : PartRead) (says : Role) (at : ℕ) (new : PartRead) : 
   pub id : new.has_id ≡ has_some (id_of says) || old.has_id
   pub change : new.has_change ≡ has_some (change_of says) || old.has_change
 
--- the patch that stops there is complete, and says this
-abbrev pub IsComplete : PartRead → ℕ → Meaning → Type 0
-IsComplete p stop m = (rs : List PlacedRow) → HasPart rs p → AreUpTo rs stop → IsWell (said rs) m × (stop ≤ p.from + patch_limit)
+-- no row was refused so far, and none begins behind the limit
+abbrev pub is_sound : PartRead → Bool
+is_sound p = not p.is_long && not (is_some p.fault)
+
+-- the patch that stops there is complete, and has these ids
+abbrev pub IsComplete : PartRead → ℕ → Link → Type 0
+IsComplete p stop link =
+    (rs : List PlacedRow) → HasPart rs p → AreUpTo rs stop → IsWell (said rs) (meaning_of link (changes_of (said rs))) × (stop ≤ p.from + patch_limit) × (is_sound p ≡ true)
 
 -- the fault of a row that was refused, and that is told where the patch ends within its limit
 abbrev pub first_fault : PartRead → Option PatchFault
@@ -69,10 +74,9 @@ abbrev pub IsFoundAt : PartRead → ℕ → PatchFault → Type 0
 IsFoundAt p at fault = (first_fault p ≡ Some fault) ⊎ (place_of fault ≡ Some at)
 
 -- the row was taken, or it was refused, and that is the fault
-abbrev pub TakesRow : List Role → Role → ℕ → Result (Option PatchFault) OutOfMemory → Draft → Type 0
-TakesRow rs says at (Ok None) d = Stands (rs ++ says ∷ []) d
-TakesRow rs says at (Ok (Some fault)) d = (why : Refusal) × (refusal rs says ≡ Some why) × (fault ≡ refused_at why at)
-TakesRow rs says at (Err memory) d = Unit {0}
+abbrev pub TakesRow : List Role → Role → ℕ → Option PatchFault → Draft → Type 0
+TakesRow rs says at None d = Stands (rs ++ says ∷ []) d
+TakesRow rs says at (Some fault) d = (why : Refusal) × (refusal rs says ≡ Some why) × (fault ≡ refused_at why at)
 
 -- all rows were taken, and yet it is no patch that ends here
 abbrev pub LacksEnd : List Role → ℕ → PatchFault → Type 0

@@ -1,16 +1,18 @@
 //! Patches that were checked.
 
-ghost use Rattle.std.specs.Prelude.{◌≡◌, ◌≤◌, ◌++◌, ◌∷◌, [], List, length, IfOk, IfErr, OnOk};
+ghost use Rattle.std.specs.Prelude.{◌≡◌, ◌≤◌, ◌++◌, ◌∷◌, [], List, Err, length, IfOk, IfErr, OnOk};
 ghost use Rattle.patch_meaning.specs.declared.role.Role.{Role as Said};
-ghost use Rattle.patch_meaning.specs.Checked.{HasRead, Refuses, IsStopped};
-ghost use Rattle.patch_meaning.specs.Draft.{Stands};
+ghost use Rattle.patch_meaning.specs.Checked.{AreRead, HasRead, Refuses, IsStopped};
+ghost use Rattle.patch_meaning.specs.Roles.{change_of};
 ghost use Rattle.patch_meaning.specs.PartRead.{meaning_of};
 ghost use Rattle.patch_meaning.specs.Patch.{IsPatch, patch_limit};
 
 use crate::draft::Draft;
-use crate::fault::{PatchFault, Stop};
-use crate::part::{PATCH_LIMIT, StreamPatch, whole};
+use crate::fault::PatchFault;
+use crate::part::{PATCH_LIMIT, whole};
+use crate::role::Role;
 use crate::rows::{Next, next_row};
+use chain_core::Link;
 use delta_base::{Bytes, Id, Listing, OutOfMemory};
 use rdf_terms::Changes;
 use std::alloc::Global;
@@ -38,20 +40,20 @@ impl Model for Checked {
 }
 
 impl Checked {
-    // A patch of a stream with its text.
-    pub(crate) fn of_stream(
+    // A patch with its text.
+    pub(crate) fn with_text(
         alloc: Global,
         text: &[u8],
-        patch: StreamPatch,
+        link: Link,
+        changes: Changes,
     ) -> Result<Checked, OutOfMemory>
-        requires { IsPatch text.now (meaning_of patch) }
-        ensures { IfOk result (λ c. c ≡ record { text = text.now; meaning = meaning_of patch }) }
+        requires { IsPatch text.now (meaning_of link changes.items) }
+        ensures { IfOk result (λ c. c ≡ record { text = text.now; meaning = meaning_of link changes.items }) }
     {
-        let StreamPatch { id, prev, changes } = patch;
         let text = Bytes::from_slice(alloc, text)?;
         Ok(Checked {
-            id,
-            prev,
+            id: link.id,
+            prev: link.prev,
             text,
             changes,
         })
@@ -110,6 +112,13 @@ fn copy_changes(alloc: Global, changes: &Changes) -> Result<Changes, OutOfMemory
     Ok(copy)
 }
 
+/// A patch of which some rows were read, and its changes so far.
+#[derive(Drop)]
+pub struct ReadRows {
+    draft: Draft,
+    changes: Changes,
+}
+
 /// Reads one patch. A fault is the text's first.
 pub fn check_patch(alloc: Global, text: &[u8]) -> Result<Checked, PatchFault>
     ensures ok { IfOk result (λ patch. (patch.text ≡ text.now) × IsPatch text.now patch.meaning) }
@@ -122,45 +131,71 @@ pub fn check_patch(alloc: Global, text: &[u8]) -> Result<Checked, PatchFault>
             limit: PATCH_LIMIT,
         });
     }
-    let draft = read_rows(alloc, text)?;
-    finish(alloc, draft, text)
+    let read = read_rows(alloc, text)?;
+    finish(alloc, read, text)
 }
 
 // Takes all rows of a text.
-fn read_rows(alloc: Global, text: &[u8]) -> Result<Draft, PatchFault>
+fn read_rows(alloc: Global, text: &[u8]) -> Result<ReadRows, PatchFault>
     requires { length text.now ≤ patch_limit }
     ensures ok { IfOk result (HasRead text.now) }
     ensures fault { IfErr result (Refuses text.now) }
 {
-    let mut draft = Draft::new(alloc);
+    let mut read = ReadRows {
+        draft: Draft::new(),
+        changes: Listing::new(alloc),
+    };
     let mut at = 0;
     while let Some(next) = next_row(alloc, text, at)? {
-        at = take(&mut draft, next)?;
+        at = take(&mut read, next)?;
     }
-    Ok(draft)
+    Ok(read)
 }
 
 // Takes a row, and answers the place behind it.
-fn take(draft: &mut Draft, next: Next) -> Result<usize, PatchFault>
-    ensures ok { OnOk result ((rs : List Said) → Stands rs draft.old → Stands (rs ++ next.role ∷ []) draft.new) }
+fn take(read: &mut ReadRows, next: Next) -> Result<usize, PatchFault>
+    ensures ok { OnOk result ((rs : List Said) → AreRead rs read.old → AreRead (rs ++ next.role ∷ []) read.new) }
     ensures end { IfOk result (λ end. end ≡ next.end) }
-    ensures fault { IfErr result (λ fault. (rs : List Said) → Stands rs draft.old → IsStopped rs next fault) }
+    ensures fault { IfErr result (λ fault. (rs : List Said) → AreRead rs read.old → IsStopped rs next fault) }
 {
     let Next { role, at, end } = next;
-    match draft.take(role) {
-        Ok(()) => Ok(end),
-        Err(Stop::Refused(why)) => Err(why.at(at as u64)),
-        Err(Stop::OutOfMemory) => Err(PatchFault::OutOfMemory),
+    match read.draft.take(&role) {
+        Ok(()) => {
+            keep(&mut read.changes, role)?;
+            Ok(end)
+        }
+        Err(why) => refuse(role, why.at(at as u64)),
     }
 }
 
+/// Keeps the change that a row says, if it says one.
+pub fn keep(changes: &mut Changes, says: Role) -> Result<(), OutOfMemory>
+    ensures { OnOk result (changes.new.items ≡ changes.old.items ++ change_of says) }
+{
+    match says {
+        Role::Change(change) => {
+            changes.push(change)?;
+            Ok(())
+        }
+        _ => Ok(()),
+    }
+}
+
+/// Lets go what a row says, and answers the fault.
+pub fn refuse<T>(says: Role, fault: PatchFault) -> Result<T, PatchFault>
+    ensures { result ≡ Err fault }
+{
+    drop(says);
+    Err(fault)
+}
+
 // The patch of which all rows were taken.
-fn finish(alloc: Global, draft: Draft, text: &[u8]) -> Result<Checked, PatchFault>
+fn finish(alloc: Global, read: ReadRows, text: &[u8]) -> Result<Checked, PatchFault>
     requires short { length text.now ≤ patch_limit }
-    requires read { HasRead text.now draft }
+    requires read { HasRead text.now read }
     ensures ok { IfOk result (λ patch. (patch.text ≡ text.now) × IsPatch text.now patch.meaning) }
     ensures fault { IfErr result (Refuses text.now) }
 {
-    let patch = whole(draft, text.len() as u64)?;
-    Ok(Checked::of_stream(alloc, text, patch)?)
+    let link = whole(read.draft, text.len() as u64)?;
+    Ok(Checked::with_text(alloc, text, link, read.changes)?)
 }

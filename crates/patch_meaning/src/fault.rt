@@ -3,11 +3,9 @@
 ghost use Rattle.std.specs.Prelude.{◌≡◌, Some};
 ghost use Rattle.patch_meaning.specs.Patch.{place_of, refused_at, row_refused};
 ghost use Rattle.patch_meaning.specs.declared.fault.PatchFault.TheVariants as faults;
-ghost use Rattle.patch_meaning.specs.declared.fault.Stop.TheVariants as stops;
 
-use delta_base::{Back, OutOfMemory};
+use delta_base::OutOfMemory;
 use patch_rows::{RowFault, RowKind};
-use rdf_terms::Change;
 
 /// The first fault of a text, with its place in bytes, or want of memory.
 #[derive(Clone, Copy, Debug, PartialEq, Eq)]
@@ -43,13 +41,6 @@ pub enum Refusal {
     LateHeader,
     Nested,
     NotInBlock,
-}
-
-/// Why a row was not taken.
-#[derive(Clone, Copy, Debug, PartialEq, Eq)]
-pub enum Stop {
-    Refused(Refusal),
-    OutOfMemory,
 }
 
 impl PatchFault {
@@ -105,14 +96,5 @@ impl From<RowFault> for PatchFault {
             RowFault::At { at, kind } => PatchFault::Row { at, kind },
             RowFault::OutOfMemory => PatchFault::OutOfMemory,
         }
-    }
-}
-
-impl From<Back<Change>> for Stop {
-    ghost from_gives = { λ _ e. e ≡ stops.OutOfMemory };
-
-    fn from(back: Back<Change>) -> Stop {
-        drop(back);
-        Stop::OutOfMemory
     }
 }

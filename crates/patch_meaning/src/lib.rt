@@ -14,7 +14,7 @@ mod stream;
 pub use checked::{Checked, check_patch};
 pub use fault::PatchFault;
 pub use laws::{patches_are_settled, streams_are_settled, streams_are_their_patches};
-pub use part::{Part, StreamPatch};
+pub use part::Part;
 pub use role::{Role, role_of};
 pub use rows::{Next, next_row};
 pub use stream::{Patches, split_stream};

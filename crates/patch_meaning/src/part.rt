@@ -1,44 +1,34 @@
 //! A patch of a stream of which some rows were read.
 
-ghost use Rattle.std.specs.Prelude.{◌≡◌, ◌+◌, ◌++◌, ◌∷◌, [], List, None, Some, IfOk, IfErr, OnOk, nat_lt};
+ghost use Rattle.std.specs.Prelude.{◌≡◌, ◌+◌, ◌++◌, ◌∷◌, [], List, None, Some, IfOk, IfErr, nat_lt, true};
 ghost use Rattle.patch_meaning.specs.declared.role.Role.{Role as Said};
 ghost use Rattle.patch_meaning.specs.Draft.{Stands};
 ghost use Rattle.patch_meaning.specs.declared.fault.PatchFault.{PatchFault};
 ghost use Rattle.patch_meaning.specs.Patch.{IsWell, patch_limit, has_some, place_of};
-ghost use Rattle.patch_meaning.specs.PartRead.{meaning_of, HasPart, IsComplete, IsNoted, LacksEnd, TakesRow, IsToldAt, IsFoundAt, first_fault};
-ghost use Rattle.patch_meaning.specs.Roles.{role, said, id_of, change_of};
+ghost use Rattle.patch_meaning.specs.PartRead.{meaning_of, HasPart, IsComplete, IsNoted, LacksEnd, TakesRow, IsToldAt, IsFoundAt, first_fault, is_sound};
+ghost use Rattle.patch_meaning.specs.Roles.{role, said, id_of, change_of, changes_of};
 ghost use Rattle.patch_reader.specs.declared.placed.PlacedRow.{PlacedRow};
 ghost use Rattle.patch_meaning.specs.Rows.{AreUpTo};
 ghost use Rattle.patch_meaning.specs.Stream.{IsPartFault, begins};
 
 use crate::draft::Draft;
-use crate::fault::{PatchFault, Stop};
+use crate::fault::PatchFault;
 use crate::role::Role;
-use delta_base::{Id, OutOfMemory};
+use chain_core::Link;
 use patch_rows::RowKind;
-use rdf_terms::Changes;
-use std::alloc::Global;
 
 /// The bytes that a patch may have.
 pub const PATCH_LIMIT: u64 = 4_194_304;
 
-/// A patch of a stream: its id, the id of the patch before it if it names one, and its changes.
-#[derive(Drop)]
-pub struct StreamPatch {
-    pub id: Id,
-    pub prev: Option<Id>,
-    pub changes: Changes,
-}
-
-/// A patch of a stream, as far as its rows were read.
-#[derive(Drop)]
+/// A patch of a stream, as far as its rows were read. Who reads them keeps the changes.
+#[derive(Clone, Copy)]
 pub struct Part {
     /// Where its text begins.
     pub from: u64,
     draft: Draft,
     /// The first fault of its rows.
     fault: Option<PatchFault>,
-    /// Whether a row begins behind the limit. From that row on nothing is kept.
+    /// Whether a row begins behind the limit. From that row on none is taken.
     is_long: bool,
     has_rows: bool,
     has_id: bool,
@@ -47,14 +37,14 @@ pub struct Part {
 
 impl Part {
     /// A patch whose text begins here, without rows so far.
-    pub fn new(alloc: Global, from: u64) -> Part
+    pub fn new(from: u64) -> Part
         ensures rows { HasPart [] result }
         ensures from { result.from ≡ from }
         ensures none { first_fault result ≡ None }
     {
         Part {
             from,
-            draft: Draft::new(alloc),
+            draft: Draft::new(),
             fault: None,
             is_long: false,
             has_rows: false,
@@ -68,6 +58,13 @@ impl Part {
         ensures { (rs : List PlacedRow) → HasPart rs self.now → has_some rs ≡ result }
     {
         self.has_rows
+    }
+
+    /// Whether each row so far was taken. Where one was not, the patch has a fault, and nobody needs its changes.
+    pub fn is_sound(&self) -> bool
+        ensures { result ≡ is_sound self.now }
+    {
+        !self.is_long && self.fault.is_none()
     }
 
     /// Whether the next patch begins with a row that says this.
@@ -93,25 +90,15 @@ impl Part {
     }
 
     /// Takes what the row at a place says. Its fault is kept.
-    pub fn take(&mut self, says: Role, at: u64) -> Result<(), OutOfMemory>
-        ensures rows { OnOk result ((rs : List PlacedRow) (r : PlacedRow) → HasPart rs self.old → role r.row ≡ says → r.at ≡ at → HasPart (rs ++ r ∷ []) self.new) }
+    pub fn take(&mut self, says: &Role, at: u64)
+        ensures rows { (rs : List PlacedRow) (r : PlacedRow) → HasPart rs self.old → role r.row ≡ says.now → r.at ≡ at → HasPart (rs ++ r ∷ []) self.new }
         ensures from { self.new.from ≡ self.old.from }
-        ensures found { OnOk result ((fault : PatchFault) → first_fault self.new ≡ Some fault → IsFoundAt self.old at fault) }
+        ensures found { (fault : PatchFault) → first_fault self.new ≡ Some fault → IsFoundAt self.old at fault }
+        ensures sound { is_sound self.new ≡ true → is_sound self.old ≡ true }
     {
-        self.note(&says, at);
-        if self.is_long {
-            forget(says);
-            return Ok(());
-        }
-        match self.fault {
-            Some(_) => {
-                forget(says);
-                Ok(())
-            }
-            None => {
-                self.fault = take_row(&mut self.draft, says, at)?;
-                Ok(())
-            }
+        self.note(says, at);
+        if self.is_sound() {
+            self.fault = take_row(&mut self.draft, says, at);
         }
     }
 
@@ -122,9 +109,9 @@ impl Part {
         self.fault
     }
 
-    /// The patch whose text stops here.
-    pub fn finish(self, stop: u64) -> Result<StreamPatch, PatchFault>
-        ensures ok { IfOk result (λ p. IsComplete self stop (meaning_of p)) }
+    /// The ids of the patch whose text stops here.
+    pub fn finish(self, stop: u64) -> Result<Link, PatchFault>
+        ensures ok { IfOk result (IsComplete self stop) }
         ensures fault { IfErr result (λ fault. (rs : List PlacedRow) → HasPart rs self → AreUpTo rs stop → IsPartFault (record { from = self.from; rows_ = rs }) stop None fault) }
         ensures told { IfErr result (IsToldAt self stop) }
     {
@@ -166,41 +153,33 @@ impl Part {
     }
 }
 
-/// The patch of which all rows were taken.
-pub fn whole(draft: Draft, stop: u64) -> Result<StreamPatch, PatchFault>
-    ensures ok { IfOk result (λ p. (rs : List Said) → Stands rs draft → IsWell rs (meaning_of p)) }
+/// The ids of the patch of which all rows were taken.
+pub fn whole(draft: Draft, stop: u64) -> Result<Link, PatchFault>
+    ensures ok { IfOk result (λ link. (rs : List Said) → Stands rs draft → IsWell rs (meaning_of link (changes_of rs))) }
     ensures fault { IfErr result (λ fault. (rs : List Said) → Stands rs draft → LacksEnd rs stop fault) }
     ensures told { IfErr result (λ fault. place_of fault ≡ Some stop) }
 {
-    let Draft {
-        id,
-        prev,
-        changes,
-        in_block,
-    } = draft;
-    if in_block {
+    if draft.in_block {
         return Err(PatchFault::OpenBlock { at: stop });
     }
-    match id {
+    match draft.id {
         None => Err(PatchFault::NoId { at: stop }),
-        Some(id) => Ok(StreamPatch { id, prev, changes }),
+        Some(id) => Ok(Link {
+            id,
+            prev: draft.prev,
+        }),
     }
 }
 
 // Takes what the row at a place says, and answers its fault.
-fn take_row(draft: &mut Draft, says: Role, at: u64) -> Result<Option<PatchFault>, OutOfMemory>
-    ensures row { OnOk result ((rs : List Said) → Stands rs draft.old → TakesRow rs says at result draft.new) }
-    ensures place { IfOk result (λ refused. (fault : PatchFault) → refused ≡ Some fault → place_of fault ≡ Some at) }
+fn take_row(draft: &mut Draft, says: &Role, at: u64) -> Option<PatchFault>
+    ensures row { (rs : List Said) → Stands rs draft.old → TakesRow rs says.now at result draft.new }
+    ensures place { (fault : PatchFault) → result ≡ Some fault → place_of fault ≡ Some at }
 {
     match draft.take(says) {
-        Ok(()) => Ok(None),
-        Err(Stop::Refused(why)) => Ok(Some(why.at(at))),
-        Err(Stop::OutOfMemory) => Err(OutOfMemory),
+        Ok(()) => None,
+        Err(why) => Some(why.at(at)),
     }
-}
-
-fn forget(says: Role) {
-    drop(says);
 }
 
 // Whether a row begins behind the limit of a patch.

@@ -1,28 +1,34 @@
 //! Streams of patches.
 
-ghost use Rattle.std.specs.Prelude.{◌≡◌, ◌≤◌, ◌++◌, ◌∷◌, [], IfOk, IfErr, OnOk, length};
+ghost use Rattle.std.specs.Prelude.{◌≡◌, ◌≤◌, ◌++◌, IfOk, IfErr, OnOk, length};
 ghost use Rattle.std.specs.List.{slice_range};
 ghost use Rattle.patch_meaning.specs.declared.fault.PatchFault.TheVariants as faults;
 ghost use Rattle.patch_meaning.specs.Checked.{meanings};
-ghost use Rattle.patch_meaning.specs.Cutting.{HasCut, HasCutAll, IsNextOf, IsNextToCut, IsTextOf, RefusesStream, Stops, checked_of};
+ghost use Rattle.patch_meaning.specs.Cutting.{HasCut, HasCutAll, IsNextOf, IsNextToCut, IsTextOf, RefusesStream, Stops, changes_behind, changes_left, checked_of};
 ghost use Rattle.patch_meaning.specs.Stream.{IsSplit, IsStream};
 
-use crate::checked::Checked;
+use crate::checked::{Checked, keep, refuse};
 use crate::fault::PatchFault;
-use crate::part::{Part, StreamPatch};
+use crate::part::Part;
+use crate::role::Role;
 use crate::rows::{Next, next_row};
-use delta_base::Listing;
+use chain_core::Link;
+use delta_base::{Listing, OutOfMemory};
 use patch_rows::RowFault;
+use rdf_terms::Changes;
 use std::alloc::Global;
+use std::mem;
 
 /// Patches in the order of their stream.
 pub type Patches = Listing<Checked>;
 
-/// A stream of which some rows were read: patches that are complete, and the one to which the next row may belong.
+/// A stream of which some rows were read: patches that are complete, and the one to which the next row may belong, with its
+/// changes.
 #[derive(Drop)]
 pub struct Cutting {
     patches: Patches,
     part: Part,
+    changes: Changes,
 }
 
 /// The patches of a stream, each with its own text. A fault is that of the first patch that has one, with its place from the
@@ -34,7 +40,8 @@ pub fn split_stream(alloc: Global, text: &[u8]) -> Result<Patches, PatchFault>
 {
     let mut cutting = Cutting {
         patches: Listing::new(alloc),
-        part: Part::new(alloc, 0),
+        part: Part::new(0),
+        changes: Listing::new(alloc),
     };
     let mut at = 0;
     while let Some(next) = next_of(alloc, text, at, &cutting.part)? {
@@ -66,22 +73,63 @@ impl Cutting {
     {
         let Next { role, at, end } = next;
         let text = piece(text, self.part.from, at);
-        let done = self.part.take_next(alloc, role, at as u64)?;
-        keep(alloc, &mut self.patches, text, done)?;
-        Ok(end)
+        match self.part.take_next(&role, at as u64) {
+            Ok(done) => {
+                self.go_on(alloc, text, role, done)?;
+                Ok(end)
+            }
+            Err(fault) => refuse(role, fault),
+        }
     }
 
-    fn finish(self, alloc: Global, text: &[u8]) -> Result<Patches, PatchFault>
+    // Puts the patch that was completed before a row behind the others, if there is one, and keeps the change of the row.
+    fn go_on(
+        &mut self,
+        alloc: Global,
+        text: &[u8],
+        says: Role,
+        done: Option<Link>,
+    ) -> Result<(), PatchFault>
+        requires { IsTextOf text.now done self.old.changes.items }
+        ensures patches { OnOk result (self.new.patches.items ≡ self.old.patches.items ++ checked_of text.now done self.old.changes.items) }
+        ensures changes { OnOk result (self.new.changes.items ≡ changes_behind done self.old.changes.items says) }
+        ensures part { self.new.part ≡ self.old.part }
+        ensures fault { IfErr result (λ fault. fault ≡ faults.OutOfMemory) }
+    {
+        match self.put(alloc, text, done) {
+            Ok(()) => Ok(keep(&mut self.changes, says)?),
+            Err(_) => refuse(says, PatchFault::OutOfMemory),
+        }
+    }
+
+    // Puts a patch with its text behind those that are complete, if there is one.
+    fn put(&mut self, alloc: Global, text: &[u8], done: Option<Link>) -> Result<(), OutOfMemory>
+        requires { IsTextOf text.now done self.old.changes.items }
+        ensures patches { OnOk result (self.new.patches.items ≡ self.old.patches.items ++ checked_of text.now done self.old.changes.items) }
+        ensures changes { OnOk result (self.new.changes.items ≡ changes_left done self.old.changes.items) }
+        ensures part { self.new.part ≡ self.old.part }
+    {
+        match done {
+            Some(link) => {
+                let changes = mem::replace(&mut self.changes, Listing::new(alloc));
+                self.patches
+                    .push(Checked::with_text(alloc, text, link, changes)?)?;
+                Ok(())
+            }
+            None => Ok(()),
+        }
+    }
+
+    fn finish(mut self, alloc: Global, text: &[u8]) -> Result<Patches, PatchFault>
         requires { HasCutAll text.now self }
         ensures split { IfOk result (λ patches. IsSplit text.now patches.items) }
         ensures fault { IfErr result (RefusesStream text.now) }
     {
-        let Cutting { mut patches, part } = self;
         let stop = text.len();
-        let text = piece(text, part.from, stop);
-        let done = part.finish_stream(stop as u64)?;
-        keep(alloc, &mut patches, text, done)?;
-        Ok(patches)
+        let text = piece(text, self.part.from, stop);
+        let done = self.part.finish_stream(stop as u64)?;
+        self.put(alloc, text, done)?;
+        Ok(self.patches)
     }
 }
 
@@ -92,31 +140,4 @@ fn piece(text: &[u8], from: u64, stop: usize) -> &[u8]
     ensures { result.now ≡ slice_range text.now from stop }
 {
     &text[from as usize..stop]
-}
-
-// Puts a patch and its text behind those that are complete, if there is one.
-fn keep(
-    alloc: Global,
-    patches: &mut Patches,
-    text: &[u8],
-    done: Option<StreamPatch>,
-) -> Result<(), PatchFault>
-    requires { IsTextOf text.now done }
-    ensures ok { OnOk result (patches.new.items ≡ patches.old.items ++ checked_of text.now done) }
-    ensures fault { IfErr result (λ fault. fault ≡ faults.OutOfMemory) }
-{
-    match done {
-        Some(patch) => push(patches, Checked::of_stream(alloc, text, patch)?),
-        None => Ok(()),
-    }
-}
-
-fn push(patches: &mut Patches, patch: Checked) -> Result<(), PatchFault>
-    ensures ok { OnOk result (patches.new.items ≡ patches.old.items ++ patch ∷ []) }
-    ensures fault { IfErr result (λ fault. fault ≡ faults.OutOfMemory) }
-{
-    match patches.push(patch) {
-        Ok(()) => Ok(()),
-        Err(_) => Err(PatchFault::OutOfMemory),
-    }
 }

@@ -1,7 +1,9 @@
 //! Patches and their faults, with values from the format's description.
 use super::*;
+use chain_core::Link;
 use delta_base::{Id, read_id};
 use patch_rows::RowKind;
+use rdf_terms::Change;
 use std::alloc::Global;
 use std::test::Fail;
 
@@ -208,4 +210,40 @@ fn the_first_patch_with_a_fault_is_told(rt: HostRuntime) {
     ] {
         assert_eq!(rt; stream_fault(rt.alloc(), text), Some(fault), "{text}");
     }
+}
+
+fn take(part: &mut Part, says: Role, at: u64) -> Result<Option<Link>, PatchFault> {
+    let taken = part.take_next(&says, at);
+    drop(says);
+    taken
+}
+
+#[test]
+fn rows_that_come_one_at_a_time_are_cut(rt: HostRuntime) -> Result<(), Fail> {
+    let one = read_id(b"00000000000040008000000000000001").ok_or("no id")?;
+    let two = read_id(b"00000000000040008000000000000002").ok_or("no id")?;
+    let mut part = Part::new(0);
+    assert!(rt; !part.has_rows());
+    assert_eq!(rt; take(&mut part, Role::Id(Some(one)), 0), Ok(None));
+    assert_eq!(rt; take(&mut part, Role::Change(Change::Begin), 51), Ok(None));
+    assert_eq!(rt; take(&mut part, Role::Change(Change::Commit), 56), Ok(None));
+    let first = Link {
+        id: one,
+        prev: None,
+    };
+    assert_eq!(rt; take(&mut part, Role::Id(Some(two)), 61), Ok(Some(first)));
+    assert_eq!(rt; take(&mut part, Role::Prev(Some(one)), 112), Ok(None));
+    assert!(rt; part.is_sound());
+    let last = Link {
+        id: two,
+        prev: Some(one),
+    };
+    assert_eq!(rt; part.finish_stream(165), Ok(Some(last)));
+    assert_eq!(rt; take(&mut part, Role::Change(Change::Commit), 165), Ok(None));
+    assert!(rt; !part.is_sound());
+    let fault = PatchFault::NotInBlock { at: 165 };
+    assert_eq!(rt; part.first_fault(), Some(fault));
+    assert_eq!(rt; part.break_stream(170, RowKind::UnknownCode), fault);
+    assert_eq!(rt; part.finish_stream(170), Err(fault));
+    Ok(())
 }

@@ -1,4 +1,5 @@
 pub mod Changed
+pub mod Edited
 pub mod Taken
 pub mod Held
 pub mod Streams

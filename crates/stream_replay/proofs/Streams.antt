@@ -2,21 +2,24 @@
 use Rattle.std.proofs.Common.{◌≡◌, ℕ, ◌+◌, ◌≤◌, Bool, true, false, List, [], ◌∷◌, ◌++◌, length, drop, Option, Some, None, refl, sym, ap, subst, ◌∙◌, ◌⊎◌, inl, inr, append_assoc, append-nil, length-append, arith}
 use Rattle.std.specs.Prelude.{count_by, ◌==◌}
 use Rattle.std.proofs.lemmas.List.{drop-drop, drop-append-le, take-append-le}
+use Rattle.chain_core.specs.declared.link.Link.{Link}
+use Rattle.rdf_terms.specs.declared.change.Change.{Change}
 use Rattle.patch_rows.specs.declared.fault.RowKind.{RowKind}
 use Rattle.patch_rows.specs.declared.row.Row.{Row}
 use Rattle.patch_rows.specs.Faults.{FirstFault}
 use Rattle.patch_rows.specs.Grammar.{Space, ShortRowAt, IsRowAt}
 use Rattle.patch_meaning.specs.declared.fault.PatchFault.{PatchFault}
 use Rattle.patch_meaning.specs.declared.fault.PatchFault.TheVariants as faults
-use Rattle.patch_meaning.specs.declared.part.StreamPatch.{StreamPatch}
 use Rattle.patch_meaning.specs.declared.rows.Next.{Next}
-use Rattle.patch_meaning.specs.Cutting.{HasTakenNext, IsFaultOf, IsBrokenBefore, EndsStream, IsBrokenAtEnd, meanings_of}
+use Rattle.patch_meaning.specs.Cutting.{HasTakenNext, IsFaultOf, IsBrokenBefore, EndsStream, IsBrokenAtEnd, changes_left, meanings_of}
 use Rattle.patch_meaning.specs.Patch.{Meaning, place_of}
+use Rattle.patch_meaning.specs.PartRead.{first_fault}
 use Rattle.patch_meaning.specs.Roles.{said}
 use Rattle.patch_reader.specs.declared.placed.PlacedRow.{PlacedRow}
 use Rattle.patch_reader.specs.Rows.{Gap, NoRowAt}
 use Rattle.patch_meaning.specs.Rows.{AreUpTo, RowsTo}
 use Rattle.patch_meaning.specs.Stream.{AreStream, IsStream, IsStreamFault, begins, cut, next, over, no_row}
+use Rattle.patch_meaning.proofs.Cuts.{with_changes}
 use Rattle.patch_meaning.proofs.FaultPlaces.{fault_behind}
 use Rattle.patch_meaning.proofs.Rowed.{rows_more, rows_up_to}
 use Rattle.stream_replay.specs.declared.place.Told.{Told}
@@ -28,7 +31,8 @@ use Rattle.stream_replay.specs.Ending.{fault_end}
 use Rattle.stream_replay.specs.Source.{EndsText}
 use Rattle.stream_replay.specs.Places.{line_at, IsFaulty}
 use Rattle.stream_replay.specs.Replaying.{IsReplay, EndsChain}
-use Rattle.stream_replay.specs.Streaming.{IsNextIn, FindsFault, RowsBefore, KnowsLine, HasStreamed, IsTold}
+use Rattle.stream_replay.specs.Edits.{HasEdits}
+use Rattle.stream_replay.specs.Streaming.{IsNextIn, FindsFault, RowsBefore, KnowsLine, HasStreamed, HoldsMore, IsTold}
 use Rattle.stream_replay.specs.Windows.{IsHeld, IsWithin, HasLine}
 use Rattle.stream_replay.proofs.Held.{held_end}
 
@@ -92,7 +96,9 @@ streamed_longer text more at p h = record {
   rs = h.rs;
   ms = h.ms;
   reads = λ rest none. subst (λ (t : List ℕ). RowsBefore t h.rs at) (sym (append_assoc text more rest)) (h.reads (more ++ rest) (λ e. no_whole e));
+  changes = h.changes;
   parts = h.parts;
+  edits = h.edits;
   replayed = h.replayed;
   line_is = λ fault is. has_line_longer text more p.line fault (h.line_is fault is);
 }
@@ -102,7 +108,9 @@ streamed_whole whole text at p h = record {
   rs = h.rs;
   ms = h.ms;
   reads = λ rest none. h.reads rest (λ e. no_whole e);
+  changes = h.changes;
   parts = h.parts;
+  edits = h.edits;
   replayed = h.replayed;
   line_is = h.line_is;
 }
@@ -126,7 +134,9 @@ streamed_passed text base from to bytes feeds p held low high passes h = record 
               gap.2,
             )),
       );
+  changes = h.changes;
   parts = h.parts;
+  edits = h.edits;
   replayed = h.replayed;
   line_is = h.line_is;
 }
@@ -140,12 +150,14 @@ up_to_next text rs at stop before gap = let behind = before.2 stop gap in rows_u
 abbrev placed_at : ℕ → Row → Next → PlacedRow
 placed_at base r row = record { row = r; at = base + row.at; end = base + row.end }
 
-pub streamed_more : (whole : Bool) (text : List ℕ) (base from : ℕ) (bytes : List ℕ) (feeds : ℕ) (old new : Progress) (row : Next) (done : Option StreamPatch) → IsHeld text base bytes feeds
+pub streamed_more : (whole : Bool) (text : List ℕ) (base from : ℕ) (bytes : List ℕ) (feeds : ℕ) (old new : Progress) (row : Next) (done : Option Link) → IsHeld text base bytes feeds
     → IsNextIn whole bytes from row → HasStreamed whole text (base + from) old → HasTakenNext old.part row.role (base + row.at) done new.part
-    → ((ms : List Meaning) → IsReplay ms old.replay → IsReplay (ms ++ meanings_of done) new.replay) → KnowsLine text new → HasStreamed whole text (base + row.end) new
-streamed_more whole text base from bytes feeds old new row done held is h taken applied knows = record {
+    → ((ms : List Meaning) (changes : List Change) → IsReplay ms old.replay → HasEdits changes old.edits → IsReplay (ms ++ meanings_of done changes) new.replay)
+    → ((changes : List Change) → HasEdits changes old.edits → HoldsMore new.part (changes_left done changes) row.role new.edits) → KnowsLine text new → HasStreamed whole text (base + row.end) new
+streamed_more whole text base from bytes feeds old new row done held is h taken applied holds knows = let more_held = holds h.changes h.edits in record {
   rs = h.rs ++ placed_at base is.0 row ∷ [];
-  ms = h.ms ++ meanings_of done;
+  ms = h.ms ++ meanings_of done h.changes;
+  changes = more_held.0;
   reads = λ more none.
       let before = h.reads more none in (
         base + row.end,
@@ -154,12 +166,17 @@ streamed_more whole text base from bytes feeds old new row done held is h taken 
             (row_later text more base row.at row.end bytes feeds is.0 held (is.2 more none).1),
         λ to gap. gap,
       );
-  parts = taken h.rs h.ms (placed_at base is.0 row) h.parts
+  parts = with_changes _ _ _ more_held.0 new.part (λ sound. sym (more_held.2 sound))
+      (taken h.rs h.ms h.changes (placed_at base is.0 row) h.parts
       (up_to_next (text ++ []) h.rs (base + from) (base + row.at) (h.reads [] (λ e. refl)) (gap_later text [] base from row.at bytes feeds held (is.2 [] (λ e. refl)).0))
-      is.1 refl;
-  replayed = applied h.ms h.replayed;
+      is.1 refl);
+  edits = more_held.1;
+  replayed = applied h.ms h.changes h.replayed h.edits;
   line_is = knows;
 }
+
+pub knows_same : (text : List ℕ) (old new : Progress) → new.part ≡ old.part → new.line ≡ old.line → KnowsLine text old → KnowsLine text new
+knows_same text old new part line knows fault is = subst (λ (n : ℕ). HasLine text n fault) (sym line) (knows fault (sym (ap first_fault part) ∙ is))
 
 -- ---- faults
 
@@ -168,10 +185,9 @@ faulty text more line fault has is = record { fault_is = is; line_is = (has_line
 
 -- with a row the next patch begins, and the one before it has a fault
 pub told_before : (whole : Bool) (text : List ℕ) (base from : ℕ) (bytes : List ℕ) (feeds : ℕ) (old : Progress) (row : Next) (told : Told) → IsHeld text base bytes feeds
-    → IsNextIn whole bytes from row → HasStreamed whole text (base + from) old → (told.fault ≡ faults.OutOfMemory) ⊎ IsBrokenBefore old.part row.role (base + row.at) told.fault → HasLine text told.line told.fault
+    → IsNextIn whole bytes from row → HasStreamed whole text (base + from) old → IsBrokenBefore old.part row.role (base + row.at) told.fault → HasLine text told.line told.fault
     → IsTold whole text told
-told_before whole text base from bytes feeds old row told held is h (inl memory) has = inl memory
-told_before whole text base from bytes feeds old row told held is h (inr why) has =
+told_before whole text base from bytes feeds old row told held is h why has =
     inr (λ more none.
     faulty text more told.line told.fault has
     (record {
@@ -183,8 +199,8 @@ told_before whole text base from bytes feeds old row told held is h (inr why) ha
       stop = base + row.at;
       broken = None;
       stops = next is.0 (base + row.end) (row_later text more base row.at row.end bytes feeds is.0 held (is.2 more none).1)
-          (ap (begins (said (cut h.rs).last.rows_)) is.1 ∙ why.1 h.rs h.ms h.parts) refl refl;
-      fault_is = why.0 h.rs h.ms h.parts (up_to_next (text ++ more) h.rs (base + from) (base + row.at) (h.reads more none) (gap_later text more base from row.at bytes feeds held (is.2 more none).0));
+          (ap (begins (said (cut h.rs).last.rows_)) is.1 ∙ why.1 h.rs h.ms h.changes h.parts) refl refl;
+      fault_is = why.0 h.rs h.ms h.changes h.parts (up_to_next (text ++ more) h.rs (base + from) (base + row.at) (h.reads more none) (gap_later text more base from row.at bytes feeds held (is.2 more none).0));
     }))
 
 -- no row stands there
@@ -202,7 +218,7 @@ told_there whole text base from at bytes feeds old kind told held is h why has =
       stop = base + at;
       broken = Some kind;
       stops = no_row kind (no_row_later text more base is.1.0 at kind bytes feeds held (is.1.1 more none).1) refl;
-      fault_is = why h.rs h.ms h.parts
+      fault_is = why h.rs h.ms h.changes h.parts
           (let before = h.reads more none in
           let behind = before.2 (base + is.1.0) (gap_later text more base from is.1.0 bytes feeds held (is.1.1 more none).0) in
           let low = behind.1 in
@@ -235,18 +251,18 @@ told_at_end text at stop p line fault end h gap why has = record {
     well = h.parts.before;
     stop = stop;
     broken = None;
-    stops = over end (why.1 h.rs h.ms h.parts) refl refl;
-    fault_is = why.0 h.rs h.ms h.parts (up_to_end text at stop p end h gap);
+    stops = over end (why.1 h.rs h.ms h.changes h.parts) refl refl;
+    fault_is = why.0 h.rs h.ms h.changes h.parts (up_to_end text at stop p end h gap);
   };
   line_is = has.0;
 }
 
-pub stream_at_end : (text : List ℕ) (at stop : ℕ) (p : Progress) (done : Option StreamPatch) → stop ≡ length text → (h : HasStreamed true text at p) → Gap text at (length text) → EndsStream p.part stop done
-    → IsStream text (h.ms ++ meanings_of done)
+pub stream_at_end : (text : List ℕ) (at stop : ℕ) (p : Progress) (done : Option Link) → stop ≡ length text → (h : HasStreamed true text at p) → Gap text at (length text) → EndsStream p.part stop done
+    → IsStream text (h.ms ++ meanings_of done h.changes)
 stream_at_end text at stop p done end h gap ends = record {
   rows_ = h.rs;
   reads = reads_whole text at p h gap;
-  stream = subst (λ (n : ℕ). AreStream h.rs n (h.ms ++ meanings_of done)) end (ends h.rs h.ms h.parts (up_to_end text at stop p end h gap));
+  stream = subst (λ (n : ℕ). AreStream h.rs n (h.ms ++ meanings_of done h.changes)) end (ends h.rs h.ms h.changes h.parts (up_to_end text at stop p end h gap));
 }
 
 -- ---- how a replay ends

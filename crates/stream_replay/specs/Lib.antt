@@ -2,6 +2,7 @@ pub mod Spaces
 pub mod Lines
 pub mod Replaying
 pub mod Places
+pub mod Edits
 pub mod Ending
 pub mod Windows
 pub mod Source

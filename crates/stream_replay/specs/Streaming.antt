@@ -10,8 +10,13 @@ use Rattle.patch_meaning.specs.declared.fault.PatchFault.TheVariants as faults
 use Rattle.patch_meaning.specs.declared.rows.Next.{Next}
 use Rattle.patch_meaning.specs.Cutting.{IsCutInto}
 use Rattle.patch_meaning.specs.Patch.{Meaning}
-use Rattle.patch_meaning.specs.PartRead.{first_fault}
-use Rattle.patch_meaning.specs.Roles.{role}
+use Rattle.patch_meaning.specs.PartRead.{first_fault, is_sound}
+use Rattle.patch_meaning.specs.Roles.{role, change_of}
+use Rattle.patch_meaning.specs.declared.part.Part.{Part}
+use Rattle.patch_meaning.specs.declared.role.Role.{Role}
+use Rattle.rdf_terms.specs.declared.change.Change.{Change}
+use Rattle.stream_replay.specs.declared.edits.Edits.{Edits}
+use Rattle.stream_replay.specs.Edits.{HasEdits}
 use Rattle.patch_reader.specs.declared.placed.PlacedRow.{PlacedRow}
 use Rattle.patch_reader.specs.Rows.{Gap, RowsUpTo, NoRowAt}
 use Rattle.stream_replay.specs.declared.progress.Progress.{Progress}
@@ -52,16 +57,23 @@ FindsNext whole bytes from (Err row.OutOfMemory) = Unit {0}
 abbrev pub KnowsLine : List ℕ → Progress → Type 0
 KnowsLine text p = (fault : PatchFault) → first_fault p.part ≡ Some fault → HasLine text p.line fault
 
+-- What the changes do is held with that of one more row, as long as each row of the patch was taken.
+abbrev pub HoldsMore : Part → List Change → Role → Edits → Type 0
+HoldsMore p changes says e = (more : List Change) × HasEdits more e × (is_sound p ≡ true → more ≡ changes ++ change_of says)
+
 -- the text has these rows, and between the last of them and the place stand white space and comments
 abbrev pub RowsBefore : List ℕ → List PlacedRow → ℕ → Type 0
 RowsBefore text rs at = (end : ℕ) × RowsUpTo text 0 rs end × ((to : ℕ) → Gap text at to → Gap text end to)
 
--- The rows up to a place were cut into patches. Those that are complete were applied, and the one that may go on is held.
+-- The rows up to a place were cut into patches. Those that are complete were applied, and what the changes of the one that may go on
+-- do is held.
 pub record HasStreamed (whole : Bool) (text : List ℕ) (at : ℕ) (p : Progress) : Type 0 where
   pub rs : List PlacedRow
   pub ms : List Meaning
   pub reads : WhateverFollows whole (λ more. RowsBefore (text ++ more) rs at)
-  pub parts : IsCutInto rs ms p.part
+  pub changes : List Change
+  pub parts : IsCutInto rs ms changes p.part
+  pub edits : HasEdits changes p.edits
   pub replayed : IsReplay ms p.replay
   pub line_is : KnowsLine text p
 

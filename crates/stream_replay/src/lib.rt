@@ -1,9 +1,10 @@
 //! The replay of a stream of patches that is read once, in pieces.
 //!
 //! `replay_source` reads an input to its end and answers the dataset that its patches make, or the first fault (`specs/Source.antt`).
-//! It holds one piece and the open row, the changes of the open patch, the ids of the chain, and the lines of the dataset.
+//! It holds one piece and the open row, the lines that the open patch changes, the ids of the chain, and the lines of the dataset.
 #![tactic(auto)]
 
+mod edits;
 mod fault;
 mod lines;
 mod place;

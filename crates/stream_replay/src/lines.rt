@@ -2,105 +2,36 @@
 ghost use Rattle.std.specs.Prelude.{◌≡◌, ◌+◌, ◌<◌, ◌≤◌, ◌++◌, ℕ, List, [], length, true, false, OnOk, vec_len, vec_capacity};
 ghost use Rattle.std.specs.Io.KnownBytes.{Appends};
 ghost use Rattle.delta_base.specs.Outside.{Rose};
-ghost use Rattle.rdf_terms.specs.Dataset.{Dataset, apply, effect};
 ghost use Rattle.sink_writing.specs.Writing.{AppendsFront};
-ghost use Rattle.stream_replay.specs.Lines.{AreLinesOf, aborts, block_behind, bytes_of, effect_in};
+ghost use Rattle.stream_replay.specs.Lines.{bytes_of, edit_lines, line_edit, texts};
 
 use delta_base::{OutOfMemory, Sink};
-use nquads_documents::print_line;
-use rdf_terms::Change;
 use sink_writing::{PIECE, put, write_all};
-use std::alloc::Global;
 use std::collections::BTreeSet;
 
 /// The lines of a dataset. The order of texts is that of their bytes.
 pub type Lines = BTreeSet<String>;
 
-/// Where a change stands.
-#[derive(Clone, Copy)]
-pub enum Block {
-    Outside,
-    /// In a block whose changes stand.
-    Kept,
-    /// In a block that TA ends.
-    Dropped,
+/// What a change does to the lines of a dataset.
+#[derive(Drop)]
+pub enum LineEdit {
+    Insert(String),
+    Remove(String),
 }
 
-/// Makes the lines of a dataset those of the dataset after the changes of a patch.
-pub fn apply(alloc: Global, changes: &[Change], lines: &mut Lines) -> Result<(), OutOfMemory>
-    ensures { OnOk result ((d : Dataset) → AreLinesOf lines.old.keys d → AreLinesOf lines.new.keys (apply changes.now d)) }
+/// Does this to the lines of a dataset.
+pub fn make(edit: LineEdit, lines: &mut Lines) -> Result<(), OutOfMemory>
+    ensures { OnOk result (texts lines.new.keys ≡ edit_lines (line_edit edit) (texts lines.old.keys)) }
 {
-    let mut block = Block::Outside;
-    for at in 0..changes.len() {
-        let change = &changes[at];
-        apply_in(alloc, block, change, lines)?;
-        block = block_behind(block, change, &changes[at + 1..]);
+    match edit {
+        LineEdit::Insert(line) => {
+            lines.insert(line)?;
+        }
+        LineEdit::Remove(line) => {
+            lines.remove(line.as_str());
+        }
     }
     Ok(())
-}
-
-// Makes the lines of a dataset those of the dataset after one change, which has no effect in a block that TA ends.
-fn apply_in(
-    alloc: Global,
-    block: Block,
-    change: &Change,
-    lines: &mut Lines,
-) -> Result<(), OutOfMemory>
-    ensures { OnOk result ((d : Dataset) → AreLinesOf lines.old.keys d → AreLinesOf lines.new.keys (effect_in block change.now d)) }
-{
-    match block {
-        Block::Outside | Block::Kept => apply_one(alloc, change, lines),
-        Block::Dropped => Ok(()),
-    }
-}
-
-// Where the changes behind this one stand.
-fn block_behind(block: Block, change: &Change, rest: &[Change]) -> Block
-    ensures { result ≡ block_behind block change.now rest.now }
-{
-    match (block, change) {
-        (Block::Outside, Change::Begin) => {
-            if aborts(rest) {
-                Block::Dropped
-            } else {
-                Block::Kept
-            }
-        }
-        (_, Change::Commit | Change::Abort) => Block::Outside,
-        _ => block,
-    }
-}
-
-// Whether TA ends the block.
-fn aborts(changes: &[Change]) -> bool
-    ensures { result ≡ aborts changes.now }
-{
-    for change in changes {
-        match change {
-            Change::Commit => return false,
-            Change::Abort => return true,
-            _ => {}
-        }
-    }
-    false
-}
-
-// Makes the lines of a dataset those of the dataset after one change.
-fn apply_one(alloc: Global, change: &Change, lines: &mut Lines) -> Result<(), OutOfMemory>
-    ensures { OnOk result ((d : Dataset) → AreLinesOf lines.old.keys d → AreLinesOf lines.new.keys (effect change.now d)) }
-{
-    match change {
-        Change::Add(quad) => {
-            lines.insert(print_line(alloc, quad)?)?;
-            Ok(())
-        }
-        Change::Delete(quad) => {
-            let line = print_line(alloc, quad)?;
-            lines.remove(line.as_str());
-            Ok(())
-        }
-        _ => Ok(()),
-    }
 }
 
 /// Writes the lines one after another, and says whether it could. The room takes a piece of them.

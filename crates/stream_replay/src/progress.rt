@@ -1,26 +1,32 @@
 //! Rows that become patches, and patches that are applied.
-ghost use Rattle.std.specs.Prelude.{◌≡◌, ◌⊎◌, ◌+◌, ◌-◌, ◌<◌, ◌≤◌, ◌^◌, ℕ, List, [], Bool, true, false, None, Some, IfOk, IfErr, OnOk, length, vec_len};
+ghost use Rattle.std.specs.Prelude.{◌≡◌, ◌⊎◌, ◌+◌, ◌-◌, ◌<◌, ◌≤◌, ◌^◌, ◌++◌, ℕ, List, [], Bool, true, false, None, Some, IfOk, IfErr, OnOk, length, vec_len};
 ghost use Rattle.patch_meaning.specs.declared.fault.PatchFault.{PatchFault as TextFault};
-ghost use Rattle.patch_meaning.specs.declared.fault.PatchFault.TheVariants as faults;
-ghost use Rattle.patch_meaning.specs.Cutting.{EndsStream, HasTakenNext, IsBrokenAtEnd, IsBrokenBefore, IsFaultOf};
+ghost use Rattle.patch_meaning.specs.Cutting.{EndsStream, HasTakenNext, IsBrokenAtEnd, IsBrokenBefore, IsFaultOf, changes_left, meanings_of};
 ghost use Rattle.patch_meaning.specs.Patch.{Meaning, place_of};
 ghost use Rattle.patch_meaning.specs.PartRead.{first_fault, IsToldAt};
 ghost use Rattle.patch_reader.specs.Rows.{Gap};
-ghost use Rattle.stream_replay.specs.Replaying.{IsReplay};
+ghost use Rattle.rdf_terms.specs.declared.change.Change.{Change};
+ghost use Rattle.stream_replay.specs.Edits.{HasEdits};
+ghost use Rattle.stream_replay.specs.Replaying.{AreReplayed, EndsChain, IsReplay};
 ghost use Rattle.stream_replay.specs.Windows.{HasLine, IsWindow};
 
+use crate::edits::Edits;
 use crate::fault::ReplayFault;
 use crate::place::{Told, line_of, tell};
 use crate::replay::{Replay, Replayed};
 use crate::window::Window;
-use patch_meaning::{Part, Role, StreamPatch};
+use chain_core::Link;
+use delta_base::OutOfMemory;
+use patch_meaning::{Part, Role};
 use patch_rows::RowKind;
 use std::alloc::Global;
+use std::mem;
 
-/// The open patch, and the replay of those before it.
+/// The open patch with what its changes do, and the replay of those before it.
 #[derive(Drop)]
 pub struct Progress {
     part: Part,
+    edits: Edits,
     replay: Replay,
     /// The line of the open patch's first fault.
     line: u64,
@@ -28,7 +34,7 @@ pub struct Progress {
 
 impl Progress {
     ghost use Rattle.stream_replay.specs.Source.{EndsText, IsReplayed};
-    ghost use Rattle.stream_replay.specs.Streaming.{HasStreamed, IsNextIn, IsTold, KnowsLine};
+    ghost use Rattle.stream_replay.specs.Streaming.{HasStreamed, HoldsMore, IsNextIn, IsTold, KnowsLine};
 
     /// No row so far.
     pub fn new(alloc: Global) -> Progress
@@ -36,7 +42,8 @@ impl Progress {
         ensures version { result.replay.chain.version ≡ 0 }
     {
         Progress {
-            part: Part::new(alloc, 0),
+            part: Part::new(0),
+            edits: Edits::new(alloc),
             replay: Replay::new(alloc),
             line: 0,
         }
@@ -47,43 +54,39 @@ impl Progress {
         &mut self,
         alloc: Global,
         window: &Window,
-        says: Role,
+        says: &Role,
         at: usize,
     ) -> Result<(), Told>
         requires room { self.old.replay.chain.version < 2 ^ 32 - 1 }
         requires within { at ≤ vec_len window.now.bytes }
-        ensures ok { OnOk result ((whole : Bool) (text : List ℕ) (end : ℕ) → IsWindow text window.now → IsNextIn whole window.now.bytes.items window.now.from (record { role = says; at = at; end = end })
+        ensures ok { OnOk result ((whole : Bool) (text : List ℕ) (end : ℕ) → IsWindow text window.now → IsNextIn whole window.now.bytes.items window.now.from (record { role = says.now; at = at; end = end })
             → HasStreamed whole text (window.now.base + window.now.from) self.old → HasStreamed whole text (window.now.base + end) self.new) }
         ensures version { OnOk result (self.new.replay.chain.version ≤ self.old.replay.chain.version + 1) }
-        ensures fault { IfErr result (λ told. (whole : Bool) (text : List ℕ) (end : ℕ) → IsWindow text window.now → IsNextIn whole window.now.bytes.items window.now.from (record { role = says; at = at; end = end })
+        ensures fault { IfErr result (λ told. (whole : Bool) (text : List ℕ) (end : ℕ) → IsWindow text window.now → IsNextIn whole window.now.bytes.items window.now.from (record { role = says.now; at = at; end = end })
             → HasStreamed whole text (window.now.base + window.now.from) self.old → IsTold whole text told) }
     {
-        match self.take_row(alloc, window, says, window.base + at as u64) {
+        match self.take_row(window, says, window.base + at as u64) {
             Ok(done) => {
-                self.replay.take_done(alloc, done)?;
+                self.complete(alloc, done)?;
+                self.hold(alloc, says)?;
                 Ok(())
             }
             Err(told) => Err(told),
         }
     }
 
-    // Takes what the row at a place says, and answers the patch that was completed before it.
-    fn take_row(
-        &mut self,
-        alloc: Global,
-        window: &Window,
-        says: Role,
-        at: u64,
-    ) -> Result<Option<StreamPatch>, Told>
+    // Takes what the row at a place says, and answers the ids of the patch that was completed before it.
+    fn take_row(&mut self, window: &Window, says: &Role, at: u64) -> Result<Option<Link>, Told>
         requires low { window.now.base ≤ at }
         requires high { at ≤ window.now.base + vec_len window.now.bytes }
-        ensures ok { IfOk result (λ done. HasTakenNext self.old.part says at done self.new.part) }
+        ensures ok { IfOk result (λ done. HasTakenNext self.old.part says.now at done self.new.part) }
         ensures line { OnOk result ((text : List ℕ) → IsWindow text window.now → KnowsLine text self.old → KnowsLine text self.new) }
+        ensures edits { self.new.edits ≡ self.old.edits }
         ensures replay { self.new.replay ≡ self.old.replay }
-        ensures fault { IfErr result (λ told. (told.fault ≡ faults.OutOfMemory) ⊎ IsBrokenBefore self.old.part says at told.fault) }
+        ensures fault { IfErr result (λ told. IsBrokenBefore self.old.part says.now at told.fault) }
         ensures told { IfErr result (λ told. (text : List ℕ) → IsWindow text window.now → KnowsLine text self.old → HasLine text told.line told.fault) }
     {
-        match self.part.take_next(alloc, says, at) {
+        match self.part.take_next(says, at) {
             Ok(done) => {
                 self.note(window, at);
                 Ok(done)
@@ -92,11 +95,48 @@ impl Progress {
         }
     }
 
+    // Applies what is held of a patch that is complete, if there is one.
+    fn complete(&mut self, alloc: Global, done: Option<Link>) -> Result<(), OutOfMemory>
+        requires room { self.old.replay.chain.version < 2 ^ 32 - 1 }
+        ensures replay { OnOk result ((ms : List Meaning) (changes : List Change) → IsReplay ms self.old.replay → HasEdits changes self.old.edits → IsReplay (ms ++ meanings_of done changes) self.new.replay) }
+        ensures edits { OnOk result ((changes : List Change) → HasEdits changes self.old.edits → HasEdits (changes_left done changes) self.new.edits) }
+        ensures version { OnOk result (self.new.replay.chain.version ≤ self.old.replay.chain.version + 1) }
+        ensures part { self.new.part ≡ self.old.part }
+        ensures line { self.new.line ≡ self.old.line }
+    {
+        match done {
+            Some(link) => {
+                let edits = mem::replace(&mut self.edits, Edits::new(alloc));
+                self.replay.take(link, edits)
+            }
+            None => Ok(()),
+        }
+    }
+
+    // Holds what the change of a row does, where its patch may still be one.
+    fn hold(&mut self, alloc: Global, says: &Role) -> Result<(), OutOfMemory>
+        ensures edits { OnOk result ((changes : List Change) → HasEdits changes self.old.edits → HoldsMore self.old.part changes says.now self.new.edits) }
+        ensures part { self.new.part ≡ self.old.part }
+        ensures replay { self.new.replay ≡ self.old.replay }
+        ensures line { self.new.line ≡ self.old.line }
+    {
+        match says {
+            Role::Change(change) => {
+                if self.part.is_sound() {
+                    return self.edits.take(alloc, change);
+                }
+                Ok(())
+            }
+            _ => Ok(()),
+        }
+    }
+
     // Keeps the line of the row at a place, where the row has the open patch's first fault.
     fn note(&mut self, window: &Window, at: u64)
         requires low { window.now.base ≤ at }
         requires high { at ≤ window.now.base + vec_len window.now.bytes }
         ensures part { self.new.part ≡ self.old.part }
+        ensures edits { self.new.edits ≡ self.old.edits }
         ensures replay { self.new.replay ≡ self.old.replay }
         ensures line { (text : List ℕ) → IsWindow text window.now → (fault : TextFault) → first_fault self.old.part ≡ Some fault
             → HasLine text self.old.line fault ⊎ (place_of fault ≡ Some at) → HasLine text self.new.line fault }
@@ -117,19 +157,24 @@ impl Progress {
     }
 
     /// The replay of a stream that ends with the window.
-    pub fn finish(self, alloc: Global, window: &Window) -> Result<Replayed, ReplayFault>
+    pub fn finish(self, window: &Window) -> Result<Replayed, ReplayFault>
         requires room { self.replay.chain.version < 2 ^ 32 - 1 }
         ensures ok { IfOk result (λ replayed. (text : List ℕ) (at : ℕ) → IsWindow text window.now → HasStreamed true text at self → Gap text at (length text) → IsReplayed replayed text) }
         ensures fault { IfErr result (λ fault. (text : List ℕ) (at : ℕ) → IsWindow text window.now → HasStreamed true text at self → Gap text at (length text) → EndsText fault text) }
     {
-        let Progress { part, replay, line } = self;
+        let Progress {
+            part,
+            edits,
+            replay,
+            line,
+        } = self;
         let done = last_patch(part, line, window)?;
-        replay_last(alloc, replay, done)
+        replay_last(replay, edits, done)
     }
 }
 
-// The last patch of a stream that ends with the window.
-fn last_patch(part: Part, line: u64, window: &Window) -> Result<Option<StreamPatch>, Told>
+// The ids of the last patch of a stream that ends with the window.
+fn last_patch(part: Part, line: u64, window: &Window) -> Result<Option<Link>, Told>
     ensures ok { IfOk result (EndsStream part (window.now.base + vec_len window.now.bytes)) }
     ensures fault { IfErr result (λ told. IsBrokenAtEnd part (window.now.base + vec_len window.now.bytes) told.fault) }
     ensures told { IfErr result (λ told. (text : List ℕ) → IsWindow text window.now → ((fault : TextFault) → first_fault part ≡ Some fault → HasLine text line fault) → HasLine text told.line told.fault) }
@@ -141,21 +186,19 @@ fn last_patch(part: Part, line: u64, window: &Window) -> Result<Option<StreamPat
     }
 }
 
-ghost use Rattle.std.specs.Prelude.{◌++◌};
-ghost use Rattle.patch_meaning.specs.Cutting.{meanings_of};
-ghost use Rattle.stream_replay.specs.Replaying.{AreReplayed, EndsChain};
-
-// Applies the last patch, if there is one.
+// Applies what is held of the last patch, if there is one.
 fn replay_last(
-    alloc: Global,
     mut replay: Replay,
-    done: Option<StreamPatch>,
+    edits: Edits,
+    done: Option<Link>,
 ) -> Result<Replayed, ReplayFault>
     requires room { replay.chain.version < 2 ^ 32 - 1 }
-    ensures ok { IfOk result (λ replayed. (ms : List Meaning) → IsReplay ms replay → AreReplayed (ms ++ meanings_of done) replayed) }
-    ensures fault { IfErr result (λ fault. (ms : List Meaning) → IsReplay ms replay → EndsChain (ms ++ meanings_of done) fault) }
+    ensures ok { IfOk result (λ replayed. (ms : List Meaning) (changes : List Change) → IsReplay ms replay → HasEdits changes edits → AreReplayed (ms ++ meanings_of done changes) replayed) }
+    ensures fault { IfErr result (λ fault. (ms : List Meaning) (changes : List Change) → IsReplay ms replay → HasEdits changes edits → EndsChain (ms ++ meanings_of done changes) fault) }
 {
-    replay.take_done(alloc, done)?;
+    if let Some(link) = done {
+        replay.take(link, edits)?;
+    }
     match replay.finish() {
         Ok(replayed) => Ok(replayed),
         Err(fault) => Err(ReplayFault::Chain(fault)),

@@ -1,15 +1,16 @@
 //! The dataset that a chain of patches makes.
 ghost use Rattle.std.specs.Prelude.{◌≡◌, ◌+◌, ◌-◌, ◌<◌, ◌≤◌, ◌^◌, ◌++◌, ◌∷◌, List, [], OnOk, MatchResult};
 ghost use Rattle.chain_core.specs.Breaks.{Breaks};
-ghost use Rattle.patch_meaning.specs.Cutting.{meanings_of};
+ghost use Rattle.rdf_terms.specs.declared.change.Change.{Change};
 ghost use Rattle.patch_meaning.specs.Patch.{Meaning};
 ghost use Rattle.patch_meaning.specs.PartRead.{meaning_of};
 ghost use Rattle.patch_meaning.specs.Replay.{links_of};
+ghost use Rattle.stream_replay.specs.Edits.{HasEdits};
 
-use crate::lines::{Lines, apply};
+use crate::edits::Edits;
+use crate::lines::Lines;
 use chain_core::{ChainFault, ChainTest, Link};
 use delta_base::{Id, OutOfMemory};
-use patch_meaning::StreamPatch;
 use std::alloc::Global;
 use std::collections::BTreeSet;
 
@@ -54,39 +55,24 @@ impl Replay {
         }
     }
 
-    /// Tests a patch against the chain, and applies it; where there is none, nothing changes.
-    pub fn take_done(&mut self, alloc: Global, done: Option<StreamPatch>) -> Result<(), OutOfMemory>
-        requires room { self.old.chain.version < 2 ^ 32 - 1 }
-        ensures replay { OnOk result ((ms : List Meaning) → IsReplay ms self.old → IsReplay (ms ++ meanings_of done) self.new) }
-        ensures version { OnOk result (self.new.chain.version ≤ self.old.chain.version + 1) }
-    {
-        match done {
-            Some(patch) => self.take(alloc, &patch),
-            None => Ok(()),
-        }
-    }
-
-    // Tests a patch against the chain, and applies it. Most rows complete none, so this stays out of the way of those.
+    /// Tests a patch against the chain, and applies what its changes do. Most rows complete none, so this stays out of the
+    /// way of those.
     #[inline(never)]
-    fn take(&mut self, alloc: Global, patch: &StreamPatch) -> Result<(), OutOfMemory>
+    pub fn take(&mut self, link: Link, edits: Edits) -> Result<(), OutOfMemory>
         requires room { self.old.chain.version < 2 ^ 32 - 1 }
-        ensures replay { OnOk result ((ms : List Meaning) → IsReplay ms self.old → IsReplay (ms ++ meaning_of patch.now ∷ []) self.new) }
+        ensures replay { OnOk result ((ms : List Meaning) (changes : List Change) → IsReplay ms self.old → HasEdits changes edits → IsReplay (ms ++ meaning_of link changes ∷ []) self.new) }
         ensures version { OnOk result (self.new.chain.version ≤ self.old.chain.version + 1) }
     {
         if self.fault.is_some() {
             return Ok(());
         }
-        let link = Link {
-            id: patch.id,
-            prev: patch.prev,
-        };
         match self.chain.fault_of(link) {
             Some(fault) => self.fault = Some(fault),
             None => {
                 self.chain.push(link)?;
-                apply(alloc, patch.changes.as_slice(), &mut self.lines)?;
+                edits.apply(&mut self.lines)?;
                 self.patches = self.patches.saturating_add(1);
-                self.head = Some(patch.id);
+                self.head = Some(link.id);
             }
         }
         Ok(())

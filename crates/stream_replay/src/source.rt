@@ -20,7 +20,7 @@ const PIECE: usize = 65_536;
 /// then at most a piece more is read.
 ///
 /// It reads the input once. Of the input it holds a piece and what stands behind the last row that was read, but for white space and the lines of comments; of the patches
-/// the changes of the open one up to the limit of a patch, the ids, and the lines of the dataset.
+/// the lines that the open one changes up to the limit of a patch, the ids, and the lines of the dataset.
 pub fn replay_source<S: Source>(alloc: Global, input: &mut S) -> Result<Replayed, ReplayFault>
     ensures ok { IfOk result (λ replayed. Reads (S.left input.old) (S.left input.new) (IsReplayed replayed)) }
     ensures fault { IfErr result (Ends (S.left input.old) (S.left input.new) (S.faults input.old) (S.faults input.new)) }

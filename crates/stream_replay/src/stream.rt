@@ -118,10 +118,15 @@ impl Streaming {
             let bytes = self.window.bytes.as_slice();
             let at = skip_space(bytes, self.window.from);
             match decided_row(alloc, bytes, at) {
-                Ok(Some((row, end))) => match self.step(alloc, role_of(row), at, end) {
-                    Ok(()) => {}
-                    Err(told) => return Err(told),
-                },
+                Ok(Some((row, end))) => {
+                    let says = role_of(row);
+                    let taken = self.step(alloc, &says, at, end);
+                    drop(says);
+                    match taken {
+                        Ok(()) => {}
+                        Err(told) => return Err(told),
+                    }
+                }
                 Ok(None) => return Ok(()),
                 Err(RowFault::At { at, kind }) => {
                     return Err(self.progress.break_off(&self.window, at, kind));
@@ -144,7 +149,9 @@ impl Streaming {
     {
         'rows: while let Some(next) = self.next(alloc)? {
             let Next { role, at, end } = next;
-            self.step(alloc, role, at, end)?;
+            let taken = self.step(alloc, &role, at, end);
+            drop(role);
+            taken?;
         }
         Ok(())
     }
@@ -162,13 +169,13 @@ impl Streaming {
     }
 
     // Takes what the row at a place says, which ends at another.
-    fn step(&mut self, alloc: Global, says: Role, at: usize, end: usize) -> Result<(), Told>
+    fn step(&mut self, alloc: Global, says: &Role, at: usize, end: usize) -> Result<(), Told>
         requires room { self.old.progress.replay.chain.version < 2 ^ 32 - 1 }
         requires low { at ≤ end }
         requires within { end ≤ vec_len self.old.window.bytes }
-        ensures ok { OnOk result ((whole : Bool) (text : List ℕ) → IsNextIn whole self.old.window.bytes.items self.old.window.from (record { role = says; at = at; end = end })
+        ensures ok { OnOk result ((whole : Bool) (text : List ℕ) → IsNextIn whole self.old.window.bytes.items self.old.window.from (record { role = says.now; at = at; end = end })
             → IsStreaming whole text self.old → IsStreaming whole text self.new) }
-        ensures fault { IfErr result (λ told. (whole : Bool) (text : List ℕ) → IsNextIn whole self.old.window.bytes.items self.old.window.from (record { role = says; at = at; end = end })
+        ensures fault { IfErr result (λ told. (whole : Bool) (text : List ℕ) → IsNextIn whole self.old.window.bytes.items self.old.window.from (record { role = says.now; at = at; end = end })
             → IsStreaming whole text self.old → IsTold whole text told) }
         ensures version { OnOk result (self.new.progress.replay.chain.version ≤ self.old.progress.replay.chain.version + 1) }
         ensures from { OnOk result (self.new.window.from ≡ end) }
@@ -201,6 +208,6 @@ impl Streaming {
             progress,
             ..
         } = self;
-        progress.finish(alloc, &window)
+        progress.finish(&window)
     }
 }

@@ -3,8 +3,8 @@ use Rattle.patch_meaning.proofs.Read.{HasTaken}
 use Rattle.patch_meaning.proofs.checked.read_rows.Given as goal
 
 -- the rows so far were taken
-abbrev pub invariant-loop-draft : goal.invariant-loop-draft
-invariant-loop-draft l = HasTaken l.text l.at l.draft
+abbrev pub invariant-loop-read : goal.invariant-loop-read
+invariant-loop-read l = HasTaken l.text l.at l.read
 
-abbrev pub decreases-loop-draft : goal.decreases-loop-draft
-decreases-loop-draft l = length l.text - l.at
+abbrev pub decreases-loop-read : goal.decreases-loop-read
+decreases-loop-read l = length l.text - l.at

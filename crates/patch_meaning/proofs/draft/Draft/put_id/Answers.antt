@@ -5,11 +5,11 @@ use Rattle.patch_meaning.proofs.draft.Draft.put_id.Goals as goal
 pub returns-then-is_some : goal.returns-then-is_some
 returns-then-is_some c = λ rs s. second_id rs c.args.id c.args.self.now s (sym c.is_some.ensures ∙ c.if-is_some.true)
 
-pub returns-then-not-is_empty : goal.returns-then-not-is_empty
-returns-then-not-is_empty c = λ rs s. late_id rs c.args.id c.args.self.now s (sym c.is_some.ensures ∙ c.if-is_some.false) (λ empty. cc (c.is_empty.ensures.1 empty))
+pub returns-then-self : goal.returns-then-self
+returns-then-self c = λ rs s. late_id rs c.args.id c.args.self.now s (sym c.is_some.ensures ∙ c.if-is_some.false) c.if-self.true
 
 pub returns : goal.returns
 returns c = λ rs s.
     let none = sym c.is_some.ensures ∙ c.if-is_some.false in
-    let empty = c.is_empty.ensures.0 c.if-not-is_empty.false in
+    let empty = c.if-self.false in
     id_stands rs c.args.id c.args.self.now (record c.args.self.now { id = Some c.args.id }) s empty (id_taken rs c.args.id c.args.self.now s none empty) none refl refl refl refl

@@ -6,7 +6,7 @@ pub returns-then-not-has_rows-clause-ok : goal.returns-then-not-has_rows-clause-
 returns-then-not-has_rows-clause-ok c = ends_stream c.args.self c.args.stop None (λ rs part. c.has_rows.ensures rs part ∙ c.if-not-has_rows.true)
 
 pub returns-in-Ok-clause-ok : goal.returns-in-Ok-clause-ok
-returns-in-Ok-clause-ok c = ends_stream c.args.self c.args.stop (Some c.in-Ok.patch) ((λ rs part. c.has_rows.ensures rs part ∙ c.if-not-has_rows.false), c.in-Ok.ensures.ok)
+returns-in-Ok-clause-ok c = ends_stream c.args.self c.args.stop (Some c.in-Ok.link) ((λ rs part. c.has_rows.ensures rs part ∙ c.if-not-has_rows.false), c.in-Ok.ensures.ok)
 
 pub returns-in-Err-clause-fault : goal.returns-in-Err-clause-fault
 returns-in-Err-clause-fault c =

@@ -15,13 +15,13 @@ returns-in_err-done-clause-fault c =
     let r = c.requires in
     rw (p.1, p.2) (unfinished c.args.text.now r.0 c.args.self c.in_err-done.field-0.0 r.1 r.2 c.in_err-done.ensures.fault)
 
-pub keep-requires : goal.keep-requires
-keep-requires c =
+pub put-requires : goal.put-requires
+put-requires c =
     let r = c.requires in
-    subst (λ (text : List ℕ). IsTextOf text c.in_ok-done.done) (sym c.piece-text.ensures) (last_piece c.args.text.now r.0 c.args.self c.in_ok-done.done r.1 r.2 c.in_ok-done.ensures.last)
+    subst (λ (text : List ℕ). IsTextOf text c.in_ok-done.done c.args.self.changes.items) (sym c.piece-text.ensures) (last_piece c.args.text.now r.0 c.args.self c.in_ok-done.done r.1 r.2 c.in_ok-done.ensures.last)
 
 pub returns-clause-split : goal.returns-clause-split
 returns-clause-split c =
     let r = c.requires in
-    finished c.args.text.now r.0 c.args.self c.in_ok-done.done c.keep.new.patches.items r.1 r.2 c.in_ok-done.ensures.ok c.in_ok-done.ensures.last
-    (c.in_ok-keep.ensures.ok ∙ ap (λ (text : List ℕ). c.args.self.patches.items ++ checked_of text c.in_ok-done.done) c.piece-text.ensures)
+    finished c.args.text.now r.0 c.args.self c.in_ok-done.done c.put.new.self.patches.items r.1 r.2 c.in_ok-done.ensures.ok c.in_ok-done.ensures.last
+    (c.in_ok-put.ensures.patches ∙ ap (λ (text : List ℕ). c.args.self.patches.items ++ checked_of text c.in_ok-done.done c.args.self.changes.items) c.piece-text.ensures)

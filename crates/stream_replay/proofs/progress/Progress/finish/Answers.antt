@@ -22,9 +22,9 @@ returns-clause-ok c =
     let w = c.args.window.now in
     if_ok c.replay_last.result _ _ c.replay_last.ensures.ok
     (λ replayed is text at held h gap. record {
-      meanings = h.ms ++ meanings_of c.in_ok-done.done;
+      meanings = h.ms ++ meanings_of c.in_ok-done.done h.changes;
       stream = stream_at_end text at (w.base + vec_len w.bytes) c.args.self c.in_ok-done.done (ap (λ (n : _). w.base + n) w.bytes.ok.0 ∙ held_end text w.base w.bytes.items w.feeds held) h gap c.in_ok-done.ensures.ok;
-      replayed = is h.ms h.replayed;
+      replayed = is h.ms h.changes h.replayed h.edits;
     })
 
 pub returns-clause-fault : goal.returns-clause-fault
@@ -32,6 +32,6 @@ returns-clause-fault c =
     let w = c.args.window.now in
     if_err c.replay_last.result _ _ c.replay_last.ensures.fault
     (λ fault is text at held h gap.
-    ends_chain (h.ms ++ meanings_of c.in_ok-done.done) fault text
+    ends_chain (h.ms ++ meanings_of c.in_ok-done.done h.changes) fault text
     (stream_at_end text at (w.base + vec_len w.bytes) c.args.self c.in_ok-done.done (ap (λ (n : _). w.base + n) w.bytes.ok.0 ∙ held_end text w.base w.bytes.items w.feeds held) h gap c.in_ok-done.ensures.ok)
-    (is h.ms h.replayed))
+    (is h.ms h.changes h.replayed h.edits))

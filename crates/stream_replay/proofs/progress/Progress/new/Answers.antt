@@ -8,6 +8,8 @@ returns-clause-streamed c = record {
   ms = [];
   reads = λ more none. (0, refl, λ to gap. gap);
   parts = nothing_cut c.new.result c.new.ensures.rows c.new.ensures.from;
-  replayed = c.new-2.ensures.replay;
+  changes = [];
+  edits = c.new-2.ensures;
+  replayed = c.new-3.ensures.replay;
   line_is = λ fault is. absurd (let none = c.new.ensures.none in cc);
 }

@@ -8,14 +8,14 @@ pub returns-in-Err-clause-fault : goal.returns-in-Err-clause-fault
 returns-in-Err-clause-fault c =
     let w = c.rows.self.window in let bytes = c.as_slice-bytes in let space = c.skip_space-at in let row = c.in-Ok-Some in
     let small : length bytes.result.now < 2 ^ 63 = omega (arith, c.requires.room, bytes.ensures.len, ap vec_len c.rows.invariant.bytes) in
-    let here = decided_next bytes.result.now w.bytes.items w.from space.result row.end row.row c.role_of.result row.field-0 bytes.ensures.value space.ensures.low space.ensures.high small space.ensures.space row.field-0-is row.ensures c.role_of.ensures in
+    let here = decided_next bytes.result.now w.bytes.items w.from space.result row.end row.row c.role_of-says.result row.field-0 bytes.ensures.value space.ensures.low space.ensures.high small space.ensures.space row.field-0-is row.ensures c.role_of-says.ensures in
     λ text s. c.in-Err.ensures.fault false text here (c.rows.invariant.streaming text s)
 
 pub rows-preserved : goal.rows-preserved
 rows-preserved c =
     let w = c.rows.self.window in let bytes = c.as_slice-bytes in let space = c.skip_space-at in let row = c.in-Ok-Some in
     let small : length bytes.result.now < 2 ^ 63 = omega (arith, c.requires.room, bytes.ensures.len, ap vec_len c.rows.invariant.bytes) in
-    let here = decided_next bytes.result.now w.bytes.items w.from space.result row.end row.row c.role_of.result row.field-0 bytes.ensures.value space.ensures.low space.ensures.high small space.ensures.space row.field-0-is row.ensures c.role_of.ensures in
+    let here = decided_next bytes.result.now w.bytes.items w.from space.result row.end row.row c.role_of-says.result row.field-0 bytes.ensures.value space.ensures.low space.ensures.high small space.ensures.space row.field-0-is row.ensures c.role_of-says.ensures in
     record {
       streaming = λ text s. c.in-Ok.ensures.ok false text here (c.rows.invariant.streaming text s);
       few = search rules;
