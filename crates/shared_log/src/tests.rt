@@ -9,8 +9,9 @@ use chain_core::{LogAnswer, LogLimits};
 use delta_base::{Bytes, Id, Listing};
 use disk_model::MemDisk;
 use patch_log::LogState;
-use patch_meaning::check_patch;
+use patch_meaning::{Checked, check_patch};
 use std::alloc::Global;
+use std::process::Abort;
 use std::sync::Wait;
 use std::test::Fail;
 
@@ -92,41 +93,53 @@ fn entry_of(log: &LogState<MemDisk>, version: u32) -> Option<(u32, Id)> {
     Some((entry.by, entry.patch.id))
 }
 
+// The patches of which the second and the third both name the first.
+#[derive(Drop)]
+struct Patches {
+    first: Checked,
+    second: Checked,
+    third: Checked,
+}
+
+fn three_patches(alloc: Global) -> Result<Patches, Fail> {
+    Ok(Patches {
+        first: check_patch(alloc, FIRST)?,
+        second: check_patch(alloc, SECOND)?,
+        third: check_patch(alloc, THIRD)?,
+    })
+}
+
+fn is(rt: &impl Abort, answer: LogAnswer, wanted: LogAnswer) {
+    assert_eq!(rt; answer, wanted);
+}
+
+fn has_first_and_third(rt: &impl Abort, log: &LogState<MemDisk>) {
+    assert_eq!(rt; log.chain().version(), 2);
+    assert_eq!(rt; entry_of(log, 1), Some((1, id_of(1))));
+    assert_eq!(rt; entry_of(log, 2), Some((2, id_of(3))));
+}
+
 #[test]
 fn what_one_pass_brings_the_other_sees(rt: HostRuntime) -> Result<(), Fail> {
-    let alloc = rt.alloc();
-    let first = check_patch(alloc, FIRST)?;
-    let second = check_patch(alloc, SECOND)?;
-    let third = check_patch(alloc, THIRD)?;
-    let (log, mut passes) = share(alloc, &[])?;
-    assert_eq!(rt;
-        log.append(&rt, &mut passes.one, &first),
-        LogAnswer::Accepted { version: 1 }
-    );
-    assert_eq!(rt; log.version(&mut passes.two), 1);
-    assert_eq!(rt;
-        log.append(&rt, &mut passes.two, &first),
-        LogAnswer::Known {
-            version: 1,
-            same: true
-        }
-    );
-    assert_eq!(rt;
-        log.append(&rt, &mut passes.two, &third),
-        LogAnswer::Accepted { version: 2 }
-    );
-    assert_eq!(rt;
-        log.append(&rt, &mut passes.one, &second),
-        LogAnswer::Conflict {
-            version: 2,
-            head: Some(id_of(3)),
-            prev_version: Some(1)
-        }
-    );
+    let patches = three_patches(rt.alloc())?;
+    let (log, mut passes) = share(rt.alloc(), &[])?;
+    let answer = log.append(&rt, &mut passes.one, &patches.first);
+    is(&rt, answer, LogAnswer::Accepted { version: 1 });
+    assert!(rt; log.version(&mut passes.two) == 1);
+    let answer = log.append(&rt, &mut passes.two, &patches.first);
+    let same = true;
+    is(&rt, answer, LogAnswer::Known { version: 1, same });
+    let answer = log.append(&rt, &mut passes.two, &patches.third);
+    is(&rt, answer, LogAnswer::Accepted { version: 2 });
+    let answer = log.append(&rt, &mut passes.one, &patches.second);
+    let conflict = LogAnswer::Conflict {
+        version: 2,
+        head: Some(id_of(3)),
+        prev_version: Some(1),
+    };
+    is(&rt, answer, conflict);
     let state = close(log, passes);
-    assert_eq!(rt; state.chain().version(), 2);
-    assert_eq!(rt; entry_of(&state, 1), Some((1, id_of(1))));
-    assert_eq!(rt; entry_of(&state, 2), Some((2, id_of(3))));
+    has_first_and_third(&rt, &state);
     Ok(())
 }
 
@@ -136,18 +149,14 @@ fn a_fault_is_that_of_its_own_pass(rt: HostRuntime) -> Result<(), Fail> {
     let alloc = rt.alloc();
     let first = check_patch(alloc, FIRST)?;
     let (log, mut passes) = share(alloc, &[4])?;
-    assert_eq!(rt;
-        log.append(&rt, &mut passes.one, &first),
-        LogAnswer::DiskFault
-    );
-    assert_eq!(rt; log.version(&mut passes.two), 0);
+    let answer = log.append(&rt, &mut passes.one, &first);
+    is(&rt, answer, LogAnswer::DiskFault);
+    assert!(rt; log.version(&mut passes.two) == 0);
     assert!(rt; passes.one.own_faults() > 0);
-    assert_eq!(rt; passes.two.own_faults(), 0);
-    assert_eq!(rt;
-        log.append(&rt, &mut passes.two, &first),
-        LogAnswer::Accepted { version: 1 }
-    );
-    assert_eq!(rt; passes.two.own_faults(), 0);
+    assert!(rt; passes.two.own_faults() == 0);
+    let answer = log.append(&rt, &mut passes.two, &first);
+    is(&rt, answer, LogAnswer::Accepted { version: 1 });
+    assert!(rt; passes.two.own_faults() == 0);
     Ok(())
 }
 
