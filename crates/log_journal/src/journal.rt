@@ -2,6 +2,7 @@
 ghost use Rattle.std.specs.Prelude.{◌≡◌, false, ◌⊎◌, ℕ, ◌+◌, ◌<◌, ◌≤◌, ◌↔◌, ◌++◌, [], ◌∷◌, List, length, IsTrue, not, OnOk, OnErr, IsErrOf, IfOk, IfErr, IsOk, is_ok, if◌then◌else◌};
 ghost use Rattle.delta_base.specs.Outside.{Rose, HasCause};
 ghost use Rattle.disk_model.specs.Past.{reads, synced, ok_syncs, synced_bytes, filled, Keeps};
+ghost use Rattle.disk_model.specs.Calls.{WroteSome};
 ghost use Rattle.log_journal.specs.File.{Holds, file_of, journal_length};
 ghost use Rattle.log_journal.specs.Journal.{HoldsWithOrWithout};
 ghost use Rattle.log_journal.specs.Reading.{Reads, HasFault};
@@ -137,6 +138,9 @@ impl<D: Disk> Journal<D> {
         // A file that isn't empty is left as it is.
         ensures not_empty { D.tells → IfErr result (λ refusal. (found : ℕ) → refusal.fault ≡ FormatFault.NotEmpty found → (0 < found) × (found ≡ length (reads (D.past disk)))) }
         ensures kept { D.tells → IfErr result (λ refusal. 0 < length (reads (D.past disk)) → D.past refusal.disk ≡ D.past disk) }
+
+        // After a failure some of its bytes may be written, and nothing more is synced.
+        ensures err { D.tells → IfErr result (λ refusal. WroteSome 0 9 (D.past disk) (D.past refusal.disk)) }
         ensures cause { IfErr result (λ refusal. refusal.fault ≡ FormatFault.Failed → Rose (D.faults disk) (D.faults refusal.disk)) }
         ensures faults { IfOk result (λ journal. D.faults disk ≤ D.faults (disk_of journal)) }
         ensures faults_refused { IfErr result (λ refusal. D.faults disk ≤ D.faults refusal.disk) }

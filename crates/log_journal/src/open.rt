@@ -2,6 +2,7 @@
 ghost use Rattle.std.specs.Prelude.{◌≡◌, ◌≢◌, ◌⊎◌, ℕ, ◌+◌, ◌<◌, ◌≤◌, ◌↔◌, ◌++◌, [], ◌∷◌, None, length, IfOk, IfErr, OnOk, OnErr, IsErrOf};
 ghost use Rattle.delta_base.specs.Outside.{Rose};
 ghost use Rattle.disk_model.specs.Past.{reads, EveryImage, MayLeave, LeavesOnly};
+ghost use Rattle.disk_model.specs.Calls.{WroteSome};
 ghost use Rattle.log_journal.specs.File.{Holds, header, journal_length};
 ghost use Rattle.log_journal.specs.Reading.{ReadsPayloads};
 
@@ -22,6 +23,9 @@ pub fn format<D: Disk>(disk: &mut D, number: u32) -> Result<(), FormatFault>
     ensures not_empty { D.tells → (found : ℕ) → IsErrOf result (FormatFault.NotEmpty found) → (0 < found) × (found ≡ length (reads (D.past disk.old))) }
     ensures same { (found : ℕ) → IsErrOf result (FormatFault.NotEmpty found) → D.past disk.new ≡ D.past disk.old }
     ensures kept { D.tells → 0 < length (reads (D.past disk.old)) → D.past disk.new ≡ D.past disk.old }
+
+    // After a failure some of its bytes may be written, and nothing more is synced.
+    ensures err { D.tells → OnErr result (WroteSome 0 9 (D.past disk.old) (D.past disk.new)) }
     ensures cause { IsErrOf result FormatFault.Failed → Rose (D.faults disk.old) (D.faults disk.new) }
     ensures faults { D.faults disk.old ≤ D.faults disk.new }
     ensures mark { D.mark disk.new ≡ D.mark disk.old }

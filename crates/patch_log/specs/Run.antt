@@ -1,7 +1,9 @@
 -- Appends to one log, one after another.
-use Rattle.std.specs.Prelude.{◌≡◌, ◌⊎◌, ℕ, List, [], ◌∷◌, Option}
+use Rattle.std.specs.Prelude.{◌≡◌, ◌⊎◌, ℕ, ◌-◌, ◌^◌, ◌<◌, ◌≤◌, List, [], ◌∷◌, ◌++◌, Option}
+use Rattle.std.specs.List.{AllByRecursion}
 use Rattle.chain_core.specs.declared.limits.LogLimits.{LogLimits}
 use Rattle.chain_core.specs.declared.chain.Patch.{Patch}
+use Rattle.chain_core.specs.declared.chain.Entry.{Entry}
 use Rattle.chain_core.specs.declared.fate.Fate.{Fate}
 use Rattle.chain_core.specs.declared.answer.Decision.TheVariants.{Accept}
 use Rattle.chain_core.specs.declared.answer.LogAnswer.{LogAnswer}
@@ -26,3 +28,11 @@ Run limits chain doubt [] [] after = after ≡ up chain doubt
 Run limits chain doubt (patch ∷ patches) (answer ∷ answers) after = (mid_chain : List Patch) × (mid_doubt : Option Patch) × Appends limits chain doubt patch (up mid_chain mid_doubt) answer × Run limits mid_chain mid_doubt patches answers after
 Run limits chain doubt [] (answer ∷ answers) after = ⊥
 Run limits chain doubt (patch ∷ patches) [] after = ⊥
+
+-- some entries more, all brought by this pass
+abbrev pub GrowsBy : ℕ → List Entry → List Entry → Type 0
+GrowsBy by before after = (more : List Entry) × (after ≡ before ++ more) × AllByRecursion (λ entry. entry.by ≡ by) more
+
+-- over many calls a count of faults rose, or reached the last value of u64
+abbrev pub HasRisen : ℕ → ℕ → Type 0
+HasRisen before after = (before < after) ⊎ (2 ^ 64 - 1 ≤ after)

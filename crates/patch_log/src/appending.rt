@@ -1,5 +1,5 @@
 //! Appends: one stay in a log's turn, and many.
-ghost use Rattle.std.specs.Prelude.{◌≡◌, ◌≢◌, ℕ, ◌-◌, ◌≤◌, ◌++◌, [], ◌∷◌, map, IfOk, OnErr};
+ghost use Rattle.std.specs.Prelude.{◌≡◌, ◌≢◌, ℕ, ◌-◌, ◌≤◌, ◌++◌, [], ◌∷◌, map, Contains, IfOk, OnErr};
 ghost use Rattle.delta_base.specs.Outside.{Rose};
 ghost use Rattle.disk_model.specs.Past.{ok_syncs, EveryImage, LeavesOnly};
 ghost use Rattle.log_journal.specs.File.{Holds};
@@ -8,7 +8,7 @@ ghost use Rattle.chain_core.specs.Log.{up};
 ghost use Rattle.chain_core.specs.Patches.{patches_of, texts_of};
 ghost use Rattle.chain_core.specs.Stay.{Stay, fate_by_syncs};
 ghost use Rattle.patch_log.specs.Log.{bare, MayHoldDuring};
-ghost use Rattle.patch_log.specs.Run.{Appends, Run};
+ghost use Rattle.patch_log.specs.Run.{Appends, Run, GrowsBy, HasRisen};
 
 use crate::state::LogState;
 use chain_core::{Decision, LogAnswer};
@@ -49,6 +49,7 @@ pub fn append<D: Disk>(log: &mut LogState<D>, patch: &Checked, by: u32) -> LogAn
 }
 
 /// Adds patches one after another. Memory for the answers is taken first.
+#[tactic(auto, using(crate::proofs::Runs::grows_none))]
 pub fn append_all<D: Disk>(
     alloc: Global,
     log: &mut LogState<D>,
@@ -56,7 +57,13 @@ pub fn append_all<D: Disk>(
     by: u32,
 ) -> Result<Listing<LogAnswer>, OutOfMemory>
     ensures run { IfOk result (λ answers. Run log.old.limits (patches_of log.old.entries) log.old.doubt (map bare patches.now) answers.items (up (patches_of log.new.entries) log.new.doubt)) }
+    ensures grown { GrowsBy by log.old.entries log.new.entries }
     ensures none { OnErr result (log.new ≡ log.old) }
+    ensures cause { IfOk result (λ answers. Contains answers.items LogAnswer.DiskFault → HasRisen (D.faults log.old.disk) (D.faults log.new.disk)) }
+    ensures faults { D.faults log.old.disk ≤ D.faults log.new.disk }
+    ensures limits { log.new.limits ≡ log.old.limits }
+    ensures number { log.new.number ≡ log.old.number }
+    ensures mark { D.mark log.new.disk ≡ D.mark log.old.disk }
 {
     let mut answers = Listing::new(alloc);
     answers.reserve(patches.len())?;

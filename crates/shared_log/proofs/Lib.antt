@@ -1,4 +1,5 @@
 pub mod Histories
 pub mod Stays
 pub mod Telling
+pub mod Asking
 mod Testing

@@ -6,7 +6,7 @@ use Rattle.chain_core.specs.Patches.{patches_of}
 use Rattle.patch_meaning.specs.Checked.{CheckedPatch}
 use Rattle.patch_log.specs.Log.{bare}
 use Rattle.patch_log.specs.Run.{Appends}
-use Rattle.patch_log.proofs.Runs.{run_more}
+use Rattle.patch_log.proofs.Runs.{run_more, grows_more, risen_more}
 use Rattle.patch_log.proofs.appending.append_all.Goals as goal
 
 pub loop-patch-preserved : goal.loop-patch-preserved
@@ -16,12 +16,19 @@ loop-patch-preserved g c =
     let new = c.append-answer.new.log in
     let patch = c.patch-item.result in
     let place = c.loop-patch.patch-index in
-    let appended = subst (λ (limits : LogLimits). Appends limits (patches_of mid.entries) mid.doubt (bare patch) (up (patches_of new.entries) new.doubt) c.append-answer.result) c.loop-patch.invariant.limits c.append-answer.ensures.appends in
-    let longer = run_more old.limits (patches_of old.entries) old.doubt (map bare (take place c.args.patches.now)) c.loop-patch.answers.items (patches_of mid.entries) mid.doubt (bare patch) c.append-answer.result (patches_of new.entries) new.doubt c.loop-patch.invariant.so_far appended in
+    let so = c.loop-patch.invariant in
+    let e = c.append-answer.ensures in
+    let appended = subst (λ (limits : LogLimits). Appends limits (patches_of mid.entries) mid.doubt (bare patch) (up (patches_of new.entries) new.doubt) c.append-answer.result) so.limits e.appends in
+    let longer = run_more old.limits (patches_of old.entries) old.doubt (map bare (take place c.args.patches.now)) c.loop-patch.answers.items (patches_of mid.entries) mid.doubt (bare patch) c.append-answer.result (patches_of new.entries) new.doubt so.so_far appended in
     let taken : map bare (take (place + 1) c.args.patches.now) ≡ map bare (take place c.args.patches.now) ++ bare patch ∷ [] =
     map_more bare c.args.patches.now place patch c.loop-patch-test.true ∙ ap (λ (p : CheckedPatch). map bare (take place c.args.patches.now) ++ bare p ∷ []) (sym c.patch-item.is) in
     record {
       so_far = rw (taken, c.in-Ok.ensures.ok) longer;
-      limits = c.append-answer.ensures.limits ∙ c.loop-patch.invariant.limits;
-      room = omega (arith, c.loop-patch.invariant.room, c.push.ensures.spare);
+      grown = grows_more c.args.by (bare patch) old.entries mid.entries new.entries c.append-answer.result so.grown e.accepted e.refused;
+      cause = rw c.in-Ok.ensures.ok (risen_more c.loop-patch.answers.items c.append-answer.result (g.D.Disk.faults old.disk) (g.D.Disk.faults mid.disk) (g.D.Disk.faults new.disk) so.cause e.cause so.faults e.faults);
+      faults = omega (arith, e.faults, so.faults);
+      limits = e.limits ∙ so.limits;
+      number = e.number ∙ so.number;
+      mark = e.mark ∙ so.mark;
+      room = omega (arith, so.room, c.push.ensures.spare);
     }
