@@ -1,12 +1,16 @@
-use Rattle.std.proofs.Common.{◌≡◌, ◌≢◌, ◌≤◌, ◌<◌, ◌+◌, [], ◌∷◌, ◌++◌, length, ℕ, Bool, None, refl, sym, ◌∙◌, ap, arith, true, false, not, ltb}
+use Rattle.std.proofs.Common.{◌≡◌, ◌≢◌, ◌+◌, List, [], ◌∷◌, ◌++◌, length, ℕ, Bool, Option, None, cond, refl, sym, ◌∙◌, ap, arith, true, false, not, ltb}
 use Rattle.std.specs.Str.{bytes_eq}
 use Rattle.std.proofs.lemmas.List.{length-map}
 use Rattle.std.proofs.lemmas.Bool.Decides.{nat_tests}
-use Rattle.chain_core.specs.declared.limits.FullKind.TheVariants.{Bytes}
+use Rattle.delta_base.specs.declared.id.Id.{Id}
+use Rattle.chain_core.specs.declared.limits.FullKind.TheVariants.{Patches, Bytes}
+use Rattle.chain_core.specs.declared.limits.LogLimits.{LogLimits}
+use Rattle.chain_core.specs.declared.chain.Entry.{Entry}
 use Rattle.chain_core.specs.declared.chain.Patch.{Patch}
+use Rattle.chain_core.specs.declared.answer.Decision.TheVariants.{Accept, Known, Conflict, Full}
+use Rattle.chain_core.specs.Chain.{head_of}
 use Rattle.chain_core.specs.Patches.{patches_of, version_of, last_id, journal_length}
-use Rattle.chain_core.specs.Decision.{has_text, same_id}
-use Rattle.chain_core.specs.declared.answer.Decision.TheVariants.{Known, Full}
+use Rattle.chain_core.specs.Decision.{decision, has_text, same_id, version_named}
 use Rattle.chain_core.proofs.Patches.{length-push, head-patches, patch_at-entries}
 use Rattle.chain_core.proofs.Decided.{decision-known, decision-conflict, decision-full_patches, decision-rest}
 use Rattle.chain_core.proofs.deciding.decide_found.Goals as goal
@@ -18,6 +22,34 @@ not_true false is = refl
 not_false : (test : Bool) → not test ≡ false → test ≡ true
 not_false true is = refl
 not_false false is = absurd (cc)
+
+-- of a patch whose id is new, by the head and the version that the chain gave
+module _ (entries : List Entry) (patch : Patch) (limits : LogLimits) (head : Option Id) (version : ℕ) (head_is : head ≡ head_of entries) (version_is : version ≡ length entries)
+    (new : version_of (patches_of entries) patch.id ≡ None) where
+  last : head ≡ last_id (patches_of entries)
+  last = head_is ∙ head-patches entries
+
+  count : version ≡ length (patches_of entries)
+  count = version_is ∙ sym (length-map entries (λ entry. entry.patch))
+
+  conflicts : not (same_id patch.prev head) ≡ true → decision (patches_of entries) patch limits ≡ Conflict version head (version_named (patches_of entries) patch.prev)
+  conflicts ne =
+      let other = ap (same_id patch.prev) (sym last) ∙ not_true (same_id patch.prev head) ne in
+      rw (count, last) (decision-conflict (patches_of entries) patch limits new other)
+
+  follows : not (same_id patch.prev head) ≡ false → same_id patch.prev (last_id (patches_of entries)) ≡ true
+  follows ne = ap (same_id patch.prev) (sym last) ∙ not_false (same_id patch.prev head) ne
+
+  is_full : not (same_id patch.prev head) ≡ false → version ≡ limits.patches → decision (patches_of entries) patch limits ≡ Full Patches version limits.patches
+  is_full ne full = rw count (decision-full_patches (patches_of entries) patch limits new (follows ne) (sym count ∙ full))
+
+  -- there is a place: the journal's length decides
+  by_length : (journal : ℕ) (long : Bool) → not (same_id patch.prev head) ≡ false → version ≢ limits.patches → journal ≡ journal_length (patches_of entries)
+      → ltb limits.bytes (journal + 5 + length patch.text) ≡ long
+      → decision (patches_of entries) patch limits ≡ cond long (Full Bytes (journal + 5 + length patch.text) limits.bytes) (Accept (version + 1))
+  by_length journal long ne place journal_is is =
+      let longer : journal + 5 + length patch.text ≡ journal_length (patches_of entries ++ patch ∷ []) = omega (arith, length-push (patches_of entries) patch, journal_is) in
+      rw (longer, count) (decision-rest (patches_of entries) patch limits long new (follows ne) (λ same. place (count ∙ same)) (ap (ltb limits.bytes) (sym longer) ∙ is))
 
 pub returns-in-Some-by_version : goal.returns-in-Some-by_version
 returns-in-Some-by_version c =
@@ -33,48 +65,26 @@ returns-in-None c =
 
 pub returns-then-ne : goal.returns-then-ne
 returns-then-ne c =
-    let patches = patches_of c.args.chain.now.items in
-    let head : c.head-head.result ≡ last_id patches = c.head-head.ensures ∙ head-patches c.args.chain.now.items in
-    let count : c.version-version.result ≡ length patches = c.version-version.ensures.version ∙ sym (length-map c.args.chain.now.items (λ entry. entry.patch)) in
-    let new : version_of patches c.args.link.id ≡ None = sym c.requires.known ∙ c.in_default.is in
-    let other : same_id c.args.link.prev (last_id patches) ≡ false = ap (same_id c.args.link.prev) (sym head) ∙ not_true (same_id c.args.link.prev c.head-head.result) (sym c.ne.ensures ∙ c.if-ne.true) in
-    rw (count, head, c.requires.named) (sym (decision-conflict patches (record { id = c.args.link.id; prev = c.args.link.prev; text = c.args.text.now }) c.args.limits.now new other))
+    rw c.requires.named
+    (sym (conflicts c.args.chain.now.items (record { id = c.args.link.id; prev = c.args.link.prev; text = c.args.text.now }) c.args.limits.now _ _ c.head-head.ensures c.version-version.ensures.version
+    (sym c.requires.known ∙ c.in_default.is) (sym c.ne.ensures ∙ c.if-ne.true)))
 
 pub returns-then-version-limits : goal.returns-then-version-limits
 returns-then-version-limits c =
-    let patches = patches_of c.args.chain.now.items in
-    let head : c.head-head.result ≡ last_id patches = c.head-head.ensures ∙ head-patches c.args.chain.now.items in
-    let count : c.version-version.result ≡ length patches = c.version-version.ensures.version ∙ sym (length-map c.args.chain.now.items (λ entry. entry.patch)) in
-    let new : version_of patches c.args.link.id ≡ None = sym c.requires.known ∙ c.in_default.is in
-    let follows : same_id c.args.link.prev (last_id patches) ≡ true = ap (same_id c.args.link.prev) (sym head) ∙ not_false (same_id c.args.link.prev c.head-head.result) (sym c.ne.ensures ∙ c.if-ne.false) in
-    rw (c.from.ensures, c.from-then-version-limits.ensures, count) (sym (decision-full_patches patches (record { id = c.args.link.id; prev = c.args.link.prev; text = c.args.text.now }) c.args.limits.now new follows (sym count ∙ c.if-version-limits.true)))
+    rw (c.from.ensures, c.from-then-version-limits.ensures)
+    (sym (is_full c.args.chain.now.items (record { id = c.args.link.id; prev = c.args.link.prev; text = c.args.text.now }) c.args.limits.now _ _ c.head-head.ensures c.version-version.ensures.version
+    (sym c.requires.known ∙ c.in_default.is) (sym c.ne.ensures ∙ c.if-ne.false) c.if-version-limits.true))
 
 pub returns-then-have-limits : goal.returns-then-have-limits
 returns-then-have-limits c =
-    let patches = patches_of c.args.chain.now.items in
-    let patch : Patch = record { id = c.args.link.id; prev = c.args.link.prev; text = c.args.text.now } in
-    let limits = c.args.limits.now in
-    let head : c.head-head.result ≡ last_id patches = c.head-head.ensures ∙ head-patches c.args.chain.now.items in
-    let count : c.version-version.result ≡ length patches = c.version-version.ensures.version ∙ sym (length-map c.args.chain.now.items (λ entry. entry.patch)) in
-    let new : version_of patches patch.id ≡ None = sym c.requires.known ∙ c.in_default.is in
-    let follows : same_id patch.prev (last_id patches) ≡ true = ap (same_id patch.prev) (sym head) ∙ not_false (same_id patch.prev c.head-head.result) (sym c.ne.ensures ∙ c.if-ne.false) in
-    let place : length patches ≢ limits.patches = λ same. c.if-version-limits.false (count ∙ same) in
-    let have : c.journal_length.result + 5 + length c.args.text.now ≡ journal_length (patches ++ patch ∷ []) = omega (arith, length-push patches patch, c.journal_length.ensures.length) in
-    let above : limits.bytes < journal_length (patches ++ patch ∷ []) = omega (arith, have, c.if-have-limits.true) in
-    let long : ltb limits.bytes (journal_length (patches ++ patch ∷ [])) ≡ true = grind (arith, nat_tests) in
-    ap (λ (n : ℕ). Full Bytes n limits.bytes) have ∙ sym (decision-rest patches patch limits true new follows place long)
+    let above = c.if-have-limits.true in
+    let long : ltb c.args.limits.now.bytes (c.journal_length.result + 5 + length c.args.text.now) ≡ true = grind (arith, nat_tests) in
+    sym (by_length c.args.chain.now.items (record { id = c.args.link.id; prev = c.args.link.prev; text = c.args.text.now }) c.args.limits.now _ _ c.head-head.ensures c.version-version.ensures.version
+    (sym c.requires.known ∙ c.in_default.is) c.journal_length.result true (sym c.ne.ensures ∙ c.if-ne.false) c.if-version-limits.false c.journal_length.ensures.length long)
 
 pub returns : goal.returns
 returns c =
-    let patches = patches_of c.args.chain.now.items in
-    let patch : Patch = record { id = c.args.link.id; prev = c.args.link.prev; text = c.args.text.now } in
-    let limits = c.args.limits.now in
-    let head : c.head-head.result ≡ last_id patches = c.head-head.ensures ∙ head-patches c.args.chain.now.items in
-    let count : c.version-version.result ≡ length patches = c.version-version.ensures.version ∙ sym (length-map c.args.chain.now.items (λ entry. entry.patch)) in
-    let new : version_of patches patch.id ≡ None = sym c.requires.known ∙ c.in_default.is in
-    let follows : same_id patch.prev (last_id patches) ≡ true = ap (same_id patch.prev) (sym head) ∙ not_false (same_id patch.prev c.head-head.result) (sym c.ne.ensures ∙ c.if-ne.false) in
-    let place : length patches ≢ limits.patches = λ same. c.if-version-limits.false (count ∙ same) in
-    let have : c.journal_length.result + 5 + length c.args.text.now ≡ journal_length (patches ++ patch ∷ []) = omega (arith, length-push patches patch, c.journal_length.ensures.length) in
-    let within : journal_length (patches ++ patch ∷ []) ≤ limits.bytes = omega (arith, have, c.if-have-limits.false) in
-    let short : ltb limits.bytes (journal_length (patches ++ patch ∷ [])) ≡ false = grind (arith, nat_tests) in
-    rw count (sym (decision-rest patches patch limits false new follows place short))
+    let within = c.if-have-limits.false in
+    let short : ltb c.args.limits.now.bytes (c.journal_length.result + 5 + length c.args.text.now) ≡ false = grind (arith, nat_tests) in
+    sym (by_length c.args.chain.now.items (record { id = c.args.link.id; prev = c.args.link.prev; text = c.args.text.now }) c.args.limits.now _ _ c.head-head.ensures c.version-version.ensures.version
+    (sym c.requires.known ∙ c.in_default.is) c.journal_length.result false (sym c.ne.ensures ∙ c.if-ne.false) c.if-version-limits.false c.journal_length.ensures.length short)
