@@ -7,7 +7,6 @@ pub mod Completions
 pub mod Breaks
 pub mod Opens
 pub mod Settled
-pub mod Unlimited
 pub mod Limits
 pub mod RowAnswers
 pub mod FrontSteps

@@ -17,7 +17,7 @@ use Rattle.patch_reader.specs.Decided.{ShortRowDecided, FirstFaultDecided, MoreD
 use Rattle.patch_reader.specs.Limit.{of_front, front_row_at, limited_row_at}
 use Rattle.patch_reader.proofs.RowStays.{row_decided, fault_decided}
 use Rattle.patch_reader.proofs.Settled.{undecided, only_row, only_fault}
-use Rattle.patch_reader.proofs.Unlimited.{never_too_long}
+use Rattle.patch_reader.proofs.RowShapes.{never_too_long}
 
 -- ---- with more text behind
 

@@ -21,13 +21,13 @@ use Rattle.patch_reader.specs.declared.pieces.PatchReader.{PatchReader}
 use Rattle.patch_reader.specs.declared.placed.PlacedRow.{PlacedRow}
 use Rattle.patch_rows.specs.declared.cut.TextEnd.{TextEnd}
 use Rattle.patch_rows.specs.declared.cut.TextEnd.TheVariants as ends
-use Rattle.patch_reader.specs.declared.progress.Phase.{Phase}
-use Rattle.patch_reader.specs.declared.progress.Phase.TheVariants as phase
+use Rattle.patch_reader.specs.declared.progress.Region.{Region}
+use Rattle.patch_reader.specs.declared.progress.Region.TheVariants as regions
 use Rattle.patch_reader.specs.declared.progress.Place.TheVariants as place
 use Rattle.patch_reader.specs.declared.progress.Progress.{Progress}
 use Rattle.patch_rows.specs.Cut.{AtEnd, is_cut, ends_row}
 use Rattle.patch_reader.specs.Decided.{MoreDecides}
-use Rattle.patch_reader.specs.Pieces.{IsPhase, IsStuck, IsTail, IsHeld, IsSameGap, Stands}
+use Rattle.patch_reader.specs.Pieces.{IsRegion, IsStuck, IsTail, IsHeld, IsSameGap, Stands}
 use Rattle.patch_reader.specs.Places.{further_place}
 use Rattle.patch_reader.specs.Inside.{OpenInside}
 use Rattle.patch_reader.specs.Progress.{OpenAt, Follows, IsUnfinished, progress_at}
@@ -48,20 +48,20 @@ no_row r d = let is = (d []).1 in let lt = is.1 in let le = is.2 in omega (arith
 no_fault : (kind : RowKind) (at : ℕ) → NextFault [] 0 kind at → ⊥
 no_fault kind at bad = let lt = (bad.1 []).1.0 in omega (arith, lt)
 
-empty_tail : IsTail [] 0 0 [] (phase.Gap false)
+empty_tail : IsTail [] 0 0 [] (regions.Gap false)
 empty_tail = ((refl, omega arith, omega arith), omega arith, λ more. refl)
 
-pub fresh : (r : PatchReader) → r.ready.items ≡ [] → r.passed ≡ 0 → r.from ≡ 0 → r.kept.items ≡ [] → r.phase ≡ phase.Gap false → r.fault ≡ None → Stands ends.Open [] [] r
+pub fresh : (r : PatchReader) → r.ready.items ≡ [] → r.passed ≡ 0 → r.from ≡ 0 → r.kept.items ≡ [] → r.region ≡ regions.Gap false → r.fault ≡ None → Stands ends.Open [] [] r
 fresh r ready passed from kept p fault = record {
   rows_ = subst (λ (t : List PlacedRow). RowsDecided [] 0 t r.passed) (sym ready) (λ more. sym passed);
   stops = subst (λ (o : Option RowAnswer). Stops ends.Open [] r.passed o) (sym fault) (subst (λ (n : ℕ). NothingDecided [] n) (sym passed) (no_row, no_fault));
   within = omega (arith, passed);
   held = λ same. (
-    subst (λ (q : Phase). IsTail [] r.passed r.from r.kept.items q) (sym p)
-        (subst (λ (t : List ℕ). IsTail [] r.passed r.from t (phase.Gap false)) (sym kept)
-        (subst (λ (n : ℕ). IsTail [] r.passed n [] (phase.Gap false)) (sym from)
-        (subst (λ (n : ℕ). IsTail [] n 0 [] (phase.Gap false)) (sym passed) empty_tail))),
-    subst (λ (q : Phase). IsStuck r.kept.items q) (sym p) tt,
+    subst (λ (region : Region). IsTail [] r.passed r.from r.kept.items region) (sym p)
+        (subst (λ (t : List ℕ). IsTail [] r.passed r.from t (regions.Gap false)) (sym kept)
+        (subst (λ (n : ℕ). IsTail [] r.passed n [] (regions.Gap false)) (sym from)
+        (subst (λ (n : ℕ). IsTail [] n 0 [] (regions.Gap false)) (sym passed) empty_tail))),
+    subst (λ (region : Region). IsStuck r.kept.items region) (sym p) tt,
   );
 }
 
@@ -98,21 +98,21 @@ follows_more kept piece p f = (
   (λ more o. subst IsUnfinished (sym (append_assoc kept piece more)) (f.1 (piece ++ more) (subst (λ (t : List ℕ). OpenInside p.inside t) (append_assoc kept piece more) o))),
 )
 
-phase_more : (fed piece : List ℕ) (passed from : ℕ) (kept : List ℕ) (p : Phase) → IsPhase fed passed from kept p → IsPhase (fed ++ piece) passed from (kept ++ piece) p
-phase_more fed piece passed from kept (phase.Gap comment) is = λ more.
+region_more : (fed piece : List ℕ) (passed from : ℕ) (kept : List ℕ) (region : Region) → IsRegion fed passed from kept region → IsRegion (fed ++ piece) passed from (kept ++ piece) region
+region_more fed piece passed from kept (regions.Gap comment) is = λ more.
     subst (λ (t : List ℕ). skip_space (drop passed t) ≡ space_behind comment 0 (drop from t)) (sym (append_assoc fed piece more)) (is (piece ++ more))
-phase_more fed piece passed from kept (phase.Row progress) is = (
+region_more fed piece passed from kept (regions.Row progress) is = (
   (λ more. subst (λ (t : List ℕ). skip_space (drop passed t) ≡ drop from t) (sym (append_assoc fed piece more)) (is.0 (piece ++ more))),
   (λ more. subst (λ (t : List ℕ). skip_space (drop from t) ≡ drop from t) (sym (append_assoc fed piece more)) (is.1 (piece ++ more))),
   follows_more kept piece progress is.2,
 )
 
-pub tail_more : (fed piece : List ℕ) (passed from : ℕ) (kept new : List ℕ) (p : Phase) → IsTail fed passed from kept p → length (fed ++ piece) < 2 ^ 64 → kept ++ piece ≡ new → IsTail (fed ++ piece) passed from new p
-tail_more fed piece passed from kept new p (keeps, le, is) fits same =
-    subst (λ (t : List ℕ). IsTail (fed ++ piece) passed from t p) same (
+pub tail_more : (fed piece : List ℕ) (passed from : ℕ) (kept new : List ℕ) (region : Region) → IsTail fed passed from kept region → length (fed ++ piece) < 2 ^ 64 → kept ++ piece ≡ new → IsTail (fed ++ piece) passed from new region
+tail_more fed piece passed from kept new region (keeps, le, is) fits same =
+    subst (λ (t : List ℕ). IsTail (fed ++ piece) passed from t region) same (
       (drop-append-le from fed piece keeps.1 ∙ ap (λ (t : List ℕ). t ++ piece) keeps.0, omega (arith, keeps.1, length-append fed piece), fits),
       le,
-      phase_more fed piece passed from kept p is,
+      region_more fed piece passed from kept region is,
     )
 
 -- ---- white space and comments are passed
@@ -134,9 +134,9 @@ module _ (text : List ℕ) (from : ℕ) (kept : List ℕ) (keeps : Keeps text fr
 
 pub gap_passed : (text : List ℕ) (passed from : ℕ) (kept : List ℕ) (comment now : Bool) (at : ℕ) → at ≤ length kept
     → ((more : List ℕ) → space_behind comment 0 (kept ++ more) ≡ space_behind now 0 (drop at (kept ++ more)))
-    → IsTail text passed from kept (phase.Gap comment) → IsTail text passed (further_place from at) (drop at kept) (phase.Gap now)
+    → IsTail text passed from kept (regions.Gap comment) → IsTail text passed (further_place from at) (drop at kept) (regions.Gap now)
 gap_passed text passed from kept comment now at le same (keeps, order, is) =
-    subst (λ (n : ℕ). IsTail text passed n (drop at kept) (phase.Gap now)) (sym (far text kept from keeps at le)) (
+    subst (λ (n : ℕ). IsTail text passed n (drop at kept) (regions.Gap now)) (sym (far text kept from keeps at le)) (
       keeps_behind text from kept keeps at le,
       omega (arith, order),
       λ more. is more ∙ ap (space_behind comment 0) (whole text from kept keeps more) ∙ same more ∙ ap (space_behind now 0) (sym (behind text from kept keeps at more le)),
@@ -149,9 +149,9 @@ row_followed kept = ((λ more o. o), (λ more o. absurd o))
 pub row_begins : (text : List ℕ) (passed from : ℕ) (kept : List ℕ) (comment : Bool) (at : ℕ) → at ≤ length kept
     → ((more : List ℕ) → space_behind comment 0 (kept ++ more) ≡ space_behind false 0 (drop at (kept ++ more)))
     → ((more : List ℕ) → space_behind false 0 (drop at (kept ++ more)) ≡ drop at (kept ++ more))
-    → IsTail text passed from kept (phase.Gap comment) → IsTail text passed (further_place from at) (drop at kept) (phase.Row (progress_at (place.Row 0)))
+    → IsTail text passed from kept (regions.Gap comment) → IsTail text passed (further_place from at) (drop at kept) (regions.Row (progress_at (place.Row 0)))
 row_begins text passed from kept comment at le same stops (keeps, order, is) =
-    subst (λ (n : ℕ). IsTail text passed n (drop at kept) (phase.Row (progress_at (place.Row 0)))) (sym (far text kept from keeps at le)) (
+    subst (λ (n : ℕ). IsTail text passed n (drop at kept) (regions.Row (progress_at (place.Row 0)))) (sym (far text kept from keeps at le)) (
       keeps_behind text from kept keeps at le,
       omega (arith, order),
       (
@@ -186,11 +186,11 @@ now : (text : List ℕ) (passed from : ℕ) (kept : List ℕ) (f : List ℕ → 
 now text passed from kept f is keeps =
     subst (λ (t : List ℕ). skip_space (drop passed t) ≡ f (drop from t)) (append-nil text) (is []) ∙ ap f keeps.0
 
-pub cut_none : (text : List ℕ) (passed from : ℕ) (kept : List ℕ) (comment : Bool) → IsTail text passed from kept (phase.Gap comment) → is_cut kept ≡ true → (comment ≡ false → kept ≡ []) → NothingDecided text passed
+pub cut_none : (text : List ℕ) (passed from : ℕ) (kept : List ℕ) (comment : Bool) → IsTail text passed from kept (regions.Gap comment) → is_cut kept ≡ true → (comment ≡ false → kept ≡ []) → NothingDecided text passed
 cut_none text passed from kept comment (keeps, order, is) cut out =
     none_behind text passed from kept keeps order (now text passed from kept (space_behind comment 0) is keeps ∙ gap_cut comment kept cut out) (cut_short kept cut) (cut_row kept cut)
 
-pub row_none : (text : List ℕ) (passed from : ℕ) (kept : List ℕ) (p : Progress) → IsTail text passed from kept (phase.Row p) → length kept ≤ row_limit → (Follows kept p → IsUnfinished kept) → NothingDecided text passed
+pub row_none : (text : List ℕ) (passed from : ℕ) (kept : List ℕ) (p : Progress) → IsTail text passed from kept (regions.Row p) → length kept ≤ row_limit → (Follows kept p → IsUnfinished kept) → NothingDecided text passed
 row_none text passed from kept p (keeps, order, is) short unfinished =
     none_behind text passed from kept keeps order (now text passed from kept (λ t. t) is.0 keeps) short (unfinished is.2)
 
@@ -224,17 +224,17 @@ still_stuck kept more f e whole =
     (space_stays more false 0 kept) in
     inside ∙ sym outside
 
-pub gap_open : (text : List ℕ) (passed from : ℕ) (kept : List ℕ) (p : Phase) → IsTail text passed from kept p → IsStuck kept p → (p ≡ phase.Gap true → is_cut kept ≡ false) → IsSameGap ends.Open text passed from
-gap_open text passed from kept (phase.Gap true) (keeps, order, is) stuck whole_char = λ more.
+pub gap_open : (text : List ℕ) (passed from : ℕ) (kept : List ℕ) (region : Region) → IsTail text passed from kept region → IsStuck kept region → (region ≡ regions.Gap true → is_cut kept ≡ false) → IsSameGap ends.Open text passed from
+gap_open text passed from kept (regions.Gap true) (keeps, order, is) stuck whole_char = λ more.
     is more ∙ ap (space_behind true 0) (whole text from kept keeps more) ∙ still_stuck kept more stuck.0 stuck.1 (whole_char refl) ∙ ap skip_space (sym (whole text from kept keeps more))
-gap_open text passed from kept (phase.Gap false) (keeps, order, is) stuck whole_char = is
-gap_open text passed from kept (phase.Row progress) (keeps, order, is) stuck whole_char = λ more. is.0 more ∙ sym (is.1 more)
+gap_open text passed from kept (regions.Gap false) (keeps, order, is) stuck whole_char = is
+gap_open text passed from kept (regions.Row progress) (keeps, order, is) stuck whole_char = λ more. is.0 more ∙ sym (is.1 more)
 
-pub gap_known : (text : List ℕ) (passed from : ℕ) (kept : List ℕ) (p : Phase) → IsTail text passed from kept p → IsStuck kept p → IsSameGap ends.Known text passed from
-gap_known text passed from kept (phase.Gap true) (keeps, order, is) stuck =
+pub gap_known : (text : List ℕ) (passed from : ℕ) (kept : List ℕ) (region : Region) → IsTail text passed from kept region → IsStuck kept region → IsSameGap ends.Known text passed from
+gap_known text passed from kept (regions.Gap true) (keeps, order, is) stuck =
     now text passed from kept (space_behind true 0) is keeps ∙ no_char kept stuck.0 stuck.1 ∙ sym (stuck_there kept stuck.0 stuck.1) ∙ ap skip_space (sym keeps.0)
-gap_known text passed from kept (phase.Gap false) (keeps, order, is) stuck = now text passed from kept skip_space is keeps ∙ ap skip_space (sym keeps.0)
-gap_known text passed from kept (phase.Row progress) (keeps, order, is) stuck =
+gap_known text passed from kept (regions.Gap false) (keeps, order, is) stuck = now text passed from kept skip_space is keeps ∙ ap skip_space (sym keeps.0)
+gap_known text passed from kept (regions.Row progress) (keeps, order, is) stuck =
     now text passed from kept (λ t. t) is.0 keeps ∙ sym (subst (λ (t : List ℕ). skip_space (drop from t) ≡ drop from t) (append-nil text) (is.1 []) ∙ keeps.0) ∙ refl
 
 -- ---- what stands there, from the one place as from the other
@@ -300,9 +300,9 @@ adds_nothing end text passed from size old new none ([], is, up) = ([], is, noth
 adds_nothing end text passed from size old new none (r ∷ rows_, is, up) = let more = row_further (text ++ []) from (from + size) r rows_ (stand_now end text from (from + size) (r ∷ rows_) up) in absurd (omega (arith, none, more))
 
 -- what is kept behind the rows that were read
-pub tail_behind : (text : List ℕ) (from : ℕ) (kept : List ℕ) (size : ℕ) → size ≤ length kept → Keeps text from kept → IsTail text (further_place from size) (further_place from size) (drop size kept) (phase.Gap false)
+pub tail_behind : (text : List ℕ) (from : ℕ) (kept : List ℕ) (size : ℕ) → size ≤ length kept → Keeps text from kept → IsTail text (further_place from size) (further_place from size) (drop size kept) (regions.Gap false)
 tail_behind text from kept size le keeps =
-    subst (λ (n : ℕ). IsTail text n n (drop size kept) (phase.Gap false)) (sym (far text kept from keeps size le)) (keeps_behind text from kept keeps size le, omega arith, λ more. refl)
+    subst (λ (n : ℕ). IsTail text n n (drop size kept) (regions.Gap false)) (sym (far text kept from keeps size le)) (keeps_behind text from kept keeps size le, omega arith, λ more. refl)
 
 pub stops_there : (end : TextEnd) (text : List ℕ) (from : ℕ) (kept : List ℕ) (size : ℕ) (o : Option RowAnswer) → size ≤ length kept → Keeps text from kept → Stops end text (from + size) o → Stops end text (further_place from size) o
 stops_there end text from kept size o le keeps s = subst (λ (n : ℕ). Stops end text n o) (sym (far text kept from keeps size le)) s
@@ -314,16 +314,16 @@ adds_there end text passed from kept size old new le keeps s = subst (λ (n : �
 pub keeps_of : (text : List ℕ) (from : ℕ) (kept view : List ℕ) → view ≡ kept → Keeps text from kept → Keeps text from view
 keeps_of text from kept view same keeps = subst (λ (t : List ℕ). Keeps text from t) (sym same) keeps
 
-pub nothing_stops : (end : TextEnd) (text : List ℕ) (passed from : ℕ) (kept : List ℕ) (p : Phase) (size : ℕ) (o : Option RowAnswer) → IsTail text passed from kept p → IsSameGap end text passed from → size ≡ 0
+pub nothing_stops : (end : TextEnd) (text : List ℕ) (passed from : ℕ) (kept : List ℕ) (region : Region) (size : ℕ) (o : Option RowAnswer) → IsTail text passed from kept region → IsSameGap end text passed from → size ≡ 0
     → Stops end text (from + size) o → Stops end text passed o
-nothing_stops end text passed from kept p size o (keeps, order, is) same none s =
+nothing_stops end text passed from kept region size o (keeps, order, is) same none s =
     let within = keeps.1 in
     stops_moved end text passed from o within (omega (arith, order, within)) same
     (subst (λ (n : ℕ). Stops end text n o) (let sum : from + size ≡ from = omega (arith, none) in sum) s)
 
-pub adds_behind : (end : TextEnd) (text : List ℕ) (passed from : ℕ) (kept view : List ℕ) (p : Phase) (size : ℕ) (old new : List PlacedRow) → view ≡ kept → size ≤ length view → IsTail text passed from kept p → IsSameGap end text passed from
+pub adds_behind : (end : TextEnd) (text : List ℕ) (passed from : ℕ) (kept view : List ℕ) (region : Region) (size : ℕ) (old new : List PlacedRow) → view ≡ kept → size ≤ length view → IsTail text passed from kept region → IsSameGap end text passed from
     → (size ≡ 0 → ⊥) → Adds end text from old new (from + size) → Adds end text passed old new (further_place from size)
-adds_behind end text passed from kept view p size old new view_is fits (keeps, order, is) same some a =
+adds_behind end text passed from kept view region size old new view_is fits (keeps, order, is) same some a =
     let within = keeps.1 in
     let le : size ≤ length kept = subst (λ (t : List ℕ). size ≤ length t) view_is fits in
     adds_there end text passed from kept size old new le keeps (adds_rows end text passed from size old new within (omega (arith, order, within)) same (omega (arith, some)) a)
@@ -334,7 +334,7 @@ adds_same end text passed now old here new to p q a = subst (λ (n : ℕ). Adds 
 -- ---- further rows are read
 
 pub goes_on : (end : TextEnd) (text : List ℕ) (taken old : List PlacedRow) (passed : ℕ) (new : PatchReader) → RowsStand end text 0 (taken ++ old) passed → Adds end text passed old new.ready.items new.passed
-    → Stops end text new.passed new.fault → new.passed ≤ length text → IsHeld text new × IsStuck new.kept.items new.phase → Stands end text taken new
+    → Stops end text new.passed new.fault → new.passed ≤ length text → IsHeld text new × IsStuck new.kept.items new.region → Stands end text taken new
 goes_on end text taken old passed new up (rows_, is, more) stops within held = record {
   rows_ = subst (λ (t : List PlacedRow). RowsStand end text 0 t new.passed) (rows_assoc taken old rows_ ∙ ap (λ (t : List PlacedRow). taken ++ t) (sym is))
       (stand_joined end text 0 passed new.passed (taken ++ old) rows_ up more);
@@ -366,5 +366,5 @@ pub extended : {X Y : Type 0} (r : Result X Y) (old more new : List ℕ) → new
 extended (Ok x) old more new e good = sym e
 extended (Err y) old more new e good = absurd (false≢true (sym good))
 
-pub is_comment : (comment : Bool) → phase.Gap comment ≡ phase.Gap true → comment ≡ true
-is_comment comment e = let gap : Bool → Phase = λ b. phase.Gap b in let same : gap comment ≡ gap true = e in cc
+pub is_comment : (comment : Bool) → regions.Gap comment ≡ regions.Gap true → comment ≡ true
+is_comment comment e = let gap : Bool → Region = λ b. regions.Gap b in let same : gap comment ≡ gap true = e in cc

@@ -1,4 +1,4 @@
--- The same of rows.
+-- The same of rows; and no reading of a row of any length says that the row is too long.
 use Rattle.std.proofs.Common.{◌≡◌, ℕ, Bool, true, false, cond, List, [], ◌∷◌, length, Option, Some, None, Result, Ok, Err, nat_eq, refl, subst, drop, ◌||◌, not}
 use Rattle.std.specs.Char.{is_ascii_alphabetic}
 use Rattle.std.specs.List.{list_all, prefix_len}
@@ -18,11 +18,12 @@ use Rattle.patch_rows.specs.declared.codes.Code.TheVariants as code
 use Rattle.patch_rows.specs.declared.fault.RowKind.{RowKind}
 use Rattle.patch_rows.specs.declared.fault.RowKind.TheVariants.{Common, UnknownCode, WrongCount, TooLong}
 use Rattle.patch_rows.specs.Fault.{Fault, ◌>>=◌, in_row}
-use Rattle.patch_rows.specs.Faults.{is_dot}
+use Rattle.patch_rows.specs.Faults.{is_dot, RowFault}
 use Rattle.patch_rows.specs.Grammar.{is_any, is_node}
 use Rattle.patch_rows.specs.Reading.{skip_space, stands, other, begins_blank, whole_label, bracketed, bracket_at, row_term_at, needed_term_at, key_at, plain_of, plain_text, or_bad_position, iri_of_string, iri_of_term, dot_at, end_at, code_named, word_at}
 use Rattle.patch_rows.specs.declared.cut.TextEnd.TheVariants.{Known}
 use Rattle.patch_rows.specs.Rows.{added_of, bare_at, by_code, graph_of, graph_or_dot_of, header_of, parts_of, placed_of, prefix_iri_of, prefix_of, quad_of, quoted_of, removed_of, row_at, row_of}
+use Rattle.patch_rows.proofs.WholeRow.{exact_row}
 use Rattle.patch_reader.proofs.Shapes.{Place, Text, char_placed, pieces_placed, iri_piece_placed, term_placed}
 
 -- where a fault of this kind stands
@@ -30,7 +31,7 @@ unfoldable pub RowPlace : RowKind → List ℕ → Type 0
 RowPlace (Common kind) rest = Place kind rest
 RowPlace UnknownCode rest = Unit {0}
 RowPlace WrongCount rest = Unit {0}
-RowPlace TooLong rest = Unit {0}
+RowPlace TooLong rest = ⊥
 
 abbrev pub Placed : {X : Type 0} → Result X Fault → Type 0
 Placed (Ok x) = Unit {0}
@@ -193,3 +194,8 @@ truncated_ends text rest e = subst Placed e (row_placed text)
 pub ill_formed_stands : (text rest : List ℕ) → row_at text ≡ Err (Common NotUtf8, rest) → char_at rest ≡ Err (NotUtf8, rest)
 unfolding RowPlace Place
 ill_formed_stands text rest e = subst Placed e (row_placed text)
+
+pub never_too_long : (text : List ℕ) (f : Fault) → RowFault text f → f.0 ≡ TooLong → ⊥
+unfolding RowPlace
+never_too_long text f bad long =
+    subst (λ (kind : RowKind). RowPlace kind f.1) long (subst Placed ((exact_row text).only f bad) (row_placed text))

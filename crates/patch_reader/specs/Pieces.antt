@@ -8,32 +8,32 @@ use Rattle.patch_reader.specs.declared.placed.PlacedRow.{PlacedRow}
 use Rattle.patch_rows.specs.declared.cut.TextEnd.{TextEnd}
 use Rattle.patch_rows.specs.declared.cut.TextEnd.TheVariants as ends
 use Rattle.patch_reader.specs.declared.pieces.PatchReader.{PatchReader}
-use Rattle.patch_reader.specs.declared.progress.Phase.{Phase}
-use Rattle.patch_reader.specs.declared.progress.Phase.TheVariants as phase
+use Rattle.patch_reader.specs.declared.progress.Region.{Region}
+use Rattle.patch_reader.specs.declared.progress.Region.TheVariants as regions
 use Rattle.patch_reader.specs.Progress.{Follows}
 use Rattle.patch_reader.specs.Rows.{RowsStand, Stops, Keeps}
 
 -- ---- what is kept of the text behind the last row
 
 -- white space and comments are passed up to what is kept, or a row begins there
-abbrev pub IsPhase : List ℕ → ℕ → ℕ → List ℕ → Phase → Type 0
-IsPhase text passed from kept (phase.Gap comment) = (more : List ℕ) → skip_space (drop passed (text ++ more)) ≡ space_behind comment 0 (drop from (text ++ more))
-IsPhase text passed from kept (phase.Row progress) =
+abbrev pub IsRegion : List ℕ → ℕ → ℕ → List ℕ → Region → Type 0
+IsRegion text passed from kept (regions.Gap comment) = (more : List ℕ) → skip_space (drop passed (text ++ more)) ≡ space_behind comment 0 (drop from (text ++ more))
+IsRegion text passed from kept (regions.Row progress) =
     ((more : List ℕ) → skip_space (drop passed (text ++ more)) ≡ drop from (text ++ more))
     × ((more : List ℕ) → skip_space (drop from (text ++ more)) ≡ drop from (text ++ more)) × Follows kept progress
 
 -- a comment is passed up to where no character of it is known
-abbrev pub IsStuck : List ℕ → Phase → Type 0
-IsStuck kept (phase.Gap true) = (fault : TextFault) × (char_at kept ≡ Err fault)
-IsStuck kept (phase.Gap false) = Unit {0}
-IsStuck kept (phase.Row progress) = Unit {0}
+abbrev pub IsStuck : List ℕ → Region → Type 0
+IsStuck kept (regions.Gap true) = (fault : TextFault) × (char_at kept ≡ Err fault)
+IsStuck kept (regions.Gap false) = Unit {0}
+IsStuck kept (regions.Row progress) = Unit {0}
 
 -- the text is kept from one place on, behind which all rows up to another were read
-abbrev pub IsTail : List ℕ → ℕ → ℕ → List ℕ → Phase → Type 0
-IsTail text passed from kept p = Keeps text from kept × (passed ≤ from) × IsPhase text passed from kept p
+abbrev pub IsTail : List ℕ → ℕ → ℕ → List ℕ → Region → Type 0
+IsTail text passed from kept region = Keeps text from kept × (passed ≤ from) × IsRegion text passed from kept region
 
 abbrev pub IsHeld : List ℕ → PatchReader → Type 0
-IsHeld text r = IsTail text r.passed r.from r.kept.items r.phase
+IsHeld text r = IsTail text r.passed r.from r.kept.items r.region
 
 -- behind the last row and where what is kept begins the same stands behind white space and comments: whatever follows, or in the whole text
 abbrev pub IsSameGap : TextEnd → List ℕ → ℕ → ℕ → Type 0
@@ -48,7 +48,7 @@ pub record Stands (end : TextEnd) (text : List ℕ) (taken : List PlacedRow) (r 
   pub rows_ : RowsStand end text 0 (taken ++ r.ready.items) r.passed
   pub stops : Stops end text r.passed r.fault
   pub within : r.passed ≤ length text
-  pub held : r.fault ≡ None → IsHeld text r × IsStuck r.kept.items r.phase
+  pub held : r.fault ≡ None → IsHeld text r × IsStuck r.kept.items r.region
 
 -- the row that is answered was taken, or none was ready
 abbrev pub Takes : TextEnd → List ℕ → List PlacedRow → PatchReader → Option PlacedRow → PatchReader → Type 0

@@ -91,16 +91,11 @@ fn label_run(text: &[u8], from: usize) -> Inside
     ensures leads { IsFurther text.now (inside.Label from) result }
 {
     let mut at = from;
-    'run: while at < text.len() {
-        match char_at(text, at) {
-            Ok((c, next)) => {
-                if !is_label_char(c) {
-                    return Inside::Label { mark: at };
-                }
-                at = next;
-            }
-            Err(_) => return Inside::Label { mark: at },
+    'run: while let Ok((c, next)) = char_at(text, at) {
+        if !is_label_char(c) {
+            break;
         }
+        at = next;
     }
     Inside::Label { mark: at }
 }
@@ -112,16 +107,13 @@ fn string_run(text: &[u8], from: usize) -> Inside
     ensures leads { IsFurther text.now (inside.String from) result }
 {
     let mut at = from;
-    'run: while at < text.len() {
+    'run: loop {
         match string_piece(text, at) {
-            Ok((piece, next)) => match piece {
-                Some(_) => at = next,
-                None => return Inside::Suffix { mark: next },
-            },
+            Ok((Some(_), next)) => at = next,
+            Ok((None, next)) => return Inside::Suffix { mark: next },
             Err(_) => return Inside::String { mark: at },
         }
     }
-    Inside::String { mark: at }
 }
 
 /// To the tag behind a string, or to blanks.
@@ -207,14 +199,8 @@ fn iri_run(text: &[u8], from: usize) -> Inside
     ensures leads { IsFurther text.now (inside.Iri from) result }
 {
     let mut at = from;
-    'run: while at < text.len() {
-        match iri_piece(text, at) {
-            Ok((piece, next)) => match piece {
-                Some(_) => at = next,
-                None => return Inside::Iri { mark: at },
-            },
-            Err(_) => return Inside::Iri { mark: at },
-        }
+    'run: while let Ok((Some(_), next)) = iri_piece(text, at) {
+        at = next;
     }
     Inside::Iri { mark: at }
 }

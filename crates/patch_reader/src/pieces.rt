@@ -6,7 +6,7 @@ ghost use Rattle.patch_rows.specs.Grammar.{row_limit};
 ghost use Rattle.patch_reader.specs.declared.placed.PlacedRow.{PlacedRow as Placed};
 ghost use Rattle.patch_rows.specs.declared.cut.TextEnd.{TextEnd as End};
 ghost use Rattle.patch_rows.specs.declared.cut.TextEnd.TheVariants as ends;
-ghost use Rattle.patch_reader.specs.declared.progress.Phase.TheVariants as phases;
+ghost use Rattle.patch_reader.specs.declared.progress.Region.TheVariants as regions;
 ghost use Rattle.patch_rows.specs.Cut.{is_cut};
 ghost use Rattle.patch_reader.specs.Pieces.{IsHeld, IsStuck, IsSameGap, Stands, Takes, TakesRow};
 ghost use Rattle.patch_reader.specs.Places.{further_place};
@@ -15,7 +15,7 @@ ghost use Rattle.patch_reader.specs.Rows.{Adds, Stops, NothingDecided};
 
 use crate::next::take_rows;
 use crate::placed::PlacedRow;
-use crate::progress::{Phase, Progress, at_row, follow, is_past_gap, is_within, pass_gap};
+use crate::progress::{Progress, Region, at_row, follow, is_past_gap, is_within, pass_gap};
 use crate::reading::ROW_LIMIT;
 use patch_rows::parts::is_cut_at;
 use patch_rows::{Row, RowFault, TextEnd};
@@ -65,7 +65,7 @@ pub struct PatchReader {
     /// The place of its first byte.
     from: u64,
     /// What stands there.
-    phase: Phase,
+    region: Region,
     /// The place behind the last row.
     passed: u64,
     ready: VecDeque<PlacedRow>,
@@ -81,7 +81,7 @@ impl PatchReader {
             alloc,
             kept: Vec::new(alloc),
             from: 0,
-            phase: Phase::Gap { comment: false },
+            region: Region::Gap { comment: false },
             passed: 0,
             ready: VecDeque::new(alloc),
             fault: None,
@@ -93,7 +93,7 @@ impl PatchReader {
         requires { size ≤ length self.old.kept.items }
         ensures kept { self.new.kept.items ≡ drop size self.old.kept.items }
         ensures from { self.new.from ≡ further_place self.old.from size }
-        ensures same { (self.new.phase ≡ self.old.phase) × (self.new.passed ≡ self.old.passed) × (self.new.ready ≡ self.old.ready) × (self.new.fault ≡ self.old.fault) }
+        ensures same { (self.new.region ≡ self.old.region) × (self.new.passed ≡ self.old.passed) × (self.new.ready ≡ self.old.ready) × (self.new.fault ≡ self.old.fault) }
     {
         drop_front(&mut self.kept, size);
         self.from = self.from.saturating_add(size as u64);
@@ -101,34 +101,34 @@ impl PatchReader {
 
     /// Lets white space and comments in front of a row go.
     fn skip_gap(&mut self, in_comment: bool)
-        requires { self.old.phase ≡ phases.Gap in_comment }
+        requires { self.old.region ≡ regions.Gap in_comment }
         ensures held { (text : List ℕ) → IsHeld text self.old → IsHeld text self.new }
-        ensures stuck { IsStuck self.new.kept.items self.new.phase }
+        ensures stuck { IsStuck self.new.kept.items self.new.region }
         ensures same { (self.new.passed ≡ self.old.passed) × (self.new.ready ≡ self.old.ready) × (self.new.fault ≡ self.old.fault) }
     {
         let (at, comment) = pass_gap(&self.kept, 0, in_comment);
         let begins = is_past_gap(&self.kept, at, comment);
         self.pass(at);
-        self.phase = if begins {
-            Phase::Row { progress: at_row() }
+        self.region = if begins {
+            Region::Row { progress: at_row() }
         } else {
-            Phase::Gap { comment }
+            Region::Gap { comment }
         };
     }
 
     /// Whether nothing can be decided yet, as far as that is known.
     fn is_unfinished(&mut self) -> bool
         ensures held { (text : List ℕ) → IsHeld text self.old → IsHeld text self.new }
-        ensures stuck { IsStuck self.old.kept.items self.old.phase → IsStuck self.new.kept.items self.new.phase }
+        ensures stuck { IsStuck self.old.kept.items self.old.region → IsStuck self.new.kept.items self.new.region }
         ensures nothing { result ≡ true → (text : List ℕ) → IsHeld text self.old → NothingDecided text self.old.passed }
-        ensures gap { result ≡ false → (text : List ℕ) → IsHeld text self.old → IsStuck self.old.kept.items self.old.phase → IsSameGap ends.Open text self.old.passed self.old.from }
+        ensures gap { result ≡ false → (text : List ℕ) → IsHeld text self.old → IsStuck self.old.kept.items self.old.region → IsSameGap ends.Open text self.old.passed self.old.from }
         ensures same { (self.new.from ≡ self.old.from) × (self.new.passed ≡ self.old.passed) × (self.new.ready ≡ self.old.ready) × (self.new.fault ≡ self.old.fault) }
     {
-        match self.phase {
-            Phase::Gap { comment } => is_gap_open(&self.kept, comment),
-            Phase::Row { progress } => match follow_row(self.alloc, &self.kept, progress) {
+        match self.region {
+            Region::Gap { comment } => is_gap_open(&self.kept, comment),
+            Region::Row { progress } => match follow_row(self.alloc, &self.kept, progress) {
                 Some(progress) => {
-                    self.phase = Phase::Row { progress };
+                    self.region = Region::Row { progress };
                     true
                 }
                 None => false,
@@ -142,19 +142,19 @@ impl PatchReader {
         ensures kept { self.new.kept.items ≡ drop size self.old.kept.items }
         ensures from { self.new.from ≡ further_place self.old.from size }
         ensures passed { self.new.passed ≡ further_place self.old.from size }
-        ensures phase { self.new.phase ≡ phases.Gap false }
+        ensures region { self.new.region ≡ regions.Gap false }
         ensures same { (self.new.ready ≡ self.old.ready) × (self.new.fault ≡ self.old.fault) }
     {
         self.pass(size);
         self.passed = self.from;
-        self.phase = Phase::Gap { comment: false };
+        self.region = Region::Gap { comment: false };
     }
 
     /// Reads the rows of what is kept, as far as they are known.
     fn read(&mut self, end: TextEnd)
         ensures adds { (text : List ℕ) → IsHeld text self.old → IsSameGap end text self.old.passed self.old.from → Adds end text self.old.passed self.old.ready.items self.new.ready.items self.new.passed }
         ensures stops { (text : List ℕ) → IsHeld text self.old → IsSameGap end text self.old.passed self.old.from → Stops end text self.new.passed self.new.fault }
-        ensures held { (text : List ℕ) → IsHeld text self.old → IsStuck self.old.kept.items self.old.phase → IsHeld text self.new × IsStuck self.new.kept.items self.new.phase }
+        ensures held { (text : List ℕ) → IsHeld text self.old → IsStuck self.old.kept.items self.old.region → IsHeld text self.new × IsStuck self.new.kept.items self.new.region }
         ensures within { (text : List ℕ) → IsHeld text self.old → self.new.passed ≤ length text }
     {
         let (size, fault) = take_rows(self.alloc, &self.kept, self.from, end, &mut self.ready);
@@ -168,10 +168,10 @@ impl PatchReader {
     /// Lets white space and comments in front of a row go, where it isn't in one.
     fn enter_row(&mut self)
         ensures held { (text : List ℕ) → IsHeld text self.old → IsHeld text self.new }
-        ensures stuck { IsStuck self.new.kept.items self.new.phase }
+        ensures stuck { IsStuck self.new.kept.items self.new.region }
         ensures same { (self.new.passed ≡ self.old.passed) × (self.new.ready ≡ self.old.ready) × (self.new.fault ≡ self.old.fault) }
     {
-        if let Phase::Gap { comment } = self.phase {
+        if let Region::Gap { comment } = self.region {
             self.skip_gap(comment);
         }
     }
@@ -179,9 +179,9 @@ impl PatchReader {
     /// Reads the rows that are decided.
     fn read_decided(&mut self)
         requires { self.old.fault ≡ None }
-        ensures adds { (text : List ℕ) → IsHeld text self.old → IsStuck self.old.kept.items self.old.phase → Adds ends.Open text self.old.passed self.old.ready.items self.new.ready.items self.new.passed }
-        ensures stops { (text : List ℕ) → IsHeld text self.old → IsStuck self.old.kept.items self.old.phase → Stops ends.Open text self.new.passed self.new.fault }
-        ensures held { (text : List ℕ) → IsHeld text self.old → IsStuck self.old.kept.items self.old.phase → IsHeld text self.new × IsStuck self.new.kept.items self.new.phase }
+        ensures adds { (text : List ℕ) → IsHeld text self.old → IsStuck self.old.kept.items self.old.region → Adds ends.Open text self.old.passed self.old.ready.items self.new.ready.items self.new.passed }
+        ensures stops { (text : List ℕ) → IsHeld text self.old → IsStuck self.old.kept.items self.old.region → Stops ends.Open text self.new.passed self.new.fault }
+        ensures held { (text : List ℕ) → IsHeld text self.old → IsStuck self.old.kept.items self.old.region → IsHeld text self.new × IsStuck self.new.kept.items self.new.region }
         ensures within { (text : List ℕ) → IsHeld text self.old → self.new.passed ≤ length text }
     {
         if self.is_unfinished() {

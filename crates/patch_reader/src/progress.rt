@@ -73,7 +73,7 @@ pub struct Progress {
 
 /// What stands at the front of what is kept.
 #[derive(Clone, Copy)]
-pub enum Phase {
+pub enum Region {
     /// White space and comments, or the rest of a comment.
     Gap { comment: bool },
     /// An unfinished row.

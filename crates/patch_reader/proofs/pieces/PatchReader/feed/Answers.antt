@@ -11,7 +11,7 @@ returns-clause-stands c = λ fed taken s fits.
     let old = c.args.self.now in
     let whole = fed ++ c.args.piece.now in
     let h = s.held c.in_default.is in
-    let longer = tail_more fed c.args.piece.now old.passed old.from old.kept.items c.extend_from_slice.new.self.items old.phase h.0 fits
+    let longer = tail_more fed c.args.piece.now old.passed old.from old.kept.items c.extend_from_slice.new.self.items old.region h.0 fits
     (extended c.extend_from_slice.result old.kept.items c.args.piece.now c.extend_from_slice.new.self.items c.extend_from_slice.ensures.items (sym c.is_err.ensures.value ∙ c.if-is_err.false)) in
     let held = c.enter_row.ensures.held whole longer in
     let stuck = c.enter_row.ensures.stuck in

@@ -10,7 +10,7 @@ pub returns-clause-ended : goal.returns-clause-ended
 returns-clause-ended c = λ text taken s fits.
     let r = c.args.self.now in
     let h = s.held c.in_default.is in
-    let gap = gap_known text r.passed r.from r.kept.items r.phase h.0 h.1 in
+    let gap = gap_known text r.passed r.from r.kept.items r.region h.0 h.1 in
     goes_on ends.Known text taken r.ready.items r.passed c.read.new.self (rows_known text 0 r.passed (taken ++ r.ready.items) s.rows_)
     (c.read.ensures.adds text h.0 gap) (c.read.ensures.stops text h.0 gap) (c.read.ensures.within text h.0) (c.read.ensures.held text h.0 h.1)
 
@@ -18,6 +18,6 @@ pub returns-clause-again : goal.returns-clause-again
 returns-clause-again c = λ text taken s fits.
     let r = c.args.self.now in
     let h = s.held c.in_default.is in
-    let gap = gap_known text r.passed r.from r.kept.items r.phase h.0 h.1 in
+    let gap = gap_known text r.passed r.from r.kept.items r.region h.0 h.1 in
     goes_on ends.Known text taken r.ready.items r.passed c.read.new.self s.rows_
     (c.read.ensures.adds text h.0 gap) (c.read.ensures.stops text h.0 gap) (c.read.ensures.within text h.0) (c.read.ensures.held text h.0 h.1)

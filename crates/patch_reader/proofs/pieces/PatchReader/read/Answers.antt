@@ -14,7 +14,7 @@ returns-then-size-eq0-clause-adds c = λ text held same.
 pub returns-then-size-eq0-clause-stops : goal.returns-then-size-eq0-clause-stops
 returns-then-size-eq0-clause-stops c = λ text held same.
     let r = c.args.self.now in
-    nothing_stops c.args.end text r.passed r.from r.kept.items r.phase c.take_rows-size.result.0 c.take_rows-size.result.1 held same c.if-size-eq0.true
+    nothing_stops c.args.end text r.passed r.from r.kept.items r.region c.take_rows-size.result.0 c.take_rows-size.result.1 held same c.if-size-eq0.true
     (c.take_rows-size.ensures.stops text (keeps_of text r.from r.kept.items c.deref.result.now c.deref.ensures.value held.0))
 
 pub returns-clause-adds : goal.returns-clause-adds
@@ -22,7 +22,7 @@ returns-clause-adds c = λ text held same.
     let r = c.args.self.now in
     let keeps = keeps_of text r.from r.kept.items c.deref.result.now c.deref.ensures.value held.0 in
     let size = c.take_rows-size.result.0 in
-    let moved = adds_behind c.args.end text r.passed r.from r.kept.items c.deref.result.now r.phase size r.ready.items c.take_rows-size.new.ready.items c.deref.ensures.value c.take_rows-size.ensures.within held same c.if-size-eq0.false
+    let moved = adds_behind c.args.end text r.passed r.from r.kept.items c.deref.result.now r.region size r.ready.items c.take_rows-size.new.ready.items c.deref.ensures.value c.take_rows-size.ensures.within held same c.if-size-eq0.false
     (c.take_rows-size.ensures.adds text keeps) in
     subst (λ (n : ℕ). Adds c.args.end text r.passed r.ready.items c.pass_rows.new.self.ready.items n) (sym c.pass_rows.ensures.passed)
     (subst (λ (rows_ : List PlacedRow). Adds c.args.end text r.passed r.ready.items rows_ (further_place r.from size)) (sym (ap (λ q. q.items) c.pass_rows.ensures.same.0)) moved)
