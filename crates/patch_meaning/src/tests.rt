@@ -239,7 +239,10 @@ fn rows_that_come_one_at_a_time_are_cut(rt: HostRuntime) -> Result<(), Fail> {
         prev: Some(one),
     };
     assert_eq!(rt; part.finish_stream(165), Ok(Some(last)));
-    assert_eq!(rt; take(&mut part, Role::Change(Change::Commit), 165), Ok(None));
+    assert_eq!(rt;
+        take(&mut part, Role::Change(Change::Commit), 165),
+        Ok(None)
+    );
     assert!(rt; !part.is_sound());
     let fault = PatchFault::NotInBlock { at: 165 };
     assert_eq!(rt; part.first_fault(), Some(fault));
