@@ -55,14 +55,14 @@ joined (q ∷ quads) = ap (λ (t : List ℕ). line q ++ t) (joined quads)
 
 pub canonical_read : CanonicalRead
 canonical_read quads text values c =
-    let k = pick quads c.lines (λ l has. (c.same l).0 has) in
+    let k = pick quads c.lines (λ l has. (c.are.same l).0 has) in
     let all : All IsQuadValue k.kept = All-weaker (Contains quads) IsQuadValue (λ q has. All-contains IsQuadValue quads q values has) k.kept k.among in
     let is : text ≡ flat_map line k.kept = c.joined ∙ ap (flat_map (λ (l : List ℕ). l)) (sym k.shown) ∙ joined k.kept in (
       k.kept,
       ap (document_at 0) is ∙ lines_read k.kept all,
       λ q. (
         λ has. All-contains (Contains quads) k.kept q k.among has,
-        λ has. back k.kept q (subst (λ (l : List (List ℕ)). Contains l (line q)) (sym k.shown) ((c.same (line q)).1 (contains_map line quads q has))) all (All-contains IsQuadValue quads q values has),
+        λ has. back k.kept q (subst (λ (l : List (List ℕ)). Contains l (line q)) (sym k.shown) ((c.are.same (line q)).1 (contains_map line quads q has))) all (All-contains IsQuadValue quads q values has),
       ),
     )
   where

@@ -59,7 +59,7 @@ lines_of p q into l c = let s = from_map line p l c in subst (Contains (map line
 
 pub canonical_once : CanonicalOnce
 canonical_once p q a b same c d =
-    let lines = same_rising (slice_cmp nat_cmp) nat_list_cmp_total c.lines d.lines c.rising d.rising
-    (λ l has. (d.same l).1 (lines_of p q (λ s. (same s).0) l ((c.same l).0 has)))
-    (λ l has. (c.same l).1 (lines_of q p (λ s. (same s).1) l ((d.same l).0 has))) in
+    let lines = same_rising (slice_cmp nat_cmp) nat_list_cmp_total c.lines d.lines c.are.rising d.are.rising
+    (λ l has. (d.are.same l).1 (lines_of p q (λ s. (same s).0) l ((c.are.same l).0 has)))
+    (λ l has. (c.are.same l).1 (lines_of q p (λ s. (same s).1) l ((d.are.same l).0 has))) in
     c.joined ∙ ap (flat_map (λ (l : List ℕ). l)) lines ∙ sym d.joined

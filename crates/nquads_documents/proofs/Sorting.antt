@@ -11,7 +11,7 @@ use Rattle.std.proofs.lemmas.List.Kept.{Contains-dedup, Contains-from_dedup, IsS
 use Rattle.std.proofs.lemmas.List.Sorted.{Contains-permutation, IsPermutation-map, IsPermutation-sym}
 use Rattle.rdf_terms.specs.Quad.{Statement}
 use Rattle.rdf_terms.specs.Line.{line}
-use Rattle.nquads_documents.specs.Canonical.{IsCanonical}
+use Rattle.nquads_documents.specs.Canonical.{AreCanonical, IsCanonical}
 
 -- elements that show a text
 module _ {X : Type 0} (shown : X → List ℕ) where
@@ -46,18 +46,18 @@ module _ {X : Type 0} (shown : X → List ℕ) where
   joined_shown [] = refl
   joined_shown (x ∷ xs) = ap (λ (t : List ℕ). shown x ++ t) (joined_shown xs)
 
-  pub made_canonical : (quads : List Statement) (xs ys zs : List X) (text : List ℕ) → map shown xs ≡ map line quads → IsPermutation xs ys → IsSorted shown_cmp ys → zs ≡ dedup same_shown ys
-      → text ≡ flat_map shown zs → IsCanonical quads text
-  made_canonical quads xs ys zs text lines moved sorted kept joined =
+  pub made_lines : (quads : List Statement) (xs ys zs : List X) → map shown xs ≡ map line quads → IsPermutation xs ys → IsSorted shown_cmp ys → zs ≡ dedup same_shown ys → AreCanonical quads (map shown zs)
+  made_lines quads xs ys zs lines moved sorted kept =
       let texts = map shown ys in
       let once : map shown zs ≡ dedup bytes_eq texts = ap (map shown) kept ∙ shown-dedup ys in
       let moves : IsPermutation (map line quads) texts = subst (λ (l : List (List ℕ)). IsPermutation l texts) lines (IsPermutation-map shown xs ys moved) in
       record {
-        lines = map shown zs;
-        joined = joined ∙ joined_shown zs;
         same = λ l. (
           λ has. Contains-permutation texts (map line quads) l (IsPermutation-sym (map line quads) texts moves) (Contains-from_dedup bytes_eq texts l (subst (λ (t : List (List ℕ)). Contains t l) once has)),
           λ has. subst (λ (t : List (List ℕ)). Contains t l) (sym once) (Contains-dedup nat_list_eq_equiv (λ x y e. same_text x y (sym e)) texts l (Contains-permutation (map line quads) texts l moves has)),
         );
         rising = rising_shown zs (subst (IsStrictlySortedBy shown_cmp) (sym kept) (IsStrictlySortedBy-dedup (on_texts shown) (λ x y. texts_ties (shown x) (shown y)) ys sorted));
       }
+
+  pub made_canonical : (quads : List Statement) (zs : List X) (text : List ℕ) → AreCanonical quads (map shown zs) → text ≡ flat_map shown zs → IsCanonical quads text
+  made_canonical quads zs text are joined = record { lines = map shown zs; joined = joined ∙ joined_shown zs; are = are }

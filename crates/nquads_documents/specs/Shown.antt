@@ -9,7 +9,7 @@ use Rattle.nquads_text.specs.Faults.{TermFault}
 use Rattle.nquads_text.specs.declared.fault.ReadFault.{ReadFault}
 use Rattle.nquads_documents.specs.declared.fault.DocFault.{DocFault}
 use Rattle.nquads_documents.specs.declared.fault.DocFault.TheVariants as fault
-use Rattle.nquads_documents.specs.Canonical.{IsCanonical}
+use Rattle.nquads_documents.specs.Canonical.{AreCanonical, IsCanonical}
 use Rattle.nquads_documents.specs.Faults.{DocumentFault}
 use Rattle.nquads_documents.specs.Grammar.{IsDocument}
 use Rattle.nquads_documents.specs.Reading.{part_at, document_at, line_of}
@@ -28,8 +28,8 @@ abbrev pub ShowsAll : List ℕ → Result (Vec (Vec ℕ Global) Global) ReadFaul
 ShowsAll text (Ok lines) = (quads : List Statement) × (document_at 0 text ≡ Ok (quads, [])) × (map bytes_of lines.items ≡ map line quads)
 ShowsAll text (Err e) = Fails text e (document_at 0 text)
 
--- the lines, one after another, are the document in canonical form; or its first fault with its line and place
+-- the lines are the canonical ones of the document, and one after another its canonical form; or its first fault with its line and place
 abbrev pub IsCanonicalOf : List ℕ → Result (Vec (Vec ℕ Global) Global) DocFault → Type 0
-IsCanonicalOf text (Ok lines) = (quads : List Statement) × IsDocument text quads × IsCanonical quads (flat_map bytes_of lines.items)
+IsCanonicalOf text (Ok lines) = (quads : List Statement) × IsDocument text quads × IsCanonical quads (flat_map bytes_of lines.items) × AreCanonical quads (map bytes_of lines.items)
 IsCanonicalOf text (Err (fault.At line at kind)) = DocumentFault TermFault text (kind, drop at text) × (at ≤ length text) × (line ≡ line_of text at)
 IsCanonicalOf text (Err fault.OutOfMemory) = Unit {0}

@@ -31,9 +31,9 @@ may_be_graph (Some g) = not (is_literal g)
 abbrev pub is_quad : Statement → Bool
 is_quad q = not (is_literal q.subject) && is_iri q.predicate && may_be_graph q.graph
 
--- the first place, from 0, whose term isn't allowed there
-abbrev pub bad_place : Statement → Option ℕ
-bad_place q = if is_literal q.subject then Some 0 else (if not (is_iri q.predicate) then Some 1 else (if not (may_be_graph q.graph) then Some 3 else None))
+-- the first place, from 0, whose term isn't allowed there; any term may be the object
+abbrev pub bad_place : Term → Term → Option Term → Option ℕ
+bad_place subject predicate graph = if is_literal subject then Some 0 else (if not (is_iri predicate) then Some 1 else (if not (may_be_graph graph) then Some 3 else None))
 
 -- the statement of these terms
 abbrev pub statement : Term → Term → Term → Option Term → Statement

@@ -52,6 +52,22 @@ fn is_graph(graph: &Option<Term>) -> bool
     }
 }
 
+/// The first place, from 0, whose term isn't allowed there. Any term may be the object.
+fn first_bad_place(subject: &Term, predicate: &Term, graph: &Option<Term>) -> Option<u8>
+    ensures { result ≡ bad_place subject.now predicate.now graph.now }
+{
+    if is_literal_term(subject) {
+        return Some(0);
+    }
+    if !is_iri_term(predicate) {
+        return Some(1);
+    }
+    if !is_graph(graph) {
+        return Some(3);
+    }
+    None
+}
+
 pub(crate) fn copy_graph(graph: &Option<Term>) -> Result<Option<Term>, OutOfMemory>
     ensures { IfOk result (λ g. g ≡ graph.now) }
 {
@@ -81,16 +97,14 @@ impl Quad {
         object: Term,
         graph: Option<Term>,
     ) -> Result<Quad, BadPosition>
-        ensures { let q = statement subject predicate object graph in MatchResult result ((λ v. (v ≡ q) × (bad_place q ≡ None))) (λ e. bad_place q ≡ Some e.place) }
+        ensures { let place = bad_place subject predicate graph in MatchResult result (λ q. (q ≡ statement subject predicate object graph) × (place ≡ None)) (λ e. place ≡ Some e.place) }
     {
-        if is_literal_term(&subject) {
-            return Err(BadPosition { place: 0 });
-        }
-        if !is_iri_term(&predicate) {
-            return Err(BadPosition { place: 1 });
-        }
-        if !is_graph(&graph) {
-            return Err(BadPosition { place: 3 });
+        if let Some(place) = first_bad_place(&subject, &predicate, &graph) {
+            drop(subject);
+            drop(predicate);
+            drop(object);
+            drop(graph);
+            return Err(BadPosition { place });
         }
         Ok(Quad {
             subject,
