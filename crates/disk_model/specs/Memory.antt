@@ -20,6 +20,10 @@ memory_mark disk = option_map (λ place. (place.value.dir, place.value.number)) 
 abbrev pub fails_next : MemDisk → Bool
 fails_next disk = list_any (λ number. number == disk.calls) disk.failing.items || option_map_or (λ calls. nat_le calls disk.calls) disk.fuse false
 
+-- no call was made yet; those of these numbers are to fail, and all from the number of the fuse on
+abbrev pub IsUnused : List ℕ → Option ℕ → MemDisk → Type 0
+IsUnused failing fuse disk = (disk.failing.items ≡ failing) × (disk.fuse ≡ fuse) × (disk.calls ≡ 0) × (disk.read ≡ 0) × (disk.faults ≡ 0)
+
 -- one call more, with the same calls to fail
 abbrev pub CountsCall : MemDisk → MemDisk → Type 0
 CountsCall old new = (new.calls ≡ counted old.calls 1) × (new.failing ≡ old.failing) × (new.fuse ≡ old.fuse)

@@ -19,7 +19,9 @@ pub struct HostShelf<'a, R: Files<File = File>> {
 }
 
 impl<'a, R: Files<File = File>> HostShelf<'a, R> {
-    pub fn new(rt: &'a R, alloc: Global) -> HostShelf<'a, R> {
+    pub fn new(rt: &'a R, alloc: Global) -> HostShelf<'a, R>
+        ensures { result.faults ≡ 0 }
+    {
         HostShelf {
             rt,
             alloc,

@@ -1,5 +1,5 @@
 //! A disk in memory, which keeps its writes and syncs.
-ghost use Rattle.std.specs.Prelude.{◌≡◌, ◌↔◌, ◌⊎◌, ◌≤◌, ◌++◌, length, OnOk, OnErr, IfOk, IfSome, IsErr, IsTrue, Some, [], ◌∷◌, option_map, is_ok, if◌then◌else◌};
+ghost use Rattle.std.specs.Prelude.{◌≡◌, ◌↔◌, ◌⊎◌, ◌≤◌, ◌++◌, length, OnOk, OnErr, IfOk, IfSome, IsErr, IsTrue, Some, None, [], ◌∷◌, option_map, is_ok, if◌then◌else◌};
 ghost use Rattle.disk_model.specs.Past.{Past, MayLeave, reads, overwritten, began, wrote, synced, is_orderly, image_of, left_as};
 ghost use Rattle.disk_model.specs.Replay.{replayed, after};
 ghost use Rattle.disk_model.specs.Calls.{ReadsAt, counted};
@@ -110,11 +110,13 @@ fn replay(alloc: Global, first: &[u8], kept: &[Kept], choice: u64) -> Result<Vec
 }
 
 impl MemDisk {
-    ghost use Rattle.disk_model.specs.Memory.{memory_past, memory_mark, fails_next, CountsCall};
+    ghost use Rattle.disk_model.specs.Memory.{memory_past, memory_mark, fails_next, IsUnused, CountsCall};
 
     /// An empty disk. Its calls with the numbers in `failing`, from 0, fail.
     pub fn new(alloc: Global, failing: Calls) -> MemDisk
         ensures past { memory_past result ≡ began [] }
+        ensures mark { memory_mark result ≡ None }
+        ensures unused { IsUnused failing.items None result }
     {
         MemDisk {
             alloc,
@@ -133,6 +135,8 @@ impl MemDisk {
     /// A disk that has these bytes, all of them synced.
     pub fn from_image(alloc: Global, image: Bytes, failing: Calls) -> Result<MemDisk, OutOfMemory>
         ensures past { IfOk result (λ disk. memory_past disk ≡ began image) }
+        ensures mark { IfOk result (λ disk. memory_mark disk ≡ None) }
+        ensures unused { IfOk result (IsUnused failing.items None) }
     {
         let first = image.copy()?.into_vec();
         Ok(MemDisk {
@@ -152,6 +156,8 @@ impl MemDisk {
     /// A disk that has these bytes, all of them synced, and whose calls all fail after so many.
     pub fn with_fuse(alloc: Global, image: Bytes, calls: u64) -> Result<MemDisk, OutOfMemory>
         ensures past { IfOk result (λ disk. memory_past disk ≡ began image) }
+        ensures mark { IfOk result (λ disk. memory_mark disk ≡ None) }
+        ensures unused { IfOk result (IsUnused [] (Some calls)) }
     {
         let mut disk = MemDisk::from_image(alloc, image, Listing::new(alloc))?;
         disk.fuse = Some(calls);

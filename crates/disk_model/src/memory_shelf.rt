@@ -1,6 +1,7 @@
 //! A shelf in memory, whose listed calls fail.
-ghost use Rattle.std.specs.Prelude.{◌≡◌, ◌↔◌, ℕ, List, [], Some, IfOk, OnOk, OnErr, None, IsErrOf, IsTrue, Contains, unwrap_or, option_map};
+ghost use Rattle.std.specs.Prelude.{◌≡◌, ◌↔◌, ◌≤◌, ℕ, List, [], Some, IfOk, OnOk, OnErr, None, IsErrOf, IsTrue, Contains, unwrap_or, option_map};
 ghost use Rattle.delta_base.specs.Outside.{Rose};
+ghost use Rattle.disk_model.specs.Calls.{counted};
 ghost use Rattle.disk_model.specs.Drawer.{file_in};
 ghost use Rattle.disk_model.specs.Past.{began};
 ghost use Rattle.disk_model.specs.Shelf.{SameOthers};
@@ -56,6 +57,9 @@ impl MemShelf {
     /// A shelf with no files. The calls of `disk` with the numbers in `failing`, from 0, fail.
     pub fn new(alloc: Global, failing: Calls) -> MemShelf
         ensures files { (dir : List ℕ) (number : ℕ) → shelf_files result dir number ≡ None }
+        ensures failing { result.failing ≡ failing }
+        ensures calls { result.calls ≡ 0 }
+        ensures faults { result.faults ≡ 0 }
     {
         MemShelf {
             alloc,
@@ -77,6 +81,7 @@ impl MemShelf {
     fn is_failing_call(&mut self) -> bool
         ensures kept { self.new ≡ record self.old { calls = self.new.calls } }
         ensures listed { IsTrue result ↔ Contains self.old.failing.items self.old.calls }
+        ensures counts { self.new.calls ≡ counted self.old.calls 1 }
     {
         let number = self.calls;
         self.calls = self.calls.saturating_add(1);
@@ -131,7 +136,20 @@ impl Shelf for MemShelf {
         self.faults
     }
 
-    fn disk(&mut self, dir: &Text, number: u32) -> Result<MemDisk, ShelfFault> {
+    fn disk(&mut self, dir: &Text, number: u32) -> Result<MemDisk, ShelfFault>
+        ensures opened { IfOk result (λ disk. memory_past disk ≡ began (unwrap_or (shelf_files self.old dir.now number) [])) }
+        ensures mark { IfOk result (λ disk. memory_mark disk ≡ Some (dir.now, number)) }
+        ensures fresh { IfOk result (λ disk. disk.faults ≡ 0) }
+        ensures made { OnOk result (shelf_files self.new dir.now number ≡ Some (unwrap_or (shelf_files self.old dir.now number) [])) }
+        ensures refused { OnErr result (shelf_files self.new dir.now number ≡ shelf_files self.old dir.now number) }
+        ensures others { SameOthers (Some (dir.now, number)) (shelf_files self.old) (shelf_files self.new) }
+        ensures never_falls { self.old.faults ≤ self.new.faults }
+        ensures cause { IsErrOf result ShelfFault.Failed → Rose self.old.faults self.new.faults }
+
+        // Exactly a call that is to fail fails.
+        ensures fails { IsErrOf result ShelfFault.Failed ↔ Contains self.old.failing.items self.old.calls }
+        ensures counts { (self.new.calls ≡ counted self.old.calls 1) × (self.new.failing ≡ self.old.failing) }
+    {
         if self.is_failing_call() {
             self.faults = self.faults.saturating_add(1);
             return Err(ShelfFault::Failed);

@@ -1,5 +1,5 @@
 //! A disk in memory whose syncs fail as planned.
-ghost use Rattle.std.specs.Prelude.{◌≡◌, true, None, IfOk, IsOk, IsErr};
+ghost use Rattle.std.specs.Prelude.{◌≡◌, true, false, None, [], IfOk, IsOk, IsErr};
 ghost use Rattle.delta_base.specs.Outside.{HasCause};
 ghost use Rattle.disk_model.specs.Past.{began, image_of};
 
@@ -18,10 +18,13 @@ pub struct PlanDisk {
 
 impl PlanDisk {
     ghost use Rattle.disk_model.specs.Plan.{plan_past};
+    ghost use Rattle.disk_model.specs.Memory.{IsUnused};
 
     /// A disk that has these bytes, all of them synced.
     pub fn new(alloc: Global, image: Bytes) -> Result<PlanDisk, OutOfMemory>
         ensures past { IfOk result (λ disk. plan_past disk ≡ began image) }
+        ensures plan { IfOk result (λ disk. (disk.next ≡ None) × (disk.short ≡ false) × (disk.faults ≡ 0)) }
+        ensures unused { IfOk result (λ disk. IsUnused [] None disk.disk) }
     {
         let disk = MemDisk::from_image(alloc, image, Listing::new(alloc))?;
         Ok(PlanDisk {
