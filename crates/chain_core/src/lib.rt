@@ -9,8 +9,6 @@ mod laws;
 mod limits;
 mod link;
 mod testing;
-#[cfg(test)]
-mod tests;
 
 pub use answer::{Decision, LogAnswer};
 pub use chain::{Chain, Entry, Patch};

@@ -21,6 +21,3 @@ pub use memory::{Kept, MemDisk};
 pub use memory_shelf::MemShelf;
 pub use plan::PlanDisk;
 pub use shelf::{Shelf, ShelfFault};
-
-#[cfg(test)]
-mod tests;

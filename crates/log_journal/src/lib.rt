@@ -22,6 +22,3 @@ pub use laws::one_reading;
 pub use making::make_block;
 pub use open::{Payloads, format};
 pub use writing::write;
-
-#[cfg(test)]
-mod tests;

@@ -13,6 +13,3 @@ pub use fault::DocFault;
 pub use laws::{document_faults_are_met, documents_are_read, lines_are_read};
 pub use parts::read_document;
 pub use printing::{print_document, print_line, push_line};
-
-#[cfg(test)]
-mod tests;

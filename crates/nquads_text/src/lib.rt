@@ -29,6 +29,3 @@ pub use printing::{print_term, push_graph, push_iri, push_quoted, push_term};
 pub use statement::read_statement;
 pub use tags::is_tag_byte;
 pub use terms::{read_term, skip_blanks};
-
-#[cfg(test)]
-mod tests;

@@ -17,8 +17,3 @@ pub use indexed::IndexedChain;
 pub use laws::{logs_are_found_again, logs_have_no_fault};
 pub use ready::Ready;
 pub use state::LogState;
-
-#[cfg(test)]
-mod log_tests;
-#[cfg(test)]
-mod tests;

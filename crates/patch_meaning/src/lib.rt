@@ -18,6 +18,3 @@ pub use part::Part;
 pub use role::{Role, role_of};
 pub use rows::{Next, next_row};
 pub use stream::{Patches, split_stream};
-
-#[cfg(test)]
-mod tests;

@@ -20,6 +20,3 @@ pub use laws::{rows_are_decided, rows_are_read_within_their_limit, rows_are_sett
 pub use pieces::PatchReader;
 pub use placed::PlacedRow;
 pub use reading::{decided_row, read_row};
-
-#[cfg(test)]
-mod tests;

@@ -25,6 +25,3 @@ pub use rdf_terms::Change;
 pub use row::Row;
 pub use rows::{row_of, unlimited_row};
 pub use space::{is_line_end, is_space, skip_space};
-
-#[cfg(test)]
-mod tests;

@@ -23,6 +23,3 @@ pub use names::{begins_name, is_name_base, is_name_char, is_name_start};
 pub use quad::{BadPosition, Quad};
 pub use tag::Tag;
 pub use term::{Literal, LiteralKind, Term};
-
-#[cfg(test)]
-mod tests;

@@ -13,6 +13,3 @@ pub use checking::check_files;
 pub use fault::CheckFault;
 pub use fault_lines::fault_text;
 pub use lines::{FileLine, Report, report_text};
-
-#[cfg(test)]
-mod tests;

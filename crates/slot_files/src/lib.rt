@@ -13,6 +13,3 @@ mod registry;
 pub use fault::InitFault;
 pub use making::init_slots;
 pub use registry::first_payload;
-
-#[cfg(test)]
-mod tests;

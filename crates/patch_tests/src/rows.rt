@@ -1,4 +1,4 @@
-use crate::{Row, RowFault, RowKind, print_row, skip_space, unlimited_row};
+use patch_rows::{Row, RowFault, RowKind, print_row, skip_space, unlimited_row};
 use delta_base::{Bytes, OutOfMemory};
 use nquads_text::TextKind;
 use std::alloc::Global;

@@ -1,5 +1,5 @@
 //! A chain of two patches, found by id.
-use crate::IndexedChain;
+use patch_log::IndexedChain;
 use chain_core::{Decision, Link, LogLimits, Patch};
 use delta_base::{Bytes, Id};
 use std::test::Fail;

@@ -1,5 +1,5 @@
 //! Files byte for byte, and what a crash leaves of an append.
-use crate::{AppendFault, FormatFault, Journal, JournalFault, format, make_block, write};
+use log_journal::{AppendFault, FormatFault, Journal, JournalFault, format, make_block, write};
 use delta_base::{Bytes, Calls, Listing, Phase};
 use disk_model::{Disk, MemDisk};
 use std::alloc::{AllocError, Global};

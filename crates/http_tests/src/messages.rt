@@ -1,6 +1,6 @@
 ghost use Rattle.std.specs.Prelude.{◌<◌};
 
-use crate::{
+use http_text::{
     CutShort, FrameFault, RawReply, RawRequest, ReplyReader, RequestReader, print_reply,
     print_request,
 };

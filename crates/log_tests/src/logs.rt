@@ -1,5 +1,5 @@
 //! Logs over disks in memory: what they answer, and what a crash leaves of them.
-use crate::{LogFault, LogState, append, append_all};
+use patch_log::{LogFault, LogState, append, append_all};
 use chain_core::{Decision, FullKind, LogAnswer, LogLimits};
 use delta_base::{Bytes, Calls, Id, Listing};
 use disk_model::MemDisk;

@@ -1,5 +1,5 @@
 //! The files of two logs, as they are made and with patches, and what is wrong with others.
-use crate::{CheckFault, FileLine, check_files, fault_text, report_text};
+use slot_checks::{CheckFault, FileLine, check_files, fault_text, report_text};
 use delta_base::{Calls, Id, Listing, Text};
 use disk_model::{Disk, MemShelf, Shelf};
 use slot_files::init_slots;

@@ -1,7 +1,7 @@
 //! Chains by hand.
 ghost use Rattle.std.specs.Prelude.{◌≡◌, ◌≤◌, length, IfOk};
 
-use crate::{
+use chain_core::{
     Chain, ChainFault, ChainTest, Decision, FullKind, Link, LogAnswer, LogLimits, Patch, decide,
 };
 use delta_base::{Bytes, Id, OutOfMemory};

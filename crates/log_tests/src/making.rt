@@ -1,5 +1,5 @@
 //! The files of two logs byte for byte, and what stops the work.
-use crate::{InitFault, init_slots};
+use slot_files::{InitFault, init_slots};
 use delta_base::{Calls, Listing, Text};
 use disk_model::{Disk, MemShelf, Shelf};
 use std::alloc::{AllocError, Global};
