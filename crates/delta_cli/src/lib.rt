@@ -12,8 +12,6 @@ mod name;
 mod nquads;
 mod refusal;
 mod replay;
-#[cfg(test)]
-mod tests;
 mod tool;
 
 pub use command::Command;

@@ -1,10 +1,10 @@
 ghost use Rattle.std.specs.Prelude.{◌<◌};
 
+use delta_base::{Bytes, Text};
 use http_text::{
     CutShort, FrameFault, RawReply, RawRequest, ReplyReader, RequestReader, print_reply,
     print_request,
 };
-use delta_base::{Bytes, Text};
 use std::alloc::{AllocError, Global};
 use std::process::Abort;
 use std::test::Fail;

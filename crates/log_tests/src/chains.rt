@@ -1,11 +1,13 @@
 //! Chains by hand.
 ghost use Rattle.std.specs.Prelude.{◌≡◌, ◌≤◌, length, IfOk};
 
+use crate::fakes::{LIMITS, P1, P2};
 use chain_core::{
     Chain, ChainFault, ChainTest, Decision, FullKind, Link, LogAnswer, LogLimits, Patch, decide,
 };
 use delta_base::{Bytes, Id, OutOfMemory};
 use std::alloc::Global;
+use std::process::Abort;
 use std::test::Fail;
 
 const U1: u128 = 0x4000_8000_0000_0000_0001;
@@ -16,17 +18,6 @@ const U3: u128 = 0x4000_8000_0000_0000_0003;
 
 const U9: u128 = 0x4000_8000_0000_0000_0009;
 
-const P1: &[u8; 104] =
-    b"H id <uuid:00000000-0000-4000-8000-000000000001> .\nTX .\nA <http://e/s> <http://e/p> <http://e/o> .\nTC .\n";
-
-const P2: &[u8; 158] =
-    b"H id <uuid:00000000-0000-4000-8000-000000000002> .\nH prev <uuid:00000000-0000-4000-8000-000000000001> .\nTX .\nA <http://e/s> <http://e/p> <http://e/o2> .\nTC .\n";
-
-const LIMITS: LogLimits = LogLimits {
-    patches: 65_536,
-    bytes: 67_108_864,
-};
-
 fn link(id: u128, prev: Option<u128>) -> Link {
     Link {
         id: Id(id),
@@ -36,36 +27,21 @@ fn link(id: u128, prev: Option<u128>) -> Link {
 
 #[test]
 fn a_chain_of_two_is_kept(rt: HostRuntime) -> Result<(), Fail> {
-    let alloc = rt.alloc();
-    let mut chain = Chain::new(alloc);
-    assert_eq!(rt; chain.head(), None);
-    chain.reserve()?;
-    chain.push(
-        Patch {
-            id: Id(1),
-            prev: None,
-            text: Bytes::from_slice(alloc, b"one")?,
-        },
-        7,
+    let chain = two(rt.alloc())?;
+    assert!(rt; chain.version() == 2);
+    assert!(rt; chain.head() == Some(Id(U2)));
+    assert!(rt; chain.entry(1).is_some_and(|entry| entry.by == 7));
+    assert!(rt;
+        chain
+            .by_version(2)
+            .is_some_and(|patch| patch.prev == Some(Id(U1)))
     );
-    chain.reserve()?;
-    chain.push(
-        Patch {
-            id: Id(2),
-            prev: Some(Id(1)),
-            text: Bytes::from_slice(alloc, b"two")?,
-        },
-        0,
+    assert!(rt;
+        chain
+            .by_id(Id(U1))
+            .is_some_and(|patch| patch.text.len() == 104)
     );
-    assert_eq!(rt; chain.version(), 2);
-    assert_eq!(rt; chain.head(), Some(Id(2)));
-    assert_eq!(rt; chain.entry(1).map(|entry| entry.by), Some(7));
-    assert_eq!(rt;
-        chain.by_version(2).map(|patch| patch.prev),
-        Some(Some(Id(1)))
-    );
-    assert_eq!(rt; chain.by_id(Id(1)).map(|patch| patch.text.len()), Some(3));
-    assert!(rt; chain.by_id(Id(3)).is_none());
+    assert!(rt; chain.by_id(Id(U3)).is_none());
     assert!(rt; chain.entry(0).is_none());
     assert!(rt; chain.by_version(3).is_none());
     Ok(())
@@ -105,7 +81,7 @@ fn one(alloc: Global) -> Result<Chain, OutOfMemory>
             prev: None,
             text,
         },
-        0,
+        7,
     );
     Ok(chain)
 }
@@ -123,7 +99,7 @@ fn two(alloc: Global) -> Result<Chain, OutOfMemory>
             prev: None,
             text: first,
         },
-        0,
+        7,
     );
     chain.reserve()?;
     let second = Bytes::from_slice(alloc, P2)?;
@@ -138,58 +114,91 @@ fn two(alloc: Global) -> Result<Chain, OutOfMemory>
     Ok(chain)
 }
 
-// What a chain makes of a short text.
+// A patch of this id and text.
+fn patch(alloc: Global, link: Link, text: &[u8]) -> Result<Patch, OutOfMemory>
+    ensures { IfOk result (λ patch. patch.text ≡ text.now) }
+{
+    Ok(Patch {
+        id: link.id,
+        prev: link.prev,
+        text: Bytes::from_slice(alloc, text)?,
+    })
+}
+
+// What is decided of a short text behind a chain, which goes.
 fn decided(
     alloc: Global,
-    chain: &Chain,
-    id: u128,
-    prev: Option<u128>,
+    chain: Chain,
+    link: Link,
     text: &[u8],
     limits: LogLimits,
 ) -> Result<Decision, OutOfMemory>
     requires text { length text.now ≤ 158 }
-    requires few { length chain.now.items ≤ limits.patches }
+    requires few { length chain.items ≤ limits.patches }
 {
-    let patch = Patch {
-        id: Id(id),
-        prev: prev.map(Id),
-        text: Bytes::from_slice(alloc, text)?,
+    let patch = match patch(alloc, link, text) {
+        Ok(patch) => patch,
+        Err(fault) => {
+            drop(chain);
+            return Err(fault);
+        }
     };
-    Ok(decide(chain, &patch, &limits))
+    let found = decide(&chain, &patch, &limits);
+    drop(chain);
+    drop(patch);
+    Ok(found)
+}
+
+fn is(rt: &impl Abort, found: Decision, wanted: Decision) {
+    assert_eq!(rt; found, wanted);
 }
 
 #[test]
 fn the_patch_behind_the_head_is_accepted(rt: HostRuntime) -> Result<(), Fail> {
     let alloc = rt.alloc();
-    let none = Chain::new(alloc);
-    let first = decided(alloc, &none, U1, None, P1, LIMITS)?;
-    assert_eq!(rt; first, Decision::Accept { version: 1 });
-    let second = decided(alloc, &one(alloc)?, U2, Some(U1), P2, LIMITS)?;
-    assert_eq!(rt; second, Decision::Accept { version: 2 });
+    let first = Decision::Accept { version: 1 };
+    is(
+        &rt,
+        decided(alloc, Chain::new(alloc), link(U1, None), P1, LIMITS)?,
+        first,
+    );
+    let second = Decision::Accept { version: 2 };
+    is(
+        &rt,
+        decided(alloc, one(alloc)?, link(U2, Some(U1)), P2, LIMITS)?,
+        second,
+    );
     assert_eq!(rt; LogAnswer::told(second), LogAnswer::Accepted { version: 2 });
-    assert_eq!(rt; two(alloc)?.journal_length(), 281);
+    Ok(())
+}
+
+#[test]
+fn a_journal_of_two_has_its_length(rt: HostRuntime) -> Result<(), Fail> {
+    let chain = two(rt.alloc())?;
+    assert!(rt; chain.journal_length() == 281);
     Ok(())
 }
 
 #[test]
 fn a_patch_that_is_there_is_known(rt: HostRuntime) -> Result<(), Fail> {
     let alloc = rt.alloc();
-    let chain = two(alloc)?;
-    let again = decided(alloc, &chain, U1, None, P1, LIMITS)?;
-    assert_eq!(rt;
+    let again = Decision::Known {
+        version: 1,
+        same: true,
+    };
+    is(
+        &rt,
+        decided(alloc, two(alloc)?, link(U1, None), P1, LIMITS)?,
         again,
-        Decision::Known {
-            version: 1,
-            same: true
-        }
     );
-    let other = decided(alloc, &chain, U2, Some(U9), P1, LIMITS)?;
-    assert_eq!(rt;
+    let other = Decision::Known {
+        version: 2,
+        same: false,
+    };
+    is(
+        &rt,
+        decided(alloc, two(alloc)?, link(U2, Some(U9)), P1, LIMITS)?,
         other,
-        Decision::Known {
-            version: 2,
-            same: false
-        }
     );
     Ok(())
 }
@@ -197,33 +206,35 @@ fn a_patch_that_is_there_is_known(rt: HostRuntime) -> Result<(), Fail> {
 #[test]
 fn a_patch_behind_another_one_conflicts(rt: HostRuntime) -> Result<(), Fail> {
     let alloc = rt.alloc();
-    let third = decided(alloc, &two(alloc)?, U3, Some(U1), P2, LIMITS)?;
-    assert_eq!(rt;
+    let third = Decision::Conflict {
+        version: 2,
+        head: Some(Id(U2)),
+        prev_version: Some(1),
+    };
+    is(
+        &rt,
+        decided(alloc, two(alloc)?, link(U3, Some(U1)), P2, LIMITS)?,
         third,
-        Decision::Conflict {
-            version: 2,
-            head: Some(Id(U2)),
-            prev_version: Some(1),
-        }
     );
-    let none = Chain::new(alloc);
-    let early = decided(alloc, &none, U2, Some(U1), P2, LIMITS)?;
-    assert_eq!(rt;
+    let early = Decision::Conflict {
+        version: 0,
+        head: None,
+        prev_version: None,
+    };
+    is(
+        &rt,
+        decided(alloc, Chain::new(alloc), link(U2, Some(U1)), P2, LIMITS)?,
         early,
-        Decision::Conflict {
-            version: 0,
-            head: None,
-            prev_version: None,
-        }
     );
-    let fresh = decided(alloc, &one(alloc)?, U9, None, P1, LIMITS)?;
-    assert_eq!(rt;
+    let fresh = Decision::Conflict {
+        version: 1,
+        head: Some(Id(U1)),
+        prev_version: Some(0),
+    };
+    is(
+        &rt,
+        decided(alloc, one(alloc)?, link(U9, None), P1, LIMITS)?,
         fresh,
-        Decision::Conflict {
-            version: 1,
-            head: Some(Id(U1)),
-            prev_version: Some(0),
-        }
     );
     Ok(())
 }
@@ -231,32 +242,33 @@ fn a_patch_behind_another_one_conflicts(rt: HostRuntime) -> Result<(), Fail> {
 #[test]
 fn a_log_may_be_full(rt: HostRuntime) -> Result<(), Fail> {
     let alloc = rt.alloc();
-    let chain = two(alloc)?;
     let few = LogLimits {
         patches: 2,
         bytes: 67_108_864,
     };
-    let third = decided(alloc, &chain, U3, Some(U2), P2, few)?;
-    assert_eq!(rt;
+    let third = Decision::Full {
+        what: FullKind::Patches,
+        have: 2,
+        limit: 2,
+    };
+    is(
+        &rt,
+        decided(alloc, two(alloc)?, link(U3, Some(U2)), P2, few)?,
         third,
-        Decision::Full {
-            what: FullKind::Patches,
-            have: 2,
-            limit: 2,
-        }
     );
     let narrow = LogLimits {
         patches: 3,
         bytes: 443,
     };
-    let long = decided(alloc, &chain, U3, Some(U2), P2, narrow)?;
-    assert_eq!(rt;
+    let long = Decision::Full {
+        what: FullKind::Bytes,
+        have: 444,
+        limit: 443,
+    };
+    is(
+        &rt,
+        decided(alloc, two(alloc)?, link(U3, Some(U2)), P2, narrow)?,
         long,
-        Decision::Full {
-            what: FullKind::Bytes,
-            have: 444,
-            limit: 443,
-        }
     );
     Ok(())
 }

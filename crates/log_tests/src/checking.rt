@@ -1,14 +1,11 @@
 //! The files of two logs, as they are made and with patches, and what is wrong with others.
-use slot_checks::{CheckFault, FileLine, check_files, fault_text, report_text};
-use delta_base::{Calls, Id, Listing, Text};
+use crate::fakes::calls;
+use delta_base::{Id, Text};
 use disk_model::{Disk, MemShelf, Shelf};
+use slot_checks::{CheckFault, FileLine, check_files, fault_text, report_text};
 use slot_files::init_slots;
-use std::alloc::{AllocError, Global};
+use std::alloc::Global;
 use std::test::Fail;
-
-fn calls(alloc: Global, numbers: &[u64]) -> Result<Calls, AllocError> {
-    Ok(Listing::from_vec(Vec::from_slice(alloc, numbers)?))
-}
 
 // A shelf with the files of two logs in `d`.
 fn two_logs(alloc: Global, dir: &Text) -> Result<MemShelf, Fail> {

@@ -1,41 +1,41 @@
 //! Images of disks in memory, fuses and failing calls; and each adapter once over real files.
-use super::*;
-use delta_base::{Bytes, Calls, Failed, Listing, Text};
-use std::alloc::{AllocError, Global};
+use crate::fakes::{calls, no_calls};
+use delta_base::{Bytes, Failed, OutOfMemory, Text};
+use disk_model::{Disk, HostDisk, HostShelf, MemDisk, MemShelf, PlanDisk, Planned, Shelf};
 use std::fs::{self, File};
+use std::process::Abort;
 use std::rt::{Env, Files};
 use std::test::Fail;
 use std::{env, process};
 
-fn no_calls(alloc: Global) -> Calls {
-    Listing::new(alloc)
+fn is_long(rt: &impl Abort, disk: &mut impl Disk, length: u64) {
+    assert!(rt; disk.len() == Ok(length));
 }
 
-fn calls(alloc: Global, numbers: &[u64]) -> Result<Calls, AllocError> {
-    Ok(Listing::from_vec(Vec::from_slice(alloc, numbers)?))
+/// A crash leaves these bytes where this is chosen of what isn't synced.
+fn leaves(rt: &impl Abort, disk: &MemDisk, choice: u64, image: &[u8]) -> Result<(), OutOfMemory> {
+    let left = disk.image(choice)?;
+    assert_eq!(rt; left.as_slice(), image, "choice {choice}");
+    Ok(())
 }
 
 #[test]
 fn an_image_keeps_loses_or_fills_what_is_not_synced(rt: HostRuntime) -> Result<(), Fail> {
     let mut disk = MemDisk::new(rt.alloc(), no_calls(rt.alloc()));
-    assert_eq!(rt; disk.write_at(0, b"abc"), Ok(()));
-    assert_eq!(rt; disk.sync(), Ok(()));
-    assert_eq!(rt; disk.write_at(2, b"XY"), Ok(()));
+    assert!(rt; disk.write_at(0, b"abc").is_ok());
+    assert!(rt; disk.sync().is_ok());
+    assert!(rt; disk.write_at(2, b"XY").is_ok());
     for (choice, image) in [
         (0, b"abc".as_slice()),
         (1, b"abXY"),
         (7, b"ab\x07\x07"),
         (263, b"ab\x07\x07"),
     ] {
-        assert_eq!(rt; disk.image(choice)?.as_slice(), image, "choice {choice}");
+        leaves(&rt, &disk, choice, image)?;
     }
-    assert_eq!(rt; disk.sync(), Ok(()));
+    assert!(rt; disk.sync().is_ok());
     for choice in [0, 1, 7] {
-        assert_eq!(rt;
-            disk.image(choice)?.as_slice(),
-            b"abXY".as_slice(),
-            "choice {choice}"
-        );
+        leaves(&rt, &disk, choice, b"abXY")?;
     }
     Ok(())
 }
@@ -45,30 +45,23 @@ fn a_read_stops_at_the_end_of_the_file(rt: HostRuntime) -> Result<(), Fail> {
     let image = Bytes::from_slice(rt.alloc(), b"abc")?;
     let mut disk = MemDisk::from_image(rt.alloc(), image, no_calls(rt.alloc()))?;
     let mut into = [b'.'; 4];
-    assert_eq!(rt; disk.len(), Ok(3));
-    assert_eq!(rt; disk.read_at(1, &mut into), Ok(2));
-    assert_eq!(rt; into, *b"bc..");
-    assert_eq!(rt; disk.read_at(9, &mut into), Ok(0));
+    is_long(&rt, &mut disk, 3);
+    assert!(rt; disk.read_at(1, &mut into) == Ok(2));
+    assert!(rt; into == *b"bc..");
+    assert!(rt; disk.read_at(9, &mut into) == Ok(0));
     Ok(())
 }
 
 #[test]
 fn each_call_of_a_list_fails_and_no_other(rt: HostRuntime) -> Result<(), Fail> {
     let mut disk = MemDisk::new(rt.alloc(), calls(rt.alloc(), &[1, 2])?);
-    assert_eq!(rt; disk.write_at(0, b"ab"), Ok(()));
-    assert_eq!(rt; disk.sync(), Err(Failed));
-    assert_eq!(rt; disk.write_at(2, b"c"), Err(Failed));
-    assert_eq!(rt; disk.faults(), 2);
-    assert_eq!(rt;
-        disk.image(0)?.as_slice(),
-        b"".as_slice(),
-        "nothing was synced"
-    );
-    assert_eq!(rt;
-        disk.image(1)?.as_slice(),
-        b"abc".as_slice(),
-        "a failed write has written its range"
-    );
+    assert!(rt; disk.write_at(0, b"ab").is_ok());
+    assert!(rt; disk.sync().is_err());
+    assert!(rt; disk.write_at(2, b"c").is_err());
+    assert!(rt; disk.faults() == 2);
+    // Nothing was synced, and a failed write has written its range.
+    leaves(&rt, &disk, 0, b"")?;
+    leaves(&rt, &disk, 1, b"abc")?;
     Ok(())
 }
 
@@ -89,40 +82,70 @@ fn all_calls_fail_behind_the_fuse(rt: HostRuntime) -> Result<(), Fail> {
     Ok(())
 }
 
-#[test]
-fn the_planned_sync_fails(rt: HostRuntime) -> Result<(), Fail> {
-    let mut disk = PlanDisk::new(rt.alloc(), Bytes::from_slice(rt.alloc(), b"")?)?;
-    disk.plan(Some(1));
-    assert_eq!(rt; disk.write_at(0, b"a"), Ok(()));
-    assert_eq!(rt; disk.sync(), Ok(()));
-    assert_eq!(rt; disk.write_at(1, b"b"), Ok(()));
-    assert_eq!(rt; disk.sync(), Err(Failed));
-    assert_eq!(rt; disk.image(0)?.as_slice(), b"a".as_slice());
-    assert_eq!(rt; disk.sync(), Ok(()));
-    assert_eq!(rt; disk.image(0)?.as_slice(), b"ab".as_slice());
-    assert!(rt; !disk.is_short());
+/// A crash leaves what was synced.
+fn keeps(rt: &impl Abort, disk: &PlanDisk, image: &[u8]) -> Result<(), OutOfMemory> {
+    let left = disk.image(0)?;
+    assert!(rt; left.as_slice() == image);
     Ok(())
 }
 
 #[test]
+fn the_planned_sync_fails(rt: HostRuntime) -> Result<(), Fail> {
+    let mut disk = PlanDisk::new(rt.alloc(), Bytes::from_slice(rt.alloc(), b"")?)?;
+    disk.plan(Some(1));
+    assert!(rt; disk.write_at(0, b"a").is_ok());
+    assert!(rt; disk.sync().is_ok());
+    assert!(rt; disk.write_at(1, b"b").is_ok());
+    assert!(rt; disk.sync().is_err());
+    keeps(&rt, &disk, b"a")?;
+    assert!(rt; disk.sync().is_ok());
+    keeps(&rt, &disk, b"ab")?;
+    assert!(rt; !disk.is_short());
+    Ok(())
+}
+
+fn holds(rt: &impl Abort, shelf: &MemShelf, dir: &Text, number: u32, bytes: Option<&[u8]>) {
+    assert_eq!(rt; shelf.file(dir, number), bytes);
+}
+
+#[test]
 fn a_shelf_in_memory_keeps_its_files(rt: HostRuntime) -> Result<(), Fail> {
-    let mut shelf = MemShelf::new(rt.alloc(), calls(rt.alloc(), &[1])?);
     let dir = Text::from_str(rt.alloc(), "d")?;
     let other = Text::from_str(rt.alloc(), "e")?;
-    assert_eq!(rt; shelf.file(&dir, 1), None);
+    let mut shelf = MemShelf::new(rt.alloc(), no_calls(rt.alloc()));
+    holds(&rt, &shelf, &dir, 1, None);
     let mut disk = shelf.disk(&dir, 1).map_err(|_| Failed)?;
-    assert_eq!(rt; shelf.file(&dir, 1), Some(b"".as_slice()));
-    assert_eq!(rt; disk.write_at(0, b"abc"), Ok(()));
-    assert_eq!(rt; shelf.disk(&dir, 2).is_err(), true, "a listed call fails");
-    assert_eq!(rt; shelf.faults(), 1);
+    holds(&rt, &shelf, &dir, 1, Some(b""));
+    assert!(rt; disk.write_at(0, b"abc").is_ok());
     shelf.put_back(disk);
-    assert_eq!(rt; shelf.file(&dir, 1), Some(b"abc".as_slice()));
-    assert_eq!(rt; shelf.file(&dir, 2), None);
-    assert_eq!(rt; shelf.file(&other, 1), None);
-    assert_eq!(rt; shelf.faults(), 1);
+    holds(&rt, &shelf, &dir, 1, Some(b"abc"));
+    holds(&rt, &shelf, &dir, 2, None);
+    holds(&rt, &shelf, &other, 1, None);
     let mut again = shelf.disk(&dir, 1).map_err(|_| Failed)?;
-    assert_eq!(rt; again.len(), Ok(3));
+    is_long(&rt, &mut again, 3);
     Ok(())
+}
+
+#[test]
+fn a_listed_call_of_a_shelf_fails(rt: HostRuntime) -> Result<(), Fail> {
+    let dir = Text::from_str(rt.alloc(), "d")?;
+    let mut shelf = MemShelf::new(rt.alloc(), calls(rt.alloc(), &[1])?);
+    let disk = shelf.disk(&dir, 1).map_err(|_| Failed)?;
+    shelf.put_back(disk);
+    assert!(rt; shelf.disk(&dir, 2).is_err());
+    assert!(rt; shelf.faults() == 1);
+    Ok(())
+}
+
+/// Writes a file of the shelf, and reads past its end.
+fn write_and_read(rt: &impl Abort, disk: &mut impl Disk) {
+    is_long(rt, disk, 0);
+    assert!(rt; disk.write_at(0, b"abc").is_ok());
+    assert!(rt; disk.sync().is_ok());
+    let mut into = [b'.'; 4];
+    assert!(rt; disk.read_at(1, &mut into) == Ok(2));
+    assert!(rt; into == *b"bc..");
+    is_long(rt, disk, 3);
 }
 
 #[test]
@@ -131,20 +154,18 @@ fn a_file_of_the_system_is_read_past_its_end(rt: HostRuntime) -> Result<(), Fail
     let folder = env::temp_dir(&rt)?;
     let folder = folder.as_path().to_str().ok_or("the folder is no text")?;
     let number = 1000 + process % 8000;
-    let mut shelf = HostShelf::new(&rt, rt.alloc());
     let dir = Text::from_str(rt.alloc(), folder)?;
+    let mut shelf = HostShelf::new(&rt, rt.alloc());
     let mut disk = shelf.disk(&dir, number).map_err(|_| Failed)?;
-    assert_eq!(rt; disk.len(), Ok(0));
-    assert_eq!(rt; disk.write_at(0, b"abc"), Ok(()));
-    assert_eq!(rt; disk.sync(), Ok(()));
-    let mut into = [b'.'; 4];
-    assert_eq!(rt; disk.read_at(1, &mut into), Ok(2));
-    assert_eq!(rt; into, *b"bc..");
-    assert_eq!(rt; disk.len(), Ok(3));
+    write_and_read(&rt, &mut disk);
     shelf.put_back(disk);
-    assert_eq!(rt; shelf.faults(), 0);
+    assert!(rt; shelf.faults() == 0);
+    drop(shelf);
+    drop(dir);
     let path = format!(in rt.alloc(); "{folder}/rdj-{number:04}")?;
-    assert_eq!(rt; fs::read(&rt, path.as_str())?.as_slice(), b"abc".as_slice());
+    let bytes = fs::read(&rt, path.as_str())?;
+    assert!(rt; bytes.as_slice() == b"abc".as_slice());
+    drop(bytes);
     fs::remove_file(&rt, path.as_str())?;
     Ok(())
 }

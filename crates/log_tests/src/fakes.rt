@@ -1,6 +1,21 @@
 //! What the tests run on.
+use chain_core::LogLimits;
 use delta_base::{Calls, Listing};
 use std::alloc::{AllocError, Global};
+
+/// The limits of a log.
+pub const LIMITS: LogLimits = LogLimits {
+    patches: 65_536,
+    bytes: 67_108_864,
+};
+
+/// A patch that names none before it.
+pub const P1: &[u8; 104] =
+    b"H id <uuid:00000000-0000-4000-8000-000000000001> .\nTX .\nA <http://e/s> <http://e/p> <http://e/o> .\nTC .\n";
+
+/// The patch behind it.
+pub const P2: &[u8; 158] =
+    b"H id <uuid:00000000-0000-4000-8000-000000000002> .\nH prev <uuid:00000000-0000-4000-8000-000000000001> .\nTX .\nA <http://e/s> <http://e/p> <http://e/o2> .\nTC .\n";
 
 pub fn no_calls(alloc: Global) -> Calls {
     Listing::new(alloc)

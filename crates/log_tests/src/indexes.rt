@@ -1,24 +1,26 @@
 //! A chain of two patches, found by id.
-use patch_log::IndexedChain;
-use chain_core::{Decision, Link, LogLimits, Patch};
+ghost use Rattle.std.specs.Prelude.{◌≡◌, length, IfOk};
+
+use crate::fakes::LIMITS;
+use chain_core::{Decision, Link, Patch};
 use delta_base::{Bytes, Id};
+use patch_log::IndexedChain;
+use std::alloc::Global;
 use std::test::Fail;
 
-const LIMITS: LogLimits = LogLimits {
-    patches: 65_536,
-    bytes: 67_108_864,
-};
-
-#[test]
-fn two_patches_are_found(rt: HostRuntime) -> Result<(), Fail> {
-    let alloc = rt.alloc();
+// A chain of two patches, whose ids fall.
+fn two(alloc: Global) -> Result<IndexedChain, Fail>
+    ensures { IfOk result (λ log. length log.items ≡ 2) }
+{
+    let one = Bytes::from_slice(alloc, b"one")?;
+    let two = Bytes::from_slice(alloc, b"two")?;
     let mut log = IndexedChain::new(alloc);
     log.reserve()?;
     log.push(
         Patch {
             id: Id(9),
             prev: None,
-            text: Bytes::from_slice(alloc, b"one")?,
+            text: one,
         },
         7,
     );
@@ -27,25 +29,35 @@ fn two_patches_are_found(rt: HostRuntime) -> Result<(), Fail> {
         Patch {
             id: Id(2),
             prev: Some(Id(9)),
-            text: Bytes::from_slice(alloc, b"two")?,
+            text: two,
         },
         0,
     );
-    assert_eq!(rt; log.version_of(Id(9)), Some(1));
-    assert_eq!(rt; log.version_of(Id(2)), Some(2));
-    assert_eq!(rt; log.version_of(Id(3)), None);
-    assert_eq!(rt; log.chain().head(), Some(Id(2)));
+    Ok(log)
+}
+
+#[test]
+fn two_patches_are_found(rt: HostRuntime) -> Result<(), Fail> {
+    let log = two(rt.alloc())?;
+    assert!(rt; log.version_of(Id(9)) == Some(1));
+    assert!(rt; log.version_of(Id(2)) == Some(2));
+    assert!(rt; log.version_of(Id(3)).is_none());
+    assert!(rt; log.chain().head() == Some(Id(2)));
+    Ok(())
+}
+
+#[test]
+fn a_patch_behind_the_first_conflicts(rt: HostRuntime) -> Result<(), Fail> {
+    let log = two(rt.alloc())?;
     let third = Link {
         id: Id(3),
         prev: Some(Id(9)),
     };
-    assert_eq!(rt;
-        log.decide(&LIMITS, third, b"three"),
-        Decision::Conflict {
-            version: 2,
-            head: Some(Id(2)),
-            prev_version: Some(1),
-        }
-    );
+    let conflict = Decision::Conflict {
+        version: 2,
+        head: Some(Id(2)),
+        prev_version: Some(1),
+    };
+    assert!(rt; log.decide(&LIMITS, third, b"three") == conflict);
     Ok(())
 }

@@ -1,30 +1,21 @@
 //! Files byte for byte, and what a crash leaves of an append.
-use log_journal::{AppendFault, FormatFault, Journal, JournalFault, format, make_block, write};
-use delta_base::{Bytes, Calls, Listing, Phase};
+use crate::fakes::{calls, no_calls};
+use delta_base::{Bytes, Phase};
 use disk_model::{Disk, MemDisk};
-use std::alloc::{AllocError, Global};
+use log_journal::{AppendFault, FormatFault, Journal, JournalFault, format, make_block, write};
+use std::alloc::Global;
 use std::test::Fail;
 
 const EMPTY: [u8; 9] = *b"RDJ1\0\0\0\x01\0";
-
-fn no_calls(alloc: Global) -> Calls {
-    Listing::new(alloc)
-}
-
-fn calls(alloc: Global, numbers: &[u64]) -> Result<Calls, AllocError> {
-    Ok(Listing::from_vec(Vec::from_slice(alloc, numbers)?))
-}
 
 #[test]
 fn an_empty_file_is_formatted_once(rt: HostRuntime) -> Result<(), Fail> {
     let alloc = rt.alloc();
     let mut disk = MemDisk::new(alloc, no_calls(alloc));
-    assert_eq!(rt; format(&mut disk, 1), Ok(()));
-    assert_eq!(rt; disk.image(0)?.as_slice(), EMPTY.as_slice());
-    assert_eq!(rt;
-        format(&mut disk, 1),
-        Err(FormatFault::NotEmpty { length: 9 })
-    );
+    assert!(rt; format(&mut disk, 1) == Ok(()));
+    let image = disk.image(0)?;
+    assert!(rt; image.as_slice() == EMPTY.as_slice());
+    assert!(rt; format(&mut disk, 1) == Err(FormatFault::NotEmpty { length: 9 }));
     Ok(())
 }
 
@@ -36,7 +27,7 @@ fn a_gate_of_seven_is_shut(rt: HostRuntime) -> Result<(), Fail> {
     let opened = Journal::open_on(alloc, disk, 1, 1000).ok();
     let (journal, payloads) = opened.ok_or("refused")?;
     assert!(rt; payloads.is_empty());
-    assert_eq!(rt; journal.length(), 9);
+    assert!(rt; journal.length() == 9);
     assert!(rt; journal.is_settled());
     assert!(rt; journal.room_for(986));
     assert!(rt; !journal.room_for(987));
@@ -69,36 +60,52 @@ fn each_fault_of_a_file_has_its_place(rt: HostRuntime) -> Result<(), Fail> {
     ] {
         let disk = MemDisk::from_image(alloc, Bytes::from_slice(alloc, image)?, no_calls(alloc))?;
         match Journal::open_on(alloc, disk, 1, 14) {
-            Ok(_) => assert!(rt; false, "opened"),
+            Ok(opened) => {
+                drop(opened);
+                panic!(rt; "opened")
+            }
             Err(refusal) => assert_eq!(rt; refusal.fault, fault),
         }
     }
     Ok(())
 }
 
+// The disk of an empty journal, of which these calls fail. The opening makes a sync, a look at the length and two reads,
+// and an append four calls.
+fn empty(alloc: Global, failing: &[u64]) -> Result<MemDisk, Fail> {
+    let image = Bytes::from_slice(alloc, &EMPTY)?;
+    Ok(MemDisk::from_image(alloc, image, calls(alloc, failing)?)?)
+}
+
+// How many payloads a crash leaves, each of which is `abc`.
+fn left(alloc: Global, disk: &MemDisk, choice: u64) -> Result<usize, Fail> {
+    let reopened = MemDisk::from_image(alloc, disk.image(choice)?, no_calls(alloc))?;
+    let opened = Journal::open_on(alloc, reopened, 1, 1000).ok();
+    let (journal, payloads) = opened.ok_or("refused")?;
+    drop(journal);
+    let count = payloads.len();
+    for payload in payloads.as_slice() {
+        if payload.as_slice() != b"abc".as_slice() {
+            return Err(Fail::from("another payload"));
+        }
+    }
+    Ok(count)
+}
+
 #[test]
 fn a_failed_gate_is_in_doubt_until_it_is_settled(rt: HostRuntime) -> Result<(), Fail> {
     let alloc = rt.alloc();
     let block = make_block(alloc, b"abc")?;
-    // The opening makes a sync, a look at the length and two reads, and an append four calls.
-    let disk = MemDisk::from_image(
-        alloc,
-        Bytes::from_slice(alloc, &EMPTY)?,
-        calls(alloc, &[7])?,
-    )?;
-    let opened = Journal::open_on(alloc, disk, 1, 1000).ok();
+    let opened = Journal::open_on(alloc, empty(alloc, &[7])?, 1, 1000).ok();
     let (mut journal, _) = opened.ok_or("refused")?;
-    assert_eq!(rt; journal.append(&block), Err(AppendFault::Failed));
-    assert_eq!(rt; journal.length(), 9);
+    assert!(rt; journal.append(&block) == Err(AppendFault::Failed));
+    assert!(rt; journal.length() == 9);
     assert!(rt; !journal.is_settled());
-    assert_eq!(rt; journal.settle(), Ok(()));
+    assert!(rt; journal.settle().is_ok());
     let disk = journal.close();
-    assert_eq!(rt; disk.faults(), 1);
+    assert!(rt; disk.faults() == 1);
     for choice in [0, 1, 7] {
-        let reopened = MemDisk::from_image(alloc, disk.image(choice)?, no_calls(alloc))?;
-        let opened = Journal::open_on(alloc, reopened, 1, 1000).ok();
-        let (_, payloads) = opened.ok_or("refused")?;
-        assert!(rt; payloads.is_empty(), "choice {choice}");
+        assert!(rt; left(alloc, &disk, choice)? == 0, "choice {choice}");
     }
     Ok(())
 }
@@ -107,48 +114,40 @@ fn a_failed_gate_is_in_doubt_until_it_is_settled(rt: HostRuntime) -> Result<(), 
 fn a_crash_in_doubt_leaves_the_payload_or_not(rt: HostRuntime) -> Result<(), Fail> {
     let alloc = rt.alloc();
     let block = make_block(alloc, b"abc")?;
-    let disk = MemDisk::from_image(
-        alloc,
-        Bytes::from_slice(alloc, &EMPTY)?,
-        calls(alloc, &[7])?,
-    )?;
-    let opened = Journal::open_on(alloc, disk, 1, 1000).ok();
+    let opened = Journal::open_on(alloc, empty(alloc, &[7])?, 1, 1000).ok();
     let (mut journal, _) = opened.ok_or("refused")?;
-    assert_eq!(rt; journal.append(&block), Err(AppendFault::Failed));
+    assert!(rt; journal.append(&block) == Err(AppendFault::Failed));
     let disk = journal.close();
     for (choice, count) in [(0, 0), (1, 1)] {
-        let reopened = MemDisk::from_image(alloc, disk.image(choice)?, no_calls(alloc))?;
-        let opened = Journal::open_on(alloc, reopened, 1, 1000).ok();
-        let (_, payloads) = opened.ok_or("refused")?;
-        assert_eq!(rt; payloads.len(), count, "choice {choice}");
+        assert!(rt; left(alloc, &disk, choice)? == count, "choice {choice}");
     }
     Ok(())
+}
+
+// Appends up to ten times over a disk that fails for good after some calls: how many were acknowledged, and the disk.
+fn append_ten(alloc: Global, fuse: u64) -> Result<(usize, MemDisk), Fail> {
+    let block = make_block(alloc, b"abc")?;
+    let disk = MemDisk::with_fuse(alloc, Bytes::from_slice(alloc, &EMPTY)?, fuse)?;
+    let opened = Journal::open_on(alloc, disk, 1, 1000).ok();
+    let (mut journal, _) = opened.ok_or("refused")?;
+    let mut acknowledged = 0;
+    for number in 0..10usize {
+        if !journal.is_settled() || journal.append(&block).is_err() {
+            break;
+        }
+        acknowledged = number + 1;
+    }
+    Ok((acknowledged, journal.close()))
 }
 
 #[test]
 fn each_stop_leaves_what_was_acknowledged(rt: HostRuntime) -> Result<(), Fail> {
     let alloc = rt.alloc();
-    let block = make_block(alloc, b"abc")?;
     for fuse in 4..46u64 {
-        let disk = MemDisk::with_fuse(alloc, Bytes::from_slice(alloc, &EMPTY)?, fuse)?;
-        let opened = Journal::open_on(alloc, disk, 1, 1000).ok();
-        let (mut journal, _) = opened.ok_or("refused")?;
-        let mut acknowledged = 0;
-        for number in 0..10usize {
-            if !journal.is_settled() || journal.append(&block).is_err() {
-                break;
-            }
-            acknowledged = number + 1;
-        }
-        let disk = journal.close();
+        let (acknowledged, disk) = append_ten(alloc, fuse)?;
         for choice in [0, 1, 7, 257] {
-            let reopened = MemDisk::from_image(alloc, disk.image(choice)?, no_calls(alloc))?;
-            let opened = Journal::open_on(alloc, reopened, 1, 1000).ok();
-            let (_, payloads) = opened.ok_or("refused")?;
-            assert!(rt; payloads.len().wrapping_sub(acknowledged) <= 1);
-            for payload in payloads.as_slice() {
-                assert_eq!(rt; payload.as_slice(), b"abc".as_slice());
-            }
+            let count = left(alloc, &disk, choice)?;
+            assert!(rt; count.wrapping_sub(acknowledged) <= 1, "after {fuse} calls");
         }
     }
     Ok(())
@@ -159,12 +158,7 @@ fn a_write_settles_first(rt: HostRuntime) -> Result<(), Fail> {
     let alloc = rt.alloc();
     let block = make_block(alloc, b"abc")?;
     // The gate's sync fails, then the settling's write, and then the sync of the body.
-    let disk = MemDisk::from_image(
-        alloc,
-        Bytes::from_slice(alloc, &EMPTY)?,
-        calls(alloc, &[7, 8, 12])?,
-    )?;
-    let opened = Journal::open_on(alloc, disk, 1, 1000).ok();
+    let opened = Journal::open_on(alloc, empty(alloc, &[7, 8, 12])?, 1, 1000).ok();
     let (mut journal, _) = opened.ok_or("refused")?;
     for answer in [
         Err(Phase::Gate),
@@ -175,23 +169,22 @@ fn a_write_settles_first(rt: HostRuntime) -> Result<(), Fail> {
         assert!(rt; journal.room_for(3));
         assert_eq!(rt; write(&mut journal, &block), answer);
     }
-    assert_eq!(rt; journal.length(), 17);
-    assert_eq!(rt; journal.close().faults(), 3);
+    assert!(rt; journal.length() == 17);
+    let disk = journal.close();
+    assert!(rt; disk.faults() == 3);
     Ok(())
 }
 
 #[test]
 fn a_new_journal_takes_a_payload(rt: HostRuntime) -> Result<(), Fail> {
     let alloc = rt.alloc();
-    let disk = MemDisk::new(alloc, no_calls(alloc));
-    let started = Journal::start_on(disk, 1, 1000).ok();
+    let block = make_block(alloc, b"abc")?;
+    let started = Journal::start_on(MemDisk::new(alloc, no_calls(alloc)), 1, 1000).ok();
     let mut journal = started.ok_or("refused")?;
-    assert_eq!(rt; journal.length(), 9);
-    assert_eq!(rt; journal.append(&make_block(alloc, b"abc")?), Ok(()));
-    let image = journal.close().image(0)?;
-    assert_eq!(rt;
-        image.as_slice(),
-        b"RDJ1\0\0\0\x01\x01\0\0\0\x03abc\0".as_slice()
-    );
+    assert!(rt; journal.length() == 9);
+    assert!(rt; journal.append(&block).is_ok());
+    let disk = journal.close();
+    let image = disk.image(0)?;
+    assert!(rt; image.as_slice() == b"RDJ1\0\0\0\x01\x01\0\0\0\x03abc\0".as_slice());
     Ok(())
 }

@@ -1,24 +1,18 @@
 //! Logs over disks in memory: what they answer, and what a crash leaves of them.
-use patch_log::{LogFault, LogState, append, append_all};
+use crate::fakes::{LIMITS, P1, P2, calls, no_calls};
 use chain_core::{Decision, FullKind, LogAnswer, LogLimits};
-use delta_base::{Bytes, Calls, Id, Listing};
+use delta_base::{Bytes, Id};
 use disk_model::MemDisk;
+use patch_log::{LogFault, LogState, append, append_all};
 use patch_meaning::{Checked, check_patch};
-use std::alloc::{AllocError, Global};
+use std::alloc::Global;
 use std::test::Fail;
-
-const LIMITS: LogLimits = LogLimits {
-    patches: 65_536,
-    bytes: 67_108_864,
-};
 
 const EMPTY: &[u8] = b"RDJ1\0\0\0\x01\0";
 
-const FIRST: &[u8] =
-    b"H id <uuid:00000000-0000-4000-8000-000000000001> .\nTX .\nA <http://e/s> <http://e/p> <http://e/o> .\nTC .\n";
+const FIRST: &[u8] = P1;
 
-const SECOND: &[u8] =
-    b"H id <uuid:00000000-0000-4000-8000-000000000002> .\nH prev <uuid:00000000-0000-4000-8000-000000000001> .\nTX .\nA <http://e/s> <http://e/p> <http://e/o2> .\nTC .\n";
+const SECOND: &[u8] = P2;
 
 const THIRD: &[u8] =
     b"H id <uuid:00000000-0000-4000-8000-000000000003> .\nH prev <uuid:00000000-0000-4000-8000-000000000001> .\nTX .\nA <http://e/s> <http://e/p> <http://e/o3> .\nTC .\n";
@@ -33,14 +27,11 @@ const BEHIND_NONE: &[u8] =
 const BEHIND_SECOND: &[u8] =
     b"H id <uuid:00000000-0000-4000-8000-000000000003> .\nH prev <uuid:00000000-0000-4000-8000-000000000002> .\n";
 
-// The id whose last digits are this number.
-fn id_of(number: u128) -> Id {
-    Id(0x0000_0000_0000_4000_8000_0000_0000_0000 | number)
-}
+const ID1: Id = Id(0x0000_0000_0000_4000_8000_0000_0000_0001);
 
-fn calls(alloc: Global, numbers: &[u64]) -> Result<Calls, AllocError> {
-    Ok(Listing::from_vec(Vec::from_slice(alloc, numbers)?))
-}
+const ID2: Id = Id(0x0000_0000_0000_4000_8000_0000_0000_0002);
+
+const ID3: Id = Id(0x0000_0000_0000_4000_8000_0000_0000_0003);
 
 // A disk with these bytes, whose calls of these numbers fail.
 fn disk_of(alloc: Global, image: &[u8], failing: &[u64]) -> Result<MemDisk, Fail> {
@@ -62,69 +53,79 @@ fn add(alloc: Global, log: &mut LogState<MemDisk>, text: &[u8]) -> Result<LogAns
     Ok(log.append_reserved(ready))
 }
 
-// The version and the head of the log that this image holds.
-fn found_in(alloc: Global, image: &[u8]) -> Result<(u32, Option<Id>), Fail> {
-    let log = open(alloc, disk_of(alloc, image, &[])?, LIMITS)?;
+// The version and the head of the log that a crash leaves.
+fn found_in(alloc: Global, disk: &MemDisk, choice: u64) -> Result<(u32, Option<Id>), Fail> {
+    let left = MemDisk::from_image(alloc, disk.image(choice)?, no_calls(alloc))?;
+    let log = open(alloc, left, LIMITS)?;
     Ok((log.chain().version(), log.chain().head()))
 }
+
+/// Texts that are sent to a new log one after another, and its answers.
+static ANSWERS: [(&[u8], LogAnswer); 8] = [
+    (
+        SECOND,
+        LogAnswer::Conflict {
+            version: 0,
+            head: None,
+            prev_version: None,
+        },
+    ),
+    (FIRST, LogAnswer::Accepted { version: 1 }),
+    (
+        FIRST,
+        LogAnswer::Known {
+            version: 1,
+            same: true,
+        },
+    ),
+    (
+        OTHER_TEXT,
+        LogAnswer::Known {
+            version: 1,
+            same: false,
+        },
+    ),
+    (
+        NO_PREVIOUS,
+        LogAnswer::Conflict {
+            version: 1,
+            head: Some(ID1),
+            prev_version: Some(0),
+        },
+    ),
+    (SECOND, LogAnswer::Accepted { version: 2 }),
+    (
+        THIRD,
+        LogAnswer::Conflict {
+            version: 2,
+            head: Some(ID2),
+            prev_version: Some(1),
+        },
+    ),
+    (
+        BEHIND_NONE,
+        LogAnswer::Conflict {
+            version: 2,
+            head: Some(ID2),
+            prev_version: None,
+        },
+    ),
+];
 
 #[test]
 fn a_log_takes_the_next_patch_alone(rt: HostRuntime) -> Result<(), Fail> {
     let alloc = rt.alloc();
     let mut log = open(alloc, disk_of(alloc, EMPTY, &[])?, LIMITS)?;
-    for (text, answer) in [
-        (
-            SECOND,
-            LogAnswer::Conflict {
-                version: 0,
-                head: None,
-                prev_version: None,
-            },
-        ),
-        (FIRST, LogAnswer::Accepted { version: 1 }),
-        (
-            FIRST,
-            LogAnswer::Known {
-                version: 1,
-                same: true,
-            },
-        ),
-        (
-            OTHER_TEXT,
-            LogAnswer::Known {
-                version: 1,
-                same: false,
-            },
-        ),
-        (
-            NO_PREVIOUS,
-            LogAnswer::Conflict {
-                version: 1,
-                head: Some(id_of(1)),
-                prev_version: Some(0),
-            },
-        ),
-        (SECOND, LogAnswer::Accepted { version: 2 }),
-        (
-            THIRD,
-            LogAnswer::Conflict {
-                version: 2,
-                head: Some(id_of(2)),
-                prev_version: Some(1),
-            },
-        ),
-        (
-            BEHIND_NONE,
-            LogAnswer::Conflict {
-                version: 2,
-                head: Some(id_of(2)),
-                prev_version: None,
-            },
-        ),
-    ] {
-        assert_eq!(rt; add(alloc, &mut log, text)?, answer);
+    for (text, answer) in ANSWERS {
+        let found = add(alloc, &mut log, text)?;
+        assert_eq!(rt; found, answer);
     }
     Ok(())
+}
+
+// Which pass brought the first patch of a log.
+fn brought_by(log: &LogState<MemDisk>) -> Option<u32> {
+    log.chain().entry(1).map(|entry| entry.by)
 }
 
 #[test]
@@ -132,15 +133,20 @@ fn who_brought_a_patch_is_kept(rt: HostRuntime) -> Result<(), Fail> {
     let alloc = rt.alloc();
     let mut log = open(alloc, disk_of(alloc, EMPTY, &[])?, LIMITS)?;
     add(alloc, &mut log, FIRST)?;
-    assert!(rt; log.chain().entry(1).is_some_and(|entry| entry.by == 7));
+    assert!(rt; brought_by(&log) == Some(7));
     let disk = log.close();
-    let again = open(
-        alloc,
-        disk_of(alloc, disk.image(1)?.as_slice(), &[])?,
-        LIMITS,
-    )?;
-    assert!(rt; again.chain().entry(1).is_some_and(|entry| entry.by == 0));
+    let left = MemDisk::from_image(alloc, disk.image(1)?, no_calls(alloc))?;
+    drop(disk);
+    let again = open(alloc, left, LIMITS)?;
+    assert!(rt; brought_by(&again) == Some(0));
     Ok(())
+}
+
+fn decided_of(alloc: Global, log: &LogState<MemDisk>, text: &[u8]) -> Result<Decision, Fail> {
+    let patch = check_patch(alloc, text)?;
+    let found = log.decide_here(&patch);
+    drop(patch);
+    Ok(found)
 }
 
 // What a log of two patches within these limits decides of a third.
@@ -149,7 +155,7 @@ fn decided(alloc: Global, patches: u32, bytes: u64) -> Result<Decision, Fail> {
     let mut log = open(alloc, disk_of(alloc, EMPTY, &[])?, limits)?;
     add(alloc, &mut log, FIRST)?;
     add(alloc, &mut log, SECOND)?;
-    Ok(log.decide_here(&check_patch(alloc, BEHIND_SECOND)?))
+    decided_of(alloc, &log, BEHIND_SECOND)
 }
 
 #[test]
@@ -193,13 +199,13 @@ fn in_doubt(alloc: Global) -> Result<(LogState<MemDisk>, LogAnswer), Fail> {
 fn a_gate_left_in_doubt_may_stand_open(rt: HostRuntime) -> Result<(), Fail> {
     let alloc = rt.alloc();
     let (log, answer) = in_doubt(alloc)?;
-    assert_eq!(rt; answer, LogAnswer::DiskFault);
-    assert_eq!(rt; log.faults(), 1);
-    assert_eq!(rt; log.chain().version(), 1);
+    assert!(rt; answer == LogAnswer::DiskFault);
+    assert!(rt; log.faults() == 1);
+    assert!(rt; log.chain().version() == 1);
     let disk = log.close();
-    for (choice, version, last) in [(1, 2, 2), (0, 1, 1)] {
-        let found = found_in(alloc, disk.image(choice)?.as_slice())?;
-        assert_eq!(rt; found, (version, Some(id_of(last))));
+    for (choice, version, head) in [(1, 2, ID2), (0, 1, ID1)] {
+        let found = found_in(alloc, &disk, choice)?;
+        assert!(rt; found == (version, Some(head)));
     }
     Ok(())
 }
@@ -208,14 +214,12 @@ fn a_gate_left_in_doubt_may_stand_open(rt: HostRuntime) -> Result<(), Fail> {
 fn what_is_settled_makes_way(rt: HostRuntime) -> Result<(), Fail> {
     let alloc = rt.alloc();
     let (mut log, _) = in_doubt(alloc)?;
-    assert_eq!(rt;
-        add(alloc, &mut log, THIRD)?,
-        LogAnswer::Accepted { version: 2 }
-    );
+    let answer = add(alloc, &mut log, THIRD)?;
+    assert!(rt; answer == LogAnswer::Accepted { version: 2 });
     let disk = log.close();
     for choice in [0, 1, 7] {
-        let found = found_in(alloc, disk.image(choice)?.as_slice())?;
-        assert_eq!(rt; found, (2, Some(id_of(3))));
+        let found = found_in(alloc, &disk, choice)?;
+        assert!(rt; found == (2, Some(ID3)));
     }
     Ok(())
 }
@@ -330,23 +334,18 @@ fn is_front(log: &LogState<MemDisk>, patches: &[Checked]) -> bool {
     })
 }
 
-// Whether each image of a disk holds those that were acknowledged, or one more.
+// Whether a crash leaves those that were acknowledged, or one more.
 fn holds_acknowledged(
     alloc: Global,
     disk: &MemDisk,
+    choice: u64,
     patches: &[Checked],
     acknowledged: u32,
 ) -> Result<bool, Fail> {
-    for choice in [0, 1, 7] {
-        let left = disk_of(alloc, disk.image(choice)?.as_slice(), &[])?;
-        let log = open(alloc, left, LIMITS)?;
-        let found = u64::from(log.chain().version());
-        let known = u64::from(acknowledged);
-        if !(found == known || found == known + 1) || !is_front(&log, patches) {
-            return Ok(false);
-        }
-    }
-    Ok(true)
+    let left = MemDisk::from_image(alloc, disk.image(choice)?, no_calls(alloc))?;
+    let log = open(alloc, left, LIMITS)?;
+    let more = log.chain().version().wrapping_sub(acknowledged);
+    Ok(more <= 1 && is_front(&log, patches))
 }
 
 #[test]
@@ -360,8 +359,10 @@ fn what_was_acknowledged_is_found_again(rt: HostRuntime) -> Result<(), Fail> {
         match run_ten(alloc, &patches, fuse)? {
             None => assert!(rt; fuse < 4),
             Some((acknowledged, disk)) => {
-                let holds = holds_acknowledged(alloc, &disk, &patches, acknowledged)?;
-                assert!(rt; holds, "after {fuse} calls");
+                for choice in [0, 1, 7] {
+                    let holds = holds_acknowledged(alloc, &disk, choice, &patches, acknowledged)?;
+                    assert!(rt; holds, "after {fuse} calls");
+                }
             }
         }
     }
@@ -377,23 +378,22 @@ fn patches_of(alloc: Global, texts: &[&[u8]]) -> Result<Vec<Checked>, Fail> {
     Ok(patches)
 }
 
+/// What a log answers to the first patch, the second and the first again.
+static THREE: [LogAnswer; 3] = [
+    LogAnswer::Accepted { version: 1 },
+    LogAnswer::Accepted { version: 2 },
+    LogAnswer::Known {
+        version: 1,
+        same: true,
+    },
+];
+
 #[test]
 fn many_appends_are_answered_in_order(rt: HostRuntime) -> Result<(), Fail> {
     let alloc = rt.alloc();
-    let mut log = open(alloc, disk_of(alloc, EMPTY, &[])?, LIMITS)?;
     let patches = patches_of(alloc, &[FIRST, SECOND, FIRST])?;
+    let mut log = open(alloc, disk_of(alloc, EMPTY, &[])?, LIMITS)?;
     let answers = append_all(alloc, &mut log, &patches, 3)?;
-    assert_eq!(rt;
-        answers.as_slice(),
-        [
-            LogAnswer::Accepted { version: 1 },
-            LogAnswer::Accepted { version: 2 },
-            LogAnswer::Known {
-                version: 1,
-                same: true
-            },
-        ]
-        .as_slice()
-    );
+    assert!(rt; answers.as_slice() == THREE.as_slice());
     Ok(())
 }

@@ -1,13 +1,9 @@
 //! The files of two logs byte for byte, and what stops the work.
-use slot_files::{InitFault, init_slots};
-use delta_base::{Calls, Listing, Text};
+use crate::fakes::calls;
+use delta_base::Text;
 use disk_model::{Disk, MemShelf, Shelf};
-use std::alloc::{AllocError, Global};
+use slot_files::{InitFault, init_slots};
 use std::test::Fail;
-
-fn calls(alloc: Global, numbers: &[u64]) -> Result<Calls, AllocError> {
-    Ok(Listing::from_vec(Vec::from_slice(alloc, numbers)?))
-}
 
 #[test]
 fn two_logs_have_three_files(rt: HostRuntime) -> Result<(), Fail> {

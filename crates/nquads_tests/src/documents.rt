@@ -1,6 +1,6 @@
 //! Each fault of a document with its line and place, and documents in canonical form.
-use super::*;
 use delta_base::Bytes;
+use nquads_documents::{DocFault, canonical_lines, print_document, print_line, read_document};
 use nquads_text::TextKind;
 use std::alloc::Global;
 use std::test::Fail;

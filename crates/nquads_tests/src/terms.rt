@@ -1,7 +1,11 @@
 //! Worked terms, and each fault with its place.
-use super::*;
 use delta_base::{Listing, OutOfMemory, Text};
+use rdf_terms::{
+    BadPosition, Change, Changes, Iri, Label, Literal, LiteralKind, Quad, Term, TermFault,
+    begins_name, has_scheme, is_name_base, is_name_char, is_name_start,
+};
 use std::alloc::Global;
+use std::process::Abort;
 use std::test::Fail;
 
 fn text(alloc: Global, s: &str) -> Result<Text, OutOfMemory> {
@@ -24,6 +28,18 @@ fn term(alloc: Global, kind: Kind) -> Result<Term, TermFault> {
     })
 }
 
+fn two_terms(alloc: Global, first: Kind, second: Kind) -> Result<(Term, Term), TermFault> {
+    let first = term(alloc, first)?;
+    match term(alloc, second) {
+        Ok(second) => Ok((first, second)),
+        Err(fault) => {
+            drop(first);
+            Err(fault)
+        }
+    }
+}
+
+/// The quad of terms of these kinds, or the first place whose term isn't allowed there.
 fn quad(
     alloc: Global,
     subject: Kind,
@@ -31,11 +47,25 @@ fn quad(
     object: Kind,
     graph: Kind,
 ) -> Result<Result<Quad, BadPosition>, TermFault> {
-    let subject = term(alloc, subject)?;
-    let predicate = term(alloc, predicate)?;
-    let object = term(alloc, object)?;
-    let graph = term(alloc, graph)?;
-    Ok(Quad::new(subject, predicate, object, Some(graph)))
+    let (subject, predicate) = two_terms(alloc, subject, predicate)?;
+    match two_terms(alloc, object, graph) {
+        Ok((object, graph)) => Ok(Quad::new(subject, predicate, object, Some(graph))),
+        Err(fault) => {
+            drop(subject);
+            drop(predicate);
+            Err(fault)
+        }
+    }
+}
+
+fn bad_place(made: Result<Quad, BadPosition>) -> Option<u8> {
+    match made {
+        Ok(quad) => {
+            drop(quad);
+            None
+        }
+        Err(bad) => Some(bad.place),
+    }
 }
 
 fn tagged(alloc: Global, tag: &str) -> Result<Result<Literal, TermFault>, OutOfMemory> {
@@ -48,6 +78,17 @@ fn typed(alloc: Global, datatype: &str) -> Result<Result<Literal, TermFault>, Te
     let lexical = text(alloc, "x")?;
     let datatype = Iri::new(text(alloc, datatype)?)?;
     Ok(Literal::typed(lexical, datatype))
+}
+
+/// A text has this fault.
+fn fails<T: Drop>(rt: &impl Abort, made: Result<T, TermFault>, wanted: TermFault, s: &str) {
+    match made {
+        Ok(value) => {
+            drop(value);
+            panic!(rt; "{s} was taken")
+        }
+        Err(fault) => assert_eq!(rt; fault, wanted, "{s}"),
+    }
 }
 
 #[test]
@@ -65,7 +106,7 @@ fn an_iri_has_a_scheme_and_no_forbidden_character(rt: HostRuntime) -> Result<(),
         (":a", TermFault::RelativeIri),
         ("", TermFault::RelativeIri),
     ] {
-        assert_eq!(rt; Iri::new(text(rt.alloc(), s)?).err(), Some(fault), "{s}");
+        fails(&rt, Iri::new(text(rt.alloc(), s)?), fault, s);
     }
     Ok(())
 }
@@ -86,11 +127,8 @@ fn a_label_takes_no_final_dot(rt: HostRuntime) -> Result<(), Fail> {
         ("é..", 4),
         ("é\u{D7}", 2),
     ] {
-        assert_eq!(rt;
-            Label::new(text(rt.alloc(), s)?).err(),
-            Some(TermFault::BadLabel { at }),
-            "{s}"
-        );
+        let made = Label::new(text(rt.alloc(), s)?);
+        fails(&rt, made, TermFault::BadLabel { at }, s);
     }
     Ok(())
 }
@@ -103,6 +141,7 @@ fn a_tag_is_kept_in_lower_case(rt: HostRuntime) -> Result<(), Fail> {
             LiteralKind::Tagged(tag) => assert!(rt; tag.as_bytes() == kept.as_bytes(), "{s}"),
             _ => panic!(rt; "{s} was not kept"),
         }
+        drop(made);
     }
     Ok(())
 }
@@ -119,8 +158,8 @@ fn a_bad_tag_is_refused_at_its_place(rt: HostRuntime) -> Result<(), Fail> {
         ("en-é", 3),
         ("en us", 2),
     ] {
-        let fault = tagged(rt.alloc(), s)?.err();
-        assert_eq!(rt; fault, Some(TermFault::BadLang { at }), "{s}");
+        let made = tagged(rt.alloc(), s)?;
+        fails(&rt, made, TermFault::BadLang { at }, s);
     }
     Ok(())
 }
@@ -129,27 +168,32 @@ fn a_bad_tag_is_refused_at_its_place(rt: HostRuntime) -> Result<(), Fail> {
 fn a_datatype_is_neither_string_nor_lang_string(rt: HostRuntime) -> Result<(), Fail> {
     let plain = typed(rt.alloc(), "http://www.w3.org/2001/XMLSchema#string")??;
     assert!(rt; matches!(plain.kind, LiteralKind::Plain));
+    drop(plain);
     let made = typed(rt.alloc(), "a:t")??;
     match &made.kind {
         LiteralKind::Typed(datatype) => assert!(rt; datatype.as_bytes() == b"a:t".as_slice()),
         _ => panic!(rt; "the datatype was lost"),
     }
-    let bare = typed(
-        rt.alloc(),
-        "http://www.w3.org/1999/02/22-rdf-syntax-ns#langString",
-    )?;
-    assert_eq!(rt; bare.err(), Some(TermFault::LangStringWithoutTag));
+    drop(made);
+    let name = "http://www.w3.org/1999/02/22-rdf-syntax-ns#langString";
+    let bare = typed(rt.alloc(), name)?;
+    fails(&rt, bare, TermFault::LangStringWithoutTag, name);
     Ok(())
 }
 
 #[test]
 fn a_quad_has_its_terms_in_their_places(rt: HostRuntime) -> Result<(), Fail> {
-    let made = quad(rt.alloc(), Kind::Blank, Kind::Iri, Kind::Literal, Kind::Iri)?.ok();
-    let copied = made.ok_or("refused")?.copy()?;
-    assert!(rt; matches!(copied.subject(), Term::Blank(_)));
-    assert!(rt; matches!(copied.predicate(), Term::Iri(_)));
-    assert!(rt; matches!(copied.object(), Term::Literal(_)));
-    assert!(rt; matches!(copied.graph(), Some(Term::Iri(_))));
+    let Ok(made) = quad(rt.alloc(), Kind::Blank, Kind::Iri, Kind::Literal, Kind::Iri)? else {
+        return Err(Fail::from("refused"));
+    };
+    let copy = made.copy();
+    drop(made);
+    let copy = copy?;
+    assert!(rt; matches!(copy.subject(), Term::Blank(_)));
+    assert!(rt; matches!(copy.predicate(), Term::Iri(_)));
+    assert!(rt; matches!(copy.object(), Term::Literal(_)));
+    assert!(rt; matches!(copy.graph(), Some(Term::Iri(_))));
+    drop(copy);
     Ok(())
 }
 
@@ -162,7 +206,7 @@ fn the_first_bad_place_is_answered(rt: HostRuntime) -> Result<(), Fail> {
         (Kind::Blank, Kind::Iri, Kind::Literal, 3),
     ] {
         let made = quad(rt.alloc(), subject, predicate, Kind::Blank, graph)?;
-        assert_eq!(rt; made.err(), Some(BadPosition { place }));
+        assert_eq!(rt; bad_place(made), Some(place));
     }
     Ok(())
 }
@@ -191,25 +235,44 @@ fn each_class_of_names_takes_in_the_one_before(rt: HostRuntime) {
     assert!(rt; has_scheme(b"a:") && !has_scheme(b"a"));
 }
 
+fn prefix_add(alloc: Global) -> Result<Change, TermFault> {
+    let prefix = text(alloc, "ex")?;
+    let iri = Iri::new(text(alloc, "http://e/")?)?;
+    let graph = term(alloc, Kind::Iri)?;
+    Ok(Change::PrefixAdd {
+        prefix,
+        iri,
+        graph: Some(graph),
+    })
+}
+
 #[test]
 fn a_change_is_copied_whole(rt: HostRuntime) -> Result<(), Fail> {
-    let prefix = Change::PrefixAdd {
-        prefix: text(rt.alloc(), "ex")?,
-        iri: Iri::new(text(rt.alloc(), "http://e/")?)?,
-        graph: Some(term(rt.alloc(), Kind::Iri)?),
-    };
-    let mut changes: Changes = Listing::new(rt.alloc());
-    changes.reserve(2)?;
-    assert!(rt; changes.push(prefix.copy()?).is_ok());
-    assert!(rt; changes.push(Change::Begin.copy()?).is_ok());
-    match changes.get(0) {
-        Some(Change::PrefixAdd { prefix, iri, graph }) => {
-            assert_eq!(rt; prefix.as_str(), "ex");
-            assert_eq!(rt; iri.as_bytes(), b"http://e/".as_slice());
+    let change = prefix_add(rt.alloc())?;
+    let copy = change.copy();
+    drop(change);
+    let copy = copy?;
+    match &copy {
+        Change::PrefixAdd { prefix, iri, graph } => {
+            assert!(rt; prefix.as_str() == "ex");
+            assert!(rt; iri.as_bytes() == b"http://e/".as_slice());
             assert!(rt; graph.is_some());
         }
         _ => assert!(rt; false, "another change"),
     }
-    assert!(rt; matches!(changes.get(1), Some(Change::Begin)));
+    drop(copy);
+    Ok(())
+}
+
+#[test]
+fn changes_are_listed(rt: HostRuntime) -> Result<(), Fail> {
+    let mut changes: Changes = Listing::new(rt.alloc());
+    changes.reserve(1)?;
+    if let Err(back) = changes.push(Change::Begin) {
+        drop(back);
+        return Err(Fail::from("no room"));
+    }
+    assert!(rt; matches!(changes.get(0), Some(Change::Begin)));
+    drop(changes);
     Ok(())
 }

@@ -1,6 +1,6 @@
 //! Each fault of the table with its place, and terms that are read and printed.
-use super::*;
 use delta_base::Bytes;
+use nquads_text::{ReadFault, TextKind, print_term, read_term};
 use rdf_terms::{LiteralKind, Term};
 use std::alloc::Global;
 use std::test::Fail;

@@ -1,7 +1,7 @@
 //! Patches and their faults, with values from the format's description.
-use super::*;
 use chain_core::Link;
 use delta_base::{Id, read_id};
+use patch_meaning::{Part, PatchFault, Role, check_patch, split_stream};
 use patch_rows::RowKind;
 use rdf_terms::Change;
 use std::alloc::Global;

@@ -3,8 +3,8 @@ ghost use Rattle.std.specs.Prelude.{◌<◌, length, drop};
 ghost use Rattle.nquads_text.specs.Grammar.{StartsWith};
 ghost use Rattle.patch_rows.specs.Grammar.{begins_space};
 
-use patch_reader::{PatchReader, PlacedRow, decided_row, read_row};
 use nquads_text::TextKind;
+use patch_reader::{PatchReader, PlacedRow, decided_row, read_row};
 use patch_rows::{RowFault, RowKind, skip_space};
 use std::alloc::{AllocError, Global};
 use std::process::Abort;

@@ -1,6 +1,6 @@
-use patch_rows::{Row, RowFault, RowKind, print_row, skip_space, unlimited_row};
 use delta_base::{Bytes, OutOfMemory};
 use nquads_text::TextKind;
+use patch_rows::{Row, RowFault, RowKind, print_row, skip_space, unlimited_row};
 use std::alloc::Global;
 use std::process::Abort;
 use std::test::Fail;

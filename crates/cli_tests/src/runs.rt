@@ -1,6 +1,6 @@
 //! Runs of the tool on worked examples.
-use crate::{HELP, VERSION, run_tool};
 use delta_base::{Bytes, Calls, MemSink, MemSource, Sink};
+use delta_cli::{HELP, VERSION, run_tool};
 use disk_model::MemShelf;
 use std::alloc::Global;
 use std::process::Abort;
