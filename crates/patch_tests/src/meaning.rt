@@ -5,6 +5,7 @@ use patch_meaning::{Part, PatchFault, Role, check_patch, split_stream};
 use patch_rows::RowKind;
 use rdf_terms::Change;
 use std::alloc::Global;
+use std::process::Abort;
 use std::test::Fail;
 
 const ID: &str = "H id <uuid:00000000-0000-4000-8000-000000000001> .\n";
@@ -23,21 +24,26 @@ fn ids_of(alloc: Global, text: &str) -> Option<(Id, Option<Id>, usize)> {
     Some((patch.id(), patch.prev(), patch.changes().len()))
 }
 
+const TEXT: &str =
+    "H id <uuid:00000000-0000-4000-8000-000000000001> .\nTX .\nA <http://e/s> <http://e/p> <http://e/o> .\nTC .\n";
+
 #[test]
 fn a_patch_has_its_id_and_its_changes(rt: HostRuntime) -> Result<(), Fail> {
-    let text =
-        "H id <uuid:00000000-0000-4000-8000-000000000001> .\nTX .\nA <http://e/s> <http://e/p> <http://e/o> .\nTC .\n";
-    let patch = check_patch(rt.alloc(), text.as_bytes())
-        .ok()
-        .ok_or("refused")?;
     let id = read_id(b"00000000-0000-4000-8000-000000000001");
-    assert!(rt; Some(patch.id()) == id);
-    assert!(rt; patch.prev().is_none());
-    assert_eq!(rt; patch.changes().len(), 3);
-    assert!(rt; patch.text().as_slice() == text.as_bytes());
-    assert_eq!(rt; text.len(), 104);
-    let copy = patch.copy(rt.alloc()).ok().ok_or("no memory")?;
-    assert_eq!(rt; copy.changes().len(), 3);
+    assert!(rt; TEXT.len() == 104);
+    assert!(rt; ids_of(rt.alloc(), TEXT) == Some((id.ok_or("no id")?, None, 3)));
+    Ok(())
+}
+
+#[test]
+fn a_copy_has_the_same_text_and_changes(rt: HostRuntime) -> Result<(), Fail> {
+    let patch = check_patch(rt.alloc(), TEXT.as_bytes())?;
+    let copy = patch.copy(rt.alloc());
+    drop(patch);
+    let copy = copy?;
+    assert!(rt; copy.changes().len() == 3);
+    assert!(rt; copy.text().as_slice() == TEXT.as_bytes());
+    drop(copy);
     Ok(())
 }
 
@@ -170,16 +176,14 @@ fn each_patch_of_a_stream_has_its_own_text(rt: HostRuntime) -> Result<(), Fail> 
     let second =
         "H id <uuid:00000000-0000-4000-8000-000000000002> .\nH prev <uuid:00000000-0000-4000-8000-000000000001> .\nTX .\nD <http://e/s> <http://e/p> _:a .TA.\t";
     let text = format!(in rt.alloc(); "{first}{second}")?;
-    let patches = split_stream(rt.alloc(), text.as_bytes())
-        .ok()
-        .ok_or("refused")?;
-    assert_eq!(rt; patches.len(), 2);
+    let patches = split_stream(rt.alloc(), text.as_bytes())?;
     let one = patches.get(0).ok_or("no patch")?;
     let two = patches.get(1).ok_or("no second patch")?;
+    assert!(rt; patches.len() == 2);
     assert!(rt; one.text().as_slice() == first.as_bytes());
     assert!(rt; two.text().as_slice() == second.as_bytes());
     assert!(rt; two.prev() == Some(one.id()));
-    assert_eq!(rt; two.changes().len(), 3);
+    assert!(rt; two.changes().len() == 3);
     Ok(())
 }
 
@@ -212,41 +216,39 @@ fn the_first_patch_with_a_fault_is_told(rt: HostRuntime) {
     }
 }
 
-fn take(part: &mut Part, says: Role, at: u64) -> Result<Option<Link>, PatchFault> {
-    let taken = part.take_next(&says, at);
+/// Where a row of this role begins, this patch is complete.
+fn takes(rt: &impl Abort, part: &mut Part, says: Role, at: u64, wanted: Option<Link>) {
+    let complete = part.take_next(&says, at);
     drop(says);
-    taken
+    assert_eq!(rt; complete, Ok(wanted));
 }
 
 #[test]
 fn rows_that_come_one_at_a_time_are_cut(rt: HostRuntime) -> Result<(), Fail> {
     let one = read_id(b"00000000000040008000000000000001").ok_or("no id")?;
     let two = read_id(b"00000000000040008000000000000002").ok_or("no id")?;
-    let mut part = Part::new(0);
-    assert!(rt; !part.has_rows());
-    assert_eq!(rt; take(&mut part, Role::Id(Some(one)), 0), Ok(None));
-    assert_eq!(rt; take(&mut part, Role::Change(Change::Begin), 51), Ok(None));
-    assert_eq!(rt; take(&mut part, Role::Change(Change::Commit), 56), Ok(None));
     let first = Link {
         id: one,
         prev: None,
     };
-    assert_eq!(rt; take(&mut part, Role::Id(Some(two)), 61), Ok(Some(first)));
-    assert_eq!(rt; take(&mut part, Role::Prev(Some(one)), 112), Ok(None));
-    assert!(rt; part.is_sound());
     let last = Link {
         id: two,
         prev: Some(one),
     };
-    assert_eq!(rt; part.finish_stream(165), Ok(Some(last)));
-    assert_eq!(rt;
-        take(&mut part, Role::Change(Change::Commit), 165),
-        Ok(None)
-    );
+    let mut part = Part::new(0);
+    assert!(rt; !part.has_rows());
+    takes(&rt, &mut part, Role::Id(Some(one)), 0, None);
+    takes(&rt, &mut part, Role::Change(Change::Begin), 51, None);
+    takes(&rt, &mut part, Role::Change(Change::Commit), 56, None);
+    takes(&rt, &mut part, Role::Id(Some(two)), 61, Some(first));
+    takes(&rt, &mut part, Role::Prev(Some(one)), 112, None);
+    assert!(rt; part.is_sound());
+    assert!(rt; part.finish_stream(165) == Ok(Some(last)));
+    takes(&rt, &mut part, Role::Change(Change::Commit), 165, None);
     assert!(rt; !part.is_sound());
     let fault = PatchFault::NotInBlock { at: 165 };
-    assert_eq!(rt; part.first_fault(), Some(fault));
-    assert_eq!(rt; part.break_stream(170, RowKind::UnknownCode), fault);
-    assert_eq!(rt; part.finish_stream(170), Err(fault));
+    assert!(rt; part.first_fault() == Some(fault));
+    assert!(rt; part.break_stream(170, RowKind::UnknownCode) == fault);
+    assert!(rt; part.finish_stream(170) == Err(fault));
     Ok(())
 }
