@@ -1,9 +1,11 @@
-//! Worked examples of rows, of rows that come in pieces, and of patches, and each fault with its place.
+//! Worked examples of rows, of rows that come in pieces, of patches and of replays, and each fault with its place.
 #![tactic(auto)]
 
 #[cfg(test)]
 mod meaning;
 #[cfg(test)]
 mod pieces;
+#[cfg(test)]
+mod replay;
 #[cfg(test)]
 mod rows;

@@ -8,3 +8,4 @@ pub mod Fed
 pub mod Inputs
 pub mod PassedSpace
 pub mod Printed
+pub mod WholeLines

@@ -12,8 +12,6 @@ mod progress;
 mod replay;
 mod source;
 mod stream;
-#[cfg(test)]
-mod tests;
 mod window;
 
 pub use fault::ReplayFault;

@@ -1,7 +1,7 @@
 //! What is held of a text while it is read.
-ghost use Rattle.std.specs.Prelude.{◌≡◌, ◌+◌, ◌<◌, ◌≤◌, ◌^◌, ◌++◌, ◌==◌, false, slice_index, ℕ, List, [], length, count_by, OnOk, IfSome, vec_len};
+ghost use Rattle.std.specs.Prelude.{◌≡◌, ◌+◌, ◌<◌, ◌≤◌, ◌^◌, ◌++◌, ◌==◌, false, slice_index, ℕ, List, [], length, drop, count_by, OnOk, IfSome, IfNone, vec_len};
 ghost use Rattle.patch_rows.specs.Grammar.{is_space};
-ghost use Rattle.stream_replay.specs.Spaces.{PassesSpace};
+ghost use Rattle.stream_replay.specs.Spaces.{BeginsLine, PassesSpace};
 
 use delta_base::OutOfMemory;
 use nquads_text::char_at;
@@ -62,6 +62,7 @@ impl Window {
         ensures further { self.old.from ≤ self.new.from }
         ensures space { PassesSpace self.old.bytes.items self.old.from self.new.from }
         ensures stops { self.new.from < length self.old.bytes.items → is_space (slice_index self.old.bytes.items self.new.from) ≡ false }
+        ensures whole { BeginsLine (drop self.new.from self.old.bytes.items) → ⊥ }
     {
         self.from = space_end(self.bytes.as_slice(), self.from);
     }
@@ -98,6 +99,7 @@ fn space_end(bytes: &[u8], from: usize) -> usize
     ensures high { result ≤ length bytes.now }
     ensures space { PassesSpace bytes.now from result }
     ensures stops { result < length bytes.now → is_space (slice_index bytes.now result) ≡ false }
+    ensures whole { BeginsLine (drop result bytes.now) → ⊥ }
 {
     let mut at = blanks_end(bytes, from);
     while let Some(end) = comment_end(bytes, at) {
@@ -109,7 +111,8 @@ fn space_end(bytes: &[u8], from: usize) -> usize
 // The place behind the line of the comment that stands at a place, if its end is there.
 fn comment_end(bytes: &[u8], from: usize) -> Option<usize>
     requires { from ≤ length bytes.now }
-    ensures { IfSome result (λ end. (from < end) × (end ≤ length bytes.now) × PassesSpace bytes.now from end) }
+    ensures behind { IfSome result (λ end. (from < end) × (end ≤ length bytes.now) × PassesSpace bytes.now from end) }
+    ensures whole { IfNone result (BeginsLine (drop from bytes.now) → ⊥) }
 {
     if from == bytes.len() || bytes[from] != b'#' {
         return None;

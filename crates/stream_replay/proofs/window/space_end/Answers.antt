@@ -5,7 +5,7 @@ use Rattle.stream_replay.proofs.window.space_end.Goals as goal
 pub loop-end-preserved : goal.loop-end-preserved
 loop-end-preserved c =
     let so_far = c.loop-end.invariant in
-    let line = c.in-Some.ensures in
+    let line = c.in-Some.ensures.behind in
     let blanks = c.blanks_end-at-in-Some.ensures in (
       omega (arith, so_far.0, line.0, blanks.low),
       blanks.high,

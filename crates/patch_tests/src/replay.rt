@@ -1,6 +1,4 @@
 //! Streams with values from the format's description, read in pieces of several sizes.
-use super::*;
-use crate::window::Window;
 use chain_core::ChainFault;
 use delta_base::{Bytes, Calls, Id, MemSink, MemSource, read_id};
 use patch_meaning::PatchFault;
@@ -9,6 +7,7 @@ use sink_writing::PIECE;
 use std::alloc::Global;
 use std::process::Abort;
 use std::test::Fail;
+use stream_replay::{Lines, ReplayFault, replay_source, write_lines};
 
 const ID: &str = "H id <uuid:00000000-0000-4000-8000-000000000001> .\n";
 
@@ -200,17 +199,6 @@ fn a_patch_of_one_byte_too_many_is_too_long(rt: HostRuntime) -> Result<(), Fail>
     };
     let wanted = ReplayFault::Stream { line: 0, fault };
     assert_eq!(rt; replay_source(alloc, &mut input).err(), Some(wanted));
-    Ok(())
-}
-
-#[test]
-fn lines_of_comments_are_not_held(rt: HostRuntime) -> Result<(), Fail> {
-    let mut window = Window::new(rt.alloc());
-    window.push(b"# one\n\t# two\r # three".as_slice())?;
-    window.pass_space();
-    window.settle(rt.alloc())?;
-    assert!(rt; window.bytes.as_slice() == b"# three".as_slice());
-    assert_eq!(rt; window.base, 14);
     Ok(())
 }
 
