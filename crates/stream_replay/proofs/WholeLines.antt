@@ -1,11 +1,11 @@
 -- A comment is read up to the end of its line.
-use Rattle.std.proofs.Common.{◌≡◌, ℕ, ◌+◌, ◌<◌, Bool, true, false, List, [], ◌∷◌, ◌++◌, length, drop, get_or, Ok, Err, not, refl, sym, ap, subst, ◌∙◌, arith, append_assoc}
+use Rattle.std.proofs.Common.{◌≡◌, ℕ, ◌+◌, ◌<◌, true, false, List, [], ◌∷◌, ◌++◌, length, drop, get_or, Ok, Err, not, refl, sym, ap, subst, ◌∙◌, arith, append_assoc}
 use Rattle.std.specs.List.{list_all}
 use Rattle.std.specs.Char.{encode_utf8}
 use Rattle.std.specs.Str.{encode_utf8_all}
 use Rattle.std.proofs.lemmas.Bool.Decides.{nat_tests}
 use Rattle.std.proofs.lemmas.Bool.{and_parts, false≢true}
-use Rattle.std.proofs.lemmas.List.{drop_more, drop_all, length-append}
+use Rattle.std.proofs.lemmas.List.{drop_more}
 use lib.Utf8.{scalar, scalars}
 use Rattle.nquads_text.specs.declared.fault.ReadFault.{ReadFault}
 use Rattle.nquads_text.specs.declared.fault.ReadFault.TheVariants as faults
@@ -50,9 +50,6 @@ pub never_fails : (bytes text : List ℕ) (e : ReadFault) → EndsLine bytes →
 never_fails bytes text (faults.At at kind) l is fails = is_read bytes (kind, drop at text) l fails.0
 never_fails bytes text faults.OutOfMemory l is fails = is
 
-pub is_some : (bytes : List ℕ) → EndsLine bytes → 0 < length bytes
-is_some bytes l = omega (arith, ap length l.6, length-append (encode_utf8_all l.0) (l.1 ∷ l.2))
-
 -- at a place of a text
 pub begun : (text : List ℕ) (at : ℕ) → at < length text → BeginsLine (drop at text) → (get_or text at 0 ≡ 35) × EndsLine (drop (at + 1) text)
 begun text at lt l =
@@ -60,8 +57,3 @@ begun text at lt l =
     let same : get_or text at 0 ∷ drop (at + 1) text ≡ 35 ∷ line = sym (drop_more text at 0 lt) ∙ l.5 ∙ ap (λ (t : List ℕ). t ++ l.1 ∷ l.2) l.3.1 in
     let rest : drop (at + 1) text ≡ line = cc in
     (cc, (l.3.0, l.1, l.2, l.3.2, l.3.3, l.4, rest))
-
-pub at_end : (text : List ℕ) (at : ℕ) → at ≡ length text → BeginsLine (drop at text) → ⊥
-at_end text at e l =
-    let none : drop at text ≡ [] = drop_all at text (omega (arith, e)) in
-    omega (arith, ap length (sym none ∙ l.5), length-append l.0 (l.1 ∷ l.2))
