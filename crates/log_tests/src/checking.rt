@@ -1,15 +1,16 @@
 //! The files of two logs, as they are made and with patches, and what is wrong with others.
-use crate::fakes::calls;
+use crate::fakes::{calls, no_calls};
 use delta_base::{Id, Text};
 use disk_model::{Disk, MemShelf, Shelf};
-use slot_checks::{CheckFault, FileLine, check_files, fault_text, report_text};
+use slot_checks::{CheckFault, FileLine, Report, check_files, fault_text, report_text};
 use slot_files::init_slots;
 use std::alloc::Global;
+use std::process::Abort;
 use std::test::Fail;
 
 // A shelf with the files of two logs in `d`.
 fn two_logs(alloc: Global, dir: &Text) -> Result<MemShelf, Fail> {
-    let mut shelf = MemShelf::new(alloc, calls(alloc, &[])?);
+    let mut shelf = MemShelf::new(alloc, no_calls(alloc));
     init_slots(alloc, &mut shelf, dir, 2)?;
     Ok(shelf)
 }
@@ -25,47 +26,75 @@ fn write(shelf: &mut MemShelf, dir: &Text, number: u32, at: u64, bytes: &[u8]) -
     Ok(())
 }
 
+/// What a check of the files tells.
+fn told(alloc: Global, shelf: &mut MemShelf, dir: &Text) -> Result<Vec<u8>, Fail> {
+    let report = check_files(alloc, shelf, dir)?;
+    let text = report_text(alloc, &report);
+    drop(report);
+    Ok(text?)
+}
+
 #[test]
 fn files_just_made_are_told(rt: HostRuntime) -> Result<(), Fail> {
     let alloc = rt.alloc();
     let dir = Text::from_str(alloc, "d")?;
     let mut shelf = two_logs(alloc, &dir)?;
-    let report = check_files(alloc, &mut shelf, &dir)?;
+    let text = told(alloc, &mut shelf, &dir)?;
     assert_eq!(rt;
-        report_text(alloc, &report)?.as_slice(),
+        text.as_slice(),
         b"file 0 records 1\nfile 1 patches 0 head none\nfile 2 patches 0 head none\n".as_slice()
     );
-    assert_eq!(rt;
-        shelf.file(&dir, 1).ok_or("no file")?,
-        b"RDJ1\0\0\0\x01\0".as_slice()
-    );
+    assert!(rt; shelf.file(&dir, 1) == Some(b"RDJ1\0\0\0\x01\0".as_slice()));
     assert!(rt; shelf.file(&dir, 3).is_none());
-    assert_eq!(rt; shelf.faults(), 0);
+    assert!(rt; shelf.faults() == 0);
     Ok(())
+}
+
+/// The files of two logs, the first of which has one patch.
+fn one_patch(alloc: Global, dir: &Text) -> Result<MemShelf, Fail> {
+    let mut shelf = two_logs(alloc, dir)?;
+    let patch = b"\x01\0\0\0\x33H id <uuid:00000000-0000-4000-8000-000000000001> .\n\0";
+    write(&mut shelf, dir, 1, 8, patch)?;
+    Ok(shelf)
 }
 
 #[test]
 fn a_patch_is_told_with_its_id(rt: HostRuntime) -> Result<(), Fail> {
-    let alloc = rt.alloc();
-    let dir = Text::from_str(alloc, "d")?;
-    let mut shelf = two_logs(alloc, &dir)?;
-    let patch = b"\x01\0\0\0\x33H id <uuid:00000000-0000-4000-8000-000000000001> .\n\0";
-    write(&mut shelf, &dir, 1, 8, patch)?;
-    let report = check_files(alloc, &mut shelf, &dir)?;
-    assert_eq!(rt; report.len(), 3);
+    let dir = Text::from_str(rt.alloc(), "d")?;
+    let mut shelf = one_patch(rt.alloc(), &dir)?;
+    let text = told(rt.alloc(), &mut shelf, &dir)?;
     assert_eq!(rt;
-        report.get(1).ok_or("no line")?,
-        &FileLine::Log {
-            number: 1,
-            patches: 1,
-            head: Some(Id(0x0000_0000_0000_4000_8000_0000_0000_0001)),
-        }
-    );
-    assert_eq!(rt;
-        report_text(alloc, &report)?.as_slice(),
+        text.as_slice(),
         b"file 0 records 1\nfile 1 patches 1 head 00000000-0000-4000-8000-000000000001\nfile 2 patches 0 head none\n".as_slice()
     );
     Ok(())
+}
+
+/// The line of a log of one patch.
+static ONE: FileLine = FileLine::Log {
+    number: 1,
+    patches: 1,
+    head: Some(Id(0x0000_0000_0000_4000_8000_0000_0000_0001)),
+};
+
+#[test]
+fn a_report_has_a_line_for_each_file(rt: HostRuntime) -> Result<(), Fail> {
+    let dir = Text::from_str(rt.alloc(), "d")?;
+    let mut shelf = one_patch(rt.alloc(), &dir)?;
+    let report = check_files(rt.alloc(), &mut shelf, &dir)?;
+    assert!(rt; report.len() == 3);
+    assert!(rt; report.get(1).is_some_and(|line| *line == ONE));
+    Ok(())
+}
+
+fn fails_as(rt: &impl Abort, found: Result<Report, CheckFault>, wanted: CheckFault) {
+    match found {
+        Ok(report) => {
+            drop(report);
+            panic!(rt; "no fault")
+        }
+        Err(fault) => assert_eq!(rt; fault, wanted),
+    }
 }
 
 #[test]
@@ -101,10 +130,7 @@ fn the_first_fault_is_told(rt: HostRuntime) -> Result<(), Fail> {
     ] {
         let mut shelf = two_logs(alloc, &dir)?;
         write(&mut shelf, &dir, number, at, bytes)?;
-        match check_files(alloc, &mut shelf, &dir) {
-            Ok(_) => assert!(rt; false, "no fault"),
-            Err(found) => assert_eq!(rt; found, fault),
-        }
+        fails_as(&rt, check_files(alloc, &mut shelf, &dir), fault);
     }
     Ok(())
 }
@@ -113,12 +139,10 @@ fn the_first_fault_is_told(rt: HostRuntime) -> Result<(), Fail> {
 fn a_file_that_is_missing_is_made_empty(rt: HostRuntime) -> Result<(), Fail> {
     let alloc = rt.alloc();
     let dir = Text::from_str(alloc, "d")?;
-    let mut shelf = MemShelf::new(alloc, calls(alloc, &[])?);
-    match check_files(alloc, &mut shelf, &dir) {
-        Ok(_) => assert!(rt; false, "no fault"),
-        Err(found) => assert_eq!(rt; found, CheckFault::Damaged { file: 0, at: 0 }),
-    }
-    assert_eq!(rt; shelf.file(&dir, 0).ok_or("no file")?.len(), 0);
+    let mut shelf = MemShelf::new(alloc, no_calls(alloc));
+    let found = check_files(alloc, &mut shelf, &dir);
+    fails_as(&rt, found, CheckFault::Damaged { file: 0, at: 0 });
+    assert!(rt; shelf.file(&dir, 0) == Some(b"".as_slice()));
     Ok(())
 }
 
@@ -126,20 +150,13 @@ fn a_file_that_is_missing_is_made_empty(rt: HostRuntime) -> Result<(), Fail> {
 fn a_shelf_that_fails_is_told(rt: HostRuntime) -> Result<(), Fail> {
     let alloc = rt.alloc();
     let dir = Text::from_str(alloc, "d")?;
-    for call in 0..2u64 {
+    for (call, fault, faults) in [
+        (0, CheckFault::Failed, 1),
+        (1, CheckFault::Damaged { file: 0, at: 0 }, 0),
+    ] {
         let mut shelf = MemShelf::new(alloc, calls(alloc, &[call])?);
-        match check_files(alloc, &mut shelf, &dir) {
-            Ok(_) => assert!(rt; false, "no fault"),
-            Err(found) => {
-                let wanted = if call == 0 {
-                    CheckFault::Failed
-                } else {
-                    CheckFault::Damaged { file: 0, at: 0 }
-                };
-                assert_eq!(rt; found, wanted);
-            }
-        }
-        assert_eq!(rt; shelf.faults() > 0, call == 0);
+        fails_as(&rt, check_files(alloc, &mut shelf, &dir), fault);
+        assert!(rt; shelf.faults() == faults);
     }
     Ok(())
 }
