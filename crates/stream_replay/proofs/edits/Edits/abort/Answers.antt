@@ -1,7 +1,7 @@
-use Rattle.std.proofs.Common.{ℕ, List, [], ◌∷◌, ◌++◌, Option, Some, None, sym, subst}
+use Rattle.std.proofs.Common.{ℕ, [], ◌∷◌, ◌++◌, Option, sym, subst}
 use Rattle.rdf_terms.specs.declared.change.Change.TheVariants as change
 use Rattle.stream_replay.specs.Edits.{AreEditsBehind}
-use Rattle.stream_replay.proofs.Edited.{aborted, aborted_outside, no_block}
+use Rattle.stream_replay.proofs.Edited.{aborted_outside, no_block}
 use Rattle.stream_replay.proofs.edits.Edits.abort.Goals as goal
 
 pub returns-in_default : goal.returns-in_default

@@ -1,4 +1,4 @@
-use Rattle.std.proofs.Common.{ℕ, true, false, None, [], ◌∷◌, ◌++◌, List, refl, sym, ap, subst, inl, inr}
+use Rattle.std.proofs.Common.{ℕ, true, false, None, [], ◌∷◌, ◌++◌, List, refl, sym, ap, subst}
 use Rattle.std.proofs.lemmas.Result.{on_ok_weaker}
 use Rattle.rdf_terms.specs.declared.change.Change.{Change}
 use Rattle.stream_replay.specs.declared.lines.LineEdit.TheVariants.{Insert, Remove}
