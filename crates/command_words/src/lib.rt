@@ -134,6 +134,3 @@ pub fn read_words<'a>(
         Err(WordsFault::Usage)
     }
 }
-
-#[cfg(test)]
-mod tests;

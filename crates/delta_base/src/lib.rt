@@ -24,6 +24,3 @@ pub use outside::{Sink, Source};
 pub use phase::Phase;
 pub use standard::{StdSink, StdSource};
 pub use text::{Bytes, Text};
-
-#[cfg(test)]
-mod tests;

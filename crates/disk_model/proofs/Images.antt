@@ -1,6 +1,6 @@
 -- Each image of a disk in memory is one that a crash may leave.
-use Rattle.std.proofs.Common.{◌≡◌, ℕ, ◌+◌, ◌-◌, ◌≤◌, min, Bool, true, false, cond, List, ◌++◌, length, take, drop, refl, sym, ap, subst, ◌∙◌, arith, length-append, length-drop, length-take}
-use Rattle.std.specs.Prelude.{IsTrue, nat_le, ◌&&◌, ◌==◌, ◌%◌, replicate}
+use Rattle.std.proofs.Common.{◌≡◌, ℕ, ◌+◌, ◌-◌, ◌≤◌, min, Bool, true, false, cond, List, ◌++◌, length, take, drop, refl, subst, arith, length-append, length-drop, length-take}
+use Rattle.std.specs.Prelude.{IsTrue, nat_le, ◌==◌, ◌%◌, replicate}
 use Rattle.std.proofs.lemmas.Bool.{leb-true}
 use Rattle.std.proofs.lemmas.List.{length-replicate}
 use Rattle.disk_model.specs.Past.{Past, began, wrote, synced, reads, overwritten, Torn, MayLeave, is_orderly, synced_bytes, filled, left_as}

@@ -15,9 +15,9 @@ use Rattle.log_journal.proofs.Steps.{either}
 use Rattle.chain_core.specs.declared.chain.Patch.{Patch}
 use Rattle.chain_core.specs.declared.chain.Entry.{Entry}
 use Rattle.chain_core.specs.declared.limits.LogLimits.{LogLimits}
-use Rattle.delta_base.specs.declared.phase.Phase.TheVariants.{Settling, Body, Gate}
+use Rattle.delta_base.specs.declared.phase.Phase.TheVariants.{Settling}
 use Rattle.chain_core.specs.declared.fate.Fate.{Fate}
-use Rattle.chain_core.specs.declared.fate.Fate.TheVariants.{Done, Fails}
+use Rattle.chain_core.specs.declared.fate.Fate.TheVariants.{Fails}
 use Rattle.chain_core.specs.declared.answer.Decision.{Decision}
 use Rattle.chain_core.specs.declared.answer.Decision.TheVariants.{Accept, Known, Conflict, Full}
 use Rattle.chain_core.specs.declared.answer.LogAnswer.{LogAnswer}

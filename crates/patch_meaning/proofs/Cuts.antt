@@ -11,7 +11,7 @@ use Rattle.patch_reader.specs.declared.placed.PlacedRow.{PlacedRow}
 use Rattle.patch_meaning.specs.declared.fault.PatchFault.{PatchFault}
 use Rattle.patch_meaning.specs.declared.part.Part.{Part as PartRead}
 use Rattle.patch_meaning.specs.declared.role.Role.{Role}
-use Rattle.patch_meaning.specs.Cutting.{IsCutInto, Begins, GoesOn, IsCutAt, IsLeft, HasTakenNext, IsFaultOf, IsBrokenBefore, IsLast, EndsStream, IsBrokenAtEnd, changes_behind, meanings_of}
+use Rattle.patch_meaning.specs.Cutting.{IsCutInto, Begins, GoesOn, IsCutAt, IsLeft, HasTakenNext, IsFaultOf, IsBrokenBefore, IsLast, EndsStream, IsBrokenAtEnd, changes_behind}
 use Rattle.patch_meaning.specs.PartRead.{HasPart, IsComplete, is_sound, meaning_of}
 use Rattle.patch_meaning.specs.Patch.{Meaning, IsWell, patch_limit, has_some}
 use Rattle.patch_meaning.specs.Roles.{role, said, change_of, changes_of}

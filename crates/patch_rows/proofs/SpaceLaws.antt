@@ -52,7 +52,7 @@ line_end_is_space b e = by (nat_eq b 32) (nat_eq b 9) (is_line_end b) e
     by false true z e = refl
     by false false z e = e
 
-line_end_low : (b : ℕ) → is_line_end b ≡ true → b < 128
+pub line_end_low : (b : ℕ) → is_line_end b ≡ true → b < 128
 line_end_low b e = grind (arith, nat_tests)
 
 -- a character of a comment, or its line's end

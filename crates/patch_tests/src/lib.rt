@@ -1,6 +1,9 @@
-//! Worked examples of rows, of rows that come in pieces, of patches and of replays, and each fault with its place.
+//! Worked examples of rows, of rows that come in pieces, of patches, of streams that are made by rule and of replays, and each
+//! fault with its place.
 #![tactic(auto)]
 
+#[cfg(test)]
+mod generated;
 #[cfg(test)]
 mod meaning;
 #[cfg(test)]

@@ -2,4 +2,3 @@ pub mod Histories
 pub mod Stays
 pub mod Telling
 pub mod Asking
-mod Testing

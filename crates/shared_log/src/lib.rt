@@ -11,8 +11,3 @@ mod value;
 pub use replies::{Fetched, LogInfo};
 pub use shared::{LogPass, SharedLog};
 pub use value::{LogFixed, LogValue};
-
-#[cfg(test)]
-mod race_tests;
-#[cfg(test)]
-mod tests;

@@ -9,7 +9,7 @@ use Rattle.patch_reader.specs.declared.placed.PlacedRow.{PlacedRow}
 use Rattle.patch_rows.specs.declared.cut.TextEnd.{TextEnd}
 use Rattle.patch_rows.specs.declared.cut.TextEnd.TheVariants as ends
 use Rattle.patch_reader.specs.Pieces.{Stands, TakesRow}
-use Rattle.patch_reader.specs.Rows.{Gap, RowsUpTo, RowsStand, Stops}
+use Rattle.patch_reader.specs.Rows.{RowsUpTo, RowsStand, Stops}
 use Rattle.stream_bench.specs.Counting.{HasRows, TakesSome}
 
 -- each row has a byte

@@ -4,8 +4,6 @@
 
 mod patch;
 mod source;
-#[cfg(test)]
-mod tests;
 
 pub use patch::patch_text;
 pub use source::GeneratedSource;

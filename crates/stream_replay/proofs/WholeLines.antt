@@ -1,9 +1,8 @@
 -- A comment is read up to the end of its line.
-use Rattle.std.proofs.Common.{◌≡◌, ℕ, ◌+◌, ◌<◌, true, false, List, [], ◌∷◌, ◌++◌, length, drop, get_or, Ok, Err, not, refl, sym, ap, subst, ◌∙◌, arith, append_assoc}
+use Rattle.std.proofs.Common.{◌≡◌, ℕ, ◌+◌, ◌<◌, true, false, List, [], ◌∷◌, ◌++◌, length, drop, get_or, Ok, Err, not, refl, sym, ap, subst, ◌∙◌, append_assoc}
 use Rattle.std.specs.List.{list_all}
 use Rattle.std.specs.Char.{encode_utf8}
 use Rattle.std.specs.Str.{encode_utf8_all}
-use Rattle.std.proofs.lemmas.Bool.Decides.{nat_tests}
 use Rattle.std.proofs.lemmas.Bool.{and_parts, false≢true}
 use Rattle.std.proofs.lemmas.List.{drop_more}
 use lib.Utf8.{scalar, scalars}
@@ -13,14 +12,12 @@ use Rattle.nquads_text.specs.Fault.{Fault, Fails, IsFault}
 use Rattle.nquads_text.specs.Reading.{char_at}
 use Rattle.nquads_text.proofs.Fronts.{char_again, char_at-ascii}
 use Rattle.patch_rows.specs.Grammar.{is_line_end}
+use Rattle.patch_rows.proofs.SpaceLaws.{line_end_low}
 use Rattle.stream_replay.specs.Spaces.{BeginsLine}
 
 -- the rest of a comment and the end of its line
 abbrev pub EndsLine : List ℕ → Type 0
 EndsLine bytes = (cs : List ℕ) × (b : ℕ) × (rest : List ℕ) × (scalars cs ≡ true) × (list_all (λ c. not (is_line_end c)) cs ≡ true) × (is_line_end b ≡ true) × (bytes ≡ encode_utf8_all cs ++ b ∷ rest)
-
-line_end_low : (b : ℕ) → is_line_end b ≡ true → b < 128
-line_end_low b e = grind (arith, nat_tests)
 
 -- its first character, behind which it goes on
 first : (cs : List ℕ) (b : ℕ) (rest : List ℕ) → scalars cs ≡ true → list_all (λ c. not (is_line_end c)) cs ≡ true → is_line_end b ≡ true

@@ -1,4 +1,3 @@
-use Rattle.std.proofs.Common.{Some}
 use Rattle.stream_bench.proofs.Counted.{took}
 use Rattle.stream_bench.proofs.counting.take_one.Goals as goal
 

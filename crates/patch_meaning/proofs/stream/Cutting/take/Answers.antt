@@ -1,7 +1,6 @@
-use Rattle.std.proofs.Common.{ℕ, ◌++◌, List, sym, ap, subst, ◌∙◌, arith, inr}
-use Rattle.std.specs.Prelude.{IfErr, Err}
+use Rattle.std.proofs.Common.{ℕ, ◌++◌, List, sym, ap, subst, ◌∙◌, arith}
 use Rattle.patch_meaning.specs.declared.part.Part.{Part}
-use Rattle.patch_meaning.specs.Cutting.{HasTakenNext, IsTextOf, RefusesStream, checked_of}
+use Rattle.patch_meaning.specs.Cutting.{HasTakenNext, IsTextOf, checked_of}
 use Rattle.patch_meaning.proofs.Splits.{next_piece, part_before, broken_row, taken_behind}
 use Rattle.patch_meaning.proofs.stream.Cutting.take.Goals as goal
 

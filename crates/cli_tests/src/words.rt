@@ -1,5 +1,6 @@
 //! Words as a shell gives them.
-use super::*;
+use command_words::{WordsFault, read_words};
+use std::alloc::{AllocError, Global};
 use std::test::Fail;
 
 fn words_of(alloc: Global, words: &[&str]) -> Result<Vec<String>, AllocError> {

@@ -4,12 +4,12 @@ ghost use Rattle.std.specs.List.{AllByRecursion};
 ghost use Rattle.disk_model.specs.Memory.{memory_mark};
 ghost use Rattle.shared_log.specs.Legal.{IsPassOf};
 
-use crate::{Fetched, LogPass, SharedLog};
 use chain_core::{LogAnswer, LogLimits};
 use delta_base::{Bytes, Id, Listing};
 use disk_model::MemDisk;
 use patch_log::LogState;
 use patch_meaning::{Checked, check_patch};
+use shared_log::{Fetched, LogPass, SharedLog};
 use std::alloc::Global;
 use std::process::Abort;
 use std::sync::Wait;
@@ -180,24 +180,53 @@ fn share_two<R: Wait>(rt: &R, alloc: Global) -> Result<(SharedLog<MemDisk>, Pass
     Ok((log, passes))
 }
 
+// The patch of this version has that text, or the log is that long.
+fn fetches_version<R: Wait + Abort>(
+    rt: &R,
+    log: &SharedLog<MemDisk>,
+    pass: &mut LogPass<MemDisk>,
+    version: u32,
+    text: Result<&[u8], u32>,
+) -> Result<(), Fail>
+    requires { IsPassOf memory_mark log.now pass.old }
+    ensures { IsPassOf memory_mark log.now pass.new }
+{
+    let fetched = log.fetch_version(rt, pass, version)?;
+    assert_eq!(rt; text_of(&fetched), text);
+    Ok(())
+}
+
 #[test]
 fn versions_are_fetched(rt: HostRuntime) -> Result<(), Fail> {
     let (log, mut passes) = share_two(&rt, rt.alloc())?;
-    for (version, text) in [(0, Err(2)), (1, Ok(FIRST)), (2, Ok(SECOND)), (3, Err(2))] {
-        let fetched = log.fetch_version(&rt, &mut passes.two, version)?;
-        assert_eq!(rt; text_of(&fetched), text);
-    }
+    fetches_version(&rt, &log, &mut passes.two, 0, Err(2))?;
+    fetches_version(&rt, &log, &mut passes.two, 1, Ok(FIRST))?;
+    fetches_version(&rt, &log, &mut passes.two, 2, Ok(SECOND))?;
+    fetches_version(&rt, &log, &mut passes.two, 3, Err(2))
+}
+
+// The patch of this id has that text, or the log is that long.
+fn fetches_id<R: Wait + Abort>(
+    rt: &R,
+    log: &SharedLog<MemDisk>,
+    pass: &mut LogPass<MemDisk>,
+    id: Id,
+    text: Result<&[u8], u32>,
+) -> Result<(), Fail>
+    requires { IsPassOf memory_mark log.now pass.old }
+    ensures { IsPassOf memory_mark log.now pass.new }
+{
+    let fetched = log.fetch_id(rt, pass, id)?;
+    assert_eq!(rt; text_of(&fetched), text);
     Ok(())
 }
 
 #[test]
 fn ids_are_fetched(rt: HostRuntime) -> Result<(), Fail> {
     let (log, mut passes) = share_two(&rt, rt.alloc())?;
-    for (id, text) in [(2, Ok(SECOND)), (9, Err(2)), (1, Ok(FIRST))] {
-        let fetched = log.fetch_id(&rt, &mut passes.two, id_of(id))?;
-        assert_eq!(rt; text_of(&fetched), text);
-    }
-    Ok(())
+    fetches_id(&rt, &log, &mut passes.two, id_of(2), Ok(SECOND))?;
+    fetches_id(&rt, &log, &mut passes.two, id_of(9), Err(2))?;
+    fetches_id(&rt, &log, &mut passes.two, id_of(1), Ok(FIRST))
 }
 
 #[test]

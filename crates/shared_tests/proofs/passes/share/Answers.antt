@@ -1,6 +1,6 @@
 use Rattle.std.proofs.Common.{◌≡◌, length, arith}
-use Rattle.shared_log.proofs.Testing.{two_popped}
-use Rattle.shared_log.proofs.tests.share.Goals as goal
+use Rattle.shared_tests.proofs.Testing.{two_popped}
+use Rattle.shared_tests.proofs.passes.share.Goals as goal
 
 pub returns-clause-one : goal.returns-clause-one
 returns-clause-one c =

@@ -3,13 +3,13 @@ ghost use Rattle.std.specs.Prelude.{◌≡◌, ◌<◌, ◌≤◌, ◌^◌, [], 
 ghost use Rattle.disk_model.specs.Memory.{memory_mark};
 ghost use Rattle.shared_log.specs.Legal.{IsPassOf};
 
-use crate::tests::{Passes, close, share};
-use crate::{LogPass, SharedLog};
+use crate::passes::{Passes, close, share};
 use chain_core::LogAnswer;
 use delta_base::{Id, id_text};
 use disk_model::MemDisk;
 use patch_log::LogState;
 use patch_meaning::{Checked, check_patch};
+use shared_log::{LogPass, SharedLog};
 use std::alloc::Global;
 use std::sync::Wait;
 use std::test::Fail;

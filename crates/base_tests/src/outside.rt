@@ -1,40 +1,11 @@
-//! Worked examples: ids from RFC 9562, and objects of the outside that fail in mid-stream.
-use super::*;
+//! Sources, sinks and links, which fail in mid-stream.
+use delta_base::{
+    Bytes, Calls, Failed, Link, Listing, MemLink, MemSink, MemSource, Sink, Source, StdLink,
+    StdSink, StdSource,
+};
 use std::alloc::{AllocError, Global};
 use std::io::Cursor;
 use std::test::Fail;
-
-const OTHER_FORMS: [&str; 4] = [
-    "f81d4fae7dec11d0a76500a0c91e6bf6",
-    "F81D4FAE-7DEC-11D0-A765-00A0C91E6BF6",
-    "{f81d4fae-7dec-11d0-a765-00a0c91e6bf6}",
-    "urn:uuid:f81d4fae-7dec-11d0-a765-00a0c91e6bf6",
-];
-
-#[test]
-fn an_id_has_four_forms_and_is_printed_in_one(rt: HostRuntime) {
-    let id = Id(0xf81d_4fae_7dec_11d0_a765_00a0_c91e_6bf6);
-    for form in OTHER_FORMS {
-        assert_eq!(rt; read_id(form.as_bytes()), Some(id), "{form}");
-    }
-    assert_eq!(rt;
-        id_text(id).as_slice(),
-        b"f81d4fae-7dec-11d0-a765-00a0c91e6bf6".as_slice()
-    );
-}
-
-#[test]
-fn a_text_of_another_length_is_no_id(rt: HostRuntime) {
-    for text in [
-        "",
-        "x",
-        "f81d4fae-7dec-11d0-a765-00a0c91e6bf",
-        "f81d4fae-7dec-11d0-a765-00a0c91e6bfg",
-        "f81d4fae_7dec_11d0_a765_00a0c91e6bf6",
-    ] {
-        assert_eq!(rt; read_id(text.as_bytes()), None, "{text}");
-    }
-}
 
 fn calls(alloc: Global, numbers: &[u64]) -> Result<Calls, AllocError> {
     Ok(Listing::from_vec(Vec::from_slice(alloc, numbers)?))
@@ -114,36 +85,5 @@ fn a_stream_of_std_serves_as_a_link(rt: HostRuntime) -> Result<(), Fail> {
     assert_eq!(rt; link.write(b"xy"), Ok(2));
     assert_eq!(rt; link.read(&mut into), Ok(0));
     assert_eq!(rt; link.faults(), 0);
-    Ok(())
-}
-
-#[test]
-fn a_list_pushes_into_places_that_are_ready(rt: HostRuntime) -> Result<(), Fail> {
-    let mut list: Listing<u8> = Listing::new(rt.alloc());
-    assert!(rt; list.is_empty());
-    list.reserve(2)?;
-    for item in [7, 8] {
-        assert!(rt; list.push(item).is_ok());
-    }
-    assert_eq!(rt; list.len(), 2);
-    assert_eq!(rt; list.get(1), Some(&8));
-    assert_eq!(rt; list.get(2), None);
-    assert_eq!(rt; list.pop(), Some(8));
-    assert_eq!(rt; list.as_slice(), [7].as_slice());
-    assert_eq!(rt; list.into_vec().as_slice(), [7].as_slice());
-    Ok(())
-}
-
-#[test]
-fn texts_and_bytes_are_copied(rt: HostRuntime) -> Result<(), Fail> {
-    let text = Text::from_str(rt.alloc(), "é")?;
-    assert_eq!(rt; text.copy()?.as_str(), "é");
-    assert_eq!(rt; text.len(), 2);
-    assert!(rt; !text.is_empty());
-    let bytes = Bytes::from_vec(Vec::from_slice(rt.alloc(), b"xyz")?);
-    assert_eq!(rt; bytes.copy()?.as_slice(), b"xyz".as_slice());
-    assert_eq!(rt; bytes.len(), 3);
-    assert!(rt; !bytes.is_empty());
-    assert_eq!(rt; bytes.into_vec().as_slice(), b"xyz".as_slice());
     Ok(())
 }

@@ -1,7 +1,7 @@
 //! The first patches, as the format's description writes them.
-use super::*;
 use delta_base::Source;
 use std::test::Fail;
+use stream_generator::{GeneratedSource, patch_text};
 
 const FIRST: &str =
     "H id <uuid:00000000-0000-4000-8000-000000000001> .\nTX .\nA <http://g/s1> <http://g/p1> \"1\" .\nTC .\n";

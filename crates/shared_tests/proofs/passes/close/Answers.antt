@@ -1,6 +1,6 @@
 use Rattle.std.proofs.Common.{◌++◌, ◌∷◌, [], ap, ◌∙◌}
-use Rattle.shared_log.proofs.Testing.{both_numbers}
-use Rattle.shared_log.proofs.tests.close.Goals as goal
+use Rattle.shared_tests.proofs.Testing.{both_numbers}
+use Rattle.shared_tests.proofs.passes.close.Goals as goal
 
 pub close-requires-clause-all : goal.close-requires-clause-all
 close-requires-clause-all c =

@@ -1,6 +1,6 @@
 //! Short texts together, long ones by themselves, and a sink that fails.
-use super::*;
 use delta_base::{Calls, Listing, MemSink, Sink};
+use sink_writing::{PIECE, put, write_all};
 use std::alloc::{AllocError, Global};
 use std::test::Fail;
 

@@ -1,6 +1,0 @@
-use Rattle.disk_model.specs.Memory.{memory_mark}
-use Rattle.shared_log.specs.Legal.{IsPassOf}
-use Rattle.shared_log.proofs.tests.ids_are_fetched.Given as goal
-
-abbrev pub invariant-loop-id : goal.invariant-loop-id
-invariant-loop-id g l = IsPassOf memory_mark l.initial.log-inside.turn l.passes.two

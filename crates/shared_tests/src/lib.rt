@@ -1,0 +1,7 @@
+//! Worked examples of a log that two passes share, and of threads that append to it at once.
+#![tactic(auto)]
+
+#[cfg(test)]
+mod passes;
+#[cfg(test)]
+mod races;
