@@ -1,7 +1,7 @@
 //! Calls that are counted, of which the listed ones fail.
 ghost use Rattle.std.specs.Prelude.{◌≡◌, ◌↔◌, ◌≤◌, Contains, IsErr, OnOk};
 ghost use Rattle.delta_base.specs.Memory.{CountsCall};
-ghost use Rattle.delta_base.specs.Outside.{HasCause, Rose};
+ghost use Rattle.delta_base.specs.Outside.{CountsFault, HasCause, Rose};
 
 use crate::fault::Failed;
 use crate::list::Calls;
@@ -29,7 +29,7 @@ impl CallCount {
     /// Counts one call more, which fails where it is listed.
     pub fn start(&mut self) -> Result<(), Failed>
         ensures listed { IsErr result ↔ Contains self.old.failing.items self.old.calls }
-        ensures faults { OnOk result (self.new.faults ≡ self.old.faults) }
+        ensures faults { CountsFault self.old.faults self.new.faults result }
         ensures cause { HasCause self.old.faults self.new.faults result }
         ensures next { CountsCall self.old.calls self.new.calls }
         ensures failing { self.new.failing ≡ self.old.failing }
@@ -46,6 +46,7 @@ impl CallCount {
     pub fn fail(&mut self) -> Failed
         ensures never_falls { self.old.faults ≤ self.new.faults }
         ensures rose { Rose self.old.faults self.new.faults }
+        ensures one { CountsCall self.old.faults self.new.faults }
         ensures calls { self.new.calls ≡ self.old.calls }
         ensures failing { self.new.failing ≡ self.old.failing }
     {

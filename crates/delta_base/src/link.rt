@@ -3,7 +3,7 @@ ghost use Rattle.std.specs.Prelude.{◌≡◌, ◌↔◌, ◌<◌, ◌≤◌, []
 ghost use Rattle.std.specs.Io.KnownBytes.{ReadConsumes, WriteAppends};
 ghost use Rattle.delta_base.specs.Counted.{Counted};
 ghost use Rattle.delta_base.specs.Memory.{CountsOnLink};
-ghost use Rattle.delta_base.specs.Outside.{HasCause};
+ghost use Rattle.delta_base.specs.Outside.{CountsFault, HasCause};
 
 use crate::count::CallCount;
 use crate::fault::Failed;
@@ -31,7 +31,8 @@ pub trait Link {
         ensures bound { IfOk result (λ n. n ≤ length into.new) }
         ensures bytes { ReadConsumes (left self.old) (left self.new) result into.new }
         ensures keeps { sent self.new ≡ sent self.old }
-        ensures cause { HasCause (faults self.old) (faults self.new) result };
+        ensures cause { HasCause (faults self.old) (faults self.new) result }
+        ensures faults { CountsFault (faults self.old) (faults self.new) result };
 
     /// Sends the first bytes, at least one where there is one, and says how many. Where it fails it sends none. What is
     /// left to be read stays.
@@ -40,7 +41,8 @@ pub trait Link {
         ensures some { IfOk result (λ n. 0 < length bytes.now → 0 < n) }
         ensures bytes { WriteAppends (sent self.old) (sent self.new) result bytes.now }
         ensures keeps { left self.new ≡ left self.old }
-        ensures cause { HasCause (faults self.old) (faults self.new) result };
+        ensures cause { HasCause (faults self.old) (faults self.new) result }
+        ensures faults { CountsFault (faults self.old) (faults self.new) result };
 
     fn faults(&self) -> u64
         ensures { result ≡ faults self.now };
@@ -119,7 +121,7 @@ impl Link for MemLink {
         // Exactly the listed calls fail.
         ensures listed { IsErr result ↔ Contains self.old.failing self.old.calls }
         ensures piece { IfOk result (λ n. n ≤ self.old.piece) }
-        ensures faults { OnOk result (self.new.faults ≡ self.old.faults) }
+        ensures faults { CountsFault self.old.faults self.new.faults result }
         ensures next { CountsOnLink self.old self.new }
     {
         self.count.start()?;
@@ -138,7 +140,7 @@ impl Link for MemLink {
         // The listed calls fail; another one takes all, unless it finds no memory.
         ensures listed { Contains self.old.failing self.old.calls → IsErr result }
         ensures whole { IfOk result (λ n. n ≡ length bytes.now) }
-        ensures faults { OnOk result (self.new.faults ≡ self.old.faults) }
+        ensures faults { CountsFault self.old.faults self.new.faults result }
         ensures next { CountsOnLink self.old self.new }
     {
         self.count.start()?;

@@ -1,7 +1,7 @@
 //! A source and a sink in memory, whose listed calls fail.
 ghost use Rattle.std.specs.Prelude.{◌≡◌, ◌↔◌, ◌+◌, ◌<◌, ◌≤◌, [], length, take, Contains, Some, IsErr, IfOk, OnOk};
 ghost use Rattle.std.specs.Io.KnownBytes.{ReadConsumes, WriteAppends};
-ghost use Rattle.delta_base.specs.Outside.{HasCause};
+ghost use Rattle.delta_base.specs.Outside.{CountsFault, HasCause};
 ghost use Rattle.delta_base.specs.Memory.{CountsOn, CountsOnWrites};
 
 use crate::count::CallCount;
@@ -85,7 +85,7 @@ impl Source for MemSource {
         // Exactly the listed calls fail.
         ensures listed { IsErr result ↔ Contains self.old.failing self.old.calls }
         ensures piece { IfOk result (λ n. n ≤ self.old.piece) }
-        ensures faults { OnOk result (self.new.faults ≡ self.old.faults) }
+        ensures faults { CountsFault self.old.faults self.new.faults result }
         ensures next { CountsOn self.old self.new }
     {
         self.count.start()?;
@@ -154,7 +154,7 @@ impl Sink for MemSink {
         // The listed calls fail; another one takes all, unless it finds no memory.
         ensures listed { Contains self.old.failing self.old.calls → IsErr result }
         ensures whole { IfOk result (λ n. n ≡ length bytes.now) }
-        ensures faults { OnOk result (self.new.faults ≡ self.old.faults) }
+        ensures faults { CountsFault self.old.faults self.new.faults result }
         ensures next { CountsOnWrites self.old self.new }
     {
         self.count.start()?;

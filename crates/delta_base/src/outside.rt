@@ -1,10 +1,10 @@
 //! Where bytes come from and where they go.
 //!
-//! Each object of the outside counts its failed calls: `faults` never falls, and a call answers `Failed` only where
-//! it rose in that call. What an object tells of its bytes is for contracts alone.
+//! Each object of the outside counts its failed calls, and no others: so `faults` never falls, and a call answers `Failed` only
+//! where it rose in that call. What an object tells of its bytes is for contracts alone.
 ghost use Rattle.std.specs.Prelude.{◌≡◌, ◌<◌, ◌≤◌, List, ℕ, Option, length, IfOk};
 ghost use Rattle.std.specs.Io.KnownBytes.{ReadConsumes, WriteAppends};
-ghost use Rattle.delta_base.specs.Outside.{HasCause};
+ghost use Rattle.delta_base.specs.Outside.{CountsFault, HasCause};
 
 use crate::fault::Failed;
 
@@ -21,7 +21,8 @@ pub trait Source {
     fn read(&mut self, into: &mut [u8]) -> Result<usize, Failed>
         ensures bound { IfOk result (λ n. n ≤ length into.new) }
         ensures bytes { ReadConsumes (left self.old) (left self.new) result into.new }
-        ensures cause { HasCause (faults self.old) (faults self.new) result };
+        ensures cause { HasCause (faults self.old) (faults self.new) result }
+        ensures faults { CountsFault (faults self.old) (faults self.new) result };
 
     fn faults(&self) -> u64
         ensures { result ≡ faults self.now };
@@ -40,7 +41,8 @@ pub trait Sink {
         ensures bound { IfOk result (λ n. n ≤ length bytes.now) }
         ensures some { IfOk result (λ n. 0 < length bytes.now → 0 < n) }
         ensures bytes { WriteAppends (written self.old) (written self.new) result bytes.now }
-        ensures cause { HasCause (faults self.old) (faults self.new) result };
+        ensures cause { HasCause (faults self.old) (faults self.new) result }
+        ensures faults { CountsFault (faults self.old) (faults self.new) result };
 
     fn faults(&self) -> u64
         ensures { result ≡ faults self.now };

@@ -1,7 +1,7 @@
 //! A file as the layers above see it: what a read gives, and what a crash may leave.
 ghost use Rattle.std.specs.Prelude.{◌≡◌, ◌≤◌, ℕ, Bool, false, None, List, Option, length, IfOk, OnOk, OnErr, is_ok, if◌then◌else◌};
 ghost use Rattle.std.specs.Result.{result_unwrap_or};
-ghost use Rattle.delta_base.specs.Outside.{HasCause};
+ghost use Rattle.delta_base.specs.Outside.{CountsFault, HasCause};
 ghost use Rattle.disk_model.specs.Past.{Past, wrote, synced, reads, MayLeave};
 ghost use Rattle.disk_model.specs.Calls.{ReadsAt, WroteSome, counted, KeepsPlan, TakesPlan};
 
@@ -41,6 +41,7 @@ pub trait Disk {
         ensures past { past self.new ≡ past self.old }
         ensures read_bytes { read_bytes self.new ≡ read_bytes self.old }
         ensures cause { HasCause (faults self.old) (faults self.new) result }
+        ensures faults { CountsFault (faults self.old) (faults self.new) result }
         ensures planned { plans → KeepsPlan (short self.old) (short self.new) (next_failure self.old) (next_failure self.new) result }
         ensures mark { mark self.new ≡ mark self.old };
 
@@ -51,6 +52,7 @@ pub trait Disk {
         ensures past { past self.new ≡ past self.old }
         ensures read_bytes { tells → read_bytes self.new ≡ (if is_ok result then counted (read_bytes self.old) (result_unwrap_or result 0) else read_bytes self.old) }
         ensures cause { HasCause (faults self.old) (faults self.new) result }
+        ensures faults { CountsFault (faults self.old) (faults self.new) result }
         ensures planned { plans → KeepsPlan (short self.old) (short self.new) (next_failure self.old) (next_failure self.new) result }
         ensures mark { mark self.new ≡ mark self.old };
 
@@ -61,6 +63,7 @@ pub trait Disk {
         ensures err { tells → OnErr result (WroteSome at (length bytes.now) (past self.old) (past self.new)) }
         ensures read_bytes { read_bytes self.new ≡ read_bytes self.old }
         ensures cause { HasCause (faults self.old) (faults self.new) result }
+        ensures faults { CountsFault (faults self.old) (faults self.new) result }
         ensures planned { plans → KeepsPlan (short self.old) (short self.new) (next_failure self.old) (next_failure self.new) result }
         ensures mark { mark self.new ≡ mark self.old };
 
@@ -70,6 +73,7 @@ pub trait Disk {
         ensures err { tells → OnErr result (past self.new ≡ past self.old) }
         ensures read_bytes { read_bytes self.new ≡ read_bytes self.old }
         ensures cause { HasCause (faults self.old) (faults self.new) result }
+        ensures faults { CountsFault (faults self.old) (faults self.new) result }
         ensures planned { plans → TakesPlan (short self.old) (short self.new) (next_failure self.old) (next_failure self.new) result }
         ensures mark { mark self.new ≡ mark self.old };
 

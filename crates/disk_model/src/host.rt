@@ -1,6 +1,6 @@
 //! A disk over a file of the system. No contract says what such a file holds, so it tells nothing.
 ghost use Rattle.std.specs.Prelude.{◌≡◌, ◌≤◌, length, IfOk, None, []};
-ghost use Rattle.delta_base.specs.Outside.{HasCause};
+ghost use Rattle.delta_base.specs.Outside.{CountsFault, HasCause};
 ghost use Rattle.disk_model.specs.Past.{began};
 
 use crate::disk::Disk;
@@ -26,6 +26,7 @@ impl HostDisk {
     fn noted<T: Drop>(&mut self, answer: io::Result<T>) -> Result<T, Failed>
         ensures value { IfOk result (λ value. answer ≡ Ok value) }
         ensures cause { HasCause self.old.faults self.new.faults result }
+        ensures faults { CountsFault self.old.faults self.new.faults result }
     {
         match answer {
             Ok(value) => Ok(value),

@@ -3,7 +3,7 @@ ghost use Rattle.std.specs.Prelude.{◌≡◌, ◌↔◌, ◌⊎◌, ◌≤◌, 
 ghost use Rattle.disk_model.specs.Past.{Past, MayLeave, reads, overwritten, began, wrote, synced, is_orderly, image_of, left_as};
 ghost use Rattle.disk_model.specs.Replay.{replayed, after};
 ghost use Rattle.disk_model.specs.Calls.{ReadsAt, counted};
-ghost use Rattle.delta_base.specs.Outside.{HasCause};
+ghost use Rattle.delta_base.specs.Outside.{CountsFault, HasCause};
 ghost use Rattle.std.specs.Result.{result_unwrap_or};
 
 use crate::disk::Disk;
@@ -250,6 +250,7 @@ impl Disk for MemDisk {
         ensures past { memory_past self.new ≡ memory_past self.old }
         ensures read_bytes { self.new.read ≡ self.old.read }
         ensures cause { HasCause self.old.faults self.new.faults result }
+        ensures faults { CountsFault self.old.faults self.new.faults result }
         ensures mark { memory_mark self.new ≡ memory_mark self.old }
         ensures counts { CountsCall self.old self.new }
 
@@ -269,6 +270,7 @@ impl Disk for MemDisk {
         ensures past { memory_past self.new ≡ memory_past self.old }
         ensures read_bytes { self.new.read ≡ (if is_ok result then counted self.old.read (result_unwrap_or result 0) else self.old.read) }
         ensures cause { HasCause self.old.faults self.new.faults result }
+        ensures faults { CountsFault self.old.faults self.new.faults result }
         ensures mark { memory_mark self.new ≡ memory_mark self.old }
         ensures counts { CountsCall self.old self.new }
 
@@ -294,6 +296,7 @@ impl Disk for MemDisk {
         ensures err { OnErr result ((memory_past self.new ≡ memory_past self.old) ⊎ (memory_past self.new ≡ wrote (memory_past self.old) at bytes.now)) }
         ensures read_bytes { self.new.read ≡ self.old.read }
         ensures cause { HasCause self.old.faults self.new.faults result }
+        ensures faults { CountsFault self.old.faults self.new.faults result }
         ensures mark { memory_mark self.new ≡ memory_mark self.old }
         ensures counts { CountsCall self.old self.new }
         ensures fails { IsTrue (fails_next self.old) → IsErr result }
@@ -313,6 +316,7 @@ impl Disk for MemDisk {
         ensures err { OnErr result (memory_past self.new ≡ memory_past self.old) }
         ensures read_bytes { self.new.read ≡ self.old.read }
         ensures cause { HasCause self.old.faults self.new.faults result }
+        ensures faults { CountsFault self.old.faults self.new.faults result }
         ensures mark { memory_mark self.new ≡ memory_mark self.old }
         ensures counts { CountsCall self.old self.new }
         ensures fails { IsTrue (fails_next self.old) → IsErr result }

@@ -145,6 +145,9 @@ impl Shelf for MemShelf {
         ensures others { SameOthers (Some (dir.now, number)) (shelf_files self.old) (shelf_files self.new) }
         ensures never_falls { self.old.faults ≤ self.new.faults }
         ensures cause { IsErrOf result ShelfFault.Failed → Rose self.old.faults self.new.faults }
+        ensures one { IsErrOf result ShelfFault.Failed → self.new.faults ≡ counted self.old.faults 1 }
+        ensures well { OnOk result (self.new.faults ≡ self.old.faults) }
+        ensures memory { IsErrOf result ShelfFault.OutOfMemory → self.new.faults ≡ self.old.faults }
 
         // Exactly a call that is to fail fails.
         ensures fails { IsErrOf result ShelfFault.Failed ↔ Contains self.old.failing.items self.old.calls }

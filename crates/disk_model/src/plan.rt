@@ -1,6 +1,6 @@
 //! A disk in memory whose syncs fail as planned.
 ghost use Rattle.std.specs.Prelude.{◌≡◌, true, false, None, [], IfOk, IsOk, IsErr};
-ghost use Rattle.delta_base.specs.Outside.{HasCause};
+ghost use Rattle.delta_base.specs.Outside.{CountsFault, HasCause};
 ghost use Rattle.disk_model.specs.Past.{began, image_of};
 
 use crate::disk::{Disk, Planned};
@@ -47,6 +47,7 @@ impl PlanDisk {
         ensures ok { IsOk answer → self.new ≡ self.old }
         ensures err { IsErr answer → self.new ≡ record self.old { faults = self.new.faults; short = true } }
         ensures cause { HasCause self.old.faults self.new.faults result }
+        ensures faults { CountsFault self.old.faults self.new.faults result }
     {
         if answer.is_err() {
             self.faults = self.faults.saturating_add(1);

@@ -1,6 +1,7 @@
 //! Where the disks of files come from.
 ghost use Rattle.std.specs.Prelude.{◌≡◌, ℕ, ◌<◌, ◌≤◌, List, [], Option, Some, unwrap_or, IfOk, OnOk, OnErr, IsErrOf};
 ghost use Rattle.delta_base.specs.Outside.{Rose};
+ghost use Rattle.disk_model.specs.Calls.{counted};
 ghost use Rattle.disk_model.specs.Past.{began, reads};
 ghost use Rattle.disk_model.specs.Shelf.{SameOthers};
 ghost use Rattle.disk_model.specs.declared.shelf.ShelfFault.TheVariants as fault;
@@ -41,7 +42,12 @@ pub trait Shelf {
         ensures refused { tells → OnErr result (files self.new dir.now number ≡ files self.old dir.now number) }
         ensures others { tells → SameOthers (Some (dir.now, number)) (files self.old) (files self.new) }
         ensures never_falls { faults self.old ≤ faults self.new }
-        ensures cause { IsErrOf result ShelfFault.Failed → Rose (faults self.old) (faults self.new) };
+        ensures cause { IsErrOf result ShelfFault.Failed → Rose (faults self.old) (faults self.new) }
+
+        // A call that fails counts one fault more, and another one counts none.
+        ensures one { IsErrOf result ShelfFault.Failed → faults self.new ≡ counted (faults self.old) 1 }
+        ensures well { OnOk result (faults self.new ≡ faults self.old) }
+        ensures memory { IsErrOf result ShelfFault.OutOfMemory → faults self.new ≡ faults self.old };
 
     /// The file of the disk's mark has then what the disk read.
     fn put_back(&mut self, disk: Self::D)
@@ -49,6 +55,7 @@ pub trait Shelf {
         ensures others { tells → SameOthers (Self.D.mark disk) (files self.old) (files self.new) }
         ensures never_falls { faults self.old ≤ faults self.new }
         ensures rises { 0 < Self.D.faults disk → Rose (faults self.old) (faults self.new) }
+        ensures one { 0 < Self.D.faults disk → faults self.new ≡ counted (faults self.old) 1 }
         ensures stays { Self.D.faults disk ≡ 0 → faults self.new ≡ faults self.old };
 
     /// Where it tells its files, its disks tell their bytes.

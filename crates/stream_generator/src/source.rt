@@ -1,7 +1,7 @@
 //! The stream as a source.
 ghost use Rattle.std.specs.Prelude.{◌≡◌, ◌-◌, ◌<◌, ◌≤◌, ◌^◌, ◌++◌, [], Some, take, length, vec_len, IfOk, OnOk};
 ghost use Rattle.std.specs.Io.KnownBytes.{ReadConsumes};
-ghost use Rattle.delta_base.specs.Outside.{HasCause};
+ghost use Rattle.delta_base.specs.Outside.{CountsFault, HasCause};
 ghost use Rattle.stream_generator.specs.Generator.{stream_text};
 ghost use Rattle.stream_generator.specs.Cursor.{IsWithin, rest_of};
 
@@ -106,6 +106,7 @@ impl Source for GeneratedSource {
         ensures bound { IfOk result (λ n. n ≤ length into.new) }
         ensures bytes { ReadConsumes (Some self.old.left) (Some self.new.left) result into.new }
         ensures cause { HasCause self.old.faults self.new.faults result }
+        ensures faults { CountsFault self.old.faults self.new.faults result }
     {
         if self.cursor.make(self.alloc).is_err() {
             self.faults = self.faults.saturating_add(1);
