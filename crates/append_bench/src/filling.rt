@@ -1,8 +1,13 @@
 //! Fills a new journal.
-ghost use Rattle.std.specs.Prelude.{◌≡◌, ℕ, ◌++◌, ◌<◌, ◌≤◌, ◌^◌, List, length, replicate, IsTrue, OnOk, IsErrOf};
+ghost use Rattle.std.specs.Prelude.{◌≡◌, ℕ, ◌+◌, ◌*◌, ◌++◌, ◌<◌, ◌≤◌, ◌^◌, [], List, Some, false, length, replicate, IsTrue, IfOk, OnOk, IsErrOf};
 ghost use Rattle.delta_base.specs.Outside.{Rose};
-ghost use Rattle.log_journal.specs.StandsFor.{StandsFor, is_settled, disk_of};
+ghost use Rattle.disk_model.specs.Past.{reads};
+ghost use Rattle.disk_model.specs.Shelf.{SameOthers};
+ghost use Rattle.log_journal.specs.File.{file_of};
+ghost use Rattle.log_journal.specs.StandsFor.{StandsFor, is_settled, length_of, limit_of, disk_of};
 ghost use Rattle.log_journal.specs.Payload.{payload_of};
+ghost use Rattle.slot_files.specs.Files.{bytes_at, KeepsFull};
+ghost use Rattle.append_bench.specs.Filled.{FillsFirst, AreFull};
 ghost use Rattle.append_bench.specs.declared.filling.FillFault.TheVariants as fault;
 
 use delta_base::{OutOfMemory, Text};
@@ -16,8 +21,6 @@ const NUMBERS: u32 = 10_000;
 #[derive(Clone, Copy, Debug, PartialEq, Eq)]
 pub enum FillFault {
     Failed,
-    /// The journal got too long.
-    Full,
     /// Each number has a file with bytes.
     NoNumber,
     OutOfMemory,
@@ -31,24 +34,30 @@ impl From<OutOfMemory> for FillFault {
     }
 }
 
-// Appends a payload some times.
+// Appends a payload of 200 bytes some times.
 fn append_all<D: Disk>(journal: &mut Journal<D>, block: &Block, count: u32) -> Result<(), FillFault>
-    requires { IsTrue (is_settled journal.old) }
+    requires settled { IsTrue (is_settled journal.old) }
+    requires size { length (payload_of block.now) ≡ 200 }
+    requires room { length_of journal.old + 205 * count ≤ limit_of journal.old }
     ensures ok { OnOk result ((number : ℕ) (payloads : List (List ℕ)) → StandsFor journal.old number payloads → StandsFor journal.new number (payloads ++ replicate count (payload_of block.now))) }
+    ensures ends { D.tells → (number : ℕ) (payloads : List (List ℕ)) → StandsFor journal.old number payloads → reads (D.past (disk_of journal.old)) ≡ file_of number payloads
+        → OnOk result (reads (D.past (disk_of journal.new)) ≡ file_of number (payloads ++ replicate count (payload_of block.now))) }
+    ensures other_fault { IsErrOf result FillFault.NoNumber → ⊥ }
     ensures cause { IsErrOf result FillFault.Failed → Rose (D.faults (disk_of journal.old)) (D.faults (disk_of journal.new)) }
     ensures faults { D.faults (disk_of journal.old) ≤ D.faults (disk_of journal.new) }
+    ensures mark { D.mark (disk_of journal.new) ≡ D.mark (disk_of journal.old) }
 {
     for _ in 0..count {
         match journal.append(block) {
             Ok(()) => {}
             Err(AppendFault::Failed) => return Err(FillFault::Failed),
-            Err(AppendFault::Full { .. }) => return Err(FillFault::Full),
+            Err(AppendFault::Full { .. }) => unreachable!(),
         }
     }
     Ok(())
 }
 
-// Whether the file was empty, and is now a journal with some payloads.
+// Whether the file was empty, and is now a journal with some payloads. A file that has bytes is left as it is.
 fn fill<H: Shelf>(
     shelf: &mut H,
     dir: &Text,
@@ -56,6 +65,12 @@ fn fill<H: Shelf>(
     block: &Block,
     count: u32,
 ) -> Result<bool, FillFault>
+    requires { length (payload_of block.now) ≡ 200 }
+    ensures filled { H.tells → IfOk result (λ was_empty. IsTrue was_empty → (bytes_at (H.files shelf.old) dir.now number ≡ []) × (H.files shelf.new dir.now number ≡ Some (file_of number (replicate count (payload_of block.now))))) }
+    ensures full { H.tells → IfOk result (λ was_empty. was_empty ≡ false → 0 < length (bytes_at (H.files shelf.old) dir.now number)) }
+    ensures other_fault { IsErrOf result FillFault.NoNumber → ⊥ }
+    ensures kept { H.tells → 0 < length (bytes_at (H.files shelf.old) dir.now number) → H.files shelf.new dir.now number ≡ H.files shelf.old dir.now number }
+    ensures others { H.tells → SameOthers (Some (dir.now, number)) (H.files shelf.old) (H.files shelf.new) }
     ensures cause { IsErrOf result FillFault.Failed → Rose (H.faults shelf.old) (H.faults shelf.new) }
     ensures faults { H.faults shelf.old ≤ H.faults shelf.new }
 {
@@ -88,6 +103,9 @@ pub fn fill_new_file<H: Shelf>(
     dir: &Text,
     count: u32,
 ) -> Result<(), FillFault>
+    ensures ok { H.tells → OnOk result (FillsFirst dir.now (replicate count (replicate 200 120)) (H.files shelf.old) (H.files shelf.new)) }
+    ensures no_number { H.tells → IsErrOf result FillFault.NoNumber → AreFull dir.now 10_000 (H.files shelf.old) }
+    ensures kept { H.tells → KeepsFull dir.now (H.files shelf.old) (H.files shelf.new) }
     ensures cause { IsErrOf result FillFault.Failed → Rose (H.faults shelf.old) (H.faults shelf.new) }
     ensures faults { H.faults shelf.old ≤ H.faults shelf.new }
 {
