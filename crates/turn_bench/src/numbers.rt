@@ -1,6 +1,6 @@
 //! The smallest value that a turn takes: numbers, each with the pass that added it.
-ghost use Rattle.std.specs.Prelude.{◌≡◌, ◌≤◌, ◌++◌, ◌∷◌, [], ◌⊎◌, IfOk, length, vec_len};
-ghost use Rattle.turn_bench.specs.Added.{added};
+ghost use Rattle.std.specs.Prelude.{◌≡◌, ◌≤◌, ◌++◌, ◌∷◌, [], ◌⊎◌, IfOk, length, filter, ◌==◌, vec_len, vec_capacity};
+ghost use Rattle.turn_bench.specs.Added.{HasAdded, IsRefused};
 
 use delta_base::OutOfMemory;
 use std::alloc::Global;
@@ -15,7 +15,7 @@ pub struct Numbers {
 impl Numbers {
     /// No numbers, and room for so many.
     pub fn with_room(alloc: Global, room: usize) -> Result<Numbers, OutOfMemory>
-        ensures { IfOk result (λ n. n.entries.items ≡ []) }
+        ensures { IfOk result (λ n. (n.entries.items ≡ []) × (room ≤ vec_capacity n.entries) × (n.faults ≡ 0)) }
     {
         Ok(Numbers {
             entries: Vec::with_capacity(alloc, room)?,
@@ -31,7 +31,7 @@ impl Numbers {
 
     /// Adds a number, or counts a fault where there is no room.
     pub fn add(&mut self, number: u64, by: u32)
-        ensures entries { (self.new.entries.items ≡ self.old.entries.items) ⊎ (self.new.entries.items ≡ self.old.entries.items ++ added number by ∷ []) }
+        ensures added { HasAdded number by self.old self.new ⊎ IsRefused self.old self.new }
         ensures faults { self.old.faults ≤ self.new.faults }
     {
         let entry = Entry {
@@ -44,7 +44,9 @@ impl Numbers {
     }
 
     /// How many were added by the pass of this number.
-    pub fn count_by(&self, number: u32) -> usize {
+    pub fn count_by(&self, number: u32) -> usize
+        ensures { result ≡ length (filter (λ entry. entry.by == number) self.now.entries.items) }
+    {
         self.entries.iter().filter(|e| e.by == number).count()
     }
 }

@@ -1,6 +1,7 @@
 //! Threads that take the turn, each with a pass of its own.
-ghost use Rattle.std.specs.Prelude.{◌≡◌, ◌<◌, ◌≤◌, ◌+◌, ◌*◌, ◌^◌, All, length, vec_len};
+ghost use Rattle.std.specs.Prelude.{◌≡◌, ◌<◌, ◌≤◌, ◌+◌, ◌*◌, ◌^◌, [], All, IfOk, length, vec_len};
 ghost use Rattle.turn_cell.specs.Sights.{AreOf, AreAll};
+ghost use Rattle.turn_cell.specs.Turns.{Continues};
 ghost use Rattle.turn_bench.specs.After.{IsIdle, IsAfter, AreAfter};
 
 use crate::numbers::Numbers;
@@ -11,7 +12,7 @@ use std::thread;
 use std::thread::Threads;
 use turn_cell::{Pass, Turn};
 
-/// The numbers that so many threads add, each in so many stays, one number a stay.
+/// The numbers that so many threads add, each in so many stays, one number a stay. Nobody else has added any.
 pub fn race<R: Threads + Wait + Sync>(
     rt: &R,
     alloc: Global,
@@ -19,6 +20,7 @@ pub fn race<R: Threads + Wait + Sync>(
     stays: u32,
 ) -> Result<Numbers, OutOfMemory>
     requires { (0 < threads) × (threads ≤ 16) }
+    ensures { IfOk result (λ numbers. Continues [] threads numbers.entries.items) }
 {
     let room = threads as usize * stays as usize;
     let numbers = Numbers::with_room(alloc, room)?;
@@ -35,7 +37,7 @@ fn stay_each<R: Threads + Wait + Sync>(
     stays: u32,
 )
     requires { All (IsIdle turn.now.cell) passes.old }
-    ensures { AreAfter passes.old passes.new }
+    ensures { AreAfter stays passes.old passes.new }
 {
     thread::for_each_mut(
         rt,
@@ -43,7 +45,7 @@ fn stay_each<R: Threads + Wait + Sync>(
         16,
         &|_place: usize, pass: &mut Pass<Numbers>|
             requires { IsIdle turn.now.cell pass.old }
-            ensures { IsAfter pass.old pass.new }
+            ensures { IsAfter stays pass.old pass.new }
         { stay_often(rt, turn, pass, stays) },
     );
 }
@@ -51,7 +53,7 @@ fn stay_each<R: Threads + Wait + Sync>(
 // So many stays, in each of which the pass adds a number.
 fn stay_often<R: Wait>(rt: &R, turn: &Turn<Numbers>, pass: &mut Pass<Numbers>, stays: u32)
     requires { IsIdle turn.now.cell pass.old }
-    ensures { IsAfter pass.old pass.new }
+    ensures { IsAfter stays pass.old pass.new }
 {
     for number in 0..stays {
         stay(rt, turn, pass, u64::from(number));
@@ -61,7 +63,7 @@ fn stay_often<R: Wait>(rt: &R, turn: &Turn<Numbers>, pass: &mut Pass<Numbers>, s
 // One stay, in which the pass adds a number.
 fn stay<R: Wait>(rt: &R, turn: &Turn<Numbers>, pass: &mut Pass<Numbers>, number: u64)
     requires { IsIdle turn.now.cell pass.old }
-    ensures { IsAfter pass.old pass.new }
+    ensures { IsAfter 1 pass.old pass.new }
 {
     let by = pass.number();
     let mut held = turn.enter(rt, pass);

@@ -1,0 +1,20 @@
+use Rattle.std.proofs.Common.{ap, ◌∙◌}
+use Rattle.turn_bench.specs.declared.numbers.Numbers.{Numbers}
+use Rattle.turn_bench.proofs.Stays.{stayed}
+use Rattle.turn_bench.proofs.race.stay.Goals as goal
+
+pub returns : goal.returns
+returns g c =
+    let e = c.enter-held.ensures in
+    let l = c.leave.ensures in
+    let found = c.value_mut.ensures.value in
+    let seen = ap (λ (v : Numbers). v.entries.items) found ∙ e.entries in
+    let own = stayed c.number-by.result c.args.number c.args.pass.now c.enter-held.new.pass c.leave.new.pass c.enter-held.result.was c.value_mut.result.now c.add.new.self
+    c.number-by.ensures e.same e.quiet (found ∙ e.value) seen e.own l.same.0 l.entries l.own l.faults c.add.ensures.added in
+    record {
+      idle = (l.same.0.0 ∙ e.same.0, l.same.1, l.same.0.5 ∙ (e.same.5 ∙ c.requires.2));
+      number = l.same.0.3 ∙ e.same.3;
+      looks = l.same.2 ∙ e.looks;
+      adds = own.0;
+      faults = own.1;
+    }
