@@ -1,7 +1,7 @@
 -- A log: a chain, and the patch whose gate may stand open on its disk.
 use Rattle.std.specs.Prelude.{◌≤◌, List, [], ◌∷◌, ◌++◌, length, Option, Some, None, Bool, if◌then◌else◌}
 use Rattle.std.specs.List.{AllByRecursion}
-use Rattle.chain_core.specs.declared.limits.LogLimits.{LogLimits}
+use Rattle.delta_base.specs.declared.limits.LogLimits.{LogLimits}
 use Rattle.chain_core.specs.declared.chain.Patch.{Patch}
 use Rattle.chain_core.specs.Links.{IsChain}
 use Rattle.chain_core.specs.Patches.{links_of, journal_length}

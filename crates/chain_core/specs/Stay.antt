@@ -1,6 +1,6 @@
 -- One stay in a log's turn: what an append makes of the log.
 use Rattle.std.specs.Prelude.{◌≡◌, ℕ, ◌+◌, List, [], ◌∷◌, ◌++◌, length, Option, Some, None, if◌then◌else◌}
-use Rattle.chain_core.specs.declared.limits.LogLimits.{LogLimits}
+use Rattle.delta_base.specs.declared.limits.LogLimits.{LogLimits}
 use Rattle.chain_core.specs.declared.chain.Patch.{Patch}
 use Rattle.delta_base.specs.declared.phase.Phase.{Phase}
 use Rattle.delta_base.specs.declared.phase.Phase.TheVariants.{Settling, Body, Gate}

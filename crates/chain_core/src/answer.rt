@@ -1,6 +1,5 @@
 //! What is decided of a patch, and what an append answers.
-use crate::limits::FullKind;
-use delta_base::Id;
+use delta_base::{FullKind, Id};
 
 /// What a chain makes of one more patch.
 #[derive(Clone, Copy, Debug, PartialEq, Eq)]

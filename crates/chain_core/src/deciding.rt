@@ -5,9 +5,8 @@ ghost use Rattle.chain_core.specs.Decision.{decision, version_named};
 
 use crate::answer::Decision;
 use crate::chain::{Chain, Patch};
-use crate::limits::{FullKind, LogLimits};
 use crate::link::Link;
-use delta_base::Id;
+use delta_base::{FullKind, Id, LogLimits};
 
 /// Where a chain has a patch's id, and the version that the patch names as the one before it.
 #[derive(Clone, Copy, Debug, PartialEq, Eq)]

@@ -4,7 +4,7 @@ ghost use Rattle.chain_core.specs.declared.link.Link.{Link};
 ghost use Rattle.chain_core.specs.declared.testing.ChainFault.{ChainFault};
 ghost use Rattle.chain_core.specs.Links.{IsChain};
 ghost use Rattle.chain_core.specs.Breaks.{Breaks};
-ghost use Rattle.chain_core.specs.declared.limits.LogLimits.{LogLimits};
+ghost use Rattle.delta_base.specs.declared.limits.LogLimits.{LogLimits};
 ghost use Rattle.chain_core.specs.declared.chain.Patch.{Patch};
 ghost use Rattle.chain_core.specs.declared.fate.Fate.{Fate};
 ghost use Rattle.chain_core.specs.Log.{LogPoint, IsPoint, stopped, opened_again};

@@ -12,3 +12,8 @@ phase_by_syncs (Some doubtful) (suc (suc (suc more))) = None
 phase_by_syncs None zero = Some Body
 phase_by_syncs None (suc zero) = Some Gate
 phase_by_syncs None (suc (suc more)) = None
+
+-- the phase that fails where no sync is to fail but the one behind so many, if there is one
+abbrev pub phase_by_plan : {T : Type 0} → Option T → Option ℕ → Option Phase
+phase_by_plan doubt None = None
+phase_by_plan doubt (Some behind) = phase_by_syncs doubt behind

@@ -92,16 +92,17 @@ impl<T> Listing<T> {
         ensures ready { 0 < self.old.spare → IsOk result }
         ensures spare { 0 < self.old.spare → self.new.spare + 1 ≡ self.old.spare }
         ensures back { IfErr result (λ back. back.item ≡ item) }
-        ensures err { OnErr result (self.new.items ≡ self.old.items) }
+        ensures err { OnErr result (self.new ≡ self.old) }
     {
         if self.items.len() < self.items.capacity() {
             self.items.push_reserved(item);
             return Ok(());
         }
-        match self.items.push(item) {
-            Ok(()) => Ok(()),
-            Err(failed) => Err(Back { item: failed.value }),
+        if self.items.reserve(1).is_err() {
+            return Err(Back { item });
         }
+        self.items.push_reserved(item);
+        Ok(())
     }
 
     /// Takes the last item, whose place stays ready.
@@ -113,10 +114,12 @@ impl<T> Listing<T> {
         self.items.pop()
     }
 
-    /// Makes places ready for as many more items.
+    /// Makes places ready for as many more items. No place that is ready is lost.
     pub fn reserve(&mut self, more: usize) -> Result<(), OutOfMemory>
         ensures items { self.new.items ≡ self.old.items }
         ensures spare { OnOk result (more ≤ self.new.spare) }
+        ensures kept { self.old.spare ≤ self.new.spare }
+        ensures err { OnErr result (self.new ≡ self.old) }
     {
         self.items.reserve(more)?;
         Ok(())

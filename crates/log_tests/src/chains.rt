@@ -2,10 +2,8 @@
 ghost use Rattle.std.specs.Prelude.{◌≡◌, ◌≤◌, length, IfOk};
 
 use crate::fakes::{LIMITS, P1, P2};
-use chain_core::{
-    Chain, ChainFault, ChainTest, Decision, FullKind, Link, LogAnswer, LogLimits, Patch, decide,
-};
-use delta_base::{Bytes, Id, OutOfMemory};
+use chain_core::{Chain, ChainFault, ChainTest, Decision, Link, LogAnswer, Patch, decide};
+use delta_base::{Bytes, FullKind, Id, LogLimits, OutOfMemory};
 use std::alloc::Global;
 use std::process::Abort;
 use std::test::Fail;

@@ -1,6 +1,5 @@
 //! What the tests run on.
-use chain_core::LogLimits;
-use delta_base::{Calls, Listing};
+use delta_base::{Calls, Listing, LogLimits};
 use std::alloc::{AllocError, Global};
 
 /// The limits of a log.

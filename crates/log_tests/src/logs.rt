@@ -1,7 +1,7 @@
 //! Logs over disks in memory: what they answer, and what a crash leaves of them.
 use crate::fakes::{LIMITS, P1, P2, calls, no_calls};
-use chain_core::{Decision, FullKind, LogAnswer, LogLimits};
-use delta_base::{Bytes, Id};
+use chain_core::{Decision, LogAnswer};
+use delta_base::{Bytes, FullKind, Id, LogLimits};
 use disk_model::MemDisk;
 use patch_log::{LogFault, LogState, append, append_all};
 use patch_meaning::{Checked, check_patch};

@@ -5,7 +5,7 @@ use Rattle.disk_model.specs.Past.{Past, MayLeave}
 use Rattle.log_journal.specs.File.{Holds, journal_length as payloads_length}
 use Rattle.log_journal.proofs.OneReading.{one_list, one_number, never_both}
 use Rattle.chain_core.specs.declared.chain.Patch.{Patch}
-use Rattle.chain_core.specs.declared.limits.LogLimits.{LogLimits}
+use Rattle.delta_base.specs.declared.limits.LogLimits.{LogLimits}
 use Rattle.chain_core.specs.Log.{with_doubt}
 use Rattle.chain_core.specs.Patches.{texts_of}
 use Rattle.patch_log.specs.declared.fault.LogFault.{LogFault}

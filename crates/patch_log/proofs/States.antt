@@ -14,7 +14,7 @@ use Rattle.delta_base.specs.Phases.{phase_by_syncs}
 use Rattle.log_journal.proofs.Steps.{either}
 use Rattle.chain_core.specs.declared.chain.Patch.{Patch}
 use Rattle.chain_core.specs.declared.chain.Entry.{Entry}
-use Rattle.chain_core.specs.declared.limits.LogLimits.{LogLimits}
+use Rattle.delta_base.specs.declared.limits.LogLimits.{LogLimits}
 use Rattle.delta_base.specs.declared.phase.Phase.TheVariants.{Settling}
 use Rattle.chain_core.specs.declared.fate.Fate.{Fate}
 use Rattle.chain_core.specs.declared.fate.Fate.TheVariants.{Fails}

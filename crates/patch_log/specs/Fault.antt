@@ -4,7 +4,7 @@ use Rattle.log_journal.specs.File.{Holds, journal_length}
 use Rattle.log_journal.specs.Reading.{HasFault}
 use Rattle.log_journal.specs.declared.fault.JournalFault.{JournalFault}
 use Rattle.log_journal.specs.declared.fault.JournalFault.TheVariants as journal
-use Rattle.chain_core.specs.declared.limits.LogLimits.{LogLimits}
+use Rattle.delta_base.specs.declared.limits.LogLimits.{LogLimits}
 use Rattle.patch_log.specs.declared.fault.LogFault.{LogFault}
 use Rattle.patch_log.specs.declared.fault.LogFault.TheVariants as log
 use Rattle.patch_log.specs.Log.{BreaksAt}

@@ -5,8 +5,8 @@ ghost use Rattle.chain_core.specs.Patches.{patches_of, version_of};
 ghost use Rattle.chain_core.specs.Decision.{decision, version_named};
 
 use crate::index::Index;
-use chain_core::{Chain, Decision, Link, LogLimits, Patch, Places, decide_found};
-use delta_base::{Id, OutOfMemory};
+use chain_core::{Chain, Decision, Link, Patch, Places, decide_found};
+use delta_base::{Id, LogLimits, OutOfMemory};
 use std::alloc::Global;
 use std::marker::Model;
 

@@ -7,7 +7,7 @@ use crate::term::Term;
 use delta_base::{Listing, OutOfMemory, Text};
 
 /// What a row of a patch does.
-#[derive(Drop)]
+#[derive(Debug, PartialEq, Eq, PartialOrd, Ord, Hash, Drop)]
 pub enum Change {
     Add(Quad),
     Delete(Quad),

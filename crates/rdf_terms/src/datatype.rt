@@ -7,7 +7,7 @@ use delta_base::OutOfMemory;
 use std::marker::Model;
 
 /// The datatype of a typed literal, seen as its bytes: an IRI that is neither xsd:string nor rdf:langString.
-#[derive(Drop)]
+#[derive(Debug, PartialEq, Eq, PartialOrd, Ord, Hash, Drop)]
 pub struct Datatype {
     iri: Iri,
 }
@@ -21,6 +21,8 @@ impl Model for Datatype {
     ghost view = { λ d. d.iri };
 
     ghost invariant = { λ d. IsDatatype d.iri };
+
+    ghost inverse = { λ v. record { iri = v } };
 }
 
 impl Datatype {

@@ -7,7 +7,7 @@ use delta_base::{OutOfMemory, Text};
 use std::marker::Model;
 
 /// An IRI, seen as its bytes.
-#[derive(Drop)]
+#[derive(Debug, PartialEq, Eq, PartialOrd, Ord, Hash, Drop)]
 pub struct Iri {
     text: Text,
 }
@@ -21,6 +21,8 @@ impl Model for Iri {
     ghost view = { λ i. i.text };
 
     ghost invariant = { λ i. IsIri i.text };
+
+    ghost inverse = { λ v. record { text = v } };
 }
 
 impl Iri {
@@ -95,7 +97,8 @@ fn ends_scheme(rest: &[u8]) -> bool
     false
 }
 
-fn is_forbidden(b: u8) -> bool
+/// No IRI holds the byte.
+pub fn is_forbidden(b: u8) -> bool
     ensures { result ≡ no_iri_byte b }
 {
     b < 33

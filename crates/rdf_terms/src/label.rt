@@ -9,7 +9,7 @@ use delta_base::{OutOfMemory, Text};
 use std::marker::Model;
 
 /// The label of a blank node, seen as its bytes.
-#[derive(Drop)]
+#[derive(Debug, PartialEq, Eq, PartialOrd, Ord, Hash, Drop)]
 pub struct Label {
     text: Text,
 }
@@ -23,6 +23,8 @@ impl Model for Label {
     ghost view = { λ l. l.text };
 
     ghost invariant = { λ l. IsLabel l.text };
+
+    ghost inverse = { λ v. record { text = v } };
 }
 
 impl Label {

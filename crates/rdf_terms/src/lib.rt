@@ -17,7 +17,7 @@ mod term;
 pub use change::{Change, Changes, Quads};
 pub use datatype::Datatype;
 pub use fault::TermFault;
-pub use iri::{Iri, has_scheme};
+pub use iri::{Iri, has_scheme, is_forbidden};
 pub use label::Label;
 pub use names::{begins_name, is_name_base, is_name_char, is_name_start};
 pub use quad::{BadPosition, Quad};

@@ -6,7 +6,7 @@ use delta_base::OutOfMemory;
 use std::marker::Model;
 
 /// A statement; without a graph it is in the default graph.
-#[derive(Drop)]
+#[derive(Debug, PartialEq, Eq, PartialOrd, Ord, Hash, Drop)]
 pub struct Quad {
     subject: Term,
     predicate: Term,
@@ -23,6 +23,8 @@ impl Model for Quad {
     ghost view = { λ q. statement q.subject q.predicate q.object q.graph };
 
     ghost invariant = { λ q. IsTrue (is_quad (statement q.subject q.predicate q.object q.graph)) };
+
+    ghost inverse = { λ v. record { subject = v.subject; predicate = v.predicate; object = v.object; graph = v.graph } };
 }
 
 /// The first place, from 0, whose term isn't allowed there.

@@ -9,7 +9,7 @@ use std::alloc::Global;
 use std::marker::Model;
 
 /// A language tag in lower case, seen as its bytes.
-#[derive(Drop)]
+#[derive(Debug, PartialEq, Eq, PartialOrd, Ord, Hash, Drop)]
 pub struct Tag {
     text: Text,
 }
@@ -23,6 +23,8 @@ impl Model for Tag {
     ghost view = { λ t. t.text };
 
     ghost invariant = { λ t. IsTag t.text };
+
+    ghost inverse = { λ v. record { text = v } };
 }
 
 impl Tag {

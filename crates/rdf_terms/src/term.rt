@@ -11,20 +11,20 @@ use delta_base::{OutOfMemory, Text};
 use std::alloc::Global;
 
 /// What stands behind a literal's text. `Plain` is xsd:string.
-#[derive(Drop)]
+#[derive(Debug, PartialEq, Eq, PartialOrd, Ord, Hash, Drop)]
 pub enum LiteralKind {
     Plain,
     Typed(Datatype),
     Tagged(Tag),
 }
 
-#[derive(Drop)]
+#[derive(Debug, PartialEq, Eq, PartialOrd, Ord, Hash, Drop)]
 pub struct Literal {
     pub lexical: Text,
     pub kind: LiteralKind,
 }
 
-#[derive(Drop)]
+#[derive(Debug, PartialEq, Eq, PartialOrd, Ord, Hash, Drop)]
 pub enum Term {
     Iri(Iri),
     Blank(Label),

@@ -1,6 +1,6 @@
 -- What an append came to, by its answer.
 use Rattle.std.proofs.Common.{◌≡◌, ◌≢◌, ◌⊎◌, ℕ, ◌+◌, List, [], ◌∷◌, ◌++◌, length, sym, refl, ap, ◌∙◌, subst, ⊎_elim, inl, inr, Option, Some, None}
-use Rattle.chain_core.specs.declared.limits.LogLimits.{LogLimits}
+use Rattle.delta_base.specs.declared.limits.LogLimits.{LogLimits}
 use Rattle.chain_core.specs.declared.chain.Patch.{Patch}
 use Rattle.delta_base.specs.declared.phase.Phase.TheVariants.{Settling, Body, Gate}
 use Rattle.chain_core.specs.declared.fate.Fate.{Fate}

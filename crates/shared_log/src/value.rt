@@ -10,8 +10,8 @@ ghost use Rattle.shared_log.specs.Stays.{Stays};
 ghost use Rattle.turn_cell.specs.Sights.{IsGrownBy};
 
 use crate::replies::{Fetched, LogInfo};
-use chain_core::{LogAnswer, LogLimits, Patch};
-use delta_base::{Id, OutOfMemory};
+use chain_core::{LogAnswer, Patch};
+use delta_base::{Id, LogLimits, OutOfMemory};
 use disk_model::Disk;
 use patch_log::{LogState, append};
 use patch_meaning::Checked;

@@ -4,8 +4,8 @@ ghost use Rattle.std.specs.List.{AllByRecursion};
 ghost use Rattle.disk_model.specs.Memory.{memory_mark};
 ghost use Rattle.shared_log.specs.Legal.{IsPassOf};
 
-use chain_core::{LogAnswer, LogLimits};
-use delta_base::{Bytes, Id, Listing};
+use chain_core::LogAnswer;
+use delta_base::{Bytes, Id, Listing, LogLimits};
 use disk_model::MemDisk;
 use patch_log::LogState;
 use patch_meaning::{Checked, check_patch};

@@ -7,7 +7,7 @@ ghost use Rattle.slot_checks.specs.Faults.{HasFileFault};
 
 use crate::fault::CheckFault;
 use crate::lines::FileLine;
-use chain_core::LogLimits;
+use delta_base::LogLimits;
 use disk_model::Disk;
 use patch_log::{LogRefusal, LogState};
 use std::alloc::Global;

@@ -1,6 +1,6 @@
 use Rattle.std.proofs.Common.{◌≡◌, ◌+◌, [], ◌∷◌, ◌++◌, map, take, sym, ◌∙◌, ap, subst, arith}
 use Rattle.std.proofs.lemmas.List.{map_more}
-use Rattle.chain_core.specs.declared.limits.LogLimits.{LogLimits}
+use Rattle.delta_base.specs.declared.limits.LogLimits.{LogLimits}
 use Rattle.chain_core.specs.Log.{up}
 use Rattle.chain_core.specs.Patches.{patches_of}
 use Rattle.patch_meaning.specs.Checked.{CheckedPatch}

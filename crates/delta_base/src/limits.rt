@@ -1,0 +1,37 @@
+//! How much the files of a server may hold.
+
+/// What is full.
+#[derive(Clone, Copy, Debug, PartialEq, Eq)]
+pub enum FullKind {
+    Patches,
+    Bytes,
+    Slots,
+}
+
+/// The most patches of a log, and the most bytes of its journal.
+#[derive(Clone, Copy, Debug, PartialEq, Eq)]
+pub struct LogLimits {
+    pub patches: u32,
+    pub bytes: u64,
+}
+
+/// The most bytes of a patch's text.
+pub const PATCH_LIMIT: u64 = 4_194_304;
+
+/// The most patches of a server's log.
+pub const LOG_PATCHES: u32 = 65_536;
+
+/// The most bytes of the journal of a server's log.
+pub const LOG_BYTES: u64 = 67_108_864;
+
+/// The limits of a server's logs.
+pub const LOG_LIMITS: LogLimits = LogLimits {
+    patches: LOG_PATCHES,
+    bytes: LOG_BYTES,
+};
+
+/// The most bytes of a registry's journal.
+pub const REGISTRY_LIMIT: u64 = 1_048_576;
+
+/// The most slots of a registry, each with a log.
+pub const MOST_SLOTS: u32 = 16;
