@@ -24,6 +24,21 @@ same_id-refl (Some a) = eq-eqb a.0 a.0 refl
 true_not_false : true ≡ false → ⊥
 true_not_false same = cc
 
+not_true : (test : Bool) → not test ≡ true → test ≡ false
+not_true true is = absurd (cc)
+not_true false is = refl
+
+not_false : (test : Bool) → not test ≡ false → test ≡ true
+not_false true is = refl
+not_false false is = absurd (cc)
+
+-- what the test for other ids tells
+pub ids_same : (a b : Option Id) → not (same_id a b) ≡ false → a ≡ b
+ids_same a b is = same_id-true a b (not_false (same_id a b) is)
+
+pub ids_differ : (a b : Option Id) → not (same_id a b) ≡ true → a ≡ b → ⊥
+ids_differ a b is same = true_not_false (sym (same_id-refl b) ∙ ap (λ (id : Option Id). same_id id b) (sym same) ∙ not_true (same_id a b) is)
+
 -- nothing stands against the patch
 pub record IsAcceptable (patches : List Patch) (patch : Patch) (limits : LogLimits) : Type 0 where
   pub new : version_of patches patch.id ≡ None

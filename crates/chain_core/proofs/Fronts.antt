@@ -4,6 +4,7 @@ use Rattle.std.specs.List.{AllByRecursion}
 use Rattle.std.proofs.lemmas.List.{map-append}
 use Rattle.std.proofs.lemmas.Bool.Decides.{eqb_tells}
 use Rattle.delta_base.specs.declared.id.Id.{Id}
+use Rattle.delta_base.specs.declared.limits.TheConstants.{PATCH_LIMIT}
 use Rattle.chain_core.specs.declared.chain.Patch.{Patch}
 use Rattle.chain_core.specs.declared.chain.Entry.{Entry}
 use Rattle.chain_core.specs.declared.link.Link.{Link}
@@ -84,10 +85,10 @@ pub links_of-entries : (entries : List Entry) → links_of (patches_of entries) 
 links_of-entries [] = refl
 links_of-entries (entry ∷ entries) = ap (λ (ls : List Link). link_of entry ∷ ls) (links_of-entries entries)
 
-short_entries : (entries : List Entry) → AllByRecursion (λ (patch : Patch). length patch.text ≤ 4194304) (patches_of entries) → AllByRecursion (λ (entry : Entry). length entry.patch.text ≤ 4194304) entries
+short_entries : (entries : List Entry) → AllByRecursion (λ (patch : Patch). length patch.text ≤ PATCH_LIMIT) (patches_of entries) → AllByRecursion (λ (entry : Entry). length entry.patch.text ≤ PATCH_LIMIT) entries
 short_entries [] short = tt
 short_entries (entry ∷ entries) short = (short.0, short_entries entries short.1)
 
 -- entries whose patches are a chain
-pub entries_kept : (entries : List Entry) → IsChain (links_of (patches_of entries)) → length entries < 2 ^ 32 → AllByRecursion (λ (patch : Patch). length patch.text ≤ 4194304) (patches_of entries) → IsKept entries
+pub entries_kept : (entries : List Entry) → IsChain (links_of (patches_of entries)) → length entries < 2 ^ 32 → AllByRecursion (λ (patch : Patch). length patch.text ≤ PATCH_LIMIT) (patches_of entries) → IsKept entries
 entries_kept entries chain few short = record { chain = subst IsChain (links_of-entries entries) chain; few = few; short = short_entries entries short }

@@ -7,16 +7,16 @@ use Rattle.std.proofs.lemmas.Option.{slice_get-map}
 use Rattle.std.proofs.lemmas.List.Sums.{sum_by-append, sum_by-cons}
 use Rattle.std.proofs.lemmas.List.{map-append, length-map}
 use Rattle.delta_base.specs.declared.id.Id.{Id}
+use Rattle.delta_base.specs.declared.limits.TheConstants.{PATCH_LIMIT}
 use Rattle.chain_core.specs.declared.chain.Patch.{Patch}
 use Rattle.chain_core.specs.declared.chain.Entry.{Entry}
-use Rattle.chain_core.specs.Chain.{patch_of, entry_at, head_of}
-use Rattle.chain_core.specs.Patches.{patches_of, patch_at, last_id, journal_length}
+use Rattle.chain_core.specs.Patches.{patch_of, patches_of, at_version, patch_at, last_id, journal_length}
 
 abbrev id_of : Patch → Id
 id_of patch = patch.id
 
--- the head of the entries is that of the patches
-pub head-patches : (entries : List Entry) → head_of entries ≡ last_id (patches_of entries)
+-- the id of the last entry is that of the last patch
+pub head-patches : (entries : List Entry) → option_map (λ (e : Entry). e.patch.id) (slice_get entries (length entries - 1)) ≡ last_id (patches_of entries)
 head-patches entries =
     let counted : length (patches_of entries) ≡ length entries = length-map entries patch_of in
     sym (ap (λ (n : ℕ). option_map id_of (slice_get (patches_of entries) (n - 1))) counted ∙ ap (option_map id_of) (slice_get-map patch_of entries (length entries - 1)) ∙ twice (slice_get entries (length entries - 1)))
@@ -26,12 +26,12 @@ head-patches entries =
     twice (Some entry) = refl
 
 -- the patch of an entry
-pub patch_at-entries : (entries : List Entry) (version : ℕ) → patch_at (patches_of entries) version ≡ option_map patch_of (entry_at entries version)
+pub patch_at-entries : (entries : List Entry) (version : ℕ) → patch_at (patches_of entries) version ≡ option_map patch_of (at_version entries version)
 patch_at-entries entries zero = refl
 patch_at-entries entries (suc before) = slice_get-map patch_of entries before
 
 -- lengths
-pub length_bound : (entries : List Entry) → AllByRecursion (λ e. length e.patch.text ≤ 4194304) entries → sum_by (λ (patch : Patch). 5 + length patch.text) (patches_of entries) ≤ length entries * 4194309
+pub length_bound : (entries : List Entry) → AllByRecursion (λ e. length e.patch.text ≤ PATCH_LIMIT) entries → sum_by (λ (patch : Patch). 5 + length patch.text) (patches_of entries) ≤ length entries * (5 + PATCH_LIMIT)
 length_bound [] short = omega arith
 length_bound (entry ∷ entries) short = omega (arith, sum_by-cons (λ (patch : Patch). 5 + length patch.text) entry.patch (patches_of entries), length_bound entries short.1, short.0)
 
@@ -45,6 +45,6 @@ pub journal-push : (entries : List Entry) (entry : Entry) (bytes more : ℕ) →
 journal-push entries entry bytes more was is = omega (arith, was, is, length-push (patches_of entries) entry.patch, ap journal_length (patches_of-push entries entry))
 
 -- the last one of entries with short texts has a short one
-pub last_short : (entries : List Entry) (entry : Entry) → AllByRecursion (λ e. length e.patch.text ≤ 4194304) (entries ++ entry ∷ []) → length entry.patch.text ≤ 4194304
+pub last_short : (entries : List Entry) (entry : Entry) → AllByRecursion (λ e. length e.patch.text ≤ PATCH_LIMIT) (entries ++ entry ∷ []) → length entry.patch.text ≤ PATCH_LIMIT
 last_short [] entry short = short.0
 last_short (first ∷ entries) entry short = last_short entries entry short.1

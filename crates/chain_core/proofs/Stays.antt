@@ -5,6 +5,7 @@ use Rattle.std.specs.Option.{option_map}
 use Rattle.std.specs.List.{AllByRecursion}
 use Rattle.std.proofs.lemmas.List.{map-append}
 use Rattle.delta_base.specs.declared.id.Id.{Id}
+use Rattle.delta_base.specs.declared.limits.TheConstants.{PATCH_LIMIT}
 use Rattle.chain_core.specs.declared.chain.Patch.{Patch}
 use Rattle.chain_core.specs.declared.link.Link.{Link}
 use Rattle.delta_base.specs.declared.limits.LogLimits.{LogLimits}
@@ -49,7 +50,7 @@ new_in_links before (patch ∷ patches) id new =
     let parts = none-cons patch patches id new in
     ap (λ (test : Bool). cond test (Some (before + 1)) (version_from (before + 1) id.0 (links_of patches))) parts.0 ∙ new_in_links (before + 1) patches id parts.1
 
-pub short-push : (patches : List Patch) (patch : Patch) → AllByRecursion (λ (p : Patch). length p.text ≤ 4194304) patches → length patch.text ≤ 4194304 → AllByRecursion (λ (p : Patch). length p.text ≤ 4194304) (patches ++ patch ∷ [])
+pub short-push : (patches : List Patch) (patch : Patch) → AllByRecursion (λ (p : Patch). length p.text ≤ PATCH_LIMIT) patches → length patch.text ≤ PATCH_LIMIT → AllByRecursion (λ (p : Patch). length p.text ≤ PATCH_LIMIT) (patches ++ patch ∷ [])
 short-push [] patch short more = (more, tt)
 short-push (first ∷ patches) patch short more = (short.0, short-push patches patch short.1 more)
 
@@ -59,7 +60,7 @@ links-push patches patch chain follows new =
     subst IsChain (sym (map-append link_to patches (patch ∷ []))) (chain-push (links_of patches) (link_to patch) chain (follows ∙ sym (last_of_links patches)) (new_in_links 0 patches patch.id new))
 
 -- what is accepted goes on the log
-pub goes_on : (limits : LogLimits) (patches : List Patch) (patch : Patch) (version : ℕ) → IsLog limits patches → length patch.text ≤ 4194304 → decision patches patch limits ≡ Accept version → IsLog limits (patches ++ patch ∷ [])
+pub goes_on : (limits : LogLimits) (patches : List Patch) (patch : Patch) (version : ℕ) → IsLog limits patches → length patch.text ≤ PATCH_LIMIT → decision patches patch limits ≡ Accept version → IsLog limits (patches ++ patch ∷ [])
 goes_on limits patches patch version log short is =
     let could = (accepted patches patch limits version is).0 in
     record {
@@ -91,13 +92,13 @@ module _ (limits : LogLimits) (chain : List Patch) (doubt : Option Patch) (patch
   accepted_points (Stops Body opened) more = is.0
   accepted_points (Stops Gate opened) more = opened_or_not opened (chain ++ patch ∷ []) more
 
-  decided_points : (fate : Fate) (made : Decision) → decision chain patch limits ≡ made → length patch.text ≤ 4194304 → IsPoint limits (decided_by made fate chain doubt patch).0
+  decided_points : (fate : Fate) (made : Decision) → decision chain patch limits ≡ made → length patch.text ≤ PATCH_LIMIT → IsPoint limits (decided_by made fate chain doubt patch).0
   decided_points fate (Accept version) same short = accepted_points fate (goes_on limits chain patch version is.0 short same)
   decided_points fate (Known version known) same short = is
   decided_points fate (Conflict version head named) same short = is
   decided_points fate (Full what have limit) same short = is
 
-pub stays : (limits : LogLimits) (point : LogPoint) (patch : Patch) (fate : Fate) → IsPoint limits point → length patch.text ≤ 4194304 → IsPoint limits (stay limits point patch fate).0
+pub stays : (limits : LogLimits) (point : LogPoint) (patch : Patch) (fate : Fate) → IsPoint limits point → length patch.text ≤ PATCH_LIMIT → IsPoint limits (stay limits point patch fate).0
 stays limits (up chain doubt) patch fate is short = decided_points limits chain doubt patch is fate (decision chain patch limits) refl short
 stays limits (down chain) patch fate is short = is
 

@@ -1,21 +1,21 @@
 -- Where patches stop being a chain.
-use Rattle.std.specs.Prelude.{◌≡◌, ◌≢◌, ℕ, zero, suc, List, [], ◌∷◌, Option, None, Some, take, slice_get}
+use Rattle.std.specs.Prelude.{◌≡◌, ◌≢◌, ℕ, List, [], ◌∷◌, Option, None, Some, take, slice_get}
 use Rattle.std.specs.Option.{option_map}
 use Rattle.delta_base.specs.declared.id.Id.{Id}
 use Rattle.chain_core.specs.declared.link.Link.{Link}
 use Rattle.chain_core.specs.declared.testing.ChainFault.{ChainFault}
 use Rattle.chain_core.specs.declared.testing.ChainFault.TheVariants as faults
 use Rattle.chain_core.specs.Links.{IsChain}
+use Rattle.chain_core.specs.Patches.{at_version}
 
 -- the id of the last one, or else the head
 abbrev pub last_or : Option Id → List Link → Option Id
 last_or head [] = head
 last_or head (l ∷ ls) = last_or (Some l.id) ls
 
--- the id of a version, counted from 1
+-- the id of a version
 abbrev pub id_at : List Link → ℕ → Option Id
-id_at ls zero = None
-id_at ls (suc place) = option_map (λ l. l.id) (slice_get ls place)
+id_at ls version = option_map (λ l. l.id) (at_version ls version)
 
 -- the first patches of this number are a chain that ends with one id, and the next names another
 pub record DivergesAt (ls : List Link) (version : ℕ) (have found : Option Id) : Type 0 where

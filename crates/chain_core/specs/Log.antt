@@ -2,6 +2,7 @@
 use Rattle.std.specs.Prelude.{◌≤◌, List, [], ◌∷◌, ◌++◌, length, Option, Some, None, Bool, if◌then◌else◌}
 use Rattle.std.specs.List.{AllByRecursion}
 use Rattle.delta_base.specs.declared.limits.LogLimits.{LogLimits}
+use Rattle.delta_base.specs.declared.limits.TheConstants.{PATCH_LIMIT}
 use Rattle.chain_core.specs.declared.chain.Patch.{Patch}
 use Rattle.chain_core.specs.Links.{IsChain}
 use Rattle.chain_core.specs.Patches.{links_of, journal_length}
@@ -21,7 +22,7 @@ pub record IsLog (limits : LogLimits) (patches : List Patch) : Type 0 where
   pub chain : IsChain (links_of patches)
   pub few : length patches ≤ limits.patches
   pub room : journal_length patches ≤ limits.bytes
-  pub short : AllByRecursion (λ patch. length patch.text ≤ 4194304) patches
+  pub short : AllByRecursion (λ patch. length patch.text ≤ PATCH_LIMIT) patches
 
 -- whatever its disk holds is a log
 abbrev pub IsPoint : LogLimits → LogPoint → Type 0

@@ -6,8 +6,11 @@ use Rattle.chain_core.specs.declared.chain.Patch.{Patch}
 use Rattle.chain_core.specs.declared.chain.Entry.{Entry}
 use Rattle.chain_core.specs.declared.link.Link.{Link}
 
+abbrev pub patch_of : Entry → Patch
+patch_of entry = entry.patch
+
 abbrev pub patches_of : List Entry → List Patch
-patches_of entries = map (λ entry. entry.patch) entries
+patches_of entries = map patch_of entries
 
 abbrev pub links_of : List Patch → List Link
 links_of patches = map (λ patch. record { id = patch.id; prev = patch.prev }) patches
@@ -20,10 +23,19 @@ abbrev pub version_of : List Patch → Id → Option ℕ
 version_of [] id = None
 version_of (patch ∷ patches) id = if patch.id.0 == id.0 then Some 1 else option_map (λ version. version + 1) (version_of patches id)
 
--- the patch of a version, counted from 1
+-- what stands at a version, counted from 1
+abbrev pub at_version : {T : Type 0} → List T → ℕ → Option T
+at_version items zero = None
+at_version items (suc before) = slice_get items before
+
+-- the patch of a version
 abbrev pub patch_at : List Patch → ℕ → Option Patch
-patch_at patches zero = None
-patch_at patches (suc before) = slice_get patches before
+patch_at patches version = at_version patches version
+
+-- the patch of a version, if there is one
+abbrev pub patch_named : List Patch → Option ℕ → Option Patch
+patch_named patches None = None
+patch_named patches (Some version) = patch_at patches version
 
 -- the id of the last patch
 abbrev pub last_id : List Patch → Option Id

@@ -4,7 +4,7 @@ use Rattle.delta_base.specs.declared.id.Id.{Id}
 use Rattle.delta_base.specs.declared.limits.LogLimits.{LogLimits}
 use Rattle.chain_core.specs.declared.chain.Patch.{Patch}
 use Rattle.chain_core.specs.declared.answer.LogAnswer.{LogAnswer}
-use Rattle.chain_core.specs.Patches.{version_of, patch_at, last_id}
+use Rattle.chain_core.specs.Patches.{version_of, patch_at, patch_named, last_id}
 use Rattle.chain_core.specs.Decision.{decision}
 use Rattle.chain_core.specs.Stay.{answer_of}
 
@@ -26,11 +26,6 @@ pub data LogReply : Type 0 where
 abbrev pub fetched : Option Patch → ℕ → LogReply
 fetched (Some patch) count = found patch
 fetched None count = missing count
-
--- the patch with an id, by its version
-abbrev pub patch_named : List Patch → Option ℕ → Option Patch
-patch_named patches None = None
-patch_named patches (Some place) = patch_at patches place
 
 abbrev pub reply_of : LogLimits → LogCall → List Patch → LogReply
 reply_of limits (append patch) chain = answered (answer_of (decision chain patch limits))

@@ -4,7 +4,7 @@ use Rattle.delta_base.specs.declared.limits.LogLimits.{LogLimits}
 use Rattle.chain_core.specs.declared.chain.Patch.{Patch}
 use Rattle.delta_base.specs.declared.phase.Phase.{Phase}
 use Rattle.delta_base.specs.declared.phase.Phase.TheVariants.{Settling, Body, Gate}
-use Rattle.delta_base.specs.Phases.{phase_by_syncs}
+use Rattle.delta_base.specs.Phases.{phase_by_syncs, phase_by_plan}
 use Rattle.chain_core.specs.declared.fate.Fate.{Fate}
 use Rattle.chain_core.specs.declared.fate.Fate.TheVariants.{Done, Fails, Stops}
 use Rattle.chain_core.specs.declared.answer.Decision.{Decision}
@@ -62,3 +62,7 @@ fate_of (Some phase) = Fails phase
 -- the fate by the number of syncs that were done
 abbrev pub fate_by_syncs : {T : Type 0} → Option T → ℕ → Fate
 fate_by_syncs doubt syncs = fate_of (phase_by_syncs doubt syncs)
+
+-- the fate by a plan: no sync is to fail but the one behind so many, if there is one
+abbrev pub fate_by_plan : {T : Type 0} → Option T → Option ℕ → Fate
+fate_by_plan doubt plan = fate_of (phase_by_plan doubt plan)

@@ -1,5 +1,6 @@
 //! What a chain makes of one more patch.
 ghost use Rattle.std.specs.Prelude.{◌≡◌, ◌≤◌, length};
+ghost use Rattle.delta_base.specs.declared.limits.TheConstants.{PATCH_LIMIT};
 ghost use Rattle.chain_core.specs.Patches.{patches_of, version_of};
 ghost use Rattle.chain_core.specs.Decision.{decision, version_named};
 
@@ -23,11 +24,12 @@ pub fn decide_found(
     text: &[u8],
     places: Places,
 ) -> Decision
-    requires text { length text.now ≤ 4194304 }
+    requires text { length text.now ≤ PATCH_LIMIT }
     requires few { length chain.now.items ≤ limits.now.patches }
     requires known { places.known ≡ version_of (patches_of chain.now.items) link.id }
     requires named { places.named ≡ version_named (patches_of chain.now.items) link.prev }
-    ensures { result ≡ decision (patches_of chain.now.items) (record { id = link.id; prev = link.prev; text = text.now }) limits.now }
+    ensures { result ≡ decision (patches_of chain.now.items)
+        (record { id = link.id; prev = link.prev; text = text.now }) limits.now }
 {
     if let Some(version) = places.known {
         let same = match chain.by_version(version) {
@@ -77,7 +79,7 @@ fn named_by(chain: &Chain, prev: Option<Id>) -> Option<u32>
 
 /// What the chain makes of the patch.
 pub fn decide(chain: &Chain, patch: &Patch, limits: &LogLimits) -> Decision
-    requires text { length patch.now.text ≤ 4194304 }
+    requires text { length patch.now.text ≤ PATCH_LIMIT }
     requires few { length chain.now.items ≤ limits.now.patches }
     ensures { result ≡ decision (patches_of chain.now.items) patch.now limits.now }
 {

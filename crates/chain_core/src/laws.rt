@@ -5,6 +5,7 @@ ghost use Rattle.chain_core.specs.declared.testing.ChainFault.{ChainFault};
 ghost use Rattle.chain_core.specs.Links.{IsChain};
 ghost use Rattle.chain_core.specs.Breaks.{Breaks};
 ghost use Rattle.delta_base.specs.declared.limits.LogLimits.{LogLimits};
+ghost use Rattle.delta_base.specs.declared.limits.TheConstants.{PATCH_LIMIT};
 ghost use Rattle.chain_core.specs.declared.chain.Patch.{Patch};
 ghost use Rattle.chain_core.specs.declared.fate.Fate.{Fate};
 ghost use Rattle.chain_core.specs.Log.{LogPoint, IsPoint, stopped, opened_again};
@@ -17,16 +18,20 @@ pub fn chains_have_no_fault()
 
 /// Patches have one fault at most.
 pub fn patches_have_one_fault()
-    ensures { (links : List Link) (fault other : ChainFault) → Breaks links fault → Breaks links other → fault ≡ other }
+    ensures { (links : List Link) (fault other : ChainFault) → Breaks links fault → Breaks links other
+        → fault ≡ other }
 {}
 
 /// Whatever an append comes to, the chain and what the disk may hold stay logs.
 pub fn stays_keep_logs()
-    ensures { (limits : LogLimits) (point : LogPoint) (patch : Patch) (fate : Fate) → IsPoint limits point → length patch.text ≤ 4194304 → IsPoint limits (stay limits point patch fate).0 }
+    ensures { (limits : LogLimits) (point : LogPoint) (patch : Patch) (fate : Fate) → IsPoint limits point
+        → length patch.text ≤ PATCH_LIMIT → IsPoint limits (stay limits point patch fate).0 }
 {}
 
 /// So do they over stops and openings.
 pub fn stops_keep_logs()
-    ensures stop { (limits : LogLimits) (point : LogPoint) (opened : Bool) → IsPoint limits point → IsPoint limits (stopped point opened) }
-    ensures opening { (limits : LogLimits) (point : LogPoint) → IsPoint limits point → IsPoint limits (opened_again point) }
+    ensures stop { (limits : LogLimits) (point : LogPoint) (opened : Bool) → IsPoint limits point
+        → IsPoint limits (stopped point opened) }
+    ensures opening { (limits : LogLimits) (point : LogPoint) → IsPoint limits point
+        → IsPoint limits (opened_again point) }
 {}

@@ -1,5 +1,5 @@
 //! The test whether patches are a chain, patch by patch.
-ghost use Rattle.std.specs.Prelude.{◌≡◌, ◌+◌, ◌-◌, ◌<◌, ◌^◌, ◌↔◌, List, [], ◌∷◌, ◌++◌, IsTrue, OnOk, OnErr, IfNone, IfSome};
+ghost use Rattle.std.specs.Prelude.{◌≡◌, ◌+◌, ◌-◌, ◌<◌, ◌^◌, List, [], ◌∷◌, ◌++◌, OnOk, OnErr, IfNone, IfSome};
 ghost use Rattle.chain_core.specs.declared.link.Link.{Link};
 ghost use Rattle.chain_core.specs.Links.{IsChain};
 ghost use Rattle.chain_core.specs.Breaks.{Breaks};
@@ -51,10 +51,12 @@ impl ChainTest {
 
     /// Tests a patch: first the previous one that it names, then its id.
     pub fn fault_of(&self, link: Link) -> Option<ChainFault>
-        ensures follows { IfNone result ((links : List Link) → IsTested links self.now → IsChain (links ++ link ∷ [])) }
-        ensures breaks { IfSome result (λ fault. (links more : List Link) → IsTested links self.now → Breaks (links ++ link ∷ more) fault) }
+        ensures follows { IfNone result ((links : List Link) → IsTested links self.now
+            → IsChain (links ++ link ∷ [])) }
+        ensures breaks { IfSome result (λ fault. (links more : List Link) → IsTested links self.now
+            → Breaks (links ++ link ∷ more) fault) }
     {
-        if !is_same(link.prev, self.head) {
+        if link.prev != self.head {
             return Some(ChainFault::Diverged {
                 version: self.version,
                 have: self.head,
@@ -73,7 +75,8 @@ impl ChainTest {
     /// Takes a patch that goes on the chain.
     pub fn push(&mut self, link: Link) -> Result<(), OutOfMemory>
         requires room { self.old.version < 2 ^ 32 - 1 }
-        ensures ok { OnOk result ((links : List Link) → IsTested links self.old → IsChain (links ++ link ∷ []) → IsTested (links ++ link ∷ []) self.new) }
+        ensures ok { OnOk result ((links : List Link) → IsTested links self.old
+            → IsChain (links ++ link ∷ []) → IsTested (links ++ link ∷ []) self.new) }
         ensures version { OnOk result (self.new.version ≡ self.old.version + 1) }
         ensures err { OnErr result ((links : List Link) → IsTested links self.old → IsTested links self.new) }
     {
@@ -91,17 +94,5 @@ impl ChainTest {
         ensures { result ≡ get nat_cmp self.now.versions id.0 }
     {
         self.versions.get(&id.0).copied()
-    }
-}
-
-fn is_same(a: Option<Id>, b: Option<Id>) -> bool
-    ensures { IsTrue result ↔ (a ≡ b) }
-{
-    match a {
-        None => b.is_none(),
-        Some(x) => match b {
-            None => false,
-            Some(y) => x.0 == y.0,
-        },
     }
 }

@@ -8,10 +8,9 @@ use Rattle.delta_base.specs.declared.limits.LogLimits.{LogLimits}
 use Rattle.chain_core.specs.declared.chain.Entry.{Entry}
 use Rattle.chain_core.specs.declared.chain.Patch.{Patch}
 use Rattle.chain_core.specs.declared.answer.Decision.TheVariants.{Accept, Known, Conflict, Full}
-use Rattle.chain_core.specs.Chain.{head_of}
 use Rattle.chain_core.specs.Patches.{patches_of, version_of, last_id, journal_length}
 use Rattle.chain_core.specs.Decision.{decision, has_text, same_id, version_named}
-use Rattle.chain_core.proofs.Patches.{length-push, head-patches, patch_at-entries}
+use Rattle.chain_core.proofs.Patches.{length-push}
 use Rattle.chain_core.proofs.Decided.{decision-known, decision-conflict, decision-full_patches, decision-rest}
 use Rattle.chain_core.proofs.deciding.decide_found.Goals as goal
 
@@ -24,10 +23,10 @@ not_false true is = refl
 not_false false is = absurd (cc)
 
 -- of a patch whose id is new, by the head and the version that the chain gave
-module _ (entries : List Entry) (patch : Patch) (limits : LogLimits) (head : Option Id) (version : ℕ) (head_is : head ≡ head_of entries) (version_is : version ≡ length entries)
+module _ (entries : List Entry) (patch : Patch) (limits : LogLimits) (head : Option Id) (version : ℕ) (head_is : head ≡ last_id (patches_of entries)) (version_is : version ≡ length entries)
     (new : version_of (patches_of entries) patch.id ≡ None) where
   last : head ≡ last_id (patches_of entries)
-  last = head_is ∙ head-patches entries
+  last = head_is
 
   count : version ≡ length (patches_of entries)
   count = version_is ∙ sym (length-map entries (λ entry. entry.patch))
@@ -56,12 +55,12 @@ returns-in-Some-by_version c =
     let patches = patches_of c.args.chain.now.items in
     let at = decision-known patches (record { id = c.args.link.id; prev = c.args.link.prev; text = c.args.text.now }) c.args.limits.now c.in-Some.version (sym c.requires.known ∙ c.in-Some.is) in
     let same : c.eq-same.result ≡ bytes_eq c.in-Some-by_version.found.now.text c.args.text.now = rw (← c.as_slice.ensures) c.eq-same.ensures in
-    rw same (ap (λ found. Known c.in-Some.version (has_text found c.args.text.now)) (c.in-Some-by_version.ensures ∙ sym (patch_at-entries c.args.chain.now.items c.in-Some.version)) ∙ sym at)
+    rw same (ap (λ found. Known c.in-Some.version (has_text found c.args.text.now)) c.in-Some-by_version.ensures ∙ sym at)
 
 pub returns-in-None : goal.returns-in-None
 returns-in-None c =
     let at = decision-known (patches_of c.args.chain.now.items) (record { id = c.args.link.id; prev = c.args.link.prev; text = c.args.text.now }) c.args.limits.now c.in-Some.version (sym c.requires.known ∙ c.in-Some.is) in
-    ap (λ found. Known c.in-Some.version (has_text found c.args.text.now)) (c.in-None.ensures ∙ sym (patch_at-entries c.args.chain.now.items c.in-Some.version)) ∙ sym at
+    ap (λ found. Known c.in-Some.version (has_text found c.args.text.now)) c.in-None.ensures ∙ sym at
 
 pub returns-then-ne : goal.returns-then-ne
 returns-then-ne c =
