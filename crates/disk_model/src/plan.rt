@@ -1,7 +1,7 @@
 //! A disk in memory whose syncs fail as planned.
 ghost use Rattle.std.specs.Prelude.{◌≡◌, true, false, None, [], IfOk, IsOk, IsErr};
 ghost use Rattle.delta_base.specs.Outside.{CountsFault, HasCause};
-ghost use Rattle.disk_model.specs.Past.{began, image_of};
+ghost use Rattle.disk_model.specs.Past.{MayLeave, began, image_of};
 
 use crate::disk::{Disk, Planned};
 use crate::memory::MemDisk;
@@ -35,8 +35,10 @@ impl PlanDisk {
         })
     }
 
+    /// What a crash now may leave, as `MemDisk::image` gives it.
     pub fn image(&self, choice: u64) -> Result<Bytes, OutOfMemory>
-        ensures { IfOk result (λ image. image ≡ image_of (plan_past self.now) choice) }
+        ensures value { IfOk result (λ image. image ≡ image_of (plan_past self.now) choice) }
+        ensures may_be_left { IfOk result (λ image. MayLeave (plan_past self.now) image) }
     {
         self.disk.image(choice)
     }

@@ -1,7 +1,8 @@
 -- What reading a journal's file finds.
-use Rattle.std.specs.Prelude.{◌≡◌, ◌≢◌, ◌⊎◌, ℕ, ◌+◌, ◌^◌, ◌<◌, ◌≤◌, Option, Some, None, Result, Ok, Err, List, ◌∷◌, ◌++◌, [], length, drop, Vec}
+use Rattle.std.specs.Prelude.{◌≡◌, ◌≢◌, ◌⊎◌, ℕ, ◌+◌, ◌^◌, ◌<◌, ◌≤◌, Bool, IsTrue, Option, Some, None, Result, Ok, Err, List, ◌∷◌, ◌++◌, [], length, drop, Vec}
 use Rattle.std.specs.declared.alloc.Global.{Global}
 use Rattle.delta_base.specs.Listed.{Listed}
+use Rattle.delta_base.specs.Outside.{Rose}
 use Rattle.log_journal.specs.File.{front, header, block, Holds, AreSized, BreaksOff, HasNoHeader, HasHeader, Damage, journal_length}
 use Rattle.log_journal.specs.declared.fault.JournalFault.{JournalFault}
 use Rattle.log_journal.specs.declared.fault.JournalFault.TheVariants.{Failed, Damaged, WrongNumber, OverLimit, OutOfMemory}
@@ -59,3 +60,29 @@ Reads file number limit (Err fault) = HasFault file number limit fault
 abbrev pub payload_found : Option (Vec ℕ Global) → List ℕ
 payload_found None = []
 payload_found (Some payload) = payload.items
+
+-- the disk's count of faults rose where this is a fault of the disk, and else is as it was
+abbrev pub CountsFor : JournalFault → ℕ → ℕ → Type 0
+CountsFor Failed before after = Rose before after
+CountsFor (Damaged at) before after = after ≡ before
+CountsFor (WrongNumber found) before after = after ≡ before
+CountsFor (OverLimit length limit) before after = after ≡ before
+CountsFor OutOfMemory before after = after ≡ before
+
+-- reading counts a fault where the disk failed, and else none
+abbrev pub CountsReading : {T : Type 0} → Result T JournalFault → ℕ → ℕ → Type 0
+CountsReading (Ok done) before after = after ≡ before
+CountsReading (Err fault) before after = CountsFor fault before after
+
+-- a disk whose failures are planned found no memory where this is a fault of the disk
+abbrev pub ShortFor : JournalFault → Bool → Bool → Type 0
+ShortFor Failed before after = IsTrue after
+ShortFor (Damaged at) before after = after ≡ before
+ShortFor (WrongNumber found) before after = after ≡ before
+ShortFor (OverLimit length limit) before after = after ≡ before
+ShortFor OutOfMemory before after = after ≡ before
+
+-- of reading no failure is planned: it fails at the disk for want of memory alone
+abbrev pub ShortReading : {T : Type 0} → Result T JournalFault → Bool → Bool → Type 0
+ShortReading (Ok done) before after = after ≡ before
+ShortReading (Err fault) before after = ShortFor fault before after

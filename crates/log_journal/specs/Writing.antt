@@ -1,6 +1,8 @@
 -- What settling and appending leave of a journal.
 use Rattle.std.specs.Prelude.{◌⊎◌, ℕ, ◌+◌, List, [], ◌∷◌, ◌++◌, Option, Some, None, Result, Ok, Err}
+use Rattle.disk_model.specs.Past.{Past, synced_bytes, filled}
 use Rattle.disk_model.specs.declared.disk.Disk.{Ghosts}
+use Rattle.log_journal.specs.File.{Holds}
 use Rattle.log_journal.specs.Journal.{HoldsWithOrWithout}
 use Rattle.log_journal.specs.declared.journal.Journal.{Journal}
 use Rattle.delta_base.specs.declared.phase.Phase.{Phase}
@@ -38,3 +40,9 @@ failing (Err phase) = Some phase
 abbrev pub longer_by : {T : Type 0} → Result T Phase → ℕ → ℕ
 longer_by (Ok done) size = 5 + size
 longer_by (Err phase) size = 0
+
+-- what was synced is without the payload in doubt, and with 1 for each byte that wasn't synced the file has it
+abbrev pub LeavesEither : Past → ℕ → List (List ℕ) → Option (List ℕ) → Type 0
+LeavesEither past number payloads None = Unit {0}
+LeavesEither past number payloads (Some doubt) =
+    Holds (synced_bytes past) number payloads × Holds (filled 1 past) number (payloads ++ doubt ∷ [])

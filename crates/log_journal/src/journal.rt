@@ -1,18 +1,18 @@
 //! A file of payloads behind gates. A gate is opened only once what stands behind it is on the disk.
-ghost use Rattle.std.specs.Prelude.{◌≡◌, false, ◌⊎◌, ℕ, ◌+◌, ◌<◌, ◌≤◌, ◌↔◌, ◌++◌, [], ◌∷◌, List, length, IsTrue, not, OnOk, OnErr, IsErrOf, IfOk, IfErr, IsOk, is_ok, if◌then◌else◌};
+ghost use Rattle.std.specs.Prelude.{◌≡◌, ◌≢◌, None, false, ◌⊎◌, ℕ, ◌+◌, ◌<◌, ◌≤◌, ◌↔◌, ◌++◌, [], ◌∷◌, List, length, IsTrue, not, OnOk, OnErr, IsErrOf, IfOk, IfErr, IsOk, is_ok, if◌then◌else◌};
 ghost use Rattle.delta_base.specs.Outside.{Rose, HasCause};
 ghost use Rattle.disk_model.specs.Past.{reads, synced, ok_syncs, synced_bytes, filled, Keeps};
 ghost use Rattle.disk_model.specs.Calls.{WroteSome};
 ghost use Rattle.log_journal.specs.File.{Holds, file_of, journal_length};
 ghost use Rattle.log_journal.specs.Journal.{HoldsWithOrWithout};
-ghost use Rattle.log_journal.specs.Reading.{Reads, HasFault};
+ghost use Rattle.log_journal.specs.Reading.{Reads, HasFault, CountsReading, ShortReading};
 
 use crate::block::Block;
 use crate::fault::{FormatFault, JournalFault};
 use crate::halves::write_synced;
 use crate::open::{Payloads, format, read_payloads};
 use delta_base::Failed;
-use disk_model::Disk;
+use disk_model::{Disk, Planned};
 use std::alloc::Global;
 
 #[derive(Clone, Copy, Debug, PartialEq, Eq)]
@@ -71,6 +71,10 @@ fn read_journal<D: Disk>(
     ensures past { D.tells → (D.past disk.new ≡ D.past disk.old) ⊎ (D.past disk.new ≡ synced (D.past disk.old)) }
     ensures cause { IsErrOf result JournalFault.Failed → Rose (D.faults disk.old) (D.faults disk.new) }
     ensures faults { D.faults disk.old ≤ D.faults disk.new }
+    ensures counts { CountsReading result (D.faults disk.old) (D.faults disk.new) }
+    ensures long { D.plans → OnOk result (D.short disk.new ≡ D.short disk.old) }
+    ensures planned { D.plans → D.next_failure disk.old ≡ None
+        → ShortReading result (D.short disk.old) (D.short disk.new) }
     ensures mark { D.mark disk.new ≡ D.mark disk.old }
 {
     disk.sync()?;
@@ -108,6 +112,17 @@ impl<D: Disk> Journal<D> {
         ensures limit { IfOk result (λ opened. (limit_of opened.0) ≡ limit) }
         ensures within { IfOk result (λ opened. (length_of opened.0) ≤ limit) }
         ensures cause { IfErr result (λ refusal. refusal.fault ≡ JournalFault.Failed → Rose (D.faults disk) (D.faults refusal.disk)) }
+
+        // A fault is counted where a call of the disk failed, and else none.
+        ensures faults { IfOk result (λ opened. D.faults (disk_of opened.0) ≡ D.faults disk) }
+        ensures never_falls { IfErr result (λ refusal. D.faults disk ≤ D.faults refusal.disk) }
+        ensures faults_refused { IfErr result (λ refusal. refusal.fault ≢ JournalFault.Failed
+            → D.faults refusal.disk ≡ D.faults disk) }
+
+        // Where no failure is planned, its disk fails for want of memory alone.
+        ensures long { D.plans → IfOk result (λ opened. D.short (disk_of opened.0) ≡ D.short disk) }
+        ensures planned { D.plans → IfErr result (λ refusal. refusal.fault ≡ JournalFault.Failed
+            → D.next_failure disk ≡ None → IsTrue (D.short refusal.disk)) }
         ensures mark { IfOk result (λ opened. D.mark (disk_of opened.0) ≡ D.mark disk) }
         ensures mark_refused { IfErr result (λ refusal. D.mark refusal.disk ≡ D.mark disk) }
     {
@@ -142,8 +157,13 @@ impl<D: Disk> Journal<D> {
         // After a failure some of its bytes may be written, and nothing more is synced.
         ensures err { D.tells → IfErr result (λ refusal. WroteSome 0 9 (D.past disk) (D.past refusal.disk)) }
         ensures cause { IfErr result (λ refusal. refusal.fault ≡ FormatFault.Failed → Rose (D.faults disk) (D.faults refusal.disk)) }
-        ensures faults { IfOk result (λ journal. D.faults disk ≤ D.faults (disk_of journal)) }
+        ensures faults { IfOk result (λ journal. D.faults (disk_of journal) ≡ D.faults disk) }
         ensures faults_refused { IfErr result (λ refusal. D.faults disk ≤ D.faults refusal.disk) }
+        ensures faults_found { IfErr result (λ refusal. (found : ℕ)
+            → refusal.fault ≡ FormatFault.NotEmpty found → D.faults refusal.disk ≡ D.faults disk) }
+        ensures long { D.plans → IfOk result (λ journal. D.short (disk_of journal) ≡ D.short disk) }
+        ensures planned { D.plans → IfErr result (λ refusal. refusal.fault ≡ FormatFault.Failed
+            → D.next_failure disk ≡ None → IsTrue (D.short refusal.disk)) }
         ensures mark { IfOk result (λ journal. D.mark (disk_of journal) ≡ D.mark disk) }
         ensures mark_refused { IfErr result (λ refusal. D.mark refusal.disk ≡ D.mark disk) }
     {
@@ -230,6 +250,11 @@ impl<D: Disk> Journal<D> {
         ensures full_shows { (length limit : ℕ) → IsErrOf result (AppendFault.Full length limit) → (length ≡ (length_of self.old)) × (limit ≡ (limit_of self.old)) × (self.new ≡ self.old) }
         ensures cause { IsErrOf result AppendFault.Failed → Rose (D.faults (disk_of self.old)) (D.faults (disk_of self.new)) }
         ensures faults { D.faults (disk_of self.old) ≤ D.faults (disk_of self.new) }
+        ensures well { OnOk result (D.faults (disk_of self.new) ≡ D.faults (disk_of self.old)) }
+        ensures stays_short { D.plans → IsTrue (D.short (disk_of self.old))
+            → IsTrue (D.short (disk_of self.new)) }
+        ensures long { D.plans → OnOk result
+            (D.short (disk_of self.new) ≡ D.short (disk_of self.old)) }
         ensures longer { OnOk result ((length_of self.new) ≡ (length_of self.old) + 5 + length (payload_of block.now)) }
         ensures same_length { OnErr result ((length_of self.new) ≡ (length_of self.old)) }
         ensures limit { (limit_of self.new) ≡ (limit_of self.old) }
@@ -275,6 +300,11 @@ impl<D: Disk> Journal<D> {
             × (Holds (filled 1 (D.past (disk_of self.old))) number (payloads ++ doubt ∷ []) → Holds (filled 1 (D.past (disk_of self.new))) number (payloads ++ doubt ∷ [])) }
 
         ensures cause { HasCause (D.faults (disk_of self.old)) (D.faults (disk_of self.new)) result }
+        ensures well { OnOk result (D.faults (disk_of self.new) ≡ D.faults (disk_of self.old)) }
+        ensures stays_short { D.plans → IsTrue (D.short (disk_of self.old))
+            → IsTrue (D.short (disk_of self.new)) }
+        ensures long { D.plans → OnOk result
+            (D.short (disk_of self.new) ≡ D.short (disk_of self.old)) }
         ensures same_length { (length_of self.new) ≡ (length_of self.old) }
         ensures limit { (limit_of self.new) ≡ (limit_of self.old) }
         ensures mark { D.mark (disk_of self.new) ≡ D.mark (disk_of self.old) }
@@ -285,5 +315,33 @@ impl<D: Disk> Journal<D> {
         write_synced(&mut self.disk, self.end - 1, &[0])?;
         self.settled = true;
         Ok(())
+    }
+}
+
+impl<D: Planned> Journal<D> {
+    ghost use Rattle.std.specs.Prelude.{Option};
+    ghost use Rattle.log_journal.specs.StandsFor.{length_of, limit_of, disk_of};
+    ghost use Rattle.log_journal.specs.Writing.{StandsWith};
+
+    /// Plans which sync of its disk fails, and changes nothing else.
+    pub fn plan(&mut self, next: Option<u64>)
+        ensures stands { (number : ℕ) (payloads : List (List ℕ)) (doubt : Option (List ℕ))
+            → StandsWith self.old number payloads doubt → StandsWith self.new number payloads doubt }
+        ensures length { (length_of self.new) ≡ (length_of self.old) }
+        ensures limit { (limit_of self.new) ≡ (limit_of self.old) }
+        ensures next { D.next_failure (disk_of self.new) ≡ next }
+        ensures past { D.past (disk_of self.new) ≡ D.past (disk_of self.old) }
+        ensures short { D.short (disk_of self.new) ≡ D.short (disk_of self.old) }
+        ensures faults { D.faults (disk_of self.new) ≡ D.faults (disk_of self.old) }
+        ensures mark { D.mark (disk_of self.new) ≡ D.mark (disk_of self.old) }
+    {
+        self.disk.plan(next);
+    }
+
+    /// Whether a call of its disk has failed for want of memory.
+    pub fn is_short(&self) -> bool
+        ensures { result ≡ D.short (disk_of self.now) }
+    {
+        self.disk.is_short()
     }
 }

@@ -1,10 +1,10 @@
 //! Makes and opens journals.
-ghost use Rattle.std.specs.Prelude.{◌≡◌, ◌≢◌, ◌⊎◌, ℕ, ◌+◌, ◌<◌, ◌≤◌, ◌↔◌, ◌++◌, [], ◌∷◌, None, length, IfOk, IfErr, OnOk, OnErr, IsErrOf};
+ghost use Rattle.std.specs.Prelude.{◌≡◌, ◌≢◌, ◌⊎◌, ℕ, ◌+◌, ◌<◌, ◌≤◌, ◌↔◌, ◌++◌, [], ◌∷◌, None, IsTrue, length, IfOk, IfErr, OnOk, OnErr, IsErrOf};
 ghost use Rattle.delta_base.specs.Outside.{Rose};
 ghost use Rattle.disk_model.specs.Past.{reads, EveryImage, MayLeave, LeavesOnly};
 ghost use Rattle.disk_model.specs.Calls.{WroteSome};
 ghost use Rattle.log_journal.specs.File.{Holds, header, journal_length};
-ghost use Rattle.log_journal.specs.Reading.{ReadsPayloads};
+ghost use Rattle.log_journal.specs.Reading.{ReadsPayloads, CountsReading, ShortReading};
 
 use crate::fault::{FormatFault, JournalFault};
 use crate::halves::write_synced;
@@ -28,6 +28,12 @@ pub fn format<D: Disk>(disk: &mut D, number: u32) -> Result<(), FormatFault>
     ensures err { D.tells → OnErr result (WroteSome 0 9 (D.past disk.old) (D.past disk.new)) }
     ensures cause { IsErrOf result FormatFault.Failed → Rose (D.faults disk.old) (D.faults disk.new) }
     ensures faults { D.faults disk.old ≤ D.faults disk.new }
+    ensures well { OnOk result (D.faults disk.new ≡ D.faults disk.old) }
+    ensures refused { (found : ℕ) → IsErrOf result (FormatFault.NotEmpty found)
+        → D.faults disk.new ≡ D.faults disk.old }
+    ensures long { D.plans → OnOk result (D.short disk.new ≡ D.short disk.old) }
+    ensures planned { D.plans → D.next_failure disk.old ≡ None → IsErrOf result FormatFault.Failed
+        → IsTrue (D.short disk.new) }
     ensures mark { D.mark disk.new ≡ D.mark disk.old }
 {
     let length = disk.len()?;
@@ -56,6 +62,8 @@ pub fn read_payloads<D: Disk>(
     ensures past { D.past disk.new ≡ D.past disk.old }
     ensures cause { IsErrOf result JournalFault.Failed → Rose (D.faults disk.old) (D.faults disk.new) }
     ensures faults { D.faults disk.old ≤ D.faults disk.new }
+    ensures counts { CountsReading result (D.faults disk.old) (D.faults disk.new) }
+    ensures planned { D.plans → ShortReading result (D.short disk.old) (D.short disk.new) }
     ensures mark { D.mark disk.new ≡ D.mark disk.old }
 {
     let file_length = disk.len()?;

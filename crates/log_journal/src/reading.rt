@@ -1,9 +1,10 @@
 //! Reads a journal's file: the header, and then block by block up to a gate that is shut.
 ghost use Rattle.std.specs.Prelude.{◌≡◌, ◌+◌, ◌^◌, ◌<◌, ◌≤◌, ◌↔◌, length, take, drop, IsTrue, not, IfOk, IfErr, IfSome, IfNone, OnOk, IsErrOf, is_some, if◌then◌else◌};
-ghost use Rattle.delta_base.specs.Outside.{HasCause, Rose};
+ghost use Rattle.delta_base.specs.Outside.{CountsFault, HasCause, Rose};
 ghost use Rattle.disk_model.specs.Past.{reads};
+ghost use Rattle.disk_model.specs.Calls.{KeepsPlan};
 ghost use Rattle.std.specs.Int.{w32, to_be_bytes};
-ghost use Rattle.log_journal.specs.Reading.{ReadsHeader, ReadsBlock, IsWantOrFailed, payload_found};
+ghost use Rattle.log_journal.specs.Reading.{ReadsHeader, ReadsBlock, IsWantOrFailed, CountsReading, ShortReading, payload_found};
 
 use crate::fault::JournalFault;
 use delta_base::Failed;
@@ -18,6 +19,9 @@ fn fetch<D: Disk>(disk: &mut D, file_length: u64, at: u64, into: &mut [u8]) -> R
     ensures short { D.tells → IfOk result (λ whole. IsTrue (not whole) → length (reads (D.past disk.old)) < at + length into.old) }
     ensures past { D.past disk.new ≡ D.past disk.old }
     ensures cause { HasCause (D.faults disk.old) (D.faults disk.new) result }
+    ensures counts { CountsFault (D.faults disk.old) (D.faults disk.new) result }
+    ensures planned { D.plans → KeepsPlan (D.short disk.old) (D.short disk.new)
+        (D.next_failure disk.old) (D.next_failure disk.new) result }
     ensures few { D.tells → D.read_bytes disk.new ≤ D.read_bytes disk.old + length into.old }
     ensures mark { D.mark disk.new ≡ D.mark disk.old }
 {
@@ -36,6 +40,9 @@ fn fetch_size<D: Disk>(disk: &mut D, file_length: u64, at: u64) -> Result<Option
     ensures short { D.tells → IfOk result (λ found. IfNone found (length (reads (D.past disk.old)) < at + 4)) }
     ensures past { D.past disk.new ≡ D.past disk.old }
     ensures cause { HasCause (D.faults disk.old) (D.faults disk.new) result }
+    ensures counts { CountsFault (D.faults disk.old) (D.faults disk.new) result }
+    ensures planned { D.plans → KeepsPlan (D.short disk.old) (D.short disk.new)
+        (D.next_failure disk.old) (D.next_failure disk.new) result }
     ensures few { D.tells → D.read_bytes disk.new ≤ D.read_bytes disk.old + 4 }
     ensures mark { D.mark disk.new ≡ D.mark disk.old }
 {
@@ -63,6 +70,8 @@ fn fetch_payload<D: Disk>(
     ensures past { D.past disk.new ≡ D.past disk.old }
     ensures cause { IsErrOf result JournalFault.Failed → Rose (D.faults disk.old) (D.faults disk.new) }
     ensures faults { D.faults disk.old ≤ D.faults disk.new }
+    ensures counts { CountsReading result (D.faults disk.old) (D.faults disk.new) }
+    ensures planned { D.plans → ShortReading result (D.short disk.old) (D.short disk.new) }
     ensures few { D.tells → D.read_bytes disk.new ≤ D.read_bytes disk.old + size }
     ensures mark { D.mark disk.new ≡ D.mark disk.old }
 {
@@ -85,6 +94,8 @@ pub fn read_header<D: Disk>(disk: &mut D, file_length: u64, number: u32) -> Resu
     ensures past { D.past disk.new ≡ D.past disk.old }
     ensures cause { IsErrOf result JournalFault.Failed → Rose (D.faults disk.old) (D.faults disk.new) }
     ensures faults { D.faults disk.old ≤ D.faults disk.new }
+    ensures counts { CountsReading result (D.faults disk.old) (D.faults disk.new) }
+    ensures planned { D.plans → ShortReading result (D.short disk.old) (D.short disk.new) }
     ensures few { D.tells → D.read_bytes disk.new ≤ D.read_bytes disk.old + 8 }
     ensures mark { D.mark disk.new ≡ D.mark disk.old }
 {
@@ -117,6 +128,8 @@ pub fn read_block<D: Disk>(
     ensures past { D.past disk.new ≡ D.past disk.old }
     ensures cause { IsErrOf result JournalFault.Failed → Rose (D.faults disk.old) (D.faults disk.new) }
     ensures faults { D.faults disk.old ≤ D.faults disk.new }
+    ensures counts { CountsReading result (D.faults disk.old) (D.faults disk.new) }
+    ensures planned { D.plans → ShortReading result (D.short disk.old) (D.short disk.new) }
     ensures few { D.tells → IfOk result (λ found. D.read_bytes disk.new ≤ D.read_bytes disk.old + (if is_some found then 5 + length (payload_found found) else 1)) }
     ensures mark { D.mark disk.new ≡ D.mark disk.old }
 {

@@ -13,6 +13,8 @@ loop-payloads-init g c =
           (none_read (reads (g.D.Disk.past c.args.disk.now)) c.args.number (subst (λ p. reads p ≡ header c.args.number ++ drop 8 (reads p)) c.len.ensures.past (c.in_ok-read_header.ensures.found told).1));
       file_length = c.in_ok-file_length.ensures.length;
       faults = omega (arith, c.len.ensures.cause.never_falls, c.read_header.ensures.faults);
+      counts = c.in_ok-read_header.ensures.counts ∙ c.in_ok-file_length.ensures.faults.well refl;
+      planned = λ plans. c.in_ok-read_header.ensures.planned plans ∙ ((c.in_ok-file_length.ensures.planned plans).well refl).0;
       behind = omega arith;
       place = rw c.new-payloads.ensures refl;
       few = λ told. omega (arith, c.len.ensures.read_bytes, c.read_header.ensures.few told);
@@ -31,6 +33,8 @@ loop-payloads-preserved g c =
           one_more_of file c.args.number c.loop-payloads.gate c.len-in-Some.result c.loop-payloads.payloads.items c.push.new.self.items c.in-Some.payload.items (c.loop-payloads.invariant.read told) found.0 same (c.in_ok-push.ensures.ok ∙ ap (λ (p : List ℕ). c.loop-payloads.payloads.items ++ p ∷ []) c.from_vec.ensures) (c.len-in-Some.ensures ∙ c.in-Some.payload.ok.0);
       file_length = c.loop-payloads.invariant.file_length;
       faults = omega (arith, c.read_block.ensures.faults, c.loop-payloads.invariant.faults);
+      counts = c.in_ok-payload.ensures.counts ∙ c.loop-payloads.invariant.counts;
+      planned = λ plans. c.in_ok-payload.ensures.planned plans ∙ c.loop-payloads.invariant.planned plans;
       behind = omega (arith, c.loop-payloads.invariant.behind);
       place = length_more c.loop-payloads.gate c.len-in-Some.result c.loop-payloads.payloads.items c.push.new.self.items c.in-Some.payload.items c.loop-payloads.invariant.place (c.in_ok-push.ensures.ok ∙ ap (λ (p : List ℕ). c.loop-payloads.payloads.items ++ p ∷ []) c.from_vec.ensures) (c.len-in-Some.ensures ∙ c.in-Some.payload.ok.0);
       few = λ told. let more = rw c.in-Some.is at (c.in_ok-payload.ensures.few told) in omega (arith, more, c.loop-payloads.invariant.few told, c.len-in-Some.ensures, c.in-Some.payload.ok.0);

@@ -10,6 +10,8 @@ invariant-loop-payloads g l = record {
   read : g.D.Disk.tells → IsRead (reads (g.D.Disk.past l.fn.disk)) l.number l.payloads.items l.gate;
   file_length : g.D.Disk.tells → l.file_length ≡ length (reads (g.D.Disk.past l.fn.disk));
   faults : g.D.Disk.faults l.fn.disk ≤ g.D.Disk.faults l.disk;
+  counts : g.D.Disk.faults l.disk ≡ g.D.Disk.faults l.fn.disk;
+  planned : g.D.Disk.plans → g.D.Disk.short l.disk ≡ g.D.Disk.short l.fn.disk;
   behind : 8 ≤ l.gate;
   place : l.gate + 1 ≡ journal_length l.payloads.items;
   few : g.D.Disk.tells → g.D.Disk.read_bytes l.disk ≤ g.D.Disk.read_bytes l.fn.disk + l.gate;
