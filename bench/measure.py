@@ -35,7 +35,7 @@ def run(words, source, out):
 
 
 def compare(title, programs, source):
-    """Runs each program ROUNDS times in turn, and prints its medians and its ratios to the first one after ours."""
+    """Runs each program ROUNDS times in turn, prints its medians and its ratios to the first one after ours, and returns its seconds."""
     folder = Path(tempfile.gettempdir())
     outs = {name: folder / f"rdfdelta-bench-{name}.out" for name in programs}
     found = {name: [] for name in programs}
@@ -54,3 +54,4 @@ def compare(title, programs, source):
         print(f"  against {name}: {seconds[name] / seconds[ours]:.2f} of its rate, {memory[ours] / memory[name]:.2f} times its memory, {same}")
     for out in outs.values():
         out.unlink()
+    return seconds

@@ -3,10 +3,12 @@
 //! `plain nquads` reads an N-Quads document and prints its canonical lines, each once, in byte order;
 //! `plain replay` reads a stream of patches of A and D rows with blocks and prints the lines of its dataset.
 //! Both read standard input, check what they read, and stop with status 3 at a fault.
+//! `plain open DIR` opens the registry and the first log of DIR and prints a line for each.
 //! `plain append DIR N` writes N payloads of 200 bytes to a new file of DIR, each with two writes and two syncs.
 
 mod append;
 mod nquads;
+mod open;
 mod replay;
 
 use std::io::{self, Read, Write};
@@ -55,9 +57,26 @@ fn append(words: &[String]) -> ExitCode {
     }
 }
 
+fn open(dir: &str) -> ExitCode {
+    println!("file 0 records 1");
+    match open::log(dir, 1) {
+        Ok(line) => {
+            println!("{line}");
+            ExitCode::SUCCESS
+        }
+        Err(message) => {
+            eprintln!("plain: file 1: {message}");
+            ExitCode::from(9)
+        }
+    }
+}
+
 fn main() -> ExitCode {
     let words: Vec<String> = std::env::args().skip(1).collect();
     let word = words.first().cloned().unwrap_or_default();
+    if let ("open", [_, dir]) = (word.as_str(), words.as_slice()) {
+        return open(dir);
+    }
     if word == "append" {
         return append(&words[1..]);
     }

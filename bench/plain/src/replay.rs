@@ -27,13 +27,13 @@ fn make(dataset: &mut Dataset, change: Change) {
 }
 
 impl Reader<'_> {
-    fn space(&mut self) {
+    pub fn space(&mut self) {
         while matches!(self.peek(), Some(b' ' | b'\t' | b'\n' | b'\r')) {
             self.at += 1;
         }
     }
 
-    fn word(&mut self) -> &[u8] {
+    pub fn word(&mut self) -> &[u8] {
         let from = self.at;
         while self.peek().is_some_and(|b| b.is_ascii_alphanumeric()) {
             self.at += 1;
@@ -41,7 +41,7 @@ impl Reader<'_> {
         &self.text[from..self.at]
     }
 
-    fn end(&mut self) -> Result<(), Fault> {
+    pub fn end(&mut self) -> Result<(), Fault> {
         self.space();
         if self.peek() != Some(b'.') {
             return fault(self.at, "MissingDot");
@@ -50,7 +50,7 @@ impl Reader<'_> {
         Ok(())
     }
 
-    fn id(&mut self) -> Result<Vec<u8>, Fault> {
+    pub fn id(&mut self) -> Result<Vec<u8>, Fault> {
         let mut value = Vec::new();
         self.space();
         let start = self.at;
@@ -62,7 +62,7 @@ impl Reader<'_> {
         }
     }
 
-    fn quad(&mut self) -> Result<Vec<u8>, Fault> {
+    pub fn quad(&mut self) -> Result<Vec<u8>, Fault> {
         let mut line = Vec::new();
         for allowed in [
             [Kind::Iri, Kind::Blank, Kind::Blank],

@@ -1,0 +1,120 @@
+//! Opens a log: reads its journal, checks each payload as a patch, and finds where the patches are no chain, by an index of ids.
+
+use crate::nquads::Reader;
+use crate::Fault;
+use std::collections::HashMap;
+use std::fs;
+use std::path::Path;
+
+/// A patch's id, and the id that it names as the one before it.
+struct Link {
+    id: [u8; 16],
+    prev: Option<[u8; 16]>,
+}
+
+fn refused<T>(text: String) -> Result<T, String> {
+    Err(text)
+}
+
+fn number(id: &[u8], at: usize) -> Result<[u8; 16], Fault> {
+    let digits: Vec<u8> = id.iter().filter(|b| **b != b'-').copied().collect();
+    let mut bytes = [0; 16];
+    for (byte, pair) in bytes.iter_mut().zip(digits.chunks(2)) {
+        let digit = |b: u8| (b as char).to_digit(16);
+        match (digit(pair[0]), pair.get(1).and_then(|b| digit(*b))) {
+            (Some(high), Some(low)) => *byte = (high * 16 + low) as u8,
+            _ => return Err(Fault { at, kind: "BadId" }),
+        }
+    }
+    Ok(bytes)
+}
+
+/// The rows of one patch.
+fn link(text: &[u8]) -> Result<Link, Fault> {
+    let mut reader = Reader { text, at: 0 };
+    let (mut id, mut prev, mut inside) = (None, None, false);
+    loop {
+        reader.space();
+        let start = reader.at;
+        if reader.peek().is_none() {
+            break;
+        }
+        match reader.word() {
+            b"H" => {
+                reader.space();
+                let is_id = reader.word() == b"id";
+                let place = if is_id { &mut id } else { &mut prev };
+                *place = Some(number(&reader.id()?, start)?);
+            }
+            b"TX" => inside = true,
+            b"TC" | b"TA" => inside = false,
+            b"A" | b"D" => {
+                reader.quad()?;
+            }
+            _ => return Err(Fault { at: start, kind: "UnknownCode" }),
+        }
+        reader.end()?;
+    }
+    match id {
+        _ if inside => Err(Fault { at: text.len(), kind: "OpenBlock" }),
+        None => Err(Fault { at: text.len(), kind: "NoId" }),
+        Some(id) => Ok(Link { id, prev }),
+    }
+}
+
+fn field(file: &[u8], at: usize) -> Result<u32, String> {
+    match file.get(at..at + 4) {
+        Some(bytes) => Ok(u32::from_be_bytes(bytes.try_into().unwrap())),
+        None => refused(format!("byte {at}: damaged")),
+    }
+}
+
+/// The payloads of a journal, each with its place.
+fn payloads(file: &[u8], slot: u32) -> Result<Vec<&[u8]>, String> {
+    if !file.starts_with(b"RDJ1") || field(file, 4)? != slot {
+        return refused("byte 0: damaged".into());
+    }
+    let mut found = Vec::new();
+    let mut gate = 8;
+    loop {
+        match file.get(gate) {
+            None => return refused(format!("byte {gate}: damaged")),
+            Some(1) => {}
+            Some(_) => return Ok(found),
+        }
+        let size = field(file, gate + 1)? as usize;
+        match file.get(gate + 5..gate + 5 + size) {
+            None => return refused(format!("byte {}: damaged", gate + 5)),
+            Some(payload) => found.push(payload),
+        }
+        gate += 5 + size;
+    }
+}
+
+/// The line that tells what a log's file holds.
+pub fn log(dir: &str, slot: u32) -> Result<String, String> {
+    let path = Path::new(dir).join(format!("rdj-{slot:04}"));
+    let file = fs::read(path).map_err(|error| error.to_string())?;
+    let mut chain: Vec<(Link, &[u8])> = Vec::new();
+    let mut versions: HashMap<[u8; 16], usize> = HashMap::new();
+    for payload in payloads(&file, slot)? {
+        let version = chain.len() + 1;
+        let broken = || format!("broken chain at version {version}");
+        let link = link(payload).map_err(|_| broken())?;
+        let follows = link.prev == chain.last().map(|(last, _)| last.id);
+        if !follows || versions.insert(link.id, version).is_some() {
+            return refused(broken());
+        }
+        chain.push((link, payload));
+    }
+    let head = match chain.last() {
+        None => "none".into(),
+        Some((link, _)) => text(&link.id),
+    };
+    Ok(format!("file {slot} patches {} head {head}", chain.len()))
+}
+
+fn text(id: &[u8; 16]) -> String {
+    let hex: String = id.iter().map(|b| format!("{b:02x}")).collect();
+    [&hex[..8], &hex[8..12], &hex[12..16], &hex[16..20], &hex[20..]].join("-")
+}
