@@ -3,14 +3,6 @@ use Rattle.std.proofs.Common.{◌≡◌, ℕ, zero, suc, ◌+◌, ◌-◌, ◌<�
 use Rattle.std.proofs.lemmas.List.{drop-drop, drop_all, take-append-le, take_all}
 use Rattle.stream_generator.specs.Generator.{patch_text, patches_from}
 
--- six parts, appended one after another to nothing
-pub six_parts : (a b c d e f t0 t1 t2 t3 t4 t5 t6 : List ℕ) → t0 ≡ [] → t1 ≡ t0 ++ a → t2 ≡ t1 ++ b → t3 ≡ t2 ++ c → t4 ≡ t3 ++ d → t5 ≡ t4 ++ e → t6 ≡ t5 ++ f
-    → t6 ≡ a ++ (b ++ (c ++ (d ++ (e ++ f))))
-six_parts a b c d e f t0 t1 t2 t3 t4 t5 t6 p0 p1 p2 p3 p4 p5 p6 =
-    rw (p6, p5, p4, p3, p2, p1, p0) (
-    append_assoc ((((a ++ b) ++ c) ++ d)) e f ∙ append_assoc ((a ++ b) ++ c) d (e ++ f) ∙ append_assoc (a ++ b) c (d ++ (e ++ f)) ∙ append_assoc a b (c ++ (d ++ (e ++ f)))
-    )
-
 -- a patch that was read is followed by the next one
 pub rest_made : (old new : List ℕ) (at next more : ℕ) → length old ≤ at → 0 < more → new ≡ patch_text next → drop 0 new ++ patches_from (next + 1) (more - 1) ≡ drop at old ++ patches_from next more
 rest_made old new at next zero low some is = absurd (omega (arith, some))

@@ -7,9 +7,17 @@ use Rattle.delta_base.specs.Ids.{text_of}
 abbrev pub id_of : ℕ → ℕ
 id_of k = 2 ^ 78 + 2 ^ 63 + k
 
+-- behind the number of the predicate: the object of the quad of patch k, and the row's dot
+abbrev pub object_text : ℕ → List ℕ
+object_text k = codes "> \"" ++ (decimal k ++ codes "\" .\n")
+
+-- the quad of patch k, and the row's dot
+abbrev pub quad_text : ℕ → List ℕ
+quad_text k = codes " <http://g/s" ++ (decimal (k % 100) ++ (codes "> <http://g/p" ++ (decimal (k % 7) ++ object_text k)))
+
 -- the row of this code with the quad of patch k
 abbrev pub quad_row : List ℕ → ℕ → List ℕ
-quad_row code k = code ++ (codes " <http://g/s" ++ (decimal (k % 100) ++ (codes "> <http://g/p" ++ (decimal (k % 7) ++ (codes "> \"" ++ (decimal k ++ codes "\" .\n"))))))
+quad_row code k = code ++ quad_text k
 
 abbrev pub id_row : ℕ → List ℕ
 id_row k = codes "H id <uuid:" ++ (text_of (id_of k) ++ codes "> .\n")
@@ -22,9 +30,13 @@ prev_row k = if k == 1 then [] else codes "H prev <uuid:" ++ (text_of (id_of (pr
 abbrev pub delete_row : ℕ → List ℕ
 delete_row k = if k % 3 == 0 then quad_row (codes "D") (k / 3) else []
 
+-- the one block of patch k
+abbrev pub block_rows : ℕ → List ℕ
+block_rows k = codes "TX .\n" ++ (quad_row (codes "A") k ++ (delete_row k ++ codes "TC .\n"))
+
 -- patch k, in one block
 unfoldable pub patch_text : ℕ → List ℕ
-patch_text k = id_row k ++ (prev_row k ++ (codes "TX .\n" ++ (quad_row (codes "A") k ++ (delete_row k ++ codes "TC .\n"))))
+patch_text k = id_row k ++ (prev_row k ++ block_rows k)
 
 -- so many patches from patch k on
 abbrev pub patches_from : ℕ → ℕ → List ℕ

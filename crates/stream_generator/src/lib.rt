@@ -5,5 +5,5 @@
 mod patch;
 mod source;
 
-pub use patch::patch_text;
+pub use patch::{MOST_BYTES, patch_text, push_patch};
 pub use source::GeneratedSource;

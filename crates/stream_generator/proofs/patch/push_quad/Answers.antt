@@ -1,0 +1,5 @@
+use Rattle.stream_generator.proofs.Appending.{three}
+use Rattle.stream_generator.proofs.patch.push_quad.Goals as goal
+
+pub returns : goal.returns
+returns c = three _ _ _ _ _ _ _ _ _ _ c.in_ok-push.ensures c.in_ok-push_number.ensures c.push_predicate.ensures
