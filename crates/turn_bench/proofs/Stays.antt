@@ -3,7 +3,7 @@ use Rattle.std.proofs.Common.{◌≡◌, ◌⊎◌, inl, inr, ⊎_elim, ℕ, ◌
 use Rattle.std.proofs.lemmas.Bool.Decides.{nat_tests}
 use Rattle.turn_cell.specs.declared.view.Entry.{Entry}
 use Rattle.turn_cell.specs.Turns.{places_by, places_from, own_count}
-use Rattle.turn_cell.specs.Sights.{IsSame, IsQuiet, KnowsItsOwn}
+use Rattle.turn_cell.specs.Knowing.{IsSame, IsQuiet, KnowsItsOwn}
 use Rattle.turn_cell.proofs.Views.{places_append}
 use Rattle.turn_bench.specs.declared.numbers.Numbers.{Numbers}
 use Rattle.turn_bench.specs.Added.{added, HasAdded, IsRefused}
@@ -26,10 +26,10 @@ module _ (by number : ℕ) (p mid q : NumberSight) (was value left : Numbers) (i
     (seen : value.entries.items ≡ mid.view.seen) (own : KnowsItsOwn mid) (handed_on : IsSame mid q) (published : q.view.seen ≡ left.entries.items) (still_own : KnowsItsOwn q)
     (counted : q.view.own_faults ≡ own_count mid.view.own_faults was.faults left.faults) where
   mine_before : places_by by value.entries.items ≡ p.view.mine
-  mine_before = (λ i. places_by ((is_by ∙ sym entered.3) i) (seen i)) ∙ (own ∙ quiet.0)
+  mine_before = (λ i. places_by ((is_by ∙ sym entered.2) i) (seen i)) ∙ (own ∙ quiet.0)
 
   mine_behind : places_by by left.entries.items ≡ q.view.mine
-  mine_behind = (λ i. places_by ((is_by ∙ (sym entered.3 ∙ sym handed_on.3)) i) (sym published i)) ∙ still_own
+  mine_behind = (λ i. places_by ((is_by ∙ (sym entered.2 ∙ sym handed_on.2)) i) (sym published i)) ∙ still_own
 
   adds : HasAdded number by value left ⊎ IsRefused value left → Adds 1 p q
   adds = ⊎_elim

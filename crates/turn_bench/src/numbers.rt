@@ -1,5 +1,6 @@
 //! The smallest value that a turn takes: numbers, each with the pass that added it.
-ghost use Rattle.std.specs.Prelude.{◌≡◌, ◌≤◌, ◌++◌, ◌∷◌, [], ◌⊎◌, IfOk, length, filter, ◌==◌, vec_len, vec_capacity};
+ghost use Rattle.std.specs.Prelude.{◌≡◌, ◌≤◌, ◌++◌, ◌∷◌, [], ◌⊎◌, IfOk, length, filter, ◌==◌};
+ghost use Rattle.std.specs.Prelude.{vec_len, vec_capacity};
 ghost use Rattle.turn_bench.specs.Added.{HasAdded, IsRefused};
 
 use delta_base::OutOfMemory;
@@ -15,7 +16,8 @@ pub struct Numbers {
 impl Numbers {
     /// No numbers, and room for so many.
     pub fn with_room(alloc: Global, room: usize) -> Result<Numbers, OutOfMemory>
-        ensures { IfOk result (λ n. (n.entries.items ≡ []) × (room ≤ vec_capacity n.entries) × (n.faults ≡ 0)) }
+        ensures { IfOk result (λ n. (n.entries.items ≡ []) × (room ≤ vec_capacity n.entries)
+            × (n.faults ≡ 0)) }
     {
         Ok(Numbers {
             entries: Vec::with_capacity(alloc, room)?,
@@ -53,9 +55,11 @@ impl Numbers {
 
 impl Chained for Numbers {
     ghost use Rattle.std.specs.Prelude.{None};
-    ghost use Rattle.turn_bench.specs.Added.{numbers_apart};
+    ghost use Rattle.turn_bench.specs.Added.{nothing_apart};
 
     type Content = u64;
+
+    type Doubt = ();
 
     type Fixed = ();
 
@@ -69,7 +73,7 @@ impl Chained for Numbers {
 
     ghost fits = { λ f es. Unit {0} };
 
-    ghost tells_apart = { numbers_apart };
+    ghost tells_apart = { nothing_apart };
 
     fn count(&self) -> u64 {
         self.entries.len() as u64

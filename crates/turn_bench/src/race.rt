@@ -1,8 +1,6 @@
 //! Threads that take the turn, each with a pass of its own.
 ghost use Rattle.std.specs.Prelude.{◌≡◌, ◌<◌, ◌≤◌, ◌+◌, ◌*◌, ◌^◌, [], All, IfOk, length, vec_len};
-ghost use Rattle.turn_cell.specs.Sights.{AreOf, AreAll};
-ghost use Rattle.turn_cell.specs.Turns.{Continues};
-ghost use Rattle.turn_bench.specs.After.{IsIdle, IsAfter, AreAfter};
+ghost use Rattle.turn_bench.specs.After.{IsIdle, IsAfter, AreAfter, AreOfRace};
 
 use crate::numbers::Numbers;
 use delta_base::OutOfMemory;
@@ -12,7 +10,7 @@ use std::thread;
 use std::thread::Threads;
 use turn_cell::{Pass, Turn};
 
-/// The numbers that so many threads add, each in so many stays, one number a stay. Nobody else has added any.
+/// The numbers that so many threads add, each in so many stays, one number a stay.
 pub fn race<R: Threads + Wait + Sync>(
     rt: &R,
     alloc: Global,
@@ -20,7 +18,7 @@ pub fn race<R: Threads + Wait + Sync>(
     stays: u32,
 ) -> Result<Numbers, OutOfMemory>
     requires { (0 < threads) × (threads ≤ 16) }
-    ensures { IfOk result (λ numbers. Continues [] threads numbers.entries.items) }
+    ensures { IfOk result (AreOfRace threads stays) }
 {
     let room = threads as usize * stays as usize;
     let numbers = Numbers::with_room(alloc, room)?;

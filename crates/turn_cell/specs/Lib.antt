@@ -2,3 +2,4 @@ pub mod Lanes
 pub mod Turns
 pub mod Steps
 pub mod Sights
+pub mod Knowing

@@ -4,6 +4,7 @@
 //! later stay finds; how long the history is can be asked at any time, without waiting.
 #![tactic(auto)]
 
+mod beds;
 mod chained;
 mod give_back;
 mod held;

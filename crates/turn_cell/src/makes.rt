@@ -1,9 +1,10 @@
 //! A turn is made of a value, and gives it back at the end.
 ghost use Rattle.std.specs.Prelude.{◌≡◌, ℕ, ◌+◌, ◌<◌, ◌≤◌, ◌++◌, ◌∷◌, [], Some, None, IfOk, IfErr, slice_get, vec_len, vec_capacity};
 ghost use Rattle.turn_cell.specs.declared.view.Role.TheVariants.{Pass as IsPass};
-ghost use Rattle.turn_cell.specs.Turns.{AllOf, seat_of, first_seat, Knew, Continues};
-ghost use Rattle.turn_cell.specs.Sights.{IsNew, AreOf, AreAll, ComesFrom, Gathers};
+ghost use Rattle.turn_cell.specs.Turns.{AllOf, seat_of, first_seat};
+ghost use Rattle.turn_cell.specs.Sights.{IsNew, AreOf, Gathers};
 
+use crate::beds::Beds;
 use crate::chained::Chained;
 use crate::plays::{Deal, TakeIn};
 use crate::rule::Making;
@@ -16,12 +17,16 @@ use std::snapshot::Snapshot;
 
 // Makes the passes, the first of the seat that the making gave.
 fn deal<V: Chained>(cell: &Cell<V>, first: Place<V>, passes: &mut Vec<Pass<V>>, seats: u32)
-    requires cell { (first.table_id ≡ cell.now.table_id) × (cell.now.table_id.words ≡ 4) × (cell.now.key.seats ≡ seats) × (0 < seats) }
-    requires first { (first.me.1 ≡ []) × ((opening : _) × (f : _) × (first.me.0 ≡ seat_of IsPass 1 2 opening (Some f))) }
+    requires cell { (first.table_id ≡ cell.now.table_id) × (cell.now.table_id.words ≡ 4)
+        × (cell.now.key.seats ≡ seats) × (0 < seats) }
+    requires first { (first.me.1 ≡ [])
+        × ((opening : _) × (f : _) × (first.me.0 ≡ seat_of IsPass 1 2 opening (Some f))) }
     requires room { (passes.old.items ≡ []) × (seats ≤ vec_capacity passes.old) }
     ensures made { vec_len passes.new ≡ seats }
     ensures room { vec_capacity passes.new ≡ vec_capacity passes.old }
-    ensures new { (k : ℕ) (p : _) → slice_get passes.new.items k ≡ Some p → (f : _) × (first.me.0.fixed ≡ Some f) × IsNew cell.now.table_id first.me.0.seen f (k + 1) p }
+    ensures new { (k : ℕ) (p : _) → slice_get passes.new.items k ≡ Some p
+        → (f : _) × (first.me.0.fixed ≡ Some f)
+        × IsNew cell.now.table_id first.me.0.seen f (k + 1) p }
 {
     let mut last = first;
     for number in 1..seats {
@@ -64,8 +69,10 @@ fn lay<V: Chained>(alloc: Global, value: V, seats: u32) -> Result<(Turn<V>, Plac
     requires seats { (0 < seats) × (seats ≤ 16) }
     requires entries { AllOf (λ e. e.by ≡ 0) (V.entries value) }
     requires test { V.fits (V.fixed value) (V.entries value) }
-    ensures cell { IfOk result (λ r. (r.0.origin ≡ value) × (r.0.seats ≡ seats) × (r.1.table_id ≡ r.0.cell)) }
-    ensures seat { IfOk result (λ r. r.1.me ≡ (first_seat (V.entries value) (V.fixed value), [])) }
+    ensures cell { IfOk result (λ r. (r.0.origin ≡ value) × (r.0.seats ≡ seats)
+        × (r.1.table_id ≡ r.0.cell)) }
+    ensures seat { IfOk result (λ r.
+        r.1.me ≡ (first_seat (V.entries value) (V.fixed value), [])) }
     ensures back { IfErr result (λ b. b.item ≡ value) }
 {
     let Ok(mut slots) = Vec::with_capacity(alloc, 1) else {
@@ -79,7 +86,10 @@ fn lay<V: Chained>(alloc: Global, value: V, seats: u32) -> Result<(Turn<V>, Plac
     };
     slots.push_reserved(Some(value));
     match Table::new(alloc, &[0, 0, count, faults], slots, &making) {
-        Ok((table, seat)) => Ok((Turn { table }, seat)),
+        Ok((table, seat)) => {
+            let beds = Beds::new();
+            Ok((Turn { table, beds }, seat))
+        }
         Err(Refused { mut slots }) => {
             let Some(slot) = slots.pop() else {
                 unreachable!()
@@ -98,8 +108,10 @@ impl<V: Chained> Turn<V> {
         requires entries { AllOf (λ e. e.by ≡ 0) (V.entries value) }
         requires test { V.fits (V.fixed value) (V.entries value) }
         ensures turn { IfOk result (λ r. (r.0.origin ≡ value) × (r.0.seats ≡ seats)) }
-        ensures passes { IfOk result (λ r. (vec_len r.1 ≡ seats) × (vec_capacity r.1 ≡ seats)) }
-        ensures new { IfOk result (λ r. (k : ℕ) (p : _) → slice_get r.1.items k ≡ Some p → IsNew r.0.cell (V.entries value) (V.fixed value) (k + 1) p) }
+        ensures passes { IfOk result (λ r.
+            (vec_len r.1 ≡ seats) × (vec_capacity r.1 ≡ seats)) }
+        ensures new { IfOk result (λ r. (k : ℕ) (p : _) → slice_get r.1.items k ≡ Some p
+            → IsNew r.0.cell (V.entries value) (V.fixed value) (k + 1) p) }
         ensures back { IfErr result (λ b. b.item ≡ value) }
     {
         let Ok(mut passes) = Vec::with_capacity(alloc, seats as usize) else {

@@ -12,9 +12,9 @@ returns g c =
     let own = stayed c.number-by.result c.args.number c.args.pass.now c.enter-held.new.pass c.leave.new.pass c.enter-held.result.was c.value_mut.result.now c.add.new.self
     c.number-by.ensures e.same e.quiet (found ∙ e.value) seen e.own l.same.0 l.entries l.own l.faults c.add.ensures.added in
     record {
-      idle = (l.same.0.0 ∙ e.same.0, l.same.1, l.same.0.5 ∙ (e.same.5 ∙ c.requires.2));
-      number = l.same.0.3 ∙ e.same.3;
-      looks = l.same.2 ∙ e.looks;
+      idle = (l.same.0.0 ∙ e.same.0, l.same.1);
+      number = l.same.0.2 ∙ e.same.2;
+      looks = l.looks ∙ e.looks;
       adds = own.0;
       faults = own.1;
     }
