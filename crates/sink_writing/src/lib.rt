@@ -1,10 +1,12 @@
-//! Writing whole texts to a sink, short ones together.
+//! Writing whole texts to a sink, short ones together, and to a link.
 #![tactic(auto)]
 
 mod room;
+mod sending;
 mod texts;
 mod whole;
 
 pub use room::{PIECE, put};
+pub use sending::send_all;
 pub use texts::write_texts;
 pub use whole::write_all;
