@@ -61,6 +61,11 @@ impl<T> Listing<T> {
         items
     }
 
+    /// Where its memory comes from.
+    pub fn alloc(&self) -> Global {
+        *self.items.allocator()
+    }
+
     pub fn len(&self) -> usize
         ensures { result ≡ length self.now.items }
     {

@@ -21,7 +21,7 @@ use Rattle.http_text.proofs.UniqueLemmas.{message_same}
 
 -- ---- the head at the front of a rest is one
 
-asks_once : (kind : Kind) (rest : List ℕ) (a b : Bool) → BeginsWithGoodHead kind rest a → BeginsWithGoodHead kind rest b → a ≡ b
+pub asks_once : (kind : Kind) (rest : List ℕ) (a b : Bool) → BeginsWithGoodHead kind rest a → BeginsWithGoodHead kind rest b → a ≡ b
 asks_once kind rest a b one two =
     let place = same_passed kind rest one.passed two.passed one.from two.from one.passes two.passes
     (no_interim_begins kind (room_behind one.passed) one.from one.head one.behind one.begins)
@@ -123,13 +123,13 @@ stage_asks_nothing kind (stages.Faulty broken) pending rest held is =
 -- ---- behind the messages that were taken
 
 -- the rest behind the same messages is one
-rest_same : (kind : Kind) (xs : List Message) (bytes a b : List ℕ) → AreMessages kind bytes xs a → AreMessages kind bytes xs b → a ≡ b
+pub rest_same : (kind : Kind) (xs : List Message) (bytes a b : List ℕ) → AreMessages kind bytes xs a → AreMessages kind bytes xs b → a ≡ b
 rest_same kind [] bytes a b one two = sym one ∙ two
 rest_same kind (x ∷ xs) bytes a b (text, more, is, it, others) (front, after, and, that, those) =
     let same = message_same kind text front more after x x it that (sym is ∙ and) in
     rest_same kind xs more a b others (subst (λ (t : List ℕ). AreMessages kind t xs b) (sym same.1) those)
 
-taken_front : (kind : Kind) (xs ys : List Message) (bytes rest : List ℕ) → AreMessages kind bytes (xs ++ ys) rest
+pub taken_front : (kind : Kind) (xs ys : List Message) (bytes rest : List ℕ) → AreMessages kind bytes (xs ++ ys) rest
     → (middle : List ℕ) × AreMessages kind bytes xs middle × AreMessages kind middle ys rest
 taken_front kind [] ys bytes rest are = (bytes, refl, are)
 taken_front kind (x ∷ xs) ys bytes rest (text, more, is, it, others) =

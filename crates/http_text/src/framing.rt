@@ -8,6 +8,7 @@ ghost use Rattle.http_text.specs.Framing.{expects, framing_by_length, framing_of
 ghost use Rattle.http_text.specs.Fields.{first_of};
 ghost use Rattle.http_text.specs.declared.message.Kind.TheVariants as kinds;
 ghost use Rattle.std.specs.Option.{option_copied};
+ghost use Rattle.http_text.specs.Faults.{frame_name, frame_status};
 ghost use Rattle.http_text.specs.declared.framing.FrameFault.TheVariants.{OutOfMemory};
 
 use crate::fields::{count_named, first_named};
@@ -31,6 +32,37 @@ pub enum FrameFault {
     BodyTooLong { length: u128, limit: u64 },
     BadChunk,
     OutOfMemory,
+}
+
+impl FrameFault {
+    /// The status of the reply that refuses what isn't a request.
+    pub fn status(self) -> u16
+        ensures { result ≡ frame_status self }
+    {
+        match self {
+            FrameFault::TooManyFields | FrameFault::HeadTooLong => 431,
+            FrameFault::BodyTooLong { .. } => 413,
+            FrameFault::OutOfMemory => 503,
+            _ => 400,
+        }
+    }
+
+    /// Its name, as a reply prints it.
+    pub fn name(self) -> &'static str
+        ensures { result.now ≡ frame_name self }
+    {
+        match self {
+            FrameFault::BadHead => "BadHead",
+            FrameFault::TooManyFields => "TooManyFields",
+            FrameFault::HeadTooLong => "HeadTooLong",
+            FrameFault::BadHost => "BadHost",
+            FrameFault::TwoLengths => "TwoLengths",
+            FrameFault::BadLength => "BadLength",
+            FrameFault::BodyTooLong { .. } => "BodyTooLong",
+            FrameFault::BadChunk => "BadChunk",
+            FrameFault::OutOfMemory => "OutOfMemory",
+        }
+    }
 }
 
 impl From<AllocError> for FrameFault {
@@ -82,7 +114,7 @@ pub fn are_digits(bytes: &[u8]) -> bool
 }
 
 // The number that so few digits have.
-fn digits_value(digits: &[u8]) -> u64
+pub fn digits_value(digits: &[u8]) -> u64
     requires few { length digits.now ≤ 18 }
     requires digits { list_all is_ascii_digit digits.now ≡ true }
     ensures { result ≡ digits_value 10 digits.now }

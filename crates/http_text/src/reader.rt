@@ -368,6 +368,7 @@ impl MessageReader {
         requires { IsReader self.old }
         ensures kind { self.new.kind ≡ self.old.kind }
         ensures none { IfNone result (waiting self.old ≡ []) }
+        ensures empty { IfNone result (waiting self.new ≡ []) }
         ensures first { IfSome result (λ message. waiting self.old ≡ message ∷ waiting self.new) }
         ensures rest { (bytes : List ℕ) (taken : List Message) → StandsFor self.old.kind bytes taken self.old
             → StandsFor self.old.kind bytes (taken_after taken result) self.new }

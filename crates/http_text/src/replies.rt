@@ -63,6 +63,7 @@ impl ReplyReader {
     /// The next whole reply.
     pub fn take(&mut self) -> Option<RawReply>
         ensures none { IfNone result (waiting self.old ≡ []) }
+        ensures empty { IfNone result (waiting self.new ≡ []) }
         ensures first { IfSome result (λ reply. waiting self.old ≡ forms.Reply reply ∷ waiting self.new) }
         ensures rest { (bytes : List ℕ) (taken : List Taken) → GaveReplies bytes taken self.old → GaveReplies bytes (taken_after taken result) self.new }
         ensures fault { fault_of self.new ≡ fault_of self.old }

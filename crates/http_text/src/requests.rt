@@ -66,6 +66,7 @@ impl RequestReader {
     /// The next whole request.
     pub fn take(&mut self) -> Option<RawRequest>
         ensures none { IfNone result (waiting self.old ≡ []) }
+        ensures empty { IfNone result (waiting self.new ≡ []) }
         ensures first { IfSome result (λ request. waiting self.old ≡ forms.Request request ∷ waiting self.new) }
         ensures rest { (bytes : List ℕ) (taken : List Taken) → GaveRequests bytes taken self.old → GaveRequests bytes (taken_after taken result) self.new }
         ensures fault { fault_of self.new ≡ fault_of self.old }

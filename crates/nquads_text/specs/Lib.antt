@@ -5,3 +5,4 @@ pub mod Printing
 pub mod Reading
 pub mod Statement
 pub mod Terms
+pub mod Names

@@ -1,6 +1,7 @@
 //! Why a text could not be read.
 
 ghost use Rattle.std.specs.Prelude.{◌≡◌};
+ghost use Rattle.nquads_text.specs.Names.{text_kind_name};
 ghost use Rattle.nquads_text.specs.declared.fault.ReadFault.TheVariants as faults;
 
 use delta_base::{Back, OutOfMemory};
@@ -20,6 +21,27 @@ pub enum TextKind {
     MissingDot,
     BadToken,
     Truncated,
+}
+
+impl TextKind {
+    /// Its name, as lines and replies print it.
+    pub fn name(self) -> &'static str
+        ensures { result.now ≡ text_kind_name self }
+    {
+        match self {
+            TextKind::NotUtf8 => "NotUtf8",
+            TextKind::BadIri => "BadIri",
+            TextKind::RelativeIri => "RelativeIri",
+            TextKind::BadEscape => "BadEscape",
+            TextKind::BadLabel => "BadLabel",
+            TextKind::BadLang => "BadLang",
+            TextKind::LangStringWithoutTag => "LangStringWithoutTag",
+            TextKind::BadPosition => "BadPosition",
+            TextKind::MissingDot => "MissingDot",
+            TextKind::BadToken => "BadToken",
+            TextKind::Truncated => "Truncated",
+        }
+    }
 }
 
 /// The first fault of a text and its place, or want of memory.

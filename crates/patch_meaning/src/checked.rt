@@ -89,23 +89,23 @@ impl Checked {
     }
 
     /// An equal patch.
-    pub fn copy(&self, alloc: Global) -> Result<Checked, OutOfMemory>
+    pub fn copy(&self) -> Result<Checked, OutOfMemory>
         ensures { IfOk result (λ c. c ≡ self.now) }
     {
         Ok(Checked {
             id: self.id,
             prev: self.prev,
             text: self.text.copy()?,
-            changes: copy_changes(alloc, &self.changes)?,
+            changes: copy_changes(&self.changes)?,
         })
     }
 }
 
 // Equal changes.
-fn copy_changes(alloc: Global, changes: &Changes) -> Result<Changes, OutOfMemory>
+fn copy_changes(changes: &Changes) -> Result<Changes, OutOfMemory>
     ensures { IfOk result (λ copy. copy.items ≡ changes.now.items) }
 {
-    let mut copy = Listing::new(alloc);
+    let mut copy = Listing::new(changes.alloc());
     for change in changes.as_slice() {
         copy.push(change.copy()?)?;
     }

@@ -17,7 +17,7 @@ use Rattle.rdf_terms.specs.Line.{line_cmp, quoted, graph_text}
 abbrev pub PrefixKey : Type 0
 PrefixKey = Option Term × List ℕ
 
--- the order of the bytes of a prefix and its graph, as a row writes them
+-- the order of the bytes of a prefix in its quotes, and then of its graph
 abbrev pub prefix_cmp : PrefixKey → PrefixKey → Ordering
 prefix_cmp a b = slice_cmp nat_cmp (quoted a.1 ++ graph_text a.0) (quoted b.1 ++ graph_text b.0)
 
