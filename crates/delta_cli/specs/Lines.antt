@@ -5,10 +5,8 @@ use Rattle.delta_base.specs.declared.id.Id.{Id}
 use Rattle.delta_base.specs.Ids.{text_of}
 use Rattle.chain_core.specs.declared.testing.ChainFault.{ChainFault}
 use Rattle.chain_core.specs.declared.testing.ChainFault.TheVariants as chains
-use Rattle.nquads_text.specs.declared.fault.TextKind.{TextKind}
-use Rattle.nquads_text.specs.declared.fault.TextKind.TheVariants as kinds
-use Rattle.patch_rows.specs.declared.fault.RowKind.{RowKind}
-use Rattle.patch_rows.specs.declared.fault.RowKind.TheVariants as rows
+use Rattle.nquads_text.specs.Names.{text_kind_name}
+use Rattle.patch_rows.specs.Names.{row_kind_name}
 use Rattle.patch_meaning.specs.declared.fault.PatchFault.{PatchFault}
 use Rattle.patch_meaning.specs.declared.fault.PatchFault.TheVariants as faults
 use Rattle.slot_checks.specs.Lines.{fault_line}
@@ -40,25 +38,6 @@ usage_text names.Check = codes "check DIR"
 usage_text names.Help = codes "--help"
 usage_text names.Version = codes "--version"
 
-abbrev pub kind_text : TextKind → List ℕ
-kind_text kinds.NotUtf8 = codes "NotUtf8"
-kind_text kinds.BadIri = codes "BadIri"
-kind_text kinds.RelativeIri = codes "RelativeIri"
-kind_text kinds.BadEscape = codes "BadEscape"
-kind_text kinds.BadLabel = codes "BadLabel"
-kind_text kinds.BadLang = codes "BadLang"
-kind_text kinds.LangStringWithoutTag = codes "LangStringWithoutTag"
-kind_text kinds.BadPosition = codes "BadPosition"
-kind_text kinds.MissingDot = codes "MissingDot"
-kind_text kinds.BadToken = codes "BadToken"
-kind_text kinds.Truncated = codes "Truncated"
-
-abbrev pub row_kind_text : RowKind → List ℕ
-row_kind_text (rows.Common kind) = kind_text kind
-row_kind_text rows.UnknownCode = codes "UnknownCode"
-row_kind_text rows.WrongCount = codes "WrongCount"
-row_kind_text rows.TooLong = codes "TooLong"
-
 -- an id in the hyphenated form, or `none`
 abbrev pub id_or_none : Option Id → List ℕ
 id_or_none None = codes "none"
@@ -77,7 +56,7 @@ abbrev pub out_of_memory_line : List ℕ
 out_of_memory_line = codes "rdfdelta: out of memory\n"
 
 abbrev pub patch_line : ℕ → PatchFault → List ℕ
-patch_line line (faults.Row at kind) = place_line line at (row_kind_text kind)
+patch_line line (faults.Row at kind) = place_line line at (row_kind_name kind)
 patch_line line (faults.NoId at) = place_line line at (codes "NoId")
 patch_line line (faults.TwoIds at) = place_line line at (codes "TwoIds")
 patch_line line (faults.TwoPrevs at) = place_line line at (codes "TwoPrevs")
@@ -99,7 +78,7 @@ unfoldable pub line_of : Refusal → List ℕ
 line_of refusals.UnknownCommand = codes "rdfdelta: unknown command\n"
 line_of (refusals.Usage name) = codes "rdfdelta: usage: " ++ (usage_text name ++ 10 ∷ [])
 line_of (refusals.Stream line fault) = patch_line line fault
-line_of (refusals.Document line at kind) = place_line line at (kind_text kind)
+line_of (refusals.Document line at kind) = place_line line at (text_kind_name kind)
 line_of refusals.TooLong = limit_line 268435456
 line_of refusals.InputFailed = codes "rdfdelta: input failed\n"
 line_of refusals.OutputFailed = codes "rdfdelta: output failed\n"

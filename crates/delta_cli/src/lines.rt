@@ -1,15 +1,13 @@
 //! The lines on err.
 ghost use Rattle.std.specs.Prelude.{◌≡◌, ◌++◌, ◌∷◌, [], IfOk, OnOk, codes};
 ghost use Rattle.std.specs.Fmt.{decimal};
-ghost use Rattle.delta_cli.specs.Lines.{id_or_none, kind_text, row_kind_text, usage_text, place_line, limit_line, patch_line, chain_line, line_of};
+ghost use Rattle.delta_cli.specs.Lines.{id_or_none, usage_text, place_line, limit_line, patch_line, chain_line, line_of};
 
 use crate::name::Name;
 use crate::refusal::Refusal;
 use chain_core::ChainFault;
 use delta_base::{Id, OutOfMemory, id_text};
-use nquads_text::TextKind;
 use patch_meaning::PatchFault;
-use patch_rows::RowKind;
 use slot_checks::fault_text;
 use std::alloc::Global;
 
@@ -23,7 +21,7 @@ pub fn line_of(alloc: Global, refusal: Refusal) -> Result<Vec<u8>, OutOfMemory>
         Refusal::Usage(name) => usage_line(alloc, name),
         Refusal::Stream { line, fault } => patch_line(alloc, line, fault),
         Refusal::Document { line, at, kind } => {
-            place_line(alloc, line as u64, at as u64, kind_text(kind))
+            place_line(alloc, line as u64, at as u64, kind.name().as_bytes())
         }
         Refusal::TooLong => limit_line(alloc, 268_435_456),
         Refusal::InputFailed => line(alloc, b"rdfdelta: input failed\n"),
@@ -79,7 +77,7 @@ fn patch_line(alloc: Global, line: u64, fault: PatchFault) -> Result<Vec<u8>, Ou
     ensures { IfOk result (λ text. text.items ≡ patch_line line fault) }
 {
     match fault {
-        PatchFault::Row { at, kind } => place_line(alloc, line, at, row_kind_text(kind)),
+        PatchFault::Row { at, kind } => place_line(alloc, line, at, kind.name().as_bytes()),
         PatchFault::NoId { at } => place_line(alloc, line, at, b"NoId"),
         PatchFault::TwoIds { at } => place_line(alloc, line, at, b"TwoIds"),
         PatchFault::TwoPrevs { at } => place_line(alloc, line, at, b"TwoPrevs"),
@@ -90,35 +88,6 @@ fn patch_line(alloc: Global, line: u64, fault: PatchFault) -> Result<Vec<u8>, Ou
         PatchFault::OpenBlock { at } => place_line(alloc, line, at, b"OpenBlock"),
         PatchFault::TooLong { limit, .. } => limit_line(alloc, limit),
         PatchFault::OutOfMemory => self::line(alloc, b"rdfdelta: out of memory\n"),
-    }
-}
-
-fn row_kind_text(kind: RowKind) -> &'static [u8]
-    ensures { result.now ≡ row_kind_text kind }
-{
-    match kind {
-        RowKind::Common(kind) => kind_text(kind),
-        RowKind::UnknownCode => b"UnknownCode",
-        RowKind::WrongCount => b"WrongCount",
-        RowKind::TooLong => b"TooLong",
-    }
-}
-
-fn kind_text(kind: TextKind) -> &'static [u8]
-    ensures { result.now ≡ kind_text kind }
-{
-    match kind {
-        TextKind::NotUtf8 => b"NotUtf8",
-        TextKind::BadIri => b"BadIri",
-        TextKind::RelativeIri => b"RelativeIri",
-        TextKind::BadEscape => b"BadEscape",
-        TextKind::BadLabel => b"BadLabel",
-        TextKind::BadLang => b"BadLang",
-        TextKind::LangStringWithoutTag => b"LangStringWithoutTag",
-        TextKind::BadPosition => b"BadPosition",
-        TextKind::MissingDot => b"MissingDot",
-        TextKind::BadToken => b"BadToken",
-        TextKind::Truncated => b"Truncated",
     }
 }
 

@@ -13,7 +13,8 @@ use Rattle.patch_meaning.specs.declared.part.Part.{Part as PartRead}
 use Rattle.patch_meaning.specs.declared.role.Role.{Role}
 use Rattle.patch_meaning.specs.Cutting.{IsCutInto, Begins, GoesOn, IsCutAt, IsLeft, HasTakenNext, IsFaultOf, IsBrokenBefore, IsLast, EndsStream, IsBrokenAtEnd, changes_behind}
 use Rattle.patch_meaning.specs.PartRead.{HasPart, IsComplete, is_sound, meaning_of}
-use Rattle.patch_meaning.specs.Patch.{Meaning, IsWell, patch_limit, has_some}
+use Rattle.delta_base.specs.declared.limits.TheConstants.{PATCH_LIMIT}
+use Rattle.patch_meaning.specs.Patch.{Meaning, IsWell, has_some}
 use Rattle.patch_meaning.specs.Roles.{role, said, change_of, changes_of}
 use Rattle.patch_meaning.specs.Rows.{AreUpTo}
 use Rattle.patch_meaning.specs.Stream.{Part, Cut, ArePatches, AreStream, IsPartFault, begins, cut, cut_with, stop_of}
@@ -40,13 +41,13 @@ pub stop_more : (parts : List Part) (last : Part) (stop : ℕ) → stop_of (part
 stop_more [] last stop = refl
 stop_more (part ∷ parts) last stop = refl
 
-pub patches_more : (done : List Part) (last : Part) (ms : List Meaning) (m : Meaning) (stop : ℕ) → ArePatches done last.from ms → IsWell (said last.rows_) m → stop ≤ last.from + patch_limit
+pub patches_more : (done : List Part) (last : Part) (ms : List Meaning) (m : Meaning) (stop : ℕ) → ArePatches done last.from ms → IsWell (said last.rows_) m → stop ≤ last.from + PATCH_LIMIT
     → ArePatches (done ++ last ∷ []) stop (ms ++ m ∷ [])
 patches_more [] last [] m stop are well short = (well, short, tt)
 patches_more [] last (n ∷ ms) m stop are well short = absurd are
 patches_more (part ∷ done) last [] m stop are well short = absurd are
 patches_more (part ∷ done) last (n ∷ ms) m stop are well short =
-    (are.0, subst (λ (s : ℕ). s ≤ part.from + patch_limit) (sym (stop_more done last stop)) are.1, patches_more done last ms m stop are.2 well short)
+    (are.0, subst (λ (s : ℕ). s ≤ part.from + PATCH_LIMIT) (sym (stop_more done last stop)) are.1, patches_more done last ms m stop are.2 well short)
 
 -- ---- one more row
 
@@ -118,7 +119,7 @@ begun_with old mid new says at link first done none starts step from rs ms chang
     (cut_begun rs r (ap (begins (said (cut rs).last.rows_)) is ∙ first (cut rs).last.rows_ h.part))
     (λ empty. cc) (place ∙ sym (from ∙ starts)) (step [] r none is place)
     (subst (λ (n : ℕ). ArePatches ((cut rs).done ++ (cut rs).last ∷ []) n (ms ++ meaning_of link changes ∷ [])) (sym place)
-    (patches_more (cut rs).done (cut rs).last ms (meaning_of link changes) at h.before well (subst (λ (n : ℕ). at ≤ n + patch_limit) (sym h.from_is) last.1)))
+    (patches_more (cut rs).done (cut rs).last ms (meaning_of link changes) at h.before well (subst (λ (n : ℕ). at ≤ n + PATCH_LIMIT) (sym h.from_is) last.1)))
     (λ now. changes_more [] r ∙ ap change_of is)
 
 pub taken_next : (old mid new : PartRead) (says : Role) (at : ℕ) (done : Option Link) → IsCutAt old says at done → IsLeft old at done mid → Adds mid says at new → new.from ≡ mid.from → (is_sound new ≡ true → is_sound mid ≡ true)
@@ -154,7 +155,7 @@ stream_ends p stop link some is rs ms changes h up =
     let last = is (cut rs).last.rows_ h.part (cut_up_to rs stop up) in
     let well = well_with (said (cut rs).last.rows_) link changes (h.changes_are last.2) last.0 in
     stream_by rs stop (ms ++ meaning_of link changes ∷ []) (some (cut rs).last.rows_ h.part)
-    (patches_more (cut rs).done (cut rs).last ms (meaning_of link changes) stop h.before well (subst (λ (n : ℕ). stop ≤ n + patch_limit) (sym h.from_is) last.1))
+    (patches_more (cut rs).done (cut rs).last ms (meaning_of link changes) stop h.before well (subst (λ (n : ℕ). stop ≤ n + PATCH_LIMIT) (sym h.from_is) last.1))
 
 pub none_there : (rs : List PlacedRow) → has_some rs ≡ false → rs ≡ []
 none_there [] none = refl

@@ -16,7 +16,8 @@ use Rattle.patch_meaning.specs.declared.role.Role.{Role}
 use Rattle.patch_meaning.specs.declared.role.Role.TheVariants as roles
 use Rattle.patch_meaning.specs.Draft.{Stands}
 use Rattle.patch_meaning.specs.PartRead.{IsRefused, LacksEnd}
-use Rattle.patch_meaning.specs.Patch.{Meaning, IsWell, AreTaken, AreTakenFrom, block_refusal, refusal, refused_at, patch_limit, prev_list}
+use Rattle.delta_base.specs.declared.limits.TheConstants.{PATCH_LIMIT}
+use Rattle.patch_meaning.specs.Patch.{Meaning, IsWell, AreTaken, AreTakenFrom, block_refusal, refusal, refused_at, prev_list}
 use Rattle.patch_meaning.specs.Roles.{role, said, changes_of, open_after}
 use Rattle.patch_meaning.specs.Stream.{Part, IsPartFault, too_long, no_row}
 use Rattle.patch_meaning.proofs.Parts.{whole_is, lacks_end, refused_part}
@@ -118,28 +119,28 @@ sorted rs = sorted_from [] rs tt
 -- ---- a patch of a stream
 
 -- the part is a patch within the limit, or it has a first fault
-pub part_settled : (part : Part) (stop : ℕ) → ((m : Meaning) × IsWell (said part.rows_) m × (stop ≤ part.from + patch_limit)) ⊎ ((fault : PatchFault) × IsPartFault part stop None fault)
-part_settled part stop = by (cases_lt (part.from + patch_limit) stop)
+pub part_settled : (part : Part) (stop : ℕ) → ((m : Meaning) × IsWell (said part.rows_) m × (stop ≤ part.from + PATCH_LIMIT)) ⊎ ((fault : PatchFault) × IsPartFault part stop None fault)
+part_settled part stop = by (cases_lt (part.from + PATCH_LIMIT) stop)
   where
-    whole : stop ≤ part.from + patch_limit → Ends (said part.rows_) stop → ((m : Meaning) × IsWell (said part.rows_) m × (stop ≤ part.from + patch_limit)) ⊎ ((fault : PatchFault) × IsPartFault part stop None fault)
+    whole : stop ≤ part.from + PATCH_LIMIT → Ends (said part.rows_) stop → ((m : Meaning) × IsWell (said part.rows_) m × (stop ≤ part.from + PATCH_LIMIT)) ⊎ ((fault : PatchFault) × IsPartFault part stop None fault)
     whole short (inl m) = inl (m.0, m.1, short)
     whole short (inr lacks) = inr (lacks.0, lacks_end part.rows_ part.from stop lacks.0 short lacks.1)
 
-    all : stop ≤ part.from + patch_limit → Sorted part.rows_ → ((m : Meaning) × IsWell (said part.rows_) m × (stop ≤ part.from + patch_limit)) ⊎ ((fault : PatchFault) × IsPartFault part stop None fault)
+    all : stop ≤ part.from + PATCH_LIMIT → Sorted part.rows_ → ((m : Meaning) × IsWell (said part.rows_) m × (stop ≤ part.from + PATCH_LIMIT)) ⊎ ((fault : PatchFault) × IsPartFault part stop None fault)
     all short (inl taken) = whole short (ends (said part.rows_) stop taken)
     all short (inr r) = inr (r.0, refused_part part.rows_ part.from stop None r.0 short r.1)
 
-    by : (part.from + patch_limit < stop) ⊎ (stop ≤ part.from + patch_limit) → ((m : Meaning) × IsWell (said part.rows_) m × (stop ≤ part.from + patch_limit)) ⊎ ((fault : PatchFault) × IsPartFault part stop None fault)
+    by : (part.from + PATCH_LIMIT < stop) ⊎ (stop ≤ part.from + PATCH_LIMIT) → ((m : Meaning) × IsWell (said part.rows_) m × (stop ≤ part.from + PATCH_LIMIT)) ⊎ ((fault : PatchFault) × IsPartFault part stop None fault)
     by (inl long) = inr (_, too_long long refl)
     by (inr short) = all short (sorted part.rows_)
 
 pub broken_settled : (part : Part) (stop : ℕ) (kind : RowKind) → (fault : PatchFault) × IsPartFault part stop (Some kind) fault
-broken_settled part stop kind = by (cases_lt (part.from + patch_limit) stop)
+broken_settled part stop kind = by (cases_lt (part.from + PATCH_LIMIT) stop)
   where
-    all : stop ≤ part.from + patch_limit → Sorted part.rows_ → (fault : PatchFault) × IsPartFault part stop (Some kind) fault
+    all : stop ≤ part.from + PATCH_LIMIT → Sorted part.rows_ → (fault : PatchFault) × IsPartFault part stop (Some kind) fault
     all short (inl taken) = (faults.Row stop kind, no_row kind short taken refl refl)
     all short (inr r) = (r.0, refused_part part.rows_ part.from stop (Some kind) r.0 short r.1)
 
-    by : (part.from + patch_limit < stop) ⊎ (stop ≤ part.from + patch_limit) → (fault : PatchFault) × IsPartFault part stop (Some kind) fault
+    by : (part.from + PATCH_LIMIT < stop) ⊎ (stop ≤ part.from + PATCH_LIMIT) → (fault : PatchFault) × IsPartFault part stop (Some kind) fault
     by (inl long) = (_, too_long long refl)
     by (inr short) = all short (sorted part.rows_)

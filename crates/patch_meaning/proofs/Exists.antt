@@ -16,7 +16,8 @@ use Rattle.patch_reader.proofs.RowAnswers.{settled}
 use Rattle.patch_meaning.specs.declared.fault.PatchFault.{PatchFault}
 use Rattle.patch_meaning.specs.declared.fault.Refusal.{Refusal}
 use Rattle.patch_meaning.specs.PartRead.{LacksEnd}
-use Rattle.patch_meaning.specs.Patch.{Meaning, IsWell, IsPatch, IsPatchFault, AreTaken, refusal, has_some, patch_limit}
+use Rattle.delta_base.specs.declared.limits.TheConstants.{PATCH_LIMIT}
+use Rattle.patch_meaning.specs.Patch.{Meaning, IsWell, IsPatch, IsPatchFault, AreTaken, refusal, has_some}
 use Rattle.patch_meaning.specs.Patch as patch
 use Rattle.patch_meaning.specs.Roles.{role, said}
 use Rattle.patch_meaning.specs.Stream.{Cut, ArePatches, IsStream, IsStreamFault, StopsAt, begins, cut}
@@ -78,7 +79,7 @@ HasRead text at rs = RowsUpTo text 0 rs at × AreTaken (said rs)
 abbrev placed : Row → ℕ → ℕ → PlacedRow
 placed r at end = record { row = r; at = at; end = end }
 
-module _ (text : List ℕ) (short : length text ≤ patch_limit) where
+module _ (text : List ℕ) (short : length text ≤ PATCH_LIMIT) where
   ended : (at to : ℕ) (rs : List PlacedRow) → HasRead text at rs → Gap text at to → to ≡ length text → PatchOr text
   ended at to rs h gap last = by (ends (said rs) to h.1)
     where
@@ -107,9 +108,9 @@ module _ (text : List ℕ) (short : length text ≤ patch_limit) where
   walk (suc fuel) at rs within enough h = step at rs within h (λ r more low high. walk fuel r.end (rs ++ r ∷ []) high (omega (arith, low, enough)) more)
 
 pub patch_or : (text : List ℕ) → PatchOr text
-patch_or text = by (cases_lt patch_limit (length text))
+patch_or text = by (cases_lt PATCH_LIMIT (length text))
   where
-    by : (patch_limit < length text) ⊎ (length text ≤ patch_limit) → PatchOr text
+    by : (PATCH_LIMIT < length text) ⊎ (length text ≤ PATCH_LIMIT) → PatchOr text
     by (inl long) = inr (_, patch.too_long long refl)
     by (inr short) = walk text short (length text) 0 [] (omega arith) (omega arith) (refl, tt)
 
@@ -152,7 +153,7 @@ module _ (text : List ℕ) where
   stream_ended at to rs ms h gap last = by (cut rs).last.rows_ refl
     where
       whole : has_some (cut rs).last.rows_ ≡ true → ((cut rs).last.rows_ ≡ [] → ⊥)
-          → ((m : Meaning) × IsWell (said (cut rs).last.rows_) m × (to ≤ (cut rs).last.from + patch_limit)) ⊎ ((fault : PatchFault) × stream.IsPartFault (cut rs).last to None fault) → StreamOr text
+          → ((m : Meaning) × IsWell (said (cut rs).last.rows_) m × (to ≤ (cut rs).last.from + PATCH_LIMIT)) ⊎ ((fault : PatchFault) × stream.IsPartFault (cut rs).last to None fault) → StreamOr text
       whole some not_none (inl m) = inl (
         ms ++ m.0 ∷ [],
         record {
@@ -178,7 +179,7 @@ module _ (text : List ℕ) where
       )
   with_row at to rs ms r h gap is true first further = by (part_settled (cut rs).last r.at)
     where
-      by : ((m : Meaning) × IsWell (said (cut rs).last.rows_) m × (r.at ≤ (cut rs).last.from + patch_limit)) ⊎ ((fault : PatchFault) × stream.IsPartFault (cut rs).last r.at None fault) → StreamOr text
+      by : ((m : Meaning) × IsWell (said (cut rs).last.rows_) m × (r.at ≤ (cut rs).last.from + PATCH_LIMIT)) ⊎ ((fault : PatchFault) × stream.IsPartFault (cut rs).last r.at None fault) → StreamOr text
       by (inr fault) = breaks at r.at rs ms r.at None h gap (stream.next r.row r.end is first refl refl) fault
       by (inl m) =
           let e = cut_begun rs r first in

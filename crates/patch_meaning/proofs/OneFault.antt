@@ -12,7 +12,8 @@ use Rattle.patch_meaning.specs.declared.fault.PatchFault.{PatchFault}
 use Rattle.patch_meaning.specs.declared.fault.PatchFault.TheVariants as faults
 use Rattle.patch_meaning.specs.declared.fault.Refusal.{Refusal}
 use Rattle.patch_meaning.specs.declared.role.Role.{Role}
-use Rattle.patch_meaning.specs.Patch.{Meaning, AreTaken, AreTakenFrom, refusal, refused_at, patch_limit}
+use Rattle.delta_base.specs.declared.limits.TheConstants.{PATCH_LIMIT}
+use Rattle.patch_meaning.specs.Patch.{Meaning, AreTaken, AreTakenFrom, refusal, refused_at}
 use Rattle.patch_meaning.specs.Roles.{role, said, is_open}
 use Rattle.patch_meaning.specs.Stream.{Part, Cut, ArePatches, IsPartFault, IsStreamFault, StopsAt, begins, cut, cut_with, stop_of, too_long, refused, open_block, no_id, next, over}
 use Rattle.patch_meaning.specs.Stream as stream
@@ -75,7 +76,7 @@ whole_broken broken kind e f = absurd cc
 one_kind : (broken : Option RowKind) (k l : RowKind) → broken ≡ Some k → broken ≡ Some l → k ≡ l
 one_kind broken k l e f = cc
 
-long_short : {X : Type 0} (part : Part) (stop : ℕ) → part.from + patch_limit < stop → stop ≤ part.from + patch_limit → X
+long_short : {X : Type 0} (part : Part) (stop : ℕ) → part.from + PATCH_LIMIT < stop → stop ≤ part.from + PATCH_LIMIT → X
 long_short part stop long short = absurd (omega (arith, long, short))
 
 module _ (part : Part) (stop : ℕ) (broken : Option RowKind) (f g : PatchFault) where

@@ -8,7 +8,8 @@ use Rattle.patch_rows.specs.declared.row.Row.{Row}
 use Rattle.patch_rows.specs.Grammar.{IsRowAt}
 use Rattle.patch_meaning.specs.declared.fault.PatchFault.{PatchFault}
 use Rattle.patch_meaning.specs.declared.fault.Refusal.{Refusal}
-use Rattle.patch_meaning.specs.Patch.{Meaning, IsWell, AreTaken, refusal, patch_limit}
+use Rattle.delta_base.specs.declared.limits.TheConstants.{PATCH_LIMIT}
+use Rattle.patch_meaning.specs.Patch.{Meaning, IsWell, AreTaken, refusal}
 use Rattle.patch_meaning.specs.Roles.{role, said, is_open}
 use Rattle.patch_reader.specs.declared.placed.PlacedRow.{PlacedRow}
 use Rattle.patch_meaning.specs.Stream.{Part, Cut, ArePatches, AreStream, IsStream, IsPartFault, IsStreamFault, StopsAt, begins, cut, cut_with, stop_of, too_long, refused, open_block, no_id, next, over}
@@ -43,7 +44,7 @@ same_stream text ms ns p q = by (compared text 0 p.rows_ (length text) q.rows_ (
 
 -- the part is a patch that stops there
 abbrev pub IsGood : Part → ℕ → Type 0
-IsGood part stop = (m : Meaning) × IsWell (said part.rows_) m × (stop ≤ part.from + patch_limit)
+IsGood part stop = (m : Meaning) × IsWell (said part.rows_) m × (stop ≤ part.from + PATCH_LIMIT)
 
 some_none : {X : Type 0} (o : Option Refusal) (why : Refusal) → o ≡ None → o ≡ Some why → X
 some_none o why e f = absurd cc

@@ -14,7 +14,8 @@ use Rattle.patch_meaning.specs.declared.fault.PatchFault.TheVariants as faults
 use Rattle.patch_meaning.specs.declared.part.Part.{Part as PartRead}
 use Rattle.patch_meaning.specs.declared.role.Role.{Role}
 use Rattle.patch_meaning.specs.Draft.{AreBehind, Stands}
-use Rattle.patch_meaning.specs.Patch.{AreOutside, AreTaken, IsWell, patch_limit, prev_list, refusal, has_some}
+use Rattle.delta_base.specs.declared.limits.TheConstants.{PATCH_LIMIT}
+use Rattle.patch_meaning.specs.Patch.{AreOutside, AreTaken, IsWell, prev_list, refusal, has_some}
 use Rattle.patch_meaning.specs.PartRead.{IsNoted, IsRefused, HasRows, HasPart, LacksEnd, TakesRow, is_sound, meaning_of}
 use Rattle.patch_meaning.specs.Roles.{role, said, id_of, change_of, ids_of, changes_of, is_open}
 use Rattle.patch_reader.specs.declared.placed.PlacedRow.{PlacedRow}
@@ -54,11 +55,11 @@ still_refused rs r fault is = record {
 -- ---- taking
 
 -- a row behind the limit, or one in front of it
-behind_more : (from at : ℕ) (rs : List PlacedRow) (r : PlacedRow) (behind was : Bool) → nat_lt (from + patch_limit) at ≡ behind → (was ≡ true → (stop : ℕ) → AreUpTo rs stop → from + patch_limit < stop) → r.at ≡ at
-    → behind || was ≡ true → (stop : ℕ) → AreUpTo (rs ++ r ∷ []) stop → from + patch_limit < stop
+behind_more : (from at : ℕ) (rs : List PlacedRow) (r : PlacedRow) (behind was : Bool) → nat_lt (from + PATCH_LIMIT) at ≡ behind → (was ≡ true → (stop : ℕ) → AreUpTo rs stop → from + PATCH_LIMIT < stop) → r.at ≡ at
+    → behind || was ≡ true → (stop : ℕ) → AreUpTo (rs ++ r ∷ []) stop → from + PATCH_LIMIT < stop
 behind_more from at rs r true was is before place long stop up =
     let there = front_up_to rs r stop up in
-    let far : from + patch_limit < at = grind (arith, nat_tests, is) in omega (arith, far, place, there.1)
+    let far : from + PATCH_LIMIT < at = grind (arith, nat_tests, is) in omega (arith, far, place, there.1)
 behind_more from at rs r false was is before place long stop up = before long stop (front_up_to rs r stop up).0
 
 short_before : (behind was : Bool) → behind || was ≡ false → was ≡ false
@@ -69,10 +70,10 @@ short_before false was short = short
 noted : (rs : List PlacedRow) (r : PlacedRow) (says : Role) (at : ℕ) (old new : PartRead) (d : Draft) (f : Option PatchFault) → HasPart rs old → role r.row ≡ says → r.at ≡ at → IsNoted old says at new
     → (old.is_long ≡ false → new.is_long ≡ false → HasRows f (rs ++ r ∷ []) (record new { draft = d; fault = f })) → HasPart (rs ++ r ∷ []) (record new { draft = d; fault = f })
 noted rs r says at old new d f h is place n rows_ = record {
-  rows_ = λ short. rows_ (short_before (nat_lt (old.from + patch_limit) at) old.is_long (sym n.long ∙ short)) short;
+  rows_ = λ short. rows_ (short_before (nat_lt (old.from + PATCH_LIMIT) at) old.is_long (sym n.long ∙ short)) short;
   long = λ long stop up.
-      subst (λ (from : ℕ). from + patch_limit < stop) (sym n.from)
-      (behind_more old.from at rs r (nat_lt (old.from + patch_limit) at) old.is_long refl h.long place (sym n.long ∙ long) stop up);
+      subst (λ (from : ℕ). from + PATCH_LIMIT < stop) (sym n.from)
+      (behind_more old.from at rs r (nat_lt (old.from + PATCH_LIMIT) at) old.is_long refl h.long place (sym n.long ∙ long) stop up);
   some = has_more rs (r ∷ []) ∙ sym n.some;
   id = says_more id_of rs r ∙ ap (λ (q : Role). has_some (id_of q) || has_some (ids_of (said rs))) is ∙ ap (λ (b : Bool). has_some (id_of says) || b) h.id ∙ sym n.id;
   change = says_more change_of rs r ∙ ap (λ (q : Role). has_some (change_of q) || has_some (changes_of (said rs))) is
@@ -142,38 +143,38 @@ whole_is rs d id s outside is = record {
   blocks = subst AreOutside (append-nil (changes_of rs)) (s.blocks [] (subst (λ (b : Bool). AreBehind b []) (sym outside) tt));
 }
 
-pub lacks_end : (rs : List PlacedRow) (from stop : ℕ) (fault : PatchFault) → stop ≤ from + patch_limit → LacksEnd (said rs) stop fault → IsPartFault (record { from = from; rows_ = rs }) stop None fault
+pub lacks_end : (rs : List PlacedRow) (from stop : ℕ) (fault : PatchFault) → stop ≤ from + PATCH_LIMIT → LacksEnd (said rs) stop fault → IsPartFault (record { from = from; rows_ = rs }) stop None fault
 lacks_end rs from stop fault short lacks = by lacks.1
   where
     by : ((is_open (said rs) ≡ true) × (fault ≡ faults.OpenBlock stop)) ⊎ ((is_open (said rs) ≡ false) × (ids_of (said rs) ≡ []) × (fault ≡ faults.NoId stop)) → IsPartFault (record { from = from; rows_ = rs }) stop None fault
     by (inl is) = open_block short lacks.0 refl is.0 is.1
     by (inr is) = no_id short lacks.0 refl is.0 is.1 is.2
 
-pub refused_part : (rs : List PlacedRow) (from stop : ℕ) (broken : Option RowKind) (fault : PatchFault) → stop ≤ from + patch_limit → IsRefused rs fault → IsPartFault (record { from = from; rows_ = rs }) stop broken fault
+pub refused_part : (rs : List PlacedRow) (from stop : ℕ) (broken : Option RowKind) (fault : PatchFault) → stop ≤ from + PATCH_LIMIT → IsRefused rs fault → IsPartFault (record { from = from; rows_ = rs }) stop broken fault
 refused_part rs from stop broken fault short is = refused is.before is.after is.row_ is.why short is.parts is.taken is.refused is.fault_is
 
-pub broken_part : (rs : List PlacedRow) (from stop : ℕ) (kind : RowKind) (d : Draft) → stop ≤ from + patch_limit → Stands (said rs) d → IsPartFault (record { from = from; rows_ = rs }) stop (Some kind) (faults.Row stop kind)
+pub broken_part : (rs : List PlacedRow) (from stop : ℕ) (kind : RowKind) (d : Draft) → stop ≤ from + PATCH_LIMIT → Stands (said rs) d → IsPartFault (record { from = from; rows_ = rs }) stop (Some kind) (faults.Row stop kind)
 broken_part rs from stop kind d short s = no_row kind short s.taken refl refl
 
 -- a patch that stops within the limit is not long
-not_long : (rs : List PlacedRow) (p : PartRead) (stop : ℕ) (long : Bool) → (long ≡ true → (stop : ℕ) → AreUpTo rs stop → p.from + patch_limit < stop) → AreUpTo rs stop → stop ≤ p.from + patch_limit → long ≡ false
+not_long : (rs : List PlacedRow) (p : PartRead) (stop : ℕ) (long : Bool) → (long ≡ true → (stop : ℕ) → AreUpTo rs stop → p.from + PATCH_LIMIT < stop) → AreUpTo rs stop → stop ≤ p.from + PATCH_LIMIT → long ≡ false
 not_long rs p stop true far up short = absurd (omega (arith, far refl stop up, short))
 not_long rs p stop false far up short = refl
 
-within : (rs : List PlacedRow) (p : PartRead) (stop : ℕ) → HasPart rs p → AreUpTo rs stop → stop ≤ p.from + patch_limit → HasRows p.fault rs p
+within : (rs : List PlacedRow) (p : PartRead) (stop : ℕ) → HasPart rs p → AreUpTo rs stop → stop ≤ p.from + PATCH_LIMIT → HasRows p.fault rs p
 within rs p stop h up short = h.rows_ (not_long rs p stop p.is_long h.long up short)
 
-pub refused_rows : (rs : List PlacedRow) (p : PartRead) (stop : ℕ) (fault : PatchFault) → HasPart rs p → AreUpTo rs stop → stop ≤ p.from + patch_limit → p.fault ≡ Some fault → IsRefused rs fault
+pub refused_rows : (rs : List PlacedRow) (p : PartRead) (stop : ℕ) (fault : PatchFault) → HasPart rs p → AreUpTo rs stop → stop ≤ p.from + PATCH_LIMIT → p.fault ≡ Some fault → IsRefused rs fault
 refused_rows rs p stop fault h up short is = subst (λ (f : Option PatchFault). HasRows f rs p) is (within rs p stop h up short)
 
-pub stands_rows : (rs : List PlacedRow) (p : PartRead) (stop : ℕ) → HasPart rs p → AreUpTo rs stop → stop ≤ p.from + patch_limit → p.fault ≡ None → Stands (said rs) p.draft
+pub stands_rows : (rs : List PlacedRow) (p : PartRead) (stop : ℕ) → HasPart rs p → AreUpTo rs stop → stop ≤ p.from + PATCH_LIMIT → p.fault ≡ None → Stands (said rs) p.draft
 stands_rows rs p stop h up short is = subst (λ (f : Option PatchFault). HasRows f rs p) is (within rs p stop h up short)
 
 sound_by : (p : PartRead) → p.is_long ≡ false → p.fault ≡ None → is_sound p ≡ true
 sound_by p short none = ap (λ (b : Bool). not b && not (is_some p.fault)) short ∙ ap (λ (f : Option PatchFault). not (is_some f)) none
 
 -- the patch of which all rows were taken
-pub complete_part : (rs : List PlacedRow) (p : PartRead) (stop : ℕ) (link : Link) → HasPart rs p → AreUpTo rs stop → stop ≤ p.from + patch_limit → p.fault ≡ None
-    → ((l : List Role) → Stands l p.draft → IsWell l (meaning_of link (changes_of l))) → IsWell (said rs) (meaning_of link (changes_of (said rs))) × (stop ≤ p.from + patch_limit) × (is_sound p ≡ true)
+pub complete_part : (rs : List PlacedRow) (p : PartRead) (stop : ℕ) (link : Link) → HasPart rs p → AreUpTo rs stop → stop ≤ p.from + PATCH_LIMIT → p.fault ≡ None
+    → ((l : List Role) → Stands l p.draft → IsWell l (meaning_of link (changes_of l))) → IsWell (said rs) (meaning_of link (changes_of (said rs))) × (stop ≤ p.from + PATCH_LIMIT) × (is_sound p ≡ true)
 complete_part rs p stop link h up short none well =
     (well (said rs) (stands_rows rs p stop h up short none), short, sound_by p (not_long rs p stop p.is_long h.long up short) none)

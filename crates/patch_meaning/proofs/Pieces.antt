@@ -12,7 +12,8 @@ use Rattle.patch_rows.proofs.SpaceLaws.{skipped, none_behind}
 use Rattle.patch_reader.specs.declared.placed.PlacedRow.{PlacedRow}
 use Rattle.patch_reader.specs.Rows.{Gap, RowsUpTo}
 use Rattle.patch_meaning.specs.declared.role.Role.{Role}
-use Rattle.patch_meaning.specs.Patch.{Meaning, IsPatch, IsWell, patch_limit}
+use Rattle.delta_base.specs.declared.limits.TheConstants.{PATCH_LIMIT}
+use Rattle.patch_meaning.specs.Patch.{Meaning, IsPatch, IsWell}
 use Rattle.patch_meaning.specs.Roles.{role, said}
 use Rattle.patch_meaning.specs.Rows.{RowsTo}
 use Rattle.patch_meaning.specs.Stream.{Part, Cut, begins, cut, cut_with, stop_of}
@@ -85,7 +86,7 @@ said_moved : (from : ℕ) (rs : List PlacedRow) → said (map (moved from) rs) �
 said_moved from [] = refl
 said_moved from (r ∷ rs) = ap (λ (l : List Role). role r.row ∷ l) (said_moved from rs)
 
-pub piece_patch : (text : List ℕ) (from stop : ℕ) (rs : List PlacedRow) (m : Meaning) → RowsTo text from rs stop → stop ≤ from + patch_limit → IsWell (said rs) m → IsPatch (slice_range text from stop) m
+pub piece_patch : (text : List ℕ) (from stop : ℕ) (rs : List PlacedRow) (m : Meaning) → RowsTo text from rs stop → stop ≤ from + PATCH_LIMIT → IsWell (said rs) m → IsPatch (slice_range text from stop) m
 piece_patch text from stop rs m (behind, up, gap) short well =
     let order = rows_order text from behind rs up in
     let low = gap.1 in

@@ -11,7 +11,8 @@ use Rattle.patch_meaning.specs.Checked.{AreRead, Refuses, IsStopped, HasRead}
 use Rattle.patch_meaning.specs.Draft.{Stands}
 use Rattle.patch_meaning.specs.Next.{IsNextRow, IsNext}
 use Rattle.patch_meaning.specs.PartRead.{LacksEnd}
-use Rattle.patch_meaning.specs.Patch.{IsPatchFault, rows_, no_row, refused, open_block, no_id, patch_limit, refusal, row_refused}
+use Rattle.delta_base.specs.declared.limits.TheConstants.{PATCH_LIMIT}
+use Rattle.patch_meaning.specs.Patch.{IsPatchFault, rows_, no_row, refused, open_block, no_id, refusal, row_refused}
 use Rattle.patch_meaning.specs.Roles.{role, said}
 use Rattle.patch_meaning.specs.Rows.{RowsTo}
 use Rattle.patch_reader.specs.declared.placed.PlacedRow.{PlacedRow}
@@ -50,7 +51,7 @@ further text at next is =
 pub ended : (text : List ℕ) (at : ℕ) (d : ReadRows) → HasTaken text at d → Gap text at (length text) → HasRead text d
 ended text at d h gap = (h.rs, (at, h.reads, gap), h.stands)
 
-pub stopped : (text : List ℕ) (at : ℕ) (d : ReadRows) (next : Next) (fault : PatchFault) → length text ≤ patch_limit → HasTaken text at d → IsNextRow text at next
+pub stopped : (text : List ℕ) (at : ℕ) (d : ReadRows) (next : Next) (fault : PatchFault) → length text ≤ PATCH_LIMIT → HasTaken text at d → IsNextRow text at next
     → ((rs : List Role) → AreRead rs d → IsStopped rs next fault) → Refuses text fault
 stopped text at d next fault short h is stop = by (stop (said h.rs) h.stands)
   where
@@ -60,16 +61,16 @@ stopped text at d next fault short h is stop = by (stop (said h.rs) h.stands)
         inr (rows_ h.rs next.at short (at, h.reads, is.1) h.stands.0.taken
         (refused is.0 next.end s.0 is.2 (ap (refusal (said h.rs)) (sym is.3) ∙ s.1) s.2))
 
-pub broken : (text : List ℕ) (at : ℕ) (d : ReadRows) (fault : RowFault) → length text ≤ patch_limit → HasTaken text at d → IsNext text at (Err fault) → Refuses text (row_refused fault)
+pub broken : (text : List ℕ) (at : ℕ) (d : ReadRows) (fault : RowFault) → length text ≤ PATCH_LIMIT → HasTaken text at d → IsNext text at (Err fault) → Refuses text (row_refused fault)
 broken text at d (row.At place kind) short h is = inr (rows_ h.rs is.0 short (at, h.reads, is.1) h.stands.0.taken (no_row place kind is.2 refl))
 broken text at d row.OutOfMemory short h is = inl refl
 
 -- ---- the end
 
 -- all rows were taken, and yet it is no patch
-pub lacks_text : (text : List ℕ) (rs : List PlacedRow) (to : ℕ) (fault : PatchFault) → length text ≤ patch_limit → RowsTo text 0 rs to → to ≡ length text → LacksEnd (said rs) to fault → IsPatchFault text fault
+pub lacks_text : (text : List ℕ) (rs : List PlacedRow) (to : ℕ) (fault : PatchFault) → length text ≤ PATCH_LIMIT → RowsTo text 0 rs to → to ≡ length text → LacksEnd (said rs) to fault → IsPatchFault text fault
 lacks_text text rs to fault short reads last (taken, inl is) = rows_ rs to short reads taken (open_block last is.0 is.1)
 lacks_text text rs to fault short reads last (taken, inr is) = rows_ rs to short reads taken (no_id last is.0 is.1 is.2)
 
-pub lacks_end : (text : List ℕ) (d : ReadRows) (fault : PatchFault) → length text ≤ patch_limit → HasRead text d → ((rs : List Role) → Stands rs d.draft → LacksEnd rs (length text) fault) → Refuses text fault
+pub lacks_end : (text : List ℕ) (d : ReadRows) (fault : PatchFault) → length text ≤ PATCH_LIMIT → HasRead text d → ((rs : List Role) → Stands rs d.draft → LacksEnd rs (length text) fault) → Refuses text fault
 lacks_end text d fault short h why = inr (lacks_text text h.0 (length text) fault short h.1 refl (why (said h.0) h.2.0))

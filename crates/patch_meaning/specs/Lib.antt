@@ -8,3 +8,4 @@ pub mod Replay
 pub mod Roles
 pub mod Rows
 pub mod Stream
+pub mod Names

@@ -9,7 +9,8 @@ use Rattle.patch_meaning.specs.declared.fault.Refusal.{Refusal}
 use Rattle.patch_meaning.specs.declared.part.Part.{Part as PartRead}
 use Rattle.patch_meaning.specs.declared.role.Role.{Role}
 use Rattle.patch_meaning.specs.Draft.{Stands}
-use Rattle.patch_meaning.specs.Patch.{Meaning, IsWell, AreTaken, refusal, refused_at, has_some, patch_limit, place_of}
+use Rattle.delta_base.specs.declared.limits.TheConstants.{PATCH_LIMIT}
+use Rattle.patch_meaning.specs.Patch.{Meaning, IsWell, AreTaken, refusal, refused_at, has_some, place_of}
 use Rattle.patch_meaning.specs.Roles.{role, said, id_of, change_of, ids_of, changes_of, is_open}
 use Rattle.patch_meaning.specs.Rows.{AreUpTo}
 use Rattle.patch_reader.specs.declared.placed.PlacedRow.{PlacedRow}
@@ -37,7 +38,7 @@ HasRows (Some fault) rs p = IsRefused rs fault
 -- These are its rows. As long as none of them begins behind the limit, what they say is kept; else it stops behind the limit, wherever that is.
 pub record HasPart (rs : List PlacedRow) (p : PartRead) : Type 0 where
   pub rows_ : p.is_long ≡ false → HasRows p.fault rs p
-  pub long : p.is_long ≡ true → (stop : ℕ) → AreUpTo rs stop → p.from + patch_limit < stop
+  pub long : p.is_long ≡ true → (stop : ℕ) → AreUpTo rs stop → p.from + PATCH_LIMIT < stop
   pub some : has_some rs ≡ p.has_rows
   pub id : has_some (ids_of (said rs)) ≡ p.has_id
   pub change : has_some (changes_of (said rs)) ≡ p.has_change
@@ -47,7 +48,7 @@ pub record IsNoted (old : PartRead) (says : Role) (at : ℕ) (new : PartRead) : 
   pub from : new.from ≡ old.from
   pub draft : new.draft ≡ old.draft
   pub fault : new.fault ≡ old.fault
-  pub long : new.is_long ≡ nat_lt (old.from + patch_limit) at || old.is_long
+  pub long : new.is_long ≡ nat_lt (old.from + PATCH_LIMIT) at || old.is_long
   pub some : new.has_rows ≡ true
   pub id : new.has_id ≡ has_some (id_of says) || old.has_id
   pub change : new.has_change ≡ has_some (change_of says) || old.has_change
@@ -59,7 +60,7 @@ is_sound p = not p.is_long && not (is_some p.fault)
 -- the patch that stops there is complete, and has these ids
 abbrev pub IsComplete : PartRead → ℕ → Link → Type 0
 IsComplete p stop link =
-    (rs : List PlacedRow) → HasPart rs p → AreUpTo rs stop → IsWell (said rs) (meaning_of link (changes_of (said rs))) × (stop ≤ p.from + patch_limit) × (is_sound p ≡ true)
+    (rs : List PlacedRow) → HasPart rs p → AreUpTo rs stop → IsWell (said rs) (meaning_of link (changes_of (said rs))) × (stop ≤ p.from + PATCH_LIMIT) × (is_sound p ≡ true)
 
 -- the fault of a row that was refused, and that is told where the patch ends within its limit
 abbrev pub first_fault : PartRead → Option PatchFault

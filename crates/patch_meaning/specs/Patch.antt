@@ -1,6 +1,7 @@
 -- Patches, and the first fault of a text that is none.
 use Rattle.std.specs.Prelude.{◌≡◌, ℕ, ◌<◌, ◌≤◌, Bool, true, false, List, [], ◌∷◌, ◌++◌, Option, Some, None, length, map, if◌then◌else◌}
 use Rattle.delta_base.specs.declared.id.Id.{Id}
+use Rattle.delta_base.specs.declared.limits.TheConstants.{PATCH_LIMIT}
 use Rattle.rdf_terms.specs.declared.change.Change.{Change}
 use Rattle.rdf_terms.specs.declared.change.Change.TheVariants as change
 use Rattle.patch_rows.specs.declared.row.Row.{Row}
@@ -18,10 +19,6 @@ use Rattle.patch_meaning.specs.Roles.{role, said, ids_of, prevs_of, changes_of, 
 use Rattle.patch_reader.specs.declared.placed.PlacedRow.{PlacedRow}
 use Rattle.patch_reader.specs.Rows.{NoRowAt}
 use Rattle.patch_meaning.specs.Rows.{RowsTo}
-
--- the bytes that a patch may have
-abbrev pub patch_limit : ℕ
-patch_limit = 4194304
 
 -- ---- patches
 
@@ -69,7 +66,7 @@ pub record IsWell (rs : List Role) (m : Meaning) : Type 0 where
 
 -- the text is a patch that says this
 pub record IsPatch (text : List ℕ) (m : Meaning) : Type 0 where
-  pub short : length text ≤ patch_limit
+  pub short : length text ≤ PATCH_LIMIT
   pub rows_ : List PlacedRow
   pub reads : RowsTo text 0 rows_ (length text)
   pub well : IsWell (said rows_) m
@@ -149,5 +146,5 @@ pub data IsRowsFault (text : List ℕ) (rows_ : List PlacedRow) (to : ℕ) (faul
 
 -- The first fault of a text that is no patch. That it is too long comes before all others.
 pub data IsPatchFault (text : List ℕ) (fault : PatchFault) : Type 0 where
-  too_long : patch_limit < length text → fault ≡ faults.TooLong (length text) patch_limit → IsPatchFault text fault
-  rows_ : (rs : List PlacedRow) (to : ℕ) → length text ≤ patch_limit → RowsTo text 0 rs to → AreTaken (said rs) → IsRowsFault text rs to fault → IsPatchFault text fault
+  too_long : PATCH_LIMIT < length text → fault ≡ faults.TooLong (length text) PATCH_LIMIT → IsPatchFault text fault
+  rows_ : (rs : List PlacedRow) (to : ℕ) → length text ≤ PATCH_LIMIT → RowsTo text 0 rs to → AreTaken (said rs) → IsRowsFault text rs to fault → IsPatchFault text fault

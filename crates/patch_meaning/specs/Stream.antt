@@ -10,7 +10,8 @@ use Rattle.patch_meaning.specs.declared.fault.Refusal.{Refusal}
 use Rattle.patch_meaning.specs.declared.role.Role.{Role}
 use Rattle.patch_meaning.specs.declared.role.Role.TheVariants as roles
 use Rattle.patch_meaning.specs.Checked.{CheckedPatch, meanings, texts}
-use Rattle.patch_meaning.specs.Patch.{Meaning, IsWell, AreTaken, refusal, refused_at, patch_limit, has_some}
+use Rattle.delta_base.specs.declared.limits.TheConstants.{PATCH_LIMIT}
+use Rattle.patch_meaning.specs.Patch.{Meaning, IsWell, AreTaken, refusal, refused_at, has_some}
 use Rattle.patch_meaning.specs.Roles.{role, said, ids_of, changes_of, is_open}
 use Rattle.patch_reader.specs.declared.placed.PlacedRow.{PlacedRow}
 use Rattle.patch_reader.specs.Rows.{NoRowAt}
@@ -56,7 +57,7 @@ abbrev pub ArePatches : List Part → ℕ → List Meaning → Type 0
 ArePatches [] stop [] = Unit {0}
 ArePatches [] stop (m ∷ ms) = ⊥
 ArePatches (part ∷ parts) stop [] = ⊥
-ArePatches (part ∷ parts) stop (m ∷ ms) = IsWell (said part.rows_) m × (stop_of parts stop ≤ part.from + patch_limit) × ArePatches parts stop ms
+ArePatches (part ∷ parts) stop (m ∷ ms) = IsWell (said part.rows_) m × (stop_of parts stop ≤ part.from + PATCH_LIMIT) × ArePatches parts stop ms
 
 -- the rows up to this place are patches that say this; without rows there is none
 abbrev pub AreStream : List PlacedRow → ℕ → List Meaning → Type 0
@@ -91,12 +92,12 @@ pub record IsSplit (text : List ℕ) (ps : List CheckedPatch) : Type 0 where
 -- The first fault of a patch of a stream, whose text stops at this place: at the next patch or the stream's end, or, where it
 -- is broken by a row's fault, at that fault. That it is too long comes before all others.
 pub data IsPartFault (part : Part) (stop : ℕ) (broken : Option RowKind) (fault : PatchFault) : Type 0 where
-  too_long : part.from + patch_limit < stop → fault ≡ faults.TooLong (stop - part.from) patch_limit → IsPartFault part stop broken fault
-  refused : (before after : List PlacedRow) (r : PlacedRow) (why : Refusal) → stop ≤ part.from + patch_limit → part.rows_ ≡ before ++ r ∷ after → AreTaken (said before)
+  too_long : part.from + PATCH_LIMIT < stop → fault ≡ faults.TooLong (stop - part.from) PATCH_LIMIT → IsPartFault part stop broken fault
+  refused : (before after : List PlacedRow) (r : PlacedRow) (why : Refusal) → stop ≤ part.from + PATCH_LIMIT → part.rows_ ≡ before ++ r ∷ after → AreTaken (said before)
       → refusal (said before) (role r.row) ≡ Some why → fault ≡ refused_at why r.at → IsPartFault part stop broken fault
-  no_row : (kind : RowKind) → stop ≤ part.from + patch_limit → AreTaken (said part.rows_) → broken ≡ Some kind → fault ≡ faults.Row stop kind → IsPartFault part stop broken fault
-  open_block : stop ≤ part.from + patch_limit → AreTaken (said part.rows_) → broken ≡ None → is_open (said part.rows_) ≡ true → fault ≡ faults.OpenBlock stop → IsPartFault part stop broken fault
-  no_id : stop ≤ part.from + patch_limit → AreTaken (said part.rows_) → broken ≡ None → is_open (said part.rows_) ≡ false → ids_of (said part.rows_) ≡ [] → fault ≡ faults.NoId stop
+  no_row : (kind : RowKind) → stop ≤ part.from + PATCH_LIMIT → AreTaken (said part.rows_) → broken ≡ Some kind → fault ≡ faults.Row stop kind → IsPartFault part stop broken fault
+  open_block : stop ≤ part.from + PATCH_LIMIT → AreTaken (said part.rows_) → broken ≡ None → is_open (said part.rows_) ≡ true → fault ≡ faults.OpenBlock stop → IsPartFault part stop broken fault
+  no_id : stop ≤ part.from + PATCH_LIMIT → AreTaken (said part.rows_) → broken ≡ None → is_open (said part.rows_) ≡ false → ids_of (said part.rows_) ≡ [] → fault ≡ faults.NoId stop
       → IsPartFault part stop broken fault
 
 -- behind its rows up to a place a patch stops: the next one begins there, or the text ends, or no row stands there

@@ -5,15 +5,16 @@ ghost use Rattle.patch_meaning.specs.declared.role.Role.{Role as Said};
 ghost use Rattle.patch_meaning.specs.Checked.{AreRead, HasRead, Refuses, IsStopped};
 ghost use Rattle.patch_meaning.specs.Roles.{change_of};
 ghost use Rattle.patch_meaning.specs.PartRead.{meaning_of};
-ghost use Rattle.patch_meaning.specs.Patch.{IsPatch, patch_limit};
+ghost use Rattle.delta_base.specs.declared.limits.TheConstants.{PATCH_LIMIT};
+ghost use Rattle.patch_meaning.specs.Patch.{IsPatch};
 
 use crate::draft::Draft;
 use crate::fault::PatchFault;
-use crate::part::{PATCH_LIMIT, whole};
+use crate::part::whole;
 use crate::role::Role;
 use crate::rows::{Next, next_row};
 use chain_core::Link;
-use delta_base::{Bytes, Id, Listing, OutOfMemory};
+use delta_base::{Bytes, Id, Listing, OutOfMemory, PATCH_LIMIT};
 use rdf_terms::Changes;
 use std::alloc::Global;
 use std::marker::Model;
@@ -83,29 +84,29 @@ impl Checked {
     pub fn text(&self) -> &Bytes
         ensures text { result.now ≡ self.now.text }
         ensures is_patch { IsPatch self.now.text self.now.meaning }
-        ensures short { length self.now.text ≤ patch_limit }
+        ensures short { length self.now.text ≤ PATCH_LIMIT }
     {
         &self.text
     }
 
     /// An equal patch.
-    pub fn copy(&self, alloc: Global) -> Result<Checked, OutOfMemory>
+    pub fn copy(&self) -> Result<Checked, OutOfMemory>
         ensures { IfOk result (λ c. c ≡ self.now) }
     {
         Ok(Checked {
             id: self.id,
             prev: self.prev,
             text: self.text.copy()?,
-            changes: copy_changes(alloc, &self.changes)?,
+            changes: copy_changes(&self.changes)?,
         })
     }
 }
 
 // Equal changes.
-fn copy_changes(alloc: Global, changes: &Changes) -> Result<Changes, OutOfMemory>
+fn copy_changes(changes: &Changes) -> Result<Changes, OutOfMemory>
     ensures { IfOk result (λ copy. copy.items ≡ changes.now.items) }
 {
-    let mut copy = Listing::new(alloc);
+    let mut copy = Listing::new(changes.alloc());
     for change in changes.as_slice() {
         copy.push(change.copy()?)?;
     }
@@ -137,7 +138,7 @@ pub fn check_patch(alloc: Global, text: &[u8]) -> Result<Checked, PatchFault>
 
 // Takes all rows of a text.
 fn read_rows(alloc: Global, text: &[u8]) -> Result<ReadRows, PatchFault>
-    requires { length text.now ≤ patch_limit }
+    requires { length text.now ≤ PATCH_LIMIT }
     ensures ok { IfOk result (HasRead text.now) }
     ensures fault { IfErr result (Refuses text.now) }
 {
@@ -191,7 +192,7 @@ pub fn refuse<T>(says: Role, fault: PatchFault) -> Result<T, PatchFault>
 
 // The patch of which all rows were taken.
 fn finish(alloc: Global, read: ReadRows, text: &[u8]) -> Result<Checked, PatchFault>
-    requires short { length text.now ≤ patch_limit }
+    requires short { length text.now ≤ PATCH_LIMIT }
     requires read { HasRead text.now read }
     ensures ok { IfOk result (λ patch. (patch.text ≡ text.now) × IsPatch text.now patch.meaning) }
     ensures fault { IfErr result (Refuses text.now) }

@@ -1,6 +1,7 @@
 //! Why a text is no patch.
 
 ghost use Rattle.std.specs.Prelude.{◌≡◌, Some};
+ghost use Rattle.patch_meaning.specs.Names.{fault_name};
 ghost use Rattle.patch_meaning.specs.Patch.{place_of, refused_at, row_refused};
 ghost use Rattle.patch_meaning.specs.declared.fault.PatchFault.TheVariants as faults;
 
@@ -44,6 +45,25 @@ pub enum Refusal {
 }
 
 impl PatchFault {
+    /// The name of what is wrong with a row, else the fault's own, as lines and replies print it.
+    pub fn name(self) -> &'static str
+        ensures { result.now ≡ fault_name self }
+    {
+        match self {
+            PatchFault::Row { kind, .. } => kind.name(),
+            PatchFault::NoId { .. } => "NoId",
+            PatchFault::TwoIds { .. } => "TwoIds",
+            PatchFault::TwoPrevs { .. } => "TwoPrevs",
+            PatchFault::BadId { .. } => "BadId",
+            PatchFault::LateHeader { .. } => "LateHeader",
+            PatchFault::Nested { .. } => "Nested",
+            PatchFault::NotInBlock { .. } => "NotInBlock",
+            PatchFault::OpenBlock { .. } => "OpenBlock",
+            PatchFault::TooLong { .. } => "TooLong",
+            PatchFault::OutOfMemory => "OutOfMemory",
+        }
+    }
+
     /// Its place in bytes from the text's front. That a text is too long has none.
     pub fn place(&self) -> Option<u64>
         ensures { result ≡ place_of self.now }

@@ -4,7 +4,8 @@ ghost use Rattle.std.specs.Prelude.{◌≡◌, ◌+◌, ◌++◌, ◌∷◌, [],
 ghost use Rattle.patch_meaning.specs.declared.role.Role.{Role as Said};
 ghost use Rattle.patch_meaning.specs.Draft.{Stands};
 ghost use Rattle.patch_meaning.specs.declared.fault.PatchFault.{PatchFault};
-ghost use Rattle.patch_meaning.specs.Patch.{IsWell, patch_limit, has_some, place_of};
+ghost use Rattle.delta_base.specs.declared.limits.TheConstants.{PATCH_LIMIT};
+ghost use Rattle.patch_meaning.specs.Patch.{IsWell, has_some, place_of};
 ghost use Rattle.patch_meaning.specs.PartRead.{meaning_of, HasPart, IsComplete, IsNoted, LacksEnd, TakesRow, IsToldAt, IsFoundAt, first_fault, is_sound};
 ghost use Rattle.patch_meaning.specs.Roles.{role, said, id_of, change_of, changes_of};
 ghost use Rattle.patch_reader.specs.declared.placed.PlacedRow.{PlacedRow};
@@ -15,10 +16,8 @@ use crate::draft::Draft;
 use crate::fault::PatchFault;
 use crate::role::Role;
 use chain_core::Link;
+use delta_base::PATCH_LIMIT;
 use patch_rows::RowKind;
-
-/// The bytes that a patch may have.
-pub const PATCH_LIMIT: u64 = 4_194_304;
 
 /// A patch of a stream, as far as its rows were read. Who reads them keeps the changes.
 #[derive(Clone, Copy)]
@@ -184,7 +183,7 @@ fn take_row(draft: &mut Draft, says: &Role, at: u64) -> Option<PatchFault>
 
 // Whether a row begins behind the limit of a patch.
 fn is_behind(from: u64, at: u64) -> bool
-    ensures { result ≡ nat_lt (from + patch_limit) at }
+    ensures { result ≡ nat_lt (from + PATCH_LIMIT) at }
 {
     at.saturating_sub(from) > PATCH_LIMIT
 }

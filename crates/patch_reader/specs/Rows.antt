@@ -67,6 +67,10 @@ GivesNext end text base at (Err fault) = Stops end text (base + at) (Some fault)
 abbrev pub Adds : TextEnd → List ℕ → ℕ → List PlacedRow → List PlacedRow → ℕ → Type 0
 Adds end text from old new to = (rows_ : List PlacedRow) × (new ≡ old ++ rows_) × RowsStand end text from rows_ to
 
+-- the rows that were ready still are, in front of those that came
+abbrev pub StayReady : List PlacedRow → List PlacedRow → Type 0
+StayReady old new = (more : List PlacedRow) × (new ≡ old ++ more)
+
 -- The next row was put behind others, and the place behind it is answered; or nothing was put there.
 abbrev pub TakesNext : TextEnd → List ℕ → ℕ → ℕ → List PlacedRow → List PlacedRow → Result (Option ℕ) RowAnswer → Type 0
 TakesNext end text base at old new (Ok (Some behind)) = (r : PlacedRow) × (new ≡ old ++ r ∷ []) × RowsStand end text (base + at) (r ∷ []) (base + behind)

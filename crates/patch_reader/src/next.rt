@@ -5,7 +5,7 @@ ghost use Rattle.nquads_text.specs.Grammar.{StartsWith};
 ghost use Rattle.patch_rows.specs.Grammar.{begins_space};
 ghost use Rattle.patch_reader.specs.Decided.{Reads, GivesRow};
 ghost use Rattle.patch_reader.specs.Places.{moved_fault, placed_row};
-ghost use Rattle.patch_reader.specs.Rows.{GivesNext, TakesNext, Adds, Stops, Keeps};
+ghost use Rattle.patch_reader.specs.Rows.{GivesNext, TakesNext, Adds, StayReady, Stops, Keeps};
 
 use crate::placed::PlacedRow;
 use crate::reading::{decided_row, read_row};
@@ -101,6 +101,7 @@ fn take_next(
     requires { at ≤ length kept.now }
     ensures takes { (text : List ℕ) → Keeps text base kept.now → TakesNext end text base at ready.old.items ready.new.items result }
     ensures further { IfOk result (λ found. IfSome found (λ behind. (at < behind) × (behind ≤ length kept.now))) }
+    ensures stay { StayReady ready.old.items ready.new.items }
 {
     ready.reserve(1)?;
     match next_row(alloc, kept, at, base, end) {
@@ -124,6 +125,7 @@ pub fn take_rows(
     ensures within { result.0 ≤ length kept.now }
     ensures adds { (text : List ℕ) → Keeps text base kept.now → Adds end text base ready.old.items ready.new.items (base + result.0) }
     ensures stops { (text : List ℕ) → Keeps text base kept.now → Stops end text (base + result.0) result.1 }
+    ensures stay { StayReady ready.old.items ready.new.items }
 {
     let mut at = 0;
     'rows: loop {

@@ -11,7 +11,7 @@ ghost use Rattle.patch_rows.specs.Cut.{is_cut};
 ghost use Rattle.patch_reader.specs.Pieces.{IsHeld, IsStuck, IsSameGap, Stands, Takes, TakesRow};
 ghost use Rattle.patch_reader.specs.Places.{further_place};
 ghost use Rattle.patch_reader.specs.Progress.{IsUnfinished, Follows};
-ghost use Rattle.patch_reader.specs.Rows.{Adds, Stops, NothingDecided};
+ghost use Rattle.patch_reader.specs.Rows.{Adds, StayReady, Stops, NothingDecided};
 
 use crate::next::take_rows;
 use crate::placed::PlacedRow;
@@ -156,6 +156,7 @@ impl PatchReader {
         ensures stops { (text : List ℕ) → IsHeld text self.old → IsSameGap end text self.old.passed self.old.from → Stops end text self.new.passed self.new.fault }
         ensures held { (text : List ℕ) → IsHeld text self.old → IsStuck self.old.kept.items self.old.region → IsHeld text self.new × IsStuck self.new.kept.items self.new.region }
         ensures within { (text : List ℕ) → IsHeld text self.old → self.new.passed ≤ length text }
+        ensures stay { StayReady self.old.ready.items self.new.ready.items }
     {
         let (size, fault) = take_rows(self.alloc, &self.kept, self.from, end, &mut self.ready);
         self.fault = fault;
@@ -183,6 +184,7 @@ impl PatchReader {
         ensures stops { (text : List ℕ) → IsHeld text self.old → IsStuck self.old.kept.items self.old.region → Stops ends.Open text self.new.passed self.new.fault }
         ensures held { (text : List ℕ) → IsHeld text self.old → IsStuck self.old.kept.items self.old.region → IsHeld text self.new × IsStuck self.new.kept.items self.new.region }
         ensures within { (text : List ℕ) → IsHeld text self.old → self.new.passed ≤ length text }
+        ensures stay { StayReady self.old.ready.items self.new.ready.items }
     {
         if self.is_unfinished() {
             return;
@@ -205,6 +207,7 @@ impl PatchReader {
         ensures stands { (fed : List ℕ) (taken : List Placed) → Stands ends.Open fed taken self.old → length (fed ++ piece.now) < 2 ^ 64 → Stands ends.Open (fed ++ piece.now) taken self.new }
         ensures answer { MatchResult result (λ _. self.new.fault ≡ None) (λ fault. self.new.fault ≡ Some fault) }
         ensures stays { (fault : Answer) → self.old.fault ≡ Some fault → self.new ≡ self.old }
+        ensures ready { StayReady self.old.ready.items self.new.ready.items }
     {
         if let Some(fault) = self.fault {
             return Err(fault);
@@ -224,6 +227,7 @@ impl PatchReader {
         ensures again { (text : List ℕ) (taken : List Placed) → Stands ends.Known text taken self.old → length text < 2 ^ 64 → Stands ends.Known text taken self.new }
         ensures answer { MatchResult result (λ _. self.new.fault ≡ None) (λ fault. self.new.fault ≡ Some fault) }
         ensures stays { (fault : Answer) → self.old.fault ≡ Some fault → self.new ≡ self.old }
+        ensures ready { StayReady self.old.ready.items self.new.ready.items }
     {
         if let Some(fault) = self.fault {
             return Err(fault);

@@ -2,6 +2,7 @@
 
 ghost use Rattle.std.specs.Prelude.{◌≡◌};
 ghost use Rattle.patch_rows.specs.Fault.{row_fault};
+ghost use Rattle.patch_rows.specs.Names.{row_kind_name};
 ghost use Rattle.patch_rows.specs.declared.fault.RowFault.TheVariants as faults;
 
 use delta_base::OutOfMemory;
@@ -19,6 +20,20 @@ pub enum RowKind {
     WrongCount,
     /// The row passes 4,194,304 bytes.
     TooLong,
+}
+
+impl RowKind {
+    /// Its name, as lines and replies print it.
+    pub fn name(self) -> &'static str
+        ensures { result.now ≡ row_kind_name self }
+    {
+        match self {
+            RowKind::Common(kind) => kind.name(),
+            RowKind::UnknownCode => "UnknownCode",
+            RowKind::WrongCount => "WrongCount",
+            RowKind::TooLong => "TooLong",
+        }
+    }
 }
 
 /// The first fault of a row and its place, or want of memory.

@@ -6,7 +6,7 @@ use delta_base::{OutOfMemory, Text};
 use rdf_terms::{Change, Term};
 
 /// A row of a patch.
-#[derive(Drop)]
+#[derive(Debug, PartialEq, Eq, PartialOrd, Ord, Hash, Drop)]
 pub enum Row {
     Header { key: Text, value: Term },
     Change(Change),

@@ -38,7 +38,7 @@ fn a_patch_has_its_id_and_its_changes(rt: HostRuntime) -> Result<(), Fail> {
 #[test]
 fn a_copy_has_the_same_text_and_changes(rt: HostRuntime) -> Result<(), Fail> {
     let patch = check_patch(rt.alloc(), TEXT.as_bytes())?;
-    let copy = patch.copy(rt.alloc());
+    let copy = patch.copy();
     drop(patch);
     let copy = copy?;
     assert!(rt; copy.changes().len() == 3);
