@@ -1,12 +1,12 @@
 -- Reading goes on from block to block.
-use Rattle.std.proofs.Common.{◌≡◌, inl, inr, Err, ℕ, ◌+◌, ◌^◌, ◌<◌, ◌≤◌, List, [], ◌∷◌, ◌++◌, length, drop, refl, sym, ◌∙◌, ap, subst, arith, length-append}
-use Rattle.log_journal.specs.File.{front, header, block, Holds, journal_length}
+use Rattle.std.proofs.Common.{◌≡◌, inl, inr, Err, ℕ, ◌+◌, ◌^◌, ◌<◌, ◌≤◌, List, [], ◌∷◌, ◌++◌, length, take, drop, refl, sym, ◌∙◌, ap, subst, arith, length-append, length-take, take-append-drop}
+use Rattle.log_journal.specs.File.{front, header, block, Holds, Damage, journal_length}
 use Rattle.std.specs.List.{flat_map}
 use Rattle.std.proofs.lemmas.List.{drop_all}
 use Rattle.std.specs.Prelude.{sum_by}
 use Rattle.std.proofs.lemmas.List.Sums.{sum_by-cons, sum_by-append}
 use Rattle.std.proofs.lemmas.List.Elements.{All-from_recursion}
-use Rattle.log_journal.specs.Reading.{IsRead, ReadsGate, ReadsPayload, ReadsPayloads}
+use Rattle.log_journal.specs.Reading.{IsRead, ReadsPayload, ReadsPayloads}
 use Rattle.log_journal.specs.declared.fault.JournalFault.{JournalFault}
 use Rattle.log_journal.specs.declared.fault.JournalFault.TheVariants.{Failed, Damaged, WrongNumber, OverLimit, OutOfMemory}
 use Rattle.log_journal.proofs.Steps.{front-push, length-front-push, sized-push}
@@ -53,20 +53,22 @@ pub gate_within : (image : List ℕ) (number : ℕ) (payloads : List (List ℕ))
 gate_within image number payloads holds = omega (arith, holds.has_gate)
 
 -- the file ends with its header
-pub gate_missing : (file : List ℕ) (number : ℕ) (fault : JournalFault) → IsRead file number [] 8 → ReadsGate file 8 (Err fault) → ReadsPayloads file number (Err fault)
-gate_missing file number (Damaged at) so_far none = inr (record {
-  payloads = [];
-  rest = [];
-  offset = 0;
-  parts = so_far.parts ∙ ap (λ (l : List ℕ). front number [] ++ l) (drop_all 8 file none.0);
-  sized = so_far.sized;
-  breaks = refl;
-  place = omega (arith, none.1, so_far.place);
-})
-gate_missing file number (WrongNumber found) so_far none = absurd none
-gate_missing file number (OverLimit length limit) so_far none = absurd none
-gate_missing file number Failed so_far none = tt
-gate_missing file number OutOfMemory so_far none = tt
+pub header_alone : (file head : List ℕ) (number : ℕ) → head ≡ take 8 file → head ≡ header number ++ drop 8 head → length file < 9 → Damage file number 8
+header_alone file head number is header_is short =
+    let none : drop 8 file ≡ [] = drop_all 8 file (omega (arith, short)) in
+    let none_behind : drop 8 head ≡ [] = drop_all 8 head (omega (arith, ap length is, length-take 8 file)) in
+    let whole : file ≡ header number ++ drop 8 file =
+    sym (take-append-drop 8 file) ∙ ap (λ (l : List ℕ). l ++ drop 8 file) (sym is ∙ header_is ∙ ap (λ (l : List ℕ). header number ++ l) none_behind) in
+    let start = none_read file number whole in
+    inr (record {
+      payloads = [];
+      rest = [];
+      offset = 0;
+      parts = start.parts ∙ ap (λ (l : List ℕ). front number [] ++ l) none;
+      sized = start.sized;
+      breaks = refl;
+      place = omega (arith, start.place);
+    })
 
 -- behind the payloads that were read the file breaks off, or ends behind one more
 pub payload_missing : (file : List ℕ) (number gate : ℕ) (payloads : List (List ℕ)) (fault : JournalFault) → IsRead file number payloads gate → ReadsPayload file gate (Err fault) → ReadsPayloads file number (Err fault)

@@ -7,34 +7,35 @@ use Rattle.log_journal.specs.File.{front, header, block, Holds, AreSized, Breaks
 use Rattle.log_journal.specs.declared.fault.JournalFault.{JournalFault}
 use Rattle.log_journal.specs.declared.fault.JournalFault.TheVariants.{Failed, Damaged, WrongNumber, OverLimit, OutOfMemory}
 
--- the header has this number
+-- a file begins with a header of this number; or its fault
 abbrev pub ReadsHeader : {T : Type 0} → List ℕ → ℕ → Result T JournalFault → Type 0
 ReadsHeader file number (Ok done) = (number < 2 ^ 32) × (file ≡ header number ++ drop 8 file)
 ReadsHeader file number (Err (Damaged at)) = HasNoHeader file × (at ≡ 0)
 ReadsHeader file number (Err (WrongNumber found)) = HasHeader file found × (found ≢ number)
 ReadsHeader file number (Err (OverLimit length limit)) = ⊥
-ReadsHeader file number (Err Failed) = Unit {0}
-ReadsHeader file number (Err OutOfMemory) = Unit {0}
+ReadsHeader file number (Err Failed) = ⊥
+ReadsHeader file number (Err OutOfMemory) = ⊥
 
 -- this byte stands at a place
 abbrev pub HasByte : List ℕ → ℕ → ℕ → Type 0
 HasByte file at byte = drop at file ≡ byte ∷ drop (at + 1) file
 
--- the byte of a gate, or the file ends before it
-abbrev pub ReadsGate : List ℕ → ℕ → Result ℕ JournalFault → Type 0
-ReadsGate file at (Ok gate) = HasByte file at gate
-ReadsGate file at (Err (Damaged place)) = (length file ≤ at) × (place ≡ at)
-ReadsGate file at (Err (WrongNumber found)) = ⊥
-ReadsGate file at (Err (OverLimit length limit)) = ⊥
-ReadsGate file at (Err Failed) = Unit {0}
-ReadsGate file at (Err OutOfMemory) = Unit {0}
+-- the byte of the first gate, behind a header with this number; or which fault comes first
+abbrev pub ReadsStart : List ℕ → ℕ → Result ℕ JournalFault → Type 0
+ReadsStart file number (Ok gate) =
+    (number < 2 ^ 32) × (file ≡ header number ++ drop 8 file) × HasByte file 8 gate
+ReadsStart file number (Err (Damaged at)) = Damage file number at
+ReadsStart file number (Err (WrongNumber found)) = HasHeader file found × (found ≢ number)
+ReadsStart file number (Err (OverLimit length limit)) = ⊥
+ReadsStart file number (Err Failed) = Unit {0}
+ReadsStart file number (Err OutOfMemory) = Unit {0}
 
 -- a payload stands behind an open gate
 pub record HasPayload (file : List ℕ) (at : ℕ) (payload : List ℕ) : Type 0 where
   pub sized : length payload < 2 ^ 32
   pub block_is : drop at file ≡ block payload ++ drop (at + 5 + length payload) file
 
--- what stands at a gate's place breaks off in the field that begins here, or the file ends behind the payload
+-- what stands at a gate's place breaks off in the field that begins here, or is whole and ends the file
 abbrev pub EndsAt : List ℕ → ℕ → ℕ → Type 0
 EndsAt file at place =
     ((offset : ℕ) × BreaksOff (drop at file) offset × (place ≡ at + offset))

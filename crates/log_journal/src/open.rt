@@ -8,7 +8,7 @@ ghost use Rattle.log_journal.specs.Reading.{ReadsPayloads, CountsReading, ShortR
 
 use crate::fault::{FormatFault, JournalFault};
 use crate::halves::write_synced;
-use crate::reading::{read_gate, read_header, read_payload};
+use crate::reading::{read_payload, read_start};
 use delta_base::{Bytes, Listing};
 use disk_model::Disk;
 use std::alloc::Global;
@@ -67,9 +67,8 @@ pub fn read_payloads<D: Disk>(
     ensures mark { D.mark disk.new ≡ D.mark disk.old }
 {
     let file_length = disk.len()?;
-    read_header(disk, file_length, number)?;
+    let mut gate = read_start(disk, file_length, number)?;
     let mut place = 8;
-    let mut gate = read_gate(disk, file_length, place)?;
     let mut payloads = Listing::new(alloc);
     while gate == 1 {
         let (payload, next) = read_payload(alloc, disk, file_length, place)?;

@@ -4,7 +4,7 @@ ghost use Rattle.delta_base.specs.Outside.{CountsFault, HasCause, Rose};
 ghost use Rattle.disk_model.specs.Past.{reads};
 ghost use Rattle.disk_model.specs.Calls.{KeepsPlan};
 ghost use Rattle.std.specs.Int.{w32, to_be_bytes};
-ghost use Rattle.log_journal.specs.Reading.{ReadsHeader, ReadsGate, ReadsPayload, HasByte, CountsReading, ShortReading};
+ghost use Rattle.log_journal.specs.Reading.{ReadsHeader, ReadsStart, ReadsPayload, HasByte, CountsReading, ShortReading};
 
 use crate::fault::JournalFault;
 use delta_base::Failed;
@@ -54,23 +54,10 @@ fn fetch_size<D: Disk>(disk: &mut D, file_length: u64, at: u64) -> Result<Option
     Ok(Some(u32::from_be_bytes([high, middle, low, lowest])))
 }
 
-/// The file's header has this number.
-pub fn read_header<D: Disk>(disk: &mut D, file_length: u64, number: u32) -> Result<(), JournalFault>
-    requires { D.tells → file_length ≡ length (reads (D.past disk.old)) }
-    ensures found { D.tells → ReadsHeader (reads (D.past disk.old)) number result }
-    ensures within { OnOk result (8 ≤ file_length) }
-    ensures past { D.past disk.new ≡ D.past disk.old }
-    ensures cause { IsErrOf result JournalFault.Failed → Rose (D.faults disk.old) (D.faults disk.new) }
-    ensures faults { D.faults disk.old ≤ D.faults disk.new }
-    ensures counts { CountsReading result (D.faults disk.old) (D.faults disk.new) }
-    ensures planned { D.plans → ShortReading result (D.short disk.old) (D.short disk.new) }
-    ensures few { D.tells → D.read_bytes disk.new ≤ D.read_bytes disk.old + 8 }
-    ensures mark { D.mark disk.new ≡ D.mark disk.old }
+// Whether eight bytes are a header with this number.
+fn check_header(head: [u8; 8], number: u32) -> Result<(), JournalFault>
+    ensures { ReadsHeader head number result }
 {
-    let mut head = [0u8; 8];
-    if !fetch(disk, file_length, 0, &mut head)? {
-        return Err(JournalFault::Damaged { at: 0 });
-    }
     let [r, d, j, version, high, middle, low, lowest] = head;
     if [r, d, j, version] != *b"RDJ1" {
         return Err(JournalFault::Damaged { at: 0 });
@@ -82,24 +69,33 @@ pub fn read_header<D: Disk>(disk: &mut D, file_length: u64, number: u32) -> Resu
     Ok(())
 }
 
-/// The byte of the gate at a place.
-pub fn read_gate<D: Disk>(disk: &mut D, file_length: u64, at: u64) -> Result<u8, JournalFault>
+/// The byte of the first gate, behind a header with this number. The two are read at once.
+pub fn read_start<D: Disk>(disk: &mut D, file_length: u64, number: u32) -> Result<u8, JournalFault>
     requires { D.tells → file_length ≡ length (reads (D.past disk.old)) }
-    ensures found { D.tells → ReadsGate (reads (D.past disk.old)) at result }
-    ensures within { OnOk result (at < file_length) }
+    ensures found { D.tells → ReadsStart (reads (D.past disk.old)) number result }
+    ensures within { OnOk result (8 < file_length) }
     ensures past { D.past disk.new ≡ D.past disk.old }
-    ensures cause { IsErrOf result JournalFault.Failed → Rose (D.faults disk.old) (D.faults disk.new) }
+    ensures cause { IsErrOf result JournalFault.Failed
+        → Rose (D.faults disk.old) (D.faults disk.new) }
     ensures faults { D.faults disk.old ≤ D.faults disk.new }
     ensures counts { CountsReading result (D.faults disk.old) (D.faults disk.new) }
     ensures planned { D.plans → ShortReading result (D.short disk.old) (D.short disk.new) }
-    ensures few { D.tells → D.read_bytes disk.new ≤ D.read_bytes disk.old + 1 }
+    ensures few { D.tells → OnOk result (D.read_bytes disk.new ≤ D.read_bytes disk.old + 9) }
     ensures mark { D.mark disk.new ≡ D.mark disk.old }
 {
-    let mut gate = [0u8; 1];
-    if !fetch(disk, file_length, at, &mut gate)? {
-        return Err(JournalFault::Damaged { at });
+    let mut start = [0u8; 9];
+    if fetch(disk, file_length, 0, &mut start)? {
+        let [r, d, j, version, high, middle, low, lowest, gate] = start;
+        check_header([r, d, j, version, high, middle, low, lowest], number)?;
+        return Ok(gate);
     }
-    Ok(gate[0])
+    // A file that ends with its header may have another number.
+    let mut head = [0u8; 8];
+    if !fetch(disk, file_length, 0, &mut head)? {
+        return Err(JournalFault::Damaged { at: 0 });
+    }
+    check_header(head, number)?;
+    Err(JournalFault::Damaged { at: 8 })
 }
 
 /// The payload behind the open gate at a place, and the byte of the gate behind it. The two are read at once, since the
@@ -116,11 +112,13 @@ pub fn read_payload<D: Disk>(
     ensures found { D.tells → ReadsPayload (reads (D.past disk.old)) at result }
     ensures within { IfOk result (λ found. at + 5 + length found.0.items < file_length) }
     ensures past { D.past disk.new ≡ D.past disk.old }
-    ensures cause { IsErrOf result JournalFault.Failed → Rose (D.faults disk.old) (D.faults disk.new) }
+    ensures cause { IsErrOf result JournalFault.Failed
+        → Rose (D.faults disk.old) (D.faults disk.new) }
     ensures faults { D.faults disk.old ≤ D.faults disk.new }
     ensures counts { CountsReading result (D.faults disk.old) (D.faults disk.new) }
     ensures planned { D.plans → ShortReading result (D.short disk.old) (D.short disk.new) }
-    ensures few { D.tells → IfOk result (λ found. D.read_bytes disk.new ≤ D.read_bytes disk.old + 5 + length found.0.items) }
+    ensures few { D.tells → IfOk result (λ found.
+        D.read_bytes disk.new ≤ D.read_bytes disk.old + 5 + length found.0.items) }
     ensures mark { D.mark disk.new ≡ D.mark disk.old }
 {
     let Some(size) = fetch_size(disk, file_length, at + 1)? else {

@@ -98,9 +98,27 @@ fn the_planned_sync_fails(rt: HostRuntime) -> Result<(), Fail> {
     assert!(rt; disk.write_at(1, b"b").is_ok());
     assert!(rt; disk.sync().is_err());
     keeps(&rt, &disk, b"a")?;
+    assert!(rt; disk.faults() == 1);
     assert!(rt; disk.sync().is_ok());
     keeps(&rt, &disk, b"ab")?;
+    // A failure that was planned isn't one for want of memory.
     assert!(rt; !disk.is_short());
+    Ok(())
+}
+
+#[test]
+fn a_failed_write_has_written_its_range(rt: HostRuntime) -> Result<(), Fail> {
+    let image = Bytes::from_slice(rt.alloc(), b"abc")?;
+    let mut disk = MemDisk::from_image(rt.alloc(), image, calls(rt.alloc(), &[0, 2])?)?;
+    assert!(rt; disk.write_at(1, b"XYZ") == Err(Failed));
+    assert!(rt; disk.faults() == 1);
+    is_long(&rt, &mut disk, 4);
+    for (choice, image) in [(0, b"abc".as_slice()), (1, b"aXYZ"), (7, b"a\x07\x07\x07")] {
+        leaves(&rt, &disk, choice, image)?;
+    }
+    // The same of a sync makes nothing durable.
+    assert!(rt; disk.sync() == Err(Failed));
+    leaves(&rt, &disk, 0, b"abc")?;
     Ok(())
 }
 
@@ -123,6 +141,10 @@ fn a_shelf_in_memory_keeps_its_files(rt: HostRuntime) -> Result<(), Fail> {
     holds(&rt, &shelf, &other, 1, None);
     let mut again = shelf.disk(&dir, 1).map_err(|_| Failed)?;
     is_long(&rt, &mut again, 3);
+    // Put back once more, it stands in the place of what was there.
+    assert!(rt; again.write_at(0, b"X").is_ok());
+    shelf.put_back(again);
+    holds(&rt, &shelf, &dir, 1, Some(b"Xbc"));
     Ok(())
 }
 
@@ -158,8 +180,13 @@ fn a_file_of_the_system_is_read_past_its_end(rt: HostRuntime) -> Result<(), Fail
     let mut shelf = HostShelf::new(&rt, rt.alloc());
     let mut disk = shelf.disk(&dir, number).map_err(|_| Failed)?;
     write_and_read(&rt, &mut disk);
+    // A file is one disk's alone until that is put back.
+    assert!(rt; shelf.disk(&dir, number).is_err());
+    assert!(rt; shelf.faults() == 1);
     shelf.put_back(disk);
-    assert!(rt; shelf.faults() == 0);
+    let again = shelf.disk(&dir, number).map_err(|_| Failed)?;
+    shelf.put_back(again);
+    assert!(rt; shelf.faults() == 1);
     drop(shelf);
     drop(dir);
     let path = format!(in rt.alloc(); "{folder}/rdj-{number:04}")?;

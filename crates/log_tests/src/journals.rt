@@ -1,7 +1,7 @@
 //! Files byte for byte, and what a crash leaves of an append.
 use crate::fakes::{calls, no_calls};
 use delta_base::{Bytes, Phase};
-use disk_model::{Disk, MemDisk};
+use disk_model::{Disk, MemDisk, PlanDisk};
 use log_journal::{AppendFault, FormatFault, Journal, JournalFault, format, make_block, write};
 use std::alloc::Global;
 use std::test::Fail;
@@ -47,6 +47,22 @@ fn each_fault_of_a_file_has_its_place(rt: HostRuntime) -> Result<(), Fail> {
             JournalFault::Damaged { at: 13 },
         ),
         (b"RDJ1\0\0\0\x01", JournalFault::Damaged { at: 8 }),
+        (b"RDJ1\0\0\0\x02", JournalFault::WrongNumber { found: 2 }),
+        (b"RDJ1\0\0\0", JournalFault::Damaged { at: 0 }),
+        // A length that breaks off, a payload that does, and a whole one without the gate behind it.
+        (b"RDJ1\0\0\0\x01\x01\0\0\0", JournalFault::Damaged { at: 9 }),
+        (
+            b"RDJ1\0\0\0\x01\x01\0\0\0\0",
+            JournalFault::Damaged { at: 13 },
+        ),
+        (
+            b"RDJ1\0\0\0\x01\x01\0\0\0\x02ab",
+            JournalFault::Damaged { at: 15 },
+        ),
+        (
+            b"RDJ1\0\0\0\x01\x01\0\0\0\x01a\x01\0\0\0\x01",
+            JournalFault::Damaged { at: 19 },
+        ),
         (b"RDJ2\0\0\0\x01\0", JournalFault::Damaged { at: 0 }),
         (b"", JournalFault::Damaged { at: 0 }),
         (b"RDJ1\0\0\0\x02\0", JournalFault::WrongNumber { found: 2 }),
@@ -70,8 +86,8 @@ fn each_fault_of_a_file_has_its_place(rt: HostRuntime) -> Result<(), Fail> {
     Ok(())
 }
 
-// The disk of an empty journal, of which these calls fail. The opening makes a sync, a look at the length and two reads,
-// and an append four calls.
+// The disk of an empty journal, of which these calls fail. The opening makes a sync, a look at the length and a read, and
+// an append four calls.
 fn empty(alloc: Global, failing: &[u64]) -> Result<MemDisk, Fail> {
     let image = Bytes::from_slice(alloc, &EMPTY)?;
     Ok(MemDisk::from_image(alloc, image, calls(alloc, failing)?)?)
@@ -96,7 +112,7 @@ fn left(alloc: Global, disk: &MemDisk, choice: u64) -> Result<usize, Fail> {
 fn a_failed_gate_is_in_doubt_until_it_is_settled(rt: HostRuntime) -> Result<(), Fail> {
     let alloc = rt.alloc();
     let block = make_block(alloc, b"abc")?;
-    let opened = Journal::open_on(alloc, empty(alloc, &[7])?, 1, 1000).ok();
+    let opened = Journal::open_on(alloc, empty(alloc, &[6])?, 1, 1000).ok();
     let (mut journal, _) = opened.ok_or("refused")?;
     assert!(rt; journal.append(&block) == Err(AppendFault::Failed));
     assert!(rt; journal.length() == 9);
@@ -114,12 +130,62 @@ fn a_failed_gate_is_in_doubt_until_it_is_settled(rt: HostRuntime) -> Result<(), 
 fn a_crash_in_doubt_leaves_the_payload_or_not(rt: HostRuntime) -> Result<(), Fail> {
     let alloc = rt.alloc();
     let block = make_block(alloc, b"abc")?;
-    let opened = Journal::open_on(alloc, empty(alloc, &[7])?, 1, 1000).ok();
+    let opened = Journal::open_on(alloc, empty(alloc, &[6])?, 1, 1000).ok();
     let (mut journal, _) = opened.ok_or("refused")?;
     assert!(rt; journal.append(&block) == Err(AppendFault::Failed));
     let disk = journal.close();
     for (choice, count) in [(0, 0), (1, 1)] {
         assert!(rt; left(alloc, &disk, choice)? == count, "choice {choice}");
+    }
+    Ok(())
+}
+
+#[test]
+fn an_opening_reads_each_payload_in_two(rt: HostRuntime) -> Result<(), Fail> {
+    let alloc = rt.alloc();
+    let image = b"RDJ1\0\0\0\x01\x01\0\0\0\x01a\x01\0\0\0\x02bc\0tail";
+    // A sync, a look at the length, the header, and twice two reads: call 7 is none of the opening's.
+    for (failing, is_opened) in [(6, false), (7, true)] {
+        let bytes = Bytes::from_slice(alloc, image.as_slice())?;
+        let disk = MemDisk::from_image(alloc, bytes, calls(alloc, &[failing])?)?;
+        let opened = Journal::open_on(alloc, disk, 1, 1000);
+        assert!(rt; opened.is_ok() == is_opened, "call {failing} fails");
+        let disk = match opened {
+            Ok((journal, _)) => journal.close(),
+            Err(refusal) => refusal.disk,
+        };
+        assert!(rt; disk.faults() == u64::from(!is_opened));
+    }
+    Ok(())
+}
+
+#[test]
+fn a_planned_journal_fails_in_its_phase(rt: HostRuntime) -> Result<(), Fail> {
+    let alloc = rt.alloc();
+    let block = make_block(alloc, b"abc")?;
+    let disk = PlanDisk::new(alloc, Bytes::from_slice(alloc, &EMPTY)?)?;
+    let opened = Journal::open_on(alloc, disk, 1, 1000).ok();
+    let (mut journal, _) = opened.ok_or("refused")?;
+    for (next, answer) in [
+        (Some(1), Err(Phase::Gate)),
+        (Some(0), Err(Phase::Settling)),
+        (Some(1), Err(Phase::Body)),
+        (Some(2), Ok(())),
+        (Some(1), Err(Phase::Gate)),
+    ] {
+        journal.plan(next);
+        assert!(rt; journal.room_for(3));
+        assert_eq!(rt; write(&mut journal, &block), answer);
+    }
+    assert!(rt; !journal.is_short());
+    // The second payload is in doubt: what was synced has one payload, and with 1 for what wasn't there are two.
+    let disk = journal.close();
+    for (choice, count) in [(0, 1), (257, 2)] {
+        let reopened = MemDisk::from_image(alloc, disk.image(choice)?, no_calls(alloc))?;
+        let opened = Journal::open_on(alloc, reopened, 1, 1000).ok();
+        let (journal, payloads) = opened.ok_or("refused")?;
+        drop(journal);
+        assert!(rt; payloads.len() == count, "choice {choice}");
     }
     Ok(())
 }
@@ -143,7 +209,7 @@ fn append_ten(alloc: Global, fuse: u64) -> Result<(usize, MemDisk), Fail> {
 #[test]
 fn each_stop_leaves_what_was_acknowledged(rt: HostRuntime) -> Result<(), Fail> {
     let alloc = rt.alloc();
-    for fuse in 4..46u64 {
+    for fuse in 3..45u64 {
         let (acknowledged, disk) = append_ten(alloc, fuse)?;
         for choice in [0, 1, 7, 257] {
             let count = left(alloc, &disk, choice)?;
@@ -158,7 +224,7 @@ fn a_write_settles_first(rt: HostRuntime) -> Result<(), Fail> {
     let alloc = rt.alloc();
     let block = make_block(alloc, b"abc")?;
     // The gate's sync fails, then the settling's write, and then the sync of the body.
-    let opened = Journal::open_on(alloc, empty(alloc, &[7, 8, 12])?, 1, 1000).ok();
+    let opened = Journal::open_on(alloc, empty(alloc, &[6, 7, 11])?, 1, 1000).ok();
     let (mut journal, _) = opened.ok_or("refused")?;
     for answer in [
         Err(Phase::Gate),

@@ -187,9 +187,9 @@ fn a_full_log_shows_its_numbers(rt: HostRuntime) -> Result<(), Fail> {
     Ok(())
 }
 
-// A log of one patch whose second append failed at the gate's sync: an opening makes four calls and an append four more.
+// A log of one patch whose second append failed at the gate's sync: an opening makes three calls and an append four.
 fn in_doubt(alloc: Global) -> Result<(LogState<MemDisk>, LogAnswer), Fail> {
-    let mut log = open(alloc, disk_of(alloc, EMPTY, &[11])?, LIMITS)?;
+    let mut log = open(alloc, disk_of(alloc, EMPTY, &[10])?, LIMITS)?;
     add(alloc, &mut log, FIRST)?;
     let answer = add(alloc, &mut log, SECOND)?;
     Ok((log, answer))
@@ -284,7 +284,7 @@ fn each_fault_of_a_file_is_told(rt: HostRuntime) -> Result<(), Fail> {
     ] {
         assert_eq!(rt; fault_of(alloc, image, &[])?, fault);
     }
-    for call in 0..4u64 {
+    for call in 0..3u64 {
         assert_eq!(rt; fault_of(alloc, EMPTY, &[call])?, LogFault::Failed);
     }
     Ok(())
@@ -357,7 +357,7 @@ fn what_was_acknowledged_is_found_again(rt: HostRuntime) -> Result<(), Fail> {
     }
     for fuse in 0..46u64 {
         match run_ten(alloc, &patches, fuse)? {
-            None => assert!(rt; fuse < 4),
+            None => assert!(rt; fuse < 3),
             Some((acknowledged, disk)) => {
                 for choice in [0, 1, 7] {
                     let holds = holds_acknowledged(alloc, &disk, choice, &patches, acknowledged)?;

@@ -143,12 +143,12 @@ fn what_one_pass_brings_the_other_sees(rt: HostRuntime) -> Result<(), Fail> {
     Ok(())
 }
 
-// An opening makes four calls, so the first call of an append fails.
+// An opening makes three calls, so the first call of an append fails.
 #[test]
 fn a_fault_is_that_of_its_own_pass(rt: HostRuntime) -> Result<(), Fail> {
     let alloc = rt.alloc();
     let first = check_patch(alloc, FIRST)?;
-    let (log, mut passes) = share(alloc, &[4])?;
+    let (log, mut passes) = share(alloc, &[3])?;
     let answer = log.append(&rt, &mut passes.one, &first);
     is(&rt, answer, LogAnswer::DiskFault);
     assert!(rt; log.version(&mut passes.two) == 0);

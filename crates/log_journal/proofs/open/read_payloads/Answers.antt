@@ -2,19 +2,10 @@ use Rattle.std.proofs.Common.{◌≡◌, ◌+◌, ◌++◌, [], ◌∷◌, Err, 
 use Rattle.std.proofs.lemmas.Result.{err_from_is_err_and}
 use Rattle.disk_model.specs.Past.{reads}
 use Rattle.log_journal.specs.File.{header}
-use Rattle.log_journal.specs.Reading.{IsRead, HasByte, HasPayload, ReadsGate, ReadsPayload, ReadsPayloads}
+use Rattle.log_journal.specs.Reading.{IsRead, HasByte, HasPayload, ReadsPayload, ReadsPayloads}
 use Rattle.log_journal.specs.declared.fault.JournalFault.{JournalFault}
-use Rattle.log_journal.proofs.Loop.{none_read, one_more_of, length_more, gate_missing, payload_missing}
+use Rattle.log_journal.proofs.Loop.{none_read, one_more_of, length_more, payload_missing}
 use Rattle.log_journal.proofs.open.read_payloads.Goals as goal
-
-pub returns-in_err-gate-clause-found : goal.returns-in_err-gate-clause-found
-returns-in_err-gate-clause-found g c told =
-    let file = reads (g.D.Disk.past c.args.disk.now) in
-    let fault = c.in_err-gate.field-0.0 in
-    let start = none_read file c.args.number (subst (λ p. reads p ≡ header c.args.number ++ drop 8 (reads p)) c.len.ensures.past (c.in_ok-read_header.ensures.found told).1) in
-    let found : ReadsGate file 8 (Err fault) = subst (λ p. ReadsGate (reads p) 8 (Err fault)) (c.read_header.ensures.past ∙ c.len.ensures.past) (c.in_err-gate.ensures.found told) in
-    let p = err_from_is_err_and c.from_residual-in_err-gate.result c.from_residual-in_err-gate.ensures.1 in
-    rw (p.1 ∙ ap (λ (e : JournalFault). Err e) p.2) (gate_missing file c.args.number fault start found)
 
 pub returns-in_err-payload-clause-found : goal.returns-in_err-payload-clause-found
 returns-in_err-payload-clause-found g c told =
@@ -28,19 +19,19 @@ pub loop-gate-init : goal.loop-gate-init
 loop-gate-init g c =
     let file = reads (g.D.Disk.past c.args.disk.now) in
     record {
-      past = c.read_gate.ensures.past ∙ c.read_header.ensures.past ∙ c.len.ensures.past;
+      past = c.read_start.ensures.past ∙ c.len.ensures.past;
       read = λ told. subst (λ vs. IsRead file c.args.number vs 8) (sym c.new-payloads.ensures)
-          (none_read file c.args.number (subst (λ p. reads p ≡ header c.args.number ++ drop 8 (reads p)) c.len.ensures.past (c.in_ok-read_header.ensures.found told).1));
-      stands = λ told. subst (λ p. HasByte (reads p) 8 c.in_ok-gate.gate) (c.read_header.ensures.past ∙ c.len.ensures.past) (c.in_ok-gate.ensures.found told);
+          (none_read file c.args.number (subst (λ p. reads p ≡ header c.args.number ++ drop 8 (reads p)) c.len.ensures.past (c.in_ok-gate.ensures.found told).1));
+      stands = λ told. subst (λ p. HasByte (reads p) 8 c.in_ok-gate.gate) c.len.ensures.past (c.in_ok-gate.ensures.found told).2;
       file_length = c.in_ok-file_length.ensures.length;
-      faults = omega (arith, c.len.ensures.cause.never_falls, c.read_header.ensures.faults, c.read_gate.ensures.faults);
-      counts = c.in_ok-gate.ensures.counts ∙ c.in_ok-read_header.ensures.counts ∙ c.in_ok-file_length.ensures.faults.well refl;
-      planned = λ plans. c.in_ok-gate.ensures.planned plans ∙ c.in_ok-read_header.ensures.planned plans ∙ ((c.in_ok-file_length.ensures.planned plans).well refl).0;
+      faults = omega (arith, c.len.ensures.cause.never_falls, c.read_start.ensures.faults);
+      counts = c.in_ok-gate.ensures.counts ∙ c.in_ok-file_length.ensures.faults.well refl;
+      planned = λ plans. c.in_ok-gate.ensures.planned plans ∙ ((c.in_ok-file_length.ensures.planned plans).well refl).0;
       behind = omega arith;
       within = c.in_ok-gate.ensures.within;
       length_is = rw c.new-payloads.ensures refl;
-      few = λ told. omega (arith, c.len.ensures.read_bytes, c.read_header.ensures.few told, c.read_gate.ensures.few told);
-      mark = c.read_gate.ensures.mark ∙ c.read_header.ensures.mark ∙ c.len.ensures.mark;
+      few = λ told. omega (arith, c.len.ensures.read_bytes, c.in_ok-gate.ensures.few told);
+      mark = c.read_start.ensures.mark ∙ c.len.ensures.mark;
     }
 
 pub loop-gate-preserved : goal.loop-gate-preserved
