@@ -6,28 +6,28 @@ use Rattle.patch_rows.specs.declared.fault.RowKind.{RowKind}
 use Rattle.patch_rows.specs.declared.row.Row.{Row}
 use Rattle.patch_rows.specs.Fault.{Fault}
 use Rattle.patch_rows.specs.Faults.{FirstFault}
-use Rattle.patch_rows.specs.Grammar.{Space, ShortRowAt, IsRowAt}
-use Rattle.patch_rows.specs.Reading.{skip_space}
+use Rattle.patch_rows.specs.Grammar.{ShortRowAt, IsRowAt}
 use Rattle.patch_rows.proofs.Shorter.{row_shorter}
-use Rattle.patch_rows.proofs.SpaceLaws.{skipped}
 use Rattle.patch_reader.specs.declared.placed.PlacedRow.{PlacedRow}
 use Rattle.patch_reader.specs.Rows.{Gap, RowsUpTo, NoRowAt}
 use Rattle.patch_reader.proofs.RowAnswers.{settled}
 use Rattle.patch_meaning.specs.declared.fault.PatchFault.{PatchFault}
-use Rattle.patch_meaning.specs.declared.fault.Refusal.{Refusal}
+use Rattle.patch_meaning.specs.declared.fault.PatchKind.{PatchKind}
+use Rattle.patch_meaning.specs.declared.fault.PatchKind.TheVariants as kinds
 use Rattle.patch_meaning.specs.PartRead.{LacksEnd}
 use Rattle.delta_base.specs.declared.limits.TheConstants.{PATCH_LIMIT}
 use Rattle.patch_meaning.specs.Patch.{Meaning, IsWell, IsPatch, IsPatchFault, AreTaken, refusal, has_some}
 use Rattle.patch_meaning.specs.Patch as patch
 use Rattle.patch_meaning.specs.Roles.{role, said}
-use Rattle.patch_meaning.specs.Stream.{Cut, ArePatches, IsStream, IsStreamFault, StopsAt, begins, cut}
+use Rattle.patch_meaning.specs.Stream.{Cut, ArePatches, IsStream, IsStreamFault, begins, cut}
 use Rattle.patch_meaning.specs.Stream as stream
-use Rattle.patch_meaning.proofs.Cuts.{cut_begun, cut_longer, not_empty, patches_more, stream_by}
-use Rattle.patch_meaning.proofs.Drafts.{taken_with, ends, part_settled, broken_settled}
+use Rattle.patch_meaning.proofs.Cuts.{begun, longer, cut_begun, cut_longer, not_empty, patches_more, refused_with, stream_by}
+use Rattle.patch_meaning.proofs.Drafts.{taken_with, ends, part_settled}
 use Rattle.patch_rows.proofs.FaultPlaces.{first_end}
 use Rattle.patch_meaning.proofs.Read.{lacks_text}
-use Rattle.patch_meaning.proofs.Rowed.{rows_more}
-use Rattle.patch_rows.proofs.Slices.{end_place, space_end, row_end}
+use Rattle.patch_meaning.proofs.Rowed.{gap_there, rows_more}
+use Rattle.patch_meaning.proofs.StreamFaults.{refused_fault, no_row_fault, end_fault}
+use Rattle.patch_rows.proofs.Slices.{end_place, row_end}
 
 -- ---- the next row
 
@@ -62,10 +62,7 @@ found text at le = by (cases_lt at (length text))
     by (inr ge) = over (omega (arith, le, ge))
 
 pub next_there : (text : List ℕ) (at : ℕ) → at ≤ length text → (to : ℕ) × Gap text at to × There text to
-next_there text at within =
-    let s = skipped (drop at text) in
-    let p = end_place text at (skip_space (drop at text)) within (space_end (drop at text) (skip_space (drop at text)) s) in
-    (p.0, (subst (Space (drop at text)) (sym p.1) s, p.2, p.3), found text p.0 p.3)
+next_there text at within = let gap = gap_there text at within in (gap.0, gap.1, found text gap.0 gap.1.2)
 
 -- ---- patches
 
@@ -97,7 +94,7 @@ module _ (text : List ℕ) (short : length text ≤ PATCH_LIMIT) where
       by (to, gap, no_row kind place none) = inr (_, patch.rows_ rs to short (at, h.0, gap) h.1 (patch.no_row place kind none refl))
       by (to, gap, row_ r end is low high) = may (refusal (said rs) (role r)) refl
         where
-          may : (o : Option Refusal) → refusal (said rs) (role r) ≡ o → PatchOr text
+          may : (o : Option PatchKind) → refusal (said rs) (role r) ≡ o → PatchOr text
           may (Some why) refuses = inr (_, patch.rows_ rs to short (at, h.0, gap) h.1 (patch.refused r end why is refuses refl))
           may None free =
               let order = gap.1 in
@@ -122,29 +119,11 @@ not_both r rs e = cc
 abbrev pub StreamOr : List ℕ → Type 0
 StreamOr text = ((ms : List Meaning) × IsStream text ms) ⊎ ((fault : PatchFault) × IsStreamFault text fault)
 
--- the rows up to a place were cut, and all patches but the last are complete
+-- the rows up to a place were cut, all patches but the last are complete, and its rows may stand
 abbrev HasCutUp : List ℕ → ℕ → List PlacedRow → List Meaning → Type 0
-HasCutUp text at rs ms = RowsUpTo text 0 rs at × ArePatches (cut rs).done (cut rs).last.from ms × ((cut rs).last.rows_ ≡ [] → rs ≡ [])
+HasCutUp text at rs ms = RowsUpTo text 0 rs at × ArePatches (cut rs).done (cut rs).last.from ms × AreTaken (said (cut rs).last.rows_) × ((cut rs).last.rows_ ≡ [] → rs ≡ [])
 
 module _ (text : List ℕ) where
-  -- the last patch stops, and has a fault
-  breaks : (at to : ℕ) (rs : List PlacedRow) (ms : List Meaning) (stop : ℕ) (broken : Option RowKind) → HasCutUp text at rs ms → Gap text at to → StopsAt text (cut rs).last to stop broken
-      → (fault : PatchFault) × stream.IsPartFault (cut rs).last stop broken fault → StreamOr text
-  breaks at to rs ms stop broken h gap stops fault = inr (
-    fault.0,
-    record {
-      rows_ = rs;
-      to = to;
-      reads = (at, h.0, gap);
-      before = ms;
-      well = h.1;
-      stop = stop;
-      broken = broken;
-      stops = stops;
-      fault_is = fault.1;
-    },
-  )
-
   empty : (at : ℕ) (rs : List PlacedRow) (ms : List Meaning) → RowsUpTo text 0 rs at → Gap text at (length text) → rs ≡ [] → StreamOr text
   empty at [] ms up gap none = inl ([], record { rows_ = []; reads = (at, up, gap); stream = refl })
   empty at (r ∷ rs) ms up gap none = absurd cc
@@ -153,7 +132,7 @@ module _ (text : List ℕ) where
   stream_ended at to rs ms h gap last = by (cut rs).last.rows_ refl
     where
       whole : has_some (cut rs).last.rows_ ≡ true → ((cut rs).last.rows_ ≡ [] → ⊥)
-          → ((m : Meaning) × IsWell (said (cut rs).last.rows_) m × (to ≤ (cut rs).last.from + PATCH_LIMIT)) ⊎ ((fault : PatchFault) × stream.IsPartFault (cut rs).last to None fault) → StreamOr text
+          → ((m : Meaning) × IsWell (said (cut rs).last.rows_) m × (to ≤ (cut rs).last.from + PATCH_LIMIT)) ⊎ ((fault : PatchFault) × stream.IsEndFault (cut rs).last to fault) → StreamOr text
       whole some not_none (inl m) = inl (
         ms ++ m.0 ∷ [],
         record {
@@ -162,32 +141,39 @@ module _ (text : List ℕ) where
           stream = stream_by rs (length text) (ms ++ m.0 ∷ []) some (subst (λ (n : ℕ). ArePatches ((cut rs).done ++ (cut rs).last ∷ []) n (ms ++ m.0 ∷ [])) last (patches_more (cut rs).done (cut rs).last ms m.0 to h.1 m.1 m.2));
         },
       )
-      whole some not_none (inr fault) = breaks at to rs ms to None h gap (stream.over last not_none refl refl) fault
+      whole some not_none (inr fault) = inr (fault.0, end_fault text rs to ms fault.0 (at, h.0, gap) h.1 (stream.over last not_none) (h.2, fault.1))
 
       by : (l : List PlacedRow) → (cut rs).last.rows_ ≡ l → StreamOr text
-      by [] none = empty at rs ms h.0 (subst (Gap text at) last gap) (h.2 none)
-      by (r ∷ l) is = whole (ap has_some is) (λ none. not_both r l (sym is ∙ none)) (part_settled (cut rs).last to)
+      by [] none = empty at rs ms h.0 (subst (Gap text at) last gap) (h.3 none)
+      by (r ∷ l) is = whole (ap has_some is) (λ none. not_both r l (sym is ∙ none)) (part_settled (cut rs).last to h.2)
 
-  with_row : (at to : ℕ) (rs : List PlacedRow) (ms : List Meaning) (r : PlacedRow) → HasCutUp text at rs ms → Gap text at r.at → IsRowAt text r.at r.row r.end → (b : Bool) → begins (said (cut rs).last.rows_) (role r.row) ≡ b
-      → ((ns : List Meaning) → HasCutUp text r.end (rs ++ r ∷ []) ns → StreamOr text) → StreamOr text
-  with_row at to rs ms r h gap is false same further =
-      let e = cut_longer rs r same in
-      further ms (
-        rows_more text 0 at rs r h.0 gap is,
-        subst (λ (c : Cut). ArePatches c.done c.last.from ms) (sym e) h.1,
-        λ none. absurd (not_empty (cut rs).last.rows_ r (sym (ap (λ (c : Cut). c.last.rows_) e) ∙ none)),
-      )
-  with_row at to rs ms r h gap is true first further = by (part_settled (cut rs).last r.at)
+  -- one more row of the last patch of a cut, where it may stand or not
+  one_more : (at : ℕ) (rs : List PlacedRow) (ms : List Meaning) (r : PlacedRow) (c : Cut) (front : List PlacedRow) → RowsUpTo text 0 (rs ++ r ∷ []) r.end → r.end ≤ length text → cut (rs ++ r ∷ []) ≡ c
+      → ArePatches c.done c.last.from ms → c.last.rows_ ≡ front ++ r ∷ [] → AreTaken (said front) → ((ns : List Meaning) → HasCutUp text r.end (rs ++ r ∷ []) ns → StreamOr text) → StreamOr text
+  one_more at rs ms r c front up high e before parts taken further = by (refusal (said front) (role r.row)) refl
     where
-      by : ((m : Meaning) × IsWell (said (cut rs).last.rows_) m × (r.at ≤ (cut rs).last.from + PATCH_LIMIT)) ⊎ ((fault : PatchFault) × stream.IsPartFault (cut rs).last r.at None fault) → StreamOr text
-      by (inr fault) = breaks at r.at rs ms r.at None h gap (stream.next r.row r.end is first refl refl) fault
-      by (inl m) =
-          let e = cut_begun rs r first in
-          further (ms ++ m.0 ∷ []) (
-            rows_more text 0 at rs r h.0 gap is,
-            subst (λ (c : Cut). ArePatches c.done c.last.from (ms ++ m.0 ∷ [])) (sym e) (patches_more (cut rs).done (cut rs).last ms m.0 r.at h.1 m.1 m.2),
-            λ none. absurd (not_both r [] (sym (ap (λ (c : Cut). c.last.rows_) e) ∙ none)),
+      by : (o : Option PatchKind) → refusal (said front) (role r.row) ≡ o → StreamOr text
+      by (Some kind) refuses =
+          let why = refused_with rs r c ms front kind (stream.within c.last.from r.at kind) e before parts taken refuses refl in
+          inr (stream.within c.last.from r.at kind, refused_fault text (rs ++ r ∷ []) r.end (stream.within c.last.from r.at kind) up high why)
+      by None free =
+          further ms (
+            up,
+            subst (λ (k : Cut). ArePatches k.done k.last.from ms) (sym e) before,
+            subst (λ (l : List PlacedRow). AreTaken (said l)) (sym (ap (λ (k : Cut). k.last.rows_) e ∙ parts)) (taken_with front r taken free),
+            λ none. absurd (not_empty front r (sym (ap (λ (k : Cut). k.last.rows_) e ∙ parts) ∙ none)),
           )
+
+  with_row : (at : ℕ) (rs : List PlacedRow) (ms : List Meaning) (r : PlacedRow) → HasCutUp text at rs ms → Gap text at r.at → IsRowAt text r.at r.row r.end → r.end ≤ length text → (b : Bool)
+      → begins (said (cut rs).last.rows_) (role r.row) ≡ b → ((ns : List Meaning) → HasCutUp text r.end (rs ++ r ∷ []) ns → StreamOr text) → StreamOr text
+  with_row at rs ms r h gap is high false same further =
+      one_more at rs ms r (longer (cut rs) r) (cut rs).last.rows_ (rows_more text 0 at rs r h.0 gap is) high (cut_longer rs r same) h.1 refl h.2 further
+  with_row at rs ms r h gap is high true first further = by (part_settled (cut rs).last r.at h.2)
+    where
+      by : ((m : Meaning) × IsWell (said (cut rs).last.rows_) m × (r.at ≤ (cut rs).last.from + PATCH_LIMIT)) ⊎ ((fault : PatchFault) × stream.IsEndFault (cut rs).last r.at fault) → StreamOr text
+      by (inr fault) = inr (fault.0, end_fault text rs r.at ms fault.0 (at, h.0, gap) h.1 (stream.next r.row r.end is first) (h.2, fault.1))
+      by (inl m) =
+          one_more at rs (ms ++ m.0 ∷ []) r (begun (cut rs) r) [] (rows_more text 0 at rs r h.0 gap is) high (cut_begun rs r first) (patches_more (cut rs).done (cut rs).last ms m.0 r.at h.1 m.1 m.2) refl tt further
 
   stream_step : (at : ℕ) (rs : List PlacedRow) (ms : List Meaning) → at ≤ length text → HasCutUp text at rs ms
       → ((r : PlacedRow) (ns : List Meaning) → HasCutUp text r.end (rs ++ r ∷ []) ns → at < r.end → r.end ≤ length text → StreamOr text) → StreamOr text
@@ -195,14 +181,14 @@ module _ (text : List ℕ) where
     where
       by : (to : ℕ) × Gap text at to × There text to → StreamOr text
       by (to, gap, over last) = stream_ended at to rs ms h gap last
-      by (to, gap, no_row kind place none) = breaks at to rs ms place (Some kind) h gap (stream.no_row kind none refl) (broken_settled (cut rs).last place kind)
+      by (to, gap, no_row kind place none) = inr (_, no_row_fault text rs to ms place kind (stream.within (cut rs).last.from place (kinds.Row kind)) (at, h.0, gap) h.1 none (h.2, refl))
       by (to, gap, row_ r end is low high) =
           let order = gap.1 in
-          with_row at to rs ms (placed r to end) h gap is (begins (said (cut rs).last.rows_) (role r)) refl (λ ns more. further (placed r to end) ns more (omega (arith, order, low)) high)
+          with_row at rs ms (placed r to end) h gap is high (begins (said (cut rs).last.rows_) (role r)) refl (λ ns more. further (placed r to end) ns more (omega (arith, order, low)) high)
 
   stream_walk : (fuel at : ℕ) (rs : List PlacedRow) (ms : List Meaning) → at ≤ length text → length text ≤ at + fuel → HasCutUp text at rs ms → StreamOr text
   stream_walk zero at rs ms within enough h = stream_step at rs ms within h (λ r ns more low high. absurd (omega (arith, low, high, enough)))
   stream_walk (suc fuel) at rs ms within enough h = stream_step at rs ms within h (λ r ns more low high. stream_walk fuel r.end (rs ++ r ∷ []) ns high (omega (arith, low, enough)) more)
 
 pub stream_or : (text : List ℕ) → StreamOr text
-stream_or text = stream_walk text (length text) 0 [] [] (omega arith) (omega arith) (refl, tt, λ none. refl)
+stream_or text = stream_walk text (length text) 0 [] [] (omega arith) (omega arith) (refl, tt, tt, λ none. refl)

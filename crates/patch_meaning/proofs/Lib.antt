@@ -1,7 +1,6 @@
 pub mod Cuts
 pub mod Drafts
 pub mod Exists
-pub mod FaultPlaces
 pub mod Joined
 pub mod OneFault
 pub mod OneStream
@@ -12,5 +11,6 @@ pub mod Rowed
 pub mod SameRows
 pub mod Settled
 pub mod Splits
+pub mod StreamFaults
 pub mod Taking
 pub mod WellTaken

@@ -5,7 +5,10 @@ use Rattle.patch_rows.specs.declared.fault.RowFault.{RowFault}
 use Rattle.patch_rows.specs.declared.fault.RowFault.TheVariants as faults
 use Rattle.patch_rows.specs.Fault.{FailsBy}
 use Rattle.patch_rows.specs.Faults.{FirstFault}
-use Rattle.patch_rows.specs.Grammar.{IsRowAt}
+use Rattle.patch_rows.specs.Grammar.{Space, IsRowAt}
+use Rattle.patch_rows.specs.Reading.{skip_space}
+use Rattle.patch_rows.proofs.Slices.{end_place, space_end}
+use Rattle.patch_rows.proofs.SpaceLaws.{skipped}
 use Rattle.patch_meaning.specs.Next.{IsNext}
 use Rattle.patch_meaning.specs.Rows.{AreUpTo}
 use Rattle.patch_reader.specs.declared.placed.PlacedRow.{PlacedRow}
@@ -23,6 +26,13 @@ pub fault_next : (text : List ℕ) (from at : ℕ) (fault : RowFault) → Gap te
 fault_next text from at (faults.At place kind) gap lt fails = (at, gap, (lt, fails.0, fails.1))
 fault_next text from at faults.OutOfMemory gap lt fails = tt
 
+-- white space and comments come to an end
+pub gap_there : (text : List ℕ) (at : ℕ) → at ≤ length text → (to : ℕ) × Gap text at to
+gap_there text at within =
+    let s = skipped (drop at text) in
+    let p = end_place text at (skip_space (drop at text)) within (space_end (drop at text) (skip_space (drop at text)) s) in
+    (p.0, (subst (Space (drop at text)) (sym p.1) s, p.2, p.3))
+
 -- ---- up to which place rows come
 
 pub rows_order : (text : List ℕ) (from to : ℕ) (rs : List PlacedRow) → RowsUpTo text from rs to → from ≤ to
@@ -39,6 +49,6 @@ pub front_up_to : (rs : List PlacedRow) (r : PlacedRow) (stop : ℕ) → AreUpTo
 front_up_to [] r stop up = (tt, up.0)
 front_up_to (q ∷ rs) r stop up = let rest = front_up_to rs r stop up.1 in ((up.0, rest.0), rest.1)
 
-pub more_up_to : (rs : List PlacedRow) (r : PlacedRow) (stop : ℕ) → AreUpTo rs stop → r.at ≤ stop → AreUpTo (rs ++ r ∷ []) stop
-more_up_to [] r stop up le = (le, tt)
-more_up_to (q ∷ rs) r stop up le = (up.0, more_up_to rs r stop up.1 le)
+pub up_further : (rs : List PlacedRow) (a b : ℕ) → a ≤ b → AreUpTo rs a → AreUpTo rs b
+up_further [] a b le up = tt
+up_further (r ∷ rs) a b le up = let here = up.0 in (omega (arith, here, le), up_further rs a b le up.1)

@@ -6,8 +6,9 @@ use Rattle.patch_rows.specs.declared.row.Row.{Row}
 use Rattle.patch_rows.specs.Grammar.{IsRowAt}
 use Rattle.patch_meaning.specs.declared.fault.PatchFault.{PatchFault}
 use Rattle.patch_meaning.specs.declared.fault.PatchFault.TheVariants as faults
-use Rattle.patch_meaning.specs.declared.fault.Refusal.{Refusal}
-use Rattle.patch_meaning.specs.Patch.{Meaning, IsWell, IsPatch, IsPatchFault, IsRowsFault, AreTaken, refusal, refused_at, too_long, rows_, no_row, refused, open_block, no_id}
+use Rattle.patch_meaning.specs.declared.fault.PatchKind.{PatchKind}
+use Rattle.patch_meaning.specs.declared.fault.PatchKind.TheVariants as kinds
+use Rattle.patch_meaning.specs.Patch.{Meaning, IsWell, IsPatch, IsPatchFault, IsRowsFault, AreTaken, refusal, too_long, rows_, no_row, refused, open_block, no_id}
 use Rattle.patch_meaning.specs.Roles.{role, said, is_open}
 use Rattle.patch_reader.specs.declared.placed.PlacedRow.{PlacedRow}
 use Rattle.patch_reader.specs.Rows.{NoRowAt}
@@ -29,7 +30,7 @@ one_meaning text m n p q = by (compared text 0 p.rows_ (length text) q.rows_ (le
 
 -- ---- no fault
 
-some_none : {X : Type 0} (o : Option Refusal) (why : Refusal) → o ≡ None → o ≡ Some why → X
+some_none : {X : Type 0} (o : Option PatchKind) (why : PatchKind) → o ≡ None → o ≡ Some why → X
 some_none o why e f = absurd cc
 
 -- rows that may stand, one of which stands where others have a fault, don't have it
@@ -62,7 +63,7 @@ never_both text m fault p (rows_ rs to short reads taken is) = by (compared text
 
 -- ---- one fault
 
-some_same : (o : Option Refusal) (a b : Refusal) → o ≡ Some a → o ≡ Some b → a ≡ b
+some_same : (o : Option PatchKind) (a b : PatchKind) → o ≡ Some a → o ≡ Some b → a ≡ b
 some_same o a b e f = cc
 
 ends_there : (text : List ℕ) (to : ℕ) (kind : RowKind) (at : ℕ) → to ≡ length text → NoRowAt text to kind at → ⊥
@@ -71,14 +72,14 @@ ends_there text to kind at last none = absurd (let low = none.0 in omega arith)
 same_rows_fault : (text : List ℕ) (rs : List PlacedRow) (to : ℕ) (f g : PatchFault) → IsRowsFault text rs to f → IsRowsFault text rs to g → f ≡ g
 same_rows_fault text rs to f g (no_row at kind none is) (no_row there other none2 is2) =
     let one = one_fault_at text to kind other at there none none2 in
-    is ∙ ap (λ (k : RowKind). faults.Row at k) one.0 ∙ ap (λ (n : ℕ). faults.Row n other) one.1 ∙ sym is2
+    is ∙ ap (λ (k : RowKind). faults.At at (kinds.Row k)) one.0 ∙ ap (λ (n : ℕ). faults.At n (kinds.Row other)) one.1 ∙ sym is2
 same_rows_fault text rs to f g (no_row at kind none is) (refused r end why there refuses is2) = absurd (no_fault_there text to r end kind at there none)
 same_rows_fault text rs to f g (no_row at kind none is) (open_block last inside is2) = absurd (ends_there text to kind at last none)
 same_rows_fault text rs to f g (no_row at kind none is) (no_id last outside ids is2) = absurd (ends_there text to kind at last none)
 same_rows_fault text rs to f g (refused r end why there refuses is) (no_row at kind none is2) = absurd (no_fault_there text to r end kind at there none)
 same_rows_fault text rs to f g (refused r end why there refuses is) (refused s stop other there2 refuses2 is2) =
     let one = one_row_at text to r s end stop there there2 in
-    is ∙ ap (λ (w : Refusal). refused_at w to) (some_same (refusal (said rs) (role s)) why other (ap (λ (q : Row). refusal (said rs) (role q)) (sym one.0) ∙ refuses) refuses2) ∙ sym is2
+    is ∙ ap (λ (w : PatchKind). faults.At to w) (some_same (refusal (said rs) (role s)) why other (ap (λ (q : Row). refusal (said rs) (role q)) (sym one.0) ∙ refuses) refuses2) ∙ sym is2
 same_rows_fault text rs to f g (refused r end why there refuses is) (open_block last inside is2) = absurd (none_at_end text to r end last there)
 same_rows_fault text rs to f g (refused r end why there refuses is) (no_id last outside ids is2) = absurd (none_at_end text to r end last there)
 same_rows_fault text rs to f g (open_block last inside is) (no_row at kind none is2) = absurd (ends_there text to kind at last none)

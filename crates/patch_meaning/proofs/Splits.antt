@@ -1,5 +1,5 @@
 -- A text while it is split into patches.
-use Rattle.std.proofs.Common.{◌≡◌, ℕ, ◌≤◌, true, List, [], ◌∷◌, ◌++◌, length, Option, Some, None, refl, sym, ap, subst, ◌∙◌, append-nil, inl, inr, arith}
+use Rattle.std.proofs.Common.{◌≡◌, ℕ, ◌≤◌, true, List, [], ◌∷◌, ◌++◌, length, Option, Some, None, refl, sym, ap, subst, ◌∙◌, append-nil, ◌⊎◌, inl, inr, arith}
 use Rattle.std.specs.List.{slice_range}
 use Rattle.std.proofs.lemmas.List.{map-append}
 use Rattle.chain_core.specs.declared.link.Link.{Link}
@@ -12,15 +12,15 @@ use Rattle.patch_meaning.specs.declared.part.Part.{Part as PartRead}
 use Rattle.patch_meaning.specs.declared.rows.Next.{Next}
 use Rattle.patch_meaning.specs.declared.stream.Cutting.{Cutting}
 use Rattle.patch_meaning.specs.Checked.{CheckedPatch, meanings, texts}
-use Rattle.patch_meaning.specs.Cutting.{IsCutInto, IsCutAt, HasTakenNext, IsBrokenBefore, IsLast, EndsStream, IsBrokenAtEnd, HasCut, IsTextOf, checked_of, IsNextOf, Stops, RefusesStream, changes_behind, meanings_of}
+use Rattle.patch_meaning.specs.Cutting.{IsCutInto, IsCutAt, HasTakenNext, AreRefused, EndsWith, IsBrokenBy, IsLast, EndsStream, IsBrokenAtEnd, HasCut, IsTextOf, checked_of, IsNextOf, Stops, RefusesStream, changes_behind, meanings_of}
 use Rattle.patch_meaning.specs.Next.{IsNextRow}
 use Rattle.patch_meaning.specs.PartRead.{HasPart, IsComplete, meaning_of}
 use Rattle.patch_meaning.specs.Patch.{Meaning, IsPatch, has_some}
 use Rattle.patch_meaning.specs.Roles.{role, said}
 use Rattle.patch_meaning.specs.Rows.{AreUpTo, RowsTo}
-use Rattle.patch_meaning.specs.Stream.{Part, Cut, AreStream, IsStream, IsSplit, begins, cut, stop_of, texts_of, cut_texts, next, over, no_row}
-use Rattle.patch_meaning.proofs.Cuts.{cut_begun, cut_longer, stop_more, none_there, nothing_cut, well_with}
-use Rattle.patch_meaning.proofs.FaultPlaces.{fault_behind}
+use Rattle.patch_meaning.specs.Stream.{Part, Cut, AreStream, IsStream, IsSplit, begins, cut, stop_of, texts_of, cut_texts, next, over}
+use Rattle.patch_meaning.proofs.Cuts.{changes_within, cut_begun, cut_longer, stop_more, none_there, nothing_cut, well_with}
+use Rattle.patch_meaning.proofs.StreamFaults.{refused_fault, no_row_fault, end_fault}
 use Rattle.patch_meaning.proofs.Pieces.{piece_patch, last_rows}
 use Rattle.patch_meaning.proofs.Rowed.{rows_more, row_within, rows_order, rows_up_to}
 
@@ -72,8 +72,8 @@ texts_last text rs p ps (Some link) changes h is are =
 pub part_before : (text : List ℕ) (at : ℕ) (k : Cutting) → HasCut text at k → k.part.from ≤ at
 part_before text at k h = omega (arith, h.parts.from_is, rows_order text (cut h.rs).last.from at (cut h.rs).last.rows_ (last_rows text h.rs at h.reads))
 
-rows_before : (text : List ℕ) (at stop : ℕ) (k : Cutting) → (h : HasCut text at k) → at ≤ stop → AreUpTo (cut h.rs).last.rows_ stop
-rows_before text at stop k h le = rows_up_to text (cut h.rs).last.from at stop (cut h.rs).last.rows_ (last_rows text h.rs at h.reads) le
+all_before : (text : List ℕ) (at stop : ℕ) (k : Cutting) → (h : HasCut text at k) → at ≤ stop → AreUpTo h.rs stop
+all_before text at stop k h le = rows_up_to text 0 at stop h.rs h.reads le
 
 rows_there : (text : List ℕ) (at stop : ℕ) (k : Cutting) → (h : HasCut text at k) → Gap text at stop → RowsTo text k.part.from (cut h.rs).last.rows_ stop
 rows_there text at stop k h gap = subst (λ (n : ℕ). RowsTo text n (cut h.rs).last.rows_ stop) h.parts.from_is (at, last_rows text h.rs at h.reads, gap)
@@ -81,9 +81,9 @@ rows_there text at stop k h gap = subst (λ (n : ℕ). RowsTo text n (cut h.rs).
 -- the text from where a patch begins to where it stops is that patch
 whole_piece : (text : List ℕ) (at stop : ℕ) (k : Cutting) (link : Link) → (h : HasCut text at k) → Gap text at stop → IsComplete k.part stop link → IsPatch (slice_range text k.part.from stop) (meaning_of link k.changes.items)
 whole_piece text at stop k link h gap is =
-    let whole = is (cut h.rs).last.rows_ h.parts.part (rows_before text at stop k h gap.1) in
+    let whole = is (cut h.rs).last.rows_ h.parts.part in
     piece_patch text k.part.from stop (cut h.rs).last.rows_ (meaning_of link k.changes.items) (rows_there text at stop k h gap) whole.1
-    (well_with (said (cut h.rs).last.rows_) link k.changes.items (h.parts.changes_are whole.2) whole.0)
+    (well_with (said (cut h.rs).last.rows_) link k.changes.items (changes_within h.rs (meanings k.patches.items) k.changes.items k.part stop h.parts (all_before text at stop k h gap.1) whole.1) whole.0)
 
 pub next_piece : (text : List ℕ) (at : ℕ) (k : Cutting) (row : Next) (done : Option Link) → HasCut text at k → IsNextRow text at row → IsCutAt k.part row.role row.at done
     → IsTextOf (slice_range text k.part.from row.at) done k.changes.items
@@ -99,9 +99,6 @@ last_piece text at k (Some link) h gap last = whole_piece text at (length text) 
 
 abbrev placed : Next → Row → PlacedRow
 placed row r = record { row = r; at = row.at; end = row.end }
-
-all_before : (text : List ℕ) (at stop : ℕ) (k : Cutting) → (h : HasCut text at k) → at ≤ stop → AreUpTo h.rs stop
-all_before text at stop k h le = rows_up_to text 0 at stop h.rs h.reads le
 
 pub begun_text : (text : List ℕ) (k : Cutting) → HasPart [] k.part → k.part.from ≡ 0 → k.patches.items ≡ [] → k.changes.items ≡ [] → HasCut text 0 k
 begun_text text k part from none silent = record {
@@ -129,46 +126,24 @@ taken_behind text at old new row done is h cuts taken patches changes =
           ∙ texts_next text h.rs (placed row is.0) old.part old.patches.items done old.changes.items h.parts.part h.parts.from_is (subst (λ (says : _). IsCutAt old.part says row.at done) is.3 cuts) h.texts_are;
     }
 
-pub broken_row : (text : List ℕ) (at : ℕ) (k : Cutting) (row : Next) (fault : PatchFault) → IsNextRow text at row → HasCut text at k → IsBrokenBefore k.part row.role row.at fault → RefusesStream text fault
-broken_row text at k row fault is h why = inr (record {
-  rows_ = h.rs;
-  to = row.at;
-  reads = (at, h.reads, is.1);
-  before = meanings k.patches.items;
-  well = h.parts.before;
-  stop = row.at;
-  broken = None;
-  stops = next is.0 row.end is.2 (ap (begins (said (cut h.rs).last.rows_)) (sym is.3) ∙ why.1 h.rs (meanings k.patches.items) k.changes.items h.parts) refl refl;
-  fault_is = why.0 h.rs (meanings k.patches.items) k.changes.items h.parts (all_before text at row.at k h is.1.1);
-})
+pub broken_row : (text : List ℕ) (at : ℕ) (k : Cutting) (row : Next) (fault : PatchFault) → IsNextRow text at row → HasCut text at k → IsBrokenBy k.part row.role row.at fault → RefusesStream text fault
+broken_row text at k row fault is h why = by (why h.rs (meanings k.patches.items) k.changes.items (placed row is.0) h.parts (sym is.3) refl)
+  where
+    by : ((begins (said (cut h.rs).last.rows_) row.role ≡ true) × EndsWith h.rs row.at fault) ⊎ AreRefused (h.rs ++ placed row is.0 ∷ []) fault → RefusesStream text fault
+    by (inl ends) =
+        inr (end_fault text h.rs row.at (meanings k.patches.items) fault (at, h.reads, is.1) h.parts.before (next is.0 row.end is.2 (ap (begins (said (cut h.rs).last.rows_)) (sym is.3) ∙ ends.0)) ends.1)
+    by (inr bad) =
+        inr (refused_fault text (h.rs ++ placed row is.0 ∷ []) row.end fault (rows_more text 0 at h.rs (placed row is.0) h.reads is.1 is.2) (row_within text row.at is.0 row.end is.2).1 bad)
 
 pub stopped_there : (text : List ℕ) (at : ℕ) (k : Cutting) (fault : PatchFault) → HasCut text at k → Stops text at k.part fault → RefusesStream text fault
 stopped_there text at k fault h (inl memory) = inl memory
-stopped_there text at k fault h (inr s) = inr (record {
-  rows_ = h.rs;
-  to = s.0;
-  reads = (at, h.reads, s.3);
-  before = meanings k.patches.items;
-  well = h.parts.before;
-  stop = s.1;
-  broken = Some s.2;
-  stops = no_row s.2 s.4 refl;
-  fault_is = s.5 h.rs (meanings k.patches.items) k.changes.items h.parts
-      (all_before text at s.1 k h (let low = s.3.1 in omega (arith, low, fault_behind text s.0 s.2 s.1 s.4)));
-})
+stopped_there text at k fault h (inr s) =
+    inr (no_row_fault text h.rs s.0 (meanings k.patches.items) s.1 s.2 fault (at, h.reads, s.3) h.parts.before s.4 (s.5 h.rs (meanings k.patches.items) k.changes.items h.parts))
 
 pub unfinished : (text : List ℕ) (at : ℕ) (k : Cutting) (fault : PatchFault) → HasCut text at k → Gap text at (length text) → IsBrokenAtEnd k.part (length text) fault → RefusesStream text fault
-unfinished text at k fault h gap why = inr (record {
-  rows_ = h.rs;
-  to = length text;
-  reads = (at, h.reads, gap);
-  before = meanings k.patches.items;
-  well = h.parts.before;
-  stop = length text;
-  broken = None;
-  stops = over refl (why.1 h.rs (meanings k.patches.items) k.changes.items h.parts) refl refl;
-  fault_is = why.0 h.rs (meanings k.patches.items) k.changes.items h.parts (all_before text at (length text) k h gap.1);
-})
+unfinished text at k fault h gap why =
+    let ends = why h.rs (meanings k.patches.items) k.changes.items h.parts in
+    inr (end_fault text h.rs (length text) (meanings k.patches.items) fault (at, h.reads, gap) h.parts.before (over refl ends.0) ends.1)
 
 pub finished : (text : List ℕ) (at : ℕ) (k : Cutting) (done : Option Link) (ps : List CheckedPatch) → HasCut text at k → Gap text at (length text) → EndsStream k.part (length text) done
     → IsLast k.part (length text) done → ps ≡ k.patches.items ++ checked_of (slice_range text k.part.from (length text)) done k.changes.items → IsSplit text ps

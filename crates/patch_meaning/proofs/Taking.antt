@@ -8,8 +8,8 @@ use Rattle.delta_base.specs.declared.id.Id.{Id}
 use Rattle.rdf_terms.specs.declared.change.Change.{Change}
 use Rattle.rdf_terms.specs.declared.change.Change.TheVariants as change
 use Rattle.patch_meaning.specs.declared.draft.Draft.{Draft}
-use Rattle.patch_meaning.specs.declared.fault.Refusal.{Refusal}
-use Rattle.patch_meaning.specs.declared.fault.Refusal.TheVariants as refusals
+use Rattle.patch_meaning.specs.declared.fault.PatchKind.{PatchKind}
+use Rattle.patch_meaning.specs.declared.fault.PatchKind.TheVariants as kinds
 use Rattle.patch_meaning.specs.declared.role.Role.{Role}
 use Rattle.patch_meaning.specs.declared.role.Role.TheVariants as roles
 use Rattle.patch_meaning.specs.Draft.{AreBehind, Stands}
@@ -71,46 +71,46 @@ behind_more false (change.PrefixDelete prefix graph) more none behind = behind
 
 -- ---- refusals
 
-late_by : (rs : List Role) (d : Draft) (some : Bool) → Stands rs d → d.has_change ≡ some → late rs ≡ cond some (Some refusals.LateHeader) None
-late_by rs d some s is = ap (λ (b : Bool). cond b (Some refusals.LateHeader) None) (s.change ∙ is)
+late_by : (rs : List Role) (d : Draft) (some : Bool) → Stands rs d → d.has_change ≡ some → late rs ≡ cond some (Some kinds.LateHeader) None
+late_by rs d some s is = ap (λ (b : Bool). cond b (Some kinds.LateHeader) None) (s.change ∙ is)
 
 no_changes : (cs : List Change) → has_some cs ≡ false → cs ≡ []
 no_changes [] none = refl
 no_changes (c ∷ cs) none = absurd cc
 
-second : (ids : List (Option Id)) (id : Option Id) (why : Refusal) (other : Option Refusal) → ids ≡ prev_list id → is_some id ≡ true → cond (has_some ids) (Some why) other ≡ Some why
+second : (ids : List (Option Id)) (id : Option Id) (why : PatchKind) (other : Option PatchKind) → ids ≡ prev_list id → is_some id ≡ true → cond (has_some ids) (Some why) other ≡ Some why
 second ids None why other e some = absurd cc
 second ids (Some id) why other e some = ap (λ (l : List (Option Id)). cond (has_some l) (Some why) other) e
 
-first : (ids : List (Option Id)) (id : Option Id) (why : Refusal) (other : Option Refusal) → ids ≡ prev_list id → is_some id ≡ false → cond (has_some ids) (Some why) other ≡ other
+first : (ids : List (Option Id)) (id : Option Id) (why : PatchKind) (other : Option PatchKind) → ids ≡ prev_list id → is_some id ≡ false → cond (has_some ids) (Some why) other ≡ other
 first ids None why other e none = ap (λ (l : List (Option Id)). cond (has_some l) (Some why) other) e
 first ids (Some id) why other e none = absurd cc
 
-pub second_id : (rs : List Role) (id : Id) (d : Draft) → Stands rs d → is_some d.id ≡ true → refusal rs (roles.Id (Some id)) ≡ Some refusals.TwoIds
+pub second_id : (rs : List Role) (id : Id) (d : Draft) → Stands rs d → is_some d.id ≡ true → refusal rs (roles.Id (Some id)) ≡ Some kinds.TwoIds
 unfolding refusal
-second_id rs id d s some = second (ids_of rs) d.id refusals.TwoIds (late rs) s.ids some
+second_id rs id d s some = second (ids_of rs) d.id kinds.TwoIds (late rs) s.ids some
 
-pub late_id : (rs : List Role) (id : Id) (d : Draft) → Stands rs d → is_some d.id ≡ false → d.has_change ≡ true → refusal rs (roles.Id (Some id)) ≡ Some refusals.LateHeader
+pub late_id : (rs : List Role) (id : Id) (d : Draft) → Stands rs d → is_some d.id ≡ false → d.has_change ≡ true → refusal rs (roles.Id (Some id)) ≡ Some kinds.LateHeader
 unfolding refusal
-late_id rs id d s none some = first (ids_of rs) d.id refusals.TwoIds (late rs) s.ids none ∙ late_by rs d true s some
+late_id rs id d s none some = first (ids_of rs) d.id kinds.TwoIds (late rs) s.ids none ∙ late_by rs d true s some
 
 pub id_taken : (rs : List Role) (id : Id) (d : Draft) → Stands rs d → is_some d.id ≡ false → d.has_change ≡ false → refusal rs (roles.Id (Some id)) ≡ None
 unfolding refusal
-id_taken rs id d s none empty = first (ids_of rs) d.id refusals.TwoIds (late rs) s.ids none ∙ late_by rs d false s empty
+id_taken rs id d s none empty = first (ids_of rs) d.id kinds.TwoIds (late rs) s.ids none ∙ late_by rs d false s empty
 
-pub second_prev : (rs : List Role) (id : Id) (d : Draft) → Stands rs d → is_some d.prev ≡ true → refusal rs (roles.Prev (Some id)) ≡ Some refusals.TwoPrevs
+pub second_prev : (rs : List Role) (id : Id) (d : Draft) → Stands rs d → is_some d.prev ≡ true → refusal rs (roles.Prev (Some id)) ≡ Some kinds.TwoPrevs
 unfolding refusal
-second_prev rs id d s some = second (prevs_of rs) d.prev refusals.TwoPrevs (late rs) s.prevs some
+second_prev rs id d s some = second (prevs_of rs) d.prev kinds.TwoPrevs (late rs) s.prevs some
 
-pub late_prev : (rs : List Role) (id : Id) (d : Draft) → Stands rs d → is_some d.prev ≡ false → d.has_change ≡ true → refusal rs (roles.Prev (Some id)) ≡ Some refusals.LateHeader
+pub late_prev : (rs : List Role) (id : Id) (d : Draft) → Stands rs d → is_some d.prev ≡ false → d.has_change ≡ true → refusal rs (roles.Prev (Some id)) ≡ Some kinds.LateHeader
 unfolding refusal
-late_prev rs id d s none some = first (prevs_of rs) d.prev refusals.TwoPrevs (late rs) s.prevs none ∙ late_by rs d true s some
+late_prev rs id d s none some = first (prevs_of rs) d.prev kinds.TwoPrevs (late rs) s.prevs none ∙ late_by rs d true s some
 
 pub prev_taken : (rs : List Role) (id : Id) (d : Draft) → Stands rs d → is_some d.prev ≡ false → d.has_change ≡ false → refusal rs (roles.Prev (Some id)) ≡ None
 unfolding refusal
-prev_taken rs id d s none empty = first (prevs_of rs) d.prev refusals.TwoPrevs (late rs) s.prevs none ∙ late_by rs d false s empty
+prev_taken rs id d s none empty = first (prevs_of rs) d.prev kinds.TwoPrevs (late rs) s.prevs none ∙ late_by rs d false s empty
 
-pub late_other : (rs : List Role) (d : Draft) → Stands rs d → d.has_change ≡ true → refusal rs roles.Other ≡ Some refusals.LateHeader
+pub late_other : (rs : List Role) (d : Draft) → Stands rs d → d.has_change ≡ true → refusal rs roles.Other ≡ Some kinds.LateHeader
 unfolding refusal
 late_other rs d s some = late_by rs d true s some
 
@@ -118,7 +118,7 @@ pub other_taken : (rs : List Role) (d : Draft) → Stands rs d → d.has_change 
 unfolding refusal
 other_taken rs d s empty = late_by rs d false s empty
 
-pub change_refused : (rs : List Role) (c : Change) (d : Draft) (why : Option Refusal) → Stands rs d → block_refusal d.in_block c ≡ why → refusal rs (roles.Change c) ≡ why
+pub change_refused : (rs : List Role) (c : Change) (d : Draft) (why : Option PatchKind) → Stands rs d → block_refusal d.in_block c ≡ why → refusal rs (roles.Change c) ≡ why
 unfolding refusal
 change_refused rs c d why s is = ap (λ (b : Bool). block_refusal b c) s.inside ∙ is
 

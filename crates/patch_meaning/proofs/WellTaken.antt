@@ -5,8 +5,8 @@ use Rattle.std.proofs.lemmas.Grind.{flat_map-append}
 use Rattle.delta_base.specs.declared.id.Id.{Id}
 use Rattle.rdf_terms.specs.declared.change.Change.{Change}
 use Rattle.rdf_terms.specs.declared.change.Change.TheVariants as change
-use Rattle.patch_meaning.specs.declared.fault.Refusal.{Refusal}
-use Rattle.patch_meaning.specs.declared.fault.Refusal.TheVariants as refusals
+use Rattle.patch_meaning.specs.declared.fault.PatchKind.{PatchKind}
+use Rattle.patch_meaning.specs.declared.fault.PatchKind.TheVariants as kinds
 use Rattle.patch_meaning.specs.declared.role.Role.{Role}
 use Rattle.patch_meaning.specs.declared.role.Role.TheVariants as roles
 use Rattle.patch_meaning.specs.Draft.{AreBehind}
@@ -65,7 +65,7 @@ no_change_before (b ∷ before) rs r (h ∷ headers) changes e silent none =
 
 not_late : (before rs : List Role) (r : Role) (m : Meaning) → IsWell (before ++ r ∷ rs) m → change_of r ≡ [] → late before ≡ None
 not_late before rs r m w none =
-    ap (λ (cs : List Change). cond (has_some cs) (Some refusals.LateHeader) None)
+    ap (λ (cs : List Change). cond (has_some cs) (Some kinds.LateHeader) None)
     (no_change_before before rs r w.parted.headers w.parted.changes w.parted.parts w.parted.no_change none)
 
 -- ---- blocks
@@ -110,17 +110,17 @@ prev_alone xs ys x (Some id) e = let one = alone xs ys x (Some id) e in (one.0, 
 prev_there : (before rs : List Role) (id : Option Id) (m : Meaning) → IsWell (before ++ roles.Prev id ∷ rs) m → (prevs_of before ≡ []) × ((other : Id) × (id ≡ Some other))
 prev_there before rs id m w = prev_alone (prevs_of before) (prevs_of rs) id m.prev (sym (said_there prev_of before rs (roles.Prev id)) ∙ w.prev_is)
 
-unless : (ids : List (Option Id)) (why : Option Refusal) (rest : Option Refusal) → ids ≡ [] → rest ≡ None → cond (has_some ids) why rest ≡ None
+unless : (ids : List (Option Id)) (why : Option PatchKind) (rest : Option PatchKind) → ids ≡ [] → rest ≡ None → cond (has_some ids) why rest ≡ None
 unless ids why rest none e = ap (λ (l : List (Option Id)). cond (has_some l) why rest) none ∙ e
 
 row_taken : (before : List Role) (r : Role) (rs : List Role) (m : Meaning) → IsWell (before ++ r ∷ rs) m → refusal before r ≡ None
 unfolding refusal
 row_taken before (roles.Id None) rs m w = absurd (not_both m.id (id_there before rs None m w).1)
 row_taken before (roles.Id (Some id)) rs m w =
-    unless (ids_of before) (Some refusals.TwoIds) (late before) (id_there before rs (Some id) m w).0 (not_late before rs (roles.Id (Some id)) m w refl)
+    unless (ids_of before) (Some kinds.TwoIds) (late before) (id_there before rs (Some id) m w).0 (not_late before rs (roles.Id (Some id)) m w refl)
 row_taken before (roles.Prev None) rs m w = let there = prev_there before rs None m w in absurd (not_both there.1.0 there.1.1)
 row_taken before (roles.Prev (Some id)) rs m w =
-    unless (prevs_of before) (Some refusals.TwoPrevs) (late before) (prev_there before rs (Some id) m w).0 (not_late before rs (roles.Prev (Some id)) m w refl)
+    unless (prevs_of before) (Some kinds.TwoPrevs) (late before) (prev_there before rs (Some id) m w).0 (not_late before rs (roles.Prev (Some id)) m w refl)
 row_taken before roles.Other rs m w = not_late before rs roles.Other m w refl
 row_taken before (roles.Change c) rs m w =
     may_stand false (changes_of before) c (changes_of rs) (subst (AreBehind false) (sym (sym (said_there change_of before rs (roles.Change c)) ∙ w.changes_are)) w.blocks)

@@ -3,13 +3,14 @@ use Rattle.std.specs.Prelude.{◌≡◌, ◌⊎◌, ℕ, List, [], ◌∷◌, Op
 use Rattle.delta_base.specs.declared.id.Id.{Id}
 use Rattle.rdf_terms.specs.declared.change.Change.{Change}
 use Rattle.patch_meaning.specs.declared.checked.ReadRows.{ReadRows}
+use Rattle.patch_meaning.specs.declared.draft.Draft.{Draft}
 use Rattle.patch_meaning.specs.declared.fault.PatchFault.{PatchFault}
 use Rattle.patch_meaning.specs.declared.fault.PatchFault.TheVariants as faults
-use Rattle.patch_meaning.specs.declared.fault.Refusal.{Refusal}
+use Rattle.patch_meaning.specs.declared.fault.PatchKind.{PatchKind}
 use Rattle.patch_meaning.specs.declared.role.Role.{Role}
 use Rattle.patch_meaning.specs.declared.rows.Next.{Next}
 use Rattle.patch_meaning.specs.Draft.{Stands}
-use Rattle.patch_meaning.specs.Patch.{Meaning, IsPatch, IsPatchFault, refusal, refused_at}
+use Rattle.patch_meaning.specs.Patch.{Meaning, IsPatch, IsPatchFault, refusal}
 use Rattle.patch_meaning.specs.Roles.{said, changes_of}
 use Rattle.patch_reader.specs.declared.placed.PlacedRow.{PlacedRow}
 use Rattle.patch_meaning.specs.Rows.{RowsTo}
@@ -41,7 +42,7 @@ Refuses text fault = (fault ≡ faults.OutOfMemory) ⊎ IsPatchFault text fault
 
 -- the row may not stand behind these, and that is the fault; want of memory is free
 abbrev pub IsStopped : List Role → Next → PatchFault → Type 0
-IsStopped rs next fault = (fault ≡ faults.OutOfMemory) ⊎ ((why : Refusal) × (refusal rs next.role ≡ Some why) × (fault ≡ refused_at why next.at))
+IsStopped rs next fault = (fault ≡ faults.OutOfMemory) ⊎ ((why : PatchKind) × (refusal rs next.role ≡ Some why) × (fault ≡ faults.At next.at why))
 
 -- these rows were taken, and their changes are kept
 abbrev pub AreRead : List Role → ReadRows → Type 0
@@ -50,3 +51,7 @@ AreRead rs read = Stands rs read.draft × (changes_of rs ≡ read.changes.items)
 -- all rows of the text were taken
 abbrev pub HasRead : List ℕ → ReadRows → Type 0
 HasRead text read = (rs : List PlacedRow) × RowsTo text 0 rs (length text) × AreRead (said rs) read
+
+-- the same where no change is kept
+abbrev pub HasDrafted : List ℕ → Draft → Type 0
+HasDrafted text d = (rs : List PlacedRow) × RowsTo text 0 rs (length text) × Stands (said rs) d

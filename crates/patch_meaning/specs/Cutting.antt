@@ -1,34 +1,37 @@
 -- A stream of which some rows were taken.
-use Rattle.std.specs.Prelude.{◌≡◌, ◌⊎◌, ℕ, ◌≤◌, true, false, List, [], ◌∷◌, ◌++◌, Option, Some, None, length}
+use Rattle.std.specs.Prelude.{◌≡◌, ◌⊎◌, ℕ, ◌+◌, ◌≤◌, true, false, List, [], ◌∷◌, ◌++◌, Option, Some, None, length}
+use Rattle.delta_base.specs.declared.limits.TheConstants.{PATCH_LIMIT}
 use Rattle.chain_core.specs.declared.link.Link.{Link}
 use Rattle.rdf_terms.specs.declared.change.Change.{Change}
 use Rattle.patch_rows.specs.declared.fault.RowKind.{RowKind}
 use Rattle.patch_meaning.specs.declared.fault.PatchFault.{PatchFault}
 use Rattle.patch_meaning.specs.declared.fault.PatchFault.TheVariants as faults
+use Rattle.patch_meaning.specs.declared.fault.PatchKind.{PatchKind}
+use Rattle.patch_meaning.specs.declared.fault.PatchKind.TheVariants as kinds
 use Rattle.patch_meaning.specs.declared.part.Part.{Part as PartRead}
 use Rattle.patch_meaning.specs.declared.role.Role.{Role}
 use Rattle.patch_meaning.specs.declared.rows.Next.{Next}
 use Rattle.patch_meaning.specs.declared.stream.Cutting.{Cutting}
 use Rattle.patch_meaning.specs.Next.{IsNextRow}
 use Rattle.patch_meaning.specs.Checked.{CheckedPatch, meanings, texts}
-use Rattle.patch_meaning.specs.PartRead.{HasPart, IsComplete, is_sound, meaning_of}
-use Rattle.patch_meaning.specs.Patch.{Meaning, IsPatch, has_some}
+use Rattle.patch_meaning.specs.PartRead.{HasPart, IsComplete, meaning_of}
+use Rattle.patch_meaning.specs.Patch.{Meaning, IsPatch, AreTaken, refusal, has_some}
 use Rattle.patch_meaning.specs.Roles.{role, said, change_of, changes_of}
 use Rattle.patch_meaning.specs.Rows.{AreUpTo}
 use Rattle.patch_reader.specs.declared.placed.PlacedRow.{PlacedRow}
 use Rattle.patch_reader.specs.Rows.{Gap, RowsUpTo, NoRowAt}
-use Rattle.patch_meaning.specs.Stream.{ArePatches, AreStream, IsPartFault, IsStreamFault, begins, cut, texts_of}
+use Rattle.patch_meaning.specs.Stream.{ArePatches, AreStream, IsEndFault, IsStreamFault, begins, cut, texts_of, within}
 
 -- ---- rows that come one at a time
 
--- These rows were cut into patches that are complete, which say this, and one that may go on. As long as each of its rows was
--- taken, these are its changes.
+-- These rows were cut into patches that are complete, which say this, and one that may go on, each
+-- of whose rows was taken. As long as no row begins behind its limit, these are its changes.
 pub record IsCutInto (rs : List PlacedRow) (ms : List Meaning) (changes : List Change) (p : PartRead) : Type 0 where
   pub some : (cut rs).last.rows_ ≡ [] → rs ≡ []
   pub from_is : (cut rs).last.from ≡ p.from
   pub part : HasPart (cut rs).last.rows_ p
   pub before : ArePatches (cut rs).done (cut rs).last.from ms
-  pub changes_are : is_sound p ≡ true → changes_of (said (cut rs).last.rows_) ≡ changes
+  pub changes_are : AreUpTo rs (p.from + PATCH_LIMIT) → changes_of (said (cut rs).last.rows_) ≡ changes
 
 -- with a row that says this the next patch begins
 abbrev pub Begins : Role → PartRead → Type 0
@@ -68,14 +71,36 @@ HasTakenNext old says at done new =
     (rs : List PlacedRow) (ms : List Meaning) (changes : List Change) (r : PlacedRow) → IsCutInto rs ms changes old → AreUpTo rs at → role r.row ≡ says → r.at ≡ at
     → IsCutInto (rs ++ r ∷ []) (ms ++ meanings_of done changes) (changes_behind done changes says) new
 
--- the patch to which the rows lead has this fault, and stops there
-abbrev pub IsFaultOf : PartRead → ℕ → Option RowKind → PatchFault → Type 0
-IsFaultOf p stop broken fault = (rs : List PlacedRow) (ms : List Meaning) (changes : List Change) → IsCutInto rs ms changes p → AreUpTo rs stop → IsPartFault (cut rs).last stop broken fault
+-- the rows are patches that are complete, and one whose last row is refused, which is the fault
+pub record AreRefused (rs : List PlacedRow) (fault : PatchFault) : Type 0 where
+  pub before : List Meaning
+  pub well : ArePatches (cut rs).done (cut rs).last.from before
+  pub front : List PlacedRow
+  pub row_ : PlacedRow
+  pub kind : PatchKind
+  pub rows_ : (cut rs).last.rows_ ≡ front ++ row_ ∷ []
+  pub taken : AreTaken (said front)
+  pub refused : refusal (said front) (role row_.row) ≡ Some kind
+  pub fault_is : fault ≡ within (cut rs).last.from row_.at kind
 
--- with a row that says this the next patch begins, and the patch before it has this fault
-abbrev pub IsBrokenBefore : PartRead → Role → ℕ → PatchFault → Type 0
-IsBrokenBefore p says at fault =
-    IsFaultOf p at None fault × ((rs : List PlacedRow) (ms : List Meaning) (changes : List Change) → IsCutInto rs ms changes p → begins (said (cut rs).last.rows_) says ≡ true)
+-- the patch to which the rows lead ends at a place, and that is its fault
+abbrev pub EndsWith : List PlacedRow → ℕ → PatchFault → Type 0
+EndsWith rs stop fault = AreTaken (said (cut rs).last.rows_) × IsEndFault (cut rs).last stop fault
+
+-- with a row that says this the next patch begins, and the one before it has the fault; or the
+-- row has it
+abbrev pub IsBrokenBy : PartRead → Role → ℕ → PatchFault → Type 0
+IsBrokenBy p says at fault =
+    (rs : List PlacedRow) (ms : List Meaning) (changes : List Change) (r : PlacedRow)
+    → IsCutInto rs ms changes p → role r.row ≡ says → r.at ≡ at
+    → ((begins (said (cut rs).last.rows_) says ≡ true) × EndsWith rs at fault)
+    ⊎ AreRefused (rs ++ r ∷ []) fault
+
+-- no row stands where the next one would begin, which is the fault
+abbrev pub IsBrokenAt : PartRead → ℕ → RowKind → PatchFault → Type 0
+IsBrokenAt p at kind fault =
+    (rs : List PlacedRow) (ms : List Meaning) (changes : List Change) → IsCutInto rs ms changes p
+    → AreTaken (said (cut rs).last.rows_) × (fault ≡ within (cut rs).last.from at (kinds.Row kind))
 
 -- the last patch of a stream that stops there: it has no rows, or it is complete
 abbrev pub IsLast : PartRead → ℕ → Option Link → Type 0
@@ -86,9 +111,11 @@ IsLast p stop (Some link) = ((rs : List PlacedRow) → HasPart rs p → has_some
 abbrev pub EndsStream : PartRead → ℕ → Option Link → Type 0
 EndsStream p stop done = (rs : List PlacedRow) (ms : List Meaning) (changes : List Change) → IsCutInto rs ms changes p → AreUpTo rs stop → AreStream rs stop (ms ++ meanings_of done changes)
 
--- the last patch of a stream has this fault
+-- the last patch of a stream has rows, and this fault
 abbrev pub IsBrokenAtEnd : PartRead → ℕ → PatchFault → Type 0
-IsBrokenAtEnd p stop fault = IsFaultOf p stop None fault × ((rs : List PlacedRow) (ms : List Meaning) (changes : List Change) → IsCutInto rs ms changes p → (cut rs).last.rows_ ≡ [] → ⊥)
+IsBrokenAtEnd p stop fault =
+    (rs : List PlacedRow) (ms : List Meaning) (changes : List Change) → IsCutInto rs ms changes p
+    → ((cut rs).last.rows_ ≡ [] → ⊥) × EndsWith rs stop fault
 
 -- ---- a whole text
 
@@ -127,7 +154,8 @@ IsNextOf text at (Some next) = IsNextRow text at next
 abbrev pub Stops : List ℕ → ℕ → PartRead → PatchFault → Type 0
 Stops text at part fault =
     (fault ≡ faults.OutOfMemory)
-    ⊎ ((to stop : ℕ) × (kind : RowKind) × Gap text at to × NoRowAt text to kind stop × IsFaultOf part stop (Some kind) fault)
+    ⊎ ((to place : ℕ) × (kind : RowKind) × Gap text at to × NoRowAt text to kind place
+    × IsBrokenAt part place kind fault)
 
 -- the first fault of a text that is no stream; want of memory is free
 abbrev pub RefusesStream : List ℕ → PatchFault → Type 0

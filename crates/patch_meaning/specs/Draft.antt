@@ -2,7 +2,7 @@
 use Rattle.std.specs.Prelude.{◌≡◌, Bool, true, false, List, [], ◌∷◌, ◌++◌, Some, Result, Ok, Err}
 use Rattle.rdf_terms.specs.declared.change.Change.{Change}
 use Rattle.patch_meaning.specs.declared.draft.Draft.{Draft}
-use Rattle.patch_meaning.specs.declared.fault.Refusal.{Refusal}
+use Rattle.patch_meaning.specs.declared.fault.PatchKind.{PatchKind}
 use Rattle.patch_meaning.specs.declared.role.Role.{Role}
 use Rattle.patch_meaning.specs.Patch.{AreOutside, AreInside, AreParted, AreTaken, has_some, prev_list, refusal}
 use Rattle.patch_meaning.specs.Roles.{ids_of, prevs_of, changes_of, is_open}
@@ -23,6 +23,6 @@ pub record Stands (rs : List Role) (d : Draft) : Type 0 where
   pub blocks : (more : List Change) → AreBehind d.in_block more → AreOutside (changes_of rs ++ more)
 
 -- the row was taken, or the first reason why it may not stand there
-abbrev pub Takes : List Role → Role → Result Unit Refusal → Draft → Type 0
+abbrev pub Takes : List Role → Role → Result Unit PatchKind → Draft → Type 0
 Takes rs r (Ok done) d = Stands (rs ++ r ∷ []) d
 Takes rs r (Err why) d = refusal rs r ≡ Some why

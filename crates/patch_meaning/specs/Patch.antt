@@ -11,8 +11,8 @@ use Rattle.patch_rows.specs.declared.fault.RowFault.TheVariants as row
 use Rattle.patch_rows.specs.Grammar.{IsRowAt}
 use Rattle.patch_meaning.specs.declared.fault.PatchFault.{PatchFault}
 use Rattle.patch_meaning.specs.declared.fault.PatchFault.TheVariants as faults
-use Rattle.patch_meaning.specs.declared.fault.Refusal.{Refusal}
-use Rattle.patch_meaning.specs.declared.fault.Refusal.TheVariants as refusals
+use Rattle.patch_meaning.specs.declared.fault.PatchKind.{PatchKind}
+use Rattle.patch_meaning.specs.declared.fault.PatchKind.TheVariants as kinds
 use Rattle.patch_meaning.specs.declared.role.Role.{Role}
 use Rattle.patch_meaning.specs.declared.role.Role.TheVariants as roles
 use Rattle.patch_meaning.specs.Roles.{role, said, ids_of, prevs_of, changes_of, is_open}
@@ -79,25 +79,25 @@ has_some [] = false
 has_some (x ∷ xs) = true
 
 -- a header behind a change
-abbrev pub late : List Role → Option Refusal
-late before = if has_some (changes_of before) then Some refusals.LateHeader else None
+abbrev pub late : List Role → Option PatchKind
+late before = if has_some (changes_of before) then Some kinds.LateHeader else None
 
 -- why a change may not stand where a block is open, or none is
-abbrev pub block_refusal : Bool → Change → Option Refusal
-block_refusal inside change.Begin = if inside then Some refusals.Nested else None
-block_refusal inside change.Commit = if inside then None else Some refusals.NotInBlock
-block_refusal inside change.Abort = if inside then None else Some refusals.NotInBlock
+abbrev pub block_refusal : Bool → Change → Option PatchKind
+block_refusal inside change.Begin = if inside then Some kinds.Nested else None
+block_refusal inside change.Commit = if inside then None else Some kinds.NotInBlock
+block_refusal inside change.Abort = if inside then None else Some kinds.NotInBlock
 block_refusal inside (change.Add quad) = None
 block_refusal inside (change.Delete quad) = None
 block_refusal inside (change.PrefixAdd prefix iri graph) = None
 block_refusal inside (change.PrefixDelete prefix graph) = None
 
 -- why a row may not stand behind these rows: the first reason, if there is one
-unfoldable pub refusal : List Role → Role → Option Refusal
-refusal before (roles.Id None) = Some refusals.BadId
-refusal before (roles.Id (Some id)) = if has_some (ids_of before) then Some refusals.TwoIds else late before
-refusal before (roles.Prev None) = Some refusals.BadId
-refusal before (roles.Prev (Some id)) = if has_some (prevs_of before) then Some refusals.TwoPrevs else late before
+unfoldable pub refusal : List Role → Role → Option PatchKind
+refusal before (roles.Id None) = Some kinds.BadId
+refusal before (roles.Id (Some id)) = if has_some (ids_of before) then Some kinds.TwoIds else late before
+refusal before (roles.Prev None) = Some kinds.BadId
+refusal before (roles.Prev (Some id)) = if has_some (prevs_of before) then Some kinds.TwoPrevs else late before
 refusal before roles.Other = late before
 refusal before (roles.Change change) = block_refusal (is_open before) change
 
@@ -109,40 +109,23 @@ AreTakenFrom before (r ∷ rs) = (refusal before r ≡ None) × AreTakenFrom (be
 abbrev pub AreTaken : List Role → Type 0
 AreTaken rs = AreTakenFrom [] rs
 
--- a refusal of the row at a place, as a fault
-abbrev pub refused_at : Refusal → ℕ → PatchFault
-refused_at refusals.BadId at = faults.BadId at
-refused_at refusals.TwoIds at = faults.TwoIds at
-refused_at refusals.TwoPrevs at = faults.TwoPrevs at
-refused_at refusals.LateHeader at = faults.LateHeader at
-refused_at refusals.Nested at = faults.Nested at
-refused_at refusals.NotInBlock at = faults.NotInBlock at
-
 -- the place of a fault; that a text is too long and want of memory have none
 abbrev pub place_of : PatchFault → Option ℕ
-place_of (faults.Row at kind) = Some at
-place_of (faults.NoId at) = Some at
-place_of (faults.TwoIds at) = Some at
-place_of (faults.TwoPrevs at) = Some at
-place_of (faults.BadId at) = Some at
-place_of (faults.LateHeader at) = Some at
-place_of (faults.Nested at) = Some at
-place_of (faults.NotInBlock at) = Some at
-place_of (faults.OpenBlock at) = Some at
+place_of (faults.At at kind) = Some at
 place_of (faults.TooLong length limit) = None
 place_of faults.OutOfMemory = None
 
 -- a fault of a row, as one of a patch
 abbrev pub row_refused : RowFault → PatchFault
-row_refused (row.At at kind) = faults.Row at kind
+row_refused (row.At at kind) = faults.At at (kinds.Row kind)
 row_refused row.OutOfMemory = faults.OutOfMemory
 
 -- The first fault of the rows of a text. Rows that are well come up to this place.
 pub data IsRowsFault (text : List ℕ) (rows_ : List PlacedRow) (to : ℕ) (fault : PatchFault) : Type 0 where
-  no_row : (at : ℕ) (kind : RowKind) → NoRowAt text to kind at → fault ≡ faults.Row at kind → IsRowsFault text rows_ to fault
-  refused : (r : Row) (end : ℕ) (why : Refusal) → IsRowAt text to r end → refusal (said rows_) (role r) ≡ Some why → fault ≡ refused_at why to → IsRowsFault text rows_ to fault
-  open_block : to ≡ length text → is_open (said rows_) ≡ true → fault ≡ faults.OpenBlock to → IsRowsFault text rows_ to fault
-  no_id : to ≡ length text → is_open (said rows_) ≡ false → ids_of (said rows_) ≡ [] → fault ≡ faults.NoId to → IsRowsFault text rows_ to fault
+  no_row : (at : ℕ) (kind : RowKind) → NoRowAt text to kind at → fault ≡ faults.At at (kinds.Row kind) → IsRowsFault text rows_ to fault
+  refused : (r : Row) (end : ℕ) (why : PatchKind) → IsRowAt text to r end → refusal (said rows_) (role r) ≡ Some why → fault ≡ faults.At to why → IsRowsFault text rows_ to fault
+  open_block : to ≡ length text → is_open (said rows_) ≡ true → fault ≡ faults.At to kinds.OpenBlock → IsRowsFault text rows_ to fault
+  no_id : to ≡ length text → is_open (said rows_) ≡ false → ids_of (said rows_) ≡ [] → fault ≡ faults.At to kinds.NoId → IsRowsFault text rows_ to fault
 
 -- The first fault of a text that is no patch. That it is too long comes before all others.
 pub data IsPatchFault (text : List ℕ) (fault : PatchFault) : Type 0 where

@@ -1,17 +1,18 @@
 -- Streams: how rows are cut into patches, and the first fault of a text that is no stream.
-use Rattle.std.specs.Prelude.{◌≡◌, ℕ, ◌+◌, ◌-◌, ◌<◌, ◌≤◌, Bool, true, false, ◌||◌, List, [], ◌∷◌, ◌++◌, Option, Some, None, fold, length, if◌then◌else◌}
+use Rattle.std.specs.Prelude.{◌≡◌, ℕ, ◌+◌, ◌-◌, ◌<◌, ◌≤◌, nat_lt, Bool, true, false, ◌||◌, List, [], ◌∷◌, ◌++◌, Some, fold, length, if◌then◌else◌}
 use Rattle.std.specs.List.{slice_range}
 use Rattle.patch_rows.specs.declared.row.Row.{Row}
 use Rattle.patch_rows.specs.declared.fault.RowKind.{RowKind}
 use Rattle.patch_rows.specs.Grammar.{IsRowAt}
 use Rattle.patch_meaning.specs.declared.fault.PatchFault.{PatchFault}
 use Rattle.patch_meaning.specs.declared.fault.PatchFault.TheVariants as faults
-use Rattle.patch_meaning.specs.declared.fault.Refusal.{Refusal}
+use Rattle.patch_meaning.specs.declared.fault.PatchKind.{PatchKind}
+use Rattle.patch_meaning.specs.declared.fault.PatchKind.TheVariants as kinds
 use Rattle.patch_meaning.specs.declared.role.Role.{Role}
 use Rattle.patch_meaning.specs.declared.role.Role.TheVariants as roles
 use Rattle.patch_meaning.specs.Checked.{CheckedPatch, meanings, texts}
 use Rattle.delta_base.specs.declared.limits.TheConstants.{PATCH_LIMIT}
-use Rattle.patch_meaning.specs.Patch.{Meaning, IsWell, AreTaken, refusal, refused_at, has_some}
+use Rattle.patch_meaning.specs.Patch.{Meaning, IsWell, AreTaken, refusal, has_some}
 use Rattle.patch_meaning.specs.Roles.{role, said, ids_of, changes_of, is_open}
 use Rattle.patch_reader.specs.declared.placed.PlacedRow.{PlacedRow}
 use Rattle.patch_reader.specs.Rows.{NoRowAt}
@@ -89,31 +90,45 @@ pub record IsSplit (text : List ℕ) (ps : List CheckedPatch) : Type 0 where
 
 -- ---- faults
 
--- The first fault of a patch of a stream, whose text stops at this place: at the next patch or the stream's end, or, where it
--- is broken by a row's fault, at that fault. That it is too long comes before all others.
-pub data IsPartFault (part : Part) (stop : ℕ) (broken : Option RowKind) (fault : PatchFault) : Type 0 where
-  too_long : part.from + PATCH_LIMIT < stop → fault ≡ faults.TooLong (stop - part.from) PATCH_LIMIT → IsPartFault part stop broken fault
-  refused : (before after : List PlacedRow) (r : PlacedRow) (why : Refusal) → stop ≤ part.from + PATCH_LIMIT → part.rows_ ≡ before ++ r ∷ after → AreTaken (said before)
-      → refusal (said before) (role r.row) ≡ Some why → fault ≡ refused_at why r.at → IsPartFault part stop broken fault
-  no_row : (kind : RowKind) → stop ≤ part.from + PATCH_LIMIT → AreTaken (said part.rows_) → broken ≡ Some kind → fault ≡ faults.Row stop kind → IsPartFault part stop broken fault
-  open_block : stop ≤ part.from + PATCH_LIMIT → AreTaken (said part.rows_) → broken ≡ None → is_open (said part.rows_) ≡ true → fault ≡ faults.OpenBlock stop → IsPartFault part stop broken fault
-  no_id : stop ≤ part.from + PATCH_LIMIT → AreTaken (said part.rows_) → broken ≡ None → is_open (said part.rows_) ≡ false → ids_of (said part.rows_) ≡ [] → fault ≡ faults.NoId stop
-      → IsPartFault part stop broken fault
+-- what is wrong at a place of a patch; where the patch is too long up to there, that
+abbrev pub within : ℕ → ℕ → PatchKind → PatchFault
+within from at kind =
+    if nat_lt (from + PATCH_LIMIT) at then faults.TooLong (at - from) PATCH_LIMIT
+    else faults.At at kind
 
--- behind its rows up to a place a patch stops: the next one begins there, or the text ends, or no row stands there
-pub data StopsAt (text : List ℕ) (part : Part) (to stop : ℕ) (broken : Option RowKind) : Type 0 where
-  next : (r : Row) (end : ℕ) → IsRowAt text to r end → begins (said part.rows_) (role r) ≡ true → stop ≡ to → broken ≡ None → StopsAt text part to stop broken
-  over : to ≡ length text → (part.rows_ ≡ [] → ⊥) → stop ≡ to → broken ≡ None → StopsAt text part to stop broken
-  no_row : (kind : RowKind) → NoRowAt text to kind stop → broken ≡ Some kind → StopsAt text part to stop broken
+-- behind its rows a patch ends at this place: the next one begins there, or the text ends
+pub data EndsAt (text : List ℕ) (part : Part) (to : ℕ) : Type 0 where
+  next : (r : Row) (end : ℕ) → IsRowAt text to r end
+      → begins (said part.rows_) (role r) ≡ true → EndsAt text part to
+  over : to ≡ length text → (part.rows_ ≡ [] → ⊥) → EndsAt text part to
 
--- the first fault of the first patch that has one
+-- the fault of a patch that ends at this place, and whose rows have none
+pub data IsEndFault (part : Part) (to : ℕ) (fault : PatchFault) : Type 0 where
+  too_long : part.from + PATCH_LIMIT < to → fault ≡ faults.TooLong (to - part.from) PATCH_LIMIT
+      → IsEndFault part to fault
+  open_block : to ≤ part.from + PATCH_LIMIT → is_open (said part.rows_) ≡ true
+      → fault ≡ faults.At to kinds.OpenBlock → IsEndFault part to fault
+  no_id : to ≤ part.from + PATCH_LIMIT → is_open (said part.rows_) ≡ false
+      → ids_of (said part.rows_) ≡ [] → fault ≡ faults.At to kinds.NoId → IsEndFault part to fault
+
+-- The first fault of a patch of a stream: its last row may not stand behind the others, no row
+-- stands where the next one would begin, or the patch ends there. Up to that place it is too long
+-- or not, so no fault waits for what follows.
+pub data IsPartFault (text : List ℕ) (part : Part) (to : ℕ) (fault : PatchFault) : Type 0 where
+  refused : (front : List PlacedRow) (r : PlacedRow) (kind : PatchKind)
+      → part.rows_ ≡ front ++ r ∷ [] → AreTaken (said front)
+      → refusal (said front) (role r.row) ≡ Some kind
+      → fault ≡ within part.from r.at kind → IsPartFault text part to fault
+  no_row : (at : ℕ) (kind : RowKind) → AreTaken (said part.rows_) → NoRowAt text to kind at
+      → fault ≡ within part.from at (kinds.Row kind) → IsPartFault text part to fault
+  ended : AreTaken (said part.rows_) → EndsAt text part to → IsEndFault part to fault
+      → IsPartFault text part to fault
+
+-- The first fault of the first patch that has one. The rows up to a place are those that were read.
 pub record IsStreamFault (text : List ℕ) (fault : PatchFault) : Type 0 where
   pub rows_ : List PlacedRow
   pub to : ℕ
   pub reads : RowsTo text 0 rows_ to
   pub before : List Meaning
   pub well : ArePatches (cut rows_).done (cut rows_).last.from before
-  pub stop : ℕ
-  pub broken : Option RowKind
-  pub stops : StopsAt text (cut rows_).last to stop broken
-  pub fault_is : IsPartFault (cut rows_).last stop broken fault
+  pub fault_is : IsPartFault text (cut rows_).last to fault

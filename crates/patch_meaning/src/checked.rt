@@ -165,7 +165,13 @@ fn take(read: &mut ReadRows, next: Next) -> Result<usize, PatchFault>
             keep(&mut read.changes, role)?;
             Ok(end)
         }
-        Err(why) => refuse(role, why.at(at as u64)),
+        Err(kind) => refuse(
+            role,
+            PatchFault::At {
+                at: at as u64,
+                kind,
+            },
+        ),
     }
 }
 

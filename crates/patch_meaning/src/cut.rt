@@ -1,73 +1,61 @@
 //! A stream that is cut into patches while its rows come one at a time.
 
-ghost use Rattle.std.specs.Prelude.{◌≡◌, ◌++◌, ◌∷◌, [], List, None, Some, IfOk, IfErr, OnOk, true};
-ghost use Rattle.patch_meaning.specs.declared.fault.PatchFault.{PatchFault};
-ghost use Rattle.patch_meaning.specs.Cutting.{EndsStream, HasTakenNext, IsBrokenAtEnd, IsBrokenBefore, IsCutAt, IsFaultOf, IsLast, IsLeft};
-ghost use Rattle.patch_meaning.specs.PartRead.{first_fault, HasPart, IsComplete, IsFoundAt, IsToldAt, is_sound};
-ghost use Rattle.patch_meaning.specs.Roles.{role};
-ghost use Rattle.patch_reader.specs.declared.placed.PlacedRow.{PlacedRow};
+ghost use Rattle.std.specs.Prelude.{◌≡◌, IfOk, IfErr, OnErr};
+ghost use Rattle.patch_meaning.specs.Cutting.{Begins, EndsStream, HasTakenNext, IsBrokenAt, IsBrokenAtEnd, IsBrokenBy, IsCutAt, IsLast, IsLeft};
+ghost use Rattle.patch_meaning.specs.PartRead.{IsIncomplete, IsToldAt};
 
-use crate::fault::PatchFault;
+use crate::fault::{PatchFault, PatchKind};
 use crate::part::Part;
 use crate::role::Role;
 use chain_core::Link;
 use patch_rows::RowKind;
-use std::mem;
 
 impl Part {
-    /// Takes what the next row of a stream says, and the row's place. Where the next patch begins with it, the ids of the
-    /// patch so far are answered, and the part is that next patch.
+    /// Takes what the next row of a stream says, and the row's place. Where the next patch begins
+    /// with it, the ids of the patch so far are answered, and the part is that next patch. Behind a
+    /// fault the part is as before.
     pub fn take_next(&mut self, says: &Role, at: u64) -> Result<Option<Link>, PatchFault>
         ensures ok { IfOk result (λ done. HasTakenNext self.old says.now at done self.new) }
         ensures cut { IfOk result (IsCutAt self.old says.now at) }
-        ensures found { OnOk result ((fault : PatchFault) → first_fault self.new ≡ Some fault → IsFoundAt self.old at fault) }
-        ensures fault { IfErr result (IsBrokenBefore self.old says.now at) }
-        ensures told { IfErr result (IsToldAt self.old at) }
+        ensures fault { IfErr result (IsBrokenBy self.old says.now at) }
+        ensures told { IfErr result (IsToldAt at) }
+        ensures err { OnErr result (self.new ≡ self.old) }
     {
         match self.cut_before(says, at) {
-            Ok(done) => {
-                self.take(says, at);
-                Ok(done)
-            }
+            Ok((mut next, done)) => match next.take(says, at) {
+                Ok(()) => {
+                    *self = next;
+                    Ok(done)
+                }
+                Err(fault) => Err(fault),
+            },
             Err(fault) => Err(fault),
         }
     }
 
-    // Completes the patch where the next one begins with a row that says this.
-    fn cut_before(&mut self, says: &Role, at: u64) -> Result<Option<Link>, PatchFault>
-        ensures cut { IfOk result (IsCutAt self.old says.now at) }
-        ensures left { IfOk result (λ done. IsLeft self.old at done self.new) }
-        ensures found { OnOk result ((fault : PatchFault) → first_fault self.new ≡ Some fault → first_fault self.old ≡ Some fault) }
-        ensures fault { IfErr result (IsBrokenBefore self.old says.now at) }
-        ensures told { IfErr result (IsToldAt self.old at) }
+    // The patch to which the row belongs that says this, and the ids of the one before it, where
+    // the row begins the next one.
+    fn cut_before(&self, says: &Role, at: u64) -> Result<(Part, Option<Link>), PatchFault>
+        ensures cut { IfOk result (λ x. IsCutAt self.now says.now at x.1) }
+        ensures left { IfOk result (λ x. IsLeft self.now at x.1 x.0) }
+        ensures fault { IfErr result (λ fault. Begins says.now self.now × IsIncomplete self.now at fault) }
+        ensures told { IfErr result (IsToldAt at) }
     {
         if !self.begins_next(says) {
-            return Ok(None);
+            return Ok((*self, None));
         }
-        match self.complete(at) {
-            Ok(link) => Ok(Some(link)),
+        match self.finish(at) {
+            Ok(link) => Ok((Part::new(at), Some(link))),
             Err(fault) => Err(fault),
         }
-    }
-
-    // Completes the patch whose text stops here, and begins the next one.
-    fn complete(&mut self, stop: u64) -> Result<Link, PatchFault>
-        ensures ok { IfOk result (IsComplete self.old stop) }
-        ensures left { OnOk result (HasPart [] self.new × (self.new.from ≡ stop)) }
-        ensures none { first_fault self.new ≡ None }
-        ensures fault { IfErr result (IsFaultOf self.old stop None) }
-        ensures told { IfErr result (IsToldAt self.old stop) }
-    {
-        let part = mem::replace(self, Part::new(stop));
-        part.finish(stop)
     }
 
     /// The ids of the last patch of a stream that ends here, if it has rows.
-    pub fn finish_stream(self, stop: u64) -> Result<Option<Link>, PatchFault>
-        ensures ok { IfOk result (EndsStream self stop) }
-        ensures last { IfOk result (IsLast self stop) }
-        ensures fault { IfErr result (IsBrokenAtEnd self stop) }
-        ensures told { IfErr result (IsToldAt self stop) }
+    pub fn finish_stream(&self, stop: u64) -> Result<Option<Link>, PatchFault>
+        ensures ok { IfOk result (EndsStream self.now stop) }
+        ensures last { IfOk result (IsLast self.now stop) }
+        ensures fault { IfErr result (IsBrokenAtEnd self.now stop) }
+        ensures told { IfErr result (IsToldAt stop) }
     {
         if !self.has_rows() {
             return Ok(None);
@@ -79,10 +67,10 @@ impl Part {
     }
 
     /// The fault of a stream where no row stands at this place.
-    pub fn break_stream(&self, stop: u64, kind: RowKind) -> PatchFault
-        ensures fault { IsFaultOf self.now stop (Some kind) result }
-        ensures told { IsToldAt self.now stop result }
+    pub fn break_stream(&self, at: u64, kind: RowKind) -> PatchFault
+        ensures fault { IsBrokenAt self.now at kind result }
+        ensures told { IsToldAt at result }
     {
-        self.break_off(stop, kind)
+        self.fault_at(at, PatchKind::Row(kind))
     }
 }

@@ -1,12 +1,12 @@
 //! A patch of which some rows were read.
 
-ghost use Rattle.std.specs.Prelude.{◌≡◌, ◌++◌, ◌∷◌, [], List, None, Some, MatchResult};
+ghost use Rattle.std.specs.Prelude.{◌≡◌, ◌++◌, ◌∷◌, [], List, None, Some, MatchResult, OnErr};
 ghost use Rattle.patch_meaning.specs.declared.role.Role.{Role as Said};
 ghost use Rattle.patch_meaning.specs.declared.role.Role.TheVariants as roles;
 ghost use Rattle.patch_meaning.specs.Patch.{block_refusal};
 ghost use Rattle.patch_meaning.specs.Roles.{open_after};
 
-use crate::fault::Refusal;
+use crate::fault::PatchKind;
 use crate::role::Role;
 use delta_base::Id;
 use rdf_terms::Change;
@@ -36,9 +36,10 @@ impl Draft {
         }
     }
 
-    /// Takes what the next row says.
-    pub fn take(&mut self, says: &Role) -> Result<(), Refusal>
-        ensures { (rs : List Said) → Stands rs self.old → Takes rs says.now result self.new }
+    /// Takes what the next row says, where it may stand behind the others; else nothing changes.
+    pub fn take(&mut self, says: &Role) -> Result<(), PatchKind>
+        ensures row { (rs : List Said) → Stands rs self.old → Takes rs says.now result self.new }
+        ensures err { OnErr result (self.new ≡ self.old) }
     {
         match says {
             Role::Id(id) => self.take_id(*id),
@@ -49,62 +50,68 @@ impl Draft {
     }
 
     #[tactic(auto, unfolding(crate::specs::Patch::refusal))]
-    fn take_id(&mut self, id: Option<Id>) -> Result<(), Refusal>
-        ensures { (rs : List Said) → Stands rs self.old → Takes rs (roles.Id id) result self.new }
+    fn take_id(&mut self, id: Option<Id>) -> Result<(), PatchKind>
+        ensures row { (rs : List Said) → Stands rs self.old → Takes rs (roles.Id id) result self.new }
+        ensures err { OnErr result (self.new ≡ self.old) }
     {
         match id {
-            None => Err(Refusal::BadId),
+            None => Err(PatchKind::BadId),
             Some(id) => self.put_id(id),
         }
     }
 
-    fn put_id(&mut self, id: Id) -> Result<(), Refusal>
-        ensures { (rs : List Said) → Stands rs self.old → Takes rs (roles.Id (Some id)) result self.new }
+    fn put_id(&mut self, id: Id) -> Result<(), PatchKind>
+        ensures row { (rs : List Said) → Stands rs self.old → Takes rs (roles.Id (Some id)) result self.new }
+        ensures err { OnErr result (self.new ≡ self.old) }
     {
         if self.id.is_some() {
-            return Err(Refusal::TwoIds);
+            return Err(PatchKind::TwoIds);
         }
         if self.has_change {
-            return Err(Refusal::LateHeader);
+            return Err(PatchKind::LateHeader);
         }
         self.id = Some(id);
         Ok(())
     }
 
     #[tactic(auto, unfolding(crate::specs::Patch::refusal))]
-    fn take_prev(&mut self, prev: Option<Id>) -> Result<(), Refusal>
-        ensures { (rs : List Said) → Stands rs self.old → Takes rs (roles.Prev prev) result self.new }
+    fn take_prev(&mut self, prev: Option<Id>) -> Result<(), PatchKind>
+        ensures row { (rs : List Said) → Stands rs self.old → Takes rs (roles.Prev prev) result self.new }
+        ensures err { OnErr result (self.new ≡ self.old) }
     {
         match prev {
-            None => Err(Refusal::BadId),
+            None => Err(PatchKind::BadId),
             Some(prev) => self.put_prev(prev),
         }
     }
 
-    fn put_prev(&mut self, prev: Id) -> Result<(), Refusal>
-        ensures { (rs : List Said) → Stands rs self.old → Takes rs (roles.Prev (Some prev)) result self.new }
+    fn put_prev(&mut self, prev: Id) -> Result<(), PatchKind>
+        ensures row { (rs : List Said) → Stands rs self.old → Takes rs (roles.Prev (Some prev)) result self.new }
+        ensures err { OnErr result (self.new ≡ self.old) }
     {
         if self.prev.is_some() {
-            return Err(Refusal::TwoPrevs);
+            return Err(PatchKind::TwoPrevs);
         }
         if self.has_change {
-            return Err(Refusal::LateHeader);
+            return Err(PatchKind::LateHeader);
         }
         self.prev = Some(prev);
         Ok(())
     }
 
-    fn take_other(&mut self) -> Result<(), Refusal>
-        ensures { (rs : List Said) → Stands rs self.old → Takes rs roles.Other result self.new }
+    fn take_other(&mut self) -> Result<(), PatchKind>
+        ensures row { (rs : List Said) → Stands rs self.old → Takes rs roles.Other result self.new }
+        ensures err { OnErr result (self.new ≡ self.old) }
     {
         if self.has_change {
-            return Err(Refusal::LateHeader);
+            return Err(PatchKind::LateHeader);
         }
         Ok(())
     }
 
-    fn take_change(&mut self, change: &Change) -> Result<(), Refusal>
-        ensures { (rs : List Said) → Stands rs self.old → Takes rs (roles.Change change.now) result self.new }
+    fn take_change(&mut self, change: &Change) -> Result<(), PatchKind>
+        ensures row { (rs : List Said) → Stands rs self.old → Takes rs (roles.Change change.now) result self.new }
+        ensures err { OnErr result (self.new ≡ self.old) }
     {
         match in_block_behind(change, self.in_block) {
             Ok(in_block) => {
@@ -118,19 +125,19 @@ impl Draft {
 }
 
 // Whether a block is open behind a change, where it may stand.
-fn in_block_behind(change: &Change, in_block: bool) -> Result<bool, Refusal>
+fn in_block_behind(change: &Change, in_block: bool) -> Result<bool, PatchKind>
     ensures { MatchResult result (λ after. (after ≡ open_after in_block change.now) × (block_refusal in_block change.now ≡ None)) (λ why. block_refusal in_block change.now ≡ Some why) }
 {
     match change {
         Change::Begin => {
             if in_block {
-                return Err(Refusal::Nested);
+                return Err(PatchKind::Nested);
             }
             Ok(true)
         }
         Change::Commit | Change::Abort => {
             if !in_block {
-                return Err(Refusal::NotInBlock);
+                return Err(PatchKind::NotInBlock);
             }
             Ok(false)
         }

@@ -6,14 +6,16 @@ mod cut;
 mod draft;
 mod fault;
 mod laws;
+mod link;
 mod part;
 mod role;
 mod rows;
 mod stream;
 
 pub use checked::{Checked, check_patch};
-pub use fault::PatchFault;
+pub use fault::{PatchFault, PatchKind};
 pub use laws::{patches_are_settled, streams_are_settled, streams_are_their_patches};
+pub use link::check_link;
 pub use part::Part;
 pub use role::{Role, role_of};
 pub use rows::{Next, next_row};
