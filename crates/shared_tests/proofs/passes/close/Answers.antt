@@ -11,4 +11,4 @@ close-requires c =
     let one = c.args.passes.one in
     let two = c.args.passes.two in
     let items = c.push_reserved-2.ensures.items ∙ ap (λ l. l ++ two ∷ []) (c.push_reserved.ensures.items ∙ ap (λ l. l ++ one ∷ []) r.room.1) in
-    (subst (AllOf (IsPassOf memory_mark c.args.log)) (sym items) (r.one.0, r.two.0, tt), both_numbers c.args.log.seats one two c.push_reserved-2.new.self.items items r.room.0 r.one.1 r.two.1)
+    (subst (AllOf (IsPassOf memory_mark c.args.log)) (sym items) (r.one.0, (r.two.0, tt)), both_numbers c.args.log.seats one two c.push_reserved-2.new.self.items items r.room.0 r.one.1 r.two.1)
