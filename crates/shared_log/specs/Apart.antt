@@ -11,7 +11,8 @@ texts_apart [] [] = inl refl
 texts_apart [] (y ∷ ys) = inr (λ e. cc)
 texts_apart (x ∷ xs) [] = inr (λ e. cc)
 texts_apart (x ∷ xs) (y ∷ ys) = dite (ℕ_discrete x y)
-    (λ e. ⊎_elim (λ (f : xs ≡ ys). inl (λ i. e i ∷ f i)) (λ (ne : xs ≢ ys). inr (λ g. ne cc)) (texts_apart xs ys))
+    (λ e. ⊎_elim (λ (f : xs ≡ ys). inl (λ i. e i ∷ f i))
+    (λ (ne : xs ≢ ys). inr (λ g. ne cc)) (texts_apart xs ys))
     (λ ne. inr (λ g. ne cc))
 
 ids_apart : (a b : Option Id) → (a ≡ b) ⊎ (a ≢ b)
@@ -24,6 +25,11 @@ ids_apart (Some a) (Some b) = dite (ℕ_discrete a.0 b.0)
 
 pub patches_apart : (a b : Patch) → (a ≡ b) ⊎ (a ≢ b)
 patches_apart a b = dite (ℕ_discrete a.id.0 b.id.0)
-    (λ e. ⊎_elim (λ (f : a.prev ≡ b.prev). ⊎_elim (λ (g : a.text ≡ b.text). inl (λ i. record { id = record { 0 = e i }; prev = f i; text = g i })) (λ (ne : a.text ≢ b.text). inr (λ h. ne (ap (λ (p : Patch). p.text) h))) (texts_apart a.text b.text))
-    (λ (ne : a.prev ≢ b.prev). inr (λ h. ne (ap (λ (p : Patch). p.prev) h))) (ids_apart a.prev b.prev))
+    (λ e. ⊎_elim
+    (λ (f : a.prev ≡ b.prev). ⊎_elim
+    (λ (g : a.text ≡ b.text). inl (λ i. record { id = record { 0 = e i }; prev = f i; text = g i }))
+    (λ (ne : a.text ≢ b.text). inr (λ h. ne (ap (λ (p : Patch). p.text) h)))
+    (texts_apart a.text b.text))
+    (λ (ne : a.prev ≢ b.prev). inr (λ h. ne (ap (λ (p : Patch). p.prev) h)))
+    (ids_apart a.prev b.prev))
     (λ ne. inr (λ h. ne (ap (λ (p : Patch). p.id.0) h)))

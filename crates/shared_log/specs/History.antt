@@ -1,10 +1,10 @@
 -- A log as the passes of its turn know it.
 use Rattle.std.specs.Prelude.{ℕ, ◌<◌, ◌^◌, List, length, map, Option}
-use Rattle.disk_model.specs.Past.{Past, LeavesOnly}
+use Rattle.disk_model.specs.declared.disk.Disk.{Ghosts}
 use Rattle.chain_core.specs.declared.chain.Patch.{Patch}
 use Rattle.chain_core.specs.declared.chain.Entry.{Entry}
 use Rattle.chain_core.specs.Patches.{patches_of}
-use Rattle.patch_log.specs.Log.{StandsForLog, MayHoldDuring}
+use Rattle.patch_log.specs.Log.{StandsForLog}
 use Rattle.patch_log.specs.State.{LogView}
 use Rattle.shared_log.specs.declared.value.LogFixed.{LogFixed}
 use Rattle.turn_cell.specs.declared.view.Entry.{Entry as Known}
@@ -25,15 +25,11 @@ module _ {D : Type 0} where
   abbrev pub fixed_of : (D → Option (List ℕ × ℕ)) → LogView D → LogFixed
   fixed_of mark log = record { number = log.number; limits = log.limits; mark = mark log.disk }
 
-  -- A log that may lie in a turn. If its disk tells its bytes, each image that a crash may leave holds the chain, with the patch
-  -- in doubt or without.
-  pub record Lies (tells : Type 0) (past : D → Past) (log : LogView D) : Type 0 where
+  -- A log that may lie in a turn. If its disk tells its bytes, each image that a crash may leave
+  -- holds the chain, with the patch in doubt or without.
+  pub record StandsInTurn (disks : Ghosts D) (log : LogView D) : Type 0 where
     pub few : length log.entries < 2 ^ 32
-    pub stands : tells → StandsForLog (past log.disk) log.number log.limits (patches_of log.entries) log.doubt
-
-  -- What lay in the turn as a pass that brings a patch found it, and as the pass left it. A crash at any moment in between leaves the chain that
-  -- was found, with the patch in doubt, with the new one, or with neither.
-  pub record Lay (tells : Type 0) (past : D → Past) (patch : Patch) (found left : LogView D) : Type 0 where
-    pub found_lies : Lies tells past found
-    pub left_lies : Lies tells past left
-    pub any_moment : tells → LeavesOnly (MayHoldDuring found.number (patches_of found.entries) found.doubt patch) (past found.disk) (past left.disk)
+    pub stands :
+        disks.tells
+        → StandsForLog (disks.past log.disk) log.number log.limits
+        (patches_of log.entries) log.doubt

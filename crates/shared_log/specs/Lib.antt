@@ -1,5 +1,6 @@
 pub mod Apart
 pub mod History
+pub mod Passes
 pub mod Replies
-pub mod Stays
+pub mod Appending
 pub mod Legal

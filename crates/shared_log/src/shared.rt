@@ -1,15 +1,15 @@
 //! A log that threads share.
-ghost use Rattle.std.specs.Prelude.{◌≡◌, ◌<◌, ◌≤◌, ℕ, ◌+◌, Some, IfOk, IfErr, OnErr, slice_get, vec_len, vec_capacity};
+ghost use Rattle.std.specs.Prelude.{◌≡◌, ◌<◌, ◌≤◌, ℕ, ◌+◌, Some, IfOk, IfErr, OnErr, slice_get};
+ghost use Rattle.std.specs.Prelude.{vec_len, vec_capacity};
 ghost use Rattle.std.specs.List.{AllByRecursion};
-ghost use mathlib.Core.List.{IsPrefix};
-ghost use Rattle.chain_core.specs.Patches.{patches_of};
 ghost use Rattle.chain_core.specs.Replies as asked;
-ghost use Rattle.patch_log.specs.Log.{bare, StandsForLog};
-ghost use Rattle.turn_cell.specs.Turns.{AllOf, Knew, Continues};
-ghost use Rattle.turn_cell.specs.Sights.{AreOf, AreAll, ComesFrom, IsNew};
-ghost use Rattle.shared_log.specs.History.{history_of, fixed_of, Lay};
+ghost use Rattle.patch_log.specs.Log.{bare};
+ghost use Rattle.turn_cell.specs.Knowing.{Wants, number_of};
+ghost use Rattle.shared_log.specs.History.{StandsInTurn};
+ghost use Rattle.shared_log.specs.Passes.{IsPassOf, IsNewPassOf, AreAllPassesOf, IsClosedOf};
 ghost use Rattle.shared_log.specs.Replies.{reply_fetched, reply_described};
-ghost use Rattle.shared_log.specs.Legal.{IsPassOf, Legal, Wants};
+ghost use Rattle.shared_log.specs.Appending.{AppendsInTurn};
+ghost use Rattle.shared_log.specs.Legal.{Legal};
 
 use crate::replies::{Fetched, LogInfo};
 use crate::value::LogValue;
@@ -51,8 +51,10 @@ impl<D: Disk> SharedLog<D> {
         requires seats { (0 < seats) × (seats ≤ 16) }
         requires by_nobody { AllByRecursion (λ entry. entry.by ≡ 0) state.entries }
         ensures log { IfOk result (λ r. (r.0.origin ≡ state) × (r.0.seats ≡ seats)) }
-        ensures passes { IfOk result (λ r. (vec_len r.1 ≡ seats) × (vec_capacity r.1 ≡ seats)) }
-        ensures new { IfOk result (λ r. (k : ℕ) (p : _) → slice_get r.1.items k ≡ Some p → IsNew r.0.cell (history_of r.0.origin.entries) (fixed_of D.mark r.0.origin) (k + 1) p) }
+        ensures passes { IfOk result (λ r.
+            (vec_len r.1 ≡ seats) × (vec_capacity r.1 ≡ seats)) }
+        ensures new { IfOk result (λ r. (k : ℕ) (p : _) → slice_get r.1.items k ≡ Some p
+            → IsNewPassOf D.mark r.0 (k + 1) p) }
         ensures back { IfErr result (λ b. b.item ≡ state) }
     {
         match Turn::new(alloc, LogValue::of(state), seats) {
@@ -63,22 +65,32 @@ impl<D: Disk> SharedLog<D> {
         }
     }
 
-    /// Adds a patch, or says why not: Known, Conflict, Full, want of memory and a disk fault, in this order.
+    /// Adds a patch, or says why not: Known, Conflict, Full, want of memory and a disk fault, in
+    /// this order.
     pub fn append<R: Wait>(&self, rt: &R, pass: &mut LogPass<D>, patch: &Checked) -> LogAnswer
         requires of { IsPassOf D.mark self.now pass.old }
         ensures of { IsPassOf D.mark self.now pass.new }
-        ensures legal { Legal self.now.origin.limits pass.old (asked.append (bare patch.now)) (asked.answered result) pass.new }
-
-        // What it leaves in the turn is the history that it publishes, on a disk that stands for it. So no entry is published before each
-        // image that a crash may leave holds it.
-        ensures lay { (found : _) × (left : _) × Lay D.tells D.past (bare patch.now) found left × IsPrefix pass.old.view.seen (history_of found.entries) × (pass.new.view.seen ≡ history_of left.entries)
-            × (fixed_of D.mark left ≡ fixed_of D.mark self.now.origin) }
+        ensures legal { Legal self.now.origin.limits pass.old
+            (asked.append (bare patch.now)) (asked.answered result) pass.new }
+        ensures stay { AppendsInTurn D.Disk self.now.origin (bare patch.now) result
+            pass.old pass.new }
     {
         let by = pass.number();
         let mut held = self.turn.enter(rt, pass);
-        let answer = held.value_mut().append(patch, by);
-        self.turn.leave(pass, held);
-        answer
+        match held.value_mut().append(patch, by) {
+            LogAnswer::Accepted { version } => {
+                self.turn.leave(pass, held);
+                LogAnswer::Accepted { version }
+            }
+            LogAnswer::DiskFault => {
+                self.turn.leave(pass, held);
+                LogAnswer::DiskFault
+            }
+            answer => {
+                self.turn.leave_as_found(pass, held);
+                answer
+            }
+        }
     }
 
     /// The patch of a version, counted from 1.
@@ -90,12 +102,13 @@ impl<D: Disk> SharedLog<D> {
     ) -> Result<Fetched, OutOfMemory>
         requires of { IsPassOf D.mark self.now pass.old }
         ensures of { IsPassOf D.mark self.now pass.new }
-        ensures legal { IfOk result (λ fetched. Legal self.now.origin.limits pass.old (asked.fetch_version version) (reply_fetched fetched) pass.new) }
+        ensures legal { IfOk result (λ fetched. Legal self.now.origin.limits pass.old
+            (asked.fetch_version version) (reply_fetched fetched) pass.new) }
         ensures want { OnErr result (Wants pass.old pass.new) }
     {
         let held = self.turn.enter(rt, pass);
         let fetched = held.value().fetch_version(version);
-        self.turn.leave(pass, held);
+        self.turn.leave_as_found(pass, held);
         fetched
     }
 
@@ -108,12 +121,13 @@ impl<D: Disk> SharedLog<D> {
     ) -> Result<Fetched, OutOfMemory>
         requires of { IsPassOf D.mark self.now pass.old }
         ensures of { IsPassOf D.mark self.now pass.new }
-        ensures legal { IfOk result (λ fetched. Legal self.now.origin.limits pass.old (asked.fetch_id id) (reply_fetched fetched) pass.new) }
+        ensures legal { IfOk result (λ fetched. Legal self.now.origin.limits pass.old
+            (asked.fetch_id id) (reply_fetched fetched) pass.new) }
         ensures want { OnErr result (Wants pass.old pass.new) }
     {
         let held = self.turn.enter(rt, pass);
         let fetched = held.value().fetch_id(id);
-        self.turn.leave(pass, held);
+        self.turn.leave_as_found(pass, held);
         fetched
     }
 
@@ -121,11 +135,12 @@ impl<D: Disk> SharedLog<D> {
     pub fn describe<R: Wait>(&self, rt: &R, pass: &mut LogPass<D>) -> LogInfo
         requires of { IsPassOf D.mark self.now pass.old }
         ensures of { IsPassOf D.mark self.now pass.new }
-        ensures legal { Legal self.now.origin.limits pass.old asked.describe (reply_described result) pass.new }
+        ensures legal { Legal self.now.origin.limits pass.old
+            asked.describe (reply_described result) pass.new }
     {
         let held = self.turn.enter(rt, pass);
         let info = held.value().describe();
-        self.turn.leave(pass, held);
+        self.turn.leave_as_found(pass, held);
         info
     }
 
@@ -133,20 +148,18 @@ impl<D: Disk> SharedLog<D> {
     pub fn version(&self, pass: &mut LogPass<D>) -> u32
         requires of { IsPassOf D.mark self.now pass.old }
         ensures of { IsPassOf D.mark self.now pass.new }
-        ensures legal { Legal self.now.origin.limits pass.old asked.version (asked.counted result) pass.new }
+        ensures legal { Legal self.now.origin.limits pass.old
+            asked.version (asked.counted result) pass.new }
     {
         self.turn.count(pass) as u32
     }
 
-    /// The log, once all passes are back. Its entries begin with what each pass knew, and have just its own at its places.
+    /// The log, once all passes are back. Its entries begin with what each pass knew, and have just
+    /// its own at its places.
     pub fn close(self, passes: Vec<LogPass<D>>) -> LogState<D>
-        requires of { AreOf self.cell passes.items }
-        requires all { AreAll self.seats passes.items }
-        ensures history { Continues (history_of self.origin.entries) self.seats (history_of result.entries) }
-        ensures passes { AllOf (λ p. Knew (history_of result.entries) p.view.number p.view.seen p.view.mine) passes.items }
-        ensures doubt { ComesFrom self.origin.doubt passes.items result.doubt }
-        ensures fixed { fixed_of D.mark result ≡ fixed_of D.mark self.origin }
-        ensures stands { D.tells → StandsForLog (D.past result.disk) result.number result.limits (patches_of result.entries) result.doubt }
+        requires { AreAllPassesOf D.mark self passes.items }
+        ensures closed { IsClosedOf D.Disk self passes.items result }
+        ensures stands { StandsInTurn D.Disk result }
     {
         let SharedLog { turn } = self;
         turn.close(passes).into_log()

@@ -1,19 +1,18 @@
 //! A log as the value of a turn.
-ghost use Rattle.std.specs.Prelude.{◌≡◌, ◌<◌, ◌≤◌, ◌^◌, length, IfOk};
-ghost use Rattle.delta_base.specs.Outside.{Rose};
+ghost use Rattle.std.specs.Prelude.{◌≡◌, ◌<◌, ◌^◌, length, IfOk};
 ghost use Rattle.chain_core.specs.Patches.{patches_of};
 ghost use Rattle.chain_core.specs.Replies as asked;
-ghost use Rattle.patch_log.specs.Log.{bare, StandsForLog};
-ghost use Rattle.shared_log.specs.History.{history_of, fixed_of, Lay};
+ghost use Rattle.patch_log.specs.Log.{bare};
+ghost use Rattle.shared_log.specs.Appending.{Appended};
+ghost use Rattle.shared_log.specs.History.{history_of, StandsInTurn};
 ghost use Rattle.shared_log.specs.Replies.{reply_fetched, reply_described};
-ghost use Rattle.shared_log.specs.Stays.{Stays};
 ghost use Rattle.turn_cell.specs.Sights.{IsGrownBy};
 
 use crate::replies::{Fetched, LogInfo};
-use chain_core::{LogAnswer, Patch};
+use chain_core::{Decision, LogAnswer, Patch};
 use delta_base::{Id, LogLimits, OutOfMemory};
 use disk_model::Disk;
-use patch_log::{LogState, append};
+use patch_log::LogState;
 use patch_meaning::Checked;
 use std::collections::LinkedList;
 use std::marker::Model;
@@ -35,17 +34,17 @@ pub struct LogValue<D: Disk> {
 
 impl<D: Disk> Model for LogValue<D> {
     ghost use Rattle.patch_log.specs.State.{LogView};
-    ghost use Rattle.shared_log.specs.History.{Lies};
+    ghost use Rattle.shared_log.specs.History.{StandsInTurn};
 
     ghost Value = { LogView D };
 
     ghost view = { λ v. v.log };
 
-    ghost invariant = { λ v. Lies D.tells D.past v.log };
+    ghost invariant = { λ v. StandsInTurn D.Disk v.log };
 }
 
 impl<D: Disk> LogValue<D> {
-    pub(crate) fn of(log: LogState<D>) -> LogValue<D>
+    pub fn of(log: LogState<D>) -> LogValue<D>
         ensures value { result ≡ log }
         ensures few { length (history_of log.entries) < 2 ^ 32 }
     {
@@ -53,22 +52,30 @@ impl<D: Disk> LogValue<D> {
         LogValue { log }
     }
 
-    pub(crate) fn into_log(self) -> LogState<D>
+    pub fn into_log(self) -> LogState<D>
         ensures same { result ≡ self }
-        ensures stands { D.tells → StandsForLog (D.past self.disk) self.number self.limits (patches_of self.entries) self.doubt }
+        ensures stands { StandsInTurn D.Disk self }
     {
         let LogValue { log } = self;
         log
     }
 
-    pub(crate) fn version(&self) -> u32
+    /// Its disk stands for it.
+    pub fn stands(&self)
+        ensures { StandsInTurn D.Disk self.now }
+    {
+        let _log = &self.log;
+    }
+
+    pub fn version(&self) -> u32
         ensures { result ≡ length self.now.entries }
     {
         self.log.chain().version()
     }
 
-    pub(crate) fn describe(&self) -> LogInfo
-        ensures { reply_described result ≡ asked.reply_of self.now.limits asked.describe (patches_of self.now.entries) }
+    pub fn describe(&self) -> LogInfo
+        ensures { reply_described result
+            ≡ asked.reply_of self.now.limits asked.describe (patches_of self.now.entries) }
     {
         let chain = self.log.chain();
         LogInfo {
@@ -77,8 +84,10 @@ impl<D: Disk> LogValue<D> {
         }
     }
 
-    pub(crate) fn fetch_version(&self, version: u32) -> Result<Fetched, OutOfMemory>
-        ensures { IfOk result (λ fetched. reply_fetched fetched ≡ asked.reply_of self.now.limits (asked.fetch_version version) (patches_of self.now.entries)) }
+    pub fn fetch_version(&self, version: u32) -> Result<Fetched, OutOfMemory>
+        ensures { IfOk result (λ fetched. reply_fetched fetched
+            ≡ asked.reply_of self.now.limits (asked.fetch_version version)
+            (patches_of self.now.entries)) }
     {
         match self.log.chain().by_version(version) {
             Some(patch) => Ok(Fetched::Found {
@@ -90,8 +99,9 @@ impl<D: Disk> LogValue<D> {
         }
     }
 
-    pub(crate) fn fetch_id(&self, id: Id) -> Result<Fetched, OutOfMemory>
-        ensures { IfOk result (λ fetched. reply_fetched fetched ≡ asked.reply_of self.now.limits (asked.fetch_id id) (patches_of self.now.entries)) }
+    pub fn fetch_id(&self, id: Id) -> Result<Fetched, OutOfMemory>
+        ensures { IfOk result (λ fetched. reply_fetched fetched
+            ≡ asked.reply_of self.now.limits (asked.fetch_id id) (patches_of self.now.entries)) }
     {
         match self.log.version_of(id) {
             Some(version) => self.fetch_version(version),
@@ -101,19 +111,32 @@ impl<D: Disk> LogValue<D> {
         }
     }
 
-    /// Adds a patch, or says why not.
-    pub(crate) fn append(&mut self, patch: &Checked, by: u32) -> LogAnswer
-        ensures stays { Stays self.old.limits by (bare patch.now) self.old self.new result }
+    /// Adds a patch, or says why not: Known, Conflict, Full, want of memory and a disk fault, in
+    /// this order.
+    pub fn append(&mut self, patch: &Checked, by: u32) -> LogAnswer
+        ensures appended { Appended D.Disk self.old self.new (bare patch.now) by result }
+        ensures found_stands { StandsInTurn D.Disk self.old }
+        ensures left_stands { StandsInTurn D.Disk self.new }
         ensures grown { IsGrownBy by (history_of self.old.entries) (history_of self.new.entries) }
         ensures few { length (history_of self.new.entries) < 2 ^ 32 }
-        ensures lay { Lay D.tells D.past (bare patch.now) self.old self.new }
-        ensures cause { result ≡ LogAnswer.DiskFault → Rose (D.faults self.old.disk) (D.faults self.new.disk) }
-        ensures faults { D.faults self.old.disk ≤ D.faults self.new.disk }
-        ensures fixed { fixed_of D.mark self.new ≡ fixed_of D.mark self.old }
     {
-        let answer = append(&mut self.log, patch, by);
+        let answer = append_to(&mut self.log, patch, by);
         let _version = self.log.chain().version();
         answer
+    }
+}
+
+// Adds a patch to a log. Only for one that can be accepted it asks for memory and the disk.
+fn append_to<D: Disk>(log: &mut LogState<D>, patch: &Checked, by: u32) -> LogAnswer
+    ensures { Appended D.Disk log.old log.new (bare patch.now) by result }
+{
+    let decision = log.decide_here(patch);
+    match decision {
+        Decision::Accept { version: _ } => match log.reserve(patch, by) {
+            Ok(ready) => log.append_reserved(ready),
+            Err(_) => LogAnswer::OutOfMemory,
+        },
+        _ => LogAnswer::told(decision),
     }
 }
 
@@ -123,6 +146,8 @@ impl<D: Disk> Chained for LogValue<D> {
     ghost use Rattle.shared_log.specs.History.{history_of, fixed_of};
 
     type Content = Patch;
+
+    type Doubt = Patch;
 
     type Fixed = LogFixed;
 

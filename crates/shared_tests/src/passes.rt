@@ -2,14 +2,15 @@
 ghost use Rattle.std.specs.Prelude.{◌≡◌, ◌<◌, ◌≤◌, ◌^◌, [], IfOk, vec_capacity};
 ghost use Rattle.std.specs.List.{AllByRecursion};
 ghost use Rattle.disk_model.specs.Memory.{memory_mark};
-ghost use Rattle.shared_log.specs.Legal.{IsPassOf};
+ghost use Rattle.shared_log.specs.Passes.{IsPassOf};
+ghost use Rattle.turn_cell.specs.Knowing.{number_of};
 
 use chain_core::LogAnswer;
 use delta_base::{Bytes, Id, Listing, LogLimits};
 use disk_model::MemDisk;
 use patch_log::LogState;
 use patch_meaning::{Checked, check_patch};
-use shared_log::{Fetched, LogPass, SharedLog};
+use shared_log::{Fetched, LogPass, LogValue, SharedLog};
 use std::alloc::Global;
 use std::process::Abort;
 use std::sync::Wait;
@@ -59,9 +60,10 @@ pub(crate) struct Passes {
 
 // A log that two passes share.
 pub(crate) fn share(alloc: Global, failing: &[u64]) -> Result<(SharedLog<MemDisk>, Passes), Fail>
-    ensures one { IfOk result (λ r. IsPassOf memory_mark r.0 r.1.one × (r.1.one.view.number ≡ 1) × (r.1.one.view.past ≡ [])) }
-    ensures two { IfOk result (λ r. IsPassOf memory_mark r.0 r.1.two × (r.1.two.view.number ≡ 2) × (r.1.two.view.past ≡ [])) }
-    ensures room { IfOk result (λ r. (r.0.seats ≡ 2) × (r.1.room.items ≡ []) × (2 ≤ vec_capacity r.1.room)) }
+    ensures one { IfOk result (λ r. IsPassOf memory_mark r.0 r.1.one × (number_of r.1.one ≡ 1)) }
+    ensures two { IfOk result (λ r. IsPassOf memory_mark r.0 r.1.two × (number_of r.1.two ≡ 2)) }
+    ensures room { IfOk result (λ r.
+        (r.0.seats ≡ 2) × (r.1.room.items ≡ []) × (2 ≤ vec_capacity r.1.room)) }
 {
     let Ok((log, mut room)) = SharedLog::new(alloc, open(alloc, failing)?, 2) else {
         return Err(Fail::from("no memory"));
@@ -77,9 +79,10 @@ pub(crate) fn share(alloc: Global, failing: &[u64]) -> Result<(SharedLog<MemDisk
 
 // Gives both passes back.
 pub(crate) fn close(log: SharedLog<MemDisk>, passes: Passes) -> LogState<MemDisk>
-    requires one { IsPassOf memory_mark log passes.one × (passes.one.view.number ≡ 1) × (passes.one.view.past ≡ []) }
-    requires two { IsPassOf memory_mark log passes.two × (passes.two.view.number ≡ 2) × (passes.two.view.past ≡ []) }
-    requires room { (log.seats ≡ 2) × (passes.room.items ≡ []) × (2 ≤ vec_capacity passes.room) }
+    requires one { IsPassOf memory_mark log passes.one × (number_of passes.one ≡ 1) }
+    requires two { IsPassOf memory_mark log passes.two × (number_of passes.two ≡ 2) }
+    requires room { (log.seats ≡ 2) × (passes.room.items ≡ [])
+        × (2 ≤ vec_capacity passes.room) }
 {
     let Passes { one, two, mut room } = passes;
     room.push_reserved(one);
@@ -152,6 +155,7 @@ fn a_fault_is_that_of_its_own_pass(rt: HostRuntime) -> Result<(), Fail> {
     let answer = log.append(&rt, &mut passes.one, &first);
     is(&rt, answer, LogAnswer::DiskFault);
     assert!(rt; log.version(&mut passes.two) == 0);
+    assert!(rt; log.describe(&rt, &mut passes.two).version == 0);
     assert!(rt; passes.one.own_faults() > 0);
     assert!(rt; passes.two.own_faults() == 0);
     let answer = log.append(&rt, &mut passes.two, &first);
@@ -237,5 +241,22 @@ fn a_log_is_described(rt: HostRuntime) -> Result<(), Fail> {
     let (log, mut passes) = share_two(&rt, rt.alloc())?;
     let two = log.describe(&rt, &mut passes.two);
     assert_eq!(rt; (two.version, two.head), (2, Some(id_of(2))));
+    Ok(())
+}
+
+// What a pass finds in the turn is a log by itself.
+#[test]
+fn a_value_of_a_turn_is_a_log(rt: HostRuntime) -> Result<(), Fail> {
+    let alloc = rt.alloc();
+    let first = check_patch(alloc, FIRST)?;
+    let mut value = LogValue::of(open(alloc, &[])?);
+    let answer = value.append(&first, 3);
+    is(&rt, answer, LogAnswer::Accepted { version: 1 });
+    let answer = value.append(&first, 4);
+    let same = true;
+    is(&rt, answer, LogAnswer::Known { version: 1, same });
+    assert!(rt; value.version() == 1);
+    assert_eq!(rt; text_of(&value.fetch_id(id_of(1))?), Ok(FIRST));
+    assert_eq!(rt; entry_of(&value.into_log(), 1), Some((3, id_of(1))));
     Ok(())
 }

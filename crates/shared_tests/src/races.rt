@@ -1,7 +1,8 @@
 //! Threads that append to one log, each behind the head that its last answer showed.
 ghost use Rattle.std.specs.Prelude.{◌≡◌, ◌<◌, ◌≤◌, ◌^◌, [], vec_capacity};
 ghost use Rattle.disk_model.specs.Memory.{memory_mark};
-ghost use Rattle.shared_log.specs.Legal.{IsPassOf};
+ghost use Rattle.shared_log.specs.Passes.{IsPassOf};
+ghost use Rattle.turn_cell.specs.Knowing.{number_of};
 
 use crate::passes::{Passes, close, share};
 use chain_core::LogAnswer;
@@ -42,7 +43,7 @@ fn contend<R: Wait>(
 ) -> (LogPass<MemDisk>, u32)
     requires of { IsPassOf memory_mark log.now pass }
     requires base { base < 10_000 }
-    ensures { IsPassOf memory_mark log.now result.0 × (result.0.view.number ≡ pass.view.number) × (result.0.view.past ≡ pass.view.past) }
+    ensures { IsPassOf memory_mark log.now result.0 × (number_of result.0 ≡ number_of pass) }
 {
     let mut told = 0u32;
     let mut head = None;
@@ -76,9 +77,10 @@ fn race<R: Threads + Wait + Sync>(
     log: SharedLog<MemDisk>,
     passes: Passes,
 ) -> (LogState<MemDisk>, u32, u32)
-    requires one { IsPassOf memory_mark log passes.one × (passes.one.view.number ≡ 1) × (passes.one.view.past ≡ []) }
-    requires two { IsPassOf memory_mark log passes.two × (passes.two.view.number ≡ 2) × (passes.two.view.past ≡ []) }
-    requires room { (log.seats ≡ 2) × (passes.room.items ≡ []) × (2 ≤ vec_capacity passes.room) }
+    requires one { IsPassOf memory_mark log passes.one × (number_of passes.one ≡ 1) }
+    requires two { IsPassOf memory_mark log passes.two × (number_of passes.two ≡ 2) }
+    requires room { (log.seats ≡ 2) × (passes.room.items ≡ [])
+        × (2 ≤ vec_capacity passes.room) }
 {
     let Passes { one, two, room } = passes;
     let shared = &log;
@@ -86,11 +88,13 @@ fn race<R: Threads + Wait + Sync>(
         rt,
         || -> (LogPass<MemDisk>, u32)
             requires { IsPassOf memory_mark shared.now one }
-            ensures { IsPassOf memory_mark shared.entry.now result.0 × (result.0.view.number ≡ one.view.number) × (result.0.view.past ≡ one.view.past) }
+            ensures { IsPassOf memory_mark shared.entry.now result.0
+                × (number_of result.0 ≡ number_of one) }
         { contend(rt, alloc, shared, one, 1000) },
         || -> (LogPass<MemDisk>, u32)
             requires { IsPassOf memory_mark shared.now two }
-            ensures { IsPassOf memory_mark shared.entry.now result.0 × (result.0.view.number ≡ two.view.number) × (result.0.view.past ≡ two.view.past) }
+            ensures { IsPassOf memory_mark shared.entry.now result.0
+                × (number_of result.0 ≡ number_of two) }
         { contend(rt, alloc, shared, two, 2000) },
     );
     let state = close(log, Passes { one, two, room });

@@ -10,7 +10,7 @@ returns-clause-one c =
     let two : length c.in-Ok.room.items ≡ 2 = omega arith in
     let t = two_popped c.in-Ok.room.items c.pop.new.self.items c.pop-2.new.self.items c.in-Some-pop.one c.in-Some.two c.in-Some.ensures.items c.in-Some-pop.ensures.items two in
     let n = e.new 0 c.in-Some-pop.one t.1 in
-    ((n.0, n.8, n.7), n.1, n.9)
+    (n.0, n.1)
 
 pub returns-clause-two : goal.returns-clause-two
 returns-clause-two c =
@@ -20,4 +20,4 @@ returns-clause-two c =
     let two : length c.in-Ok.room.items ≡ 2 = omega arith in
     let t = two_popped c.in-Ok.room.items c.pop.new.self.items c.pop-2.new.self.items c.in-Some-pop.one c.in-Some.two c.in-Some.ensures.items c.in-Some-pop.ensures.items two in
     let n = e.new 1 c.in-Some.two t.2 in
-    ((n.0, n.8, n.7), n.1, n.9)
+    (n.0, n.1)
