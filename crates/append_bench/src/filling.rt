@@ -39,11 +39,17 @@ fn append_all<D: Disk>(journal: &mut Journal<D>, block: &Block, count: u32) -> R
     requires settled { IsTrue (is_settled journal.old) }
     requires room { length_of journal.old + count * (5 + length (payload_of block.now))
         ≤ limit_of journal.old }
-    ensures ok { OnOk result ((number : ℕ) (payloads : List (List ℕ)) → StandsFor journal.old number payloads → StandsFor journal.new number (payloads ++ replicate count (payload_of block.now))) }
-    ensures ends { D.tells → (number : ℕ) (payloads : List (List ℕ)) → StandsFor journal.old number payloads → reads (D.past (disk_of journal.old)) ≡ file_of number payloads
-        → OnOk result (reads (D.past (disk_of journal.new)) ≡ file_of number (payloads ++ replicate count (payload_of block.now))) }
+    ensures ok { OnOk result ((number : ℕ) (payloads : List (List ℕ))
+        → StandsFor journal.old number payloads
+        → StandsFor journal.new number (payloads ++ replicate count (payload_of block.now))) }
+    ensures ends { D.tells → (number : ℕ) (payloads : List (List ℕ))
+        → StandsFor journal.old number payloads
+        → reads (D.past (disk_of journal.old)) ≡ file_of number payloads
+        → OnOk result (reads (D.past (disk_of journal.new)) ≡ file_of number
+        (payloads ++ replicate count (payload_of block.now))) }
     ensures other_fault { IsErrOf result FillFault.NoNumber → ⊥ }
-    ensures cause { IsErrOf result FillFault.Failed → Rose (D.faults (disk_of journal.old)) (D.faults (disk_of journal.new)) }
+    ensures cause { IsErrOf result FillFault.Failed
+        → Rose (D.faults (disk_of journal.old)) (D.faults (disk_of journal.new)) }
     ensures faults { D.faults (disk_of journal.old) ≤ D.faults (disk_of journal.new) }
     ensures mark { D.mark (disk_of journal.new) ≡ D.mark (disk_of journal.old) }
 {
@@ -66,12 +72,21 @@ fn fill<H: Shelf>(
     count: u32,
 ) -> Result<bool, FillFault>
     requires { length (payload_of block.now) ≡ 200 }
-    ensures filled { H.tells → IfOk result (λ was_empty. IsTrue was_empty → (bytes_at (H.files shelf.old) dir.now number ≡ []) × (H.files shelf.new dir.now number ≡ Some (file_of number (replicate count (payload_of block.now))))) }
-    ensures full { H.tells → IfOk result (λ was_empty. was_empty ≡ false → 0 < length (bytes_at (H.files shelf.old) dir.now number)) }
+    ensures filled { H.tells
+        → IfOk result (λ was_empty. IsTrue was_empty
+        → (bytes_at (H.files shelf.old) dir.now number ≡ [])
+        × (H.files shelf.new dir.now number ≡ Some
+        (file_of number (replicate count (payload_of block.now))))) }
+    ensures full { H.tells
+        → IfOk result (λ was_empty. was_empty ≡ false
+        → 0 < length (bytes_at (H.files shelf.old) dir.now number)) }
     ensures other_fault { IsErrOf result FillFault.NoNumber → ⊥ }
-    ensures kept { H.tells → 0 < length (bytes_at (H.files shelf.old) dir.now number) → H.files shelf.new dir.now number ≡ H.files shelf.old dir.now number }
-    ensures others { H.tells → SameOthers (Some (dir.now, number)) (H.files shelf.old) (H.files shelf.new) }
-    ensures cause { IsErrOf result FillFault.Failed → Rose (H.faults shelf.old) (H.faults shelf.new) }
+    ensures kept { H.tells → 0 < length (bytes_at (H.files shelf.old) dir.now number)
+        → H.files shelf.new dir.now number ≡ H.files shelf.old dir.now number }
+    ensures others { H.tells
+        → SameOthers (Some (dir.now, number)) (H.files shelf.old) (H.files shelf.new) }
+    ensures cause { IsErrOf result FillFault.Failed
+        → Rose (H.faults shelf.old) (H.faults shelf.new) }
     ensures faults { H.faults shelf.old ≤ H.faults shelf.new }
 {
     let disk = match shelf.disk(dir, number) {
@@ -103,10 +118,14 @@ pub fn fill_new_file<H: Shelf>(
     dir: &Text,
     count: u32,
 ) -> Result<(), FillFault>
-    ensures ok { H.tells → OnOk result (FillsFirst dir.now (replicate count (replicate 200 120)) (H.files shelf.old) (H.files shelf.new)) }
-    ensures no_number { H.tells → IsErrOf result FillFault.NoNumber → AreFull dir.now 10_000 (H.files shelf.old) }
+    ensures ok { H.tells → OnOk result
+        (FillsFirst dir.now (replicate count (replicate 200 120)) (H.files shelf.old)
+        (H.files shelf.new)) }
+    ensures no_number { H.tells → IsErrOf result FillFault.NoNumber
+        → AreFull dir.now 10_000 (H.files shelf.old) }
     ensures kept { H.tells → KeepsFull dir.now (H.files shelf.old) (H.files shelf.new) }
-    ensures cause { IsErrOf result FillFault.Failed → Rose (H.faults shelf.old) (H.faults shelf.new) }
+    ensures cause { IsErrOf result FillFault.Failed
+        → Rose (H.faults shelf.old) (H.faults shelf.new) }
     ensures faults { H.faults shelf.old ≤ H.faults shelf.new }
 {
     let block = make_block(alloc, &[b'x'; 200])?;

@@ -42,7 +42,8 @@ pub trait Disk {
         ensures read_bytes { read_bytes self.new ≡ read_bytes self.old }
         ensures cause { HasCause (faults self.old) (faults self.new) result }
         ensures faults { CountsFault (faults self.old) (faults self.new) result }
-        ensures planned { plans → KeepsPlan (short self.old) (short self.new) (next_failure self.old) (next_failure self.new) result }
+        ensures planned { plans → KeepsPlan (short self.old) (short self.new)
+            (next_failure self.old) (next_failure self.new) result }
         ensures mark { mark self.new ≡ mark self.old };
 
     /// Reads up to the buffer's end or the file's.
@@ -50,21 +51,26 @@ pub trait Disk {
         ensures within { IfOk result (λ n. n ≤ length into.old) }
         ensures bytes { tells → IfOk result (ReadsAt (reads (past self.old)) at into.old into.new) }
         ensures past { past self.new ≡ past self.old }
-        ensures read_bytes { tells → read_bytes self.new ≡ (if is_ok result then counted (read_bytes self.old) (result_unwrap_or result 0) else read_bytes self.old) }
+        ensures read_bytes { tells → read_bytes self.new ≡ (if is_ok result
+            then counted (read_bytes self.old) (result_unwrap_or result 0)
+            else read_bytes self.old) }
         ensures cause { HasCause (faults self.old) (faults self.new) result }
         ensures faults { CountsFault (faults self.old) (faults self.new) result }
-        ensures planned { plans → KeepsPlan (short self.old) (short self.new) (next_failure self.old) (next_failure self.new) result }
+        ensures planned { plans → KeepsPlan (short self.old) (short self.new)
+            (next_failure self.old) (next_failure self.new) result }
         ensures mark { mark self.new ≡ mark self.old };
 
     /// Writes over what is there, and past the end. Until a sync, a crash may leave any bytes in the range.
     fn write_at(&mut self, at: u64, bytes: &[u8]) -> Result<(), Failed>
         requires { tells → at ≤ length (reads (past self.old)) }
         ensures ok { tells → OnOk result (past self.new ≡ wrote (past self.old) at bytes.now) }
-        ensures err { tells → OnErr result (WroteSome at (length bytes.now) (past self.old) (past self.new)) }
+        ensures err { tells → OnErr result
+            (WroteSome at (length bytes.now) (past self.old) (past self.new)) }
         ensures read_bytes { read_bytes self.new ≡ read_bytes self.old }
         ensures cause { HasCause (faults self.old) (faults self.new) result }
         ensures faults { CountsFault (faults self.old) (faults self.new) result }
-        ensures planned { plans → KeepsPlan (short self.old) (short self.new) (next_failure self.old) (next_failure self.new) result }
+        ensures planned { plans → KeepsPlan (short self.old) (short self.new)
+            (next_failure self.old) (next_failure self.new) result }
         ensures mark { mark self.new ≡ mark self.old };
 
     /// After it, a crash leaves what a read gives.
@@ -74,7 +80,8 @@ pub trait Disk {
         ensures read_bytes { read_bytes self.new ≡ read_bytes self.old }
         ensures cause { HasCause (faults self.old) (faults self.new) result }
         ensures faults { CountsFault (faults self.old) (faults self.new) result }
-        ensures planned { plans → TakesPlan (short self.old) (short self.new) (next_failure self.old) (next_failure self.new) result }
+        ensures planned { plans → TakesPlan (short self.old) (short self.new)
+            (next_failure self.old) (next_failure self.new) result }
         ensures mark { mark self.new ≡ mark self.old };
 
     /// What a read gives is an image that a crash may leave.

@@ -49,8 +49,10 @@ fn store(
 ) -> Result<(), AllocError>
     requires { at ≤ length bytes.old.items }
     ensures bytes { OnOk result (bytes.new.items ≡ overwritten bytes.old.items at new.now) }
-    ensures kept { OnOk result ((copy : _) × (copy.items ≡ new.now) × (kept.new.items ≡ kept.old.items ++ Kept.Wrote at copy ∷ [])) }
-    ensures err { OnErr result ((bytes.new.items ≡ bytes.old.items) × (kept.new.items ≡ kept.old.items)) }
+    ensures kept { OnOk result ((copy : _) × (copy.items ≡ new.now)
+        × (kept.new.items ≡ kept.old.items ++ Kept.Wrote at copy ∷ [])) }
+    ensures err { OnErr result ((bytes.new.items ≡ bytes.old.items)
+        × (kept.new.items ≡ kept.old.items)) }
 {
     let length = bytes.len();
     let within = new.len().min(length - at);
@@ -83,8 +85,11 @@ fn replay_one(
     call: &Kept,
     choice: u64,
 ) -> Result<(), AllocError>
-    ensures read { (past : Past) → read.old.items ≡ reads past → OnOk result (read.new.items ≡ reads (after past call.now)) }
-    ensures image { (past : Past) → read.old.items ≡ reads past → image.old.items ≡ left_as choice past → OnOk result (image.new.items ≡ left_as choice (after past call.now)) }
+    ensures read { (past : Past) → read.old.items ≡ reads past
+        → OnOk result (read.new.items ≡ reads (after past call.now)) }
+    ensures image { (past : Past) → read.old.items ≡ reads past
+        → image.old.items ≡ left_as choice past
+        → OnOk result (image.new.items ≡ left_as choice (after past call.now)) }
 {
     match call {
         Kept::Wrote(at, bytes) => {
@@ -189,7 +194,8 @@ impl MemDisk {
 
     // The file that it stands for, and what a read gives.
     pub(crate) fn into_file(self) -> Option<(Box<MemFile>, Vec<u8>)>
-        ensures mark { option_map (λ file. (file.0.value.dir, file.0.value.number)) result ≡ memory_mark self }
+        ensures mark { option_map (λ file. (file.0.value.dir, file.0.value.number)) result
+            ≡ memory_mark self }
         ensures bytes { IfSome result (λ file. file.1.items ≡ reads (memory_past self)) }
     {
         let MemDisk { home, bytes, .. } = self;
@@ -291,7 +297,8 @@ impl Disk for MemDisk {
 
     fn write_at(&mut self, at: u64, bytes: &[u8]) -> Result<(), Failed>
         requires { at ≤ length (reads (memory_past self.old)) }
-        ensures ok { OnOk result (memory_past self.new ≡ wrote (memory_past self.old) at bytes.now) }
+        ensures ok { OnOk result
+            (memory_past self.new ≡ wrote (memory_past self.old) at bytes.now) }
 
         // One that fails has written its whole range, or for want of memory nothing.
         ensures err { OnErr result (LeavesOfWrite

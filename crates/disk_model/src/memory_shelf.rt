@@ -26,7 +26,8 @@ pub struct MemShelf {
 
 // A file without bytes.
 fn empty_file(alloc: Global, dir: &Text, number: u32) -> Result<Box<MemFile>, ShelfFault>
-    ensures value { IfOk result (λ file. (file.value.dir ≡ dir.now) × (file.value.number ≡ number) × (file.value.bytes.items ≡ [])) }
+    ensures value { IfOk result (λ file. (file.value.dir ≡ dir.now) × (file.value.number ≡ number)
+        × (file.value.bytes.items ≡ [])) }
     ensures memory { IsErrOf result ShelfFault.Failed → ⊥ }
 {
     Ok(Box::new(
@@ -80,7 +81,8 @@ impl MemShelf {
 
 // A copy of a file's bytes, or no bytes.
 fn bytes_of(alloc: Global, files: &Drawer, dir: &Text, number: u32) -> Result<Vec<u8>, ShelfFault>
-    ensures value { IfOk result (λ bytes. bytes.items ≡ unwrap_or (file_in files.now dir.now number) []) }
+    ensures value { IfOk result
+        (λ bytes. bytes.items ≡ unwrap_or (file_in files.now dir.now number) []) }
     ensures memory { IsErrOf result ShelfFault.Failed → ⊥ }
 {
     match find(files, dir, number) {
@@ -91,10 +93,13 @@ fn bytes_of(alloc: Global, files: &Drawer, dir: &Text, number: u32) -> Result<Ve
 
 // The disk of a file; where there was none, an empty one is put in.
 fn open(alloc: Global, files: &mut Drawer, dir: &Text, number: u32) -> Result<MemDisk, ShelfFault>
-    ensures opened { IfOk result (λ disk. memory_past disk ≡ began (unwrap_or (file_in files.old dir.now number) [])) }
+    ensures opened { IfOk result
+        (λ disk. memory_past disk ≡ began (unwrap_or (file_in files.old dir.now number) [])) }
     ensures mark { IfOk result (λ disk. memory_mark disk ≡ Some (dir.now, number)) }
     ensures fresh { IfOk result (λ disk. faults_of disk ≡ 0) }
-    ensures made { OnOk result (file_in files.new dir.now number ≡ Some (unwrap_or (file_in files.old dir.now number) [])) }
+    ensures made { OnOk result
+        (file_in files.new dir.now number ≡ Some
+        (unwrap_or (file_in files.old dir.now number) [])) }
     ensures refused { OnErr result (files.new ≡ files.old) }
     ensures others { SameOthers (Some (dir.now, number)) (file_in files.old) (file_in files.new) }
     ensures memory { IsErrOf result ShelfFault.Failed → ⊥ }
@@ -126,12 +131,18 @@ impl Shelf for MemShelf {
     }
 
     fn disk(&mut self, dir: &Text, number: u32) -> Result<MemDisk, ShelfFault>
-        ensures opened { IfOk result (λ disk. memory_past disk ≡ began (unwrap_or (shelf_files self.old dir.now number) [])) }
+        ensures opened { IfOk result
+            (λ disk. memory_past disk ≡ began
+            (unwrap_or (shelf_files self.old dir.now number) [])) }
         ensures mark { IfOk result (λ disk. memory_mark disk ≡ Some (dir.now, number)) }
         ensures fresh { IfOk result (λ disk. faults_of disk ≡ 0) }
-        ensures made { OnOk result (shelf_files self.new dir.now number ≡ Some (unwrap_or (shelf_files self.old dir.now number) [])) }
-        ensures refused { OnErr result (shelf_files self.new dir.now number ≡ shelf_files self.old dir.now number) }
-        ensures others { SameOthers (Some (dir.now, number)) (shelf_files self.old) (shelf_files self.new) }
+        ensures made { OnOk result
+            (shelf_files self.new dir.now number ≡ Some
+            (unwrap_or (shelf_files self.old dir.now number) [])) }
+        ensures refused { OnErr result
+            (shelf_files self.new dir.now number ≡ shelf_files self.old dir.now number) }
+        ensures others { SameOthers (Some (dir.now, number)) (shelf_files self.old)
+            (shelf_files self.new) }
         ensures never_falls { shelf_faults self.old ≤ shelf_faults self.new }
         ensures cause { IsErrOf result ShelfFault.Failed
             → Rose (shelf_faults self.old) (shelf_faults self.new) }

@@ -49,7 +49,8 @@ impl PlanDisk {
     fn noted<T: Drop>(&mut self, answer: Result<T, Failed>) -> Result<T, Failed>
         ensures same { result ≡ answer }
         ensures ok { IsOk answer → self.new ≡ self.old }
-        ensures err { IsErr answer → self.new ≡ record self.old { faults = self.new.faults; short = true } }
+        ensures err { IsErr answer
+            → self.new ≡ record self.old { faults = self.new.faults; short = true } }
         ensures cause { HasCause (plan_faults self.old) (plan_faults self.new) result }
         ensures faults { CountsFault (plan_faults self.old) (plan_faults self.new) result }
     {

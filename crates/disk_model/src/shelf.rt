@@ -35,23 +35,32 @@ pub trait Shelf {
 
     /// Opens a file, and makes an empty one where there is none.
     fn disk(&mut self, dir: &Text, number: u32) -> Result<Self::D, ShelfFault>
-        ensures opened { tells → IfOk result (λ disk. Self.D.past disk ≡ began (unwrap_or (files self.old dir.now number) [])) }
+        ensures opened { tells
+            → IfOk result (λ disk. Self.D.past disk ≡ began
+            (unwrap_or (files self.old dir.now number) [])) }
         ensures mark { tells → IfOk result (λ disk. Self.D.mark disk ≡ Some (dir.now, number)) }
         ensures fresh { IfOk result (λ disk. Self.D.faults disk ≡ 0) }
-        ensures made { tells → OnOk result (files self.new dir.now number ≡ Some (unwrap_or (files self.old dir.now number) [])) }
-        ensures refused { tells → OnErr result (files self.new dir.now number ≡ files self.old dir.now number) }
-        ensures others { tells → SameOthers (Some (dir.now, number)) (files self.old) (files self.new) }
+        ensures made { tells → OnOk result
+            (files self.new dir.now number ≡ Some (unwrap_or (files self.old dir.now number) [])) }
+        ensures refused { tells
+            → OnErr result (files self.new dir.now number ≡ files self.old dir.now number) }
+        ensures others { tells
+            → SameOthers (Some (dir.now, number)) (files self.old) (files self.new) }
         ensures never_falls { faults self.old ≤ faults self.new }
-        ensures cause { IsErrOf result ShelfFault.Failed → Rose (faults self.old) (faults self.new) }
+        ensures cause { IsErrOf result ShelfFault.Failed
+            → Rose (faults self.old) (faults self.new) }
 
         // A call that fails counts one fault more, and another one counts none.
-        ensures one { IsErrOf result ShelfFault.Failed → faults self.new ≡ counted (faults self.old) 1 }
+        ensures one { IsErrOf result ShelfFault.Failed
+            → faults self.new ≡ counted (faults self.old) 1 }
         ensures well { OnOk result (faults self.new ≡ faults self.old) }
-        ensures memory { IsErrOf result ShelfFault.OutOfMemory → faults self.new ≡ faults self.old };
+        ensures memory { IsErrOf result ShelfFault.OutOfMemory
+            → faults self.new ≡ faults self.old };
 
     /// The file of the disk's mark has then what the disk read.
     fn put_back(&mut self, disk: Self::D)
-        ensures kept { tells → (dir : List ℕ) (number : ℕ) → Self.D.mark disk ≡ Some (dir, number) → files self.new dir number ≡ Some (reads (Self.D.past disk)) }
+        ensures kept { tells → (dir : List ℕ) (number : ℕ) → Self.D.mark disk ≡ Some (dir, number)
+            → files self.new dir number ≡ Some (reads (Self.D.past disk)) }
         ensures others { tells → SameOthers (Self.D.mark disk) (files self.old) (files self.new) }
         ensures never_falls { faults self.old ≤ faults self.new }
         ensures rises { 0 < Self.D.faults disk → Rose (faults self.old) (faults self.new) }

@@ -54,7 +54,8 @@ ReadsPayload file at (Err OutOfMemory) = Unit {0}
 
 -- the file holds these payloads, and their journal has this length; or which fault comes first
 abbrev pub ReadsPayloads : List ℕ → ℕ → Result (ℕ × Listed (List ℕ)) JournalFault → Type 0
-ReadsPayloads file number (Ok found) = Holds file number found.1.items × (found.0 ≡ length (front number found.1.items) + 1)
+ReadsPayloads file number (Ok found) =
+    Holds file number found.1.items × (found.0 ≡ length (front number found.1.items) + 1)
 ReadsPayloads file number (Err (Damaged at)) = Damage file number at
 ReadsPayloads file number (Err (WrongNumber found)) = HasHeader file found × (found ≢ number)
 ReadsPayloads file number (Err (OverLimit length limit)) = ⊥
@@ -65,7 +66,9 @@ ReadsPayloads file number (Err OutOfMemory) = Unit {0}
 abbrev pub HasFault : List ℕ → ℕ → ℕ → JournalFault → Type 0
 HasFault file number limit (Damaged at) = Damage file number at
 HasFault file number limit (WrongNumber found) = HasHeader file found × (found ≢ number)
-HasFault file number limit (OverLimit length shown) = (payloads : List (List ℕ)) × Holds file number payloads × (length ≡ journal_length payloads) × (limit < length) × (shown ≡ limit)
+HasFault file number limit (OverLimit length shown) =
+    (payloads : List (List ℕ)) × Holds file number payloads
+    × (length ≡ journal_length payloads) × (limit < length) × (shown ≡ limit)
 HasFault file number limit Failed = Unit {0}
 HasFault file number limit OutOfMemory = Unit {0}
 
@@ -77,7 +80,9 @@ pub record IsRead (file : List ℕ) (number : ℕ) (payloads : List (List ℕ)) 
 
 -- the file holds these payloads, and their journal has this length, within the limit; or which fault comes first
 abbrev pub Reads : List ℕ → ℕ → ℕ → Result (ℕ × Listed (List ℕ)) JournalFault → Type 0
-Reads file number limit (Ok found) = Holds file number found.1.items × (found.0 ≡ length (front number found.1.items) + 1) × (found.0 ≤ limit)
+Reads file number limit (Ok found) =
+    Holds file number found.1.items × (found.0 ≡ length (front number found.1.items) + 1)
+    × (found.0 ≤ limit)
 Reads file number limit (Err fault) = HasFault file number limit fault
 
 -- the disk's count of faults rose where this is a fault of the disk, and else is as it was

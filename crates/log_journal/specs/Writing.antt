@@ -10,7 +10,8 @@ use Rattle.delta_base.specs.declared.phase.Phase.TheVariants.{Settling, Body, Ga
 use Rattle.log_journal.specs.StandsFor.{StandsFor, StandsInDoubt}
 
 -- a journal stands for payloads, with one in doubt or none
-abbrev pub StandsWith : {D : Type 0} {disks : Ghosts D} → Journal D disks → ℕ → List (List ℕ) → Option (List ℕ) → Type 0
+abbrev pub StandsWith : {D : Type 0} {disks : Ghosts D} → Journal D disks
+    → ℕ → List (List ℕ) → Option (List ℕ) → Type 0
 StandsWith journal number payloads None = StandsFor journal number payloads
 StandsWith journal number payloads (Some doubt) = StandsInDoubt journal number payloads doubt
 
@@ -29,7 +30,9 @@ doubt_left (Err Gate) doubt payload = Some payload
 -- what an image holds meanwhile
 abbrev pub HoldsDuring : ℕ → List (List ℕ) → Option (List ℕ) → List ℕ → List ℕ → Type 0
 HoldsDuring number payloads None payload image = HoldsWithOrWithout number payloads payload image
-HoldsDuring number payloads (Some doubt) payload image = HoldsWithOrWithout number payloads doubt image ⊎ HoldsWithOrWithout number payloads payload image
+HoldsDuring number payloads (Some doubt) payload image =
+    HoldsWithOrWithout number payloads doubt image
+    ⊎ HoldsWithOrWithout number payloads payload image
 
 -- the phase that failed
 abbrev pub failing : {T : Type 0} → Result T Phase → Option Phase

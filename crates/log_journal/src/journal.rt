@@ -9,8 +9,8 @@ ghost use Rattle.log_journal.specs.Reading.{Reads, HasFault, CountsReading, Shor
 
 use crate::block::Block;
 use crate::fault::{FormatFault, JournalFault};
-use crate::halves::write_synced;
 use crate::open::{Payloads, format, read_payloads};
+use crate::synced_writes::write_synced;
 use delta_base::Failed;
 use disk_model::{Disk, Planned};
 use std::alloc::Global;
@@ -64,12 +64,15 @@ fn read_journal<D: Disk>(
     limit: u64,
 ) -> Result<(u64, Payloads), JournalFault>
     ensures found { D.tells → Reads (reads (D.past disk.old)) number limit result }
-    ensures few { D.tells → IfOk result (λ found. D.read_bytes disk.new ≤ D.read_bytes disk.old + found.0) }
+    ensures few { D.tells
+        → IfOk result (λ found. D.read_bytes disk.new ≤ D.read_bytes disk.old + found.0) }
     ensures length { IfOk result (λ found. found.0 ≡ journal_length found.1.items) }
     ensures within { IfOk result (λ found. (9 ≤ found.0) × (found.0 ≤ limit)) }
     ensures synced { D.tells → OnOk result (D.past disk.new ≡ synced (D.past disk.old)) }
-    ensures past { D.tells → (D.past disk.new ≡ D.past disk.old) ⊎ (D.past disk.new ≡ synced (D.past disk.old)) }
-    ensures cause { IsErrOf result JournalFault.Failed → Rose (D.faults disk.old) (D.faults disk.new) }
+    ensures past { D.tells → (D.past disk.new ≡ D.past disk.old)
+        ⊎ (D.past disk.new ≡ synced (D.past disk.old)) }
+    ensures cause { IsErrOf result JournalFault.Failed
+        → Rose (D.faults disk.old) (D.faults disk.new) }
     ensures faults { D.faults disk.old ≤ D.faults disk.new }
     ensures counts { CountsReading result (D.faults disk.old) (D.faults disk.new) }
     ensures long { D.plans → OnOk result (D.short disk.new ≡ D.short disk.old) }
@@ -98,20 +101,27 @@ impl<D: Disk> Journal<D> {
         limit: u64,
     ) -> Result<(Journal<D>, Payloads), OpenRefusal<D>>
         // The payloads are those of all the bytes that the disk reads.
-        ensures payloads { D.tells → IfOk result (λ opened. Holds (reads (D.past disk)) number (opened.1.items)) }
+        ensures payloads { D.tells
+            → IfOk result (λ opened. Holds (reads (D.past disk)) number (opened.1.items)) }
         ensures stands { IfOk result (λ opened. StandsFor opened.0 number (opened.1.items)) }
-        ensures fault { IfErr result (λ refusal. D.tells → HasFault (reads (D.past disk)) number limit refusal.fault) }
+        ensures fault { IfErr result (λ refusal. D.tells
+            → HasFault (reads (D.past disk)) number limit refusal.fault) }
 
         // A crash at any moment leaves what it might have left before, and a read gives what it gave.
-        ensures kept { IfOk result (λ opened. D.tells → Keeps (D.past disk) (D.past (disk_of opened.0))) }
-        ensures kept_refused { IfErr result (λ refusal. D.tells → Keeps (D.past disk) (D.past refusal.disk)) }
+        ensures kept { IfOk result (λ opened. D.tells
+            → Keeps (D.past disk) (D.past (disk_of opened.0))) }
+        ensures kept_refused { IfErr result (λ refusal. D.tells
+            → Keeps (D.past disk) (D.past refusal.disk)) }
 
         // It reads no more than the journal.
-        ensures few { IfOk result (λ opened. D.tells → D.read_bytes (disk_of opened.0) ≤ D.read_bytes disk + (length_of opened.0)) }
-        ensures length { IfOk result (λ opened. (length_of opened.0) ≡ journal_length opened.1.items) }
+        ensures few { IfOk result (λ opened. D.tells
+            → D.read_bytes (disk_of opened.0) ≤ D.read_bytes disk + (length_of opened.0)) }
+        ensures length { IfOk result
+            (λ opened. (length_of opened.0) ≡ journal_length opened.1.items) }
         ensures limit { IfOk result (λ opened. (limit_of opened.0) ≡ limit) }
         ensures within { IfOk result (λ opened. (length_of opened.0) ≤ limit) }
-        ensures cause { IfErr result (λ refusal. refusal.fault ≡ JournalFault.Failed → Rose (D.faults disk) (D.faults refusal.disk)) }
+        ensures cause { IfErr result (λ refusal. refusal.fault ≡ JournalFault.Failed
+            → Rose (D.faults disk) (D.faults refusal.disk)) }
 
         // A fault is counted where a call of the disk failed, and else none.
         ensures faults { IfOk result (λ opened. D.faults (disk_of opened.0) ≡ D.faults disk) }
@@ -145,18 +155,25 @@ impl<D: Disk> Journal<D> {
     pub fn start_on(disk: D, number: u32, limit: u64) -> Result<Journal<D>, StartRefusal<D>>
         requires { 9 ≤ limit }
         ensures stands { IfOk result (λ journal. StandsFor journal number []) }
-        ensures file { D.tells → IfOk result (λ journal. reads (D.past (disk_of journal)) ≡ file_of number []) }
+        ensures file { D.tells
+            → IfOk result (λ journal. reads (D.past (disk_of journal)) ≡ file_of number []) }
         ensures was_empty { D.tells → OnOk result (reads (D.past disk) ≡ []) }
         ensures length { IfOk result (λ journal. (length_of journal) ≡ 9) }
         ensures limit { IfOk result (λ journal. (limit_of journal) ≡ limit) }
 
         // A file that isn't empty is left as it is.
-        ensures not_empty { D.tells → IfErr result (λ refusal. (found : ℕ) → refusal.fault ≡ FormatFault.NotEmpty found → (0 < found) × (found ≡ length (reads (D.past disk)))) }
-        ensures kept { D.tells → IfErr result (λ refusal. 0 < length (reads (D.past disk)) → D.past refusal.disk ≡ D.past disk) }
+        ensures not_empty { D.tells
+            → IfErr result (λ refusal. (found : ℕ) → refusal.fault ≡ FormatFault.NotEmpty found
+            → (0 < found) × (found ≡ length (reads (D.past disk)))) }
+        ensures kept { D.tells
+            → IfErr result (λ refusal. 0 < length (reads (D.past disk))
+            → D.past refusal.disk ≡ D.past disk) }
 
         // After a failure some of its bytes may be written, and nothing more is synced.
-        ensures err { D.tells → IfErr result (λ refusal. WroteSome 0 9 (D.past disk) (D.past refusal.disk)) }
-        ensures cause { IfErr result (λ refusal. refusal.fault ≡ FormatFault.Failed → Rose (D.faults disk) (D.faults refusal.disk)) }
+        ensures err { D.tells
+            → IfErr result (λ refusal. WroteSome 0 9 (D.past disk) (D.past refusal.disk)) }
+        ensures cause { IfErr result (λ refusal. refusal.fault ≡ FormatFault.Failed
+            → Rose (D.faults disk) (D.faults refusal.disk)) }
         ensures faults { IfOk result (λ journal. D.faults (disk_of journal) ≡ D.faults disk) }
         ensures faults_refused { IfErr result (λ refusal. D.faults disk ≤ D.faults refusal.disk) }
         ensures faults_found { IfErr result (λ refusal. (found : ℕ)
@@ -222,40 +239,56 @@ impl<D: Disk> Journal<D> {
         requires { IsTrue (is_settled self.old) }
 
         // A crash at any moment of the call leaves the payloads, with the new one or without.
-        ensures any_moment { (number : ℕ) (payloads : List (List ℕ)) → StandsFor self.old number payloads
+        ensures any_moment { (number : ℕ) (payloads : List (List ℕ))
+            → StandsFor self.old number payloads
             → Leaves (HoldsWithOrWithout number payloads (payload_of block.now)) self.old self.new }
         ensures ok { (number : ℕ) (payloads : List (List ℕ)) → StandsFor self.old number payloads
             → OnOk result (StandsFor self.new number (payloads ++ payload_of block.now ∷ [])) }
-        ensures ends { D.tells → (number : ℕ) (payloads : List (List ℕ)) → StandsFor self.old number payloads
+        ensures ends { D.tells → (number : ℕ) (payloads : List (List ℕ))
+            → StandsFor self.old number payloads
             → reads (D.past (disk_of self.old)) ≡ file_of number payloads
-            → OnOk result (reads (D.past (disk_of self.new)) ≡ file_of number (payloads ++ payload_of block.now ∷ [])) }
-        ensures failed { (number : ℕ) (payloads : List (List ℕ)) → StandsFor self.old number payloads
+            → OnOk result (reads (D.past (disk_of self.new))
+            ≡ file_of number (payloads ++ payload_of block.now ∷ [])) }
+        ensures failed { (number : ℕ) (payloads : List (List ℕ))
+            → StandsFor self.old number payloads
             → IsErrOf result AppendFault.Failed
-            → StandsFor self.new number payloads ⊎ StandsInDoubt self.new number payloads (payload_of block.now) }
+            → StandsFor self.new number payloads
+            ⊎ StandsInDoubt self.new number payloads (payload_of block.now) }
 
         // It is settled unless it failed once its first sync was done.
         ensures settled { OnOk result (IsTrue (is_settled self.new)) }
-        ensures syncs { D.tells → ok_syncs (D.past (disk_of self.new)) ≡ ok_syncs (D.past (disk_of self.old)) + syncs_of result (is_settled self.new) }
+        ensures syncs { D.tells → ok_syncs (D.past (disk_of self.new))
+            ≡ ok_syncs (D.past (disk_of self.old)) + syncs_of result (is_settled self.new) }
 
         // Both syncs are done, or those before the one that is planned to fail.
-        ensures planned { D.plans → IsTrue (not (D.short (disk_of self.new))) → IsOk result ⊎ IsErrOf result AppendFault.Failed
-            → DoneByPlan 2 (syncs_of result (is_settled self.new)) (D.next_failure (disk_of self.old)) (D.next_failure (disk_of self.new)) }
+        ensures planned { D.plans → IsTrue (not (D.short (disk_of self.new)))
+            → IsOk result ⊎ IsErrOf result AppendFault.Failed
+            → DoneByPlan 2 (syncs_of result (is_settled self.new))
+            (D.next_failure (disk_of self.old)) (D.next_failure (disk_of self.new)) }
 
         // After a planned failure what was synced has no new payload, and the gate is open where what wasn't synced is 1.
-        ensures images { D.plans → D.tells → IsTrue (not (D.short (disk_of self.new))) → IsErrOf result AppendFault.Failed → (is_settled self.new) ≡ false
+        ensures images { D.plans → D.tells → IsTrue (not (D.short (disk_of self.new)))
+            → IsErrOf result AppendFault.Failed → (is_settled self.new) ≡ false
             → (number : ℕ) (payloads : List (List ℕ)) → StandsFor self.old number payloads
-            → Holds (synced_bytes (D.past (disk_of self.new))) number payloads × Holds (filled 1 (D.past (disk_of self.new))) number (payloads ++ payload_of block.now ∷ []) }
+            → Holds (synced_bytes (D.past (disk_of self.new))) number payloads
+            × Holds (filled 1 (D.past (disk_of self.new))) number
+            (payloads ++ payload_of block.now ∷ []) }
 
-        ensures full { IsErrOf result (AppendFault.Full (length_of self.old) (limit_of self.old)) ↔ ((limit_of self.old) < (length_of self.old) + 5 + length (payload_of block.now)) }
-        ensures full_shows { (length limit : ℕ) → IsErrOf result (AppendFault.Full length limit) → (length ≡ (length_of self.old)) × (limit ≡ (limit_of self.old)) × (self.new ≡ self.old) }
-        ensures cause { IsErrOf result AppendFault.Failed → Rose (D.faults (disk_of self.old)) (D.faults (disk_of self.new)) }
+        ensures full { IsErrOf result (AppendFault.Full (length_of self.old) (limit_of self.old))
+            ↔ ((limit_of self.old) < (length_of self.old) + 5 + length (payload_of block.now)) }
+        ensures full_shows { (length limit : ℕ) → IsErrOf result (AppendFault.Full length limit)
+            → (length ≡ (length_of self.old)) × (limit ≡ (limit_of self.old))
+            × (self.new ≡ self.old) }
+        ensures cause { IsErrOf result AppendFault.Failed
+            → Rose (D.faults (disk_of self.old)) (D.faults (disk_of self.new)) }
         ensures faults { D.faults (disk_of self.old) ≤ D.faults (disk_of self.new) }
         ensures well { OnOk result (D.faults (disk_of self.new) ≡ D.faults (disk_of self.old)) }
         ensures stays_short { D.plans → IsTrue (D.short (disk_of self.old))
             → IsTrue (D.short (disk_of self.new)) }
         ensures long { D.plans → OnOk result
             (D.short (disk_of self.new) ≡ D.short (disk_of self.old)) }
-        ensures longer { OnOk result ((length_of self.new) ≡ (length_of self.old) + 5 + length (payload_of block.now)) }
+        ensures longer { OnOk result
+            ((length_of self.new) ≡ (length_of self.old) + 5 + length (payload_of block.now)) }
         ensures same_length { OnErr result ((length_of self.new) ≡ (length_of self.old)) }
         ensures limit { (limit_of self.new) ≡ (limit_of self.old) }
         ensures mark { D.mark (disk_of self.new) ≡ D.mark (disk_of self.old) }
@@ -278,28 +311,39 @@ impl<D: Disk> Journal<D> {
     /// Closes a doubtful gate. After a failure it is still doubtful.
     pub fn settle(&mut self) -> Result<(), Failed>
         // A crash at any moment of the call leaves the payloads, with the doubtful one or without.
-        ensures any_moment { (number : ℕ) (payloads : List (List ℕ)) (doubt : List ℕ) → StandsInDoubt self.old number payloads doubt
+        ensures any_moment { (number : ℕ) (payloads : List (List ℕ)) (doubt : List ℕ)
+            → StandsInDoubt self.old number payloads doubt
             → Leaves (HoldsWithOrWithout number payloads doubt) self.old self.new }
-        ensures ok { (number : ℕ) (payloads : List (List ℕ)) (doubt : List ℕ) → StandsInDoubt self.old number payloads doubt
+        ensures ok { (number : ℕ) (payloads : List (List ℕ)) (doubt : List ℕ)
+            → StandsInDoubt self.old number payloads doubt
             → OnOk result (StandsFor self.new number payloads) }
-        ensures failed { (number : ℕ) (payloads : List (List ℕ)) (doubt : List ℕ) → StandsInDoubt self.old number payloads doubt
+        ensures failed { (number : ℕ) (payloads : List (List ℕ)) (doubt : List ℕ)
+            → StandsInDoubt self.old number payloads doubt
             → OnErr result (StandsInDoubt self.new number payloads doubt) }
 
         ensures settled { IsOk result ↔ IsTrue (is_settled self.new) }
         ensures nothing_to_do { IsTrue (is_settled self.old) → self.new ≡ self.old }
-        ensures syncs { D.tells → ok_syncs (D.past (disk_of self.new)) ≡ ok_syncs (D.past (disk_of self.old)) + (if is_ok result then (if (is_settled self.old) then 0 else 1) else 0) }
+        ensures syncs { D.tells → ok_syncs (D.past (disk_of self.new))
+            ≡ ok_syncs (D.past (disk_of self.old))
+            + (if is_ok result then (if (is_settled self.old) then 0 else 1) else 0) }
 
         // Where it isn't settled, its one sync is done, or is the one that is planned to fail.
-        ensures planned { D.plans → IsTrue (not (D.short (disk_of self.new))) → (is_settled self.old) ≡ false
-            → DoneByPlan 1 (if is_ok result then 1 else 0) (D.next_failure (disk_of self.old)) (D.next_failure (disk_of self.new)) }
+        ensures planned { D.plans → IsTrue (not (D.short (disk_of self.new)))
+            → (is_settled self.old) ≡ false
+            → DoneByPlan 1 (if is_ok result then 1 else 0)
+            (D.next_failure (disk_of self.old)) (D.next_failure (disk_of self.new)) }
 
         // After a planned failure what was synced is as it was, and the gate that was open where what wasn't synced is 1 is still open there.
-        ensures images { D.plans → D.tells → IsTrue (not (D.short (disk_of self.new))) → is_ok result ≡ false
-            → (number : ℕ) (payloads : List (List ℕ)) (doubt : List ℕ) → StandsInDoubt self.old number payloads doubt
+        ensures images { D.plans → D.tells → IsTrue (not (D.short (disk_of self.new)))
+            → is_ok result ≡ false
+            → (number : ℕ) (payloads : List (List ℕ)) (doubt : List ℕ)
+            → StandsInDoubt self.old number payloads doubt
             → (synced_bytes (D.past (disk_of self.new)) ≡ synced_bytes (D.past (disk_of self.old)))
-            × (Holds (filled 1 (D.past (disk_of self.old))) number (payloads ++ doubt ∷ []) → Holds (filled 1 (D.past (disk_of self.new))) number (payloads ++ doubt ∷ [])) }
+            × (Holds (filled 1 (D.past (disk_of self.old))) number (payloads ++ doubt ∷ [])
+            → Holds (filled 1 (D.past (disk_of self.new))) number (payloads ++ doubt ∷ [])) }
 
-        ensures cause { HasCause (D.faults (disk_of self.old)) (D.faults (disk_of self.new)) result }
+        ensures cause { HasCause (D.faults (disk_of self.old))
+            (D.faults (disk_of self.new)) result }
         ensures well { OnOk result (D.faults (disk_of self.new) ≡ D.faults (disk_of self.old)) }
         ensures stays_short { D.plans → IsTrue (D.short (disk_of self.old))
             → IsTrue (D.short (disk_of self.new)) }

@@ -7,12 +7,12 @@
 
 mod block;
 mod fault;
-mod halves;
 mod journal;
 mod laws;
 mod making;
 mod open;
 mod reading;
+mod synced_writes;
 mod writing;
 
 pub use block::Block;

@@ -7,8 +7,8 @@ ghost use Rattle.log_journal.specs.File.{Holds, header, journal_length};
 ghost use Rattle.log_journal.specs.Reading.{ReadsPayloads, CountsReading, ShortReading};
 
 use crate::fault::{FormatFault, JournalFault};
-use crate::halves::write_synced;
 use crate::reading::{read_payload, read_start};
+use crate::synced_writes::write_synced;
 use delta_base::{Bytes, Listing};
 use disk_model::Disk;
 use std::alloc::Global;
@@ -18,15 +18,20 @@ pub type Payloads = Listing<Bytes>;
 
 /// Writes an empty journal into an empty file.
 pub fn format<D: Disk>(disk: &mut D, number: u32) -> Result<(), FormatFault>
-    ensures ok { D.tells → OnOk result (EveryImage (D.past disk.new) (λ image. image ≡ header number ++ 0 ∷ [])) }
+    ensures ok { D.tells → OnOk result
+        (EveryImage (D.past disk.new) (λ image. image ≡ header number ++ 0 ∷ [])) }
     ensures was_empty { D.tells → OnOk result (reads (D.past disk.old) ≡ []) }
-    ensures not_empty { D.tells → (found : ℕ) → IsErrOf result (FormatFault.NotEmpty found) → (0 < found) × (found ≡ length (reads (D.past disk.old))) }
-    ensures same { (found : ℕ) → IsErrOf result (FormatFault.NotEmpty found) → D.past disk.new ≡ D.past disk.old }
-    ensures kept { D.tells → 0 < length (reads (D.past disk.old)) → D.past disk.new ≡ D.past disk.old }
+    ensures not_empty { D.tells → (found : ℕ) → IsErrOf result (FormatFault.NotEmpty found)
+        → (0 < found) × (found ≡ length (reads (D.past disk.old))) }
+    ensures same { (found : ℕ) → IsErrOf result (FormatFault.NotEmpty found)
+        → D.past disk.new ≡ D.past disk.old }
+    ensures kept { D.tells → 0 < length (reads (D.past disk.old))
+        → D.past disk.new ≡ D.past disk.old }
 
     // After a failure some of its bytes may be written, and nothing more is synced.
     ensures err { D.tells → OnErr result (WroteSome 0 9 (D.past disk.old) (D.past disk.new)) }
-    ensures cause { IsErrOf result FormatFault.Failed → Rose (D.faults disk.old) (D.faults disk.new) }
+    ensures cause { IsErrOf result FormatFault.Failed
+        → Rose (D.faults disk.old) (D.faults disk.new) }
     ensures faults { D.faults disk.old ≤ D.faults disk.new }
     ensures well { OnOk result (D.faults disk.new ≡ D.faults disk.old) }
     ensures refused { (found : ℕ) → IsErrOf result (FormatFault.NotEmpty found)
@@ -56,11 +61,13 @@ pub fn read_payloads<D: Disk>(
     number: u32,
 ) -> Result<(u64, Payloads), JournalFault>
     ensures found { D.tells → ReadsPayloads (reads (D.past disk.old)) number result }
-    ensures few { D.tells → IfOk result (λ found. D.read_bytes disk.new ≤ D.read_bytes disk.old + found.0) }
+    ensures few { D.tells
+        → IfOk result (λ found. D.read_bytes disk.new ≤ D.read_bytes disk.old + found.0) }
     ensures length { IfOk result (λ found. found.0 ≡ journal_length found.1.items) }
     ensures behind { IfOk result (λ found. 9 ≤ found.0) }
     ensures past { D.past disk.new ≡ D.past disk.old }
-    ensures cause { IsErrOf result JournalFault.Failed → Rose (D.faults disk.old) (D.faults disk.new) }
+    ensures cause { IsErrOf result JournalFault.Failed
+        → Rose (D.faults disk.old) (D.faults disk.new) }
     ensures faults { D.faults disk.old ≤ D.faults disk.new }
     ensures counts { CountsReading result (D.faults disk.old) (D.faults disk.new) }
     ensures planned { D.plans → ShortReading result (D.short disk.old) (D.short disk.new) }

@@ -15,8 +15,12 @@ use std::alloc::Global;
 fn fetch<D: Disk>(disk: &mut D, file_length: u64, at: u64, into: &mut [u8]) -> Result<bool, Failed>
     requires { D.tells → file_length ≡ length (reads (D.past disk.old)) }
     ensures within { IfOk result (λ whole. IsTrue whole → at + length into.old ≤ file_length) }
-    ensures bytes { D.tells → IfOk result (λ whole. IsTrue whole → into.new ≡ take (length into.old) (drop at (reads (D.past disk.old)))) }
-    ensures short { D.tells → IfOk result (λ whole. IsTrue (not whole) → length (reads (D.past disk.old)) < at + length into.old) }
+    ensures bytes { D.tells
+        → IfOk result (λ whole. IsTrue whole
+        → into.new ≡ take (length into.old) (drop at (reads (D.past disk.old)))) }
+    ensures short { D.tells
+        → IfOk result (λ whole. IsTrue (not whole)
+        → length (reads (D.past disk.old)) < at + length into.old) }
     ensures past { D.past disk.new ≡ D.past disk.old }
     ensures cause { HasCause (D.faults disk.old) (D.faults disk.new) result }
     ensures counts { CountsFault (D.faults disk.old) (D.faults disk.new) result }
@@ -35,9 +39,13 @@ fn fetch<D: Disk>(disk: &mut D, file_length: u64, at: u64, into: &mut [u8]) -> R
 // A length, as four bytes spell it. `None` where the file ends before.
 fn fetch_size<D: Disk>(disk: &mut D, file_length: u64, at: u64) -> Result<Option<u32>, Failed>
     requires { D.tells → file_length ≡ length (reads (D.past disk.old)) }
-    ensures within { IfOk result (λ found. IfSome found (λ size. (size < 2 ^ 32) × (at + 4 ≤ file_length))) }
-    ensures bytes { D.tells → IfOk result (λ found. IfSome found (λ size. to_be_bytes w32 size ≡ take 4 (drop at (reads (D.past disk.old))))) }
-    ensures short { D.tells → IfOk result (λ found. IfNone found (length (reads (D.past disk.old)) < at + 4)) }
+    ensures within { IfOk result (λ found. IfSome found (λ size. (size < 2 ^ 32)
+        × (at + 4 ≤ file_length))) }
+    ensures bytes { D.tells
+        → IfOk result (λ found. IfSome found
+        (λ size. to_be_bytes w32 size ≡ take 4 (drop at (reads (D.past disk.old))))) }
+    ensures short { D.tells
+        → IfOk result (λ found. IfNone found (length (reads (D.past disk.old)) < at + 4)) }
     ensures past { D.past disk.new ≡ D.past disk.old }
     ensures cause { HasCause (D.faults disk.old) (D.faults disk.new) result }
     ensures counts { CountsFault (D.faults disk.old) (D.faults disk.new) result }

@@ -14,17 +14,24 @@ use disk_model::Disk;
 
 /// Closes a doubtful gate, if there is one, and appends. Says which phase failed.
 pub fn write<D: Disk>(journal: &mut Journal<D>, block: &Block) -> Result<(), Phase>
-    requires { (length_of journal.old) + 5 + length (payload_of block.now) ≤ (limit_of journal.old) }
+    requires { (length_of journal.old) + 5 + length (payload_of block.now) ≤
+        (limit_of journal.old) }
 
     // A crash at any moment of the call leaves the payloads, with the doubtful one, with the new one, or alone.
-    ensures any_moment { (number : ℕ) (payloads : List (List ℕ)) (doubt : Option (List ℕ)) → StandsWith journal.old number payloads doubt
-        → Leaves (HoldsDuring number payloads doubt (payload_of block.now)) journal.old journal.new }
-    ensures stands { (number : ℕ) (payloads : List (List ℕ)) (doubt : Option (List ℕ)) → StandsWith journal.old number payloads doubt
-        → StandsWith journal.new number (payloads_left result payloads (payload_of block.now)) (doubt_left result doubt (payload_of block.now)) }
+    ensures any_moment { (number : ℕ) (payloads : List (List ℕ)) (doubt : Option (List ℕ))
+        → StandsWith journal.old number payloads doubt
+        → Leaves (HoldsDuring number payloads doubt
+        (payload_of block.now)) journal.old journal.new }
+    ensures stands { (number : ℕ) (payloads : List (List ℕ)) (doubt : Option (List ℕ))
+        → StandsWith journal.old number payloads doubt
+        → StandsWith journal.new number (payloads_left result payloads (payload_of block.now))
+        (doubt_left result doubt (payload_of block.now)) }
 
     // The phase that failed is that of the first sync that wasn't done.
-    ensures phase { (number : ℕ) (payloads : List (List ℕ)) (doubt : Option (List ℕ)) → StandsWith journal.old number payloads doubt
-        → D.tells → failing result ≡ phase_by_syncs doubt (ok_syncs (D.past (disk_of journal.new)) - ok_syncs (D.past (disk_of journal.old))) }
+    ensures phase { (number : ℕ) (payloads : List (List ℕ)) (doubt : Option (List ℕ))
+        → StandsWith journal.old number payloads doubt
+        → D.tells → failing result ≡ phase_by_syncs doubt
+        (ok_syncs (D.past (disk_of journal.new)) - ok_syncs (D.past (disk_of journal.old))) }
 
     // Where the syncs fail as planned, it is the phase of the sync that is planned to fail, and a doubt that is left
     // stands where what wasn't synced is 1 and not in what was synced.
@@ -45,8 +52,10 @@ pub fn write<D: Disk>(journal: &mut Journal<D>, block: &Block) -> Result<(), Pha
     ensures long { D.plans → OnOk result
         (D.short (disk_of journal.new) ≡ D.short (disk_of journal.old)) }
     ensures settling { result ≡ Err Phase.Settling → (is_settled journal.old) ≡ false }
-    ensures length { (length_of journal.new) ≡ (length_of journal.old) + longer_by result (length (payload_of block.now)) }
-    ensures cause { HasCause (D.faults (disk_of journal.old)) (D.faults (disk_of journal.new)) result }
+    ensures length { (length_of journal.new) ≡ (length_of journal.old) + longer_by result
+        (length (payload_of block.now)) }
+    ensures cause { HasCause (D.faults (disk_of journal.old))
+        (D.faults (disk_of journal.new)) result }
     ensures limit { (limit_of journal.new) ≡ (limit_of journal.old) }
     ensures mark { D.mark (disk_of journal.new) ≡ D.mark (disk_of journal.old) }
 {

@@ -14,8 +14,11 @@ use log_journal::{FormatFault, format};
 
 // Makes an empty file an empty journal, and gives its disk back.
 fn formatted<D: Disk>(disk: D, number: u32) -> (D, Result<(), InitFault>)
-    ensures ok { D.tells → OnOk result.1 ((reads (D.past disk) ≡ []) × (reads (D.past result.0) ≡ file_of number [])) }
-    ensures not_empty { D.tells → (found size : ℕ) → IsErrOf result.1 (InitFault.NotEmpty found size) → (found ≡ number) × (0 < size) × (size ≡ length (reads (D.past disk))) }
+    ensures ok { D.tells → OnOk result.1 ((reads (D.past disk) ≡ [])
+        × (reads (D.past result.0) ≡ file_of number [])) }
+    ensures not_empty { D.tells → (found size : ℕ)
+        → IsErrOf result.1 (InitFault.NotEmpty found size) → (found ≡ number) × (0 < size)
+        × (size ≡ length (reads (D.past disk))) }
     ensures kept { D.tells → 0 < length (reads (D.past disk)) → D.past result.0 ≡ D.past disk }
     ensures cause { IsErrOf result.1 InitFault.Failed → Rose (D.faults disk) (D.faults result.0) }
     ensures mark { D.mark result.0 ≡ D.mark disk }
@@ -32,11 +35,17 @@ fn formatted<D: Disk>(disk: D, number: u32) -> (D, Result<(), InitFault>)
 
 // Makes a file an empty journal.
 fn format_file<H: Shelf>(shelf: &mut H, dir: &Text, number: u32) -> Result<(), InitFault>
-    ensures ok { H.tells → OnOk result ((bytes_at (H.files shelf.old) dir.now number ≡ []) × (H.files shelf.new dir.now number ≡ Some (file_of number []))) }
-    ensures not_empty { H.tells → (found size : ℕ) → IsErrOf result (InitFault.NotEmpty found size) → (found ≡ number) × (0 < size) × (size ≡ length (bytes_at (H.files shelf.old) dir.now number)) }
-    ensures kept { H.tells → 0 < length (bytes_at (H.files shelf.old) dir.now number) → H.files shelf.new dir.now number ≡ H.files shelf.old dir.now number }
-    ensures others { H.tells → SameOthers (Some (dir.now, number)) (H.files shelf.old) (H.files shelf.new) }
-    ensures cause { IsErrOf result InitFault.Failed → Rose (H.faults shelf.old) (H.faults shelf.new) }
+    ensures ok { H.tells → OnOk result ((bytes_at (H.files shelf.old) dir.now number ≡ [])
+        × (H.files shelf.new dir.now number ≡ Some (file_of number []))) }
+    ensures not_empty { H.tells → (found size : ℕ) → IsErrOf result (InitFault.NotEmpty found size)
+        → (found ≡ number) × (0 < size)
+        × (size ≡ length (bytes_at (H.files shelf.old) dir.now number)) }
+    ensures kept { H.tells → 0 < length (bytes_at (H.files shelf.old) dir.now number)
+        → H.files shelf.new dir.now number ≡ H.files shelf.old dir.now number }
+    ensures others { H.tells
+        → SameOthers (Some (dir.now, number)) (H.files shelf.old) (H.files shelf.new) }
+    ensures cause { IsErrOf result InitFault.Failed
+        → Rose (H.faults shelf.old) (H.faults shelf.new) }
     ensures faults { H.faults shelf.old ≤ H.faults shelf.new }
 {
     let disk = opened(shelf, dir, number)?;
@@ -47,11 +56,16 @@ fn format_file<H: Shelf>(shelf: &mut H, dir: &Text, number: u32) -> Result<(), I
 
 /// Makes the files from 1 to the number of slots, in that order.
 pub fn format_logs<H: Shelf>(shelf: &mut H, dir: &Text, slots: u8) -> Result<(), InitFault>
-    ensures ok { H.tells → OnOk result (AreMade dir.now (slots + 1) (H.files shelf.old) (H.files shelf.new)) }
-    ensures not_empty { H.tells → (number size : ℕ) → IsErrOf result (InitFault.NotEmpty number size) → StopsAt dir.now slots number size (H.files shelf.old) (H.files shelf.new) }
+    ensures ok { H.tells → OnOk result
+        (AreMade dir.now (slots + 1) (H.files shelf.old) (H.files shelf.new)) }
+    ensures not_empty { H.tells → (number size : ℕ)
+        → IsErrOf result (InitFault.NotEmpty number size)
+        → StopsAt dir.now slots number size (H.files shelf.old) (H.files shelf.new) }
     ensures kept { H.tells → KeepsFull dir.now (H.files shelf.old) (H.files shelf.new) }
-    ensures others { H.tells → SameBut dir.now 1 (slots + 1) (H.files shelf.old) (H.files shelf.new) }
-    ensures cause { IsErrOf result InitFault.Failed → Rose (H.faults shelf.old) (H.faults shelf.new) }
+    ensures others { H.tells
+        → SameBut dir.now 1 (slots + 1) (H.files shelf.old) (H.files shelf.new) }
+    ensures cause { IsErrOf result InitFault.Failed
+        → Rose (H.faults shelf.old) (H.faults shelf.new) }
     ensures faults { H.faults shelf.old ≤ H.faults shelf.new }
 {
     for number in 1..=u32::from(slots) {

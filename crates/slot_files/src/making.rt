@@ -22,15 +22,20 @@ pub fn init_slots<H: Shelf>(
 ) -> Result<(), InitFault>
     requires some { 1 ≤ slots }
     requires few { slots ≤ MOST_SLOTS }
-    ensures ok { H.tells → OnOk result (IsInitial dir.now slots (H.files shelf.old) (H.files shelf.new)) }
+    ensures ok { H.tells → OnOk result
+        (IsInitial dir.now slots (H.files shelf.old) (H.files shelf.new)) }
 
     // It stops at the first file that has bytes, with the files before it made.
-    ensures not_empty { H.tells → (number size : ℕ) → IsErrOf result (InitFault.NotEmpty number size) → StopsAt dir.now slots number size (H.files shelf.old) (H.files shelf.new) }
+    ensures not_empty { H.tells → (number size : ℕ)
+        → IsErrOf result (InitFault.NotEmpty number size)
+        → StopsAt dir.now slots number size (H.files shelf.old) (H.files shelf.new) }
 
     // Whatever it answers, files that had bytes and files of other names are as they were.
     ensures kept { H.tells → KeepsFull dir.now (H.files shelf.old) (H.files shelf.new) }
-    ensures others { H.tells → SameBut dir.now 0 (slots + 1) (H.files shelf.old) (H.files shelf.new) }
-    ensures cause { IsErrOf result InitFault.Failed → Rose (H.faults shelf.old) (H.faults shelf.new) }
+    ensures others { H.tells
+        → SameBut dir.now 0 (slots + 1) (H.files shelf.old) (H.files shelf.new) }
+    ensures cause { IsErrOf result InitFault.Failed
+        → Rose (H.faults shelf.old) (H.faults shelf.new) }
     ensures faults { H.faults shelf.old ≤ H.faults shelf.new }
 {
     let mut room = [0; 4];

@@ -32,8 +32,11 @@ pub fn first_payload<'a>(slots: u8, room: &'a mut [u8; 4]) -> &'a [u8]
 // Makes an empty file the registry's, and gives its disk back.
 fn written<D: Disk>(disk: D, block: &Block) -> (D, Result<(), InitFault>)
     requires { length (payload_of block.now) ≤ 100 }
-    ensures ok { D.tells → OnOk result.1 ((reads (D.past disk) ≡ []) × (reads (D.past result.0) ≡ file_of 0 (payload_of block.now ∷ []))) }
-    ensures not_empty { D.tells → (found size : ℕ) → IsErrOf result.1 (InitFault.NotEmpty found size) → (found ≡ 0) × (0 < size) × (size ≡ length (reads (D.past disk))) }
+    ensures ok { D.tells → OnOk result.1 ((reads (D.past disk) ≡ [])
+        × (reads (D.past result.0) ≡ file_of 0 (payload_of block.now ∷ []))) }
+    ensures not_empty { D.tells → (found size : ℕ)
+        → IsErrOf result.1 (InitFault.NotEmpty found size) → (found ≡ 0) × (0 < size)
+        × (size ≡ length (reads (D.past disk))) }
     ensures kept { D.tells → 0 < length (reads (D.past disk)) → D.past result.0 ≡ D.past disk }
     ensures cause { IsErrOf result.1 InitFault.Failed → Rose (D.faults disk) (D.faults result.0) }
     ensures mark { D.mark result.0 ≡ D.mark disk }
@@ -60,11 +63,16 @@ fn written<D: Disk>(disk: D, block: &Block) -> (D, Result<(), InitFault>)
 /// Makes file 0 a journal with this payload.
 pub fn write_registry<H: Shelf>(shelf: &mut H, dir: &Text, block: &Block) -> Result<(), InitFault>
     requires { length (payload_of block.now) ≤ 100 }
-    ensures ok { H.tells → OnOk result ((bytes_at (H.files shelf.old) dir.now 0 ≡ []) × (H.files shelf.new dir.now 0 ≡ Some (file_of 0 (payload_of block.now ∷ [])))) }
-    ensures not_empty { H.tells → (found size : ℕ) → IsErrOf result (InitFault.NotEmpty found size) → (found ≡ 0) × (0 < size) × (size ≡ length (bytes_at (H.files shelf.old) dir.now 0)) }
-    ensures kept { H.tells → 0 < length (bytes_at (H.files shelf.old) dir.now 0) → H.files shelf.new dir.now 0 ≡ H.files shelf.old dir.now 0 }
-    ensures others { H.tells → SameOthers (Some (dir.now, 0)) (H.files shelf.old) (H.files shelf.new) }
-    ensures cause { IsErrOf result InitFault.Failed → Rose (H.faults shelf.old) (H.faults shelf.new) }
+    ensures ok { H.tells → OnOk result ((bytes_at (H.files shelf.old) dir.now 0 ≡ [])
+        × (H.files shelf.new dir.now 0 ≡ Some (file_of 0 (payload_of block.now ∷ [])))) }
+    ensures not_empty { H.tells → (found size : ℕ) → IsErrOf result (InitFault.NotEmpty found size)
+        → (found ≡ 0) × (0 < size) × (size ≡ length (bytes_at (H.files shelf.old) dir.now 0)) }
+    ensures kept { H.tells → 0 < length (bytes_at (H.files shelf.old) dir.now 0)
+        → H.files shelf.new dir.now 0 ≡ H.files shelf.old dir.now 0 }
+    ensures others { H.tells
+        → SameOthers (Some (dir.now, 0)) (H.files shelf.old) (H.files shelf.new) }
+    ensures cause { IsErrOf result InitFault.Failed
+        → Rose (H.faults shelf.old) (H.faults shelf.new) }
     ensures faults { H.faults shelf.old ≤ H.faults shelf.new }
 {
     let disk = opened(shelf, dir, 0)?;

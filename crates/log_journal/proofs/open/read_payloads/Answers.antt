@@ -2,7 +2,7 @@ use Rattle.std.proofs.Common.{◌≡◌, ◌+◌, ◌++◌, [], ◌∷◌, Err, 
 use Rattle.std.proofs.lemmas.Result.{err_from_is_err_and}
 use Rattle.disk_model.specs.Past.{reads}
 use Rattle.log_journal.specs.File.{header}
-use Rattle.log_journal.specs.Reading.{IsRead, HasByte, HasPayload, ReadsPayload, ReadsPayloads}
+use Rattle.log_journal.specs.Reading.{IsRead, HasByte, HasPayload, ReadsPayload}
 use Rattle.log_journal.specs.declared.fault.JournalFault.{JournalFault}
 use Rattle.log_journal.proofs.Loop.{none_read, one_more_of, length_more, payload_missing}
 use Rattle.log_journal.proofs.open.read_payloads.Goals as goal
