@@ -1,6 +1,7 @@
 -- Patches, and the first fault of a text that is none.
 use Rattle.std.specs.Prelude.{◌≡◌, ℕ, ◌<◌, ◌≤◌, Bool, true, false, List, [], ◌∷◌, ◌++◌, Option, Some, None, length, map, if◌then◌else◌}
 use Rattle.delta_base.specs.declared.id.Id.{Id}
+use Rattle.delta_base.specs.declared.limits.TheConstants.{PATCH_LIMIT}
 use Rattle.rdf_terms.specs.declared.change.Change.{Change}
 use Rattle.rdf_terms.specs.declared.change.Change.TheVariants as change
 use Rattle.patch_rows.specs.declared.row.Row.{Row}
@@ -21,7 +22,7 @@ use Rattle.patch_meaning.specs.Rows.{RowsTo}
 
 -- the bytes that a patch may have
 abbrev pub patch_limit : ℕ
-patch_limit = 4194304
+patch_limit = PATCH_LIMIT
 
 -- ---- patches
 

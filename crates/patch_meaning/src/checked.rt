@@ -9,11 +9,11 @@ ghost use Rattle.patch_meaning.specs.Patch.{IsPatch, patch_limit};
 
 use crate::draft::Draft;
 use crate::fault::PatchFault;
-use crate::part::{PATCH_LIMIT, whole};
+use crate::part::whole;
 use crate::role::Role;
 use crate::rows::{Next, next_row};
 use chain_core::Link;
-use delta_base::{Bytes, Id, Listing, OutOfMemory};
+use delta_base::{Bytes, Id, Listing, OutOfMemory, PATCH_LIMIT};
 use rdf_terms::Changes;
 use std::alloc::Global;
 use std::marker::Model;

@@ -15,10 +15,8 @@ use crate::draft::Draft;
 use crate::fault::PatchFault;
 use crate::role::Role;
 use chain_core::Link;
+use delta_base::PATCH_LIMIT;
 use patch_rows::RowKind;
-
-/// The bytes that a patch may have.
-pub const PATCH_LIMIT: u64 = 4_194_304;
 
 /// A patch of a stream, as far as its rows were read. Who reads them keeps the changes.
 #[derive(Clone, Copy)]
