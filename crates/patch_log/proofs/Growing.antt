@@ -3,8 +3,8 @@ use Rattle.std.proofs.Common.{◌≡◌, ℕ, ◌+◌, cond, eqb, List, [], ◌�
 use Rattle.std.proofs.lemmas.List.{length-map}
 use Rattle.chain_core.specs.declared.chain.Patch.{Patch}
 use Rattle.chain_core.specs.declared.chain.Entry.{Entry}
-use Rattle.chain_core.specs.Chain.{IsKept, patch_of}
-use Rattle.chain_core.specs.Patches.{patches_of, version_of}
+use Rattle.chain_core.specs.Chain.{IsKept}
+use Rattle.chain_core.specs.Patches.{patch_of, patches_of, version_of}
 use Rattle.chain_core.proofs.Patches.{patches_of-push}
 use Rattle.chain_core.proofs.Versions.{version_of-push, new_entry}
 use Rattle.patch_log.specs.Pairs.{Pairs, GetsAfterSet}

@@ -1,5 +1,5 @@
 //! Versions by id, in the order of the ids.
-ghost use Rattle.std.specs.Prelude.{◌≡◌, ◌+◌, ◌<◌, [], ℕ, None, Some, IfOk, IfErr, OnOk, ◌≤◌, insert, vec_len, vec_capacity};
+ghost use Rattle.std.specs.Prelude.{◌≡◌, ◌+◌, ◌<◌, [], ℕ, None, Some, IfOk, IfErr, OnOk, OnErr, ◌≤◌, insert, vec_len, vec_capacity};
 ghost use Rattle.patch_log.specs.Pairs.{get, IsAt, IsGapFor, GetsAfterSet};
 
 use delta_base::{Id, OutOfMemory};
@@ -67,11 +67,16 @@ impl Index {
         }
     }
 
-    /// Makes a place ready.
+    /// Makes a place ready, if none is.
     pub fn reserve(&mut self) -> Result<(), OutOfMemory>
         ensures items { self.new.items ≡ self.old.items }
         ensures spare { OnOk result (0 < self.new.spare) }
+        ensures kept { self.old.spare ≤ self.new.spare }
+        ensures err { OnErr result ((self.new ≡ self.old) × (self.old.spare ≡ 0)) }
     {
+        if self.rows.len() < self.rows.capacity() {
+            return Ok(());
+        }
         self.rows.reserve(1)?;
         Ok(())
     }

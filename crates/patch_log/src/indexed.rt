@@ -1,5 +1,6 @@
 //! A chain whose patches are found by id without a walk along it.
-ghost use Rattle.std.specs.Prelude.{◌≡◌, ◌+◌, ◌<◌, ◌≤◌, [], ◌∷◌, ◌++◌, length, OnOk};
+ghost use Rattle.std.specs.Prelude.{◌≡◌, ◌+◌, ◌<◌, ◌≤◌, [], ◌∷◌, ◌++◌, length, OnOk, OnErr};
+ghost use Rattle.delta_base.specs.declared.limits.TheConstants.{PATCH_LIMIT};
 ghost use Rattle.chain_core.specs.Chain.{IsKept};
 ghost use Rattle.chain_core.specs.Patches.{patches_of, version_of};
 ghost use Rattle.chain_core.specs.Decision.{decision, version_named};
@@ -67,9 +68,10 @@ impl IndexedChain {
 
     /// What the chain makes of a patch.
     pub fn decide(&self, limits: &LogLimits, link: Link, text: &[u8]) -> Decision
-        requires text { length text.now ≤ 4194304 }
+        requires text { length text.now ≤ PATCH_LIMIT }
         requires few { length self.now.items ≤ limits.now.patches }
-        ensures { result ≡ decision (patches_of self.now.items) (record { id = link.id; prev = link.prev; text = text.now }) limits.now }
+        ensures { result ≡ decision (patches_of self.now.items)
+            (record { id = link.id; prev = link.prev; text = text.now }) limits.now }
     {
         let places = Places {
             known: self.version_of(link.id),
@@ -82,6 +84,8 @@ impl IndexedChain {
     pub fn reserve(&mut self) -> Result<(), OutOfMemory>
         ensures items { self.new.items ≡ self.old.items }
         ensures spare { OnOk result (1 ≤ self.new.spare) }
+        ensures kept { self.old.spare ≤ self.new.spare }
+        ensures err { OnErr result (self.new ≡ self.old) }
     {
         self.chain.reserve()?;
         self.index.reserve()

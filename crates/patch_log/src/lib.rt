@@ -10,7 +10,7 @@ mod opening;
 mod ready;
 mod state;
 
-pub use appending::{append, append_all};
+pub use appending::{append, append_all, append_made};
 pub use fault::{LogFault, LogRefusal};
 pub use index::Index;
 pub use indexed::IndexedChain;
