@@ -34,11 +34,11 @@ impl From<OutOfMemory> for FillFault {
     }
 }
 
-// Appends a payload of 200 bytes some times.
+// Appends a payload some times.
 fn append_all<D: Disk>(journal: &mut Journal<D>, block: &Block, count: u32) -> Result<(), FillFault>
     requires settled { IsTrue (is_settled journal.old) }
-    requires size { length (payload_of block.now) ≡ 200 }
-    requires room { length_of journal.old + 205 * count ≤ limit_of journal.old }
+    requires room { length_of journal.old + count * (5 + length (payload_of block.now))
+        ≤ limit_of journal.old }
     ensures ok { OnOk result ((number : ℕ) (payloads : List (List ℕ)) → StandsFor journal.old number payloads → StandsFor journal.new number (payloads ++ replicate count (payload_of block.now))) }
     ensures ends { D.tells → (number : ℕ) (payloads : List (List ℕ)) → StandsFor journal.old number payloads → reads (D.past (disk_of journal.old)) ≡ file_of number payloads
         → OnOk result (reads (D.past (disk_of journal.new)) ≡ file_of number (payloads ++ replicate count (payload_of block.now))) }

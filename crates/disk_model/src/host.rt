@@ -16,8 +16,10 @@ pub struct HostDisk {
 }
 
 impl HostDisk {
+    ghost use Rattle.disk_model.specs.Host.{host_faults};
+
     pub fn new(file: fs::File) -> HostDisk
-        ensures { result.faults ≡ 0 }
+        ensures { host_faults result ≡ 0 }
     {
         HostDisk { file, faults: 0 }
     }
@@ -25,8 +27,8 @@ impl HostDisk {
     // Counts a fault where the system refused.
     fn noted<T: Drop>(&mut self, answer: io::Result<T>) -> Result<T, Failed>
         ensures value { IfOk result (λ value. answer ≡ Ok value) }
-        ensures cause { HasCause self.old.faults self.new.faults result }
-        ensures faults { CountsFault self.old.faults self.new.faults result }
+        ensures cause { HasCause (host_faults self.old) (host_faults self.new) result }
+        ensures faults { CountsFault (host_faults self.old) (host_faults self.new) result }
     {
         match answer {
             Ok(value) => Ok(value),
@@ -58,13 +60,15 @@ fn fill(file: &fs::File, at: u64, into: &mut [u8]) -> io::Result<usize>
 }
 
 impl Disk for HostDisk {
+    ghost use Rattle.disk_model.specs.Host.{host_faults};
+
     ghost tells = { ⊥ };
 
     ghost past = { λ _. began [] };
 
     ghost read_bytes = { λ _. 0 };
 
-    ghost faults = { λ disk. disk.faults };
+    ghost faults = { host_faults };
 
     ghost mark = { λ _. None };
 

@@ -10,7 +10,8 @@ use std::fs::{File, OpenOptions};
 use std::io;
 use std::rt::Files;
 
-/// A shelf over the system's files. It tells nothing of them.
+/// A shelf over the system's files. It tells nothing of them. Each file that it opens is locked as long as its disk lives,
+/// and one that another process or disk has is not opened.
 #[derive(Drop)]
 pub struct HostShelf<'a, R: Files<File = File>> {
     rt: &'a R,
@@ -30,22 +31,19 @@ impl<'a, R: Files<File = File>> HostShelf<'a, R> {
     }
 }
 
-// Opens a file, and makes an empty one where there is none.
+// Opens a file, and makes an empty one where there is none. No other opening of it, in any process, has it meanwhile.
 fn opened<R: Files<File = File>>(rt: &R, folder: &str, path: &str) -> io::Result<File> {
-    match OpenOptions::new().read(true).write(true).open(rt, path) {
-        Err(error) if error.kind() == io::ErrorKind::NotFound => made(rt, folder, path),
-        answer => answer,
-    }
-}
-
-// Makes a file. It is there after a crash only where its folder is synced too.
-fn made<R: Files<File = File>>(rt: &R, folder: &str, path: &str) -> io::Result<File> {
     let file = OpenOptions::new()
         .read(true)
         .write(true)
         .create(true)
         .open(rt, path)?;
-    File::open(rt, folder)?.sync_all()?;
+    file.try_lock()?;
+    // It is there after a crash only where its folder was synced. Whoever made it may have stopped before that, but
+    // wrote nothing to it then.
+    if file.metadata()?.len() == 0 {
+        File::open(rt, folder)?.sync_all()?;
+    }
     Ok(file)
 }
 

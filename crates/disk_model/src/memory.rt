@@ -31,6 +31,8 @@ pub struct MemDisk {
     calls: u64,
     read: u64,
     faults: u64,
+    /// A write or a sync found no memory.
+    short: bool,
     /// The file that it stands for, without its bytes, where a shelf gave it.
     home: Option<Box<MemFile>>,
     ghost as_read: { reads (replayed first.items kept.items) ≡ bytes.items },
@@ -112,24 +114,41 @@ fn replay(alloc: Global, first: &[u8], kept: &[Kept], choice: u64) -> Result<Vec
 impl MemDisk {
     ghost use Rattle.disk_model.specs.Memory.{memory_past, memory_mark, fails_next, IsUnused, CountsCall};
 
-    /// An empty disk. Its calls with the numbers in `failing`, from 0, fail.
-    pub fn new(alloc: Global, failing: Calls) -> MemDisk
-        ensures past { memory_past result ≡ began [] }
-        ensures mark { memory_mark result ≡ None }
+    // Of which no call was made yet.
+    fn unused(
+        alloc: Global,
+        first: Vec<u8>,
+        bytes: Vec<u8>,
+        failing: Calls,
+        home: Option<Box<MemFile>>,
+    ) -> MemDisk
+        requires { bytes.items ≡ first.items }
+        ensures past { memory_past result ≡ began first.items }
+        ensures home { result.home ≡ home }
         ensures unused { IsUnused failing.items None result }
     {
         MemDisk {
             alloc,
-            first: Vec::new(alloc),
-            bytes: Vec::new(alloc),
+            first,
+            bytes,
             kept: Vec::new(alloc),
             failing,
             fuse: None,
             calls: 0,
             read: 0,
             faults: 0,
-            home: None,
+            short: false,
+            home,
         }
+    }
+
+    /// An empty disk. Its calls with the numbers in `failing`, from 0, fail.
+    pub fn new(alloc: Global, failing: Calls) -> MemDisk
+        ensures past { memory_past result ≡ began [] }
+        ensures mark { memory_mark result ≡ None }
+        ensures unused { IsUnused failing.items None result }
+    {
+        MemDisk::unused(alloc, Vec::new(alloc), Vec::new(alloc), failing, None)
     }
 
     /// A disk that has these bytes, all of them synced.
@@ -139,18 +158,7 @@ impl MemDisk {
         ensures unused { IfOk result (IsUnused failing.items None) }
     {
         let first = image.copy()?.into_vec();
-        Ok(MemDisk {
-            alloc,
-            first,
-            bytes: image.into_vec(),
-            kept: Vec::new(alloc),
-            failing,
-            fuse: None,
-            calls: 0,
-            read: 0,
-            faults: 0,
-            home: None,
-        })
+        Ok(MemDisk::unused(alloc, first, image.into_vec(), failing, None))
     }
 
     /// A disk that has these bytes, all of them synced, and whose calls all fail after so many.
@@ -174,20 +182,9 @@ impl MemDisk {
         requires { bytes.items ≡ first.items }
         ensures past { memory_past result ≡ began first.items }
         ensures mark { memory_mark result ≡ Some (home.value.dir, home.value.number) }
-        ensures faults { result.faults ≡ 0 }
+        ensures unused { IsUnused [] None result }
     {
-        MemDisk {
-            alloc,
-            first,
-            bytes,
-            kept: Vec::new(alloc),
-            failing: Listing::new(alloc),
-            fuse: None,
-            calls: 0,
-            read: 0,
-            faults: 0,
-            home: Some(home),
-        }
+        MemDisk::unused(alloc, first, bytes, Listing::new(alloc), Some(home))
     }
 
     // The file that it stands for, and what a read gives.
@@ -227,15 +224,15 @@ impl MemDisk {
 }
 
 impl Disk for MemDisk {
-    ghost use Rattle.disk_model.specs.Memory.{memory_past, memory_mark, memory_reads_left, fails_next, CountsCall};
+    ghost use Rattle.disk_model.specs.Memory.{memory_past, memory_mark, memory_reads_left, bytes_read, faults_of, fails_next, found_no_memory, CountsCall, FailsAsListed, LeavesOfWrite};
 
     ghost tells = { Unit };
 
     ghost past = { memory_past };
 
-    ghost read_bytes = { λ disk. disk.read };
+    ghost read_bytes = { bytes_read };
 
-    ghost faults = { λ disk. disk.faults };
+    ghost faults = { faults_of };
 
     ghost mark = { memory_mark };
 
@@ -248,14 +245,15 @@ impl Disk for MemDisk {
     fn len(&mut self) -> Result<u64, Failed>
         ensures length { IfOk result (λ n. n ≡ length (reads (memory_past self.old))) }
         ensures past { memory_past self.new ≡ memory_past self.old }
-        ensures read_bytes { self.new.read ≡ self.old.read }
-        ensures cause { HasCause self.old.faults self.new.faults result }
-        ensures faults { CountsFault self.old.faults self.new.faults result }
+        ensures read_bytes { bytes_read self.new ≡ bytes_read self.old }
+        ensures cause { HasCause (faults_of self.old) (faults_of self.new) result }
+        ensures faults { CountsFault (faults_of self.old) (faults_of self.new) result }
         ensures mark { memory_mark self.new ≡ memory_mark self.old }
         ensures counts { CountsCall self.old self.new }
 
         // Exactly a call that is to fail fails.
         ensures fails { IsErr result ↔ IsTrue (fails_next self.old) }
+        ensures memory { found_no_memory self.new ≡ found_no_memory self.old }
     {
         if self.is_failing_call() {
             self.faults = self.faults.saturating_add(1);
@@ -268,14 +266,17 @@ impl Disk for MemDisk {
         ensures within { IfOk result (λ n. n ≤ length into.old) }
         ensures bytes { IfOk result (ReadsAt (reads (memory_past self.old)) at into.old into.new) }
         ensures past { memory_past self.new ≡ memory_past self.old }
-        ensures read_bytes { self.new.read ≡ (if is_ok result then counted self.old.read (result_unwrap_or result 0) else self.old.read) }
-        ensures cause { HasCause self.old.faults self.new.faults result }
-        ensures faults { CountsFault self.old.faults self.new.faults result }
+        ensures read_bytes { bytes_read self.new ≡ (if is_ok result
+            then counted (bytes_read self.old) (result_unwrap_or result 0)
+            else bytes_read self.old) }
+        ensures cause { HasCause (faults_of self.old) (faults_of self.new) result }
+        ensures faults { CountsFault (faults_of self.old) (faults_of self.new) result }
         ensures mark { memory_mark self.new ≡ memory_mark self.old }
         ensures counts { CountsCall self.old self.new }
 
         // Exactly a call that is to fail fails.
         ensures fails { IsErr result ↔ IsTrue (fails_next self.old) }
+        ensures memory { found_no_memory self.new ≡ found_no_memory self.old }
     {
         if self.is_failing_call() {
             self.faults = self.faults.saturating_add(1);
@@ -293,17 +294,22 @@ impl Disk for MemDisk {
         ensures ok { OnOk result (memory_past self.new ≡ wrote (memory_past self.old) at bytes.now) }
 
         // One that fails has written its whole range, or for want of memory nothing.
-        ensures err { OnErr result ((memory_past self.new ≡ memory_past self.old) ⊎ (memory_past self.new ≡ wrote (memory_past self.old) at bytes.now)) }
-        ensures read_bytes { self.new.read ≡ self.old.read }
-        ensures cause { HasCause self.old.faults self.new.faults result }
-        ensures faults { CountsFault self.old.faults self.new.faults result }
+        ensures err { OnErr result (LeavesOfWrite
+            (found_no_memory self.old) (found_no_memory self.new) at bytes.now
+            (memory_past self.old) (memory_past self.new)) }
+        ensures read_bytes { bytes_read self.new ≡ bytes_read self.old }
+        ensures cause { HasCause (faults_of self.old) (faults_of self.new) result }
+        ensures faults { CountsFault (faults_of self.old) (faults_of self.new) result }
         ensures mark { memory_mark self.new ≡ memory_mark self.old }
         ensures counts { CountsCall self.old self.new }
-        ensures fails { IsTrue (fails_next self.old) → IsErr result }
+        ensures fails { FailsAsListed self.old self.new result }
     {
         let fails = self.is_failing_call();
         let place = at as usize;
         let stored = store(self.alloc, &mut self.bytes, &mut self.kept, place, bytes);
+        if stored.is_err() {
+            self.short = true;
+        }
         if fails || stored.is_err() {
             self.faults = self.faults.saturating_add(1);
             return Err(Failed);
@@ -314,15 +320,20 @@ impl Disk for MemDisk {
     fn sync(&mut self) -> Result<(), Failed>
         ensures ok { OnOk result (memory_past self.new ≡ synced (memory_past self.old)) }
         ensures err { OnErr result (memory_past self.new ≡ memory_past self.old) }
-        ensures read_bytes { self.new.read ≡ self.old.read }
-        ensures cause { HasCause self.old.faults self.new.faults result }
-        ensures faults { CountsFault self.old.faults self.new.faults result }
+        ensures read_bytes { bytes_read self.new ≡ bytes_read self.old }
+        ensures cause { HasCause (faults_of self.old) (faults_of self.new) result }
+        ensures faults { CountsFault (faults_of self.old) (faults_of self.new) result }
         ensures mark { memory_mark self.new ≡ memory_mark self.old }
         ensures counts { CountsCall self.old self.new }
-        ensures fails { IsTrue (fails_next self.old) → IsErr result }
+        ensures fails { FailsAsListed self.old self.new result }
     {
-        if self.is_failing_call() || self.kept.push(Kept::Synced).is_err() {
+        if self.is_failing_call() {
             self.faults = self.faults.saturating_add(1);
+            return Err(Failed);
+        }
+        if self.kept.push(Kept::Synced).is_err() {
+            self.faults = self.faults.saturating_add(1);
+            self.short = true;
             return Err(Failed);
         }
         Ok(())

@@ -5,15 +5,14 @@ ghost use Rattle.disk_model.specs.Calls.{counted};
 ghost use Rattle.disk_model.specs.Drawer.{file_in};
 ghost use Rattle.disk_model.specs.Past.{began};
 ghost use Rattle.disk_model.specs.Shelf.{SameOthers};
-ghost use Rattle.disk_model.specs.Memory.{memory_past, memory_mark};
+ghost use Rattle.disk_model.specs.Memory.{memory_past, memory_mark, faults_of};
 
 use crate::disk::Disk;
-use crate::drawer::{Drawer, MemFile, find};
+use crate::drawer::{Drawer, MemFile, find, put_in};
 use crate::memory::MemDisk;
 use crate::shelf::{Shelf, ShelfFault};
 use delta_base::{Calls, Text};
 use std::alloc::Global;
-use std::mem;
 
 /// Files in memory.
 #[derive(Drop)]
@@ -41,25 +40,15 @@ fn empty_file(alloc: Global, dir: &Text, number: u32) -> Result<Box<MemFile>, Sh
     )?)
 }
 
-// Puts a file before the others.
-fn put_in(files: &mut Drawer, mut file: Box<MemFile>, bytes: Vec<u8>)
-    ensures front { file_in files.new file.value.dir file.value.number ≡ Some bytes.items }
-    ensures others { SameOthers (Some (file.value.dir, file.value.number)) (file_in files.old) (file_in files.new) }
-{
-    file.bytes = bytes;
-    file.behind = mem::replace(files, Drawer::Empty);
-    *files = Drawer::Holds(file);
-}
-
 impl MemShelf {
-    ghost use Rattle.disk_model.specs.MemoryShelf.{shelf_files};
+    ghost use Rattle.disk_model.specs.MemoryShelf.{shelf_files, shelf_failing, shelf_calls, shelf_faults};
 
     /// A shelf with no files. The calls of `disk` with the numbers in `failing`, from 0, fail.
     pub fn new(alloc: Global, failing: Calls) -> MemShelf
         ensures files { (dir : List ℕ) (number : ℕ) → shelf_files result dir number ≡ None }
-        ensures failing { result.failing ≡ failing }
-        ensures calls { result.calls ≡ 0 }
-        ensures faults { result.faults ≡ 0 }
+        ensures failing { shelf_failing result ≡ failing.items }
+        ensures calls { shelf_calls result ≡ 0 }
+        ensures faults { shelf_faults result ≡ 0 }
     {
         MemShelf {
             alloc,
@@ -104,7 +93,7 @@ fn bytes_of(alloc: Global, files: &Drawer, dir: &Text, number: u32) -> Result<Ve
 fn open(alloc: Global, files: &mut Drawer, dir: &Text, number: u32) -> Result<MemDisk, ShelfFault>
     ensures opened { IfOk result (λ disk. memory_past disk ≡ began (unwrap_or (file_in files.old dir.now number) [])) }
     ensures mark { IfOk result (λ disk. memory_mark disk ≡ Some (dir.now, number)) }
-    ensures fresh { IfOk result (λ disk. disk.faults ≡ 0) }
+    ensures fresh { IfOk result (λ disk. faults_of disk ≡ 0) }
     ensures made { OnOk result (file_in files.new dir.now number ≡ Some (unwrap_or (file_in files.old dir.now number) [])) }
     ensures refused { OnErr result (files.new ≡ files.old) }
     ensures others { SameOthers (Some (dir.now, number)) (file_in files.old) (file_in files.new) }
@@ -120,7 +109,7 @@ fn open(alloc: Global, files: &mut Drawer, dir: &Text, number: u32) -> Result<Me
 }
 
 impl Shelf for MemShelf {
-    ghost use Rattle.disk_model.specs.MemoryShelf.{shelf_files};
+    ghost use Rattle.disk_model.specs.MemoryShelf.{shelf_files, shelf_failing, shelf_calls, shelf_faults};
 
     type D = MemDisk;
 
@@ -128,7 +117,7 @@ impl Shelf for MemShelf {
 
     ghost files = { shelf_files };
 
-    ghost faults = { λ shelf. shelf.faults };
+    ghost faults = { shelf_faults };
 
     ghost disks_tell = { λ told. tt };
 
@@ -139,19 +128,24 @@ impl Shelf for MemShelf {
     fn disk(&mut self, dir: &Text, number: u32) -> Result<MemDisk, ShelfFault>
         ensures opened { IfOk result (λ disk. memory_past disk ≡ began (unwrap_or (shelf_files self.old dir.now number) [])) }
         ensures mark { IfOk result (λ disk. memory_mark disk ≡ Some (dir.now, number)) }
-        ensures fresh { IfOk result (λ disk. disk.faults ≡ 0) }
+        ensures fresh { IfOk result (λ disk. faults_of disk ≡ 0) }
         ensures made { OnOk result (shelf_files self.new dir.now number ≡ Some (unwrap_or (shelf_files self.old dir.now number) [])) }
         ensures refused { OnErr result (shelf_files self.new dir.now number ≡ shelf_files self.old dir.now number) }
         ensures others { SameOthers (Some (dir.now, number)) (shelf_files self.old) (shelf_files self.new) }
-        ensures never_falls { self.old.faults ≤ self.new.faults }
-        ensures cause { IsErrOf result ShelfFault.Failed → Rose self.old.faults self.new.faults }
-        ensures one { IsErrOf result ShelfFault.Failed → self.new.faults ≡ counted self.old.faults 1 }
-        ensures well { OnOk result (self.new.faults ≡ self.old.faults) }
-        ensures memory { IsErrOf result ShelfFault.OutOfMemory → self.new.faults ≡ self.old.faults }
+        ensures never_falls { shelf_faults self.old ≤ shelf_faults self.new }
+        ensures cause { IsErrOf result ShelfFault.Failed
+            → Rose (shelf_faults self.old) (shelf_faults self.new) }
+        ensures one { IsErrOf result ShelfFault.Failed
+            → shelf_faults self.new ≡ counted (shelf_faults self.old) 1 }
+        ensures well { OnOk result (shelf_faults self.new ≡ shelf_faults self.old) }
+        ensures memory { IsErrOf result ShelfFault.OutOfMemory
+            → shelf_faults self.new ≡ shelf_faults self.old }
 
         // Exactly a call that is to fail fails.
-        ensures fails { IsErrOf result ShelfFault.Failed ↔ Contains self.old.failing.items self.old.calls }
-        ensures counts { (self.new.calls ≡ counted self.old.calls 1) × (self.new.failing ≡ self.old.failing) }
+        ensures fails { IsErrOf result ShelfFault.Failed
+            ↔ Contains (shelf_failing self.old) (shelf_calls self.old) }
+        ensures counts { (shelf_calls self.new ≡ counted (shelf_calls self.old) 1)
+            × (shelf_failing self.new ≡ shelf_failing self.old) }
     {
         if self.is_failing_call() {
             self.faults = self.faults.saturating_add(1);

@@ -17,14 +17,16 @@ pub struct PlanDisk {
 }
 
 impl PlanDisk {
-    ghost use Rattle.disk_model.specs.Plan.{plan_past};
+    ghost use Rattle.disk_model.specs.Plan.{memory_of, plan_past, planned_failure, plan_faults, plan_short};
     ghost use Rattle.disk_model.specs.Memory.{IsUnused};
 
     /// A disk that has these bytes, all of them synced.
     pub fn new(alloc: Global, image: Bytes) -> Result<PlanDisk, OutOfMemory>
         ensures past { IfOk result (λ disk. plan_past disk ≡ began image) }
-        ensures plan { IfOk result (λ disk. (disk.next ≡ None) × (disk.short ≡ false) × (disk.faults ≡ 0)) }
-        ensures unused { IfOk result (λ disk. IsUnused [] None disk.disk) }
+        ensures plan { IfOk result (λ disk. planned_failure disk ≡ None) }
+        ensures memory { IfOk result (λ disk. plan_short disk ≡ false) }
+        ensures faults { IfOk result (λ disk. plan_faults disk ≡ 0) }
+        ensures unused { IfOk result (λ disk. IsUnused [] None (memory_of disk)) }
     {
         let disk = MemDisk::from_image(alloc, image, Listing::new(alloc))?;
         Ok(PlanDisk {
@@ -48,8 +50,8 @@ impl PlanDisk {
         ensures same { result ≡ answer }
         ensures ok { IsOk answer → self.new ≡ self.old }
         ensures err { IsErr answer → self.new ≡ record self.old { faults = self.new.faults; short = true } }
-        ensures cause { HasCause self.old.faults self.new.faults result }
-        ensures faults { CountsFault self.old.faults self.new.faults result }
+        ensures cause { HasCause (plan_faults self.old) (plan_faults self.new) result }
+        ensures faults { CountsFault (plan_faults self.old) (plan_faults self.new) result }
     {
         if answer.is_err() {
             self.faults = self.faults.saturating_add(1);
@@ -60,23 +62,24 @@ impl PlanDisk {
 }
 
 impl Disk for PlanDisk {
-    ghost use Rattle.disk_model.specs.Plan.{plan_past, plan_reads_left};
+    ghost use Rattle.disk_model.specs.Plan.{memory_of, plan_past, plan_reads_left, planned_failure, plan_faults, plan_short};
+    ghost use Rattle.disk_model.specs.Memory.{bytes_read};
 
     ghost tells = { Unit };
 
     ghost past = { plan_past };
 
-    ghost read_bytes = { λ disk. disk.disk.read };
+    ghost read_bytes = { λ disk. bytes_read (memory_of disk) };
 
-    ghost faults = { λ disk. disk.faults };
+    ghost faults = { plan_faults };
 
     ghost mark = { λ disk. None };
 
     ghost plans = { Unit };
 
-    ghost next_failure = { λ disk. disk.next };
+    ghost next_failure = { planned_failure };
 
-    ghost short = { λ disk. disk.short };
+    ghost short = { plan_short };
 
     ghost reads_may_be_left = { λ disk tells. plan_reads_left disk };
 

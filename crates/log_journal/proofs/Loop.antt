@@ -1,11 +1,14 @@
 -- Reading goes on from block to block.
-use Rattle.std.proofs.Common.{◌≡◌, ℕ, ◌+◌, ◌^◌, ◌<◌, ◌≤◌, List, [], ◌∷◌, ◌++◌, length, drop, refl, sym, ◌∙◌, ap, subst, arith, length-append}
+use Rattle.std.proofs.Common.{◌≡◌, inl, inr, Err, ℕ, ◌+◌, ◌^◌, ◌<◌, ◌≤◌, List, [], ◌∷◌, ◌++◌, length, drop, refl, sym, ◌∙◌, ap, subst, arith, length-append}
 use Rattle.log_journal.specs.File.{front, header, block, Holds, journal_length}
 use Rattle.std.specs.List.{flat_map}
+use Rattle.std.proofs.lemmas.List.{drop_all}
 use Rattle.std.specs.Prelude.{sum_by}
 use Rattle.std.proofs.lemmas.List.Sums.{sum_by-cons, sum_by-append}
 use Rattle.std.proofs.lemmas.List.Elements.{All-from_recursion}
-use Rattle.log_journal.specs.Reading.{IsRead}
+use Rattle.log_journal.specs.Reading.{IsRead, ReadsGate, ReadsPayload, ReadsPayloads}
+use Rattle.log_journal.specs.declared.fault.JournalFault.{JournalFault}
+use Rattle.log_journal.specs.declared.fault.JournalFault.TheVariants.{Failed, Damaged, WrongNumber, OverLimit, OutOfMemory}
 use Rattle.log_journal.proofs.Steps.{front-push, length-front-push, sized-push}
 
 pub none_read : (file : List ℕ) (number : ℕ) → file ≡ header number ++ drop 8 file → IsRead file number [] 8
@@ -48,3 +51,47 @@ length_more gate size old new payload so_far pushed sized =
 -- the gate of a file that holds payloads stands in it
 pub gate_within : (image : List ℕ) (number : ℕ) (payloads : List (List ℕ)) → Holds image number payloads → length (front number payloads) + 1 ≤ length image
 gate_within image number payloads holds = omega (arith, holds.has_gate)
+
+-- the file ends with its header
+pub gate_missing : (file : List ℕ) (number : ℕ) (fault : JournalFault) → IsRead file number [] 8 → ReadsGate file 8 (Err fault) → ReadsPayloads file number (Err fault)
+gate_missing file number (Damaged at) so_far none = inr (record {
+  payloads = [];
+  rest = [];
+  offset = 0;
+  parts = so_far.parts ∙ ap (λ (l : List ℕ). front number [] ++ l) (drop_all 8 file none.0);
+  sized = so_far.sized;
+  breaks = refl;
+  place = omega (arith, none.1, so_far.place);
+})
+gate_missing file number (WrongNumber found) so_far none = absurd none
+gate_missing file number (OverLimit length limit) so_far none = absurd none
+gate_missing file number Failed so_far none = tt
+gate_missing file number OutOfMemory so_far none = tt
+
+-- behind the payloads that were read the file breaks off, or ends behind one more
+pub payload_missing : (file : List ℕ) (number gate : ℕ) (payloads : List (List ℕ)) (fault : JournalFault) → IsRead file number payloads gate → ReadsPayload file gate (Err fault) → ReadsPayloads file number (Err fault)
+payload_missing file number gate payloads (Damaged at) so_far (inl broken) = inr (record {
+  payloads = payloads;
+  rest = drop gate file;
+  offset = broken.0;
+  parts = so_far.parts;
+  sized = so_far.sized;
+  breaks = broken.1;
+  place = omega (arith, broken.2, so_far.place);
+})
+payload_missing file number gate payloads (Damaged at) so_far (inr ends) =
+    let more = one_more file number gate payloads ends.0 so_far ends.1.sized ends.1.block_is in
+    let none : drop (gate + (5 + length ends.0)) file ≡ [] = ap (λ (k : ℕ). drop k file) (omega arith) ∙ ends.2 in
+    inr (record {
+      payloads = payloads ++ ends.0 ∷ [];
+      rest = [];
+      offset = 0;
+      parts = more.parts ∙ ap (λ (l : List ℕ). front number (payloads ++ ends.0 ∷ []) ++ l) none;
+      sized = more.sized;
+      breaks = refl;
+      place = omega (arith, ends.3, more.place);
+    })
+payload_missing file number gate payloads (WrongNumber found) so_far fails = absurd fails
+payload_missing file number gate payloads (OverLimit length limit) so_far fails = absurd fails
+payload_missing file number gate payloads Failed so_far fails = tt
+payload_missing file number gate payloads OutOfMemory so_far fails = tt

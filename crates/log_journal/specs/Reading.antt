@@ -1,5 +1,5 @@
 -- What reading a journal's file finds.
-use Rattle.std.specs.Prelude.{◌≡◌, ◌≢◌, ◌⊎◌, ℕ, ◌+◌, ◌^◌, ◌<◌, ◌≤◌, Bool, IsTrue, Option, Some, None, Result, Ok, Err, List, ◌∷◌, ◌++◌, [], length, drop, Vec}
+use Rattle.std.specs.Prelude.{◌≡◌, ◌≢◌, ◌⊎◌, ℕ, ◌+◌, ◌^◌, ◌<◌, ◌≤◌, Bool, IsTrue, Result, Ok, Err, List, ◌∷◌, ◌++◌, [], length, drop, Vec}
 use Rattle.std.specs.declared.alloc.Global.{Global}
 use Rattle.delta_base.specs.Listed.{Listed}
 use Rattle.delta_base.specs.Outside.{Rose}
@@ -16,18 +16,40 @@ ReadsHeader file number (Err (OverLimit length limit)) = ⊥
 ReadsHeader file number (Err Failed) = Unit {0}
 ReadsHeader file number (Err OutOfMemory) = Unit {0}
 
--- at a gate's place stands a payload, or a shut gate, or the file breaks off
-abbrev pub ReadsBlock : List ℕ → ℕ → Result (Option (Vec ℕ Global)) JournalFault → Type 0
-ReadsBlock file at (Ok None) = (gate : ℕ) × (gate ≢ 1) × (drop at file ≡ gate ∷ drop (at + 1) file)
-ReadsBlock file at (Ok (Some payload)) = (length payload.items < 2 ^ 32) × (drop at file ≡ block payload.items ++ drop (at + 5 + length payload.items) file)
-ReadsBlock file at (Err (Damaged place)) = (offset : ℕ) × BreaksOff (drop at file) offset × (place ≡ at + offset)
-ReadsBlock file at (Err (WrongNumber found)) = ⊥
-ReadsBlock file at (Err (OverLimit length limit)) = ⊥
-ReadsBlock file at (Err Failed) = Unit {0}
-ReadsBlock file at (Err OutOfMemory) = Unit {0}
+-- this byte stands at a place
+abbrev pub HasByte : List ℕ → ℕ → ℕ → Type 0
+HasByte file at byte = drop at file ≡ byte ∷ drop (at + 1) file
 
-abbrev pub IsWantOrFailed : JournalFault → Type 0
-IsWantOrFailed fault = (fault ≡ Failed) ⊎ (fault ≡ OutOfMemory)
+-- the byte of a gate, or the file ends before it
+abbrev pub ReadsGate : List ℕ → ℕ → Result ℕ JournalFault → Type 0
+ReadsGate file at (Ok gate) = HasByte file at gate
+ReadsGate file at (Err (Damaged place)) = (length file ≤ at) × (place ≡ at)
+ReadsGate file at (Err (WrongNumber found)) = ⊥
+ReadsGate file at (Err (OverLimit length limit)) = ⊥
+ReadsGate file at (Err Failed) = Unit {0}
+ReadsGate file at (Err OutOfMemory) = Unit {0}
+
+-- a payload stands behind an open gate
+pub record HasPayload (file : List ℕ) (at : ℕ) (payload : List ℕ) : Type 0 where
+  pub sized : length payload < 2 ^ 32
+  pub block_is : drop at file ≡ block payload ++ drop (at + 5 + length payload) file
+
+-- what stands at a gate's place breaks off in the field that begins here, or the file ends behind the payload
+abbrev pub EndsAt : List ℕ → ℕ → ℕ → Type 0
+EndsAt file at place =
+    ((offset : ℕ) × BreaksOff (drop at file) offset × (place ≡ at + offset))
+    ⊎ ((payload : List ℕ) × HasPayload file at payload
+    × (drop (at + 5 + length payload) file ≡ []) × (place ≡ at + 5 + length payload))
+
+-- the payload behind an open gate and the byte of the next gate, or the file ends before that
+abbrev pub ReadsPayload : List ℕ → ℕ → Result (Vec ℕ Global × ℕ) JournalFault → Type 0
+ReadsPayload file at (Ok found) =
+    HasPayload file at found.0.items × HasByte file (at + 5 + length found.0.items) found.1
+ReadsPayload file at (Err (Damaged place)) = EndsAt file at place
+ReadsPayload file at (Err (WrongNumber found)) = ⊥
+ReadsPayload file at (Err (OverLimit length limit)) = ⊥
+ReadsPayload file at (Err Failed) = Unit {0}
+ReadsPayload file at (Err OutOfMemory) = Unit {0}
 
 -- the file holds these payloads, and their journal has this length; or which fault comes first
 abbrev pub ReadsPayloads : List ℕ → ℕ → Result (ℕ × Listed (List ℕ)) JournalFault → Type 0
@@ -56,10 +78,6 @@ pub record IsRead (file : List ℕ) (number : ℕ) (payloads : List (List ℕ)) 
 abbrev pub Reads : List ℕ → ℕ → ℕ → Result (ℕ × Listed (List ℕ)) JournalFault → Type 0
 Reads file number limit (Ok found) = Holds file number found.1.items × (found.0 ≡ length (front number found.1.items) + 1) × (found.0 ≤ limit)
 Reads file number limit (Err fault) = HasFault file number limit fault
-
-abbrev pub payload_found : Option (Vec ℕ Global) → List ℕ
-payload_found None = []
-payload_found (Some payload) = payload.items
 
 -- the disk's count of faults rose where this is a fault of the disk, and else is as it was
 abbrev pub CountsFor : JournalFault → ℕ → ℕ → Type 0

@@ -41,8 +41,9 @@ abbrev pub longer_by : {T : Type 0} → Result T Phase → ℕ → ℕ
 longer_by (Ok done) size = 5 + size
 longer_by (Err phase) size = 0
 
--- what was synced is without the payload in doubt, and with 1 for each byte that wasn't synced the file has it
+-- a payload in doubt is in the file with 1 for each byte that isn't synced, and not in what was synced
 abbrev pub LeavesEither : Past → ℕ → List (List ℕ) → Option (List ℕ) → Type 0
 LeavesEither past number payloads None = Unit {0}
 LeavesEither past number payloads (Some doubt) =
-    Holds (synced_bytes past) number payloads × Holds (filled 1 past) number (payloads ++ doubt ∷ [])
+    Holds (synced_bytes past) number payloads
+    × Holds (filled 1 past) number (payloads ++ doubt ∷ [])

@@ -20,7 +20,8 @@ pub fn write_synced<D: Disk>(disk: &mut D, at: u64, bytes: &[u8]) -> Result<(), 
     ensures stays_short { D.plans → IsTrue (D.short disk.old) → IsTrue (D.short disk.new) }
     ensures planned { D.plans → IsTrue (not (D.short disk.new))
         → SyncsByPlan (D.next_failure disk.old) (D.next_failure disk.new) result }
-    ensures unplanned { D.plans → D.next_failure disk.old ≡ None → OnErr result (IsTrue (D.short disk.new)) }
+    ensures unplanned { D.plans → D.next_failure disk.old ≡ None
+        → OnErr result (IsTrue (D.short disk.new)) }
     ensures read_bytes { D.read_bytes disk.new ≡ D.read_bytes disk.old }
     ensures mark { D.mark disk.new ≡ D.mark disk.old }
 {

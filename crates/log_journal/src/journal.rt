@@ -326,7 +326,8 @@ impl<D: Planned> Journal<D> {
     /// Plans which sync of its disk fails, and changes nothing else.
     pub fn plan(&mut self, next: Option<u64>)
         ensures stands { (number : ℕ) (payloads : List (List ℕ)) (doubt : Option (List ℕ))
-            → StandsWith self.old number payloads doubt → StandsWith self.new number payloads doubt }
+            → StandsWith self.old number payloads doubt
+            → StandsWith self.new number payloads doubt }
         ensures length { (length_of self.new) ≡ (length_of self.old) }
         ensures limit { (limit_of self.new) ≡ (limit_of self.old) }
         ensures next { D.next_failure (disk_of self.new) ≡ next }

@@ -8,7 +8,7 @@ ghost use Rattle.log_journal.specs.Reading.{ReadsPayloads, CountsReading, ShortR
 
 use crate::fault::{FormatFault, JournalFault};
 use crate::halves::write_synced;
-use crate::reading::{read_block, read_header};
+use crate::reading::{read_gate, read_header, read_payload};
 use delta_base::{Bytes, Listing};
 use disk_model::Disk;
 use std::alloc::Global;
@@ -68,11 +68,14 @@ pub fn read_payloads<D: Disk>(
 {
     let file_length = disk.len()?;
     read_header(disk, file_length, number)?;
+    let mut place = 8;
+    let mut gate = read_gate(disk, file_length, place)?;
     let mut payloads = Listing::new(alloc);
-    let mut gate = 8;
-    while let Some(payload) = read_block(alloc, disk, file_length, gate)? {
-        gate += 5 + payload.len() as u64;
+    while gate == 1 {
+        let (payload, next) = read_payload(alloc, disk, file_length, place)?;
+        place += 5 + payload.len() as u64;
+        gate = next;
         payloads.push(Bytes::from_vec(payload))?;
     }
-    Ok((gate + 1, payloads))
+    Ok((place + 1, payloads))
 }

@@ -1,10 +1,10 @@
-//! Reads a journal's file: the header, and then block by block up to a gate that is shut.
+//! Reads a journal's file: the header, and then payload by payload up to a gate that is shut.
 ghost use Rattle.std.specs.Prelude.{◌≡◌, ◌+◌, ◌^◌, ◌<◌, ◌≤◌, ◌↔◌, length, take, drop, IsTrue, not, IfOk, IfErr, IfSome, IfNone, OnOk, IsErrOf, is_some, if◌then◌else◌};
 ghost use Rattle.delta_base.specs.Outside.{CountsFault, HasCause, Rose};
 ghost use Rattle.disk_model.specs.Past.{reads};
 ghost use Rattle.disk_model.specs.Calls.{KeepsPlan};
 ghost use Rattle.std.specs.Int.{w32, to_be_bytes};
-ghost use Rattle.log_journal.specs.Reading.{ReadsHeader, ReadsBlock, IsWantOrFailed, CountsReading, ShortReading, payload_found};
+ghost use Rattle.log_journal.specs.Reading.{ReadsHeader, ReadsGate, ReadsPayload, HasByte, CountsReading, ShortReading};
 
 use crate::fault::JournalFault;
 use delta_base::Failed;
@@ -54,38 +54,6 @@ fn fetch_size<D: Disk>(disk: &mut D, file_length: u64, at: u64) -> Result<Option
     Ok(Some(u32::from_be_bytes([high, middle, low, lowest])))
 }
 
-// A buffer of so many bytes of the file. `None` where the file ends before.
-fn fetch_payload<D: Disk>(
-    alloc: Global,
-    disk: &mut D,
-    file_length: u64,
-    at: u64,
-    size: u32,
-) -> Result<Option<Vec<u8>>, JournalFault>
-    requires { D.tells → file_length ≡ length (reads (D.past disk.old)) }
-    ensures size { IfOk result (λ found. IfSome found (λ payload. (length payload.items ≡ size) × (at + size ≤ file_length))) }
-    ensures bytes { D.tells → IfOk result (λ found. IfSome found (λ payload. payload.items ≡ take size (drop at (reads (D.past disk.old))))) }
-    ensures short { D.tells → IfOk result (λ found. IfNone found (length (reads (D.past disk.old)) < at + size)) }
-    ensures not_other { IfErr result IsWantOrFailed }
-    ensures past { D.past disk.new ≡ D.past disk.old }
-    ensures cause { IsErrOf result JournalFault.Failed → Rose (D.faults disk.old) (D.faults disk.new) }
-    ensures faults { D.faults disk.old ≤ D.faults disk.new }
-    ensures counts { CountsReading result (D.faults disk.old) (D.faults disk.new) }
-    ensures planned { D.plans → ShortReading result (D.short disk.old) (D.short disk.new) }
-    ensures few { D.tells → D.read_bytes disk.new ≤ D.read_bytes disk.old + size }
-    ensures mark { D.mark disk.new ≡ D.mark disk.old }
-{
-    if file_length < at || file_length - at < u64::from(size) {
-        return Ok(None);
-    }
-    let mut payload = Vec::from_elem(alloc, 0, size as usize)?;
-    if fetch(disk, file_length, at, &mut payload)? {
-        Ok(Some(payload))
-    } else {
-        Ok(None)
-    }
-}
-
 /// The file's header has this number.
 pub fn read_header<D: Disk>(disk: &mut D, file_length: u64, number: u32) -> Result<(), JournalFault>
     requires { D.tells → file_length ≡ length (reads (D.past disk.old)) }
@@ -114,37 +82,63 @@ pub fn read_header<D: Disk>(disk: &mut D, file_length: u64, number: u32) -> Resu
     Ok(())
 }
 
-/// What stands at a gate's place: a payload, or nothing more.
-pub fn read_block<D: Disk>(
-    alloc: Global,
-    disk: &mut D,
-    file_length: u64,
-    at: u64,
-) -> Result<Option<Vec<u8>>, JournalFault>
+/// The byte of the gate at a place.
+pub fn read_gate<D: Disk>(disk: &mut D, file_length: u64, at: u64) -> Result<u8, JournalFault>
     requires { D.tells → file_length ≡ length (reads (D.past disk.old)) }
-    ensures found { D.tells → ReadsBlock (reads (D.past disk.old)) at result }
-    ensures within { IfOk result (λ found. IfSome found (λ payload. at + 5 + length payload.items ≤ file_length)) }
-    ensures gate_within { IfOk result (λ found. at < file_length) }
+    ensures found { D.tells → ReadsGate (reads (D.past disk.old)) at result }
+    ensures within { OnOk result (at < file_length) }
     ensures past { D.past disk.new ≡ D.past disk.old }
     ensures cause { IsErrOf result JournalFault.Failed → Rose (D.faults disk.old) (D.faults disk.new) }
     ensures faults { D.faults disk.old ≤ D.faults disk.new }
     ensures counts { CountsReading result (D.faults disk.old) (D.faults disk.new) }
     ensures planned { D.plans → ShortReading result (D.short disk.old) (D.short disk.new) }
-    ensures few { D.tells → IfOk result (λ found. D.read_bytes disk.new ≤ D.read_bytes disk.old + (if is_some found then 5 + length (payload_found found) else 1)) }
+    ensures few { D.tells → D.read_bytes disk.new ≤ D.read_bytes disk.old + 1 }
     ensures mark { D.mark disk.new ≡ D.mark disk.old }
 {
     let mut gate = [0u8; 1];
     if !fetch(disk, file_length, at, &mut gate)? {
         return Err(JournalFault::Damaged { at });
     }
-    if gate[0] != 1 {
-        return Ok(None);
-    }
+    Ok(gate[0])
+}
+
+/// The payload behind the open gate at a place, and the byte of the gate behind it. The two are read at once, since the
+/// gate behind a payload always belongs to the journal.
+pub fn read_payload<D: Disk>(
+    alloc: Global,
+    disk: &mut D,
+    file_length: u64,
+    at: u64,
+) -> Result<(Vec<u8>, u8), JournalFault>
+    requires length { D.tells → file_length ≡ length (reads (D.past disk.old)) }
+    requires open { D.tells → HasByte (reads (D.past disk.old)) at 1 }
+    requires gate_within { at < file_length }
+    ensures found { D.tells → ReadsPayload (reads (D.past disk.old)) at result }
+    ensures within { IfOk result (λ found. at + 5 + length found.0.items < file_length) }
+    ensures past { D.past disk.new ≡ D.past disk.old }
+    ensures cause { IsErrOf result JournalFault.Failed → Rose (D.faults disk.old) (D.faults disk.new) }
+    ensures faults { D.faults disk.old ≤ D.faults disk.new }
+    ensures counts { CountsReading result (D.faults disk.old) (D.faults disk.new) }
+    ensures planned { D.plans → ShortReading result (D.short disk.old) (D.short disk.new) }
+    ensures few { D.tells → IfOk result (λ found. D.read_bytes disk.new ≤ D.read_bytes disk.old + 5 + length found.0.items) }
+    ensures mark { D.mark disk.new ≡ D.mark disk.old }
+{
     let Some(size) = fetch_size(disk, file_length, at + 1)? else {
         return Err(JournalFault::Damaged { at: at + 1 });
     };
-    match fetch_payload(alloc, disk, file_length, at + 5, size)? {
-        Some(payload) => Ok(Some(payload)),
-        None => Err(JournalFault::Damaged { at: at + 5 }),
+    let left = file_length - (at + 5);
+    if left < u64::from(size) {
+        return Err(JournalFault::Damaged { at: at + 5 });
     }
+    if left == u64::from(size) {
+        return Err(JournalFault::Damaged { at: file_length });
+    }
+    let mut bytes = Vec::from_elem(alloc, 0, size as usize + 1)?;
+    if !fetch(disk, file_length, at + 5, &mut bytes)? {
+        return Err(JournalFault::Damaged { at: at + 5 });
+    }
+    let Some(gate) = bytes.pop() else {
+        unreachable!()
+    };
+    Ok((bytes, gate))
 }

@@ -42,7 +42,8 @@ pub fn write<D: Disk>(journal: &mut Journal<D>, block: &Block) -> Result<(), Pha
     ensures stays_short { D.plans → IsTrue (D.short (disk_of journal.old))
         → IsTrue (D.short (disk_of journal.new)) }
     ensures well { OnOk result (D.faults (disk_of journal.new) ≡ D.faults (disk_of journal.old)) }
-    ensures long { D.plans → OnOk result (D.short (disk_of journal.new) ≡ D.short (disk_of journal.old)) }
+    ensures long { D.plans → OnOk result
+        (D.short (disk_of journal.new) ≡ D.short (disk_of journal.old)) }
     ensures settling { result ≡ Err Phase.Settling → (is_settled journal.old) ≡ false }
     ensures length { (length_of journal.new) ≡ (length_of journal.old) + longer_by result (length (payload_of block.now)) }
     ensures cause { HasCause (D.faults (disk_of journal.old)) (D.faults (disk_of journal.new)) result }

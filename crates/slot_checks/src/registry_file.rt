@@ -20,7 +20,7 @@ fn slots_in(payload: &[u8]) -> Option<u8>
     ensures { MatchOption result ((slots : ℕ) → TellsSlots payload.now slots → ⊥) (λ slots. TellsSlots payload.now slots) }
 {
     for slots in 1..17u8 {
-        if payload == first_payload(slots) {
+        if payload == first_payload(slots, &mut [0; 4]) {
             return Some(slots);
         }
     }

@@ -1,6 +1,7 @@
 //! All files of a registry with its logs.
 ghost use Rattle.std.specs.Prelude.{◌≡◌, ℕ, ◌+◌, ◌<◌, ◌≤◌, length, OnOk, IsErrOf};
 ghost use Rattle.delta_base.specs.Outside.{Rose};
+ghost use Rattle.delta_base.specs.declared.limits.TheConstants.{MOST_SLOTS};
 ghost use Rattle.slot_files.specs.Files.{IsInitial, StopsAt, SameBut, KeepsFull};
 
 use crate::fault::InitFault;
@@ -20,7 +21,7 @@ pub fn init_slots<H: Shelf>(
     slots: u8,
 ) -> Result<(), InitFault>
     requires some { 1 ≤ slots }
-    requires few { slots ≤ 16 }
+    requires few { slots ≤ MOST_SLOTS }
     ensures ok { H.tells → OnOk result (IsInitial dir.now slots (H.files shelf.old) (H.files shelf.new)) }
 
     // It stops at the first file that has bytes, with the files before it made.
@@ -32,7 +33,8 @@ pub fn init_slots<H: Shelf>(
     ensures cause { IsErrOf result InitFault.Failed → Rose (H.faults shelf.old) (H.faults shelf.new) }
     ensures faults { H.faults shelf.old ≤ H.faults shelf.new }
 {
-    let block = make_block(alloc, first_payload(slots))?;
+    let mut room = [0; 4];
+    let block = make_block(alloc, first_payload(slots, &mut room))?;
     format_logs(shelf, dir, slots)?;
     write_registry(shelf, dir, &block)
 }

@@ -1,6 +1,7 @@
 //! The file of the registry: a journal whose first payload tells the number of slots.
 ghost use Rattle.std.specs.Prelude.{◌≡◌, ℕ, ◌+◌, ◌<◌, ◌≤◌, [], ◌∷◌, Some, length, OnOk, IsErrOf};
 ghost use Rattle.delta_base.specs.Outside.{Rose};
+ghost use Rattle.delta_base.specs.declared.limits.TheConstants.{MOST_SLOTS};
 ghost use Rattle.disk_model.specs.Past.{reads};
 ghost use Rattle.disk_model.specs.Shelf.{SameOthers};
 ghost use Rattle.log_journal.specs.File.{file_of};
@@ -9,39 +10,23 @@ ghost use Rattle.slot_files.specs.Files.{bytes_at, slots_payload};
 
 use crate::fault::InitFault;
 use crate::opening::opened;
-use delta_base::Text;
+use delta_base::{REGISTRY_LIMIT, Text};
 use disk_model::{Disk, Shelf};
 use log_journal::{AppendFault, Block, FormatFault, Journal};
 
-// How long the registry's journal may get.
-const LIMIT: u64 = 1_048_576;
-
-/// The registry's first payload: `S`, a space and the number of slots.
-pub fn first_payload(slots: u8) -> &'static [u8]
-    requires some { 1 ≤ slots }
-    requires few { slots ≤ 16 }
+/// The registry's first payload: `S`, a space and the number of slots in decimal. It is written into the buffer.
+pub fn first_payload<'a>(slots: u8, room: &'a mut [u8; 4]) -> &'a [u8]
+    requires { slots ≤ MOST_SLOTS }
     ensures payload { result.now ≡ slots_payload slots }
     ensures short { length result.now ≤ 4 }
 {
-    match slots {
-        1 => b"S 1",
-        2 => b"S 2",
-        3 => b"S 3",
-        4 => b"S 4",
-        5 => b"S 5",
-        6 => b"S 6",
-        7 => b"S 7",
-        8 => b"S 8",
-        9 => b"S 9",
-        10 => b"S 10",
-        11 => b"S 11",
-        12 => b"S 12",
-        13 => b"S 13",
-        14 => b"S 14",
-        15 => b"S 15",
-        16 => b"S 16",
-        _ => unreachable!(),
+    let last = b'0' + slots % 10;
+    if slots < 10 {
+        *room = [b'S', b' ', last, 0];
+        return &room[..3];
     }
+    *room = [b'S', b' ', b'0' + slots / 10, last];
+    &room[..]
 }
 
 // Makes an empty file the registry's, and gives its disk back.
@@ -53,7 +38,7 @@ fn written<D: Disk>(disk: D, block: &Block) -> (D, Result<(), InitFault>)
     ensures cause { IsErrOf result.1 InitFault.Failed → Rose (D.faults disk) (D.faults result.0) }
     ensures mark { D.mark result.0 ≡ D.mark disk }
 {
-    match Journal::start_on(disk, 0, LIMIT) {
+    match Journal::start_on(disk, 0, REGISTRY_LIMIT) {
         Ok(mut journal) => {
             let answer = match journal.append(block) {
                 Ok(()) => Ok(()),

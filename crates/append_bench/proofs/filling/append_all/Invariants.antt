@@ -1,4 +1,4 @@
-use Rattle.std.proofs.Common.{◌≡◌, ◌+◌, ◌*◌, ◌++◌, ◌≤◌, List, ℕ}
+use Rattle.std.proofs.Common.{◌≡◌, ◌+◌, ◌*◌, ◌++◌, ◌≤◌, List, ℕ, length}
 use Rattle.std.specs.Prelude.{replicate, IsTrue}
 use Rattle.disk_model.specs.Past.{reads}
 use Rattle.log_journal.specs.File.{file_of}
@@ -12,7 +12,7 @@ invariant-loop g l = record {
   stands : (number : ℕ) (payloads : List (List ℕ)) → StandsFor l.fn.journal number payloads → StandsFor l.journal number (payloads ++ replicate l.counter (payload_of l.block));
   ends : g.D.Disk.tells → (number : ℕ) (payloads : List (List ℕ)) → StandsFor l.fn.journal number payloads → reads (g.D.Disk.past (disk_of l.fn.journal)) ≡ file_of number payloads
       → reads (g.D.Disk.past (disk_of l.journal)) ≡ file_of number (payloads ++ replicate l.counter (payload_of l.block));
-  length : length_of l.journal ≡ length_of l.fn.journal + 205 * l.counter;
+  length : length_of l.journal ≡ length_of l.fn.journal + l.counter * (5 + length (payload_of l.block));
   limit : limit_of l.journal ≡ limit_of l.fn.journal;
   faults : g.D.Disk.faults (disk_of l.fn.journal) ≤ g.D.Disk.faults (disk_of l.journal);
   mark : g.D.Disk.mark (disk_of l.journal) ≡ g.D.Disk.mark (disk_of l.fn.journal);

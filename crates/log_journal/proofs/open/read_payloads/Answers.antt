@@ -1,42 +1,70 @@
-use Rattle.std.proofs.Common.{◌≡◌, ◌+◌, ◌++◌, [], ◌∷◌, List, ℕ, length, drop, refl, sym, ◌∙◌, ap, subst, arith}
+use Rattle.std.proofs.Common.{◌≡◌, ◌+◌, ◌++◌, [], ◌∷◌, Err, List, ℕ, length, drop, refl, sym, ◌∙◌, ap, subst, arith}
+use Rattle.std.proofs.lemmas.Result.{err_from_is_err_and}
 use Rattle.disk_model.specs.Past.{reads}
-use Rattle.log_journal.specs.File.{header, block}
-use Rattle.log_journal.specs.Reading.{IsRead}
-use Rattle.log_journal.proofs.Loop.{none_read, one_more_of, length_more}
+use Rattle.log_journal.specs.File.{header}
+use Rattle.log_journal.specs.Reading.{IsRead, HasByte, HasPayload, ReadsGate, ReadsPayload, ReadsPayloads}
+use Rattle.log_journal.specs.declared.fault.JournalFault.{JournalFault}
+use Rattle.log_journal.proofs.Loop.{none_read, one_more_of, length_more, gate_missing, payload_missing}
 use Rattle.log_journal.proofs.open.read_payloads.Goals as goal
 
-pub loop-payloads-init : goal.loop-payloads-init
-loop-payloads-init g c =
-    record {
-      past = c.read_header.ensures.past ∙ c.len.ensures.past;
-      read = λ told. subst (λ vs. IsRead (reads (g.D.Disk.past c.args.disk.now)) c.args.number vs 8) (sym c.new-payloads.ensures)
-          (none_read (reads (g.D.Disk.past c.args.disk.now)) c.args.number (subst (λ p. reads p ≡ header c.args.number ++ drop 8 (reads p)) c.len.ensures.past (c.in_ok-read_header.ensures.found told).1));
-      file_length = c.in_ok-file_length.ensures.length;
-      faults = omega (arith, c.len.ensures.cause.never_falls, c.read_header.ensures.faults);
-      counts = c.in_ok-read_header.ensures.counts ∙ c.in_ok-file_length.ensures.faults.well refl;
-      planned = λ plans. c.in_ok-read_header.ensures.planned plans ∙ ((c.in_ok-file_length.ensures.planned plans).well refl).0;
-      behind = omega arith;
-      place = rw c.new-payloads.ensures refl;
-      few = λ told. omega (arith, c.len.ensures.read_bytes, c.read_header.ensures.few told);
-      mark = c.read_header.ensures.mark ∙ c.len.ensures.mark;
-    }
+pub returns-in_err-gate-clause-found : goal.returns-in_err-gate-clause-found
+returns-in_err-gate-clause-found g c told =
+    let file = reads (g.D.Disk.past c.args.disk.now) in
+    let fault = c.in_err-gate.field-0.0 in
+    let start = none_read file c.args.number (subst (λ p. reads p ≡ header c.args.number ++ drop 8 (reads p)) c.len.ensures.past (c.in_ok-read_header.ensures.found told).1) in
+    let found : ReadsGate file 8 (Err fault) = subst (λ p. ReadsGate (reads p) 8 (Err fault)) (c.read_header.ensures.past ∙ c.len.ensures.past) (c.in_err-gate.ensures.found told) in
+    let p = err_from_is_err_and c.from_residual-in_err-gate.result c.from_residual-in_err-gate.ensures.1 in
+    rw (p.1 ∙ ap (λ (e : JournalFault). Err e) p.2) (gate_missing file c.args.number fault start found)
 
-pub loop-payloads-preserved : goal.loop-payloads-preserved
-loop-payloads-preserved g c =
+pub returns-in_err-payload-clause-found : goal.returns-in_err-payload-clause-found
+returns-in_err-payload-clause-found g c told =
+    let file = reads (g.D.Disk.past c.args.disk.now) in
+    let fault = c.in_err-payload.field-0.0 in
+    let found : ReadsPayload file c.loop-gate.place (Err fault) = subst (λ p. ReadsPayload (reads p) c.loop-gate.place (Err fault)) c.loop-gate.invariant.past (c.in_err-payload.ensures.found told) in
+    let p = err_from_is_err_and c.from_residual-in_err-payload.result c.from_residual-in_err-payload.ensures.1 in
+    rw (p.1 ∙ ap (λ (e : JournalFault). Err e) p.2) (payload_missing file c.args.number c.loop-gate.place c.loop-gate.payloads.items fault (c.loop-gate.invariant.read told) found)
+
+pub loop-gate-init : goal.loop-gate-init
+loop-gate-init g c =
     let file = reads (g.D.Disk.past c.args.disk.now) in
     record {
-      past = c.read_block.ensures.past ∙ c.loop-payloads.invariant.past;
+      past = c.read_gate.ensures.past ∙ c.read_header.ensures.past ∙ c.len.ensures.past;
+      read = λ told. subst (λ vs. IsRead file c.args.number vs 8) (sym c.new-payloads.ensures)
+          (none_read file c.args.number (subst (λ p. reads p ≡ header c.args.number ++ drop 8 (reads p)) c.len.ensures.past (c.in_ok-read_header.ensures.found told).1));
+      stands = λ told. subst (λ p. HasByte (reads p) 8 c.in_ok-gate.gate) (c.read_header.ensures.past ∙ c.len.ensures.past) (c.in_ok-gate.ensures.found told);
+      file_length = c.in_ok-file_length.ensures.length;
+      faults = omega (arith, c.len.ensures.cause.never_falls, c.read_header.ensures.faults, c.read_gate.ensures.faults);
+      counts = c.in_ok-gate.ensures.counts ∙ c.in_ok-read_header.ensures.counts ∙ c.in_ok-file_length.ensures.faults.well refl;
+      planned = λ plans. c.in_ok-gate.ensures.planned plans ∙ c.in_ok-read_header.ensures.planned plans ∙ ((c.in_ok-file_length.ensures.planned plans).well refl).0;
+      behind = omega arith;
+      within = c.in_ok-gate.ensures.within;
+      length_is = rw c.new-payloads.ensures refl;
+      few = λ told. omega (arith, c.len.ensures.read_bytes, c.read_header.ensures.few told, c.read_gate.ensures.few told);
+      mark = c.read_gate.ensures.mark ∙ c.read_header.ensures.mark ∙ c.len.ensures.mark;
+    }
+
+pub loop-gate-preserved : goal.loop-gate-preserved
+loop-gate-preserved g c =
+    let file = reads (g.D.Disk.past c.args.disk.now) in
+    let payload = c.in_ok-payload.payload.items in
+    let place = c.loop-gate.place in
+    let size : c.len-in-loop-gate.result ≡ length payload = c.len-in-loop-gate.ensures ∙ c.in_ok-payload.payload.ok.0 in
+    let pushed : c.push.new.self.items ≡ c.loop-gate.payloads.items ++ payload ∷ [] = c.in_ok-push.ensures.ok ∙ ap (λ (p : List ℕ). c.loop-gate.payloads.items ++ p ∷ []) c.from_vec.ensures in
+    record {
+      past = c.read_payload.ensures.past ∙ c.loop-gate.invariant.past;
       read = λ told.
-          let found = rw c.in-Some.is at (c.in_ok-payload.ensures.found told) in
-          let same : drop c.loop-payloads.gate file ≡ block c.in-Some.payload.items ++ drop (c.loop-payloads.gate + 5 + length c.in-Some.payload.items) file =
-          subst (λ p. drop c.loop-payloads.gate (reads p) ≡ block c.in-Some.payload.items ++ drop (c.loop-payloads.gate + 5 + length c.in-Some.payload.items) (reads p)) c.loop-payloads.invariant.past found.1 in
-          one_more_of file c.args.number c.loop-payloads.gate c.len-in-Some.result c.loop-payloads.payloads.items c.push.new.self.items c.in-Some.payload.items (c.loop-payloads.invariant.read told) found.0 same (c.in_ok-push.ensures.ok ∙ ap (λ (p : List ℕ). c.loop-payloads.payloads.items ++ p ∷ []) c.from_vec.ensures) (c.len-in-Some.ensures ∙ c.in-Some.payload.ok.0);
-      file_length = c.loop-payloads.invariant.file_length;
-      faults = omega (arith, c.read_block.ensures.faults, c.loop-payloads.invariant.faults);
-      counts = c.in_ok-payload.ensures.counts ∙ c.loop-payloads.invariant.counts;
-      planned = λ plans. c.in_ok-payload.ensures.planned plans ∙ c.loop-payloads.invariant.planned plans;
-      behind = omega (arith, c.loop-payloads.invariant.behind);
-      place = length_more c.loop-payloads.gate c.len-in-Some.result c.loop-payloads.payloads.items c.push.new.self.items c.in-Some.payload.items c.loop-payloads.invariant.place (c.in_ok-push.ensures.ok ∙ ap (λ (p : List ℕ). c.loop-payloads.payloads.items ++ p ∷ []) c.from_vec.ensures) (c.len-in-Some.ensures ∙ c.in-Some.payload.ok.0);
-      few = λ told. let more = rw c.in-Some.is at (c.in_ok-payload.ensures.few told) in omega (arith, more, c.loop-payloads.invariant.few told, c.len-in-Some.ensures, c.in-Some.payload.ok.0);
-      mark = c.read_block.ensures.mark ∙ c.loop-payloads.invariant.mark;
+          let found = subst (λ p. HasPayload (reads p) place payload) c.loop-gate.invariant.past (c.in_ok-payload.ensures.found told).0 in
+          one_more_of file c.args.number place c.len-in-loop-gate.result c.loop-gate.payloads.items c.push.new.self.items payload (c.loop-gate.invariant.read told) found.sized found.block_is pushed size;
+      stands = λ told.
+          let found : HasByte file (place + 5 + length payload) c.in_ok-payload.next = subst (λ p. HasByte (reads p) (place + 5 + length payload) c.in_ok-payload.next) c.loop-gate.invariant.past (c.in_ok-payload.ensures.found told).1 in
+          subst (λ (n : ℕ). HasByte file n c.in_ok-payload.next) (omega (arith, size)) found;
+      file_length = c.loop-gate.invariant.file_length;
+      faults = omega (arith, c.read_payload.ensures.faults, c.loop-gate.invariant.faults);
+      counts = c.in_ok-payload.ensures.counts ∙ c.loop-gate.invariant.counts;
+      planned = λ plans. c.in_ok-payload.ensures.planned plans ∙ c.loop-gate.invariant.planned plans;
+      behind = omega (arith, c.loop-gate.invariant.behind);
+      within = omega (arith, c.in_ok-payload.ensures.within, size);
+      length_is = length_more place c.len-in-loop-gate.result c.loop-gate.payloads.items c.push.new.self.items payload c.loop-gate.invariant.length_is pushed size;
+      few = λ told. omega (arith, c.in_ok-payload.ensures.few told, c.loop-gate.invariant.few told, size);
+      mark = c.read_payload.ensures.mark ∙ c.loop-gate.invariant.mark;
     }

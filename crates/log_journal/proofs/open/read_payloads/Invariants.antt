@@ -1,22 +1,24 @@
-use Rattle.std.proofs.Common.{◌≡◌, ◌+◌, ◌-◌, ◌≤◌, length}
+use Rattle.std.proofs.Common.{◌≡◌, ◌+◌, ◌-◌, ◌<◌, ◌≤◌, length}
 use Rattle.disk_model.specs.Past.{reads}
 use Rattle.log_journal.specs.File.{journal_length}
-use Rattle.log_journal.specs.Reading.{IsRead}
+use Rattle.log_journal.specs.Reading.{IsRead, HasByte}
 use Rattle.log_journal.proofs.open.read_payloads.Given as goal
 
-abbrev pub invariant-loop-payloads : goal.invariant-loop-payloads
-invariant-loop-payloads g l = record {
+abbrev pub invariant-loop-gate : goal.invariant-loop-gate
+invariant-loop-gate g l = record {
   past : g.D.Disk.past l.disk ≡ g.D.Disk.past l.fn.disk;
-  read : g.D.Disk.tells → IsRead (reads (g.D.Disk.past l.fn.disk)) l.number l.payloads.items l.gate;
+  read : g.D.Disk.tells → IsRead (reads (g.D.Disk.past l.fn.disk)) l.number l.payloads.items l.place;
+  stands : g.D.Disk.tells → HasByte (reads (g.D.Disk.past l.fn.disk)) l.place l.gate;
   file_length : g.D.Disk.tells → l.file_length ≡ length (reads (g.D.Disk.past l.fn.disk));
   faults : g.D.Disk.faults l.fn.disk ≤ g.D.Disk.faults l.disk;
   counts : g.D.Disk.faults l.disk ≡ g.D.Disk.faults l.fn.disk;
   planned : g.D.Disk.plans → g.D.Disk.short l.disk ≡ g.D.Disk.short l.fn.disk;
-  behind : 8 ≤ l.gate;
-  place : l.gate + 1 ≡ journal_length l.payloads.items;
-  few : g.D.Disk.tells → g.D.Disk.read_bytes l.disk ≤ g.D.Disk.read_bytes l.fn.disk + l.gate;
+  behind : 8 ≤ l.place;
+  within : l.place < l.file_length;
+  length_is : l.place + 1 ≡ journal_length l.payloads.items;
+  few : g.D.Disk.tells → g.D.Disk.read_bytes l.disk ≤ g.D.Disk.read_bytes l.fn.disk + (l.place + 1);
   mark : g.D.Disk.mark l.disk ≡ g.D.Disk.mark l.fn.disk;
 }
 
-abbrev pub decreases-loop-payloads : goal.decreases-loop-payloads
-decreases-loop-payloads g l = l.file_length - l.gate
+abbrev pub decreases-loop-gate : goal.decreases-loop-gate
+decreases-loop-gate g l = l.file_length - l.place
