@@ -1,4 +1,3 @@
-pub mod PairLemmas
 pub mod Place
 pub mod Growing
 pub mod Sound

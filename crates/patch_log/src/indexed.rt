@@ -5,31 +5,34 @@ ghost use Rattle.chain_core.specs.Chain.{IsKept};
 ghost use Rattle.chain_core.specs.Patches.{patches_of, version_of};
 ghost use Rattle.chain_core.specs.Decision.{decision, version_named};
 
-use crate::index::Index;
+use crate::index::{insert_ready, place_of};
 use chain_core::{Chain, Decision, Link, Patch, Places, decide_found};
 use delta_base::{Id, LogLimits, OutOfMemory};
 use std::alloc::Global;
 use std::marker::Model;
 
-/// A chain and its versions by id.
+/// A chain, and its versions in the order of their ids.
 #[derive(Debug, Drop)]
 pub struct IndexedChain {
     chain: Chain,
-    index: Index,
+    versions: Vec<u32>,
 }
 
 impl Model for IndexedChain {
-    ghost use Rattle.std.specs.Prelude.{min};
+    ghost use Rattle.std.specs.Prelude.{◌-◌, min, vec_len, vec_capacity};
     ghost use Rattle.delta_base.specs.Listed.{Listed};
     ghost use Rattle.chain_core.specs.declared.chain.Entry.{Entry};
     ghost use Rattle.chain_core.specs.Patches.{patches_of};
-    ghost use Rattle.patch_log.specs.Indexed.{IsIndexOf};
+    ghost use Rattle.patch_log.specs.Index.{IsIndexOf};
 
     ghost Value = { Listed Entry };
 
-    ghost view = { λ c. record { items = c.chain.items; spare = min c.chain.spare c.index.spare } };
+    ghost view = { λ c. record {
+      items = c.chain.items;
+      spare = min c.chain.spare (vec_capacity c.versions - vec_len c.versions);
+    } };
 
-    ghost invariant = { λ c. IsIndexOf c.index.items (patches_of c.chain.items) };
+    ghost invariant = { λ c. IsIndexOf c.versions.items (patches_of c.chain.items) };
 }
 
 impl IndexedChain {
@@ -39,7 +42,7 @@ impl IndexedChain {
     {
         IndexedChain {
             chain: Chain::new(alloc),
-            index: Index::new(alloc),
+            versions: Vec::new(alloc),
         }
     }
 
@@ -53,7 +56,10 @@ impl IndexedChain {
     pub fn version_of(&self, id: Id) -> Option<u32>
         ensures { result ≡ version_of (patches_of self.now.items) id }
     {
-        self.index.version_of(id)
+        match place_of(&self.chain, &self.versions, id) {
+            Ok(at) => Some(self.versions[at]),
+            Err(_) => None,
+        }
     }
 
     // The version that a patch names as the one before it.
@@ -88,7 +94,11 @@ impl IndexedChain {
         ensures err { OnErr result (self.new ≡ self.old) }
     {
         self.chain.reserve()?;
-        self.index.reserve()
+        if self.versions.len() < self.versions.capacity() {
+            return Ok(());
+        }
+        self.versions.reserve(1)?;
+        Ok(())
     }
 
     /// Adds a patch, in places that are ready.
@@ -99,7 +109,10 @@ impl IndexedChain {
         ensures spare { self.new.spare + 1 ≡ self.old.spare }
     {
         let version = self.chain.version() + 1;
-        self.index.add(patch.id, version);
+        match place_of(&self.chain, &self.versions, patch.id) {
+            Ok(_) => unreachable!(),
+            Err(at) => insert_ready(&mut self.versions, at, version),
+        }
         self.chain.push(patch, by);
     }
 }

@@ -12,7 +12,6 @@ mod state;
 
 pub use appending::{append, append_all, append_made};
 pub use fault::{LogFault, LogRefusal};
-pub use index::Index;
 pub use indexed::IndexedChain;
 pub use laws::{logs_are_found_again, logs_have_no_fault};
 pub use ready::Ready;
