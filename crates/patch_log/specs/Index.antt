@@ -1,6 +1,8 @@
 -- Versions in the order of the ids that a chain has.
 use Rattle.std.specs.Prelude.{◌≡◌, ℕ, ◌<◌, ◌≤◌, List, [], ◌∷◌, length, if◌then◌else◌, ◌==◌, slice_index_or, Option, Some, None}
 use Rattle.std.specs.List.{AllByRecursion}
+use Rattle.std.specs.Ordering.{nat_cmp}
+use Rattle.std.specs.BTreeMap.{BTreeMap, get as value_at}
 use Rattle.delta_base.specs.declared.id.Id.{Id}
 use Rattle.chain_core.specs.declared.chain.Patch.{Patch}
 use Rattle.chain_core.specs.Patches.{patch_at, version_of}
@@ -45,3 +47,7 @@ pub record IsIndexOf (versions : List ℕ) (patches : List Patch) : Type 0 where
   pub rising : IsRising (number_of patches) versions
   pub finds : (id : Id) → get (number_of patches) versions id.0 ≡ version_of patches id
   pub within : AllByRecursion (λ version. version ≤ length patches) versions
+
+-- the versions of these patches by the numbers of their ids
+abbrev pub AreKnown : BTreeMap ℕ ℕ → List Patch → Type 0
+AreKnown known patches = (id : Id) → value_at nat_cmp known id.0 ≡ version_of patches id

@@ -4,6 +4,7 @@ ghost use Rattle.delta_base.specs.declared.limits.TheConstants.{PATCH_LIMIT};
 ghost use Rattle.chain_core.specs.Chain.{IsKept};
 ghost use Rattle.chain_core.specs.Patches.{patches_of, version_of};
 ghost use Rattle.chain_core.specs.Decision.{decision, version_named};
+ghost use Rattle.patch_log.specs.Index.{IsIndexOf};
 
 use crate::index::{insert_ready, place_of};
 use chain_core::{Chain, Decision, Link, Patch, Places, decide_found};
@@ -44,6 +45,14 @@ impl IndexedChain {
             chain: Chain::new(alloc),
             versions: Vec::new(alloc),
         }
+    }
+
+    /// A chain and its versions in the order of their ids.
+    pub(crate) fn of(chain: Chain, versions: Vec<u32>) -> IndexedChain
+        requires { IsIndexOf versions.items (patches_of chain.items) }
+        ensures { result.items ≡ chain.items }
+    {
+        IndexedChain { chain, versions }
     }
 
     pub fn chain(&self) -> &Chain

@@ -7,6 +7,7 @@ mod index;
 mod indexed;
 mod laws;
 mod opening;
+mod read_chain;
 mod ready;
 mod state;
 
