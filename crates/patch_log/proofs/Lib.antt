@@ -1,8 +1,9 @@
-pub mod PairLemmas
 pub mod Place
 pub mod Growing
+pub mod Known
 pub mod Sound
 pub mod Openings
 pub mod States
+pub mod Told
 pub mod Runs
 pub mod Reopened

@@ -3,12 +3,13 @@ use Rattle.std.proofs.Common.{◌≡◌, ℕ, zero, suc, ◌+◌, ◌^◌, ◌<�
 use Rattle.std.specs.List.{AllByRecursion}
 use Rattle.std.proofs.lemmas.List.{length-map, take_at}
 use Rattle.delta_base.specs.declared.limits.LogLimits.{LogLimits}
+use Rattle.delta_base.specs.declared.limits.TheConstants.{PATCH_LIMIT}
 use Rattle.chain_core.specs.declared.chain.Patch.{Patch}
 use Rattle.chain_core.specs.declared.chain.Entry.{Entry}
 use Rattle.chain_core.specs.declared.link.Link.{Link}
-use Rattle.chain_core.specs.Chain.{IsKept, patch_of}
+use Rattle.chain_core.specs.Chain.{IsKept}
 use Rattle.chain_core.specs.Links.{IsChain}
-use Rattle.chain_core.specs.Patches.{patches_of, links_of, texts_of, version_of, last_id}
+use Rattle.chain_core.specs.Patches.{patch_of, patches_of, links_of, texts_of, version_of, last_id}
 use Rattle.chain_core.proofs.Fronts.{links-front, links_of-entries}
 use Rattle.chain_core.proofs.Patches.{patches_of-push}
 use Rattle.chain_core.proofs.Stays.{links-push}
@@ -103,8 +104,8 @@ next_kept entries text most patch kept next fits =
       short = short_more entries kept.short;
     }
   where
-    short_more : (es : List Entry) → AllByRecursion (λ (e : Entry). length e.patch.text ≤ 4194304) es → AllByRecursion (λ (e : Entry). length e.patch.text ≤ 4194304) (es ++ brought patch ∷ [])
-    short_more [] short = (subst (λ (t : List ℕ). length t ≤ 4194304) refl next.sound.1.short, tt)
+    short_more : (es : List Entry) → AllByRecursion (λ (e : Entry). length e.patch.text ≤ PATCH_LIMIT) es → AllByRecursion (λ (e : Entry). length e.patch.text ≤ PATCH_LIMIT) (es ++ brought patch ∷ [])
+    short_more [] short = (subst (λ (t : List ℕ). length t ≤ PATCH_LIMIT) refl next.sound.1.short, tt)
     short_more (e ∷ es) short = (short.0, short_more es short.1)
 
 pub found_none : (most : ℕ) (entries : List Entry) → entries ≡ [] → AreFound [] most entries

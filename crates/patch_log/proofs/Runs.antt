@@ -1,29 +1,55 @@
 -- A run goes on by one append.
-use Rattle.std.proofs.Common.{◌≡◌, ◌≢◌, ℕ, ◌-◌, ◌^◌, ◌<◌, ◌≤◌, List, [], ◌∷◌, ◌++◌, Option, refl, sym, ap, ◌∙◌, subst, ⊎_elim, inl, inr, arith, append_assoc}
-use Rattle.std.specs.List.{AllByRecursion, Contains}
+use Rattle.std.proofs.Common.{◌≡◌, ◌≢◌, ◌⊎◌, ℕ, zero, suc, ◌+◌, ◌-◌, ◌^◌, ◌<◌, ◌≤◌, min, Bool, true, false, cond, List, [], ◌∷◌, ◌++◌, map, take, length, get_or, Option, refl, sym, ap, ◌∙◌, subst, ⊎_elim, inl, inr, arith, append_assoc}
+use Rattle.std.specs.Prelude.{count_by}
+use Rattle.std.specs.List.{AllByRecursion}
 use Rattle.std.proofs.lemmas.List.{append-nil}
-use Rattle.std.proofs.lemmas.List.Elements.{Contains-push_cases}
+use Rattle.std.proofs.lemmas.List.Sums.{sum_by-append}
 use Rattle.delta_base.specs.Outside.{Rose}
-use Rattle.delta_base.specs.declared.limits.LogLimits.{LogLimits}
+use Rattle.disk_model.specs.declared.disk.Disk.{Ghosts}
+use Rattle.disk_model.specs.Past.{LeavesOnly}
+use Rattle.disk_model.proofs.Moments.{starts, joined, weaker}
 use Rattle.chain_core.specs.declared.chain.Patch.{Patch}
 use Rattle.chain_core.specs.declared.chain.Entry.{Entry}
 use Rattle.chain_core.specs.declared.answer.LogAnswer.{LogAnswer}
 use Rattle.chain_core.specs.declared.answer.LogAnswer.TheVariants.{Accepted, Known, Conflict, Full, DiskFault, OutOfMemory}
-use Rattle.chain_core.specs.Log.{up}
-use Rattle.patch_log.specs.Run.{Appends, Run, GrowsBy, HasRisen}
+use Rattle.patch_meaning.specs.Checked.{CheckedPatch}
+use Rattle.patch_log.specs.Log.{bare, MayHoldDuring}
+use Rattle.patch_log.specs.State.{LogView, chain_of}
+use Rattle.patch_log.specs.Run.{Appended, Run, GrowsBy, HoldsInRun, RoseBy, is_disk_fault}
 
-same_point : (a b : List Patch) (c d : Option Patch) → up a c ≡ up b d → (a ≡ b) × (c ≡ d)
-same_point a b c d same = (cc, cc)
+module _ {D : Type 0} (disks : Ghosts D) (by : ℕ) where
+  -- one append more
+  pub run_more : (before : LogView D) (patches : List Patch) (answers : List LogAnswer) (mid : LogView D) (patch : Patch) (answer : LogAnswer) (after : LogView D)
+      → Run disks by before patches answers mid → Appended disks mid after patch by answer → Run disks by before (patches ++ patch ∷ []) (answers ++ answer ∷ []) after
+  run_more before [] [] mid patch answer after run more = (after, subst (λ (log : LogView D). Appended disks log after patch by answer) run more, refl)
+  run_more before [] (a ∷ answers) mid patch answer after run more = absurd run
+  run_more before (p ∷ patches) [] mid patch answer after run more = absurd run
+  run_more before (p ∷ patches) (a ∷ answers) mid patch answer after run more =
+      (run.0, run.1, run_more run.0 patches answers mid patch answer after run.2 more)
 
-pub run_more : (limits : LogLimits) (chain : List Patch) (doubt : Option Patch) (patches : List Patch) (answers : List LogAnswer) (mid : List Patch) (mid_doubt : Option Patch) (patch : Patch) (answer : LogAnswer) (after : List Patch) (after_doubt : Option Patch)
-    → Run limits chain doubt patches answers (up mid mid_doubt) → Appends limits mid mid_doubt patch (up after after_doubt) answer → Run limits chain doubt (patches ++ patch ∷ []) (answers ++ answer ∷ []) (up after after_doubt)
-run_more limits chain doubt [] [] mid mid_doubt patch answer after after_doubt run more =
-    let same = same_point mid chain mid_doubt doubt run in
-    (after, after_doubt, subst (λ (c : List Patch). Appends limits c doubt patch (up after after_doubt) answer) same.0 (subst (λ (d : Option Patch). Appends limits mid d patch (up after after_doubt) answer) same.1 more), refl)
-run_more limits chain doubt [] (a ∷ answers) mid mid_doubt patch answer after after_doubt run more = absurd run
-run_more limits chain doubt (p ∷ patches) [] mid mid_doubt patch answer after after_doubt run more = absurd run
-run_more limits chain doubt (p ∷ patches) (a ∷ answers) mid mid_doubt patch answer after after_doubt run more =
-    (run.0, run.1, run.2, run_more limits run.0 run.1 patches answers mid mid_doubt patch answer after after_doubt run.3 more)
+  -- before any of them
+  pub no_append_yet : (before : LogView D) (patches : List Patch) → LeavesOnly (HoldsInRun disks by before patches) (disks.past before.disk) (disks.past before.disk)
+  no_append_yet before patches = starts (HoldsInRun disks by before patches) (disks.past before.disk) (λ image left. inl left)
+
+  -- what one append more leaves
+  pub moments_more : (before : LogView D) (all : List CheckedPatch) (place : ℕ) (patch : CheckedPatch) (answers : List LogAnswer) (mid after : LogView D)
+      → place < length all → patch ≡ get_or all place patch → mid.number ≡ before.number
+      → Run disks by before (map bare (take place all)) answers mid
+      → LeavesOnly (HoldsInRun disks by before (map bare all)) (disks.past before.disk) (disks.past mid.disk)
+      → LeavesOnly (MayHoldDuring mid.number (chain_of mid) mid.doubt (bare patch)) (disks.past mid.disk) (disks.past after.disk)
+      → LeavesOnly (HoldsInRun disks by before (map bare all)) (disks.past before.disk) (disks.past after.disk)
+  moments_more before all place patch answers mid after within is number run so_far more =
+      let split = parts all place patch within in
+      let all_is : map bare all ≡ map bare (take place all) ++ bare patch ∷ split.0 = split.1 ∙ ap (λ (p : CheckedPatch). map bare (take place all) ++ bare p ∷ split.0) (sym is) in
+      let here : (image : List ℕ) → MayHoldDuring mid.number (chain_of mid) mid.doubt (bare patch) image → HoldsInRun disks by before (map bare all) image =
+      λ image holds. inr (map bare (take place all), bare patch, split.0, all_is, answers, mid, run, subst (λ (n : ℕ). MayHoldDuring n (chain_of mid) mid.doubt (bare patch) image) number holds) in
+      joined (HoldsInRun disks by before (map bare all)) (disks.past before.disk) (disks.past mid.disk) (disks.past after.disk) so_far
+      (weaker (MayHoldDuring mid.number (chain_of mid) mid.doubt (bare patch)) (HoldsInRun disks by before (map bare all)) here (disks.past mid.disk) (disks.past after.disk) more)
+    where
+      parts : (all : List CheckedPatch) (place : ℕ) (other : CheckedPatch) → place < length all → (behind : List Patch) × (map bare all ≡ map bare (take place all) ++ bare (get_or all place other) ∷ behind)
+      parts [] place other within = absurd (omega (arith, within))
+      parts (p ∷ all) zero other within = (map bare all, refl)
+      parts (p ∷ all) (suc place) other within = let rest = parts all place other (omega (arith, within)) in (rest.0, ap (λ (ps : List Patch). bare p ∷ ps) rest.1)
 
 both : (P : Entry → Type 0) (xs ys : List Entry) → AllByRecursion P xs → AllByRecursion P ys → AllByRecursion P (xs ++ ys)
 both P [] ys p q = q
@@ -49,10 +75,22 @@ module _ (by : ℕ) where
       let once = grows_once patch before after answer accepted refused in
       (so_far.0 ++ once.0, once.1 ∙ (ap (λ (entries : List Entry). entries ++ once.0) so_far.1 ∙ append_assoc first so_far.0 once.0), both (λ entry. entry.by ≡ by) so_far.0 once.0 so_far.2 once.2)
 
--- a fault of the disk at one append, or at one before it
-pub risen_more : (answers : List LogAnswer) (answer : LogAnswer) (first before after : ℕ) → (Contains answers DiskFault → HasRisen first before) → (answer ≡ DiskFault → Rose before after) → first ≤ before → before ≤ after
-    → Contains (answers ++ answer ∷ []) DiskFault → HasRisen first after
-risen_more answers answer first before after so_far cause longer more there = ⊎_elim
-    (λ (earlier : Contains answers DiskFault). ⊎_elim (λ (rose : first < before). inl (omega arith)) (λ (last : 2 ^ 64 - 1 ≤ before). inr (omega arith)) (so_far earlier))
-    (λ (now : answer ≡ DiskFault). ⊎_elim (λ (rose : before < after). inl (omega arith)) (λ (last : after ≡ 2 ^ 64 - 1). inr (omega arith)) (cause now))
-    (Contains-push_cases answers answer DiskFault there)
+-- ---- faults of the disk
+
+fault_more : (answers : List LogAnswer) → count_by is_disk_fault (answers ++ DiskFault ∷ []) ≡ count_by is_disk_fault answers + 1
+fault_more answers = sum_by-append (λ (a : LogAnswer). cond (is_disk_fault a) 1 0) answers (DiskFault ∷ [])
+
+other_more : (answers : List LogAnswer) (answer : LogAnswer) → is_disk_fault answer ≡ false → count_by is_disk_fault (answers ++ answer ∷ []) ≡ count_by is_disk_fault answers
+other_more answers answer is =
+    let one : Bool → ℕ = λ test. cond test 1 0 in
+    omega (arith, ap one is, sum_by-append (λ (a : LogAnswer). one (is_disk_fault a)) answers (answer ∷ []))
+
+pub rose_more : (answers : List LogAnswer) (answer : LogAnswer) (first before after : ℕ) → RoseBy (count_by is_disk_fault answers) first before → (answer ≡ DiskFault → Rose before after) → before ≤ after
+    → RoseBy (count_by is_disk_fault (answers ++ answer ∷ [])) first after
+rose_more answers DiskFault first before after so_far cause more = rw (fault_more answers) (⊎_elim
+    (λ (rose : before < after). omega (arith, so_far, rose)) (λ (last : after ≡ 2 ^ 64 - 1). omega (arith, last)) (cause refl))
+rose_more answers (Accepted version) first before after so_far cause more = rw (other_more answers (Accepted version) refl) (omega (arith, so_far, more))
+rose_more answers (Known version same) first before after so_far cause more = rw (other_more answers (Known version same) refl) (omega (arith, so_far, more))
+rose_more answers (Conflict version head named) first before after so_far cause more = rw (other_more answers (Conflict version head named) refl) (omega (arith, so_far, more))
+rose_more answers (Full what have limit) first before after so_far cause more = rw (other_more answers (Full what have limit) refl) (omega (arith, so_far, more))
+rose_more answers OutOfMemory first before after so_far cause more = rw (other_more answers OutOfMemory refl) (omega (arith, so_far, more))

@@ -8,6 +8,7 @@ use Rattle.delta_base.specs.declared.id.Id.{Id}
 use Rattle.patch_meaning.specs.Patch.{Meaning, IsPatch}
 use Rattle.patch_meaning.proofs.Settled.{one_meaning}
 use Rattle.delta_base.specs.declared.limits.LogLimits.{LogLimits}
+use Rattle.delta_base.specs.declared.limits.TheConstants.{PATCH_LIMIT}
 use Rattle.chain_core.specs.declared.chain.Patch.{Patch}
 use Rattle.chain_core.specs.declared.answer.Decision.TheVariants.{Accept}
 use Rattle.chain_core.specs.Decision.{decision}
@@ -34,7 +35,7 @@ sound-take (patch ∷ patches) zero sound = tt
 sound-take (patch ∷ patches) (suc n) sound = (sound.0, sound-take patches n sound.1)
 
 -- their texts are short
-pub sound_short : (patches : List Patch) → AllByRecursion IsSound patches → AllByRecursion (λ (patch : Patch). length patch.text ≤ 4194304) patches
+pub sound_short : (patches : List Patch) → AllByRecursion IsSound patches → AllByRecursion (λ (patch : Patch). length patch.text ≤ PATCH_LIMIT) patches
 sound_short [] sound = tt
 sound_short (patch ∷ patches) sound = let first = sound.0 in (first.1.short, sound_short patches sound.1)
 

@@ -1,6 +1,5 @@
 -- What a log keeps, call by call.
 use Rattle.std.proofs.Common.{◌≡◌, ◌⊎◌, inl, ℕ, zero, suc, ◌+◌, ◌^◌, ◌<◌, ◌≤◌, true, false, List, [], ◌∷◌, ◌++◌, length, Option, Some, None, refl, sym, ◌∙◌, ap, subst, arith}
-use Rattle.std.specs.Option.{option_map}
 use Rattle.std.proofs.lemmas.List.{length-map}
 use Rattle.disk_model.specs.declared.disk.Disk.{Ghosts}
 use Rattle.disk_model.specs.Past.{Past, EveryImage, LeavesOnly}
@@ -10,7 +9,7 @@ use Rattle.log_journal.specs.Journal.{HoldsWithOrWithout}
 use Rattle.log_journal.specs.declared.journal.Journal.{Journal}
 use Rattle.log_journal.specs.StandsFor.{StandsFor, StandsInDoubt, Leaves, length_of, limit_of, is_settled, disk_of}
 use Rattle.log_journal.specs.Writing.{StandsWith, HoldsDuring}
-use Rattle.delta_base.specs.Phases.{phase_by_syncs}
+use Rattle.delta_base.specs.Phases.{phase_by_syncs, phase_by_plan}
 use Rattle.log_journal.proofs.Steps.{either}
 use Rattle.chain_core.specs.declared.chain.Patch.{Patch}
 use Rattle.chain_core.specs.declared.chain.Entry.{Entry}
@@ -22,23 +21,19 @@ use Rattle.chain_core.specs.declared.answer.Decision.{Decision}
 use Rattle.chain_core.specs.declared.answer.Decision.TheVariants.{Accept, Known, Conflict, Full}
 use Rattle.chain_core.specs.declared.answer.LogAnswer.{LogAnswer}
 use Rattle.chain_core.specs.declared.answer.LogAnswer.TheVariants.{Accepted, DiskFault, OutOfMemory}
-use Rattle.chain_core.specs.Chain.{IsKept as IsKeptChain, patch_of}
+use Rattle.chain_core.specs.Chain.{IsKept as IsKeptChain}
 use Rattle.chain_core.specs.Decision.{decision}
 use Rattle.chain_core.specs.Log.{up}
-use Rattle.chain_core.specs.Patches.{patches_of, texts_of}
-use Rattle.chain_core.specs.Stay.{answer_of, decided_by, accepted_by, fate_of, fate_by_syncs}
+use Rattle.chain_core.specs.Patches.{patch_of, patches_of, texts_of}
+use Rattle.chain_core.specs.Stay.{answer_of, decided_by, accepted_by, fate_of, fate_by_syncs, fate_by_plan}
 use Rattle.chain_core.proofs.Decided.{IsAcceptable, accepted}
 use Rattle.chain_core.proofs.Fronts.{entries_kept}
 use Rattle.chain_core.proofs.Patches.{length-push, patches_of-push}
-use Rattle.patch_log.specs.Log.{IsSound, IsSoundLog, MayHold, MayHoldDuring, StandsForLog}
+use Rattle.patch_log.specs.Log.{payload_in, IsSound, IsSoundLog, MayHold, MayHoldDuring, StandsForLog}
 use Rattle.patch_log.specs.Opening.{AreFound}
 use Rattle.patch_log.specs.State.{IsKept}
 use Rattle.patch_log.proofs.Openings.{found_log}
 use Rattle.patch_log.proofs.Sound.{texts_of-push, log-push, same_length}
-
--- the text in doubt
-abbrev pub text_in : Option Patch → Option (List ℕ)
-text_in doubt = option_map (λ patch. patch.text) doubt
 
 -- ---- decisions and fates
 
@@ -66,7 +61,7 @@ told_is (Conflict version head prev_version) other = record { not_accepted = λ 
 told_is (Full what have limit) other = record { not_accepted = λ v is. cc; no_fault = λ is. cc; no_want = λ is. cc }
 
 -- the text in doubt tells as much as the patch
-pub same_fate : (doubt : Option Patch) (syncs : ℕ) → fate_of (phase_by_syncs (text_in doubt) syncs) ≡ fate_by_syncs doubt syncs
+pub same_fate : (doubt : Option Patch) (syncs : ℕ) → fate_of (phase_by_syncs (payload_in doubt) syncs) ≡ fate_by_syncs doubt syncs
 same_fate None zero = refl
 same_fate None (suc zero) = refl
 same_fate None (suc (suc n)) = refl
@@ -74,6 +69,10 @@ same_fate (Some patch) zero = refl
 same_fate (Some patch) (suc zero) = refl
 same_fate (Some patch) (suc (suc zero)) = refl
 same_fate (Some patch) (suc (suc (suc n))) = refl
+
+pub same_plan : (doubt : Option Patch) (plan : Option ℕ) → fate_of (phase_by_plan (payload_in doubt) plan) ≡ fate_by_plan doubt plan
+same_plan doubt None = refl
+same_plan doubt (Some syncs) = same_fate doubt syncs
 
 -- ---- images
 
@@ -86,19 +85,19 @@ true_or_false same = cc
 
 module _ {D : Type 0} {disks : Ghosts D} (number : ℕ) where
   pub during : (old new : Journal D disks) (chain : List Patch) (doubt : Option Patch) (patch : Patch) (payload : List ℕ) → payload ≡ patch.text
-      → Leaves (HoldsDuring number (texts_of chain) (text_in doubt) payload) old new → disks.tells → LeavesOnly (MayHoldDuring number chain doubt patch) (disks.past (disk_of old)) (disks.past (disk_of new))
+      → Leaves (HoldsDuring number (texts_of chain) (payload_in doubt) payload) old new → disks.tells → LeavesOnly (MayHoldDuring number chain doubt patch) (disks.past (disk_of old)) (disks.past (disk_of new))
   during old new chain None patch payload is leaves told = subst (λ (text : List ℕ). LeavesOnly (HoldsWithOrWithout number (texts_of chain) text) (disks.past (disk_of old)) (disks.past (disk_of new))) is (leaves told)
   during old new chain (Some doubt) patch payload is leaves told =
       subst (λ (text : List ℕ). LeavesOnly (λ image. HoldsWithOrWithout number (texts_of chain) doubt.text image ⊎ HoldsWithOrWithout number (texts_of chain) text image) (disks.past (disk_of old)) (disks.past (disk_of new))) is (leaves told)
 
-  pub each_holds : (journal : Journal D disks) (chain : List Patch) (doubt : Option Patch) → StandsWith journal number (texts_of chain) (text_in doubt) → disks.tells → EveryImage (disks.past (disk_of journal)) (MayHold number chain doubt)
+  pub each_holds : (journal : Journal D disks) (chain : List Patch) (doubt : Option Patch) → StandsWith journal number (texts_of chain) (payload_in doubt) → disks.tells → EveryImage (disks.past (disk_of journal)) (MayHold number chain doubt)
   each_holds journal chain None stands told = (stands.1 told).each
   each_holds journal chain (Some doubt) stands told = λ image left.
       let all = stands.1 told in
       either (length_of journal) number (texts_of chain) doubt.text all.doubt_sized image all.sized (all.each image left)
 
   -- a settling that failed had a doubt
-  pub settling_fails : (journal : Journal D disks) (chain : List Patch) (doubt : Option Patch) (patch : Patch) → StandsWith journal number (texts_of chain) (text_in doubt) → is_settled journal ≡ false → accepted_by (Fails Settling) chain doubt patch ≡ (up chain doubt, Some DiskFault)
+  pub settling_fails : (journal : Journal D disks) (chain : List Patch) (doubt : Option Patch) (patch : Patch) → StandsWith journal number (texts_of chain) (payload_in doubt) → is_settled journal ≡ false → accepted_by (Fails Settling) chain doubt patch ≡ (up chain doubt, Some DiskFault)
   settling_fails journal chain None patch stands open_gate = absurd (true_or_false (sym stands.0 ∙ open_gate))
   settling_fails journal chain (Some doubt) patch stands open_gate = refl
 
@@ -182,5 +181,5 @@ module _ {D : Type 0} {disks : Ghosts D} (journal new : Journal D disks) (entrie
   pub kept_settled : StandsFor new number (texts_of chain) → length_of new ≡ length_of journal + 0 → limit_of new ≡ limit_of journal → IsKept new chain None number limits
   kept_settled stands length_is limit_is = record { stands = stands; without = kept.without; having = kept.without; length_is = omega (arith, length_is, kept.length_is); limit_is = limit_is ∙ kept.limit_is; countable = kept.countable }
 
-  pub kept_same : StandsWith new number (texts_of chain) (text_in doubt) → length_of new ≡ length_of journal + 0 → limit_of new ≡ limit_of journal → IsKept new chain doubt number limits
+  pub kept_same : StandsWith new number (texts_of chain) (payload_in doubt) → length_of new ≡ length_of journal + 0 → limit_of new ≡ limit_of journal → IsKept new chain doubt number limits
   kept_same stands length_is limit_is = record { stands = stands; without = kept.without; having = kept.having; length_is = omega (arith, length_is, kept.length_is); limit_is = limit_is ∙ kept.limit_is; countable = kept.countable }

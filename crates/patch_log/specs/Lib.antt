@@ -1,5 +1,4 @@
-pub mod Pairs
-pub mod Indexed
+pub mod Index
 pub mod Log
 pub mod Fault
 pub mod Opening

@@ -1,10 +1,12 @@
 -- What a log is, and what its disk holds.
 use Rattle.std.specs.Prelude.{◌≡◌, ◌⊎◌, ℕ, ◌<◌, ◌≤◌, List, length, take, Option, Some, None}
 use Rattle.std.specs.List.{AllByRecursion}
+use Rattle.std.specs.Option.{option_map}
 use Rattle.rdf_terms.specs.declared.change.Change.{Change}
 use Rattle.disk_model.specs.Past.{Past, EveryImage}
 use Rattle.log_journal.specs.File.{Holds}
 use Rattle.log_journal.specs.Journal.{HoldsWithOrWithout}
+use Rattle.log_journal.specs.Writing.{LeavesEither as JournalLeaves}
 use Rattle.patch_meaning.specs.Checked.{CheckedPatch}
 use Rattle.patch_meaning.specs.Patch.{IsPatch}
 use Rattle.delta_base.specs.declared.limits.LogLimits.{LogLimits}
@@ -17,6 +19,14 @@ use Rattle.chain_core.specs.Log.{IsLog, with_doubt}
 abbrev pub bare : CheckedPatch → Patch
 bare checked = record { id = checked.meaning.id; prev = checked.meaning.prev; text = checked.text }
 
+-- what a journal holds of a chain: a payload for each patch, its text
+abbrev pub payloads_of : List Patch → List (List ℕ)
+payloads_of chain = texts_of chain
+
+-- the payload of a patch in doubt
+abbrev pub payload_in : Option Patch → Option (List ℕ)
+payload_in doubt = option_map (λ patch. patch.text) doubt
+
 -- a patch's id and previous id are those that its text names
 abbrev pub IsSound : Patch → Type 0
 IsSound patch = (changes : List Change) × IsPatch patch.text (record { id = patch.id; prev = patch.prev; changes = changes })
@@ -26,21 +36,28 @@ pub record IsSoundLog (limits : LogLimits) (patches : List Patch) : Type 0 where
   pub log : IsLog limits patches
   pub sound : AllByRecursion IsSound patches
 
--- an image holds the texts of the chain, or these and the one in doubt
+-- an image holds the chain, or the chain with the patch in doubt
 abbrev pub MayHold : ℕ → List Patch → Option Patch → List ℕ → Type 0
-MayHold number chain None image = Holds image number (texts_of chain)
-MayHold number chain (Some doubt) image = HoldsWithOrWithout number (texts_of chain) doubt.text image
+MayHold number chain None image = Holds image number (payloads_of chain)
+MayHold number chain (Some doubt) image = HoldsWithOrWithout number (payloads_of chain) doubt.text image
 
 -- a disk stands for a log that runs, with its chain and the patch in doubt
-pub record StandsForLog (past : Past) (number : ℕ) (limits : LogLimits) (chain : List Patch) (doubt : Option Patch) : Type 0 where
+pub record StandsForLog (past : Past) (number : ℕ) (limits : LogLimits) (chain : List Patch)
+    (doubt : Option Patch) : Type 0 where
   pub each : EveryImage past (MayHold number chain doubt)
   pub without : IsSoundLog limits chain
   pub having : IsSoundLog limits (with_doubt chain doubt)
 
--- while a patch is added, an image holds the texts of the chain, or these and the one in doubt, or these and the new one
+-- while a patch is added, an image holds the chain, or the chain with the patch in doubt or with the new one
 abbrev pub MayHoldDuring : ℕ → List Patch → Option Patch → Patch → List ℕ → Type 0
-MayHoldDuring number chain None patch image = HoldsWithOrWithout number (texts_of chain) patch.text image
-MayHoldDuring number chain (Some doubt) patch image = HoldsWithOrWithout number (texts_of chain) doubt.text image ⊎ HoldsWithOrWithout number (texts_of chain) patch.text image
+MayHoldDuring number chain None patch image = HoldsWithOrWithout number (payloads_of chain) patch.text image
+MayHoldDuring number chain (Some doubt) patch image =
+    HoldsWithOrWithout number (payloads_of chain) doubt.text image
+    ⊎ HoldsWithOrWithout number (payloads_of chain) patch.text image
+
+-- what was synced is without the patch in doubt, and with 1 for each byte that wasn't synced the file has it
+abbrev pub LeavesEither : Past → ℕ → List Patch → Option Patch → Type 0
+LeavesEither past number chain doubt = JournalLeaves past number (payloads_of chain) (payload_in doubt)
 
 -- texts are those of a chain of patches, of which there are no more than there may be
 pub record AreChained (texts : List (List ℕ)) (most : ℕ) : Type 0 where

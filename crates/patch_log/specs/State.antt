@@ -1,6 +1,5 @@
 -- How contracts see a log, and what it keeps.
 use Rattle.std.specs.Prelude.{◌≡◌, ℕ, ◌^◌, ◌<◌, List, Option}
-use Rattle.std.specs.Option.{option_map}
 use Rattle.disk_model.specs.declared.disk.Disk.{Ghosts}
 use Rattle.log_journal.specs.declared.journal.Journal.{Journal}
 use Rattle.log_journal.specs.StandsFor.{length_of, limit_of}
@@ -8,11 +7,11 @@ use Rattle.log_journal.specs.Writing.{StandsWith}
 use Rattle.delta_base.specs.declared.limits.LogLimits.{LogLimits}
 use Rattle.chain_core.specs.declared.chain.Patch.{Patch}
 use Rattle.chain_core.specs.declared.chain.Entry.{Entry}
-use Rattle.chain_core.specs.Patches.{texts_of, journal_length}
-use Rattle.chain_core.specs.Log.{with_doubt}
-use Rattle.patch_log.specs.Log.{IsSoundLog}
+use Rattle.chain_core.specs.Patches.{patches_of, journal_length}
+use Rattle.chain_core.specs.Log.{LogPoint, up, with_doubt}
+use Rattle.patch_log.specs.Log.{IsSoundLog, payloads_of, payload_in}
 
--- the entries and the patch in doubt; what never changes; how many patches can be added without asking for memory; and the disk
+-- the entries and the patch in doubt; what never changes; the places that are ready; and the disk
 pub record LogView (D : Type 0) : Type 0 where
   pub entries : List Entry
   pub doubt : Option Patch
@@ -21,9 +20,18 @@ pub record LogView (D : Type 0) : Type 0 where
   pub spare : ℕ
   pub disk : D
 
--- the journal stands for the texts of the chain and of the patch in doubt
-pub record IsKept {D : Type 0} {disks : Ghosts D} (journal : Journal D disks) (chain : List Patch) (doubt : Option Patch) (number : ℕ) (limits : LogLimits) : Type 0 where
-  pub stands : StandsWith journal number (texts_of chain) (option_map (λ patch. patch.text) doubt)
+-- its chain
+abbrev pub chain_of : {D : Type 0} → LogView D → List Patch
+chain_of log = patches_of log.entries
+
+-- its chain and the patch in doubt
+abbrev pub point_of : {D : Type 0} → LogView D → LogPoint
+point_of log = up (chain_of log) log.doubt
+
+-- the journal stands for the chain and the patch in doubt
+pub record IsKept {D : Type 0} {disks : Ghosts D} (journal : Journal D disks) (chain : List Patch)
+    (doubt : Option Patch) (number : ℕ) (limits : LogLimits) : Type 0 where
+  pub stands : StandsWith journal number (payloads_of chain) (payload_in doubt)
   pub without : IsSoundLog limits chain
   pub having : IsSoundLog limits (with_doubt chain doubt)
   pub length_is : length_of journal ≡ journal_length chain

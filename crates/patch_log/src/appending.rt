@@ -1,15 +1,12 @@
 //! Appends: one stay in a log's turn, and many.
-ghost use Rattle.std.specs.Prelude.{◌≡◌, ◌≢◌, ℕ, ◌-◌, ◌≤◌, ◌++◌, [], ◌∷◌, map, Contains, IfOk, OnErr};
-ghost use Rattle.delta_base.specs.Outside.{Rose};
-ghost use Rattle.disk_model.specs.Past.{ok_syncs, EveryImage, LeavesOnly};
-ghost use Rattle.log_journal.specs.File.{Holds};
-ghost use Rattle.chain_core.specs.Decision.{decision};
-ghost use Rattle.chain_core.specs.Log.{up};
-ghost use Rattle.chain_core.specs.Patches.{patches_of, texts_of};
-ghost use Rattle.chain_core.specs.Stay.{Stay, fate_by_syncs};
-ghost use Rattle.patch_log.specs.Log.{bare, MayHoldDuring};
-ghost use Rattle.patch_log.specs.Run.{Appends, Run, GrowsBy, HasRisen};
+ghost use Rattle.std.specs.Prelude.{◌≡◌, ◌≤◌, ℕ, map, count_by, IfOk, OnErr};
+ghost use Rattle.std.specs.Result.{ForOk};
+ghost use Rattle.disk_model.specs.Past.{LeavesOnly};
+ghost use Rattle.patch_log.specs.Log.{bare};
+ghost use Rattle.patch_log.specs.Ready.{IsMadeOf};
+ghost use Rattle.patch_log.specs.Run.{Appended, Run, GrowsBy, HoldsInRun, RoseBy, is_disk_fault};
 
+use crate::ready::Ready;
 use crate::state::LogState;
 use chain_core::{Decision, LogAnswer};
 use delta_base::{Listing, OutOfMemory};
@@ -17,49 +14,54 @@ use disk_model::Disk;
 use patch_meaning::Checked;
 use std::alloc::Global;
 
-/// Adds a patch, or says why not: Known, Conflict, Full, want of memory and a disk fault, in this order.
-pub fn append<D: Disk>(log: &mut LogState<D>, patch: &Checked, by: u32) -> LogAnswer
-    ensures appends { Appends log.old.limits (patches_of log.old.entries) log.old.doubt (bare patch.now) (up (patches_of log.new.entries) log.new.doubt) result }
-
-    // The fate of a patch that can be accepted is that of the syncs which were done.
-    ensures by_syncs { D.tells → (version : ℕ) → decision (patches_of log.old.entries) (bare patch.now) log.old.limits ≡ Decision.Accept version → result ≢ LogAnswer.OutOfMemory
-        → Stay log.old.limits (up (patches_of log.old.entries) log.old.doubt) (bare patch.now) (fate_by_syncs log.old.doubt (ok_syncs (D.past log.new.disk) - ok_syncs (D.past log.old.disk))) (up (patches_of log.new.entries) log.new.doubt) result }
-    ensures accepted { (version : ℕ) → result ≡ LogAnswer.Accepted version → log.new.entries ≡ log.old.entries ++ record { patch = bare patch.now; by = by } ∷ [] }
-    ensures refused { ((version : ℕ) → result ≢ LogAnswer.Accepted version) → log.new.entries ≡ log.old.entries }
-
-    // A crash at any moment of the call leaves the chain, with the patch in doubt, with the new one, or with neither.
-    // What is accepted is in every image.
-    ensures any_moment { D.tells → LeavesOnly (MayHoldDuring log.old.number (patches_of log.old.entries) log.old.doubt (bare patch.now)) (D.past log.old.disk) (D.past log.new.disk) }
-    ensures kept { (version : ℕ) → result ≡ LogAnswer.Accepted version → D.tells → EveryImage (D.past log.new.disk) (λ image. Holds image log.new.number (texts_of (patches_of log.new.entries))) }
-
-    ensures cause { result ≡ LogAnswer.DiskFault → Rose (D.faults log.old.disk) (D.faults log.new.disk) }
-    ensures faults { D.faults log.old.disk ≤ D.faults log.new.disk }
-    ensures limits { log.new.limits ≡ log.old.limits }
-    ensures number { log.new.number ≡ log.old.number }
-    ensures mark { D.mark log.new.disk ≡ D.mark log.old.disk }
+/// Adds a patch that was made ready, or for which no memory was found. Says why not in this order: Known, Conflict,
+/// Full, want of memory, a disk fault.
+pub fn append_made<D: Disk>(
+    log: &mut LogState<D>,
+    patch: &Checked,
+    made: Result<Ready, OutOfMemory>,
+) -> LogAnswer
+    requires { ForOk made (λ ready. ready.patch ≡ bare patch.now) }
+    ensures { (by : ℕ) → IfOk made (λ ready. ready.by ≡ by)
+        → Appended D.Disk log.old log.new (bare patch.now) by result }
 {
-    let decision = log.decide_here(patch);
-    match decision {
-        Decision::Accept { version: _ } => match log.reserve(patch, by) {
-            Ok(ready) => log.append_reserved(ready),
-            Err(_) => LogAnswer::OutOfMemory,
+    match made {
+        Ok(ready) => log.append_ready(ready),
+        Err(_) => match log.decide_here(patch) {
+            Decision::Accept { version: _ } => LogAnswer::OutOfMemory,
+            decision => LogAnswer::told(decision),
         },
-        _ => LogAnswer::told(decision),
     }
 }
 
+/// Adds a patch, or says why not: Known, Conflict, Full, want of memory and a disk fault, in this order.
+pub fn append<D: Disk>(log: &mut LogState<D>, patch: &Checked, by: u32) -> LogAnswer
+    ensures { Appended D.Disk log.old log.new (bare patch.now) by result }
+{
+    let made = Ready::of(log.alloc(), patch, by);
+    append_made(log, patch, made)
+}
+
 /// Adds patches one after another. Memory for the answers is taken first.
-#[tactic(auto, using(crate::proofs::Runs::grows_none))]
+#[tactic(auto, using(crate::proofs::Runs::grows_none, crate::proofs::Runs::no_append_yet))]
 pub fn append_all<D: Disk>(
     alloc: Global,
     log: &mut LogState<D>,
     patches: &[Checked],
     by: u32,
 ) -> Result<Listing<LogAnswer>, OutOfMemory>
-    ensures run { IfOk result (λ answers. Run log.old.limits (patches_of log.old.entries) log.old.doubt (map bare patches.now) answers.items (up (patches_of log.new.entries) log.new.doubt)) }
+    ensures run { IfOk result (λ answers.
+        Run D.Disk by log.old (map bare patches.now) answers.items log.new) }
     ensures grown { GrowsBy by log.old.entries log.new.entries }
     ensures none { OnErr result (log.new ≡ log.old) }
-    ensures cause { IfOk result (λ answers. Contains answers.items LogAnswer.DiskFault → HasRisen (D.faults log.old.disk) (D.faults log.new.disk)) }
+
+    // A crash at any moment leaves what it might have left before, or what an append of the run may leave.
+    ensures any_moment { D.tells → LeavesOnly (HoldsInRun D.Disk by log.old (map bare patches.now))
+        (D.past log.old.disk) (D.past log.new.disk) }
+
+    // Each answer that tells a fault of the disk has a fault of its own.
+    ensures cause { IfOk result (λ answers. RoseBy (count_by is_disk_fault answers.items)
+        (D.faults log.old.disk) (D.faults log.new.disk)) }
     ensures faults { D.faults log.old.disk ≤ D.faults log.new.disk }
     ensures limits { log.new.limits ≡ log.old.limits }
     ensures number { log.new.number ≡ log.old.number }

@@ -1,34 +1,39 @@
 //! A chain whose patches are found by id without a walk along it.
-ghost use Rattle.std.specs.Prelude.{◌≡◌, ◌+◌, ◌<◌, ◌≤◌, [], ◌∷◌, ◌++◌, length, OnOk};
+ghost use Rattle.std.specs.Prelude.{◌≡◌, ◌+◌, ◌<◌, ◌≤◌, [], ◌∷◌, ◌++◌, length, OnOk, OnErr};
+ghost use Rattle.delta_base.specs.declared.limits.TheConstants.{PATCH_LIMIT};
 ghost use Rattle.chain_core.specs.Chain.{IsKept};
 ghost use Rattle.chain_core.specs.Patches.{patches_of, version_of};
 ghost use Rattle.chain_core.specs.Decision.{decision, version_named};
+ghost use Rattle.patch_log.specs.Index.{IsIndexOf};
 
-use crate::index::Index;
+use crate::index::{insert_ready, place_of};
 use chain_core::{Chain, Decision, Link, Patch, Places, decide_found};
 use delta_base::{Id, LogLimits, OutOfMemory};
 use std::alloc::Global;
 use std::marker::Model;
 
-/// A chain and its versions by id.
+/// A chain, and its versions in the order of their ids.
 #[derive(Debug, Drop)]
 pub struct IndexedChain {
     chain: Chain,
-    index: Index,
+    versions: Vec<u32>,
 }
 
 impl Model for IndexedChain {
-    ghost use Rattle.std.specs.Prelude.{min};
+    ghost use Rattle.std.specs.Prelude.{◌-◌, min, vec_len, vec_capacity};
     ghost use Rattle.delta_base.specs.Listed.{Listed};
     ghost use Rattle.chain_core.specs.declared.chain.Entry.{Entry};
     ghost use Rattle.chain_core.specs.Patches.{patches_of};
-    ghost use Rattle.patch_log.specs.Indexed.{IsIndexOf};
+    ghost use Rattle.patch_log.specs.Index.{IsIndexOf};
 
     ghost Value = { Listed Entry };
 
-    ghost view = { λ c. record { items = c.chain.items; spare = min c.chain.spare c.index.spare } };
+    ghost view = { λ c. record {
+      items = c.chain.items;
+      spare = min c.chain.spare (vec_capacity c.versions - vec_len c.versions);
+    } };
 
-    ghost invariant = { λ c. IsIndexOf c.index.items (patches_of c.chain.items) };
+    ghost invariant = { λ c. IsIndexOf c.versions.items (patches_of c.chain.items) };
 }
 
 impl IndexedChain {
@@ -38,8 +43,16 @@ impl IndexedChain {
     {
         IndexedChain {
             chain: Chain::new(alloc),
-            index: Index::new(alloc),
+            versions: Vec::new(alloc),
         }
+    }
+
+    /// A chain and its versions in the order of their ids.
+    pub(crate) fn of(chain: Chain, versions: Vec<u32>) -> IndexedChain
+        requires { IsIndexOf versions.items (patches_of chain.items) }
+        ensures { result.items ≡ chain.items }
+    {
+        IndexedChain { chain, versions }
     }
 
     pub fn chain(&self) -> &Chain
@@ -52,7 +65,10 @@ impl IndexedChain {
     pub fn version_of(&self, id: Id) -> Option<u32>
         ensures { result ≡ version_of (patches_of self.now.items) id }
     {
-        self.index.version_of(id)
+        match place_of(&self.chain, &self.versions, id) {
+            Ok(at) => Some(self.versions[at]),
+            Err(_) => None,
+        }
     }
 
     // The version that a patch names as the one before it.
@@ -67,9 +83,10 @@ impl IndexedChain {
 
     /// What the chain makes of a patch.
     pub fn decide(&self, limits: &LogLimits, link: Link, text: &[u8]) -> Decision
-        requires text { length text.now ≤ 4194304 }
+        requires text { length text.now ≤ PATCH_LIMIT }
         requires few { length self.now.items ≤ limits.now.patches }
-        ensures { result ≡ decision (patches_of self.now.items) (record { id = link.id; prev = link.prev; text = text.now }) limits.now }
+        ensures { result ≡ decision (patches_of self.now.items)
+            (record { id = link.id; prev = link.prev; text = text.now }) limits.now }
     {
         let places = Places {
             known: self.version_of(link.id),
@@ -82,9 +99,15 @@ impl IndexedChain {
     pub fn reserve(&mut self) -> Result<(), OutOfMemory>
         ensures items { self.new.items ≡ self.old.items }
         ensures spare { OnOk result (1 ≤ self.new.spare) }
+        ensures kept { self.old.spare ≤ self.new.spare }
+        ensures err { OnErr result (self.new ≡ self.old) }
     {
         self.chain.reserve()?;
-        self.index.reserve()
+        if self.versions.len() < self.versions.capacity() {
+            return Ok(());
+        }
+        self.versions.reserve(1)?;
+        Ok(())
     }
 
     /// Adds a patch, in places that are ready.
@@ -95,7 +118,10 @@ impl IndexedChain {
         ensures spare { self.new.spare + 1 ≡ self.old.spare }
     {
         let version = self.chain.version() + 1;
-        self.index.add(patch.id, version);
+        match place_of(&self.chain, &self.versions, patch.id) {
+            Ok(_) => unreachable!(),
+            Err(at) => insert_ready(&mut self.versions, at, version),
+        }
         self.chain.push(patch, by);
     }
 }

@@ -7,12 +7,12 @@ mod index;
 mod indexed;
 mod laws;
 mod opening;
+mod read_chain;
 mod ready;
 mod state;
 
-pub use appending::{append, append_all};
+pub use appending::{append, append_all, append_made};
 pub use fault::{LogFault, LogRefusal};
-pub use index::Index;
 pub use indexed::IndexedChain;
 pub use laws::{logs_are_found_again, logs_have_no_fault};
 pub use ready::Ready;

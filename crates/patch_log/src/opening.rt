@@ -8,6 +8,7 @@ ghost use Rattle.patch_log.specs.Opening.{IsNextOf, AreFound};
 
 use crate::fault::LogFault;
 use crate::indexed::IndexedChain;
+use crate::read_chain::ReadChain;
 use chain_core::{Link, Patch};
 use delta_base::{Bytes, OutOfMemory};
 use log_journal::Payloads;
@@ -39,14 +40,14 @@ fn read_link(alloc: Global, text: &[u8]) -> Result<Link, NextFault>
 }
 
 // Whether it names the last patch, and its id is new.
-fn follows(chain: &IndexedChain, link: Link) -> bool
+fn follows(chain: &ReadChain, link: Link) -> bool
     ensures { IsTrue result ↔ ((link.prev ≡ last_id (patches_of chain.now.items)) × (version_of (patches_of chain.now.items) link.id ≡ None)) }
 {
     link.prev == chain.chain().head() && chain.version_of(link.id).is_none()
 }
 
 // The id and the previous id of the patch that a text is, if it goes behind the chain.
-fn next_link(alloc: Global, chain: &IndexedChain, text: &[u8], most: u32) -> Result<Link, NextFault>
+fn next_link(alloc: Global, chain: &ReadChain, text: &[u8], most: u32) -> Result<Link, NextFault>
     ensures ok { IfOk result (λ link. IsNextOf (patches_of chain.now.items) text.now most (record { id = link.id; prev = link.prev; text = text.now })) }
     ensures broken { IsErrOf result NextFault.Broken → (patch : PatchRead) → IsNextOf (patches_of chain.now.items) text.now most patch → ⊥ }
     ensures kept { IsKept chain.now.items }
@@ -62,21 +63,15 @@ fn next_link(alloc: Global, chain: &IndexedChain, text: &[u8], most: u32) -> Res
 }
 
 // Adds the patch of a payload.
-fn add_next(
-    alloc: Global,
-    chain: &mut IndexedChain,
-    text: Bytes,
-    most: u32,
-) -> Result<(), NextFault>
+fn add_next(alloc: Global, chain: &mut ReadChain, text: Bytes, most: u32) -> Result<(), NextFault>
     ensures ok { OnOk result ((patch : PatchRead) × IsNextOf (patches_of chain.old.items) text most patch × (chain.new.items ≡ chain.old.items ++ record { patch = patch; by = 0 } ∷ [])) }
     ensures broken { IsErrOf result NextFault.Broken → (patch : PatchRead) → IsNextOf (patches_of chain.old.items) text most patch → ⊥ }
 {
     let Link { id, prev } = next_link(alloc, chain, text.as_slice(), most)?;
-    if chain.reserve().is_err() {
-        return Err(NextFault::OutOfMemory);
+    match chain.add(Patch { id, prev, text }, 0) {
+        Ok(()) => Ok(()),
+        Err(_) => Err(NextFault::OutOfMemory),
     }
-    chain.push(Patch { id, prev, text }, 0);
-    Ok(())
 }
 
 /// The chain of the patches that the payloads are.
@@ -86,7 +81,7 @@ pub fn read_log(alloc: Global, payloads: Payloads, most: u32) -> Result<IndexedC
     ensures countable { most < 2 ^ 32 }
     ensures faults { IfErr result (λ fault. ((version : ℕ) × (fault ≡ LogFault.BrokenChain version)) ⊎ (fault ≡ LogFault.OutOfMemory)) }
 {
-    let mut chain = IndexedChain::new(alloc);
+    let mut chain = ReadChain::new(alloc);
     for text in payloads.into_vec() {
         let version = u64::from(chain.chain().version()) + 1;
         match add_next(alloc, &mut chain, text, most) {
@@ -95,5 +90,5 @@ pub fn read_log(alloc: Global, payloads: Payloads, most: u32) -> Result<IndexedC
             Err(NextFault::OutOfMemory) => return Err(LogFault::OutOfMemory),
         }
     }
-    Ok(chain)
+    Ok(chain.indexed(alloc)?)
 }

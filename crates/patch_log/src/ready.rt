@@ -1,15 +1,17 @@
-//! A patch that can be added without asking for memory.
+//! A patch that can be added without asking for memory of its own.
 use chain_core::Patch;
-use log_journal::Block;
+use delta_base::OutOfMemory;
+use log_journal::{Block, make_block};
+use patch_meaning::Checked;
+use std::alloc::Global;
 use std::marker::Model;
 
-/// A patch with its block, the pass that brings it, and how long the chain was when room was made for it.
+/// A patch with its block, and the pass that brings it. It is made without a log.
 #[derive(Drop)]
 pub struct Ready {
     pub(crate) patch: Patch,
     pub(crate) block: Block,
     pub(crate) by: u32,
-    pub(crate) length: u32,
 }
 
 impl Model for Ready {
@@ -17,7 +19,29 @@ impl Model for Ready {
 
     ghost Value = { ReadyView };
 
-    ghost view = { λ r. record { patch = r.patch; by = r.by; length = r.length } };
+    ghost view = { λ r. record { patch = r.patch; by = r.by } };
 
     ghost invariant = { λ r. IsReady r.patch r.block };
+}
+
+impl Ready {
+    ghost use Rattle.std.specs.Prelude.{IfOk};
+    ghost use Rattle.patch_log.specs.Ready.{IsMadeOf};
+
+    /// Takes all the memory that the patch itself needs, for its copy and for its block.
+    pub fn of(alloc: Global, patch: &Checked, by: u32) -> Result<Ready, OutOfMemory>
+        ensures { IfOk result (IsMadeOf patch.now by) }
+    {
+        let text = patch.text().copy()?;
+        let block = make_block(alloc, text.as_slice())?;
+        Ok(Ready {
+            patch: Patch {
+                id: patch.id(),
+                prev: patch.prev(),
+                text,
+            },
+            block,
+            by,
+        })
+    }
 }

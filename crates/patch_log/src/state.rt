@@ -1,15 +1,43 @@
 //! One log in one thread.
-ghost use Rattle.std.specs.Prelude.{◌≡◌, ◌≢◌, ℕ, ◌+◌, ◌-◌, ◌<◌, ◌≤◌, ◌++◌, [], ◌∷◌, length, None, IfOk, IfErr, OnOk};
+ghost use Rattle.std.specs.Prelude.{
+  ◌≡◌,
+  ◌≢◌,
+  ◌⊎◌,
+  ℕ,
+  ◌+◌,
+  ◌-◌,
+  ◌≤◌,
+  ◌++◌,
+  [],
+  ◌∷◌,
+  IsTrue,
+  not,
+  is_none,
+  None,
+  IfOk,
+  IfErr,
+  OnOk,
+  OnErr,
+};
 ghost use Rattle.std.specs.List.{AllByRecursion};
 ghost use Rattle.delta_base.specs.Outside.{Rose};
 ghost use Rattle.disk_model.specs.Past.{reads, ok_syncs, EveryImage, LeavesOnly, Keeps};
 ghost use Rattle.log_journal.specs.File.{Holds};
-ghost use Rattle.chain_core.specs.Patches.{patches_of, texts_of, version_of, journal_length};
+ghost use Rattle.chain_core.specs.Patches.{version_of, journal_length};
 ghost use Rattle.chain_core.specs.Decision.{decision};
-ghost use Rattle.chain_core.specs.Log.{up};
-ghost use Rattle.chain_core.specs.Stay.{Stay, fate_by_syncs};
-ghost use Rattle.patch_log.specs.Log.{bare, IsSoundLog, StandsForLog, MayHoldDuring};
+ghost use Rattle.chain_core.specs.Stay.{Stay, fate_by_syncs, fate_by_plan};
+ghost use Rattle.patch_log.specs.Log.{
+  bare,
+  payloads_of,
+  IsSoundLog,
+  StandsForLog,
+  MayHoldDuring,
+  LeavesEither,
+};
 ghost use Rattle.patch_log.specs.Fault.{HasLogFault};
+ghost use Rattle.patch_log.specs.Ready.{IsMadeOf};
+ghost use Rattle.patch_log.specs.Run.{Appended};
+ghost use Rattle.patch_log.specs.State.{chain_of, point_of};
 
 use crate::fault::{LogFault, LogRefusal};
 use crate::indexed::IndexedChain;
@@ -17,8 +45,8 @@ use crate::opening::read_log;
 use crate::ready::Ready;
 use chain_core::{Chain, Decision, Link, LogAnswer, Patch};
 use delta_base::{Id, LogLimits, OutOfMemory, Phase};
-use disk_model::Disk;
-use log_journal::{Journal, OpenRefusal, make_block, write};
+use disk_model::{Disk, Planned};
+use log_journal::{Journal, OpenRefusal, write};
 use patch_meaning::Checked;
 use std::alloc::Global;
 use std::marker::Model;
@@ -56,19 +84,35 @@ impl<D: Disk> LogState<D> {
         limits: LogLimits,
     ) -> Result<LogState<D>, LogRefusal<D>>
         // The chain is that of the journal's payloads, brought by no pass, and no patch is in doubt.
-        ensures payloads { D.tells → IfOk result (λ log. Holds (reads (D.past disk)) number (texts_of (patches_of log.entries))) }
-        ensures log { IfOk result (λ log. IsSoundLog limits (patches_of log.entries)) }
+        ensures payloads { D.tells → IfOk result (λ log.
+            Holds (reads (D.past disk)) number (payloads_of (chain_of log))) }
+        ensures log { IfOk result (λ log. IsSoundLog limits (chain_of log)) }
         ensures by_nobody { IfOk result (λ log. AllByRecursion (λ entry. entry.by ≡ 0) log.entries) }
-        ensures settled { IfOk result (λ log. (log.doubt ≡ None) × (log.number ≡ number) × (log.limits ≡ limits)) }
-        ensures fault { D.tells → IfErr result (λ refusal. HasLogFault (reads (D.past disk)) number limits refusal.fault) }
+        ensures settled { IfOk result (λ log.
+            (log.doubt ≡ None) × (log.number ≡ number) × (log.limits ≡ limits)) }
+        ensures fault { D.tells → IfErr result (λ refusal.
+            HasLogFault (reads (D.past disk)) number limits refusal.fault) }
 
         // A crash at any moment leaves what it might have left before, and a read gives what it gave.
         ensures kept { D.tells → IfOk result (λ log. Keeps (D.past disk) (D.past log.disk)) }
         ensures kept_refused { D.tells → IfErr result (λ refusal. Keeps (D.past disk) (D.past refusal.disk)) }
 
         // It reads no more than the journal.
-        ensures few { D.tells → IfOk result (λ log. D.read_bytes log.disk ≤ D.read_bytes disk + journal_length (patches_of log.entries)) }
-        ensures cause { IfErr result (λ refusal. refusal.fault ≡ LogFault.Failed → Rose (D.faults disk) (D.faults refusal.disk)) }
+        ensures few { D.tells → IfOk result (λ log.
+            D.read_bytes log.disk ≤ D.read_bytes disk + journal_length (chain_of log)) }
+        ensures cause { IfErr result (λ refusal. refusal.fault ≡ LogFault.Failed
+            → Rose (D.faults disk) (D.faults refusal.disk)) }
+
+        // A fault is counted where a call of the disk failed, and else none.
+        ensures faults { IfOk result (λ log. D.faults log.disk ≡ D.faults disk) }
+        ensures never_falls { IfErr result (λ refusal. D.faults disk ≤ D.faults refusal.disk) }
+        ensures faults_refused { IfErr result (λ refusal. refusal.fault ≢ LogFault.Failed
+            → D.faults refusal.disk ≡ D.faults disk) }
+
+        // Where no failure is planned, its disk fails for want of memory alone.
+        ensures long { D.plans → IfOk result (λ log. D.short log.disk ≡ D.short disk) }
+        ensures planned { D.plans → IfErr result (λ refusal. refusal.fault ≡ LogFault.Failed
+            → D.next_failure disk ≡ None → IsTrue (D.short refusal.disk)) }
         ensures mark { IfOk result (λ log. D.mark log.disk ≡ D.mark disk) }
         ensures mark_refused { IfErr result (λ refusal. D.mark refusal.disk ≡ D.mark disk) }
     {
@@ -98,17 +142,30 @@ impl<D: Disk> LogState<D> {
     /// The chain. Every image that a crash may leave holds it, with the patch in doubt or without.
     pub fn chain(&self) -> &Chain
         ensures entries { result.now.items ≡ self.now.entries }
-        ensures log { IsSoundLog self.now.limits (patches_of self.now.entries) }
-        ensures stands { D.tells → StandsForLog (D.past self.now.disk) self.now.number self.now.limits (patches_of self.now.entries) self.now.doubt }
+        ensures log { IsSoundLog self.now.limits (chain_of self.now) }
+        ensures stands { D.tells → StandsForLog (D.past self.now.disk) self.now.number
+            self.now.limits (chain_of self.now) self.now.doubt }
     {
         self.chain.chain()
     }
 
     /// The version of the patch with an id, found by the index.
     pub fn version_of(&self, id: Id) -> Option<u32>
-        ensures { result ≡ version_of (patches_of self.now.entries) id }
+        ensures { result ≡ version_of (chain_of self.now) id }
     {
         self.chain.version_of(id)
+    }
+
+    // Where its memory comes from.
+    pub(crate) fn alloc(&self) -> Global {
+        self.alloc
+    }
+
+    /// No patch is in doubt.
+    pub fn is_settled(&self) -> bool
+        ensures { result ≡ is_none self.now.doubt }
+    {
+        self.doubt.is_none()
     }
 
     /// How often its disk has failed.
@@ -120,8 +177,9 @@ impl<D: Disk> LogState<D> {
 
     /// What the chain makes of the patch, found by the index. It takes no memory.
     pub fn decide_here(&self, patch: &Checked) -> Decision
-        ensures decision { result ≡ decision (patches_of self.now.entries) (bare patch.now) self.now.limits }
-        ensures stands { D.tells → StandsForLog (D.past self.now.disk) self.now.number self.now.limits (patches_of self.now.entries) self.now.doubt }
+        ensures decision { result ≡ decision (chain_of self.now) (bare patch.now) self.now.limits }
+        ensures stands { D.tells → StandsForLog (D.past self.now.disk) self.now.number
+            self.now.limits (chain_of self.now) self.now.doubt }
     {
         let link = Link {
             id: patch.id(),
@@ -131,77 +189,125 @@ impl<D: Disk> LogState<D> {
             .decide(&self.limits, link, patch.text().as_slice())
     }
 
-    /// Takes all the memory that adding the patch needs.
-    pub fn reserve(&mut self, patch: &Checked, by: u32) -> Result<Ready, OutOfMemory>
-        ensures ready { IfOk result (λ ready. (ready.patch ≡ bare patch.now) × (ready.by ≡ by) × (ready.length ≡ length self.old.entries)) }
-        ensures spare { OnOk result (1 ≤ self.new.spare) }
-        ensures same { self.new ≡ record self.old { spare = self.new.spare } }
+    // What the chain makes of a patch that is ready.
+    fn decide_ready(&self, ready: &Ready) -> Decision
+        ensures decision { result ≡ decision (chain_of self.now) ready.now.patch self.now.limits }
+        ensures stands { D.tells → StandsForLog (D.past self.now.disk) self.now.number
+            self.now.limits (chain_of self.now) self.now.doubt }
     {
-        self.chain.reserve()?;
-        let text = patch.text().copy()?;
-        let block = make_block(self.alloc, text.as_slice())?;
-        Ok(Ready {
-            patch: Patch {
-                id: patch.id(),
-                prev: patch.prev(),
-                text,
-            },
-            block,
-            by,
-            length: self.chain.chain().version(),
-        })
+        let link = Link {
+            id: ready.patch.id,
+            prev: ready.patch.prev,
+        };
+        self.chain
+            .decide(&self.limits, link, ready.patch.text.as_slice())
     }
 
-    /// Adds the patch, or says why not. It takes no memory.
-    pub fn append_reserved(&mut self, ready: Ready) -> LogAnswer
+    // Makes a place ready.
+    fn reserve_place(&mut self) -> Result<(), OutOfMemory>
+        ensures spare { OnOk result (1 ≤ self.new.spare) }
+        ensures kept { self.old.spare ≤ self.new.spare }
+        ensures same { self.new ≡ record self.old { spare = self.new.spare } }
+        ensures err { OnErr result (self.new ≡ self.old) }
+    {
+        self.chain.reserve()
+    }
+
+    /// Takes all the memory that adding the patch needs.
+    pub fn reserve(&mut self, patch: &Checked, by: u32) -> Result<Ready, OutOfMemory>
+        ensures ready { IfOk result (IsMadeOf patch.now by) }
+        ensures spare { OnOk result (1 ≤ self.new.spare) }
+        ensures kept { self.old.spare ≤ self.new.spare }
+        ensures same { self.new ≡ record self.old { spare = self.new.spare } }
+        ensures err { OnErr result (self.new ≡ self.old) }
+    {
+        let ready = Ready::of(self.alloc, patch, by)?;
+        self.reserve_place()?;
+        Ok(ready)
+    }
+
+    // Writes a patch that was accepted, in a place that is ready.
+    fn write_accepted(&mut self, version: u32, ready: Ready) -> LogAnswer
         requires room { 1 ≤ self.old.spare }
-        requires same_chain { ready.length ≡ length self.old.entries }
+        requires accept { decision (chain_of self.old) ready.patch self.old.limits
+            ≡ Decision.Accept version }
+        ensures told { (result ≡ LogAnswer.Accepted version) ⊎ (result ≡ LogAnswer.DiskFault) }
 
         // It is one stay in the log's turn, whose fate the disk chose.
-        ensures stay { (fate : _) × Stay self.old.limits (up (patches_of self.old.entries) self.old.doubt) ready.patch fate (up (patches_of self.new.entries) self.new.doubt) result
-            × (D.tells → (version : ℕ) → decision (patches_of self.old.entries) ready.patch self.old.limits ≡ Decision.Accept version
-            → fate ≡ fate_by_syncs self.old.doubt (ok_syncs (D.past self.new.disk) - ok_syncs (D.past self.old.disk))) }
-        ensures accepted { (version : ℕ) → result ≡ LogAnswer.Accepted version → self.new.entries ≡ self.old.entries ++ record { patch = ready.patch; by = ready.by } ∷ [] }
-        ensures refused { ((version : ℕ) → result ≢ LogAnswer.Accepted version) → self.new.entries ≡ self.old.entries }
-
-        // A crash at any moment of the call leaves the chain, with the patch in doubt, with the new one, or with neither.
-        // What is accepted is in every image.
-        ensures any_moment { D.tells → LeavesOnly (MayHoldDuring self.old.number (patches_of self.old.entries) self.old.doubt ready.patch) (D.past self.old.disk) (D.past self.new.disk) }
-        ensures kept { (version : ℕ) → result ≡ LogAnswer.Accepted version → D.tells → EveryImage (D.past self.new.disk) (λ image. Holds image self.new.number (texts_of (patches_of self.new.entries))) }
-
-        ensures cause { result ≡ LogAnswer.DiskFault → Rose (D.faults self.old.disk) (D.faults self.new.disk) }
+        ensures stay { (fate : _) × Stay self.old.limits (point_of self.old) ready.patch fate
+            (point_of self.new) result
+            × (D.tells → fate ≡ fate_by_syncs self.old.doubt
+            (ok_syncs (D.past self.new.disk) - ok_syncs (D.past self.old.disk))) }
+        ensures planned { D.plans → IsTrue (not (D.short self.new.disk))
+            → Stay self.old.limits (point_of self.old) ready.patch
+            (fate_by_plan self.old.doubt (D.next_failure self.old.disk))
+            (point_of self.new) result }
+        ensures accepted { result ≡ LogAnswer.Accepted version
+            → self.new.entries ≡ self.old.entries
+            ++ record { patch = ready.patch; by = ready.by } ∷ [] }
+        ensures refused { result ≡ LogAnswer.DiskFault → self.new.entries ≡ self.old.entries }
+        ensures any_moment { D.tells → LeavesOnly
+            (MayHoldDuring self.old.number (chain_of self.old) self.old.doubt ready.patch)
+            (D.past self.old.disk) (D.past self.new.disk) }
+        ensures kept { result ≡ LogAnswer.Accepted version → D.tells
+            → EveryImage (D.past self.new.disk)
+            (λ image. Holds image self.new.number (payloads_of (chain_of self.new))) }
+        ensures images { D.plans → D.tells → IsTrue (not (D.short self.new.disk))
+            → LeavesEither (D.past self.old.disk) self.old.number (chain_of self.old) self.old.doubt
+            → LeavesEither (D.past self.new.disk) self.new.number (chain_of self.new) self.new.doubt }
+        ensures cause { result ≡ LogAnswer.DiskFault
+            → Rose (D.faults self.old.disk) (D.faults self.new.disk) }
         ensures faults { D.faults self.old.disk ≤ D.faults self.new.disk }
-        ensures memory { result ≢ LogAnswer.OutOfMemory }
+        ensures well { result ≡ LogAnswer.Accepted version
+            → D.faults self.new.disk ≡ D.faults self.old.disk }
+        ensures stays_short { D.plans → IsTrue (D.short self.old.disk)
+            → IsTrue (D.short self.new.disk) }
+        ensures spare { self.old.spare ≤ self.new.spare + 1 }
         ensures limits { self.new.limits ≡ self.old.limits }
         ensures number { self.new.number ≡ self.old.number }
         ensures mark { D.mark self.new.disk ≡ D.mark self.old.disk }
     {
-        let Ready {
-            patch,
-            block,
-            by,
-            length: _,
-        } = ready;
-        let link = Link {
-            id: patch.id,
-            prev: patch.prev,
-        };
-        match self.chain.decide(&self.limits, link, patch.text.as_slice()) {
-            Decision::Accept { version } => match write(&mut self.journal, &block) {
-                Ok(()) => {
-                    self.doubt = None;
-                    self.chain.push(patch, by);
-                    LogAnswer::Accepted { version }
-                }
-                Err(Phase::Settling) => LogAnswer::DiskFault,
-                Err(Phase::Body) => {
-                    self.doubt = None;
-                    LogAnswer::DiskFault
-                }
-                Err(Phase::Gate) => {
-                    self.doubt = Some(patch);
-                    LogAnswer::DiskFault
-                }
+        let Ready { patch, block, by } = ready;
+        match write(&mut self.journal, &block) {
+            Ok(()) => {
+                self.doubt = None;
+                self.chain.push(patch, by);
+                LogAnswer::Accepted { version }
+            }
+            Err(Phase::Settling) => LogAnswer::DiskFault,
+            Err(Phase::Body) => {
+                self.doubt = None;
+                LogAnswer::DiskFault
+            }
+            Err(Phase::Gate) => {
+                self.doubt = Some(patch);
+                LogAnswer::DiskFault
+            }
+        }
+    }
+
+    /// Adds the patch, in a place that is ready, or says why not. It takes no memory.
+    pub fn append_reserved(&mut self, ready: Ready) -> LogAnswer
+        requires room { 1 ≤ self.old.spare }
+        ensures appended { Appended D.Disk self.old self.new ready.patch ready.by result }
+        ensures memory { result ≢ LogAnswer.OutOfMemory }
+        ensures spare { self.old.spare ≤ self.new.spare + 1 }
+    {
+        match self.decide_ready(&ready) {
+            Decision::Accept { version } => self.write_accepted(version, ready),
+            decision => LogAnswer::told(decision),
+        }
+    }
+
+    /// Adds the patch, or says why not. Only for one that can be accepted it makes a place ready.
+    pub fn append_ready(&mut self, ready: Ready) -> LogAnswer
+        ensures appended { Appended D.Disk self.old self.new ready.patch ready.by result }
+        ensures spare { self.old.spare ≤ self.new.spare + 1 }
+    {
+        match self.decide_ready(&ready) {
+            Decision::Accept { version } => match self.reserve_place() {
+                Ok(()) => self.write_accepted(version, ready),
+                Err(_) => LogAnswer::OutOfMemory,
             },
             decision => LogAnswer::told(decision),
         }
@@ -209,9 +315,32 @@ impl<D: Disk> LogState<D> {
 
     /// Gives the disk back.
     pub fn close(self) -> D
-        ensures { result ≡ self.disk }
+        ensures disk { result ≡ self.disk }
+        ensures stands { D.tells → StandsForLog (D.past result) self.number self.limits
+            (chain_of self) self.doubt }
     {
         let LogState { journal, .. } = self;
         journal.close()
+    }
+}
+
+impl<D: Planned> LogState<D> {
+    /// Plans which sync of its disk fails.
+    pub fn plan(&mut self, next: Option<u64>)
+        ensures same { self.new ≡ record self.old { disk = self.new.disk } }
+        ensures next { D.next_failure self.new.disk ≡ next }
+        ensures past { D.past self.new.disk ≡ D.past self.old.disk }
+        ensures short { D.short self.new.disk ≡ D.short self.old.disk }
+        ensures faults { D.faults self.new.disk ≡ D.faults self.old.disk }
+        ensures mark { D.mark self.new.disk ≡ D.mark self.old.disk }
+    {
+        self.journal.plan(next);
+    }
+
+    /// Whether a call of its disk has failed for want of memory.
+    pub fn is_short(&self) -> bool
+        ensures { result ≡ D.short self.now.disk }
+    {
+        self.journal.is_short()
     }
 }

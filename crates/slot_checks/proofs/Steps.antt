@@ -1,6 +1,6 @@
 -- Files checked one after another.
-use Rattle.std.proofs.Common.{◌≡◌, inl, inr, ℕ, ◌+◌, ◌<◌, ◌≤◌, List, [], ◌∷◌, ◌++◌, length, take, get_or, Option, Some, None, refl, sym, ◌∙◌, ap, subst, arith, length-append, append-nil}
-use Rattle.std.specs.Prelude.{unwrap_or}
+use Rattle.std.proofs.Common.{◌≡◌, inl, inr, ℕ, ◌+◌, ◌<◌, ◌≤◌, List, [], ◌∷◌, ◌++◌, length, take, get_or, Option, Some, None, Result, Ok, Err, IfErr, refl, sym, ◌∙◌, ap, subst, arith, length-append, append-nil}
+use Rattle.std.specs.Prelude.{unwrap_or, IsErrAnd}
 use Rattle.std.proofs.lemmas.Grind.{flat_map-append}
 use Rattle.std.proofs.lemmas.List.{take_more}
 use Rattle.disk_model.specs.Shelf.{SameOthers}
@@ -9,10 +9,10 @@ use Rattle.slot_files.proofs.Steps.{other_number, other_dir, at_or_not}
 use Rattle.slot_checks.specs.declared.fault.CheckFault.{CheckFault}
 use Rattle.slot_checks.specs.declared.lines.FileLine.{FileLine}
 use Rattle.slot_checks.specs.declared.lines.FileLine.TheVariants as line
-use Rattle.slot_checks.specs.Checks.{HasLines, StopsAtLog, IsKept, AreKept}
+use Rattle.slot_checks.specs.Checks.{HasLines, StopsAtLog, StopsInLogs, Stops, at_log, IsKept, AreKept}
 use Rattle.slot_checks.specs.Faults.{HasFileFault}
 use Rattle.slot_checks.specs.Lines.{line_text, lines_text}
-use Rattle.slot_checks.specs.Sound.{IsLogLine, AreLogLines}
+use Rattle.slot_checks.specs.Sound.{IsLogLine, IsRegistry, AreLogLines}
 
 -- ---- files that are kept
 
@@ -31,27 +31,27 @@ pub opened_kept : (old new : Option (List ℕ)) → new ≡ Some (unwrap_or old 
 opened_kept None new is = inr (refl, is)
 opened_kept (Some bytes) new is = inl is
 
-pub all_kept : (dir : List ℕ) (files : Files) → AreKept dir files files
-all_kept dir files = record { elsewhere = λ other number apart. refl; here = λ number. inl refl; beyond = λ number far. refl }
+pub all_kept : (dir : List ℕ) (end : ℕ) (files : Files) → AreKept dir end files files
+all_kept dir end files = record { elsewhere = λ other number apart. refl; here = λ number. inl refl; beyond = λ number far. refl }
 
-pub visit_kept : (dir : List ℕ) (number : ℕ) (old mid new : Files) → number ≤ 16 → AreKept dir old mid → IsKept (mid dir number) (new dir number) → SameOthers (Some (dir, number)) mid new → AreKept dir old new
-visit_kept dir number old mid new within kept here others = record {
+pub visit_kept : (dir : List ℕ) (number : ℕ) (old mid new : Files) → AreKept dir number old mid → IsKept (mid dir number) (new dir number) → SameOthers (Some (dir, number)) mid new → AreKept dir (number + 1) old new
+visit_kept dir number old mid new kept here others = record {
   elsewhere = λ other n apart. other_dir dir number mid new others other n apart ∙ kept.elsewhere other n apart;
   here = at_or_not (λ n. IsKept (old dir n) (new dir n)) number
       (kept_twice (old dir number) (mid dir number) (new dir number) (kept.here number) here)
       (λ n differs. subst (λ (file : Option (List ℕ)). IsKept (old dir n) file) (sym (other_number dir number mid new others n differs)) (kept.here n));
-  beyond = λ n far. other_number dir number mid new others n (λ same. absurd (omega (arith, same, far, within))) ∙ kept.beyond n far;
+  beyond = λ n far. other_number dir number mid new others n (λ same. absurd (omega (arith, same, far))) ∙ kept.beyond n (omega (arith, far));
 }
 
-pub all_twice : (dir : List ℕ) (old mid new : Files) → AreKept dir old mid → AreKept dir mid new → AreKept dir old new
-all_twice dir old mid new first second = record {
+pub all_twice : (dir : List ℕ) (sooner later : ℕ) (old mid new : Files) → sooner ≤ later → AreKept dir sooner old mid → AreKept dir later mid new → AreKept dir later old new
+all_twice dir sooner later old mid new within first second = record {
   elsewhere = λ other n apart. second.elsewhere other n apart ∙ first.elsewhere other n apart;
   here = λ n. kept_twice (old dir n) (mid dir n) (new dir n) (first.here n) (second.here n);
-  beyond = λ n far. second.beyond n far ∙ first.beyond n far;
+  beyond = λ n far. second.beyond n far ∙ first.beyond n (omega (arith, within, far));
 }
 
-pub same_bytes : (dir : List ℕ) (old mid : Files) (number : ℕ) → AreKept dir old mid → bytes_at mid dir number ≡ bytes_at old dir number
-same_bytes dir old mid number kept = kept_bytes (old dir number) (mid dir number) (kept.here number)
+pub same_bytes : (dir : List ℕ) (end : ℕ) (old mid : Files) (number : ℕ) → AreKept dir end old mid → bytes_at mid dir number ≡ bytes_at old dir number
+same_bytes dir end old mid number kept = kept_bytes (old dir number) (mid dir number) (kept.here number)
 
 -- ---- lines
 
@@ -71,12 +71,13 @@ one_more files dir number old new line_ has is pushed = record {
   count = omega (arith, has.count, length-append has.lines (line_ ∷ []));
 }
 
-pub stops_at : (files : Files) (dir : List ℕ) (slots number : ℕ) (report : List FileLine) (fault : CheckFault) → HasLines files dir number report → number ≤ slots → HasFileFault (bytes_at files dir number) number fault → StopsAtLog files dir slots fault
+pub stops_at : (files : Files) (dir : List ℕ) (slots number : ℕ) (report : List FileLine) (fault : CheckFault) → HasLines files dir number report → number ≤ slots → HasFileFault (bytes_at files dir number) number fault → StopsAtLog files dir slots number fault
 stops_at files dir slots number report fault has within is = record {
   lines = has.lines;
   logs = has.logs;
-  within = omega (arith, has.count, within);
-  fault_is = subst (λ (n : ℕ). HasFileFault (bytes_at files dir n) n fault) (sym has.count) is;
+  file_is = sym has.count;
+  within = within;
+  fault_is = is;
 }
 
 -- ---- texts
@@ -92,16 +93,36 @@ lines_same : (old mid : Files) (dir : List ℕ) (from : ℕ) (lines : List FileL
 lines_same old mid dir from [] same are = tt
 lines_same old mid dir from (first ∷ lines) same are = (subst (λ (bytes : List ℕ). IsLogLine bytes from first) (same from) are.0, lines_same old mid dir (from + 1) lines same are.1)
 
-pub has_same : (old mid : Files) (dir : List ℕ) (end : ℕ) (report : List FileLine) → AreKept dir old mid → HasLines mid dir end report → HasLines old dir end report
-has_same old mid dir end report kept has = record { lines = has.lines; report_is = has.report_is; logs = lines_same old mid dir 1 has.lines (λ n. same_bytes dir old mid n kept) has.logs; count = has.count }
+pub has_same : (old mid : Files) (dir : List ℕ) (end : ℕ) (report : List FileLine) → AreKept dir 1 old mid → HasLines mid dir end report → HasLines old dir end report
+has_same old mid dir end report kept has = record { lines = has.lines; report_is = has.report_is; logs = lines_same old mid dir 1 has.lines (λ n. same_bytes dir 1 old mid n kept) has.logs; count = has.count }
 
-pub stops_same : (old mid : Files) (dir : List ℕ) (slots : ℕ) (fault : CheckFault) → AreKept dir old mid → StopsAtLog mid dir slots fault → StopsAtLog old dir slots fault
-stops_same old mid dir slots fault kept stops = record {
+pub stops_same : (old mid : Files) (dir : List ℕ) (slots file : ℕ) (fault : CheckFault) → AreKept dir 1 old mid → StopsAtLog mid dir slots file fault → StopsAtLog old dir slots file fault
+stops_same old mid dir slots file fault kept stops = record {
   lines = stops.lines;
-  logs = lines_same old mid dir 1 stops.lines (λ n. same_bytes dir old mid n kept) stops.logs;
+  logs = lines_same old mid dir 1 stops.lines (λ n. same_bytes dir 1 old mid n kept) stops.logs;
+  file_is = stops.file_is;
   within = stops.within;
-  fault_is = subst (λ (bytes : List ℕ). HasFileFault bytes (length stops.lines + 1) fault) (same_bytes dir old mid (length stops.lines + 1) kept) stops.fault_is;
+  fault_is = subst (λ (bytes : List ℕ). HasFileFault bytes file fault) (same_bytes dir 1 old mid file kept) stops.fault_is;
 }
+
+-- the first visit, and the visits of the logs behind it
+module _ (dir : List ℕ) (old mid new : Files) (first : AreKept dir 1 old mid) where
+  pub stops_behind : (slots : ℕ) (fault : CheckFault) → IsRegistry (bytes_at old dir 0) slots → StopsInLogs dir slots mid new fault → Stops dir old new fault
+  stops_behind slots fault registry stops = record {
+    file = stops.file;
+    stops = at_log slots registry (stops_same old mid dir slots stops.file fault first stops.stops);
+    kept = all_twice dir 1 (stops.file + 1) old mid new (omega arith) first stops.kept;
+  }
+
+  pub kept_behind : (slots : ℕ) (report : List FileLine) → HasLines mid dir (slots + 1) report → AreKept dir (slots + 1) mid new → AreKept dir (length report) old new
+  kept_behind slots report has kept =
+      let count : slots + 1 ≡ length report = omega (arith, has.count, ap length has.report_is) in
+      subst (λ (end : ℕ). AreKept dir end old new) count (all_twice dir 1 (slots + 1) old mid new (omega arith) first kept)
+
+-- a fault that is handed on
+pub told_err : {T : Type 0} (P : CheckFault → Type 0) (result : Result T CheckFault) (fault : CheckFault) → IsErrAnd result (λ e. e ≡ fault) → P fault → IfErr result P
+told_err P (Ok value) fault is here = tt
+told_err P (Err other) fault is here = subst P (sym is) here
 
 -- ---- payloads
 

@@ -1,5 +1,5 @@
 -- What a check of all files tells, and how it leaves them.
-use Rattle.std.specs.Prelude.{◌≡◌, ◌⊎◌, ℕ, ◌+◌, ◌<◌, List, [], ◌∷◌, length, Option, Some, None}
+use Rattle.std.specs.Prelude.{◌≡◌, ◌⊎◌, ℕ, ◌+◌, ◌≤◌, List, [], ◌∷◌, length, Option, Some, None}
 use Rattle.slot_files.specs.Files.{Files, bytes_at}
 use Rattle.slot_checks.specs.declared.fault.CheckFault.{CheckFault}
 use Rattle.slot_checks.specs.declared.lines.FileLine.{FileLine}
@@ -21,23 +21,37 @@ pub record IsReport (files : Files) (dir : List ℕ) (report : List FileLine) : 
   pub lines : HasLines files dir (slots + 1) report
 
 -- the first fault of the file of a log, behind others that are in their form
-pub record StopsAtLog (files : Files) (dir : List ℕ) (slots : ℕ) (fault : CheckFault) : Type 0 where
+pub record StopsAtLog (files : Files) (dir : List ℕ) (slots file : ℕ) (fault : CheckFault) : Type 0 where
   pub lines : List FileLine
   pub logs : AreLogLines files dir 1 lines
-  pub within : length lines < slots
-  pub fault_is : HasFileFault (bytes_at files dir (length lines + 1)) (length lines + 1) fault
+  pub file_is : file ≡ length lines + 1
+  pub within : file ≤ slots
+  pub fault_is : HasFileFault (bytes_at files dir file) file fault
 
 -- The first fault of the first file that has one: the registry's, or that of a log. Want of memory is free.
-pub data StopsAt (files : Files) (dir : List ℕ) (fault : CheckFault) : Type 0 where
-  at_registry : HasRegistryFault (bytes_at files dir 0) fault → StopsAt files dir fault
-  at_log : (slots : ℕ) → IsRegistry (bytes_at files dir 0) slots → StopsAtLog files dir slots fault → StopsAt files dir fault
+pub data StopsAt (files : Files) (dir : List ℕ) (file : ℕ) (fault : CheckFault) : Type 0 where
+  at_registry : file ≡ 0 → HasRegistryFault (bytes_at files dir 0) fault → StopsAt files dir file fault
+  at_log : (slots : ℕ) → IsRegistry (bytes_at files dir 0) slots → StopsAtLog files dir slots file fault
+      → StopsAt files dir file fault
 
 -- a file is as it was; where there was none, there may be an empty one
 abbrev pub IsKept : Option (List ℕ) → Option (List ℕ) → Type 0
 IsKept old new = (new ≡ old) ⊎ ((old ≡ None) × (new ≡ Some []))
 
--- so is each file of this directory with one of the numbers that can be asked for, and every other file is as it was
-pub record AreKept (dir : List ℕ) (old new : Files) : Type 0 where
+-- so is each file of this directory below this end, and every other file is as it was
+pub record AreKept (dir : List ℕ) (end : ℕ) (old new : Files) : Type 0 where
   pub elsewhere : (other : List ℕ) (number : ℕ) → (other ≡ dir → ⊥) → new other number ≡ old other number
   pub here : (number : ℕ) → IsKept (old dir number) (new dir number)
-  pub beyond : (number : ℕ) → 16 < number → new dir number ≡ old dir number
+  pub beyond : (number : ℕ) → end ≤ number → new dir number ≡ old dir number
+
+-- the first fault of the first file that has one; no file behind it was asked for
+pub record Stops (dir : List ℕ) (old new : Files) (fault : CheckFault) : Type 0 where
+  pub file : ℕ
+  pub stops : StopsAt old dir file fault
+  pub kept : AreKept dir (file + 1) old new
+
+-- the first fault of a log's file; no file behind it was asked for
+pub record StopsInLogs (dir : List ℕ) (slots : ℕ) (old new : Files) (fault : CheckFault) : Type 0 where
+  pub file : ℕ
+  pub stops : StopsAtLog old dir slots file fault
+  pub kept : AreKept dir (file + 1) old new

@@ -1,5 +1,6 @@
 -- Why a file of a registry and its logs isn't in its form.
 use Rattle.std.specs.Prelude.{◌≡◌, ℕ, ◌≤◌, List}
+use Rattle.delta_base.specs.declared.limits.TheConstants.{LOG_LIMITS, REGISTRY_LIMIT}
 use Rattle.disk_model.specs.declared.shelf.ShelfFault.{ShelfFault}
 use Rattle.disk_model.specs.declared.shelf.ShelfFault.TheVariants as shelf
 use Rattle.log_journal.specs.File.{Holds, journal_length}
@@ -11,7 +12,7 @@ use Rattle.patch_log.specs.declared.fault.LogFault.{LogFault}
 use Rattle.patch_log.specs.declared.fault.LogFault.TheVariants as log
 use Rattle.slot_checks.specs.declared.fault.CheckFault.{CheckFault}
 use Rattle.slot_checks.specs.declared.fault.CheckFault.TheVariants as check
-use Rattle.slot_checks.specs.Sound.{registry_limit, log_limits, IsBrokenEvent}
+use Rattle.slot_checks.specs.Sound.{IsBrokenEvent}
 
 -- a fault of a journal, with its file
 abbrev pub of_journal : ℕ → JournalFault → CheckFault
@@ -37,20 +38,20 @@ of_shelf shelf.OutOfMemory = check.OutOfMemory
 
 -- The registry's file has this fault, and none that comes before it. That a call failed, and want of memory, are free.
 abbrev pub HasRegistryFault : List ℕ → CheckFault → Type 0
-HasRegistryFault file (check.Damaged number at) = (number ≡ 0) × HasFault file 0 registry_limit (journal.Damaged at)
-HasRegistryFault file (check.WrongNumber number found) = (number ≡ 0) × HasFault file 0 registry_limit (journal.WrongNumber found)
-HasRegistryFault file (check.OverLimit number length limit) = (number ≡ 0) × HasFault file 0 registry_limit (journal.OverLimit length limit)
+HasRegistryFault file (check.Damaged number at) = (number ≡ 0) × HasFault file 0 REGISTRY_LIMIT (journal.Damaged at)
+HasRegistryFault file (check.WrongNumber number found) = (number ≡ 0) × HasFault file 0 REGISTRY_LIMIT (journal.WrongNumber found)
+HasRegistryFault file (check.OverLimit number length limit) = (number ≡ 0) × HasFault file 0 REGISTRY_LIMIT (journal.OverLimit length limit)
 HasRegistryFault file (check.BrokenChain number version) = ⊥
-HasRegistryFault file (check.BrokenEvent place) = (payloads : List (List ℕ)) × Holds file 0 payloads × (journal_length payloads ≤ registry_limit) × IsBrokenEvent payloads place
+HasRegistryFault file (check.BrokenEvent place) = (payloads : List (List ℕ)) × Holds file 0 payloads × (journal_length payloads ≤ REGISTRY_LIMIT) × IsBrokenEvent payloads place
 HasRegistryFault file check.Failed = Unit {0}
 HasRegistryFault file check.OutOfMemory = Unit {0}
 
 -- a log's file has this fault, and none that comes before it
 abbrev pub HasFileFault : List ℕ → ℕ → CheckFault → Type 0
-HasFileFault file number (check.Damaged at_file at) = (at_file ≡ number) × HasLogFault file number log_limits (log.Damaged at)
-HasFileFault file number (check.WrongNumber at_file found) = (at_file ≡ number) × HasLogFault file number log_limits (log.WrongNumber found)
-HasFileFault file number (check.OverLimit at_file length limit) = (at_file ≡ number) × HasLogFault file number log_limits (log.OverLimit length limit)
-HasFileFault file number (check.BrokenChain at_file version) = (at_file ≡ number) × HasLogFault file number log_limits (log.BrokenChain version)
+HasFileFault file number (check.Damaged at_file at) = (at_file ≡ number) × HasLogFault file number LOG_LIMITS (log.Damaged at)
+HasFileFault file number (check.WrongNumber at_file found) = (at_file ≡ number) × HasLogFault file number LOG_LIMITS (log.WrongNumber found)
+HasFileFault file number (check.OverLimit at_file length limit) = (at_file ≡ number) × HasLogFault file number LOG_LIMITS (log.OverLimit length limit)
+HasFileFault file number (check.BrokenChain at_file version) = (at_file ≡ number) × HasLogFault file number LOG_LIMITS (log.BrokenChain version)
 HasFileFault file number (check.BrokenEvent place) = ⊥
 HasFileFault file number check.Failed = Unit {0}
 HasFileFault file number check.OutOfMemory = Unit {0}

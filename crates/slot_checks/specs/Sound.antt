@@ -1,25 +1,17 @@
 -- Files that are in their form.
 use Rattle.std.specs.Prelude.{◌≡◌, ℕ, ◌+◌, ◌≤◌, List, [], ◌∷◌, length}
 use Rattle.chain_core.specs.declared.chain.Patch.{Patch}
-use Rattle.delta_base.specs.declared.limits.LogLimits.{LogLimits}
-use Rattle.chain_core.specs.Patches.{texts_of, last_id}
+use Rattle.delta_base.specs.declared.limits.TheConstants.{LOG_LIMITS, MOST_SLOTS}
+use Rattle.chain_core.specs.Patches.{last_id}
 use Rattle.log_journal.specs.File.{Holds}
-use Rattle.patch_log.specs.Log.{IsSoundLog}
+use Rattle.patch_log.specs.Log.{IsSoundLog, payloads_of}
 use Rattle.slot_files.specs.Files.{Files, bytes_at, slots_payload}
 use Rattle.slot_checks.specs.declared.lines.FileLine.{FileLine}
 use Rattle.slot_checks.specs.declared.lines.FileLine.TheVariants as line
 
--- the bytes that the registry's journal may have
-abbrev pub registry_limit : ℕ
-registry_limit = 1048576
-
--- the patches and the bytes of journal that a log may have
-abbrev pub log_limits : LogLimits
-log_limits = record { patches = 65536; bytes = 67108864 }
-
--- a payload that tells a number of slots, from 1 to 16
+-- a payload that tells a number of slots, of which there is one at least
 abbrev pub TellsSlots : List ℕ → ℕ → Type 0
-TellsSlots payload slots = (1 ≤ slots) × (slots ≤ 16) × (payload ≡ slots_payload slots)
+TellsSlots payload slots = (1 ≤ slots) × (slots ≤ MOST_SLOTS) × (payload ≡ slots_payload slots)
 
 -- The first payload that may not stand in a registry, counted from 0: the first one where it tells no number of slots or is
 -- missing, and else the one behind it.
@@ -36,8 +28,8 @@ pub record IsRegistry (file : List ℕ) (slots : ℕ) : Type 0 where
 -- the line of a log's file that is in its form
 pub record IsLogLine (file : List ℕ) (number : ℕ) (line_ : FileLine) : Type 0 where
   pub patches : List Patch
-  pub holds : Holds file number (texts_of patches)
-  pub log : IsSoundLog log_limits patches
+  pub holds : Holds file number (payloads_of patches)
+  pub log : IsSoundLog LOG_LIMITS patches
   pub line_is : line_ ≡ line.Log number (length patches) (last_id patches)
 
 -- the lines of the logs' files from a number on

@@ -1,9 +1,23 @@
 //! All files of a registry and of its logs.
-ghost use Rattle.std.specs.Prelude.{◌≡◌, ℕ, ◌+◌, ◌<◌, ◌≤◌, ◌++◌, ◌∷◌, [], IfOk, IfErr, OnOk, IsErrOf, Some};
+ghost use Rattle.std.specs.Prelude.{
+  ◌≡◌,
+  ℕ,
+  ◌+◌,
+  ◌≤◌,
+  ◌++◌,
+  ◌∷◌,
+  [],
+  length,
+  IfOk,
+  IfErr,
+  OnOk,
+  IsErrOf,
+  Some,
+};
 ghost use Rattle.delta_base.specs.Outside.{Rose};
 ghost use Rattle.disk_model.specs.Shelf.{SameOthers};
 ghost use Rattle.slot_files.specs.Files.{bytes_at};
-ghost use Rattle.slot_checks.specs.Checks.{HasLines, IsReport, StopsAt, StopsAtLog, IsKept, AreKept};
+ghost use Rattle.slot_checks.specs.Checks.{HasLines, IsReport, Stops, StopsInLogs, IsKept, AreKept};
 ghost use Rattle.slot_checks.specs.Faults.{HasFileFault};
 ghost use Rattle.slot_checks.specs.Sound.{IsLogLine};
 
@@ -22,20 +36,21 @@ fn add_log<H: Shelf>(
     number: u32,
     report: &mut Report,
 ) -> Result<(), CheckFault>
-    ensures ok { H.tells → OnOk result ((line : _) × IsLogLine (bytes_at (H.files shelf.old) dir.now number) number line × (report.new.items ≡ report.old.items ++ line ∷ [])) }
-    ensures fault { H.tells → IfErr result (HasFileFault (bytes_at (H.files shelf.old) dir.now number) number) }
-    ensures kept { H.tells → IsKept (H.files shelf.old dir.now number) (H.files shelf.new dir.now number) }
-    ensures others { H.tells → SameOthers (Some (dir.now, number)) (H.files shelf.old) (H.files shelf.new) }
+    ensures ok { H.tells → OnOk result ((line : _)
+        × IsLogLine (bytes_at (H.files shelf.old) dir.now number) number line
+        × (report.new.items ≡ report.old.items ++ line ∷ [])) }
+    ensures fault { H.tells → IfErr result
+        (HasFileFault (bytes_at (H.files shelf.old) dir.now number) number) }
+    ensures kept { H.tells → IsKept (H.files shelf.old dir.now number)
+        (H.files shelf.new dir.now number) }
+    ensures others { H.tells → SameOthers (Some (dir.now, number))
+        (H.files shelf.old) (H.files shelf.new) }
     ensures cause { IsErrOf result CheckFault.Failed → Rose (H.faults shelf.old) (H.faults shelf.new) }
     ensures faults { H.faults shelf.old ≤ H.faults shelf.new }
 {
-    match check_log(alloc, shelf, dir, number) {
-        Ok(line) => match report.push(line) {
-            Ok(()) => Ok(()),
-            Err(_) => Err(CheckFault::OutOfMemory),
-        },
-        Err(fault) => Err(fault),
-    }
+    let line = check_log(alloc, shelf, dir, number)?;
+    report.push(line)?;
+    Ok(())
 }
 
 // Adds the lines of the logs' files to that of the registry.
@@ -46,19 +61,18 @@ fn add_logs<H: Shelf>(
     slots: u8,
     report: &mut Report,
 ) -> Result<(), CheckFault>
-    requires few { slots ≤ 16 }
-    requires begun { report.old.items ≡ FileLine.Registry 1 ∷ [] }
-    ensures ok { H.tells → OnOk result (HasLines (H.files shelf.old) dir.now (slots + 1) report.new.items) }
-    ensures fault { H.tells → IfErr result (StopsAtLog (H.files shelf.old) dir.now slots) }
-    ensures kept { H.tells → AreKept dir.now (H.files shelf.old) (H.files shelf.new) }
+    requires { report.old.items ≡ FileLine.Registry 1 ∷ [] }
+    ensures ok { H.tells → OnOk result
+        (HasLines (H.files shelf.old) dir.now (slots + 1) report.new.items) }
+    ensures kept { H.tells → OnOk result
+        (AreKept dir.now (slots + 1) (H.files shelf.old) (H.files shelf.new)) }
+    ensures fault { H.tells → IfErr result
+        (StopsInLogs dir.now slots (H.files shelf.old) (H.files shelf.new)) }
     ensures cause { IsErrOf result CheckFault.Failed → Rose (H.faults shelf.old) (H.faults shelf.new) }
     ensures faults { H.faults shelf.old ≤ H.faults shelf.new }
 {
     for number in 1..=u32::from(slots) {
-        match add_log(alloc, shelf, dir, number, report) {
-            Ok(()) => {}
-            Err(fault) => return Err(fault),
-        }
+        add_log(alloc, shelf, dir, number, report)?;
     }
     Ok(())
 }
@@ -66,24 +80,21 @@ fn add_logs<H: Shelf>(
 /// Opens the registry's file and then those of its logs, and tells what each holds, or the first fault. Each of their
 /// disks is put back.
 pub fn check_files<H: Shelf>(alloc: Global, shelf: &mut H, dir: &Text) -> Result<Report, CheckFault>
-    ensures ok { H.tells → IfOk result (λ report. IsReport (H.files shelf.old) dir.now report.items) }
-    ensures fault { H.tells → IfErr result (StopsAt (H.files shelf.old) dir.now) }
+    ensures ok { H.tells → IfOk result (λ report.
+        IsReport (H.files shelf.old) dir.now report.items) }
 
-    // Each file is left as it was. One that was asked for and didn't exist is empty.
-    ensures kept { H.tells → AreKept dir.now (H.files shelf.old) (H.files shelf.new) }
+    // Each file that has a line is left as it was, and no other was asked for. One that didn't exist is empty.
+    ensures kept { H.tells → IfOk result (λ report.
+        AreKept dir.now (length report.items) (H.files shelf.old) (H.files shelf.new)) }
+
+    // So is each file up to the one with the fault.
+    ensures fault { H.tells → IfErr result (Stops dir.now (H.files shelf.old) (H.files shelf.new)) }
     ensures cause { IsErrOf result CheckFault.Failed → Rose (H.faults shelf.old) (H.faults shelf.new) }
     ensures faults { H.faults shelf.old ≤ H.faults shelf.new }
 {
-    let slots = match check_registry(alloc, shelf, dir) {
-        Ok(slots) => slots,
-        Err(fault) => return Err(fault),
-    };
+    let slots = check_registry(alloc, shelf, dir)?;
     let mut report = Listing::new(alloc);
-    if report.push(FileLine::Registry { records: 1 }).is_err() {
-        return Err(CheckFault::OutOfMemory);
-    }
-    match add_logs(alloc, shelf, dir, slots, &mut report) {
-        Ok(()) => Ok(report),
-        Err(fault) => Err(fault),
-    }
+    report.push(FileLine::Registry { records: 1 })?;
+    add_logs(alloc, shelf, dir, slots, &mut report)?;
+    Ok(report)
 }

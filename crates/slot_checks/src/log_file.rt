@@ -7,7 +7,7 @@ ghost use Rattle.slot_checks.specs.Faults.{HasFileFault};
 
 use crate::fault::CheckFault;
 use crate::lines::FileLine;
-use delta_base::LogLimits;
+use delta_base::LOG_LIMITS;
 use disk_model::Disk;
 use patch_log::{LogRefusal, LogState};
 use std::alloc::Global;
@@ -24,11 +24,7 @@ pub fn read_log_file<D: Disk>(
     ensures cause { IsErrOf result.1 CheckFault.Failed → Rose (D.faults disk) (D.faults result.0) }
     ensures mark { D.mark result.0 ≡ D.mark disk }
 {
-    let limits = LogLimits {
-        patches: 65_536,
-        bytes: 67_108_864,
-    };
-    match LogState::open_on(alloc, disk, number, limits) {
+    match LogState::open_on(alloc, disk, number, LOG_LIMITS) {
         Ok(log) => {
             let line = FileLine::Log {
                 number,

@@ -6,20 +6,18 @@ ghost use Rattle.slot_checks.specs.Sound.{IsRegistry, TellsSlots, IsBrokenEvent}
 ghost use Rattle.slot_checks.specs.Faults.{HasRegistryFault};
 
 use crate::fault::CheckFault;
-use delta_base::Bytes;
+use delta_base::{Bytes, MOST_SLOTS, REGISTRY_LIMIT};
 use disk_model::Disk;
 use log_journal::{Journal, OpenRefusal};
 use slot_files::first_payload;
 use std::alloc::Global;
 
-// How long the registry's journal may get.
-const LIMIT: u64 = 1_048_576;
-
 // The number of slots that a payload tells.
 fn slots_in(payload: &[u8]) -> Option<u8>
-    ensures { MatchOption result ((slots : ℕ) → TellsSlots payload.now slots → ⊥) (λ slots. TellsSlots payload.now slots) }
+    ensures { MatchOption result ((slots : ℕ) → TellsSlots payload.now slots → ⊥)
+        (λ slots. TellsSlots payload.now slots) }
 {
-    for slots in 1..17u8 {
+    for slots in 1..=MOST_SLOTS as u8 {
         if payload == first_payload(slots, &mut [0; 4]) {
             return Some(slots);
         }
@@ -29,7 +27,8 @@ fn slots_in(payload: &[u8]) -> Option<u8>
 
 // The number of slots that the payloads of a registry tell.
 fn slots_of(payloads: &[Bytes]) -> Result<u8, u64>
-    ensures ok { IfOk result (λ slots. (first : _) × (payloads.now ≡ first ∷ []) × TellsSlots first slots) }
+    ensures ok { IfOk result (λ slots.
+        (first : _) × (payloads.now ≡ first ∷ []) × TellsSlots first slots) }
     ensures broken { IfErr result (IsBrokenEvent payloads.now) }
 {
     match payloads {
@@ -45,13 +44,13 @@ fn slots_of(payloads: &[Bytes]) -> Result<u8, u64>
 /// The number of slots that the registry's file tells, and its disk.
 pub fn read_registry_file<D: Disk>(alloc: Global, disk: D) -> (D, Result<u8, CheckFault>)
     ensures ok { D.tells → IfOk result.1 (IsRegistry (reads (D.past disk))) }
-    ensures few { IfOk result.1 (λ slots. (1 ≤ slots) × (slots ≤ 16)) }
+    ensures few { IfOk result.1 (λ slots. (1 ≤ slots) × (slots ≤ MOST_SLOTS)) }
     ensures fault { D.tells → IfErr result.1 (HasRegistryFault (reads (D.past disk))) }
     ensures kept { D.tells → reads (D.past result.0) ≡ reads (D.past disk) }
     ensures cause { IsErrOf result.1 CheckFault.Failed → Rose (D.faults disk) (D.faults result.0) }
     ensures mark { D.mark result.0 ≡ D.mark disk }
 {
-    match Journal::open_on(alloc, disk, 0, LIMIT) {
+    match Journal::open_on(alloc, disk, 0, REGISTRY_LIMIT) {
         Ok((journal, payloads)) => {
             let answer = match slots_of(payloads.as_slice()) {
                 Ok(slots) => Ok(slots),

@@ -1,4 +1,5 @@
 //! Visits to the files of a shelf, whose disks are put back.
+ghost use Rattle.delta_base.specs.declared.limits.TheConstants.{MOST_SLOTS};
 ghost use Rattle.std.specs.Prelude.{◌≡◌, ℕ, ◌≤◌, IfOk, IfErr, IsErrOf, Some};
 ghost use Rattle.delta_base.specs.Outside.{Rose};
 ghost use Rattle.disk_model.specs.Shelf.{SameOthers};
@@ -29,32 +30,24 @@ pub fn check_log<H: Shelf>(
     ensures cause { IsErrOf result CheckFault.Failed → Rose (H.faults shelf.old) (H.faults shelf.new) }
     ensures faults { H.faults shelf.old ≤ H.faults shelf.new }
 {
-    match shelf.disk(dir, number) {
-        Ok(disk) => {
-            let (disk, answer) = read_log_file(alloc, disk, number);
-            shelf.put_back(disk);
-            answer
-        }
-        Err(fault) => Err(CheckFault::from(fault)),
-    }
+    let disk = shelf.disk(dir, number)?;
+    let (disk, answer) = read_log_file(alloc, disk, number);
+    shelf.put_back(disk);
+    answer
 }
 
 /// The number of slots that the registry's file tells.
 pub fn check_registry<H: Shelf>(alloc: Global, shelf: &mut H, dir: &Text) -> Result<u8, CheckFault>
     ensures ok { H.tells → IfOk result (IsRegistry (bytes_at (H.files shelf.old) dir.now 0)) }
-    ensures few { IfOk result (λ slots. (1 ≤ slots) × (slots ≤ 16)) }
+    ensures few { IfOk result (λ slots. (1 ≤ slots) × (slots ≤ MOST_SLOTS)) }
     ensures fault { H.tells → IfErr result (HasRegistryFault (bytes_at (H.files shelf.old) dir.now 0)) }
     ensures kept { H.tells → IsKept (H.files shelf.old dir.now 0) (H.files shelf.new dir.now 0) }
     ensures others { H.tells → SameOthers (Some (dir.now, 0)) (H.files shelf.old) (H.files shelf.new) }
     ensures cause { IsErrOf result CheckFault.Failed → Rose (H.faults shelf.old) (H.faults shelf.new) }
     ensures faults { H.faults shelf.old ≤ H.faults shelf.new }
 {
-    match shelf.disk(dir, 0) {
-        Ok(disk) => {
-            let (disk, answer) = read_registry_file(alloc, disk);
-            shelf.put_back(disk);
-            answer
-        }
-        Err(fault) => Err(CheckFault::from(fault)),
-    }
+    let disk = shelf.disk(dir, 0)?;
+    let (disk, answer) = read_registry_file(alloc, disk);
+    shelf.put_back(disk);
+    answer
 }

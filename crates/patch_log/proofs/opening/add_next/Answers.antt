@@ -7,8 +7,8 @@ use Rattle.patch_log.specs.Opening.{IsNextOf}
 use Rattle.patch_log.proofs.Openings.{next_kept}
 use Rattle.patch_log.proofs.opening.add_next.Goals as goal
 
-pub push-requires-clause-kept : goal.push-requires-clause-kept
-push-requires-clause-kept c =
+pub add-requires : goal.add-requires
+add-requires c =
     let patch : Patch = record { id = c.in_ok-id.field-0.id; prev = c.in_ok-id.field-0.prev; text = c.args.text } in
     let next = subst (λ (text : List _). IsNextOf (patches_of c.args.chain.now.items) text c.args.most (record { id = c.in_ok-id.field-0.id; prev = c.in_ok-id.field-0.prev; text = text })) c.as_slice.ensures c.in_ok-id.ensures.ok in
-    subst (λ (es : List Entry). IsKept (es ++ record { patch = patch; by = 0 } ∷ [])) (sym c.reserve.ensures.items) (next_kept c.args.chain.now.items c.args.text c.args.most patch c.next_link.ensures.kept next c.ranges.most.fits)
+    (next_kept c.args.chain.now.items c.args.text c.args.most patch c.next_link.ensures.kept next c.ranges.most.fits)

@@ -1,20 +1,46 @@
-use Rattle.std.proofs.Common.{◌+◌, arith}
-use Rattle.slot_checks.specs.Checks.{at_log}
-use Rattle.slot_checks.proofs.Steps.{has_same, stops_same, visit_kept, all_kept}
+use Rattle.std.proofs.Common.{◌+◌, refl}
+use Rattle.slot_checks.specs.declared.fault.CheckFault.TheVariants.{OutOfMemory}
+use Rattle.slot_checks.specs.Checks.{Stops, at_registry}
+use Rattle.slot_checks.proofs.Steps.{has_same, visit_kept, all_kept, stops_behind, kept_behind, told_err}
 use Rattle.slot_checks.proofs.checking.check_files.Goals as goal
 
-pub returns-in-Ok-add_logs-clause-ok : goal.returns-in-Ok-add_logs-clause-ok
-returns-in-Ok-add_logs-clause-ok g c told =
+pub returns-clause-ok : goal.returns-clause-ok
+returns-clause-ok g c told =
     let old = g.H.Shelf.files c.args.shelf.now in
     let mid = g.H.Shelf.files c.check_registry.new.shelf in
     let dir = c.args.dir.now in
-    let kept = visit_kept dir 0 old old mid (omega arith) (all_kept dir old) (c.check_registry.ensures.kept told) (c.check_registry.ensures.others told) in
-    record { slots = c.in-Ok.slots; registry = c.in-Ok.ensures.ok told; lines = has_same old mid dir (c.in-Ok.slots + 1) c.add_logs.new.report.items kept (c.in-Ok-add_logs.ensures.ok told) }
+    let first = visit_kept dir 0 old old mid (all_kept dir 0 old) (c.check_registry.ensures.kept told) (c.check_registry.ensures.others told) in
+    record { slots = c.in_ok-slots.slots; registry = c.in_ok-slots.ensures.ok told; lines = has_same old mid dir (c.in_ok-slots.slots + 1) c.add_logs.new.report.items first (c.in_ok-add_logs.ensures.ok told) }
 
-pub returns-in-Err-add_logs-clause-fault : goal.returns-in-Err-add_logs-clause-fault
-returns-in-Err-add_logs-clause-fault g c told =
+pub returns-clause-kept : goal.returns-clause-kept
+returns-clause-kept g c told =
+    let old = g.H.Shelf.files c.args.shelf.now in
+    let mid = g.H.Shelf.files c.check_registry.new.shelf in
+    let new = g.H.Shelf.files c.add_logs.new.shelf in
+    let dir = c.args.dir.now in
+    let first = visit_kept dir 0 old old mid (all_kept dir 0 old) (c.check_registry.ensures.kept told) (c.check_registry.ensures.others told) in
+    kept_behind dir old mid new first c.in_ok-slots.slots c.add_logs.new.report.items (c.in_ok-add_logs.ensures.ok told) (c.in_ok-add_logs.ensures.kept told)
+
+pub returns-in_err-slots-clause-fault : goal.returns-in_err-slots-clause-fault
+returns-in_err-slots-clause-fault g c told =
     let old = g.H.Shelf.files c.args.shelf.now in
     let mid = g.H.Shelf.files c.check_registry.new.shelf in
     let dir = c.args.dir.now in
-    let kept = visit_kept dir 0 old old mid (omega arith) (all_kept dir old) (c.check_registry.ensures.kept told) (c.check_registry.ensures.others told) in
-    at_log c.in-Ok.slots (c.in-Ok.ensures.ok told) (stops_same old mid dir c.in-Ok.slots c.in-Err-add_logs.fault kept (c.in-Err-add_logs.ensures.fault told))
+    told_err (Stops dir old mid) c.from_residual.result c.in_err-slots.field-0.0 c.from_residual.ensures.1 (record { file = 0; stops = at_registry refl (c.in_err-slots.ensures.fault told); kept = visit_kept dir 0 old old mid (all_kept dir 0 old) (c.check_registry.ensures.kept told) (c.check_registry.ensures.others told) })
+
+pub returns-in_err-push-clause-fault : goal.returns-in_err-push-clause-fault
+returns-in_err-push-clause-fault g c told =
+    let old = g.H.Shelf.files c.args.shelf.now in
+    let mid = g.H.Shelf.files c.check_registry.new.shelf in
+    let dir = c.args.dir.now in
+    told_err (Stops dir old mid) c.from_residual-in_err-push.result OutOfMemory c.from_residual-in_err-push.ensures.1 (record { file = 0; stops = at_registry refl tt; kept = visit_kept dir 0 old old mid (all_kept dir 0 old) (c.check_registry.ensures.kept told) (c.check_registry.ensures.others told) })
+
+pub returns-in_err-add_logs-clause-fault : goal.returns-in_err-add_logs-clause-fault
+returns-in_err-add_logs-clause-fault g c told =
+    let old = g.H.Shelf.files c.args.shelf.now in
+    let mid = g.H.Shelf.files c.check_registry.new.shelf in
+    let new = g.H.Shelf.files c.add_logs.new.shelf in
+    let dir = c.args.dir.now in
+    let first = visit_kept dir 0 old old mid (all_kept dir 0 old) (c.check_registry.ensures.kept told) (c.check_registry.ensures.others told) in
+    told_err (Stops dir old new) c.from_residual-in_err-add_logs.result c.in_err-add_logs.field-0.0 c.from_residual-in_err-add_logs.ensures.1
+    (stops_behind dir old mid new first c.in_ok-slots.slots c.in_err-add_logs.field-0.0 (c.in_ok-slots.ensures.ok told) (c.in_err-add_logs.ensures.fault told))

@@ -1,0 +1,92 @@
+//! A chain that is being read. Its index is made once it is whole.
+ghost use Rattle.std.specs.Prelude.{◌≡◌, [], ◌∷◌, ◌++◌, IfOk, OnOk};
+ghost use Rattle.std.specs.Ordering.{nat_cmp};
+ghost use Rattle.std.specs.BTreeMap.{IsOrdered, values};
+ghost use Rattle.chain_core.specs.Chain.{IsKept};
+ghost use Rattle.chain_core.specs.Patches.{patches_of, version_of};
+
+use crate::indexed::IndexedChain;
+use chain_core::{Chain, Patch};
+use delta_base::{Id, OutOfMemory};
+use std::alloc::Global;
+use std::collections::BTreeMap;
+use std::marker::Model;
+
+/// A chain, and its versions by the numbers of their ids.
+#[derive(Drop)]
+pub struct ReadChain {
+    chain: Chain,
+    known: BTreeMap<u128, u32>,
+}
+
+impl Model for ReadChain {
+    ghost use Rattle.delta_base.specs.Listed.{Listed};
+    ghost use Rattle.chain_core.specs.declared.chain.Entry.{Entry};
+    ghost use Rattle.chain_core.specs.Patches.{patches_of};
+    ghost use Rattle.patch_log.specs.Index.{AreKnown};
+
+    ghost Value = { Listed Entry };
+
+    ghost view = { λ c. c.chain };
+
+    ghost invariant = { λ c. AreKnown c.known (patches_of c.chain.items) };
+}
+
+impl ReadChain {
+    /// The chain of no patches.
+    pub fn new(alloc: Global) -> ReadChain
+        ensures { result.items ≡ [] }
+    {
+        ReadChain {
+            chain: Chain::new(alloc),
+            known: BTreeMap::new(alloc),
+        }
+    }
+
+    pub fn chain(&self) -> &Chain
+        ensures { result.now.items ≡ self.now.items }
+    {
+        &self.chain
+    }
+
+    /// The version of the patch with an id.
+    pub fn version_of(&self, id: Id) -> Option<u32>
+        ensures { result ≡ version_of (patches_of self.now.items) id }
+    {
+        self.known.get(&id.0).copied()
+    }
+
+    /// Adds a patch that goes on the chain.
+    pub fn add(&mut self, patch: Patch, by: u32) -> Result<(), OutOfMemory>
+        requires { IsKept (self.old.items ++ record { patch = patch; by = by } ∷ []) }
+        ensures { OnOk result
+            (self.new.items ≡ self.old.items ++ record { patch = patch; by = by } ∷ []) }
+    {
+        self.chain.reserve()?;
+        let version = self.chain.version() + 1;
+        self.known.insert(patch.id.0, version)?;
+        self.chain.push(patch, by);
+        Ok(())
+    }
+
+    /// The chain with its index.
+    pub fn indexed(self, alloc: Global) -> Result<IndexedChain, OutOfMemory>
+        ensures { IfOk result (λ chain. chain.items ≡ self.items) }
+    {
+        let ReadChain { chain, known } = self;
+        let versions = in_order(alloc, known)?;
+        Ok(IndexedChain::of(chain, versions))
+    }
+}
+
+// The versions in the order of their ids.
+fn in_order(alloc: Global, known: BTreeMap<u128, u32>) -> Result<Vec<u32>, OutOfMemory>
+    ensures items { IfOk result (λ versions. versions.items ≡ values known) }
+    ensures ordered { IsOrdered nat_cmp known }
+{
+    let mut versions = Vec::with_capacity(alloc, known.len())?;
+    for version in known.into_values() {
+        versions.push(version)?;
+    }
+    Ok(versions)
+}
