@@ -1,20 +1,18 @@
 -- A stream to which pieces were fed.
-use Rattle.std.proofs.Common.{◌≡◌, ℕ, ◌+◌, true, false, List, [], ◌++◌, length, Option, Some, None, Result, Ok, Err, refl, sym, subst, inl, inr, append-nil, arith, ◌≤◌, ap}
+use Rattle.std.proofs.Common.{◌≡◌, ℕ, ◌+◌, true, false, List, [], ◌++◌, length, Option, Some, None, Result, Ok, Err, refl, sym, subst, append-nil, arith, ◌≤◌, ap}
 use Rattle.std.specs.Global.{Vec}
 use Rattle.std.specs.Prelude.{is_some, OnOk}
 use Rattle.patch_reader.specs.Rows.{Gap}
-use Rattle.stream_replay.specs.declared.place.Told.{Told}
+use Rattle.stream_replay.specs.declared.fault.ReplayFault.{ReplayFault}
 use Rattle.stream_replay.specs.declared.progress.Progress.{Progress}
 use Rattle.stream_replay.specs.declared.stream.Streaming.{Streaming}
 use Rattle.stream_replay.specs.declared.window.Window.{Window}
 use Rattle.stream_replay.specs.Spaces.{PassesSpace}
-use Rattle.stream_replay.specs.Ending.{fault_end}
-use Rattle.stream_replay.specs.Places.{IsFaulty}
 use Rattle.stream_replay.specs.Source.{EndsText}
 use Rattle.stream_replay.specs.Streaming.{HasMet, HasStreamed, IsStreaming, IsTold}
 use Rattle.stream_replay.specs.Windows.{IsHeld, IsWindow}
 use Rattle.stream_replay.proofs.Held.{held_end}
-use Rattle.stream_replay.proofs.Streams.{streamed_passed, streamed_longer, streamed_whole, ends_told, gap_later}
+use Rattle.stream_replay.proofs.Streams.{streamed_passed, streamed_longer, streamed_whole, gap_later}
 
 pub on_map : {T E : Type 0} (r : Result T E) (A B : Type 0) → OnOk r A → (A → B) → OnOk r B
 on_map (Ok x) A B a f = f a
@@ -22,15 +20,15 @@ on_map (Err e) A B a f = tt
 
 -- ---- without a fault
 
-pub no_fault : (fault : Option Told) (text : List ℕ) (s : Streaming) → ((told : Told) → fault ≡ Some told → ⊥) → HasMet fault text s → IsStreaming false text s
+pub no_fault : (fault : Option ReplayFault) (text : List ℕ) (s : Streaming) → ((told : ReplayFault) → fault ≡ Some told → ⊥) → HasMet fault text s → IsStreaming false text s
 no_fault None text s none has = has
 no_fault (Some told) text s none has = absurd (none told refl)
 
-pub fed_none : (fault : Option Told) (text : List ℕ) (s : Streaming) → is_some fault ≡ false → HasMet fault text s → IsStreaming false text s
+pub fed_none : (fault : Option ReplayFault) (text : List ℕ) (s : Streaming) → is_some fault ≡ false → HasMet fault text s → IsStreaming false text s
 fed_none None text s none has = has
 fed_none (Some told) text s none has = absurd cc
 
-pub make_fed : (fault : Option Told) (text : List ℕ) (s : Streaming) → is_some fault ≡ false → IsStreaming false text s → HasMet fault text s
+pub make_fed : (fault : Option ReplayFault) (text : List ℕ) (s : Streaming) → is_some fault ≡ false → IsStreaming false text s → HasMet fault text s
 make_fed None text s none is = is
 make_fed (Some told) text s none is = absurd cc
 
@@ -48,12 +46,11 @@ streaming_whole text s is = record { window_ = is.window_; progress_ = streamed_
 
 -- ---- the text is whole
 
-pub faulty_whole : (text : List ℕ) (told : Told) → ((more : List ℕ) → IsFaulty told.line told.fault (text ++ more)) → IsFaulty told.line told.fault text
-faulty_whole text told all = subst (IsFaulty told.line told.fault) (append-nil text) (all [])
+pub faulty_whole : (text : List ℕ) (told : ReplayFault) → ((more : List ℕ) → EndsText told (text ++ more)) → EndsText told text
+faulty_whole text told all = subst (EndsText told) (append-nil text) (all [])
 
-pub told_whole : (text : List ℕ) (told : Told) → IsTold true text told → EndsText (fault_end told.line told.fault) text
-told_whole text told (inl memory) = ends_told told.line told.fault text (inl memory)
-told_whole text told (inr all) = ends_told told.line told.fault text (inr (subst (IsFaulty told.line told.fault) (append-nil text) (all [] (λ whole. refl))))
+pub told_whole : (text : List ℕ) (told : ReplayFault) → IsTold true text told → EndsText told text
+told_whole text told all = subst (EndsText told) (append-nil text) (all [] (λ whole. refl))
 
 pub gap_end : (text : List ℕ) (w : Window) → IsWindow text w → Gap w.bytes.items w.from (length w.bytes.items) → Gap text (w.base + w.from) (length text)
 gap_end text w held gap =

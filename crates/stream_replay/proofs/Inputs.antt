@@ -44,7 +44,8 @@ at_end before mid after text piece IsSuch consumed none empty end short is =
 -- how the text ends its replay is how the input does
 pub ends_input : (before mid after : Option (List ℕ)) (faults now : ℕ) (text piece : List ℕ) (fault : ReplayFault) → Consumes before mid text → Consumes mid after piece → piece ≡ [] → IsAtEnd after → length text ≤ stream_limit
     → EndsText fault text → Ends before after faults now fault
-ends_input before mid after faults now text piece (ends.Stream line fault) consumed none empty end short is = at_end before mid after text piece (EndsText (ends.Stream line fault)) consumed none empty end short is
+ends_input before mid after faults now text piece (ends.Stream line at kind) consumed none empty end short is = at_end before mid after text piece (EndsText (ends.Stream line at kind)) consumed none empty end short is
+ends_input before mid after faults now text piece (ends.LongPatch size limit) consumed none empty end short is = at_end before mid after text piece (EndsText (ends.LongPatch size limit)) consumed none empty end short is
 ends_input before mid after faults now text piece (ends.Chain fault) consumed none empty end short is = at_end before mid after text piece (EndsText (ends.Chain fault)) consumed none empty end short is
 ends_input before mid after faults now text piece ends.TooLong consumed none empty end short is = absurd is
 ends_input before mid after faults now text piece ends.Failed consumed none empty end short is = absurd is

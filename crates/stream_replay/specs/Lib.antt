@@ -3,7 +3,6 @@ pub mod Lines
 pub mod Replaying
 pub mod Places
 pub mod Edits
-pub mod Ending
 pub mod Windows
 pub mod Source
 pub mod Streaming

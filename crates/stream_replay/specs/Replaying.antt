@@ -43,6 +43,7 @@ pub record AreReplayed (ms : List Meaning) (r : Replayed) : Type 0 where
 abbrev pub EndsChain : List Meaning → ReplayFault → Type 0
 EndsChain ms (ends.Chain fault) = Breaks (links_of ms) fault
 EndsChain ms ends.OutOfMemory = Unit {0}
-EndsChain ms (ends.Stream line fault) = ⊥
+EndsChain ms (ends.Stream line at kind) = ⊥
+EndsChain ms (ends.LongPatch size limit) = ⊥
 EndsChain ms ends.TooLong = ⊥
 EndsChain ms ends.Failed = ⊥

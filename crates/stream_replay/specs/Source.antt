@@ -9,7 +9,7 @@ use Rattle.patch_meaning.specs.Stream.{IsStream}
 use Rattle.stream_replay.specs.declared.replay.Replayed.{Replayed}
 use Rattle.stream_replay.specs.declared.fault.ReplayFault.{ReplayFault}
 use Rattle.stream_replay.specs.declared.fault.ReplayFault.TheVariants as ends
-use Rattle.stream_replay.specs.Places.{IsFaulty}
+use Rattle.stream_replay.specs.Places.{IsFaulty, IsLong}
 use Rattle.stream_replay.specs.Replaying.{AreReplayed}
 
 -- the bytes that a stream may have
@@ -40,7 +40,8 @@ pub record IsUnchained (fault : ChainFault) (text : List ℕ) : Type 0 where
 
 -- why a text has no replay; want of memory is free
 abbrev pub EndsText : ReplayFault → List ℕ → Type 0
-EndsText (ends.Stream line fault) text = IsFaulty line fault text
+EndsText (ends.Stream line at kind) text = IsFaulty line at kind text
+EndsText (ends.LongPatch size limit) text = IsLong size limit text
 EndsText (ends.Chain fault) text = IsUnchained fault text
 EndsText ends.TooLong text = ⊥
 EndsText ends.Failed text = ⊥
@@ -49,7 +50,8 @@ EndsText ends.OutOfMemory text = Unit {0}
 -- Why an input has no replay, with what was told of it before and after: its bytes, and how often a call has failed. Want of
 -- memory is free.
 abbrev pub Ends : Option (List ℕ) → Option (List ℕ) → ℕ → ℕ → ReplayFault → Type 0
-Ends before after faults faults' (ends.Stream line fault) = Reads before after (IsFaulty line fault)
+Ends before after faults faults' (ends.Stream line at kind) = Reads before after (IsFaulty line at kind)
+Ends before after faults faults' (ends.LongPatch size limit) = Reads before after (IsLong size limit)
 Ends before after faults faults' (ends.Chain fault) = Reads before after (IsUnchained fault)
 Ends before after faults faults' ends.TooLong = IsTooLong before
 Ends before after faults faults' ends.Failed = Rose faults faults'

@@ -1,16 +1,14 @@
 -- A stream of which some pieces were read.
-use Rattle.std.specs.Prelude.{◌≡◌, ◌⊎◌, ℕ, ◌+◌, ◌≤◌, ◌<◌, Bool, true, false, List, [], ◌++◌, length, Option, None, Some, Result, Ok, Err}
+use Rattle.std.specs.Prelude.{◌≡◌, ℕ, ◌+◌, ◌≤◌, ◌<◌, nat_lt, Bool, true, false, List, [], ◌++◌, length, Option, None, Some, Result, Ok, Err}
 use Rattle.patch_rows.specs.declared.fault.RowKind.{RowKind}
 use Rattle.patch_rows.specs.declared.fault.RowFault.{RowFault}
 use Rattle.patch_rows.specs.declared.fault.RowFault.TheVariants as row
 use Rattle.patch_rows.specs.Grammar.{IsRowAt}
 use Rattle.patch_rows.specs.declared.row.Row.{Row}
-use Rattle.patch_meaning.specs.declared.fault.PatchFault.{PatchFault}
-use Rattle.patch_meaning.specs.declared.fault.PatchFault.TheVariants as faults
+use Rattle.delta_base.specs.declared.limits.TheConstants.{PATCH_LIMIT}
 use Rattle.patch_meaning.specs.declared.rows.Next.{Next}
 use Rattle.patch_meaning.specs.Cutting.{IsCutInto}
 use Rattle.patch_meaning.specs.Patch.{Meaning}
-use Rattle.patch_meaning.specs.PartRead.{first_fault, is_sound}
 use Rattle.patch_meaning.specs.Roles.{role, change_of}
 use Rattle.patch_meaning.specs.declared.part.Part.{Part}
 use Rattle.patch_meaning.specs.declared.role.Role.{Role}
@@ -20,11 +18,11 @@ use Rattle.stream_replay.specs.Edits.{HasEdits}
 use Rattle.patch_reader.specs.declared.placed.PlacedRow.{PlacedRow}
 use Rattle.patch_reader.specs.Rows.{Gap, RowsUpTo, NoRowAt}
 use Rattle.stream_replay.specs.declared.progress.Progress.{Progress}
-use Rattle.stream_replay.specs.declared.place.Told.{Told}
+use Rattle.stream_replay.specs.declared.fault.ReplayFault.{ReplayFault}
 use Rattle.stream_replay.specs.declared.stream.Streaming.{Streaming}
-use Rattle.stream_replay.specs.Places.{IsFaulty}
 use Rattle.stream_replay.specs.Replaying.{IsReplay}
-use Rattle.stream_replay.specs.Windows.{IsWindow, HasLine}
+use Rattle.stream_replay.specs.Source.{EndsText}
+use Rattle.stream_replay.specs.Windows.{IsWindow}
 
 -- whatever text follows; where the text is whole, none does
 abbrev pub WhateverFollows : Bool → (List ℕ → Type 0) → Type 0
@@ -53,13 +51,11 @@ FindsNext whole bytes from (Err row.OutOfMemory) = Unit {0}
 
 -- ---- what was read
 
--- the line is that of the open patch's first fault
-abbrev pub KnowsLine : List ℕ → Progress → Type 0
-KnowsLine text p = (fault : PatchFault) → first_fault p.part ≡ Some fault → HasLine text p.line fault
-
--- What the changes do is held with that of one more row, as long as each row of the patch was taken.
-abbrev pub HoldsMore : Part → List Change → Role → Edits → Type 0
-HoldsMore p changes says e = (more : List Change) × HasEdits more e × (is_sound p ≡ true → more ≡ changes ++ change_of says)
+-- what the changes do is held with that of one more row, where the row begins within the limit
+abbrev pub HoldsMore : Part → List Change → Role → ℕ → Edits → Type 0
+HoldsMore p changes says at e =
+    (more : List Change) × HasEdits more e
+    × (nat_lt (p.from + PATCH_LIMIT) at ≡ false → more ≡ changes ++ change_of says)
 
 -- the text has these rows, and between the last of them and the place stand white space and comments
 abbrev pub RowsBefore : List ℕ → List PlacedRow → ℕ → Type 0
@@ -75,21 +71,20 @@ pub record HasStreamed (whole : Bool) (text : List ℕ) (at : ℕ) (p : Progress
   pub parts : IsCutInto rs ms changes p.part
   pub edits : HasEdits changes p.edits
   pub replayed : IsReplay ms p.replay
-  pub line_is : KnowsLine text p
 
 -- the rows before the window's place were taken
 pub record IsStreaming (whole : Bool) (text : List ℕ) (s : Streaming) : Type 0 where
   pub window_ : IsWindow text s.window
   pub progress_ : HasStreamed whole text (s.window.base + s.window.from) s.progress
 
--- the fault is the first one of the text with its line; want of memory is free
-abbrev pub IsTold : Bool → List ℕ → Told → Type 0
-IsTold whole text told = (told.fault ≡ faults.OutOfMemory) ⊎ WhateverFollows whole (λ more. IsFaulty told.line told.fault (text ++ more))
+-- so the replay of the text ends
+abbrev pub IsTold : Bool → List ℕ → ReplayFault → Type 0
+IsTold whole text told = WhateverFollows whole (λ more. EndsText told (text ++ more))
 
 -- all rows that the text decides may be taken, or the fault was met
-abbrev pub HasMet : Option Told → List ℕ → Streaming → Type 0
+abbrev pub HasMet : Option ReplayFault → List ℕ → Streaming → Type 0
 HasMet None text s = IsStreaming false text s
-HasMet (Some told) text s = (more : List ℕ) → IsFaulty told.line told.fault (text ++ more)
+HasMet (Some told) text s = (more : List ℕ) → EndsText told (text ++ more)
 
 -- the text was fed
 abbrev pub HasFed : List ℕ → Streaming → Type 0

@@ -1,18 +1,17 @@
 //! Rows that become patches, and patches that are applied.
-ghost use Rattle.std.specs.Prelude.{◌≡◌, ◌⊎◌, ◌+◌, ◌-◌, ◌<◌, ◌≤◌, ◌^◌, ◌++◌, ℕ, List, [], Bool, true, false, None, Some, IfOk, IfErr, OnOk, length, vec_len};
-ghost use Rattle.patch_meaning.specs.declared.fault.PatchFault.{PatchFault as TextFault};
-ghost use Rattle.patch_meaning.specs.Cutting.{EndsStream, HasTakenNext, IsBrokenAtEnd, IsBrokenBefore, IsFaultOf, changes_left, meanings_of};
-ghost use Rattle.patch_meaning.specs.Patch.{Meaning, place_of};
-ghost use Rattle.patch_meaning.specs.PartRead.{first_fault, IsToldAt};
+ghost use Rattle.std.specs.Prelude.{◌≡◌, ◌+◌, ◌-◌, ◌<◌, ◌≤◌, ◌^◌, ◌++◌, ℕ, List, [], Bool, true, false, IfOk, IfErr, OnOk, length, vec_len};
+ghost use Rattle.patch_meaning.specs.declared.fault.PatchFault.{PatchFault};
+ghost use Rattle.patch_meaning.specs.Cutting.{EndsStream, HasTakenNext, IsBrokenAt, IsBrokenAtEnd, IsBrokenBy, changes_left, meanings_of};
+ghost use Rattle.patch_meaning.specs.Patch.{Meaning};
 ghost use Rattle.patch_reader.specs.Rows.{Gap};
 ghost use Rattle.rdf_terms.specs.declared.change.Change.{Change};
 ghost use Rattle.stream_replay.specs.Edits.{HasEdits};
 ghost use Rattle.stream_replay.specs.Replaying.{AreReplayed, EndsChain, IsReplay};
-ghost use Rattle.stream_replay.specs.Windows.{HasLine, IsWindow};
+ghost use Rattle.stream_replay.specs.Windows.{IsWindow, Tells};
 
 use crate::edits::Edits;
 use crate::fault::ReplayFault;
-use crate::place::{Told, line_of, tell};
+use crate::place::tell;
 use crate::replay::{Replay, Replayed};
 use crate::window::Window;
 use chain_core::Link;
@@ -28,13 +27,11 @@ pub struct Progress {
     part: Part,
     edits: Edits,
     replay: Replay,
-    /// The line of the open patch's first fault.
-    line: u64,
 }
 
 impl Progress {
     ghost use Rattle.stream_replay.specs.Source.{EndsText, IsReplayed};
-    ghost use Rattle.stream_replay.specs.Streaming.{HasStreamed, HoldsMore, IsNextIn, IsTold, KnowsLine};
+    ghost use Rattle.stream_replay.specs.Streaming.{HasStreamed, HoldsMore, IsNextIn, IsTold};
 
     /// No row so far.
     pub fn new(alloc: Global) -> Progress
@@ -45,7 +42,6 @@ impl Progress {
             part: Part::new(0),
             edits: Edits::new(alloc),
             replay: Replay::new(alloc),
-            line: 0,
         }
     }
 
@@ -56,7 +52,7 @@ impl Progress {
         window: &Window,
         says: &Role,
         at: usize,
-    ) -> Result<(), Told>
+    ) -> Result<(), ReplayFault>
         requires room { self.old.replay.chain.version < 2 ^ 32 - 1 }
         requires within { at ≤ vec_len window.now.bytes }
         ensures ok { OnOk result ((whole : Bool) (text : List ℕ) (end : ℕ) → IsWindow text window.now → IsNextIn whole window.now.bytes.items window.now.from (record { role = says.now; at = at; end = end })
@@ -65,10 +61,11 @@ impl Progress {
         ensures fault { IfErr result (λ told. (whole : Bool) (text : List ℕ) (end : ℕ) → IsWindow text window.now → IsNextIn whole window.now.bytes.items window.now.from (record { role = says.now; at = at; end = end })
             → HasStreamed whole text (window.now.base + window.now.from) self.old → IsTold whole text told) }
     {
-        match self.take_row(window, says, window.base + at as u64) {
+        let at = window.base + at as u64;
+        match self.take_row(window, says, at) {
             Ok(done) => {
                 self.complete(alloc, done)?;
-                self.hold(alloc, says)?;
+                self.hold(alloc, says, at)?;
                 Ok(())
             }
             Err(told) => Err(told),
@@ -76,22 +73,24 @@ impl Progress {
     }
 
     // Takes what the row at a place says, and answers the ids of the patch that was completed before it.
-    fn take_row(&mut self, window: &Window, says: &Role, at: u64) -> Result<Option<Link>, Told>
+    fn take_row(
+        &mut self,
+        window: &Window,
+        says: &Role,
+        at: u64,
+    ) -> Result<Option<Link>, ReplayFault>
         requires low { window.now.base ≤ at }
         requires high { at ≤ window.now.base + vec_len window.now.bytes }
         ensures ok { IfOk result (λ done. HasTakenNext self.old.part says.now at done self.new.part) }
-        ensures line { OnOk result ((text : List ℕ) → IsWindow text window.now → KnowsLine text self.old → KnowsLine text self.new) }
         ensures edits { self.new.edits ≡ self.old.edits }
         ensures replay { self.new.replay ≡ self.old.replay }
-        ensures fault { IfErr result (λ told. IsBrokenBefore self.old.part says.now at told.fault) }
-        ensures told { IfErr result (λ told. (text : List ℕ) → IsWindow text window.now → KnowsLine text self.old → HasLine text told.line told.fault) }
+        ensures fault { IfErr result (λ told. (fault : PatchFault)
+            × IsBrokenBy self.old.part says.now at fault
+            × ((text : List ℕ) → IsWindow text window.now → Tells text fault told)) }
     {
         match self.part.take_next(says, at) {
-            Ok(done) => {
-                self.note(window, at);
-                Ok(done)
-            }
-            Err(fault) => Err(tell(window, self.line, fault, at)),
+            Ok(done) => Ok(done),
+            Err(fault) => Err(tell(window, fault, at)),
         }
     }
 
@@ -102,7 +101,6 @@ impl Progress {
         ensures edits { OnOk result ((changes : List Change) → HasEdits changes self.old.edits → HasEdits (changes_left done changes) self.new.edits) }
         ensures version { OnOk result (self.new.replay.chain.version ≤ self.old.replay.chain.version + 1) }
         ensures part { self.new.part ≡ self.old.part }
-        ensures line { self.new.line ≡ self.old.line }
     {
         match done {
             Some(link) => {
@@ -113,47 +111,32 @@ impl Progress {
         }
     }
 
-    // Holds what the change of a row does, where its patch may still be one.
-    fn hold(&mut self, alloc: Global, says: &Role) -> Result<(), OutOfMemory>
-        ensures edits { OnOk result ((changes : List Change) → HasEdits changes self.old.edits → HoldsMore self.old.part changes says.now self.new.edits) }
+    // Holds what the change of the row at a place does, where its patch may still be one.
+    fn hold(&mut self, alloc: Global, says: &Role, at: u64) -> Result<(), OutOfMemory>
+        ensures edits { OnOk result ((changes : List Change)
+            → HasEdits changes self.old.edits → HoldsMore self.old.part changes says.now at self.new.edits) }
         ensures part { self.new.part ≡ self.old.part }
         ensures replay { self.new.replay ≡ self.old.replay }
-        ensures line { self.new.line ≡ self.old.line }
     {
         match says {
             Role::Change(change) => {
-                if self.part.is_sound() {
-                    return self.edits.take(alloc, change);
+                if self.part.is_behind_limit(at) {
+                    return Ok(());
                 }
-                Ok(())
+                self.edits.take(alloc, change)
             }
             _ => Ok(()),
         }
     }
 
-    // Keeps the line of the row at a place, where the row has the open patch's first fault.
-    fn note(&mut self, window: &Window, at: u64)
-        requires low { window.now.base ≤ at }
-        requires high { at ≤ window.now.base + vec_len window.now.bytes }
-        ensures part { self.new.part ≡ self.old.part }
-        ensures edits { self.new.edits ≡ self.old.edits }
-        ensures replay { self.new.replay ≡ self.old.replay }
-        ensures line { (text : List ℕ) → IsWindow text window.now → (fault : TextFault) → first_fault self.old.part ≡ Some fault
-            → HasLine text self.old.line fault ⊎ (place_of fault ≡ Some at) → HasLine text self.new.line fault }
-    {
-        if let Some(fault) = self.part.first_fault() {
-            self.line = line_of(window, self.line, fault, at);
-        }
-    }
-
     /// The fault where no row stands, but this fault at a place of the window.
-    pub fn break_off(&self, window: &Window, at: u64, kind: RowKind) -> Told
+    pub fn break_off(&self, window: &Window, at: u64, kind: RowKind) -> ReplayFault
         requires within { at ≤ vec_len window.now.bytes }
-        ensures fault { IsFaultOf self.now.part (window.now.base + at) (Some kind) result.fault }
-        ensures line { (text : List ℕ) → IsWindow text window.now → KnowsLine text self.now → HasLine text result.line result.fault }
+        ensures { (fault : PatchFault) × IsBrokenAt self.now.part (window.now.base + at) kind fault
+            × ((text : List ℕ) → IsWindow text window.now → Tells text fault result) }
     {
-        let stop = window.base + at;
-        tell(window, self.line, self.part.break_stream(stop, kind), stop)
+        let place = window.base + at;
+        tell(window, self.part.break_stream(place, kind), place)
     }
 
     /// The replay of a stream that ends with the window.
@@ -166,23 +149,23 @@ impl Progress {
             part,
             edits,
             replay,
-            line,
         } = self;
-        let done = last_patch(part, line, window)?;
+        let done = last_patch(&part, window)?;
         replay_last(replay, edits, done)
     }
 }
 
 // The ids of the last patch of a stream that ends with the window.
-fn last_patch(part: Part, line: u64, window: &Window) -> Result<Option<Link>, Told>
-    ensures ok { IfOk result (EndsStream part (window.now.base + vec_len window.now.bytes)) }
-    ensures fault { IfErr result (λ told. IsBrokenAtEnd part (window.now.base + vec_len window.now.bytes) told.fault) }
-    ensures told { IfErr result (λ told. (text : List ℕ) → IsWindow text window.now → ((fault : TextFault) → first_fault part ≡ Some fault → HasLine text line fault) → HasLine text told.line told.fault) }
+fn last_patch(part: &Part, window: &Window) -> Result<Option<Link>, ReplayFault>
+    ensures ok { IfOk result (EndsStream part.now (window.now.base + vec_len window.now.bytes)) }
+    ensures fault { IfErr result (λ told. (fault : PatchFault)
+        × IsBrokenAtEnd part.now (window.now.base + vec_len window.now.bytes) fault
+        × ((text : List ℕ) → IsWindow text window.now → Tells text fault told)) }
 {
     let stop = window.base + window.bytes.len() as u64;
     match part.finish_stream(stop) {
         Ok(done) => Ok(done),
-        Err(fault) => Err(tell(window, line, fault, stop)),
+        Err(fault) => Err(tell(window, fault, stop)),
     }
 }
 

@@ -3,12 +3,11 @@ ghost use Rattle.std.specs.Prelude.{◌≡◌, ◌+◌, ◌-◌, ◌<◌, ◌≤
 ghost use Rattle.patch_reader.specs.Rows.{Gap};
 
 use crate::fault::ReplayFault;
-use crate::place::Told;
 use crate::progress::Progress;
 use crate::replay::Replayed;
 use crate::window::Window;
 use delta_base::OutOfMemory;
-use patch_meaning::{Next, PatchFault, Role, next_row, role_of};
+use patch_meaning::{Next, Role, next_row, role_of};
 use patch_reader::decided_row;
 use patch_rows::{RowFault, skip_space};
 use std::alloc::Global;
@@ -22,7 +21,7 @@ pub struct Streaming {
     /// read a few times and not once for each piece.
     wanted: usize,
     /// The first fault. Behind it nothing is read.
-    fault: Option<Told>,
+    fault: Option<ReplayFault>,
 }
 
 impl Streaming {
@@ -91,12 +90,12 @@ impl Streaming {
     }
 
     // Keeps the fault.
-    fn stop(&mut self, told: Told) -> Result<(), OutOfMemory>
+    fn stop(&mut self, told: ReplayFault) -> Result<(), OutOfMemory>
         ensures fed { OnOk result ((text : List ℕ) → IsTold false text told → HasFed text self.new) }
         ensures window { self.new.window ≡ self.old.window }
         ensures fault { OnOk result (self.new.fault ≡ Some told) }
     {
-        if matches!(told.fault, PatchFault::OutOfMemory) {
+        if matches!(told, ReplayFault::OutOfMemory) {
             return Err(OutOfMemory);
         }
         self.fault = Some(told);
@@ -104,7 +103,7 @@ impl Streaming {
     }
 
     // Takes all rows that the window decides.
-    fn advance(&mut self, alloc: Global) -> Result<(), Told>
+    fn advance(&mut self, alloc: Global) -> Result<(), ReplayFault>
         requires room { self.old.window.base + vec_len self.old.window.bytes ≤ 2 ^ 31 }
         requires few { self.old.progress.replay.chain.version ≤ self.old.window.base + self.old.window.from }
         ensures ok { OnOk result ((text : List ℕ) → IsStreaming false text self.old → IsStreaming false text self.new) }
@@ -131,13 +130,13 @@ impl Streaming {
                 Err(RowFault::At { at, kind }) => {
                     return Err(self.progress.break_off(&self.window, at, kind));
                 }
-                Err(RowFault::OutOfMemory) => return Err(Told::from(OutOfMemory)),
+                Err(RowFault::OutOfMemory) => return Err(ReplayFault::OutOfMemory),
             }
         }
     }
 
     // Takes all rows of a text that is whole.
-    fn advance_to_end(&mut self, alloc: Global) -> Result<(), Told>
+    fn advance_to_end(&mut self, alloc: Global) -> Result<(), ReplayFault>
         requires room { self.old.window.base + vec_len self.old.window.bytes ≤ 2 ^ 31 }
         requires few { self.old.progress.replay.chain.version ≤ self.old.window.base + self.old.window.from }
         ensures ok { OnOk result ((text : List ℕ) → IsStreaming true text self.old → IsStreaming true text self.new) }
@@ -157,19 +156,19 @@ impl Streaming {
     }
 
     // The next row of a text that is whole, or the fault.
-    fn next(&self, alloc: Global) -> Result<Option<Next>, Told>
+    fn next(&self, alloc: Global) -> Result<Option<Next>, ReplayFault>
         ensures ok { IfOk result (FindsRow true self.now.window.bytes.items self.now.window.from) }
         ensures fault { IfErr result (λ told. (text : List ℕ) → IsStreaming true text self.now → IsTold true text told) }
     {
         match next_row(alloc, self.window.bytes.as_slice(), self.window.from) {
             Ok(next) => Ok(next),
             Err(RowFault::At { at, kind }) => Err(self.progress.break_off(&self.window, at, kind)),
-            Err(RowFault::OutOfMemory) => Err(Told::from(OutOfMemory)),
+            Err(RowFault::OutOfMemory) => Err(ReplayFault::OutOfMemory),
         }
     }
 
     // Takes what the row at a place says, which ends at another.
-    fn step(&mut self, alloc: Global, says: &Role, at: usize, end: usize) -> Result<(), Told>
+    fn step(&mut self, alloc: Global, says: &Role, at: usize, end: usize) -> Result<(), ReplayFault>
         requires room { self.old.progress.replay.chain.version < 2 ^ 32 - 1 }
         requires low { at ≤ end }
         requires within { end ≤ vec_len self.old.window.bytes }
@@ -200,7 +199,7 @@ impl Streaming {
         ensures fault { IfErr result (λ fault. (text : List ℕ) → HasFed text self → EndsText fault text) }
     {
         if let Some(told) = self.fault {
-            return Err(ReplayFault::from(told));
+            return Err(told);
         }
         self.advance_to_end(alloc)?;
         let Streaming {

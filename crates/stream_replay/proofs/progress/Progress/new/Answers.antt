@@ -11,5 +11,4 @@ returns-clause-streamed c = record {
   changes = [];
   edits = c.new-2.ensures;
   replayed = c.new-3.ensures.replay;
-  line_is = λ fault is. absurd (let none = c.new.ensures.none in cc);
 }

@@ -4,13 +4,13 @@ use Rattle.patch_meaning.specs.Cutting.{HasTakenNext, changes_left, meanings_of}
 use Rattle.stream_replay.specs.Edits.{HasEdits}
 use Rattle.stream_replay.specs.Replaying.{IsReplay}
 use Rattle.stream_replay.specs.Streaming.{HoldsMore}
-use Rattle.stream_replay.proofs.Streams.{knows_same, streamed_more, told_before}
+use Rattle.stream_replay.proofs.Streams.{streamed_more, told_by}
 use Rattle.stream_replay.proofs.progress.Progress.take.Goals as goal
 
 pub returns-in-Err-clause-fault : goal.returns-in-Err-clause-fault
 returns-in-Err-clause-fault c = λ whole text end held is h.
     let w = c.args.window.now in
-    told_before whole text w.base w.from w.bytes.items w.feeds c.args.self.now (record { role = c.args.says.now; at = c.args.at; end = end }) c.in-Err.told held is h c.in-Err.ensures.fault (c.in-Err.ensures.told text held h.line_is)
+    told_by whole text w.base w.from w.bytes.items w.feeds c.args.self.now (record { role = c.args.says.now; at = c.args.at; end = end }) c.in-Err.ensures.fault.0 c.in-Err.told held is h c.in-Err.ensures.fault.1 (c.in-Err.ensures.fault.2 text held)
 
 pub returns-in_ok-hold-in-Ok-clause-ok : goal.returns-in_ok-hold-in-Ok-clause-ok
 returns-in_ok-hold-in-Ok-clause-ok c = λ whole text end held is h.
@@ -25,6 +25,5 @@ returns-in_ok-hold-in-Ok-clause-ok c = λ whole text end held is h.
     subst (IsReplay (ms ++ meanings_of c.in-Ok.done changes)) (sym last.replay)
     (done.replay ms changes (subst (IsReplay ms) (sym row.replay) taken) (subst (HasEdits changes) (sym row.edits) edits)))
     (λ changes edits.
-    subst (λ (p : Part). HoldsMore p (changes_left c.in-Ok.done changes) c.args.says.now c.hold.new.self.edits) (sym last.part)
+    subst (λ (p : Part). HoldsMore p (changes_left c.in-Ok.done changes) c.args.says.now (w.base + c.args.at) c.hold.new.self.edits) (sym last.part)
     (last.edits (changes_left c.in-Ok.done changes) (done.edits changes (subst (HasEdits changes) (sym row.edits) edits))))
-    (knows_same text c.take_row.new.self c.hold.new.self part (last.line ∙ done.line) (row.line text held h.line_is))

@@ -1,5 +1,5 @@
-use Rattle.std.proofs.Common.{rules, false, Some, ◌+◌, ◌<◌, ◌^◌, length, vec_len, ap, arith}
-use Rattle.patch_meaning.specs.Cutting.{IsFaultOf}
+use Rattle.std.proofs.Common.{rules, false, ◌+◌, ◌<◌, ◌^◌, length, vec_len, ap, arith}
+use Rattle.patch_meaning.specs.Cutting.{IsBrokenAt}
 use Rattle.stream_replay.proofs.Finds.{decided_next, decided_fault}
 use Rattle.stream_replay.proofs.Streams.{told_there}
 use Rattle.stream_replay.proofs.stream.Streaming.advance.Goals as goal
@@ -30,5 +30,6 @@ returns-in-Err-At-clause-fault c = λ text before.
     let small : length bytes.result.now < 2 ^ 63 = omega (arith, c.requires.room, bytes.ensures.len, ap vec_len c.rows.invariant.bytes) in
     let found = decided_fault bytes.result.now w.bytes.items w.from space.result stop.at stop.kind stop.field-0 bytes.ensures.value space.ensures.low space.ensures.high small space.ensures.space stop.field-0-is stop.ensures in
     let s = c.rows.invariant.streaming text before in
-    let why : IsFaultOf c.rows.self.progress.part (w.base + stop.at) (Some stop.kind) c.break_off.result.fault = rw (← stop.at-is, ← stop.kind-is) c.break_off.ensures.fault in
-    told_there false text w.base w.from stop.at w.bytes.items w.feeds c.rows.self.progress stop.kind c.break_off.result s.window_ found s.progress_ why (c.break_off.ensures.line text s.window_ s.progress_.line_is)
+    let told = c.break_off.ensures in
+    let why : IsBrokenAt c.rows.self.progress.part (w.base + stop.at) stop.kind told.0 = rw (← stop.at-is, ← stop.kind-is) told.1 in
+    told_there false text w.base w.from stop.at w.bytes.items w.feeds c.rows.self.progress stop.kind told.0 c.break_off.result s.window_ found s.progress_ why (told.2 text s.window_)

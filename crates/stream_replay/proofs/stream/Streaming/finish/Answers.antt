@@ -1,19 +1,13 @@
-use Rattle.std.proofs.Common.{◌+◌, Option, sym, subst}
+use Rattle.std.proofs.Common.{◌+◌, Option, subst}
 use Rattle.std.proofs.lemmas.Result.{err_from_is_err_and}
 use Rattle.patch_meaning.proofs.Cuts.{if_ok, if_err}
 use Rattle.stream_replay.specs.declared.fault.ReplayFault.{ReplayFault}
-use Rattle.stream_replay.specs.declared.place.Told.{Told}
-use Rattle.stream_replay.specs.Source.{EndsText}
 use Rattle.stream_replay.specs.Streaming.{HasMet}
 use Rattle.stream_replay.proofs.Fed.{no_fault, streaming_whole, faulty_whole, told_whole, gap_end}
-use Rattle.stream_replay.proofs.Streams.{ends_faulty}
 use Rattle.stream_replay.proofs.stream.Streaming.finish.Goals as goal
 
 pub returns-in-Some-clause-fault : goal.returns-in-Some-clause-fault
-returns-in-Some-clause-fault c = λ text fed.
-    let told = c.in-Some.told in
-    subst (λ (e : ReplayFault). EndsText e text) (sym c.from.ensures)
-    (ends_faulty told.line told.fault text (faulty_whole text told (subst (λ (f : Option Told). HasMet f text c.args.self) c.in-Some.is fed)))
+returns-in-Some-clause-fault c = λ text fed. faulty_whole text c.in-Some.told (subst (λ (f : Option ReplayFault). HasMet f text c.args.self) c.in-Some.is fed)
 
 pub returns-in_err-advance_to_end-clause-fault : goal.returns-in_err-advance_to_end-clause-fault
 returns-in_err-advance_to_end-clause-fault c =

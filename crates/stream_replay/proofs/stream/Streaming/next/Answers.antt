@@ -15,5 +15,5 @@ returns-in-Err-At-clause-fault c = λ text s.
     let w = c.args.self.now.window in
     let there = subst (λ (e : RowFault). FindsNext true c.as_slice.result.now w.from (Err e)) c.in-Err-At.field-0-is (finds_whole c.as_slice.result.now w.from (Err c.in-Err-At.field-0) c.in-Err-At.ensures) in
     let found = subst (λ (l : List ℕ). FindsFault true l w.from c.in-Err-At.kind c.in-Err-At.at) c.as_slice.ensures.value there in
-    told_there true text w.base w.from c.in-Err-At.at w.bytes.items w.feeds c.args.self.now.progress c.in-Err-At.kind c.break_off.result s.window_ found s.progress_ c.break_off.ensures.fault
-    (c.break_off.ensures.line text s.window_ s.progress_.line_is)
+    let told = c.break_off.ensures in
+    told_there true text w.base w.from c.in-Err-At.at w.bytes.items w.feeds c.args.self.now.progress c.in-Err-At.kind told.0 c.break_off.result s.window_ found s.progress_ told.1 (told.2 text s.window_)
