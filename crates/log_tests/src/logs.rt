@@ -33,13 +33,14 @@ const ID2: Id = Id(0x0000_0000_0000_4000_8000_0000_0000_0002);
 
 const ID3: Id = Id(0x0000_0000_0000_4000_8000_0000_0000_0003);
 
-// A disk with these bytes, whose calls of these numbers fail.
-fn disk_of(alloc: Global, image: &[u8], failing: &[u64]) -> Result<MemDisk, Fail> {
+/// A disk with these bytes, whose calls of these numbers fail.
+pub fn disk_of(alloc: Global, image: &[u8], failing: &[u64]) -> Result<MemDisk, Fail> {
     let bytes = Bytes::from_slice(alloc, image)?;
     Ok(MemDisk::from_image(alloc, bytes, calls(alloc, failing)?)?)
 }
 
-fn open(alloc: Global, disk: MemDisk, limits: LogLimits) -> Result<LogState<MemDisk>, Fail> {
+/// The log of number 1 on a disk.
+pub fn open(alloc: Global, disk: MemDisk, limits: LogLimits) -> Result<LogState<MemDisk>, Fail> {
     match LogState::open_on(alloc, disk, 1, limits) {
         Ok(log) => Ok(log),
         Err(_) => Err(Fail::from("not opened")),
@@ -224,8 +225,8 @@ fn what_is_settled_makes_way(rt: HostRuntime) -> Result<(), Fail> {
     Ok(())
 }
 
-// A journal with these payloads.
-fn journal_of(alloc: Global, payloads: &[&[u8]]) -> Result<Vec<u8>, Fail> {
+/// A journal with these payloads.
+pub fn journal_of(alloc: Global, payloads: &[&[u8]]) -> Result<Vec<u8>, Fail> {
     let mut bytes = b"RDJ1\0\0\0\x01".to_vec(alloc)?;
     for payload in payloads {
         bytes.push(1)?;
@@ -369,8 +370,8 @@ fn what_was_acknowledged_is_found_again(rt: HostRuntime) -> Result<(), Fail> {
     Ok(())
 }
 
-// The patches that these texts are.
-fn patches_of(alloc: Global, texts: &[&[u8]]) -> Result<Vec<Checked>, Fail> {
+/// The patches that these texts are.
+pub fn patches_of(alloc: Global, texts: &[&[u8]]) -> Result<Vec<Checked>, Fail> {
     let mut patches = Vec::new(alloc);
     for text in texts {
         patches.push(check_patch(alloc, text)?)?;

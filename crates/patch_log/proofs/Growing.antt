@@ -7,7 +7,7 @@ use Rattle.delta_base.specs.declared.id.Id.{Id}
 use Rattle.chain_core.specs.declared.chain.Patch.{Patch}
 use Rattle.chain_core.specs.declared.chain.Entry.{Entry}
 use Rattle.chain_core.specs.Chain.{IsKept}
-use Rattle.chain_core.specs.Patches.{patches_of, patch_at, version_of}
+use Rattle.chain_core.specs.Patches.{patches_of, version_of}
 use Rattle.chain_core.proofs.Patches.{patches_of-push}
 use Rattle.chain_core.proofs.Versions.{version_of-push, new_entry}
 use Rattle.patch_log.specs.Index.{number_in, number_of, get, number_at, IsRising, IsAt, IsGapFor, IsIndexOf}

@@ -1,7 +1,5 @@
-use Rattle.std.proofs.Common.{[], ◌∷◌, ◌++◌, List, sym, subst}
-use Rattle.chain_core.specs.declared.chain.Entry.{Entry}
+use Rattle.std.proofs.Common.{List, subst}
 use Rattle.chain_core.specs.declared.chain.Patch.{Patch}
-use Rattle.chain_core.specs.Chain.{IsKept}
 use Rattle.chain_core.specs.Patches.{patches_of}
 use Rattle.patch_log.specs.Opening.{IsNextOf}
 use Rattle.patch_log.proofs.Openings.{next_kept}

@@ -1,4 +1,4 @@
-use Rattle.std.proofs.Common.{◌+◌, sym, subst, arith}
+use Rattle.std.proofs.Common.{sym, subst, arith}
 use Rattle.chain_core.specs.declared.answer.LogAnswer.TheVariants.{OutOfMemory}
 use Rattle.patch_log.specs.State.{LogView}
 use Rattle.patch_log.specs.Run.{Appended}

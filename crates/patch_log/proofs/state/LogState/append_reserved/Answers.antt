@@ -1,4 +1,4 @@
-use Rattle.std.proofs.Common.{◌+◌, arith}
+use Rattle.std.proofs.Common.{arith}
 use Rattle.patch_log.proofs.States.{told_is}
 use Rattle.patch_log.proofs.Told.{appended_told, appended_written}
 use Rattle.patch_log.proofs.state.LogState.append_reserved.Goals as goal

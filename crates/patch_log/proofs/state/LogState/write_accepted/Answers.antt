@@ -1,4 +1,4 @@
-use Rattle.std.proofs.Common.{◌≡◌, ℕ, ◌+◌, List, [], ◌∷◌, ◌++◌, length, Some, None, Result, Err, refl, sym, ◌∙◌, ap, subst, arith}
+use Rattle.std.proofs.Common.{◌≡◌, ℕ, ◌+◌, List, [], ◌∷◌, ◌++◌, length, Some, None, Result, Err, sym, ◌∙◌, ap, subst}
 use Rattle.log_journal.specs.Payload.{payload_of}
 use Rattle.log_journal.specs.StandsFor.{length_of}
 use Rattle.log_journal.specs.Writing.{StandsWith, payloads_left, doubt_left, failing, longer_by, LeavesEither as JournalLeaves}
