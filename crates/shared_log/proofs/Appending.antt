@@ -15,9 +15,11 @@ use Rattle.turn_cell.proofs.Knowing.{Entered, asked, sees_on, stays_same}
 use Rattle.shared_log.specs.declared.value.LogFixed.{LogFixed}
 use Rattle.shared_log.specs.History.{history_of, fixed_of, StandsInTurn}
 use Rattle.shared_log.specs.Passes.{LogSight}
-use Rattle.shared_log.specs.Appending.{Appended, AppendsInTurn}
+use Rattle.patch_log.specs.Run.{Appended}
+use Rattle.shared_log.specs.Appending.{AppendsInTurn}
 use Rattle.shared_log.specs.Legal.{Legal}
-use Rattle.shared_log.proofs.Table.{Stays, IsKeptBy}
+use Rattle.shared_log.proofs.Table.{Stays}
+use Rattle.shared_log.specs.History.{IsKeptBy}
 use Rattle.shared_log.proofs.Stays.{stays_of, grows_of}
 use Rattle.shared_log.proofs.Telling.{told_quiet, kept_quiet, told_accepted, told_fault}
 

@@ -1,5 +1,5 @@
 -- What an append came to, by its answer.
-use Rattle.std.proofs.Common.{◌≡◌, ◌≢◌, ◌⊎◌, ℕ, ◌+◌, List, [], ◌∷◌, ◌++◌, length, sym, refl, ap, ◌∙◌, subst, ⊎_elim, inl, inr, Option, Some, None}
+use Rattle.std.proofs.Common.{◌≡◌, ◌≢◌, ◌⊎◌, ℕ, ◌+◌, List, [], ◌∷◌, ◌++◌, length, sym, refl, ap, ◌∙◌, subst, ⊎_elim, inl, inr, Option, Some, None, Result, Ok, Err, IfOk}
 use Rattle.delta_base.specs.declared.limits.LogLimits.{LogLimits}
 use Rattle.chain_core.specs.declared.chain.Patch.{Patch}
 use Rattle.delta_base.specs.declared.phase.Phase.TheVariants.{Settling, Body, Gate}
@@ -17,10 +17,12 @@ use Rattle.chain_core.proofs.Decided.{accepted}
 use Rattle.std.proofs.lemmas.List.{append-nil}
 use Rattle.disk_model.specs.declared.disk.Disk.{Ghosts}
 use Rattle.patch_log.specs.State.{LogView}
-use Rattle.patch_log.specs.Run.{Appends, IsWant}
+use Rattle.patch_log.specs.Run.{Appended, Appends, IsWant}
+use Rattle.patch_log.specs.Ready.{ReadyView, IsMadeOf}
+use Rattle.delta_base.specs.declared.fault.OutOfMemory.{OutOfMemory as Want}
+use Rattle.patch_meaning.specs.Checked.{CheckedPatch}
 use Rattle.turn_cell.specs.Sights.{IsGrownBy}
 use Rattle.shared_log.specs.History.{entry_of, history_of}
-use Rattle.shared_log.specs.Appending.{Appended}
 use Rattle.shared_log.proofs.Table.{Stays}
 use Rattle.shared_log.proofs.Histories.{history_push}
 
@@ -91,19 +93,6 @@ module _ {D : Type 0} (limits : LogLimits) (by : ℕ) (patch : Patch) (before af
       by_answer answer (subst (Comes (decision chain patch limits) chain before.doubt patch) s.1 (comes (decision chain patch limits) s.0 chain before.doubt patch)) grows keeps)
       (λ (w : IsWant limits chain before.doubt patch (up (patches_of after.entries) after.doubt) answer). by_want answer w keeps) appends
 
-  -- an append that asked for nothing but a patch that can be accepted tells no other answer
-  pub only_then : (version : ℕ) (fate : Fate) (answer : LogAnswer) → decision chain patch limits ≡ Accept version → Stay limits (up chain before.doubt) patch fate (up (patches_of after.entries) after.doubt) answer → answer ≢ DiskFault → ((place : ℕ) → answer ≢ Accepted place) → ⊥
-  only_then version fate answer is stay no_fault not_accepted =
-      told answer (subst (Comes (decision chain patch limits) chain before.doubt patch) stay (comes (decision chain patch limits) fate chain before.doubt patch)) no_fault not_accepted
-    where
-      told : (answer : LogAnswer) → ComesTo (decision chain patch limits) chain before.doubt patch (up (patches_of after.entries) after.doubt) (Some answer) → answer ≢ DiskFault → ((place : ℕ) → answer ≢ Accepted place) → ⊥
-      told (Accepted place) came no_fault not_accepted = not_accepted place refl
-      told (IsKnown place same) came no_fault not_accepted = let c : Accept version ≡ Known place same = sym is ∙ came.0 in cc
-      told (IsConflict place head named) came no_fault not_accepted = let c : Accept version ≡ Conflict place head named = sym is ∙ came.0 in cc
-      told (IsFull what have limit) came no_fault not_accepted = let c : Accept version ≡ Full what have limit = sym is ∙ came.0 in cc
-      told DiskFault came no_fault not_accepted = no_fault refl
-      told OutOfMemory came no_fault not_accepted = came
-
   same_history : after.entries ≡ before.entries → IsGrownBy by (history_of before.entries) (history_of after.entries)
   same_history same = ([], ap history_of same ∙ sym (append-nil (history_of before.entries)), tt)
 
@@ -117,23 +106,19 @@ module _ {D : Type 0} (limits : LogLimits) (by : ℕ) (patch : Patch) (before af
   grows OutOfMemory s = same_history s.1.0
 
 module _ {D : Type 0} (disks : Ghosts D) where
-  -- how much room was made ready beforehand doesn't matter
-  pub with_room : (spare : ℕ) (before after : LogView D) (patch : Patch) (by : ℕ) (answer : LogAnswer) → Appended disks (record before { spare = spare }) after patch by answer → Appended disks before after patch by answer
-  with_room spare before after patch by answer a = record {
-    appends = a.appends;
-    by_syncs = a.by_syncs;
-    accepted = a.accepted;
-    refused = a.refused;
-    any_moment = a.any_moment;
-    kept = a.kept;
-    cause = a.cause;
-    faults = a.faults;
-    untouched = a.untouched;
-    fixed = a.fixed;
-  }
-
   pub stays_of : (before after : LogView D) (patch : Patch) (by : ℕ) (answer : LogAnswer) → Appended disks before after patch by answer → Stays before.limits by patch before after answer
   stays_of before after patch by answer a = stays before.limits by patch before after answer a.appends a.accepted a.refused
 
   pub grows_of : (before after : LogView D) (patch : Patch) (by : ℕ) (answer : LogAnswer) → Appended disks before after patch by answer → IsGrownBy by (history_of before.entries) (history_of after.entries)
   grows_of before after patch by answer a = grows before.limits by patch before after answer (stays_of before after patch by answer a)
+
+-- what was made ready for a pass is brought by it
+pub made_by : (patch : CheckedPatch) (by number : ℕ) (made : Result ReadyView Want) → IfOk made (IsMadeOf patch by) → by ≡ number
+    → IfOk made (λ ready. ready.by ≡ number)
+made_by patch by number (Ok ready) is same = is.1 ∙ same
+made_by patch by number (Err want) is same = tt
+
+-- some pass brings it, where it was made ready
+pub by_some : (made : Result ReadyView Want) → (by : ℕ) × IfOk made (λ ready. ready.by ≡ by)
+by_some (Ok ready) = (ready.by, refl)
+by_some (Err want) = (0, tt)

@@ -8,12 +8,9 @@ use Rattle.chain_core.specs.declared.answer.LogAnswer.TheVariants.{Accepted, Kno
 use Rattle.chain_core.specs.Decision.{decision}
 use Rattle.chain_core.specs.Patches.{patches_of}
 use Rattle.patch_log.specs.State.{LogView}
+use Rattle.shared_log.specs.History.{IsKeptBy}
 
 module _ {D : Type 0} where
-  -- neither the entries nor the patch in doubt changed
-  abbrev pub IsKeptBy : LogView D → LogView D → Type 0
-  IsKeptBy before after = (after.entries ≡ before.entries) × (after.doubt ≡ before.doubt)
-
   -- the patch could have been accepted
   abbrev pub IsAcceptableTo : LogLimits → LogView D → Patch → Type 0
   IsAcceptableTo limits log patch = (version : ℕ) × (decision (patches_of log.entries) patch limits ≡ Accept version)

@@ -25,7 +25,8 @@ use Rattle.shared_log.specs.declared.value.LogFixed.{LogFixed}
 use Rattle.shared_log.specs.History.{chain_of, history_of}
 use Rattle.shared_log.specs.Passes.{LogSight}
 use Rattle.shared_log.specs.Legal.{IsReply, IsAnswer, IsAccepted, WouldTake, MayFail}
-use Rattle.shared_log.proofs.Table.{Stays, IsKeptBy}
+use Rattle.shared_log.proofs.Table.{Stays}
+use Rattle.shared_log.specs.History.{IsKeptBy}
 use Rattle.shared_log.proofs.Histories.{known_chain, history_length, history_push}
 
 module _ {D : Type 0} (limits : LogLimits) (p q : LogSight) (was : LogView D) (sees : q.view.seen ≡ history_of was.entries) where

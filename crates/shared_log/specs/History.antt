@@ -1,5 +1,5 @@
 -- A log as the passes of its turn know it.
-use Rattle.std.specs.Prelude.{ℕ, ◌<◌, ◌^◌, List, length, map, Option}
+use Rattle.std.specs.Prelude.{◌≡◌, ℕ, ◌<◌, ◌^◌, List, length, map, Option}
 use Rattle.disk_model.specs.declared.disk.Disk.{Ghosts}
 use Rattle.chain_core.specs.declared.chain.Patch.{Patch}
 use Rattle.chain_core.specs.declared.chain.Entry.{Entry}
@@ -33,3 +33,7 @@ module _ {D : Type 0} where
         disks.tells
         → StandsForLog (disks.past log.disk) log.number log.limits
         (patches_of log.entries) log.doubt
+
+  -- neither the entries nor the patch in doubt changed
+  abbrev pub IsKeptBy : LogView D → LogView D → Type 0
+  IsKeptBy before after = (after.entries ≡ before.entries) × (after.doubt ≡ before.doubt)

@@ -16,7 +16,7 @@ use crate::value::LogValue;
 use chain_core::LogAnswer;
 use delta_base::{Back, Id, OutOfMemory};
 use disk_model::Disk;
-use patch_log::LogState;
+use patch_log::{LogState, Ready};
 use patch_meaning::Checked;
 use std::alloc::Global;
 use std::marker::Model;
@@ -30,6 +30,7 @@ pub type LogPass<D> = Pass<LogValue<D>>;
 #[derive(Drop)]
 pub struct SharedLog<D: Disk> {
     turn: Turn<LogValue<D>>,
+    alloc: Global,
 }
 
 impl<D: Disk> Model for SharedLog<D> {
@@ -58,7 +59,7 @@ impl<D: Disk> SharedLog<D> {
         ensures back { IfErr result (λ b. b.item ≡ state) }
     {
         match Turn::new(alloc, LogValue::of(state), seats) {
-            Ok((turn, passes)) => Ok((SharedLog { turn }, passes)),
+            Ok((turn, passes)) => Ok((SharedLog { turn, alloc }, passes)),
             Err(Back { item }) => Err(Back {
                 item: item.into_log(),
             }),
@@ -66,7 +67,7 @@ impl<D: Disk> SharedLog<D> {
     }
 
     /// Adds a patch, or says why not: Known, Conflict, Full, want of memory and a disk fault, in
-    /// this order.
+    /// this order. It copies the patch before it takes the turn.
     pub fn append<R: Wait>(&self, rt: &R, pass: &mut LogPass<D>, patch: &Checked) -> LogAnswer
         requires of { IsPassOf D.mark self.now pass.old }
         ensures of { IsPassOf D.mark self.now pass.new }
@@ -75,9 +76,9 @@ impl<D: Disk> SharedLog<D> {
         ensures stay { AppendsInTurn D.Disk self.now.origin (bare patch.now) result
             pass.old pass.new }
     {
-        let by = pass.number();
+        let made = Ready::of(self.alloc, patch, pass.number());
         let mut held = self.turn.enter(rt, pass);
-        match held.value_mut().append(patch, by) {
+        match held.value_mut().append(patch, made) {
             LogAnswer::Accepted { version } => {
                 self.turn.leave(pass, held);
                 LogAnswer::Accepted { version }
@@ -161,7 +162,7 @@ impl<D: Disk> SharedLog<D> {
         ensures closed { IsClosedOf D.Disk self passes.items result }
         ensures stands { StandsInTurn D.Disk result }
     {
-        let SharedLog { turn } = self;
+        let SharedLog { turn, .. } = self;
         turn.close(passes).into_log()
     }
 }

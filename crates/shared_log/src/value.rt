@@ -1,18 +1,19 @@
 //! A log as the value of a turn.
-ghost use Rattle.std.specs.Prelude.{◌≡◌, ◌<◌, ◌^◌, length, IfOk};
+ghost use Rattle.std.specs.Prelude.{◌≡◌, ◌≢◌, ◌<◌, ◌≤◌, ◌^◌, ℕ, length, IfOk};
+ghost use Rattle.std.specs.Result.{ForOk};
 ghost use Rattle.chain_core.specs.Patches.{patches_of};
 ghost use Rattle.chain_core.specs.Replies as asked;
 ghost use Rattle.patch_log.specs.Log.{bare};
-ghost use Rattle.shared_log.specs.Appending.{Appended};
-ghost use Rattle.shared_log.specs.History.{history_of, StandsInTurn};
+ghost use Rattle.patch_log.specs.Run.{Appended};
+ghost use Rattle.shared_log.specs.History.{history_of, fixed_of, IsKeptBy, StandsInTurn};
 ghost use Rattle.shared_log.specs.Replies.{reply_fetched, reply_described};
 ghost use Rattle.turn_cell.specs.Sights.{IsGrownBy};
 
 use crate::replies::{Fetched, LogInfo};
-use chain_core::{Decision, LogAnswer, Patch};
+use chain_core::{LogAnswer, Patch};
 use delta_base::{Id, LogLimits, OutOfMemory};
 use disk_model::Disk;
-use patch_log::LogState;
+use patch_log::{LogState, Ready, append_made};
 use patch_meaning::Checked;
 use std::collections::LinkedList;
 use std::marker::Model;
@@ -111,32 +112,26 @@ impl<D: Disk> LogValue<D> {
         }
     }
 
-    /// Adds a patch, or says why not: Known, Conflict, Full, want of memory and a disk fault, in
-    /// this order.
-    pub fn append(&mut self, patch: &Checked, by: u32) -> LogAnswer
-        ensures appended { Appended D.Disk self.old self.new (bare patch.now) by result }
+    /// Adds a patch that was made ready, or for which no memory was found, or says why not: Known,
+    /// Conflict, Full, want of memory and a disk fault, in this order.
+    pub fn append(&mut self, patch: &Checked, made: Result<Ready, OutOfMemory>) -> LogAnswer
+        requires { ForOk made (λ ready. ready.patch ≡ bare patch.now) }
+        ensures appended { (by : ℕ) → IfOk made (λ ready. ready.by ≡ by)
+            → Appended D.Disk self.old self.new (bare patch.now) by result }
         ensures found_stands { StandsInTurn D.Disk self.old }
         ensures left_stands { StandsInTurn D.Disk self.new }
-        ensures grown { IsGrownBy by (history_of self.old.entries) (history_of self.new.entries) }
+        ensures grown { (by : ℕ) → IfOk made (λ ready. ready.by ≡ by)
+            → IsGrownBy by (history_of self.old.entries) (history_of self.new.entries) }
+        ensures fixed { fixed_of D.mark self.new ≡ fixed_of D.mark self.old }
+        ensures faults { D.faults self.old.disk ≤ D.faults self.new.disk }
+        ensures as_found { result ≢ LogAnswer.DiskFault
+            → ((version : ℕ) → result ≢ LogAnswer.Accepted version)
+            → IsKeptBy self.old self.new × (self.new.disk ≡ self.old.disk) }
         ensures few { length (history_of self.new.entries) < 2 ^ 32 }
     {
-        let answer = append_to(&mut self.log, patch, by);
+        let answer = append_made(&mut self.log, patch, made);
         let _version = self.log.chain().version();
         answer
-    }
-}
-
-// Adds a patch to a log. Only for one that can be accepted it asks for memory and the disk.
-fn append_to<D: Disk>(log: &mut LogState<D>, patch: &Checked, by: u32) -> LogAnswer
-    ensures { Appended D.Disk log.old log.new (bare patch.now) by result }
-{
-    let decision = log.decide_here(patch);
-    match decision {
-        Decision::Accept { version: _ } => match log.reserve(patch, by) {
-            Ok(ready) => log.append_reserved(ready),
-            Err(_) => LogAnswer::OutOfMemory,
-        },
-        _ => LogAnswer::told(decision),
     }
 }
 
