@@ -89,8 +89,10 @@ StopsReading input input' other = ⊥
 
 -- why `replay` prints no lines of its input
 abbrev pub StopsReplay : Refusal → Channel → Channel → Channel → Channel → Type 0
-StopsReplay (refusals.Stream line at kind) input input' out out' = Reads input input' (IsFaulty line at kind) × IsSilent out out'
-StopsReplay (refusals.LongPatch size limit) input input' out out' = Reads input input' (IsLong size limit) × IsSilent out out'
+StopsReplay (refusals.Stream line at kind) input input' out out' =
+    Reads input input' (IsFaulty line at kind) × IsSilent out out'
+StopsReplay (refusals.LongPatch size limit) input input' out out' =
+    Reads input input' (IsLong size limit) × IsSilent out out'
 StopsReplay (refusals.Chain fault) input input' out out' = Reads input input' (IsUnchained fault) × IsSilent out out'
 StopsReplay refusals.TooLong input input' out out' = IsTooLong input.bytes × IsSilent out out'
 StopsReplay refusals.InputFailed input input' out out' = HasFailed input input' × IsSilent out out'
@@ -109,8 +111,10 @@ StopsNquads other input input' out out' = ⊥
 
 -- why a known text is not replayed to its counts
 abbrev pub StopsCounting : List ℕ → Refusal → Channel → Channel → Type 0
-StopsCounting text (refusals.Stream line at kind) out out' = IsFaulty line at kind text × IsSilent out out'
-StopsCounting text (refusals.LongPatch size limit) out out' = IsLong size limit text × IsSilent out out'
+StopsCounting text (refusals.Stream line at kind) out out' =
+    IsFaulty line at kind text × IsSilent out out'
+StopsCounting text (refusals.LongPatch size limit) out out' =
+    IsLong size limit text × IsSilent out out'
 StopsCounting text (refusals.Chain fault) out out' = IsUnchained fault text × IsSilent out out'
 StopsCounting text refusals.TooLong out out' = (stream_limit < length text) × IsSilent out out'
 StopsCounting text refusals.OutputFailed out out' = HasFailed out out' × PrintsFront HasCounts out out' text
