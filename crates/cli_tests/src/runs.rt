@@ -154,6 +154,34 @@ fn the_first_fault_of_a_stream_is_told(rt: HostRuntime) -> Result<(), Fail> {
 }
 
 #[test]
+fn a_long_patch_hides_no_fault_of_its_rows(rt: HostRuntime) -> Result<(), Fail> {
+    let alloc = rt.alloc();
+    let mut comment = String::from_str(alloc, "#")?;
+    for _ in 0..4_200_000 {
+        comment.push('x')?;
+    }
+    comment.push('\n')?;
+    for (rows, err) in [
+        (
+            "H id <uuid:x> .\n",
+            "rdfdelta: input: line 1 byte 0: BadId\n",
+        ),
+        (
+            "H id <uuid:00000000-0000-4000-8000-000000000001> .\nTC .\n",
+            "rdfdelta: input: line 2 byte 51: NotInBlock\n",
+        ),
+        (
+            "H id <uuid:00000000-0000-4000-8000-000000000001> .\nX .\n",
+            "rdfdelta: input: line 2 byte 51: UnknownCode\n",
+        ),
+        (ID, "rdfdelta: input: too long: limit 4194304\n"),
+    ] {
+        replays(&rt, alloc, &[rows, comment.as_str(), P2], 3, "", err)?;
+    }
+    Ok(())
+}
+
+#[test]
 fn the_chain_is_tested_behind_the_grammar(rt: HostRuntime) -> Result<(), Fail> {
     let alloc = rt.alloc();
     let behind_none =

@@ -30,7 +30,8 @@ module _ (input input' out out' : Channel) (r : Replayed) (reads : Reads input i
   stops_printing refusals.OutOfMemory stops = stops
   stops_printing refusals.UnknownCommand stops = absurd stops
   stops_printing (refusals.Usage name) stops = absurd stops
-  stops_printing (refusals.Stream line fault) stops = absurd stops
+  stops_printing (refusals.Stream line at kind) stops = absurd stops
+  stops_printing (refusals.LongPatch size limit) stops = absurd stops
   stops_printing (refusals.Document line at kind) stops = absurd stops
   stops_printing refusals.TooLong stops = absurd stops
   stops_printing refusals.InputFailed stops = absurd stops

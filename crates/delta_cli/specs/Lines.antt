@@ -6,9 +6,7 @@ use Rattle.delta_base.specs.Ids.{text_of}
 use Rattle.chain_core.specs.declared.testing.ChainFault.{ChainFault}
 use Rattle.chain_core.specs.declared.testing.ChainFault.TheVariants as chains
 use Rattle.nquads_text.specs.Names.{text_kind_name}
-use Rattle.patch_rows.specs.Names.{row_kind_name}
-use Rattle.patch_meaning.specs.declared.fault.PatchFault.{PatchFault}
-use Rattle.patch_meaning.specs.declared.fault.PatchFault.TheVariants as faults
+use Rattle.patch_meaning.specs.Names.{patch_kind_name}
 use Rattle.slot_checks.specs.Lines.{fault_line}
 use Rattle.delta_cli.specs.declared.name.Name.{Name}
 use Rattle.delta_cli.specs.declared.name.Name.TheVariants as names
@@ -55,19 +53,6 @@ limit_line limit = codes "rdfdelta: input: too long: limit " ++ (decimal limit +
 abbrev pub out_of_memory_line : List ℕ
 out_of_memory_line = codes "rdfdelta: out of memory\n"
 
-abbrev pub patch_line : ℕ → PatchFault → List ℕ
-patch_line line (faults.Row at kind) = place_line line at (row_kind_name kind)
-patch_line line (faults.NoId at) = place_line line at (codes "NoId")
-patch_line line (faults.TwoIds at) = place_line line at (codes "TwoIds")
-patch_line line (faults.TwoPrevs at) = place_line line at (codes "TwoPrevs")
-patch_line line (faults.BadId at) = place_line line at (codes "BadId")
-patch_line line (faults.LateHeader at) = place_line line at (codes "LateHeader")
-patch_line line (faults.Nested at) = place_line line at (codes "Nested")
-patch_line line (faults.NotInBlock at) = place_line line at (codes "NotInBlock")
-patch_line line (faults.OpenBlock at) = place_line line at (codes "OpenBlock")
-patch_line line (faults.TooLong length limit) = limit_line limit
-patch_line line faults.OutOfMemory = out_of_memory_line
-
 abbrev pub chain_line : ChainFault → List ℕ
 chain_line (chains.Diverged version have found) =
     codes "rdfdelta: diverged at version " ++ (decimal version ++ (codes ": have " ++ (id_or_none have ++ (codes ", found " ++ (id_or_none found ++ 10 ∷ [])))))
@@ -77,7 +62,8 @@ chain_line (chains.Repeated id version) = codes "rdfdelta: repeated id " ++ (tex
 unfoldable pub line_of : Refusal → List ℕ
 line_of refusals.UnknownCommand = codes "rdfdelta: unknown command\n"
 line_of (refusals.Usage name) = codes "rdfdelta: usage: " ++ (usage_text name ++ 10 ∷ [])
-line_of (refusals.Stream line fault) = patch_line line fault
+line_of (refusals.Stream line at kind) = place_line line at (patch_kind_name kind)
+line_of (refusals.LongPatch size limit) = limit_line limit
 line_of (refusals.Document line at kind) = place_line line at (text_kind_name kind)
 line_of refusals.TooLong = limit_line 268435456
 line_of refusals.InputFailed = codes "rdfdelta: input failed\n"
@@ -92,7 +78,8 @@ line_of refusals.OutOfMemory = out_of_memory_line
 abbrev pub status_of : Refusal → ℕ
 status_of refusals.UnknownCommand = 2
 status_of (refusals.Usage name) = 2
-status_of (refusals.Stream line fault) = 3
+status_of (refusals.Stream line at kind) = 3
+status_of (refusals.LongPatch size limit) = 3
 status_of (refusals.Document line at kind) = 3
 status_of refusals.TooLong = 3
 status_of refusals.InputFailed = 4

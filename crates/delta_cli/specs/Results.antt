@@ -8,7 +8,7 @@ use Rattle.chain_core.specs.Links.{IsChain}
 use Rattle.patch_meaning.specs.Patch.{Meaning}
 use Rattle.patch_meaning.specs.Replay.{links_of, replay}
 use Rattle.patch_meaning.specs.Stream.{IsStream}
-use Rattle.stream_replay.specs.Places.{IsFaulty}
+use Rattle.stream_replay.specs.Places.{IsFaulty, IsLong}
 use Rattle.stream_replay.specs.Source.{Reads as ReadsBytes, IsTooLong, IsUnchained, stream_limit}
 use Rattle.std.specs.Global.{Vec}
 use Rattle.sink_writing.specs.Writing.{joined}
@@ -60,7 +60,8 @@ AreShown lines text = IsShown text (joined lines)
 
 -- the end of a command whose input has no replay
 abbrev pub refusal_of : ReplayFault → Refusal
-refusal_of (replays.Stream line fault) = refusals.Stream line fault
+refusal_of (replays.Stream line at kind) = refusals.Stream line at kind
+refusal_of (replays.LongPatch size limit) = refusals.LongPatch size limit
 refusal_of (replays.Chain fault) = refusals.Chain fault
 refusal_of replays.TooLong = refusals.TooLong
 refusal_of replays.Failed = refusals.InputFailed
@@ -88,7 +89,10 @@ StopsReading input input' other = ⊥
 
 -- why `replay` prints no lines of its input
 abbrev pub StopsReplay : Refusal → Channel → Channel → Channel → Channel → Type 0
-StopsReplay (refusals.Stream line fault) input input' out out' = Reads input input' (IsFaulty line fault) × IsSilent out out'
+StopsReplay (refusals.Stream line at kind) input input' out out' =
+    Reads input input' (IsFaulty line at kind) × IsSilent out out'
+StopsReplay (refusals.LongPatch size limit) input input' out out' =
+    Reads input input' (IsLong size limit) × IsSilent out out'
 StopsReplay (refusals.Chain fault) input input' out out' = Reads input input' (IsUnchained fault) × IsSilent out out'
 StopsReplay refusals.TooLong input input' out out' = IsTooLong input.bytes × IsSilent out out'
 StopsReplay refusals.InputFailed input input' out out' = HasFailed input input' × IsSilent out out'
@@ -107,7 +111,10 @@ StopsNquads other input input' out out' = ⊥
 
 -- why a known text is not replayed to its counts
 abbrev pub StopsCounting : List ℕ → Refusal → Channel → Channel → Type 0
-StopsCounting text (refusals.Stream line fault) out out' = IsFaulty line fault text × IsSilent out out'
+StopsCounting text (refusals.Stream line at kind) out out' =
+    IsFaulty line at kind text × IsSilent out out'
+StopsCounting text (refusals.LongPatch size limit) out out' =
+    IsLong size limit text × IsSilent out out'
 StopsCounting text (refusals.Chain fault) out out' = IsUnchained fault text × IsSilent out out'
 StopsCounting text refusals.TooLong out out' = (stream_limit < length text) × IsSilent out out'
 StopsCounting text refusals.OutputFailed out out' = HasFailed out out' × PrintsFront HasCounts out out' text

@@ -1,13 +1,12 @@
 //! The lines on err.
 ghost use Rattle.std.specs.Prelude.{◌≡◌, ◌++◌, ◌∷◌, [], IfOk, OnOk, codes};
 ghost use Rattle.std.specs.Fmt.{decimal};
-ghost use Rattle.delta_cli.specs.Lines.{id_or_none, usage_text, place_line, limit_line, patch_line, chain_line, line_of};
+ghost use Rattle.delta_cli.specs.Lines.{id_or_none, usage_text, place_line, limit_line, chain_line, line_of};
 
 use crate::name::Name;
 use crate::refusal::Refusal;
 use chain_core::ChainFault;
 use delta_base::{Id, OutOfMemory, id_text};
-use patch_meaning::PatchFault;
 use slot_checks::fault_text;
 use std::alloc::Global;
 
@@ -19,7 +18,8 @@ pub fn line_of(alloc: Global, refusal: Refusal) -> Result<Vec<u8>, OutOfMemory>
     match refusal {
         Refusal::UnknownCommand => line(alloc, b"rdfdelta: unknown command\n"),
         Refusal::Usage(name) => usage_line(alloc, name),
-        Refusal::Stream { line, fault } => patch_line(alloc, line, fault),
+        Refusal::Stream { line, at, kind } => place_line(alloc, line, at, kind.name().as_bytes()),
+        Refusal::LongPatch { limit, .. } => limit_line(alloc, limit),
         Refusal::Document { line, at, kind } => {
             place_line(alloc, line as u64, at as u64, kind.name().as_bytes())
         }
@@ -71,24 +71,6 @@ fn place_line(alloc: Global, line: u64, at: u64, kind: &[u8]) -> Result<Vec<u8>,
     text.extend_from_slice(kind)?;
     text.push(b'\n')?;
     Ok(text)
-}
-
-fn patch_line(alloc: Global, line: u64, fault: PatchFault) -> Result<Vec<u8>, OutOfMemory>
-    ensures { IfOk result (λ text. text.items ≡ patch_line line fault) }
-{
-    match fault {
-        PatchFault::Row { at, kind } => place_line(alloc, line, at, kind.name().as_bytes()),
-        PatchFault::NoId { at } => place_line(alloc, line, at, b"NoId"),
-        PatchFault::TwoIds { at } => place_line(alloc, line, at, b"TwoIds"),
-        PatchFault::TwoPrevs { at } => place_line(alloc, line, at, b"TwoPrevs"),
-        PatchFault::BadId { at } => place_line(alloc, line, at, b"BadId"),
-        PatchFault::LateHeader { at } => place_line(alloc, line, at, b"LateHeader"),
-        PatchFault::Nested { at } => place_line(alloc, line, at, b"Nested"),
-        PatchFault::NotInBlock { at } => place_line(alloc, line, at, b"NotInBlock"),
-        PatchFault::OpenBlock { at } => place_line(alloc, line, at, b"OpenBlock"),
-        PatchFault::TooLong { limit, .. } => limit_line(alloc, limit),
-        PatchFault::OutOfMemory => self::line(alloc, b"rdfdelta: out of memory\n"),
-    }
 }
 
 fn chain_line(alloc: Global, fault: ChainFault) -> Result<Vec<u8>, OutOfMemory>

@@ -9,7 +9,7 @@ use crate::name::Name;
 use chain_core::ChainFault;
 use delta_base::{OutOfMemory, Sink};
 use nquads_text::TextKind;
-use patch_meaning::PatchFault;
+use patch_meaning::PatchKind;
 use sink_writing::write_all;
 use slot_checks::CheckFault;
 use std::alloc::Global;
@@ -21,10 +21,16 @@ pub enum Refusal {
     UnknownCommand,
     /// The words behind the command's name aren't those that it takes.
     Usage(Name),
-    /// The input is no stream of patches: its first fault, and the line of its place.
+    /// The input is no stream of patches: the line, the place and the kind of its first fault.
     Stream {
         line: u64,
-        fault: PatchFault,
+        at: u64,
+        kind: PatchKind,
+    },
+    /// The input is no stream of patches: its first fault is that a patch is too long.
+    LongPatch {
+        length: u64,
+        limit: u64,
     },
     /// The input is no document: the line, the place and the kind of its first fault.
     Document {
@@ -82,7 +88,10 @@ fn status_of(refusal: Refusal) -> u8
     match refusal {
         Refusal::NotEmpty { .. } => 1,
         Refusal::UnknownCommand | Refusal::Usage(_) => 2,
-        Refusal::Stream { .. } | Refusal::Document { .. } | Refusal::TooLong => 3,
+        Refusal::Stream { .. }
+        | Refusal::LongPatch { .. }
+        | Refusal::Document { .. }
+        | Refusal::TooLong => 3,
         Refusal::InputFailed | Refusal::OutputFailed => 4,
         Refusal::DiskFailed => 5,
         Refusal::OutOfMemory => 8,

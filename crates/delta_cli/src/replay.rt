@@ -45,7 +45,8 @@ pub fn refusal_of(fault: ReplayFault) -> Refusal
     ensures { result ≡ refusal_of fault }
 {
     match fault {
-        ReplayFault::Stream { line, fault } => Refusal::Stream { line, fault },
+        ReplayFault::Stream { line, at, kind } => Refusal::Stream { line, at, kind },
+        ReplayFault::LongPatch { length, limit } => Refusal::LongPatch { length, limit },
         ReplayFault::Chain(fault) => Refusal::Chain(fault),
         ReplayFault::TooLong => Refusal::TooLong,
         ReplayFault::Failed => Refusal::InputFailed,

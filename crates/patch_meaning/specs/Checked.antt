@@ -42,7 +42,9 @@ Refuses text fault = (fault ≡ faults.OutOfMemory) ⊎ IsPatchFault text fault
 
 -- the row may not stand behind these, and that is the fault; want of memory is free
 abbrev pub IsStopped : List Role → Next → PatchFault → Type 0
-IsStopped rs next fault = (fault ≡ faults.OutOfMemory) ⊎ ((why : PatchKind) × (refusal rs next.role ≡ Some why) × (fault ≡ faults.At next.at why))
+IsStopped rs next fault =
+    (fault ≡ faults.OutOfMemory)
+    ⊎ ((why : PatchKind) × (refusal rs next.role ≡ Some why) × (fault ≡ faults.At next.at why))
 
 -- these rows were taken, and their changes are kept
 abbrev pub AreRead : List Role → ReadRows → Type 0

@@ -26,12 +26,14 @@ use Rattle.patch_meaning.specs.Stream.{ArePatches, AreStream, IsEndFault, IsStre
 
 -- These rows were cut into patches that are complete, which say this, and one that may go on, each
 -- of whose rows was taken. As long as no row begins behind its limit, these are its changes.
-pub record IsCutInto (rs : List PlacedRow) (ms : List Meaning) (changes : List Change) (p : PartRead) : Type 0 where
+pub record IsCutInto (rs : List PlacedRow) (ms : List Meaning) (changes : List Change)
+    (p : PartRead) : Type 0 where
   pub some : (cut rs).last.rows_ ≡ [] → rs ≡ []
   pub from_is : (cut rs).last.from ≡ p.from
   pub part : HasPart (cut rs).last.rows_ p
   pub before : ArePatches (cut rs).done (cut rs).last.from ms
-  pub changes_are : AreUpTo rs (p.from + PATCH_LIMIT) → changes_of (said (cut rs).last.rows_) ≡ changes
+  pub changes_are : AreUpTo rs (p.from + PATCH_LIMIT)
+      → changes_of (said (cut rs).last.rows_) ≡ changes
 
 -- with a row that says this the next patch begins
 abbrev pub Begins : Role → PartRead → Type 0

@@ -39,7 +39,8 @@ IsComplete p stop link =
 -- the patch stops there, and that is its fault
 abbrev pub IsIncomplete : PartRead → ℕ → PatchFault → Type 0
 IsIncomplete p stop fault =
-    (rs : List PlacedRow) → HasPart rs p → IsEndFault (record { from = p.from; rows_ = rs }) stop fault
+    (rs : List PlacedRow) → HasPart rs p
+    → IsEndFault (record { from = p.from; rows_ = rs }) stop fault
 
 -- the fault has no place, or this one
 abbrev pub IsToldAt : ℕ → PatchFault → Type 0

@@ -95,9 +95,11 @@ block_refusal inside (change.PrefixDelete prefix graph) = None
 -- why a row may not stand behind these rows: the first reason, if there is one
 unfoldable pub refusal : List Role → Role → Option PatchKind
 refusal before (roles.Id None) = Some kinds.BadId
-refusal before (roles.Id (Some id)) = if has_some (ids_of before) then Some kinds.TwoIds else late before
+refusal before (roles.Id (Some id)) =
+    if has_some (ids_of before) then Some kinds.TwoIds else late before
 refusal before (roles.Prev None) = Some kinds.BadId
-refusal before (roles.Prev (Some id)) = if has_some (prevs_of before) then Some kinds.TwoPrevs else late before
+refusal before (roles.Prev (Some id)) =
+    if has_some (prevs_of before) then Some kinds.TwoPrevs else late before
 refusal before roles.Other = late before
 refusal before (roles.Change change) = block_refusal (is_open before) change
 
@@ -122,12 +124,19 @@ row_refused row.OutOfMemory = faults.OutOfMemory
 
 -- The first fault of the rows of a text. Rows that are well come up to this place.
 pub data IsRowsFault (text : List ℕ) (rows_ : List PlacedRow) (to : ℕ) (fault : PatchFault) : Type 0 where
-  no_row : (at : ℕ) (kind : RowKind) → NoRowAt text to kind at → fault ≡ faults.At at (kinds.Row kind) → IsRowsFault text rows_ to fault
-  refused : (r : Row) (end : ℕ) (why : PatchKind) → IsRowAt text to r end → refusal (said rows_) (role r) ≡ Some why → fault ≡ faults.At to why → IsRowsFault text rows_ to fault
-  open_block : to ≡ length text → is_open (said rows_) ≡ true → fault ≡ faults.At to kinds.OpenBlock → IsRowsFault text rows_ to fault
-  no_id : to ≡ length text → is_open (said rows_) ≡ false → ids_of (said rows_) ≡ [] → fault ≡ faults.At to kinds.NoId → IsRowsFault text rows_ to fault
+  no_row : (at : ℕ) (kind : RowKind) → NoRowAt text to kind at
+      → fault ≡ faults.At at (kinds.Row kind) → IsRowsFault text rows_ to fault
+  refused : (r : Row) (end : ℕ) (why : PatchKind) → IsRowAt text to r end
+      → refusal (said rows_) (role r) ≡ Some why → fault ≡ faults.At to why
+      → IsRowsFault text rows_ to fault
+  open_block : to ≡ length text → is_open (said rows_) ≡ true
+      → fault ≡ faults.At to kinds.OpenBlock → IsRowsFault text rows_ to fault
+  no_id : to ≡ length text → is_open (said rows_) ≡ false → ids_of (said rows_) ≡ []
+      → fault ≡ faults.At to kinds.NoId → IsRowsFault text rows_ to fault
 
 -- The first fault of a text that is no patch. That it is too long comes before all others.
 pub data IsPatchFault (text : List ℕ) (fault : PatchFault) : Type 0 where
-  too_long : PATCH_LIMIT < length text → fault ≡ faults.TooLong (length text) PATCH_LIMIT → IsPatchFault text fault
-  rows_ : (rs : List PlacedRow) (to : ℕ) → length text ≤ PATCH_LIMIT → RowsTo text 0 rs to → AreTaken (said rs) → IsRowsFault text rs to fault → IsPatchFault text fault
+  too_long : PATCH_LIMIT < length text → fault ≡ faults.TooLong (length text) PATCH_LIMIT
+      → IsPatchFault text fault
+  rows_ : (rs : List PlacedRow) (to : ℕ) → length text ≤ PATCH_LIMIT → RowsTo text 0 rs to
+      → AreTaken (said rs) → IsRowsFault text rs to fault → IsPatchFault text fault

@@ -58,7 +58,9 @@ abbrev pub ArePatches : List Part → ℕ → List Meaning → Type 0
 ArePatches [] stop [] = Unit {0}
 ArePatches [] stop (m ∷ ms) = ⊥
 ArePatches (part ∷ parts) stop [] = ⊥
-ArePatches (part ∷ parts) stop (m ∷ ms) = IsWell (said part.rows_) m × (stop_of parts stop ≤ part.from + PATCH_LIMIT) × ArePatches parts stop ms
+ArePatches (part ∷ parts) stop (m ∷ ms) =
+    IsWell (said part.rows_) m × (stop_of parts stop ≤ part.from + PATCH_LIMIT)
+    × ArePatches parts stop ms
 
 -- the rows up to this place are patches that say this; without rows there is none
 abbrev pub AreStream : List PlacedRow → ℕ → List Meaning → Type 0

@@ -38,7 +38,8 @@ impl Part {
     fn cut_before(&self, says: &Role, at: u64) -> Result<(Part, Option<Link>), PatchFault>
         ensures cut { IfOk result (λ x. IsCutAt self.now says.now at x.1) }
         ensures left { IfOk result (λ x. IsLeft self.now at x.1 x.0) }
-        ensures fault { IfErr result (λ fault. Begins says.now self.now × IsIncomplete self.now at fault) }
+        ensures fault { IfErr result (λ fault.
+            Begins says.now self.now × IsIncomplete self.now at fault) }
         ensures told { IfErr result (IsToldAt at) }
     {
         if !self.begins_next(says) {

@@ -51,7 +51,8 @@ impl Draft {
 
     #[tactic(auto, unfolding(crate::specs::Patch::refusal))]
     fn take_id(&mut self, id: Option<Id>) -> Result<(), PatchKind>
-        ensures row { (rs : List Said) → Stands rs self.old → Takes rs (roles.Id id) result self.new }
+        ensures row { (rs : List Said)
+            → Stands rs self.old → Takes rs (roles.Id id) result self.new }
         ensures err { OnErr result (self.new ≡ self.old) }
     {
         match id {
@@ -61,7 +62,8 @@ impl Draft {
     }
 
     fn put_id(&mut self, id: Id) -> Result<(), PatchKind>
-        ensures row { (rs : List Said) → Stands rs self.old → Takes rs (roles.Id (Some id)) result self.new }
+        ensures row { (rs : List Said)
+            → Stands rs self.old → Takes rs (roles.Id (Some id)) result self.new }
         ensures err { OnErr result (self.new ≡ self.old) }
     {
         if self.id.is_some() {
@@ -76,7 +78,8 @@ impl Draft {
 
     #[tactic(auto, unfolding(crate::specs::Patch::refusal))]
     fn take_prev(&mut self, prev: Option<Id>) -> Result<(), PatchKind>
-        ensures row { (rs : List Said) → Stands rs self.old → Takes rs (roles.Prev prev) result self.new }
+        ensures row { (rs : List Said)
+            → Stands rs self.old → Takes rs (roles.Prev prev) result self.new }
         ensures err { OnErr result (self.new ≡ self.old) }
     {
         match prev {
@@ -86,7 +89,8 @@ impl Draft {
     }
 
     fn put_prev(&mut self, prev: Id) -> Result<(), PatchKind>
-        ensures row { (rs : List Said) → Stands rs self.old → Takes rs (roles.Prev (Some prev)) result self.new }
+        ensures row { (rs : List Said)
+            → Stands rs self.old → Takes rs (roles.Prev (Some prev)) result self.new }
         ensures err { OnErr result (self.new ≡ self.old) }
     {
         if self.prev.is_some() {
@@ -110,7 +114,8 @@ impl Draft {
     }
 
     fn take_change(&mut self, change: &Change) -> Result<(), PatchKind>
-        ensures row { (rs : List Said) → Stands rs self.old → Takes rs (roles.Change change.now) result self.new }
+        ensures row { (rs : List Said)
+            → Stands rs self.old → Takes rs (roles.Change change.now) result self.new }
         ensures err { OnErr result (self.new ≡ self.old) }
     {
         match in_block_behind(change, self.in_block) {

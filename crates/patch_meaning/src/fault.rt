@@ -42,7 +42,8 @@ pub enum PatchFault {
 }
 
 impl PatchKind {
-    /// The name of what is wrong where no row stands, else the kind's own, as lines and replies print it.
+    /// The name of what is wrong where no row stands, else the kind's own, as lines and replies
+    /// print it.
     pub fn name(self) -> &'static str
         ensures { result.now ≡ patch_kind_name self }
     {

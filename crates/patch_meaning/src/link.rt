@@ -20,7 +20,8 @@ use std::alloc::Global;
 
 /// The ids of one patch. A fault is the text's first. No change is kept, and no text copied.
 pub fn check_link(alloc: Global, text: &[u8]) -> Result<Link, PatchFault>
-    ensures ok { IfOk result (λ link. (changes : List Change) × IsPatch text.now (meaning_of link changes)) }
+    ensures ok { IfOk result (λ link.
+        (changes : List Change) × IsPatch text.now (meaning_of link changes)) }
     ensures fault { IfErr result (Refuses text.now) }
 {
     let length = text.len() as u64;
@@ -50,9 +51,11 @@ fn draft_rows(alloc: Global, text: &[u8]) -> Result<Draft, PatchFault>
 
 // Takes a row, and answers the place behind it.
 fn take(draft: &mut Draft, next: Next) -> Result<usize, PatchFault>
-    ensures ok { OnOk result ((rs : List Said) → Stands rs draft.old → Stands (rs ++ next.role ∷ []) draft.new) }
+    ensures ok { OnOk result ((rs : List Said)
+        → Stands rs draft.old → Stands (rs ++ next.role ∷ []) draft.new) }
     ensures end { IfOk result (λ end. end ≡ next.end) }
-    ensures fault { IfErr result (λ fault. (rs : List Said) → Stands rs draft.old → IsStopped rs next fault) }
+    ensures fault { IfErr result (λ fault. (rs : List Said)
+        → Stands rs draft.old → IsStopped rs next fault) }
 {
     let Next { role, at, end } = next;
     match draft.take(&role) {

@@ -66,7 +66,8 @@ impl Part {
         }
     }
 
-    /// Takes what the row at a place says, where it may stand behind the others; else nothing changes.
+    /// Takes what the row at a place says, where it may stand behind the others; else nothing
+    /// changes.
     pub fn take(&mut self, says: &Role, at: u64) -> Result<(), PatchFault>
         ensures rows { OnOk result ((rs : List PlacedRow) (r : PlacedRow)
             → HasPart rs self.old → role r.row ≡ says.now → HasPart (rs ++ r ∷ []) self.new) }

@@ -1,7 +1,7 @@
 //! Patches and their faults, with values from the format's description.
 use chain_core::Link;
 use delta_base::{Id, read_id};
-use patch_meaning::{Part, PatchFault, Role, check_patch, split_stream};
+use patch_meaning::{Part, PatchFault, PatchKind, Role, check_link, check_patch, split_stream};
 use patch_rows::RowKind;
 use rdf_terms::Change;
 use std::alloc::Global;
@@ -10,8 +10,14 @@ use std::test::Fail;
 
 const ID: &str = "H id <uuid:00000000-0000-4000-8000-000000000001> .\n";
 
+fn fault_at(at: u64, kind: PatchKind) -> PatchFault {
+    PatchFault::At { at, kind }
+}
+
 fn fault_of(alloc: Global, text: &str) -> Option<PatchFault> {
-    check_patch(alloc, text.as_bytes()).err()
+    let fault = check_patch(alloc, text.as_bytes()).err();
+    let link = check_link(alloc, text.as_bytes()).err();
+    if link == fault { fault } else { None }
 }
 
 fn behind_id(alloc: Global, rows: &str) -> Option<PatchFault> {
@@ -67,20 +73,17 @@ fn an_id_is_written_in_three_ways(rt: HostRuntime) {
 #[test]
 fn the_first_fault_of_the_rows_is_met(rt: HostRuntime) {
     for (text, fault) in [
-        ("", PatchFault::NoId { at: 0 }),
-        ("TX .\nTC .\n", PatchFault::NoId { at: 10 }),
-        ("H id <uuid:x> .\n", PatchFault::BadId { at: 0 }),
-        ("H prev _:a .\nTC .", PatchFault::BadId { at: 0 }),
+        ("", fault_at(0, PatchKind::NoId)),
+        ("TX .\nTC .\n", fault_at(10, PatchKind::NoId)),
+        ("H id <uuid:x> .\n", fault_at(0, PatchKind::BadId)),
+        ("H prev _:a .\nTC .", fault_at(0, PatchKind::BadId)),
         (
             "H id \"00000000-0000-4000-8000-000000000001\"@en .",
-            PatchFault::BadId { at: 0 },
+            fault_at(0, PatchKind::BadId),
         ),
         (
             "h id <uuid:00000000-0000-4000-8000-000000000001> .\n",
-            PatchFault::Row {
-                at: 0,
-                kind: RowKind::UnknownCode,
-            },
+            fault_at(0, PatchKind::Row(RowKind::UnknownCode)),
         ),
     ] {
         assert_eq!(rt; fault_of(rt.alloc(), text), Some(fault), "{text}");
@@ -90,25 +93,22 @@ fn the_first_fault_of_the_rows_is_met(rt: HostRuntime) {
 #[test]
 fn a_row_may_not_stand_behind_others(rt: HostRuntime) {
     for (rows, fault) in [
-        ("TX .\n", PatchFault::OpenBlock { at: 56 }),
-        ("TX .\nTX .\n", PatchFault::Nested { at: 56 }),
-        ("TC .\n", PatchFault::NotInBlock { at: 51 }),
-        ("TX .\nTA .\nTA .\n", PatchFault::NotInBlock { at: 61 }),
-        (ID, PatchFault::TwoIds { at: 51 }),
+        ("TX .\n", fault_at(56, PatchKind::OpenBlock)),
+        ("TX .\nTX .\n", fault_at(56, PatchKind::Nested)),
+        ("TC .\n", fault_at(51, PatchKind::NotInBlock)),
+        ("TX .\nTA .\nTA .\n", fault_at(61, PatchKind::NotInBlock)),
+        (ID, fault_at(51, PatchKind::TwoIds)),
         (
             "PD \"a\" .\nH x \"y\" .\n",
-            PatchFault::LateHeader { at: 60 },
+            fault_at(60, PatchKind::LateHeader),
         ),
         (
             "A <http://e/s> <http://e/p> .\n",
-            PatchFault::Row {
-                at: 79,
-                kind: RowKind::WrongCount,
-            },
+            fault_at(79, PatchKind::Row(RowKind::WrongCount)),
         ),
         (
             "H prev <uuid:00000000-0000-4000-8000-000000000003> .\nH previous <uuid:00000000-0000-4000-8000-000000000003> .\n",
-            PatchFault::TwoPrevs { at: 104 },
+            fault_at(104, PatchKind::TwoPrevs),
         ),
     ] {
         assert_eq!(rt; behind_id(rt.alloc(), rows), Some(fault), "{rows}");
@@ -125,7 +125,7 @@ fn a_text_of_one_byte_too_many_is_too_long(rt: HostRuntime) -> Result<(), Fail> 
     let all = check_patch(rt.alloc(), text.as_slice()).err();
     assert_eq!(rt; all, Some(wanted));
     let fewer = check_patch(rt.alloc(), &text[1..]).err();
-    assert_eq!(rt; fewer, Some(PatchFault::NoId { at: 4_194_304 }));
+    assert_eq!(rt; fewer, Some(fault_at(4_194_304, PatchKind::NoId)));
     Ok(())
 }
 
@@ -192,24 +192,24 @@ fn the_first_patch_with_a_fault_is_told(rt: HostRuntime) {
     for (text, fault) in [
         (
             "H id <uuid:00000000-0000-4000-8000-000000000001> .\nTX .\n",
-            PatchFault::OpenBlock { at: 56 },
+            fault_at(56, PatchKind::OpenBlock),
         ),
         (
             "H id <uuid:00000000-0000-4000-8000-000000000001> .\nTX .\nTX .\n",
-            PatchFault::Nested { at: 56 },
+            fault_at(56, PatchKind::Nested),
         ),
-        ("TX .\nTC .\n", PatchFault::NoId { at: 10 }),
+        ("TX .\nTC .\n", fault_at(10, PatchKind::NoId)),
         (
             "H id <uuid:00000000-0000-4000-8000-000000000001> .\nH id <uuid:x> .\n",
-            PatchFault::BadId { at: 51 },
+            fault_at(51, PatchKind::BadId),
         ),
         (
             "H id <uuid:00000000-0000-4000-8000-000000000001> .\nTX .\nH id <uuid:x> .\n",
-            PatchFault::OpenBlock { at: 56 },
+            fault_at(56, PatchKind::OpenBlock),
         ),
         (
             "H id <uuid:00000000-0000-4000-8000-000000000001> .\nTC .\nA x",
-            PatchFault::NotInBlock { at: 51 },
+            fault_at(51, PatchKind::NotInBlock),
         ),
     ] {
         assert_eq!(rt; stream_fault(rt.alloc(), text), Some(fault), "{text}");
@@ -242,13 +242,89 @@ fn rows_that_come_one_at_a_time_are_cut(rt: HostRuntime) -> Result<(), Fail> {
     takes(&rt, &mut part, Role::Change(Change::Commit), 56, None);
     takes(&rt, &mut part, Role::Id(Some(two)), 61, Some(first));
     takes(&rt, &mut part, Role::Prev(Some(one)), 112, None);
-    assert!(rt; part.is_sound());
     assert!(rt; part.finish_stream(165) == Ok(Some(last)));
-    takes(&rt, &mut part, Role::Change(Change::Commit), 165, None);
-    assert!(rt; !part.is_sound());
-    let fault = PatchFault::NotInBlock { at: 165 };
-    assert!(rt; part.first_fault() == Some(fault));
-    assert!(rt; part.break_stream(170, RowKind::UnknownCode) == fault);
-    assert!(rt; part.finish_stream(170) == Err(fault));
+    let says = Role::Change(Change::Commit);
+    let fault = fault_at(165, PatchKind::NotInBlock);
+    let refused = part.take_next(&says, 165);
+    drop(says);
+    assert_eq!(rt; refused, Err(fault));
+    takes(&rt, &mut part, Role::Change(Change::Begin), 165, None);
+    let unknown = fault_at(170, PatchKind::Row(RowKind::UnknownCode));
+    assert!(rt; part.break_stream(170, RowKind::UnknownCode) == unknown);
+    assert!(rt; part.finish_stream(170) == Err(fault_at(170, PatchKind::OpenBlock)));
+    assert!(rt; !part.is_behind_limit(61 + 4_194_304));
+    assert!(rt; part.is_behind_limit(61 + 4_194_305));
+    Ok(())
+}
+
+/// Rows, a line of 4,200,002 bytes that is a comment, and more rows.
+fn with_comment(alloc: Global, rows: &str, more: &str) -> Result<String, Fail> {
+    let mut text = String::new(alloc);
+    text.push_str(rows)?;
+    text.push('#')?;
+    for _ in 0..4_200_000 {
+        text.push('x')?;
+    }
+    text.push('\n')?;
+    text.push_str(more)?;
+    Ok(text)
+}
+
+#[test]
+fn a_fault_is_decided_at_its_row(rt: HostRuntime) -> Result<(), Fail> {
+    for (rows, fault) in [
+        ("H id <uuid:x> .\n", fault_at(0, PatchKind::BadId)),
+        (
+            "H id <uuid:00000000-0000-4000-8000-000000000001> .\nTC .\n",
+            fault_at(51, PatchKind::NotInBlock),
+        ),
+        (
+            "H id <uuid:00000000-0000-4000-8000-000000000001> .\nX .\n",
+            fault_at(51, PatchKind::Row(RowKind::UnknownCode)),
+        ),
+    ] {
+        let text = with_comment(rt.alloc(), rows, "")?;
+        assert_eq!(rt;
+            stream_fault(rt.alloc(), text.as_str()),
+            Some(fault),
+            "{rows}"
+        );
+        let whole = fault_of(rt.alloc(), text.as_str());
+        assert!(rt; matches!(whole, Some(PatchFault::TooLong { .. })), "{rows}");
+    }
+    Ok(())
+}
+
+#[test]
+fn up_to_a_fault_a_patch_is_too_long(rt: HostRuntime) -> Result<(), Fail> {
+    for (more, length) in [
+        (
+            "H id <uuid:00000000-0000-4000-8000-000000000001> .\nH id <uuid:00000000-0000-4000-8000-000000000002> .\n",
+            4_200_053,
+        ),
+        ("H id <uuid:x> .\n", 4_200_002),
+        ("X .\n", 4_200_002),
+    ] {
+        let text = with_comment(rt.alloc(), "", more)?;
+        let fault = PatchFault::TooLong {
+            length,
+            limit: 4_194_304,
+        };
+        assert_eq!(rt;
+            stream_fault(rt.alloc(), text.as_str()),
+            Some(fault),
+            "{more}"
+        );
+    }
+    let text = with_comment(rt.alloc(), "", "")?;
+    assert!(rt; stream_ids(rt.alloc(), text.as_str()).is_some_and(|found| found.0.is_empty()));
+    Ok(())
+}
+
+#[test]
+fn the_ids_of_a_patch_are_read_alone(rt: HostRuntime) -> Result<(), Fail> {
+    let link = check_link(rt.alloc(), TEXT.as_bytes())?;
+    assert!(rt; Some(link.id) == read_id(b"00000000-0000-4000-8000-000000000001"));
+    assert!(rt; link.prev.is_none());
     Ok(())
 }

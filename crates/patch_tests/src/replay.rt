@@ -1,7 +1,7 @@
 //! Streams with values from the format's description, read in pieces of several sizes.
 use chain_core::ChainFault;
 use delta_base::{Bytes, Calls, Id, MemSink, MemSource, read_id};
-use patch_meaning::PatchFault;
+use patch_meaning::PatchKind;
 use patch_rows::RowKind;
 use sink_writing::PIECE;
 use std::alloc::Global;
@@ -82,9 +82,9 @@ fn stops(
     alloc: Global,
     parts: &[&str],
     line: u64,
-    fault: PatchFault,
+    (at, kind): (u64, PatchKind),
 ) -> Result<(), Fail> {
-    ends(rt, alloc, parts, ReplayFault::Stream { line, fault })
+    ends(rt, alloc, parts, ReplayFault::Stream { line, at, kind })
 }
 
 fn id(text: &str) -> Option<Id> {
@@ -138,25 +138,19 @@ fn rows_have_every_form(rt: HostRuntime) -> Result<(), Fail> {
 #[test]
 fn the_first_fault_is_told_with_its_line(rt: HostRuntime) -> Result<(), Fail> {
     let alloc = rt.alloc();
-    let fault = PatchFault::OpenBlock { at: 56 };
+    let fault = (56, PatchKind::OpenBlock);
     stops(&rt, alloc, &[ID, "TX .\n"], 3, fault)?;
-    let fault = PatchFault::Nested { at: 56 };
+    let fault = (56, PatchKind::Nested);
     stops(&rt, alloc, &[ID, "TX .\nTX .\n"], 3, fault)?;
-    let fault = PatchFault::NoId { at: 10 };
+    let fault = (10, PatchKind::NoId);
     stops(&rt, alloc, &["TX .\nTC .\n"], 3, fault)?;
-    let fault = PatchFault::BadId { at: 0 };
+    let fault = (0, PatchKind::BadId);
     stops(&rt, alloc, &["H id <uuid:x> .\n"], 1, fault)?;
     stops(&rt, alloc, &["H id <uuid:x> .\n", P1, P2], 1, fault)?;
-    let fault = PatchFault::Row {
-        at: 0,
-        kind: RowKind::UnknownCode,
-    };
+    let fault = (0, PatchKind::Row(RowKind::UnknownCode));
     let text = "h id <uuid:00000000-0000-4000-8000-000000000001> .\n";
     stops(&rt, alloc, &[text], 1, fault)?;
-    let fault = PatchFault::Row {
-        at: 79,
-        kind: RowKind::WrongCount,
-    };
+    let fault = (79, PatchKind::Row(RowKind::WrongCount));
     stops(
         &rt,
         alloc,
@@ -175,7 +169,7 @@ fn the_first_fault_is_told_with_its_line(rt: HostRuntime) -> Result<(), Fail> {
 
 #[test]
 fn the_grammar_comes_before_the_chain(rt: HostRuntime) -> Result<(), Fail> {
-    let fault = PatchFault::NotInBlock { at: 208 };
+    let fault = (208, PatchKind::NotInBlock);
     stops(&rt, rt.alloc(), &[P1, P1, "TA .\n"], 9, fault)
 }
 
@@ -193,13 +187,60 @@ fn a_patch_of_one_byte_too_many_is_too_long(rt: HostRuntime) -> Result<(), Fail>
     text.push('\n')?;
     let content = Bytes::from_slice(alloc, text.as_bytes())?;
     let mut input = MemSource::new(content, 65_536, calls(alloc, None)?);
-    let fault = PatchFault::TooLong {
+    let wanted = ReplayFault::LongPatch {
         length: 4_194_305,
         limit: 4_194_304,
     };
-    let wanted = ReplayFault::Stream { line: 0, fault };
     assert_eq!(rt; replay_source(alloc, &mut input).err(), Some(wanted));
     Ok(())
+}
+
+/// Replays rows, a line of 4,200,002 bytes that is a comment, and more rows, and looks at the fault.
+fn long_ends(
+    rt: &impl Abort,
+    alloc: Global,
+    rows: &str,
+    more: &str,
+    wanted: ReplayFault,
+) -> Result<(), Fail> {
+    let mut text = String::new(alloc);
+    text.push_str(rows)?;
+    text.push('#')?;
+    for _ in 0..4_200_000 {
+        text.push('x')?;
+    }
+    text.push('\n')?;
+    text.push_str(more)?;
+    let content = Bytes::from_slice(alloc, text.as_bytes())?;
+    let mut input = MemSource::new(content, 65_536, calls(alloc, None)?);
+    assert_eq!(rt; replay_source(alloc, &mut input).err(), Some(wanted));
+    Ok(())
+}
+
+#[test]
+fn a_long_patch_has_its_first_fault(rt: HostRuntime) -> Result<(), Fail> {
+    let alloc = rt.alloc();
+    let (line, at, kind) = (1, 0, PatchKind::BadId);
+    let fault = ReplayFault::Stream { line, at, kind };
+    long_ends(&rt, alloc, "H id <uuid:x> .\n", "", fault)?;
+    let (line, at, kind) = (2, 51, PatchKind::NotInBlock);
+    let fault = ReplayFault::Stream { line, at, kind };
+    let rows = "H id <uuid:00000000-0000-4000-8000-000000000001> .\nTC .\n";
+    long_ends(&rt, alloc, rows, "", fault)?;
+    let (line, at, kind) = (2, 51, PatchKind::Row(RowKind::UnknownCode));
+    let fault = ReplayFault::Stream { line, at, kind };
+    let rows = "H id <uuid:00000000-0000-4000-8000-000000000001> .\nX .\n";
+    long_ends(&rt, alloc, rows, "", fault)?;
+    let fault = ReplayFault::LongPatch {
+        length: 4_200_106,
+        limit: 4_194_304,
+    };
+    long_ends(&rt, alloc, "", P1, fault)?;
+    let fault = ReplayFault::LongPatch {
+        length: 4_200_053,
+        limit: 4_194_304,
+    };
+    long_ends(&rt, alloc, ID, P2, fault)
 }
 
 #[test]

@@ -50,8 +50,10 @@ EndsText ends.OutOfMemory text = Unit {0}
 -- Why an input has no replay, with what was told of it before and after: its bytes, and how often a call has failed. Want of
 -- memory is free.
 abbrev pub Ends : Option (List ℕ) → Option (List ℕ) → ℕ → ℕ → ReplayFault → Type 0
-Ends before after faults faults' (ends.Stream line at kind) = Reads before after (IsFaulty line at kind)
-Ends before after faults faults' (ends.LongPatch size limit) = Reads before after (IsLong size limit)
+Ends before after faults faults' (ends.Stream line at kind) =
+    Reads before after (IsFaulty line at kind)
+Ends before after faults faults' (ends.LongPatch size limit) =
+    Reads before after (IsLong size limit)
 Ends before after faults faults' (ends.Chain fault) = Reads before after (IsUnchained fault)
 Ends before after faults faults' ends.TooLong = IsTooLong before
 Ends before after faults faults' ends.Failed = Rose faults faults'

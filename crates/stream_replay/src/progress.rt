@@ -114,7 +114,8 @@ impl Progress {
     // Holds what the change of the row at a place does, where its patch may still be one.
     fn hold(&mut self, alloc: Global, says: &Role, at: u64) -> Result<(), OutOfMemory>
         ensures edits { OnOk result ((changes : List Change)
-            → HasEdits changes self.old.edits → HoldsMore self.old.part changes says.now at self.new.edits) }
+            → HasEdits changes self.old.edits
+            → HoldsMore self.old.part changes says.now at self.new.edits) }
         ensures part { self.new.part ≡ self.old.part }
         ensures replay { self.new.replay ≡ self.old.replay }
     {
