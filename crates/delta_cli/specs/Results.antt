@@ -121,8 +121,12 @@ StopsCounting text refusals.OutputFailed out out' = HasFailed out out' × Prints
 StopsCounting text refusals.OutOfMemory out out' = IsSilent out out'
 StopsCounting text other out out' = ⊥
 
--- why a known text is not written; where memory runs out a front of it was
+-- why a known text is not written
 abbrev pub StopsWriting : List ℕ → Refusal → Channel → Channel → Type 0
 StopsWriting text refusals.OutputFailed out out' = HasFailed out out' × WritesFront out out' text
-StopsWriting text refusals.OutOfMemory out out' = WritesFront out out' text
 StopsWriting text other out out' = ⊥
+
+-- why a text is not written whose parts are made on the way; all memory is taken before its first byte
+abbrev pub StopsEmitting : List ℕ → Refusal → Channel → Channel → Type 0
+StopsEmitting text refusals.OutOfMemory out out' = IsSilent out out'
+StopsEmitting text other out out' = StopsWriting text other out out'

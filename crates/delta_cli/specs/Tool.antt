@@ -1,9 +1,9 @@
 -- What the tool answers, and why.
-use Rattle.std.specs.Prelude.{◌≡◌, ℕ, ◌+◌, List}
+use Rattle.std.specs.Prelude.{◌≡◌, ℕ, ◌+◌, List, length}
 use Rattle.delta_base.specs.Outside.{Rose}
 use Rattle.slot_files.specs.Files.{Files, IsInitial, StopsAt, SameBut, KeepsFull}
 use Rattle.stream_generator.specs.Generator.{stream_text}
-use Rattle.slot_checks.specs.Checks.{AreKept, IsReport, StopsAt as CheckStopsAt}
+use Rattle.slot_checks.specs.Checks.{AreKept, IsReport, Stops as CheckStops}
 use Rattle.slot_checks.specs.Lines.{lines_text}
 use Rattle.slot_checks.specs.declared.fault.CheckFault.{CheckFault}
 use Rattle.slot_checks.specs.declared.fault.CheckFault.TheVariants as checks
@@ -12,7 +12,7 @@ use Rattle.delta_cli.specs.Channels.{Channel, HasFailed, IsSilent, Tells, Writes
 use Rattle.delta_cli.specs.Commands.{Asks, RefusesWords}
 use Rattle.delta_cli.specs.Document.{IsShown}
 use Rattle.delta_cli.specs.Lines.{line_of, status_of, out_of_memory_line}
-use Rattle.delta_cli.specs.Results.{Reads, Prints, HasLines, HasCounts, StopsReplay, StopsNquads, StopsCounting, StopsWriting}
+use Rattle.delta_cli.specs.Results.{Reads, Prints, HasLines, HasCounts, StopsReplay, StopsNquads, StopsCounting, StopsEmitting, StopsWriting}
 use Rattle.delta_cli.specs.Told.{Told, LeavesInput, LeavesFiles, LeavesAll}
 use Rattle.delta_cli.specs.declared.command.Command.{Command}
 use Rattle.delta_cli.specs.declared.command.Command.TheVariants as commands
@@ -24,9 +24,10 @@ use Rattle.delta_cli.specs.declared.help.TheConstants.{HELP, VERSION}
 abbrev pub Spares : List ℕ → ℕ → Type 0 → Files → Files → Type 0
 Spares dir slots tells files files' = tells → KeepsFull dir files files' × SameBut dir 0 (slots + 1) files files'
 
--- where the shelf tells its files, the report is that of a directory
-abbrev pub Reported : Type 0 → Files → List ℕ → List FileLine → Type 0
-Reported tells files dir report = tells → IsReport files dir report
+-- where the shelf tells its files, the report is that of a directory, and its files were kept
+abbrev pub Reported : List ℕ → Type 0 → Files → Files → List FileLine → Type 0
+Reported dir tells files files' report =
+    tells → IsReport files dir report × AreKept dir (length report) files files'
 
 -- the end of a check that finds a fault
 abbrev pub check_refusal : CheckFault → Refusal
@@ -43,7 +44,8 @@ Does (commands.Emit patches) tells old new = Writes old.out new.out (stream_text
 Does (commands.Init dir slots) tells old new =
     (tells → IsInitial dir slots old.files new.files) × Spares dir slots tells old.files new.files × LeavesInput old new × (new.out ≡ old.out)
 Does (commands.Check dir) tells old new =
-    ((report : List FileLine) × Reported tells old.files dir report × Writes old.out new.out (lines_text report)) × (tells → AreKept dir old.files new.files) × LeavesInput old new
+    ((report : List FileLine) × Reported dir tells old.files new.files report
+    × Writes old.out new.out (lines_text report)) × LeavesInput old new
 Does commands.Help tells old new = Writes old.out new.out HELP.now × LeavesInput old new × LeavesFiles old new
 Does commands.Version tells old new = Writes old.out new.out VERSION.now × LeavesInput old new × LeavesFiles old new
 
@@ -54,25 +56,34 @@ StopsInit dir slots tells files files' faults faults' refusals.DiskFailed = Rose
 StopsInit dir slots tells files files' faults faults' refusals.OutOfMemory = Unit {0}
 StopsInit dir slots tells files files' faults faults' other = ⊥
 
+-- where the shelf tells its files, those below some number were kept, and no other was asked for
+abbrev pub KeepsSome : List ℕ → Type 0 → Files → Files → Type 0
+KeepsSome dir tells files files' = tells → (end : ℕ) × AreKept dir end files files'
+
 -- why the files of a directory were not reported
-abbrev pub StopsCheck : List ℕ → Type 0 → Files → ℕ → ℕ → Channel → Channel → Refusal → Type 0
-StopsCheck dir tells files faults faults' out out' (refusals.File fault) = (tells → CheckStopsAt files dir fault) × IsSilent out out'
-StopsCheck dir tells files faults faults' out out' refusals.DiskFailed = Rose faults faults' × IsSilent out out'
-StopsCheck dir tells files faults faults' out out' refusals.OutputFailed =
-    HasFailed out out' × ((report : List FileLine) × Reported tells files dir report × WritesFront out out' (lines_text report))
-StopsCheck dir tells files faults faults' out out' refusals.OutOfMemory = IsSilent out out'
-StopsCheck dir tells files faults faults' out out' other = ⊥
+abbrev pub StopsCheck : List ℕ → Type 0 → Files → Files → ℕ → ℕ → Channel → Channel → Refusal → Type 0
+StopsCheck dir tells files files' faults faults' out out' (refusals.File fault) =
+    (tells → CheckStops dir files files' fault) × IsSilent out out'
+StopsCheck dir tells files files' faults faults' out out' refusals.DiskFailed =
+    Rose faults faults' × KeepsSome dir tells files files' × IsSilent out out'
+StopsCheck dir tells files files' faults faults' out out' refusals.OutputFailed =
+    HasFailed out out' × ((report : List FileLine) × Reported dir tells files files' report
+    × WritesFront out out' (lines_text report))
+StopsCheck dir tells files files' faults faults' out out' refusals.OutOfMemory =
+    KeepsSome dir tells files files' × IsSilent out out'
+StopsCheck dir tells files files' faults faults' out out' other = ⊥
 
 -- why a command ends without its result, and what it has done by then
 abbrev pub Stops : Command → Refusal → Type 0 → Told → Told → Type 0
 Stops commands.Replay refusal tells old new = StopsReplay refusal old.input new.input old.out new.out × LeavesFiles old new
 Stops commands.Nquads refusal tells old new = StopsNquads refusal old.input new.input old.out new.out × LeavesFiles old new
 Stops (commands.Gen patches) refusal tells old new = StopsCounting (stream_text patches) refusal old.out new.out × LeavesInput old new × LeavesFiles old new
-Stops (commands.Emit patches) refusal tells old new = StopsWriting (stream_text patches) refusal old.out new.out × LeavesInput old new × LeavesFiles old new
+Stops (commands.Emit patches) refusal tells old new = StopsEmitting (stream_text patches) refusal old.out new.out × LeavesInput old new × LeavesFiles old new
 Stops (commands.Init dir slots) refusal tells old new =
     StopsInit dir slots tells old.files new.files old.shelf_faults new.shelf_faults refusal × Spares dir slots tells old.files new.files × LeavesInput old new × (new.out ≡ old.out)
 Stops (commands.Check dir) refusal tells old new =
-    StopsCheck dir tells old.files old.shelf_faults new.shelf_faults old.out new.out refusal × (tells → AreKept dir old.files new.files) × LeavesInput old new
+    StopsCheck dir tells old.files new.files old.shelf_faults new.shelf_faults old.out new.out refusal
+    × LeavesInput old new
 Stops commands.Help refusal tells old new = StopsWriting HELP.now refusal old.out new.out × LeavesInput old new × LeavesFiles old new
 Stops commands.Version refusal tells old new = StopsWriting VERSION.now refusal old.out new.out × LeavesInput old new × LeavesFiles old new
 

@@ -1,6 +1,5 @@
 //! The command `check`: the files of a registry and its logs, with a line for each.
-ghost use Rattle.std.specs.Prelude.{◌≡◌, ℕ, List, IfErr, OnOk};
-ghost use Rattle.slot_checks.specs.Checks.{AreKept, IsReport};
+ghost use Rattle.std.specs.Prelude.{◌≡◌, List, IfErr, OnOk};
 ghost use Rattle.slot_checks.specs.Lines.{lines_text};
 ghost use Rattle.slot_checks.specs.declared.lines.FileLine.{FileLine};
 ghost use Rattle.delta_cli.specs.Channels.{Writes, channel};
@@ -14,18 +13,21 @@ use sink_writing::write_all;
 use slot_checks::{CheckFault, Report, check_files, report_text};
 use std::alloc::Global;
 
-/// Opens the files of a directory, and writes a line for each. Each is left as it was.
+/// Opens the files of a directory, and writes a line for each. Each is left as it was, and no other is asked for.
 pub fn check<H: Shelf, K: Sink>(
     alloc: Global,
     dir: &Text,
     shelf: &mut H,
     out: &mut K,
 ) -> Result<(), Refusal>
-    ensures done { OnOk result ((report : List FileLine) × Reported H.tells (H.files shelf.old) dir.now report
-        × Writes (channel (K.written out.old) (K.faults out.old)) (channel (K.written out.new) (K.faults out.new)) (lines_text report)) }
-    ensures stopped { IfErr result (StopsCheck dir.now H.tells (H.files shelf.old) (H.faults shelf.old) (H.faults shelf.new)
-        (channel (K.written out.old) (K.faults out.old)) (channel (K.written out.new) (K.faults out.new))) }
-    ensures kept { H.tells → AreKept dir.now (H.files shelf.old) (H.files shelf.new) }
+    ensures done { OnOk result ((report : List FileLine)
+        × Reported dir.now H.tells (H.files shelf.old) (H.files shelf.new) report
+        × Writes (channel (K.written out.old) (K.faults out.old))
+        (channel (K.written out.new) (K.faults out.new)) (lines_text report)) }
+    ensures stopped { IfErr result (StopsCheck dir.now H.tells (H.files shelf.old) (H.files shelf.new)
+        (H.faults shelf.old) (H.faults shelf.new)
+        (channel (K.written out.old) (K.faults out.old))
+        (channel (K.written out.new) (K.faults out.new))) }
 {
     match check_files(alloc, shelf, dir) {
         Ok(report) => print_report(alloc, &report, out),

@@ -2,7 +2,7 @@
 ghost use Rattle.std.specs.Prelude.{◌≡◌, ◌≤◌, IfOk, IfErr, OnOk};
 ghost use Rattle.stream_generator.specs.Generator.{stream_text};
 ghost use Rattle.delta_cli.specs.Channels.{Channel, Writes, channel};
-ghost use Rattle.delta_cli.specs.Results.{HasCounts, Prints, StopsCounting, StopsWriting, counts_line};
+ghost use Rattle.delta_cli.specs.Results.{HasCounts, Prints, StopsCounting, StopsEmitting, counts_line};
 
 use crate::lines::push_id;
 use crate::refusal::Refusal;
@@ -10,7 +10,7 @@ use crate::replay::refusal_of;
 use delta_base::{Id, OutOfMemory, Sink};
 use sink_writing::{PIECE, put, write_all};
 use std::alloc::Global;
-use stream_generator::{GeneratedSource, patch_text};
+use stream_generator::{GeneratedSource, MOST_BYTES, push_patch};
 use stream_replay::{ReplayFault, replay_source};
 
 /// Replays so many patches, and writes how many patches and quads there are, and the last patch's id.
@@ -66,18 +66,22 @@ fn counts_line(
     Ok(line)
 }
 
-/// Writes so many patches, of which one is in memory at a time.
+/// Writes so many patches, of which one is in memory at a time. All memory is taken before the first byte is written.
 pub fn emit<K: Sink>(alloc: Global, patches: u32, out: &mut K) -> Result<(), Refusal>
     requires { patches ≤ 65536 }
     ensures done { OnOk result (Writes (channel (K.written out.old) (K.faults out.old)) (channel (K.written out.new) (K.faults out.new)) (stream_text patches)) }
-    ensures stopped { IfErr result (λ refusal. StopsWriting (stream_text patches) refusal (channel (K.written out.old) (K.faults out.old)) (channel (K.written out.new) (K.faults out.new))) }
+    ensures stopped { IfErr result (λ refusal. StopsEmitting (stream_text patches) refusal (channel (K.written out.old) (K.faults out.old)) (channel (K.written out.new) (K.faults out.new))) }
 {
     let Ok(mut room) = Vec::with_capacity(alloc, PIECE) else {
         return Err(Refusal::OutOfMemory);
     };
+    let Ok(mut text) = Vec::with_capacity(alloc, MOST_BYTES) else {
+        return Err(Refusal::OutOfMemory);
+    };
     for made in 0..patches {
-        let Ok(text) = patch_text(alloc, made + 1) else {
-            return Err(Refusal::OutOfMemory);
+        text.clear();
+        let Ok(()) = push_patch(&mut text, made + 1) else {
+            unreachable!()
         };
         if !put(out, &mut room, text.as_slice()) {
             return Err(Refusal::OutputFailed);

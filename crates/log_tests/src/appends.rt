@@ -3,10 +3,8 @@ use crate::fakes::{LIMITS, P1, P2};
 use crate::logs::{disk_of, journal_of, open, patches_of};
 use chain_core::LogAnswer;
 use delta_base::{Id, OutOfMemory};
-use disk_model::MemDisk;
-use patch_log::{LogState, Ready, append_all, append_made};
-use patch_meaning::Checked;
-use std::alloc::Global;
+use patch_log::{Ready, append_all, append_made};
+use patch_meaning::check_patch;
 use std::test::Fail;
 
 const EMPTY: &[u8] = b"RDJ1\0\0\0\x01\0";
@@ -16,21 +14,12 @@ const NINTH: &[u8] = b"H id <uuid:00000000-0000-4000-8000-000000000009> .\n";
 const FOURTH: &[u8] =
     b"H id <uuid:00000000-0000-4000-8000-000000000004> .\nH prev <uuid:00000000-0000-4000-8000-000000000009> .\n";
 
-// What a log answers to a patch for which memory was found, or wasn't.
-fn told(
-    log: &mut LogState<MemDisk>,
-    patch: &Checked,
-    made: Result<Ready, OutOfMemory>,
-) -> LogAnswer {
-    append_made(log, patch, made)
-}
-
 #[test]
 fn a_patch_is_made_ready_without_a_log(rt: HostRuntime) -> Result<(), Fail> {
     let alloc = rt.alloc();
-    let patches = patches_of(alloc, &[P1, P2])?;
+    let first = check_patch(alloc, P1)?;
     let mut log = open(alloc, disk_of(alloc, EMPTY, &[])?, LIMITS)?;
-    let ready = Ready::of(alloc, &patches[0], 5)?;
+    let ready = Ready::of(alloc, &first, 5)?;
     assert!(rt; log.append_ready(ready) == LogAnswer::Accepted { version: 1 });
     assert!(rt; log.chain().entry(1).map(|entry| entry.by) == Some(5));
     assert!(rt; log.is_settled());
@@ -40,11 +29,12 @@ fn a_patch_is_made_ready_without_a_log(rt: HostRuntime) -> Result<(), Fail> {
 #[test]
 fn want_of_memory_is_told_of_a_patch_that_could_be_accepted(rt: HostRuntime) -> Result<(), Fail> {
     let alloc = rt.alloc();
-    let patches = patches_of(alloc, &[P1, P2])?;
+    let first = check_patch(alloc, P1)?;
+    let second = check_patch(alloc, P2)?;
     let mut log = open(alloc, disk_of(alloc, EMPTY, &[])?, LIMITS)?;
-    let want = told(&mut log, &patches[0], Err(OutOfMemory));
+    let want = append_made(&mut log, &first, Err(OutOfMemory));
     assert!(rt; want == LogAnswer::OutOfMemory);
-    let conflict = told(&mut log, &patches[1], Err(OutOfMemory));
+    let conflict = append_made(&mut log, &second, Err(OutOfMemory));
     assert!(rt;
         conflict
             == LogAnswer::Conflict {
@@ -53,9 +43,9 @@ fn want_of_memory_is_told_of_a_patch_that_could_be_accepted(rt: HostRuntime) -> 
                 prev_version: None
             }
     );
-    let ready = Ready::of(alloc, &patches[0], 5);
-    assert!(rt; told(&mut log, &patches[0], ready) == LogAnswer::Accepted { version: 1 });
-    let known = told(&mut log, &patches[0], Err(OutOfMemory));
+    let accepted = append_made(&mut log, &first, Ready::of(alloc, &first, 5));
+    assert!(rt; accepted == LogAnswer::Accepted { version: 1 });
+    let known = append_made(&mut log, &first, Err(OutOfMemory));
     assert!(rt;
         known
             == LogAnswer::Known {

@@ -9,5 +9,6 @@ invariant-loop-made g l = record {
   written : Written (g.K.Sink.written l.fn.out) (g.K.Sink.written l.out) (stream_text l.fn.patches) (l.room.items ++ patches_from (l.made + 1) (l.fn.patches - l.made));
   fits : vec_len l.room ≤ 65536;
   large : 65536 ≤ vec_capacity l.room;
+  ready : 256 ≤ vec_capacity l.text;
   faults : g.K.Sink.faults l.fn.out ≤ g.K.Sink.faults l.out;
 }

@@ -1,0 +1,7 @@
+mod FoundLemmas
+mod AnswerLemmas
+mod Readings
+mod StatusLemmas
+mod SessionLemmas
+mod SourceLemmas
+mod PrintLemmas

@@ -1,0 +1,6 @@
+mod MediaLemmas
+mod PathLemmas
+mod RequestLemmas
+mod RouteLemmas
+mod RowLemmas
+mod SegmentLemmas

@@ -1,0 +1,19 @@
+//! Calls: what a request asks of the server, and the request by which a client asks it.
+//!
+//! `specs/Calls.antt` says what a request asks, or the first reason why it is no call; `specs/Requests.antt` says which request a
+//! client sends for a call. Neither knows of connections or of logs.
+#![tactic(auto)]
+
+mod call;
+mod media;
+mod members;
+mod operations;
+mod path;
+mod print;
+mod read;
+mod route;
+mod values;
+
+pub use call::{Call, CallFault};
+pub use print::print_call;
+pub use read::read_call;

@@ -1,0 +1,105 @@
+//! Where a path leads.
+ghost use Rattle.std.specs.Prelude.{◌≡◌, IfOk};
+ghost use Rattle.rpc_calls.specs.Routes.{allowed, has_post, route_behind, route_of, service_route, version_of};
+
+use crate::path::{cut_path, read_segment};
+use delta_base::{Id, OutOfMemory, Text, read_id};
+use http_text::{are_digits, digits_value};
+use std::alloc::Global;
+
+/// What a path stands for.
+#[derive(Debug, Drop)]
+pub enum Route {
+    Ping,
+    Rpc,
+    Log(Text),
+    Version(Text, u64),
+    Patch(Text, Id),
+}
+
+impl Route {
+    /// The methods that it has.
+    pub fn allowed(&self) -> &'static str
+        ensures { result.now ≡ allowed self.now }
+    {
+        match self {
+            Route::Ping | Route::Log(_) => "GET, POST",
+            Route::Rpc => "POST",
+            Route::Version(_, _) | Route::Patch(_, _) => "GET",
+        }
+    }
+
+    /// Whether POST is one of them.
+    pub fn has_post(&self) -> bool
+        ensures { result ≡ has_post self.now }
+    {
+        match self {
+            Route::Ping | Route::Rpc | Route::Log(_) => true,
+            Route::Version(_, _) | Route::Patch(_, _) => false,
+        }
+    }
+}
+
+// The number that 1 to 10 digits have.
+fn version_of(text: &[u8]) -> Option<u64>
+    ensures { result ≡ version_of text.now }
+{
+    if text.is_empty() || text.len() > 10 || !are_digits(text) {
+        return None;
+    }
+    Some(digits_value(text))
+}
+
+// The route of a segment behind `$`.
+fn service_route(second: &str) -> Option<Route>
+    ensures { result ≡ service_route second.now }
+{
+    if second == "ping" {
+        Some(Route::Ping)
+    } else if second == "rpc" {
+        Some(Route::Rpc)
+    } else {
+        None
+    }
+}
+
+// The route of a segment behind a name.
+fn route_behind(name: Text, second: &[u8]) -> Option<Route>
+    ensures { result ≡ route_behind name second.now }
+{
+    if let Some(version) = version_of(second) {
+        return Some(Route::Version(name, version));
+    }
+    match read_id(second) {
+        Some(id) => Some(Route::Patch(name, id)),
+        None => None,
+    }
+}
+
+/// The route of a path.
+pub fn read_route(alloc: Global, path: &[u8]) -> Result<Option<Route>, OutOfMemory>
+    ensures { IfOk result (λ route. route ≡ route_of path.now) }
+{
+    let Some((first, second)) = cut_path(path) else {
+        return Ok(None);
+    };
+    let Some(first) = read_segment(alloc, first)? else {
+        return Ok(None);
+    };
+    if first.is_empty() {
+        return Ok(None);
+    }
+    let Some(second) = second else {
+        if first.as_str() == "$" {
+            return Ok(None);
+        }
+        return Ok(Some(Route::Log(first)));
+    };
+    let Some(second) = read_segment(alloc, second)? else {
+        return Ok(None);
+    };
+    if first.as_str() == "$" {
+        return Ok(service_route(second.as_str()));
+    }
+    Ok(route_behind(first, second.as_bytes()))
+}
