@@ -148,13 +148,8 @@ fn an_opening_reads_each_payload_in_two(rt: HostRuntime) -> Result<(), Fail> {
     for (failing, is_opened) in [(6, false), (7, true)] {
         let bytes = Bytes::from_slice(alloc, image.as_slice())?;
         let disk = MemDisk::from_image(alloc, bytes, calls(alloc, &[failing])?)?;
-        let opened = Journal::open_on(alloc, disk, 1, 1000);
-        assert!(rt; opened.is_ok() == is_opened, "call {failing} fails");
-        let disk = match opened {
-            Ok((journal, _)) => journal.close(),
-            Err(refusal) => refusal.disk,
-        };
-        assert!(rt; disk.faults() == u64::from(!is_opened));
+        let opened = Journal::open_on(alloc, disk, 1, 1000).ok();
+        assert!(rt; opened.is_some() == is_opened, "call {failing} fails");
     }
     Ok(())
 }

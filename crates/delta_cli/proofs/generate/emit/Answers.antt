@@ -1,4 +1,4 @@
-use Rattle.std.proofs.Common.{ℕ, ◌+◌, ◌-◌, List, [], ◌++◌, sym, ap, subst, ◌∙◌, arith}
+use Rattle.std.proofs.Common.{◌≡◌, ℕ, ◌+◌, ◌-◌, List, [], ◌++◌, sym, ap, subst, ◌∙◌, arith}
 use Rattle.sink_writing.specs.Writing.{AppendsFront}
 use Rattle.sink_writing.proofs.Pieces.{Written, written_front, written_text, text_front}
 use Rattle.stream_generator.specs.Generator.{stream_text, patches_from}
