@@ -46,15 +46,21 @@ pub fn created(alloc: Global, name: &Text, uri: &Text, id: Option<Id>) -> Result
     ensures fits { ForSome id (λ i. IsId i.0) }
 {
     let Some(id) = id else {
-        return Ok(json!(in alloc; {"name": name.as_str(), "operation": "create", "uri": uri.as_str()})?);
+        return Ok(
+            json!(in alloc; {"name": name.as_str(), "operation": "create", "uri": uri.as_str()})?,
+        );
     };
     let text = id_string(alloc, id)?;
-    Ok(json!(in alloc; {"id": text, "name": name.as_str(), "operation": "create", "uri": uri.as_str()})?)
+    Ok(
+        json!(in alloc; {"id": text, "name": name.as_str(), "operation": "create", "uri": uri.as_str()})?,
+    )
 }
 
 /// `rename`.
 pub fn renamed(alloc: Global, name: &Text, new_name: &Text) -> Result<Value, OutOfMemory>
     ensures { IfOk result (λ value. view value ≡ object_of (codes "rename") (member (codes "name") (string name.now) (one (codes "new_name") new_name.now))) }
 {
-    Ok(json!(in alloc; {"name": name.as_str(), "new_name": new_name.as_str(), "operation": "rename"})?)
+    Ok(
+        json!(in alloc; {"name": name.as_str(), "new_name": new_name.as_str(), "operation": "rename"})?,
+    )
 }

@@ -31,6 +31,7 @@ returns-clause-as_found g c no_fault not_accepted =
     let before = c.args.self.now in
     let after = c.append_made-answer.new.log in
     let answer = c.append_made-answer.result in
-    let a = returns-clause-appended g c brought.0 brought.1 in
-    (kept_quiet before.limits brought.0 patch before after answer no_fault not_accepted (stays_of g.D.Disk before after patch brought.0 answer a),
-    a.untouched no_fault not_accepted)
+    let a = returns-clause-appended g c brought.0 brought.1 in (
+      kept_quiet before.limits brought.0 patch before after answer no_fault not_accepted (stays_of g.D.Disk before after patch brought.0 answer a),
+      a.untouched no_fault not_accepted,
+    )
