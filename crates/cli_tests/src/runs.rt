@@ -153,32 +153,41 @@ fn the_first_fault_of_a_stream_is_told(rt: HostRuntime) -> Result<(), Fail> {
     Ok(())
 }
 
+/// Replays rows with a long comment behind them, and a patch behind that.
+fn replays_commented(rt: &impl Abort, alloc: Global, rows: &str, err: &str) -> Result<(), Fail> {
+    let mut text = String::from_str(alloc, rows)?;
+    text.push_str("#")?;
+    for _ in 0..42_000 {
+        text.push_str(HUNDRED)?;
+    }
+    text.push_str("\n")?;
+    text.push_str(P2)?;
+    replays(rt, alloc, &[text.as_str()], 3, "", err)
+}
+
+const HUNDRED: &str =
+    "xxxxxxxxxxxxxxxxxxxxxxxxxxxxxxxxxxxxxxxxxxxxxxxxxxxxxxxxxxxxxxxxxxxxxxxxxxxxxxxxxxxxxxxxxxxxxxxxxxxx";
+
 #[test]
 fn a_long_patch_hides_no_fault_of_its_rows(rt: HostRuntime) -> Result<(), Fail> {
     let alloc = rt.alloc();
-    let mut comment = String::from_str(alloc, "#")?;
-    for _ in 0..4_200_000 {
-        comment.push('x')?;
-    }
-    comment.push('\n')?;
-    for (rows, err) in [
-        (
-            "H id <uuid:x> .\n",
-            "rdfdelta: input: line 1 byte 0: BadId\n",
-        ),
-        (
-            "H id <uuid:00000000-0000-4000-8000-000000000001> .\nTC .\n",
-            "rdfdelta: input: line 2 byte 51: NotInBlock\n",
-        ),
-        (
-            "H id <uuid:00000000-0000-4000-8000-000000000001> .\nX .\n",
-            "rdfdelta: input: line 2 byte 51: UnknownCode\n",
-        ),
-        (ID, "rdfdelta: input: too long: limit 4194304\n"),
-    ] {
-        replays(&rt, alloc, &[rows, comment.as_str(), P2], 3, "", err)?;
-    }
-    Ok(())
+    let bad_id = "rdfdelta: input: line 1 byte 0: BadId\n";
+    replays_commented(&rt, alloc, "H id <uuid:x> .\n", bad_id)?;
+    let outside = "rdfdelta: input: line 2 byte 51: NotInBlock\n";
+    replays_commented(
+        &rt,
+        alloc,
+        "H id <uuid:00000000-0000-4000-8000-000000000001> .\nTC .\n",
+        outside,
+    )?;
+    let unknown = "rdfdelta: input: line 2 byte 51: UnknownCode\n";
+    replays_commented(
+        &rt,
+        alloc,
+        "H id <uuid:00000000-0000-4000-8000-000000000001> .\nX .\n",
+        unknown,
+    )?;
+    replays_commented(&rt, alloc, ID, "rdfdelta: input: too long: limit 4194304\n")
 }
 
 #[test]
