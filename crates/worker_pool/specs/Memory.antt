@@ -1,0 +1,19 @@
+-- How contracts see a gate in memory.
+use Rattle.std.specs.Prelude.{ℕ, ◌+◌, List, [], ◌∷◌}
+use Rattle.worker_pool.specs.declared.gate.Arrival.{Arrival}
+
+module _ {L : Type 0} where
+  -- links in their order, whose dice are numbers from this one on
+  abbrev pub numbered : ℕ → List L → List (Arrival L)
+  numbered first [] = []
+  numbered first (link ∷ links) = record { link = link; dice = first } ∷ numbered (first + 1) links
+
+-- the arrivals left, the links put back, how many more can be, which calls of `next` fail, how many
+-- were made, and how many failed
+pub record GateState (L : Type 0) : Type 0 where
+  pub arrivals : List (Arrival L)
+  pub back : List L
+  pub room : ℕ
+  pub failing : List ℕ
+  pub calls : ℕ
+  pub faults : ℕ

@@ -1,0 +1,18 @@
+//! Workers, each with a gate through which its connections come.
+//!
+//! A gate gives connections one after another and takes each back; a worker serves one at a time; `serve_all` has the workers
+//! serve side by side, on threads. What a worker does on a connection is the worker's own relation, so nothing here knows of
+//! HTTP or of logs.
+#![tactic(auto)]
+
+mod gate;
+mod memory_gate;
+mod pool;
+mod tcp_gate;
+mod worker;
+
+pub use gate::{Arrival, Gate};
+pub use memory_gate::MemGate;
+pub use pool::{Post, serve_all};
+pub use tcp_gate::TcpGate;
+pub use worker::Worker;
