@@ -1,0 +1,6 @@
+mod Values
+mod Rows
+mod Lines
+mod Cutting
+mod Chained
+mod Counted
