@@ -8,12 +8,13 @@ use Rattle.std.specs.Str.Parse.{digits_value}
 use Rattle.std.proofs.lemmas.Grind.{flat_map-append}
 use Rattle.std.proofs.lemmas.List.Sums.{AllPass-from_list_all}
 use Rattle.std.proofs.lemmas.List.Elements.{All-nil, All-cons, All-append}
+use Rattle.http.specs.StatusCode.{code_digits}
 use Rattle.httparse.specs.Ascii.{crlf_bytes}
 use Rattle.httparse.specs.Grammar.{AllPass, is_token_byte, is_value_byte, trim_ows, IsField, print_field, print_version, print_response}
 use Rattle.httparse.proofs.GrammarLemmas.{print_response-append}
 use Rattle.http_text.specs.Heads.{reply}
 use Rattle.http_text.specs.Messages.{reply_of, IsMessage, framing_behind}
-use Rattle.http_text.specs.Print.{field, is_visible, body_fields, phrase_of, statuses, status_digits, status_line, allow_fields, close_fields, reply_fields, reply_head, reply_text, HasKind, IsAllow, IsPrintableReply, FitsReader}
+use Rattle.http_text.specs.Print.{field, is_visible, body_fields, phrase_of, statuses, status_line, allow_fields, close_fields, reply_fields, reply_head, reply_text, HasKind, IsAllow, IsPrintableReply, FitsReader}
 use Rattle.http_text.specs.declared.framing.Framing.TheVariants.{Sized}
 use Rattle.http_text.specs.declared.message.Kind.TheVariants.{Replies}
 use Rattle.http_text.specs.declared.message.Message.TheVariants as forms
@@ -25,9 +26,10 @@ use Rattle.http_text.proofs.PrintLemmas.{trim_word, decimal_word, size_again, to
 
 -- what a status has to be for its line to be read again
 abbrev is_good : ℕ → Bool
-is_good n = (length (status_digits n) == 3) && (list_all is_ascii_digit (status_digits n) && ((digits_value 10 (status_digits n) == n) && (not (n == 100) && list_all is_value_byte (phrase_of n))))
+is_good n = (length (code_digits n) == 3) && (list_all is_ascii_digit (code_digits n) && ((digits_value 10 (code_digits n) == n) && (not (n == 100) && list_all is_value_byte (phrase_of n))))
 
 all_good : list_all is_good statuses ≡ true
+unfolding phrase_of
 all_good = refl
 
 both : (a b : Bool) → (a && b) ≡ true → (a ≡ true) × (b ≡ true)
@@ -46,9 +48,9 @@ good_of (s ∷ list) n all any =
     good_here s n (s == n) refl parts.0 (λ later. good_of list n parts.1 later) any
 
 record GoodStatus (n : ℕ) : Type 0 where
-  three : length (status_digits n) ≡ 3
-  digits : AllPass is_ascii_digit (status_digits n)
-  value : digits_value 10 (status_digits n) ≡ n
+  three : length (code_digits n) ≡ 3
+  digits : AllPass is_ascii_digit (code_digits n)
+  value : digits_value 10 (code_digits n) ≡ n
   final : (n == 100) ≡ false
   phrase : AllPass is_value_byte (phrase_of n)
 
@@ -59,9 +61,9 @@ good_status n listed =
     let three = both _ _ two.1 in
     let four = both _ _ three.1 in
     record {
-      three = eqb-true (length (status_digits n)) 3 one.0;
-      digits = AllPass-from_list_all is_ascii_digit (status_digits n) two.0;
-      value = eqb-true (digits_value 10 (status_digits n)) n three.0;
+      three = eqb-true (length (code_digits n)) 3 one.0;
+      digits = AllPass-from_list_all is_ascii_digit (code_digits n) two.0;
+      value = eqb-true (digits_value 10 (code_digits n)) n three.0;
       final = not_true (n == 100) four.0;
       phrase = AllPass-from_list_all is_value_byte (phrase_of n) four.1;
     }
@@ -104,7 +106,7 @@ framing_again status true kind body (Some methods) small = size_again (length bo
 framing_again status false kind body (Some methods) small = size_again (length body) small
 
 -- the reply of the head is the one that was printed
-reply_again : (status : ℕ) (close : Bool) (kind body : List ℕ) (allow : Option (List ℕ)) → AllPass is_visible kind → digits_value 10 (status_digits status) ≡ status
+reply_again : (status : ℕ) (close : Bool) (kind body : List ℕ) (allow : Option (List ℕ)) → AllPass is_visible kind → digits_value 10 (code_digits status) ≡ status
     → reply_with status close kind body ≡ reply_of (reply_head (reply_with status close kind body) allow) body
 unfolding reply_with trim_ows
 reply_again status true kind body None visible value = λ i. record { status = sym value i; close = true; content_type = Some (sym (trim_word kind visible) i); body = body }
@@ -180,8 +182,8 @@ all_reply_text r allow a b d e f g a_is b_is d_is e_is f_is g_is =
     flat_map-append print_field (allow_fields allow) (close_fields r.close ++ body_fields r.content_type (length r.body))
     ∙ ap (λ (t : List ℕ). allows ++ t) (flat_map-append print_field (close_fields r.close) (body_fields r.content_type (length r.body))) in
     g_is ∙ ap (λ (t : List ℕ). t ++ r.body) (f_is ∙ ap (λ (t : List ℕ). t ++ crlf_bytes) (e_is ∙ ap (λ (t : List ℕ). t ++ bodies) (d_is ∙ ap (λ (t : List ℕ). t ++ closes) (b_is ∙ ap (λ (t : List ℕ). t ++ allows) a_is))))
-    ∙ regroup (print_version 1) (status_digits r.status) (32 ∷ phrase_of r.status) crlf_bytes allows closes bodies r.body
-    ∙ ap (λ (t : List ℕ). print_version 1 ++ 32 ∷ (status_digits r.status ++ ((32 ∷ phrase_of r.status) ++ (crlf_bytes ++ ((t ++ crlf_bytes) ++ r.body))))) (sym fields)
+    ∙ regroup (print_version 1) (code_digits r.status) (32 ∷ phrase_of r.status) crlf_bytes allows closes bodies r.body
+    ∙ ap (λ (t : List ℕ). print_version 1 ++ 32 ∷ (code_digits r.status ++ ((32 ∷ phrase_of r.status) ++ (crlf_bytes ++ ((t ++ crlf_bytes) ++ r.body))))) (sym fields)
     ∙ sym (print_response-append (reply_head r allow) r.body)
   where
     regroup : (v s q c al cl bo body : List ℕ) → ((((([] ++ (v ++ 32 ∷ (s ++ (q ++ c)))) ++ al) ++ cl) ++ bo) ++ c) ++ body

@@ -1,7 +1,8 @@
 -- The requests that a client writes, and the replies of a server.
-use Rattle.std.specs.Prelude.{◌≡◌, ◌≤◌, ◌++◌, ◌+◌, ◌/◌, ◌%◌, ℕ, Bool, ◌&&◌, not, ◌==◌, nat_le, false, true, List, [], ◌∷◌, length, Option, Some, None, codes, if◌then◌else◌}
+use Rattle.std.specs.Prelude.{◌≡◌, ◌≤◌, ◌++◌, ℕ, Bool, ◌&&◌, not, ◌==◌, nat_le, false, true, List, [], ◌∷◌, length, Option, Some, None, codes, unwrap_or}
 use Rattle.std.specs.Fmt.{decimal}
 use Rattle.std.specs.List.{list_all, list_any}
+use Rattle.http.specs.StatusCode.{code_digits, reason_phrase}
 use Rattle.httparse.specs.Ascii.{crlf_bytes}
 use Rattle.httparse.specs.Grammar.{is_value_byte, Field, crlf, RequestHead, print_request, ResponseHead, print_response, print_version}
 use Rattle.http_text.specs.Heads.{most_head}
@@ -64,32 +65,18 @@ pub record FitsReader (head body : List ℕ) : Type 0 where
 
 -- ---- replies
 
--- the phrase of a status
-abbrev pub phrase_of : ℕ → List ℕ
-phrase_of status =
-    if status == 200 then codes "OK" else (
-    if status == 400 then codes "Bad Request" else (
-    if status == 404 then codes "Not Found" else (
-    if status == 405 then codes "Method Not Allowed" else (
-    if status == 409 then codes "Conflict" else (
-    if status == 413 then codes "Payload Too Large" else (
-    if status == 415 then codes "Unsupported Media Type" else (
-    if status == 431 then codes "Request Header Fields Too Large" else (
-    if status == 500 then codes "Internal Server Error" else (
-    if status == 503 then codes "Service Unavailable" else (
-    if status == 507 then codes "Insufficient Storage" else []))))))))))
-
 -- the statuses that a server answers with
 abbrev pub statuses : List ℕ
 statuses = 200 ∷ 400 ∷ 404 ∷ 405 ∷ 409 ∷ 413 ∷ 415 ∷ 431 ∷ 500 ∷ 503 ∷ 507 ∷ []
 
--- the three digits of a status
-abbrev pub status_digits : ℕ → List ℕ
-status_digits status = (48 + status / 100 % 10) ∷ (48 + status / 10 % 10) ∷ (48 + status % 10) ∷ []
+-- the phrase of a status, as the library `http` names it (RFC 9110, section 15)
+unfoldable pub phrase_of : ℕ → List ℕ
+phrase_of status = unwrap_or (reason_phrase status) []
 
 -- the status line
 abbrev pub status_line : ℕ → List ℕ
-status_line status = print_version 1 ++ 32 ∷ (status_digits status ++ (32 ∷ phrase_of status ++ crlf_bytes))
+status_line status =
+    print_version 1 ++ 32 ∷ (code_digits status ++ (32 ∷ phrase_of status ++ crlf_bytes))
 
 abbrev pub allow_fields : Option (List ℕ) → List Field
 allow_fields None = []
@@ -107,7 +94,7 @@ abbrev pub reply_head : RawReply → Option (List ℕ) → ResponseHead
 reply_head reply allow = record {
   blank = [];
   minor = 1;
-  digits = status_digits reply.status;
+  digits = code_digits reply.status;
   reason = Some (phrase_of reply.status);
   line_end = crlf;
   fields = reply_fields reply allow;

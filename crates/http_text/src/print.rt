@@ -11,6 +11,7 @@ ghost use Rattle.http_text.specs.declared.message.Message.TheVariants as forms;
 
 use crate::message::{RawReply, RawRequest};
 use delta_base::{Bytes, OutOfMemory, Text};
+use http::StatusCode;
 use std::alloc::{AllocError, Global};
 
 // Adds a request line.
@@ -95,38 +96,24 @@ pub fn print_request(alloc: Global, request: &RawRequest, host: &Text) -> Result
     Ok(Bytes::from_vec(text))
 }
 
-// The phrase of a status.
-fn phrase_of(status: u16) -> &'static [u8]
+// The phrase of a status, which the library knows.
+fn phrase_of(status: StatusCode) -> &'static str
     ensures { result.now ≡ phrase_of status }
 {
-    match status {
-        200 => b"OK",
-        400 => b"Bad Request",
-        404 => b"Not Found",
-        405 => b"Method Not Allowed",
-        409 => b"Conflict",
-        413 => b"Payload Too Large",
-        415 => b"Unsupported Media Type",
-        431 => b"Request Header Fields Too Large",
-        500 => b"Internal Server Error",
-        503 => b"Service Unavailable",
-        507 => b"Insufficient Storage",
-        _ => b"",
+    match status.canonical_reason() {
+        Some(phrase) => phrase,
+        None => "",
     }
 }
 
 // Adds a status line.
-fn push_status_line(text: &mut Vec<u8>, status: u16) -> Result<(), AllocError>
+fn push_status_line(text: &mut Vec<u8>, status: StatusCode) -> Result<(), AllocError>
     ensures { OnOk result (text.new.items ≡ text.old.items ++ status_line status) }
 {
     text.extend_from_slice(b"HTTP/1.1 ")?;
-    text.extend_from_slice(&[
-        b'0' + (status / 100 % 10) as u8,
-        b'0' + (status / 10 % 10) as u8,
-        b'0' + (status % 10) as u8,
-    ])?;
+    text.extend_from_slice(status.as_str().as_bytes())?;
     text.extend_from_slice(b" ")?;
-    text.extend_from_slice(phrase_of(status))?;
+    text.extend_from_slice(phrase_of(status).as_bytes())?;
     text.extend_from_slice(b"\r\n")?;
     Ok(())
 }
@@ -163,10 +150,11 @@ pub fn print_reply(
     ensures again { IfOk result (λ text. FitsReader (print_response (reply_head reply.now (option_copied allow.entry))) reply.now.body
         → IsMessage kinds.Replies text (forms.Reply reply.now)) }
 {
+    let status = StatusCode::from_u16(reply.status).unwrap();
     let methods = bytes_of(allow);
     let kind = slice_of(&reply.content_type);
     let mut text = Vec::new(alloc);
-    push_status_line(&mut text, reply.status)?;
+    push_status_line(&mut text, status)?;
     push_allow(&mut text, methods)?;
     push_close(&mut text, reply.close)?;
     push_body_fields(alloc, &mut text, kind, reply.body.len())?;

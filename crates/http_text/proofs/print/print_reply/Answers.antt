@@ -1,4 +1,4 @@
-use Rattle.std.proofs.Common.{◌≡◌, ◌∙◌, ◌++◌, sym, ap, ap₂, subst, refl, length, Option, List, ℕ, arith}
+use Rattle.std.proofs.Common.{◌≡◌, ◌∙◌, ◌++◌, sym, ap, ap₂, subst, refl, length, Option, List, ℕ, arith, rules}
 use Rattle.std.specs.List.{flat_map}
 use Rattle.std.specs.Option.{option_copied}
 use Rattle.httparse.specs.Grammar.{print_field}
@@ -11,10 +11,11 @@ use Rattle.http_text.proofs.print.print_reply.Goals as goal
 
 pub returns : goal.returns
 returns c =
+    let status : c.unwrap-status.result ≡ c.args.reply.now.status = search rules in
     let size : c.len.result ≡ length c.args.reply.now.body = omega arith in
     let text = all_reply_text c.args.reply.now (option_copied c.args.allow) c.push_status_line.new.text.items c.push_allow.new.text.items c.push_close.new.text.items
     c.push_body_fields.new.text.items c.extend_from_slice.new.self.items c.extend_from_slice-2.new.self.items
-    (rw (c.in_ok-push_status_line.ensures, c.new-text.ensures.items) refl)
+    (rw (c.in_ok-push_status_line.ensures, c.new-text.ensures.items, status) refl)
     (c.in_ok-push_allow.ensures ∙ ap (λ (m : Option (List ℕ)). c.push_status_line.new.text.items ++ flat_map print_field (allow_fields m)) c.bytes_of-methods.ensures)
     c.in_ok-push_close.ensures
     (c.in_ok-push_body_fields.ensures
