@@ -1,5 +1,6 @@
 //! Fills a new journal.
 ghost use Rattle.std.specs.Prelude.{◌≡◌, ℕ, ◌+◌, ◌*◌, ◌++◌, ◌<◌, ◌≤◌, ◌^◌, [], List, Some, false, length, replicate, IsTrue, IfOk, OnOk, IsErrOf};
+ghost use Rattle.delta_base.specs.declared.limits.TheConstants.{PAYLOAD_FRAME};
 ghost use Rattle.delta_base.specs.Outside.{Rose};
 ghost use Rattle.disk_model.specs.Past.{reads};
 ghost use Rattle.disk_model.specs.Shelf.{SameOthers};
@@ -37,7 +38,8 @@ impl From<OutOfMemory> for FillFault {
 // Appends a payload some times.
 fn append_all<D: Disk>(journal: &mut Journal<D>, block: &Block, count: u32) -> Result<(), FillFault>
     requires settled { IsTrue (is_settled journal.old) }
-    requires room { length_of journal.old + count * (5 + length (payload_of block.now))
+    requires room { length_of journal.old
+        + count * (PAYLOAD_FRAME + length (payload_of block.now))
         ≤ limit_of journal.old }
     ensures ok { OnOk result ((number : ℕ) (payloads : List (List ℕ))
         → StandsFor journal.old number payloads

@@ -1,29 +1,32 @@
 -- Patches of a chain, where they stand, and their journal's length.
-use Rattle.std.proofs.Common.{◌≡◌, ℕ, zero, suc, ◌+◌, ◌-◌, ◌*◌, ◌≤◌, List, [], ◌∷◌, ◌++◌, length, Option, Some, None, refl, sym, ◌∙◌, ap, arith}
+use Rattle.std.proofs.Common.{◌≡◌, ℕ, zero, suc, ◌+◌, ◌-◌, ◌*◌, ◌<◌, ◌≤◌, List, [], ◌∷◌, ◌++◌, length, Option, Some, None, refl, ◌∙◌, ap, arith}
 use Rattle.std.specs.Prelude.{slice_get, sum_by}
 use Rattle.std.specs.Option.{option_map}
 use Rattle.std.specs.List.{AllByRecursion}
 use Rattle.std.proofs.lemmas.Option.{slice_get-map}
 use Rattle.std.proofs.lemmas.List.Sums.{sum_by-append, sum_by-cons}
-use Rattle.std.proofs.lemmas.List.{map-append, length-map}
+use Rattle.std.proofs.lemmas.List.{map-append}
 use Rattle.delta_base.specs.declared.id.Id.{Id}
-use Rattle.delta_base.specs.declared.limits.TheConstants.{PATCH_LIMIT}
+use Rattle.delta_base.specs.declared.limits.TheConstants.{PATCH_LIMIT, PAYLOAD_FRAME}
 use Rattle.chain_core.specs.declared.chain.Patch.{Patch}
 use Rattle.chain_core.specs.declared.chain.Entry.{Entry}
-use Rattle.chain_core.specs.Patches.{patch_of, patches_of, at_version, patch_at, last_id, journal_length}
+use Rattle.chain_core.specs.Links.{last_or}
+use Rattle.chain_core.specs.Patches.{patch_of, patches_of, links_of, texts_of, at_version, patch_at, last_id, journal_length}
 
-abbrev id_of : Patch → Id
-id_of patch = patch.id
+abbrev pub id_in : Entry → Id
+id_in entry = entry.patch.id
 
 -- the id of the last entry is that of the last patch
+last_behind : (head : Option Id) (entries : List Entry) → 0 < length entries → option_map id_in (slice_get entries (length entries - 1)) ≡ last_or head (links_of (patches_of entries))
+last_behind head [] some = absurd (omega arith)
+last_behind head (entry ∷ []) some = refl
+last_behind head (entry ∷ (next ∷ entries)) some =
+    let at : length (entry ∷ (next ∷ entries)) - 1 ≡ suc (length (next ∷ entries) - 1) = omega arith in
+    ap (λ (n : ℕ). option_map id_in (slice_get (entry ∷ (next ∷ entries)) n)) at ∙ last_behind (Some entry.patch.id) (next ∷ entries) (omega arith)
+
 pub head-patches : (entries : List Entry) → option_map (λ (e : Entry). e.patch.id) (slice_get entries (length entries - 1)) ≡ last_id (patches_of entries)
-head-patches entries =
-    let counted : length (patches_of entries) ≡ length entries = length-map entries patch_of in
-    sym (ap (λ (n : ℕ). option_map id_of (slice_get (patches_of entries) (n - 1))) counted ∙ ap (option_map id_of) (slice_get-map patch_of entries (length entries - 1)) ∙ twice (slice_get entries (length entries - 1)))
-  where
-    twice : (found : Option Entry) → option_map id_of (option_map patch_of found) ≡ option_map (λ (e : Entry). e.patch.id) found
-    twice None = refl
-    twice (Some entry) = refl
+head-patches [] = refl
+head-patches (entry ∷ entries) = last_behind None (entry ∷ entries) (omega arith)
 
 -- the patch of an entry
 pub patch_at-entries : (entries : List Entry) (version : ℕ) → patch_at (patches_of entries) version ≡ option_map patch_of (at_version entries version)
@@ -31,17 +34,21 @@ patch_at-entries entries zero = refl
 patch_at-entries entries (suc before) = slice_get-map patch_of entries before
 
 -- lengths
-pub length_bound : (entries : List Entry) → AllByRecursion (λ e. length e.patch.text ≤ PATCH_LIMIT) entries → sum_by (λ (patch : Patch). 5 + length patch.text) (patches_of entries) ≤ length entries * (5 + PATCH_LIMIT)
-length_bound [] short = omega arith
-length_bound (entry ∷ entries) short = omega (arith, sum_by-cons (λ (patch : Patch). 5 + length patch.text) entry.patch (patches_of entries), length_bound entries short.1, short.0)
+abbrev framed : List ℕ → ℕ
+framed text = PAYLOAD_FRAME + length text
 
-pub length-push : (patches : List Patch) (patch : Patch) → journal_length (patches ++ patch ∷ []) ≡ journal_length patches + 5 + length patch.text
-length-push patches patch = omega (arith, sum_by-append (λ (patch : Patch). 5 + length patch.text) patches (patch ∷ []))
+pub length_bound : (entries : List Entry) → AllByRecursion (λ e. length e.patch.text ≤ PATCH_LIMIT) entries → sum_by framed (texts_of (patches_of entries)) ≤ length entries * (PAYLOAD_FRAME + PATCH_LIMIT)
+length_bound [] short = omega arith
+length_bound (entry ∷ entries) short = omega (arith, sum_by-cons framed entry.patch.text (texts_of (patches_of entries)), length_bound entries short.1, short.0)
+
+pub length-push : (patches : List Patch) (patch : Patch) → journal_length (patches ++ patch ∷ []) ≡ journal_length patches + PAYLOAD_FRAME + length patch.text
+length-push patches patch =
+    omega (arith, ap (sum_by framed) (map-append (λ (p : Patch). p.text) patches (patch ∷ [])), sum_by-append framed (texts_of patches) (patch.text ∷ []))
 
 pub patches_of-push : (entries : List Entry) (entry : Entry) → patches_of (entries ++ entry ∷ []) ≡ patches_of entries ++ entry.patch ∷ []
 patches_of-push entries entry = map-append patch_of entries (entry ∷ [])
 
-pub journal-push : (entries : List Entry) (entry : Entry) (bytes more : ℕ) → bytes ≡ journal_length (patches_of entries) → more ≡ bytes + (5 + length entry.patch.text) → more ≡ journal_length (patches_of (entries ++ entry ∷ []))
+pub journal-push : (entries : List Entry) (entry : Entry) (bytes more : ℕ) → bytes ≡ journal_length (patches_of entries) → more ≡ bytes + (PAYLOAD_FRAME + length entry.patch.text) → more ≡ journal_length (patches_of (entries ++ entry ∷ []))
 journal-push entries entry bytes more was is = omega (arith, was, is, length-push (patches_of entries) entry.patch, ap journal_length (patches_of-push entries entry))
 
 -- the last one of entries with short texts has a short one

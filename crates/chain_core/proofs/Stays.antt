@@ -1,13 +1,9 @@
 -- What a stay leaves is a log.
-use Rattle.std.proofs.Common.{◌≡◌, ℕ, suc, ◌+◌, ◌-◌, ◌<◌, ◌≤◌, Bool, true, false, cond, List, [], ◌∷◌, ◌++◌, length, Option, Some, None, refl, sym, ◌∙◌, ap, subst, arith, length-append}
-use Rattle.std.specs.Prelude.{slice_get}
-use Rattle.std.specs.Option.{option_map}
+use Rattle.std.proofs.Common.{◌≡◌, ℕ, ◌≤◌, Bool, true, false, cond, List, [], ◌∷◌, ◌++◌, length, Option, Some, None, refl, sym, subst, arith, length-append}
 use Rattle.std.specs.List.{AllByRecursion}
 use Rattle.std.proofs.lemmas.List.{map-append}
-use Rattle.delta_base.specs.declared.id.Id.{Id}
 use Rattle.delta_base.specs.declared.limits.TheConstants.{PATCH_LIMIT}
 use Rattle.chain_core.specs.declared.chain.Patch.{Patch}
-use Rattle.chain_core.specs.declared.link.Link.{Link}
 use Rattle.delta_base.specs.declared.limits.LogLimits.{LogLimits}
 use Rattle.delta_base.specs.declared.phase.Phase.TheVariants.{Settling, Body, Gate}
 use Rattle.chain_core.specs.declared.fate.Fate.{Fate}
@@ -15,40 +11,13 @@ use Rattle.chain_core.specs.declared.fate.Fate.TheVariants.{Done, Fails, Stops}
 use Rattle.chain_core.specs.declared.answer.Decision.{Decision}
 use Rattle.chain_core.specs.declared.answer.Decision.TheVariants.{Accept, Known, Conflict, Full}
 use Rattle.chain_core.specs.Links.{IsChain}
-use Rattle.chain_core.specs.Breaks.{last_or}
-use Rattle.chain_core.specs.Tested.{version_from}
 use Rattle.chain_core.specs.Patches.{links_of, version_of, last_id}
 use Rattle.chain_core.specs.Decision.{decision}
 use Rattle.chain_core.specs.Log.{LogPoint, up, down, IsLog, IsPoint, stopped, opened_again}
 use Rattle.chain_core.specs.Stay.{accepted_by, decided_by, stay}
 use Rattle.chain_core.proofs.Chained.{chain-push}
 use Rattle.chain_core.proofs.Decided.{accepted}
-use Rattle.chain_core.proofs.Versions.{none-cons}
-
-abbrev id_of : Patch → Id
-id_of patch = patch.id
-
-abbrev pub link_to : Patch → Link
-link_to patch = record { id = patch.id; prev = patch.prev }
-
--- the last id of the links
-last_behind : (before : Option Id) (patches : List Patch) → 0 < length patches → last_or before (links_of patches) ≡ last_id patches
-last_behind before [] some = absurd (omega arith)
-last_behind before (patch ∷ []) some = refl
-last_behind before (patch ∷ (next ∷ patches)) some =
-    let at : length (patch ∷ (next ∷ patches)) - 1 ≡ suc (length (next ∷ patches) - 1) = omega arith in
-    last_behind (Some patch.id) (next ∷ patches) (omega arith) ∙ sym (ap (λ (n : ℕ). option_map id_of (slice_get (patch ∷ (next ∷ patches)) n)) at)
-
-pub last_of_links : (patches : List Patch) → last_or None (links_of patches) ≡ last_id patches
-last_of_links [] = refl
-last_of_links (patch ∷ patches) = last_behind None (patch ∷ patches) (omega arith)
-
--- an id that no patch has
-new_in_links : (before : ℕ) (patches : List Patch) (id : Id) → version_of patches id ≡ None → version_from before id.0 (links_of patches) ≡ None
-new_in_links before [] id new = refl
-new_in_links before (patch ∷ patches) id new =
-    let parts = none-cons patch patches id new in
-    ap (λ (test : Bool). cond test (Some (before + 1)) (version_from (before + 1) id.0 (links_of patches))) parts.0 ∙ new_in_links (before + 1) patches id parts.1
+use Rattle.chain_core.proofs.Versions.{link_to}
 
 pub short-push : (patches : List Patch) (patch : Patch) → AllByRecursion (λ (p : Patch). length p.text ≤ PATCH_LIMIT) patches → length patch.text ≤ PATCH_LIMIT → AllByRecursion (λ (p : Patch). length p.text ≤ PATCH_LIMIT) (patches ++ patch ∷ [])
 short-push [] patch short more = (more, tt)
@@ -57,7 +26,7 @@ short-push (first ∷ patches) patch short more = (short.0, short-push patches p
 -- a patch that names the last one and whose id is new goes on the chain
 pub links-push : (patches : List Patch) (patch : Patch) → IsChain (links_of patches) → patch.prev ≡ last_id patches → version_of patches patch.id ≡ None → IsChain (links_of (patches ++ patch ∷ []))
 links-push patches patch chain follows new =
-    subst IsChain (sym (map-append link_to patches (patch ∷ []))) (chain-push (links_of patches) (link_to patch) chain (follows ∙ sym (last_of_links patches)) (new_in_links 0 patches patch.id new))
+    subst IsChain (sym (map-append link_to patches (patch ∷ []))) (chain-push (links_of patches) (link_to patch) chain follows new)
 
 -- what is accepted goes on the log
 pub goes_on : (limits : LogLimits) (patches : List Patch) (patch : Patch) (version : ℕ) → IsLog limits patches → length patch.text ≤ PATCH_LIMIT → decision patches patch limits ≡ Accept version → IsLog limits (patches ++ patch ∷ [])

@@ -1,23 +1,24 @@
 -- What a test that is kept says of the patch behind the chain.
-use Rattle.std.proofs.Common.{◌≡◌, ℕ, ◌+◌, Bool, true, false, cond, eqb, ltb, List, [], ◌∷◌, ◌++◌, length, take, Option, Some, None, refl, sym, ap, subst, ◌∙◌, nat_cmp, map, length-append, arith}
+use Rattle.std.proofs.Common.{◌≡◌, ℕ, ◌+◌, Bool, true, false, cond, eqb, ltb, List, [], ◌∷◌, ◌++◌, length, take, Option, Some, None, refl, sym, ap, subst, ◌∙◌, nat_cmp, length-append, arith}
 use Rattle.std.specs.Prelude.{slice_get}
 use Rattle.std.specs.BTreeMap.{get}
-use Rattle.std.specs.List.{AllByRecursion}
 use Rattle.std.specs.Option.{option_map}
 use Rattle.std.specs.Ordering.{is_eq}
 use Rattle.std.specs.declared.cmp.Ordering.TheVariants.{Less, Equal, Greater}
-use Rattle.std.proofs.Math.Seq.{get_or-append_seam}
+use Rattle.std.proofs.Math.Seq.{get_or-append_seam, take-append-add}
 use Rattle.std.proofs.lemmas.Bool.{ltb-true, eqb-true}
-use Rattle.std.proofs.lemmas.List.{take_at}
-use Rattle.std.proofs.lemmas.Option.{slice_get_read}
+use Rattle.std.proofs.lemmas.List.{take_at, take-append-le}
+use Rattle.std.proofs.lemmas.Option.{none-some, slice_get_read}
 use mathlib.Core.Bool.{true≢false}
 use Rattle.delta_base.specs.declared.id.Id.{Id}
 use Rattle.chain_core.specs.declared.link.Link.{Link}
 use Rattle.chain_core.specs.declared.testing.ChainTest.{ChainTest}
-use Rattle.chain_core.specs.Links.{AllDiffer, IsChain}
-use Rattle.chain_core.specs.Breaks.{last_or, DivergesAt, RepeatsAt}
-use Rattle.chain_core.specs.Tested.{version_from, IsTested}
-use Rattle.chain_core.proofs.Chained.{version_more, chain-push, last_or-push, repeats_at}
+use Rattle.chain_core.specs.Links.{IsChain, last_or, version_in}
+use Rattle.chain_core.specs.Breaks.{BreaksAt, DivergesAt, RepeatsAt}
+use Rattle.chain_core.specs.Tested.{IsTested}
+use Rattle.chain_core.proofs.Chained.{version_more, chain-push, last_or-push}
+use Rattle.chain_core.proofs.Fronts.{chain-take, last_follows}
+use Rattle.chain_core.proofs.Versions.{new_behind}
 
 abbrev prev_of : Link → Option Id
 prev_of l = l.prev
@@ -34,26 +35,34 @@ behind ls more x =
 before : (ls more : List Link) (x : Link) → take (length ls) (ls ++ x ∷ more) ≡ ls
 before ls more x = take_at ls (x ∷ more) (length ls) refl
 
+-- with it they are no chain
+breaks_behind : (ls more : List Link) (x : Link) → IsChain ls → (IsChain (ls ++ x ∷ []) → ⊥) → BreaksAt IsChain (ls ++ x ∷ more) (length ls + 1)
+breaks_behind ls more x chain none = record {
+  within = omega (arith, length-append ls (x ∷ more));
+  so_before = λ fewer less. subst IsChain (sym (take-append-le fewer ls (x ∷ more) (omega arith))) (chain-take ls fewer chain);
+  broken = λ longer. none (subst IsChain (take-append-add ls (x ∷ more) 1) longer);
+}
+
 pub diverges : (ls more : List Link) (x : Link) (t : ChainTest) → IsTested ls t → (x.prev ≡ t.head → ⊥) → DivergesAt (ls ++ x ∷ more) t.version t.head x.prev
 diverges ls more x t is differ =
     subst (λ (n : ℕ). DivergesAt (ls ++ x ∷ more) n t.head x.prev) (sym is.version_is)
     (record {
-      chain = subst IsChain (sym (before ls more x)) is.chain;
+      breaks = breaks_behind ls more x is.chain (λ longer. differ (last_follows None ls x longer.follow ∙ sym is.head_is));
       have_is = is.head_is ∙ ap (last_or None) (sym (before ls more x));
       found_is = ap (option_map prev_of) (behind ls more x);
       differ = differ;
     })
 
-pub repeats : (ls more : List Link) (x : Link) (t : ChainTest) (version : ℕ) → IsTested ls t → x.prev ≡ t.head → version_from 0 x.id.0 ls ≡ Some version → RepeatsAt (ls ++ x ∷ more) x.id version
+pub repeats : (ls more : List Link) (x : Link) (t : ChainTest) (version : ℕ) → IsTested ls t → x.prev ≡ t.head → version_in ls x.id ≡ Some version → RepeatsAt (ls ++ x ∷ more) x.id version
 repeats ls more x t version is same found = record {
   taken = length ls;
-  chain = subst IsChain (sym (before ls more x)) is.chain;
+  breaks = breaks_behind ls more x is.chain (λ longer. none-some version (sym (new_behind ls x longer.differ) ∙ found));
   follows = ap (option_map prev_of) (behind ls more x) ∙ ap Some (same ∙ is.head_is ∙ ap (last_or None) (sym (before ls more x)));
   id_is = ap (option_map id_of) (behind ls more x);
-  version_is = repeats_at version x.id (take (length ls) (ls ++ x ∷ more)) (ap (version_from 0 x.id.0) (before ls more x) ∙ found);
+  version_is = ap (λ (front : List Link). version_in front x.id) (before ls more x) ∙ found;
 }
 
-pub follows : (ls : List Link) (x : Link) (t : ChainTest) → IsTested ls t → x.prev ≡ t.head → version_from 0 x.id.0 ls ≡ None → IsChain (ls ++ x ∷ [])
+pub follows : (ls : List Link) (x : Link) (t : ChainTest) → IsTested ls t → x.prev ≡ t.head → version_in ls x.id ≡ None → IsChain (ls ++ x ∷ [])
 follows ls x t is same absent = chain-push ls x is.chain (same ∙ is.head_is) absent
 
 -- ---- numbers as keys of a map
@@ -76,30 +85,13 @@ same_test a b = tested (ltb a b) (eqb a b) (apart_from a b)
 
 -- ---- one patch more
 
-abbrev numbers : List Link → List Id
-numbers ls = map id_of ls
-
-last_has : (P : Id → Type 0) (ls : List Link) (x : Link) → AllByRecursion P (numbers (ls ++ x ∷ [])) → P x.id
-last_has P [] x all = all.0
-last_has P (l ∷ ls) x all = last_has P ls x all.1
-
-no_version : (n : ℕ) (ls : List Link) (x : Link) → AllDiffer (numbers (ls ++ x ∷ [])) → version_from n x.id.0 ls ≡ None
-no_version n [] x d = refl
-no_version n (l ∷ ls) x d =
-    let apart : x.id ≡ l.id → ⊥ = last_has (λ j. j ≡ l.id → ⊥) ls x d.0 in
-    elim (eqb l.id.0 x.id.0) as (λ b. eqb l.id.0 x.id.0 ≡ b → cond b (Some (n + 1)) (version_from (n + 1) x.id.0 ls) ≡ None) [
-      | true ↦ λ t. absurd (apart (ap (λ (q : ℕ). let i : Id = record { 0 = q } in i) (sym (eqb-true _ _ t))))
-      | false ↦ λ t. no_version (n + 1) ls x d.1
-    ] refl
-
 pub tested_more : (ls : List Link) (x : Link) (old new : ChainTest) → IsTested ls old → IsChain (ls ++ x ∷ []) → new.version ≡ old.version + 1 → new.head ≡ Some x.id
     → ((q : ℕ) → get nat_cmp new.versions q ≡ cond (is_eq (nat_cmp x.id.0 q)) (Some (old.version + 1)) (get nat_cmp old.versions q)) → IsTested (ls ++ x ∷ []) new
-tested_more ls x old new is chain version head updates =
-    let absent : version_from 0 x.id.0 ls ≡ None = no_version 0 ls x chain.differ in record {
-      chain = chain;
-      version_is = version ∙ ap (λ (n : ℕ). n + 1) is.version_is ∙ sym (length-append ls (x ∷ []));
-      head_is = head ∙ sym (last_or-push None ls x);
-      versions_are = λ q.
-          version_more q ls x (get nat_cmp old.versions q) (get nat_cmp new.versions q) (is_eq (nat_cmp x.id.0 q)) (same_test x.id.0 q) (is.versions_are q) absent
-          (updates q ∙ ap (λ (n : ℕ). cond (is_eq (nat_cmp x.id.0 q)) (Some (n + 1)) (get nat_cmp old.versions q)) is.version_is);
-    }
+tested_more ls x old new is chain version head updates = record {
+  chain = chain;
+  version_is = version ∙ ap (λ (n : ℕ). n + 1) is.version_is ∙ sym (length-append ls (x ∷ []));
+  head_is = head ∙ sym (last_or-push None ls x);
+  versions_are = λ id.
+      version_more id ls x (get nat_cmp old.versions id.0) (get nat_cmp new.versions id.0) (is_eq (nat_cmp x.id.0 id.0)) (same_test x.id.0 id.0) (is.versions_are id) (new_behind ls x chain.differ)
+      (updates id.0 ∙ ap (λ (n : ℕ). cond (is_eq (nat_cmp x.id.0 id.0)) (Some (n + 1)) (get nat_cmp old.versions id.0)) is.version_is);
+}

@@ -26,7 +26,8 @@ version_named patches (Some id) = version_of patches id
 abbrev pub decision_on_new : List Patch → Patch → LogLimits → Decision
 decision_on_new patches patch limits =
     let longer = journal_length (patches ++ patch ∷ []) in
-    if not (same_id patch.prev (last_id patches)) then Conflict (length patches) (last_id patches) (version_named patches patch.prev)
+    if not (same_id patch.prev (last_id patches))
+    then Conflict (length patches) (last_id patches) (version_named patches patch.prev)
     else (if length patches == limits.patches then Full Patches (length patches) limits.patches
     else (if nat_lt limits.bytes longer then Full Bytes longer limits.bytes
     else Accept (length patches + 1)))
@@ -34,7 +35,8 @@ decision_on_new patches patch limits =
 -- of a patch whose id is that of this version, if it is one of the chain's
 abbrev pub decision_on : Option ℕ → List Patch → Patch → LogLimits → Decision
 decision_on None patches patch limits = decision_on_new patches patch limits
-decision_on (Some version) patches patch limits = Known version (has_text (patch_at patches version) patch.text)
+decision_on (Some version) patches patch limits =
+    Known version (has_text (patch_at patches version) patch.text)
 
 unfoldable pub decision : List Patch → Patch → LogLimits → Decision
 decision patches patch limits = decision_on (version_of patches patch.id) patches patch limits

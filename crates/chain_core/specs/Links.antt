@@ -1,6 +1,7 @@
 -- What makes patches a chain.
-use Rattle.std.specs.Prelude.{◌≡◌, ◌≢◌, List, [], ◌∷◌, Option, None, Some, map}
+use Rattle.std.specs.Prelude.{◌≡◌, ◌≢◌, ℕ, ◌+◌, ◌==◌, List, [], ◌∷◌, Option, None, Some, map, if◌then◌else◌}
 use Rattle.std.specs.List.{AllByRecursion}
+use Rattle.std.specs.Option.{option_map}
 use Rattle.delta_base.specs.declared.id.Id.{Id}
 use Rattle.chain_core.specs.declared.link.Link.{Link}
 
@@ -18,3 +19,14 @@ AllDiffer (i ∷ is) = AllByRecursion (λ j. j ≢ i) is × AllDiffer is
 pub record IsChain (ls : List Link) : Type 0 where
   pub follow : Follow None ls
   pub differ : AllDiffer (map (λ l. l.id) ls)
+
+-- the id of the last one, or else the head
+abbrev pub last_or : Option Id → List Link → Option Id
+last_or head [] = head
+last_or head (l ∷ ls) = last_or (Some l.id) ls
+
+-- the version of the one with this id, counted from 1
+abbrev pub version_in : List Link → Id → Option ℕ
+version_in [] id = None
+version_in (l ∷ ls) id =
+    if l.id.0 == id.0 then Some 1 else option_map (λ version. version + 1) (version_in ls id)

@@ -1,10 +1,11 @@
 -- The patches of a chain, without who brought them.
-use Rattle.std.specs.Prelude.{ℕ, zero, suc, ◌+◌, ◌-◌, ◌==◌, List, [], ◌∷◌, map, length, slice_get, sum_by, Option, Some, None, if◌then◌else◌}
-use Rattle.std.specs.Option.{option_map}
+use Rattle.std.specs.Prelude.{ℕ, zero, suc, List, map, slice_get, Option, Some, None}
 use Rattle.delta_base.specs.declared.id.Id.{Id}
+use Rattle.delta_base.specs.Journals.{journal_length as payloads_length}
 use Rattle.chain_core.specs.declared.chain.Patch.{Patch}
 use Rattle.chain_core.specs.declared.chain.Entry.{Entry}
 use Rattle.chain_core.specs.declared.link.Link.{Link}
+use Rattle.chain_core.specs.Links.{last_or, version_in}
 
 abbrev pub patch_of : Entry → Patch
 patch_of entry = entry.patch
@@ -20,8 +21,7 @@ texts_of patches = map (λ patch. patch.text) patches
 
 -- the version of the patch with this id, counted from 1
 abbrev pub version_of : List Patch → Id → Option ℕ
-version_of [] id = None
-version_of (patch ∷ patches) id = if patch.id.0 == id.0 then Some 1 else option_map (λ version. version + 1) (version_of patches id)
+version_of patches id = version_in (links_of patches) id
 
 -- what stands at a version, counted from 1
 abbrev pub at_version : {T : Type 0} → List T → ℕ → Option T
@@ -39,8 +39,8 @@ patch_named patches (Some version) = patch_at patches version
 
 -- the id of the last patch
 abbrev pub last_id : List Patch → Option Id
-last_id patches = option_map (λ patch. patch.id) (slice_get patches (length patches - 1))
+last_id patches = last_or None (links_of patches)
 
 -- the length of a journal that holds the patches
 abbrev pub journal_length : List Patch → ℕ
-journal_length patches = 9 + sum_by (λ patch. 5 + length patch.text) patches
+journal_length patches = payloads_length (texts_of patches)

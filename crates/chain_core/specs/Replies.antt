@@ -30,6 +30,7 @@ fetched None count = missing count
 abbrev pub reply_of : LogLimits → LogCall → List Patch → LogReply
 reply_of limits (append patch) chain = answered (answer_of (decision chain patch limits))
 reply_of limits (fetch_version place) chain = fetched (patch_at chain place) (length chain)
-reply_of limits (fetch_id id) chain = fetched (patch_named chain (version_of chain id)) (length chain)
+reply_of limits (fetch_id id) chain =
+    fetched (patch_named chain (version_of chain id)) (length chain)
 reply_of limits describe chain = described (length chain) (last_id chain)
 reply_of limits version chain = counted (length chain)

@@ -31,24 +31,31 @@ done chain patch = (up (chain ++ patch ∷ []) None, Some (Accepted (length chai
 abbrev pub accepted_by : Fate → List Patch → Option Patch → Patch → Outcome
 accepted_by Done chain doubt patch = done chain patch
 accepted_by (Fails Settling) chain None patch = done chain patch
-accepted_by (Fails Settling) chain (Some doubtful) patch = (up chain (Some doubtful), Some DiskFault)
+accepted_by (Fails Settling) chain (Some doubtful) patch =
+    (up chain (Some doubtful), Some DiskFault)
 accepted_by (Fails Body) chain doubt patch = (up chain None, Some DiskFault)
 accepted_by (Fails Gate) chain doubt patch = (up chain (Some patch), Some DiskFault)
 accepted_by (Stops Settling opened) chain None patch = done chain patch
-accepted_by (Stops Settling opened) chain (Some doubtful) patch = (down (if opened then chain ++ doubtful ∷ [] else chain), None)
+accepted_by (Stops Settling opened) chain (Some doubtful) patch =
+    (down (if opened then chain ++ doubtful ∷ [] else chain), None)
 accepted_by (Stops Body opened) chain doubt patch = (down chain, None)
-accepted_by (Stops Gate opened) chain doubt patch = (down (if opened then chain ++ patch ∷ [] else chain), None)
+accepted_by (Stops Gate opened) chain doubt patch =
+    (down (if opened then chain ++ patch ∷ [] else chain), None)
 
 -- an append of which this was decided
 abbrev pub decided_by : Decision → Fate → List Patch → Option Patch → Patch → Outcome
 decided_by (Accept version) fate chain doubt patch = accepted_by fate chain doubt patch
-decided_by (Known version same) fate chain doubt patch = (up chain doubt, Some (IsKnown version same))
-decided_by (Conflict version head prev_version) fate chain doubt patch = (up chain doubt, Some (IsConflict version head prev_version))
-decided_by (Full what have limit) fate chain doubt patch = (up chain doubt, Some (IsFull what have limit))
+decided_by (Known version same) fate chain doubt patch =
+    (up chain doubt, Some (IsKnown version same))
+decided_by (Conflict version head prev_version) fate chain doubt patch =
+    (up chain doubt, Some (IsConflict version head prev_version))
+decided_by (Full what have limit) fate chain doubt patch =
+    (up chain doubt, Some (IsFull what have limit))
 
 -- a stay that appends; a log that is down stays so
 abbrev pub stay : LogLimits → LogPoint → Patch → Fate → Outcome
-stay limits (up chain doubt) patch fate = decided_by (decision chain patch limits) fate chain doubt patch
+stay limits (up chain doubt) patch fate =
+    decided_by (decision chain patch limits) fate chain doubt patch
 stay limits (down chain) patch fate = (down chain, None)
 
 abbrev pub Stay : LogLimits → LogPoint → Patch → Fate → LogPoint → LogAnswer → Type 0

@@ -5,19 +5,20 @@ ghost use Rattle.chain_core.specs.Patches.{patches_of, version_of};
 ghost use Rattle.chain_core.specs.Decision.{decision, version_named};
 
 use crate::answer::Decision;
-use crate::chain::{Chain, Patch};
+use crate::chain::Chain;
 use crate::link::Link;
-use delta_base::{FullKind, Id, LogLimits};
+use crate::lookup::Lookup;
+use delta_base::{FullKind, Id, LogLimits, PAYLOAD_FRAME};
 
-/// Where a chain has a patch's id, and the version that the patch names as the one before it.
-#[derive(Clone, Copy, Debug, PartialEq, Eq)]
-pub struct Places {
-    pub known: Option<u32>,
-    pub named: Option<u32>,
+// Where a chain has a patch's id, and the version that the patch names as the one before it.
+#[derive(Clone, Copy)]
+struct Places {
+    known: Option<u32>,
+    named: Option<u32>,
 }
 
-/// What the chain makes of a patch whose places were found.
-pub fn decide_found(
+// What the chain makes of a patch whose places were found.
+fn decide_found(
     chain: &Chain,
     limits: &LogLimits,
     link: Link,
@@ -54,7 +55,7 @@ pub fn decide_found(
             limit: u64::from(limits.patches),
         };
     }
-    let have = chain.journal_length() + 5 + text.len() as u64;
+    let have = chain.journal_length() + PAYLOAD_FRAME + text.len() as u64;
     if have > limits.bytes {
         return Decision::Full {
             what: FullKind::Bytes,
@@ -68,8 +69,8 @@ pub fn decide_found(
 }
 
 // The version that a patch names as the one before it.
-fn named_by(chain: &Chain, prev: Option<Id>) -> Option<u32>
-    ensures { result ≡ version_named (patches_of chain.now.items) prev }
+fn named_by<L: Lookup>(chain: &L, prev: Option<Id>) -> Option<u32>
+    ensures { result ≡ version_named (patches_of (L.entries chain.now)) prev }
 {
     match prev {
         None => Some(0),
@@ -77,19 +78,16 @@ fn named_by(chain: &Chain, prev: Option<Id>) -> Option<u32>
     }
 }
 
-/// What the chain makes of the patch.
-pub fn decide(chain: &Chain, patch: &Patch, limits: &LogLimits) -> Decision
-    requires text { length patch.now.text ≤ PATCH_LIMIT }
-    requires few { length chain.now.items ≤ limits.now.patches }
-    ensures { result ≡ decision (patches_of chain.now.items) patch.now limits.now }
+/// What a chain makes of the patch with this link and text.
+pub fn decide<L: Lookup>(chain: &L, limits: &LogLimits, link: Link, text: &[u8]) -> Decision
+    requires text { length text.now ≤ PATCH_LIMIT }
+    requires few { length (L.entries chain.now) ≤ limits.now.patches }
+    ensures { result ≡ decision (patches_of (L.entries chain.now))
+        (record { id = link.id; prev = link.prev; text = text.now }) limits.now }
 {
-    let link = Link {
-        id: patch.id,
-        prev: patch.prev,
-    };
     let places = Places {
-        known: chain.version_of(patch.id),
-        named: named_by(chain, patch.prev),
+        known: chain.version_of(link.id),
+        named: named_by(chain, link.prev),
     };
-    decide_found(chain, limits, link, patch.text.as_slice(), places)
+    decide_found(chain.chain(), limits, link, text, places)
 }

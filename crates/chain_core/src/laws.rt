@@ -18,14 +18,15 @@ pub fn chains_have_no_fault()
 
 /// Patches have one fault at most.
 pub fn patches_have_one_fault()
-    ensures { (links : List Link) (fault other : ChainFault) → Breaks links fault → Breaks links other
-        → fault ≡ other }
+    ensures { (links : List Link) (fault other : ChainFault)
+        → Breaks links fault → Breaks links other → fault ≡ other }
 {}
 
 /// Whatever an append comes to, the chain and what the disk may hold stay logs.
 pub fn stays_keep_logs()
-    ensures { (limits : LogLimits) (point : LogPoint) (patch : Patch) (fate : Fate) → IsPoint limits point
-        → length patch.text ≤ PATCH_LIMIT → IsPoint limits (stay limits point patch fate).0 }
+    ensures { (limits : LogLimits) (point : LogPoint) (patch : Patch) (fate : Fate)
+        → IsPoint limits point → length patch.text ≤ PATCH_LIMIT
+        → IsPoint limits (stay limits point patch fate).0 }
 {}
 
 /// So do they over stops and openings.

@@ -7,12 +7,14 @@ mod deciding;
 mod fate;
 mod laws;
 mod link;
+mod lookup;
 mod testing;
 
 pub use answer::{Decision, LogAnswer};
 pub use chain::{Chain, Entry, Patch};
-pub use deciding::{Places, decide, decide_found};
+pub use deciding::decide;
 pub use fate::Fate;
 pub use laws::{chains_have_no_fault, patches_have_one_fault, stays_keep_logs, stops_keep_logs};
 pub use link::Link;
+pub use lookup::Lookup;
 pub use testing::{ChainFault, ChainTest};

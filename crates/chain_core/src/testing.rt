@@ -78,7 +78,8 @@ impl ChainTest {
         ensures ok { OnOk result ((links : List Link) → IsTested links self.old
             → IsChain (links ++ link ∷ []) → IsTested (links ++ link ∷ []) self.new) }
         ensures version { OnOk result (self.new.version ≡ self.old.version + 1) }
-        ensures err { OnErr result ((links : List Link) → IsTested links self.old → IsTested links self.new) }
+        ensures err { OnErr result ((links : List Link)
+            → IsTested links self.old → IsTested links self.new) }
     {
         self.versions.insert(link.id.0, self.version + 1)?;
         self.version += 1;

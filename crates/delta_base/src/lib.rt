@@ -21,8 +21,8 @@ pub use count::CallCount;
 pub use fault::{Failed, OutOfMemory};
 pub use id::{Id, exact_id, id_string, id_text, read_id};
 pub use limits::{
-    FullKind, LOG_BYTES, LOG_LIMITS, LOG_PATCHES, LogLimits, MOST_SLOTS, PATCH_LIMIT,
-    REGISTRY_LIMIT,
+    EMPTY_JOURNAL, FullKind, LOG_BYTES, LOG_LIMITS, LOG_PATCHES, LogLimits, MOST_SLOTS,
+    PATCH_LIMIT, PAYLOAD_FRAME, REGISTRY_LIMIT,
 };
 pub use link::{Link, MemLink, StdLink};
 pub use list::{Back, Calls, Listing};

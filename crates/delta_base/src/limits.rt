@@ -35,3 +35,9 @@ pub const REGISTRY_LIMIT: u64 = 1_048_576;
 
 /// The most slots of a registry, each with a log.
 pub const MOST_SLOTS: u32 = 16;
+
+/// The bytes of a journal without payloads: its header and a gate.
+pub const EMPTY_JOURNAL: u64 = 9;
+
+/// The bytes that a journal has for a payload beside the payload: its length and the gate behind it.
+pub const PAYLOAD_FRAME: u64 = 5;

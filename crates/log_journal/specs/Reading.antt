@@ -1,9 +1,10 @@
 -- What reading a journal's file finds.
 use Rattle.std.specs.Prelude.{◌≡◌, ◌≢◌, ◌⊎◌, ℕ, ◌+◌, ◌^◌, ◌<◌, ◌≤◌, Bool, IsTrue, Result, Ok, Err, List, ◌∷◌, ◌++◌, [], length, drop, Vec}
 use Rattle.std.specs.declared.alloc.Global.{Global}
+use Rattle.delta_base.specs.Journals.{journal_length}
 use Rattle.delta_base.specs.Listed.{Listed}
 use Rattle.delta_base.specs.Outside.{Rose}
-use Rattle.log_journal.specs.File.{front, header, block, Holds, AreSized, BreaksOff, HasNoHeader, HasHeader, Damage, journal_length}
+use Rattle.log_journal.specs.File.{front, header, block, Holds, AreSized, BreaksOff, HasNoHeader, HasHeader, Damage}
 use Rattle.log_journal.specs.declared.fault.JournalFault.{JournalFault}
 use Rattle.log_journal.specs.declared.fault.JournalFault.TheVariants.{Failed, Damaged, WrongNumber, OverLimit, OutOfMemory}
 

@@ -5,6 +5,7 @@ use Rattle.disk_model.specs.declared.disk.Disk.{Ghosts}
 use Rattle.log_journal.specs.File.{Holds}
 use Rattle.log_journal.specs.Journal.{HoldsWithOrWithout}
 use Rattle.log_journal.specs.declared.journal.Journal.{Journal}
+use Rattle.delta_base.specs.declared.limits.TheConstants.{PAYLOAD_FRAME}
 use Rattle.delta_base.specs.declared.phase.Phase.{Phase}
 use Rattle.delta_base.specs.declared.phase.Phase.TheVariants.{Settling, Body, Gate}
 use Rattle.log_journal.specs.StandsFor.{StandsFor, StandsInDoubt}
@@ -41,7 +42,7 @@ failing (Err phase) = Some phase
 
 -- how much longer the journal is
 abbrev pub longer_by : {T : Type 0} → Result T Phase → ℕ → ℕ
-longer_by (Ok done) size = 5 + size
+longer_by (Ok done) size = PAYLOAD_FRAME + size
 longer_by (Err phase) size = 0
 
 -- a payload in doubt is in the file with 1 for each byte that isn't synced, and not in what was synced

@@ -1,9 +1,11 @@
 //! A file of payloads behind gates. A gate is opened only once what stands behind it is on the disk.
 ghost use Rattle.std.specs.Prelude.{◌≡◌, ◌≢◌, None, false, ◌⊎◌, ℕ, ◌+◌, ◌<◌, ◌≤◌, ◌↔◌, ◌++◌, [], ◌∷◌, List, length, IsTrue, not, OnOk, OnErr, IsErrOf, IfOk, IfErr, IsOk, is_ok, if◌then◌else◌};
+ghost use Rattle.delta_base.specs.declared.limits.TheConstants.{EMPTY_JOURNAL, PAYLOAD_FRAME};
+ghost use Rattle.delta_base.specs.Journals.{journal_length};
 ghost use Rattle.delta_base.specs.Outside.{Rose, HasCause};
 ghost use Rattle.disk_model.specs.Past.{reads, synced, ok_syncs, synced_bytes, filled, Keeps};
 ghost use Rattle.disk_model.specs.Calls.{WroteSome};
-ghost use Rattle.log_journal.specs.File.{Holds, file_of, journal_length};
+ghost use Rattle.log_journal.specs.File.{Holds, file_of};
 ghost use Rattle.log_journal.specs.Journal.{HoldsWithOrWithout};
 ghost use Rattle.log_journal.specs.Reading.{Reads, HasFault, CountsReading, ShortReading};
 
@@ -11,7 +13,7 @@ use crate::block::Block;
 use crate::fault::{FormatFault, JournalFault};
 use crate::open::{Payloads, format, read_payloads};
 use crate::synced_writes::write_synced;
-use delta_base::Failed;
+use delta_base::{EMPTY_JOURNAL, Failed, PAYLOAD_FRAME};
 use disk_model::{Disk, Planned};
 use std::alloc::Global;
 
@@ -38,7 +40,7 @@ pub struct Journal<D: Disk> {
     limit: u64,
     settled: bool,
     ghost gate_within: { D.tells → end ≤ length (reads (D.past disk)) },
-    ghost gate_behind: { 9 ≤ end },
+    ghost gate_behind: { EMPTY_JOURNAL ≤ end },
     ghost within_limit: { end ≤ limit },
 }
 
@@ -67,7 +69,7 @@ fn read_journal<D: Disk>(
     ensures few { D.tells
         → IfOk result (λ found. D.read_bytes disk.new ≤ D.read_bytes disk.old + found.0) }
     ensures length { IfOk result (λ found. found.0 ≡ journal_length found.1.items) }
-    ensures within { IfOk result (λ found. (9 ≤ found.0) × (found.0 ≤ limit)) }
+    ensures within { IfOk result (λ found. (EMPTY_JOURNAL ≤ found.0) × (found.0 ≤ limit)) }
     ensures synced { D.tells → OnOk result (D.past disk.new ≡ synced (D.past disk.old)) }
     ensures past { D.tells → (D.past disk.new ≡ D.past disk.old)
         ⊎ (D.past disk.new ≡ synced (D.past disk.old)) }
@@ -153,12 +155,12 @@ impl<D: Disk> Journal<D> {
 
     /// Writes an empty journal into an empty file, and opens it. A refusal hands the disk back.
     pub fn start_on(disk: D, number: u32, limit: u64) -> Result<Journal<D>, StartRefusal<D>>
-        requires { 9 ≤ limit }
+        requires { EMPTY_JOURNAL ≤ limit }
         ensures stands { IfOk result (λ journal. StandsFor journal number []) }
         ensures file { D.tells
             → IfOk result (λ journal. reads (D.past (disk_of journal)) ≡ file_of number []) }
         ensures was_empty { D.tells → OnOk result (reads (D.past disk) ≡ []) }
-        ensures length { IfOk result (λ journal. (length_of journal) ≡ 9) }
+        ensures length { IfOk result (λ journal. (length_of journal) ≡ EMPTY_JOURNAL) }
         ensures limit { IfOk result (λ journal. (limit_of journal) ≡ limit) }
 
         // A file that isn't empty is left as it is.
@@ -171,7 +173,7 @@ impl<D: Disk> Journal<D> {
 
         // After a failure some of its bytes may be written, and nothing more is synced.
         ensures err { D.tells
-            → IfErr result (λ refusal. WroteSome 0 9 (D.past disk) (D.past refusal.disk)) }
+            → IfErr result (λ refusal. WroteSome 0 EMPTY_JOURNAL (D.past disk) (D.past refusal.disk)) }
         ensures cause { IfErr result (λ refusal. refusal.fault ≡ FormatFault.Failed
             → Rose (D.faults disk) (D.faults refusal.disk)) }
         ensures faults { IfOk result (λ journal. D.faults (disk_of journal) ≡ D.faults disk) }
@@ -188,7 +190,7 @@ impl<D: Disk> Journal<D> {
         match format(&mut disk, number) {
             Ok(()) => Ok(Journal {
                 disk,
-                end: 9,
+                end: EMPTY_JOURNAL,
                 limit,
                 settled: true,
             }),
@@ -204,10 +206,10 @@ impl<D: Disk> Journal<D> {
     }
 
     pub fn room_for(&self, payload: u64) -> bool
-        ensures { IsTrue result ↔ ((length_of self.now) + 5 + payload ≤ (limit_of self.now)) }
+        ensures { IsTrue result ↔ ((length_of self.now) + PAYLOAD_FRAME + payload ≤ (limit_of self.now)) }
     {
         let room = self.limit - self.end;
-        room >= 5 && room - 5 >= payload
+        room >= PAYLOAD_FRAME && room - PAYLOAD_FRAME >= payload
     }
 
     pub fn is_settled(&self) -> bool
@@ -275,7 +277,7 @@ impl<D: Disk> Journal<D> {
             (payloads ++ payload_of block.now ∷ []) }
 
         ensures full { IsErrOf result (AppendFault.Full (length_of self.old) (limit_of self.old))
-            ↔ ((limit_of self.old) < (length_of self.old) + 5 + length (payload_of block.now)) }
+            ↔ ((limit_of self.old) < (length_of self.old) + PAYLOAD_FRAME + length (payload_of block.now)) }
         ensures full_shows { (length limit : ℕ) → IsErrOf result (AppendFault.Full length limit)
             → (length ≡ (length_of self.old)) × (limit ≡ (limit_of self.old))
             × (self.new ≡ self.old) }
@@ -288,7 +290,7 @@ impl<D: Disk> Journal<D> {
         ensures long { D.plans → OnOk result
             (D.short (disk_of self.new) ≡ D.short (disk_of self.old)) }
         ensures longer { OnOk result
-            ((length_of self.new) ≡ (length_of self.old) + 5 + length (payload_of block.now)) }
+            ((length_of self.new) ≡ (length_of self.old) + PAYLOAD_FRAME + length (payload_of block.now)) }
         ensures same_length { OnErr result ((length_of self.new) ≡ (length_of self.old)) }
         ensures limit { (limit_of self.new) ≡ (limit_of self.old) }
         ensures mark { D.mark (disk_of self.new) ≡ D.mark (disk_of self.old) }

@@ -1,15 +1,17 @@
 //! Makes and opens journals.
 ghost use Rattle.std.specs.Prelude.{◌≡◌, ◌≢◌, ◌⊎◌, ℕ, ◌+◌, ◌<◌, ◌≤◌, ◌↔◌, ◌++◌, [], ◌∷◌, None, IsTrue, length, IfOk, IfErr, OnOk, OnErr, IsErrOf};
+ghost use Rattle.delta_base.specs.declared.limits.TheConstants.{EMPTY_JOURNAL};
+ghost use Rattle.delta_base.specs.Journals.{journal_length};
 ghost use Rattle.delta_base.specs.Outside.{Rose};
 ghost use Rattle.disk_model.specs.Past.{reads, EveryImage, MayLeave, LeavesOnly};
 ghost use Rattle.disk_model.specs.Calls.{WroteSome};
-ghost use Rattle.log_journal.specs.File.{Holds, header, journal_length};
+ghost use Rattle.log_journal.specs.File.{Holds, header};
 ghost use Rattle.log_journal.specs.Reading.{ReadsPayloads, CountsReading, ShortReading};
 
 use crate::fault::{FormatFault, JournalFault};
 use crate::reading::{read_payload, read_start};
 use crate::synced_writes::write_synced;
-use delta_base::{Bytes, Listing};
+use delta_base::{Bytes, Listing, PAYLOAD_FRAME};
 use disk_model::Disk;
 use std::alloc::Global;
 
@@ -29,7 +31,7 @@ pub fn format<D: Disk>(disk: &mut D, number: u32) -> Result<(), FormatFault>
         → D.past disk.new ≡ D.past disk.old }
 
     // After a failure some of its bytes may be written, and nothing more is synced.
-    ensures err { D.tells → OnErr result (WroteSome 0 9 (D.past disk.old) (D.past disk.new)) }
+    ensures err { D.tells → OnErr result (WroteSome 0 EMPTY_JOURNAL (D.past disk.old) (D.past disk.new)) }
     ensures cause { IsErrOf result FormatFault.Failed
         → Rose (D.faults disk.old) (D.faults disk.new) }
     ensures faults { D.faults disk.old ≤ D.faults disk.new }
@@ -64,7 +66,7 @@ pub fn read_payloads<D: Disk>(
     ensures few { D.tells
         → IfOk result (λ found. D.read_bytes disk.new ≤ D.read_bytes disk.old + found.0) }
     ensures length { IfOk result (λ found. found.0 ≡ journal_length found.1.items) }
-    ensures behind { IfOk result (λ found. 9 ≤ found.0) }
+    ensures behind { IfOk result (λ found. EMPTY_JOURNAL ≤ found.0) }
     ensures past { D.past disk.new ≡ D.past disk.old }
     ensures cause { IsErrOf result JournalFault.Failed
         → Rose (D.faults disk.old) (D.faults disk.new) }
@@ -79,7 +81,7 @@ pub fn read_payloads<D: Disk>(
     let mut payloads = Listing::new(alloc);
     while gate == 1 {
         let (payload, next) = read_payload(alloc, disk, file_length, place)?;
-        place += 5 + payload.len() as u64;
+        place += PAYLOAD_FRAME + payload.len() as u64;
         gate = next;
         payloads.push(Bytes::from_vec(payload))?;
     }

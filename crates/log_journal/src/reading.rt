@@ -1,5 +1,6 @@
 //! Reads a journal's file: the header, and then payload by payload up to a gate that is shut.
 ghost use Rattle.std.specs.Prelude.{◌≡◌, ◌+◌, ◌^◌, ◌<◌, ◌≤◌, ◌↔◌, length, take, drop, IsTrue, not, IfOk, IfErr, IfSome, IfNone, OnOk, IsErrOf, is_some, if◌then◌else◌};
+ghost use Rattle.delta_base.specs.declared.limits.TheConstants.{EMPTY_JOURNAL, PAYLOAD_FRAME};
 ghost use Rattle.delta_base.specs.Outside.{CountsFault, HasCause, Rose};
 ghost use Rattle.disk_model.specs.Past.{reads};
 ghost use Rattle.disk_model.specs.Calls.{KeepsPlan};
@@ -88,7 +89,7 @@ pub fn read_start<D: Disk>(disk: &mut D, file_length: u64, number: u32) -> Resul
     ensures faults { D.faults disk.old ≤ D.faults disk.new }
     ensures counts { CountsReading result (D.faults disk.old) (D.faults disk.new) }
     ensures planned { D.plans → ShortReading result (D.short disk.old) (D.short disk.new) }
-    ensures few { D.tells → OnOk result (D.read_bytes disk.new ≤ D.read_bytes disk.old + 9) }
+    ensures few { D.tells → OnOk result (D.read_bytes disk.new ≤ D.read_bytes disk.old + EMPTY_JOURNAL) }
     ensures mark { D.mark disk.new ≡ D.mark disk.old }
 {
     let mut start = [0u8; 9];
@@ -118,7 +119,8 @@ pub fn read_payload<D: Disk>(
     requires open { D.tells → HasByte (reads (D.past disk.old)) at 1 }
     requires gate_within { at < file_length }
     ensures found { D.tells → ReadsPayload (reads (D.past disk.old)) at result }
-    ensures within { IfOk result (λ found. at + 5 + length found.0.items < file_length) }
+    ensures within { IfOk result (λ found.
+        at + PAYLOAD_FRAME + length found.0.items < file_length) }
     ensures past { D.past disk.new ≡ D.past disk.old }
     ensures cause { IsErrOf result JournalFault.Failed
         → Rose (D.faults disk.old) (D.faults disk.new) }
@@ -126,7 +128,7 @@ pub fn read_payload<D: Disk>(
     ensures counts { CountsReading result (D.faults disk.old) (D.faults disk.new) }
     ensures planned { D.plans → ShortReading result (D.short disk.old) (D.short disk.new) }
     ensures few { D.tells → IfOk result (λ found.
-        D.read_bytes disk.new ≤ D.read_bytes disk.old + 5 + length found.0.items) }
+        D.read_bytes disk.new ≤ D.read_bytes disk.old + PAYLOAD_FRAME + length found.0.items) }
     ensures mark { D.mark disk.new ≡ D.mark disk.old }
 {
     let Some(size) = fetch_size(disk, file_length, at + 1)? else {

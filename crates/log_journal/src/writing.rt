@@ -1,5 +1,6 @@
 //! Writes a payload to a journal that may have to be settled first.
 ghost use Rattle.std.specs.Prelude.{◌≡◌, ℕ, ◌+◌, ◌-◌, ◌≤◌, List, Option, length, Err, IsTrue, not, OnOk, false};
+ghost use Rattle.delta_base.specs.declared.limits.TheConstants.{PAYLOAD_FRAME};
 ghost use Rattle.delta_base.specs.Outside.{HasCause};
 ghost use Rattle.delta_base.specs.Phases.{phase_by_syncs, phase_by_plan};
 ghost use Rattle.disk_model.specs.Past.{ok_syncs};
@@ -14,8 +15,8 @@ use disk_model::Disk;
 
 /// Closes a doubtful gate, if there is one, and appends. Says which phase failed.
 pub fn write<D: Disk>(journal: &mut Journal<D>, block: &Block) -> Result<(), Phase>
-    requires { (length_of journal.old) + 5 + length (payload_of block.now) ≤
-        (limit_of journal.old) }
+    requires { (length_of journal.old) + PAYLOAD_FRAME + length (payload_of block.now)
+        ≤ (limit_of journal.old) }
 
     // A crash at any moment of the call leaves the payloads, with the doubtful one, with the new one, or alone.
     ensures any_moment { (number : ℕ) (payloads : List (List ℕ)) (doubt : Option (List ℕ))

@@ -112,39 +112,14 @@ fn two(alloc: Global) -> Result<Chain, OutOfMemory>
     Ok(chain)
 }
 
-// A patch of this id and text.
-fn patch(alloc: Global, link: Link, text: &[u8]) -> Result<Patch, OutOfMemory>
-    ensures { IfOk result (λ patch. patch.text ≡ text.now) }
-{
-    Ok(Patch {
-        id: link.id,
-        prev: link.prev,
-        text: Bytes::from_slice(alloc, text)?,
-    })
-}
-
 // What is decided of a short text behind a chain, which goes.
-fn decided(
-    alloc: Global,
-    chain: Chain,
-    link: Link,
-    text: &[u8],
-    limits: LogLimits,
-) -> Result<Decision, OutOfMemory>
+fn decided(chain: Chain, link: Link, text: &[u8], limits: LogLimits) -> Decision
     requires text { length text.now ≤ 158 }
     requires few { length chain.items ≤ limits.patches }
 {
-    let patch = match patch(alloc, link, text) {
-        Ok(patch) => patch,
-        Err(fault) => {
-            drop(chain);
-            return Err(fault);
-        }
-    };
-    let found = decide(&chain, &patch, &limits);
+    let found = decide(&chain, &limits, link, text);
     drop(chain);
-    drop(patch);
-    Ok(found)
+    found
 }
 
 fn is(rt: &impl Abort, found: Decision, wanted: Decision) {
@@ -157,13 +132,13 @@ fn the_patch_behind_the_head_is_accepted(rt: HostRuntime) -> Result<(), Fail> {
     let first = Decision::Accept { version: 1 };
     is(
         &rt,
-        decided(alloc, Chain::new(alloc), link(U1, None), P1, LIMITS)?,
+        decided(Chain::new(alloc), link(U1, None), P1, LIMITS),
         first,
     );
     let second = Decision::Accept { version: 2 };
     is(
         &rt,
-        decided(alloc, one(alloc)?, link(U2, Some(U1)), P2, LIMITS)?,
+        decided(one(alloc)?, link(U2, Some(U1)), P2, LIMITS),
         second,
     );
     assert_eq!(rt; LogAnswer::told(second), LogAnswer::Accepted { version: 2 });
@@ -184,18 +159,14 @@ fn a_patch_that_is_there_is_known(rt: HostRuntime) -> Result<(), Fail> {
         version: 1,
         same: true,
     };
-    is(
-        &rt,
-        decided(alloc, two(alloc)?, link(U1, None), P1, LIMITS)?,
-        again,
-    );
+    is(&rt, decided(two(alloc)?, link(U1, None), P1, LIMITS), again);
     let other = Decision::Known {
         version: 2,
         same: false,
     };
     is(
         &rt,
-        decided(alloc, two(alloc)?, link(U2, Some(U9)), P1, LIMITS)?,
+        decided(two(alloc)?, link(U2, Some(U9)), P1, LIMITS),
         other,
     );
     Ok(())
@@ -211,7 +182,7 @@ fn a_patch_behind_another_one_conflicts(rt: HostRuntime) -> Result<(), Fail> {
     };
     is(
         &rt,
-        decided(alloc, two(alloc)?, link(U3, Some(U1)), P2, LIMITS)?,
+        decided(two(alloc)?, link(U3, Some(U1)), P2, LIMITS),
         third,
     );
     let early = Decision::Conflict {
@@ -221,7 +192,7 @@ fn a_patch_behind_another_one_conflicts(rt: HostRuntime) -> Result<(), Fail> {
     };
     is(
         &rt,
-        decided(alloc, Chain::new(alloc), link(U2, Some(U1)), P2, LIMITS)?,
+        decided(Chain::new(alloc), link(U2, Some(U1)), P2, LIMITS),
         early,
     );
     let fresh = Decision::Conflict {
@@ -229,11 +200,7 @@ fn a_patch_behind_another_one_conflicts(rt: HostRuntime) -> Result<(), Fail> {
         head: Some(Id(U1)),
         prev_version: Some(0),
     };
-    is(
-        &rt,
-        decided(alloc, one(alloc)?, link(U9, None), P1, LIMITS)?,
-        fresh,
-    );
+    is(&rt, decided(one(alloc)?, link(U9, None), P1, LIMITS), fresh);
     Ok(())
 }
 
@@ -251,7 +218,7 @@ fn a_log_may_be_full(rt: HostRuntime) -> Result<(), Fail> {
     };
     is(
         &rt,
-        decided(alloc, two(alloc)?, link(U3, Some(U2)), P2, few)?,
+        decided(two(alloc)?, link(U3, Some(U2)), P2, few),
         third,
     );
     let narrow = LogLimits {
@@ -265,7 +232,7 @@ fn a_log_may_be_full(rt: HostRuntime) -> Result<(), Fail> {
     };
     is(
         &rt,
-        decided(alloc, two(alloc)?, link(U3, Some(U2)), P2, narrow)?,
+        decided(two(alloc)?, link(U3, Some(U2)), P2, narrow),
         long,
     );
     Ok(())

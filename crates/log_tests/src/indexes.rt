@@ -2,7 +2,7 @@
 ghost use Rattle.std.specs.Prelude.{◌≡◌, length, IfOk};
 
 use crate::fakes::LIMITS;
-use chain_core::{Decision, Link, Patch};
+use chain_core::{Decision, Link, Lookup, Patch, decide};
 use delta_base::{Bytes, Id};
 use patch_log::IndexedChain;
 use std::alloc::Global;
@@ -58,6 +58,6 @@ fn a_patch_behind_the_first_conflicts(rt: HostRuntime) -> Result<(), Fail> {
         head: Some(Id(2)),
         prev_version: Some(1),
     };
-    assert!(rt; log.decide(&LIMITS, third, b"three") == conflict);
+    assert!(rt; decide(&log, &LIMITS, third, b"three") == conflict);
     Ok(())
 }

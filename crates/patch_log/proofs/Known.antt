@@ -16,12 +16,13 @@ use Rattle.delta_base.specs.declared.id.Id.{Id}
 use Rattle.chain_core.specs.declared.chain.Patch.{Patch}
 use Rattle.chain_core.specs.declared.chain.Entry.{Entry}
 use Rattle.chain_core.specs.Chain.{IsKept}
-use Rattle.chain_core.specs.Patches.{patches_of, version_of}
+use Rattle.chain_core.specs.Patches.{patches_of, links_of, version_of}
 use Rattle.chain_core.proofs.Patches.{patches_of-push}
 use Rattle.chain_core.proofs.Tested.{same_test}
 use Rattle.chain_core.proofs.Versions.{version_of-push}
 use Rattle.patch_log.proofs.Growing.{none_new}
-use Rattle.patch_log.specs.Index.{number_of, get, number_at, IsIndexOf, AreKnown}
+use Rattle.chain_core.specs.Tested.{AreVersions}
+use Rattle.patch_log.specs.Index.{number_of, get, number_at, IsIndexOf}
 
 -- ---- what a version of an id is
 
@@ -86,7 +87,7 @@ module _ (patches : List Patch) where
   all_within (e ∷ es) all = (all.0.1, all_within es all.1)
 
   -- the versions in the order of the map are an index
-  pub index_of : (known : BTreeMap ℕ ℕ) → IsOrdered nat_cmp known → AreKnown known patches → IsIndexOf (values known) patches
+  pub index_of : (known : BTreeMap ℕ ℕ) → IsOrdered nat_cmp known → AreVersions known (links_of patches) → IsIndexOf (values known) patches
   index_of known ordered are =
       let es = known.entries in
       let all : AllByRecursion Stands es = all_places Stands es (λ place key value at.
@@ -106,8 +107,8 @@ module _ (patches : List Patch) where
       }
 
 -- one patch more
-pub known_push : (entries : List Entry) (entry : Entry) (old new : BTreeMap ℕ ℕ) (version : ℕ) → AreKnown old (patches_of entries) → IsKept (entries ++ entry ∷ []) → version ≡ length (patches_of entries) + 1
-    → ((q : ℕ) → value_at nat_cmp new q ≡ cond (is_eq (nat_cmp entry.patch.id.0 q)) (Some version) (value_at nat_cmp old q)) → AreKnown new (patches_of (entries ++ entry ∷ []))
+pub known_push : (entries : List Entry) (entry : Entry) (old new : BTreeMap ℕ ℕ) (version : ℕ) → AreVersions old (links_of (patches_of entries)) → IsKept (entries ++ entry ∷ []) → version ≡ length (patches_of entries) + 1
+    → ((q : ℕ) → value_at nat_cmp new q ≡ cond (is_eq (nat_cmp entry.patch.id.0 q)) (Some version) (value_at nat_cmp old q)) → AreVersions new (links_of (patches_of (entries ++ entry ∷ [])))
 known_push entries entry old new version was kept is sets id =
     sets id.0
     ∙ ap (λ (test : Bool). cond test (Some version) (value_at nat_cmp old id.0)) (same_test entry.patch.id.0 id.0)

@@ -10,13 +10,15 @@ use Rattle.chain_core.specs.declared.link.Link.{Link}
 use Rattle.chain_core.specs.Chain.{IsKept}
 use Rattle.chain_core.specs.Links.{IsChain}
 use Rattle.chain_core.specs.Patches.{patch_of, patches_of, links_of, texts_of, version_of, last_id}
-use Rattle.chain_core.proofs.Fronts.{links-front, links_of-entries}
+use Rattle.chain_core.proofs.Fronts.{links-front}
+use Rattle.chain_core.proofs.Versions.{links_of-entries}
 use Rattle.chain_core.proofs.Patches.{patches_of-push}
 use Rattle.chain_core.proofs.Stays.{links-push}
-use Rattle.log_journal.specs.File.{journal_length as payloads_length}
-use Rattle.patch_log.specs.Log.{IsSound, IsSoundLog, AreChained, BreaksAt}
+use Rattle.delta_base.specs.Journals.{journal_length as payloads_length}
+use Rattle.patch_log.specs.Log.{IsSound, IsSoundLog, AreChained}
+use Rattle.chain_core.specs.Breaks.{BreaksAt}
 use Rattle.patch_log.specs.Opening.{IsNextOf, AreFound}
-use Rattle.patch_log.proofs.Sound.{heads, one_sound, one_list, texts_of-push, sound-push, sound-front, sound_short, same_length, chained-take}
+use Rattle.patch_log.proofs.Sound.{heads, one_sound, one_list, texts_of-push, sound-push, sound-front, sound_short, chained-take}
 
 abbrev brought : Patch → Entry
 brought patch = record { patch = patch; by = 0 }
@@ -48,7 +50,7 @@ has_last (patch ∷ patches) (t ∷ texts) text same =
 
 -- where no patch is next, the texts are no chain
 no_chain : (texts : List (List ℕ)) (text : List ℕ) (most : ℕ) (entries : List Entry) → AreFound texts most entries
-    → ((patch : Patch) → IsNextOf (patches_of entries) text most patch → ⊥) → AreChained (texts ++ text ∷ []) most → ⊥
+    → ((patch : Patch) → IsNextOf (patches_of entries) text most patch → ⊥) → AreChained most (texts ++ text ∷ []) → ⊥
 no_chain texts text most entries found none are =
     let last = has_last are.patches texts text are.texts_are in
     let sound = sound-front last.front last.last (subst (λ (ps : List Patch). AllByRecursion IsSound ps) last.parts are.sound) in
@@ -67,7 +69,7 @@ count_of : (texts : List (List ℕ)) (most : ℕ) (entries : List Entry) → Are
 count_of texts most entries found = ap length (sym found.texts_are) ∙ length-map (patches_of entries) (λ (patch : Patch). patch.text) ∙ length-map entries patch_of
 
 -- what is found is a chain
-chained : (texts : List (List ℕ)) (most : ℕ) (entries : List Entry) → AreFound texts most entries → AreChained texts most
+chained : (texts : List (List ℕ)) (most : ℕ) (entries : List Entry) → AreFound texts most entries → AreChained most texts
 chained texts most entries found = record {
   patches = patches_of entries;
   texts_are = found.texts_are;
@@ -119,15 +121,15 @@ found_none most entries none = subst (λ (es : List Entry). AreFound [] most es)
 
 -- no patch is the next one
 pub breaks_at : (texts : List (List ℕ)) (text : List ℕ) (rest : List (List ℕ)) (most : ℕ) (entries : List Entry) → AreFound texts most entries
-    → ((patch : Patch) → IsNextOf (patches_of entries) text most patch → ⊥) → BreaksAt (texts ++ text ∷ rest) most (length entries + 1)
+    → ((patch : Patch) → IsNextOf (patches_of entries) text most patch → ⊥) → BreaksAt (AreChained most) (texts ++ text ∷ rest) (length entries + 1)
 breaks_at texts text rest most entries found none =
     let count = count_of texts most entries found in
     let here : take (length entries + 1) (texts ++ text ∷ rest) ≡ texts ++ text ∷ [] =
     ap (λ (ts : List (List ℕ)). take (length entries + 1) ts) (sym (append_assoc texts (text ∷ []) rest)) ∙ take_at (texts ++ text ∷ []) rest (length entries + 1) (omega (arith, count, length-append texts (text ∷ []))) in
     record {
       within = omega (arith, count, length-append texts (text ∷ rest));
-      chained_before = λ earlier before. subst (λ (ts : List (List ℕ)). AreChained ts most) (front texts (text ∷ rest) earlier (omega (arith, before, count))) (chained-take texts most earlier (chained texts most entries found));
-      broken = λ whole. no_chain texts text most entries found none (subst (λ (ts : List (List ℕ)). AreChained ts most) here whole);
+      so_before = λ earlier before. subst (λ (ts : List (List ℕ)). AreChained most ts) (front texts (text ∷ rest) earlier (omega (arith, before, count))) (chained-take texts most earlier (chained texts most entries found));
+      broken = λ whole. no_chain texts text most entries found none (subst (λ (ts : List (List ℕ)). AreChained most ts) here whole);
     }
   where
     front : (texts more : List (List ℕ)) (n : ℕ) → n ≤ length texts → take n texts ≡ take n (texts ++ more)
@@ -142,7 +144,7 @@ found_log texts limits entries found fits = record {
   log = record {
     chain = found.chain;
     few = omega (arith, found.few, length-map entries patch_of);
-    room = omega (arith, fits, same_length (patches_of entries), ap payloads_length found.texts_are);
+    room = omega (arith, fits, ap payloads_length found.texts_are);
     short = sound_short (patches_of entries) found.sound;
   };
   sound = found.sound;

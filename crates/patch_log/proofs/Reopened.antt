@@ -2,7 +2,8 @@
 use Rattle.std.proofs.Common.{◌≡◌, ◌⊎◌, inl, inr, ⊎_elim, ℕ, ◌^◌, ◌<◌, List, [], ◌∷◌, ◌++◌, Option, Some, None, refl, sym, ◌∙◌, ap, subst, arith}
 use Rattle.std.specs.List.{AllByRecursion}
 use Rattle.disk_model.specs.Past.{Past, MayLeave}
-use Rattle.log_journal.specs.File.{Holds, journal_length as payloads_length}
+use Rattle.delta_base.specs.Journals.{journal_length as payloads_length}
+use Rattle.log_journal.specs.File.{Holds}
 use Rattle.log_journal.proofs.OneReading.{one_list, one_number, never_both}
 use Rattle.chain_core.specs.declared.chain.Patch.{Patch}
 use Rattle.delta_base.specs.declared.limits.LogLimits.{LogLimits}
@@ -11,8 +12,9 @@ use Rattle.chain_core.specs.Patches.{texts_of}
 use Rattle.patch_log.specs.declared.fault.LogFault.{LogFault}
 use Rattle.patch_log.specs.declared.fault.LogFault.TheVariants.{Failed, Damaged, WrongNumber, OverLimit, OutOfMemory, BrokenChain}
 use Rattle.patch_log.specs.Fault.{HasLogFault}
-use Rattle.patch_log.specs.Log.{IsSound, IsSoundLog, StandsForLog, BreaksAt}
-use Rattle.patch_log.proofs.Sound.{one_list as one_log, same_length, never_breaks, texts_of-push}
+use Rattle.patch_log.specs.Log.{IsSound, IsSoundLog, StandsForLog, AreChained}
+use Rattle.chain_core.specs.Breaks.{BreaksAt}
+use Rattle.patch_log.proofs.Sound.{one_list as one_log, never_breaks, texts_of-push}
 
 -- no fault of a file that holds a log
 pub no_fault : (file : List ℕ) (number : ℕ) (limits : LogLimits) (patches : List Patch) (fault : LogFault) → number < 2 ^ 32 → Holds file number (texts_of patches) → IsSoundLog limits patches → HasLogFault file number limits fault → (fault ≡ Failed) ⊎ (fault ≡ OutOfMemory)
@@ -23,10 +25,10 @@ no_fault file number limits patches (WrongNumber found) fits holds log has = abs
 no_fault file number limits patches (OverLimit size limit) fits holds log has =
     let same : has.0 ≡ texts_of patches = one_list file number has.0 (texts_of patches) has.1 holds in
     let room = log.log.room in
-    absurd (omega (arith, has.2, has.3, room, same_length patches, ap payloads_length same))
+    absurd (omega (arith, has.2, has.3, room, ap payloads_length same))
 no_fault file number limits patches (BrokenChain version) fits holds log has =
     let same : has.0 ≡ texts_of patches = one_list file number has.0 (texts_of patches) has.1 holds in
-    absurd (never_breaks limits patches version log (subst (λ (texts : List (List ℕ)). BreaksAt texts limits.patches version) same has.3))
+    absurd (never_breaks limits patches version log (subst (λ (texts : List (List ℕ)). BreaksAt (AreChained limits.patches) texts version) same has.3))
 
 -- the patches that an image holds
 record HoldsLog (image : List ℕ) (number : ℕ) (limits : LogLimits) (chain : List Patch) (doubt : Option Patch) : Type 0 where

@@ -1,9 +1,7 @@
 -- Logs of patches that their texts are.
-use Rattle.std.proofs.Common.{◌≡◌, ℕ, zero, suc, ◌+◌, ◌≤◌, List, [], ◌∷◌, ◌++◌, length, take, refl, ◌∙◌, ap, subst, arith}
-use Rattle.std.specs.Prelude.{sum_by}
+use Rattle.std.proofs.Common.{◌≡◌, ℕ, zero, suc, ◌≤◌, List, [], ◌∷◌, ◌++◌, length, take, refl, ◌∙◌, ap, subst, arith}
 use Rattle.std.specs.List.{AllByRecursion}
 use Rattle.std.proofs.lemmas.List.{map-append, length-map}
-use Rattle.std.proofs.lemmas.List.Sums.{sum_by-cons}
 use Rattle.delta_base.specs.declared.id.Id.{Id}
 use Rattle.patch_meaning.specs.Patch.{Meaning, IsPatch}
 use Rattle.patch_meaning.proofs.Settled.{one_meaning}
@@ -15,7 +13,8 @@ use Rattle.chain_core.specs.Decision.{decision}
 use Rattle.chain_core.specs.Patches.{texts_of}
 use Rattle.chain_core.proofs.Stays.{goes_on}
 use Rattle.chain_core.proofs.Fronts.{links-take}
-use Rattle.patch_log.specs.Log.{IsSound, IsSoundLog, AreChained, BreaksAt}
+use Rattle.patch_log.specs.Log.{IsSound, IsSoundLog, AreChained}
+use Rattle.chain_core.specs.Breaks.{BreaksAt}
 
 pub texts_of-push : (patches : List Patch) (patch : Patch) → texts_of (patches ++ patch ∷ []) ≡ texts_of patches ++ patch.text ∷ []
 texts_of-push patches patch = map-append (λ (patch : Patch). patch.text) patches (patch ∷ [])
@@ -73,11 +72,6 @@ one_list (p ∷ ps) (q ∷ qs) same one other =
 
 -- ---- lengths
 
--- the length of a journal by its patches and by its payloads
-pub same_length : (patches : List Patch) → sum_by (λ (patch : Patch). 5 + length patch.text) patches ≡ sum_by (λ (payload : List ℕ). 5 + length payload) (texts_of patches)
-same_length [] = refl
-same_length (patch ∷ patches) = omega (arith, sum_by-cons (λ (patch : Patch). 5 + length patch.text) patch patches, sum_by-cons (λ (payload : List ℕ). 5 + length payload) patch.text (texts_of patches), same_length patches)
-
 length-take : (texts : List (List ℕ)) (n : ℕ) → length (take n texts) ≤ length texts
 length-take [] zero = omega arith
 length-take [] (suc n) = omega arith
@@ -92,7 +86,7 @@ texts-take [] (suc n) = refl
 texts-take (patch ∷ patches) zero = refl
 texts-take (patch ∷ patches) (suc n) = ap (λ (ts : List (List ℕ)). patch.text ∷ ts) (texts-take patches n)
 
-pub chained-take : (texts : List (List ℕ)) (most n : ℕ) → AreChained texts most → AreChained (take n texts) most
+pub chained-take : (texts : List (List ℕ)) (most n : ℕ) → AreChained most texts → AreChained most (take n texts)
 chained-take texts most n are = record {
   patches = take n are.patches;
   texts_are = texts-take are.patches n ∙ ap (take n) are.texts_are;
@@ -101,9 +95,9 @@ chained-take texts most n are = record {
   few = omega (arith, are.few, length-take texts n);
 }
 
-pub log_chained : (limits : LogLimits) (patches : List Patch) → IsSoundLog limits patches → AreChained (texts_of patches) limits.patches
+pub log_chained : (limits : LogLimits) (patches : List Patch) → IsSoundLog limits patches → AreChained limits.patches (texts_of patches)
 log_chained limits patches log = record { patches = patches; texts_are = refl; sound = log.sound; chain = log.log.chain; few = omega (arith, log.log.few, length-map patches (λ (patch : Patch). patch.text)) }
 
 -- a log breaks nowhere
-pub never_breaks : (limits : LogLimits) (patches : List Patch) (version : ℕ) → IsSoundLog limits patches → BreaksAt (texts_of patches) limits.patches version → ⊥
+pub never_breaks : (limits : LogLimits) (patches : List Patch) (version : ℕ) → IsSoundLog limits patches → BreaksAt (AreChained limits.patches) (texts_of patches) version → ⊥
 never_breaks limits patches version log breaks = breaks.broken (chained-take (texts_of patches) limits.patches version (log_chained limits patches log))

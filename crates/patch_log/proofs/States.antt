@@ -4,7 +4,7 @@ use Rattle.std.proofs.lemmas.List.{length-map}
 use Rattle.disk_model.specs.declared.disk.Disk.{Ghosts}
 use Rattle.disk_model.specs.Past.{Past, EveryImage, LeavesOnly}
 use Rattle.disk_model.proofs.Moments.{starts}
-use Rattle.log_journal.specs.File.{journal_length as payloads_length}
+use Rattle.delta_base.specs.Journals.{journal_length as payloads_length}
 use Rattle.log_journal.specs.Journal.{HoldsWithOrWithout}
 use Rattle.log_journal.specs.declared.journal.Journal.{Journal}
 use Rattle.log_journal.specs.StandsFor.{StandsFor, StandsInDoubt, Leaves, length_of, limit_of, is_settled, disk_of}
@@ -33,7 +33,7 @@ use Rattle.patch_log.specs.Log.{payload_in, IsSound, IsSoundLog, MayHold, MayHol
 use Rattle.patch_log.specs.Opening.{AreFound}
 use Rattle.patch_log.specs.State.{IsKept}
 use Rattle.patch_log.proofs.Openings.{found_log}
-use Rattle.patch_log.proofs.Sound.{texts_of-push, log-push, same_length}
+use Rattle.patch_log.proofs.Sound.{texts_of-push, log-push}
 
 -- ---- decisions and fates
 
@@ -115,7 +115,7 @@ opened_kept journal number limits payloads entries stands length_is within limit
       stands = subst (λ (texts : List (List ℕ)). StandsFor journal number texts) (sym found.texts_are) stands;
       without = log;
       having = log;
-      length_is = omega (arith, length_is, same_length (patches_of entries), ap payloads_length found.texts_are);
+      length_is = omega (arith, length_is, ap payloads_length found.texts_are);
       limit_is = limit_is;
       countable = countable;
     }

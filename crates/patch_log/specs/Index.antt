@@ -1,8 +1,6 @@
 -- Versions in the order of the ids that a chain has.
 use Rattle.std.specs.Prelude.{◌≡◌, ℕ, ◌<◌, ◌≤◌, List, [], ◌∷◌, length, if◌then◌else◌, ◌==◌, slice_index_or, Option, Some, None}
 use Rattle.std.specs.List.{AllByRecursion}
-use Rattle.std.specs.Ordering.{nat_cmp}
-use Rattle.std.specs.BTreeMap.{BTreeMap, get as value_at}
 use Rattle.delta_base.specs.declared.id.Id.{Id}
 use Rattle.chain_core.specs.declared.chain.Patch.{Patch}
 use Rattle.chain_core.specs.Patches.{patch_at, version_of}
@@ -21,7 +19,8 @@ module _ (number : ℕ → ℕ) where
   -- the first version that has the number
   abbrev pub get : List ℕ → ℕ → Option ℕ
   get [] wanted = None
-  get (version ∷ versions) wanted = if number version == wanted then Some version else get versions wanted
+  get (version ∷ versions) wanted =
+      if number version == wanted then Some version else get versions wanted
 
   -- the number of the version at a place
   abbrev pub number_at : List ℕ → ℕ → ℕ
@@ -29,7 +28,8 @@ module _ (number : ℕ → ℕ) where
 
   -- the numbers rise, so none comes twice
   abbrev pub IsRising : List ℕ → Type 0
-  IsRising versions = (i j : ℕ) → i < j → j < length versions → number_at versions i < number_at versions j
+  IsRising versions =
+      (i j : ℕ) → i < j → j < length versions → number_at versions i < number_at versions j
 
   -- the version at this place has the number
   pub record IsAt (versions : List ℕ) (wanted place : ℕ) : Type 0 where
@@ -47,7 +47,3 @@ pub record IsIndexOf (versions : List ℕ) (patches : List Patch) : Type 0 where
   pub rising : IsRising (number_of patches) versions
   pub finds : (id : Id) → get (number_of patches) versions id.0 ≡ version_of patches id
   pub within : AllByRecursion (λ version. version ≤ length patches) versions
-
--- the versions of these patches by the numbers of their ids
-abbrev pub AreKnown : BTreeMap ℕ ℕ → List Patch → Type 0
-AreKnown known patches = (id : Id) → value_at nat_cmp known id.0 ≡ version_of patches id

@@ -1,5 +1,5 @@
 -- What a log is, and what its disk holds.
-use Rattle.std.specs.Prelude.{◌≡◌, ◌⊎◌, ℕ, ◌<◌, ◌≤◌, List, length, take, Option, Some, None}
+use Rattle.std.specs.Prelude.{◌≡◌, ◌⊎◌, ℕ, ◌≤◌, List, length, Option, Some, None}
 use Rattle.std.specs.List.{AllByRecursion}
 use Rattle.std.specs.Option.{option_map}
 use Rattle.rdf_terms.specs.declared.change.Change.{Change}
@@ -29,7 +29,8 @@ payload_in doubt = option_map (λ patch. patch.text) doubt
 
 -- a patch's id and previous id are those that its text names
 abbrev pub IsSound : Patch → Type 0
-IsSound patch = (changes : List Change) × IsPatch patch.text (record { id = patch.id; prev = patch.prev; changes = changes })
+IsSound patch = (changes : List Change)
+    × IsPatch patch.text (record { id = patch.id; prev = patch.prev; changes = changes })
 
 -- a log each patch of which is the one that its text is
 pub record IsSoundLog (limits : LogLimits) (patches : List Patch) : Type 0 where
@@ -39,7 +40,8 @@ pub record IsSoundLog (limits : LogLimits) (patches : List Patch) : Type 0 where
 -- an image holds the chain, or the chain with the patch in doubt
 abbrev pub MayHold : ℕ → List Patch → Option Patch → List ℕ → Type 0
 MayHold number chain None image = Holds image number (payloads_of chain)
-MayHold number chain (Some doubt) image = HoldsWithOrWithout number (payloads_of chain) doubt.text image
+MayHold number chain (Some doubt) image =
+    HoldsWithOrWithout number (payloads_of chain) doubt.text image
 
 -- a disk stands for a log that runs, with its chain and the patch in doubt
 pub record StandsForLog (past : Past) (number : ℕ) (limits : LogLimits) (chain : List Patch)
@@ -50,25 +52,21 @@ pub record StandsForLog (past : Past) (number : ℕ) (limits : LogLimits) (chain
 
 -- while a patch is added, an image holds the chain, or the chain with the patch in doubt or with the new one
 abbrev pub MayHoldDuring : ℕ → List Patch → Option Patch → Patch → List ℕ → Type 0
-MayHoldDuring number chain None patch image = HoldsWithOrWithout number (payloads_of chain) patch.text image
+MayHoldDuring number chain None patch image =
+    HoldsWithOrWithout number (payloads_of chain) patch.text image
 MayHoldDuring number chain (Some doubt) patch image =
     HoldsWithOrWithout number (payloads_of chain) doubt.text image
     ⊎ HoldsWithOrWithout number (payloads_of chain) patch.text image
 
 -- what was synced is without the patch in doubt, and with 1 for each byte that wasn't synced the file has it
 abbrev pub LeavesEither : Past → ℕ → List Patch → Option Patch → Type 0
-LeavesEither past number chain doubt = JournalLeaves past number (payloads_of chain) (payload_in doubt)
+LeavesEither past number chain doubt =
+    JournalLeaves past number (payloads_of chain) (payload_in doubt)
 
 -- texts are those of a chain of patches, of which there are no more than there may be
-pub record AreChained (texts : List (List ℕ)) (most : ℕ) : Type 0 where
+pub record AreChained (most : ℕ) (texts : List (List ℕ)) : Type 0 where
   pub patches : List Patch
   pub texts_are : texts_of patches ≡ texts
   pub sound : AllByRecursion IsSound patches
   pub chain : IsChain (links_of patches)
   pub few : length texts ≤ most
-
--- the least number of first texts that are no such chain
-pub record BreaksAt (texts : List (List ℕ)) (most version : ℕ) : Type 0 where
-  pub within : version ≤ length texts
-  pub chained_before : (earlier : ℕ) → earlier < version → AreChained (take earlier texts) most
-  pub broken : AreChained (take version texts) most → ⊥

@@ -39,7 +39,8 @@ pub record Appended {D : Type 0} (disks : Ghosts D) (before after : LogView D) (
   pub by_syncs : disks.tells → (version : ℕ)
       → decision (chain_of before) patch before.limits ≡ Accept version → answer ≢ OutOfMemory
       → Stay before.limits (point_of before) patch
-      (fate_by_syncs before.doubt (ok_syncs (disks.past after.disk) - ok_syncs (disks.past before.disk)))
+      (fate_by_syncs before.doubt
+      (ok_syncs (disks.past after.disk) - ok_syncs (disks.past before.disk)))
       (point_of after) answer
   -- where the syncs fail as planned, it is that of the plan
   pub planned : disks.plans → IsTrue (not (disks.short after.disk)) → answer ≢ OutOfMemory
@@ -77,10 +78,12 @@ GrowsBy by before after =
     (more : List Entry) × (after ≡ before ++ more) × AllByRecursion (λ entry. entry.by ≡ by) more
 
 -- appends one after another, with their answers
-abbrev pub Run : {D : Type 0} → Ghosts D → ℕ → LogView D → List Patch → List LogAnswer → LogView D → Type 0
+abbrev pub Run : {D : Type 0} → Ghosts D → ℕ → LogView D → List Patch → List LogAnswer → LogView D
+    → Type 0
 Run disks by before [] [] after = after ≡ before
 Run {D} disks by before (patch ∷ patches) (answer ∷ answers) after =
-    (mid : LogView D) × Appended disks before mid patch by answer × Run disks by mid patches answers after
+    (mid : LogView D) × Appended disks before mid patch by answer
+    × Run disks by mid patches answers after
 Run disks by before [] (answer ∷ answers) after = ⊥
 Run disks by before (patch ∷ patches) [] after = ⊥
 
@@ -88,8 +91,8 @@ Run disks by before (patch ∷ patches) [] after = ⊥
 abbrev pub HoldsInRun : {D : Type 0} → Ghosts D → ℕ → LogView D → List Patch → List ℕ → Type 0
 HoldsInRun {D} disks by before patches image =
     MayLeave (disks.past before.disk) image
-    ⊎ ((done : List Patch) × (patch : Patch) × (behind : List Patch) × (patches ≡ done ++ patch ∷ behind)
-    × (answers : List LogAnswer) × (mid : LogView D) × Run disks by before done answers mid
+    ⊎ ((done : List Patch) × (patch : Patch) × (behind : List Patch)
+    × (patches ≡ done ++ patch ∷ behind) × (answers : List LogAnswer) × (mid : LogView D) × Run disks by before done answers mid
     × MayHoldDuring before.number (chain_of mid) mid.doubt patch image)
 
 -- whether it is a fault of the disk

@@ -1,14 +1,12 @@
 //! A chain whose patches are found by id without a walk along it.
 ghost use Rattle.std.specs.Prelude.{◌≡◌, ◌+◌, ◌<◌, ◌≤◌, [], ◌∷◌, ◌++◌, length, OnOk, OnErr};
-ghost use Rattle.delta_base.specs.declared.limits.TheConstants.{PATCH_LIMIT};
 ghost use Rattle.chain_core.specs.Chain.{IsKept};
-ghost use Rattle.chain_core.specs.Patches.{patches_of, version_of};
-ghost use Rattle.chain_core.specs.Decision.{decision, version_named};
+ghost use Rattle.chain_core.specs.Patches.{patches_of};
 ghost use Rattle.patch_log.specs.Index.{IsIndexOf};
 
 use crate::index::{insert_ready, place_of};
-use chain_core::{Chain, Decision, Link, Patch, Places, decide_found};
-use delta_base::{Id, LogLimits, OutOfMemory};
+use chain_core::{Chain, Lookup, Patch};
+use delta_base::{Id, OutOfMemory};
 use std::alloc::Global;
 use std::marker::Model;
 
@@ -55,46 +53,6 @@ impl IndexedChain {
         IndexedChain { chain, versions }
     }
 
-    pub fn chain(&self) -> &Chain
-        ensures { result.now.items ≡ self.now.items }
-    {
-        &self.chain
-    }
-
-    /// The version of the patch with an id.
-    pub fn version_of(&self, id: Id) -> Option<u32>
-        ensures { result ≡ version_of (patches_of self.now.items) id }
-    {
-        match place_of(&self.chain, &self.versions, id) {
-            Ok(at) => Some(self.versions[at]),
-            Err(_) => None,
-        }
-    }
-
-    // The version that a patch names as the one before it.
-    fn named_by(&self, prev: Option<Id>) -> Option<u32>
-        ensures { result ≡ version_named (patches_of self.now.items) prev }
-    {
-        match prev {
-            None => Some(0),
-            Some(id) => self.version_of(id),
-        }
-    }
-
-    /// What the chain makes of a patch.
-    pub fn decide(&self, limits: &LogLimits, link: Link, text: &[u8]) -> Decision
-        requires text { length text.now ≤ PATCH_LIMIT }
-        requires few { length self.now.items ≤ limits.now.patches }
-        ensures { result ≡ decision (patches_of self.now.items)
-            (record { id = link.id; prev = link.prev; text = text.now }) limits.now }
-    {
-        let places = Places {
-            known: self.version_of(link.id),
-            named: self.named_by(link.prev),
-        };
-        decide_found(self.chain(), limits, link, text, places)
-    }
-
     /// Makes a place ready in the chain and in the index.
     pub fn reserve(&mut self) -> Result<(), OutOfMemory>
         ensures items { self.new.items ≡ self.old.items }
@@ -123,5 +81,21 @@ impl IndexedChain {
             Err(at) => insert_ready(&mut self.versions, at, version),
         }
         self.chain.push(patch, by);
+    }
+}
+
+impl Lookup for IndexedChain {
+    ghost entries = { λ chain. chain.items };
+
+    fn chain(&self) -> &Chain {
+        &self.chain
+    }
+
+    /// The version of the patch with an id, found by a binary search.
+    fn version_of(&self, id: Id) -> Option<u32> {
+        match place_of(&self.chain, &self.versions, id) {
+            Ok(at) => Some(self.versions[at]),
+            Err(_) => None,
+        }
     }
 }

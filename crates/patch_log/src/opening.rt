@@ -3,7 +3,8 @@ ghost use Rattle.std.specs.Prelude.{◌≡◌, ◌⊎◌, ℕ, ◌+◌, ◌^◌,
 ghost use Rattle.chain_core.specs.declared.chain.Patch.{Patch as PatchRead};
 ghost use Rattle.chain_core.specs.Chain.{IsKept};
 ghost use Rattle.chain_core.specs.Patches.{patches_of, version_of, last_id};
-ghost use Rattle.patch_log.specs.Log.{IsSound, BreaksAt};
+ghost use Rattle.chain_core.specs.Breaks.{BreaksAt};
+ghost use Rattle.patch_log.specs.Log.{IsSound, AreChained};
 ghost use Rattle.patch_log.specs.Opening.{IsNextOf, AreFound};
 
 use crate::fault::LogFault;
@@ -12,7 +13,7 @@ use crate::read_chain::ReadChain;
 use chain_core::{Link, Patch};
 use delta_base::{Bytes, OutOfMemory};
 use log_journal::Payloads;
-use patch_meaning::{PatchFault, check_patch};
+use patch_meaning::{PatchFault, check_link};
 use std::alloc::Global;
 
 /// Why a payload doesn't go behind a chain.
@@ -24,14 +25,13 @@ pub enum NextFault {
 
 // The id and the previous id that a text names, if it is a patch.
 fn read_link(alloc: Global, text: &[u8]) -> Result<Link, NextFault>
-    ensures ok { IfOk result (λ link. IsSound (record { id = link.id; prev = link.prev; text = text.now })) }
-    ensures broken { IsErrOf result NextFault.Broken → (patch : PatchRead) → patch.text ≡ text.now → IsSound patch → ⊥ }
+    ensures ok { IfOk result (λ link.
+        IsSound (record { id = link.id; prev = link.prev; text = text.now })) }
+    ensures broken { IsErrOf result NextFault.Broken
+        → (patch : PatchRead) → patch.text ≡ text.now → IsSound patch → ⊥ }
 {
-    match check_patch(alloc, text) {
-        Ok(checked) => Ok(Link {
-            id: checked.id(),
-            prev: checked.prev(),
-        }),
+    match check_link(alloc, text) {
+        Ok(link) => Ok(link),
         Err(fault) => match fault {
             PatchFault::OutOfMemory => Err(NextFault::OutOfMemory),
             _ => Err(NextFault::Broken),
@@ -41,15 +41,18 @@ fn read_link(alloc: Global, text: &[u8]) -> Result<Link, NextFault>
 
 // Whether it names the last patch, and its id is new.
 fn follows(chain: &ReadChain, link: Link) -> bool
-    ensures { IsTrue result ↔ ((link.prev ≡ last_id (patches_of chain.now.items)) × (version_of (patches_of chain.now.items) link.id ≡ None)) }
+    ensures { IsTrue result ↔ ((link.prev ≡ last_id (patches_of chain.now.items))
+        × (version_of (patches_of chain.now.items) link.id ≡ None)) }
 {
     link.prev == chain.chain().head() && chain.version_of(link.id).is_none()
 }
 
 // The id and the previous id of the patch that a text is, if it goes behind the chain.
 fn next_link(alloc: Global, chain: &ReadChain, text: &[u8], most: u32) -> Result<Link, NextFault>
-    ensures ok { IfOk result (λ link. IsNextOf (patches_of chain.now.items) text.now most (record { id = link.id; prev = link.prev; text = text.now })) }
-    ensures broken { IsErrOf result NextFault.Broken → (patch : PatchRead) → IsNextOf (patches_of chain.now.items) text.now most patch → ⊥ }
+    ensures ok { IfOk result (λ link. IsNextOf (patches_of chain.now.items) text.now most
+        (record { id = link.id; prev = link.prev; text = text.now })) }
+    ensures broken { IsErrOf result NextFault.Broken → (patch : PatchRead)
+        → IsNextOf (patches_of chain.now.items) text.now most patch → ⊥ }
     ensures kept { IsKept chain.now.items }
 {
     if chain.chain().version() >= most {
@@ -64,8 +67,11 @@ fn next_link(alloc: Global, chain: &ReadChain, text: &[u8], most: u32) -> Result
 
 // Adds the patch of a payload.
 fn add_next(alloc: Global, chain: &mut ReadChain, text: Bytes, most: u32) -> Result<(), NextFault>
-    ensures ok { OnOk result ((patch : PatchRead) × IsNextOf (patches_of chain.old.items) text most patch × (chain.new.items ≡ chain.old.items ++ record { patch = patch; by = 0 } ∷ [])) }
-    ensures broken { IsErrOf result NextFault.Broken → (patch : PatchRead) → IsNextOf (patches_of chain.old.items) text most patch → ⊥ }
+    ensures ok { OnOk result ((patch : PatchRead)
+        × IsNextOf (patches_of chain.old.items) text most patch
+        × (chain.new.items ≡ chain.old.items ++ record { patch = patch; by = 0 } ∷ [])) }
+    ensures broken { IsErrOf result NextFault.Broken → (patch : PatchRead)
+        → IsNextOf (patches_of chain.old.items) text most patch → ⊥ }
 {
     let Link { id, prev } = next_link(alloc, chain, text.as_slice(), most)?;
     match chain.add(Patch { id, prev, text }, 0) {
@@ -77,9 +83,11 @@ fn add_next(alloc: Global, chain: &mut ReadChain, text: Bytes, most: u32) -> Res
 /// The chain of the patches that the payloads are.
 pub fn read_log(alloc: Global, payloads: Payloads, most: u32) -> Result<IndexedChain, LogFault>
     ensures ok { IfOk result (λ chain. AreFound payloads.items most chain.items) }
-    ensures broken { (version : ℕ) → IsErrOf result (LogFault.BrokenChain version) → BreaksAt payloads.items most version }
+    ensures broken { (version : ℕ) → IsErrOf result (LogFault.BrokenChain version)
+        → BreaksAt (AreChained most) payloads.items version }
     ensures countable { most < 2 ^ 32 }
-    ensures faults { IfErr result (λ fault. ((version : ℕ) × (fault ≡ LogFault.BrokenChain version)) ⊎ (fault ≡ LogFault.OutOfMemory)) }
+    ensures faults { IfErr result (λ fault.
+        ((version : ℕ) × (fault ≡ LogFault.BrokenChain version)) ⊎ (fault ≡ LogFault.OutOfMemory)) }
 {
     let mut chain = ReadChain::new(alloc);
     for text in payloads.into_vec() {

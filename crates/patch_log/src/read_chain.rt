@@ -22,14 +22,14 @@ pub struct ReadChain {
 impl Model for ReadChain {
     ghost use Rattle.delta_base.specs.Listed.{Listed};
     ghost use Rattle.chain_core.specs.declared.chain.Entry.{Entry};
-    ghost use Rattle.chain_core.specs.Patches.{patches_of};
-    ghost use Rattle.patch_log.specs.Index.{AreKnown};
+    ghost use Rattle.chain_core.specs.Patches.{patches_of, links_of};
+    ghost use Rattle.chain_core.specs.Tested.{AreVersions};
 
     ghost Value = { Listed Entry };
 
     ghost view = { λ c. c.chain };
 
-    ghost invariant = { λ c. AreKnown c.known (patches_of c.chain.items) };
+    ghost invariant = { λ c. AreVersions c.known (links_of (patches_of c.chain.items)) };
 }
 
 impl ReadChain {

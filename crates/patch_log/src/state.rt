@@ -43,7 +43,7 @@ use crate::fault::{LogFault, LogRefusal};
 use crate::indexed::IndexedChain;
 use crate::opening::read_log;
 use crate::ready::Ready;
-use chain_core::{Chain, Decision, Link, LogAnswer, Patch};
+use chain_core::{Chain, Decision, Link, LogAnswer, Lookup, Patch, decide};
 use delta_base::{Id, LogLimits, OutOfMemory, Phase};
 use disk_model::{Disk, Planned};
 use log_journal::{Journal, OpenRefusal, write};
@@ -70,9 +70,17 @@ impl<D: Disk> Model for LogState<D> {
 
     ghost Value = { LogView D };
 
-    ghost view = { λ s. record { entries = s.chain.items; doubt = s.doubt; number = s.number; limits = s.limits; spare = s.chain.spare; disk = disk_of s.journal } };
+    ghost view = { λ s. record {
+      entries = s.chain.items;
+      doubt = s.doubt;
+      number = s.number;
+      limits = s.limits;
+      spare = s.chain.spare;
+      disk = disk_of s.journal;
+    } };
 
-    ghost invariant = { λ s. IsKept s.journal (patches_of s.chain.items) s.doubt s.number s.limits };
+    ghost invariant = { λ s.
+        IsKept s.journal (patches_of s.chain.items) s.doubt s.number s.limits };
 }
 
 impl<D: Disk> LogState<D> {
@@ -87,7 +95,8 @@ impl<D: Disk> LogState<D> {
         ensures payloads { D.tells → IfOk result (λ log.
             Holds (reads (D.past disk)) number (payloads_of (chain_of log))) }
         ensures log { IfOk result (λ log. IsSoundLog limits (chain_of log)) }
-        ensures by_nobody { IfOk result (λ log. AllByRecursion (λ entry. entry.by ≡ 0) log.entries) }
+        ensures by_nobody { IfOk result (λ log.
+            AllByRecursion (λ entry. entry.by ≡ 0) log.entries) }
         ensures settled { IfOk result (λ log.
             (log.doubt ≡ None) × (log.number ≡ number) × (log.limits ≡ limits)) }
         ensures fault { D.tells → IfErr result (λ refusal.
@@ -95,7 +104,8 @@ impl<D: Disk> LogState<D> {
 
         // A crash at any moment leaves what it might have left before, and a read gives what it gave.
         ensures kept { D.tells → IfOk result (λ log. Keeps (D.past disk) (D.past log.disk)) }
-        ensures kept_refused { D.tells → IfErr result (λ refusal. Keeps (D.past disk) (D.past refusal.disk)) }
+        ensures kept_refused { D.tells → IfErr result (λ refusal.
+            Keeps (D.past disk) (D.past refusal.disk)) }
 
         // It reads no more than the journal.
         ensures few { D.tells → IfOk result (λ log.
@@ -185,8 +195,7 @@ impl<D: Disk> LogState<D> {
             id: patch.id(),
             prev: patch.prev(),
         };
-        self.chain
-            .decide(&self.limits, link, patch.text().as_slice())
+        decide(&self.chain, &self.limits, link, patch.text().as_slice())
     }
 
     // What the chain makes of a patch that is ready.
@@ -199,8 +208,7 @@ impl<D: Disk> LogState<D> {
             id: ready.patch.id,
             prev: ready.patch.prev,
         };
-        self.chain
-            .decide(&self.limits, link, ready.patch.text.as_slice())
+        decide(&self.chain, &self.limits, link, ready.patch.text.as_slice())
     }
 
     // Makes a place ready.
@@ -253,8 +261,10 @@ impl<D: Disk> LogState<D> {
             → EveryImage (D.past self.new.disk)
             (λ image. Holds image self.new.number (payloads_of (chain_of self.new))) }
         ensures images { D.plans → D.tells → IsTrue (not (D.short self.new.disk))
-            → LeavesEither (D.past self.old.disk) self.old.number (chain_of self.old) self.old.doubt
-            → LeavesEither (D.past self.new.disk) self.new.number (chain_of self.new) self.new.doubt }
+            → LeavesEither (D.past self.old.disk) self.old.number (chain_of self.old)
+            self.old.doubt
+            → LeavesEither (D.past self.new.disk) self.new.number (chain_of self.new)
+            self.new.doubt }
         ensures cause { result ≡ LogAnswer.DiskFault
             → Rose (D.faults self.old.disk) (D.faults self.new.disk) }
         ensures faults { D.faults self.old.disk ≤ D.faults self.new.disk }

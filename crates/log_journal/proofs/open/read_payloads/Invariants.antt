@@ -1,6 +1,6 @@
 use Rattle.std.proofs.Common.{◌≡◌, ◌+◌, ◌-◌, ◌<◌, ◌≤◌, length}
 use Rattle.disk_model.specs.Past.{reads}
-use Rattle.log_journal.specs.File.{journal_length}
+use Rattle.delta_base.specs.Journals.{journal_length}
 use Rattle.log_journal.specs.Reading.{IsRead, HasByte}
 use Rattle.log_journal.proofs.open.read_payloads.Given as goal
 

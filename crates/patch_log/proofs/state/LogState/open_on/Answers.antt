@@ -1,6 +1,6 @@
 use Rattle.std.proofs.Common.{◌≤◌, ⊎_elim, Err, sym, ◌∙◌, ap, subst, arith}
 use Rattle.disk_model.specs.Past.{reads}
-use Rattle.log_journal.specs.File.{journal_length}
+use Rattle.delta_base.specs.Journals.{journal_length}
 use Rattle.patch_log.specs.declared.fault.LogFault.{LogFault}
 use Rattle.patch_log.specs.Fault.{HasLogFault}
 use Rattle.patch_log.proofs.Openings.{found_log}

@@ -2,7 +2,7 @@ use Rattle.std.proofs.Common.{◌≡◌, ℕ, get_or, ◌∙◌, ap, Some}
 use Rattle.std.proofs.lemmas.List.{get_or_default}
 use Rattle.chain_core.specs.Patches.{patches_of}
 use Rattle.patch_log.proofs.Growing.{found_at, found_none}
-use Rattle.patch_log.proofs.indexed.IndexedChain.version_of.Goals as goal
+use Rattle.patch_log.proofs.indexed.IndexedChainLookup.version_of.Goals as goal
 
 -- the id is at its place, and the version there is the one that was read
 pub returns-in-Ok : goal.returns-in-Ok
