@@ -51,7 +51,7 @@ impl Room {
             };
             return Ok(());
         }
-        write_all(out, &self.bytes.as_slice()[..self.bytes.len() / 2])?;
+        write_all(out, self.bytes.as_slice())?;
         self.bytes.clear();
         write_all(out, text)
     }
