@@ -1,6 +1,6 @@
 //! Short texts together, long ones by themselves, and a sink that fails.
 use delta_base::{Calls, Listing, MemSink, Sink};
-use sink_writing::{PIECE, put, write_all};
+use sink_writing::{PIECE, Room, write_all};
 use std::alloc::{AllocError, Global};
 use std::test::Fail;
 
@@ -12,11 +12,11 @@ fn sink(alloc: Global, failing: &[u64]) -> Result<MemSink, AllocError> {
 #[test]
 fn short_texts_are_written_together(rt: HostRuntime) -> Result<(), Fail> {
     let mut out = sink(rt.alloc(), &[])?;
-    let mut room = Vec::with_capacity(rt.alloc(), PIECE)?;
-    assert!(rt; put(&mut out, &mut room, b"ab"));
-    assert!(rt; put(&mut out, &mut room, b"cd"));
+    let mut room = Room::new(rt.alloc())?;
+    room.put(&mut out, b"ab")?;
+    room.put(&mut out, b"cd")?;
     assert!(rt; out.written().is_empty());
-    assert!(rt; write_all(&mut out, &room));
+    room.write_out(&mut out)?;
     assert_eq!(rt; out.written(), b"abcd".as_slice());
     Ok(())
 }
@@ -24,19 +24,20 @@ fn short_texts_are_written_together(rt: HostRuntime) -> Result<(), Fail> {
 #[test]
 fn a_long_text_drives_the_room_out(rt: HostRuntime) -> Result<(), Fail> {
     let mut out = sink(rt.alloc(), &[])?;
-    let mut room = Vec::with_capacity(rt.alloc(), PIECE)?;
+    let mut room = Room::new(rt.alloc())?;
     let long = vec![in rt.alloc(); b'x'; PIECE]?;
-    assert!(rt; put(&mut out, &mut room, b"ab"));
-    assert!(rt; put(&mut out, &mut room, &long));
+    room.put(&mut out, b"ab")?;
+    room.put(&mut out, &long)?;
     assert_eq!(rt; out.written().len(), PIECE + 2);
-    assert!(rt; room.is_empty());
+    room.write_out(&mut out)?;
+    assert_eq!(rt; out.written().len(), PIECE + 2);
     Ok(())
 }
 
 #[test]
 fn a_sink_that_fails_is_told(rt: HostRuntime) -> Result<(), Fail> {
     let mut out = sink(rt.alloc(), &[0])?;
-    assert!(rt; !write_all(&mut out, b"ab"));
+    assert!(rt; write_all(&mut out, b"ab").is_err());
     assert_eq!(rt; out.faults(), 1);
     Ok(())
 }

@@ -8,6 +8,7 @@ use Rattle.chain_core.specs.declared.testing.ChainFault.TheVariants as chains
 use Rattle.nquads_text.specs.Names.{text_kind_name}
 use Rattle.patch_meaning.specs.Names.{patch_kind_name}
 use Rattle.slot_checks.specs.Lines.{fault_line}
+use Rattle.stream_replay.specs.Source.{stream_limit}
 use Rattle.delta_cli.specs.declared.name.Name.{Name}
 use Rattle.delta_cli.specs.declared.name.Name.TheVariants as names
 use Rattle.delta_cli.specs.declared.refusal.Refusal.{Refusal}
@@ -65,7 +66,7 @@ line_of (refusals.Usage name) = codes "rdfdelta: usage: " ++ (usage_text name ++
 line_of (refusals.Stream line at kind) = place_line line at (patch_kind_name kind)
 line_of (refusals.LongPatch size limit) = limit_line limit
 line_of (refusals.Document line at kind) = place_line line at (text_kind_name kind)
-line_of refusals.TooLong = limit_line 268435456
+line_of refusals.TooLong = limit_line stream_limit
 line_of refusals.InputFailed = codes "rdfdelta: input failed\n"
 line_of refusals.OutputFailed = codes "rdfdelta: output failed\n"
 line_of (refusals.NotEmpty file length) = codes "rdfdelta: refused: file " ++ (decimal file ++ (codes " not empty: " ++ (decimal length ++ 10 ∷ [])))

@@ -43,11 +43,7 @@ fn print_report<K: Sink>(alloc: Global, report: &Report, out: &mut K) -> Result<
     let Ok(text) = report_text(alloc, report) else {
         return Err(Refusal::OutOfMemory);
     };
-    if write_all(out, text.as_slice()) {
-        Ok(())
-    } else {
-        Err(Refusal::OutputFailed)
-    }
+    write_all(out, text.as_slice()).map_err(|_| Refusal::OutputFailed)
 }
 
 fn refusal_of(fault: CheckFault) -> Refusal

@@ -8,7 +8,7 @@ use crate::lines::push_id;
 use crate::refusal::Refusal;
 use crate::replay::refusal_of;
 use delta_base::{Id, OutOfMemory, Sink};
-use sink_writing::{PIECE, put, write_all};
+use sink_writing::{Room, write_all};
 use std::alloc::Global;
 use stream_generator::{GeneratedSource, MOST_BYTES, push_patch};
 use stream_replay::{ReplayFault, replay_source};
@@ -21,7 +21,7 @@ pub fn generate<K: Sink>(alloc: Global, patches: u32, out: &mut K) -> Result<(),
 {
     match count(alloc, patches) {
         Ok(line) => {
-            if write_all(out, line.as_slice()) {
+            if write_all(out, line.as_slice()).is_ok() {
                 Ok(())
             } else {
                 Err(Refusal::OutputFailed)
@@ -72,9 +72,7 @@ pub fn emit<K: Sink>(alloc: Global, patches: u32, out: &mut K) -> Result<(), Ref
     ensures done { OnOk result (Writes (channel (K.written out.old) (K.faults out.old)) (channel (K.written out.new) (K.faults out.new)) (stream_text patches)) }
     ensures stopped { IfErr result (λ refusal. StopsEmitting (stream_text patches) refusal (channel (K.written out.old) (K.faults out.old)) (channel (K.written out.new) (K.faults out.new))) }
 {
-    let Ok(mut room) = Vec::with_capacity(alloc, PIECE) else {
-        return Err(Refusal::OutOfMemory);
-    };
+    let mut room = Room::new(alloc)?;
     let Ok(mut text) = Vec::with_capacity(alloc, MOST_BYTES) else {
         return Err(Refusal::OutOfMemory);
     };
@@ -83,13 +81,9 @@ pub fn emit<K: Sink>(alloc: Global, patches: u32, out: &mut K) -> Result<(), Ref
         let Ok(()) = push_patch(&mut text, made + 1) else {
             unreachable!()
         };
-        if !put(out, &mut room, text.as_slice()) {
+        let Ok(()) = room.put(out, text.as_slice()) else {
             return Err(Refusal::OutputFailed);
-        }
+        };
     }
-    if write_all(out, room.as_slice()) {
-        Ok(())
-    } else {
-        Err(Refusal::OutputFailed)
-    }
+    room.write_out(out).map_err(|_| Refusal::OutputFailed)
 }

@@ -28,9 +28,5 @@ pub fn print<K: Sink>(text: &str, out: &mut K) -> Result<(), Refusal>
     ensures done { OnOk result (Writes (channel (K.written out.old) (K.faults out.old)) (channel (K.written out.new) (K.faults out.new)) text.now) }
     ensures stopped { IfErr result (λ refusal. StopsWriting text.now refusal (channel (K.written out.old) (K.faults out.old)) (channel (K.written out.new) (K.faults out.new))) }
 {
-    if write_all(out, text.as_bytes()) {
-        Ok(())
-    } else {
-        Err(Refusal::OutputFailed)
-    }
+    write_all(out, text.as_bytes()).map_err(|_| Refusal::OutputFailed)
 }

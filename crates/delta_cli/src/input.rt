@@ -5,6 +5,7 @@ ghost use Rattle.delta_base.specs.Outside.{Rose};
 ghost use Rattle.delta_cli.specs.Channels.{IsLonger};
 
 use delta_base::Source;
+use sink_writing::PIECE;
 use std::alloc::{AllocError, Global};
 
 /// Why an input was not read to its end.
@@ -25,9 +26,6 @@ impl From<AllocError> for InputFault {
         InputFault::OutOfMemory
     }
 }
-
-/// How many bytes are read at once.
-const PIECE: usize = 65_536;
 
 /// All that is left, where it has at most `limit` bytes.
 pub fn read_all<S: Source>(

@@ -9,6 +9,7 @@ use chain_core::ChainFault;
 use delta_base::{Id, OutOfMemory, id_text};
 use slot_checks::fault_text;
 use std::alloc::Global;
+use stream_replay::STREAM_LIMIT;
 
 /// The line of a refusal.
 #[tactic(auto, unfolding(crate::specs::Lines::line_of))]
@@ -23,7 +24,7 @@ pub fn line_of(alloc: Global, refusal: Refusal) -> Result<Vec<u8>, OutOfMemory>
         Refusal::Document { line, at, kind } => {
             place_line(alloc, line as u64, at as u64, kind.name().as_bytes())
         }
-        Refusal::TooLong => limit_line(alloc, 268_435_456),
+        Refusal::TooLong => limit_line(alloc, STREAM_LIMIT as u64),
         Refusal::InputFailed => line(alloc, b"rdfdelta: input failed\n"),
         Refusal::OutputFailed => line(alloc, b"rdfdelta: output failed\n"),
         Refusal::NotEmpty { file, length } => not_empty_line(alloc, file, length),

@@ -9,7 +9,7 @@ use crate::input::{InputFault, read_all};
 use crate::refusal::Refusal;
 use delta_base::{Sink, Source};
 use nquads_documents::{DocFault, canonical_lines};
-use sink_writing::{PIECE, write_texts};
+use sink_writing::{Room, write_texts};
 use std::alloc::Global;
 use stream_replay::STREAM_LIMIT;
 
@@ -33,14 +33,8 @@ fn print_texts<K: Sink>(alloc: Global, texts: &[Vec<u8>], out: &mut K) -> Result
     ensures done { OnOk result (Writes (channel (K.written out.old) (K.faults out.old)) (channel (K.written out.new) (K.faults out.new)) (joined texts.now)) }
     ensures stopped { IfErr result (StopsPrinting (joined texts.now) (channel (K.written out.old) (K.faults out.old)) (channel (K.written out.new) (K.faults out.new))) }
 {
-    let Ok(room) = Vec::with_capacity(alloc, PIECE) else {
-        return Err(Refusal::OutOfMemory);
-    };
-    if write_texts(out, texts, room) {
-        Ok(())
-    } else {
-        Err(Refusal::OutputFailed)
-    }
+    let room = Room::new(alloc)?;
+    write_texts(out, texts, room).map_err(|_| Refusal::OutputFailed)
 }
 
 // The canonical lines of the input's document.

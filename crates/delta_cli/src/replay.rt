@@ -6,7 +6,7 @@ ghost use Rattle.delta_cli.specs.Results.{HasLines, Prints, Reads, StopsPrinting
 
 use crate::refusal::Refusal;
 use delta_base::{Sink, Source};
-use sink_writing::PIECE;
+use sink_writing::Room;
 use std::alloc::Global;
 use stream_replay::{Lines, ReplayFault, replay_source, write_lines};
 
@@ -30,14 +30,8 @@ fn print_lines<K: Sink>(alloc: Global, lines: &Lines, out: &mut K) -> Result<(),
     ensures done { OnOk result (Writes (channel (K.written out.old) (K.faults out.old)) (channel (K.written out.new) (K.faults out.new)) (bytes_of lines.now.keys)) }
     ensures stopped { IfErr result (StopsPrinting (bytes_of lines.now.keys) (channel (K.written out.old) (K.faults out.old)) (channel (K.written out.new) (K.faults out.new))) }
 {
-    let Ok(room) = Vec::with_capacity(alloc, PIECE) else {
-        return Err(Refusal::OutOfMemory);
-    };
-    if write_lines(out, lines, room) {
-        Ok(())
-    } else {
-        Err(Refusal::OutputFailed)
-    }
+    let room = Room::new(alloc)?;
+    write_lines(out, lines, room).map_err(|_| Refusal::OutputFailed)
 }
 
 /// How a command ends whose input has no replay.

@@ -3,7 +3,7 @@ use Rattle.std.proofs.Common.{◌≡◌, ℕ, zero, suc, ◌+◌, ◌-◌, ◌<�
 use Rattle.std.proofs.lemmas.List.{drop_more, drop_all, length-drop, drop-drop}
 use Rattle.nquads_text.specs.Fault.{Fault}
 use Rattle.nquads_text.specs.Reading.{char_at}
-use Rattle.nquads_documents.specs.Grammar.{is_end}
+use Rattle.nquads_text.specs.Grammar.{is_line_end}
 use Rattle.nquads_documents.specs.Reading.{comment_at}
 
 comment_skip : (k : ℕ) (rest : List ℕ) → comment_at k rest ≡ comment_at 0 (drop k rest)
@@ -13,20 +13,20 @@ comment_skip (suc k) [] = refl
 comment_skip (suc k) (b ∷ rest) = comment_skip k rest
 
 -- one character of n bytes
-pub comment_char : (rest : List ℕ) (c n : ℕ) (b : ℕ) → 0 < n → n ≤ length rest → get_or rest 0 0 ≡ b → is_end b ≡ false → char_at rest ≡ Ok (c, drop n rest) → comment_at 0 rest ≡ comment_at 0 (drop n rest)
+pub comment_char : (rest : List ℕ) (c n : ℕ) (b : ℕ) → 0 < n → n ≤ length rest → get_or rest 0 0 ≡ b → is_line_end b ≡ false → char_at rest ≡ Ok (c, drop n rest) → comment_at 0 rest ≡ comment_at 0 (drop n rest)
 unfolding comment_at
 comment_char [] c n b pos le first is e = absurd (omega arith)
 comment_char (a ∷ rest) c zero b pos le first is e = absurd (omega arith)
 comment_char (a ∷ rest) c (suc n) b pos le first is e =
     let left : length (drop n rest) ≡ length rest - n = length-drop n rest in
     let k : length rest - length (drop n rest) ≡ n = omega arith in
-    let not_end : is_end a ≡ false = ap is_end first ∙ is in
+    let not_end : is_line_end a ≡ false = ap is_line_end first ∙ is in
     rw (not_end, e, k) (comment_skip n rest)
 
 the_sum : (at next : ℕ) → at < next → next ≡ at + (next - at)
 the_sum at next lt = omega arith
 
-pub comment_more : (text : List ℕ) (at next c : ℕ) → at < next → next ≤ length text → is_end (get_or text at 0) ≡ false → char_at (drop at text) ≡ Ok (c, drop next text)
+pub comment_more : (text : List ℕ) (at next c : ℕ) → at < next → next ≤ length text → is_line_end (get_or text at 0) ≡ false → char_at (drop at text) ≡ Ok (c, drop next text)
     → comment_at 0 (drop next text) ≡ comment_at 0 (drop at text)
 comment_more text at next c lt le is e =
     let left : length (drop at text) ≡ length text - at = length-drop at text in
@@ -38,11 +38,11 @@ pub comment_none : (text : List ℕ) (at : ℕ) → length text ≤ at → comme
 unfolding comment_at
 comment_none text at le = let none : drop at text ≡ [] = drop_all at text le in rw none refl
 
-pub comment_line : (text : List ℕ) (at : ℕ) → at < length text → is_end (get_or text at 0) ≡ true → comment_at 0 (drop at text) ≡ Ok (tt, drop at text)
+pub comment_line : (text : List ℕ) (at : ℕ) → at < length text → is_line_end (get_or text at 0) ≡ true → comment_at 0 (drop at text) ≡ Ok (tt, drop at text)
 unfolding comment_at
 comment_line text at lt is = let here : drop at text ≡ get_or text at 0 ∷ drop (at + 1) text = drop_more text at 0 lt in rw (here, is) refl
 
-pub comment_fault : (text : List ℕ) (at : ℕ) (f : Fault) → at < length text → is_end (get_or text at 0) ≡ false → char_at (drop at text) ≡ Err f → comment_at 0 (drop at text) ≡ Err f
+pub comment_fault : (text : List ℕ) (at : ℕ) (f : Fault) → at < length text → is_line_end (get_or text at 0) ≡ false → char_at (drop at text) ≡ Err f → comment_at 0 (drop at text) ≡ Err f
 unfolding comment_at
 comment_fault text at f lt is e =
     let here : drop at text ≡ get_or text at 0 ∷ drop (at + 1) text = drop_more text at 0 lt in

@@ -11,7 +11,7 @@ use Rattle.nquads_text.specs.Grammar.{StartsWith, Blanks}
 use Rattle.nquads_documents.specs.Grammar.{StatementAt, IsLine, IsDocument}
 use Rattle.nquads_documents.specs.Faults.{CommentFault, LineEndFault, StatementFault, LineFault, FaultBehind, DocumentFault}
 use Rattle.nquads_documents.specs.Laws.{TermsFound, TermsAgain, TermFaultsFound, TermFaultsAgain, DocumentFaultsFound, DocumentFaultsAgain, DocumentOrFault, NeverBoth, FaultsOnce}
-use Rattle.nquads_documents.specs.Grammar.{is_end}
+use Rattle.nquads_text.specs.Grammar.{is_line_end}
 use Rattle.nquads_documents.specs.Reading.{comment_at, comment_part, statement_part, part_by, part_at, with_part, line_end_at, document_at}
 use Rattle.nquads_documents.proofs.BlankLaws.{blanks_found, blanks_again}
 use Rattle.nquads_documents.proofs.DocumentLaws.{behind_end, line_there, line_again, documents_found, documents_again}
@@ -38,7 +38,7 @@ module _ (TermFault : List ℕ → Fault → Type 0) (found : TermsFound) (again
       (λ end. absurd (not_both (None, end.0.1) f end.2))
       (bind_err (comment_at 0 rest) (λ (end : Unit {0} × List ℕ). Ok (None, end.1)) f hash.1))
       (λ word.
-      let starts : not (is_end c || nat_eq c 35) ≡ true = rw (other.0, word.0) refl in
+      let starts : not (is_line_end c || nat_eq c 35) ≡ true = rw (other.0, word.0) refl in
       ⊎_elim
       (λ bad. (c ∷ rest, b, inr (starts, inl (statement_failed TermFault found again failed fails (c ∷ rest) f bad))))
       (λ q.
@@ -48,7 +48,7 @@ module _ (TermFault : List ℕ → Fault → Type 0) (found : TermsFound) (again
       (bind_err (line_end_at q.0.1) (λ (end : Unit {0} × List ℕ). Ok (Some q.0.0, end.1)) f q.2))
       (bind_err (statement_at (c ∷ rest)) (λ (q : Statement × List ℕ). line_end_at q.1 >>= λ (end : Unit {0} × List ℕ). Ok (Some q.0, end.1)) f word.1))
       (chosen (nat_eq c 35) (comment_part rest) (statement_part (c ∷ rest)) (Err f) other.1))
-      (chosen (is_end c) (Ok (None, rest)) (cond (nat_eq c 35) (comment_part rest) (statement_part (c ∷ rest))) (Err f) e)
+      (chosen (is_line_end c) (Ok (None, rest)) (cond (nat_eq c 35) (comment_part rest) (statement_part (c ∷ rest))) (Err f) e)
 
   part_failed : (text : List ℕ) (f : Fault) → part_at text ≡ Err f → LineFault TermFault text f
   unfolding part_at
@@ -59,9 +59,9 @@ module _ (TermFault : List ℕ → Fault → Type 0) (found : TermsFound) (again
   neither false true e = absurd (false≢true e)
   neither false false e = (refl, refl)
 
-  to_statement : (rest : List ℕ) → StartsWith (λ b. not (is_end b || nat_eq b 35)) rest → (0 < length rest) × (part_by rest ≡ statement_part rest)
+  to_statement : (rest : List ℕ) → StartsWith (λ b. not (is_line_end b || nat_eq b 35)) rest → (0 < length rest) × (part_by rest ≡ statement_part rest)
   to_statement [] s = absurd s
-  to_statement (b ∷ rest) s = let n = neither (is_end b) (nat_eq b 35) s in (omega arith, rw (n.0, n.1) refl)
+  to_statement (b ∷ rest) s = let n = neither (is_line_end b) (nat_eq b 35) s in (omega arith, rw (n.0, n.1) refl)
 
   statement_line_fails : (rest : List ℕ) (f : Fault) → StatementFault TermFault rest f ⊎ ((q : Statement) × (after : List ℕ) × StatementAt rest q after × LineEndFault after f) → statement_part rest ≡ Err f
   unfolding statement_part
@@ -98,7 +98,7 @@ module _ (TermFault : List ℕ → Fault → Type 0) (found : TermsFound) (again
   err_with None f = refl
   err_with (Some q) f = refl
 
-  more_lines : (x : Option Statement) (bytes rest : List ℕ) (b : ℕ) (f : Fault) → IsLine bytes x → is_end b ≡ true → DocumentFault TermFault rest f → DocumentFault TermFault (bytes ++ b ∷ rest) f
+  more_lines : (x : Option Statement) (bytes rest : List ℕ) (b : ℕ) (f : Fault) → IsLine bytes x → is_line_end b ≡ true → DocumentFault TermFault rest f → DocumentFault TermFault (bytes ++ b ∷ rest) f
   more_lines x bytes rest b f l e d = (x ∷ d.0, (bytes, rest, b, refl, e, l, d.1))
 
   -- a document of at most n bytes

@@ -9,9 +9,8 @@ use Rattle.nquads_text.specs.Terms.{skip_blanks}
 use Rattle.nquads_text.specs.Statement.{statement_at}
 use Rattle.nquads_text.proofs.Inside.{low_char}
 use Rattle.nquads_text.proofs.Steps.{bind_ok, chosen, ok_is}
-use Rattle.nquads_documents.specs.Grammar.{is_end}
 use Rattle.nquads_documents.specs.Reading.{comment_at, comment_part, statement_part, part_by, part_at, with_part, line_end_at, document_at}
-use Rattle.nquads_text.specs.Grammar.{is_blank, StartsWith, Blanks}
+use Rattle.nquads_text.specs.Grammar.{is_blank, StartsWith, Blanks, is_line_end}
 use Rattle.nquads_documents.specs.Grammar.{StatementAt, IsEmptyLine, IsLine, of_line, AreLines, IsDocument}
 use Rattle.nquads_documents.specs.Laws.{TermsFound, TermsAgain, DocumentsFound, DocumentsAgain, DocumentsOnce, LinesAgain}
 use Rattle.rdf_terms.specs.Line.{line}
@@ -27,7 +26,7 @@ abbrev pub behind_end : List ℕ → Read (List Statement)
 behind_end [] = Ok ([], [])
 behind_end (b ∷ rest) = document_at 0 rest
 
-end_part : (b : ℕ) (rest : List ℕ) → is_end b ≡ true → part_at (b ∷ rest) ≡ Ok (None, rest)
+end_part : (b : ℕ) (rest : List ℕ) → is_line_end b ≡ true → part_at (b ∷ rest) ≡ Ok (None, rest)
 unfolding part_at
 end_part b rest e = ap part_by (skip_again [] (b ∷ rest) refl (no_blank (nat_eq b 10) refl e)) ∙ rw e refl
   where
@@ -97,7 +96,7 @@ module _ (found : TermsFound) (again : TermsAgain) where
       subst (λ (y : Option Statement × List ℕ). PartThere text y.0 y.1) (ok_is (Some q.0.0, end.0.1) x end.2)
       (of_statement text (c ∷ rest) q.0.1 end.0.1 q.0.0 b b.3 (statement_found found again (c ∷ rest) q.0 q.1) (line_end_found q.0.1 end.0.1 end.1)))
       (chosen (nat_eq c 35) (comment_part rest) (statement_part (c ∷ rest)) (Ok x) other.1))
-      (chosen (is_end c) (Ok (None, rest)) (cond (nat_eq c 35) (comment_part rest) (statement_part (c ∷ rest))) (Ok x) e)
+      (chosen (is_line_end c) (Ok (None, rest)) (cond (nat_eq c 35) (comment_part rest) (statement_part (c ∷ rest))) (Ok x) e)
 
   part_there : (text : List ℕ) (x : Option Statement × List ℕ) → part_at text ≡ Ok x → PartThere text x.0 x.1
   unfolding part_at
@@ -137,7 +136,7 @@ module _ (found : TermsFound) (again : TermsAgain) where
       let same = ok_is (q ∷ y.0.0, y.0.1) (quads, []) y.2 in
       (y.0.0, y.1 ∙ ap (λ (p : List Statement × List ℕ). Ok (y.0.0, p.1)) same, ap (λ (p : List Statement × List ℕ). p.0) (sym same))
 
-  more_lines : (x : Option Statement) (bytes rest : List ℕ) (b : ℕ) (quads others : List Statement) → IsLine bytes x → is_end b ≡ true → quads ≡ of_line x ++ others → IsDocument rest others → IsDocument (bytes ++ b ∷ rest) quads
+  more_lines : (x : Option Statement) (bytes rest : List ℕ) (b : ℕ) (quads others : List Statement) → IsLine bytes x → is_line_end b ≡ true → quads ≡ of_line x ++ others → IsDocument rest others → IsDocument (bytes ++ b ∷ rest) quads
   more_lines x bytes rest b quads others l e q d = by d.0 d.1
     where
       by : (lines : List (Option Statement)) → AreLines lines rest others → IsDocument (bytes ++ b ∷ rest) quads
@@ -206,7 +205,7 @@ module _ (found : TermsFound) (again : TermsAgain) where
     pub rest : List ℕ
     pub parts : text ≡ byte ∷ rest
     pub no_blank : is_blank byte ≡ false
-    pub no_end : is_end byte ≡ false
+    pub no_end : is_line_end byte ≡ false
     pub no_hash : nat_eq byte 35 ≡ false
 
   first_of : (text : List ℕ) → Begun text → First text

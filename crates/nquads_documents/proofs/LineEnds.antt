@@ -16,7 +16,7 @@ use Rattle.nquads_text.proofs.Fronts.{char_spelled, char_again}
 use Rattle.nquads_text.proofs.Steps.{bind_ok, chosen, ok_is, not_ok}
 use Rattle.nquads_text.specs.Grammar.{is_blank, StartsWith, Blanks}
 use Rattle.nquads_documents.specs.Grammar.{IsEmptyLine}
-use Rattle.nquads_documents.specs.Grammar.{is_end}
+use Rattle.nquads_text.specs.Grammar.{is_line_end}
 use Rattle.nquads_documents.specs.Reading.{comment_at, no_end_at, end_by, line_end_at}
 use Rattle.nquads_documents.proofs.BlankLaws.{blanks_found, skip_again}
 use Rattle.nquads_documents.proofs.Comments.{comment_char}
@@ -24,21 +24,21 @@ use Rattle.nquads_documents.proofs.Comments.{comment_char}
 -- the text's end, or the line's
 abbrev pub Closes : List ℕ → Type 0
 Closes [] = Unit {0}
-Closes (b ∷ rest) = is_end b ≡ true
+Closes (b ∷ rest) = is_line_end b ≡ true
 
 abbrev pub no_end : ℕ → Bool
-no_end b = not (is_end b)
+no_end b = not (is_line_end b)
 
 -- ---- a character that ends no line has no byte that does
 
-end_is_low : (b : ℕ) → 128 ≤ b → is_end b ≡ false
+end_is_low : (b : ℕ) → 128 ≤ b → is_line_end b ≡ false
 end_is_low b le = rw (ne_eqb b 10 (λ e. omega (arith, e)), ne_eqb b 13 (λ e. omega (arith, e))) refl
 
 high_bytes : (bytes : List ℕ) → ((k : ℕ) → k < length bytes → 128 ≤ get_or bytes k 0) → list_all no_end bytes ≡ true
 high_bytes [] each = refl
 high_bytes (b ∷ bytes) each = rw (end_is_low b (each 0 (omega arith)), high_bytes bytes (λ k lt. each (suc k) (omega arith))) refl
 
-pub char_ends_none : (c : ℕ) → is_end c ≡ false → list_all no_end (encode_utf8 c) ≡ true
+pub char_ends_none : (c : ℕ) → is_line_end c ≡ false → list_all no_end (encode_utf8 c) ≡ true
 char_ends_none c e =
     elim (cases_lt c 128) [
       | inl low ↦ ap (list_all no_end) (encode_ascii c low) ∙ rw e refl
@@ -51,10 +51,10 @@ char_ends_none c e =
     ]
 
 -- the first byte of a character ends a line only where the character does
-pub first_byte : (c b : ℕ) (rest after : List ℕ) → b ∷ rest ≡ encode_utf8 c ++ after → is_end b ≡ false → is_end c ≡ false
+pub first_byte : (c b : ℕ) (rest after : List ℕ) → b ∷ rest ≡ encode_utf8 c ++ after → is_line_end b ≡ false → is_line_end c ≡ false
 first_byte c b rest after parts e =
     elim (cases_lt c 128) [
-      | inl low ↦ ap is_end (sym (byte_from_char (b ∷ rest) after c parts low)) ∙ e
+      | inl low ↦ ap is_line_end (sym (byte_from_char (b ∷ rest) after c parts low)) ∙ e
       | inr high ↦ end_is_low c high
     ]
 
@@ -102,7 +102,7 @@ comment_found zero (b ∷ rest) tail e =
       inside = list_all-append no_end (encode_utf8 c.0.0) later.body ∙ rw (char_ends_none c.0.0 (first_byte c.0.0 b rest c.0.1 spelled.1 inside.0), later.inside) refl;
       closes = later.closes;
     })
-    (chosen (is_end b) (done (b ∷ rest)) (char_at (b ∷ rest) >>= λ c. comment_at (length rest - length c.1) rest) (done tail) e)
+    (chosen (is_line_end b) (done (b ∷ rest)) (char_at (b ∷ rest) >>= λ c. comment_at (length rest - length c.1) rest) (done tail) e)
 
 at_close : (tail : List ℕ) → Closes tail → comment_at 0 tail ≡ done tail
 unfolding comment_at
@@ -121,9 +121,9 @@ one_char c more s all =
     false_of true e = absurd (false≢true e)
     false_of false e = refl
 
-    first : (bytes : List ℕ) → 0 < length bytes → list_all no_end bytes ≡ true → is_end (get_or (bytes ++ more) 0 0) ≡ false
+    first : (bytes : List ℕ) → 0 < length bytes → list_all no_end bytes ≡ true → is_line_end (get_or (bytes ++ more) 0 0) ≡ false
     first [] pos all = absurd (omega arith)
-    first (b ∷ bytes) pos all = false_of (is_end b) (and_parts (no_end b) (list_all no_end bytes) all).0
+    first (b ∷ bytes) pos all = false_of (is_line_end b) (and_parts (no_end b) (list_all no_end bytes) all).0
 
 pub comment_again : (cs tail : List ℕ) → scalars cs ≡ true → list_all no_end (encode_utf8_all cs) ≡ true → Closes tail → comment_at 0 (encode_utf8_all cs ++ tail) ≡ done tail
 comment_again [] tail s all c = at_close tail c
@@ -173,7 +173,7 @@ end_found_by rest (x ∷ more) tail b e =
     commented rest more tail (subst (λ (c : ℕ). Blanks rest (c ∷ more)) is b) (comment_found 0 more tail hash.1))
     (λ bad. absurd (never (x ∷ more) (tt, tail) bad.1))
     (chosen (nat_eq x 35) (comment_at 0 more) (no_end_at (x ∷ more)) (done tail) other.1))
-    (chosen (is_end x) (done (x ∷ more)) (cond (nat_eq x 35) (comment_at 0 more) (no_end_at (x ∷ more))) (done tail) e)
+    (chosen (is_line_end x) (done (x ∷ more)) (cond (nat_eq x 35) (comment_at 0 more) (no_end_at (x ∷ more))) (done tail) e)
 
 pub line_end_found : (rest tail : List ℕ) → line_end_at rest ≡ done tail → Ended rest tail
 unfolding line_end_at

@@ -14,9 +14,8 @@ use Rattle.nquads_text.specs.Reading.{char_at}
 use Rattle.nquads_text.specs.Terms.{skip_blanks}
 use Rattle.nquads_text.proofs.Fronts.{char_spelled, char_again}
 use Rattle.nquads_text.proofs.Steps.{bind_err, chosen, not_both}
-use Rattle.nquads_text.specs.Grammar.{Blanks}
+use Rattle.nquads_text.specs.Grammar.{Blanks, is_line_end}
 use Rattle.nquads_documents.specs.Faults.{IsIllFormed, OtherFault, CommentFault, LineEndFault}
-use Rattle.nquads_documents.specs.Grammar.{is_end}
 use Rattle.nquads_documents.specs.Reading.{comment_at, no_end_at, end_by, line_end_at}
 use Rattle.nquads_documents.proofs.BlankLaws.{blanks_found, blanks_again}
 use Rattle.nquads_documents.proofs.LineEnds.{no_end, char_ends_none, first_byte, some_bytes, one_char}
@@ -30,7 +29,7 @@ fails f = Err f
 ill_none : (b c : ℕ) (rest : List ℕ) → IsIllFormed (b ∷ rest) → b ≡ c → c < 128 → IsScalar c → ⊥
 ill_none b c rest i same low s = i.1 c rest s (ap (λ (k : ℕ). k ∷ rest) same ∙ ap (λ (t : List ℕ). t ++ rest) (sym (encode_ascii c low)))
 
-ill_no_end : (b : ℕ) (rest : List ℕ) → IsIllFormed (b ∷ rest) → is_end b ≡ false
+ill_no_end : (b : ℕ) (rest : List ℕ) → IsIllFormed (b ∷ rest) → is_line_end b ≡ false
 ill_no_end b rest i = by (nat_eq b 10) refl (nat_eq b 13) refl
   where
     by : (s : Bool) → nat_eq b 10 ≡ s → (t : Bool) → nat_eq b 13 ≡ t → (s || t) ≡ false
@@ -81,7 +80,7 @@ comment_failed zero (b ∷ rest) f e =
       later.6,
     ))
     (bind_err (char_at (b ∷ rest)) (λ (c : ℕ × List ℕ). comment_at (length rest - length c.1) rest) f inside.1))
-    (chosen (is_end b) (Ok (tt, b ∷ rest)) (char_at (b ∷ rest) >>= λ c. comment_at (length rest - length c.1) rest) (Err f) e)
+    (chosen (is_line_end b) (Ok (tt, b ∷ rest)) (char_at (b ∷ rest) >>= λ c. comment_at (length rest - length c.1) rest) (Err f) e)
 
 ill_comment : (rest : List ℕ) → IsIllFormed rest → comment_at 0 rest ≡ Err (NotUtf8, rest)
 unfolding comment_at
@@ -102,7 +101,7 @@ comment_fails text f c =
 -- ---- behind a statement's dot
 
 abbrev pub may_end_line : ℕ → Bool
-may_end_line c = is_end c || nat_eq c 35
+may_end_line c = is_line_end c || nat_eq c 35
 
 hash_byte : (c b : ℕ) (rest after : List ℕ) → b ∷ rest ≡ encode_utf8 c ++ after → nat_eq b 35 ≡ false → nat_eq c 35 ≡ false
 hash_byte c b rest after parts e = ne_eqb c 35 (λ same.
@@ -110,7 +109,7 @@ hash_byte c b rest after parts e = ne_eqb c 35 (λ same.
     let first : b ≡ c = byte_from_char (b ∷ rest) after c parts low in
     false≢true (sym e ∙ eq-eqb b 35 (first ∙ same)))
 
-no_end_failed : (b : ℕ) (rest : List ℕ) (f : Fault) → is_end b ≡ false → nat_eq b 35 ≡ false → no_end_at (b ∷ rest) ≡ Err f → OtherFault BadToken may_end_line (b ∷ rest) f
+no_end_failed : (b : ℕ) (rest : List ℕ) (f : Fault) → is_line_end b ≡ false → nat_eq b 35 ≡ false → no_end_at (b ∷ rest) ≡ Err f → OtherFault BadToken may_end_line (b ∷ rest) f
 unfolding no_end_at
 no_end_failed b rest f end hash e =
     ⊎_elim
@@ -131,14 +130,14 @@ end_failed_by text (x ∷ more) f b e =
     (λ hash. (x ∷ more, b, inl (more, ap (λ (k : ℕ). k ∷ more) (eqb-true x 35 hash.0), comment_failed 0 more f hash.1)))
     (λ bad. (x ∷ more, b, inr (λ same. absurd cc, no_end_failed x more f other.0 bad.0 bad.1)))
     (chosen (nat_eq x 35) (comment_at 0 more) (no_end_at (x ∷ more)) (Err f) other.1))
-    (chosen (is_end x) (Ok (tt, x ∷ more)) (cond (nat_eq x 35) (comment_at 0 more) (no_end_at (x ∷ more))) (Err f) e)
+    (chosen (is_line_end x) (Ok (tt, x ∷ more)) (cond (nat_eq x 35) (comment_at 0 more) (no_end_at (x ∷ more))) (Err f) e)
 
 pub line_end_failed : (text : List ℕ) (f : Fault) → line_end_at text ≡ Err f → LineEndFault text f
 unfolding line_end_at
 line_end_failed text f e = end_failed_by text (skip_blanks text) f (blanks_found text) e
 
 -- a byte that is one of these is its character
-end_of_char : (c b : ℕ) (rest after : List ℕ) → b ∷ rest ≡ encode_utf8 c ++ after → may_end_line c ≡ false → (is_end b ≡ false) × (nat_eq b 35 ≡ false)
+end_of_char : (c b : ℕ) (rest after : List ℕ) → b ∷ rest ≡ encode_utf8 c ++ after → may_end_line c ≡ false → (is_line_end b ≡ false) × (nat_eq b 35 ≡ false)
 end_of_char c b rest after parts e = by (nat_eq b 10) refl (nat_eq b 13) refl (nat_eq b 35) refl
   where
     same : (d : ℕ) → b ≡ d → d < 128 → may_end_line d ≡ true → ⊥

@@ -6,7 +6,7 @@ use Rattle.std.proofs.lemmas.Str.{length-encode, len_utf8_bounds}
 use Rattle.rdf_terms.specs.Iri.{has_scheme}
 use Rattle.rdf_terms.specs.Quad.{Statement}
 use Rattle.nquads_text.specs.Fault.{Fault, Read, ◌>>=◌}
-use Rattle.nquads_text.specs.Grammar.{IriPiece, StringPiece}
+use Rattle.nquads_text.specs.Grammar.{IriPiece, StringPiece, is_line_end}
 use Rattle.nquads_text.specs.Reading.{char_at, iri_piece, string_piece, iri_body_at, string_body_at}
 use Rattle.nquads_text.specs.Terms.{name_len, name_at, label_at, tag_at, iri_at, iri_needed, skip_blanks, kind_of, datatype_at, typed_at, suffix_at, literal_at, term_at}
 use Rattle.nquads_text.specs.Statement.{node_at, predicate_at, dot_at, graph_at, statement_at}
@@ -15,7 +15,6 @@ use Rattle.nquads_text.proofs.Inside.{char_taken}
 use Rattle.nquads_text.proofs.Spelled.{body_taken}
 use Rattle.nquads_text.proofs.InString.{reads_iri, reads_string}
 use Rattle.nquads_text.proofs.TagLaws.{tag_found}
-use Rattle.nquads_documents.specs.Grammar.{is_end}
 use Rattle.nquads_documents.specs.Reading.{comment_at, no_end_at, end_by, line_end_at, comment_part, statement_part, part_by, part_at}
 
 abbrev pub Upto : {X : Type 0} → Read X → ℕ → Type 0
@@ -155,7 +154,7 @@ unfolding comment_at
 upto_comment zero [] n le = upto_ok _ n le
 upto_comment (suc k) [] n le = upto_ok _ n le
 upto_comment (suc k) (b ∷ rest) n le = upto_comment k rest n (omega arith)
-upto_comment zero (b ∷ rest) n le = upto_if (is_end b) _ _ n (upto_ok _ n le)
+upto_comment zero (b ∷ rest) n le = upto_if (is_line_end b) _ _ n (upto_ok _ n le)
     (upto_then (char_at (b ∷ rest)) _ n (upto_char (b ∷ rest) n (omega arith)) (λ c a. upto_comment (length rest - length c.1) rest n (omega arith)))
 
 upto_no_end : (rest : List ℕ) (n : ℕ) → length rest ≤ n → Upto (no_end_at rest) n
@@ -164,7 +163,7 @@ upto_no_end rest n le = upto_then (char_at rest) _ n (upto_char rest n (omega ar
 
 upto_end_by : (rest : List ℕ) (n : ℕ) → length rest ≤ n → Upto (end_by rest) n
 upto_end_by [] n le = upto_ok _ n le
-upto_end_by (b ∷ rest) n le = upto_if (is_end b) _ _ n (upto_ok _ n le) (upto_if (nat_eq b 35) _ _ n (upto_comment 0 rest n (omega arith)) (upto_no_end (b ∷ rest) n le))
+upto_end_by (b ∷ rest) n le = upto_if (is_line_end b) _ _ n (upto_ok _ n le) (upto_if (nat_eq b 35) _ _ n (upto_comment 0 rest n (omega arith)) (upto_no_end (b ∷ rest) n le))
 
 upto_line_end : (rest : List ℕ) (n : ℕ) → length rest ≤ n → Upto (line_end_at rest) n
 unfolding line_end_at
@@ -173,7 +172,7 @@ upto_line_end rest n le = upto_end_by (skip_blanks rest) n (upto_blanks rest n l
 upto_part_by : (rest : List ℕ) (n : ℕ) → length rest ≤ suc n → Upto (part_by rest) n
 unfolding comment_part statement_part
 upto_part_by [] n le = upto_ok _ n (omega arith)
-upto_part_by (b ∷ rest) n le = upto_if (is_end b) _ _ n (upto_ok _ n (omega arith))
+upto_part_by (b ∷ rest) n le = upto_if (is_line_end b) _ _ n (upto_ok _ n (omega arith))
     (upto_if (nat_eq b 35) _ _ n
     (upto_then (comment_at 0 rest) _ n (upto_comment 0 rest n (omega arith)) (λ end a. upto_ok _ n a))
     (upto_then (statement_at (b ∷ rest)) _ n (upto_statement (b ∷ rest) n le) (λ q a. upto_then (line_end_at q.1) _ n (upto_line_end q.1 n a) (λ end d. upto_ok _ n d))))

@@ -14,8 +14,7 @@ use Rattle.rdf_terms.specs.Names.{is_name_char, is_name_start, begins_name}
 use Rattle.rdf_terms.specs.Quad.{Statement}
 use Rattle.rdf_terms.specs.Tag.{TagForm, AreWords}
 use Rattle.nquads_text.specs.Terms.{skip_blanks}
-use Rattle.nquads_documents.specs.Grammar.{is_end}
-use Rattle.nquads_text.specs.Grammar.{is_blank, StartsWith, Longest, Blanks, IriRef, BlankNode, HatFollows, Suffix, LiteralAt, TermAt}
+use Rattle.nquads_text.specs.Grammar.{is_blank, StartsWith, Longest, Blanks, IriRef, BlankNode, HatFollows, Suffix, LiteralAt, TermAt, is_line_end}
 use Rattle.nquads_text.proofs.BlankRuns.{hat_behind}
 use Rattle.nquads_documents.specs.Grammar.{GraphAt, StatementAt}
 use Rattle.nquads_documents.proofs.BlankLaws.{blanks_found, blanks_again, starts_more}
@@ -115,7 +114,7 @@ cut_statement text q after tail h =
 
 -- ---- a label has no byte that ends a line
 
-name_no_end : (c : ℕ) → is_name_char c ≡ true → is_end c ≡ false
+name_no_end : (c : ℕ) → is_name_char c ≡ true → is_line_end c ≡ false
 unfolding is_name_char
 name_no_end c e = by (nat_eq c 10) refl (nat_eq c 13) refl
   where
@@ -124,7 +123,7 @@ name_no_end c e = by (nat_eq c 10) refl (nat_eq c 13) refl
     by false p true q = absurd (false≢true (subst (λ (k : ℕ). is_name_char k ≡ true) (eqb-true c 13 q) e))
     by false p false q = refl
 
-begins_no_end : (c : ℕ) → begins_name c ≡ true → is_end c ≡ false
+begins_no_end : (c : ℕ) → begins_name c ≡ true → is_line_end c ≡ false
 unfolding is_name_start
 begins_no_end c e = by (nat_eq c 10) refl (nat_eq c 13) refl
   where
@@ -133,11 +132,11 @@ begins_no_end c e = by (nat_eq c 10) refl (nat_eq c 13) refl
     by false p true q = absurd (false≢true (subst (λ (k : ℕ). begins_name k ≡ true) (eqb-true c 13 q) e))
     by false p false q = refl
 
-inner_no_end : (c : ℕ) → is_inner c ≡ true → is_end c ≡ false
+inner_no_end : (c : ℕ) → is_inner c ≡ true → is_line_end c ≡ false
 inner_no_end c e = by (nat_eq c 46) refl e
   where
-    by : (dot : Bool) → nat_eq c 46 ≡ dot → (dot || is_name_char c) ≡ true → is_end c ≡ false
-    by true p e = ap is_end (eqb-true c 46 p)
+    by : (dot : Bool) → nat_eq c 46 ≡ dot → (dot || is_name_char c) ≡ true → is_line_end c ≡ false
+    by true p e = ap is_line_end (eqb-true c 46 p)
     by false p e = name_no_end c e
 
 chars_no_end : (cs : List ℕ) → AreInner cs → list_all no_end (encode_utf8_all cs) ≡ true
@@ -216,7 +215,7 @@ past_front (x ∷ longer) (y ∷ front) tail rest lt e =
     let p = past_front longer front tail rest (omega arith) tails in
     (p.0, p.1, p.2, λ all. p.3 (and_parts (no_end x) (list_all no_end longer) all).1)
 
-no_close : (b : ℕ) → is_end b ≡ true → no_end b ≡ true → ⊥
+no_close : (b : ℕ) → is_line_end b ≡ true → no_end b ≡ true → ⊥
 no_close b e n = false≢true (sym (ap not e) ∙ n)
 
 -- the longest text of a form that has no line's end is the longest before the tail too

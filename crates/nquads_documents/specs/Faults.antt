@@ -9,8 +9,8 @@ use Rattle.nquads_text.specs.declared.fault.TextKind.{TextKind}
 use Rattle.nquads_text.specs.declared.fault.TextKind.TheVariants.{NotUtf8, BadPosition, MissingDot, BadToken, Truncated}
 use Rattle.nquads_text.specs.Fault.{Fault}
 use Rattle.nquads_text.specs.Faults.{begins_term}
-use Rattle.nquads_text.specs.Grammar.{StartsWith, Blanks, TermAt}
-use Rattle.nquads_documents.specs.Grammar.{is_end, StatementAt, IsLine}
+use Rattle.nquads_text.specs.Grammar.{StartsWith, Blanks, TermAt, is_line_end}
+use Rattle.nquads_documents.specs.Grammar.{StatementAt, IsLine}
 
 -- bytes that begin with no character
 abbrev pub IsIllFormed : List ℕ → Type 0
@@ -32,13 +32,13 @@ DotFault text f = MissingFault MissingDot (λ c. c == 46) text f
 
 -- behind a comment's `#`: characters, and then none before the line's end
 abbrev pub CommentFault : List ℕ → Fault → Type 0
-CommentFault text f = (body rest : List ℕ) × (text ≡ body ++ rest) × IsUtf8 body × IsTrue (list_all (λ b. not (is_end b)) body) × IsIllFormed rest × (f ≡ (NotUtf8, rest))
+CommentFault text f = (body rest : List ℕ) × (text ≡ body ++ rest) × IsUtf8 body × IsTrue (list_all (λ b. not (is_line_end b)) body) × IsIllFormed rest × (f ≡ (NotUtf8, rest))
 
 -- behind a statement's dot: blanks, and then neither the line's end nor a whole comment
 abbrev pub LineEndFault : List ℕ → Fault → Type 0
 LineEndFault text f = (rest : List ℕ) × Blanks text rest
     × (((more : List ℕ) × (rest ≡ 35 ∷ more) × CommentFault more f)
-    ⊎ ((rest ≡ [] → ⊥) × OtherFault BadToken (λ c. is_end c || c == 35) rest f))
+    ⊎ ((rest ≡ [] → ⊥) × OtherFault BadToken (λ c. is_line_end c || c == 35) rest f))
 
 -- ---- statements; TermFault text f says that a term is needed where the text begins, and that f is the first fault there
 module _ (TermFault : List ℕ → Fault → Type 0) where
@@ -82,13 +82,13 @@ module _ (TermFault : List ℕ → Fault → Type 0) where
   abbrev pub LineFault : List ℕ → Fault → Type 0
   LineFault text f = (rest : List ℕ) × Blanks text rest
       × (((more : List ℕ) × (rest ≡ 35 ∷ more) × CommentFault more f)
-      ⊎ (StartsWith (λ b. not (is_end b || b == 35)) rest
+      ⊎ (StartsWith (λ b. not (is_line_end b || b == 35)) rest
       × (StatementFault rest f ⊎ ((q : Statement) × (after : List ℕ) × StatementAt rest q after × LineEndFault after f))))
 
   -- whole lines, one for each item of the list, and then one that isn't
   abbrev pub FaultBehind : List (Option Statement) → List ℕ → Fault → Type 0
   FaultBehind [] text f = LineFault text f
-  FaultBehind (line ∷ lines) text f = (bytes rest : List ℕ) × (close : ℕ) × (text ≡ bytes ++ close ∷ rest) × IsTrue (is_end close) × IsLine bytes line × FaultBehind lines rest f
+  FaultBehind (line ∷ lines) text f = (bytes rest : List ℕ) × (close : ℕ) × (text ≡ bytes ++ close ∷ rest) × IsTrue (is_line_end close) × IsLine bytes line × FaultBehind lines rest f
 
   -- f is the first fault of the document
   abbrev pub DocumentFault : List ℕ → Fault → Type 0

@@ -4,11 +4,7 @@ use Rattle.std.specs.Prelude.{◌≡◌, ℕ, ◌⊎◌, Bool, true, false, List
 use Rattle.std.specs.List.{list_all}
 use Rattle.rdf_terms.specs.declared.term.Term.{Term}
 use Rattle.rdf_terms.specs.Quad.{Statement, is_iri, is_literal}
-use Rattle.nquads_text.specs.Grammar.{is_blank, Blanks, TermAt}
-
--- a line feed or a carriage return
-abbrev pub is_end : ℕ → Bool
-is_end b = b == 10 || b == 13
+use Rattle.nquads_text.specs.Grammar.{is_blank, is_line_end, Blanks, TermAt}
 
 -- ---- statements
 
@@ -27,7 +23,7 @@ StatementAt text q after = (a b c d e f : List ℕ) × TermAt text q.subject a �
 
 -- `#` and characters up to the line's end
 abbrev pub IsComment : List ℕ → Type 0
-IsComment bytes = (body : List ℕ) × (bytes ≡ 35 ∷ body) × IsUtf8 body × IsTrue (list_all (λ b. not (is_end b)) body)
+IsComment bytes = (body : List ℕ) × (bytes ≡ 35 ∷ body) × IsUtf8 body × IsTrue (list_all (λ b. not (is_line_end b)) body)
 
 -- blanks, and a comment or nothing
 abbrev pub IsEmptyLine : List ℕ → Type 0
@@ -48,7 +44,7 @@ abbrev pub AreLines : List (Option Statement) → List ℕ → List Statement �
 AreLines [] text quads = ⊥
 AreLines (line ∷ []) text quads = IsLine text line × (quads ≡ of_line line)
 AreLines (line ∷ next ∷ lines) text quads = (bytes rest : List ℕ) × (others : List Statement) × (close : ℕ)
-    × (text ≡ bytes ++ close ∷ rest) × IsTrue (is_end close) × IsLine bytes line × AreLines (next ∷ lines) rest others × (quads ≡ of_line line ++ others)
+    × (text ≡ bytes ++ close ∷ rest) × IsTrue (is_line_end close) × IsLine bytes line × AreLines (next ∷ lines) rest others × (quads ≡ of_line line ++ others)
 
 -- a document and its statements in the text's order
 abbrev pub IsDocument : List ℕ → List Statement → Type 0

@@ -6,7 +6,7 @@ use Rattle.nquads_text.specs.Fault.{Fails, Read, ◌>>=◌}
 use Rattle.nquads_text.specs.Reading.{char_at}
 use Rattle.nquads_text.specs.Terms.{skip_blanks}
 use Rattle.nquads_text.specs.Statement.{statement_at}
-use Rattle.nquads_documents.specs.Grammar.{is_end}
+use Rattle.nquads_text.specs.Grammar.{is_line_end}
 use Rattle.delta_base.specs.Listed.{Listed}
 use Rattle.nquads_text.specs.declared.fault.ReadFault.{ReadFault}
 use Rattle.nquads_documents.specs.declared.fault.DocFault.{DocFault}
@@ -16,7 +16,7 @@ use Rattle.nquads_documents.specs.declared.fault.DocFault.TheVariants as fault
 unfoldable pub comment_at : ℕ → List ℕ → Read (Unit {0})
 comment_at skip [] = Ok (tt, [])
 comment_at (suc skip) (b ∷ rest) = comment_at skip rest
-comment_at zero (b ∷ rest) = if is_end b then Ok (tt, b ∷ rest) else (char_at (b ∷ rest) >>= λ c. comment_at (length rest - length c.1) rest)
+comment_at zero (b ∷ rest) = if is_line_end b then Ok (tt, b ∷ rest) else (char_at (b ∷ rest) >>= λ c. comment_at (length rest - length c.1) rest)
 
 -- where a line has to end, and something else stands
 unfoldable pub no_end_at : List ℕ → Read (Unit {0})
@@ -27,7 +27,7 @@ no_end_at rest = do
 -- the line's end, or a comment up to it
 abbrev pub end_by : List ℕ → Read (Unit {0})
 end_by [] = Ok (tt, [])
-end_by (b ∷ rest) = if is_end b then Ok (tt, b ∷ rest) else (if b == 35 then comment_at 0 rest else no_end_at (b ∷ rest))
+end_by (b ∷ rest) = if is_line_end b then Ok (tt, b ∷ rest) else (if b == 35 then comment_at 0 rest else no_end_at (b ∷ rest))
 
 -- behind a statement's dot: blanks, and a comment or nothing
 unfoldable pub line_end_at : List ℕ → Read (Unit {0})
@@ -49,7 +49,7 @@ statement_part rest = do
 -- the next part of a document: the end of a line, a comment, or a statement with what follows it on its line
 abbrev pub part_by : List ℕ → Read (Option Statement)
 part_by [] = Ok (None, [])
-part_by (b ∷ rest) = if is_end b then Ok (None, rest)
+part_by (b ∷ rest) = if is_line_end b then Ok (None, rest)
     else (if b == 35 then comment_part rest else statement_part (b ∷ rest))
 
 -- the same behind blanks

@@ -2,15 +2,16 @@
 
 ghost use Rattle.std.specs.Prelude.{◌≡◌, ◌≤◌, ◌<◌, length, drop, IfOk, IfErr};
 ghost use Rattle.nquads_text.specs.Fault.{Gives};
-ghost use Rattle.nquads_documents.specs.Grammar.{is_end as ends_line};
+ghost use Rattle.nquads_text.specs.Grammar.{is_line_end as ends_line};
 ghost use Rattle.nquads_documents.specs.Reading.{comment_at, line_end_at, no_end_at};
 
-use nquads_text::{ReadFault, TextKind, char_at, skip_blanks};
+use nquads_text::{ReadFault, TextKind, char_at, is_line_end, skip_blanks};
 
+/// Whether the byte ends a line.
 pub fn is_end(b: u8) -> bool
     ensures { result ≡ ends_line b }
 {
-    b == b'\n' || b == b'\r'
+    is_line_end(char::from(b))
 }
 
 /// The place where the line of a comment ends, from a place in the comment on.

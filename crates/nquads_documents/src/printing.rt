@@ -1,13 +1,13 @@
 //! Canonical lines, and documents of them.
 
-ghost use Rattle.std.specs.Prelude.{◌≡◌, ◌++◌, ◌∷◌, [], OnOk, IfOk, map, string_bytes};
+ghost use Rattle.std.specs.Prelude.{◌≡◌, ◌++◌, ◌∷◌, [], OnOk, IfOk, map};
 ghost use Rattle.std.specs.List.{All};
 ghost use Rattle.nquads_documents.specs.Canonical.{IsCanonical};
 ghost use Rattle.nquads_documents.specs.Grammar.{IsDocument};
 ghost use Rattle.nquads_documents.specs.Laws.{IsQuadValue, IsDocumentOf};
 ghost use Rattle.rdf_terms.specs.Line.{line};
 
-use delta_base::{Bytes, OutOfMemory};
+use delta_base::{OutOfMemory, Text};
 use nquads_text::{push_graph, push_term};
 use rdf_terms::{LiteralKind, Quad, Quads, Term};
 use std::alloc::Global;
@@ -74,13 +74,13 @@ pub fn line_of(alloc: Global, quad: &Quad) -> Result<Vec<u8>, OutOfMemory>
 }
 
 /// The canonical line of a quad, which is read again as that quad.
-pub fn print_line(alloc: Global, quad: &Quad) -> Result<String, OutOfMemory>
-    ensures text { IfOk result (λ text. string_bytes text ≡ line quad.now) }
-    ensures read_again { IfOk result (λ text. IsDocument (string_bytes text) (quad.now ∷ [])) }
+pub fn print_line(alloc: Global, quad: &Quad) -> Result<Text, OutOfMemory>
+    ensures text { IfOk result (λ text. text ≡ line quad.now) }
+    ensures read_again { IfOk result (λ text. IsDocument text (quad.now ∷ [])) }
 {
     let line = line_of(alloc, quad)?;
     // Its terms are in UTF-8, and what stands between them is ASCII.
-    Ok(unsafe { String::from_utf8_unchecked(line) })
+    Ok(Text::from_string(unsafe { String::from_utf8_unchecked(line) }))
 }
 
 // The canonical line of each quad.
@@ -111,9 +111,11 @@ fn canonical(alloc: Global, quads: &[Quad]) -> Result<Vec<u8>, OutOfMemory>
 
 /// The canonical lines of the quads, each once, in the order of their bytes. They are read again as these quads.
 #[tactic(auto, using(crate::proofs::Again::document_again))]
-pub fn print_document(alloc: Global, quads: &Quads) -> Result<Bytes, OutOfMemory>
-    ensures text { IfOk result (λ bytes. IsCanonical quads.now.items bytes) }
+pub fn print_document(alloc: Global, quads: &Quads) -> Result<Text, OutOfMemory>
+    ensures text { IfOk result (λ text. IsCanonical quads.now.items text) }
     ensures read_again { IfOk result (IsDocumentOf quads.now.items) }
 {
-    Ok(Bytes::from_vec(canonical(alloc, quads.as_slice())?))
+    let lines = canonical(alloc, quads.as_slice())?;
+    // Each line is in UTF-8.
+    Ok(Text::from_string(unsafe { String::from_utf8_unchecked(lines) }))
 }

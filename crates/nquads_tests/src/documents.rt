@@ -1,5 +1,5 @@
 //! Each fault of a document with its line and place, and documents in canonical form.
-use delta_base::Bytes;
+use delta_base::Text;
 use nquads_documents::{DocFault, canonical_lines, print_document, print_line, read_document};
 use nquads_text::TextKind;
 use std::alloc::Global;
@@ -12,7 +12,7 @@ fn fault_of(alloc: Global, text: &[u8]) -> Option<(usize, usize, TextKind)> {
     }
 }
 
-fn printed_again(alloc: Global, text: &[u8]) -> Option<Bytes> {
+fn printed_again(alloc: Global, text: &[u8]) -> Option<Text> {
     let quads = read_document(alloc, text).ok()?;
     print_document(alloc, &quads).ok()
 }
@@ -65,9 +65,9 @@ fn a_document_is_printed_in_canonical_form(rt: HostRuntime) -> Result<(), Fail> 
         "# c\n\n<b:s>\t<a:p>\"2\"^^<http://www.w3.org/2001/XMLSchema#string>.# d\r_:a.b<a:p><a:o><a:g>.\r\n<b:s> <a:p> \"2\" .\n<b:s> <a:p> \"\\u0031\\n\"@EN .";
     let printed = printed_again(rt.alloc(), text.as_bytes()).ok_or("refused")?;
     let wanted = "<b:s> <a:p> \"1\\n\"@en .\n<b:s> <a:p> \"2\" .\n_:a.b <a:p> <a:o> <a:g> .\n";
-    assert!(rt; printed.as_slice() == wanted.as_bytes());
-    let again = printed_again(rt.alloc(), printed.as_slice()).ok_or("refused")?;
-    assert!(rt; again.as_slice() == printed.as_slice());
+    assert!(rt; printed.as_str() == wanted);
+    let again = printed_again(rt.alloc(), printed.as_bytes()).ok_or("refused")?;
+    assert!(rt; again == printed);
     Ok(())
 }
 
@@ -86,7 +86,7 @@ fn a_line_is_printed_with_its_line_feed(rt: HostRuntime) -> Result<(), Fail> {
 fn empty_lines_hold_no_statement(rt: HostRuntime) {
     for text in ["", "\n", " \t", "\r\r\n", "# c", "  # c\n\n# d\r"] {
         let printed = printed_again(rt.alloc(), text.as_bytes());
-        assert!(rt; printed.is_some_and(|bytes| bytes.is_empty()), "{text}");
+        assert!(rt; printed.is_some_and(|text| text.is_empty()), "{text}");
     }
 }
 

@@ -2,7 +2,7 @@
 use delta_base::{Listing, OutOfMemory, Text};
 use rdf_terms::{
     BadPosition, Change, Changes, Iri, Label, Literal, LiteralKind, Quad, Term, TermFault,
-    begins_name, has_scheme, is_name_base, is_name_char, is_name_start,
+    begins_name, has_scheme, is_forbidden, is_name_base, is_name_char, is_name_start,
 };
 use std::alloc::Global;
 use std::process::Abort;
@@ -233,6 +233,12 @@ fn each_class_of_names_takes_in_the_one_before(rt: HostRuntime) {
     }
     assert!(rt; begins_name('7') && !begins_name('-'));
     assert!(rt; has_scheme(b"a:") && !has_scheme(b"a"));
+    for c in ['\0', ' ', '"', '<', '>', '\\', '^', '`', '{', '|', '}'] {
+        assert!(rt; is_forbidden(c), "{c}");
+    }
+    for c in ['!', '%', '[', '~', '\u{7F}', 'é'] {
+        assert!(rt; !is_forbidden(c), "{c}");
+    }
 }
 
 fn prefix_add(alloc: Global) -> Result<Change, TermFault> {

@@ -1,5 +1,5 @@
 //! Each fault of the table with its place, and terms that are read and printed.
-use delta_base::Bytes;
+use delta_base::Text;
 use nquads_text::{ReadFault, TextKind, print_term, read_term};
 use rdf_terms::{LiteralKind, Term};
 use std::alloc::Global;
@@ -13,7 +13,7 @@ fn fault_of(alloc: Global, text: &[u8]) -> Option<(usize, TextKind)> {
 }
 
 /// The canonical text of the term that stands there, and where it ends.
-fn canonical(alloc: Global, text: &[u8]) -> Result<(Bytes, usize), Fail> {
+fn canonical(alloc: Global, text: &[u8]) -> Result<(Text, usize), Fail> {
     let (term, end) = read_term(alloc, text, 0).ok().ok_or("a term")?;
     Ok((print_term(alloc, &term)?, end))
 }
@@ -162,10 +162,10 @@ fn a_sequence_that_is_no_utf8_comes_first(rt: HostRuntime) {
 #[test]
 fn a_sequence_that_is_no_utf8_ends_a_label_and_a_tag(rt: HostRuntime) -> Result<(), Fail> {
     let (text, end) = canonical(rt.alloc(), b"_:a.\xFF")?;
-    assert_eq!(rt; text.as_slice(), b"_:a".as_slice());
+    assert_eq!(rt; text.as_bytes(), b"_:a".as_slice());
     assert_eq!(rt; end, 3);
     let (text, end) = canonical(rt.alloc(), b"\"x\"@en\xFF")?;
-    assert_eq!(rt; text.as_slice(), b"\"x\"@en".as_slice());
+    assert_eq!(rt; text.as_bytes(), b"\"x\"@en".as_slice());
     assert_eq!(rt; end, 6);
     Ok(())
 }
@@ -174,7 +174,7 @@ fn a_sequence_that_is_no_utf8_ends_a_label_and_a_tag(rt: HostRuntime) -> Result<
 fn a_label_takes_no_final_dot(rt: HostRuntime) -> Result<(), Fail> {
     let (text, end) = canonical(rt.alloc(), b"_:a.b..<http://e/p>")?;
     assert_eq!(rt; end, 5);
-    assert_eq!(rt; text.as_slice(), b"_:a.b".as_slice());
+    assert_eq!(rt; text.as_bytes(), b"_:a.b".as_slice());
     Ok(())
 }
 
@@ -183,7 +183,7 @@ fn xsd_string_is_not_written(rt: HostRuntime) -> Result<(), Fail> {
     let text = b"\"\\u0041\\n\\\"\" ^^ <http://www.w3.org/2001/XMLSchema#string> .";
     let (printed, end) = canonical(rt.alloc(), text)?;
     assert_eq!(rt; end, text.len() - 2);
-    assert_eq!(rt; printed.as_slice(), b"\"A\\n\\\"\"".as_slice());
+    assert_eq!(rt; printed.as_bytes(), b"\"A\\n\\\"\"".as_slice());
     Ok(())
 }
 
@@ -191,7 +191,7 @@ fn xsd_string_is_not_written(rt: HostRuntime) -> Result<(), Fail> {
 fn a_datatype_is_written_without_blanks(rt: HostRuntime) -> Result<(), Fail> {
     let (printed, end) = canonical(rt.alloc(), b"\"1\"\t^^ <h:i> ")?;
     assert_eq!(rt; end, 12);
-    assert_eq!(rt; printed.as_slice(), b"\"1\"^^<h:i>".as_slice());
+    assert_eq!(rt; printed.as_bytes(), b"\"1\"^^<h:i>".as_slice());
     Ok(())
 }
 
@@ -202,14 +202,14 @@ fn a_tag_is_kept_in_lower_case(rt: HostRuntime) -> Result<(), Fail> {
         .ok_or("a literal")?;
     assert!(rt; matches!(&term, Term::Literal(l) if matches!(l.kind, LiteralKind::Tagged(_))));
     let printed = print_term(rt.alloc(), &term)?;
-    assert_eq!(rt; printed.as_slice(), b"\"x\"@en-latn".as_slice());
+    assert_eq!(rt; printed.as_bytes(), b"\"x\"@en-latn".as_slice());
     Ok(())
 }
 
 #[test]
 fn a_first_part_of_letters_takes_no_digit(rt: HostRuntime) -> Result<(), Fail> {
     let (printed, end) = canonical(rt.alloc(), b"\"x\"@en1")?;
-    assert_eq!(rt; printed.as_slice(), b"\"x\"@en".as_slice());
+    assert_eq!(rt; printed.as_bytes(), b"\"x\"@en".as_slice());
     assert_eq!(rt; end, 6);
     Ok(())
 }

@@ -7,6 +7,7 @@ pub mod Fronts
 pub mod IriLaws
 pub mod InString
 pub mod Inside
+pub mod KindsRead
 pub mod LabelAgain
 pub mod LabelLaws
 pub mod LabelReads
@@ -19,7 +20,7 @@ pub mod Plain
 pub mod Printed
 pub mod Runs
 pub mod Steps
-pub mod Tables
+pub mod Utf8Terms
 pub mod TagLaws
 pub mod TagReads
 pub mod TagSteps

@@ -34,6 +34,10 @@ Longest Form text taken after = Form taken × (text ≡ taken ++ after)
 abbrev pub is_blank : ℕ → Bool
 is_blank b = b == 32 || b == 9
 
+-- a line feed or a carriage return
+abbrev pub is_line_end : ℕ → Bool
+is_line_end b = b == 10 || b == 13
+
 -- any number of blanks
 abbrev pub AreBlanks : List ℕ → Type 0
 AreBlanks bytes = IsTrue (list_all is_blank bytes)

@@ -8,37 +8,14 @@ ghost use Rattle.nquads_text.specs.Reading.{iri_body_at, string_body_at, with_fr
 use crate::fault::ReadFault;
 use crate::pieces::{iri_piece, string_piece};
 use delta_base::OutOfMemory;
+use rdf_terms::is_forbidden;
 use std::alloc::Global;
 
-/// The bytes that stand for themselves in an IRI.
-static PLAIN_IRI: [bool; 256] = [
-    false, false, false, false, false, false, false, false, false, false, false, false, false,
-    false, false, false, false, false, false, false, false, false, false, false, false, false,
-    false, false, false, false, false, false, false, true, false, true, true, true, true, true,
-    true, true, true, true, true, true, true, true, true, true, true, true, true, true, true, true,
-    true, true, true, true, false, true, false, true, true, true, true, true, true, true, true,
-    true, true, true, true, true, true, true, true, true, true, true, true, true, true, true, true,
-    true, true, true, true, true, false, true, false, true, false, true, true, true, true, true,
-    true, true, true, true, true, true, true, true, true, true, true, true, true, true, true, true,
-    true, true, true, true, true, false, false, false, true, true, false, false, false, false,
-    false, false, false, false, false, false, false, false, false, false, false, false, false,
-    false, false, false, false, false, false, false, false, false, false, false, false, false,
-    false, false, false, false, false, false, false, false, false, false, false, false, false,
-    false, false, false, false, false, false, false, false, false, false, false, false, false,
-    false, false, false, false, false, false, false, false, false, false, false, false, false,
-    false, false, false, false, false, false, false, false, false, false, false, false, false,
-    false, false, false, false, false, false, false, false, false, false, false, false, false,
-    false, false, false, false, false, false, false, false, false, false, false, false, false,
-    false, false, false, false, false, false, false, false, false, false, false, false, false,
-    false, false, false, false, false, false, false,
-];
-
 /// Whether the byte stands for itself in an IRI.
-#[inline(always)]
 fn is_plain_iri(b: u8) -> bool
     ensures { result ≡ plain_in_iri b }
 {
-    PLAIN_IRI[usize::from(b)]
+    b < 128 && !is_forbidden(char::from(b))
 }
 
 /// The end of some bytes from `at` on that stand for themselves in an IRI.

@@ -1,8 +1,16 @@
 ghost use Rattle.std.specs.Prelude.{◌≡◌, ◌≤◌, ◌<◌, ◌+◌, length, drop, IfOk, IfErr};
 ghost use Rattle.nquads_text.specs.Fault.{Gives, IsFault};
+ghost use Rattle.nquads_text.specs.Grammar.{is_line_end as ends_line};
 ghost use Rattle.nquads_text.specs.Reading.{char_at as char_of, digit_at as digit_of, four_digits_at as four_digits_of, eight_digits_at as eight_digits_of, code_at as code_of, uchar_at as uchar_of};
 
 use crate::fault::{ReadFault, TextKind};
+
+/// Whether the character ends a line.
+pub fn is_line_end(c: char) -> bool
+    ensures { result ≡ ends_line c }
+{
+    c == '\n' || c == '\r'
+}
 
 /// The character of any length at a place, and the place behind it.
 #[tactic(auto, unfolding(crate::specs::Reading::char_at))]

@@ -17,7 +17,7 @@ mod tags;
 mod terms;
 
 pub use bodies::iri_body;
-pub use chars::char_at;
+pub use chars::{char_at, is_line_end};
 pub use fault::{ReadFault, TextKind};
 pub use labels::label;
 pub use laws::{

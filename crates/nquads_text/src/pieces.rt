@@ -2,30 +2,14 @@
 
 ghost use Rattle.std.specs.Prelude.{◌≡◌, ◌≤◌, ◌<◌, ◌+◌, length, drop, IfOk};
 ghost use Rattle.std.specs.String.{string_bytes};
-ghost use Rattle.rdf_terms.specs.Iri.{is_forbidden as forbids};
 ghost use Rattle.nquads_text.specs.Fault.{Gives};
 ghost use Rattle.nquads_text.specs.Reading.{iri_piece as iri_piece_of, string_piece as string_piece_of};
 ghost use Rattle.nquads_text.specs.Grammar.{echar as echar_of};
 
-use crate::chars::{char_at, uchar_at};
+use crate::chars::{char_at, is_line_end, uchar_at};
 use crate::fault::{ReadFault, TextKind};
+use rdf_terms::is_forbidden;
 use std::alloc::Global;
-
-/// Whether no IRI holds the character.
-fn is_forbidden(c: char) -> bool
-    ensures { result ≡ forbids c }
-{
-    c <= ' '
-        || c == '<'
-        || c == '>'
-        || c == '"'
-        || c == '{'
-        || c == '}'
-        || c == '|'
-        || c == '^'
-        || c == '`'
-        || c == '\\'
-}
 
 /// [^#x00-#x20<>"{}|^`\] | UCHAR: one character of an IRIREF, or none at its `>`.
 #[tactic(auto, unfolding(crate::specs::Reading::iri_piece))]
@@ -93,7 +77,7 @@ pub fn string_piece(text: &[u8], at: usize) -> Result<(Option<char>, usize), Rea
         let (named, behind) = uchar_at(text, at, next)?;
         return Ok((Some(named), behind));
     }
-    if c == '\n' || c == '\r' {
+    if is_line_end(c) {
         return Err(ReadFault::At {
             at,
             kind: TextKind::BadToken,

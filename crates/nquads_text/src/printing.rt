@@ -6,7 +6,7 @@ ghost use Rattle.nquads_text.specs.Grammar.{TermAt};
 ghost use Rattle.nquads_text.specs.Printing.{IsKind, IsGraphValue, IsTermValue, EndsTerm};
 ghost use Rattle.rdf_terms.specs.Line.{escaped, quoted, iri_text, kind_text, term_text, graph_text};
 
-use delta_base::{Bytes, OutOfMemory};
+use delta_base::{OutOfMemory, Text};
 use rdf_terms::{LiteralKind, Term};
 use std::alloc::Global;
 
@@ -95,11 +95,12 @@ pub fn push_graph(out: &mut Vec<u8>, graph: &Option<Term>) -> Result<(), OutOfMe
 }
 
 /// The canonical text of a term.
-pub fn print_term(alloc: Global, term: &Term) -> Result<Bytes, OutOfMemory>
-    ensures text { IfOk result (λ v. v ≡ term_text term.now) }
-    ensures read_again { IfOk result (λ v. (rest : List ℕ) → EndsTerm term.now rest → TermAt (v ++ rest) term.now rest) }
+pub fn print_term(alloc: Global, term: &Term) -> Result<Text, OutOfMemory>
+    ensures text { IfOk result (λ text. text ≡ term_text term.now) }
+    ensures read_again { IfOk result (λ text. (rest : List ℕ) → EndsTerm term.now rest → TermAt (text ++ rest) term.now rest) }
 {
     let mut out = Vec::new(alloc);
     push_term(&mut out, term)?;
-    Ok(Bytes::from_vec(out))
+    // Its parts are in UTF-8, and what stands between them is ASCII.
+    Ok(Text::from_string(unsafe { String::from_utf8_unchecked(out) }))
 }

@@ -1,13 +1,11 @@
 //! Terms: IRIs, literals and blank nodes.
 
 ghost use Rattle.std.specs.Prelude.{◌≡◌, ◌<◌, ◌≤◌, ℕ, List, length, drop, IfOk, IfErr};
-ghost use Rattle.std.specs.Str.{bytes_eq};
 ghost use Rattle.nquads_text.specs.Fault.{Fault, Gives, FailsBy, IsAnswer, IsFaultAnswer};
 ghost use Rattle.nquads_text.specs.Faults.{TermFault};
 ghost use Rattle.nquads_text.specs.Grammar.{TermAt};
 ghost use Rattle.nquads_text.specs.Terms.{iri_at, iri_needed as iri_needed_at, skip_blanks as behind_blanks, kind_of as kind_for, datatype_at, suffix_at, typed_at, literal_at, term_at};
 ghost use Rattle.rdf_terms.specs.declared.term.Term.{Term};
-ghost use Rattle.rdf_terms.specs.Datatype.{xsd_string, lang_string};
 
 use crate::bodies::{iri_body, string_body};
 use crate::chars::char_at;
@@ -15,7 +13,7 @@ use crate::fault::{ReadFault, TextKind};
 use crate::labels::label;
 use crate::tags::tag;
 use delta_base::Text;
-use rdf_terms::{Datatype, Iri, Literal, LiteralKind, Term, has_scheme};
+use rdf_terms::{Iri, Literal, LiteralKind, Term, has_scheme};
 use std::alloc::Global;
 
 /// IRIREF ::= '<' ([^#x00-#x20<>"{}|^`\] | UCHAR)* '>'
@@ -70,20 +68,7 @@ pub fn skip_blanks(text: &[u8], from: usize) -> usize
     text.len()
 }
 
-fn is_xsd_string(bytes: &[u8]) -> bool
-    ensures { result ≡ bytes_eq bytes.now xsd_string }
-{
-    bytes == b"http://www.w3.org/2001/XMLSchema#string".as_slice()
-}
-
-fn is_lang_string(bytes: &[u8]) -> bool
-    ensures { result ≡ bytes_eq bytes.now lang_string }
-{
-    bytes == b"http://www.w3.org/1999/02/22-rdf-syntax-ns#langString".as_slice()
-}
-
 /// The kind of a literal with this datatype. Its opening quote stands at `start`.
-#[tactic(auto, unfolding(crate::specs::Terms::kind_of))]
 fn kind_of(
     text: &[u8],
     start: usize,
@@ -94,16 +79,13 @@ fn kind_of(
     requires within { end ≤ length text.now }
     ensures { Gives text.now (λ k. k) result (kind_for (drop start text.now) iri (drop end text.now)) }
 {
-    if is_lang_string(iri.as_bytes()) {
-        return Err(ReadFault::At {
+    match LiteralKind::of_datatype(iri) {
+        Ok(kind) => Ok((kind, end)),
+        Err(_) => Err(ReadFault::At {
             at: start,
             kind: TextKind::LangStringWithoutTag,
-        });
+        }),
     }
-    if is_xsd_string(iri.as_bytes()) {
-        return Ok((LiteralKind::Plain, end));
-    }
-    Ok((LiteralKind::Typed(Datatype::of_checked(iri)), end))
 }
 
 /// The datatype behind the first `^`, as a kind.

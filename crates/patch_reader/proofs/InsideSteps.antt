@@ -19,7 +19,7 @@ use Rattle.patch_rows.specs.declared.fault.RowKind.TheVariants.{Common}
 use Rattle.patch_reader.specs.declared.inside.Inside.TheVariants as inside
 use Rattle.patch_rows.specs.Cut.{leads, is_front, is_cut, ends_text, ends_row, TextAtEnd, label_open, begins_name_char}
 use Rattle.patch_reader.specs.Inside.{IsLabelOpen, AreBlanksOpen, IsTagOpen, IsSuffixOpen, IsStringOpen, OpenInside}
-use Rattle.patch_reader.proofs.GapSteps.{char_longer}
+use Rattle.patch_rows.proofs.GapSteps.{char_longer}
 use Rattle.patch_reader.proofs.RowStays.{cut_char}
 use Rattle.patch_reader.proofs.Stays.{Stays, string_piece_stays, iri_piece_stays}
 use Rattle.patch_reader.proofs.TokenStays.{dot_front}

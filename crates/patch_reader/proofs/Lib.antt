@@ -13,7 +13,6 @@ pub mod FrontSteps
 pub mod Kept
 pub mod Adding
 pub mod Reader
-pub mod GapSteps
 pub mod InsideSteps
 pub mod RowParts
 pub mod Begun

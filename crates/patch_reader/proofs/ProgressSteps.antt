@@ -23,7 +23,7 @@ use Rattle.patch_rows.specs.Cut.{AtEnd, is_cut, ends_row}
 use Rattle.patch_reader.specs.Inside.{OpenInside, IsInsideWithin, IsFurther}
 use Rattle.patch_reader.specs.Progress.{rest_from, part_at, part_behind, takes_term, takes_node, takes_word, first_part, OpenAt, Leads, LeadsInside, Follows, IsUnfinished, IsPlaceWithin, IsStep, IsFollowed, progress_at}
 use Rattle.patch_reader.proofs.Begun.{letters_open, string_opens, iri_opens, label_opens, word_opens}
-use Rattle.patch_reader.proofs.GapSteps.{char_longer}
+use Rattle.patch_rows.proofs.GapSteps.{char_longer}
 use Rattle.patch_reader.proofs.InsideSteps.{first_there, two_there}
 use Rattle.patch_reader.proofs.RowParts.{part_over, part_open, cut_rest, no_graph, row_over, row_open}
 use Rattle.patch_reader.proofs.RowStays.{cut_char}

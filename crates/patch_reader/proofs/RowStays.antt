@@ -26,7 +26,8 @@ use Rattle.patch_rows.specs.declared.row.Row.{Row}
 use Rattle.patch_rows.specs.declared.row.Row.TheVariants as row
 use Rattle.patch_rows.specs.Fault.{Fault, Read, ◌>>=◌, in_row}
 use Rattle.patch_rows.specs.Faults.{is_dot}
-use Rattle.patch_rows.specs.Grammar.{is_line_end, is_space, is_word_byte, is_any, is_node}
+use Rattle.nquads_text.specs.Grammar.{is_line_end}
+use Rattle.patch_rows.specs.Grammar.{is_space, is_word_byte, is_any, is_node}
 use Rattle.patch_rows.specs.Reading.{comment_step, space_behind, skip_space, stands, other, begins_blank, whole_label, bracketed, bracket_at, row_term_at, needed_term_at, run_of, key_at, past_colon, plain_of, plain_text, or_bad_position, iri_of_string, iri_of_term, dot_at, end_at, code_named, uncut, word_at}
 use Rattle.patch_rows.specs.declared.cut.TextEnd.TheVariants.{Open, Known}
 use Rattle.patch_rows.specs.Rows.{added_of, bare_at, by_code, graph_of, graph_or_dot_of, header_of, live_row, open_key, open_term, open_word_prefix, parts_of, placed_of, prefix_iri_of, prefix_of, quad_of, quoted_of, removed_of, row_at, row_of}

@@ -16,6 +16,7 @@ use Rattle.nquads_text.specs.Grammar.{echar}
 use lib.Utf8.{scalar}
 use Rattle.patch_rows.specs.Cut.{leads, is_front, ends_text, TextAtEnd}
 use Rattle.nquads_text.proofs.Fronts.{char_spelled, char_again}
+pub use Rattle.patch_rows.proofs.GapSteps.{ok_char}
 
 -- ---- one reading behind another
 
@@ -66,11 +67,6 @@ bad_stays k n b c d e c' d' e' none short some le second_c third_d fourth_e =
     (λ h. let size_is = ap (λ (p : Decoded). p.size) h.6 in let lt = short (omega arith) (omega arith) in absurd (omega (arith, size_is, lt)))
     (λ h. let size_is = ap (λ (p : Decoded). p.size) h.6 in value-11 n b c' d' e' (omega arith, h.1, h.2, ap (second b) (second_c (omega arith)) ∙ h.3, ap continues (third_d (omega arith)) ∙ h.4, ap continues (fourth_e (omega arith)) ∙ h.5) ∙ sym h.6)
     (λ h. let some = char _ h.6 in absurd cc)
-
-pub ok_char : (rest : List ℕ) (c : ℕ) (after more : List ℕ) → char_at rest ≡ Ok (c, after) → char_at (rest ++ more) ≡ Ok (c, after ++ more)
-ok_char rest c after more e =
-    let s = char_spelled rest c after e in
-    ap (λ (t : List ℕ). char_at (t ++ more)) s.1 ∙ ap char_at (append_assoc (encode_utf8 c) after more) ∙ char_again c (after ++ more) s.0
 
 pub bad_char : (b : ℕ) (bs : List ℕ) → (decoded (b ∷ bs)).char ≡ None → char_at (b ∷ bs) ≡ Err (NotUtf8, b ∷ bs)
 unfolding char_at

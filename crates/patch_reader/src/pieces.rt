@@ -15,9 +15,9 @@ ghost use Rattle.patch_reader.specs.Rows.{Adds, StayReady, Stops, NothingDecided
 
 use crate::next::take_rows;
 use crate::placed::PlacedRow;
-use crate::progress::{Progress, Region, at_row, follow, is_past_gap, is_within, pass_gap};
+use crate::progress::{Progress, Region, at_row, follow, is_past_gap, is_within};
 use crate::reading::ROW_LIMIT;
-use patch_rows::parts::is_cut_at;
+use patch_rows::parts::{is_cut_at, pass_gap};
 use patch_rows::{Row, RowFault, TextEnd};
 use std::alloc::Global;
 use std::collections::VecDeque;

@@ -15,9 +15,9 @@ use crate::inside::{Inside, is_inside_within, is_open, pass};
 use nquads_text::{TextKind, char_at};
 use patch_rows::parts::{
     Code, any, dot, ends, find_code, iri, is_at, is_cut_at, is_letter_at, is_term_at, key, node,
-    prefix, prefix_iri, word,
+    pass_gap, prefix, prefix_iri, word,
 };
-use patch_rows::{RowFault, RowKind, TextEnd, is_line_end, is_space};
+use patch_rows::{RowFault, RowKind, TextEnd};
 use rdf_terms::begins_name;
 use std::alloc::Global;
 
@@ -158,38 +158,6 @@ fn takes_word(part: Part) -> bool
     ensures { result ≡ word_is_taken part }
 {
     matches!(part, Part::Key | Part::Added | Part::Removed)
-}
-
-/// The place behind white space and comments, as far as they are known, and whether a comment goes on there.
-#[tactic(auto, using(crate::proofs::GapSteps::gap_steps))]
-pub fn pass_gap(text: &[u8], from: usize, in_comment: bool) -> (usize, bool)
-    requires { from ≤ length text.now }
-    ensures same { (more : List ℕ) → space_behind in_comment 0 (drop from (text.now ++ more)) ≡ space_behind result.1 0 (drop result.0 (text.now ++ more)) }
-    ensures high { result.0 ≤ length text.now }
-    ensures stuck { result.1 ≡ true → (fault : Fault) × (char_of (drop result.0 text.now) ≡ Err fault) }
-    ensures stops { result.1 ≡ false → result.0 < length text.now → (more : List ℕ) → space_behind false 0 (drop result.0 (text.now ++ more)) ≡ drop result.0 (text.now ++ more) }
-{
-    let mut at = from;
-    let mut comment = in_comment;
-    while at < text.len() {
-        if comment {
-            match char_at(text, at) {
-                Ok((c, next)) => {
-                    comment = !is_line_end(c);
-                    at = next;
-                }
-                Err(_) => return (at, true),
-            }
-        } else if text[at] == b'#' {
-            comment = true;
-            at += 1;
-        } else if is_space(text[at]) {
-            at += 1;
-        } else {
-            return (at, false);
-        }
-    }
-    (at, comment)
 }
 
 /// Whether something else than white space and comments stands there.

@@ -9,8 +9,8 @@ ghost use Rattle.patch_rows.specs.Grammar.{begins_space, IsRowAt, row_limit};
 ghost use Rattle.patch_reader.specs.Decided.{Decides};
 ghost use Rattle.patch_reader.specs.Limit.{front_row_at, limited_row_at};
 
-use patch_rows::parts::ends;
-use patch_rows::{Row, RowFault, RowKind, TextEnd, row_of, unlimited_row};
+use patch_rows::parts::{ends, row_of};
+use patch_rows::{Row, RowFault, RowKind, TextEnd};
 use std::alloc::Global;
 
 /// The bytes that a row may have.
@@ -104,7 +104,7 @@ fn limited_row(alloc: Global, text: &[u8], at: usize) -> Result<(Row, usize), Ro
     if is_long(text, at) {
         return front_row(alloc, text, at);
     }
-    unlimited_row(alloc, text, at)
+    row_of(alloc, text, at, TextEnd::Known)
 }
 
 /// The row that begins at a place of a whole text, and the place behind its dot; else its first fault.

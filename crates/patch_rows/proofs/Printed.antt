@@ -242,7 +242,7 @@ parts_again (row.Header key value) rest v is =
     let t : List ℕ = term_text value ++ ending rest in
     let shape : parts_text (row.Header key value) ++ ending rest ≡ 32 ∷ (key ++ 32 ∷ t) = ap (λ (s : List ℕ). 32 ∷ s) (append_assoc key (32 ∷ term_text value) (ending rest)) in
     subst (λ (s : List ℕ). PartsAt s (row.Header key value) rest) (sym shape)
-    (32 ∷ t, ending rest, spaced_key key t is, spaced_term is_any value (46 ∷ rest) v refl (fresh_end rest), end_again rest)
+    (32 ∷ t, ending rest, spaced_key key t is, spaced_term is_any value (46 ∷ rest) v.1 refl (fresh_end rest), end_again rest)
 parts_again (row.Change c) rest v is = change_again c rest v is
 
 -- the parts of a row and its end begin with a space

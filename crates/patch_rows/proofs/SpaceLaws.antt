@@ -13,10 +13,10 @@ use Rattle.nquads_text.proofs.Steps.{not_both as text_not_both}
 use Rattle.patch_rows.proofs.SpaceSteps.{behind_first, first_byte, in_comment}
 use Rattle.std.proofs.lemmas.List.{length-append}
 use Rattle.std.proofs.lemmas.Bool.{and_parts, false≢true, eqb-true}
-use Rattle.nquads_text.specs.Grammar.{StartsWith}
+use Rattle.nquads_text.specs.Grammar.{StartsWith, is_line_end}
 use Rattle.nquads_text.proofs.LabelReads.{longest_same}
 use Rattle.patch_rows.specs.Fault.{Fault}
-use Rattle.patch_rows.specs.Grammar.{is_line_end, is_space, IsGap, AreGaps, IsSpace, Space, begins_space}
+use Rattle.patch_rows.specs.Grammar.{is_space, IsGap, AreGaps, IsSpace, Space, begins_space}
 use Rattle.patch_rows.specs.Reading.{comment_step, space_behind, skip_space}
 use Rattle.patch_rows.proofs.Exact.{Exact}
 

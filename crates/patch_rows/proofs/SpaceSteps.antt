@@ -7,7 +7,8 @@ use Rattle.std.proofs.lemmas.Bool.{eqb-true}
 use Rattle.nquads_text.specs.Fault.{Fault}
 use Rattle.nquads_text.specs.Reading.{char_at}
 use Rattle.nquads_text.proofs.Fronts.{char_spelled}
-use Rattle.patch_rows.specs.Grammar.{is_line_end, is_space}
+use Rattle.nquads_text.specs.Grammar.{is_line_end}
+use Rattle.patch_rows.specs.Grammar.{is_space}
 use Rattle.patch_rows.specs.Reading.{space_behind}
 
 -- what is left of a character is skipped

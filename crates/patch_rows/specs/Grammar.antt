@@ -14,17 +14,13 @@ use Rattle.rdf_terms.specs.Iri.{IsIri}
 use Rattle.rdf_terms.specs.Label.{IsLabel}
 use Rattle.rdf_terms.specs.Quad.{Statement, is_iri, is_literal}
 use Rattle.rdf_terms.specs.Tag.{IsWord}
-use Rattle.nquads_text.specs.Grammar.{StartsWith, Longest, IriPiece, Spells, TermAt}
+use Rattle.nquads_text.specs.Grammar.{is_line_end, StartsWith, Longest, IriPiece, Spells, TermAt}
 use Rattle.patch_rows.specs.declared.codes.Code.{Code}
 use Rattle.patch_rows.specs.declared.codes.Code.TheVariants as code
 use Rattle.patch_rows.specs.declared.row.Row.{Row}
 use Rattle.patch_rows.specs.declared.row.Row.TheVariants as row
 
 -- ---- white space and comments
-
--- a line feed or a carriage return
-abbrev pub is_line_end : ℕ → Bool
-is_line_end b = b == 10 || b == 13
 
 -- a space, a tab, or the end of a line
 abbrev pub is_space : ℕ → Bool

@@ -47,7 +47,7 @@ IsChangeValue change.Abort = Unit {0}
 
 -- what each value of the type `Row` keeps
 abbrev pub IsRowValue : Row → Type 0
-IsRowValue (row.Header key value) = IsTermValue value
+IsRowValue (row.Header key value) = IsUtf8 key × IsTermValue value
 IsRowValue (row.Change c) = IsChangeValue c
 
 -- ---- the rows that have a text

@@ -18,7 +18,8 @@ use Rattle.patch_rows.specs.declared.codes.Code.TheVariants as code
 use Rattle.patch_rows.specs.declared.fault.RowKind.{RowKind}
 use Rattle.patch_rows.specs.declared.fault.RowKind.TheVariants.{Common, WrongCount}
 use Rattle.patch_rows.specs.Fault.{Fault, Read, ◌>>=◌, in_row, as_row_fault}
-use Rattle.patch_rows.specs.Grammar.{is_line_end, is_space, is_word_byte, letters}
+use Rattle.nquads_text.specs.Grammar.{is_line_end}
+use Rattle.patch_rows.specs.Grammar.{is_space, is_word_byte, letters}
 use Rattle.patch_rows.specs.Faults.{is_dot}
 
 -- a character of a comment at the front of `here`, `room` bytes being behind its first, and what `more` finds behind it

@@ -1,8 +1,8 @@
 //! The rows of patches: they are read and printed.
 //!
-//! `unlimited_row` answers the row that the grammar has at a place of a text (`specs/Grammar.antt`), and else the row's first fault
-//! (`specs/Faults.antt`). Rows within their limit are read by `patch_reader`. `print_row` writes a row's canonical text, which is read as that row again. The functions of `laws`
-//! do nothing: their contracts tie the reading to the grammar and the faults.
+//! `specs/Grammar.antt` says what a row is, and `specs/Faults.antt` what its first fault is. Rows are read by `patch_reader`, which keeps
+//! their limit; what it reads them with stands in `parts` (`specs/Rows.antt`). `print_row` writes a row's canonical text, which is read as
+//! that row again. The functions of `laws` do nothing: their contracts tie the reading to the grammar and the faults.
 #![tactic(auto)]
 
 mod codes;
@@ -23,5 +23,4 @@ pub use laws::{row_terms_are_read, rows_are_read, rows_are_writable, space_is_sk
 pub use printing::print_row;
 pub use rdf_terms::Change;
 pub use row::Row;
-pub use rows::{row_of, unlimited_row};
-pub use space::{is_line_end, is_space, skip_space};
+pub use space::{is_space, skip_space};

@@ -7,7 +7,7 @@ ghost use Rattle.patch_rows.specs.Printing.{quad_text, change_text, parts_text, 
 
 use crate::codes::Code;
 use crate::row::Row;
-use delta_base::{Bytes, OutOfMemory};
+use delta_base::{OutOfMemory, Text};
 use nquads_text::{push_graph, push_iri, push_quoted, push_term};
 use rdf_terms::{Change, Quad};
 use std::alloc::Global;
@@ -93,14 +93,17 @@ fn push_parts(out: &mut Vec<u8>, row: &Row) -> Result<(), OutOfMemory>
 
 /// The canonical text of a row, and a line feed.
 #[tactic(auto, unfolding(crate::specs::Printing::row_text))]
-pub fn print_row(alloc: Global, row: &Row) -> Result<Bytes, OutOfMemory>
-    ensures text { IfOk result (λ v. v ≡ row_text row.now ++ 10 ∷ []) }
-    ensures read_again { IfOk result (λ v. IsWritable row.now → (rest : List ℕ) → RowAt (v ++ rest) row.now (10 ∷ rest)) }
-    ensures decided { IfOk result (λ v. IsWritable row.now → length v ≤ row_limit + 1 → IsDecidedRow v 0 row.now (length v - 1)) }
+pub fn print_row(alloc: Global, row: &Row) -> Result<Text, OutOfMemory>
+    ensures text { IfOk result (λ text. text ≡ row_text row.now ++ 10 ∷ []) }
+    ensures read_again { IfOk result (λ text. IsWritable row.now
+        → (rest : List ℕ) → RowAt (text ++ rest) row.now (10 ∷ rest)) }
+    ensures decided { IfOk result (λ text. IsWritable row.now → length text ≤ row_limit + 1
+        → IsDecidedRow text 0 row.now (length text - 1)) }
 {
     let mut out = Vec::new(alloc);
     out.extend_from_slice(code_of(row).letters())?;
     push_parts(&mut out, row)?;
     out.extend_from_slice(b" .\n")?;
-    Ok(Bytes::from_vec(out))
+    // Its parts are in UTF-8, and what stands between them is ASCII.
+    Ok(Text::from_string(unsafe { String::from_utf8_unchecked(out) }))
 }

@@ -5,7 +5,7 @@ ghost use Rattle.rdf_terms.specs.Quad.{may_be_graph};
 ghost use Rattle.patch_rows.specs.declared.codes.Code.TheVariants as codes;
 ghost use Rattle.patch_rows.specs.Fault.{Gives, Ends};
 ghost use Rattle.patch_rows.specs.Reading.{dot_at, end_at};
-ghost use Rattle.patch_rows.specs.Rows.{graph_or_dot_of, graph_of, header_of, bare_at, quad_of, added_of, removed_of, parts_of, row_of as row_given, row_at};
+ghost use Rattle.patch_rows.specs.Rows.{graph_or_dot_of, graph_of, header_of, bare_at, quad_of, added_of, removed_of, parts_of, row_of as row_given};
 
 use crate::codes::{Code, find_code};
 use crate::cut::TextEnd;
@@ -228,12 +228,4 @@ pub fn row_of(
         Some(code) => parts(alloc, code, text, behind, text_end),
         None => Err(RowFault::at(at, RowKind::UnknownCode)),
     }
-}
-
-/// The row of any length that begins at a place of a whole text, and the place behind its dot; else its first fault.
-pub fn unlimited_row(alloc: Global, text: &[u8], at: usize) -> Result<(Row, usize), RowFault>
-    requires { at ≤ length text.now }
-    ensures { Gives text.now result (row_at (drop at text.now)) }
-{
-    row_of(alloc, text, at, TextEnd::Known)
 }

@@ -223,18 +223,6 @@ pub fn any(
     unless_open(text, at, term, end, text_end)
 }
 
-fn is_literal(term: &Term) -> bool
-    ensures { result ≡ literal_stands term.now }
-{
-    matches!(term, Term::Literal(_))
-}
-
-fn is_iri(term: &Term) -> bool
-    ensures { result ≡ iri_stands term.now }
-{
-    matches!(term, Term::Iri(_))
-}
-
 /// An IRI or a blank node.
 #[tactic(auto, unfolding(crate::specs::Rows::placed_of))]
 pub fn node(
@@ -248,7 +236,7 @@ pub fn node(
     ensures node { IfOk result (λ x. literal_stands x.0 ≡ false) }
 {
     let (term, end) = term(alloc, text, at, text_end)?;
-    if is_literal(&term) {
+    if term.is_literal() {
         return Err(RowFault::at(at, RowKind::Common(TextKind::BadPosition)));
     }
     unless_open(text, at, term, end, text_end)
@@ -267,7 +255,7 @@ pub fn iri(
     ensures iri { IfOk result (λ x. iri_stands x.0 ≡ true) }
 {
     let (term, end) = term(alloc, text, at, text_end)?;
-    if !is_iri(&term) {
+    if !term.is_iri() {
         return Err(RowFault::at(at, RowKind::Common(TextKind::BadPosition)));
     }
     unless_open(text, at, term, end, text_end)

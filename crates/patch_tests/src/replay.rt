@@ -3,7 +3,7 @@ use chain_core::ChainFault;
 use delta_base::{Bytes, Calls, Id, MemSink, MemSource, read_id};
 use patch_meaning::PatchKind;
 use patch_rows::RowKind;
-use sink_writing::PIECE;
+use sink_writing::Room;
 use std::alloc::Global;
 use std::process::Abort;
 use std::test::Fail;
@@ -40,8 +40,8 @@ fn source(alloc: Global, parts: &[&str], piece: usize) -> Result<MemSource, Fail
 /// Writes the lines, and looks at them.
 fn writes(rt: &impl Abort, alloc: Global, lines: &Lines, wanted: &str) -> Result<(), Fail> {
     let mut out = MemSink::new(alloc, calls(alloc, None)?);
-    let room = Vec::with_capacity(alloc, PIECE)?;
-    assert!(rt; write_lines(&mut out, lines, room));
+    let room = Room::new(alloc)?;
+    assert!(rt; write_lines(&mut out, lines, room).is_ok());
     assert_eq!(rt; out.written(), wanted.as_bytes());
     Ok(())
 }
@@ -293,8 +293,8 @@ fn a_sink_fails(rt: HostRuntime) -> Result<(), Fail> {
     let mut input = source(alloc, &[P1], 60)?;
     let replayed = replay_source(alloc, &mut input).ok().ok_or("refused")?;
     let mut out = MemSink::new(alloc, calls(alloc, Some(0))?);
-    let room = Vec::with_capacity(alloc, PIECE)?;
-    assert!(rt; !write_lines(&mut out, &replayed.lines, room));
+    let room = Room::new(alloc)?;
+    assert!(rt; write_lines(&mut out, &replayed.lines, room).is_err());
     assert_eq!(rt; out.written(), b"".as_slice());
     Ok(())
 }

@@ -1,6 +1,7 @@
-use delta_base::{Bytes, OutOfMemory};
+use delta_base::{OutOfMemory, Text};
 use nquads_text::TextKind;
-use patch_rows::{Row, RowFault, RowKind, print_row, skip_space, unlimited_row};
+use patch_reader::read_row;
+use patch_rows::{Row, RowFault, RowKind, print_row, skip_space};
 use std::alloc::Global;
 use std::process::Abort;
 use std::test::Fail;
@@ -11,7 +12,7 @@ fn first_row(alloc: Global, text: &[u8]) -> Result<(Row, usize), RowFault> {
     if at == text.len() {
         return Err(RowFault::OutOfMemory);
     }
-    unlimited_row(alloc, text, at)
+    read_row(alloc, text, at)
 }
 
 /// Where the first row ends, or its first fault.
@@ -51,6 +52,8 @@ fn a_word_that_the_end_may_cut_is_truncated(rt: HostRuntime) {
     fails_as_text(&rt, alloc, b"PA ex", 5, TextKind::Truncated);
     fails_as_text(&rt, alloc, b"TX", 2, TextKind::Truncated);
     fails_as_text(&rt, alloc, b"TX ", 3, TextKind::Truncated);
+    fails_as_text(&rt, alloc, b"H id", 4, TextKind::Truncated);
+    fails_as_text(&rt, alloc, b"PD ex", 5, TextKind::Truncated);
 }
 
 #[test]
@@ -106,6 +109,7 @@ fn each_term_has_its_place(rt: HostRuntime) {
         TextKind::BadPosition,
     );
     fails_as_text(&rt, alloc, b"PA <a:b> <a:b> .", 3, TextKind::BadPosition);
+    fails_as_text(&rt, alloc, b"PA \"ex\"@en <a:b> .", 3, TextKind::BadPosition);
     fails_as_text(&rt, alloc, b"PA 1 <http://e/> .", 3, TextKind::BadToken);
     fails_as_text(&rt, alloc, b"H <a:b> .", 2, TextKind::BadToken);
 }
@@ -123,6 +127,7 @@ fn brackets_hold_a_whole_label(rt: HostRuntime) {
     let alloc = rt.alloc();
     fails_as_text(&rt, alloc, b"A <_:a.> <a:b> <a:b> .", 2, TextKind::BadLabel);
     fails_as_text(&rt, alloc, b"A <_:> <a:b> <a:b> .", 2, TextKind::BadLabel);
+    fails_as_text(&rt, alloc, b"A <_:-a> <a:b> <a:b> .", 2, TextKind::BadLabel);
     fails_as_text(
         &rt,
         alloc,
@@ -133,7 +138,7 @@ fn brackets_hold_a_whole_label(rt: HostRuntime) {
 }
 
 /// The canonical text of a row.
-fn printed(alloc: Global, row: Row) -> Result<Bytes, OutOfMemory> {
+fn printed(alloc: Global, row: Row) -> Result<Text, OutOfMemory> {
     let line = print_row(alloc, &row);
     drop(row);
     line
@@ -147,7 +152,7 @@ fn copied(row: Row) -> Result<Row, OutOfMemory> {
 }
 
 /// The canonical text of the first row of a text.
-fn canonical(alloc: Global, text: &[u8]) -> Result<Bytes, RowFault> {
+fn canonical(alloc: Global, text: &[u8]) -> Result<Text, RowFault> {
     let (row, _end) = first_row(alloc, text)?;
     let line = printed(alloc, row)?;
     Ok(line)
@@ -156,17 +161,23 @@ fn canonical(alloc: Global, text: &[u8]) -> Result<Bytes, RowFault> {
 /// The first row of the text is printed as the line.
 fn prints(rt: &impl Abort, alloc: Global, text: &[u8], line: &[u8]) -> Result<(), RowFault> {
     let printed = canonical(alloc, text)?;
-    assert_eq!(rt; printed.as_slice(), line);
+    assert_eq!(rt; printed.as_bytes(), line);
     Ok(())
 }
 
 #[test]
-fn a_prefix_is_written_in_four_ways(rt: HostRuntime) -> Result<(), Fail> {
+fn a_prefix_is_written_in_five_ways(rt: HostRuntime) -> Result<(), Fail> {
     let alloc = rt.alloc();
     let line = b"PA \"ex\" <http://e/> .\n";
     prints(&rt, alloc, b"PA ex: <http://e/> .", line)?;
     prints(&rt, alloc, b"PA ex \"http://e/\" .", line)?;
     prints(&rt, alloc, b"PA \"ex\" <http://e/> .", line)?;
+    prints(
+        &rt,
+        alloc,
+        b"PA \"ex\"^^<http://www.w3.org/2001/XMLSchema#string> <http://e/> .",
+        line,
+    )?;
     prints(
         &rt,
         alloc,
@@ -199,6 +210,8 @@ fn a_blank_node_may_stand_in_brackets(rt: HostRuntime) -> Result<(), Fail> {
     let text = b"A <_:a> <http://e/p> <_:b.c> <_:g> .";
     let line = b"A _:a <http://e/p> _:b.c _:g .\n";
     prints(&rt, rt.alloc(), text, line)?;
+    let colons = b"A _:a:b <http://e/p> <_::> .";
+    prints(&rt, rt.alloc(), colons, b"A _:a:b <http://e/p> _:: .\n")?;
     Ok(())
 }
 
@@ -226,6 +239,6 @@ fn a_copy_is_printed_alike(rt: HostRuntime) -> Result<(), Fail> {
     let (row, _) = first_row(alloc, line)?;
     let copy = copied(row)?;
     let printed = printed(alloc, copy)?;
-    assert_eq!(rt; printed.as_slice(), line.as_slice());
+    assert_eq!(rt; printed.as_bytes(), line.as_slice());
     Ok(())
 }

@@ -17,7 +17,8 @@ use Rattle.rdf_terms.specs.Line.{line_cmp, quoted, graph_text}
 abbrev pub PrefixKey : Type 0
 PrefixKey = Option Term × List ℕ
 
--- the order of the bytes of a prefix in its quotes, and then of its graph
+-- The order of the bytes of a prefix in its quotes with its graph behind it. A row that sets a prefix has the IRI between them, so where a
+-- prefix has several graphs the order of such rows is another.
 abbrev pub prefix_cmp : PrefixKey → PrefixKey → Ordering
 prefix_cmp a b = slice_cmp nat_cmp (quoted a.1 ++ graph_text a.0) (quoted b.1 ++ graph_text b.0)
 

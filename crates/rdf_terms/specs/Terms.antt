@@ -10,6 +10,7 @@ use Rattle.rdf_terms.specs.declared.fault.TermFault.{TermFault}
 use Rattle.rdf_terms.specs.declared.fault.TermFault.TheVariants as fault
 use Rattle.rdf_terms.specs.declared.term.LiteralKind.TheVariants.{Plain, Typed, Tagged}
 use Rattle.rdf_terms.specs.declared.term.Literal.{Literal}
+use Rattle.rdf_terms.specs.declared.term.LiteralKind.{LiteralKind}
 
 -- the first forbidden character; else that no scheme stands in front
 abbrev pub IsIriFault : List ℕ → TermFault → Type 0
@@ -29,12 +30,15 @@ IsLabelFault text (fault.BadLang at) = ⊥
 IsLabelFault text fault.LangStringWithoutTag = ⊥
 IsLabelFault text fault.OutOfMemory = ⊥
 
--- a literal with this datatype
-abbrev pub typed_literal : List ℕ → List ℕ → Result Literal TermFault
-typed_literal lexical datatype =
+-- the kind of a literal with this datatype
+abbrev pub kind_of : List ℕ → Result LiteralKind TermFault
+kind_of datatype =
     if bytes_eq datatype lang_string then Err fault.LangStringWithoutTag
-    else (if bytes_eq datatype xsd_string then Ok (record { lexical = lexical; kind = Plain })
-    else Ok (record { lexical = lexical; kind = Typed datatype }))
+    else (if bytes_eq datatype xsd_string then Ok Plain else Ok (Typed datatype))
+
+-- a literal with this datatype
+abbrev pub IsTyped : List ℕ → List ℕ → Literal → Type 0
+IsTyped lexical datatype literal = (literal.lexical ≡ lexical) × (kind_of datatype ≡ Ok literal.kind)
 
 -- a literal with this tag, which is kept in lower case
 abbrev pub IsTagged : List ℕ → List ℕ → Literal → Type 0

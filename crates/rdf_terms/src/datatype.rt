@@ -54,12 +54,14 @@ impl Datatype {
     }
 }
 
+/// Whether the IRI is xsd:string.
 pub(crate) fn is_xsd_string(bytes: &[u8]) -> bool
     ensures { result ≡ bytes_eq bytes.now xsd_string }
 {
     bytes == b"http://www.w3.org/2001/XMLSchema#string".as_slice()
 }
 
+/// Whether the IRI is rdf:langString.
 pub(crate) fn is_lang_string(bytes: &[u8]) -> bool
     ensures { result ≡ bytes_eq bytes.now lang_string }
 {

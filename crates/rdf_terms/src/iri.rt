@@ -1,5 +1,5 @@
 ghost use Rattle.std.specs.Prelude.{◌≡◌, IfOk, MatchResult, MatchOption, IsUtf8};
-ghost use Rattle.rdf_terms.specs.Iri.{has_scheme as spells_scheme, is_forbidden as no_iri_byte, is_scheme_byte as in_scheme, ends_scheme as spells_end, IsIri, AllowedAll, FirstForbidden};
+ghost use Rattle.rdf_terms.specs.Iri.{has_scheme as spells_scheme, is_forbidden as forbids, is_scheme_byte as in_scheme, ends_scheme as spells_end, IsIri, AllowedAll, FirstForbidden};
 ghost use Rattle.rdf_terms.specs.Terms.{IsIriFault};
 
 use crate::fault::TermFault;
@@ -97,23 +97,19 @@ fn ends_scheme(rest: &[u8]) -> bool
     false
 }
 
-/// No IRI holds the byte.
-pub fn is_forbidden(b: u8) -> bool
-    ensures { result ≡ no_iri_byte b }
+/// Whether no IRI holds the character.
+pub fn is_forbidden(c: char) -> bool
+    ensures { result ≡ forbids c }
 {
-    b < 33
-        || matches!(
-            b,
-            b'<' | b'>' | b'"' | b'{' | b'}' | b'|' | b'^' | b'`' | b'\\'
-        )
+    c <= ' ' || matches!(c, '<' | '>' | '"' | '{' | '}' | '|' | '^' | '`' | '\\')
 }
 
-/// The place of the first byte that no IRI holds.
+/// The place of the first character that no IRI holds. All of these are single bytes.
 fn first_forbidden(bytes: &[u8]) -> Option<usize>
     ensures { MatchOption result (AllowedAll bytes.now) (λ at. FirstForbidden bytes.now at) }
 {
     for (at, b) in bytes.iter().enumerate() {
-        if is_forbidden(*b) {
+        if is_forbidden(char::from(*b)) {
             return Some(at);
         }
     }

@@ -1,5 +1,5 @@
 ghost use Rattle.std.specs.Prelude.{◌≡◌, IfOk, IsTrue, MatchResult, Some, None};
-ghost use Rattle.rdf_terms.specs.Quad.{statement, is_iri, is_literal, may_be_graph, is_quad, bad_place};
+ghost use Rattle.rdf_terms.specs.Quad.{statement, may_be_graph, is_quad, bad_place};
 
 use crate::term::Term;
 use delta_base::OutOfMemory;
@@ -33,24 +33,12 @@ pub struct BadPosition {
     pub place: u8,
 }
 
-fn is_iri_term(term: &Term) -> bool
-    ensures { result ≡ is_iri term.now }
-{
-    matches!(term, Term::Iri(_))
-}
-
-fn is_literal_term(term: &Term) -> bool
-    ensures { result ≡ is_literal term.now }
-{
-    matches!(term, Term::Literal(_))
-}
-
 fn is_graph(graph: &Option<Term>) -> bool
     ensures { result ≡ may_be_graph graph.now }
 {
     match graph {
         None => true,
-        Some(term) => !is_literal_term(term),
+        Some(term) => !term.is_literal(),
     }
 }
 
@@ -58,10 +46,10 @@ fn is_graph(graph: &Option<Term>) -> bool
 fn first_bad_place(subject: &Term, predicate: &Term, graph: &Option<Term>) -> Option<u8>
     ensures { result ≡ bad_place subject.now predicate.now graph.now }
 {
-    if is_literal_term(subject) {
+    if subject.is_literal() {
         return Some(0);
     }
-    if !is_iri_term(predicate) {
+    if !predicate.is_iri() {
         return Some(1);
     }
     if !is_graph(graph) {

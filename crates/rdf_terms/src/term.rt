@@ -1,6 +1,7 @@
-ghost use Rattle.std.specs.Prelude.{◌≡◌, IfOk, MatchResult};
+ghost use Rattle.std.specs.Prelude.{◌≡◌, IfOk, MatchResult, Err};
 ghost use Rattle.rdf_terms.specs.declared.term.LiteralKind.TheVariants.{Plain};
-ghost use Rattle.rdf_terms.specs.Terms.{typed_literal, IsTagged, IsTagFault};
+ghost use Rattle.rdf_terms.specs.Quad.{is_iri, is_literal};
+ghost use Rattle.rdf_terms.specs.Terms.{kind_of, IsTagged, IsTagFault, IsTyped};
 
 use crate::datatype::{Datatype, is_lang_string, is_xsd_string};
 use crate::fault::TermFault;
@@ -32,6 +33,19 @@ pub enum Term {
 }
 
 impl LiteralKind {
+    /// The kind of a literal with this datatype; none has rdf:langString, which needs a tag.
+    pub fn of_datatype(datatype: Iri) -> Result<LiteralKind, TermFault>
+        ensures { result ≡ kind_of datatype }
+    {
+        if is_lang_string(datatype.as_bytes()) {
+            return Err(TermFault::LangStringWithoutTag);
+        }
+        if is_xsd_string(datatype.as_bytes()) {
+            return Ok(LiteralKind::Plain);
+        }
+        Ok(LiteralKind::Typed(Datatype::of_checked(datatype)))
+    }
+
     /// An equal value.
     pub fn copy(&self) -> Result<LiteralKind, OutOfMemory>
         ensures { IfOk result (λ k. k ≡ self.now) }
@@ -56,17 +70,11 @@ impl Literal {
 
     /// A literal with a datatype.
     pub fn typed(lexical: Text, datatype: Iri) -> Result<Literal, TermFault>
-        ensures { result ≡ typed_literal lexical datatype }
+        ensures { MatchResult result (IsTyped lexical datatype) (λ fault. kind_of datatype ≡ Err fault) }
     {
-        if is_lang_string(datatype.as_bytes()) {
-            return Err(TermFault::LangStringWithoutTag);
-        }
-        if is_xsd_string(datatype.as_bytes()) {
-            return Ok(Literal::plain(lexical));
-        }
         Ok(Literal {
             lexical,
-            kind: LiteralKind::Typed(Datatype::of_checked(datatype)),
+            kind: LiteralKind::of_datatype(datatype)?,
         })
     }
 
@@ -92,6 +100,18 @@ impl Literal {
 }
 
 impl Term {
+    pub fn is_iri(&self) -> bool
+        ensures { result ≡ is_iri self.now }
+    {
+        matches!(self, Term::Iri(_))
+    }
+
+    pub fn is_literal(&self) -> bool
+        ensures { result ≡ is_literal self.now }
+    {
+        matches!(self, Term::Literal(_))
+    }
+
     /// An equal value.
     pub fn copy(&self) -> Result<Term, OutOfMemory>
         ensures { IfOk result (λ t. t ≡ self.now) }

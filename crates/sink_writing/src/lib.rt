@@ -6,7 +6,7 @@ mod sending;
 mod texts;
 mod whole;
 
-pub use room::{PIECE, put};
+pub use room::{PIECE, Room};
 pub use sending::send_all;
 pub use texts::write_texts;
 pub use whole::write_all;

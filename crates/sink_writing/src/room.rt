@@ -1,35 +1,68 @@
 //! A room in which short texts wait for each other.
-ghost use Rattle.std.specs.Prelude.{◌≡◌, ◌≤◌, ◌++◌, true, false, vec_len, vec_capacity};
+ghost use Rattle.std.specs.Prelude.{◌≡◌, ◌≤◌, ◌++◌, [], IfOk, IsErr, OnOk, vec_len, vec_capacity};
+ghost use Rattle.std.specs.Io.KnownBytes.{Appends};
 ghost use Rattle.delta_base.specs.Outside.{Rose};
 ghost use Rattle.sink_writing.specs.Writing.{AppendsFront, AppendsFirst};
 
 use crate::whole::write_all;
-use delta_base::Sink;
+use delta_base::{Failed, OutOfMemory, Sink};
+use std::alloc::Global;
+use std::marker::Model;
 
 /// How many bytes of short texts are written at once.
 pub const PIECE: usize = 65_536;
 
-/// Puts a text behind those in the room. Where there is no place for it, all are written. It says whether it could. Behind
-/// the last text the room itself is to be written.
-pub fn put<K: Sink>(out: &mut K, room: &mut Vec<u8>, text: &[u8]) -> bool
-    requires fits { vec_len room.old ≤ PIECE }
-    requires large { PIECE ≤ vec_capacity room.old }
-    ensures put { result ≡ true → AppendsFirst (K.written out.old) (K.written out.new) (room.old.items ++ text.now) room.new.items }
-    ensures front { result ≡ false → AppendsFront (K.written out.old) (K.written out.new) (room.old.items ++ text.now) }
-    ensures failed { result ≡ false → Rose (K.faults out.old) (K.faults out.new) }
-    ensures never_falls { K.faults out.old ≤ K.faults out.new }
-    ensures fits { vec_len room.new ≤ PIECE }
-    ensures large { PIECE ≤ vec_capacity room.new }
-{
-    if text.len() <= PIECE - room.len() {
-        match room.extend_from_slice(text) {
-            Ok(()) => return true,
-            Err(_) => unreachable!(),
+/// A room in which short texts wait for each other, seen as the bytes that wait. Its memory is taken when it is made.
+#[derive(Drop)]
+pub struct Room {
+    bytes: Vec<u8>,
+}
+
+impl Model for Room {
+    ghost use Rattle.std.specs.Prelude.{ℕ, List, ◌≤◌, vec_len, vec_capacity};
+
+    ghost Value = { List ℕ };
+
+    ghost view = { λ r. r.bytes.items };
+
+    ghost invariant = { λ r. (vec_len r.bytes ≤ 65536) × (65536 ≤ vec_capacity r.bytes) };
+}
+
+impl Room {
+    /// An empty room for a piece.
+    pub fn new(alloc: Global) -> Result<Room, OutOfMemory>
+        ensures { IfOk result (λ room. room ≡ []) }
+    {
+        Ok(Room {
+            bytes: Vec::with_capacity(alloc, PIECE)?,
+        })
+    }
+
+    /// Puts a text behind those in the room. Where there is no place for it, all are written.
+    pub fn put<K: Sink>(&mut self, out: &mut K, text: &[u8]) -> Result<(), Failed>
+        ensures put { OnOk result (AppendsFirst (K.written out.old) (K.written out.new) (self.old ++ text.now) self.new) }
+        ensures front { AppendsFront (K.written out.old) (K.written out.new) (self.old ++ text.now) }
+        ensures failed { IsErr result → Rose (K.faults out.old) (K.faults out.new) }
+        ensures never_falls { K.faults out.old ≤ K.faults out.new }
+    {
+        if text.len() <= PIECE - self.bytes.len() {
+            let Ok(()) = self.bytes.extend_from_slice(text) else {
+                unreachable!()
+            };
+            return Ok(());
         }
+        write_all(out, self.bytes.as_slice())?;
+        self.bytes.clear();
+        write_all(out, text)
     }
-    if !write_all(out, room.as_slice()) {
-        return false;
+
+    /// Writes what waits.
+    pub fn write_out<K: Sink>(self, out: &mut K) -> Result<(), Failed>
+        ensures whole { OnOk result (Appends (K.written out.old) (K.written out.new) self) }
+        ensures front { AppendsFront (K.written out.old) (K.written out.new) self }
+        ensures failed { IsErr result → Rose (K.faults out.old) (K.faults out.new) }
+        ensures never_falls { K.faults out.old ≤ K.faults out.new }
+    {
+        write_all(out, self.bytes.as_slice())
     }
-    room.clear();
-    write_all(out, text)
 }

@@ -16,10 +16,7 @@ pub fn send_all<L: Link>(link: &mut L, text: &[u8]) -> Result<(), Failed>
 {
     let mut done = 0;
     while done < text.len() {
-        match link.write(&text[done..]) {
-            Ok(count) => done += count,
-            Err(failed) => return Err(failed),
-        }
+        done += link.write(&text[done..])?;
     }
     Ok(())
 }

@@ -1,7 +1,5 @@
 -- The lines of a dataset while changes are made.
 use Rattle.std.proofs.Common.{◌≡◌, ℕ, Bool, true, false, cond, List, [], ◌∷◌, ◌++◌, length, refl, sym, ap, ◌∙◌, map}
-use Rattle.std.specs.Prelude.{String, string_bytes}
-use Rattle.std.specs.declared.alloc.Global.{Global}
 use Rattle.std.specs.Ordering.{nat_cmp, match_ordering, is_eq}
 use Rattle.std.specs.declared.cmp.Ordering.{Ordering}
 use Rattle.std.specs.declared.cmp.Ordering.TheVariants.{Less, Equal, Greater}
@@ -17,7 +15,7 @@ use Rattle.rdf_terms.specs.Line.{line, lines}
 use Rattle.rdf_terms.specs.Dataset.{Dataset, apply, effect, effects, kept}
 use Rattle.stream_replay.specs.declared.lines.LineEdit.{LineEdit}
 use Rattle.stream_replay.specs.Edits.{AreEdits, edits_of}
-use Rattle.stream_replay.specs.Lines.{AreLinesOf, bytes_of, edit_lines, line_edit, texts}
+use Rattle.stream_replay.specs.Lines.{AreLinesOf, bytes_of, edit_lines, line_edit}
 
 -- ---- a key goes in where its image goes in
 
@@ -37,16 +35,6 @@ map-remove_key f test (y ∷ ys) =
       | true ↦ refl
       | false ↦ ap (λ (l : List _). f y ∷ l) (map-remove_key f test ys)
     ]
-
--- ---- one edit
-
-pub inserted : (keys keys' : List (String Global)) (text : String Global) → keys' ≡ insert_key (λ (x y : String Global). slice_cmp nat_cmp (string_bytes x) (string_bytes y)) keys text
-    → texts keys' ≡ edit_lines (true, string_bytes text) (texts keys)
-inserted keys keys' text e = ap texts e ∙ map-insert_key string_bytes (slice_cmp nat_cmp) keys text
-
-pub removed : (keys keys' : List (String Global)) (bytes : List ℕ) → keys' ≡ remove_key (λ (text : String Global). is_eq (slice_cmp nat_cmp bytes (string_bytes text))) keys
-    → texts keys' ≡ edit_lines (false, bytes) (texts keys)
-removed keys keys' bytes e = ap texts e ∙ map-remove_key string_bytes (λ l. is_eq (slice_cmp nat_cmp bytes l)) keys
 
 -- ---- edits one after another
 
@@ -74,10 +62,10 @@ effects_edited (c ∷ cs) d =
     ∙ sym (ap (λ (es : List (Bool × List ℕ)). edited es (map line d.quads)) (flat_map-cons edits_of c cs))
 
 -- what the changes of a patch do that stand
-pub lines_after : (cs : List Change) (es : List LineEdit) (keys keys' : List (String Global)) (d : Dataset) → AreEdits (kept cs) es → texts keys' ≡ edited (map line_edit es) (texts keys) → AreLinesOf keys d
+pub lines_after : (cs : List Change) (es : List LineEdit) (keys keys' : List (List ℕ)) (d : Dataset) → AreEdits (kept cs) es → keys' ≡ edited (map line_edit es) keys → AreLinesOf keys d
     → AreLinesOf keys' (apply cs d)
 lines_after cs es keys keys' d are e is =
-    e ∙ ap (λ (l : List (Bool × List ℕ)). edited l (texts keys)) are ∙ ap (edited (flat_map edits_of (kept cs))) is ∙ sym (effects_edited (kept cs) d)
+    e ∙ ap (λ (l : List (Bool × List ℕ)). edited l keys) are ∙ ap (edited (flat_map edits_of (kept cs))) is ∙ sym (effects_edited (kept cs) d)
 
 -- ---- the lines of a dataset
 
@@ -85,10 +73,10 @@ flat_by_map : {X : Type 0} (f : X → List ℕ) (xs : List X) → flat_map f xs 
 flat_by_map f [] = refl
 flat_by_map f (x ∷ xs) = flat_map-cons f x xs ∙ ap (λ (l : List ℕ). f x ++ l) (flat_by_map f xs) ∙ sym (flat_map-cons (λ (l : List ℕ). l) (f x) (map f xs))
 
--- the bytes of the texts are the dataset's lines
-pub joined_lines : (keys : List (String Global)) (d : Dataset) → AreLinesOf keys d → bytes_of keys ≡ lines d.quads
-joined_lines keys d are = flat_by_map string_bytes keys ∙ ap (flat_map (λ (l : List ℕ). l)) are ∙ sym (flat_by_map line d.quads)
+-- the bytes of the lines are the dataset's lines
+pub joined_lines : (keys : List (List ℕ)) (d : Dataset) → AreLinesOf keys d → bytes_of keys ≡ lines d.quads
+joined_lines keys d are = ap bytes_of are ∙ sym (flat_by_map line d.quads)
 
--- there are as many texts as quads
-pub as_many : (keys : List (String Global)) (d : Dataset) → AreLinesOf keys d → length keys ≡ length d.quads
-as_many keys d are = sym (length-map keys string_bytes) ∙ ap length are ∙ length-map d.quads line
+-- there are as many lines as quads
+pub as_many : (keys : List (List ℕ)) (d : Dataset) → AreLinesOf keys d → length keys ≡ length d.quads
+as_many keys d are = ap length are ∙ length-map d.quads line

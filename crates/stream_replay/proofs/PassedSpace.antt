@@ -4,7 +4,7 @@ use Rattle.std.proofs.lemmas.List.{drop_more, drop-append-le}
 use Rattle.patch_rows.specs.Grammar.{Space, is_space}
 use Rattle.patch_rows.specs.Reading.{skip_space, space_behind}
 use Rattle.patch_rows.proofs.SpaceLaws.{skipped, skips}
-use Rattle.patch_reader.proofs.GapSteps.{Passed}
+use Rattle.patch_rows.proofs.GapSteps.{Passed}
 use Rattle.stream_replay.specs.Spaces.{PassesSpace}
 
 skip_one : (b : ℕ) (rest : List ℕ) → is_space b ≡ true → skip_space (b ∷ rest) ≡ skip_space rest

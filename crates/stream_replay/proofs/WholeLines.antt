@@ -11,7 +11,7 @@ use Rattle.nquads_text.specs.declared.fault.ReadFault.TheVariants as faults
 use Rattle.nquads_text.specs.Fault.{Fault, Fails, IsFault}
 use Rattle.nquads_text.specs.Reading.{char_at}
 use Rattle.nquads_text.proofs.Fronts.{char_again, char_at-ascii}
-use Rattle.patch_rows.specs.Grammar.{is_line_end}
+use Rattle.nquads_text.specs.Grammar.{is_line_end}
 use Rattle.patch_rows.proofs.SpaceLaws.{line_end_low}
 use Rattle.stream_replay.specs.Spaces.{BeginsLine}
 

@@ -1,6 +1,7 @@
 -- White space and comments that were read over.
 use Rattle.std.specs.Prelude.{◌≡◌, ℕ, List, ◌∷◌, ◌++◌, drop, IsTrue}
-use Rattle.patch_rows.specs.Grammar.{IsComment, Space, is_line_end}
+use Rattle.nquads_text.specs.Grammar.{is_line_end}
+use Rattle.patch_rows.specs.Grammar.{IsComment, Space}
 
 -- what white space and comments the bytes have from the later place on, they have from the earlier one on as well, whatever follows
 abbrev pub PassesSpace : List ℕ → ℕ → ℕ → Type 0

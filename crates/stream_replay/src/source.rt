@@ -6,13 +6,11 @@ use crate::fault::ReplayFault;
 use crate::replay::Replayed;
 use crate::stream::Streaming;
 use delta_base::Source;
+use sink_writing::PIECE;
 use std::alloc::Global;
 
 /// The most bytes of a stream.
 pub const STREAM_LIMIT: usize = 268_435_456;
-
-/// How many bytes are read at once.
-const PIECE: usize = 65_536;
 
 /// Reads a stream to its end, and answers the dataset that its patches make from the empty one.
 ///

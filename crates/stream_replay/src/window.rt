@@ -4,8 +4,8 @@ ghost use Rattle.patch_rows.specs.Grammar.{is_space};
 ghost use Rattle.stream_replay.specs.Spaces.{BeginsLine, PassesSpace};
 
 use delta_base::OutOfMemory;
-use nquads_text::char_at;
-use patch_rows::{is_line_end, is_space};
+use nquads_text::{char_at, is_line_end};
+use patch_rows::is_space;
 use std::alloc::Global;
 
 /// The bytes of a text from a place on.

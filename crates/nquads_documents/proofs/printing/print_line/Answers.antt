@@ -12,5 +12,5 @@ from_utf8_unchecked-requires c = subst IsUtf8 (sym c.in_ok-line.ensures.text) (l
 pub returns-clause-read_again : goal.returns-clause-read_again
 returns-clause-read_again c =
     let q = c.args.quad.now in
-    let same = ap (λ (v : Vec ℕ). v.items) c.from_utf8_unchecked.ensures.value ∙ c.in_ok-line.ensures.text in
+    let same = c.from_string.ensures ∙ ap (λ (v : Vec ℕ). v.items) c.from_utf8_unchecked.ensures.value ∙ c.in_ok-line.ensures.text in
     subst (λ (text : List ℕ). IsDocument text (q ∷ [])) (sym same) (line_again q c.in_ok-line.ensures.value)

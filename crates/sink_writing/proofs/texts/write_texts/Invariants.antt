@@ -1,4 +1,4 @@
-use Rattle.std.proofs.Common.{◌≤◌, ◌++◌, drop, vec_len, vec_capacity}
+use Rattle.std.proofs.Common.{◌≤◌, ◌++◌, drop}
 use Rattle.sink_writing.specs.Writing.{joined}
 use Rattle.sink_writing.proofs.Pieces.{Written}
 use Rattle.sink_writing.proofs.texts.write_texts.Given as goal
@@ -6,8 +6,6 @@ use Rattle.sink_writing.proofs.texts.write_texts.Given as goal
 -- what isn't written stands in the room and in the texts that are left
 abbrev pub invariant-loop-text : goal.invariant-loop-text
 invariant-loop-text g l = record {
-  written : Written (g.K.Sink.written l.fn.out) (g.K.Sink.written l.out) (joined l.texts) (l.room.items ++ joined (drop l.text-index l.texts));
-  fits : vec_len l.room ≤ 65536;
-  large : 65536 ≤ vec_capacity l.room;
+  written : Written (g.K.Sink.written l.fn.out) (g.K.Sink.written l.out) (joined l.texts) (l.room ++ joined (drop l.text-index l.texts));
   faults : g.K.Sink.faults l.fn.out ≤ g.K.Sink.faults l.out;
 }

@@ -4,17 +4,17 @@ use Rattle.sink_writing.proofs.whole.write_all.Goals as goal
 
 pub loop-done-preserved : goal.loop-done-preserved
 loop-done-preserved g c =
-    let wrote = c.in-Ok.ensures in
+    let wrote = c.in_ok-done.ensures in
     record {
       within = let b = wrote.bound in search rules;
-      written = appended (g.K.Sink.written c.args.out.now) (g.K.Sink.written c.loop-done.out) (g.K.Sink.written c.write.new.self) c.args.text.now c.loop-done.done c.in-Ok.count c.loop-done.invariant.written wrote.bytes;
+      written = appended (g.K.Sink.written c.args.out.now) (g.K.Sink.written c.loop-done.out) (g.K.Sink.written c.write.new.self) c.args.text.now c.loop-done.done c.in_ok-done.field-0 c.loop-done.invariant.written wrote.bytes;
       faults = omega (arith, wrote.cause.never_falls, c.loop-done.invariant.faults);
     }
 
-pub returns-in-Err-clause-front : goal.returns-in-Err-clause-front
-returns-in-Err-clause-front g c = (
+pub returns-in_err-done-clause-front : goal.returns-in_err-done-clause-front
+returns-in_err-done-clause-front g c = (
   take c.loop-done.done c.args.text.now,
   drop c.loop-done.done c.args.text.now,
   sym (take-append-drop c.loop-done.done c.args.text.now),
-  kept_after (g.K.Sink.written c.args.out.now) (g.K.Sink.written c.loop-done.out) (g.K.Sink.written c.write.new.self) (take c.loop-done.done c.args.text.now) c.loop-done.invariant.written c.in-Err.ensures.bytes,
+  kept_after (g.K.Sink.written c.args.out.now) (g.K.Sink.written c.loop-done.out) (g.K.Sink.written c.write.new.self) (take c.loop-done.done c.args.text.now) c.loop-done.invariant.written c.in_err-done.ensures.bytes,
 )

@@ -1,4 +1,4 @@
-use Rattle.std.proofs.Common.{◌≤◌, ◌++◌, vec_len, vec_capacity}
+use Rattle.std.proofs.Common.{◌≤◌, ◌++◌}
 use Rattle.sink_writing.proofs.Pieces.{Written}
 use Rattle.stream_replay.specs.Lines.{bytes_of}
 use Rattle.stream_replay.proofs.lines.write_lines.Given as goal
@@ -8,8 +8,6 @@ abbrev pub invariant-loop-line : goal.invariant-loop-line
 invariant-loop-line g l = record {
   can : (goal.iterator-loop-line g).can_next l.line-iterator;
   finite : (goal.iterator-loop-line g).is_finite l.line-iterator;
-  written : Written (g.K.Sink.written l.fn.out) (g.K.Sink.written l.out) (bytes_of l.fn.lines.keys) (l.room.items ++ bytes_of l.line-iterator);
-  fits : vec_len l.room ≤ 65536;
-  large : 65536 ≤ vec_capacity l.room;
+  written : Written (g.K.Sink.written l.fn.out) (g.K.Sink.written l.out) (bytes_of l.fn.lines.keys) (l.room ++ bytes_of l.line-iterator);
   faults : g.K.Sink.faults l.fn.out ≤ g.K.Sink.faults l.out;
 }

@@ -1,5 +1,5 @@
 use Rattle.std.proofs.Common.{drop, ◌<◌, Bool, false, length, not, refl, sym, ◌∙◌, subst, arith}
-use Rattle.patch_reader.proofs.GapSteps.{Passed, over_char, over_hash}
+use Rattle.patch_rows.proofs.GapSteps.{Passed, over_char, over_hash}
 use Rattle.stream_replay.proofs.PassedSpace.{passed_over}
 use Rattle.stream_replay.proofs.WholeLines.{begun, goes_on, never_fails}
 use Rattle.stream_replay.proofs.window.comment_end.Goals as goal

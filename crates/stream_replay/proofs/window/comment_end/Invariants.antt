@@ -1,5 +1,5 @@
 use Rattle.std.proofs.Common.{◌-◌, ◌<◌, ◌≤◌, true, false, length, drop}
-use Rattle.patch_reader.proofs.GapSteps.{Passed}
+use Rattle.patch_rows.proofs.GapSteps.{Passed}
 use Rattle.stream_replay.specs.Spaces.{BeginsLine}
 use Rattle.stream_replay.proofs.WholeLines.{EndsLine}
 use Rattle.stream_replay.proofs.window.comment_end.Given as goal
