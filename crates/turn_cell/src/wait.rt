@@ -12,9 +12,19 @@ use std::hint::spin_loop;
 use std::sync::Wait;
 
 // How often the next in line looks before it sleeps: a stay is short where no device call is made
-// in it, and a sleeper costs a call of the system on both sides. So many looks take a microsecond
-// or two.
+// in it, and a sleeper costs a call of the system on both sides. So many looks take some forty
+// microseconds.
 const LOOKS: u32 = 200;
+
+// How often it pauses between two looks: each look takes the words' cache line from the pass that
+// has the turn.
+const PAUSES: u32 = 4;
+
+fn pause() {
+    for _ in 0..PAUSES {
+        spin_loop();
+    }
+}
 
 // Waits until the ticket is served, and takes the value out of the slot. Who isn't next in line
 // sleeps at once.
@@ -48,7 +58,7 @@ pub(crate) fn wait<V: Chained, R: Wait>(
         }
         if looks < LOOKS && ticket.wrapping_sub(found) == 1 {
             looks += 1;
-            spin_loop();
+            pause();
         } else if in_bed {
             beds.sleep(rt, ticket);
             in_bed = false;
