@@ -1,7 +1,8 @@
 -- What a registry replies to each call, by its slots and its events.
-use Rattle.std.specs.Prelude.{◌≡◌, ℕ, ◌+◌, ◌==◌, nat_lt, List, [], ◌∷◌, Option, Some, None, option_map, if◌then◌else◌}
+use Rattle.std.specs.Prelude.{◌≡◌, ◌⊎◌, ℕ, ◌+◌, ◌==◌, nat_lt, List, [], ◌∷◌, Option, Some, None, option_map, if◌then◌else◌}
 use Rattle.delta_base.specs.declared.id.Id.{Id}
 use Rattle.delta_base.specs.declared.limits.FullKind.TheVariants.{Slots, Bytes}
+use Rattle.delta_base.specs.declared.limits.TheConstants.{REGISTRY_LIMIT}
 use Rattle.delta_base.specs.declared.source_info.SourceInfo.{SourceInfo}
 use Rattle.registry_core.specs.declared.event.Event.{Event}
 use Rattle.registry_core.specs.declared.event.Event.TheVariants.{Created, Renamed, Removed}
@@ -12,11 +13,7 @@ use Rattle.registry_core.specs.declared.answer.ChangeAnswer.TheVariants.{Done, N
 use Rattle.registry_core.specs.Names.{name_fault, uri_fault}
 use Rattle.registry_core.specs.Sources.{sources, used, named, source_named, source_with_id, source_with_uri, by_name}
 use Rattle.registry_core.specs.Texts.{longer_by, registry_length}
-use Rattle.registry_core.specs.Answers.{Ending, told, end_of_create, end_of_change, event_in, first_or}
-
--- the most bytes of a registry's journal
-abbrev pub REGISTRY_LIMIT : ℕ
-REGISTRY_LIMIT = 1048576
+use Rattle.registry_core.specs.Answers.{Ending, made, told, failed, wanting, end_of_create, end_of_change, event_in, first_or}
 
 -- a length that is over the limit
 abbrev pub too_long : ℕ → Option ℕ
@@ -118,3 +115,23 @@ ending call reply = told
 -- the event that a call makes over these events, if it makes one
 abbrev pub event_by : ℕ → RegistryCall → List Event → Option Event
 event_by slots call events = event_in (ending call (reply_of slots call events))
+
+-- the call makes an event
+abbrev pub Makes : ℕ → RegistryCall → List Event → Type 0
+Makes slots call events = (event : Event) × (event_by slots call events ≡ Some event)
+
+-- the call shows the name of the source that has the id, which is a copy
+abbrev pub ShowsName : ℕ → RegistryCall → List Event → Type 0
+ShowsName slots call events =
+    (name : List ℕ) × (reply_of slots call events ≡ answered (IdTaken name))
+
+-- A call that ends so may have this reply over these events: the one that is due; a fault of the
+-- disk where an event is to be written; want of memory there, or where a name is to be copied.
+abbrev pub MayEnd : Ending → ℕ → RegistryCall → List Event → RegistryReply → Type 0
+MayEnd (made event) slots call events reply = reply ≡ reply_of slots call events
+MayEnd told slots call events reply = reply ≡ reply_of slots call events
+MayEnd failed slots call events reply = Makes slots call events
+MayEnd wanting slots call events reply = Makes slots call events ⊎ ShowsName slots call events
+
+abbrev pub MayReply : ℕ → RegistryCall → List Event → RegistryReply → Type 0
+MayReply slots call events reply = MayEnd (ending call reply) slots call events reply
