@@ -1,0 +1,4 @@
+pub mod States
+pub mod Made
+pub mod Answered
+pub mod Reopened

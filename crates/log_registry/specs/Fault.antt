@@ -1,0 +1,31 @@
+-- Why a registry can't be opened.
+use Rattle.std.specs.Prelude.{◌≤◌, ℕ, List}
+use Rattle.log_journal.specs.File.{Holds, journal_length}
+use Rattle.log_journal.specs.Reading.{HasFault}
+use Rattle.log_journal.specs.declared.fault.JournalFault.{JournalFault}
+use Rattle.log_journal.specs.declared.fault.JournalFault.TheVariants as journal
+use Rattle.registry_core.specs.Events.{BreaksAt}
+use Rattle.delta_base.specs.declared.limits.TheConstants.{REGISTRY_LIMIT}
+use Rattle.log_registry.specs.declared.fault.RegistryFault.{RegistryFault}
+use Rattle.log_registry.specs.declared.fault.RegistryFault.TheVariants as registry
+
+-- a fault of the journal, as one of the registry
+abbrev pub of_journal : JournalFault → RegistryFault
+of_journal journal.Failed = registry.Failed
+of_journal (journal.Damaged at) = registry.Damaged at
+of_journal (journal.WrongNumber found) = registry.WrongNumber found
+of_journal (journal.OverLimit length limit) = registry.OverLimit length limit
+of_journal journal.OutOfMemory = registry.OutOfMemory
+
+-- The file of number 0 has this fault, and none that comes before it. What a file can't tell is
+-- free: that its disk failed, and want of memory.
+abbrev pub HasRegistryFault : List ℕ → RegistryFault → Type 0
+HasRegistryFault file (registry.Damaged at) = HasFault file 0 REGISTRY_LIMIT (journal.Damaged at)
+HasRegistryFault file (registry.WrongNumber found) = HasFault file 0 REGISTRY_LIMIT
+    (journal.WrongNumber found)
+HasRegistryFault file (registry.OverLimit length limit) = HasFault file 0 REGISTRY_LIMIT
+    (journal.OverLimit length limit)
+HasRegistryFault file (registry.BrokenEvent place) = (payloads : List (List ℕ))
+    × Holds file 0 payloads × (journal_length payloads ≤ REGISTRY_LIMIT) × BreaksAt payloads place
+HasRegistryFault file registry.Failed = Unit {0}
+HasRegistryFault file registry.OutOfMemory = Unit {0}

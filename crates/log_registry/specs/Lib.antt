@@ -1,0 +1,5 @@
+pub mod Stands
+pub mod Fault
+pub mod State
+pub mod Changes
+pub mod Making

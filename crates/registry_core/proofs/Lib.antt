@@ -1,0 +1,12 @@
+pub mod Found
+pub mod Stops
+pub mod Parts
+pub mod OneText
+pub mod Finding
+pub mod Listing
+pub mod Checked
+pub mod Replied
+pub mod Faults
+pub mod Openings
+pub mod Tables
+pub mod Apart

@@ -1,0 +1,23 @@
+use Rattle.std.proofs.Common.{◌≡◌, List, ℕ, Some, sym, ◌∙◌, ap, subst}
+use Rattle.std.specs.Prelude.{slice_get}
+use Rattle.delta_base.specs.declared.source_info.SourceInfo.{SourceInfo}
+use Rattle.registry_core.specs.declared.answer.ChangeAnswer.TheVariants.{Done}
+use Rattle.registry_core.specs.Events.{events_of}
+use Rattle.registry_core.specs.Replies.{remove_reply}
+use Rattle.registry_core.specs.Sources.{sources}
+use Rattle.registry_core.specs.Tables.{RegistryView}
+use Rattle.registry_core.proofs.Replied.{get_there, within_get, some_is, removal_next}
+use Rattle.registry_core.proofs.registry.Registry.removed_source.Goals as goal
+
+pub returns-in-Ok-clause-next : goal.returns-in-Ok-clause-next
+returns-in-Ok-clause-next c =
+    let r = c.self.inside in
+    let events = events_of r.entries.items in
+    let place = c.in_ok-place.place in
+    let shown = c.in_ok-place.ensures.ok.0 in
+    let found = subst (λ (v : RegistryView). slice_get (sources (events_of v.entries)) place ≡ Some shown) (sym c.self.view_is) c.in_ok-place.ensures.ok.1 in
+    let here = subst (λ (l : List SourceInfo). slice_get l place ≡ Some shown) (sym c.self.invariant.living_is) found in
+    let same : shown ≡ c.index.result.now = some_is shown c.index.result.now (sym here ∙ get_there r.living.items place c.index.result.now (within_get r.living.items place shown here) c.index.ensures) in
+    let replied = subst (λ (v : RegistryView). remove_reply v.slots (events_of v.entries) c.as_bytes.result.now ≡ Done shown) (sym c.self.view_is) c.in_ok-place.ensures.ok.2 in
+    let done : remove_reply r.slots events c.args.name.now ≡ Done shown = sym (ap (λ (name : List ℕ). remove_reply r.slots events name) c.as_bytes.ensures.value) ∙ replied in
+    rw (← c.self.view_is, c.in-Ok.ensures, ← same) (removal_next r.slots events r.living.items r.made r.bytes c.self.invariant c.args.name.now shown done)

@@ -1,0 +1,4 @@
+mod Histories
+mod Calling
+mod Asking
+mod Adding

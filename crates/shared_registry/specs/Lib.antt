@@ -1,0 +1,6 @@
+pub mod Apart
+pub mod History
+pub mod Passes
+pub mod Calling
+pub mod Legal
+pub mod Lookups

@@ -1,0 +1,174 @@
+//! A registry as the value of a turn.
+ghost use Rattle.std.specs.Prelude.{◌≡◌, ◌≢◌, ◌≤◌, IfOk, IfSome};
+ghost use Rattle.std.specs.List.{AllByRecursion};
+ghost use Rattle.delta_base.specs.declared.source_info.SourceInfo.{SourceInfo as AnySource};
+ghost use Rattle.registry_core.specs.Replies as asked;
+ghost use Rattle.registry_core.specs.Sources.{HasSlot};
+ghost use Rattle.log_registry.specs.Changes.{Called, IsUntouched};
+ghost use Rattle.log_registry.specs.State.{events_in};
+ghost use Rattle.shared_registry.specs.History.{history_of, fixed_of, StandsInTurn};
+ghost use Rattle.turn_cell.specs.Sights.{IsGrownBy};
+
+use delta_base::{Id, OutOfMemory, SourceInfo, Sources, Text};
+use disk_model::Disk;
+use log_registry::RegistryState;
+use registry_core::{ChangeAnswer, CreateAnswer, Event};
+use std::collections::LinkedList;
+use std::marker::Model;
+use turn_cell::Chained;
+
+/// What never changes of a registry. No value of it is made.
+pub struct RegistryFixed {
+    pub slots: u32,
+    /// The directory and the number of its disk's file.
+    pub mark: Option<(LinkedList<u8>, u64)>,
+}
+
+/// A registry that lies in a turn. Its disk stands for its events, with the one in doubt or without.
+#[derive(Drop)]
+pub struct RegistryValue<D: Disk> {
+    registry: RegistryState<D>,
+}
+
+impl<D: Disk> Model for RegistryValue<D> {
+    ghost use Rattle.log_registry.specs.State.{StateView};
+    ghost use Rattle.shared_registry.specs.History.{StandsInTurn};
+
+    ghost Value = { StateView D };
+
+    ghost view = { λ v. v.registry };
+
+    ghost invariant = { λ v. StandsInTurn D.Disk v.registry };
+}
+
+impl<D: Disk> RegistryValue<D> {
+    pub fn of(registry: RegistryState<D>) -> RegistryValue<D>
+        ensures { result ≡ registry }
+    {
+        let _slots = registry.slots();
+        RegistryValue { registry }
+    }
+
+    pub fn into_registry(self) -> RegistryState<D>
+        ensures same { result ≡ self }
+        ensures stands { StandsInTurn D.Disk self }
+    {
+        let RegistryValue { registry } = self;
+        registry
+    }
+
+    pub fn resolve(&self, name: &Text) -> Result<Option<SourceInfo>, OutOfMemory>
+        ensures reply { IfOk result (λ found. asked.found found
+            ≡ asked.reply_of self.now.slots (asked.resolve name.now) (events_in self.now)) }
+        ensures slot { IfOk result (λ found. IfSome found (HasSlot self.now.slots)) }
+    {
+        self.registry.resolve(name)
+    }
+
+    pub fn resolve_id(&self, id: Id) -> Result<Option<SourceInfo>, OutOfMemory>
+        ensures reply { IfOk result (λ found. asked.found found
+            ≡ asked.reply_of self.now.slots (asked.resolve_id id) (events_in self.now)) }
+        ensures slot { IfOk result (λ found. IfSome found (HasSlot self.now.slots)) }
+    {
+        self.registry.resolve_id(id)
+    }
+
+    pub fn resolve_uri(&self, uri: &Text) -> Result<Option<SourceInfo>, OutOfMemory>
+        ensures reply { IfOk result (λ found. asked.found found
+            ≡ asked.reply_of self.now.slots (asked.resolve_uri uri.now) (events_in self.now)) }
+        ensures slot { IfOk result (λ found. IfSome found (HasSlot self.now.slots)) }
+    {
+        self.registry.resolve_uri(uri)
+    }
+
+    pub fn list(&self) -> Result<Sources, OutOfMemory>
+        ensures reply { IfOk result (λ listed. asked.listed listed.items
+            ≡ asked.reply_of self.now.slots asked.list (events_in self.now)) }
+        ensures slots { IfOk result (λ listed.
+            AllByRecursion (HasSlot self.now.slots) listed.items) }
+    {
+        self.registry.list()
+    }
+
+    pub fn create(&mut self, name: &Text, uri: &Text, id: Id, by: u32) -> CreateAnswer
+        ensures called { Called D.Disk self.old self.new (asked.create name.now uri.now id) by
+            (asked.answered result) }
+        ensures found_stands { StandsInTurn D.Disk self.old }
+        ensures left_stands { StandsInTurn D.Disk self.new }
+        ensures grown { IsGrownBy by (history_of self.old.entries) (history_of self.new.entries) }
+        ensures fixed { fixed_of D.mark self.new ≡ fixed_of D.mark self.old }
+        ensures faults { D.faults self.old.disk ≤ D.faults self.new.disk }
+        ensures as_found { result ≢ CreateAnswer.DiskFault
+            → ((source : AnySource) → result ≢ CreateAnswer.Made source)
+            → IsUntouched self.old self.new }
+    {
+        let answer = self.registry.create(name, uri, id, by);
+        let _slots = self.registry.slots();
+        answer
+    }
+
+    pub fn rename(&mut self, name: &Text, new_name: &Text, by: u32) -> ChangeAnswer
+        ensures called { Called D.Disk self.old self.new (asked.rename name.now new_name.now) by
+            (asked.changed result) }
+        ensures found_stands { StandsInTurn D.Disk self.old }
+        ensures left_stands { StandsInTurn D.Disk self.new }
+        ensures grown { IsGrownBy by (history_of self.old.entries) (history_of self.new.entries) }
+        ensures fixed { fixed_of D.mark self.new ≡ fixed_of D.mark self.old }
+        ensures faults { D.faults self.old.disk ≤ D.faults self.new.disk }
+        ensures as_found { result ≢ ChangeAnswer.DiskFault
+            → ((source : AnySource) → result ≢ ChangeAnswer.Done source)
+            → IsUntouched self.old self.new }
+    {
+        let answer = self.registry.rename(name, new_name, by);
+        let _slots = self.registry.slots();
+        answer
+    }
+
+    pub fn remove(&mut self, name: &Text, by: u32) -> ChangeAnswer
+        ensures called { Called D.Disk self.old self.new (asked.remove name.now) by
+            (asked.changed result) }
+        ensures found_stands { StandsInTurn D.Disk self.old }
+        ensures left_stands { StandsInTurn D.Disk self.new }
+        ensures grown { IsGrownBy by (history_of self.old.entries) (history_of self.new.entries) }
+        ensures fixed { fixed_of D.mark self.new ≡ fixed_of D.mark self.old }
+        ensures faults { D.faults self.old.disk ≤ D.faults self.new.disk }
+        ensures as_found { result ≢ ChangeAnswer.DiskFault
+            → ((source : AnySource) → result ≢ ChangeAnswer.Done source)
+            → IsUntouched self.old self.new }
+    {
+        let answer = self.registry.remove(name, by);
+        let _slots = self.registry.slots();
+        answer
+    }
+}
+
+impl<D: Disk> Chained for RegistryValue<D> {
+    ghost use Rattle.shared_registry.specs.Apart.{events_apart};
+    ghost use Rattle.shared_registry.specs.History.{history_of, fixed_of};
+
+    type Content = Event;
+
+    type Doubt = Event;
+
+    type Fixed = RegistryFixed;
+
+    ghost entries = { λ v. history_of v.entries };
+
+    ghost fault_count = { λ v. D.faults v.disk };
+
+    ghost doubt = { λ v. v.doubt };
+
+    ghost fixed = { λ v. fixed_of D.mark v };
+
+    ghost fits = { λ f es. Unit {0} };
+
+    ghost tells_apart = { events_apart };
+
+    fn count(&self) -> u64 {
+        self.registry.count()
+    }
+
+    fn faults(&self) -> u64 {
+        self.registry.faults()
+    }
+}
