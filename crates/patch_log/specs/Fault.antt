@@ -29,7 +29,8 @@ HasLogFault file number limits (log.WrongNumber found) =
 HasLogFault file number limits (log.OverLimit length limit) =
     HasFault file number limits.bytes (journal.OverLimit length limit)
 HasLogFault file number limits (log.BrokenChain version) =
-    (payloads : List (List ℕ)) × Holds file number payloads × (journal_length payloads ≤ limits.bytes)
+    (payloads : List (List ℕ)) × Holds file number payloads
+    × (journal_length payloads ≤ limits.bytes)
     × BreaksAt (AreChained limits.patches) payloads version
 HasLogFault file number limits log.Failed = Unit {0}
 HasLogFault file number limits log.OutOfMemory = Unit {0}

@@ -92,7 +92,8 @@ abbrev pub HoldsInRun : {D : Type 0} → Ghosts D → ℕ → LogView D → List
 HoldsInRun {D} disks by before patches image =
     MayLeave (disks.past before.disk) image
     ⊎ ((done : List Patch) × (patch : Patch) × (behind : List Patch)
-    × (patches ≡ done ++ patch ∷ behind) × (answers : List LogAnswer) × (mid : LogView D) × Run disks by before done answers mid
+    × (patches ≡ done ++ patch ∷ behind) × (answers : List LogAnswer) × (mid : LogView D)
+    × Run disks by before done answers mid
     × MayHoldDuring before.number (chain_of mid) mid.doubt patch image)
 
 -- whether it is a fault of the disk
