@@ -1,0 +1,10 @@
+pub mod Parts
+pub mod Composing
+pub mod Adding
+pub mod Visiting
+pub mod Deals
+pub mod Columns
+pub mod Ending
+pub mod Opens
+pub mod Shares
+pub mod Still

@@ -1,0 +1,9 @@
+pub mod Dealt
+pub mod Slots
+pub mod Rooms
+pub mod Files
+pub mod Ends
+pub mod Calls
+pub mod Sums
+pub mod Visits
+pub mod Laws

@@ -1,0 +1,21 @@
+//! The logs of a hall, which up to sixteen passes share.
+//!
+//! A pass has a part of each log. A call goes to the log of a slot, is `Legal` there, and leaves the other parts of its
+//! pass as they were. What many calls of a pass come to together is told by `AddsUp` in `specs/`.
+#![tactic(auto)]
+
+mod closing;
+mod dealing;
+mod laws;
+mod logs;
+mod opening;
+mod pass;
+mod refusal;
+mod rooms;
+mod sharing;
+
+pub use laws::{calls_add_up, calls_compose, passes_stay, visits_are_calls, visits_compose};
+pub use logs::HallLogs;
+pub use pass::LogsPass;
+pub use refusal::LogsRefusal;
+pub use rooms::Rooms;
