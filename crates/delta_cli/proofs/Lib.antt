@@ -1,4 +1,5 @@
 mod Answered
 mod Checked
+mod Generated
 mod Printed
 mod Words

@@ -1,9 +1,8 @@
 -- What commands print of a text, or why they don't.
-use Rattle.std.specs.Prelude.{◌≡◌, ℕ, ◌<◌, List, [], ◌∷◌, ◌++◌, length, Option, None, codes}
+use Rattle.std.specs.Prelude.{◌≡◌, ℕ, ◌-◌, ◌/◌, ◌<◌, List, [], ◌∷◌, ◌++◌, length, Option, None, codes}
 use Rattle.std.specs.Fmt.{decimal}
 use Rattle.delta_base.specs.declared.id.Id.{Id}
 use Rattle.rdf_terms.specs.Line.{lines}
-use Rattle.chain_core.specs.Breaks.{last_or}
 use Rattle.chain_core.specs.Links.{IsChain}
 use Rattle.patch_meaning.specs.Patch.{Meaning}
 use Rattle.patch_meaning.specs.Replay.{links_of, replay}
@@ -14,6 +13,7 @@ use Rattle.std.specs.Global.{Vec}
 use Rattle.sink_writing.specs.Writing.{joined}
 use Rattle.stream_replay.specs.declared.fault.ReplayFault.{ReplayFault}
 use Rattle.stream_replay.specs.declared.fault.ReplayFault.TheVariants as replays
+use Rattle.generated_replay.specs.Meanings.{head}
 use Rattle.delta_cli.specs.Channels.{Channel, HasFailed, IsSilent, Writes, WritesFront}
 use Rattle.delta_cli.specs.Document.{IsShown, IsFaulty as IsFaultyDocument}
 use Rattle.delta_cli.specs.Lines.{id_or_none}
@@ -47,12 +47,9 @@ pub record HasLines (text result : List ℕ) : Type 0 where
 abbrev pub counts_line : ℕ → ℕ → Option Id → List ℕ
 counts_line patches quads head = codes "patches " ++ (decimal patches ++ (codes " quads " ++ (decimal quads ++ (codes " head " ++ (id_or_none head ++ 10 ∷ [])))))
 
--- the text is a stream whose patches are a chain, and the line has the counts of their replay
-pub record HasCounts (text line : List ℕ) : Type 0 where
-  pub patches : List Meaning
-  pub stream : IsStream text patches
-  pub chain : IsChain (links_of patches)
-  pub line_is : line ≡ counts_line (length patches) (length (replay patches).quads) (last_or None (links_of patches))
+-- what the stream of so many generated patches comes to: a third of them delete a quad
+abbrev pub generated_line : ℕ → List ℕ
+generated_line patches = counts_line patches (patches - patches / 3) (head patches)
 
 -- these vectors are the canonical lines of the text
 abbrev pub AreShown : List (Vec ℕ) → List ℕ → Type 0
@@ -108,18 +105,6 @@ StopsNquads refusals.InputFailed input input' out out' = HasFailed input input' 
 StopsNquads refusals.OutputFailed input input' out out' = HasFailed out out' × Reads input input' (PrintsFront IsShown out out')
 StopsNquads refusals.OutOfMemory input input' out out' = IsSilent out out'
 StopsNquads other input input' out out' = ⊥
-
--- why a known text is not replayed to its counts
-abbrev pub StopsCounting : List ℕ → Refusal → Channel → Channel → Type 0
-StopsCounting text (refusals.Stream line at kind) out out' =
-    IsFaulty line at kind text × IsSilent out out'
-StopsCounting text (refusals.LongPatch size limit) out out' =
-    IsLong size limit text × IsSilent out out'
-StopsCounting text (refusals.Chain fault) out out' = IsUnchained fault text × IsSilent out out'
-StopsCounting text refusals.TooLong out out' = (stream_limit < length text) × IsSilent out out'
-StopsCounting text refusals.OutputFailed out out' = HasFailed out out' × PrintsFront HasCounts out out' text
-StopsCounting text refusals.OutOfMemory out out' = IsSilent out out'
-StopsCounting text other out out' = ⊥
 
 -- why a known text is not written
 abbrev pub StopsWriting : List ℕ → Refusal → Channel → Channel → Type 0

@@ -12,7 +12,7 @@ use Rattle.delta_cli.specs.Channels.{Channel, HasFailed, IsSilent, Tells, Writes
 use Rattle.delta_cli.specs.Commands.{Asks, RefusesWords}
 use Rattle.delta_cli.specs.Document.{IsShown}
 use Rattle.delta_cli.specs.Lines.{line_of, status_of, out_of_memory_line}
-use Rattle.delta_cli.specs.Results.{Reads, Prints, HasLines, HasCounts, StopsReplay, StopsNquads, StopsCounting, StopsEmitting, StopsWriting}
+use Rattle.delta_cli.specs.Results.{Reads, Prints, HasLines, generated_line, StopsReplay, StopsNquads, StopsPrinting, StopsEmitting, StopsWriting}
 use Rattle.delta_cli.specs.Told.{Told, LeavesInput, LeavesFiles, LeavesAll}
 use Rattle.delta_cli.specs.declared.command.Command.{Command}
 use Rattle.delta_cli.specs.declared.command.Command.TheVariants as commands
@@ -39,7 +39,7 @@ check_refusal fault = refusals.File fault
 abbrev pub Does : Command → Type 0 → Told → Told → Type 0
 Does commands.Replay tells old new = Reads old.input new.input (Prints HasLines old.out new.out) × LeavesFiles old new
 Does commands.Nquads tells old new = Reads old.input new.input (Prints IsShown old.out new.out) × LeavesFiles old new
-Does (commands.Gen patches) tells old new = Prints HasCounts old.out new.out (stream_text patches) × LeavesInput old new × LeavesFiles old new
+Does (commands.Gen patches) tells old new = Writes old.out new.out (generated_line patches) × LeavesInput old new × LeavesFiles old new
 Does (commands.Emit patches) tells old new = Writes old.out new.out (stream_text patches) × LeavesInput old new × LeavesFiles old new
 Does (commands.Init dir slots) tells old new =
     (tells → IsInitial dir slots old.files new.files) × Spares dir slots tells old.files new.files × LeavesInput old new × (new.out ≡ old.out)
@@ -77,7 +77,7 @@ StopsCheck dir tells files files' faults faults' out out' other = ⊥
 abbrev pub Stops : Command → Refusal → Type 0 → Told → Told → Type 0
 Stops commands.Replay refusal tells old new = StopsReplay refusal old.input new.input old.out new.out × LeavesFiles old new
 Stops commands.Nquads refusal tells old new = StopsNquads refusal old.input new.input old.out new.out × LeavesFiles old new
-Stops (commands.Gen patches) refusal tells old new = StopsCounting (stream_text patches) refusal old.out new.out × LeavesInput old new × LeavesFiles old new
+Stops (commands.Gen patches) refusal tells old new = StopsPrinting (generated_line patches) old.out new.out refusal × LeavesInput old new × LeavesFiles old new
 Stops (commands.Emit patches) refusal tells old new = StopsEmitting (stream_text patches) refusal old.out new.out × LeavesInput old new × LeavesFiles old new
 Stops (commands.Init dir slots) refusal tells old new =
     StopsInit dir slots tells old.files new.files old.shelf_faults new.shelf_faults refusal × Spares dir slots tells old.files new.files × LeavesInput old new × (new.out ≡ old.out)

@@ -1,12 +1,11 @@
 //! The commands `gen` and `emit`: the stream of the generator, replayed to its counts, or written.
 ghost use Rattle.std.specs.Prelude.{◌≡◌, ◌≤◌, IfOk, IfErr, OnOk};
 ghost use Rattle.stream_generator.specs.Generator.{stream_text};
-ghost use Rattle.delta_cli.specs.Channels.{Channel, Writes, channel};
-ghost use Rattle.delta_cli.specs.Results.{HasCounts, Prints, StopsCounting, StopsEmitting, counts_line};
+ghost use Rattle.delta_cli.specs.Channels.{Writes, channel};
+ghost use Rattle.delta_cli.specs.Results.{StopsEmitting, StopsPrinting, counts_line, generated_line};
 
 use crate::lines::push_id;
 use crate::refusal::Refusal;
-use crate::replay::refusal_of;
 use delta_base::{Id, OutOfMemory, Sink};
 use sink_writing::{Room, write_all};
 use std::alloc::Global;
@@ -16,38 +15,32 @@ use stream_replay::{ReplayFault, replay_source};
 /// Replays so many patches, and writes how many patches and quads there are, and the last patch's id.
 pub fn generate<K: Sink>(alloc: Global, patches: u32, out: &mut K) -> Result<(), Refusal>
     requires { patches ≤ 65536 }
-    ensures done { OnOk result (Prints HasCounts (channel (K.written out.old) (K.faults out.old)) (channel (K.written out.new) (K.faults out.new)) (stream_text patches)) }
-    ensures stopped { IfErr result (λ refusal. StopsCounting (stream_text patches) refusal (channel (K.written out.old) (K.faults out.old)) (channel (K.written out.new) (K.faults out.new))) }
+    ensures done { OnOk result (Writes (channel (K.written out.old) (K.faults out.old))
+        (channel (K.written out.new) (K.faults out.new)) (generated_line patches)) }
+    ensures stopped { IfErr result (StopsPrinting (generated_line patches)
+        (channel (K.written out.old) (K.faults out.old))
+        (channel (K.written out.new) (K.faults out.new))) }
 {
-    match count(alloc, patches) {
-        Ok(line) => {
-            if write_all(out, line.as_slice()).is_ok() {
-                Ok(())
-            } else {
-                Err(Refusal::OutputFailed)
-            }
-        }
-        Err(refusal) => Err(refusal),
-    }
+    let line = count(alloc, patches)?;
+    write_all(out, line.as_slice()).map_err(|_| Refusal::OutputFailed)
 }
 
-// The line with the counts of so many patches.
-fn count(alloc: Global, patches: u32) -> Result<Vec<u8>, Refusal>
+// The line with the counts of so many patches. Their stream has no fault, and the generator fails only where there is no memory
+// for its next patch; so only want of memory stops their replay.
+fn count(alloc: Global, patches: u32) -> Result<Vec<u8>, OutOfMemory>
     requires { patches ≤ 65536 }
-    ensures ok { IfOk result (λ line. HasCounts (stream_text patches) line.items) }
-    ensures stopped { IfErr result (λ refusal. (out : Channel) → StopsCounting (stream_text patches) refusal out out) }
+    ensures { IfOk result (λ line. line.items ≡ generated_line patches) }
 {
     let mut source = GeneratedSource::new(alloc, patches);
     match replay_source(alloc, &mut source) {
-        Ok(replayed) => {
-            match counts_line(alloc, replayed.patches, replayed.quads, replayed.head) {
-                Ok(line) => Ok(line),
-                Err(_) => Err(Refusal::OutOfMemory),
-            }
+        Ok(replayed) => counts_line(alloc, replayed.patches, replayed.quads, replayed.head),
+        Err(fault) => {
+            prove!(matches!(
+                fault,
+                ReplayFault::Failed | ReplayFault::OutOfMemory
+            ));
+            Err(OutOfMemory)
         }
-        // The generator fails only where there is no memory for its next patch.
-        Err(ReplayFault::Failed) => Err(Refusal::OutOfMemory),
-        Err(fault) => Err(refusal_of(fault)),
     }
 }
 

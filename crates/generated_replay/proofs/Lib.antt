@@ -1,6 +1,6 @@
 mod Values
-mod Rows
+pub mod Rows
 mod Lines
-mod Cutting
-mod Chained
-mod Counted
+pub mod Cutting
+pub mod Chained
+pub mod Counted
