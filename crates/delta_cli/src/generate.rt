@@ -78,5 +78,8 @@ pub fn emit<K: Sink>(alloc: Global, patches: u32, out: &mut K) -> Result<(), Ref
             return Err(Refusal::OutputFailed);
         };
     }
-    room.write_out(out).map_err(|_| Refusal::OutputFailed)
+    let Ok(()) = room.write_out(out) else {
+        return Err(Refusal::OutputFailed);
+    };
+    Ok(())
 }

@@ -3,15 +3,25 @@ use Rattle.std.specs.Prelude.{◌≡◌, ℕ, ◌≤◌, true, false, List, [], 
 use Rattle.nquads_text.specs.Fault.{Fault as TextFault}
 use Rattle.nquads_text.specs.Reading.{char_at}
 use Rattle.patch_rows.specs.declared.row.Row.{Row}
+use Rattle.patch_rows.specs.declared.fault.RowFault.{RowFault}
 use Rattle.patch_rows.specs.Reading.{space_behind, skip_space}
 use Rattle.patch_reader.specs.declared.placed.PlacedRow.{PlacedRow}
 use Rattle.patch_rows.specs.declared.cut.TextEnd.{TextEnd}
 use Rattle.patch_rows.specs.declared.cut.TextEnd.TheVariants as ends
-use Rattle.patch_reader.specs.declared.pieces.PatchReader.{PatchReader}
 use Rattle.patch_reader.specs.declared.progress.Region.{Region}
 use Rattle.patch_reader.specs.declared.progress.Region.TheVariants as regions
 use Rattle.patch_reader.specs.Progress.{Follows}
 use Rattle.patch_reader.specs.Rows.{RowsStand, Stops, Keeps}
+
+-- A reader as its callers see it: the rows that are ready and the fault that was met; the place behind the last row, and what is kept of the
+-- text behind that, from which place on, and what stands there.
+pub record Reader : Type 0 where
+  pub ready : List PlacedRow
+  pub fault : Option RowFault
+  pub passed : ℕ
+  pub from : ℕ
+  pub kept : List ℕ
+  pub region : Region
 
 -- ---- what is kept of the text behind the last row
 
@@ -32,8 +42,8 @@ IsStuck kept (regions.Row progress) = Unit {0}
 abbrev pub IsTail : List ℕ → ℕ → ℕ → List ℕ → Region → Type 0
 IsTail text passed from kept region = Keeps text from kept × (passed ≤ from) × IsRegion text passed from kept region
 
-abbrev pub IsHeld : List ℕ → PatchReader → Type 0
-IsHeld text r = IsTail text r.passed r.from r.kept.items r.region
+abbrev pub IsHeld : List ℕ → Reader → Type 0
+IsHeld text r = IsTail text r.passed r.from r.kept r.region
 
 -- behind the last row and where what is kept begins the same stands behind white space and comments: whatever follows, or in the whole text
 abbrev pub IsSameGap : TextEnd → List ℕ → ℕ → ℕ → Type 0
@@ -44,18 +54,18 @@ IsSameGap ends.Known text passed from = skip_space (drop passed text) ≡ skip_s
 
 -- This text was fed, and these rows were taken. They and those that are ready stand one behind another in it, and behind them nothing more is decided, or
 -- where the text is known to be whole only white space and comments stand there; or there is the fault. Behind want of memory nothing is known.
-pub record Stands (end : TextEnd) (text : List ℕ) (taken : List PlacedRow) (r : PatchReader) : Type 0 where
-  pub rows_ : RowsStand end text 0 (taken ++ r.ready.items) r.passed
+pub record Stands (end : TextEnd) (text : List ℕ) (taken : List PlacedRow) (r : Reader) : Type 0 where
+  pub rows_ : RowsStand end text 0 (taken ++ r.ready) r.passed
   pub stops : Stops end text r.passed r.fault
   pub within : r.passed ≤ length text
-  pub held : r.fault ≡ None → IsHeld text r × IsStuck r.kept.items r.region
+  pub held : r.fault ≡ None → IsHeld text r × IsStuck r.kept r.region
 
 -- the row that is answered was taken, or none was ready
-abbrev pub Takes : TextEnd → List ℕ → List PlacedRow → PatchReader → Option PlacedRow → PatchReader → Type 0
+abbrev pub Takes : TextEnd → List ℕ → List PlacedRow → Reader → Option PlacedRow → Reader → Type 0
 Takes end text taken old (Some r) new = Stands end text (taken ++ r ∷ []) new
-Takes end text taken old None new = Stands end text taken new × (old.ready.items ≡ [])
+Takes end text taken old None new = Stands end text taken new × (old.ready ≡ [])
 
 -- the same without its places
-abbrev pub TakesRow : TextEnd → List ℕ → List PlacedRow → PatchReader → Option Row → PatchReader → Type 0
+abbrev pub TakesRow : TextEnd → List ℕ → List PlacedRow → Reader → Option Row → Reader → Type 0
 TakesRow end text taken old (Some row) new = (r : PlacedRow) × (r.row ≡ row) × Stands end text (taken ++ r ∷ []) new
-TakesRow end text taken old None new = Stands end text taken new × (old.ready.items ≡ [])
+TakesRow end text taken old None new = Stands end text taken new × (old.ready ≡ [])

@@ -21,6 +21,7 @@ use patch_rows::parts::{is_cut_at, pass_gap};
 use patch_rows::{Row, RowFault, TextEnd};
 use std::alloc::Global;
 use std::collections::VecDeque;
+use std::marker::Model;
 
 /// Lets the first bytes go.
 fn drop_front(bytes: &mut Vec<u8>, size: usize)
@@ -72,6 +73,21 @@ pub struct PatchReader {
     fault: Option<RowFault>,
 }
 
+impl Model for PatchReader {
+    ghost use Rattle.patch_reader.specs.Pieces.{Reader};
+
+    ghost Value = { Reader };
+
+    ghost view = { λ r. record {
+      ready = r.ready.items;
+      fault = r.fault;
+      passed = r.passed;
+      from = r.from;
+      kept = r.kept.items;
+      region = r.region;
+    } };
+}
+
 impl PatchReader {
     pub fn new(alloc: Global) -> PatchReader
         ensures stands { Stands ends.Open [] [] result }
@@ -90,8 +106,8 @@ impl PatchReader {
 
     /// Lets the first bytes of what is kept go.
     fn pass(&mut self, size: usize)
-        requires { size ≤ length self.old.kept.items }
-        ensures kept { self.new.kept.items ≡ drop size self.old.kept.items }
+        requires { size ≤ length self.old.kept }
+        ensures kept { self.new.kept ≡ drop size self.old.kept }
         ensures from { self.new.from ≡ further_place self.old.from size }
         ensures same { (self.new.region ≡ self.old.region) × (self.new.passed ≡ self.old.passed) × (self.new.ready ≡ self.old.ready) × (self.new.fault ≡ self.old.fault) }
     {
@@ -103,7 +119,7 @@ impl PatchReader {
     fn skip_gap(&mut self, in_comment: bool)
         requires { self.old.region ≡ regions.Gap in_comment }
         ensures held { (text : List ℕ) → IsHeld text self.old → IsHeld text self.new }
-        ensures stuck { IsStuck self.new.kept.items self.new.region }
+        ensures stuck { IsStuck self.new.kept self.new.region }
         ensures same { (self.new.passed ≡ self.old.passed) × (self.new.ready ≡ self.old.ready) × (self.new.fault ≡ self.old.fault) }
     {
         let (at, comment) = pass_gap(&self.kept, 0, in_comment);
@@ -119,9 +135,9 @@ impl PatchReader {
     /// Whether nothing can be decided yet, as far as that is known.
     fn is_unfinished(&mut self) -> bool
         ensures held { (text : List ℕ) → IsHeld text self.old → IsHeld text self.new }
-        ensures stuck { IsStuck self.old.kept.items self.old.region → IsStuck self.new.kept.items self.new.region }
+        ensures stuck { IsStuck self.old.kept self.old.region → IsStuck self.new.kept self.new.region }
         ensures nothing { result ≡ true → (text : List ℕ) → IsHeld text self.old → NothingDecided text self.old.passed }
-        ensures gap { result ≡ false → (text : List ℕ) → IsHeld text self.old → IsStuck self.old.kept.items self.old.region → IsSameGap ends.Open text self.old.passed self.old.from }
+        ensures gap { result ≡ false → (text : List ℕ) → IsHeld text self.old → IsStuck self.old.kept self.old.region → IsSameGap ends.Open text self.old.passed self.old.from }
         ensures same { (self.new.from ≡ self.old.from) × (self.new.passed ≡ self.old.passed) × (self.new.ready ≡ self.old.ready) × (self.new.fault ≡ self.old.fault) }
     {
         match self.region {
@@ -138,8 +154,8 @@ impl PatchReader {
 
     /// Lets rows go that were read.
     fn pass_rows(&mut self, size: usize)
-        requires { size ≤ length self.old.kept.items }
-        ensures kept { self.new.kept.items ≡ drop size self.old.kept.items }
+        requires { size ≤ length self.old.kept }
+        ensures kept { self.new.kept ≡ drop size self.old.kept }
         ensures from { self.new.from ≡ further_place self.old.from size }
         ensures passed { self.new.passed ≡ further_place self.old.from size }
         ensures region { self.new.region ≡ regions.Gap false }
@@ -152,11 +168,11 @@ impl PatchReader {
 
     /// Reads the rows of what is kept, as far as they are known.
     fn read(&mut self, end: TextEnd)
-        ensures adds { (text : List ℕ) → IsHeld text self.old → IsSameGap end text self.old.passed self.old.from → Adds end text self.old.passed self.old.ready.items self.new.ready.items self.new.passed }
+        ensures adds { (text : List ℕ) → IsHeld text self.old → IsSameGap end text self.old.passed self.old.from → Adds end text self.old.passed self.old.ready self.new.ready self.new.passed }
         ensures stops { (text : List ℕ) → IsHeld text self.old → IsSameGap end text self.old.passed self.old.from → Stops end text self.new.passed self.new.fault }
-        ensures held { (text : List ℕ) → IsHeld text self.old → IsStuck self.old.kept.items self.old.region → IsHeld text self.new × IsStuck self.new.kept.items self.new.region }
+        ensures held { (text : List ℕ) → IsHeld text self.old → IsStuck self.old.kept self.old.region → IsHeld text self.new × IsStuck self.new.kept self.new.region }
         ensures within { (text : List ℕ) → IsHeld text self.old → self.new.passed ≤ length text }
-        ensures stay { StayReady self.old.ready.items self.new.ready.items }
+        ensures stay { StayReady self.old.ready self.new.ready }
     {
         let (size, fault) = take_rows(self.alloc, &self.kept, self.from, end, &mut self.ready);
         self.fault = fault;
@@ -169,7 +185,7 @@ impl PatchReader {
     /// Lets white space and comments in front of a row go, where it isn't in one.
     fn enter_row(&mut self)
         ensures held { (text : List ℕ) → IsHeld text self.old → IsHeld text self.new }
-        ensures stuck { IsStuck self.new.kept.items self.new.region }
+        ensures stuck { IsStuck self.new.kept self.new.region }
         ensures same { (self.new.passed ≡ self.old.passed) × (self.new.ready ≡ self.old.ready) × (self.new.fault ≡ self.old.fault) }
     {
         if let Region::Gap { comment } = self.region {
@@ -180,11 +196,11 @@ impl PatchReader {
     /// Reads the rows that are decided.
     fn read_decided(&mut self)
         requires { self.old.fault ≡ None }
-        ensures adds { (text : List ℕ) → IsHeld text self.old → IsStuck self.old.kept.items self.old.region → Adds ends.Open text self.old.passed self.old.ready.items self.new.ready.items self.new.passed }
-        ensures stops { (text : List ℕ) → IsHeld text self.old → IsStuck self.old.kept.items self.old.region → Stops ends.Open text self.new.passed self.new.fault }
-        ensures held { (text : List ℕ) → IsHeld text self.old → IsStuck self.old.kept.items self.old.region → IsHeld text self.new × IsStuck self.new.kept.items self.new.region }
+        ensures adds { (text : List ℕ) → IsHeld text self.old → IsStuck self.old.kept self.old.region → Adds ends.Open text self.old.passed self.old.ready self.new.ready self.new.passed }
+        ensures stops { (text : List ℕ) → IsHeld text self.old → IsStuck self.old.kept self.old.region → Stops ends.Open text self.new.passed self.new.fault }
+        ensures held { (text : List ℕ) → IsHeld text self.old → IsStuck self.old.kept self.old.region → IsHeld text self.new × IsStuck self.new.kept self.new.region }
         ensures within { (text : List ℕ) → IsHeld text self.old → self.new.passed ≤ length text }
-        ensures stay { StayReady self.old.ready.items self.new.ready.items }
+        ensures stay { StayReady self.old.ready self.new.ready }
     {
         if self.is_unfinished() {
             return;
@@ -207,7 +223,7 @@ impl PatchReader {
         ensures stands { (fed : List ℕ) (taken : List Placed) → Stands ends.Open fed taken self.old → length (fed ++ piece.now) < 2 ^ 64 → Stands ends.Open (fed ++ piece.now) taken self.new }
         ensures answer { MatchResult result (λ _. self.new.fault ≡ None) (λ fault. self.new.fault ≡ Some fault) }
         ensures stays { (fault : Answer) → self.old.fault ≡ Some fault → self.new ≡ self.old }
-        ensures ready { StayReady self.old.ready.items self.new.ready.items }
+        ensures ready { StayReady self.old.ready self.new.ready }
     {
         if let Some(fault) = self.fault {
             return Err(fault);
@@ -227,7 +243,7 @@ impl PatchReader {
         ensures again { (text : List ℕ) (taken : List Placed) → Stands ends.Known text taken self.old → length text < 2 ^ 64 → Stands ends.Known text taken self.new }
         ensures answer { MatchResult result (λ _. self.new.fault ≡ None) (λ fault. self.new.fault ≡ Some fault) }
         ensures stays { (fault : Answer) → self.old.fault ≡ Some fault → self.new ≡ self.old }
-        ensures ready { StayReady self.old.ready.items self.new.ready.items }
+        ensures ready { StayReady self.old.ready self.new.ready }
     {
         if let Some(fault) = self.fault {
             return Err(fault);
@@ -239,8 +255,8 @@ impl PatchReader {
     /// The next row with its places; none where no row is ready.
     pub fn take_placed(&mut self) -> Option<PlacedRow>
         ensures takes { (end : End) (text : List ℕ) (taken : List Placed) → Stands end text taken self.old → Takes end text taken self.old result self.new }
-        ensures ready { self.old.ready.items ≡ option_to_list result ++ self.new.ready.items }
-        ensures none { IfNone result (self.old.ready.items ≡ []) }
+        ensures ready { self.old.ready ≡ option_to_list result ++ self.new.ready }
+        ensures none { IfNone result (self.old.ready ≡ []) }
         ensures fault { self.new.fault ≡ self.old.fault }
     {
         self.ready.pop_front()
@@ -249,7 +265,7 @@ impl PatchReader {
     /// The next row; none where no row is ready.
     pub fn take_row(&mut self) -> Option<Row>
         ensures takes { (end : End) (text : List ℕ) (taken : List Placed) → Stands end text taken self.old → TakesRow end text taken self.old result self.new }
-        ensures ready { MatchOption result ((self.old.ready.items ≡ []) × (self.new.ready.items ≡ [])) (λ _. length self.new.ready.items + 1 ≡ length self.old.ready.items) }
+        ensures ready { MatchOption result ((self.old.ready ≡ []) × (self.new.ready ≡ [])) (λ _. length self.new.ready + 1 ≡ length self.old.ready) }
         ensures fault { self.new.fault ≡ self.old.fault }
     {
         match self.take_placed() {

@@ -109,7 +109,13 @@ fn each_term_has_its_place(rt: HostRuntime) {
         TextKind::BadPosition,
     );
     fails_as_text(&rt, alloc, b"PA <a:b> <a:b> .", 3, TextKind::BadPosition);
-    fails_as_text(&rt, alloc, b"PA \"ex\"@en <a:b> .", 3, TextKind::BadPosition);
+    fails_as_text(
+        &rt,
+        alloc,
+        b"PA \"ex\"@en <a:b> .",
+        3,
+        TextKind::BadPosition,
+    );
     fails_as_text(&rt, alloc, b"PA 1 <http://e/> .", 3, TextKind::BadToken);
     fails_as_text(&rt, alloc, b"H <a:b> .", 2, TextKind::BadToken);
 }

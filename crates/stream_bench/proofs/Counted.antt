@@ -4,11 +4,10 @@ use Rattle.std.proofs.lemmas.List.{length-append, take-append-drop}
 use Rattle.patch_rows.specs.declared.row.Row.{Row}
 use Rattle.patch_rows.specs.declared.fault.RowFault.{RowFault}
 use Rattle.patch_rows.specs.Grammar.{IsRowAt}
-use Rattle.patch_reader.specs.declared.pieces.PatchReader.{PatchReader}
 use Rattle.patch_reader.specs.declared.placed.PlacedRow.{PlacedRow}
 use Rattle.patch_rows.specs.declared.cut.TextEnd.{TextEnd}
 use Rattle.patch_rows.specs.declared.cut.TextEnd.TheVariants as ends
-use Rattle.patch_reader.specs.Pieces.{Stands, TakesRow}
+use Rattle.patch_reader.specs.Pieces.{Reader, Stands, TakesRow}
 use Rattle.patch_reader.specs.Rows.{RowsUpTo, RowsStand, Stops}
 use Rattle.stream_bench.specs.Counting.{HasRows, TakesSome}
 
@@ -22,19 +21,19 @@ stand_count : (end : TextEnd) (text : List ℕ) (from to : ℕ) (rows_ : List Pl
 stand_count ends.Open text from to rows_ up = rows_count (text ++ []) from to rows_ (up [])
 stand_count ends.Known text from to rows_ up = rows_count text from to rows_ up
 
-pub took : (end : TextEnd) (text : List ℕ) (old new : PatchReader) (row : Row) (count : ℕ) → ((taken : List PlacedRow) → Stands end text taken old → TakesRow end text taken old (Some row) new) → length text < 2 ^ 64
+pub took : (end : TextEnd) (text : List ℕ) (old new : Reader) (row : Row) (count : ℕ) → ((taken : List PlacedRow) → Stands end text taken old → TakesRow end text taken old (Some row) new) → length text < 2 ^ 64
     → TakesSome end text old count → TakesSome end text new (min (count + 1) (2 ^ 64 - 1))
 took end text old new row count takes fits (taken, s, size) =
     let t = takes taken s in
-    let rows_ = (taken ++ t.0 ∷ []) ++ new.ready.items in
+    let rows_ = (taken ++ t.0 ∷ []) ++ new.ready in
     let most = stand_count end text 0 new.passed rows_ t.2.rows_ in
     let within = t.2.within in
     let sum : length (taken ++ t.0 ∷ []) ≡ count + 1 = omega (arith, size, length-append taken (t.0 ∷ [])) in
-    let low : count + 1 ≤ 2 ^ 64 - 1 = omega (arith, sum, most, within, fits, length-append (taken ++ t.0 ∷ []) new.ready.items) in
+    let low : count + 1 ≤ 2 ^ 64 - 1 = omega (arith, sum, most, within, fits, length-append (taken ++ t.0 ∷ []) new.ready) in
     let same : min (count + 1) (2 ^ 64 - 1) ≡ count + 1 = grind (arith, low) in
     (taken ++ t.0 ∷ [], t.2, sum ∙ sym same)
 
-pub none_taken : (end : TextEnd) (text : List ℕ) (old new : PatchReader) (count : ℕ) → ((taken : List PlacedRow) → Stands end text taken old → TakesRow end text taken old None new) → TakesSome end text old count → TakesSome end text new count
+pub none_taken : (end : TextEnd) (text : List ℕ) (old new : Reader) (count : ℕ) → ((taken : List PlacedRow) → Stands end text taken old → TakesRow end text taken old None new) → TakesSome end text old count → TakesSome end text new count
 none_taken end text old new count takes (taken, s, size) = (taken, (takes taken s).0, size)
 
 rows_end : (rows_ : List PlacedRow) → rows_ ++ [] ≡ rows_
@@ -42,7 +41,7 @@ rows_end [] = refl
 rows_end (r ∷ rows_) = ap (λ (t : List PlacedRow). r ∷ t) (rows_end rows_)
 
 -- behind the end of a text without a fault, all its rows were counted
-pub all_counted : (text : List ℕ) (r : PatchReader) (count : ℕ) → r.fault ≡ None → r.ready.items ≡ [] → TakesSome ends.Known text r count → HasRows text count
+pub all_counted : (text : List ℕ) (r : Reader) (count : ℕ) → r.fault ≡ None → r.ready ≡ [] → TakesSome ends.Known text r count → HasRows text count
 all_counted text r count none empty (taken, s, size) = (
   taken,
   r.passed,

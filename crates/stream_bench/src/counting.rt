@@ -11,9 +11,9 @@ use std::alloc::Global;
 /// Whether a row was ready, which is taken.
 fn take_one(reader: &mut PatchReader) -> bool
     ensures some { result ≡ true → (end : End) (text : List ℕ) (count : ℕ) → length text < 2 ^ 64 → TakesSome end text reader.old count → TakesSome end text reader.new (min (count + 1) (2 ^ 64 - 1)) }
-    ensures fewer { result ≡ true → length reader.new.ready.items < length reader.old.ready.items }
+    ensures fewer { result ≡ true → length reader.new.ready < length reader.old.ready }
     ensures none { result ≡ false → (end : End) (text : List ℕ) (count : ℕ) → TakesSome end text reader.old count → TakesSome end text reader.new count }
-    ensures all { result ≡ false → reader.new.ready.items ≡ [] }
+    ensures all { result ≡ false → reader.new.ready ≡ [] }
     ensures fault { reader.new.fault ≡ reader.old.fault }
 {
     match reader.take_row() {
@@ -25,7 +25,7 @@ fn take_one(reader: &mut PatchReader) -> bool
 /// Takes the rows that are ready, and counts them.
 fn take_rows(reader: &mut PatchReader, before: usize) -> usize
     ensures takes { (end : End) (text : List ℕ) → length text < 2 ^ 64 → TakesSome end text reader.old before → TakesSome end text reader.new result }
-    ensures all { reader.new.ready.items ≡ [] }
+    ensures all { reader.new.ready ≡ [] }
     ensures fault { reader.new.fault ≡ reader.old.fault }
 {
     let mut count = before;

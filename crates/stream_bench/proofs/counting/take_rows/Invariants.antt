@@ -8,4 +8,4 @@ abbrev pub invariant-rows : goal.invariant-rows
 invariant-rows l = ((end : TextEnd) (text : List ℕ) → length text < 2 ^ 64 → TakesSome end text l.initial.reader l.before → TakesSome end text l.reader l.count) × (l.reader.fault ≡ l.initial.reader.fault)
 
 abbrev pub decreases-rows : goal.decreases-rows
-decreases-rows l = length l.reader.ready.items
+decreases-rows l = length l.reader.ready
