@@ -1,6 +1,6 @@
 -- The rows of a patch of the stream, and their lines.
 use Rattle.std.proofs.Common.{◌≡◌, ℕ, zero, suc, pred, ◌+◌, ◌*◌, ◌/◌, ◌%◌, ◌^◌, ◌<◌, ◌≤◌, ◌==◌, Bool, true, false, cond, List, [], ◌∷◌, ◌++◌, length, refl, sym, ap, ap₂, ◌∙◌, arith, append_assoc}
-use Rattle.std.specs.Prelude.{codes}
+use Rattle.std.specs.Prelude.{codes, IsUtf8}
 use Rattle.std.specs.Fmt.{decimal}
 use Rattle.std.specs.List.{flat_map}
 use Rattle.std.proofs.lemmas.Grind.{flat_map-append}
@@ -15,7 +15,7 @@ use Rattle.patch_rows.specs.Printing.{row_text, quad_text as terms_text, IsRowVa
 use Rattle.stream_generator.specs.Generator.{id_of, id_row, prev_row, quad_text, quad_row, delete_row, block_rows, patch_text, patches_from, stream_text}
 use Rattle.stream_generator.proofs.Appending.{patch_short}
 use Rattle.generated_replay.specs.Meanings.{quad}
-use Rattle.generated_replay.proofs.Values.{decimal_plain, id_value, quad_values}
+use Rattle.generated_replay.proofs.Values.{ascii_text, decimal_plain, id_value, quad_values}
 
 -- ---- rows as lines
 
@@ -154,8 +154,8 @@ stream_lines (suc count) k small =
 plain : (r : Row) → IsRowValue r → IsWritable r → IsPrinted r
 plain r value writable = record { value = value; writable = writable }
 
-id_printed : (key : List ℕ) (number : ℕ) → IsKey key → IsPrinted (row.Header key (term.Iri (codes "uuid:" ++ text_of number)))
-id_printed key number is = record { value = id_value number; writable = is }
+id_printed : (key : List ℕ) (number : ℕ) → IsUtf8 key → IsKey key → IsPrinted (row.Header key (term.Iri (codes "uuid:" ++ text_of number)))
+id_printed key number is_text is_key = record { value = (is_text, id_value number); writable = is_key }
 
 block_printed : (third : Bool) (k : ℕ) → k < 2 ^ 64 → ArePrinted (begun ∷ added k ∷ (cond third (deleted k ∷ []) [] ++ committed ∷ []))
 block_printed true k small =
@@ -163,9 +163,9 @@ block_printed true k small =
 block_printed false k small = (plain begun tt tt, (plain (added k) (quad_values k small) refl, (plain committed tt tt, tt)))
 
 printed_with : (first third : Bool) (k : ℕ) → k < 2 ^ 64 → ArePrinted (rows_with first third k)
-printed_with true third k small = (id_printed (codes "id") (id_of k) (refl, refl), block_printed third k small)
+printed_with true third k small = (id_printed (codes "id") (id_of k) (ascii_text (codes "id") refl) (refl, refl), block_printed third k small)
 printed_with false third k small =
-    (id_printed (codes "id") (id_of k) (refl, refl), (id_printed (codes "prev") (id_of (pred k)) (refl, refl), block_printed third k small))
+    (id_printed (codes "id") (id_of k) (ascii_text (codes "id") refl) (refl, refl), (id_printed (codes "prev") (id_of (pred k)) (ascii_text (codes "prev") refl) (refl, refl), block_printed third k small))
 
 printed-append : (rs ss : List Row) → ArePrinted rs → ArePrinted ss → ArePrinted (rs ++ ss)
 printed-append [] ss first second = second

@@ -92,29 +92,29 @@ iri_of front rest first scheme behind = record {
 low : (b : ℕ) → nat_lt b 128 ≡ true → b < 128
 low b is = grind (arith, nat_tests)
 
-ascii_front : (front : List ℕ) → list_all (λ b. nat_lt b 128) front ≡ true → IsUtf8 front
-ascii_front front all =
+pub ascii_text : (front : List ℕ) → list_all (λ b. nat_lt b 128) front ≡ true → IsUtf8 front
+ascii_text front all =
     IsUtf8-from_ascii front (IsAscii-from_all front
     (All-weaker (λ b. nat_lt b 128 ≡ true) (λ b. b < 128) low front (AllPass-from_list_all (λ b. nat_lt b 128) front all)))
 
 pub id_value : (number : ℕ) → IsTermValue (term.Iri (codes "uuid:" ++ text_of number))
 unfolding has_scheme ends_scheme
 id_value number = (
-  IsUtf8-append (codes "uuid:") (text_of number) (ascii_front (codes "uuid:") refl) (text_of-utf8 number),
+  IsUtf8-append (codes "uuid:") (text_of number) (ascii_text (codes "uuid:") refl) (text_of-utf8 number),
   iri_of (codes "uuid:") (text_of number) refl refl (id_allowed number),
 )
 
 subject_value : (n : ℕ) → n < 2 ^ 64 → IsTermValue (term.Iri (codes "http://g/s" ++ decimal n))
 unfolding has_scheme ends_scheme
 subject_value n small = (
-  IsUtf8-append (codes "http://g/s") (decimal n) (ascii_front (codes "http://g/s") refl) (decimal_utf8 n small),
+  IsUtf8-append (codes "http://g/s") (decimal n) (ascii_text (codes "http://g/s") refl) (decimal_utf8 n small),
   iri_of (codes "http://g/s") (decimal n) refl refl (decimal_allowed n small),
 )
 
 predicate_value : (n : ℕ) → n < 2 ^ 64 → IsTermValue (term.Iri (codes "http://g/p" ++ decimal n))
 unfolding has_scheme ends_scheme
 predicate_value n small = (
-  IsUtf8-append (codes "http://g/p") (decimal n) (ascii_front (codes "http://g/p") refl) (decimal_utf8 n small),
+  IsUtf8-append (codes "http://g/p") (decimal n) (ascii_text (codes "http://g/p") refl) (decimal_utf8 n small),
   iri_of (codes "http://g/p") (decimal n) refl refl (decimal_allowed n small),
 )
 
