@@ -1,6 +1,6 @@
 -- The grammar of statements and documents, in the words of RDF 1.1 N-Quads, over that of terms. A relation `X text value after` says
 -- that the text begins with an X of that value, behind which `after` stands.
-use Rattle.std.specs.Prelude.{◌≡◌, ℕ, ◌⊎◌, Bool, true, false, List, [], ◌∷◌, ◌++◌, IsTrue, ◌==◌, ◌||◌, not, Option, Some, None, IsUtf8}
+use Rattle.std.specs.Prelude.{◌≡◌, ℕ, ◌⊎◌, true, false, List, [], ◌∷◌, ◌++◌, IsTrue, not, Option, Some, None, IsUtf8}
 use Rattle.std.specs.List.{list_all}
 use Rattle.rdf_terms.specs.declared.term.Term.{Term}
 use Rattle.rdf_terms.specs.Quad.{Statement, is_iri, is_literal}

@@ -1,7 +1,6 @@
 use Rattle.std.proofs.Common.{◌≡◌, ◌++◌, ℕ, List, ap, subst, sym, ◌∙◌}
 use Rattle.std.specs.Global.{Vec}
 use Rattle.std.specs.Str.{IsUtf8}
-use Rattle.std.specs.String.{string_bytes}
 use Rattle.nquads_text.specs.Grammar.{TermAt}
 use Rattle.rdf_terms.specs.Line.{term_text}
 use Rattle.nquads_text.proofs.Printed.{printed}
