@@ -21,7 +21,7 @@ pub use answer::{ChangeAnswer, CreateAnswer};
 pub use event::{Entry, Event};
 pub use laws::sources_are_apart;
 pub use living::copies;
-pub use lookups::{find_named, find_with_id, find_with_uri};
+pub use lookups::{find_named, find_with_id, find_with_uri, listed};
 pub use names::{name_fault, uri_fault};
 pub use opening::{PayloadFault, read_registry};
 pub use registry::{Ready, Registry};

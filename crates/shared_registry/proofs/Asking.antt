@@ -1,35 +1,38 @@
--- What a pass is told that only asks the registry.
-use Rattle.std.proofs.Common.{◌≡◌, ℕ, ap, sym, ◌∙◌, List, Option, Some}
-use Rattle.std.specs.Prelude.{Result, Ok, Err, IfOk}
+-- The names that a pass finds in the turn.
+use Rattle.std.proofs.Common.{◌≡◌, ℕ, ◌+◌, ◌<◌, ◌≤◌, List, [], ◌∷◌, ◌++◌, length, length-append, Option, Some, None, ap, sym, ◌∙◌, subst, refl, arith}
+use Rattle.std.specs.Prelude.{Result, Ok, Err, IfOk, IfSome}
+use Rattle.std.specs.List.{AllByRecursion}
+use Rattle.std.proofs.lemmas.List.{append-nil, length-map}
+use mathlib.Core.List.{IsPrefix}
+use Rattle.delta_base.specs.declared.source_info.SourceInfo.{SourceInfo}
 use Rattle.registry_core.specs.declared.event.Event.{Event}
+use Rattle.registry_core.specs.declared.event.Entry.{Entry}
 use Rattle.registry_core.specs.Events.{events_of}
 use Rattle.registry_core.specs.Replies.{RegistryCall, RegistryReply, reply_of}
+use Rattle.registry_core.specs.Sources.{sources, HasSlot}
 use Rattle.log_registry.specs.State.{StateView, events_in}
-use Rattle.turn_cell.specs.Knowing.{SeesOn, Wants, IsQuiet}
+use Rattle.turn_cell.specs.declared.view.Entry.{Entry as Known}
+use Rattle.turn_cell.specs.Knowing.{SeesOn, Wants, IsQuiet, IsSame}
+use Rattle.turn_cell.proofs.Knowing.{same_on, quiet_on}
+use Rattle.turn_cell.proofs.Views.{prefix_trans}
+use Rattle.shared_registry.specs.declared.names.Names.{Names}
 use Rattle.shared_registry.specs.declared.value.RegistryFixed.{RegistryFixed}
 use Rattle.shared_registry.specs.History.{history_of, known_events, fixed_of}
+use Rattle.shared_registry.specs.Names.{AreNamesOf, HasNames}
 use Rattle.shared_registry.specs.Passes.{RegistrySight, events_seen}
 use Rattle.shared_registry.proofs.Calling.{same_fixed}
-use Rattle.shared_registry.proofs.Histories.{known_history}
+use Rattle.shared_registry.proofs.Histories.{known_history, history_length}
 
--- the pass before the call, in the turn and behind it, and the registry as it was made, found and asked
-module _ {D : Type 0} (mark : D → Option (List ℕ × ℕ)) (p m q : RegistrySight) (origin was value registry : StateView D) (call : RegistryCall)
-    (of : m.view.fixed ≡ Some (fixed_of mark origin)) (from : m.view.fixed ≡ Some (fixed_of mark was)) (same : value ≡ was) (is : registry ≡ value)
-    (found : history_of value.entries ≡ m.view.seen) (seen : q.view.seen ≡ m.view.seen) (wants : Wants p q) where
-  fixed_same : fixed_of mark registry ≡ fixed_of mark origin
-  fixed_same = ap (λ (r : StateView D). fixed_of mark r) (is ∙ same) ∙ same_fixed m.view.fixed (fixed_of mark was) (fixed_of mark origin) from of
-
-  -- the slots that are found are those of the making
-  pub slots_are : registry.slots ≡ origin.slots
-  slots_are = ap (λ (f : RegistryFixed). f.slots) fixed_same
-
-  events_are : events_in registry ≡ events_seen q
-  events_are = ap (λ (r : StateView D). events_of r.entries) is ∙ sym (ap known_events (seen ∙ sym found) ∙ known_history value.entries)
-
-  reply_told : (reply : RegistryReply) → reply ≡ reply_of registry.slots call (events_in registry) → SeesOn p q × ((reply ≡ reply_of origin.slots call (events_seen q)) × IsQuiet p q)
-  reply_told reply e = (wants.0, (e ∙ (λ i. reply_of (slots_are i) call (events_are i)), wants.1))
-
-  pub result_told : {T E : Type 0} (reply : T → RegistryReply) (result : Result T E) → IfOk result (λ t. reply t ≡ reply_of registry.slots call (events_in registry))
-      → IfOk result (λ t. SeesOn p q × ((reply t ≡ reply_of origin.slots call (events_seen q)) × IsQuiet p q))
-  result_told reply (Ok t) e = reply_told (reply t) e
-  result_told reply (Err want) e = tt
+-- the names that were found in the turn
+pub names_found : {D : Type 0} (mark : D → Option (List ℕ × ℕ)) (names : Names) (m q : RegistrySight) (was value registry : StateView D)
+    → m.view.fixed ≡ Some (fixed_of mark was) → value ≡ was → registry ≡ value → history_of value.entries ≡ m.view.seen → q.view.seen ≡ m.view.seen → q.view.fixed ≡ m.view.fixed
+    → names.count ≡ length registry.entries → names.living.items ≡ sources (events_in registry) → AllByRecursion (HasSlot registry.slots) names.living.items → AreNamesOf names q
+names_found {D} mark names m q was value registry from same is found seen fixed count living slots =
+    let entries : history_of registry.entries ≡ q.view.seen = ap (λ (r : StateView D). history_of r.entries) is ∙ found ∙ sym seen in
+    record {
+      count_is = count ∙ sym (history_length registry.entries) ∙ ap length entries;
+      living_is = living ∙ ap sources (sym (known_history registry.entries) ∙ ap known_events entries);
+      slots = λ f at.
+          let one : fixed_of mark registry ≡ f = ap (λ (r : StateView D). fixed_of mark r) (is ∙ same) ∙ same_fixed m.view.fixed (fixed_of mark was) f from (sym fixed ∙ at) in
+          subst (λ (n : ℕ). AllByRecursion (HasSlot n) names.living.items) (ap (λ (f : RegistryFixed). f.slots) one) slots;
+    }

@@ -5,9 +5,11 @@
 #![tactic(auto)]
 
 mod laws;
+mod names;
 mod shared;
 mod value;
 
 pub use laws::{lookups_add_up, lookups_compose};
-pub use shared::{RegistryPass, SharedRegistry};
+pub use names::{Names, RegistryPass};
+pub use shared::SharedRegistry;
 pub use value::{RegistryFixed, RegistryValue};

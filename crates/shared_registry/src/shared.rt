@@ -1,5 +1,5 @@
 //! A registry that threads share.
-ghost use Rattle.std.specs.Prelude.{◌≡◌, ◌<◌, ◌≤◌, ℕ, ◌+◌, Some, IfOk, IfErr, IfSome, OnErr, slice_get};
+ghost use Rattle.std.specs.Prelude.{◌≡◌, ◌<◌, ◌≤◌, ℕ, ◌+◌, Some, IfOk, IfErr, IfSome, OnOk, OnErr, slice_get};
 ghost use Rattle.std.specs.Prelude.{vec_len, vec_capacity};
 ghost use Rattle.std.specs.List.{AllByRecursion};
 ghost use Rattle.registry_core.specs.Replies as asked;
@@ -9,24 +9,24 @@ ghost use Rattle.shared_registry.specs.History.{StandsInTurn};
 ghost use Rattle.shared_registry.specs.Passes.{IsPassOf, IsNewPassOf, AreAllPassesOf, IsClosedOf};
 ghost use Rattle.shared_registry.specs.Calling.{CallsInTurn};
 ghost use Rattle.shared_registry.specs.Legal.{Legal};
+ghost use Rattle.shared_registry.specs.Names.{KeepsNames, HasNames};
 
+use crate::names::{Names, RegistryPass, counts, living_in};
 use crate::value::RegistryValue;
 use delta_base::{Back, Id, OutOfMemory, SourceInfo, Sources, Text};
 use disk_model::Disk;
 use log_registry::RegistryState;
-use registry_core::{ChangeAnswer, CreateAnswer};
+use registry_core::{ChangeAnswer, CreateAnswer, find_named, find_with_id, find_with_uri, listed};
 use std::alloc::Global;
 use std::marker::Model;
 use std::sync::Wait;
 use turn_cell::{Pass, Turn};
 
-/// What a pass knows of one registry.
-pub type RegistryPass<D> = Pass<RegistryValue<D>>;
-
 /// A registry that threads change and ask, each with a pass of its own.
 #[derive(Drop)]
 pub struct SharedRegistry<D: Disk> {
     turn: Turn<RegistryValue<D>>,
+    alloc: Global,
     slots: u32,
 }
 
@@ -48,7 +48,7 @@ impl<D: Disk> SharedRegistry<D> {
         alloc: Global,
         state: RegistryState<D>,
         seats: u32,
-    ) -> Result<(SharedRegistry<D>, Vec<RegistryPass<D>>), Back<RegistryState<D>>>
+    ) -> Result<(SharedRegistry<D>, Vec<Pass<RegistryValue<D>>>), Back<RegistryState<D>>>
         requires seats { (0 < seats) × (seats ≤ 16) }
         requires by_nobody { AllByRecursion (λ entry. entry.by ≡ 0) state.entries }
         ensures registry { IfOk result (λ r. (r.0.origin ≡ state) × (r.0.seats ≡ seats)) }
@@ -60,7 +60,7 @@ impl<D: Disk> SharedRegistry<D> {
     {
         let slots = state.slots();
         match Turn::new(alloc, RegistryValue::of(state), seats) {
-            Ok((turn, passes)) => Ok((SharedRegistry { turn, slots }, passes)),
+            Ok((turn, passes)) => Ok((SharedRegistry { turn, alloc, slots }, passes)),
             Err(Back { item }) => Err(Back {
                 item: item.into_registry(),
             }),
@@ -80,6 +80,26 @@ impl<D: Disk> SharedRegistry<D> {
         &self,
         rt: &R,
         pass: &mut RegistryPass<D>,
+        name: &Text,
+        uri: &Text,
+        id: Id,
+    ) -> CreateAnswer
+        requires of { IsPassOf D.mark self.now pass.old }
+        ensures of { IsPassOf D.mark self.now pass.new }
+        ensures legal { Legal self.now.origin.slots pass.old (asked.create name.now uri.now id)
+            (asked.answered result) pass.new }
+        ensures stay { CallsInTurn D.Disk self.now.origin (asked.create name.now uri.now id)
+            (asked.answered result) pass.old pass.new }
+    {
+        pass.names = None;
+        self.create_by(rt, &mut pass.pass, name, uri, id)
+    }
+
+    // The same with the bare pass.
+    fn create_by<R: Wait>(
+        &self,
+        rt: &R,
+        pass: &mut Pass<RegistryValue<D>>,
         name: &Text,
         uri: &Text,
         id: Id,
@@ -125,6 +145,25 @@ impl<D: Disk> SharedRegistry<D> {
         ensures stay { CallsInTurn D.Disk self.now.origin (asked.rename name.now new_name.now)
             (asked.changed result) pass.old pass.new }
     {
+        pass.names = None;
+        self.rename_by(rt, &mut pass.pass, name, new_name)
+    }
+
+    // The same with the bare pass.
+    fn rename_by<R: Wait>(
+        &self,
+        rt: &R,
+        pass: &mut Pass<RegistryValue<D>>,
+        name: &Text,
+        new_name: &Text,
+    ) -> ChangeAnswer
+        requires of { IsPassOf D.mark self.now pass.old }
+        ensures of { IsPassOf D.mark self.now pass.new }
+        ensures legal { Legal self.now.origin.slots pass.old (asked.rename name.now new_name.now)
+            (asked.changed result) pass.new }
+        ensures stay { CallsInTurn D.Disk self.now.origin (asked.rename name.now new_name.now)
+            (asked.changed result) pass.old pass.new }
+    {
         let by = pass.number();
         let mut held = self.turn.enter(rt, pass);
         match held.value_mut().rename(name, new_name, by) {
@@ -153,6 +192,24 @@ impl<D: Disk> SharedRegistry<D> {
         ensures stay { CallsInTurn D.Disk self.now.origin (asked.remove name.now)
             (asked.changed result) pass.old pass.new }
     {
+        pass.names = None;
+        self.remove_by(rt, &mut pass.pass, name)
+    }
+
+    // The same with the bare pass.
+    fn remove_by<R: Wait>(
+        &self,
+        rt: &R,
+        pass: &mut Pass<RegistryValue<D>>,
+        name: &Text,
+    ) -> ChangeAnswer
+        requires of { IsPassOf D.mark self.now pass.old }
+        ensures of { IsPassOf D.mark self.now pass.new }
+        ensures legal { Legal self.now.origin.slots pass.old (asked.remove name.now)
+            (asked.changed result) pass.new }
+        ensures stay { CallsInTurn D.Disk self.now.origin (asked.remove name.now)
+            (asked.changed result) pass.old pass.new }
+    {
         let by = pass.number();
         let mut held = self.turn.enter(rt, pass);
         match held.value_mut().remove(name, by) {
@@ -171,6 +228,32 @@ impl<D: Disk> SharedRegistry<D> {
         }
     }
 
+    // Looks the sources up, unless no entry came behind those that the pass has seen.
+    fn refresh<R: Wait>(
+        &self,
+        rt: &R,
+        pass: &mut Pass<RegistryValue<D>>,
+        names: &mut Option<Names>,
+    ) -> Result<(), OutOfMemory>
+        requires of { IsPassOf D.mark self.now pass.old }
+        requires kept { KeepsNames names.old pass.old }
+        ensures of { IsPassOf D.mark self.now pass.new }
+        ensures looked { Wants pass.old pass.new }
+        ensures kept { KeepsNames names.new pass.new }
+        ensures fresh { OnOk result (HasNames names.new pass.new) }
+    {
+        let count = self.turn.count(pass);
+        if counts(names, count) {
+            return Ok(());
+        }
+        *names = None;
+        let held = self.turn.enter(rt, pass);
+        let found = held.value().names(self.alloc);
+        self.turn.leave_as_found(pass, held);
+        *names = Some(found?);
+        Ok(())
+    }
+
     /// The source with a name.
     pub fn resolve<R: Wait>(
         &self,
@@ -186,10 +269,8 @@ impl<D: Disk> SharedRegistry<D> {
             IfSome found (HasSlot self.now.origin.slots)) }
         ensures want { OnErr result (Wants pass.old pass.new) }
     {
-        let held = self.turn.enter(rt, pass);
-        let found = held.value().resolve(name);
-        self.turn.leave_as_found(pass, held);
-        found
+        self.refresh(rt, &mut pass.pass, &mut pass.names)?;
+        find_named(living_in(&pass.names), name.as_bytes())
     }
 
     /// The source with an id.
@@ -207,10 +288,8 @@ impl<D: Disk> SharedRegistry<D> {
             IfSome found (HasSlot self.now.origin.slots)) }
         ensures want { OnErr result (Wants pass.old pass.new) }
     {
-        let held = self.turn.enter(rt, pass);
-        let found = held.value().resolve_id(id);
-        self.turn.leave_as_found(pass, held);
-        found
+        self.refresh(rt, &mut pass.pass, &mut pass.names)?;
+        find_with_id(living_in(&pass.names), id)
     }
 
     /// The source with a URI; of several the one in the least slot.
@@ -228,10 +307,8 @@ impl<D: Disk> SharedRegistry<D> {
             IfSome found (HasSlot self.now.origin.slots)) }
         ensures want { OnErr result (Wants pass.old pass.new) }
     {
-        let held = self.turn.enter(rt, pass);
-        let found = held.value().resolve_uri(uri);
-        self.turn.leave_as_found(pass, held);
-        found
+        self.refresh(rt, &mut pass.pass, &mut pass.names)?;
+        find_with_uri(living_in(&pass.names), uri.as_bytes())
     }
 
     /// The sources that live, in the order of their names.
@@ -244,15 +321,13 @@ impl<D: Disk> SharedRegistry<D> {
             AllByRecursion (HasSlot self.now.origin.slots) found.items) }
         ensures want { OnErr result (Wants pass.old pass.new) }
     {
-        let held = self.turn.enter(rt, pass);
-        let found = held.value().list();
-        self.turn.leave_as_found(pass, held);
-        found
+        self.refresh(rt, &mut pass.pass, &mut pass.names)?;
+        listed(self.alloc, living_in(&pass.names))
     }
 
     /// The registry, once all passes are back. Its entries begin with what each pass knew, and have
     /// just its own at its places.
-    pub fn close(self, passes: Vec<RegistryPass<D>>) -> RegistryState<D>
+    pub fn close(self, passes: Vec<Pass<RegistryValue<D>>>) -> RegistryState<D>
         requires { AreAllPassesOf D.mark self passes.items }
         ensures closed { IsClosedOf D.Disk self passes.items result }
         ensures stands { StandsInTurn D.Disk result }

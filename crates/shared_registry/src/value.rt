@@ -1,18 +1,20 @@
 //! A registry as the value of a turn.
-ghost use Rattle.std.specs.Prelude.{◌≡◌, ◌≢◌, ◌≤◌, IfOk, IfSome};
+ghost use Rattle.std.specs.Prelude.{◌≡◌, ◌≢◌, ◌≤◌, length, IfOk};
 ghost use Rattle.std.specs.List.{AllByRecursion};
 ghost use Rattle.delta_base.specs.declared.source_info.SourceInfo.{SourceInfo as AnySource};
 ghost use Rattle.registry_core.specs.Replies as asked;
-ghost use Rattle.registry_core.specs.Sources.{HasSlot};
+ghost use Rattle.registry_core.specs.Sources.{sources, HasSlot};
 ghost use Rattle.log_registry.specs.Changes.{Called, IsUntouched};
 ghost use Rattle.log_registry.specs.State.{events_in};
 ghost use Rattle.shared_registry.specs.History.{history_of, fixed_of, StandsInTurn};
 ghost use Rattle.turn_cell.specs.Sights.{IsGrownBy};
 
-use delta_base::{Id, OutOfMemory, SourceInfo, Sources, Text};
+use crate::names::Names;
+use delta_base::{Id, OutOfMemory, Sources, Text};
 use disk_model::Disk;
 use log_registry::RegistryState;
-use registry_core::{ChangeAnswer, CreateAnswer, Event};
+use registry_core::{ChangeAnswer, CreateAnswer, Event, copies};
+use std::alloc::Global;
 use std::collections::LinkedList;
 use std::marker::Model;
 use turn_cell::Chained;
@@ -57,37 +59,19 @@ impl<D: Disk> RegistryValue<D> {
         registry
     }
 
-    pub fn resolve(&self, name: &Text) -> Result<Option<SourceInfo>, OutOfMemory>
-        ensures reply { IfOk result (λ found. asked.found found
-            ≡ asked.reply_of self.now.slots (asked.resolve name.now) (events_in self.now)) }
-        ensures slot { IfOk result (λ found. IfSome found (HasSlot self.now.slots)) }
+    /// The sources that live now.
+    pub(crate) fn names(&self, alloc: Global) -> Result<Names, OutOfMemory>
+        ensures count { IfOk result (λ names. names.count ≡ length self.now.entries) }
+        ensures living { IfOk result (λ names.
+            names.living.items ≡ sources (events_in self.now)) }
+        ensures slots { IfOk result (λ names.
+            AllByRecursion (HasSlot self.now.slots) names.living.items) }
     {
-        self.registry.resolve(name)
-    }
-
-    pub fn resolve_id(&self, id: Id) -> Result<Option<SourceInfo>, OutOfMemory>
-        ensures reply { IfOk result (λ found. asked.found found
-            ≡ asked.reply_of self.now.slots (asked.resolve_id id) (events_in self.now)) }
-        ensures slot { IfOk result (λ found. IfSome found (HasSlot self.now.slots)) }
-    {
-        self.registry.resolve_id(id)
-    }
-
-    pub fn resolve_uri(&self, uri: &Text) -> Result<Option<SourceInfo>, OutOfMemory>
-        ensures reply { IfOk result (λ found. asked.found found
-            ≡ asked.reply_of self.now.slots (asked.resolve_uri uri.now) (events_in self.now)) }
-        ensures slot { IfOk result (λ found. IfSome found (HasSlot self.now.slots)) }
-    {
-        self.registry.resolve_uri(uri)
-    }
-
-    pub fn list(&self) -> Result<Sources, OutOfMemory>
-        ensures reply { IfOk result (λ listed. asked.listed listed.items
-            ≡ asked.reply_of self.now.slots asked.list (events_in self.now)) }
-        ensures slots { IfOk result (λ listed.
-            AllByRecursion (HasSlot self.now.slots) listed.items) }
-    {
-        self.registry.list()
+        let living = copies(alloc, self.registry.living())?;
+        Ok(Names {
+            count: self.registry.count(),
+            living: Sources::from_vec(living),
+        })
     }
 
     pub fn create(&mut self, name: &Text, uri: &Text, id: Id, by: u32) -> CreateAnswer

@@ -10,7 +10,7 @@ use Rattle.shared_registry.specs.History.{history_of, fixed_of, StandsInTurn}
 use Rattle.shared_registry.specs.Legal.{Legal}
 use Rattle.shared_registry.proofs.Calling as told
 use Rattle.shared_registry.proofs.Calling.{same_fixed}
-use Rattle.shared_registry.proofs.shared.SharedRegistry.rename.Goals as goal
+use Rattle.shared_registry.proofs.shared.SharedRegistry.rename_by.Goals as goal
 
 pub leave-requires-clause-grown : goal.leave-requires-clause-grown
 leave-requires-clause-grown g c =
