@@ -4,7 +4,8 @@ use Rattle.std.specs.Prelude.{sum_by}
 use Rattle.std.proofs.lemmas.Fmt.{length-decimal-le_succ}
 use Rattle.std.proofs.lemmas.List.Sums.{sum_by-cons}
 use Rattle.disk_model.specs.Past.{Past, MayLeave}
-use Rattle.log_journal.specs.File.{Holds, journal_length}
+use Rattle.delta_base.specs.Journals.{journal_length}
+use Rattle.log_journal.specs.File.{Holds}
 use Rattle.log_journal.proofs.OneReading.{one_list, one_number, never_both}
 use Rattle.slot_files.specs.Files.{slots_payload}
 use Rattle.registry_core.specs.declared.event.Event.{Event}

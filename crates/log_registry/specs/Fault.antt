@@ -1,6 +1,7 @@
 -- Why a registry can't be opened.
 use Rattle.std.specs.Prelude.{◌≤◌, ℕ, List}
-use Rattle.log_journal.specs.File.{Holds, journal_length}
+use Rattle.delta_base.specs.Journals.{journal_length}
+use Rattle.log_journal.specs.File.{Holds}
 use Rattle.log_journal.specs.Reading.{HasFault}
 use Rattle.log_journal.specs.declared.fault.JournalFault.{JournalFault}
 use Rattle.log_journal.specs.declared.fault.JournalFault.TheVariants as journal

@@ -41,7 +41,7 @@ pub fn name_fault(text: &[u8]) -> Option<u64>
 fn first_forbidden(text: &[u8]) -> Option<usize>
     ensures { result ≡ position no_iri_byte text.now }
 {
-    text.iter().position(|byte| is_forbidden(*byte))
+    text.iter().position(|byte| is_forbidden(char::from(*byte)))
 }
 
 /// Where a text stops being a URI.
