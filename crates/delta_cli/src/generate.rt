@@ -35,10 +35,7 @@ fn count(alloc: Global, patches: u32) -> Result<Vec<u8>, OutOfMemory>
     match replay_source(alloc, &mut source) {
         Ok(replayed) => counts_line(alloc, replayed.patches, replayed.quads, replayed.head),
         Err(fault) => {
-            prove!(matches!(
-                fault,
-                ReplayFault::Failed | ReplayFault::OutOfMemory
-            ));
+            prove!(matches!(fault, ReplayFault::Failed | ReplayFault::OutOfMemory));
             Err(OutOfMemory)
         }
     }
