@@ -38,6 +38,14 @@ fits_behind slots before (event ∷ events) fits next =
 fits : (slots : ℕ) (events : List Event) → IsRegistry slots events → registry_length slots events ≤ REGISTRY_LIMIT
 fits slots events is = fits_behind slots [] events (let short = length-decimal-le_succ slots (omega (arith, is.is_slot.1)) in omega (arith, short, is.is_slot.1)) is.are_next
 
+-- each event takes some bytes
+events_length : (events : List Event) → length events ≤ sum_by (λ (event : Event). 5 + length (text_of event)) events
+events_length [] = omega arith
+events_length (event ∷ events) = omega (arith, sum_by-cons (λ (event : Event). 5 + length (text_of event)) event events, events_length events)
+
+pub few_events : (slots : ℕ) (events : List Event) → IsRegistry slots events → length events ≤ REGISTRY_LIMIT
+few_events slots events is = omega (arith, fits slots events is, events_length events)
+
 -- ---- a registry breaks nowhere
 
 next-take : (slots : ℕ) (before events : List Event) (n : ℕ) → AreNext slots before events → AreNext slots before (take n events)

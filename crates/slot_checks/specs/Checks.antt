@@ -5,20 +5,22 @@ use Rattle.slot_checks.specs.declared.fault.CheckFault.{CheckFault}
 use Rattle.slot_checks.specs.declared.lines.FileLine.{FileLine}
 use Rattle.slot_checks.specs.declared.lines.FileLine.TheVariants as line
 use Rattle.slot_checks.specs.Faults.{HasRegistryFault, HasFileFault}
-use Rattle.slot_checks.specs.Sound.{IsRegistry, AreLogLines}
+use Rattle.slot_checks.specs.Sound.{HoldsRegistry, AreLogLines}
 
 -- the registry's line, and behind it those of the logs' files from 1 on and below a number
-pub record HasLines (files : Files) (dir : List ℕ) (end : ℕ) (report : List FileLine) : Type 0 where
+pub record HasLines (files : Files) (dir : List ℕ) (records end : ℕ)
+    (report : List FileLine) : Type 0 where
   pub lines : List FileLine
-  pub report_is : report ≡ line.Registry 1 ∷ lines
+  pub report_is : report ≡ line.Registry records ∷ lines
   pub logs : AreLogLines files dir 1 lines
   pub count : length lines + 1 ≡ end
 
 -- all files are in their form: the registry's, and those of as many logs as it tells, each with its line
 pub record IsReport (files : Files) (dir : List ℕ) (report : List FileLine) : Type 0 where
   pub slots : ℕ
-  pub registry : IsRegistry (bytes_at files dir 0) slots
-  pub lines : HasLines files dir (slots + 1) report
+  pub records : ℕ
+  pub registry : HoldsRegistry (bytes_at files dir 0) slots records
+  pub lines : HasLines files dir records (slots + 1) report
 
 -- the first fault of the file of a log, behind others that are in their form
 pub record StopsAtLog (files : Files) (dir : List ℕ) (slots file : ℕ) (fault : CheckFault) : Type 0 where
@@ -31,8 +33,8 @@ pub record StopsAtLog (files : Files) (dir : List ℕ) (slots file : ℕ) (fault
 -- The first fault of the first file that has one: the registry's, or that of a log. Want of memory is free.
 pub data StopsAt (files : Files) (dir : List ℕ) (file : ℕ) (fault : CheckFault) : Type 0 where
   at_registry : file ≡ 0 → HasRegistryFault (bytes_at files dir 0) fault → StopsAt files dir file fault
-  at_log : (slots : ℕ) → IsRegistry (bytes_at files dir 0) slots → StopsAtLog files dir slots file fault
-      → StopsAt files dir file fault
+  at_log : (slots records : ℕ) → HoldsRegistry (bytes_at files dir 0) slots records
+      → StopsAtLog files dir slots file fault → StopsAt files dir file fault
 
 -- a file is as it was; where there was none, there may be an empty one
 abbrev pub IsKept : Option (List ℕ) → Option (List ℕ) → Type 0

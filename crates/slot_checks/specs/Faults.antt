@@ -1,27 +1,25 @@
 -- Why a file of a registry and its logs isn't in its form.
-use Rattle.std.specs.Prelude.{◌≡◌, ℕ, ◌≤◌, List}
-use Rattle.delta_base.specs.declared.limits.TheConstants.{LOG_LIMITS, REGISTRY_LIMIT}
+use Rattle.std.specs.Prelude.{◌≡◌, ℕ, List}
+use Rattle.delta_base.specs.declared.limits.TheConstants.{LOG_LIMITS}
 use Rattle.disk_model.specs.declared.shelf.ShelfFault.{ShelfFault}
 use Rattle.disk_model.specs.declared.shelf.ShelfFault.TheVariants as shelf
-use Rattle.delta_base.specs.Journals.{journal_length}
-use Rattle.log_journal.specs.File.{Holds}
-use Rattle.log_journal.specs.Reading.{HasFault}
-use Rattle.log_journal.specs.declared.fault.JournalFault.{JournalFault}
-use Rattle.log_journal.specs.declared.fault.JournalFault.TheVariants as journal
+use Rattle.log_registry.specs.Fault.{HasRegistryFault as HasFault}
+use Rattle.log_registry.specs.declared.fault.RegistryFault.{RegistryFault}
+use Rattle.log_registry.specs.declared.fault.RegistryFault.TheVariants as registry
 use Rattle.patch_log.specs.Fault.{HasLogFault}
 use Rattle.patch_log.specs.declared.fault.LogFault.{LogFault}
 use Rattle.patch_log.specs.declared.fault.LogFault.TheVariants as log
 use Rattle.slot_checks.specs.declared.fault.CheckFault.{CheckFault}
 use Rattle.slot_checks.specs.declared.fault.CheckFault.TheVariants as check
-use Rattle.slot_checks.specs.Sound.{IsBrokenEvent}
 
--- a fault of a journal, with its file
-abbrev pub of_journal : ℕ → JournalFault → CheckFault
-of_journal file journal.Failed = check.Failed
-of_journal file (journal.Damaged at) = check.Damaged file at
-of_journal file (journal.WrongNumber found) = check.WrongNumber file found
-of_journal file (journal.OverLimit length limit) = check.OverLimit file length limit
-of_journal file journal.OutOfMemory = check.OutOfMemory
+-- a fault of the registry, whose file has the number 0
+abbrev pub of_registry : RegistryFault → CheckFault
+of_registry registry.Failed = check.Failed
+of_registry (registry.Damaged at) = check.Damaged 0 at
+of_registry (registry.WrongNumber found) = check.WrongNumber 0 found
+of_registry (registry.OverLimit length limit) = check.OverLimit 0 length limit
+of_registry (registry.BrokenEvent place) = check.BrokenEvent place
+of_registry registry.OutOfMemory = check.OutOfMemory
 
 -- a fault of a log, with its file
 abbrev pub of_log : ℕ → LogFault → CheckFault
@@ -37,13 +35,16 @@ abbrev pub of_shelf : ShelfFault → CheckFault
 of_shelf shelf.Failed = check.Failed
 of_shelf shelf.OutOfMemory = check.OutOfMemory
 
--- The registry's file has this fault, and none that comes before it. That a call failed, and want of memory, are free.
+-- The registry's file has this fault, and none that comes before it. That a call failed, and want of
+-- memory, are free.
 abbrev pub HasRegistryFault : List ℕ → CheckFault → Type 0
-HasRegistryFault file (check.Damaged number at) = (number ≡ 0) × HasFault file 0 REGISTRY_LIMIT (journal.Damaged at)
-HasRegistryFault file (check.WrongNumber number found) = (number ≡ 0) × HasFault file 0 REGISTRY_LIMIT (journal.WrongNumber found)
-HasRegistryFault file (check.OverLimit number length limit) = (number ≡ 0) × HasFault file 0 REGISTRY_LIMIT (journal.OverLimit length limit)
+HasRegistryFault file (check.Damaged number at) = (number ≡ 0) × HasFault file (registry.Damaged at)
+HasRegistryFault file (check.WrongNumber number found) =
+    (number ≡ 0) × HasFault file (registry.WrongNumber found)
+HasRegistryFault file (check.OverLimit number length limit) =
+    (number ≡ 0) × HasFault file (registry.OverLimit length limit)
 HasRegistryFault file (check.BrokenChain number version) = ⊥
-HasRegistryFault file (check.BrokenEvent place) = (payloads : List (List ℕ)) × Holds file 0 payloads × (journal_length payloads ≤ REGISTRY_LIMIT) × IsBrokenEvent payloads place
+HasRegistryFault file (check.BrokenEvent place) = HasFault file (registry.BrokenEvent place)
 HasRegistryFault file check.Failed = Unit {0}
 HasRegistryFault file check.OutOfMemory = Unit {0}
 

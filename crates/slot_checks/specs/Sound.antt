@@ -1,29 +1,24 @@
 -- Files that are in their form.
-use Rattle.std.specs.Prelude.{◌≡◌, ℕ, ◌+◌, ◌≤◌, List, [], ◌∷◌, length}
+use Rattle.std.specs.Prelude.{◌≡◌, ℕ, ◌+◌, List, [], ◌∷◌, length}
 use Rattle.chain_core.specs.declared.chain.Patch.{Patch}
-use Rattle.delta_base.specs.declared.limits.TheConstants.{LOG_LIMITS, MOST_SLOTS}
+use Rattle.delta_base.specs.declared.limits.TheConstants.{LOG_LIMITS}
 use Rattle.chain_core.specs.Patches.{last_id}
 use Rattle.log_journal.specs.File.{Holds}
 use Rattle.patch_log.specs.Log.{IsSoundLog, payloads_of}
-use Rattle.slot_files.specs.Files.{Files, bytes_at, slots_payload}
+use Rattle.registry_core.specs.declared.event.Event.{Event}
+use Rattle.registry_core.specs.Events.{IsRegistry}
+use Rattle.registry_core.specs.Texts.{payloads_of as registry_payloads}
+use Rattle.slot_files.specs.Files.{Files, bytes_at}
 use Rattle.slot_checks.specs.declared.lines.FileLine.{FileLine}
 use Rattle.slot_checks.specs.declared.lines.FileLine.TheVariants as line
 
--- a payload that tells a number of slots, of which there is one at least
-abbrev pub TellsSlots : List ℕ → ℕ → Type 0
-TellsSlots payload slots = (1 ≤ slots) × (slots ≤ MOST_SLOTS) × (payload ≡ slots_payload slots)
-
--- The first payload that may not stand in a registry, counted from 0: the first one where it tells no number of slots or is
--- missing, and else the one behind it.
-pub data IsBrokenEvent (payloads : List (List ℕ)) (place : ℕ) : Type 0 where
-  no_slots : ((slots : ℕ) (first : List ℕ) (rest : List (List ℕ)) → payloads ≡ first ∷ rest → TellsSlots first slots → ⊥) → place ≡ 0 → IsBrokenEvent payloads place
-  one_more : (slots : ℕ) (first second : List ℕ) (rest : List (List ℕ)) → payloads ≡ first ∷ second ∷ rest → TellsSlots first slots → place ≡ 1 → IsBrokenEvent payloads place
-
--- the registry's file tells the number of slots, and nothing else
-pub record IsRegistry (file : List ℕ) (slots : ℕ) : Type 0 where
-  pub first : List ℕ
-  pub tells : TellsSlots first slots
-  pub holds : Holds file 0 (first ∷ [])
+-- The registry's file holds so many records: the number of its slots, and behind it the events of a
+-- registry of so many slots.
+pub record HoldsRegistry (file : List ℕ) (slots records : ℕ) : Type 0 where
+  pub events : List Event
+  pub registry : IsRegistry slots events
+  pub holds : Holds file 0 (registry_payloads slots events)
+  pub records_are : records ≡ length events + 1
 
 -- the line of a log's file that is in its form
 pub record IsLogLine (file : List ℕ) (number : ℕ) (line_ : FileLine) : Type 0 where

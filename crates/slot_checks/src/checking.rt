@@ -15,6 +15,7 @@ ghost use Rattle.std.specs.Prelude.{
   Some,
 };
 ghost use Rattle.delta_base.specs.Outside.{Rose};
+ghost use Rattle.delta_base.specs.declared.limits.TheConstants.{MOST_SLOTS};
 ghost use Rattle.disk_model.specs.Shelf.{SameOthers};
 ghost use Rattle.slot_files.specs.Files.{bytes_at};
 ghost use Rattle.slot_checks.specs.Checks.{HasLines, IsReport, Stops, StopsInLogs, IsKept, AreKept};
@@ -23,6 +24,7 @@ ghost use Rattle.slot_checks.specs.Sound.{IsLogLine};
 
 use crate::fault::CheckFault;
 use crate::lines::{FileLine, Report};
+use crate::registry_file::RegistryFile;
 use crate::visiting::{check_log, check_registry};
 use delta_base::{Listing, Text};
 use disk_model::Shelf;
@@ -58,20 +60,21 @@ fn add_logs<H: Shelf>(
     alloc: Global,
     shelf: &mut H,
     dir: &Text,
-    slots: u8,
+    registry: RegistryFile,
     report: &mut Report,
 ) -> Result<(), CheckFault>
-    requires { report.old.items ≡ FileLine.Registry 1 ∷ [] }
-    ensures ok { H.tells → OnOk result
-        (HasLines (H.files shelf.old) dir.now (slots + 1) report.new.items) }
+    requires few { registry.slots ≤ MOST_SLOTS }
+    requires first { report.old.items ≡ FileLine.Registry registry.records ∷ [] }
+    ensures ok { H.tells → OnOk result (HasLines (H.files shelf.old) dir.now
+        registry.records (registry.slots + 1) report.new.items) }
     ensures kept { H.tells → OnOk result
-        (AreKept dir.now (slots + 1) (H.files shelf.old) (H.files shelf.new)) }
+        (AreKept dir.now (registry.slots + 1) (H.files shelf.old) (H.files shelf.new)) }
     ensures fault { H.tells → IfErr result
-        (StopsInLogs dir.now slots (H.files shelf.old) (H.files shelf.new)) }
+        (StopsInLogs dir.now registry.slots (H.files shelf.old) (H.files shelf.new)) }
     ensures cause { IsErrOf result CheckFault.Failed → Rose (H.faults shelf.old) (H.faults shelf.new) }
     ensures faults { H.faults shelf.old ≤ H.faults shelf.new }
 {
-    for number in 1..=u32::from(slots) {
+    for number in 1..=registry.slots {
         add_log(alloc, shelf, dir, number, report)?;
     }
     Ok(())
@@ -92,9 +95,11 @@ pub fn check_files<H: Shelf>(alloc: Global, shelf: &mut H, dir: &Text) -> Result
     ensures cause { IsErrOf result CheckFault.Failed → Rose (H.faults shelf.old) (H.faults shelf.new) }
     ensures faults { H.faults shelf.old ≤ H.faults shelf.new }
 {
-    let slots = check_registry(alloc, shelf, dir)?;
+    let registry = check_registry(alloc, shelf, dir)?;
     let mut report = Listing::new(alloc);
-    report.push(FileLine::Registry { records: 1 })?;
-    add_logs(alloc, shelf, dir, slots, &mut report)?;
+    report.push(FileLine::Registry {
+        records: registry.records,
+    })?;
+    add_logs(alloc, shelf, dir, registry, &mut report)?;
     Ok(report)
 }

@@ -1,7 +1,7 @@
 //! Why a file isn't in its form.
 use delta_base::Back;
 use disk_model::ShelfFault;
-use log_journal::JournalFault;
+use log_registry::RegistryFault;
 use patch_log::LogFault;
 
 /// The first file that isn't in its form, and why.
@@ -20,22 +20,23 @@ pub enum CheckFault {
 
 impl CheckFault {
     ghost use Rattle.std.specs.Prelude.{◌≡◌};
-    ghost use Rattle.slot_checks.specs.Faults.{of_journal, of_log};
+    ghost use Rattle.slot_checks.specs.Faults.{of_registry, of_log};
 
-    /// A fault of a journal, with its file.
-    pub fn of_journal(file: u32, fault: JournalFault) -> CheckFault
-        ensures { result ≡ of_journal file fault }
+    /// A fault of the registry, whose file has the number 0.
+    pub fn of_registry(fault: RegistryFault) -> CheckFault
+        ensures { result ≡ of_registry fault }
     {
         match fault {
-            JournalFault::Failed => CheckFault::Failed,
-            JournalFault::Damaged { at } => CheckFault::Damaged { file, at },
-            JournalFault::WrongNumber { found } => CheckFault::WrongNumber { file, found },
-            JournalFault::OverLimit { length, limit } => CheckFault::OverLimit {
-                file,
+            RegistryFault::Failed => CheckFault::Failed,
+            RegistryFault::Damaged { at } => CheckFault::Damaged { file: 0, at },
+            RegistryFault::WrongNumber { found } => CheckFault::WrongNumber { file: 0, found },
+            RegistryFault::OverLimit { length, limit } => CheckFault::OverLimit {
+                file: 0,
                 length,
                 limit,
             },
-            JournalFault::OutOfMemory => CheckFault::OutOfMemory,
+            RegistryFault::BrokenEvent { place } => CheckFault::BrokenEvent { place },
+            RegistryFault::OutOfMemory => CheckFault::OutOfMemory,
         }
     }
 

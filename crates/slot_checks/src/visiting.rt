@@ -4,14 +4,14 @@ ghost use Rattle.std.specs.Prelude.{◌≡◌, ℕ, ◌≤◌, IfOk, IfErr, IsEr
 ghost use Rattle.delta_base.specs.Outside.{Rose};
 ghost use Rattle.disk_model.specs.Shelf.{SameOthers};
 ghost use Rattle.slot_files.specs.Files.{bytes_at};
-ghost use Rattle.slot_checks.specs.Sound.{IsLogLine, IsRegistry};
+ghost use Rattle.slot_checks.specs.Sound.{IsLogLine, HoldsRegistry};
 ghost use Rattle.slot_checks.specs.Faults.{HasFileFault, HasRegistryFault};
 ghost use Rattle.slot_checks.specs.Checks.{IsKept};
 
 use crate::fault::CheckFault;
 use crate::lines::FileLine;
 use crate::log_file::read_log_file;
-use crate::registry_file::read_registry_file;
+use crate::registry_file::{RegistryFile, read_registry_file};
 use delta_base::Text;
 use disk_model::Shelf;
 use std::alloc::Global;
@@ -36,13 +36,20 @@ pub fn check_log<H: Shelf>(
     answer
 }
 
-/// The number of slots that the registry's file tells.
-pub fn check_registry<H: Shelf>(alloc: Global, shelf: &mut H, dir: &Text) -> Result<u8, CheckFault>
-    ensures ok { H.tells → IfOk result (IsRegistry (bytes_at (H.files shelf.old) dir.now 0)) }
-    ensures few { IfOk result (λ slots. (1 ≤ slots) × (slots ≤ MOST_SLOTS)) }
-    ensures fault { H.tells → IfErr result (HasRegistryFault (bytes_at (H.files shelf.old) dir.now 0)) }
+/// What the registry's file holds.
+pub fn check_registry<H: Shelf>(
+    alloc: Global,
+    shelf: &mut H,
+    dir: &Text,
+) -> Result<RegistryFile, CheckFault>
+    ensures ok { H.tells → IfOk result (λ found.
+        HoldsRegistry (bytes_at (H.files shelf.old) dir.now 0) found.slots found.records) }
+    ensures few { IfOk result (λ found. (1 ≤ found.slots) × (found.slots ≤ MOST_SLOTS)) }
+    ensures fault { H.tells → IfErr result
+        (HasRegistryFault (bytes_at (H.files shelf.old) dir.now 0)) }
     ensures kept { H.tells → IsKept (H.files shelf.old dir.now 0) (H.files shelf.new dir.now 0) }
-    ensures others { H.tells → SameOthers (Some (dir.now, 0)) (H.files shelf.old) (H.files shelf.new) }
+    ensures others { H.tells → SameOthers (Some (dir.now, 0))
+        (H.files shelf.old) (H.files shelf.new) }
     ensures cause { IsErrOf result CheckFault.Failed → Rose (H.faults shelf.old) (H.faults shelf.new) }
     ensures faults { H.faults shelf.old ≤ H.faults shelf.new }
 {

@@ -15,12 +15,12 @@ loop-number-preserved g c =
     record {
       lines = λ told.
           let added = c.in_ok-add_log.ensures.ok told in
-          one_more old dir number c.loop-number.report.items c.add_log.new.report.items added.0 (c.loop-number.invariant.lines told)
+          one_more old dir c.args.registry.records number c.loop-number.report.items c.add_log.new.report.items added.0 (c.loop-number.invariant.lines told)
           (subst (λ (bytes : List ℕ). IsLogLine bytes number added.0) (same_bytes dir number old mid number (c.loop-number.invariant.kept told)) added.1) added.2;
       kept = λ told. visit_kept dir number old mid new (c.loop-number.invariant.kept told) (c.add_log.ensures.kept told) (c.add_log.ensures.others told);
       faults = omega (arith, c.loop-number.invariant.faults, c.add_log.ensures.faults);
       low = omega (arith, c.loop-number.invariant.low);
-      high = omega (arith, c.loop-number-test.true, c.from-number-end.ensures);
+      high = omega (arith, c.loop-number-test.true);
     }
 
 pub returns-in_err-add_log-clause-fault : goal.returns-in_err-add_log-clause-fault
@@ -31,10 +31,10 @@ returns-in_err-add_log-clause-fault g c told =
     let dir = c.args.dir.now in
     let number = c.loop-number.number in
     let kept = c.loop-number.invariant.kept told in
-    let within : number ≤ c.args.slots = omega (arith, c.loop-number-test.true, c.from-number-end.ensures) in
-    told_err (StopsInLogs dir c.args.slots old new) c.from_residual.result c.in_err-add_log.field-0.0 c.from_residual.ensures.1 (record {
+    let within : number ≤ c.args.registry.slots = omega (arith, c.loop-number-test.true) in
+    told_err (StopsInLogs dir c.args.registry.slots old new) c.from_residual.result c.in_err-add_log.field-0.0 c.from_residual.ensures.1 (record {
       file = number;
-      stops = stops_at old dir c.args.slots number c.loop-number.report.items c.in_err-add_log.field-0.0 (c.loop-number.invariant.lines told) within
+      stops = stops_at old dir c.args.registry.records c.args.registry.slots number c.loop-number.report.items c.in_err-add_log.field-0.0 (c.loop-number.invariant.lines told) within
           (subst (λ (bytes : List ℕ). HasFileFault bytes number c.in_err-add_log.field-0.0) (same_bytes dir number old mid number kept) (c.in_err-add_log.ensures.fault told));
       kept = visit_kept dir number old mid new kept (c.add_log.ensures.kept told) (c.add_log.ensures.others told);
     })
@@ -46,7 +46,7 @@ returns-in_ok-add_log-clause-ok g c told =
     let dir = c.args.dir.now in
     let number = c.loop-number.number in
     let added = c.in_ok-add_log.ensures.ok told in
-    let last : number + 1 ≡ c.args.slots + 1 = omega (arith, c.loop-number-test.true, c.from-number-end.ensures) in
-    subst (λ (n : ℕ). HasLines old dir n c.add_log.new.report.items) last
-    (one_more old dir number c.loop-number.report.items c.add_log.new.report.items added.0 (c.loop-number.invariant.lines told)
+    let last : number + 1 ≡ c.args.registry.slots + 1 = omega (arith, c.loop-number-test.true) in
+    subst (λ (n : ℕ). HasLines old dir c.args.registry.records n c.add_log.new.report.items) last
+    (one_more old dir c.args.registry.records number c.loop-number.report.items c.add_log.new.report.items added.0 (c.loop-number.invariant.lines told)
     (subst (λ (bytes : List ℕ). IsLogLine bytes number added.0) (same_bytes dir number old mid number (c.loop-number.invariant.kept told)) added.1) added.2)
