@@ -1,0 +1,48 @@
+-- One of many passes made calls.
+use Rattle.std.proofs.Common.{◌≡◌, ℕ, zero, suc, ◌<◌, List, [], ◌∷◌, ◌++◌, length, take, drop, ◌∙◌, refl, sym, ap, subst, arith, Option, Some, slice_get, slice_index_or}
+use Rattle.std.proofs.lemmas.List.{drop_all, take_all, append-nil}
+use Rattle.std.specs.Prelude.{slice_set, Result, Ok, Err, IfOk}
+use Rattle.std.specs.List.{AllZip}
+use Rattle.patch_log.specs.State.{LogView}
+use Rattle.turn_cell.specs.Turns.{AllOf}
+use Rattle.turn_cell.specs.Sights.{Made}
+use Rattle.shared_log.specs.Passes.{LogSight}
+use Rattle.hall_logs.specs.Slots.{AreAllPasses}
+use Rattle.hall_logs.specs.Visits.{Visit, AreVisits, HasVisited}
+use Rattle.hall_logs.proofs.Visiting.{passes_stay}
+
+module _ {D : Type 0} (mark : D → Option (List ℕ × ℕ)) (logs : List (Made (LogView D))) where
+  pub at : (P : List LogSight → Type 0) (passes : List (List LogSight)) (k : ℕ) (pass : List LogSight) → AllOf P passes → k < length passes → pass ≡ slice_index_or passes k pass → P pass
+  at P [] k pass all low is = absurd (omega (arith, low))
+  at P (x ∷ passes) zero pass all low is = subst P (sym is) all.0
+  at P (x ∷ passes) (suc k) pass all low is = at P passes k pass all.1 (omega (arith, low)) is
+
+  same : (passes : List (List LogSight)) → AllZip (HasVisited logs) passes passes
+  same [] = tt
+  same (pass ∷ passes) = (([], refl), same passes)
+
+  set_one : (passes : List (List LogSight)) (k : ℕ) (pass after : List LogSight) → k < length passes → pass ≡ slice_index_or passes k pass → HasVisited logs pass after → AllZip (HasVisited logs) passes (slice_set passes k after)
+  set_one [] k pass after low is visited = absurd (omega (arith, low))
+  set_one (x ∷ passes) zero pass after low is visited = (subst (λ (p : List LogSight). HasVisited logs p after) is visited, same passes)
+  set_one (x ∷ passes) (suc k) pass after low is visited = (([], refl), set_one passes k pass after (omega (arith, low)) is visited)
+
+  pub one_visits : (seats : ℕ) (passes : List (List LogSight)) (k : ℕ) (pass after : List LogSight) → AreAllPasses mark logs seats passes → k < seats → pass ≡ slice_index_or passes k pass → HasVisited logs pass after → AreAllPasses mark logs seats (slice_set passes k after)
+  one_visits seats passes k pass after all low is visited =
+      passes_stay mark logs seats passes (slice_set passes k after) (set_one passes k pass after (omega (arith, low, all.count)) is visited) all
+
+  pub each_visits : (before after : List (List LogSight)) → length after ≡ length before
+      → ((k : ℕ) (d : List LogSight) → k < length before → HasVisited logs (slice_index_or before k d) (slice_index_or after k d)) → AllZip (HasVisited logs) before after
+  each_visits [] [] count each = tt
+  each_visits [] (y ∷ after) count each = absurd (omega (arith, count))
+  each_visits (x ∷ before) [] count each = absurd (omega (arith, count))
+  each_visits (x ∷ before) (y ∷ after) count each = (each zero x (omega arith), each_visits before after (omega (arith, count)) (λ k d low. each (suc k) d (omega (arith, low))))
+
+module _ {T E : Type 0} where
+  pub both : (result : Result T E) (P Q : T → Type 0) → IfOk result P → IfOk result Q → IfOk result (λ x. P x × Q x)
+  both (Ok x) P Q p q = (p, q)
+  both (Err e) P Q p q = tt
+
+-- what was written over a whole list
+pub whole : {A : Type 0} (n : ℕ) (xs ys : List A) → n ≡ length xs → length ys ≡ length xs → take n (ys ++ drop (length ys) xs) ≡ ys
+whole n xs ys all same =
+    ap (λ l. take n (ys ++ l)) (drop_all (length ys) xs (omega (arith, same))) ∙ ap (take n) (append-nil ys) ∙ take_all n ys (omega (arith, all, same))

@@ -1,0 +1,78 @@
+//! Threads that append to the logs of one hall, each with a pass of its own.
+ghost use Rattle.std.specs.Prelude.{◌≡◌, ◌<◌, ℕ, All, length, slice_index_or};
+ghost use Rattle.hall_logs.specs.Slots.{ArePartsOf, AreAllPasses};
+ghost use Rattle.hall_logs.specs.Visits.{HasVisited};
+
+use crate::calls::version_by;
+use crate::halls::{close, open, two_disks};
+use crate::slots::FIRST;
+use disk_model::Disk;
+use hall_logs::{HallLogs, LogsPass};
+use patch_meaning::{Checked, check_patch};
+use std::sync::Wait;
+use std::test::Fail;
+use std::thread;
+use std::thread::Threads;
+
+// One append to the first log.
+fn append_one<R: Wait, D: Disk>(rt: &R, hall: &HallLogs<D>, pass: &mut LogsPass<D>, patch: &Checked)
+    requires of { ArePartsOf D.mark hall.now.logs pass.old }
+    requires some { 0 < length hall.now.logs }
+    ensures { HasVisited hall.now.logs pass.old pass.new }
+{
+    hall.append(rt, pass, 1, patch);
+}
+
+// Each pass appends the patch, on a thread where one can be made.
+fn append_each<R: Threads + Wait + Sync, D: Disk + Send>(
+    rt: &R,
+    hall: &HallLogs<D>,
+    passes: &mut [LogsPass<D>],
+    patch: &Checked,
+)
+    requires of { All (ArePartsOf D.mark hall.now.logs) passes.old }
+    requires some { 0 < length hall.now.logs }
+    ensures count { length passes.new ≡ length passes.old }
+    ensures each { (k : ℕ) (d : _) → k < length passes.old → HasVisited hall.now.logs
+        (slice_index_or passes.old k d) (slice_index_or passes.new k d) }
+{
+    thread::for_each_mut(
+        rt,
+        passes,
+        16,
+        &|_place: usize, pass: &mut LogsPass<D>|
+            requires { ArePartsOf D.mark hall.now.logs pass.old × (0 < length hall.now.logs) }
+            ensures { HasVisited hall.entry.now.logs pass.old pass.new }
+        { append_one(rt, hall, pass, patch) },
+    );
+}
+
+// All passes append the patch at once, and are there behind it.
+fn append_all<R: Threads + Wait + Sync, D: Disk + Send>(
+    rt: &R,
+    hall: &HallLogs<D>,
+    passes: &mut Vec<LogsPass<D>>,
+    patch: &Checked,
+)
+    requires all { AreAllPasses D.mark hall.now.logs 2 passes.old.items }
+    requires some { 0 < length hall.now.logs }
+    ensures { AreAllPasses D.mark hall.now.logs 2 passes.new.items }
+{
+    append_each(rt, hall, passes, patch);
+}
+
+#[test]
+fn threads_share_a_hall(rt: HostRuntime) -> Result<(), Fail> {
+    let alloc = rt.alloc();
+    let patch = check_patch(alloc, FIRST)?;
+    let Ok((hall, mut passes, rooms)) = open(alloc, two_disks(alloc, &[])?) else {
+        return Err(Fail::from("not opened"));
+    };
+    append_all(&rt, &hall, &mut passes, &patch);
+    let Ok((hall, mut passes, _rooms)) = open(alloc, close((hall, passes, rooms))) else {
+        return Err(Fail::from("not opened again"));
+    };
+    assert!(rt; version_by(&hall, &mut passes, 0, 1) == 1);
+    assert!(rt; version_by(&hall, &mut passes, 0, 2) == 0);
+    Ok(())
+}
