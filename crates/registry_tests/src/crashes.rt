@@ -1,0 +1,98 @@
+//! What stands after a crash or after a call of the disk that failed.
+use crate::calls::{TWO_SLOTS, Told, create, open, open_with, rename};
+use delta_base::Bytes;
+use disk_model::MemDisk;
+use log_registry::RegistryState;
+use std::alloc::Global;
+use std::process::Abort;
+use std::test::Fail;
+
+fn is_made(told: Told) -> bool {
+    matches!(told, Told::Made { .. })
+}
+
+// Makes ten calls, and answers how many were acknowledged.
+fn ten_calls(alloc: Global, registry: &mut RegistryState<MemDisk>) -> Result<u64, Fail> {
+    let mut told = Vec::new(alloc);
+    told.push(create(alloc, registry, "a", "http://e/a", 1)?)?;
+    told.push(create(alloc, registry, "b", "http://e/b", 2)?)?;
+    for _ in 0..4 {
+        told.push(rename(alloc, registry, "a", "c")?)?;
+        told.push(rename(alloc, registry, "c", "a")?)?;
+    }
+    Ok(told.iter().filter(|told| is_made(**told)).count() as u64)
+}
+
+// Each image reopens with what was acknowledged or one event more.
+fn reopens(rt: &impl Abort, alloc: Global, disk: &MemDisk, done: u64) -> Result<(), Fail> {
+    for choice in [0, 1, 7] {
+        let image = disk.image(choice)?;
+        let again = open(alloc, image.as_slice())?;
+        assert!(rt; again.count() == done || again.count() == done.wrapping_add(1));
+    }
+    Ok(())
+}
+
+// What ten calls leave, of which so many were acknowledged.
+fn survives(rt: &impl Abort, alloc: Global, registry: RegistryState<MemDisk>) -> Result<u64, Fail> {
+    let mut registry = registry;
+    let done = ten_calls(alloc, &mut registry)?;
+    assert!(rt; registry.count() == done);
+    let disk = registry.close();
+    reopens(rt, alloc, &disk, done)?;
+    Ok(done)
+}
+
+// The same on a disk of which only so many calls succeed.
+fn survives_fuse(rt: &impl Abort, alloc: Global, calls: u64) -> Result<u64, Fail> {
+    let disk = MemDisk::with_fuse(alloc, Bytes::from_slice(alloc, TWO_SLOTS)?, calls)?;
+    match RegistryState::open_on(alloc, disk) {
+        Ok(registry) => survives(rt, alloc, registry),
+        Err(_) => Ok(0),
+    }
+}
+
+#[test]
+fn what_was_acknowledged_survives_a_fuse(rt: HostRuntime) -> Result<(), Fail> {
+    let alloc = rt.alloc();
+    let mut most = 0;
+    for calls in 0..60 {
+        most = survives_fuse(&rt, alloc, calls)?;
+    }
+    assert!(rt; most == 10);
+    Ok(())
+}
+
+// The first five calls are those of the opening, and each event has four.
+#[test]
+fn what_was_acknowledged_survives_a_failing_call(rt: HostRuntime) -> Result<(), Fail> {
+    let alloc = rt.alloc();
+    for failing in 5..45 {
+        let registry = open_with(alloc, TWO_SLOTS, &[failing])?;
+        let done = survives(&rt, alloc, registry)?;
+        assert!(rt; done >= 1 && done <= 10);
+    }
+    Ok(())
+}
+
+// The disk fails at one call, and a creation that was refused is made again.
+fn made_again(rt: &impl Abort, alloc: Global, failing: u64) -> Result<u64, Fail> {
+    let mut registry = open_with(alloc, TWO_SLOTS, &[failing])?;
+    let mut told = create(alloc, &mut registry, "a", "http://e/a", 1)?;
+    let faults = registry.faults();
+    if faults == 1 {
+        assert!(rt; told == Told::DiskFault && registry.count() == 0);
+        told = create(alloc, &mut registry, "a", "http://e/a", 1)?;
+    }
+    assert!(rt; told == Told::Made { slot: 1 } && registry.count() == 1);
+    Ok(faults)
+}
+
+#[test]
+fn a_refused_creation_is_made_again(rt: HostRuntime) -> Result<(), Fail> {
+    let alloc = rt.alloc();
+    for failing in 5..9 {
+        assert!(rt; made_again(&rt, alloc, failing)? == 1);
+    }
+    Ok(())
+}
