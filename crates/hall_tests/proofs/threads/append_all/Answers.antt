@@ -17,4 +17,4 @@ returns g c =
     let all = subst (λ (passes : List (List LogSight)). AreAllPasses g.D.Disk.mark logs 2 passes) (sym value) c.requires.all in
     let stay = passes_stay g.D.Disk.mark logs 2 before after (each_visits g.D.Disk.mark logs before after e.count e.each) all in
     subst (λ (passes : List (List LogSight)). AreAllPasses g.D.Disk.mark logs 2 passes)
-        (sym (whole c.args.passes.now.len items after c.args.passes.now.ok.0 count)) stay
+    (sym (whole c.args.passes.now.len items after c.args.passes.now.ok.0 count)) stay
