@@ -9,10 +9,17 @@ ghost use Rattle.log_registry.specs.declared.fault.RegistryFault.{RegistryFault}
 ghost use Rattle.log_registry.specs.Fault.{HasRegistryFault};
 ghost use Rattle.log_registry.specs.Stands.{StandsForRegistry, with_doubt};
 
-/// Whatever a crash leaves of a registry that runs, opening it finds the slots and the events, with the one in doubt or without.
+/// Whatever a crash leaves of a registry that runs, opening it finds the slots and the events, with
+/// the one in doubt or without.
 pub fn registries_are_found_again()
-    ensures found { (past : Past) (slots found_slots : ℕ) (events found : List Event) (doubt : Option Event) (image : List ℕ) → StandsForRegistry past slots events doubt → MayLeave past image
-        → Holds image 0 (payloads_of found_slots found) → IsRegistry found_slots found → (found_slots ≡ slots) × ((found ≡ events) ⊎ (found ≡ with_doubt events doubt)) }
-    ensures no_fault { (past : Past) (slots : ℕ) (events : List Event) (doubt : Option Event) (image : List ℕ) (fault : RegistryFault) → StandsForRegistry past slots events doubt → MayLeave past image
-        → HasRegistryFault image fault → (fault ≡ RegistryFault.Failed) ⊎ (fault ≡ RegistryFault.OutOfMemory) }
+    ensures found { (past : Past) (slots found_slots : ℕ) (events found : List Event)
+        (doubt : Option Event) (image : List ℕ)
+        → StandsForRegistry past slots events doubt → MayLeave past image
+        → Holds image 0 (payloads_of found_slots found) → IsRegistry found_slots found
+        → (found_slots ≡ slots) × ((found ≡ events) ⊎ (found ≡ with_doubt events doubt)) }
+    ensures no_fault { (past : Past) (slots : ℕ) (events : List Event) (doubt : Option Event)
+        (image : List ℕ) (fault : RegistryFault)
+        → StandsForRegistry past slots events doubt → MayLeave past image
+        → HasRegistryFault image fault
+        → (fault ≡ RegistryFault.Failed) ⊎ (fault ≡ RegistryFault.OutOfMemory) }
 {}

@@ -44,9 +44,15 @@ impl<D: Disk> Model for RegistryState<D> {
 
     ghost Value = { StateView D };
 
-    ghost view = { λ s. record { slots = s.registry.slots; entries = s.registry.entries; doubt = s.doubt; disk = disk_of s.journal } };
+    ghost view = { λ s. record {
+      slots = s.registry.slots;
+      entries = s.registry.entries;
+      doubt = s.doubt;
+      disk = disk_of s.journal;
+    } };
 
-    ghost invariant = { λ s. IsKept s.journal s.registry.slots (events_of s.registry.entries) s.doubt };
+    ghost invariant = { λ s. IsKept s.journal s.registry.slots
+        (events_of s.registry.entries) s.doubt };
 }
 
 /// Why an event isn't on the disk.

@@ -37,7 +37,11 @@ impl Model for Registry {
 
     ghost Value = { RegistryView };
 
-    ghost view = { λ r. record { slots = r.slots; entries = r.entries.items; spare = r.entries.spare } };
+    ghost view = { λ r. record {
+      slots = r.slots;
+      entries = r.entries.items;
+      spare = r.entries.spare;
+    } };
 
     ghost invariant = { λ r. IsTable r.slots
         (events_of r.entries.items) r.living.items r.made r.bytes };

@@ -47,7 +47,8 @@ fn add_log<H: Shelf>(
         (H.files shelf.new dir.now number) }
     ensures others { H.tells → SameOthers (Some (dir.now, number))
         (H.files shelf.old) (H.files shelf.new) }
-    ensures cause { IsErrOf result CheckFault.Failed → Rose (H.faults shelf.old) (H.faults shelf.new) }
+    ensures cause { IsErrOf result CheckFault.Failed
+        → Rose (H.faults shelf.old) (H.faults shelf.new) }
     ensures faults { H.faults shelf.old ≤ H.faults shelf.new }
 {
     let line = check_log(alloc, shelf, dir, number)?;
@@ -71,7 +72,8 @@ fn add_logs<H: Shelf>(
         (AreKept dir.now (registry.slots + 1) (H.files shelf.old) (H.files shelf.new)) }
     ensures fault { H.tells → IfErr result
         (StopsInLogs dir.now registry.slots (H.files shelf.old) (H.files shelf.new)) }
-    ensures cause { IsErrOf result CheckFault.Failed → Rose (H.faults shelf.old) (H.faults shelf.new) }
+    ensures cause { IsErrOf result CheckFault.Failed
+        → Rose (H.faults shelf.old) (H.faults shelf.new) }
     ensures faults { H.faults shelf.old ≤ H.faults shelf.new }
 {
     for number in 1..=registry.slots {
@@ -92,7 +94,8 @@ pub fn check_files<H: Shelf>(alloc: Global, shelf: &mut H, dir: &Text) -> Result
 
     // So is each file up to the one with the fault.
     ensures fault { H.tells → IfErr result (Stops dir.now (H.files shelf.old) (H.files shelf.new)) }
-    ensures cause { IsErrOf result CheckFault.Failed → Rose (H.faults shelf.old) (H.faults shelf.new) }
+    ensures cause { IsErrOf result CheckFault.Failed
+        → Rose (H.faults shelf.old) (H.faults shelf.new) }
     ensures faults { H.faults shelf.old ≤ H.faults shelf.new }
 {
     let registry = check_registry(alloc, shelf, dir)?;

@@ -23,11 +23,16 @@ pub fn check_log<H: Shelf>(
     dir: &Text,
     number: u32,
 ) -> Result<FileLine, CheckFault>
-    ensures ok { H.tells → IfOk result (IsLogLine (bytes_at (H.files shelf.old) dir.now number) number) }
-    ensures fault { H.tells → IfErr result (HasFileFault (bytes_at (H.files shelf.old) dir.now number) number) }
-    ensures kept { H.tells → IsKept (H.files shelf.old dir.now number) (H.files shelf.new dir.now number) }
-    ensures others { H.tells → SameOthers (Some (dir.now, number)) (H.files shelf.old) (H.files shelf.new) }
-    ensures cause { IsErrOf result CheckFault.Failed → Rose (H.faults shelf.old) (H.faults shelf.new) }
+    ensures ok { H.tells → IfOk result
+        (IsLogLine (bytes_at (H.files shelf.old) dir.now number) number) }
+    ensures fault { H.tells → IfErr result
+        (HasFileFault (bytes_at (H.files shelf.old) dir.now number) number) }
+    ensures kept { H.tells → IsKept (H.files shelf.old dir.now number)
+        (H.files shelf.new dir.now number) }
+    ensures others { H.tells → SameOthers (Some (dir.now, number))
+        (H.files shelf.old) (H.files shelf.new) }
+    ensures cause { IsErrOf result CheckFault.Failed
+        → Rose (H.faults shelf.old) (H.faults shelf.new) }
     ensures faults { H.faults shelf.old ≤ H.faults shelf.new }
 {
     let disk = shelf.disk(dir, number)?;
@@ -50,7 +55,8 @@ pub fn check_registry<H: Shelf>(
     ensures kept { H.tells → IsKept (H.files shelf.old dir.now 0) (H.files shelf.new dir.now 0) }
     ensures others { H.tells → SameOthers (Some (dir.now, 0))
         (H.files shelf.old) (H.files shelf.new) }
-    ensures cause { IsErrOf result CheckFault.Failed → Rose (H.faults shelf.old) (H.faults shelf.new) }
+    ensures cause { IsErrOf result CheckFault.Failed
+        → Rose (H.faults shelf.old) (H.faults shelf.new) }
     ensures faults { H.faults shelf.old ≤ H.faults shelf.new }
 {
     let disk = shelf.disk(dir, 0)?;
