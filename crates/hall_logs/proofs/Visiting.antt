@@ -65,7 +65,7 @@ module _ {D : Type 0} (logs : List (Made (LogView D))) (place : ℕ) (log : Made
       (r.0, r.1, rw (ne_eqb visit.slot (place + 1) ne) r.2))
 
 -- whether it found memory or not, the pass sees on
-asked_sees : (limits : LogLimits) (p q : LogSight) (call : LogCall) (reply : Option LogReply) → IsReplied limits p call reply q → SeesOn p q
+pub asked_sees : (limits : LogLimits) (p q : LogSight) (call : LogCall) (reply : Option LogReply) → IsReplied limits p call reply q → SeesOn p q
 asked_sees limits p q call (Some reply) is = is.0
 asked_sees limits p q call None is = is.0
 
@@ -82,11 +82,11 @@ module _ {D : Type 0} (mark : D → Option (List ℕ × ℕ)) (logs : List (Made
     one_number n all = subst (AllOf (λ (part : LogSight). number_of part ≡ n)) (sym v.others)
         (all_set (λ (part : LogSight). number_of part ≡ n) before v.place v.old v.new all v.old_is (λ e. sees.0.2 ∙ e))
 
-  parts_stay : (before after : List LogSight) (visits : List Visit) → AreVisits logs before visits after → ArePartsOf mark logs before → ArePartsOf mark logs after
+  pub parts_stay : (before after : List LogSight) (visits : List Visit) → AreVisits logs before visits after → ArePartsOf mark logs before → ArePartsOf mark logs after
   parts_stay before after [] same of = subst (ArePartsOf mark logs) (sym same) of
   parts_stay before after (visit ∷ more) vs of = parts_stay vs.0 after more vs.2 (one_parts before vs.0 visit vs.1 of)
 
-  numbers_stay : (n : ℕ) (before after : List LogSight) (visits : List Visit) → AreVisits logs before visits after → AllOf (λ (part : LogSight). number_of part ≡ n) before → AllOf (λ (part : LogSight). number_of part ≡ n) after
+  pub numbers_stay : (n : ℕ) (before after : List LogSight) (visits : List Visit) → AreVisits logs before visits after → AllOf (λ (part : LogSight). number_of part ≡ n) before → AllOf (λ (part : LogSight). number_of part ≡ n) after
   numbers_stay n before after [] same all = subst (AllOf (λ (part : LogSight). number_of part ≡ n)) (sym same) all
   numbers_stay n before after (visit ∷ more) vs all = numbers_stay n vs.0 after more vs.2 (one_number before vs.0 visit vs.1 n all)
 

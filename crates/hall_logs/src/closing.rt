@@ -1,6 +1,9 @@
 //! Logs give their disks back.
-ghost use Rattle.std.specs.Prelude.{◌≡◌, vec_capacity};
-ghost use Rattle.hall_logs.specs.Slots.{AreAllPasses};
+ghost use Rattle.std.specs.Prelude.{◌≡◌, None, map, vec_capacity};
+ghost use Rattle.std.specs.List.{AllZip};
+ghost use Rattle.turn_cell.specs.Turns.{AllOf};
+ghost use Rattle.hall_logs.specs.Files.{IsStill};
+ghost use Rattle.hall_logs.specs.Slots.{AreAllPasses, AreNew};
 ghost use Rattle.hall_logs.specs.Rooms.{HasRoom};
 ghost use Rattle.hall_logs.specs.Ends.{AreEnded};
 
@@ -17,6 +20,11 @@ impl<D: Disk> HallLogs<D> {
         requires rooms { HasRoom self rooms }
         ensures ends { AreEnded D.Disk 0 self.logs passes.items result.items }
         ensures room { vec_capacity result ≡ rooms.disks }
+
+        // Where no pass made a call, each disk still holds its log.
+        ensures idle { AreNew D.mark self.logs 1 passes.items
+            → AllOf (λ log. log.origin.doubt ≡ None) self.logs
+            → AllZip (IsStill D.Disk) (map (λ log. log.origin) self.logs) result.items }
     {
         let mut passes = passes;
         let HallLogs { mut logs, seats: _ } = self;

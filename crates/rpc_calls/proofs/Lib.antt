@@ -1,4 +1,5 @@
 mod MediaLemmas
+mod MethodLemmas
 mod PathLemmas
 mod RequestLemmas
 mod RouteLemmas

@@ -1,10 +1,13 @@
-use Rattle.std.proofs.Common.{◌≡◌, List, length, sym, subst, ap, ◌∙◌, arith, vec_len}
+use Rattle.std.proofs.Common.{◌≡◌, List, length, sym, subst, ap, ◌∙◌, arith, rules, vec_len}
 use Rattle.patch_log.specs.State.{LogView}
+use Rattle.turn_cell.specs.Turns.{AllOf}
 use Rattle.turn_cell.specs.Sights.{Made}
 use Rattle.shared_log.specs.Passes.{LogSight}
+use Rattle.hall_logs.specs.Ends.{AreEnded}
 use Rattle.hall_logs.specs.Slots.{Hall, AreAllPasses}
 use Rattle.hall_logs.specs.Rooms.{Room}
 use Rattle.hall_logs.proofs.Ending.{Closing, begins, counted, longs, parts_are, one_more, ended}
+use Rattle.hall_logs.proofs.Still.{all_still}
 use Rattle.hall_logs.proofs.logs.HallLogs.close.Goals as goal
 
 pub loop-log-init : goal.loop-log-init
@@ -70,3 +73,11 @@ loop-log-preserved g c =
       lists = omega (arith, l.invariant.lists, popped, c.take-parts.ensures.left.0);
       width = omega (arith, l.invariant.width, c.take-parts.ensures.left.1);
     }
+
+pub returns-clause-idle : goal.returns-clause-idle
+returns-clause-idle g c = λ new settled.
+    let hall : Hall g.row.D.Denot = c.args.self in
+    let disks : List g.row.D.Denot = c.reverse.new.self.items in
+    let alike = subst (λ (h : Hall g.row.D.Denot). AllOf (λ (log : Made (LogView g.row.D.Denot)). log.seats ≡ h.seats) h.logs) c.self.view_is c.self.invariant.0 in
+    let ends : AreEnded g.D.Disk 0 hall.logs c.args.passes.items disks = search rules in
+    all_still g.D.Disk hall.logs hall.seats c.args.passes.items new c.requires.passes.count alike settled disks ends

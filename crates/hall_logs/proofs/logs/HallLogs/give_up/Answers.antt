@@ -1,11 +1,10 @@
-use Rattle.std.proofs.Common.{◌≡◌, ◌++◌, List, map, refl, sym, subst, ◌∙◌, arith}
+use Rattle.std.proofs.Common.{◌++◌, List, map, refl, sym, subst, ◌∙◌, arith}
 use Rattle.std.specs.Prelude.{reverse}
 use Rattle.patch_log.specs.State.{LogView}
-use Rattle.turn_cell.specs.Turns.{AllOf}
 use Rattle.turn_cell.specs.Sights.{Made}
 use Rattle.hall_logs.specs.Slots.{Hall}
 use Rattle.hall_logs.proofs.Shares.{all_new}
-use Rattle.hall_logs.proofs.Still.{GivingUp, all_still, gives_one, as_many_ended}
+use Rattle.hall_logs.proofs.Still.{GivingUp, gives_one, as_many_ended}
 use Rattle.hall_logs.proofs.logs.HallLogs.give_up.Goals as goal
 
 pub close-disks-requires-clause-passes : goal.close-disks-requires-clause-passes
@@ -17,12 +16,11 @@ loop-log-init g c =
     let hall : Hall g.row.D.Denot = c.args.self in
     let disks : List g.row.D.Denot = c.close-disks.result.items in
     let ends = c.close-disks.ensures.ends in
-    let alike = subst (λ (h : Hall g.row.D.Denot). AllOf (λ (log : Made (LogView g.row.D.Denot)). log.seats ≡ h.seats) h.logs) c.self.view_is c.self.invariant.0 in
     let many = as_many_ended g.D.Disk 0 hall.logs c.args.passes.items disks ends in record {
       giving = record {
         done = map (λ (log : Made (LogView g.row.D.Denot)). log.origin) hall.logs;
         all_is = refl;
-        still = all_still g.D.Disk hall.logs hall.seats c.args.passes.items c.requires.passes.0 (omega (arith, c.args.passes.ok.0, c.requires.passes.1)) alike c.requires.settled disks ends;
+        still = c.close-disks.ensures.idle c.requires.passes.0 c.requires.settled;
       };
       capacity = c.close-disks.ensures.room;
       room = omega (arith, many, c.close-disks.result.ok.0, c.requires.room, c.close-disks.ensures.room);

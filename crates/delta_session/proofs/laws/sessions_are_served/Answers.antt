@@ -1,0 +1,5 @@
+use Rattle.delta_session.proofs.Serving.{served}
+use Rattle.delta_session.proofs.laws.sessions_are_served.Goals as goal
+
+pub returns : goal.returns
+returns g c = λ hall. served hall c.calls_add_up.ensures c.visits_are_calls.ensures c.lookups_add_up.ensures

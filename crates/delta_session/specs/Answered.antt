@@ -1,0 +1,144 @@
+-- How a hall answers a request: what it asks of its lists, and what it says.
+use Rattle.std.specs.Prelude.{◌≡◌, ◌⊎◌, ℕ, List, [], ◌∷◌, Option, Some, None, Result, Ok, Err}
+use Rattle.std.specs.Option.{option_copied}
+use Rattle.chain_core.specs.Replies.{LogCall, LogReply, append as appends}
+use Rattle.delta_base.specs.declared.source_info.SourceInfo.{SourceInfo}
+use Rattle.http_text.specs.declared.message.RawRequest.{RawRequest}
+use Rattle.http_session.specs.declared.answerer.Said.{Said}
+use Rattle.http_session.specs.declared.answerer.Said.TheVariants.{Reply, OutOfMemory}
+use Rattle.patch_log.specs.Log.{bare}
+use Rattle.patch_meaning.specs.Checked.{CheckedPatch}
+use Rattle.patch_meaning.specs.Patch.{IsPatch, IsPatchFault}
+use Rattle.patch_meaning.specs.declared.fault.PatchFault.{PatchFault}
+use Rattle.registry_core.specs.Replies.{RegistryCall, RegistryReply, resolve, found}
+use Rattle.registry_core.specs.Replies.{answered, changed, listed}
+use Rattle.rpc_answers.specs.Prints.{IsCompactPrintOf}
+use Rattle.rpc_answers.specs.declared.answer.Answer.{Answer}
+use Rattle.rpc_answers.specs.declared.answer.Answer.TheVariants.{NoSource}
+use Rattle.rpc_calls.specs.Calls.{call_of}
+use Rattle.rpc_calls.specs.Outcomes.{Outcome}
+use Rattle.rpc_calls.specs.declared.call.Call.{Call}
+use Rattle.delta_session.specs.Asking.{Asking, asks_nobody, asks_registry, asks_log, asks_append}
+use Rattle.delta_session.specs.Asking.{asking_of, dice_behind}
+use Rattle.delta_session.specs.Steps.{HallView, HallSight, Step, lookup, visit, AreSteps}
+use Rattle.delta_session.specs.Telling.{registry_answer, log_answer, patch_answer}
+use Rattle.delta_session.specs.Telling.{refusal_answer, methods_told}
+
+-- ---- what is said
+
+-- the answer's print, beside which these methods are told; or memory ran out in printing
+abbrev pub Says : Answer → Option (List ℕ) → Said → Type 0
+Says answer methods (Reply reply allow) =
+    IsCompactPrintOf reply answer reply.close × (option_copied allow ≡ methods)
+Says answer methods OutOfMemory = Unit {0}
+
+-- the answer to a reply; without one memory ran out
+abbrev pub SaysOf : {R : Type 0} → (R → Answer) → Option R → Said → Type 0
+SaysOf answer (Some reply) said = Says (answer reply) None said
+SaysOf answer None said = said ≡ OutOfMemory
+
+-- ---- what a call comes to
+
+-- the registry is asked, and its reply is said
+abbrev pub ByRegistry : RegistryCall → List Step → Said → Type 0
+ByRegistry call steps said =
+    (reply : Option RegistryReply) × (steps ≡ lookup call reply ∷ [])
+    × SaysOf registry_answer reply said
+
+-- the log of a slot is asked, and its reply is said
+abbrev pub ByLog : ℕ → LogCall → List Step → Said → Type 0
+ByLog slot call steps said =
+    (reply : Option LogReply) × (steps ≡ visit slot call reply ∷ []) × SaysOf log_answer reply said
+
+-- a look-up gave no source, and that is said; without a reply memory ran out
+abbrev pub SaysNone : Option RegistryReply → Said → Type 0
+SaysNone (Some (found (Some source))) said = ⊥
+SaysNone (Some (found None)) said = Says NoSource None said
+SaysNone (Some (answered made)) said = ⊥
+SaysNone (Some (changed done)) said = ⊥
+SaysNone (Some (listed sources)) said = ⊥
+SaysNone None said = said ≡ OutOfMemory
+
+-- what follows the look-up of a name: more steps, where it gave a source
+abbrev pub BehindLookup : (ℕ → List Step → Said → Type 0) → Option RegistryReply → List Step → Said → Type 0
+BehindLookup P (Some (found (Some source))) rest said = P source.slot rest said
+BehindLookup P (Some (found None)) rest said =
+    (rest ≡ []) × SaysNone (Some (found None)) said
+BehindLookup P (Some (answered made)) rest said = ⊥
+BehindLookup P (Some (changed done)) rest said = ⊥
+BehindLookup P (Some (listed sources)) rest said = ⊥
+BehindLookup P None rest said = (rest ≡ []) × SaysNone None said
+
+-- A name is looked up before its log is asked. That goes on in the slot of its source, also where
+-- the source is removed in between.
+abbrev pub BySource : List ℕ → (ℕ → List Step → Said → Type 0) → List Step → Said → Type 0
+BySource name P steps said =
+    (reply : Option RegistryReply) × (rest : List Step)
+    × (steps ≡ lookup (resolve name) reply ∷ rest) × BehindLookup P reply rest said
+
+-- A text is appended to the log of a slot, or its first fault is said. Memory may run out before
+-- it is known.
+abbrev pub ByPatch : List ℕ → ℕ → List Step → Said → Type 0
+ByPatch text slot steps said =
+    ((patch : CheckedPatch) × (patch.text ≡ text) × IsPatch text patch.meaning
+    × ByLog slot (appends (bare patch)) steps said)
+    ⊎ ((fault : PatchFault) × IsPatchFault text fault × (steps ≡ [])
+    × Says (patch_answer fault) None said)
+    ⊎ ((steps ≡ []) × (said ≡ OutOfMemory))
+
+abbrev pub ComesTo : Asking → List Step → Said → Type 0
+ComesTo (asks_nobody answer) steps said = (steps ≡ []) × Says answer None said
+ComesTo (asks_registry call) steps said = ByRegistry call steps said
+ComesTo (asks_log name call) steps said = BySource name (λ slot. ByLog slot call) steps said
+ComesTo (asks_append name text) steps said = BySource name (ByPatch text) steps said
+
+-- ---- requests
+
+-- A request that is no call is refused without a step. Memory may run out before it is read.
+abbrev pub IsSaidTo : ℕ → Outcome → List Step → Said → ℕ → Type 0
+IsSaidTo dice (Err refusal) steps said next =
+    (steps ≡ []) × Says (refusal_answer refusal) (methods_told refusal) said × (next ≡ dice)
+IsSaidTo dice (Ok call) steps said next =
+    (ComesTo (asking_of dice call) steps said × (next ≡ dice_behind call dice))
+    ⊎ ((steps ≡ []) × (said ≡ OutOfMemory) × (next ≡ dice))
+
+-- Before and behind an answer the pass knows this. The steps were legal, each at its point of its
+-- list, and what they gave is said.
+abbrev pub Answered : {D : Type 0} → HallView D → HallSight → RawRequest → Said → HallSight → Type 0
+Answered hall before request said after =
+    (steps : List Step) × AreSteps hall before.lists steps after.lists
+    × IsSaidTo before.dice (call_of request) steps said after.dice
+
+-- ---- parts of an answer
+
+-- the reply of a look-up; without memory there is none
+abbrev pub reply_found : {E : Type 0} → Result (Option SourceInfo) E → Option RegistryReply
+reply_found (Ok source) = Some (found source)
+reply_found (Err fault) = None
+
+-- a reply gives a slot, or what is said in its place
+abbrev pub IsLookedUp : Option RegistryReply → Result ℕ Said → Type 0
+IsLookedUp reply (Ok slot) =
+    (source : SourceInfo) × (reply ≡ Some (found (Some source))) × (source.slot ≡ slot)
+IsLookedUp reply (Err said) = SaysNone reply said
+
+module _ {D : Type 0} (hall : HallView D) where
+  -- a call is answered, and a creation takes its number
+  abbrev pub Serves : Call → HallSight → Said → HallSight → Type 0
+  Serves call before said after =
+      (steps : List Step) × AreSteps hall before.lists steps after.lists
+      × ComesTo (asking_of before.dice call) steps said
+      × (after.dice ≡ dice_behind call before.dice)
+
+  -- the slot of the source with a name was found, or why none was is said
+  abbrev pub LooksUp : List ℕ → HallSight → Result ℕ Said → HallSight → Type 0
+  LooksUp name before result after =
+      (reply : Option RegistryReply)
+      × AreSteps hall before.lists (lookup (resolve name) reply ∷ []) after.lists
+      × (after.dice ≡ before.dice) × IsLookedUp reply result
+
+  -- steps that come to this, of a part that takes no number
+  abbrev pub Takes : (List Step → Said → Type 0) → HallSight → Said → HallSight → Type 0
+  Takes P before said after =
+      (steps : List Step) × AreSteps hall before.lists steps after.lists × P steps said
+      × (after.dice ≡ before.dice)

@@ -1,0 +1,48 @@
+-- The passes of a hall.
+use Rattle.std.specs.Prelude.{◌≡◌, ℕ, ◌+◌, ◌<◌, ◌≤◌, List, [], ◌∷◌, Option, length, min}
+use Rattle.std.specs.List.{AllZip, sum_by}
+use Rattle.turn_cell.specs.Turns.{AllOf, IsIn, last_count}
+use Rattle.turn_cell.specs.Knowing.{number_of, own_faults_of}
+use Rattle.shared_log.specs.Passes.{LogSight, IsNewPassOf as IsNewPart}
+use Rattle.shared_registry.specs.Passes.{RegistrySight, IsPassOf, IsNewPassOf}
+use Rattle.hall_logs.specs.Slots.{ArePartsOf}
+use Rattle.delta_session.specs.Steps.{HallView, HallSight, Lists}
+
+-- the own faults on all lists together, or the last value of u64 where the sum passes that
+abbrev pub all_faults : Lists → ℕ
+all_faults p =
+    min (own_faults_of p.registry + sum_by (λ part. own_faults_of part) p.logs) last_count
+
+-- its parts of the logs have the number of its part of the registry
+abbrev pub HasOneNumber : Lists → Type 0
+HasOneNumber p = AllOf (λ part. number_of part ≡ number_of p.registry) p.logs
+
+module _ {D : Type 0} (mark : D → Option (List ℕ × ℕ)) (hall : HallView D) where
+  -- a pass of the hall, of its registry and of each of its logs by one number, without a turn
+  pub record IsHallPass (p : Lists) : Type 0 where
+    pub registry : IsPassOf mark hall.registry p.registry
+    pub logs : ArePartsOf mark hall.logs.logs p.logs
+    pub one : HasOneNumber p
+
+  -- each is a pass of the hall, and none is missing: each number up to that of the seats has one
+  pub record AreHallPasses (passes : List HallSight) : Type 0 where
+    pub of : AllOf (λ pass. IsHallPass pass.lists) passes
+    pub count : length passes ≡ hall.logs.seats
+    pub all :
+        (n : ℕ) → 0 < n → n ≤ hall.logs.seats
+        → (pass : HallSight) × IsIn pass passes × (number_of pass.lists.registry ≡ n)
+
+  -- new passes, whose numbers go up from this one
+  abbrev pub AreNewPasses : ℕ → List HallSight → Type 0
+  AreNewPasses number [] = Unit {0}
+  AreNewPasses number (pass ∷ passes) =
+      IsNewPassOf mark hall.registry number pass.lists.registry
+      × AllZip (λ log part. IsNewPart mark log number part) hall.logs.logs pass.lists.logs
+      × AreNewPasses (number + 1) passes
+
+-- what passes know of a registry and what they know of its logs, each joined with the other
+abbrev pub joined : List RegistrySight → List (List LogSight) → List HallSight
+joined [] parts = []
+joined (sight ∷ sights) [] = []
+joined (sight ∷ sights) (part ∷ parts) =
+    record { lists = record { registry = sight; logs = part }; dice = 0 } ∷ joined sights parts

@@ -1,0 +1,9 @@
+pub mod Steps
+pub mod Asking
+pub mod Telling
+pub mod Answered
+pub mod Sessions
+pub mod Halls
+pub mod Opening
+pub mod Ends
+pub mod Laws

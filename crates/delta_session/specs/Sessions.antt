@@ -1,0 +1,76 @@
+-- What the answers of a session come to for the pass that serves it.
+use Rattle.std.specs.Prelude.{◌≡◌, ℕ, ◌+◌, ◌≤◌, List, [], ◌∷◌, ◌++◌, Some, slice_get}
+use Rattle.delta_base.specs.Outside.{Rose}
+use Rattle.delta_base.specs.declared.link.Link.{Ghosts as LinkGhosts}
+use Rattle.http_session.specs.Output.{Exchange, Chain}
+use Rattle.http_session.specs.Talks.{TalksOn, IsDrained, Moment, moment_of}
+use Rattle.http_text.specs.declared.session.SessionEnd.{SessionEnd}
+use Rattle.http_text.specs.declared.session.SessionEnd.TheVariants.{LinkFault}
+use Rattle.patch_log.specs.State.{LogView}
+use Rattle.rpc_calls.specs.Calls.{call_of}
+use Rattle.turn_cell.specs.Sights.{Made}
+use Rattle.shared_log.specs.Passes.{LogSight}
+use Rattle.shared_registry.specs.Lookups.{RegistryAddsUp}
+use Rattle.hall_logs.specs.Sums.{AddsUp}
+use Rattle.hall_logs.specs.Visits.{asked_at}
+use Rattle.delta_session.specs.Answered.{Answered, IsSaidTo}
+use Rattle.delta_session.specs.Steps.{HallView, HallSight, Step, AreSteps, lookups_of, visits_of}
+
+-- the steps of all requests, in their order
+abbrev pub all_of : List (List Step) → List Step
+all_of [] = []
+all_of (steps ∷ more) = steps ++ all_of more
+
+-- each request was answered by its steps, one list for each, and each creation took its number
+abbrev pub AreSaid : ℕ → List Exchange → List (List Step) → ℕ → Type 0
+AreSaid dice [] [] last = last ≡ dice
+AreSaid dice (e ∷ exchanges) (steps ∷ more) last =
+    (next : ℕ) × IsSaidTo dice (call_of e.request) steps e.said next
+    × AreSaid next exchanges more last
+AreSaid dice [] (steps ∷ more) last = ⊥
+AreSaid dice (e ∷ exchanges) [] last = ⊥
+
+-- What the answers of a session come to: the steps of all requests, in their order, are the calls of
+-- this pass and no others. What they add up to is told for the registry, and for each log.
+pub record Served {D : Type 0} (hall : HallView D) (before : HallSight)
+    (exchanges : List Exchange) (after : HallSight) : Type 0 where
+  pub steps : List (List Step)
+  pub said : AreSaid before.dice exchanges steps after.dice
+  pub taken : AreSteps hall before.lists (all_of steps) after.lists
+  pub registry :
+      RegistryAddsUp before.lists.registry (lookups_of (all_of steps)) after.lists.registry
+  pub logs :
+      (place : ℕ) (log : Made (LogView D)) (p : LogSight)
+      → slice_get hall.logs.logs place ≡ Some log → slice_get before.lists.logs place ≡ Some p
+      → (q : LogSight) × (slice_get after.lists.logs place ≡ Some q)
+      × AddsUp p (asked_at (place + 1) (visits_of (all_of steps))) q
+
+-- the pass answered some requests
+abbrev pub HasAnswered : {D : Type 0} → HallView D → HallSight → HallSight → Type 0
+HasAnswered hall before after =
+    (exchanges : List Exchange) × Chain (Answered hall) before exchanges after
+
+-- A connection was served: what was read and what was written of it, and why it ended. It has no
+-- byte left where it was closed or cut short, and its link failed where that is told.
+pub record IsSession {D : Type 0} (hall : HallView D) (from to : Moment HallSight)
+    (end : SessionEnd) : Type 0 where
+  pub talks : TalksOn (Answered hall) from to end
+  pub drained : IsDrained to.left end
+  pub failed : end ≡ LinkFault → Rose from.faults to.faults
+  pub never_falls : from.faults ≤ to.faults
+
+-- a worker: the hall that it serves, and its pass
+pub record WorkerView (D : Type 0) : Type 0 where
+  pub hall : HallView D
+  pub pass : HallSight
+
+module _ {D L : Type 0} (links : LinkGhosts L) where
+  -- It served the connection as a session of its hall whose next ids are made of the numbers from
+  -- these dice on.
+  abbrev pub Works : WorkerView D → L → ℕ → WorkerView D → L → Type 0
+  Works before link dice after left =
+      (end : SessionEnd) × (after.hall ≡ before.hall)
+      × IsSession before.hall
+      (moment_of (record before.pass { dice = dice }) (links.left link) (links.sent link)
+      (links.faults link))
+      (moment_of after.pass (links.left left) (links.sent left) (links.faults left)) end

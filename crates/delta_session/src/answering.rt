@@ -1,0 +1,93 @@
+//! A hall answers requests.
+ghost use Rattle.http_session.specs.Said.{IsPrintableSaid};
+ghost use Rattle.delta_session.specs.Answered.{Serves};
+ghost use Rattle.delta_session.specs.Halls.{IsHallPass};
+
+use crate::hall::Hall;
+use crate::pass::HallPass;
+use crate::refusing::refuse;
+use crate::telling::say;
+use delta_base::{Id, Text};
+use disk_model::Disk;
+use http_session::{Answerer, Said};
+use http_text::RawRequest;
+use rpc_answers::Answer;
+use rpc_calls::{Call, read_call};
+use std::alloc::Global;
+use std::sync::Wait;
+
+impl<D: Disk> Hall<D> {
+    // Makes a source; without an id it takes the next one of the pass.
+    fn create_with<R: Wait>(
+        &self,
+        rt: &R,
+        alloc: Global,
+        pass: &mut HallPass<D>,
+        name: Text,
+        uri: Text,
+        id: Option<Id>,
+    ) -> Said
+        requires ready { IsHallPass D.mark self.now pass.old.lists }
+        ensures serves { Serves self.now (Call.Create name uri id) pass.old result pass.new }
+        ensures printable { IsPrintableSaid result }
+        ensures ready { IsHallPass D.mark self.now pass.new.lists }
+    {
+        let id = match id {
+            Some(id) => id,
+            None => pass.next_id(),
+        };
+        self.create(rt, alloc, pass, name, uri, id)
+    }
+
+    // What is said to a call.
+    fn serve<R: Wait>(&self, rt: &R, alloc: Global, pass: &mut HallPass<D>, call: Call) -> Said
+        requires ready { IsHallPass D.mark self.now pass.old.lists }
+        ensures serves { Serves self.now call pass.old result pass.new }
+        ensures printable { IsPrintableSaid result }
+        ensures ready { IsHallPass D.mark self.now pass.new.lists }
+    {
+        match call {
+            Call::Ping => say(alloc, Answer::Pong),
+            Call::List => self.list(rt, alloc, pass),
+            Call::Source { name } => self.source(rt, alloc, pass, name),
+            Call::SourceById { id } => self.source_by_id(rt, alloc, pass, id),
+            Call::SourceByUri { uri } => self.source_by_uri(rt, alloc, pass, uri),
+            Call::Log { name } => self.log(rt, alloc, pass, name),
+            Call::Version { name } => self.version(rt, alloc, pass, name),
+            Call::Remove { name } => self.remove(rt, alloc, pass, name),
+            Call::Create { name, uri, id } => self.create_with(rt, alloc, pass, name, uri, id),
+            Call::Rename { name, new_name } => self.rename(rt, alloc, pass, name, new_name),
+            Call::Append { name, patch } => self.append(rt, alloc, pass, name, patch),
+            Call::FetchVersion { name, version } => self.fetch_version(
+                rt, alloc, pass, name, version,
+            ),
+            Call::FetchId { name, id } => self.fetch_id(rt, alloc, pass, name, id),
+        }
+    }
+}
+
+impl<D: Disk> Answerer for Hall<D> {
+    ghost use Rattle.delta_session.specs.Answered.{Answered};
+    ghost use Rattle.delta_session.specs.Halls.{IsHallPass};
+
+    type State = HallPass<D>;
+
+    ghost ready = { λ hall pass. IsHallPass D.mark hall pass.lists };
+
+    ghost answers = { λ hall before request said after. Answered hall before request said after };
+
+    fn answer<R: Wait>(
+        &self,
+        rt: &R,
+        alloc: Global,
+        state: &mut HallPass<D>,
+        request: RawRequest,
+    ) -> Said {
+        let call = read_call(alloc, &request);
+        drop(request);
+        match call {
+            Ok(call) => self.serve(rt, alloc, state, call),
+            Err(fault) => refuse(alloc, fault),
+        }
+    }
+}

@@ -1,0 +1,118 @@
+//! Replies as answers, and answers as what is said.
+ghost use Rattle.std.specs.Prelude.{◌≡◌, None, IfOk, IsErr};
+ghost use Rattle.http_session.specs.Said.{IsPrintableSaid};
+ghost use Rattle.registry_core.specs.Replies as registry;
+ghost use Rattle.rpc_answers.specs.Answers.{NamesItsFault};
+ghost use Rattle.shared_log.specs.Replies.{reply_fetched};
+ghost use Rattle.delta_session.specs.Answered.{Says};
+ghost use Rattle.delta_session.specs.Telling.{append_answer, change_answer, create_answer};
+ghost use Rattle.delta_session.specs.Telling.{log_answer, registry_answer};
+
+use chain_core::LogAnswer;
+use delta_base::{OutOfMemory, SourceInfo, Sources};
+use http_session::Said;
+use registry_core::{ChangeAnswer, CreateAnswer};
+use rpc_answers::{Answer, into_reply};
+use shared_log::Fetched;
+use std::alloc::Global;
+
+pub(crate) fn create_answer(answer: CreateAnswer) -> Answer
+    ensures { result ≡ create_answer answer }
+{
+    match answer {
+        CreateAnswer::Made(source) => Answer::Source(source),
+        CreateAnswer::BadName { at } => Answer::BadName { at },
+        CreateAnswer::BadUri { at } => Answer::BadUri { at },
+        CreateAnswer::NameTaken { id } => Answer::NameTaken { id },
+        CreateAnswer::IdTaken { name } => Answer::IdTaken { name },
+        CreateAnswer::Full { what, have, limit } => Answer::Full { what, have, limit },
+        CreateAnswer::OutOfMemory => Answer::OutOfMemory,
+        CreateAnswer::DiskFault => Answer::DiskFault,
+    }
+}
+
+pub(crate) fn change_answer(answer: ChangeAnswer) -> Answer
+    ensures { result ≡ change_answer answer }
+{
+    match answer {
+        ChangeAnswer::Done(source) => Answer::Source(source),
+        ChangeAnswer::NoSuchName => Answer::NoSource,
+        ChangeAnswer::BadName { at } => Answer::BadName { at },
+        ChangeAnswer::NameTaken { id } => Answer::NameTaken { id },
+        ChangeAnswer::Full { what, have, limit } => Answer::Full { what, have, limit },
+        ChangeAnswer::OutOfMemory => Answer::OutOfMemory,
+        ChangeAnswer::DiskFault => Answer::DiskFault,
+    }
+}
+
+pub(crate) fn append_answer(answer: LogAnswer) -> Answer
+    ensures { result ≡ append_answer answer }
+{
+    match answer {
+        LogAnswer::Accepted { version } => Answer::Version { version },
+        LogAnswer::Known { version, same } => Answer::Known { version, same },
+        LogAnswer::Conflict {
+            version,
+            head,
+            prev_version,
+        } => Answer::Conflict {
+            version,
+            head,
+            prev_version,
+        },
+        LogAnswer::Full { what, have, limit } => Answer::Full { what, have, limit },
+        LogAnswer::DiskFault => Answer::DiskFault,
+        LogAnswer::OutOfMemory => Answer::OutOfMemory,
+    }
+}
+
+/// Says an answer.
+pub(crate) fn say(alloc: Global, answer: Answer) -> Said
+    requires { NamesItsFault answer }
+    ensures says { Says answer None result }
+    ensures printable { IsPrintableSaid result }
+{
+    match into_reply(alloc, answer, false) {
+        Ok(reply) => Said::Reply { reply, allow: None },
+        Err(_) => Said::OutOfMemory,
+    }
+}
+
+/// Says the source that was found.
+pub(crate) fn say_found(alloc: Global, found: Result<Option<SourceInfo>, OutOfMemory>) -> Said
+    ensures says { IfOk found (λ reply. Says (registry_answer (registry.found reply)) None result) }
+    ensures want { IsErr found → result ≡ Said.OutOfMemory }
+    ensures printable { IsPrintableSaid result }
+{
+    match found {
+        Ok(Some(source)) => say(alloc, Answer::Source(source)),
+        Ok(None) => say(alloc, Answer::NoSource),
+        Err(_) => Said::OutOfMemory,
+    }
+}
+
+/// Says the sources of a list.
+pub(crate) fn say_listed(alloc: Global, listed: Result<Sources, OutOfMemory>) -> Said
+    ensures says { IfOk listed (λ sources.
+        Says (registry_answer (registry.listed sources.items)) None result) }
+    ensures want { IsErr listed → result ≡ Said.OutOfMemory }
+    ensures printable { IsPrintableSaid result }
+{
+    match listed {
+        Ok(sources) => say(alloc, Answer::Sources(sources)),
+        Err(_) => Said::OutOfMemory,
+    }
+}
+
+/// Says the patch that was found.
+pub(crate) fn say_fetched(alloc: Global, fetched: Result<Fetched, OutOfMemory>) -> Said
+    ensures says { IfOk fetched (λ reply. Says (log_answer (reply_fetched reply)) None result) }
+    ensures want { IsErr fetched → result ≡ Said.OutOfMemory }
+    ensures printable { IsPrintableSaid result }
+{
+    match fetched {
+        Ok(Fetched::Found { patch }) => say(alloc, Answer::Patch { text: patch.text }),
+        Ok(Fetched::Missing { version }) => say(alloc, Answer::NoPatch { version }),
+        Err(_) => Said::OutOfMemory,
+    }
+}

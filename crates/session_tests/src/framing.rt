@@ -1,0 +1,254 @@
+//! How requests come, and how sessions end.
+use crate::asking::{answers, link_of, open, reply, request, talks};
+use crate::logs::{CREATE, FIRST, SOURCE};
+use delta_base::OutOfMemory;
+use http_text::SessionEnd;
+use std::alloc::Global;
+use std::test::Fail;
+
+#[test]
+fn requests_are_refused(rt: HostRuntime) -> Result<(), Fail> {
+    let alloc = rt.alloc();
+    let mut hall = open(alloc)?;
+    talks(
+        &rt,
+        alloc,
+        &mut hall,
+        0,
+        b"GET /$/rpc HTTP/1.1\r\nHost: a\r\n\r\n",
+        SessionEnd::Closed,
+        b"HTTP/1.1 405 Method Not Allowed\r\nAllow: POST\r\nContent-Type: application/json\r\nContent-Length: 22\r\n\r\n{\"error\":\"bad_method\"}",
+    )?;
+    talks(
+        &rt,
+        alloc,
+        &mut hall,
+        0,
+        b"DELETE /ABC HTTP/1.1\r\nHost: a\r\n\r\n",
+        SessionEnd::Closed,
+        b"HTTP/1.1 405 Method Not Allowed\r\nAllow: GET, POST\r\nContent-Type: application/json\r\nContent-Length: 22\r\n\r\n{\"error\":\"bad_method\"}",
+    )?;
+    talks(
+        &rt,
+        alloc,
+        &mut hall,
+        0,
+        b"POST /ABC HTTP/1.1\r\nHost: a\r\nContent-Type: application/rdf-patch+thrift\r\nContent-Length: 1\r\n\r\nA",
+        SessionEnd::Closed,
+        b"HTTP/1.1 415 Unsupported Media Type\r\nContent-Type: application/json\r\nContent-Length: 17\r\n\r\n{\"error\":\"media\"}",
+    )?;
+    talks(&rt, alloc, &mut hall, 0, b"", SessionEnd::Closed, b"")?;
+    answers(
+        &rt,
+        alloc,
+        &mut hall,
+        0,
+        "GET /$/ping",
+        b"",
+        "200 OK",
+        b"{\"ping\":\"ok\"}",
+    )?;
+    answers(
+        &rt,
+        alloc,
+        &mut hall,
+        0,
+        "POST /$/rpc",
+        b"[]",
+        "400 Bad Request",
+        b"{\"error\":\"bad_json\"}",
+    )?;
+    answers(
+        &rt,
+        alloc,
+        &mut hall,
+        0,
+        "POST /$/rpc",
+        b"{}",
+        "400 Bad Request",
+        b"{\"error\":\"bad_call\",\"member\":\"operation\"}",
+    )?;
+    Ok(())
+}
+
+/// The texts of two requests, of which the first makes a source, and of their replies.
+fn two_requests(alloc: Global) -> Result<(Vec<u8>, Vec<u8>), OutOfMemory> {
+    let mut text = request(alloc, "POST /$/rpc", CREATE)?;
+    text.extend_from_slice(&request(alloc, "POST /ABC", FIRST)?)?;
+    let mut sent = reply(alloc, "200 OK", SOURCE)?;
+    sent.extend_from_slice(&reply(alloc, "200 OK", b"{\"version\":1}")?)?;
+    Ok((text, sent))
+}
+
+#[test]
+fn pieces_of_any_size_are_answered_alike(rt: HostRuntime) -> Result<(), Fail> {
+    let alloc = rt.alloc();
+    let (text, sent) = two_requests(alloc)?;
+    for size in 0..text.len() {
+        let mut hall = open(alloc)?;
+        let mut link = link_of(alloc, &text, size + 1, &[])?;
+        let end = hall.serve(&rt, 0, &mut link);
+        assert!(rt; end == SessionEnd::Closed, "pieces of {size}");
+        assert!(rt; link.sent() == sent.as_slice(), "pieces of {size}");
+    }
+    Ok(())
+}
+
+#[test]
+fn what_is_cut_short_is_answered_as_far_as_it_came(rt: HostRuntime) -> Result<(), Fail> {
+    let alloc = rt.alloc();
+    let (text, sent) = two_requests(alloc)?;
+    let first = request(alloc, "POST /$/rpc", CREATE)?;
+    let one = reply(alloc, "200 OK", SOURCE)?;
+    for cut in 0..text.len() {
+        let mut hall = open(alloc)?;
+        let mut link = link_of(alloc, &text[..cut], 8_192, &[])?;
+        let end = hall.serve(&rt, 0, &mut link);
+        let whole = cut == 0 || cut == first.len();
+        let wanted = if whole {
+            SessionEnd::Closed
+        } else {
+            SessionEnd::CutShort
+        };
+        assert!(rt; end == wanted, "cut at {cut}");
+        let front = if cut < first.len() { 0 } else { one.len() };
+        assert!(rt; link.sent() == &sent[..front], "cut at {cut}");
+    }
+    Ok(())
+}
+
+#[test]
+fn a_client_that_asks_first_is_told_to_go_on(rt: HostRuntime) -> Result<(), Fail> {
+    let alloc = rt.alloc();
+    let mut hall = open(alloc)?;
+    answers(
+        &rt,
+        alloc,
+        &mut hall,
+        0,
+        "POST /$/rpc",
+        CREATE,
+        "200 OK",
+        SOURCE,
+    )?;
+    let mut text = format!(in alloc;
+        "POST /ABC HTTP/1.1\r\nHost: localhost:8080\r\nUser-Agent: curl/8.5.0\r\nAccept: */*\r\nContent-Type: application/rdf-patch\r\nContent-Length: {}\r\nExpect: 100-continue\r\n\r\n",
+        FIRST.len()
+    )?
+    .into_bytes();
+    text.extend_from_slice(FIRST)?;
+    let mut sent = Vec::from_slice(alloc, b"HTTP/1.1 100 Continue\r\n\r\n")?;
+    sent.extend_from_slice(&reply(alloc, "200 OK", b"{\"version\":1}")?)?;
+    talks(&rt, alloc, &mut hall, 0, &text, SessionEnd::Closed, &sent)?;
+    Ok(())
+}
+
+#[test]
+fn a_body_comes_in_chunks(rt: HostRuntime) -> Result<(), Fail> {
+    let alloc = rt.alloc();
+    let mut hall = open(alloc)?;
+    answers(
+        &rt,
+        alloc,
+        &mut hall,
+        0,
+        "POST /$/rpc",
+        CREATE,
+        "200 OK",
+        SOURCE,
+    )?;
+    let mut text = Vec::from_slice(
+        alloc,
+        b"POST /ABC HTTP/1.1\r\nHost: a\r\nTransfer-Encoding: chunked\r\n\r\n",
+    )?;
+    for chunk in FIRST.chunks(40) {
+        let line = format!(in alloc; "{:x}\r\n", chunk.len())?;
+        text.extend_from_slice(line.as_bytes())?;
+        text.extend_from_slice(chunk)?;
+        text.extend_from_slice(b"\r\n")?;
+    }
+    text.extend_from_slice(b"0\r\n\r\n")?;
+    let sent = reply(alloc, "200 OK", b"{\"version\":1}")?;
+    talks(&rt, alloc, &mut hall, 0, &text, SessionEnd::Closed, &sent)?;
+    Ok(())
+}
+
+/// A patch of so many bytes, filled up by a comment.
+fn patch_of(alloc: Global, size: usize) -> Result<Vec<u8>, OutOfMemory> {
+    let mut text = Vec::from_slice(
+        alloc,
+        b"H id <uuid:00000000-0000-4000-8000-000000000001> .\n#",
+    )?;
+    let rest = size.saturating_sub(text.len());
+    text.extend_from_slice(&vec![in alloc; b'x'; rest]?)?;
+    Ok(text)
+}
+
+#[test]
+fn a_body_has_at_most_so_many_bytes(rt: HostRuntime) -> Result<(), Fail> {
+    let alloc = rt.alloc();
+    let mut hall = open(alloc)?;
+    answers(
+        &rt,
+        alloc,
+        &mut hall,
+        0,
+        "POST /$/rpc",
+        CREATE,
+        "200 OK",
+        SOURCE,
+    )?;
+    let patch = patch_of(alloc, 4_194_304)?;
+    answers(
+        &rt,
+        alloc,
+        &mut hall,
+        0,
+        "POST /ABC",
+        &patch,
+        "200 OK",
+        b"{\"version\":1}",
+    )?;
+    answers(
+        &rt,
+        alloc,
+        &mut hall,
+        0,
+        "GET /ABC/1",
+        b"",
+        "200 OK",
+        &patch,
+    )?;
+    let text = request(alloc, "POST /ABC", &patch_of(alloc, 4_194_305)?)?;
+    talks(
+        &rt,
+        alloc,
+        &mut hall,
+        0,
+        &text,
+        SessionEnd::Refused { status: 413 },
+        b"HTTP/1.1 413 Payload Too Large\r\nConnection: close\r\nContent-Type: application/json\r\nContent-Length: 44\r\n\r\n{\"error\":\"bad_request\",\"kind\":\"BodyTooLong\"}",
+    )?;
+    Ok(())
+}
+
+#[test]
+fn a_session_has_so_many_requests(rt: HostRuntime) -> Result<(), Fail> {
+    let alloc = rt.alloc();
+    let mut hall = open(alloc)?;
+    let ping = request(alloc, "GET /$/ping", b"")?;
+    let pong = reply(alloc, "200 OK", b"{\"ping\":\"ok\"}")?;
+    let mut text = Vec::new(alloc);
+    let mut sent = Vec::new(alloc);
+    for _ in 0..9_999 {
+        text.extend_from_slice(&ping)?;
+        sent.extend_from_slice(&pong)?;
+    }
+    text.extend_from_slice(&ping)?;
+    text.extend_from_slice(&ping)?;
+    sent.extend_from_slice(
+        b"HTTP/1.1 200 OK\r\nConnection: close\r\nContent-Type: application/json\r\nContent-Length: 13\r\n\r\n{\"ping\":\"ok\"}",
+    )?;
+    talks(&rt, alloc, &mut hall, 0, &text, SessionEnd::Spent, &sent)?;
+    Ok(())
+}

@@ -1,0 +1,119 @@
+//! What is wrong with files.
+ghost use Rattle.std.specs.Prelude.{◌<◌, vec_len};
+
+use crate::asking::{disk, disks};
+use crate::opened::Opened;
+use delta_base::OutOfMemory;
+use delta_session::{HallFault, HallRefusal};
+use disk_model::MemDisk;
+use std::alloc::Global;
+use std::process::Abort;
+use std::test::Fail;
+
+/// The files are refused so, and all come back as they were.
+fn refuses<R: Abort>(
+    rt: &R,
+    alloc: Global,
+    files: &[&[u8]],
+    failing: &[u64],
+    fault: HallFault,
+) -> Result<(), Fail>
+    requires { 0 < length files.now }
+{
+    let mut disks = Vec::new(alloc);
+    for (place, bytes) in files.iter().enumerate() {
+        let calls = if place + 1 == files.len() {
+            failing
+        } else {
+            &[]
+        };
+        disks.push(disk(alloc, bytes, calls)?)?;
+    }
+    match Opened::new(alloc, disks) {
+        Ok(_) => return Err(Fail::from("opened")),
+        Err(
+            HallRefusal {
+                disks,
+                fault: found,
+            },
+        ) => {
+            assert!(rt; found == fault);
+            assert!(rt; disks.len() == files.len());
+            for (disk, bytes) in disks.iter().zip(files) {
+                assert!(rt; disk.image(1)?.as_slice() == *bytes);
+            }
+        }
+    }
+    Ok(())
+}
+
+const REGISTRY: &[u8] = b"RDJ1\0\0\0\0\x01\0\0\0\x03S 2\0";
+
+const FIRST: &[u8] = b"RDJ1\0\0\0\x01\0";
+
+const SECOND: &[u8] = b"RDJ1\0\0\0\x02\0";
+
+#[test]
+fn the_first_fault_of_the_files_is_told(rt: HostRuntime) -> Result<(), Fail> {
+    let alloc = rt.alloc();
+    refuses(
+        &rt,
+        alloc,
+        &[b"RDJ1"],
+        &[],
+        HallFault::Damaged { file: 0, at: 0 },
+    )?;
+    refuses(
+        &rt,
+        alloc,
+        &[FIRST, SECOND],
+        &[],
+        HallFault::WrongNumber { file: 0, found: 1 },
+    )?;
+    refuses(
+        &rt,
+        alloc,
+        &[b"RDJ1\0\0\0\0\x01\0\0\0\x03S 0\0", FIRST],
+        &[],
+        HallFault::BrokenEvent { place: 0 },
+    )?;
+    refuses(
+        &rt,
+        alloc,
+        &[REGISTRY, b"RDJ1"],
+        &[],
+        HallFault::WrongCount { disks: 2, slots: 2 },
+    )?;
+    refuses(
+        &rt,
+        alloc,
+        &[REGISTRY, FIRST, SECOND, SECOND],
+        &[],
+        HallFault::WrongCount { disks: 4, slots: 2 },
+    )?;
+    refuses(
+        &rt,
+        alloc,
+        &[REGISTRY, FIRST, FIRST],
+        &[],
+        HallFault::WrongNumber { file: 2, found: 1 },
+    )?;
+    refuses(
+        &rt,
+        alloc,
+        &[REGISTRY, b"RDJ1\0\0\0\x01\x01\0\0\0\x01X\0", SECOND],
+        &[],
+        HallFault::BrokenChain {
+            file: 1,
+            version: 1,
+        },
+    )?;
+    refuses(
+        &rt,
+        alloc,
+        &[REGISTRY, FIRST, SECOND],
+        &[1],
+        HallFault::DiskFault,
+    )?;
+    Ok(())
+}
