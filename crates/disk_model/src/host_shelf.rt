@@ -66,7 +66,7 @@ impl<'a, R: Files<File = File>> Shelf for HostShelf<'a, R> {
         let folder = dir.as_str();
         let path = format!(in self.alloc; "{folder}/rdj-{number:04}")?;
         match opened(self.rt, folder, path.as_str()) {
-            Ok(file) => Ok(HostDisk::new(file)),
+            Ok(file) => Ok(HostDisk::new(self.alloc, file)),
             Err(_) => {
                 self.faults = self.faults.saturating_add(1);
                 Err(ShelfFault::Failed)

@@ -5,6 +5,7 @@
 //! are proved to meet the trait; a disk over a file of the system tells nothing.
 #![tactic(auto)]
 
+mod ahead;
 mod disk;
 mod drawer;
 mod host;

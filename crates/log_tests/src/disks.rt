@@ -2,7 +2,7 @@
 use crate::fakes::{calls, no_calls};
 use delta_base::{Bytes, Failed, OutOfMemory, Text};
 use disk_model::{Disk, HostDisk, HostShelf, MemDisk, MemShelf, PlanDisk, Planned, Shelf};
-use std::fs::{self, File};
+use std::fs::{self, File, OpenOptions};
 use std::process::Abort;
 use std::rt::{Env, Files};
 use std::test::Fail;
@@ -197,6 +197,36 @@ fn a_file_of_the_system_is_read_past_its_end(rt: HostRuntime) -> Result<(), Fail
     Ok(())
 }
 
+/// A read of some bytes gives these.
+fn reads(rt: &impl Abort, disk: &mut impl Disk, at: u64, bytes: &[u8; 2]) {
+    let mut into = *b"..";
+    assert!(rt; disk.read_at(at, &mut into) == Ok(2));
+    assert!(rt; into == *bytes);
+}
+
+#[test]
+fn a_read_gives_what_was_written_since_the_one_before(rt: HostRuntime) -> Result<(), Fail> {
+    let process = process::id(rt.process());
+    let folder = env::temp_dir(&rt)?;
+    let folder = folder.as_path().to_str().ok_or("the folder is no text")?;
+    let path = format!(in rt.alloc(); "{folder}/delta-again-{process}")?;
+    fs::write(&rt, path.as_str(), b"abcdef")?;
+    let file = OpenOptions::new()
+        .read(true)
+        .write(true)
+        .open(&rt, path.as_str())?;
+    let mut disk = HostDisk::new(rt.alloc(), file);
+    for (at, bytes) in [(2, b"cd"), (4, b"ef"), (0, b"ab"), (3, b"de")] {
+        reads(&rt, &mut disk, at, bytes);
+    }
+    assert!(rt; disk.write_at(3, b"XYZ!").is_ok());
+    for (at, bytes) in [(2, b"cX"), (4, b"YZ"), (5, b"Z!")] {
+        reads(&rt, &mut disk, at, bytes);
+    }
+    fs::remove_file(&rt, path.as_str())?;
+    Ok(())
+}
+
 #[test]
 fn a_path_that_is_no_folder_fails(rt: HostRuntime) -> Result<(), Fail> {
     let mut shelf = HostShelf::new(&rt, rt.alloc());
@@ -213,7 +243,7 @@ fn a_refused_write_is_counted(rt: HostRuntime) -> Result<(), Fail> {
     let folder = folder.as_path().to_str().ok_or("the folder is no text")?;
     let path = format!(in rt.alloc(); "{folder}/delta-{process}")?;
     fs::write(&rt, path.as_str(), b"abc")?;
-    let mut disk = HostDisk::new(File::open(&rt, path.as_str())?);
+    let mut disk = HostDisk::new(rt.alloc(), File::open(&rt, path.as_str())?);
     assert_eq!(rt;
         disk.write_at(0, b"x"),
         Err(Failed),

@@ -17,18 +17,28 @@ use Rattle.chain_core.proofs.Stays.{links-push}
 use Rattle.delta_base.specs.Journals.{journal_length as payloads_length}
 use Rattle.patch_log.specs.Log.{IsSound, IsSoundLog, AreChained}
 use Rattle.chain_core.specs.Breaks.{BreaksAt}
-use Rattle.patch_log.specs.Opening.{IsNextOf, AreFound}
+use Rattle.patch_log.specs.Opening.{GoesOn, IsNextOf, AreFound}
 use Rattle.patch_log.proofs.Sound.{heads, one_sound, one_list, texts_of-push, sound-push, sound-front, sound_short, chained-take}
 
 abbrev brought : Patch → Entry
 brought patch = record { patch = patch; by = 0 }
 
--- a text that is a patch which doesn't go behind the others
-pub not_next : (patches : List Patch) (text : List ℕ) (most : ℕ) (link : Link) → IsSound (record { id = link.id; prev = link.prev; text = text }) → ((link.prev ≡ last_id patches) × (version_of patches link.id ≡ None) → ⊥)
+-- a text is that of one patch
+one_next : (patches : List Patch) (text : List ℕ) (most : ℕ) (link : Link) → IsSound (record { id = link.id; prev = link.prev; text = text })
+    → (patch : Patch) → GoesOn patches text most patch → patch ≡ record { id = link.id; prev = link.prev; text = text }
+one_next patches text most link sound patch next = one_sound patch (record { id = link.id; prev = link.prev; text = text }) next.text_is next.sound sound
+
+-- a text that is a patch which doesn't name the last of the others
+pub not_next : (patches : List Patch) (text : List ℕ) (most : ℕ) (link : Link) → IsSound (record { id = link.id; prev = link.prev; text = text }) → (link.prev ≡ last_id patches → ⊥)
     → (patch : Patch) → IsNextOf patches text most patch → ⊥
 not_next patches text most link sound none patch next =
-    let same : patch ≡ record { id = link.id; prev = link.prev; text = text } = one_sound patch (record { id = link.id; prev = link.prev; text = text }) next.text_is next.sound sound in
-    none (ap (λ (p : Patch). p.prev) (sym same) ∙ next.follows, ap (λ (p : Patch). version_of patches p.id) (sym same) ∙ next.new)
+    none (ap (λ (p : Patch). p.prev) (sym (one_next patches text most link sound patch next.goes_on)) ∙ next.goes_on.follows)
+
+-- a text that is a patch whose id one of the others has
+pub not_new : (patches : List Patch) (text : List ℕ) (most : ℕ) (link : Link) → IsSound (record { id = link.id; prev = link.prev; text = text }) → (version_of patches link.id ≡ None → ⊥)
+    → (patch : Patch) → IsNextOf patches text most patch → ⊥
+not_new patches text most link sound none patch next =
+    none (ap (λ (p : Patch). version_of patches p.id) (sym (one_next patches text most link sound patch next.goes_on)) ∙ next.new)
 
 -- the last of some patches whose texts end with a text
 record HasLast (patches : List Patch) (texts : List (List ℕ)) (text : List ℕ) : Type 0 where
@@ -58,11 +68,13 @@ no_chain texts text most entries found none are =
     let same : last.front ≡ patches_of entries = one_list last.front (patches_of entries) (last.front_texts ∙ sym found.texts_are) sound.0 found.sound in
     let count : length texts ≡ length (patches_of entries) = ap length (sym found.texts_are) ∙ length-map (patches_of entries) (λ (patch : Patch). patch.text) in
     none last.last (record {
-      text_is = last.last_text;
-      sound = sound.1;
-      follows = next.follows ∙ ap last_id same;
+      goes_on = record {
+        text_is = last.last_text;
+        sound = sound.1;
+        follows = next.follows ∙ ap last_id same;
+        few = omega (arith, are.few, count, length-append texts (text ∷ []));
+      };
       new = ap (λ (ps : List Patch). version_of ps last.last.id) (sym same) ∙ next.new;
-      few = omega (arith, are.few, count, length-append texts (text ∷ []));
     })
 
 count_of : (texts : List (List ℕ)) (most : ℕ) (entries : List Entry) → AreFound texts most entries → length texts ≡ length entries
@@ -88,10 +100,10 @@ pub found_more : (texts : List (List ℕ)) (text : List ℕ) (most : ℕ) (entri
 found_more texts text most entries new patch found next pushed =
     let patches : patches_of new ≡ patches_of entries ++ patch ∷ [] = ap patches_of pushed ∙ patches_of-push entries (brought patch) in
     record {
-      texts_are = ap texts_of patches ∙ texts_of-push (patches_of entries) patch ∙ ap (λ (ts : List (List ℕ)). ts ++ patch.text ∷ []) found.texts_are ∙ ap (λ (t : List ℕ). texts ++ t ∷ []) next.text_is;
-      sound = subst (λ (ps : List Patch). AllByRecursion IsSound ps) (sym patches) (sound-push (patches_of entries) patch found.sound next.sound);
-      chain = subst (λ (ps : List Patch). IsChain (links_of ps)) (sym patches) (links-push (patches_of entries) patch found.chain next.follows next.new);
-      few = omega (arith, next.few, ap length pushed, length-append entries (brought patch ∷ []), length-map entries patch_of);
+      texts_are = ap texts_of patches ∙ texts_of-push (patches_of entries) patch ∙ ap (λ (ts : List (List ℕ)). ts ++ patch.text ∷ []) found.texts_are ∙ ap (λ (t : List ℕ). texts ++ t ∷ []) next.goes_on.text_is;
+      sound = subst (λ (ps : List Patch). AllByRecursion IsSound ps) (sym patches) (sound-push (patches_of entries) patch found.sound next.goes_on.sound);
+      chain = subst (λ (ps : List Patch). IsChain (links_of ps)) (sym patches) (links-push (patches_of entries) patch found.chain next.goes_on.follows next.new);
+      few = omega (arith, next.goes_on.few, ap length pushed, length-append entries (brought patch ∷ []), length-map entries patch_of);
       by_nobody = subst (λ (es : List Entry). AllByRecursion (λ (entry : Entry). entry.by ≡ 0) es) (sym pushed) (by_nobody-push entries (brought patch) found.by_nobody refl);
     }
 
@@ -99,15 +111,15 @@ found_more texts text most entries new patch found next pushed =
 pub next_kept : (entries : List Entry) (text : List ℕ) (most : ℕ) (patch : Patch) → IsKept entries → IsNextOf (patches_of entries) text most patch → most < 2 ^ 32 → IsKept (entries ++ record { patch = patch; by = 0 } ∷ [])
 next_kept entries text most patch kept next fits =
     let chain : IsChain (links_of (patches_of entries)) = subst IsChain (sym (links_of-entries entries)) kept.chain in
-    let more : IsChain (links_of (patches_of (entries ++ brought patch ∷ []))) = subst (λ (ps : List Patch). IsChain (links_of ps)) (sym (patches_of-push entries (brought patch))) (links-push (patches_of entries) patch chain next.follows next.new) in
+    let more : IsChain (links_of (patches_of (entries ++ brought patch ∷ []))) = subst (λ (ps : List Patch). IsChain (links_of ps)) (sym (patches_of-push entries (brought patch))) (links-push (patches_of entries) patch chain next.goes_on.follows next.new) in
     record {
       chain = subst IsChain (links_of-entries (entries ++ brought patch ∷ [])) more;
-      few = omega (arith, next.few, fits, length-append entries (brought patch ∷ []), length-map entries patch_of);
+      few = omega (arith, next.goes_on.few, fits, length-append entries (brought patch ∷ []), length-map entries patch_of);
       short = short_more entries kept.short;
     }
   where
     short_more : (es : List Entry) → AllByRecursion (λ (e : Entry). length e.patch.text ≤ PATCH_LIMIT) es → AllByRecursion (λ (e : Entry). length e.patch.text ≤ PATCH_LIMIT) (es ++ brought patch ∷ [])
-    short_more [] short = (subst (λ (t : List ℕ). length t ≤ PATCH_LIMIT) refl next.sound.1.short, tt)
+    short_more [] short = (subst (λ (t : List ℕ). length t ≤ PATCH_LIMIT) refl next.goes_on.sound.1.short, tt)
     short_more (e ∷ es) short = (short.0, short_more es short.1)
 
 pub found_none : (most : ℕ) (entries : List Entry) → entries ≡ [] → AreFound [] most entries

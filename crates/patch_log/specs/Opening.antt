@@ -7,13 +7,17 @@ use Rattle.chain_core.specs.Links.{IsChain}
 use Rattle.chain_core.specs.Patches.{patches_of, links_of, texts_of, version_of, last_id}
 use Rattle.patch_log.specs.Log.{IsSound}
 
--- the patch of this text goes behind the others
-pub record IsNextOf (patches : List Patch) (text : List ℕ) (most : ℕ) (patch : Patch) : Type 0 where
+-- the patch of this text goes behind the others, if its id is new
+pub record GoesOn (patches : List Patch) (text : List ℕ) (most : ℕ) (patch : Patch) : Type 0 where
   pub text_is : patch.text ≡ text
   pub sound : IsSound patch
   pub follows : patch.prev ≡ last_id patches
-  pub new : version_of patches patch.id ≡ None
   pub few : length patches + 1 ≤ most
+
+-- the patch of this text goes behind the others
+pub record IsNextOf (patches : List Patch) (text : List ℕ) (most : ℕ) (patch : Patch) : Type 0 where
+  pub goes_on : GoesOn patches text most patch
+  pub new : version_of patches patch.id ≡ None
 
 -- entries brought by no pass, whose patches are those of these texts
 pub record AreFound (texts : List (List ℕ)) (most : ℕ) (entries : List Entry) : Type 0 where

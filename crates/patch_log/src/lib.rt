@@ -6,6 +6,7 @@ mod fault;
 mod index;
 mod indexed;
 mod laws;
+mod next_fault;
 mod opening;
 mod read_chain;
 mod ready;

@@ -1,27 +1,21 @@
 //! Reads the patches of a journal's payloads.
-ghost use Rattle.std.specs.Prelude.{◌≡◌, ◌⊎◌, ℕ, ◌+◌, ◌^◌, ◌<◌, ◌≤◌, ◌++◌, [], ◌∷◌, length, None, IfOk, IfErr, OnOk, IsErrOf, IsTrue, ◌↔◌};
+ghost use Rattle.std.specs.Prelude.{◌≡◌, ◌⊎◌, ℕ, ◌+◌, ◌^◌, ◌<◌, ◌≤◌, ◌++◌, [], ◌∷◌, length, IfOk, IfErr, IsErrOf, IsTrue, ◌↔◌};
 ghost use Rattle.chain_core.specs.declared.chain.Patch.{Patch as PatchRead};
 ghost use Rattle.chain_core.specs.Chain.{IsKept};
-ghost use Rattle.chain_core.specs.Patches.{patches_of, version_of, last_id};
+ghost use Rattle.chain_core.specs.Patches.{patches_of, last_id};
 ghost use Rattle.chain_core.specs.Breaks.{BreaksAt};
 ghost use Rattle.patch_log.specs.Log.{IsSound, AreChained};
-ghost use Rattle.patch_log.specs.Opening.{IsNextOf, AreFound};
+ghost use Rattle.patch_log.specs.Opening.{GoesOn, IsNextOf, AreFound};
 
 use crate::fault::LogFault;
 use crate::indexed::IndexedChain;
+use crate::next_fault::NextFault;
 use crate::read_chain::ReadChain;
-use chain_core::{Link, Patch};
-use delta_base::{Bytes, OutOfMemory};
+use chain_core::{Chain, Link, Patch};
+use delta_base::Bytes;
 use log_journal::Payloads;
 use patch_meaning::{PatchFault, check_link};
 use std::alloc::Global;
-
-/// Why a payload doesn't go behind a chain.
-#[derive(Clone, Copy, Debug, PartialEq, Eq)]
-pub enum NextFault {
-    Broken,
-    OutOfMemory,
-}
 
 // The id and the previous id that a text names, if it is a patch.
 fn read_link(alloc: Global, text: &[u8]) -> Result<Link, NextFault>
@@ -39,23 +33,22 @@ fn read_link(alloc: Global, text: &[u8]) -> Result<Link, NextFault>
     }
 }
 
-// Whether it names the last patch, and its id is new.
-fn follows(chain: &ReadChain, link: Link) -> bool
-    ensures { IsTrue result ↔ ((link.prev ≡ last_id (patches_of chain.now.items))
-        × (version_of (patches_of chain.now.items) link.id ≡ None)) }
+// Whether it names the last patch.
+fn follows(chain: &Chain, link: Link) -> bool
+    ensures { IsTrue result ↔ (link.prev ≡ last_id (patches_of chain.now.items)) }
 {
-    link.prev == chain.chain().head() && chain.version_of(link.id).is_none()
+    link.prev == chain.head()
 }
 
-// The id and the previous id of the patch that a text is, if it goes behind the chain.
-fn next_link(alloc: Global, chain: &ReadChain, text: &[u8], most: u32) -> Result<Link, NextFault>
-    ensures ok { IfOk result (λ link. IsNextOf (patches_of chain.now.items) text.now most
+// The id and the previous id of the patch that a text is, if it goes behind the chain where its id is new.
+fn next_link(alloc: Global, chain: &Chain, text: &[u8], most: u32) -> Result<Link, NextFault>
+    ensures ok { IfOk result (λ link. GoesOn (patches_of chain.now.items) text.now most
         (record { id = link.id; prev = link.prev; text = text.now })) }
     ensures broken { IsErrOf result NextFault.Broken → (patch : PatchRead)
         → IsNextOf (patches_of chain.now.items) text.now most patch → ⊥ }
     ensures kept { IsKept chain.now.items }
 {
-    if chain.chain().version() >= most {
+    if chain.version() >= most {
         return Err(NextFault::Broken);
     }
     match read_link(alloc, text) {
@@ -65,19 +58,21 @@ fn next_link(alloc: Global, chain: &ReadChain, text: &[u8], most: u32) -> Result
     }
 }
 
-// Adds the patch of a payload.
-fn add_next(alloc: Global, chain: &mut ReadChain, text: Bytes, most: u32) -> Result<(), NextFault>
-    ensures ok { OnOk result ((patch : PatchRead)
-        × IsNextOf (patches_of chain.old.items) text most patch
-        × (chain.new.items ≡ chain.old.items ++ record { patch = patch; by = 0 } ∷ [])) }
+// The chain with the patch of a payload behind it.
+fn with_next(
+    alloc: Global,
+    chain: ReadChain,
+    text: Bytes,
+    most: u32,
+) -> Result<ReadChain, NextFault>
+    ensures ok { IfOk result (λ longer. (patch : PatchRead)
+        × IsNextOf (patches_of chain.items) text most patch
+        × (longer.items ≡ chain.items ++ record { patch = patch; by = 0 } ∷ [])) }
     ensures broken { IsErrOf result NextFault.Broken → (patch : PatchRead)
-        → IsNextOf (patches_of chain.old.items) text most patch → ⊥ }
+        → IsNextOf (patches_of chain.items) text most patch → ⊥ }
 {
-    let Link { id, prev } = next_link(alloc, chain, text.as_slice(), most)?;
-    match chain.add(Patch { id, prev, text }, 0) {
-        Ok(()) => Ok(()),
-        Err(_) => Err(NextFault::OutOfMemory),
-    }
+    let Link { id, prev } = next_link(alloc, chain.chain(), text.as_slice(), most)?;
+    chain.with(Patch { id, prev, text }, 0)
 }
 
 /// The chain of the patches that the payloads are.
@@ -92,11 +87,11 @@ pub fn read_log(alloc: Global, payloads: Payloads, most: u32) -> Result<IndexedC
     let mut chain = ReadChain::new(alloc);
     for text in payloads.into_vec() {
         let version = u64::from(chain.chain().version()) + 1;
-        match add_next(alloc, &mut chain, text, most) {
-            Ok(()) => {}
+        chain = match with_next(alloc, chain, text, most) {
+            Ok(longer) => longer,
             Err(NextFault::Broken) => return Err(LogFault::BrokenChain { version }),
             Err(NextFault::OutOfMemory) => return Err(LogFault::OutOfMemory),
-        }
+        };
     }
     Ok(chain.indexed(alloc)?)
 }

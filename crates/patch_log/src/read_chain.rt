@@ -1,13 +1,14 @@
 //! A chain that is being read. Its index is made once it is whole.
-ghost use Rattle.std.specs.Prelude.{◌≡◌, [], ◌∷◌, ◌++◌, IfOk, OnOk};
+ghost use Rattle.std.specs.Prelude.{◌≡◌, ◌≢◌, ◌+◌, ◌^◌, ◌<◌, [], ◌∷◌, ◌++◌, None, length, IfOk, IsErrOf};
 ghost use Rattle.std.specs.Ordering.{nat_cmp};
 ghost use Rattle.std.specs.BTreeMap.{IsOrdered, values};
 ghost use Rattle.chain_core.specs.Chain.{IsKept};
 ghost use Rattle.chain_core.specs.Patches.{patches_of, version_of};
 
 use crate::indexed::IndexedChain;
+use crate::next_fault::NextFault;
 use chain_core::{Chain, Patch};
-use delta_base::{Id, OutOfMemory};
+use delta_base::OutOfMemory;
 use std::alloc::Global;
 use std::collections::BTreeMap;
 use std::marker::Model;
@@ -49,24 +50,28 @@ impl ReadChain {
         &self.chain
     }
 
-    /// The version of the patch with an id.
-    pub fn version_of(&self, id: Id) -> Option<u32>
-        ensures { result ≡ version_of (patches_of self.now.items) id }
+    /// The chain with one patch more, unless one of its patches has the id already. The id is looked for and put in at once.
+    pub fn with(self, patch: Patch, by: u32) -> Result<ReadChain, NextFault>
+        requires few { length self.items + 1 < 2 ^ 32 }
+        requires goes_on { version_of (patches_of self.items) patch.id ≡ None
+            → IsKept (self.items ++ record { patch = patch; by = by } ∷ []) }
+        ensures new { IfOk result (λ _. version_of (patches_of self.items) patch.id ≡ None) }
+        ensures added { IfOk result (λ chain.
+            chain.items ≡ self.items ++ record { patch = patch; by = by } ∷ []) }
+        ensures broken { IsErrOf result NextFault.Broken
+            → version_of (patches_of self.items) patch.id ≢ None }
     {
-        self.known.get(&id.0).copied()
-    }
-
-    /// Adds a patch that goes on the chain.
-    pub fn add(&mut self, patch: Patch, by: u32) -> Result<(), OutOfMemory>
-        requires { IsKept (self.old.items ++ record { patch = patch; by = by } ∷ []) }
-        ensures { OnOk result
-            (self.new.items ≡ self.old.items ++ record { patch = patch; by = by } ∷ []) }
-    {
-        self.chain.reserve()?;
-        let version = self.chain.version() + 1;
-        self.known.insert(patch.id.0, version)?;
-        self.chain.push(patch, by);
-        Ok(())
+        let ReadChain {
+            mut chain,
+            mut known,
+        } = self;
+        chain.reserve()?;
+        let version = chain.version() + 1;
+        if known.insert(patch.id.0, version)?.is_some() {
+            return Err(NextFault::Broken);
+        }
+        chain.push(patch, by);
+        Ok(ReadChain { chain, known })
     }
 
     /// The chain with its index.

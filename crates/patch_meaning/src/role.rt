@@ -19,7 +19,8 @@ pub enum Role {
     Change(Change),
 }
 
-/// What a row says.
+/// What a row says. It is inlined for the same reason as `next_row`.
+#[inline(always)]
 pub fn role_of(row: Row) -> Role
     ensures { result ≡ role row }
 {

@@ -16,7 +16,8 @@ pub struct Next {
     pub end: usize,
 }
 
-/// The next row behind a place, if there is one.
+/// The next row behind a place, if there is one. It is inlined, so that what a row says isn't moved on its way to who takes it.
+#[inline(always)]
 pub fn next_row(alloc: Global, text: &[u8], from: usize) -> Result<Option<Next>, RowFault>
     requires { from ≤ length text.now }
     ensures { IsNext text.now from result }
