@@ -11,10 +11,12 @@
 mod inside;
 mod laws;
 mod next;
+mod past;
 mod pieces;
 mod placed;
 mod progress;
 mod reading;
+mod window;
 
 pub use laws::{rows_are_decided, rows_are_read_within_their_limit, rows_are_settled, rows_stay};
 pub use pieces::PatchReader;
