@@ -51,6 +51,8 @@ impl<R: Read + Drop> Source for StdSource<R> {
 }
 
 /// Writes to a writer, and tells what the writer tells. A write that takes nothing counts as failed.
+///
+/// Nothing is flushed. std's standard output and standard error have no buffer: what a write took went to the system by that call.
 #[derive(Drop)]
 pub struct StdSink<W: Drop> {
     writer: W,

@@ -17,5 +17,5 @@ mod tool;
 pub use command::Command;
 pub use help::{HELP, VERSION};
 pub use name::Name;
-pub use refusal::Refusal;
+pub use refusal::{Refusal, report};
 pub use tool::run_tool;

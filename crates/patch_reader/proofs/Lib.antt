@@ -12,10 +12,11 @@ pub mod RowAnswers
 pub mod FrontSteps
 pub mod Kept
 pub mod Adding
-pub mod Reader
+pub mod WindowSteps
 pub mod InsideSteps
 pub mod RowParts
 pub mod Begun
 pub mod ProgressSteps
 pub mod Answered
 pub mod RowEnds
+pub mod Holding

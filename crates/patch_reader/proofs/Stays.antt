@@ -1,6 +1,6 @@
 -- What is read stays as it is with more text behind, unless reading met the end of the text: characters, escapes, IRIREFs and strings.
-use Rattle.std.proofs.Common.{◌≡◌, ℕ, zero, suc, ◌+◌, ◌-◌, ◌<◌, ◌≤◌, Bool, true, false, cond, List, [], ◌∷◌, ◌++◌, length, get_or, Option, Some, None, Ok, Err, nat_eq, refl, sym, ap, subst, ◌∙◌, ◌⊎◌, inl, inr, arith, append_assoc, drop, ◌*◌, ◌||◌, ◌&&◌, is_none}
-use Rattle.std.specs.Char.{encode_utf8, is_digit, digit_value}
+use Rattle.std.proofs.Common.{◌≡◌, ℕ, zero, suc, ◌+◌, ◌-◌, ◌<◌, ◌≤◌, Bool, true, false, cond, List, [], ◌∷◌, ◌++◌, length, get_or, Option, Some, None, Ok, Err, nat_eq, refl, sym, ap, subst, ◌∙◌, ◌⊎◌, inl, inr, arith, drop, ◌*◌, ◌||◌, ◌&&◌, is_none}
+use Rattle.std.specs.Char.{is_digit, digit_value}
 use Rattle.std.proofs.lemmas.Bool.{cases_eq, eqb-false}
 use Rattle.std.proofs.lemmas.Bool.Decides.{nat_tests}
 use Rattle.std.proofs.lemmas.List.{length-append, get_or_append_left}
@@ -15,7 +15,6 @@ use Rattle.nquads_text.specs.Terms.{iri_at}
 use Rattle.nquads_text.specs.Grammar.{echar}
 use lib.Utf8.{scalar}
 use Rattle.patch_rows.specs.Cut.{leads, is_front, ends_text, TextAtEnd}
-use Rattle.nquads_text.proofs.Fronts.{char_spelled, char_again}
 pub use Rattle.patch_rows.proofs.GapSteps.{ok_char}
 
 -- ---- one reading behind another

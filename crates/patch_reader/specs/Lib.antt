@@ -5,3 +5,4 @@ pub mod Pieces
 pub mod Places
 pub mod Progress
 pub mod Rows
+pub mod Window

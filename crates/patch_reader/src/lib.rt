@@ -5,16 +5,19 @@
 //! nothing: their contracts say that what is read so is decided, and that nothing else is.
 //!
 //! `PatchReader` takes the text in pieces and gives its rows with their places (`specs/Pieces.antt`, `specs/Rows.antt`);
-//! `specs/Progress.antt` is what it knows of an unfinished row. `read_row` reads a row within its limit in a whole text.
+//! `specs/Window.antt` is what it keeps of the text, and `specs/Progress.antt` what it knows of an unfinished row. `read_row` reads
+//! a row within its limit in a whole text.
 #![tactic(auto)]
 
 mod inside;
 mod laws;
 mod next;
+mod past;
 mod pieces;
 mod placed;
 mod progress;
 mod reading;
+mod window;
 
 pub use laws::{rows_are_decided, rows_are_read_within_their_limit, rows_are_settled, rows_stay};
 pub use pieces::PatchReader;

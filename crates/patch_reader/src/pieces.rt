@@ -1,58 +1,16 @@
 //! A reader of rows from a stream that comes in any pieces.
 
-ghost use Rattle.std.specs.Prelude.{◌≡◌, ◌≤◌, ◌<◌, ◌^◌, ◌++◌, [], ℕ, List, true, false, length, drop, None, Some, IfNone, IfSome, MatchOption, MatchResult, ◌+◌, option_to_list};
-ghost use Rattle.patch_rows.specs.declared.fault.RowFault.{RowFault as Answer};
-ghost use Rattle.patch_rows.specs.Grammar.{row_limit};
-ghost use Rattle.patch_reader.specs.declared.placed.PlacedRow.{PlacedRow as Placed};
-ghost use Rattle.patch_rows.specs.declared.cut.TextEnd.{TextEnd as End};
+ghost use Rattle.std.specs.Prelude.{◌≡◌, ◌++◌, [], None};
 ghost use Rattle.patch_rows.specs.declared.cut.TextEnd.TheVariants as ends;
-ghost use Rattle.patch_reader.specs.declared.progress.Region.TheVariants as regions;
-ghost use Rattle.patch_rows.specs.Cut.{is_cut};
-ghost use Rattle.patch_reader.specs.Pieces.{IsHeld, IsStuck, IsSameGap, Stands, Takes, TakesRow};
-ghost use Rattle.patch_reader.specs.Places.{further_place};
-ghost use Rattle.patch_reader.specs.Progress.{IsUnfinished, Follows};
-ghost use Rattle.patch_reader.specs.Rows.{Adds, StayReady, Stops, NothingDecided};
+ghost use Rattle.patch_reader.specs.Pieces.{HasAllRows, Tells, FaultStays, Takes, TakesRow};
+ghost use Rattle.patch_reader.specs.Rows.{StayReady};
 
-use crate::next::take_rows;
+use crate::past::Past;
 use crate::placed::PlacedRow;
-use crate::progress::{Progress, Region, at_row, follow, is_past_gap, is_within};
-use crate::reading::ROW_LIMIT;
-use patch_rows::parts::{is_cut_at, pass_gap};
+use crate::window::RowWindow;
 use patch_rows::{Row, RowFault, TextEnd};
 use std::alloc::Global;
-use std::collections::VecDeque;
 use std::marker::Model;
-
-/// Lets the first bytes go.
-fn drop_front(bytes: &mut Vec<u8>, size: usize)
-    requires { size ≤ length bytes.old.items }
-    ensures { bytes.new.items ≡ drop size bytes.old.items }
-{
-    bytes.drain(..size);
-}
-
-/// Follows an unfinished row within its limit up to the text's end; none where something may be decided.
-fn follow_row(alloc: Global, row: &[u8], progress: Progress) -> Option<Progress>
-    ensures short { IfSome result (λ _. length row.now ≤ row_limit) }
-    ensures unfinished { IfSome result (λ _. Follows row.now progress → IsUnfinished row.now) }
-    ensures follows { IfSome result (λ p. Follows row.now progress → Follows row.now p) }
-{
-    if row.len() > ROW_LIMIT || !is_within(progress, row.len()) {
-        return None;
-    }
-    follow(alloc, row, progress)
-}
-
-/// Whether nothing stands behind white space and comments, or in a comment the front of a character.
-fn is_gap_open(kept: &[u8], comment: bool) -> bool
-    ensures yes { result ≡ true → (is_cut kept.now ≡ true) × (comment ≡ false → kept.now ≡ []) }
-    ensures none { result ≡ false → comment ≡ true → is_cut kept.now ≡ false }
-{
-    if comment {
-        return is_cut_at(kept, 0);
-    }
-    kept.is_empty()
-}
 
 /// A reader of rows. It keeps the bytes of an unfinished row, and the rows that were not taken yet.
 ///
@@ -60,213 +18,89 @@ fn is_gap_open(kept: &[u8], comment: bool) -> bool
 /// nothing more is fed.
 #[derive(Drop)]
 pub struct PatchReader {
-    alloc: Global,
-    /// What isn't read yet.
-    kept: Vec<u8>,
-    /// The place of its first byte.
-    from: u64,
-    /// What stands there.
-    region: Region,
-    /// The place behind the last row.
-    passed: u64,
-    ready: VecDeque<PlacedRow>,
-    fault: Option<RowFault>,
+    window: RowWindow,
+    /// Whether the text's end is known.
+    end: TextEnd,
+    past: Past,
 }
 
 impl Model for PatchReader {
     ghost use Rattle.patch_reader.specs.Pieces.{Reader};
+    ghost use Rattle.patch_reader.specs.Window.{Holds};
 
     ghost Value = { Reader };
 
     ghost view = { λ r. record {
-      ready = r.ready.items;
-      fault = r.fault;
-      passed = r.passed;
-      from = r.from;
-      kept = r.kept.items;
-      region = r.region;
+      fed = r.past.fed;
+      end = r.end;
+      taken = r.past.taken;
+      ready = r.window.ready;
+      fault = r.window.fault;
     } };
+
+    ghost invariant = { λ r. Holds r.end r.past.fed r.past.taken r.window };
 }
 
 impl PatchReader {
     pub fn new(alloc: Global) -> PatchReader
-        ensures stands { Stands ends.Open [] [] result }
+        ensures none { (result.fed ≡ []) × (result.taken ≡ []) × (result.ready ≡ []) }
+        ensures open { result.end ≡ ends.Open }
         ensures fault { result.fault ≡ None }
     {
         PatchReader {
-            alloc,
-            kept: Vec::new(alloc),
-            from: 0,
-            region: Region::Gap { comment: false },
-            passed: 0,
-            ready: VecDeque::new(alloc),
-            fault: None,
-        }
-    }
-
-    /// Lets the first bytes of what is kept go.
-    fn pass(&mut self, size: usize)
-        requires { size ≤ length self.old.kept }
-        ensures kept { self.new.kept ≡ drop size self.old.kept }
-        ensures from { self.new.from ≡ further_place self.old.from size }
-        ensures same { (self.new.region ≡ self.old.region) × (self.new.passed ≡ self.old.passed) × (self.new.ready ≡ self.old.ready) × (self.new.fault ≡ self.old.fault) }
-    {
-        drop_front(&mut self.kept, size);
-        self.from = self.from.saturating_add(size as u64);
-    }
-
-    /// Lets white space and comments in front of a row go.
-    fn skip_gap(&mut self, in_comment: bool)
-        requires { self.old.region ≡ regions.Gap in_comment }
-        ensures held { (text : List ℕ) → IsHeld text self.old → IsHeld text self.new }
-        ensures stuck { IsStuck self.new.kept self.new.region }
-        ensures same { (self.new.passed ≡ self.old.passed) × (self.new.ready ≡ self.old.ready) × (self.new.fault ≡ self.old.fault) }
-    {
-        let (at, comment) = pass_gap(&self.kept, 0, in_comment);
-        let begins = is_past_gap(&self.kept, at, comment);
-        self.pass(at);
-        self.region = if begins {
-            Region::Row { progress: at_row() }
-        } else {
-            Region::Gap { comment }
-        };
-    }
-
-    /// Whether nothing can be decided yet, as far as that is known.
-    fn is_unfinished(&mut self) -> bool
-        ensures held { (text : List ℕ) → IsHeld text self.old → IsHeld text self.new }
-        ensures stuck { IsStuck self.old.kept self.old.region → IsStuck self.new.kept self.new.region }
-        ensures nothing { result ≡ true → (text : List ℕ) → IsHeld text self.old → NothingDecided text self.old.passed }
-        ensures gap { result ≡ false → (text : List ℕ) → IsHeld text self.old → IsStuck self.old.kept self.old.region → IsSameGap ends.Open text self.old.passed self.old.from }
-        ensures same { (self.new.from ≡ self.old.from) × (self.new.passed ≡ self.old.passed) × (self.new.ready ≡ self.old.ready) × (self.new.fault ≡ self.old.fault) }
-    {
-        match self.region {
-            Region::Gap { comment } => is_gap_open(&self.kept, comment),
-            Region::Row { progress } => match follow_row(self.alloc, &self.kept, progress) {
-                Some(progress) => {
-                    self.region = Region::Row { progress };
-                    true
-                }
-                None => false,
-            },
-        }
-    }
-
-    /// Lets rows go that were read.
-    fn pass_rows(&mut self, size: usize)
-        requires { size ≤ length self.old.kept }
-        ensures kept { self.new.kept ≡ drop size self.old.kept }
-        ensures from { self.new.from ≡ further_place self.old.from size }
-        ensures passed { self.new.passed ≡ further_place self.old.from size }
-        ensures region { self.new.region ≡ regions.Gap false }
-        ensures same { (self.new.ready ≡ self.old.ready) × (self.new.fault ≡ self.old.fault) }
-    {
-        self.pass(size);
-        self.passed = self.from;
-        self.region = Region::Gap { comment: false };
-    }
-
-    /// Reads the rows of what is kept, as far as they are known.
-    fn read(&mut self, end: TextEnd)
-        ensures adds { (text : List ℕ) → IsHeld text self.old → IsSameGap end text self.old.passed self.old.from → Adds end text self.old.passed self.old.ready self.new.ready self.new.passed }
-        ensures stops { (text : List ℕ) → IsHeld text self.old → IsSameGap end text self.old.passed self.old.from → Stops end text self.new.passed self.new.fault }
-        ensures held { (text : List ℕ) → IsHeld text self.old → IsStuck self.old.kept self.old.region → IsHeld text self.new × IsStuck self.new.kept self.new.region }
-        ensures within { (text : List ℕ) → IsHeld text self.old → self.new.passed ≤ length text }
-        ensures stay { StayReady self.old.ready self.new.ready }
-    {
-        let (size, fault) = take_rows(self.alloc, &self.kept, self.from, end, &mut self.ready);
-        self.fault = fault;
-        if size == 0 {
-            return;
-        }
-        self.pass_rows(size);
-    }
-
-    /// Lets white space and comments in front of a row go, where it isn't in one.
-    fn enter_row(&mut self)
-        ensures held { (text : List ℕ) → IsHeld text self.old → IsHeld text self.new }
-        ensures stuck { IsStuck self.new.kept self.new.region }
-        ensures same { (self.new.passed ≡ self.old.passed) × (self.new.ready ≡ self.old.ready) × (self.new.fault ≡ self.old.fault) }
-    {
-        if let Region::Gap { comment } = self.region {
-            self.skip_gap(comment);
-        }
-    }
-
-    /// Reads the rows that are decided.
-    fn read_decided(&mut self)
-        requires { self.old.fault ≡ None }
-        ensures adds { (text : List ℕ) → IsHeld text self.old → IsStuck self.old.kept self.old.region → Adds ends.Open text self.old.passed self.old.ready self.new.ready self.new.passed }
-        ensures stops { (text : List ℕ) → IsHeld text self.old → IsStuck self.old.kept self.old.region → Stops ends.Open text self.new.passed self.new.fault }
-        ensures held { (text : List ℕ) → IsHeld text self.old → IsStuck self.old.kept self.old.region → IsHeld text self.new × IsStuck self.new.kept self.new.region }
-        ensures within { (text : List ℕ) → IsHeld text self.old → self.new.passed ≤ length text }
-        ensures stay { StayReady self.old.ready self.new.ready }
-    {
-        if self.is_unfinished() {
-            return;
-        }
-        self.read(TextEnd::Open);
-    }
-
-    /// What is answered.
-    fn answer(&self) -> Result<(), RowFault>
-        ensures { MatchResult result (λ _. self.now.fault ≡ None) (λ fault. self.now.fault ≡ Some fault) }
-    {
-        match self.fault {
-            None => Ok(()),
-            Some(fault) => Err(fault),
+            window: RowWindow::new(alloc),
+            end: TextEnd::Open,
+            past: Past::new(),
         }
     }
 
     /// Takes a further piece of the text. A fault is answered where the text so far has it as its first one whatever follows.
     pub fn feed(&mut self, piece: &[u8]) -> Result<(), RowFault>
-        ensures stands { (fed : List ℕ) (taken : List Placed) → Stands ends.Open fed taken self.old → length (fed ++ piece.now) < 2 ^ 64 → Stands ends.Open (fed ++ piece.now) taken self.new }
-        ensures answer { MatchResult result (λ _. self.new.fault ≡ None) (λ fault. self.new.fault ≡ Some fault) }
-        ensures stays { (fault : Answer) → self.old.fault ≡ Some fault → self.new ≡ self.old }
+        requires { self.old.end ≡ ends.Open }
+        ensures fed { self.new.fed ≡ self.old.fed ++ piece.now }
+        ensures same { (self.new.end ≡ ends.Open) × (self.new.taken ≡ self.old.taken) }
+        ensures rows { HasAllRows self.new }
         ensures ready { StayReady self.old.ready self.new.ready }
+        ensures answer { Tells self.new.fault result }
+        ensures stays { FaultStays self.old self.new }
     {
-        if let Some(fault) = self.fault {
-            return Err(fault);
-        }
-        if self.kept.extend_from_slice(piece).is_err() {
-            self.fault = Some(RowFault::OutOfMemory);
-            return Err(RowFault::OutOfMemory);
-        }
-        self.enter_row();
-        self.read_decided();
-        self.answer()
+        self.past.feed(piece);
+        self.window.feed(piece)
     }
 
     /// Reads what is left of the text, which ends here. A fault is answered where the text has it as its first one.
     pub fn finish(&mut self) -> Result<(), RowFault>
-        ensures ended { (text : List ℕ) (taken : List Placed) → Stands ends.Open text taken self.old → length text < 2 ^ 64 → Stands ends.Known text taken self.new }
-        ensures again { (text : List ℕ) (taken : List Placed) → Stands ends.Known text taken self.old → length text < 2 ^ 64 → Stands ends.Known text taken self.new }
-        ensures answer { MatchResult result (λ _. self.new.fault ≡ None) (λ fault. self.new.fault ≡ Some fault) }
-        ensures stays { (fault : Answer) → self.old.fault ≡ Some fault → self.new ≡ self.old }
+        ensures end { self.new.end ≡ ends.Known }
+        ensures same { (self.new.fed ≡ self.old.fed) × (self.new.taken ≡ self.old.taken) }
+        ensures rows { HasAllRows self.new }
         ensures ready { StayReady self.old.ready self.new.ready }
+        ensures answer { Tells self.new.fault result }
+        ensures stays { FaultStays self.old self.new }
+        ensures again { self.old.end ≡ ends.Known → self.new ≡ self.old }
     {
-        if let Some(fault) = self.fault {
-            return Err(fault);
+        if let TextEnd::Known = self.end {
+            return self.window.answer();
         }
-        self.read(TextEnd::Known);
-        self.answer()
+        self.end = TextEnd::Known;
+        self.window.finish()
     }
 
     /// The next row with its places; none where no row is ready.
     pub fn take_placed(&mut self) -> Option<PlacedRow>
-        ensures takes { (end : End) (text : List ℕ) (taken : List Placed) → Stands end text taken self.old → Takes end text taken self.old result self.new }
-        ensures ready { self.old.ready ≡ option_to_list result ++ self.new.ready }
-        ensures none { IfNone result (self.old.ready ≡ []) }
-        ensures fault { self.new.fault ≡ self.old.fault }
+        ensures takes { Takes self.old result self.new }
+        ensures rows { HasAllRows self.new }
     {
-        self.ready.pop_front()
+        let found = self.window.take_placed();
+        if let Some(row) = &found {
+            self.past.take(row);
+        }
+        found
     }
 
     /// The next row; none where no row is ready.
     pub fn take_row(&mut self) -> Option<Row>
-        ensures takes { (end : End) (text : List ℕ) (taken : List Placed) → Stands end text taken self.old → TakesRow end text taken self.old result self.new }
-        ensures ready { MatchOption result ((self.old.ready ≡ []) × (self.new.ready ≡ [])) (λ _. length self.new.ready + 1 ≡ length self.old.ready) }
-        ensures fault { self.new.fault ≡ self.old.fault }
+        ensures takes { TakesRow self.old result self.new }
+        ensures rows { HasAllRows self.new }
     {
         match self.take_placed() {
             Some(PlacedRow { row, .. }) => Some(row),

@@ -1,5 +1,5 @@
 // A row is let go by `drop`: where it goes out of scope instead, the proof of the function takes a minute longer.
-ghost use Rattle.std.specs.Prelude.{◌<◌, length, drop};
+ghost use Rattle.std.specs.Prelude.{◌≡◌, ◌<◌, length, drop};
 ghost use Rattle.nquads_text.specs.Grammar.{StartsWith};
 ghost use Rattle.patch_rows.specs.Grammar.{begins_space};
 
@@ -174,7 +174,9 @@ fn end_of(placed: PlacedRow) -> u64 {
 }
 
 /// Takes up to eight rows, and keeps the places behind them.
-fn take_ends(reader: &mut PatchReader, ends: &mut Vec<u64>) -> Result<(), AllocError> {
+fn take_ends(reader: &mut PatchReader, ends: &mut Vec<u64>) -> Result<(), AllocError>
+    ensures { reader.new.end ≡ reader.old.end }
+{
     for _ in 0..8 {
         match reader.take_placed() {
             Some(placed) => {
@@ -280,7 +282,9 @@ fn a_text_has_its_first_fault_in_any_pieces(rt: HostRuntime) -> Result<(), Fail>
     Ok(())
 }
 
-fn takes_row(reader: &mut PatchReader) -> bool {
+fn takes_row(reader: &mut PatchReader) -> bool
+    ensures { reader.new.end ≡ reader.old.end }
+{
     match reader.take_row() {
         Some(row) => {
             drop(row);

@@ -1,8 +1,8 @@
 //! Counts the rows of a text that is fed in pieces.
 
-ghost use Rattle.std.specs.Prelude.{◌≡◌, ◌<◌, ◌^◌, ◌+◌, ◌-◌, ℕ, List, [], true, false, length, min, IfOk};
-ghost use Rattle.patch_rows.specs.declared.cut.TextEnd.{TextEnd as End};
-ghost use Rattle.stream_bench.specs.Counting.{HasRows, TakesSome};
+ghost use Rattle.std.specs.Prelude.{◌≡◌, [], IfOk};
+ghost use Rattle.patch_reader.specs.Pieces.{HasAllRows};
+ghost use Rattle.stream_bench.specs.Counting.{HasRows, SameText, TakesOne, Counts};
 
 use patch_reader::PatchReader;
 use patch_rows::RowFault;
@@ -10,11 +10,9 @@ use std::alloc::Global;
 
 /// Whether a row was ready, which is taken.
 fn take_one(reader: &mut PatchReader) -> bool
-    ensures some { result ≡ true → (end : End) (text : List ℕ) (count : ℕ) → length text < 2 ^ 64 → TakesSome end text reader.old count → TakesSome end text reader.new (min (count + 1) (2 ^ 64 - 1)) }
-    ensures fewer { result ≡ true → length reader.new.ready < length reader.old.ready }
-    ensures none { result ≡ false → (end : End) (text : List ℕ) (count : ℕ) → TakesSome end text reader.old count → TakesSome end text reader.new count }
-    ensures all { result ≡ false → reader.new.ready ≡ [] }
-    ensures fault { reader.new.fault ≡ reader.old.fault }
+    ensures one { TakesOne reader.old result reader.new }
+    ensures same { SameText reader.old reader.new }
+    ensures rows { HasAllRows reader.new }
 {
     match reader.take_row() {
         Some(_row) => true,
@@ -24,9 +22,10 @@ fn take_one(reader: &mut PatchReader) -> bool
 
 /// Takes the rows that are ready, and counts them.
 fn take_rows(reader: &mut PatchReader, before: usize) -> usize
-    ensures takes { (end : End) (text : List ℕ) → length text < 2 ^ 64 → TakesSome end text reader.old before → TakesSome end text reader.new result }
+    ensures counts { Counts reader.old before → Counts reader.new result }
     ensures all { reader.new.ready ≡ [] }
-    ensures fault { reader.new.fault ≡ reader.old.fault }
+    ensures same { SameText reader.old reader.new }
+    ensures rows { HasAllRows reader.new }
 {
     let mut count = before;
     'rows: while take_one(reader) {

@@ -1,10 +1,14 @@
 use Rattle.std.proofs.Common.{ℕ, sym, subst, ◌∙◌}
-use Rattle.stream_bench.specs.Counting.{TakesSome}
+use Rattle.stream_bench.specs.Counting.{Counts}
+use Rattle.stream_bench.proofs.Counted.{counted_on}
 use Rattle.stream_bench.proofs.counting.take_rows.Goals as goal
 
 pub rows-preserved : goal.rows-preserved
-rows-preserved c = (
-  (λ end text fits t. subst (λ (n : ℕ). TakesSome end text c.take_one.new.reader n) (sym c.saturating_add-count.ensures)
-      (c.take_one.ensures.some c.rows-test.true end text c.rows.count fits (c.rows.invariant.0 end text fits t))),
-  c.take_one.ensures.fault ∙ c.rows.invariant.1,
-)
+rows-preserved c =
+    let i = c.rows.invariant in
+    let new = c.take_one.new.reader in
+    let one = c.rows-test.ensures.one in
+    let same = c.take_one.ensures.same in (
+      (λ counts. subst (λ (n : ℕ). Counts new n) (sym c.saturating_add-count.ensures) (counted_on c.rows.reader new c.rows.count one same c.take_one.ensures.rows (i.0 counts))),
+      (same.0 ∙ i.1.0, same.1 ∙ i.1.1, same.2 ∙ i.1.2),
+    )

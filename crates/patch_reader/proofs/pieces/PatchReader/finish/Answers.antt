@@ -1,24 +1,16 @@
-use Rattle.std.proofs.Common.{◌++◌, sym, ap, ◌∙◌}
+use Rattle.std.proofs.Common.{subst}
 use Rattle.patch_rows.specs.declared.cut.TextEnd.TheVariants as ends
-use Rattle.patch_reader.specs.Pieces.{Reader}
-use Rattle.patch_reader.proofs.Reader.{fault_known, gap_known, rows_known, goes_on}
+use Rattle.patch_reader.specs.Pieces.{Reader, HasAllRows}
+use Rattle.patch_reader.proofs.Holding.{all_rows, holds_whole}
 use Rattle.patch_reader.proofs.pieces.PatchReader.finish.Goals as goal
 
-pub returns-in-Some-clause-ended : goal.returns-in-Some-clause-ended
-returns-in-Some-clause-ended c = λ text taken s fits. fault_known text taken c.args.self.now c.in-Some.fault (sym (ap (λ (r : Reader). r.fault) c.self.view_is) ∙ c.in-Some.is) s
+pub invariant_of-self : goal.invariant_of-self
+invariant_of-self c =
+    let r = c.self.inside in holds_whole r.end r.past.fed r.past.taken r.window c.finish.new.self c.in_default.is c.finish.ensures.ended c.self.invariant
 
-pub returns-clause-ended : goal.returns-clause-ended
-returns-clause-ended c = λ text taken s fits.
-    let r = c.args.self.now in
-    let h = s.held (sym (ap (λ (r : Reader). r.fault) c.self.view_is) ∙ c.in_default.is) in
-    let gap = gap_known text r.passed r.from r.kept r.region h.0 h.1 in
-    goes_on ends.Known text taken r.ready r.passed c.read.new.self (rows_known text 0 r.passed (taken ++ r.ready) s.rows_)
-    (c.read.ensures.adds text h.0 gap) (c.read.ensures.stops text h.0 gap) (c.read.ensures.within text h.0) (c.read.ensures.held text h.0 h.1)
+pub returns-in-Known-clause-rows : goal.returns-in-Known-clause-rows
+returns-in-Known-clause-rows c =
+    let r = c.self.inside in subst (λ (r : Reader). HasAllRows r) c.self.view_is (all_rows r.end r.past.fed r.past.taken r.window c.self.invariant)
 
-pub returns-clause-again : goal.returns-clause-again
-returns-clause-again c = λ text taken s fits.
-    let r = c.args.self.now in
-    let h = s.held (sym (ap (λ (r : Reader). r.fault) c.self.view_is) ∙ c.in_default.is) in
-    let gap = gap_known text r.passed r.from r.kept r.region h.0 h.1 in
-    goes_on ends.Known text taken r.ready r.passed c.read.new.self s.rows_
-    (c.read.ensures.adds text h.0 gap) (c.read.ensures.stops text h.0 gap) (c.read.ensures.within text h.0) (c.read.ensures.held text h.0 h.1)
+pub returns-clause-rows : goal.returns-clause-rows
+returns-clause-rows c = all_rows ends.Known c.self.inside.past.fed c.self.inside.past.taken c.finish.new.self (invariant_of-self c)

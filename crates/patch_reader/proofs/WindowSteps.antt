@@ -26,7 +26,7 @@ use Rattle.patch_reader.specs.declared.progress.Place.TheVariants as place
 use Rattle.patch_reader.specs.declared.progress.Progress.{Progress}
 use Rattle.patch_rows.specs.Cut.{AtEnd, is_cut, ends_row}
 use Rattle.patch_reader.specs.Decided.{MoreDecides}
-use Rattle.patch_reader.specs.Pieces.{Reader, IsRegion, IsStuck, IsTail, IsHeld, IsSameGap, Stands}
+use Rattle.patch_reader.specs.Window.{Window, IsRegion, IsStuck, IsTail, IsHeld, IsSameGap, WindowStands}
 use Rattle.patch_reader.specs.Places.{further_place}
 use Rattle.patch_reader.specs.Inside.{OpenInside}
 use Rattle.patch_reader.specs.Progress.{OpenAt, Follows, IsUnfinished, progress_at}
@@ -50,7 +50,7 @@ no_fault kind at bad = let lt = (bad.1 []).1.0 in omega (arith, lt)
 empty_tail : IsTail [] 0 0 [] (regions.Gap false)
 empty_tail = ((refl, omega arith, omega arith), omega arith, λ more. refl)
 
-pub fresh : (r : Reader) → r.ready ≡ [] → r.passed ≡ 0 → r.from ≡ 0 → r.kept ≡ [] → r.region ≡ regions.Gap false → r.fault ≡ None → Stands ends.Open [] [] r
+pub fresh : (r : Window) → r.ready ≡ [] → r.passed ≡ 0 → r.from ≡ 0 → r.kept ≡ [] → r.region ≡ regions.Gap false → r.fault ≡ None → WindowStands ends.Open [] [] r
 fresh r ready passed from kept p fault = record {
   rows_ = subst (λ (t : List PlacedRow). RowsDecided [] 0 t r.passed) (sym ready) (λ more. sym passed);
   stops = subst (λ (o : Option RowAnswer). Stops ends.Open [] r.passed o) (sym fault) (subst (λ (n : ℕ). NothingDecided [] n) (sym passed) (no_row, no_fault));
@@ -81,7 +81,7 @@ has : (o : Option RowAnswer) (fault : RowAnswer) → o ≡ Some fault → o ≡ 
 has o fault is none = let both = sym is ∙ none in absurd cc
 
 -- a fault stays
-pub fault_stays : (fed piece : List ℕ) (taken : List PlacedRow) (r : Reader) (fault : RowAnswer) → r.fault ≡ Some fault → Stands ends.Open fed taken r → Stands ends.Open (fed ++ piece) taken r
+pub fault_stays : (fed piece : List ℕ) (taken : List PlacedRow) (r : Window) (fault : RowAnswer) → r.fault ≡ Some fault → WindowStands ends.Open fed taken r → WindowStands ends.Open (fed ++ piece) taken r
 fault_stays fed piece taken r fault is s = record {
   rows_ = rows_longer fed piece 0 r.passed (taken ++ r.ready) s.rows_;
   stops = subst (λ (o : Option RowAnswer). Stops ends.Open (fed ++ piece) r.passed o) (sym is) (stops_longer fed piece r.passed fault (subst (λ (o : Option RowAnswer). Stops ends.Open fed r.passed o) is s.stops));
@@ -332,8 +332,8 @@ adds_same end text passed now old here new to p q a = subst (λ (n : ℕ). Adds 
 
 -- ---- further rows are read
 
-pub goes_on : (end : TextEnd) (text : List ℕ) (taken old : List PlacedRow) (passed : ℕ) (new : Reader) → RowsStand end text 0 (taken ++ old) passed → Adds end text passed old new.ready new.passed
-    → Stops end text new.passed new.fault → new.passed ≤ length text → IsHeld text new × IsStuck new.kept new.region → Stands end text taken new
+pub goes_on : (end : TextEnd) (text : List ℕ) (taken old : List PlacedRow) (passed : ℕ) (new : Window) → RowsStand end text 0 (taken ++ old) passed → Adds end text passed old new.ready new.passed
+    → Stops end text new.passed new.fault → new.passed ≤ length text → IsHeld text new × IsStuck new.kept new.region → WindowStands end text taken new
 goes_on end text taken old passed new up (rows_, is, more) stops within held = record {
   rows_ = subst (λ (t : List PlacedRow). RowsStand end text 0 t new.passed) (rows_assoc taken old rows_ ∙ ap (λ (t : List PlacedRow). taken ++ t) (sym is))
       (stand_joined end text 0 passed new.passed (taken ++ old) rows_ up more);
@@ -352,7 +352,7 @@ stops_known text from (faults.At at kind) (to, bad) =
     let now = subst (λ (t : List ℕ). Gap t from to × NoRowAt t to kind at) (append-nil text) (bad []) in (to, now.0, now.1)
 stops_known text from faults.OutOfMemory bad = tt
 
-pub fault_known : (text : List ℕ) (taken : List PlacedRow) (r : Reader) (fault : RowAnswer) → r.fault ≡ Some fault → Stands ends.Open text taken r → Stands ends.Known text taken r
+pub fault_known : (text : List ℕ) (taken : List PlacedRow) (r : Window) (fault : RowAnswer) → r.fault ≡ Some fault → WindowStands ends.Open text taken r → WindowStands ends.Known text taken r
 fault_known text taken r fault is s = record {
   rows_ = rows_known text 0 r.passed (taken ++ r.ready) s.rows_;
   stops = subst (λ (o : Option RowAnswer). Stops ends.Known text r.passed o) (sym is) (stops_known text r.passed fault (subst (λ (o : Option RowAnswer). Stops ends.Open text r.passed o) is s.stops));

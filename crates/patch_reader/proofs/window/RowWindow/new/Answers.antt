@@ -1,7 +1,7 @@
 use Rattle.std.proofs.Common.{refl, false, None}
 use Rattle.patch_reader.specs.declared.progress.Region.TheVariants as regions
-use Rattle.patch_reader.proofs.Reader.{fresh}
-use Rattle.patch_reader.proofs.pieces.PatchReader.new.Goals as goal
+use Rattle.patch_reader.proofs.WindowSteps.{fresh}
+use Rattle.patch_reader.proofs.window.RowWindow.new.Goals as goal
 
 pub returns-clause-stands : goal.returns-clause-stands
 returns-clause-stands c =
