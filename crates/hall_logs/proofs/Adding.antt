@@ -1,13 +1,12 @@
 -- From one call to many.
 use Rattle.std.proofs.Common.{◌≡◌, ℕ, ◌+◌, ◌<◌, ◌-◌, ◌^◌, List, [], ◌∷◌, ◌++◌, length, length-append, refl, sym, ap, ◌∙◌, subst, ⊎_elim, inl, inr, append_assoc, arith, Option, Some, None}
 use Rattle.std.proofs.lemmas.List.{append-nil}
-use Rattle.delta_base.specs.Outside.{Rose}
+use Rattle.delta_base.specs.Outside.{Rose, RoseBy}
 use Rattle.delta_base.specs.declared.limits.LogLimits.{LogLimits}
 use Rattle.chain_core.specs.declared.chain.Patch.{Patch}
 use Rattle.chain_core.specs.declared.answer.LogAnswer.{LogAnswer}
 use Rattle.chain_core.specs.declared.answer.LogAnswer.TheVariants.{Accepted, Known, Conflict, Full, DiskFault, OutOfMemory}
 use Rattle.chain_core.specs.Replies.{LogCall, append, fetch_version, fetch_id, describe, version, LogReply, answered, fetched, reply_of}
-use Rattle.patch_log.specs.Run.{RoseBy}
 use Rattle.turn_cell.specs.Knowing.{IsQuiet, SeesOn, seen_of, mine_of, failed_of, own_faults_of}
 use Rattle.turn_cell.proofs.Knowing.{same_on, quiet_on}
 use Rattle.turn_cell.proofs.Views.{prefix_trans, prefix_refl}

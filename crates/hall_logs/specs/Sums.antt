@@ -4,7 +4,7 @@ use mathlib.Core.List.{IsPrefix}
 use Rattle.chain_core.specs.declared.chain.Patch.{Patch}
 use Rattle.chain_core.specs.declared.answer.LogAnswer.TheVariants.{Accepted, DiskFault}
 use Rattle.chain_core.specs.Replies.{LogCall, append, LogReply, answered}
-use Rattle.patch_log.specs.Run.{RoseBy}
+use Rattle.delta_base.specs.Outside.{RoseBy}
 use Rattle.turn_cell.specs.Knowing.{IsSame, IsQuiet, seen_of, mine_of, failed_of, own_faults_of}
 use Rattle.turn_cell.specs.Knowing.{looks_of}
 use Rattle.shared_log.specs.Passes.{LogSight}

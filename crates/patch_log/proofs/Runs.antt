@@ -4,7 +4,7 @@ use Rattle.std.specs.Prelude.{count_by}
 use Rattle.std.specs.List.{AllByRecursion}
 use Rattle.std.proofs.lemmas.List.{append-nil}
 use Rattle.std.proofs.lemmas.List.Sums.{sum_by-append}
-use Rattle.delta_base.specs.Outside.{Rose}
+use Rattle.delta_base.specs.Outside.{Rose, RoseBy}
 use Rattle.disk_model.specs.declared.disk.Disk.{Ghosts}
 use Rattle.disk_model.specs.Past.{LeavesOnly}
 use Rattle.disk_model.proofs.Moments.{starts, joined, weaker}
@@ -15,7 +15,7 @@ use Rattle.chain_core.specs.declared.answer.LogAnswer.TheVariants.{Accepted, Kno
 use Rattle.patch_meaning.specs.Checked.{CheckedPatch}
 use Rattle.patch_log.specs.Log.{bare, MayHoldDuring}
 use Rattle.patch_log.specs.State.{LogView, chain_of}
-use Rattle.patch_log.specs.Run.{Appended, Run, GrowsBy, HoldsInRun, RoseBy, is_disk_fault}
+use Rattle.patch_log.specs.Run.{Appended, Run, GrowsBy, HoldsInRun, is_disk_fault}
 
 module _ {D : Type 0} (disks : Ghosts D) (by : ℕ) where
   -- one append more

@@ -1,5 +1,5 @@
 -- Appends to one log, one after another.
-use Rattle.std.specs.Prelude.{◌≡◌, ◌≢◌, ◌⊎◌, ℕ, ◌+◌, ◌-◌, ◌^◌, ◌≤◌, min, List, [], ◌∷◌, ◌++◌, Bool, true, false, not, IsTrue, Option}
+use Rattle.std.specs.Prelude.{◌≡◌, ◌≢◌, ◌⊎◌, ℕ, ◌-◌, ◌≤◌, List, [], ◌∷◌, ◌++◌, Bool, true, false, not, IsTrue, Option}
 use Rattle.std.specs.List.{AllByRecursion}
 use Rattle.delta_base.specs.Outside.{Rose}
 use Rattle.delta_base.specs.declared.limits.LogLimits.{LogLimits}
@@ -104,7 +104,3 @@ is_disk_fault (Conflict version head prev_version) = false
 is_disk_fault (Full what have limit) = false
 is_disk_fault DiskFault = true
 is_disk_fault OutOfMemory = false
-
--- at least so many faults were counted, up to the last value of u64
-abbrev pub RoseBy : ℕ → ℕ → ℕ → Type 0
-RoseBy count before after = min (before + count) (2 ^ 64 - 1) ≤ after

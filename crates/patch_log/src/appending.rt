@@ -1,10 +1,11 @@
 //! Appends: one stay in a log's turn, and many.
 ghost use Rattle.std.specs.Prelude.{◌≡◌, ◌≤◌, ℕ, map, count_by, IfOk, OnErr};
 ghost use Rattle.std.specs.Result.{ForOk};
+ghost use Rattle.delta_base.specs.Outside.{RoseBy};
 ghost use Rattle.disk_model.specs.Past.{LeavesOnly};
 ghost use Rattle.patch_log.specs.Log.{bare};
 ghost use Rattle.patch_log.specs.Ready.{IsMadeOf};
-ghost use Rattle.patch_log.specs.Run.{Appended, Run, GrowsBy, HoldsInRun, RoseBy, is_disk_fault};
+ghost use Rattle.patch_log.specs.Run.{Appended, Run, GrowsBy, HoldsInRun, is_disk_fault};
 
 use crate::ready::Ready;
 use crate::state::LogState;

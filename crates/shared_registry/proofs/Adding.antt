@@ -2,7 +2,7 @@
 use Rattle.std.proofs.Common.{◌≡◌, ◌⊎◌, ℕ, ◌+◌, ◌-◌, ◌^◌, ◌<◌, ◌≤◌, List, [], ◌∷◌, ◌++◌, length, length-append, refl, sym, ap, ◌∙◌, subst, ⊎_elim, append_assoc, arith, Option, Some, None}
 use Rattle.std.specs.Prelude.{min}
 use Rattle.std.proofs.lemmas.List.{append-nil}
-use Rattle.delta_base.specs.Outside.{Rose}
+use Rattle.delta_base.specs.Outside.{Rose, RoseBy}
 use Rattle.registry_core.specs.declared.event.Event.{Event}
 use Rattle.registry_core.specs.Answers.{Ending, made, told, failed, wanting}
 use Rattle.registry_core.specs.Replies.{RegistryCall, RegistryReply, ending}
@@ -11,7 +11,7 @@ use Rattle.turn_cell.proofs.Knowing.{same_on}
 use Rattle.turn_cell.proofs.Views.{prefix_trans, prefix_refl}
 use Rattle.shared_registry.specs.Passes.{RegistrySight}
 use Rattle.shared_registry.specs.Legal.{IsTold}
-use Rattle.shared_registry.specs.Lookups.{Lookup, IsReplied, AreAsked, made_by, faulted_by, ending_of, events_made, events_faulted, RoseBy, RegistryAddsUp}
+use Rattle.shared_registry.specs.Lookups.{Lookup, IsReplied, AreAsked, made_by, faulted_by, ending_of, events_made, events_faulted, RegistryAddsUp}
 
 -- what one call adds, by how it ends
 record AddsOne (end : Ending) (p q : RegistrySight) : Type 0 where

@@ -1,6 +1,7 @@
 -- Many calls of one pass on a registry, and what they come to together.
-use Rattle.std.specs.Prelude.{◌≡◌, ℕ, ◌+◌, ◌-◌, ◌^◌, ◌≤◌, min, List, [], ◌∷◌, ◌++◌, length, Option, Some, None}
+use Rattle.std.specs.Prelude.{◌≡◌, ℕ, ◌+◌, ◌≤◌, List, [], ◌∷◌, ◌++◌, length, Option, Some, None}
 use mathlib.Core.List.{IsPrefix}
+use Rattle.delta_base.specs.Outside.{RoseBy}
 use Rattle.registry_core.specs.declared.event.Event.{Event}
 use Rattle.registry_core.specs.Answers.{Ending, made, told, failed, wanting}
 use Rattle.registry_core.specs.Replies.{RegistryCall, RegistryReply, ending}
@@ -53,10 +54,6 @@ events_made (asked ∷ more) = made_by (ending_of asked.call asked.reply) + even
 abbrev pub events_faulted : List Lookup → ℕ
 events_faulted [] = 0
 events_faulted (asked ∷ more) = faulted_by (ending_of asked.call asked.reply) + events_faulted more
-
--- at least so many faults were counted, up to the last value of u64
-abbrev pub RoseBy : ℕ → ℕ → ℕ → Type 0
-RoseBy count before after = min (before + count) (2 ^ 64 - 1) ≤ after
 
 -- It is the same pass, and knows all that it knew. It has looked once for each call at least; its
 -- own places grew by as many as made an event; no more came as failed than met a fault of the disk,

@@ -1,8 +1,9 @@
 use Rattle.std.proofs.Common.{◌≡◌, ◌+◌, ◌≤◌, length, map, take}
 use Rattle.std.specs.Prelude.{count_by}
+use Rattle.delta_base.specs.Outside.{RoseBy}
 use Rattle.disk_model.specs.Past.{LeavesOnly}
 use Rattle.patch_log.specs.Log.{bare}
-use Rattle.patch_log.specs.Run.{Run, GrowsBy, HoldsInRun, RoseBy, is_disk_fault}
+use Rattle.patch_log.specs.Run.{Run, GrowsBy, HoldsInRun, is_disk_fault}
 use Rattle.patch_log.proofs.appending.append_all.Given as goal
 
 abbrev pub invariant-loop-patch : goal.invariant-loop-patch
