@@ -1,6 +1,7 @@
 pub mod Stepping
-pub mod Serving
+pub mod Said
 pub mod Asked
 pub mod Refused
 pub mod Passing
 pub mod Opens
+pub mod Posts

@@ -1,7 +1,6 @@
 -- Passes stay those of their hall, whatever they ask.
 use Rattle.std.proofs.Common.{◌≡◌, ℕ, suc, refl, sym, ap, ◌∙◌, subst, ⊎_elim, inl, inr, List, [], ◌∷◌, length, Option, Some, None}
 use Rattle.std.specs.List.{AllZip}
-use Rattle.http_session.specs.Output.{Exchange, Chain}
 use Rattle.registry_core.specs.Replies.{RegistryCall, RegistryReply}
 use Rattle.turn_cell.specs.Turns.{AllOf, IsIn}
 use Rattle.turn_cell.specs.Knowing.{SeesOn, number_of}
@@ -11,9 +10,8 @@ use Rattle.shared_registry.specs.Passes.{RegistrySight, IsPassOf}
 use Rattle.hall_logs.specs.Slots.{ArePartsOf}
 use Rattle.hall_logs.specs.Visits.{Visit, IsVisit, AreVisits}
 use Rattle.hall_logs.proofs.Visiting.{parts_stay, numbers_stay}
-use Rattle.delta_session.specs.Answered.{Answered}
 use Rattle.delta_session.specs.Halls.{IsHallPass, AreHallPasses}
-use Rattle.delta_session.specs.Sessions.{HasAnswered}
+use Rattle.delta_session.specs.Sessions.{HasAsked}
 use Rattle.delta_session.specs.Steps.{HallView, HallSight, Lists, Step, of_registry, of_log, IsStep, AreSteps}
 
 -- whether it found memory or not, the pass sees on
@@ -65,40 +63,32 @@ module _ {D : Type 0} (mark : D → Option (List ℕ × ℕ)) (hall : HallView D
   pub still_ready : (p q : Lists) (steps : List Step) → IsHallPass mark hall p → AreSteps hall p steps q → IsHallPass mark hall q
   still_ready p q steps is are = (stays p q steps is are).0
 
-  answers_stay : (p q : HallSight) (exchanges : List Exchange) → IsHallPass mark hall p.lists → Chain (Answered hall) p exchanges q → Stays p.lists q.lists
-  answers_stay p q [] is same = (subst (IsHallPass mark hall) (ap (λ (s : HallSight). s.lists) same) is, sym (ap (λ (s : HallSight). number_of s.lists.registry) same))
-  answers_stay p q (e ∷ exchanges) is chain =
-      let first = stays p.lists chain.0.lists chain.1.0 is chain.1.1 in
-      let rest = answers_stay chain.0 q exchanges first.0 chain.2 in
-      (rest.0, rest.1 ∙ first.1)
+  pub has_stayed : (p q : HallSight) → HasAsked hall p q → IsHallPass mark hall p.lists → Stays p.lists q.lists
+  has_stayed p q asked is = stays p.lists q.lists asked.0 is asked.1
 
-  -- one that has answered
-  pub has_stayed : (p q : HallSight) → HasAnswered hall p q → IsHallPass mark hall p.lists → Stays p.lists q.lists
-  has_stayed p q answered is = answers_stay p q answered.0 is answered.1
+  all_stay : (before after : List HallSight) → AllZip (HasAsked hall) before after → AllOf (λ (pass : HallSight). IsHallPass mark hall pass.lists) before → AllOf (λ (pass : HallSight). IsHallPass mark hall pass.lists) after
+  all_stay [] [] asked all = tt
+  all_stay [] (y ∷ after) asked all = absurd asked
+  all_stay (x ∷ before) [] asked all = absurd asked
+  all_stay (x ∷ before) (y ∷ after) asked all = ((has_stayed x y asked.0 all.0).0, all_stay before after asked.1 all.1)
 
-  all_stay : (before after : List HallSight) → AllZip (HasAnswered hall) before after → AllOf (λ (pass : HallSight). IsHallPass mark hall pass.lists) before → AllOf (λ (pass : HallSight). IsHallPass mark hall pass.lists) after
-  all_stay [] [] answered all = tt
-  all_stay [] (y ∷ after) answered all = absurd answered
-  all_stay (x ∷ before) [] answered all = absurd answered
-  all_stay (x ∷ before) (y ∷ after) answered all = ((has_stayed x y answered.0 all.0).0, all_stay before after answered.1 all.1)
+  as_many : (before after : List HallSight) → AllZip (HasAsked hall) before after → length after ≡ length before
+  as_many [] [] asked = refl
+  as_many [] (y ∷ after) asked = absurd asked
+  as_many (x ∷ before) [] asked = absurd asked
+  as_many (x ∷ before) (y ∷ after) asked = ap (λ (n : ℕ). suc n) (as_many before after asked.1)
 
-  as_many : (before after : List HallSight) → AllZip (HasAnswered hall) before after → length after ≡ length before
-  as_many [] [] answered = refl
-  as_many [] (y ∷ after) answered = absurd answered
-  as_many (x ∷ before) [] answered = absurd answered
-  as_many (x ∷ before) (y ∷ after) answered = ap (λ (n : ℕ). suc n) (as_many before after answered.1)
-
-  one_left : (n : ℕ) (before after : List HallSight) → AllZip (HasAnswered hall) before after → AllOf (λ (pass : HallSight). IsHallPass mark hall pass.lists) before
+  one_left : (n : ℕ) (before after : List HallSight) → AllZip (HasAsked hall) before after → AllOf (λ (pass : HallSight). IsHallPass mark hall pass.lists) before
       → (pass : HallSight) → IsIn pass before → number_of pass.lists.registry ≡ n → (left : HallSight) × IsIn left after × (number_of left.lists.registry ≡ n)
-  one_left n [] after answered all pass there is = absurd there
-  one_left n (x ∷ before) [] answered all pass there is = absurd answered
-  one_left n (x ∷ before) (y ∷ after) answered all pass there is =
-      ⊎_elim (λ (e : pass ≡ x). (y, inl refl, (has_stayed x y answered.0 all.0).1 ∙ sym (ap (λ (s : HallSight). number_of s.lists.registry) e) ∙ is))
-      (λ (i : IsIn pass before). let more = one_left n before after answered.1 all.1 pass i is in (more.0, inr more.1, more.2)) there
+  one_left n [] after asked all pass there is = absurd there
+  one_left n (x ∷ before) [] asked all pass there is = absurd asked
+  one_left n (x ∷ before) (y ∷ after) asked all pass there is =
+      ⊎_elim (λ (e : pass ≡ x). (y, inl refl, (has_stayed x y asked.0 all.0).1 ∙ sym (ap (λ (s : HallSight). number_of s.lists.registry) e) ∙ is))
+      (λ (i : IsIn pass before). let more = one_left n before after asked.1 all.1 pass i is in (more.0, inr more.1, more.2)) there
 
-  pub passes_stay : (before after : List HallSight) → AllZip (HasAnswered hall) before after → AreHallPasses mark hall before → AreHallPasses mark hall after
-  passes_stay before after answered are = record {
-    of = all_stay before after answered are.of;
-    count = as_many before after answered ∙ are.count;
-    all = λ n positive high. let one = are.all n positive high in one_left n before after answered are.of one.0 one.1 one.2;
+  pub passes_stay : (before after : List HallSight) → AllZip (HasAsked hall) before after → AreHallPasses mark hall before → AreHallPasses mark hall after
+  passes_stay before after asked are = record {
+    of = all_stay before after asked are.of;
+    count = as_many before after asked ∙ are.count;
+    all = λ n positive high. let one = are.all n positive high in one_left n before after asked are.of one.0 one.1 one.2;
   }

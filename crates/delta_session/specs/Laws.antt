@@ -4,7 +4,7 @@ use Rattle.std.specs.List.{AllZip}
 use Rattle.http_session.specs.Output.{Exchange, Chain}
 use Rattle.delta_session.specs.Answered.{Answered}
 use Rattle.delta_session.specs.Halls.{AreHallPasses}
-use Rattle.delta_session.specs.Sessions.{Served, HasAnswered}
+use Rattle.delta_session.specs.Sessions.{Served, HasAsked}
 use Rattle.delta_session.specs.Steps.{HallView, HallSight}
 
 module _ (D : Type 0) where
@@ -14,9 +14,9 @@ module _ (D : Type 0) where
       (hall : HallView D) (before after : HallSight) (exchanges : List Exchange)
       → Chain (Answered hall) before exchanges after → Served hall before exchanges after
 
-  -- where all passes were there, all are there after any answers of each
+  -- where all passes were there, all are there after any legal calls of each
   abbrev pub PassesStay : Type 0
   PassesStay =
       (mark : D → Option (List ℕ × ℕ)) (hall : HallView D) (before after : List HallSight)
-      → AllZip (HasAnswered hall) before after
+      → AllZip (HasAsked hall) before after
       → AreHallPasses mark hall before → AreHallPasses mark hall after

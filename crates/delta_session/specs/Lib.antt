@@ -6,4 +6,5 @@ pub mod Sessions
 pub mod Halls
 pub mod Opening
 pub mod Ends
+pub mod Working
 pub mod Laws

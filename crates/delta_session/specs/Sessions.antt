@@ -2,7 +2,7 @@
 use Rattle.std.specs.Prelude.{◌≡◌, ℕ, ◌+◌, ◌≤◌, List, [], ◌∷◌, ◌++◌, Some, slice_get}
 use Rattle.delta_base.specs.Outside.{Rose}
 use Rattle.delta_base.specs.declared.link.Link.{Ghosts as LinkGhosts}
-use Rattle.http_session.specs.Output.{Exchange, Chain}
+use Rattle.http_session.specs.Output.{Exchange}
 use Rattle.http_session.specs.Talks.{TalksOn, IsDrained, Moment, moment_of}
 use Rattle.http_text.specs.declared.session.SessionEnd.{SessionEnd}
 use Rattle.http_text.specs.declared.session.SessionEnd.TheVariants.{LinkFault}
@@ -45,10 +45,9 @@ pub record Served {D : Type 0} (hall : HallView D) (before : HallSight)
       → (q : LogSight) × (slice_get after.lists.logs place ≡ Some q)
       × AddsUp p (asked_at (place + 1) (visits_of (all_of steps))) q
 
--- the pass answered some requests
-abbrev pub HasAnswered : {D : Type 0} → HallView D → HallSight → HallSight → Type 0
-HasAnswered hall before after =
-    (exchanges : List Exchange) × Chain (Answered hall) before exchanges after
+-- the pass asked some of the lists
+abbrev pub HasAsked : {D : Type 0} → HallView D → HallSight → HallSight → Type 0
+HasAsked hall before after = (steps : List Step) × AreSteps hall before.lists steps after.lists
 
 -- A connection was served: what was read and what was written of it, and why it ended. It has no
 -- byte left where it was closed or cut short, and its link failed where that is told.

@@ -14,7 +14,7 @@ pub fn sessions_are_served<D: Disk>()
     visits_are_calls::<D>();
 }
 
-/// Whatever requests the passes answered, all are there and each has its number.
+/// Whatever legal calls the passes made, all are there and each has its number.
 pub fn passes_stay<D: Disk>()
     ensures { PassesStay D }
 {}

@@ -16,3 +16,5 @@ mod opened;
 mod openings;
 #[cfg(test)]
 mod sources;
+#[cfg(test)]
+mod threads;

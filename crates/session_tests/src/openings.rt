@@ -1,5 +1,5 @@
 //! What is wrong with files.
-ghost use Rattle.std.specs.Prelude.{◌<◌, vec_len};
+ghost use Rattle.std.specs.Prelude.{◌<◌, length, vec_len};
 
 use crate::asking::{disk, disks};
 use crate::opened::Opened;

@@ -1,4 +1,4 @@
-use Rattle.delta_session.proofs.Serving.{served}
+use Rattle.delta_session.proofs.Said.{served}
 use Rattle.delta_session.proofs.laws.sessions_are_served.Goals as goal
 
 pub returns : goal.returns

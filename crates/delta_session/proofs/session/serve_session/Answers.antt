@@ -2,7 +2,9 @@ use Rattle.std.proofs.Common.{subst}
 use Rattle.http_session.specs.Talks.{TalksOn, moment_of}
 use Rattle.delta_session.specs.Answered.{Answered}
 use Rattle.delta_session.specs.Steps.{HallSight}
+use Rattle.delta_session.specs.Sessions.{all_of}
 use Rattle.delta_session.proofs.Passing.{has_stayed}
+use Rattle.delta_session.proofs.Said.{steps_said}
 use Rattle.delta_session.proofs.session.serve_session.Goals as goal
 
 pub returns-clause-session : goal.returns-clause-session
@@ -21,4 +23,5 @@ pub returns-clause-number : goal.returns-clause-number
 returns-clause-number g c =
     let from : HallSight = record c.args.pass.now { dice = c.args.dice } in
     let talks = (returns-clause-session g c).talks.4 in
-    (has_stayed g.D.Disk.mark c.args.hall.now from c.converse.new.state (talks.exchanges, talks.answered) c.requires.ready).1
+    let steps = steps_said c.args.hall.now from c.converse.new.state talks.exchanges talks.answered in
+    (has_stayed g.D.Disk.mark c.args.hall.now from c.converse.new.state (all_of steps.0, steps.2) c.requires.ready).1

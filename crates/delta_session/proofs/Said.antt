@@ -11,7 +11,7 @@ use Rattle.delta_session.specs.Steps.{HallView, HallSight, Step, AreSteps, visit
 use Rattle.delta_session.proofs.Stepping.{compose_steps, visits_taken, lookups_taken}
 
 module _ {D : Type 0} (hall : HallView D) where
-  steps_said : (before after : HallSight) (exchanges : List Exchange) → Chain (Answered hall) before exchanges after
+  pub steps_said : (before after : HallSight) (exchanges : List Exchange) → Chain (Answered hall) before exchanges after
       → (steps : List (List Step)) × AreSaid before.dice exchanges steps after.dice × AreSteps hall before.lists (all_of steps) after.lists
   steps_said before after [] same = ([], sym (ap (λ (s : HallSight). s.dice) same), sym (ap (λ (s : HallSight). s.lists) same))
   steps_said before after (e ∷ exchanges) a =

@@ -1,0 +1,79 @@
+-- Passes at gates, and what their works come to.
+use Rattle.std.proofs.Common.{◌≡◌, ℕ, suc, ◌<◌, refl, sym, ap, ◌∙◌, subst, append_assoc, arith, List, [], ◌∷◌, ◌++◌, length, map, slice_index_or}
+use Rattle.std.specs.Prelude.{reverse}
+use Rattle.std.specs.List.{AllZip}
+use Rattle.std.proofs.lemmas.List.{reverse-append}
+use Rattle.delta_base.specs.declared.link.Link.{Ghosts as LinkGhosts}
+use Rattle.turn_cell.specs.Turns.{AllOf}
+use Rattle.worker_pool.specs.Works.{AllServed, Served, Works as AreWorked}
+use Rattle.worker_pool.specs.declared.gate.Arrival.{Arrival}
+use Rattle.worker_pool.specs.declared.pool.Post.{Post}
+use Rattle.delta_session.specs.Sessions.{HasAsked, WorkerView, Works, all_of}
+use Rattle.delta_session.specs.Steps.{HallView, HallSight, AreSteps}
+use Rattle.delta_session.specs.Working.{posted}
+use Rattle.delta_session.proofs.Said.{steps_said}
+use Rattle.delta_session.proofs.Stepping.{compose_steps}
+
+module _ {A : Type 0} (P : A → Type 0) where
+  pub all_but_last : (xs : List A) (x : A) → AllOf P (xs ++ x ∷ []) → AllOf P xs
+  all_but_last [] x all = tt
+  all_but_last (y ∷ xs) x all = (all.0, all_but_last xs x all.1)
+
+module _ {D G : Type 0} (hall : HallView D) where
+  abbrev pub at_gate : HallSight → G → Post G (WorkerView D)
+  at_gate pass gate = record { gate = gate; worker = record { hall = hall; pass = pass } }
+
+  posted_more : (passes : List HallSight) (gates : List G) (pass : HallSight) (gate : G) → length passes ≡ length gates
+      → posted hall (passes ++ pass ∷ []) (gates ++ gate ∷ []) ≡ posted hall passes gates ++ at_gate pass gate ∷ []
+  posted_more [] [] pass gate same = refl
+  posted_more [] (y ∷ gates) pass gate same = absurd (omega (arith, same))
+  posted_more (x ∷ passes) [] pass gate same = absurd (omega (arith, same))
+  posted_more (x ∷ passes) (y ∷ gates) pass gate same = ap (λ (l : List (Post G (WorkerView D))). at_gate x y ∷ l) (posted_more passes gates pass gate (omega (arith, same)))
+
+  -- the last pass stands at the last gate, behind the others in reverse
+  pub posts_one : (all : List (Post G (WorkerView D))) (passes rest : List HallSight) (gates others : List G) (posts : List (Post G (WorkerView D))) (pass : HallSight) (gate : G)
+      → all ≡ posted hall passes gates ++ reverse posts → passes ≡ rest ++ pass ∷ [] → gates ≡ others ++ gate ∷ [] → length rest ≡ length others
+      → all ≡ posted hall rest others ++ reverse (posts ++ at_gate pass gate ∷ [])
+  posts_one all passes rest gates others posts pass gate is popped taken same =
+      is ∙ (λ i. posted hall (popped i) (taken i) ++ reverse posts) ∙ ap (λ (l : List (Post G (WorkerView D))). l ++ reverse posts) (posted_more rest others pass gate same)
+      ∙ append_assoc (posted hall rest others) (at_gate pass gate ∷ []) (reverse posts) ∙ ap (λ (l : List (Post G (WorkerView D))). posted hall rest others ++ l) (sym (reverse-append posts (at_gate pass gate ∷ [])))
+
+  pub posted_length : (passes : List HallSight) (gates : List G) → length passes ≡ length gates → length (posted hall passes gates) ≡ length passes
+  posted_length [] [] same = refl
+  posted_length [] (y ∷ gates) same = absurd (omega (arith, same))
+  posted_length (x ∷ passes) [] same = absurd (omega (arith, same))
+  posted_length (x ∷ passes) (y ∷ gates) same = ap (λ (n : ℕ). suc n) (posted_length passes gates (omega (arith, same)))
+
+module _ {D L : Type 0} (links : LinkGhosts L) (hall : HallView D) where
+  -- works one after another are steps of one pass of that hall
+  works_ask : (first last : WorkerView D) (arrivals : List (Arrival L)) (left : List L) → first.hall ≡ hall → AreWorked (Works links) first arrivals last left
+      → HasAsked hall first.pass last.pass
+  works_ask first last [] [] is same = ([], ap (λ (w : WorkerView D). w.pass.lists) same)
+  works_ask first last [] (link ∷ left) is worked = absurd worked
+  works_ask first last (arrival ∷ arrivals) [] is worked = absurd worked
+  works_ask first last (arrival ∷ arrivals) (link ∷ left) is worked =
+      let next = worked.0 in
+      let one = worked.1 in
+      let talks = one.2.talks.4 in
+      let said = steps_said first.hall (record first.pass { dice = arrival.dice }) next.pass talks.exchanges talks.answered in
+      let steps : AreSteps hall first.pass.lists (all_of said.0) next.pass.lists = subst (λ (h : HallView D). AreSteps h first.pass.lists (all_of said.0) next.pass.lists) is said.2 in
+      let rest = works_ask next last arrivals left (one.1 ∙ is) worked.2 in
+      (all_of said.0 ++ rest.0, compose_steps hall first.pass.lists next.pass.lists last.pass.lists (all_of said.0) rest.0 steps rest.1)
+
+  module _ {G : Type 0} (tells : Type 0) (arrivals : G → List (Arrival L)) (back : G → List L) (faults : G → ℕ) where
+    all_asked : (passes : List HallSight) (gates : List G) (posts : List (Post G (WorkerView D))) → length passes ≡ length gates → length posts ≡ length (posted hall passes gates)
+        → ((k : ℕ) (d : Post G (WorkerView D)) → k < length (posted hall passes gates) → Served tells arrivals back faults (Works links) (slice_index_or (posted hall passes gates) k d) (slice_index_or posts k d))
+        → AllZip (HasAsked hall) passes (map (λ (post : Post G (WorkerView D)). post.worker.pass) posts)
+    all_asked [] [] [] same count each = tt
+    all_asked [] [] (z ∷ posts) same count each = absurd (omega (arith, count))
+    all_asked [] (y ∷ gates) posts same count each = absurd (omega (arith, same))
+    all_asked (x ∷ passes) [] posts same count each = absurd (omega (arith, same))
+    all_asked (x ∷ passes) (y ∷ gates) [] same count each = absurd (omega (arith, count))
+    all_asked (x ∷ passes) (y ∷ gates) (z ∷ posts) same count each =
+        let one = (each 0 z (omega arith)).serves in
+        (works_ask (at_gate hall x y).worker z.worker one.taken one.links refl one.worked,
+        all_asked passes gates posts (omega (arith, same)) (omega (arith, count)) (λ k d low. each (suc k) d (omega (arith, low))))
+
+    pub gates_asked : (passes : List HallSight) (gates : List G) (posts : List (Post G (WorkerView D))) → length passes ≡ length gates → AllServed tells arrivals back faults (Works links) (posted hall passes gates) posts
+        → AllZip (HasAsked hall) passes (map (λ (post : Post G (WorkerView D)). post.worker.pass) posts)
+    gates_asked passes gates posts same served = all_asked passes gates posts same served.0 served.1
