@@ -70,9 +70,10 @@ module _ {D L : Type 0} (links : LinkGhosts L) (hall : HallView D) where
     all_asked (x ∷ passes) [] posts same count each = absurd (omega (arith, same))
     all_asked (x ∷ passes) (y ∷ gates) [] same count each = absurd (omega (arith, count))
     all_asked (x ∷ passes) (y ∷ gates) (z ∷ posts) same count each =
-        let one = (each 0 z (omega arith)).serves in
-        (works_ask (at_gate hall x y).worker z.worker one.taken one.links refl one.worked,
-        all_asked passes gates posts (omega (arith, same)) (omega (arith, count)) (λ k d low. each (suc k) d (omega (arith, low))))
+        let one = (each 0 z (omega arith)).serves in (
+          works_ask (at_gate hall x y).worker z.worker one.taken one.links refl one.worked,
+          all_asked passes gates posts (omega (arith, same)) (omega (arith, count)) (λ k d low. each (suc k) d (omega (arith, low))),
+        )
 
     pub gates_asked : (passes : List HallSight) (gates : List G) (posts : List (Post G (WorkerView D))) → length passes ≡ length gates → AllServed tells arrivals back faults (Works links) (posted hall passes gates) posts
         → AllZip (HasAsked hall) passes (map (λ (post : Post G (WorkerView D)). post.worker.pass) posts)
