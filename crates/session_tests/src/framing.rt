@@ -1,47 +1,54 @@
 //! How requests come, and how sessions end.
+ghost use Rattle.std.specs.Prelude.{◌<◌};
+
 use crate::asking::{answers, link_of, open, reply, request, talks};
 use crate::logs::{CREATE, FIRST, SOURCE};
+use crate::opened::Opened;
 use delta_base::OutOfMemory;
+use disk_model::MemDisk;
 use http_text::SessionEnd;
 use std::alloc::Global;
+use std::process::Abort;
+use std::sync::Wait;
 use std::test::Fail;
 
-#[test]
-fn requests_are_refused(rt: HostRuntime) -> Result<(), Fail> {
-    let alloc = rt.alloc();
-    let mut hall = open(alloc)?;
+fn refuse_requests<R: Abort + Wait>(
+    rt: &R,
+    alloc: Global,
+    hall: &mut Opened<MemDisk>,
+) -> Result<(), Fail> {
     talks(
-        &rt,
+        rt,
         alloc,
-        &mut hall,
+        hall,
         0,
         b"GET /$/rpc HTTP/1.1\r\nHost: a\r\n\r\n",
         SessionEnd::Closed,
         b"HTTP/1.1 405 Method Not Allowed\r\nAllow: POST\r\nContent-Type: application/json\r\nContent-Length: 22\r\n\r\n{\"error\":\"bad_method\"}",
     )?;
     talks(
-        &rt,
+        rt,
         alloc,
-        &mut hall,
+        hall,
         0,
         b"DELETE /ABC HTTP/1.1\r\nHost: a\r\n\r\n",
         SessionEnd::Closed,
         b"HTTP/1.1 405 Method Not Allowed\r\nAllow: GET, POST\r\nContent-Type: application/json\r\nContent-Length: 22\r\n\r\n{\"error\":\"bad_method\"}",
     )?;
     talks(
-        &rt,
+        rt,
         alloc,
-        &mut hall,
+        hall,
         0,
         b"POST /ABC HTTP/1.1\r\nHost: a\r\nContent-Type: application/rdf-patch+thrift\r\nContent-Length: 1\r\n\r\nA",
         SessionEnd::Closed,
         b"HTTP/1.1 415 Unsupported Media Type\r\nContent-Type: application/json\r\nContent-Length: 17\r\n\r\n{\"error\":\"media\"}",
     )?;
-    talks(&rt, alloc, &mut hall, 0, b"", SessionEnd::Closed, b"")?;
+    talks(rt, alloc, hall, 0, b"", SessionEnd::Closed, b"")?;
     answers(
-        &rt,
+        rt,
         alloc,
-        &mut hall,
+        hall,
         0,
         "GET /$/ping",
         b"",
@@ -49,9 +56,9 @@ fn requests_are_refused(rt: HostRuntime) -> Result<(), Fail> {
         b"{\"ping\":\"ok\"}",
     )?;
     answers(
-        &rt,
+        rt,
         alloc,
-        &mut hall,
+        hall,
         0,
         "POST /$/rpc",
         b"[]",
@@ -59,9 +66,9 @@ fn requests_are_refused(rt: HostRuntime) -> Result<(), Fail> {
         b"{\"error\":\"bad_json\"}",
     )?;
     answers(
-        &rt,
+        rt,
         alloc,
-        &mut hall,
+        hall,
         0,
         "POST /$/rpc",
         b"{}",
@@ -71,8 +78,17 @@ fn requests_are_refused(rt: HostRuntime) -> Result<(), Fail> {
     Ok(())
 }
 
+#[test]
+fn requests_are_refused(rt: HostRuntime) -> Result<(), Fail> {
+    let alloc = rt.alloc();
+    let mut hall = open(alloc)?;
+    let ran = refuse_requests(&rt, alloc, &mut hall);
+    drop(hall);
+    ran
+}
+
 /// The texts of two requests, of which the first makes a source, and of their replies.
-fn two_requests(alloc: Global) -> Result<(Vec<u8>, Vec<u8>), OutOfMemory> {
+pub(crate) fn two_requests(alloc: Global) -> Result<(Vec<u8>, Vec<u8>), OutOfMemory> {
     let mut text = request(alloc, "POST /$/rpc", CREATE)?;
     text.extend_from_slice(&request(alloc, "POST /ABC", FIRST)?)?;
     let mut sent = reply(alloc, "200 OK", SOURCE)?;
@@ -80,16 +96,35 @@ fn two_requests(alloc: Global) -> Result<(Vec<u8>, Vec<u8>), OutOfMemory> {
     Ok((text, sent))
 }
 
+/// A new hall that reads this in pieces of that size ends so, having written this.
+fn ends<R: Abort + Wait>(
+    rt: &R,
+    alloc: Global,
+    text: &[u8],
+    piece: usize,
+    end: SessionEnd,
+    sent: &[u8],
+) -> Result<(), Fail>
+    requires { 0 < piece }
+{
+    let mut hall = open(alloc)?;
+    let mut link = link_of(alloc, text, piece, &[])?;
+    let found = hall.serve(rt, 0, &mut link);
+    assert!(rt; found == end, "{} bytes in pieces of {piece}", text.len());
+    assert!(rt;
+        link.sent() == sent,
+        "{} bytes in pieces of {piece}",
+        text.len()
+    );
+    Ok(())
+}
+
 #[test]
 fn pieces_of_any_size_are_answered_alike(rt: HostRuntime) -> Result<(), Fail> {
     let alloc = rt.alloc();
     let (text, sent) = two_requests(alloc)?;
     for size in 0..text.len() {
-        let mut hall = open(alloc)?;
-        let mut link = link_of(alloc, &text, size + 1, &[])?;
-        let end = hall.serve(&rt, 0, &mut link);
-        assert!(rt; end == SessionEnd::Closed, "pieces of {size}");
-        assert!(rt; link.sent() == sent.as_slice(), "pieces of {size}");
+        ends(&rt, alloc, &text, size + 1, SessionEnd::Closed, &sent)?;
     }
     Ok(())
 }
@@ -101,36 +136,24 @@ fn what_is_cut_short_is_answered_as_far_as_it_came(rt: HostRuntime) -> Result<()
     let first = request(alloc, "POST /$/rpc", CREATE)?;
     let one = reply(alloc, "200 OK", SOURCE)?;
     for cut in 0..text.len() {
-        let mut hall = open(alloc)?;
-        let mut link = link_of(alloc, &text[..cut], 8_192, &[])?;
-        let end = hall.serve(&rt, 0, &mut link);
-        let whole = cut == 0 || cut == first.len();
-        let wanted = if whole {
+        let end = if cut == 0 || cut == first.len() {
             SessionEnd::Closed
         } else {
             SessionEnd::CutShort
         };
-        assert!(rt; end == wanted, "cut at {cut}");
-        let front = if cut < first.len() { 0 } else { one.len() };
-        assert!(rt; link.sent() == &sent[..front], "cut at {cut}");
+        let front: &[u8] = if cut < first.len() { b"" } else { &one };
+        assert!(rt; sent.starts_with(front));
+        ends(&rt, alloc, &text[..cut], 8_192, end, front)?;
     }
     Ok(())
 }
 
-#[test]
-fn a_client_that_asks_first_is_told_to_go_on(rt: HostRuntime) -> Result<(), Fail> {
-    let alloc = rt.alloc();
-    let mut hall = open(alloc)?;
-    answers(
-        &rt,
-        alloc,
-        &mut hall,
-        0,
-        "POST /$/rpc",
-        CREATE,
-        "200 OK",
-        SOURCE,
-    )?;
+fn tell_to_go_on<R: Abort + Wait>(
+    rt: &R,
+    alloc: Global,
+    hall: &mut Opened<MemDisk>,
+) -> Result<(), Fail> {
+    answers(rt, alloc, hall, 0, "POST /$/rpc", CREATE, "200 OK", SOURCE)?;
     let mut text = format!(in alloc;
         "POST /ABC HTTP/1.1\r\nHost: localhost:8080\r\nUser-Agent: curl/8.5.0\r\nAccept: */*\r\nContent-Type: application/rdf-patch\r\nContent-Length: {}\r\nExpect: 100-continue\r\n\r\n",
         FIRST.len()
@@ -139,24 +162,25 @@ fn a_client_that_asks_first_is_told_to_go_on(rt: HostRuntime) -> Result<(), Fail
     text.extend_from_slice(FIRST)?;
     let mut sent = Vec::from_slice(alloc, b"HTTP/1.1 100 Continue\r\n\r\n")?;
     sent.extend_from_slice(&reply(alloc, "200 OK", b"{\"version\":1}")?)?;
-    talks(&rt, alloc, &mut hall, 0, &text, SessionEnd::Closed, &sent)?;
+    talks(rt, alloc, hall, 0, &text, SessionEnd::Closed, &sent)?;
     Ok(())
 }
 
 #[test]
-fn a_body_comes_in_chunks(rt: HostRuntime) -> Result<(), Fail> {
+fn a_client_that_asks_first_is_told_to_go_on(rt: HostRuntime) -> Result<(), Fail> {
     let alloc = rt.alloc();
     let mut hall = open(alloc)?;
-    answers(
-        &rt,
-        alloc,
-        &mut hall,
-        0,
-        "POST /$/rpc",
-        CREATE,
-        "200 OK",
-        SOURCE,
-    )?;
+    let ran = tell_to_go_on(&rt, alloc, &mut hall);
+    drop(hall);
+    ran
+}
+
+fn send_in_chunks<R: Abort + Wait>(
+    rt: &R,
+    alloc: Global,
+    hall: &mut Opened<MemDisk>,
+) -> Result<(), Fail> {
+    answers(rt, alloc, hall, 0, "POST /$/rpc", CREATE, "200 OK", SOURCE)?;
     let mut text = Vec::from_slice(
         alloc,
         b"POST /ABC HTTP/1.1\r\nHost: a\r\nTransfer-Encoding: chunked\r\n\r\n",
@@ -169,8 +193,17 @@ fn a_body_comes_in_chunks(rt: HostRuntime) -> Result<(), Fail> {
     }
     text.extend_from_slice(b"0\r\n\r\n")?;
     let sent = reply(alloc, "200 OK", b"{\"version\":1}")?;
-    talks(&rt, alloc, &mut hall, 0, &text, SessionEnd::Closed, &sent)?;
+    talks(rt, alloc, hall, 0, &text, SessionEnd::Closed, &sent)?;
     Ok(())
+}
+
+#[test]
+fn a_body_comes_in_chunks(rt: HostRuntime) -> Result<(), Fail> {
+    let alloc = rt.alloc();
+    let mut hall = open(alloc)?;
+    let ran = send_in_chunks(&rt, alloc, &mut hall);
+    drop(hall);
+    ran
 }
 
 /// A patch of so many bytes, filled up by a comment.
@@ -184,46 +217,29 @@ fn patch_of(alloc: Global, size: usize) -> Result<Vec<u8>, OutOfMemory> {
     Ok(text)
 }
 
-#[test]
-fn a_body_has_at_most_so_many_bytes(rt: HostRuntime) -> Result<(), Fail> {
-    let alloc = rt.alloc();
-    let mut hall = open(alloc)?;
-    answers(
-        &rt,
-        alloc,
-        &mut hall,
-        0,
-        "POST /$/rpc",
-        CREATE,
-        "200 OK",
-        SOURCE,
-    )?;
+fn send_the_most<R: Abort + Wait>(
+    rt: &R,
+    alloc: Global,
+    hall: &mut Opened<MemDisk>,
+) -> Result<(), Fail> {
+    answers(rt, alloc, hall, 0, "POST /$/rpc", CREATE, "200 OK", SOURCE)?;
     let patch = patch_of(alloc, 4_194_304)?;
     answers(
-        &rt,
+        rt,
         alloc,
-        &mut hall,
+        hall,
         0,
         "POST /ABC",
         &patch,
         "200 OK",
         b"{\"version\":1}",
     )?;
-    answers(
-        &rt,
-        alloc,
-        &mut hall,
-        0,
-        "GET /ABC/1",
-        b"",
-        "200 OK",
-        &patch,
-    )?;
+    answers(rt, alloc, hall, 0, "GET /ABC/1", b"", "200 OK", &patch)?;
     let text = request(alloc, "POST /ABC", &patch_of(alloc, 4_194_305)?)?;
     talks(
-        &rt,
+        rt,
         alloc,
-        &mut hall,
+        hall,
         0,
         &text,
         SessionEnd::Refused { status: 413 },
@@ -233,9 +249,19 @@ fn a_body_has_at_most_so_many_bytes(rt: HostRuntime) -> Result<(), Fail> {
 }
 
 #[test]
-fn a_session_has_so_many_requests(rt: HostRuntime) -> Result<(), Fail> {
+fn a_body_has_at_most_so_many_bytes(rt: HostRuntime) -> Result<(), Fail> {
     let alloc = rt.alloc();
     let mut hall = open(alloc)?;
+    let ran = send_the_most(&rt, alloc, &mut hall);
+    drop(hall);
+    ran
+}
+
+fn ask_ten_thousand_times<R: Abort + Wait>(
+    rt: &R,
+    alloc: Global,
+    hall: &mut Opened<MemDisk>,
+) -> Result<(), Fail> {
     let ping = request(alloc, "GET /$/ping", b"")?;
     let pong = reply(alloc, "200 OK", b"{\"ping\":\"ok\"}")?;
     let mut text = Vec::new(alloc);
@@ -249,6 +275,15 @@ fn a_session_has_so_many_requests(rt: HostRuntime) -> Result<(), Fail> {
     sent.extend_from_slice(
         b"HTTP/1.1 200 OK\r\nConnection: close\r\nContent-Type: application/json\r\nContent-Length: 13\r\n\r\n{\"ping\":\"ok\"}",
     )?;
-    talks(&rt, alloc, &mut hall, 0, &text, SessionEnd::Spent, &sent)?;
+    talks(rt, alloc, hall, 0, &text, SessionEnd::Spent, &sent)?;
     Ok(())
+}
+
+#[test]
+fn a_session_has_so_many_requests(rt: HostRuntime) -> Result<(), Fail> {
+    let alloc = rt.alloc();
+    let mut hall = open(alloc)?;
+    let ran = ask_ten_thousand_times(&rt, alloc, &mut hall);
+    drop(hall);
+    ran
 }

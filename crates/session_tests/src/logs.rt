@@ -1,5 +1,11 @@
 //! What logs say.
-use crate::asking::{answers, open, over};
+use crate::asking::{answers, disk, open, over};
+use crate::opened::Opened;
+use delta_base::OutOfMemory;
+use disk_model::MemDisk;
+use std::alloc::Global;
+use std::process::Abort;
+use std::sync::Wait;
 use std::test::Fail;
 
 pub(crate) const CREATE: &[u8] =
@@ -19,35 +25,27 @@ pub(crate) const THIRD: &[u8] =
 
 pub(crate) const NINTH: &[u8] = b"H id <uuid:00000000-0000-4000-8000-000000000009> .\n";
 
-#[test]
-fn patches_are_appended_and_fetched(rt: HostRuntime) -> Result<(), Fail> {
-    let alloc = rt.alloc();
-    let mut hall = open(alloc)?;
+fn append_and_fetch<R: Abort + Wait>(
+    rt: &R,
+    alloc: Global,
+    hall: &mut Opened<MemDisk>,
+) -> Result<(), Fail> {
+    answers(rt, alloc, hall, 0, "POST /$/rpc", CREATE, "200 OK", SOURCE)?;
     answers(
-        &rt,
+        rt,
         alloc,
-        &mut hall,
-        0,
-        "POST /$/rpc",
-        CREATE,
-        "200 OK",
-        SOURCE,
-    )?;
-    answers(
-        &rt,
-        alloc,
-        &mut hall,
+        hall,
         0,
         "POST /ABC",
         FIRST,
         "200 OK",
         b"{\"version\":1}",
     )?;
-    answers(&rt, alloc, &mut hall, 1, "GET /ABC/1", b"", "200 OK", FIRST)?;
+    answers(rt, alloc, hall, 1, "GET /ABC/1", b"", "200 OK", FIRST)?;
     answers(
-        &rt,
+        rt,
         alloc,
-        &mut hall,
+        hall,
         1,
         "GET /ABC/00000000-0000-4000-8000-000000000001",
         b"",
@@ -55,9 +53,9 @@ fn patches_are_appended_and_fetched(rt: HostRuntime) -> Result<(), Fail> {
         FIRST,
     )?;
     answers(
-        &rt,
+        rt,
         alloc,
-        &mut hall,
+        hall,
         0,
         "POST /ABC",
         SECOND,
@@ -65,9 +63,9 @@ fn patches_are_appended_and_fetched(rt: HostRuntime) -> Result<(), Fail> {
         b"{\"version\":2}",
     )?;
     answers(
-        &rt,
+        rt,
         alloc,
-        &mut hall,
+        hall,
         0,
         "POST /ABC",
         THIRD,
@@ -75,9 +73,9 @@ fn patches_are_appended_and_fetched(rt: HostRuntime) -> Result<(), Fail> {
         b"{\"error\":\"conflict\",\"head\":\"00000000-0000-4000-8000-000000000002\",\"prev_version\":1,\"version\":2}",
     )?;
     answers(
-        &rt,
+        rt,
         alloc,
-        &mut hall,
+        hall,
         0,
         "POST /ABC",
         FIRST,
@@ -85,9 +83,9 @@ fn patches_are_appended_and_fetched(rt: HostRuntime) -> Result<(), Fail> {
         b"{\"error\":\"known\",\"same\":true,\"version\":1}",
     )?;
     answers(
-        &rt,
+        rt,
         alloc,
-        &mut hall,
+        hall,
         0,
         "GET /ABC",
         b"",
@@ -95,9 +93,9 @@ fn patches_are_appended_and_fetched(rt: HostRuntime) -> Result<(), Fail> {
         b"{\"head\":\"00000000-0000-4000-8000-000000000002\",\"version\":2}",
     )?;
     answers(
-        &rt,
+        rt,
         alloc,
-        &mut hall,
+        hall,
         0,
         "GET /ABC/4294967297",
         b"",
@@ -106,8 +104,18 @@ fn patches_are_appended_and_fetched(rt: HostRuntime) -> Result<(), Fail> {
     )?;
     assert!(rt; hall.own_faults(0) == 0);
     assert!(rt; hall.number(1) == 2);
-    let mut hall = over(alloc, hall.close())?;
-    answers(
+    Ok(())
+}
+
+#[test]
+fn patches_are_appended_and_fetched(rt: HostRuntime) -> Result<(), Fail> {
+    let alloc = rt.alloc();
+    let mut hall = open(alloc)?;
+    let ran = append_and_fetch(&rt, alloc, &mut hall);
+    let files = hall.close();
+    ran?;
+    let mut hall = over(alloc, files)?;
+    let ran = answers(
         &rt,
         alloc,
         &mut hall,
@@ -116,6 +124,96 @@ fn patches_are_appended_and_fetched(rt: HostRuntime) -> Result<(), Fail> {
         b"",
         "200 OK",
         SECOND,
+    );
+    drop(hall);
+    Ok(ran?)
+}
+
+fn refuse_patches<R: Abort + Wait>(
+    rt: &R,
+    alloc: Global,
+    hall: &mut Opened<MemDisk>,
+) -> Result<(), Fail> {
+    answers(rt, alloc, hall, 0, "POST /$/rpc", CREATE, "200 OK", SOURCE)?;
+    answers(
+        rt,
+        alloc,
+        hall,
+        0,
+        "POST /ABC",
+        SECOND,
+        "409 Conflict",
+        b"{\"error\":\"conflict\",\"head\":null,\"prev_version\":null,\"version\":0}",
+    )?;
+    answers(
+        rt,
+        alloc,
+        hall,
+        0,
+        "GET /ABC/1",
+        b"",
+        "404 Not Found",
+        b"{\"error\":\"no_patch\",\"version\":0}",
+    )?;
+    answers(
+        rt,
+        alloc,
+        hall,
+        0,
+        "GET /XYZ/1",
+        b"",
+        "404 Not Found",
+        b"{\"error\":\"no_source\"}",
+    )?;
+    answers(
+        rt,
+        alloc,
+        hall,
+        0,
+        "POST /XYZ",
+        b"A",
+        "404 Not Found",
+        b"{\"error\":\"no_source\"}",
+    )?;
+    answers(
+        rt,
+        alloc,
+        hall,
+        0,
+        "POST /ABC",
+        b"TX .\n",
+        "400 Bad Request",
+        b"{\"at\":5,\"error\":\"bad_patch\",\"kind\":\"OpenBlock\"}",
+    )?;
+    answers(
+        rt,
+        alloc,
+        hall,
+        0,
+        "POST /ABC",
+        b"A <a> <b> .",
+        "400 Bad Request",
+        b"{\"at\":2,\"error\":\"bad_patch\",\"kind\":\"RelativeIri\"}",
+    )?;
+    answers(
+        rt,
+        alloc,
+        hall,
+        0,
+        "POST /ABC",
+        FIRST,
+        "200 OK",
+        b"{\"version\":1}",
+    )?;
+    answers(
+        rt,
+        alloc,
+        hall,
+        0,
+        "POST /ABC",
+        NINTH,
+        "409 Conflict",
+        b"{\"error\":\"conflict\",\"head\":\"00000000-0000-4000-8000-000000000001\",\"prev_version\":0,\"version\":1}",
     )?;
     Ok(())
 }
@@ -124,95 +222,59 @@ fn patches_are_appended_and_fetched(rt: HostRuntime) -> Result<(), Fail> {
 fn patches_are_refused(rt: HostRuntime) -> Result<(), Fail> {
     let alloc = rt.alloc();
     let mut hall = open(alloc)?;
+    let ran = refuse_patches(&rt, alloc, &mut hall);
+    drop(hall);
+    ran
+}
+
+/// The file of the first log with as many patches as a log may have.
+fn full_log(alloc: Global) -> Result<Vec<u8>, OutOfMemory> {
+    let mut file = Vec::from_slice(alloc, b"RDJ1\0\0\0\x01")?;
+    let first = b"H id <uuid:00000000-0000-4000-8000-000000000001> .\n";
+    file.extend_from_slice(b"\x01\0\0\0\x33")?;
+    file.extend_from_slice(first)?;
+    for number in 2..=65_536u32 {
+        let prev = number - 1;
+        let row = format!(in alloc;
+            "H id <uuid:00000000-0000-4000-8000-{number:012x}> .\nH prev <uuid:00000000-0000-4000-8000-{prev:012x}> .\n"
+        )?;
+        file.extend_from_slice(b"\x01\0\0\0\x68")?;
+        file.extend_from_slice(row.as_bytes())?;
+    }
+    file.extend_from_slice(b"\0")?;
+    Ok(file)
+}
+
+const LAST: &[u8] =
+    b"H id <uuid:00000000-0000-4000-8000-000000010001> .\nH prev <uuid:00000000-0000-4000-8000-000000010000> .\n";
+
+fn append_to_a_full_log<R: Abort + Wait>(
+    rt: &R,
+    alloc: Global,
+    hall: &mut Opened<MemDisk>,
+) -> Result<(), Fail> {
+    answers(rt, alloc, hall, 0, "POST /$/rpc", CREATE, "200 OK", SOURCE)?;
     answers(
-        &rt,
+        rt,
         alloc,
-        &mut hall,
-        0,
-        "POST /$/rpc",
-        CREATE,
-        "200 OK",
-        SOURCE,
-    )?;
-    answers(
-        &rt,
-        alloc,
-        &mut hall,
-        0,
-        "POST /ABC",
-        SECOND,
-        "409 Conflict",
-        b"{\"error\":\"conflict\",\"head\":null,\"prev_version\":null,\"version\":0}",
-    )?;
-    answers(
-        &rt,
-        alloc,
-        &mut hall,
-        0,
-        "GET /ABC/1",
-        b"",
-        "404 Not Found",
-        b"{\"error\":\"no_patch\",\"version\":0}",
-    )?;
-    answers(
-        &rt,
-        alloc,
-        &mut hall,
-        0,
-        "GET /XYZ/1",
-        b"",
-        "404 Not Found",
-        b"{\"error\":\"no_source\"}",
-    )?;
-    answers(
-        &rt,
-        alloc,
-        &mut hall,
-        0,
-        "POST /XYZ",
-        b"A",
-        "404 Not Found",
-        b"{\"error\":\"no_source\"}",
-    )?;
-    answers(
-        &rt,
-        alloc,
-        &mut hall,
+        hall,
         0,
         "POST /ABC",
-        b"TX .\n",
-        "400 Bad Request",
-        b"{\"at\":5,\"error\":\"bad_patch\",\"kind\":\"OpenBlock\"}",
-    )?;
-    answers(
-        &rt,
-        alloc,
-        &mut hall,
-        0,
-        "POST /ABC",
-        b"A <a> <b> .",
-        "400 Bad Request",
-        b"{\"at\":2,\"error\":\"bad_patch\",\"kind\":\"RelativeIri\"}",
-    )?;
-    answers(
-        &rt,
-        alloc,
-        &mut hall,
-        0,
-        "POST /ABC",
-        FIRST,
-        "200 OK",
-        b"{\"version\":1}",
-    )?;
-    answers(
-        &rt,
-        alloc,
-        &mut hall,
-        0,
-        "POST /ABC",
-        NINTH,
-        "409 Conflict",
-        b"{\"error\":\"conflict\",\"head\":\"00000000-0000-4000-8000-000000000001\",\"prev_version\":0,\"version\":1}",
+        LAST,
+        "507 Insufficient Storage",
+        b"{\"error\":\"full\",\"have\":65536,\"limit\":65536,\"what\":\"patches\"}",
     )?;
     Ok(())
+}
+
+#[test]
+fn a_log_is_full(rt: HostRuntime) -> Result<(), Fail> {
+    let alloc = rt.alloc();
+    let mut files = Vec::new(alloc);
+    files.push(disk(alloc, b"RDJ1\0\0\0\0\x01\0\0\0\x03S 1\0", &[])?)?;
+    files.push(disk(alloc, &full_log(alloc)?, &[])?)?;
+    let mut hall = over(alloc, files)?;
+    let ran = append_to_a_full_log(&rt, alloc, &mut hall);
+    drop(hall);
+    ran
 }

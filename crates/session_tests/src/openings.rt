@@ -1,6 +1,4 @@
 //! What is wrong with files.
-ghost use Rattle.std.specs.Prelude.{◌<◌, length, vec_len};
-
 use crate::asking::{disk, disks};
 use crate::opened::Opened;
 use delta_base::OutOfMemory;
@@ -17,9 +15,7 @@ fn refuses<R: Abort>(
     files: &[&[u8]],
     failing: &[u64],
     fault: HallFault,
-) -> Result<(), Fail>
-    requires { 0 < length files.now }
-{
+) -> Result<(), Fail> {
     let mut disks = Vec::new(alloc);
     for (place, bytes) in files.iter().enumerate() {
         let calls = if place + 1 == files.len() {
@@ -28,6 +24,9 @@ fn refuses<R: Abort>(
             &[]
         };
         disks.push(disk(alloc, bytes, calls)?)?;
+    }
+    if disks.is_empty() {
+        return Err(Fail::from("no file"));
     }
     match Opened::new(alloc, disks) {
         Ok(_) => return Err(Fail::from("opened")),

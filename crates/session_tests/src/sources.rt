@@ -1,29 +1,23 @@
 //! What the registry says.
 use crate::asking::{answers, disk, open, over};
 use crate::logs::{CREATE, SOURCE};
+use crate::opened::Opened;
+use disk_model::MemDisk;
+use std::alloc::Global;
+use std::process::Abort;
+use std::sync::Wait;
 use std::test::Fail;
 
-#[test]
-fn a_name_is_taken_and_slots_are_full(rt: HostRuntime) -> Result<(), Fail> {
-    let alloc = rt.alloc();
-    let mut files = Vec::new(alloc);
-    files.push(disk(alloc, b"RDJ1\0\0\0\0\x01\0\0\0\x03S 1\0", &[])?)?;
-    files.push(disk(alloc, b"RDJ1\0\0\0\x01\0", &[])?)?;
-    let mut hall = over(alloc, files)?;
+fn take_all_slots<R: Abort + Wait>(
+    rt: &R,
+    alloc: Global,
+    hall: &mut Opened<MemDisk>,
+) -> Result<(), Fail> {
+    answers(rt, alloc, hall, 0, "POST /$/rpc", CREATE, "200 OK", SOURCE)?;
     answers(
-        &rt,
+        rt,
         alloc,
-        &mut hall,
-        0,
-        "POST /$/rpc",
-        CREATE,
-        "200 OK",
-        SOURCE,
-    )?;
-    answers(
-        &rt,
-        alloc,
-        &mut hall,
+        hall,
         0,
         "POST /$/rpc",
         CREATE,
@@ -31,9 +25,9 @@ fn a_name_is_taken_and_slots_are_full(rt: HostRuntime) -> Result<(), Fail> {
         b"{\"error\":\"name_taken\",\"id\":\"00000000-0000-4000-8000-000000000009\"}",
     )?;
     answers(
-        &rt,
+        rt,
         alloc,
-        &mut hall,
+        hall,
         0,
         "POST /$/rpc",
         b"{\"operation\":\"create\",\"name\":\"B\",\"uri\":\"http://e/b\"}",
@@ -41,9 +35,9 @@ fn a_name_is_taken_and_slots_are_full(rt: HostRuntime) -> Result<(), Fail> {
         b"{\"error\":\"full\",\"have\":1,\"limit\":1,\"what\":\"slots\"}",
     )?;
     answers(
-        &rt,
+        rt,
         alloc,
-        &mut hall,
+        hall,
         0,
         "POST /$/rpc",
         b"{\"operation\":\"source_by_id\",\"id\":\"00000000-0000-4000-8000-000000000009\"}",
@@ -51,9 +45,9 @@ fn a_name_is_taken_and_slots_are_full(rt: HostRuntime) -> Result<(), Fail> {
         SOURCE,
     )?;
     answers(
-        &rt,
+        rt,
         alloc,
-        &mut hall,
+        hall,
         0,
         "POST /$/rpc",
         b"{\"operation\":\"source_by_uri\",\"uri\":\"http://e/abc\"}",
@@ -61,9 +55,9 @@ fn a_name_is_taken_and_slots_are_full(rt: HostRuntime) -> Result<(), Fail> {
         SOURCE,
     )?;
     answers(
-        &rt,
+        rt,
         alloc,
-        &mut hall,
+        hall,
         0,
         "POST /$/rpc",
         b"{\"operation\":\"remove\",\"name\":\"X\"}",
@@ -71,9 +65,9 @@ fn a_name_is_taken_and_slots_are_full(rt: HostRuntime) -> Result<(), Fail> {
         b"{\"error\":\"no_source\"}",
     )?;
     answers(
-        &rt,
+        rt,
         alloc,
-        &mut hall,
+        hall,
         0,
         "POST /$/rpc",
         b"{\"operation\":\"create\",\"name\":\"a/b\",\"uri\":\"http://e/b\"}",
@@ -81,9 +75,9 @@ fn a_name_is_taken_and_slots_are_full(rt: HostRuntime) -> Result<(), Fail> {
         b"{\"at\":1,\"error\":\"bad_name\"}",
     )?;
     answers(
-        &rt,
+        rt,
         alloc,
-        &mut hall,
+        hall,
         0,
         "POST /$/rpc",
         b"{\"operation\":\"create\",\"name\":\"b\",\"uri\":\"abc\"}",
@@ -93,15 +87,28 @@ fn a_name_is_taken_and_slots_are_full(rt: HostRuntime) -> Result<(), Fail> {
     Ok(())
 }
 
-// The dice of each session are 7, of which an id of version 4 is made.
 #[test]
-fn sources_come_and_go(rt: HostRuntime) -> Result<(), Fail> {
+fn a_name_is_taken_and_slots_are_full(rt: HostRuntime) -> Result<(), Fail> {
     let alloc = rt.alloc();
-    let mut hall = open(alloc)?;
+    let mut files = Vec::new(alloc);
+    files.push(disk(alloc, b"RDJ1\0\0\0\0\x01\0\0\0\x03S 1\0", &[])?)?;
+    files.push(disk(alloc, b"RDJ1\0\0\0\x01\0", &[])?)?;
+    let mut hall = over(alloc, files)?;
+    let ran = take_all_slots(&rt, alloc, &mut hall);
+    drop(hall);
+    ran
+}
+
+// The dice of each session are 7, of which an id of version 4 is made.
+fn come_and_go<R: Abort + Wait>(
+    rt: &R,
+    alloc: Global,
+    hall: &mut Opened<MemDisk>,
+) -> Result<(), Fail> {
     answers(
-        &rt,
+        rt,
         alloc,
-        &mut hall,
+        hall,
         0,
         "POST /$/rpc",
         b"{\"operation\":\"create\",\"name\":\"A\",\"uri\":\"http://e/a\"}",
@@ -109,9 +116,9 @@ fn sources_come_and_go(rt: HostRuntime) -> Result<(), Fail> {
         b"{\"id\":\"00000000-0000-4000-8000-000000000007\",\"name\":\"A\",\"slot\":1,\"uri\":\"http://e/a\"}",
     )?;
     answers(
-        &rt,
+        rt,
         alloc,
-        &mut hall,
+        hall,
         0,
         "POST /$/rpc",
         b"{\"operation\":\"rename\",\"name\":\"A\",\"new_name\":\"B\"}",
@@ -119,9 +126,9 @@ fn sources_come_and_go(rt: HostRuntime) -> Result<(), Fail> {
         b"{\"id\":\"00000000-0000-4000-8000-000000000007\",\"name\":\"B\",\"slot\":1,\"uri\":\"http://e/a\"}",
     )?;
     answers(
-        &rt,
+        rt,
         alloc,
-        &mut hall,
+        hall,
         1,
         "POST /$/rpc",
         b"{\"operation\":\"remove\",\"name\":\"B\"}",
@@ -129,9 +136,9 @@ fn sources_come_and_go(rt: HostRuntime) -> Result<(), Fail> {
         b"{\"id\":\"00000000-0000-4000-8000-000000000007\",\"name\":\"B\",\"slot\":1,\"uri\":\"http://e/a\"}",
     )?;
     answers(
-        &rt,
+        rt,
         alloc,
-        &mut hall,
+        hall,
         1,
         "POST /$/rpc",
         b"{\"operation\":\"create\",\"name\":\"B\",\"uri\":\"http://e/b\"}",
@@ -139,9 +146,9 @@ fn sources_come_and_go(rt: HostRuntime) -> Result<(), Fail> {
         b"{\"id\":\"00000000-0000-4000-8000-000000000007\",\"name\":\"B\",\"slot\":2,\"uri\":\"http://e/b\"}",
     )?;
     answers(
-        &rt,
+        rt,
         alloc,
-        &mut hall,
+        hall,
         0,
         "GET /B",
         b"",
@@ -149,9 +156,9 @@ fn sources_come_and_go(rt: HostRuntime) -> Result<(), Fail> {
         b"{\"head\":null,\"version\":0}",
     )?;
     answers(
-        &rt,
+        rt,
         alloc,
-        &mut hall,
+        hall,
         0,
         "POST /$/rpc",
         b"{\"operation\":\"list\"}",
@@ -159,4 +166,13 @@ fn sources_come_and_go(rt: HostRuntime) -> Result<(), Fail> {
         b"{\"sources\":[{\"id\":\"00000000-0000-4000-8000-000000000007\",\"name\":\"B\",\"slot\":2,\"uri\":\"http://e/b\"}]}",
     )?;
     Ok(())
+}
+
+#[test]
+fn sources_come_and_go(rt: HostRuntime) -> Result<(), Fail> {
+    let alloc = rt.alloc();
+    let mut hall = open(alloc)?;
+    let ran = come_and_go(&rt, alloc, &mut hall);
+    drop(hall);
+    ran
 }

@@ -8,17 +8,21 @@ use std::alloc::Global;
 use std::test::Fail;
 use worker_pool::MemGate;
 
-// Two gates of one connection each, which send the same patch.
+// A gate of one connection, which sends a patch.
+fn gate(alloc: Global) -> Result<MemGate<MemLink>, Fail> {
+    let text = request(alloc, "POST /ABC", FIRST)?;
+    let mut links = Vec::new(alloc);
+    links.push(link_of(alloc, &text, 8_192, &[])?)?;
+    Ok(MemGate::new(alloc, links, Calls::new(alloc))?)
+}
+
+// Two such gates.
 fn gates(alloc: Global) -> Result<Vec<MemGate<MemLink>>, Fail>
     ensures { IfOk result (λ gates. vec_len gates ≡ 2) }
 {
-    let text = request(alloc, "POST /ABC", FIRST)?;
     let mut gates = Vec::new(alloc);
-    for _ in 0..2 {
-        let mut links = Vec::new(alloc);
-        links.push(link_of(alloc, &text, 8_192, &[])?)?;
-        gates.push(MemGate::new(alloc, links, Calls::new(alloc))?)?;
-    }
+    gates.push(gate(alloc)?)?;
+    gates.push(gate(alloc)?)?;
     Ok(gates)
 }
 
@@ -43,11 +47,11 @@ fn one_of_two_connections_is_first(rt: HostRuntime) -> Result<(), Fail> {
         "409 Conflict",
         b"{\"error\":\"known\",\"same\":true,\"version\":1}",
     )?;
-    let mut firsts = 0;
+    let mut firsts = 0u32;
     for gate in &worked.gates {
         for link in gate.back() {
             if link.sent() == first.as_slice() {
-                firsts += 1;
+                firsts = firsts.saturating_add(1);
             } else {
                 assert!(rt; link.sent() == known.as_slice());
             }
