@@ -1,5 +1,6 @@
+mod Addresses
 mod Answered
 mod Checked
 mod Generated
 mod Printed
-mod Words
+pub mod Words

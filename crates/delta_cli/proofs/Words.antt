@@ -12,7 +12,7 @@ use Rattle.delta_cli.specs.declared.command.Command.TheVariants as commands
 use Rattle.delta_cli.specs.declared.name.Name.{Name}
 use Rattle.delta_cli.specs.declared.name.Name.TheVariants as names
 use Rattle.delta_cli.specs.Channels.{words_of}
-use Rattle.delta_cli.specs.Commands.{Asks, AsksNothing, BeginsWith, FitsName, IsNamed, positions_of}
+use Rattle.delta_cli.specs.Commands.{Asks, AsksNothing, BeginsWith, FitsName, IsNamed, IsOfTool, positions_of}
 use Rattle.delta_cli.specs.Lines.{name_text}
 
 -- ---- numbers
@@ -21,7 +21,7 @@ no_dash : (bs : List ℕ) → 45 < get_or bs 0 0 → IsPlainWord bs
 no_dash [] low = refl
 no_dash (x ∷ xs) low = rw (ne_eqb x 45 (λ e. omega (arith, low, e))) refl
 
-plain_number : (n : ℕ) → n < 2 ^ 64 → IsPlainWord (decimal n)
+pub plain_number : (n : ℕ) → n < 2 ^ 64 → IsPlainWord (decimal n)
 plain_number zero small = no_dash (decimal zero) (omega (arith, ap (λ (bs : List ℕ). get_or bs 0 0) (decimal_digit zero (omega arith))))
 plain_number (suc n) small = no_dash (decimal (suc n)) (omega (arith, first_decimal (suc n) (omega arith) small))
 
@@ -38,6 +38,7 @@ one_name names.Gen names.Gen e = refl
 one_name names.Emit names.Emit e = refl
 one_name names.Init names.Init e = refl
 one_name names.Check names.Check e = refl
+one_name names.Serve names.Serve e = refl
 one_name names.Help names.Help e = refl
 one_name names.Version names.Version e = refl
 one_name a b e = absurd (omega (arith, ap key e))
@@ -90,9 +91,23 @@ unfit words name begins none c asks =
     let fits = asks_fit words c asks in
     none (subst (λ (n : Name). FitPositions (positions_of n) words) (same_name words (name_of c) name fits.0 begins) fits.1)
 
--- words that begin with no name ask for nothing
-pub nameless : (words : List (List ℕ)) → ((name : Name) → BeginsWith words name → ⊥) → AsksNothing words
-nameless words none c asks = none (name_of c) (asks_fit words c asks).0
+of_tool : (c : Command) → IsOfTool (name_of c)
+of_tool commands.Replay = tt
+of_tool commands.Nquads = tt
+of_tool (commands.Gen patches) = tt
+of_tool (commands.Emit patches) = tt
+of_tool (commands.Init dir slots) = tt
+of_tool (commands.Check dir) = tt
+of_tool commands.Help = tt
+of_tool commands.Version = tt
+
+-- words that begin with no name of the tool ask for nothing
+pub nameless : (words : List (List ℕ)) → ((name : Name) → BeginsWith words name → IsOfTool name → ⊥) → AsksNothing words
+nameless words none c asks = none (name_of c) (asks_fit words c asks).0 (of_tool c)
+
+-- words that begin with another name are none of the tool
+pub served : (words : List (List ℕ)) → BeginsWith words names.Serve → (name : Name) → BeginsWith words name → IsOfTool name → ⊥
+served words begins name named is = subst IsOfTool (same_name words name names.Serve named begins) is
 
 -- ---- the first word
 
@@ -106,8 +121,8 @@ no_word name begins = by begins.0 begins.1
 pub first_named : (words rest : List (List ℕ)) (first : List ℕ) (name : Name) → words ≡ first ∷ rest → IsNamed first (Some name) → BeginsWith words name
 first_named words rest first name is named = (rest, is ∙ ap (λ (l : List ℕ). l ∷ rest) named)
 
-pub first_nameless : (words rest : List (List ℕ)) (first : List ℕ) → words ≡ first ∷ rest → IsNamed first None → (name : Name) → BeginsWith words name → ⊥
-first_nameless words rest first is none name begins = none name (first_is first (name_text name) rest begins.0 (sym is ∙ begins.1))
+pub first_nameless : (words rest : List (List ℕ)) (first : List ℕ) → words ≡ first ∷ rest → IsNamed first None → (name : Name) → BeginsWith words name → IsOfTool name → ⊥
+first_nameless words rest first is none name begins named = none name (first_is first (name_text name) rest begins.0 (sym is ∙ begins.1))
 
 pub first_of_words : (xs : List (String Global)) (w : String Global) → 1 ≤ length xs → w ≡ get_or xs 0 w → (rest : List (List ℕ)) × (words_of xs ≡ string_bytes w ∷ rest)
 first_of_words [] w some is = absurd (omega (arith, some))

@@ -46,6 +46,7 @@ positions_of names.Gen = codes "N" ∷ []
 positions_of names.Emit = codes "N" ∷ []
 positions_of names.Init = codes "DIR" ∷ codes "SLOTS" ∷ []
 positions_of names.Check = codes "DIR" ∷ []
+positions_of names.Serve = codes "DIR" ∷ codes "ADDR" ∷ codes "WORKERS" ∷ []
 positions_of names.Help = []
 positions_of names.Version = []
 
@@ -61,10 +62,16 @@ HasFirst words first = (rest : List (List ℕ)) × (words ≡ first ∷ rest)
 abbrev pub FitsName : List (List ℕ) → Name → Type 0
 FitsName words name = BeginsWith words name × FitPositions (positions_of name) words
 
+-- the name is that of one of these commands; `serve` is the command of another call
+abbrev pub IsOfTool : Name → Type 0
+IsOfTool names.Serve = ⊥
+IsOfTool other = Unit {0}
+
 -- why words ask for no command; want of memory is free
 abbrev pub RefusesWords : List (List ℕ) → Refusal → Type 0
-RefusesWords words refusals.UnknownCommand = AsksNothing words × ((name : Name) → BeginsWith words name → ⊥)
-RefusesWords words (refusals.Usage name) = AsksNothing words × BeginsWith words name
+RefusesWords words refusals.UnknownCommand =
+    AsksNothing words × ((name : Name) → BeginsWith words name → IsOfTool name → ⊥)
+RefusesWords words (refusals.Usage name) = AsksNothing words × BeginsWith words name × IsOfTool name
 RefusesWords words refusals.OutOfMemory = Unit {0}
 RefusesWords words other = ⊥
 

@@ -1,3 +1,4 @@
+pub mod Addresses
 pub mod Channels
 pub mod Commands
 pub mod Document

@@ -23,6 +23,7 @@ name_text names.Gen = codes "gen"
 name_text names.Emit = codes "emit"
 name_text names.Init = codes "init"
 name_text names.Check = codes "check"
+name_text names.Serve = codes "serve"
 name_text names.Help = codes "--help"
 name_text names.Version = codes "--version"
 
@@ -34,6 +35,7 @@ usage_text names.Gen = codes "gen N"
 usage_text names.Emit = codes "emit N"
 usage_text names.Init = codes "init DIR SLOTS"
 usage_text names.Check = codes "check DIR"
+usage_text names.Serve = codes "serve DIR ADDR WORKERS"
 usage_text names.Help = codes "--help"
 usage_text names.Version = codes "--version"
 
@@ -71,7 +73,10 @@ line_of refusals.InputFailed = codes "rdfdelta: input failed\n"
 line_of refusals.OutputFailed = codes "rdfdelta: output failed\n"
 line_of (refusals.NotEmpty file length) = codes "rdfdelta: refused: file " ++ (decimal file ++ (codes " not empty: " ++ (decimal length ++ 10 ∷ [])))
 line_of (refusals.File fault) = fault_line fault
+line_of (refusals.WrongCount disks slots) =
+    codes "rdfdelta: file 0: wrong count: disks " ++ (decimal disks ++ (codes ", slots " ++ (decimal slots ++ 10 ∷ [])))
 line_of refusals.DiskFailed = codes "rdfdelta: disk failed\n"
+line_of refusals.LinkFailed = codes "rdfdelta: link failed\n"
 line_of (refusals.Chain fault) = chain_line fault
 line_of refusals.OutOfMemory = out_of_memory_line
 
@@ -87,6 +92,8 @@ status_of refusals.InputFailed = 4
 status_of refusals.OutputFailed = 4
 status_of (refusals.NotEmpty file length) = 1
 status_of refusals.DiskFailed = 5
+status_of refusals.LinkFailed = 6
 status_of (refusals.File fault) = 9
+status_of (refusals.WrongCount disks slots) = 9
 status_of (refusals.Chain fault) = 10
 status_of refusals.OutOfMemory = 8

@@ -4,13 +4,13 @@ ghost use Rattle.slot_checks.specs.Lines.{lines_text};
 ghost use Rattle.slot_checks.specs.declared.lines.FileLine.{FileLine};
 ghost use Rattle.delta_cli.specs.Channels.{Writes, channel};
 ghost use Rattle.delta_cli.specs.Results.{StopsPrinting};
-ghost use Rattle.delta_cli.specs.Tool.{Reported, StopsCheck, check_refusal};
+ghost use Rattle.delta_cli.specs.Tool.{Reported, StopsCheck};
 
 use crate::refusal::Refusal;
 use delta_base::{Sink, Text};
 use disk_model::Shelf;
 use sink_writing::write_all;
-use slot_checks::{CheckFault, Report, check_files, report_text};
+use slot_checks::{Report, check_files, report_text};
 use std::alloc::Global;
 
 /// Opens the files of a directory, and writes a line for each. Each is left as it was, and no other is asked for.
@@ -31,7 +31,7 @@ pub fn check<H: Shelf, K: Sink>(
 {
     match check_files(alloc, shelf, dir) {
         Ok(report) => print_report(alloc, &report, out),
-        Err(fault) => Err(refusal_of(fault)),
+        Err(fault) => Err(Refusal::of_check(fault)),
     }
 }
 
@@ -44,14 +44,4 @@ fn print_report<K: Sink>(alloc: Global, report: &Report, out: &mut K) -> Result<
         return Err(Refusal::OutOfMemory);
     };
     write_all(out, text.as_slice()).map_err(|_| Refusal::OutputFailed)
-}
-
-fn refusal_of(fault: CheckFault) -> Refusal
-    ensures { result ≡ check_refusal fault }
-{
-    match fault {
-        CheckFault::Failed => Refusal::DiskFailed,
-        CheckFault::OutOfMemory => Refusal::OutOfMemory,
-        fault => Refusal::File(fault),
-    }
 }

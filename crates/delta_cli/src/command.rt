@@ -2,7 +2,7 @@
 ghost use Rattle.std.specs.Prelude.{◌≡◌, ◌<◌, ◌≤◌, ◌^◌, ◌∷◌, [], ℕ, List, IfOk, IfErr, OnOk};
 ghost use Rattle.delta_cli.specs.Channels.{words_of};
 ghost use Rattle.command_words.specs.Positions.{FitPositions};
-ghost use Rattle.delta_cli.specs.Commands.{Asks, BeginsWith, FitsName, HasFirst, IsNumberIn, RefusesWords, positions_of};
+ghost use Rattle.delta_cli.specs.Commands.{Asks, BeginsWith, FitsName, HasFirst, IsNumberIn, IsOfTool, RefusesWords, positions_of};
 
 use crate::name::Name;
 use crate::refusal::Refusal;
@@ -49,6 +49,7 @@ fn read_named(alloc: Global, first: &str, words: &[String]) -> Result<Command, R
     ensures refused { IfErr result (RefusesWords (words_of words.now)) }
 {
     match Name::find(first) {
+        Some(Name::Serve) => Err(Refusal::UnknownCommand),
         Some(name) => read_positions(alloc, name, words),
         None => Err(Refusal::UnknownCommand),
     }
@@ -56,7 +57,8 @@ fn read_named(alloc: Global, first: &str, words: &[String]) -> Result<Command, R
 
 // The command of this name.
 fn read_positions(alloc: Global, name: Name, words: &[String]) -> Result<Command, Refusal>
-    requires { BeginsWith (words_of words.now) name }
+    requires begins { BeginsWith (words_of words.now) name }
+    requires of_tool { IsOfTool name }
     ensures asks { IfOk result (Asks (words_of words.now)) }
     ensures refused { IfErr result (RefusesWords (words_of words.now)) }
 {
@@ -81,7 +83,8 @@ fn test_positions(alloc: Global, name: Name, words: &[String]) -> Result<(), Wor
 
 // The command of this name, whose words are one for each of its positions.
 fn make(alloc: Global, name: Name, words: &[String]) -> Result<Command, Refusal>
-    requires { FitsName (words_of words.now) name }
+    requires fits { FitsName (words_of words.now) name }
+    requires of_tool { IsOfTool name }
     ensures asks { IfOk result (Asks (words_of words.now)) }
     ensures refused { IfErr result (RefusesWords (words_of words.now)) }
 {
@@ -112,8 +115,8 @@ fn make(alloc: Global, name: Name, words: &[String]) -> Result<Command, Refusal>
     }
 }
 
-// The number that a word is, of those from the one to the other. A number is written in one way.
-fn number_in(alloc: Global, low: u32, high: u32, word: &str) -> Result<Option<u32>, OutOfMemory>
+/// The number that a word is, of those from the one to the other. A number is written in one way.
+pub fn number_in(alloc: Global, low: u32, high: u32, word: &str) -> Result<Option<u32>, OutOfMemory>
     ensures { IfOk result (IsNumberIn low high word.now) }
 {
     let Ok(number) = word.parse::<u32>() else {

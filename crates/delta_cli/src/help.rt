@@ -16,6 +16,8 @@ pub const HELP: &str = "rdfdelta: RDF datasets kept in step by chained patches
   emit N            print N patches made by rule
   init DIR SLOTS    make the files of a registry and of SLOTS logs in a directory
   check DIR         open the files of a directory, print a line for each
+  serve DIR ADDR WORKERS
+                    serve the files of a directory over HTTP, with 1 to 16 workers
   --help            print this
   --version         print the version
 ";

@@ -1,6 +1,7 @@
 //! The commands of `rdfdelta`.
 #![tactic(auto)]
 
+mod address;
 mod check;
 mod command;
 mod generate;
@@ -14,7 +15,8 @@ mod refusal;
 mod replay;
 mod tool;
 
-pub use command::Command;
+pub use address::is_address;
+pub use command::{Command, number_in};
 pub use help::{HELP, VERSION};
 pub use name::Name;
 pub use refusal::{Refusal, report};

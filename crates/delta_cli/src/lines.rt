@@ -29,7 +29,9 @@ pub fn line_of(alloc: Global, refusal: Refusal) -> Result<Vec<u8>, OutOfMemory>
         Refusal::OutputFailed => line(alloc, b"rdfdelta: output failed\n"),
         Refusal::NotEmpty { file, length } => not_empty_line(alloc, file, length),
         Refusal::File(fault) => fault_text(alloc, fault),
+        Refusal::WrongCount { disks, slots } => wrong_count_line(alloc, disks, slots),
         Refusal::DiskFailed => line(alloc, b"rdfdelta: disk failed\n"),
+        Refusal::LinkFailed => line(alloc, b"rdfdelta: link failed\n"),
         Refusal::Chain(fault) => chain_line(alloc, fault),
         Refusal::OutOfMemory => line(alloc, b"rdfdelta: out of memory\n"),
     }
@@ -54,6 +56,14 @@ fn not_empty_line(alloc: Global, file: u32, length: u64) -> Result<Vec<u8>, OutO
     ensures { IfOk result (λ text. text.items ≡ codes "rdfdelta: refused: file " ++ (decimal file ++ (codes " not empty: " ++ (decimal length ++ 10 ∷ [])))) }
 {
     let text = format!(in alloc; "rdfdelta: refused: file {file} not empty: {length}\n")?;
+    Ok(text.into_bytes())
+}
+
+fn wrong_count_line(alloc: Global, disks: u64, slots: u32) -> Result<Vec<u8>, OutOfMemory>
+    ensures { IfOk result (λ text. text.items ≡ codes "rdfdelta: file 0: wrong count: disks "
+        ++ (decimal disks ++ (codes ", slots " ++ (decimal slots ++ 10 ∷ [])))) }
+{
+    let text = format!(in alloc; "rdfdelta: file 0: wrong count: disks {disks}, slots {slots}\n")?;
     Ok(text.into_bytes())
 }
 

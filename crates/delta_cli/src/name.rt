@@ -12,6 +12,8 @@ pub enum Name {
     Emit,
     Init,
     Check,
+    /// The command of the server, which this tool doesn't run.
+    Serve,
     Help,
     Version,
 }
@@ -28,6 +30,7 @@ impl Name {
             "emit" => Some(Name::Emit),
             "init" => Some(Name::Init),
             "check" => Some(Name::Check),
+            "serve" => Some(Name::Serve),
             "--help" => Some(Name::Help),
             "--version" => Some(Name::Version),
             _ => None,
@@ -43,6 +46,7 @@ impl Name {
             Name::Gen | Name::Emit => &["N"],
             Name::Init => &["DIR", "SLOTS"],
             Name::Check => &["DIR"],
+            Name::Serve => &["DIR", "ADDR", "WORKERS"],
         }
     }
 
@@ -57,6 +61,7 @@ impl Name {
             Name::Emit => b"emit N",
             Name::Init => b"init DIR SLOTS",
             Name::Check => b"check DIR",
+            Name::Serve => b"serve DIR ADDR WORKERS",
             Name::Help => b"--help",
             Name::Version => b"--version",
         }

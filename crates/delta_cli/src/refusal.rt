@@ -49,10 +49,32 @@ pub enum Refusal {
     },
     /// A file isn't in its form.
     File(CheckFault),
+    /// There are not as many files as the registry's file says.
+    WrongCount {
+        disks: u64,
+        slots: u32,
+    },
     DiskFailed,
+    LinkFailed,
     /// The patches of the stream are no chain.
     Chain(ChainFault),
     OutOfMemory,
+}
+
+impl Refusal {
+    ghost use Rattle.std.specs.Prelude.{◌≡◌};
+    ghost use Rattle.delta_cli.specs.Tool.{check_refusal};
+
+    /// The end of a command that finds this fault of a file.
+    pub fn of_check(fault: CheckFault) -> Refusal
+        ensures { result ≡ check_refusal fault }
+    {
+        match fault {
+            CheckFault::Failed => Refusal::DiskFailed,
+            CheckFault::OutOfMemory => Refusal::OutOfMemory,
+            fault => Refusal::File(fault),
+        }
+    }
 }
 
 impl From<OutOfMemory> for Refusal {
@@ -94,8 +116,9 @@ fn status_of(refusal: Refusal) -> u8
         | Refusal::TooLong => 3,
         Refusal::InputFailed | Refusal::OutputFailed => 4,
         Refusal::DiskFailed => 5,
+        Refusal::LinkFailed => 6,
         Refusal::OutOfMemory => 8,
-        Refusal::File(_) => 9,
+        Refusal::File(_) | Refusal::WrongCount { .. } => 9,
         Refusal::Chain(_) => 10,
     }
 }

@@ -1,0 +1,110 @@
+-- What a server answers, and why.
+use Rattle.std.specs.Prelude.{◌≡◌, ◌⊎◌, ℕ, List, take}
+use Rattle.delta_base.specs.Outside.{Rose}
+use Rattle.delta_base.specs.declared.link.Link.{Ghosts as LinkGhosts}
+use Rattle.disk_model.specs.declared.disk.Disk.{Ghosts}
+use Rattle.slot_files.specs.Files.{Files, bytes_at}
+use Rattle.slot_checks.specs.Checks.{AreKept}
+use Rattle.slot_checks.specs.Faults.{HasRegistryFault}
+use Rattle.slot_checks.specs.declared.fault.CheckFault.{CheckFault}
+use Rattle.slot_checks.specs.declared.fault.CheckFault.TheVariants as checks
+use Rattle.worker_pool.specs.declared.gate.Arrival.{Arrival}
+use Rattle.delta_cli.specs.Channels.{Channel, IsSilent}
+use Rattle.delta_cli.specs.Refusals.{Reports}
+use Rattle.delta_cli.specs.Tool.{check_refusal}
+use Rattle.delta_cli.specs.declared.refusal.Refusal.{Refusal}
+use Rattle.delta_cli.specs.declared.refusal.Refusal.TheVariants as refusals
+use Rattle.delta_session.specs.Ends.{IsEnded}
+use Rattle.delta_session.specs.Opening.{IsRefusedHall}
+use Rattle.delta_session.specs.Steps.{HallView, HallSight}
+use Rattle.delta_session.specs.declared.fault.HallFault.{HallFault}
+use Rattle.delta_session.specs.declared.fault.HallFault.TheVariants as halls
+use Rattle.delta_server.specs.Files.{ArePutBack}
+use Rattle.delta_server.specs.Gates.{HaveFailed}
+use Rattle.delta_server.specs.Serving.{AreAsked, IsHallOver, HasServed}
+use Rattle.delta_server.specs.Words.{AsksToServe, RefusesToServe}
+
+-- the end of a server whose hall has this fault
+abbrev pub hall_refusal : HallFault → Refusal
+hall_refusal halls.DiskFault = refusals.DiskFailed
+hall_refusal (halls.Damaged file at) = refusals.File (checks.Damaged file at)
+hall_refusal (halls.WrongNumber file found) = refusals.File (checks.WrongNumber file found)
+hall_refusal (halls.OverLimit file length limit) = refusals.File (checks.OverLimit file length limit)
+hall_refusal (halls.BrokenChain file version) = refusals.File (checks.BrokenChain file version)
+hall_refusal (halls.BrokenEvent place) = refusals.File (checks.BrokenEvent place)
+hall_refusal (halls.WrongCount disks slots) = refusals.WrongCount disks slots
+hall_refusal halls.OutOfMemory = refusals.OutOfMemory
+
+-- what a shelf tells of its files, and how often it has failed
+pub record ShelfView : Type 0 where
+  pub files : Files
+  pub faults : ℕ
+
+abbrev pub shelf_view : Files → ℕ → ShelfView
+shelf_view files faults = record { files = files; faults = faults }
+
+module _ {D : Type 0} (disks : Ghosts D) (tells : Type 0) where
+  -- why the disks of a directory's files are not there, and what is left of the files
+  pub data HasNoDisks (dir : List ℕ) (old new : ShelfView) : Refusal → Type 0 where
+    -- file 0 isn't that of a registry, or its disk failed; no other was asked for
+    at_registry : (fault : CheckFault)
+        → (tells → HasRegistryFault (bytes_at old.files dir 0) fault)
+        → (fault ≡ checks.Failed → Rose old.faults new.faults)
+        → (tells → AreKept dir 1 old.files new.files)
+        → HasNoDisks dir old new (check_refusal fault)
+    -- the shelf didn't give the disk of a file
+    at_shelf : (refusal : Refusal) (end : ℕ)
+        → ((refusal ≡ refusals.DiskFailed) × Rose old.faults new.faults)
+        ⊎ (refusal ≡ refusals.OutOfMemory)
+        → (tells → AreKept dir end old.files new.files)
+        → HasNoDisks dir old new refusal
+
+  -- why no connection was served, and what is left of the files
+  pub data Stops (dir : List ℕ) (workers : ℕ) (old new : ShelfView) : Refusal → Type 0 where
+    at_files : (refusal : Refusal) → HasNoDisks dir old new refusal
+        → Stops dir workers old new refusal
+    -- The hall couldn't be opened over its files. That their count is wrong is told only where two
+    -- readings of file 0 differ.
+    at_hall : (fault : HallFault) (asked left : List D)
+        → AreAsked disks tells dir old.files asked
+        → IsRefusedHall disks asked fault left
+        → (fault ≡ halls.DiskFault → Rose old.faults new.faults)
+        → (tells → (count slots : ℕ) → fault ≡ halls.WrongCount count slots → ⊥)
+        → (tells → ArePutBack disks dir left old.files new.files)
+        → Stops dir workers old new (hall_refusal fault)
+    -- memory for the workers ran out, and the hall was closed as it was opened
+    at_workers : (hall : HallView D) (passes : List HallSight) (left : List D)
+        → IsHallOver disks tells dir old.files workers hall passes
+        → IsEnded disks hall passes left
+        → (tells → ArePutBack disks dir left old.files new.files)
+        → Stops dir workers old new refusals.OutOfMemory
+
+module _ {D G L : Type 0} (disks : Ghosts D) (links : LinkGhosts L) (tells told : Type 0)
+    (arrivals : G → List (Arrival L)) (back : G → List L) (faults : G → ℕ) where
+  -- The files were opened and connections served, and a gate of a worker has failed; or none was
+  -- served, and no gate was asked.
+  abbrev pub Fails : List ℕ → ℕ → ShelfView → ShelfView → List G → List G → Refusal → Type 0
+  Fails dir workers old new gates after refusal =
+      ((refusal ≡ refusals.LinkFailed)
+      × HasServed disks links tells told arrivals back faults dir workers old.files new.files gates after
+      × HaveFailed faults (take workers gates) (take workers after))
+      ⊎ (Stops disks tells dir workers old new refusal × (after ≡ gates))
+
+  -- The status for these words, with the shelf, the gates and err before and after.
+  pub data Answers (words : List (List ℕ)) (old new : ShelfView) (gates after : List G)
+      (err err' : Channel) : ℕ → Type 0 where
+    -- no gate of a worker has failed
+    served : (dir address : List ℕ) (workers : ℕ) → AsksToServe words dir address workers
+        → HasServed disks links tells told arrivals back faults dir workers old.files new.files gates after
+        → (HaveFailed faults (take workers gates) (take workers after) → ⊥)
+        → IsSilent err err'
+        → Answers words old new gates after err err' 0
+    -- the gate of a worker has failed, or no connection was served
+    failed : (dir address : List ℕ) (workers : ℕ) (refusal : Refusal) (status : ℕ)
+        → AsksToServe words dir address workers → Fails dir workers old new gates after refusal
+        → Reports refusal err err' status
+        → Answers words old new gates after err err' status
+    -- nothing was asked
+    refused : (refusal : Refusal) (status : ℕ) → RefusesToServe words refusal → new ≡ old
+        → after ≡ gates → Reports refusal err err' status
+        → Answers words old new gates after err err' status

@@ -1,0 +1,5 @@
+pub mod Ends
+pub mod Files
+pub mod Gates
+pub mod Serving
+pub mod Words

@@ -1,0 +1,51 @@
+-- What a server has done that opened the files of its directory.
+use Rattle.std.specs.Prelude.{◌≡◌, ℕ, ◌+◌, List, take, drop, length}
+use Rattle.delta_base.specs.declared.link.Link.{Ghosts as LinkGhosts}
+use Rattle.disk_model.specs.declared.disk.Disk.{Ghosts}
+use Rattle.slot_files.specs.Files.{Files, bytes_at}
+use Rattle.slot_checks.specs.Sound.{HoldsRegistry}
+use Rattle.worker_pool.specs.declared.gate.Arrival.{Arrival}
+use Rattle.delta_session.specs.Halls.{AreHallPasses, AreNewPasses}
+use Rattle.delta_session.specs.Opening.{IsOpenedHall}
+use Rattle.delta_session.specs.Steps.{HallView, HallSight}
+use Rattle.delta_session.specs.Working.{HasWorked}
+use Rattle.delta_server.specs.Files.{AreMarked, AreRead, ArePutBack}
+
+module _ {D : Type 0} (disks : Ghosts D) (tells : Type 0) where
+  -- As many disks as file 0 says, and its own: those of the directory's files, which read what the
+  -- files have.
+  pub record AreAsked (dir : List ℕ) (files : Files) (asked : List D) : Type 0 where
+    pub slots : ℕ
+    pub count : length asked ≡ slots + 1
+    pub marked : tells → AreMarked disks dir 0 asked
+    pub read : tells → AreRead disks files dir 0 asked
+    pub said :
+        tells → (records : ℕ) × HoldsRegistry (bytes_at files dir 0) slots records
+
+  -- a hall over the files of a directory, with a new pass for each worker
+  pub record IsHallOver (dir : List ℕ) (files : Files) (workers : ℕ) (hall : HallView D)
+      (passes : List HallSight) : Type 0 where
+    pub disks_are : List D
+    pub asked : AreAsked dir files disks_are
+    pub opened : IsOpenedHall disks disks_are hall
+    pub seats : hall.logs.seats ≡ workers
+    pub all : AreHallPasses disks.mark hall passes
+    pub new : AreNewPasses disks.mark hall 1 passes
+
+module _ {D G L : Type 0} (disks : Ghosts D) (links : LinkGhosts L) (tells told : Type 0)
+    (arrivals : G → List (Arrival L)) (back : G → List L) (faults : G → ℕ) where
+  -- A hall was opened over the files, and each worker served the connections of its own gate: one
+  -- session each, until the gate gave no more. The other gates were not asked. The files then have
+  -- what the hall's disks read.
+  pub record HasServed (dir : List ℕ) (workers : ℕ) (old new : Files) (gates after : List G) :
+      Type 0 where
+    pub hall : HallView D
+    pub passes : List HallSight
+    pub left : List D
+    pub over : IsHallOver disks tells dir old workers hall passes
+    pub worked :
+        HasWorked disks links told arrivals back faults hall passes (take workers gates)
+        (take workers after) left
+    pub idle : drop workers after ≡ drop workers gates
+    pub count : length after ≡ length gates
+    pub put_back : tells → ArePutBack disks dir left old new
