@@ -26,6 +26,13 @@ pub struct Asked {
     pub close: bool,
 }
 
+/// Whether a text can stand as the host of a request: a space or a control in it would end the line.
+pub fn is_host(text: &Text) -> bool
+    ensures { result ≡ list_all is_visible text.now }
+{
+    text.as_bytes().iter().all(|byte| (33..=126).contains(byte))
+}
+
 // The text of a call's request.
 fn request_of(alloc: Global, host: &Text, call: &Call) -> Result<Bytes, OutOfMemory>
     requires { list_all is_visible host.now ≡ true }

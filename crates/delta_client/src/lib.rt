@@ -13,7 +13,7 @@ mod memory_dial;
 mod reply;
 mod tcp_dial;
 
-pub use asking::{Asked, ask};
+pub use asking::{Asked, ask, is_host};
 pub use dial::{Dial, DialFault};
 pub use fault::AskFault;
 pub use line::{Line, Open, ask_again};

@@ -1,5 +1,5 @@
 //! Calls to one address one after another. A connection is kept until a reply closes it.
-ghost use Rattle.std.specs.Prelude.{◌≡◌, ◌⊎◌, ◌<◌, ◌≤◌, ◌++◌, ℕ, List, Option, Some, None, true, IfOk, IfErr, IfSome, IsErrOf, IsNone, IsSome, OnErr, OnOk};
+ghost use Rattle.std.specs.Prelude.{◌≡◌, ◌⊎◌, ◌<◌, ◌≤◌, ◌++◌, ℕ, List, Option, Some, None, true, IfOk, IfErr, IfSome, IfNone, IsErrOf, IsNone, IsSome, OnErr, OnOk};
 ghost use Rattle.std.specs.List.{list_all};
 ghost use Rattle.delta_base.specs.Memory.{CountsCall};
 ghost use Rattle.delta_base.specs.Outside.{Rose};
@@ -49,6 +49,11 @@ impl<L: Link> Line<L> {
         ensures never_falls { N.faults net.old ≤ N.faults net.new }
         ensures rises { IfSome self.old.open (λ talk. 0 < L.faults talk.link
             → Rose (N.faults net.old) (N.faults net.new)) }
+        ensures one { IfSome self.old.open (λ talk. 0 < L.faults talk.link
+            → CountsCall (N.faults net.old) (N.faults net.new)) }
+        ensures stays { IfSome self.old.open (λ talk. L.faults talk.link ≡ 0
+            → N.faults net.new ≡ N.faults net.old) }
+        ensures none { IfNone self.old.open (net.new ≡ net.old) }
     {
         match self.open.take() {
             Some(talk) => {
@@ -82,6 +87,7 @@ fn begin<N: Dial>(
     ensures fault { IfErr result
         (λ fault. (fault ≡ AskFault.LinkFault) ⊎ (fault ≡ AskFault.OutOfMemory)) }
     ensures tries { CountsCall (N.tries net.old) (N.tries net.new) }
+    ensures quiet { IsSome line.new.open → N.faults net.new ≡ N.faults net.old }
     ensures cause { IsErrOf result AskFault.LinkFault
         → Rose (N.faults net.old) (N.faults net.new) }
     ensures never_falls { N.faults net.old ≤ N.faults net.new }
@@ -118,6 +124,7 @@ fn ask_open<N: Dial>(
     ensures awaits { IsSome line.new.open → N.awaits net.new }
     ensures named { IfOk result (λ answer. NamesItsFault answer) }
     ensures tries { N.tries net.new ≡ N.tries net.old }
+    ensures quiet { IsSome line.new.open → N.faults net.new ≡ N.faults net.old }
     ensures cause { IsErrOf result AskFault.LinkFault
         → Rose (N.faults net.old) (N.faults net.new) }
     ensures never_falls { N.faults net.old ≤ N.faults net.new }
@@ -162,6 +169,9 @@ pub fn ask_again<N: Dial>(
     // A connection is tried for exactly where none is open.
     ensures kept { IsSome line.old.open → N.tries net.new ≡ N.tries net.old }
     ensures tried { IsNone line.old.open → CountsCall (N.tries net.old) (N.tries net.new) }
+
+    // While a connection stays open, no fault is counted.
+    ensures quiet { IsSome line.new.open → N.faults net.new ≡ N.faults net.old }
     ensures cause { IsErrOf result AskFault.LinkFault
         → Rose (N.faults net.old) (N.faults net.new) }
     ensures never_falls { N.faults net.old ≤ N.faults net.new }
