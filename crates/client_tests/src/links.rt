@@ -102,7 +102,7 @@ pub(crate) fn version_told(
 }
 
 /// Asks for the version of the log ABC.
-pub(crate) fn asks<N: Dial>(
+fn asks<N: Dial>(
     alloc: Global,
     net: &mut N,
     line: &mut Line<N::L>,
@@ -115,4 +115,30 @@ pub(crate) fn asks<N: Dial>(
     let told = ask_again(alloc, net, line, &host, &call);
     drop(call);
     version_told(told)
+}
+
+/// Asks twice.
+fn asks_twice<N: Dial>(
+    alloc: Global,
+    net: &mut N,
+    line: &mut Line<N::L>,
+) -> Result<[Result<u32, AskFault>; 2], OutOfMemory>
+    requires { IsSome line.old.open → N.awaits net.old }
+    ensures { IsSome line.new.open → N.awaits net.new }
+{
+    let first = asks(alloc, net, line)?;
+    let second = asks(alloc, net, line)?;
+    Ok([first, second])
+}
+
+/// What is answered to two calls, one after the other. A connection that is open then is hung up.
+pub(crate) fn two_calls(
+    alloc: Global,
+    net: &mut MemDial<MemLink>,
+) -> Result<[Result<u32, AskFault>; 2], OutOfMemory> {
+    let mut line = Line::new();
+    let told = asks_twice(alloc, net, &mut line);
+    line.hang_up(net);
+    drop(line);
+    told
 }
