@@ -38,18 +38,24 @@ of_frame other = NotUnderstood 0
 abbrev pub BeginWith : List ℕ → List RawReply → Type 0
 BeginWith bytes replies = (rest : List ℕ) × AreMessages Replies bytes (reply_messages replies) rest
 
--- behind the replies taken the bytes end between two replies or inside one, and the connection has no byte left
+-- behind the replies taken the bytes end between two replies or inside one, and the connection has
+-- no byte left
 abbrev pub EndShort : List ℕ → List RawReply → Option (List ℕ) → Type 0
 EndShort bytes taken left =
-    (Reads Replies bytes (reply_messages taken) between ⊎ Reads Replies bytes (reply_messages taken) inside) × IsAtEnd left
+    (Reads Replies bytes (reply_messages taken) between
+    ⊎ Reads Replies bytes (reply_messages taken) inside) × IsAtEnd left
 
 -- behind the replies taken the bytes begin no reply
 abbrev pub BeginNone : List ℕ → List RawReply → Type 0
-BeginNone bytes taken = (fault : FrameFault) × Reads Replies bytes (reply_messages taken) (faulty fault)
+BeginNone bytes taken =
+    (fault : FrameFault) × Reads Replies bytes (reply_messages taken) (faulty fault)
 
--- the next reply of the bytes behind those taken, or why there is none. A failing link and want of memory are free
-abbrev pub NextIs : List ℕ → List RawReply → Option (List ℕ) → MessageReader → Result RawReply AskFault → Type 0
-NextIs bytes taken left reader (Ok reply) = BeginWith bytes (taken ++ reply ∷ []) × GaveReplies bytes (taken ++ reply ∷ []) reader
+-- The next reply of the bytes behind those taken, or why there is none. A failing link and want of
+-- memory are free.
+abbrev pub NextIs : List ℕ → List RawReply → Option (List ℕ) → MessageReader
+    → Result RawReply AskFault → Type 0
+NextIs bytes taken left reader (Ok reply) =
+    BeginWith bytes (taken ++ reply ∷ []) × GaveReplies bytes (taken ++ reply ∷ []) reader
 NextIs bytes taken left reader (Err CutShort) = EndShort bytes taken left
 NextIs bytes taken left reader (Err (NotUnderstood at)) = BeginNone bytes taken × (at ≡ 0)
 NextIs bytes taken left reader (Err LinkFault) = Unit {0}
@@ -67,8 +73,10 @@ NoAnswer bytes taken left LinkFault = Unit {0}
 NoAnswer bytes taken left OutOfMemory = Unit {0}
 
 -- the answer that the next reply prints, or why there is none
-abbrev pub AnswerIs : List ℕ → List RawReply → Option (List ℕ) → MessageReader → Result Asked AskFault → Type 0
+abbrev pub AnswerIs : List ℕ → List RawReply → Option (List ℕ) → MessageReader
+    → Result Asked AskFault → Type 0
 AnswerIs bytes taken left reader (Ok asked) =
-    (reply : RawReply) × BeginWith bytes (taken ++ reply ∷ []) × GaveReplies bytes (taken ++ reply ∷ []) reader
+    (reply : RawReply) × BeginWith bytes (taken ++ reply ∷ [])
+    × GaveReplies bytes (taken ++ reply ∷ []) reader
     × IsPrintOf reply asked.answer × (asked.close ≡ reply.close)
 AnswerIs bytes taken left reader (Err fault) = NoAnswer bytes taken left fault

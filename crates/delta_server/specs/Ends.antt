@@ -29,7 +29,8 @@ abbrev pub hall_refusal : HallFault → Refusal
 hall_refusal halls.DiskFault = refusals.DiskFailed
 hall_refusal (halls.Damaged file at) = refusals.File (checks.Damaged file at)
 hall_refusal (halls.WrongNumber file found) = refusals.File (checks.WrongNumber file found)
-hall_refusal (halls.OverLimit file length limit) = refusals.File (checks.OverLimit file length limit)
+hall_refusal (halls.OverLimit file length limit) =
+    refusals.File (checks.OverLimit file length limit)
 hall_refusal (halls.BrokenChain file version) = refusals.File (checks.BrokenChain file version)
 hall_refusal (halls.BrokenEvent place) = refusals.File (checks.BrokenEvent place)
 hall_refusal (halls.WrongCount disks slots) = refusals.WrongCount disks slots
@@ -86,7 +87,8 @@ module _ {D G L : Type 0} (disks : Ghosts D) (links : LinkGhosts L) (tells told 
   abbrev pub Fails : List ℕ → ℕ → ShelfView → ShelfView → List G → List G → Refusal → Type 0
   Fails dir workers old new gates after refusal =
       ((refusal ≡ refusals.LinkFailed)
-      × HasServed disks links tells told arrivals back faults dir workers old.files new.files gates after
+      × HasServed disks links tells told arrivals back faults dir workers old.files new.files
+      gates after
       × HaveFailed faults (take workers gates) (take workers after))
       ⊎ (Stops disks tells dir workers old new refusal × (after ≡ gates))
 
@@ -95,7 +97,8 @@ module _ {D G L : Type 0} (disks : Ghosts D) (links : LinkGhosts L) (tells told 
       (err err' : Channel) : ℕ → Type 0 where
     -- no gate of a worker has failed
     served : (dir address : List ℕ) (workers : ℕ) → AsksToServe words dir address workers
-        → HasServed disks links tells told arrivals back faults dir workers old.files new.files gates after
+        → HasServed disks links tells told arrivals back faults dir workers old.files new.files
+        gates after
         → (HaveFailed faults (take workers gates) (take workers after) → ⊥)
         → IsSilent err err'
         → Answers words old new gates after err err' 0

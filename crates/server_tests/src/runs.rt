@@ -1,7 +1,5 @@
 //! A run of the server over files and gates in memory.
-ghost use Rattle.std.specs.Prelude.{◌≡◌, ◌≤◌, IfOk, vec_len};
-
-use delta_base::{Bytes, Calls, Listing, MemLink, MemSink, OutOfMemory, Sink, Text};
+use delta_base::{Bytes, Calls, Link, Listing, MemLink, MemSink, OutOfMemory, Sink, Text};
 use delta_server::{Served, run_server};
 use disk_model::MemShelf;
 use slot_files::init_slots;
@@ -59,18 +57,15 @@ pub(crate) fn add_gate<L: Drop>(
 pub(crate) fn fill<L: Drop>(
     alloc: Global,
     gates: Vec<MemGate<L>>,
-) -> Result<Vec<MemGate<L>>, OutOfMemory>
-    requires { vec_len gates ≤ 16 }
-    ensures { IfOk result (λ gates. vec_len gates ≡ 16) }
-{
+) -> Result<Vec<MemGate<L>>, OutOfMemory> {
     let mut gates = gates;
-    while gates.len() < 16 {
+    for _ in gates.len()..16 {
         gates.push(MemGate::new(alloc, Vec::new(alloc), Calls::new(alloc))?)?;
     }
     Ok(gates)
 }
 
-/// Runs the server, and looks at its status and its line.
+/// Runs the server with sixteen gates, and looks at its status and its line.
 pub(crate) fn run<R: Abort + Threads + Wait + Sync, G: Drop + Gate + Send>(
     rt: &R,
     alloc: Global,
@@ -79,11 +74,13 @@ pub(crate) fn run<R: Abort + Threads + Wait + Sync, G: Drop + Gate + Send>(
     gates: Vec<G>,
     status: u8,
     line: &str,
-) -> Result<Vec<G>, OutOfMemory>
+) -> Result<Vec<G>, Fail>
 where
-    G::L: delta_base::Link + Send,
-    requires { vec_len gates ≡ 16 }
+    G::L: Link + Send,
 {
+    if gates.len() != 16 {
+        return Err(Fail::from("sixteen gates"));
+    }
     let words = words_of(alloc, words)?;
     let mut err = MemSink::new(alloc, Calls::new(alloc));
     let Served {
