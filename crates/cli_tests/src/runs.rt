@@ -1,6 +1,7 @@
 //! Runs of the tool on worked examples.
-use delta_base::{Bytes, Calls, MemSink, MemSource, Sink};
+use delta_base::{Bytes, Calls, MemLink, MemSink, MemSource, Sink};
 use delta_cli::{HELP, VERSION, run_tool};
+use delta_client::MemDial;
 use disk_model::MemShelf;
 use std::alloc::Global;
 use std::process::Abort;
@@ -8,7 +9,7 @@ use std::test::Fail;
 
 const ID: &str = "H id <uuid:00000000-0000-4000-8000-000000000001> .\n";
 
-const P1: &str =
+pub(crate) const P1: &str =
     "H id <uuid:00000000-0000-4000-8000-000000000001> .\nTX .\nA <http://e/s> <http://e/p> <http://e/o> .\nTC .\n";
 
 const P2: &str =
@@ -16,7 +17,7 @@ const P2: &str =
 
 const LINE: &str = "<http://e/s> <http://e/p> <http://e/o> .\n";
 
-fn calls(alloc: Global, number: Option<u64>) -> Result<Calls, Fail> {
+pub(crate) fn calls(alloc: Global, number: Option<u64>) -> Result<Calls, Fail> {
     let mut calls = Calls::new(alloc);
     if let Some(number) = number {
         calls.push(number)?;
@@ -24,12 +25,17 @@ fn calls(alloc: Global, number: Option<u64>) -> Result<Calls, Fail> {
     Ok(calls)
 }
 
-fn words_of(alloc: Global, words: &[&str]) -> Result<Vec<String>, Fail> {
+pub(crate) fn words_of(alloc: Global, words: &[&str]) -> Result<Vec<String>, Fail> {
     let mut made = Vec::new(alloc);
     for word in words {
         made.push(String::from_str(alloc, word)?)?;
     }
     Ok(made)
+}
+
+/// A dial that makes no connection.
+fn nobody(alloc: Global) -> Result<MemDial<MemLink>, Fail> {
+    Ok(MemDial::new(alloc, Vec::new(alloc), Calls::new(alloc))?)
 }
 
 /// What is run, and what it answers.
@@ -54,7 +60,10 @@ fn expect_on(
     let mut out = MemSink::new(alloc, Calls::new(alloc));
     let mut err = MemSink::new(alloc, Calls::new(alloc));
     let words = words_of(alloc, run.words)?;
-    let status = run_tool(alloc, &words, &mut input, &mut out, &mut err, shelf);
+    let mut net = nobody(alloc)?;
+    let status = run_tool(
+        alloc, &words, &mut input, &mut out, &mut err, shelf, &mut net, 0,
+    );
     assert_eq!(rt; status, run.status, "at {}", run.text);
     assert_eq!(rt; out.written(), run.out.as_bytes(), "at {}", run.text);
     assert_eq!(rt; err.written(), run.err.as_bytes(), "at {}", run.text);
@@ -247,6 +256,13 @@ fn other_words_are_refused(rt: HostRuntime) -> Result<(), Fail> {
         (&["init", "-d", "2"], "rdfdelta: usage: init DIR SLOTS\n"),
         (&["check"], "rdfdelta: usage: check DIR\n"),
         (&["--help", "me"], "rdfdelta: usage: --help\n"),
+        (&["ping", "127.0.0.1"], "rdfdelta: usage: ping ADDR\n"),
+        (&["list", "-e:80"], "rdfdelta: usage: list ADDR\n"),
+        (&["append", "e:80x", "ABC"], "rdfdelta: usage: append ADDR NAME\n"),
+        (&["describe", "e:", "ABC"], "rdfdelta: usage: describe ADDR NAME\n"),
+        (&["create", "e:80", "ABC"], "rdfdelta: usage: create ADDR NAME URI\n"),
+        (&["fetch", "e:80", "ABC", "12345678901"], "rdfdelta: usage: fetch ADDR NAME WHICH\n"),
+        (&["fetch", "e:80", "ABC", "first"], "rdfdelta: usage: fetch ADDR NAME WHICH\n"),
     ] {
         runs(&rt, alloc, words, 2, "", err)?;
     }
@@ -388,7 +404,10 @@ fn fails(
     let mut told = MemSink::new(alloc, calls(alloc, of_err)?);
     let mut shelf = MemShelf::new(alloc, Calls::new(alloc));
     let words = words_of(alloc, &["replay"])?;
-    let answered = run_tool(alloc, &words, &mut input, &mut out, &mut told, &mut shelf);
+    let mut net = nobody(alloc)?;
+    let answered = run_tool(
+        alloc, &words, &mut input, &mut out, &mut told, &mut shelf, &mut net, 0,
+    );
     assert_eq!(rt; answered, status);
     assert_eq!(rt; told.written(), err.as_bytes());
     Ok(())

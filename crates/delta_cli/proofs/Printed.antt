@@ -33,13 +33,16 @@ module _ (input input' out out' : Channel) (r : Replayed) (reads : Reads input i
   stops_printing (refusals.Stream line at kind) stops = absurd stops
   stops_printing (refusals.LongPatch size limit) stops = absurd stops
   stops_printing (refusals.Document line at kind) stops = absurd stops
-  stops_printing refusals.TooLong stops = absurd stops
+  stops_printing (refusals.TooLong limit) stops = absurd stops
   stops_printing refusals.InputFailed stops = absurd stops
   stops_printing (refusals.NotEmpty file length) stops = absurd stops
   stops_printing (refusals.File fault) stops = absurd stops
   stops_printing (refusals.WrongCount disks slots) stops = absurd stops
   stops_printing refusals.DiskFailed stops = absurd stops
   stops_printing refusals.LinkFailed stops = absurd stops
+  stops_printing (refusals.Refused status body) stops = absurd stops
+  stops_printing (refusals.NotUnderstood at) stops = absurd stops
+  stops_printing refusals.CutShort stops = absurd stops
   stops_printing (refusals.Chain fault) stops = absurd stops
 
 -- the next patch, and those behind it

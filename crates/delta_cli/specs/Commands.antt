@@ -1,7 +1,14 @@
 -- The commands, and the words that ask for them.
-use Rattle.std.specs.Prelude.{◌≡◌, ℕ, ◌≤◌, List, [], ◌∷◌, Option, None, Some, codes}
+use Rattle.std.specs.Prelude.{◌≡◌, ℕ, ◌≤◌, Bool, true, false, List, [], ◌∷◌, Option, None, Some, codes}
 use Rattle.std.specs.Fmt.{decimal}
-use Rattle.command_words.specs.Positions.{FitPositions, IsPlainWord}
+use Rattle.command_words.specs.Positions.{ArePlain, FitPositions, IsPlainWord}
+use Rattle.delta_base.specs.Ids.{number_of}
+use Rattle.delta_base.specs.declared.id.Id.{Id}
+use Rattle.rpc_calls.specs.Routes.{version_of}
+use Rattle.rpc_calls.specs.declared.call.Call.{Call}
+use Rattle.rpc_calls.specs.declared.call.Call.TheVariants as calls
+use Rattle.delta_cli.specs.Addresses.{IsAddress}
+use Rattle.delta_cli.specs.Dice.{id_of}
 use Rattle.delta_cli.specs.declared.command.Command.{Command}
 use Rattle.delta_cli.specs.declared.command.Command.TheVariants as commands
 use Rattle.delta_cli.specs.declared.name.Name.{Name}
@@ -10,28 +17,61 @@ use Rattle.delta_cli.specs.declared.refusal.Refusal.{Refusal}
 use Rattle.delta_cli.specs.declared.refusal.Refusal.TheVariants as refusals
 use Rattle.delta_cli.specs.Lines.{name_text}
 
--- The words ask for this command. Numbers are decimal, without sign and leading zeros; a directory doesn't begin
--- with `-`.
-abbrev pub Asks : List (List ℕ) → Command → Type 0
-Asks words commands.Replay = words ≡ codes "replay" ∷ []
-Asks words commands.Nquads = words ≡ codes "nquads" ∷ []
-Asks words (commands.Gen patches) = (words ≡ codes "gen" ∷ decimal patches ∷ []) × (patches ≤ 65536)
-Asks words (commands.Emit patches) = (words ≡ codes "emit" ∷ decimal patches ∷ []) × (patches ≤ 65536)
-Asks words (commands.Init dir slots) = (words ≡ codes "init" ∷ dir ∷ decimal slots ∷ []) × IsPlainWord dir × (1 ≤ slots) × (slots ≤ 16)
-Asks words (commands.Check dir) = (words ≡ codes "check" ∷ dir ∷ []) × IsPlainWord dir
-Asks words commands.Help = words ≡ codes "--help" ∷ []
-Asks words commands.Version = words ≡ codes "--version" ∷ []
+-- the words are a command's and these, none of which begins with `-`
+abbrev pub AreWords : List (List ℕ) → List ℕ → List (List ℕ) → Type 0
+AreWords words command rest = (words ≡ command ∷ rest) × ArePlain rest
 
--- the numbers of a command are within their bounds
+-- the id that a text names, in one of the four forms
+abbrev pub NamesId : List ℕ → Id → Type 0
+NamesId text id = number_of text ≡ Some id.0
+
+-- The words ask a server at the address for this. A source is created with an id made of the dice. A patch is fetched by a version
+-- of 1 to 10 digits, or by an id.
+abbrev pub AsksFor : List (List ℕ) → ℕ → List ℕ → Call → Type 0
+AsksFor words dice address calls.Ping = AreWords words (codes "ping") (address ∷ [])
+AsksFor words dice address calls.List = AreWords words (codes "list") (address ∷ [])
+AsksFor words dice address (calls.Create name uri id) =
+    AreWords words (codes "create") (address ∷ name ∷ uri ∷ []) × (id ≡ Some (id_of dice))
+AsksFor words dice address (calls.Rename name new_name) =
+    AreWords words (codes "rename") (address ∷ name ∷ new_name ∷ [])
+AsksFor words dice address (calls.Remove name) = AreWords words (codes "remove") (address ∷ name ∷ [])
+AsksFor words dice address (calls.Version name) = AreWords words (codes "version") (address ∷ name ∷ [])
+AsksFor words dice address (calls.FetchVersion name version) =
+    (which : List ℕ) × AreWords words (codes "fetch") (address ∷ name ∷ which ∷ [])
+    × (version_of which ≡ Some version)
+AsksFor words dice address (calls.FetchId name id) =
+    (which : List ℕ) × AreWords words (codes "fetch") (address ∷ name ∷ which ∷ [])
+    × (version_of which ≡ None) × NamesId which id
+AsksFor words dice address other = ⊥
+
+-- The words ask for this command, with these dice. Numbers are decimal, without sign and leading zeros; a directory doesn't begin
+-- with `-`.
+abbrev pub Asks : List (List ℕ) → ℕ → Command → Type 0
+Asks words dice commands.Replay = words ≡ codes "replay" ∷ []
+Asks words dice commands.Nquads = words ≡ codes "nquads" ∷ []
+Asks words dice (commands.Gen patches) = (words ≡ codes "gen" ∷ decimal patches ∷ []) × (patches ≤ 65536)
+Asks words dice (commands.Emit patches) = (words ≡ codes "emit" ∷ decimal patches ∷ []) × (patches ≤ 65536)
+Asks words dice (commands.Init dir slots) = (words ≡ codes "init" ∷ dir ∷ decimal slots ∷ []) × IsPlainWord dir × (1 ≤ slots) × (slots ≤ 16)
+Asks words dice (commands.Check dir) = (words ≡ codes "check" ∷ dir ∷ []) × IsPlainWord dir
+Asks words dice (commands.Ask address call) = AsksFor words dice address call × IsAddress address
+Asks words dice (commands.Describe address name) = AreWords words (codes "describe") (address ∷ name ∷ []) × IsAddress address
+Asks words dice (commands.Append address name) = AreWords words (codes "append") (address ∷ name ∷ []) × IsAddress address
+Asks words dice commands.Help = words ≡ codes "--help" ∷ []
+Asks words dice commands.Version = words ≡ codes "--version" ∷ []
+
+-- the numbers of a command are within their bounds, and the server that it asks has an address
 abbrev pub Fits : Command → Type 0
 Fits (commands.Gen patches) = patches ≤ 65536
 Fits (commands.Emit patches) = patches ≤ 65536
 Fits (commands.Init dir slots) = (1 ≤ slots) × (slots ≤ 16)
+Fits (commands.Ask address call) = IsAddress address
+Fits (commands.Describe address name) = IsAddress address
+Fits (commands.Append address name) = IsAddress address
 Fits other = Unit {0}
 
--- they ask for no command
+-- they ask for no command, whatever the dice
 abbrev pub AsksNothing : List (List ℕ) → Type 0
-AsksNothing words = (c : Command) → Asks words c → ⊥
+AsksNothing words = (dice : ℕ) (c : Command) → Asks words dice c → ⊥
 
 -- the command that a word names, or none
 abbrev pub IsNamed : List ℕ → Option Name → Type 0
@@ -47,6 +87,15 @@ positions_of names.Emit = codes "N" ∷ []
 positions_of names.Init = codes "DIR" ∷ codes "SLOTS" ∷ []
 positions_of names.Check = codes "DIR" ∷ []
 positions_of names.Serve = codes "DIR" ∷ codes "ADDR" ∷ codes "WORKERS" ∷ []
+positions_of names.Ping = codes "ADDR" ∷ []
+positions_of names.List = codes "ADDR" ∷ []
+positions_of names.Create = codes "ADDR" ∷ codes "NAME" ∷ codes "URI" ∷ []
+positions_of names.Rename = codes "ADDR" ∷ codes "NAME" ∷ codes "NEW" ∷ []
+positions_of names.Remove = codes "ADDR" ∷ codes "NAME" ∷ []
+positions_of names.Describe = codes "ADDR" ∷ codes "NAME" ∷ []
+positions_of names.LogVersion = codes "ADDR" ∷ codes "NAME" ∷ []
+positions_of names.Append = codes "ADDR" ∷ codes "NAME" ∷ []
+positions_of names.Fetch = codes "ADDR" ∷ codes "NAME" ∷ codes "WHICH" ∷ []
 positions_of names.Help = []
 positions_of names.Version = []
 
@@ -66,6 +115,30 @@ FitsName words name = BeginsWith words name × FitPositions (positions_of name) 
 abbrev pub IsOfTool : Name → Type 0
 IsOfTool names.Serve = ⊥
 IsOfTool other = Unit {0}
+
+-- the command asks a server at the address of its first position
+abbrev pub asks_server : Name → Bool
+asks_server names.Ping = true
+asks_server names.List = true
+asks_server names.Create = true
+asks_server names.Rename = true
+asks_server names.Remove = true
+asks_server names.Describe = true
+asks_server names.LogVersion = true
+asks_server names.Append = true
+asks_server names.Fetch = true
+asks_server other = false
+
+-- the command is one call to a server
+abbrev pub IsOfCall : Name → Type 0
+IsOfCall names.Ping = Unit {0}
+IsOfCall names.List = Unit {0}
+IsOfCall names.Create = Unit {0}
+IsOfCall names.Rename = Unit {0}
+IsOfCall names.Remove = Unit {0}
+IsOfCall names.LogVersion = Unit {0}
+IsOfCall names.Fetch = Unit {0}
+IsOfCall other = ⊥
 
 -- why words ask for no command; want of memory is free
 abbrev pub RefusesWords : List (List ℕ) → Refusal → Type 0

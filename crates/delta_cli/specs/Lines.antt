@@ -8,7 +8,6 @@ use Rattle.chain_core.specs.declared.testing.ChainFault.TheVariants as chains
 use Rattle.nquads_text.specs.Names.{text_kind_name}
 use Rattle.patch_meaning.specs.Names.{patch_kind_name}
 use Rattle.slot_checks.specs.Lines.{fault_line}
-use Rattle.stream_replay.specs.Source.{stream_limit}
 use Rattle.delta_cli.specs.declared.name.Name.{Name}
 use Rattle.delta_cli.specs.declared.name.Name.TheVariants as names
 use Rattle.delta_cli.specs.declared.refusal.Refusal.{Refusal}
@@ -24,6 +23,15 @@ name_text names.Emit = codes "emit"
 name_text names.Init = codes "init"
 name_text names.Check = codes "check"
 name_text names.Serve = codes "serve"
+name_text names.Ping = codes "ping"
+name_text names.List = codes "list"
+name_text names.Create = codes "create"
+name_text names.Rename = codes "rename"
+name_text names.Remove = codes "remove"
+name_text names.Describe = codes "describe"
+name_text names.LogVersion = codes "version"
+name_text names.Append = codes "append"
+name_text names.Fetch = codes "fetch"
 name_text names.Help = codes "--help"
 name_text names.Version = codes "--version"
 
@@ -36,6 +44,15 @@ usage_text names.Emit = codes "emit N"
 usage_text names.Init = codes "init DIR SLOTS"
 usage_text names.Check = codes "check DIR"
 usage_text names.Serve = codes "serve DIR ADDR WORKERS"
+usage_text names.Ping = codes "ping ADDR"
+usage_text names.List = codes "list ADDR"
+usage_text names.Create = codes "create ADDR NAME URI"
+usage_text names.Rename = codes "rename ADDR NAME NEW"
+usage_text names.Remove = codes "remove ADDR NAME"
+usage_text names.Describe = codes "describe ADDR NAME"
+usage_text names.LogVersion = codes "version ADDR NAME"
+usage_text names.Append = codes "append ADDR NAME"
+usage_text names.Fetch = codes "fetch ADDR NAME WHICH"
 usage_text names.Help = codes "--help"
 usage_text names.Version = codes "--version"
 
@@ -56,6 +73,10 @@ limit_line limit = codes "rdfdelta: input: too long: limit " ++ (decimal limit +
 abbrev pub out_of_memory_line : List ℕ
 out_of_memory_line = codes "rdfdelta: out of memory\n"
 
+-- an answer of another status than 200
+abbrev pub refused_line : ℕ → List ℕ → List ℕ
+refused_line status body = codes "rdfdelta: refused: " ++ (decimal status ++ (codes " " ++ (body ++ 10 ∷ [])))
+
 abbrev pub chain_line : ChainFault → List ℕ
 chain_line (chains.Diverged version have found) =
     codes "rdfdelta: diverged at version " ++ (decimal version ++ (codes ": have " ++ (id_or_none have ++ (codes ", found " ++ (id_or_none found ++ 10 ∷ [])))))
@@ -68,7 +89,7 @@ line_of (refusals.Usage name) = codes "rdfdelta: usage: " ++ (usage_text name ++
 line_of (refusals.Stream line at kind) = place_line line at (patch_kind_name kind)
 line_of (refusals.LongPatch size limit) = limit_line limit
 line_of (refusals.Document line at kind) = place_line line at (text_kind_name kind)
-line_of refusals.TooLong = limit_line stream_limit
+line_of (refusals.TooLong limit) = limit_line limit
 line_of refusals.InputFailed = codes "rdfdelta: input failed\n"
 line_of refusals.OutputFailed = codes "rdfdelta: output failed\n"
 line_of (refusals.NotEmpty file length) = codes "rdfdelta: refused: file " ++ (decimal file ++ (codes " not empty: " ++ (decimal length ++ 10 ∷ [])))
@@ -77,6 +98,9 @@ line_of (refusals.WrongCount disks slots) =
     codes "rdfdelta: file 0: wrong count: disks " ++ (decimal disks ++ (codes ", slots " ++ (decimal slots ++ 10 ∷ [])))
 line_of refusals.DiskFailed = codes "rdfdelta: disk failed\n"
 line_of refusals.LinkFailed = codes "rdfdelta: link failed\n"
+line_of (refusals.Refused status body) = refused_line status body
+line_of (refusals.NotUnderstood at) = codes "rdfdelta: answer: byte " ++ (decimal at ++ codes ": not understood\n")
+line_of refusals.CutShort = codes "rdfdelta: answer cut short\n"
 line_of (refusals.Chain fault) = chain_line fault
 line_of refusals.OutOfMemory = out_of_memory_line
 
@@ -87,12 +111,15 @@ status_of (refusals.Usage name) = 2
 status_of (refusals.Stream line at kind) = 3
 status_of (refusals.LongPatch size limit) = 3
 status_of (refusals.Document line at kind) = 3
-status_of refusals.TooLong = 3
+status_of (refusals.TooLong limit) = 3
 status_of refusals.InputFailed = 4
 status_of refusals.OutputFailed = 4
 status_of (refusals.NotEmpty file length) = 1
 status_of refusals.DiskFailed = 5
 status_of refusals.LinkFailed = 6
+status_of (refusals.Refused status body) = 1
+status_of (refusals.NotUnderstood at) = 7
+status_of refusals.CutShort = 7
 status_of (refusals.File fault) = 9
 status_of (refusals.WrongCount disks slots) = 9
 status_of (refusals.Chain fault) = 10

@@ -60,7 +60,7 @@ abbrev pub refusal_of : ReplayFault → Refusal
 refusal_of (replays.Stream line at kind) = refusals.Stream line at kind
 refusal_of (replays.LongPatch size limit) = refusals.LongPatch size limit
 refusal_of (replays.Chain fault) = refusals.Chain fault
-refusal_of replays.TooLong = refusals.TooLong
+refusal_of replays.TooLong = refusals.TooLong stream_limit
 refusal_of replays.Failed = refusals.InputFailed
 refusal_of replays.OutOfMemory = refusals.OutOfMemory
 
@@ -79,7 +79,7 @@ StopsDocument text other = ⊥
 -- why an input has no canonical form
 abbrev pub StopsReading : Channel → Channel → Refusal → Type 0
 StopsReading input input' (refusals.Document line at kind) = Reads input input' (IsFaultyDocument line at kind)
-StopsReading input input' refusals.TooLong = IsTooLong input.bytes
+StopsReading input input' (refusals.TooLong limit) = IsTooLong input.bytes × (limit ≡ stream_limit)
 StopsReading input input' refusals.InputFailed = HasFailed input input'
 StopsReading input input' refusals.OutOfMemory = Unit {0}
 StopsReading input input' other = ⊥
@@ -91,7 +91,7 @@ StopsReplay (refusals.Stream line at kind) input input' out out' =
 StopsReplay (refusals.LongPatch size limit) input input' out out' =
     Reads input input' (IsLong size limit) × IsSilent out out'
 StopsReplay (refusals.Chain fault) input input' out out' = Reads input input' (IsUnchained fault) × IsSilent out out'
-StopsReplay refusals.TooLong input input' out out' = IsTooLong input.bytes × IsSilent out out'
+StopsReplay (refusals.TooLong limit) input input' out out' = IsTooLong input.bytes × (limit ≡ stream_limit) × IsSilent out out'
 StopsReplay refusals.InputFailed input input' out out' = HasFailed input input' × IsSilent out out'
 StopsReplay refusals.OutputFailed input input' out out' = HasFailed out out' × Reads input input' (PrintsFront HasLines out out')
 StopsReplay refusals.OutOfMemory input input' out out' = IsSilent out out'
@@ -100,7 +100,7 @@ StopsReplay other input input' out out' = ⊥
 -- why `nquads` prints no lines of its input
 abbrev pub StopsNquads : Refusal → Channel → Channel → Channel → Channel → Type 0
 StopsNquads (refusals.Document line at kind) input input' out out' = Reads input input' (IsFaultyDocument line at kind) × IsSilent out out'
-StopsNquads refusals.TooLong input input' out out' = IsTooLong input.bytes × IsSilent out out'
+StopsNquads (refusals.TooLong limit) input input' out out' = IsTooLong input.bytes × (limit ≡ stream_limit) × IsSilent out out'
 StopsNquads refusals.InputFailed input input' out out' = HasFailed input input' × IsSilent out out'
 StopsNquads refusals.OutputFailed input input' out out' = HasFailed out out' × Reads input input' (PrintsFront IsShown out out')
 StopsNquads refusals.OutOfMemory input input' out out' = IsSilent out out'

@@ -1,5 +1,5 @@
 -- What the tool answers, and why.
-use Rattle.std.specs.Prelude.{◌≡◌, ℕ, ◌+◌, List, length}
+use Rattle.std.specs.Prelude.{◌≡◌, ℕ, ◌+◌, List, length, Option}
 use Rattle.delta_base.specs.Outside.{Rose}
 use Rattle.slot_files.specs.Files.{Files, IsInitial, StopsAt, SameBut, KeepsFull}
 use Rattle.stream_generator.specs.Generator.{stream_text}
@@ -8,12 +8,14 @@ use Rattle.slot_checks.specs.Lines.{lines_text}
 use Rattle.slot_checks.specs.declared.fault.CheckFault.{CheckFault}
 use Rattle.slot_checks.specs.declared.fault.CheckFault.TheVariants as checks
 use Rattle.slot_checks.specs.declared.lines.FileLine.{FileLine}
+use Rattle.rpc_calls.specs.declared.call.Call.TheVariants as calls
+use Rattle.delta_cli.specs.Asked.{Asked, Described, IsPatchWith, PrintsEnd, StopsAppend, StopsAsking}
 use Rattle.delta_cli.specs.Channels.{Channel, HasFailed, IsSilent, Tells, Writes, WritesFront}
 use Rattle.delta_cli.specs.Commands.{Asks, RefusesWords}
 use Rattle.delta_cli.specs.Document.{IsShown}
 use Rattle.delta_cli.specs.Lines.{line_of, status_of, out_of_memory_line}
 use Rattle.delta_cli.specs.Results.{Reads, Prints, HasLines, generated_line, StopsReplay, StopsNquads, StopsPrinting, StopsEmitting, StopsWriting}
-use Rattle.delta_cli.specs.Told.{Told, LeavesInput, LeavesFiles, LeavesAll}
+use Rattle.delta_cli.specs.Told.{Told, LeavesInput, LeavesFiles, LeavesNet, LeavesAll}
 use Rattle.delta_cli.specs.declared.command.Command.{Command}
 use Rattle.delta_cli.specs.declared.command.Command.TheVariants as commands
 use Rattle.delta_cli.specs.declared.refusal.Refusal.{Refusal}
@@ -34,20 +36,6 @@ abbrev pub check_refusal : CheckFault → Refusal
 check_refusal checks.Failed = refusals.DiskFailed
 check_refusal checks.OutOfMemory = refusals.OutOfMemory
 check_refusal fault = refusals.File fault
-
--- what a command has done that ends with its result
-abbrev pub Does : Command → Type 0 → Told → Told → Type 0
-Does commands.Replay tells old new = Reads old.input new.input (Prints HasLines old.out new.out) × LeavesFiles old new
-Does commands.Nquads tells old new = Reads old.input new.input (Prints IsShown old.out new.out) × LeavesFiles old new
-Does (commands.Gen patches) tells old new = Writes old.out new.out (generated_line patches) × LeavesInput old new × LeavesFiles old new
-Does (commands.Emit patches) tells old new = Writes old.out new.out (stream_text patches) × LeavesInput old new × LeavesFiles old new
-Does (commands.Init dir slots) tells old new =
-    (tells → IsInitial dir slots old.files new.files) × Spares dir slots tells old.files new.files × LeavesInput old new × (new.out ≡ old.out)
-Does (commands.Check dir) tells old new =
-    ((report : List FileLine) × Reported dir tells old.files new.files report
-    × Writes old.out new.out (lines_text report)) × LeavesInput old new
-Does commands.Help tells old new = Writes old.out new.out HELP.now × LeavesInput old new × LeavesFiles old new
-Does commands.Version tells old new = Writes old.out new.out VERSION.now × LeavesInput old new × LeavesFiles old new
 
 -- why files were not made
 abbrev pub StopsInit : List ℕ → ℕ → Type 0 → Files → Files → ℕ → ℕ → Refusal → Type 0
@@ -73,25 +61,61 @@ StopsCheck dir tells files files' faults faults' out out' refusals.OutOfMemory =
     KeepsSome dir tells files files' × IsSilent out out'
 StopsCheck dir tells files files' faults faults' out out' other = ⊥
 
--- why a command ends without its result, and what it has done by then
-abbrev pub Stops : Command → Refusal → Type 0 → Told → Told → Type 0
-Stops commands.Replay refusal tells old new = StopsReplay refusal old.input new.input old.out new.out × LeavesFiles old new
-Stops commands.Nquads refusal tells old new = StopsNquads refusal old.input new.input old.out new.out × LeavesFiles old new
-Stops (commands.Gen patches) refusal tells old new = StopsPrinting (generated_line patches) old.out new.out refusal × LeavesInput old new × LeavesFiles old new
-Stops (commands.Emit patches) refusal tells old new = StopsEmitting (stream_text patches) refusal old.out new.out × LeavesInput old new × LeavesFiles old new
-Stops (commands.Init dir slots) refusal tells old new =
-    StopsInit dir slots tells old.files new.files old.shelf_faults new.shelf_faults refusal × Spares dir slots tells old.files new.files × LeavesInput old new × (new.out ≡ old.out)
-Stops (commands.Check dir) refusal tells old new =
-    StopsCheck dir tells old.files new.files old.shelf_faults new.shelf_faults old.out new.out refusal
-    × LeavesInput old new
-Stops commands.Help refusal tells old new = StopsWriting HELP.now refusal old.out new.out × LeavesInput old new × LeavesFiles old new
-Stops commands.Version refusal tells old new = StopsWriting VERSION.now refusal old.out new.out × LeavesInput old new × LeavesFiles old new
+-- of the dial: the bytes left of a connection and those sent, where it tells them; whether the shelf tells, and whether the dial does
+module _ {L : Type 0} (left sent : L → Option (List ℕ)) (tells net_tells : Type 0) where
+  -- what a command has done that ends with its result
+  abbrev pub Does : Command → Told L → Told L → Type 0
+  Does commands.Replay old new = Reads old.input new.input (Prints HasLines old.out new.out) × LeavesFiles old new × LeavesNet old new
+  Does commands.Nquads old new = Reads old.input new.input (Prints IsShown old.out new.out) × LeavesFiles old new × LeavesNet old new
+  Does (commands.Gen patches) old new = Writes old.out new.out (generated_line patches) × LeavesInput old new × LeavesFiles old new × LeavesNet old new
+  Does (commands.Emit patches) old new = Writes old.out new.out (stream_text patches) × LeavesInput old new × LeavesFiles old new × LeavesNet old new
+  Does (commands.Init dir slots) old new =
+      (tells → IsInitial dir slots old.files new.files) × Spares dir slots tells old.files new.files × LeavesInput old new × (new.out ≡ old.out) × LeavesNet old new
+  Does (commands.Check dir) old new =
+      ((report : List FileLine) × Reported dir tells old.files new.files report
+      × Writes old.out new.out (lines_text report)) × LeavesInput old new × LeavesNet old new
+  Does (commands.Ask address call) old new =
+      PrintsEnd (Asked left sent net_tells address call old.net new.net) old.out new.out
+      × LeavesInput old new × LeavesFiles old new
+  Does (commands.Describe address name) old new =
+      PrintsEnd (Described left sent net_tells address name old.net new.net) old.out new.out
+      × LeavesInput old new × LeavesFiles old new
+  Does (commands.Append address name) old new =
+      IsPatchWith old.input new.input
+      (λ text. PrintsEnd (Asked left sent net_tells address (calls.Append name text) old.net new.net) old.out new.out)
+      × LeavesFiles old new
+  Does commands.Help old new = Writes old.out new.out HELP.now × LeavesInput old new × LeavesFiles old new × LeavesNet old new
+  Does commands.Version old new = Writes old.out new.out VERSION.now × LeavesInput old new × LeavesFiles old new × LeavesNet old new
 
--- The status for these words, with what was told of the outside and of err before and after. Err has the line of the refusal,
--- or, where there is no memory to make it, the line of status 8.
-pub data Answers (words : List (List ℕ)) (tells : Type 0) (old new : Told) (err err' : Channel) : ℕ → Type 0 where
-  done : (c : Command) → Asks words c → Does c tells old new → IsSilent err err' → Answers words tells old new err err' 0
-  stopped : (c : Command) (r : Refusal) → Asks words c → Stops c r tells old new → Tells err err' (line_of r) → Answers words tells old new err err' (status_of r)
-  untold : (c : Command) (r : Refusal) → Asks words c → Stops c r tells old new → Tells err err' out_of_memory_line → Answers words tells old new err err' 8
-  refused : (r : Refusal) → RefusesWords words r → LeavesAll old new → Tells err err' (line_of r) → Answers words tells old new err err' (status_of r)
-  unread : (r : Refusal) → RefusesWords words r → LeavesAll old new → Tells err err' out_of_memory_line → Answers words tells old new err err' 8
+  -- why a command ends without its result, and what it has done by then
+  abbrev pub Stops : Command → Refusal → Told L → Told L → Type 0
+  Stops commands.Replay refusal old new = StopsReplay refusal old.input new.input old.out new.out × LeavesFiles old new × LeavesNet old new
+  Stops commands.Nquads refusal old new = StopsNquads refusal old.input new.input old.out new.out × LeavesFiles old new × LeavesNet old new
+  Stops (commands.Gen patches) refusal old new = StopsPrinting (generated_line patches) old.out new.out refusal × LeavesInput old new × LeavesFiles old new × LeavesNet old new
+  Stops (commands.Emit patches) refusal old new = StopsEmitting (stream_text patches) refusal old.out new.out × LeavesInput old new × LeavesFiles old new × LeavesNet old new
+  Stops (commands.Init dir slots) refusal old new =
+      StopsInit dir slots tells old.files new.files old.shelf_faults new.shelf_faults refusal × Spares dir slots tells old.files new.files × LeavesInput old new × (new.out ≡ old.out) × LeavesNet old new
+  Stops (commands.Check dir) refusal old new =
+      StopsCheck dir tells old.files new.files old.shelf_faults new.shelf_faults old.out new.out refusal
+      × LeavesInput old new × LeavesNet old new
+  Stops (commands.Ask address call) refusal old new =
+      StopsAsking (Asked left sent net_tells address call old.net new.net) old.out new.out refusal
+      × LeavesInput old new × LeavesFiles old new
+  Stops (commands.Describe address name) refusal old new =
+      StopsAsking (Described left sent net_tells address name old.net new.net) old.out new.out refusal
+      × LeavesInput old new × LeavesFiles old new
+  Stops (commands.Append address name) refusal old new =
+      StopsAppend old.input new.input old.out new.out (LeavesNet old new)
+      (λ text. StopsAsking (Asked left sent net_tells address (calls.Append name text) old.net new.net) old.out new.out) refusal
+      × LeavesFiles old new
+  Stops commands.Help refusal old new = StopsWriting HELP.now refusal old.out new.out × LeavesInput old new × LeavesFiles old new × LeavesNet old new
+  Stops commands.Version refusal old new = StopsWriting VERSION.now refusal old.out new.out × LeavesInput old new × LeavesFiles old new × LeavesNet old new
+
+  -- The status for these words and dice, with what was told of the outside and of err before and after. Err has the line of the
+  -- refusal, or, where there is no memory to make it, the line of status 8.
+  pub data Answers (words : List (List ℕ)) (dice : ℕ) (old new : Told L) (err err' : Channel) : ℕ → Type 0 where
+    done : (c : Command) → Asks words dice c → Does c old new → IsSilent err err' → Answers words dice old new err err' 0
+    stopped : (c : Command) (r : Refusal) → Asks words dice c → Stops c r old new → Tells err err' (line_of r) → Answers words dice old new err err' (status_of r)
+    untold : (c : Command) (r : Refusal) → Asks words dice c → Stops c r old new → Tells err err' out_of_memory_line → Answers words dice old new err err' 8
+    refused : (r : Refusal) → RefusesWords words r → LeavesAll old new → Tells err err' (line_of r) → Answers words dice old new err err' (status_of r)
+    unread : (r : Refusal) → RefusesWords words r → LeavesAll old new → Tells err err' out_of_memory_line → Answers words dice old new err err' 8

@@ -1,13 +1,15 @@
 //! What the words ask for.
-ghost use Rattle.std.specs.Prelude.{◌≡◌, ◌<◌, ◌≤◌, ◌^◌, ◌∷◌, [], ℕ, List, IfOk, IfErr, OnOk};
+ghost use Rattle.std.specs.Prelude.{◌≡◌, ◌<◌, ◌≤◌, ◌^◌, ◌∷◌, [], ℕ, List, false, IfOk, IfErr, OnOk};
 ghost use Rattle.delta_cli.specs.Channels.{words_of};
 ghost use Rattle.command_words.specs.Positions.{FitPositions};
-ghost use Rattle.delta_cli.specs.Commands.{Asks, BeginsWith, FitsName, HasFirst, IsNumberIn, IsOfTool, RefusesWords, positions_of};
+ghost use Rattle.delta_cli.specs.Commands.{Asks, BeginsWith, FitsName, HasFirst, IsNumberIn, IsOfTool, RefusesWords, asks_server, positions_of};
 
+use crate::calls::make_asking;
 use crate::name::Name;
 use crate::refusal::Refusal;
 use command_words::{WordsFault, read_words};
 use delta_base::{OutOfMemory, Text};
+use rpc_calls::Call;
 use std::alloc::Global;
 
 /// A command with what its words say.
@@ -21,6 +23,12 @@ pub enum Command {
     Emit { patches: u32 },
     Init { dir: Text, slots: u8 },
     Check { dir: Text },
+    /// A call to the server at an address.
+    Ask { address: Text, call: Call },
+    /// A source of the server at an address, and its log.
+    Describe { address: Text, name: Text },
+    /// The input, a patch, for a log of the server at an address.
+    Append { address: Text, name: Text },
     Help,
     Version,
 }
@@ -32,37 +40,38 @@ const MOST_PATCHES: u32 = 65_536;
 const MOST_SLOTS: u32 = 16;
 
 /// The command that the words ask for.
-pub fn read_command(alloc: Global, words: &[String]) -> Result<Command, Refusal>
-    ensures asks { IfOk result (Asks (words_of words.now)) }
+pub fn read_command(alloc: Global, words: &[String], dice: u128) -> Result<Command, Refusal>
+    ensures asks { IfOk result (Asks (words_of words.now) dice) }
     ensures refused { IfErr result (RefusesWords (words_of words.now)) }
 {
     match words {
-        [first, ..] => read_named(alloc, first.as_str(), words),
+        [first, ..] => read_named(alloc, first.as_str(), words, dice),
         [] => Err(Refusal::UnknownCommand),
     }
 }
 
 // The command that the words ask for, of which this is the first.
-fn read_named(alloc: Global, first: &str, words: &[String]) -> Result<Command, Refusal>
+fn read_named(alloc: Global, first: &str, words: &[String], dice: u128) -> Result<Command, Refusal>
     requires { HasFirst (words_of words.now) first.now }
-    ensures asks { IfOk result (Asks (words_of words.now)) }
+    ensures asks { IfOk result (Asks (words_of words.now) dice) }
     ensures refused { IfErr result (RefusesWords (words_of words.now)) }
 {
     match Name::find(first) {
         Some(Name::Serve) => Err(Refusal::UnknownCommand),
-        Some(name) => read_positions(alloc, name, words),
+        Some(name) => read_positions(alloc, name, words, dice),
         None => Err(Refusal::UnknownCommand),
     }
 }
 
 // The command of this name.
-fn read_positions(alloc: Global, name: Name, words: &[String]) -> Result<Command, Refusal>
+fn read_positions(alloc: Global, name: Name, words: &[String], dice: u128) -> Result<Command, Refusal>
     requires begins { BeginsWith (words_of words.now) name }
     requires of_tool { IsOfTool name }
-    ensures asks { IfOk result (Asks (words_of words.now)) }
+    ensures asks { IfOk result (Asks (words_of words.now) dice) }
     ensures refused { IfErr result (RefusesWords (words_of words.now)) }
 {
     match test_positions(alloc, name, words) {
+        Ok(()) if name.asks_server() => make_asking(alloc, name, words, dice),
         Ok(()) => make(alloc, name, words),
         Err(WordsFault::Usage) => Err(Refusal::Usage(name)),
         Err(WordsFault::OutOfMemory) => Err(Refusal::OutOfMemory),
@@ -81,11 +90,12 @@ fn test_positions(alloc: Global, name: Name, words: &[String]) -> Result<(), Wor
     }
 }
 
-// The command of this name, whose words are one for each of its positions.
+// The command of this name, which asks no server, and whose words are one for each of its positions.
 fn make(alloc: Global, name: Name, words: &[String]) -> Result<Command, Refusal>
     requires fits { FitsName (words_of words.now) name }
     requires of_tool { IsOfTool name }
-    ensures asks { IfOk result (Asks (words_of words.now)) }
+    requires alone { asks_server name ≡ false }
+    ensures asks { IfOk result (λ command. (dice : ℕ) → Asks (words_of words.now) dice command) }
     ensures refused { IfErr result (RefusesWords (words_of words.now)) }
 {
     match (name, words) {

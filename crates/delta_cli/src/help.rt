@@ -18,6 +18,20 @@ pub const HELP: &str = "rdfdelta: RDF datasets kept in step by chained patches
   check DIR         open the files of a directory, print a line for each
   serve DIR ADDR WORKERS
                     serve the files of a directory over HTTP, with 1 to 16 workers
+  ping ADDR         ask the server at an address whether it answers, print its answer
+  list ADDR         ask for the sources, print them
+  create ADDR NAME URI
+                    have a source made, print it
+  rename ADDR NAME NEW
+                    have a source renamed, print it
+  remove ADDR NAME  have a source removed, print it
+  describe ADDR NAME
+                    ask for a source and its log, print both
+  version ADDR NAME
+                    ask for the version of a log, print it
+  append ADDR NAME  read a patch, have it appended to a log, print the log's version
+  fetch ADDR NAME WHICH
+                    ask for a patch by its version or id, print it
   --help            print this
   --version         print the version
 ";

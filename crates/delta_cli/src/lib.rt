@@ -2,8 +2,12 @@
 #![tactic(auto)]
 
 mod address;
+mod append;
+mod ask;
+mod calls;
 mod check;
 mod command;
+mod dice;
 mod generate;
 mod help;
 mod init;

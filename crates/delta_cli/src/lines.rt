@@ -1,38 +1,42 @@
 //! The lines on err.
 ghost use Rattle.std.specs.Prelude.{◌≡◌, ◌++◌, ◌∷◌, [], IfOk, OnOk, codes};
 ghost use Rattle.std.specs.Fmt.{decimal};
-ghost use Rattle.delta_cli.specs.Lines.{id_or_none, usage_text, place_line, limit_line, chain_line, line_of};
+ghost use Rattle.delta_cli.specs.Lines.{id_or_none, usage_text, place_line, limit_line, chain_line, line_of, refused_line};
 
 use crate::name::Name;
 use crate::refusal::Refusal;
 use chain_core::ChainFault;
-use delta_base::{Id, OutOfMemory, id_text};
+use delta_base::{Bytes, Id, OutOfMemory, id_text};
 use slot_checks::fault_text;
 use std::alloc::Global;
-use stream_replay::STREAM_LIMIT;
 
 /// The line of a refusal.
 #[tactic(auto, unfolding(crate::specs::Lines::line_of))]
-pub fn line_of(alloc: Global, refusal: Refusal) -> Result<Vec<u8>, OutOfMemory>
-    ensures { IfOk result (λ text. text.items ≡ line_of refusal) }
+pub fn line_of(alloc: Global, refusal: &Refusal) -> Result<Vec<u8>, OutOfMemory>
+    ensures { IfOk result (λ text. text.items ≡ line_of refusal.now) }
 {
     match refusal {
         Refusal::UnknownCommand => line(alloc, b"rdfdelta: unknown command\n"),
-        Refusal::Usage(name) => usage_line(alloc, name),
-        Refusal::Stream { line, at, kind } => place_line(alloc, line, at, kind.name().as_bytes()),
-        Refusal::LongPatch { limit, .. } => limit_line(alloc, limit),
-        Refusal::Document { line, at, kind } => {
-            place_line(alloc, line as u64, at as u64, kind.name().as_bytes())
+        Refusal::Usage(name) => usage_line(alloc, *name),
+        Refusal::Stream { line, at, kind } => {
+            place_line(alloc, *line, *at, kind.name().as_bytes())
         }
-        Refusal::TooLong => limit_line(alloc, STREAM_LIMIT as u64),
+        Refusal::LongPatch { limit, .. } => limit_line(alloc, *limit),
+        Refusal::Document { line, at, kind } => {
+            place_line(alloc, *line as u64, *at as u64, kind.name().as_bytes())
+        }
+        Refusal::TooLong { limit } => limit_line(alloc, *limit),
         Refusal::InputFailed => line(alloc, b"rdfdelta: input failed\n"),
         Refusal::OutputFailed => line(alloc, b"rdfdelta: output failed\n"),
-        Refusal::NotEmpty { file, length } => not_empty_line(alloc, file, length),
-        Refusal::File(fault) => fault_text(alloc, fault),
-        Refusal::WrongCount { disks, slots } => wrong_count_line(alloc, disks, slots),
+        Refusal::NotEmpty { file, length } => not_empty_line(alloc, *file, *length),
+        Refusal::File(fault) => fault_text(alloc, *fault),
+        Refusal::WrongCount { disks, slots } => wrong_count_line(alloc, *disks, *slots),
         Refusal::DiskFailed => line(alloc, b"rdfdelta: disk failed\n"),
         Refusal::LinkFailed => line(alloc, b"rdfdelta: link failed\n"),
-        Refusal::Chain(fault) => chain_line(alloc, fault),
+        Refusal::Refused { status, body } => refused_line(alloc, *status, body),
+        Refusal::NotUnderstood { at } => not_understood_line(alloc, *at),
+        Refusal::CutShort => line(alloc, b"rdfdelta: answer cut short\n"),
+        Refusal::Chain(fault) => chain_line(alloc, *fault),
         Refusal::OutOfMemory => line(alloc, b"rdfdelta: out of memory\n"),
     }
 }
@@ -64,6 +68,23 @@ fn wrong_count_line(alloc: Global, disks: u64, slots: u32) -> Result<Vec<u8>, Ou
         ++ (decimal disks ++ (codes ", slots " ++ (decimal slots ++ 10 ∷ [])))) }
 {
     let text = format!(in alloc; "rdfdelta: file 0: wrong count: disks {disks}, slots {slots}\n")?;
+    Ok(text.into_bytes())
+}
+
+fn refused_line(alloc: Global, status: u16, body: &Bytes) -> Result<Vec<u8>, OutOfMemory>
+    ensures { IfOk result (λ text. text.items ≡ refused_line status body.now) }
+{
+    let front = format!(in alloc; "rdfdelta: refused: {status} ")?;
+    let mut text = front.into_bytes();
+    text.extend_from_slice(body.as_slice())?;
+    text.push(b'\n')?;
+    Ok(text)
+}
+
+fn not_understood_line(alloc: Global, at: u64) -> Result<Vec<u8>, OutOfMemory>
+    ensures { IfOk result (λ text. text.items ≡ codes "rdfdelta: answer: byte " ++ (decimal at ++ codes ": not understood\n")) }
+{
+    let text = format!(in alloc; "rdfdelta: answer: byte {at}: not understood\n")?;
     Ok(text.into_bytes())
 }
 

@@ -1,6 +1,6 @@
 //! The names of the commands.
 ghost use Rattle.std.specs.Prelude.{◌≡◌, ◌++◌, ◌∷◌, [], map};
-ghost use Rattle.delta_cli.specs.Commands.{IsNamed, positions_of};
+ghost use Rattle.delta_cli.specs.Commands.{IsNamed, asks_server, positions_of};
 ghost use Rattle.delta_cli.specs.Lines.{name_text, usage_text};
 
 /// A command, by the word that names it.
@@ -14,6 +14,16 @@ pub enum Name {
     Check,
     /// The command of the server, which this tool doesn't run.
     Serve,
+    Ping,
+    List,
+    Create,
+    Rename,
+    Remove,
+    Describe,
+    /// The version of a log.
+    LogVersion,
+    Append,
+    Fetch,
     Help,
     Version,
 }
@@ -31,9 +41,30 @@ impl Name {
             "init" => Some(Name::Init),
             "check" => Some(Name::Check),
             "serve" => Some(Name::Serve),
+            "ping" => Some(Name::Ping),
+            "list" => Some(Name::List),
+            "create" => Some(Name::Create),
+            "rename" => Some(Name::Rename),
+            "remove" => Some(Name::Remove),
+            "describe" => Some(Name::Describe),
+            "version" => Some(Name::LogVersion),
+            "append" => Some(Name::Append),
+            "fetch" => Some(Name::Fetch),
             "--help" => Some(Name::Help),
             "--version" => Some(Name::Version),
             _ => None,
+        }
+    }
+
+    /// Whether the command asks a server at the address of its first position.
+    pub fn asks_server(self) -> bool
+        ensures { result ≡ asks_server self }
+    {
+        match self {
+            Name::Replay | Name::Nquads | Name::Gen | Name::Emit | Name::Init => false,
+            Name::Check | Name::Serve | Name::Help | Name::Version => false,
+            Name::Ping | Name::List | Name::Create | Name::Rename | Name::Remove => true,
+            Name::Describe | Name::LogVersion | Name::Append | Name::Fetch => true,
         }
     }
 
@@ -47,6 +78,11 @@ impl Name {
             Name::Init => &["DIR", "SLOTS"],
             Name::Check => &["DIR"],
             Name::Serve => &["DIR", "ADDR", "WORKERS"],
+            Name::Ping | Name::List => &["ADDR"],
+            Name::Create => &["ADDR", "NAME", "URI"],
+            Name::Rename => &["ADDR", "NAME", "NEW"],
+            Name::Remove | Name::Describe | Name::LogVersion | Name::Append => &["ADDR", "NAME"],
+            Name::Fetch => &["ADDR", "NAME", "WHICH"],
         }
     }
 
@@ -62,6 +98,15 @@ impl Name {
             Name::Init => b"init DIR SLOTS",
             Name::Check => b"check DIR",
             Name::Serve => b"serve DIR ADDR WORKERS",
+            Name::Ping => b"ping ADDR",
+            Name::List => b"list ADDR",
+            Name::Create => b"create ADDR NAME URI",
+            Name::Rename => b"rename ADDR NAME NEW",
+            Name::Remove => b"remove ADDR NAME",
+            Name::Describe => b"describe ADDR NAME",
+            Name::LogVersion => b"version ADDR NAME",
+            Name::Append => b"append ADDR NAME",
+            Name::Fetch => b"fetch ADDR NAME WHICH",
             Name::Help => b"--help",
             Name::Version => b"--version",
         }

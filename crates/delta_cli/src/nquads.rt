@@ -45,7 +45,9 @@ fn read_lines<S: Source>(alloc: Global, input: &mut S) -> Result<Vec<Vec<u8>>, R
     match read_all(alloc, input, STREAM_LIMIT) {
         Ok(text) => lines_of(alloc, text.as_slice()),
         Err(InputFault::Failed) => Err(Refusal::InputFailed),
-        Err(InputFault::TooLong) => Err(Refusal::TooLong),
+        Err(InputFault::TooLong) => Err(Refusal::TooLong {
+            limit: STREAM_LIMIT as u64,
+        }),
         Err(InputFault::OutOfMemory) => Err(Refusal::OutOfMemory),
     }
 }

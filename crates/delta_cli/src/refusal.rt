@@ -7,7 +7,7 @@ ghost use Rattle.delta_cli.specs.Refusals.{Reports};
 use crate::lines::line_of;
 use crate::name::Name;
 use chain_core::ChainFault;
-use delta_base::{OutOfMemory, Sink};
+use delta_base::{Bytes, OutOfMemory, Sink};
 use nquads_text::TextKind;
 use patch_meaning::PatchKind;
 use sink_writing::write_all;
@@ -15,7 +15,7 @@ use slot_checks::CheckFault;
 use std::alloc::Global;
 
 /// How a command ends without its result.
-#[derive(Clone, Copy, Debug, PartialEq, Eq)]
+#[derive(Debug, Drop)]
 pub enum Refusal {
     /// The first word names no command, or there is none.
     UnknownCommand,
@@ -39,7 +39,9 @@ pub enum Refusal {
         kind: TextKind,
     },
     /// The input has more bytes than it may have.
-    TooLong,
+    TooLong {
+        limit: u64,
+    },
     InputFailed,
     OutputFailed,
     /// A file that was to be made has bytes.
@@ -56,6 +58,17 @@ pub enum Refusal {
     },
     DiskFailed,
     LinkFailed,
+    /// The server's answer has another status than 200.
+    Refused {
+        status: u16,
+        body: Bytes,
+    },
+    /// The server's bytes are no answer to the call.
+    NotUnderstood {
+        at: u64,
+    },
+    /// The server's bytes end before an answer does.
+    CutShort,
     /// The patches of the stream are no chain.
     Chain(ChainFault),
     OutOfMemory,
@@ -92,10 +105,13 @@ impl From<OutOfMemory> for Refusal {
 pub fn report<E: Sink>(alloc: Global, refusal: Refusal, err: &mut E) -> u8
     ensures { Reports refusal (channel (E.written err.old) (E.faults err.old)) (channel (E.written err.new) (E.faults err.new)) result }
 {
-    match line_of(alloc, refusal) {
+    let status = status_of(&refusal);
+    let line = line_of(alloc, &refusal);
+    drop(refusal);
+    match line {
         Ok(line) => {
             let _ = write_all(err, line.as_slice());
-            status_of(refusal)
+            status
         }
         Err(_) => {
             let _ = write_all(err, b"rdfdelta: out of memory\n");
@@ -104,19 +120,20 @@ pub fn report<E: Sink>(alloc: Global, refusal: Refusal, err: &mut E) -> u8
     }
 }
 
-fn status_of(refusal: Refusal) -> u8
-    ensures { result ≡ status_of refusal }
+fn status_of(refusal: &Refusal) -> u8
+    ensures { result ≡ status_of refusal.now }
 {
     match refusal {
-        Refusal::NotEmpty { .. } => 1,
+        Refusal::NotEmpty { .. } | Refusal::Refused { .. } => 1,
         Refusal::UnknownCommand | Refusal::Usage(_) => 2,
         Refusal::Stream { .. }
         | Refusal::LongPatch { .. }
         | Refusal::Document { .. }
-        | Refusal::TooLong => 3,
+        | Refusal::TooLong { .. } => 3,
         Refusal::InputFailed | Refusal::OutputFailed => 4,
         Refusal::DiskFailed => 5,
         Refusal::LinkFailed => 6,
+        Refusal::NotUnderstood { .. } | Refusal::CutShort => 7,
         Refusal::OutOfMemory => 8,
         Refusal::File(_) | Refusal::WrongCount { .. } => 9,
         Refusal::Chain(_) => 10,

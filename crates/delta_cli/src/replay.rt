@@ -8,7 +8,7 @@ use crate::refusal::Refusal;
 use delta_base::{Sink, Source};
 use sink_writing::Room;
 use std::alloc::Global;
-use stream_replay::{Lines, ReplayFault, replay_source, write_lines};
+use stream_replay::{Lines, ReplayFault, STREAM_LIMIT, replay_source, write_lines};
 
 /// Reads a stream to its end, and writes the lines of its replay.
 pub fn replay<S: Source, K: Sink>(alloc: Global, input: &mut S, out: &mut K) -> Result<(), Refusal>
@@ -42,7 +42,9 @@ pub fn refusal_of(fault: ReplayFault) -> Refusal
         ReplayFault::Stream { line, at, kind } => Refusal::Stream { line, at, kind },
         ReplayFault::LongPatch { length, limit } => Refusal::LongPatch { length, limit },
         ReplayFault::Chain(fault) => Refusal::Chain(fault),
-        ReplayFault::TooLong => Refusal::TooLong,
+        ReplayFault::TooLong => Refusal::TooLong {
+            limit: STREAM_LIMIT as u64,
+        },
         ReplayFault::Failed => Refusal::InputFailed,
         ReplayFault::OutOfMemory => Refusal::OutOfMemory,
     }

@@ -1,0 +1,44 @@
+-- What a command prints of the answer to its call, or why it prints nothing.
+use Rattle.std.specs.Prelude.{◌≡◌, ◌≢◌, ℕ, List, [], ◌∷◌, ◌++◌, Result, Ok, Err}
+use Rattle.serde_json.specs.Written.{compact_text}
+use Rattle.rpc_answers.specs.declared.answer.Answer.{Answer}
+use Rattle.rpc_answers.specs.Answers.{Body, json, patch, status_of, body_of}
+use Rattle.rpc_answers.specs.Prints.{compact}
+use Rattle.rpc_calls.specs.declared.call.Call.{Call}
+use Rattle.delta_client.specs.declared.fault.AskFault.{AskFault}
+use Rattle.delta_client.specs.declared.fault.AskFault.TheVariants as asks
+use Rattle.client_commands.specs.Kinds.{IsAnswerTo}
+use Rattle.client_commands.specs.declared.fault.ClientFault.{ClientFault}
+use Rattle.client_commands.specs.declared.fault.ClientFault.TheVariants as faults
+
+-- JSON and a line feed, or the patch's text
+abbrev pub shown : Body → List ℕ
+shown (json value) = compact_text value ++ 10 ∷ []
+shown (patch text) = text
+
+-- what is printed of an answer
+abbrev pub printed : Answer → List ℕ
+printed a = shown (body_of a)
+
+-- a call that has no answer, as the end of its command
+abbrev pub of_ask : AskFault → ClientFault
+of_ask asks.LinkFault = faults.LinkFailed
+of_ask asks.CutShort = faults.CutShort
+of_ask (asks.NotUnderstood at) = faults.NotUnderstood at
+of_ask asks.OutOfMemory = faults.OutOfMemory
+
+-- the end of a call that was answered: what is printed, the refusal that the answer is, or an answer of another kind. Want of
+-- memory is free
+abbrev pub EndsAnswered : Call → Answer → Result (List ℕ) ClientFault → Type 0
+EndsAnswered call a (Ok text) = IsAnswerTo call a × (text ≡ printed a)
+EndsAnswered call a (Err (faults.Refused status body)) =
+    (status_of a ≢ 200) × (status ≡ status_of a) × (body ≡ compact (body_of a))
+EndsAnswered call a (Err (faults.NotUnderstood at)) =
+    (status_of a ≡ 200) × (IsAnswerTo call a → ⊥) × (at ≡ 0)
+EndsAnswered call a (Err faults.OutOfMemory) = Unit {0}
+EndsAnswered call a (Err other) = ⊥
+
+-- the end of a call, by what was said to it; a fault of asking is handed on
+abbrev pub Ends : Call → Result Answer AskFault → Result (List ℕ) ClientFault → Type 0
+Ends call (Ok a) result = EndsAnswered call a result
+Ends call (Err fault) result = result ≡ Err (of_ask fault)
