@@ -1,5 +1,5 @@
 -- What the replay of the generator's stream comes to, and what can't stop it.
-use Rattle.std.proofs.Common.{◌≡◌, ◌⊎◌, ℕ, ◌≤◌, List, length, Option, Some, refl, sym, ap, ◌∙◌, subst, inl, inr, arith}
+use Rattle.std.proofs.Common.{◌≡◌, ◌⊎◌, ℕ, ◌≤◌, List, Option, Some, refl, sym, ◌∙◌, subst, inl, inr, arith}
 use Rattle.chain_core.specs.Links.{IsChain}
 use Rattle.chain_core.proofs.Only.{no_fault}
 use Rattle.patch_meaning.specs.Patch.{Meaning}
@@ -12,7 +12,7 @@ use Rattle.stream_replay.specs.declared.fault.ReplayFault.{ReplayFault}
 use Rattle.stream_replay.specs.declared.fault.ReplayFault.TheVariants as ends
 use Rattle.stream_replay.specs.declared.replay.Replayed.{Replayed}
 use Rattle.stream_generator.specs.Generator.{stream_text}
-use Rattle.generated_replay.specs.Meanings.{meanings, head}
+use Rattle.generated_replay.specs.Meanings.{meanings}
 use Rattle.generated_replay.proofs.Chained.{chained, counted, last_is}
 use Rattle.generated_replay.proofs.Counted.{quads_left}
 use Rattle.generated_replay.proofs.Cutting.{stream_is}

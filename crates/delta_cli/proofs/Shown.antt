@@ -1,5 +1,5 @@
 -- From how asking ended to what was printed of it, and from an address to a host.
-use Rattle.std.proofs.Common.{◌≡◌, ℕ, ◌≤◌, true, List, sym, subst, rules, tests}
+use Rattle.std.proofs.Common.{◌≡◌, ℕ, true, List, sym, subst, rules, tests}
 use Rattle.std.specs.List.{All, list_all}
 use Rattle.std.proofs.lemmas.List.Sums.{list_all-from_AllPass}
 use Rattle.http_text.specs.Print.{is_visible}

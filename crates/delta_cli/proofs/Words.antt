@@ -1,5 +1,5 @@
 -- Words, and the commands that they ask for.
-use Rattle.std.proofs.Common.{◌≡◌, ℕ, zero, suc, ◌+◌, ◌*◌, ◌<◌, ◌≤◌, ◌^◌, List, [], ◌∷◌, length, get_or, drop, Some, None, true, false, refl, sym, ap, subst, ◌∙◌, arith, ne_eqb}
+use Rattle.std.proofs.Common.{◌≡◌, ℕ, zero, suc, ◌+◌, ◌*◌, ◌<◌, ◌≤◌, ◌^◌, List, [], ◌∷◌, length, get_or, drop, Some, None, refl, sym, ap, subst, ◌∙◌, arith, ne_eqb}
 use Rattle.std.specs.Prelude.{String, string_bytes}
 use Rattle.std.specs.List.{All}
 use Rattle.std.specs.declared.alloc.Global.{Global}
@@ -7,17 +7,14 @@ use Rattle.std.specs.Fmt.{decimal}
 use Rattle.std.proofs.lemmas.Fmt.{decimal_digit, first_decimal}
 use Rattle.std.proofs.lemmas.List.Elements.{All-nil, All-cons}
 use Rattle.command_words.specs.Positions.{ArePlain, FitPositions, IsPlainWord}
-use Rattle.delta_base.specs.Ids.{number_of}
-use Rattle.rpc_calls.specs.Routes.{version_of}
 use Rattle.rpc_calls.specs.declared.call.Call.{Call}
 use Rattle.rpc_calls.specs.declared.call.Call.TheVariants as calls
-use Rattle.delta_cli.specs.Addresses.{IsAddress}
 use Rattle.delta_cli.specs.declared.command.Command.{Command}
 use Rattle.delta_cli.specs.declared.command.Command.TheVariants as commands
 use Rattle.delta_cli.specs.declared.name.Name.{Name}
 use Rattle.delta_cli.specs.declared.name.Name.TheVariants as names
 use Rattle.delta_cli.specs.Channels.{words_of}
-use Rattle.delta_cli.specs.Commands.{AreWords, Asks, AsksFor, AsksNothing, BeginsWith, FitsName, IsNamed, IsOfCall, IsOfTool, NamesId, asks_server, positions_of}
+use Rattle.delta_cli.specs.Commands.{AreWords, Asks, AsksFor, AsksNothing, BeginsWith, FitsName, IsNamed, IsOfTool, positions_of}
 use Rattle.delta_cli.specs.Lines.{name_text}
 
 -- ---- numbers
@@ -197,18 +194,6 @@ first_of_words (x ∷ xs) w some is = (words_of xs, ap (λ (y : String Global). 
 
 -- ---- words that ask a server
 
-cut_one : (words rest : List (List ℕ)) (x : List ℕ) → words ≡ x ∷ rest → length words ≡ 2 → ArePlain (drop 1 words) → AreWords words x (get_or words 1 [] ∷ [])
-cut_one words [] x is long plain = absurd (omega (arith, long, ap length is))
-cut_one words (a ∷ []) x is long plain = subst (λ (ws : List (List ℕ)). ArePlain (drop 1 ws) → AreWords ws x (get_or ws 1 [] ∷ [])) (sym is) (λ p. (refl, p)) plain
-cut_one words (a ∷ (b ∷ rest)) x is long plain = absurd (omega (arith, long, ap length is))
-
-cut_two : (words rest : List (List ℕ)) (x : List ℕ) → words ≡ x ∷ rest → length words ≡ 3 → ArePlain (drop 1 words) → AreWords words x (get_or words 1 [] ∷ get_or words 2 [] ∷ [])
-cut_two words [] x is long plain = absurd (omega (arith, long, ap length is))
-cut_two words (a ∷ []) x is long plain = absurd (omega (arith, long, ap length is))
-cut_two words (a ∷ (b ∷ [])) x is long plain =
-    subst (λ (ws : List (List ℕ)). ArePlain (drop 1 ws) → AreWords ws x (get_or ws 1 [] ∷ get_or ws 2 [] ∷ [])) (sym is) (λ p. (refl, p)) plain
-cut_two words (a ∷ (b ∷ (d ∷ rest))) x is long plain = absurd (omega (arith, long, ap length is))
-
 cut_three : (words rest : List (List ℕ)) (x : List ℕ) → words ≡ x ∷ rest → length words ≡ 4 → ArePlain (drop 1 words) → AreWords words x (get_or words 1 [] ∷ get_or words 2 [] ∷ get_or words 3 [] ∷ [])
 cut_three words [] x is long plain = absurd (omega (arith, long, ap length is))
 cut_three words (a ∷ []) x is long plain = absurd (omega (arith, long, ap length is))
@@ -218,127 +203,11 @@ cut_three words (a ∷ (b ∷ (d ∷ []))) x is long plain =
 cut_three words (a ∷ (b ∷ (d ∷ (e ∷ rest)))) x is long plain = absurd (omega (arith, long, ap length is))
 
 module _ (words : List (List ℕ)) (name : Name) (fits : FitsName words name) where
-  pub one_word : length (positions_of name) ≡ 1 → AreWords words (name_text name) (get_or words 1 [] ∷ [])
-  one_word count = cut_one words fits.0.0 (name_text name) fits.0.1 (omega (arith, fits.1.1, count)) fits.1.0
-
-  pub two_words : length (positions_of name) ≡ 2 → AreWords words (name_text name) (get_or words 1 [] ∷ get_or words 2 [] ∷ [])
-  two_words count = cut_two words fits.0.0 (name_text name) fits.0.1 (omega (arith, fits.1.1, count)) fits.1.0
-
-  pub three_words : length (positions_of name) ≡ 3 → AreWords words (name_text name) (get_or words 1 [] ∷ get_or words 2 [] ∷ get_or words 3 [] ∷ [])
+  three_words : length (positions_of name) ≡ 3 → AreWords words (name_text name) (get_or words 1 [] ∷ get_or words 2 [] ∷ get_or words 3 [] ∷ [])
   three_words count = cut_three words fits.0.0 (name_text name) fits.0.1 (omega (arith, fits.1.1, count)) fits.1.0
 
-  pub two_are : length (positions_of name) ≡ 2 → (b : List ℕ) → b ≡ get_or words 2 [] → AreWords words (name_text name) (get_or words 1 [] ∷ b ∷ [])
-  two_are count b is = subst (λ (t : List ℕ). AreWords words (name_text name) (get_or words 1 [] ∷ t ∷ [])) (sym is) (two_words count)
-
+  -- the words behind the name, of which two were taken
   pub three_are : length (positions_of name) ≡ 3 → (b d : List ℕ) → b ≡ get_or words 2 [] → d ≡ get_or words 3 [] → AreWords words (name_text name) (get_or words 1 [] ∷ b ∷ d ∷ [])
   three_are count b d is_b is_d =
       subst (λ (t : List ℕ). AreWords words (name_text name) (get_or words 1 [] ∷ b ∷ t ∷ [])) (sym is_d)
       (subst (λ (t : List ℕ). AreWords words (name_text name) (get_or words 1 [] ∷ t ∷ get_or words 3 [] ∷ [])) (sym is_b) (three_words count))
-
-second_is : (words rest : List (List ℕ)) (x address : List ℕ) → AreWords words x (address ∷ rest) → get_or words 1 [] ≡ address
-second_is words rest x address are = ap (λ (ws : List (List ℕ)). get_or ws 1 []) are.0
-
-call_second : (words : List (List ℕ)) (dice : ℕ) (address : List ℕ) (call : Call) → AsksFor words dice address call → get_or words 1 [] ≡ address
-call_second words dice address calls.Ping asks = second_is words _ _ address asks
-call_second words dice address calls.List asks = second_is words _ _ address asks
-call_second words dice address (calls.Create name uri id) asks = second_is words _ _ address asks.0
-call_second words dice address (calls.Rename name new_name) asks = second_is words _ _ address asks
-call_second words dice address (calls.Remove name) asks = second_is words _ _ address asks
-call_second words dice address (calls.Version name) asks = second_is words _ _ address asks
-call_second words dice address (calls.FetchVersion name version) asks = second_is words _ _ address asks.1
-call_second words dice address (calls.FetchId name id) asks = second_is words _ _ address asks.1
-call_second words dice address (calls.Source name) asks = absurd asks
-call_second words dice address (calls.SourceById id) asks = absurd asks
-call_second words dice address (calls.SourceByUri uri) asks = absurd asks
-call_second words dice address (calls.Log name) asks = absurd asks
-call_second words dice address (calls.Append name patch) asks = absurd asks
-
-not_true : false ≡ true → ⊥
-not_true same = cc
-
-has_address : (words : List (List ℕ)) (dice : ℕ) (c : Command) → Asks words dice c → asks_server (name_of c) ≡ true → IsAddress (get_or words 1 [])
-has_address words dice commands.Replay asks of = absurd (not_true of)
-has_address words dice commands.Nquads asks of = absurd (not_true of)
-has_address words dice (commands.Gen patches) asks of = absurd (not_true of)
-has_address words dice (commands.Emit patches) asks of = absurd (not_true of)
-has_address words dice (commands.Init dir slots) asks of = absurd (not_true of)
-has_address words dice (commands.Check dir) asks of = absurd (not_true of)
-has_address words dice (commands.Ask address call) asks of = subst IsAddress (sym (call_second words dice address call asks.0)) asks.1
-has_address words dice (commands.Describe address name) asks of = subst IsAddress (sym (second_is words _ _ address asks.0)) asks.1
-has_address words dice (commands.Append address name) asks of = subst IsAddress (sym (second_is words _ _ address asks.0)) asks.1
-has_address words dice commands.Help asks of = absurd (not_true of)
-has_address words dice commands.Version asks of = absurd (not_true of)
-
--- words that name no address ask no server
-pub no_address : (words : List (List ℕ)) (name : Name) → BeginsWith words name → asks_server name ≡ true → (IsAddress (get_or words 1 []) → ⊥) → AsksNothing words
-no_address words name begins of none dice c asks =
-    let same = same_name words (name_of c) name (asks_fit words dice c asks).0 begins in
-    none (has_address words dice c asks (ap asks_server same ∙ of))
-
-fourth_is : (words rest : List (List ℕ)) (x a b which : List ℕ) → AreWords words x (a ∷ b ∷ which ∷ rest) → which ≡ get_or words 3 []
-fourth_is words rest x a b which are = sym (ap (λ (ws : List (List ℕ)). get_or ws 3 []) are.0)
-
-some_version : (which : List ℕ) (version : ℕ) → version_of which ≡ Some version → version_of which ≡ None → ⊥
-some_version which version some none = cc
-
-some_id : (which : List ℕ) (id : ℕ) → number_of which ≡ Some id → number_of which ≡ None → ⊥
-some_id which id some none = cc
-
--- neither a version nor an id stands at the fourth place
-abbrev NamesNone : List (List ℕ) → Type 0
-NamesNone words = (version_of (get_or words 3 []) ≡ None) × (number_of (get_or words 3 []) ≡ None)
-
-not_fetched : (words : List (List ℕ)) (dice : ℕ) (address : List ℕ) (call : Call) → AsksFor words dice address call → name_of_call call ≡ names.Fetch → NamesNone words → ⊥
-not_fetched words dice address (calls.FetchVersion name version) asks same none =
-    let is = fourth_is words _ _ _ _ asks.0 asks.1 in
-    some_version (get_or words 3 []) version (subst (λ (w : List ℕ). version_of w ≡ Some version) is asks.2) none.0
-not_fetched words dice address (calls.FetchId name id) asks same none =
-    let is = fourth_is words _ _ _ _ asks.0 asks.1 in
-    some_id (get_or words 3 []) id.0 (subst (λ (w : List ℕ). NamesId w id) is asks.3) none.1
-not_fetched words dice address calls.Ping asks same none = absurd (omega (arith, ap (λ (n : Name). key (name_text n)) same))
-not_fetched words dice address calls.List asks same none = absurd (omega (arith, ap (λ (n : Name). key (name_text n)) same))
-not_fetched words dice address (calls.Create name uri id) asks same none = absurd (omega (arith, ap (λ (n : Name). key (name_text n)) same))
-not_fetched words dice address (calls.Rename name new_name) asks same none = absurd (omega (arith, ap (λ (n : Name). key (name_text n)) same))
-not_fetched words dice address (calls.Remove name) asks same none = absurd (omega (arith, ap (λ (n : Name). key (name_text n)) same))
-not_fetched words dice address (calls.Version name) asks same none = absurd (omega (arith, ap (λ (n : Name). key (name_text n)) same))
-not_fetched words dice address (calls.Source name) asks same none = absurd asks
-not_fetched words dice address (calls.SourceById id) asks same none = absurd asks
-not_fetched words dice address (calls.SourceByUri uri) asks same none = absurd asks
-not_fetched words dice address (calls.Log name) asks same none = absurd asks
-not_fetched words dice address (calls.Append name patch) asks same none = absurd asks
-
-not_asked : (words : List (List ℕ)) (dice : ℕ) (c : Command) → Asks words dice c → name_of c ≡ names.Fetch → NamesNone words → ⊥
-not_asked words dice (commands.Ask address call) asks same none = not_fetched words dice address call asks.0 same none
-not_asked words dice c asks same none = absurd (omega (arith, ap (λ (n : Name). key (name_text n)) same))
-
--- words that name neither a version nor an id fetch nothing
-pub no_which : (words : List (List ℕ)) → BeginsWith words names.Fetch → NamesNone words → AsksNothing words
-no_which words begins none dice c asks =
-    not_asked words dice c asks (same_name words (name_of c) names.Fetch (asks_fit words dice c asks).0 begins) none
-
--- a command that asks a server, but for two, is one call
-pub is_of_call : (name : Name) → asks_server name ≡ true → (name ≡ names.Describe → ⊥) → (name ≡ names.Append → ⊥) → IsOfCall name
-is_of_call names.Ping of a b = tt
-is_of_call names.List of a b = tt
-is_of_call names.Create of a b = tt
-is_of_call names.Rename of a b = tt
-is_of_call names.Remove of a b = tt
-is_of_call names.LogVersion of a b = tt
-is_of_call names.Fetch of a b = tt
-is_of_call names.Describe of a b = absurd (a refl)
-is_of_call names.Append of a b = absurd (b refl)
-is_of_call names.Replay of a b = absurd (not_true of)
-is_of_call names.Nquads of a b = absurd (not_true of)
-is_of_call names.Gen of a b = absurd (not_true of)
-is_of_call names.Emit of a b = absurd (not_true of)
-is_of_call names.Init of a b = absurd (not_true of)
-is_of_call names.Check of a b = absurd (not_true of)
-is_of_call names.Serve of a b = absurd (not_true of)
-is_of_call names.Help of a b = absurd (not_true of)
-is_of_call names.Version of a b = absurd (not_true of)
-
--- the word at a place
-pub word_at : (xs : List (String Global)) (k : ℕ) (x : String Global) → k < length xs → x ≡ get_or xs k x → get_or (words_of xs) k [] ≡ string_bytes x
-word_at [] k x low is = absurd (omega (arith, low))
-word_at (y ∷ xs) zero x low is = ap string_bytes (sym is)
-word_at (y ∷ xs) (suc k) x low is = word_at xs k x (omega (arith, low)) is

@@ -9,7 +9,6 @@ use Rattle.patch_meaning.specs.declared.fault.PatchFault.TheVariants as patches
 use Rattle.patch_meaning.specs.declared.fault.PatchKind.{PatchKind}
 use Rattle.stream_replay.specs.Places.{line_number}
 use Rattle.rpc_calls.specs.declared.call.Call.{Call}
-use Rattle.rpc_calls.specs.declared.call.Call.TheVariants as calls
 use Rattle.client_commands.specs.Asks.{AsksBoth, AsksOnce}
 use Rattle.client_commands.specs.declared.fault.ClientFault.{ClientFault}
 use Rattle.client_commands.specs.declared.fault.ClientFault.TheVariants as clients

@@ -77,6 +77,10 @@ out_of_memory_line = codes "rdfdelta: out of memory\n"
 abbrev pub refused_line : ℕ → List ℕ → List ℕ
 refused_line status body = codes "rdfdelta: refused: " ++ (decimal status ++ (codes " " ++ (body ++ 10 ∷ [])))
 
+-- bytes that are no answer, from this place on
+abbrev pub not_understood_line : ℕ → List ℕ
+not_understood_line at = codes "rdfdelta: answer: byte " ++ (decimal at ++ codes ": not understood\n")
+
 abbrev pub chain_line : ChainFault → List ℕ
 chain_line (chains.Diverged version have found) =
     codes "rdfdelta: diverged at version " ++ (decimal version ++ (codes ": have " ++ (id_or_none have ++ (codes ", found " ++ (id_or_none found ++ 10 ∷ [])))))
@@ -99,7 +103,7 @@ line_of (refusals.WrongCount disks slots) =
 line_of refusals.DiskFailed = codes "rdfdelta: disk failed\n"
 line_of refusals.LinkFailed = codes "rdfdelta: link failed\n"
 line_of (refusals.Refused status body) = refused_line status body
-line_of (refusals.NotUnderstood at) = codes "rdfdelta: answer: byte " ++ (decimal at ++ codes ": not understood\n")
+line_of (refusals.NotUnderstood at) = not_understood_line at
 line_of refusals.CutShort = codes "rdfdelta: answer cut short\n"
 line_of (refusals.Chain fault) = chain_line fault
 line_of refusals.OutOfMemory = out_of_memory_line

@@ -30,7 +30,8 @@ pub fn ask<N: Dial, K: Sink>(
         (N.tries net.new) (N.faults net.new)))
         (channel (K.written out.old) (K.faults out.old))
         (channel (K.written out.new) (K.faults out.new))) }
-    ensures stopped { IfErr result (StopsAsking (Asked N.L.left N.L.sent N.tells address.now call.now
+    ensures stopped { IfErr result (StopsAsking
+        (Asked N.L.left N.L.sent N.tells address.now call.now
         (net_of (told_of (N.to_come net.old) (N.addresses net.old) (N.back net.old))
         (N.tries net.old) (N.faults net.old))
         (net_of (told_of (N.to_come net.new) (N.addresses net.new) (N.back net.new))

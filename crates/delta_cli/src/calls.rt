@@ -56,15 +56,11 @@ fn text_at(alloc: Global, words: &[String], place: usize) -> Result<Text, OutOfM
 }
 
 // The call of this name.
-fn make_call(
-    alloc: Global,
-    name: Name,
-    words: &[String],
-    dice: u128,
-) -> Result<Call, Refusal>
+fn make_call(alloc: Global, name: Name, words: &[String], dice: u128) -> Result<Call, Refusal>
     requires fits { FitsName (words_of words.now) name }
     requires of_call { IsOfCall name }
-    ensures call { IfOk result (AsksFor (words_of words.now) dice (get_or (words_of words.now) 1 [])) }
+    ensures call { IfOk result
+        (AsksFor (words_of words.now) dice (get_or (words_of words.now) 1 [])) }
     ensures refused { IfErr result (RefusesWords (words_of words.now)) }
 {
     match name {

@@ -64,7 +64,12 @@ fn read_named(alloc: Global, first: &str, words: &[String], dice: u128) -> Resul
 }
 
 // The command of this name.
-fn read_positions(alloc: Global, name: Name, words: &[String], dice: u128) -> Result<Command, Refusal>
+fn read_positions(
+    alloc: Global,
+    name: Name,
+    words: &[String],
+    dice: u128,
+) -> Result<Command, Refusal>
     requires begins { BeginsWith (words_of words.now) name }
     requires of_tool { IsOfTool name }
     ensures asks { IfOk result (Asks (words_of words.now) dice) }

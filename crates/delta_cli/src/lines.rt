@@ -1,7 +1,7 @@
 //! The lines on err.
 ghost use Rattle.std.specs.Prelude.{◌≡◌, ◌++◌, ◌∷◌, [], IfOk, OnOk, codes};
 ghost use Rattle.std.specs.Fmt.{decimal};
-ghost use Rattle.delta_cli.specs.Lines.{id_or_none, usage_text, place_line, limit_line, chain_line, line_of, refused_line};
+ghost use Rattle.delta_cli.specs.Lines.{id_or_none, usage_text, place_line, limit_line, chain_line, line_of, not_understood_line, refused_line};
 
 use crate::name::Name;
 use crate::refusal::Refusal;
@@ -82,7 +82,7 @@ fn refused_line(alloc: Global, status: u16, body: &Bytes) -> Result<Vec<u8>, Out
 }
 
 fn not_understood_line(alloc: Global, at: u64) -> Result<Vec<u8>, OutOfMemory>
-    ensures { IfOk result (λ text. text.items ≡ codes "rdfdelta: answer: byte " ++ (decimal at ++ codes ": not understood\n")) }
+    ensures { IfOk result (λ text. text.items ≡ not_understood_line at) }
 {
     let text = format!(in alloc; "rdfdelta: answer: byte {at}: not understood\n")?;
     Ok(text.into_bytes())

@@ -77,7 +77,8 @@ fn run_command<S: Source, K: Sink, H: Shelf, N: Dial>(
         (channel (K.written out.new) (K.faults out.new)) (H.files shelf.new) (H.faults shelf.new)
         (net_of (told_of (N.to_come net.new) (N.addresses net.new) (N.back net.new))
         (N.tries net.new) (N.faults net.new)))) }
-    ensures stops { IfErr result (λ refusal. Stops N.L.left N.L.sent H.tells N.tells command.now refusal
+    ensures stops { IfErr result (λ refusal.
+        Stops N.L.left N.L.sent H.tells N.tells command.now refusal
         (told (channel (S.left input.old) (S.faults input.old))
         (channel (K.written out.old) (K.faults out.old)) (H.files shelf.old) (H.faults shelf.old)
         (net_of (told_of (N.to_come net.old) (N.addresses net.old) (N.back net.old))

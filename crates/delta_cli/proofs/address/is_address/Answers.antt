@@ -1,9 +1,9 @@
-use Rattle.std.proofs.Common.{◌≡◌, ◌+◌, ◌-◌, ◌≤◌, List, ℕ, IsTrue, true, false, None, length, drop, take, sym, subst, ◌∙◌, ap, arith, true≢false, length-drop}
+use Rattle.std.proofs.Common.{◌≡◌, ◌+◌, ◌-◌, ◌≤◌, List, ℕ, None, length, drop, take, sym, subst, ◌∙◌, ap, arith, true≢false, length-drop}
 use Rattle.std.specs.List.{All}
 use Rattle.std.proofs.lemmas.Str.Pattern.{rfind_char}
 use Rattle.std.proofs.lemmas.Bool.{leb-true}
 use Rattle.std.proofs.lemmas.List.{take_all}
-use Rattle.delta_cli.specs.Addresses.{IsAddress, IsPort, IsVisible}
+use Rattle.delta_cli.specs.Addresses.{IsPort, IsVisible}
 use Rattle.delta_cli.proofs.Addresses.{colon_at, is_address, port_is, no_address}
 use Rattle.delta_cli.proofs.address.is_address.Goals as goal
 use Rattle.delta_cli.proofs.address.is_address.Goals.{then-bytes-le-MOST_CHARACTERS, else-bytes-le-MOST_CHARACTERS}

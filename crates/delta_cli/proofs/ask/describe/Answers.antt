@@ -1,7 +1,7 @@
 use Rattle.delta_client.specs.Lines.{told_of}
 use Rattle.delta_cli.specs.Asked.{Described}
 use Rattle.delta_cli.specs.Channels.{channel}
-use Rattle.delta_cli.specs.Told.{Net, net_of}
+use Rattle.delta_cli.specs.Told.{net_of}
 use Rattle.delta_cli.proofs.Printed.{err_weaker}
 use Rattle.delta_cli.proofs.Shown.{all_visible, stops_asking}
 use Rattle.delta_cli.proofs.ask.describe.Goals as goal

@@ -1,5 +1,6 @@
 use Rattle.std.proofs.Common.{◌≡◌, ◌≤◌, ◌+◌, ◌++◌, ◌∷◌, [], List, ℕ, length, refl, sym, ap, subst, ◌∙◌, arith, length-append}
 use Rattle.std.specs.Prelude.{Some}
+use Rattle.std.specs.Global.{Vec}
 use Rattle.disk_model.specs.Past.{began, reads}
 use Rattle.slot_checks.proofs.Steps.{opened_kept, same_bytes, visit_kept}
 use Rattle.slot_checks.specs.Checks.{AreKept}
@@ -7,6 +8,7 @@ use Rattle.slot_files.specs.Files.{bytes_at}
 use Rattle.delta_server.specs.Files.{AreMarked, AreRead}
 use Rattle.delta_server.proofs.Shelving.{marked_more, read_more}
 use Rattle.delta_server.proofs.opening.take_logs.Goals as goal
+use Rattle.delta_server.proofs.opening.take_logs.Goals.{else-loop-number-test, then-loop-number-test+in-Ok+else-number-slots}
 
 pub loop-number-preserved : goal.loop-number-preserved
 loop-number-preserved g c =
@@ -35,23 +37,33 @@ loop-number-preserved g c =
       room = c.push_reserved.ensures.capacity ∙ l.invariant.room;
     }
 
-pub returns-in-Ok-clause-marked : goal.returns-in-Ok-clause-marked
-returns-in-Ok-clause-marked g c told first =
+pub returns-clause-marked : goal.returns-clause-marked
+returns-clause-marked g c told first =
     let l = c.loop-number in
     let dir = c.args.dir.now in
+    let items = λ (disks : Vec g.row.H-D.Denot). disks.items in
     let taken : List g.row.H-D.Denot = l.disks.items in
-    subst (AreMarked g.H.D.Disk dir 0) (sym c.push_reserved.ensures.items)
-    (marked_more g.H.D.Disk dir 0 taken c.in-Ok.disk (l.invariant.marked told first)
-    (c.in-Ok.ensures.mark told ∙ ap (λ (n : ℕ). Some (dir, n)) (let at : l.number ≡ 0 + length taken = omega (arith, l.invariant.count) in at)))
+    elim c.loop-number-test.branch [
+      | else-loop-number-test w ↦ subst (AreMarked g.H.D.Disk dir 0) (sym (ap items w.disks-is)) (l.invariant.marked told first)
+      | then-loop-number-test+in-Ok+else-number-slots w ↦
+          subst (AreMarked g.H.D.Disk dir 0) (sym (ap items w.disks-is ∙ w.push_reserved.ensures.items))
+          (marked_more g.H.D.Disk dir 0 taken w.in-Ok.disk (l.invariant.marked told first)
+          (w.in-Ok.ensures.mark told ∙ ap (λ (n : ℕ). Some (dir, n)) (let at : l.number ≡ 0 + length taken = omega (arith, l.invariant.count) in at)))
+    ]
 
-pub returns-in-Ok-clause-read : goal.returns-in-Ok-clause-read
-returns-in-Ok-clause-read g c told first =
+pub returns-clause-read : goal.returns-clause-read
+returns-clause-read g c told first =
     let l = c.loop-number in
     let old = g.H.Shelf.files c.args.shelf.now in
     let mid = g.H.Shelf.files l.shelf in
     let dir = c.args.dir.now in
+    let items = λ (disks : Vec g.row.H-D.Denot). disks.items in
     let taken : List g.row.H-D.Denot = l.disks.items in
-    subst (AreRead g.H.D.Disk old dir 0) (sym c.push_reserved.ensures.items)
-    (read_more g.H.D.Disk old dir 0 taken c.in-Ok.disk (l.invariant.read told first)
-    (ap reads (c.in-Ok.ensures.opened told) ∙ same_bytes dir l.number old mid l.number (l.invariant.kept told)
-    ∙ ap (bytes_at old dir) (let at : l.number ≡ 0 + length taken = omega (arith, l.invariant.count) in at)))
+    elim c.loop-number-test.branch [
+      | else-loop-number-test w ↦ subst (AreRead g.H.D.Disk old dir 0) (sym (ap items w.disks-is)) (l.invariant.read told first)
+      | then-loop-number-test+in-Ok+else-number-slots w ↦
+          subst (AreRead g.H.D.Disk old dir 0) (sym (ap items w.disks-is ∙ w.push_reserved.ensures.items))
+          (read_more g.H.D.Disk old dir 0 taken w.in-Ok.disk (l.invariant.read told first)
+          (ap reads (w.in-Ok.ensures.opened told) ∙ same_bytes dir l.number old mid l.number (l.invariant.kept told)
+          ∙ ap (bytes_at old dir) (let at : l.number ≡ 0 + length taken = omega (arith, l.invariant.count) in at)))
+    ]
