@@ -1,10 +1,11 @@
 //! Clients of a server of logs: so many connections, each of which asks and waits for the reply, over and over.
 //!
 //! All requests are made before the time begins, and of a reply only its status and its length are looked at, so that a client has
-//! little to do.
+//! little to do. The first connection that has asked for all ends the others, so that all are there for as long as the time runs.
 
 use std::io::{self, Read, Write};
 use std::net::TcpStream;
+use std::sync::atomic::{AtomicBool, Ordering};
 use std::sync::Barrier;
 use std::thread;
 use std::time::{Duration, Instant};
@@ -178,24 +179,34 @@ fn requests(line: &mut Line, kind: Kind, log: u32, count: u64) -> io::Result<Vec
     }
 }
 
+/// Where the connections wait for each other, and whether one of them has ended.
+struct Race {
+    start: Barrier,
+    over: AtomicBool,
+}
+
 /// When one connection began and ended, and how long each of its requests took.
-fn run(address: &str, kind: Kind, log: u32, count: u64, start: &Barrier) -> io::Result<(Instant, Instant, Vec<Duration>)> {
+fn run(address: &str, kind: Kind, log: u32, count: u64, race: &Race) -> io::Result<(Instant, Instant, Vec<Duration>)> {
     let prepared = Line::open(address).and_then(|mut line| {
         let requests = requests(&mut line, kind, log, count)?;
         line.ready()?;
         Ok((line, requests))
     });
     // Who failed waits as well, so that nobody waits for it.
-    start.wait();
+    race.start.wait();
     let (mut line, requests) = prepared?;
     let mut times = Vec::with_capacity(requests.len());
     let begin = Instant::now();
     for request in &requests {
+        if race.over.load(Ordering::Relaxed) {
+            break;
+        }
         line.ready()?;
         let asked = Instant::now();
         line.ask(request.as_bytes())?;
         times.push(asked.elapsed());
     }
+    race.over.store(true, Ordering::Relaxed);
     Ok((begin, Instant::now(), times))
 }
 
@@ -203,12 +214,15 @@ fn run(address: &str, kind: Kind, log: u32, count: u64, start: &Barrier) -> io::
 /// microseconds.
 pub fn load(address: &str, connections: u32, word: &str, count: u64) -> Result<String, String> {
     let kind = kind(word).ok_or("kinds: append, append-rows, fetch, fetch-one")?;
-    let start = Barrier::new(connections as usize);
+    let race = Race {
+        start: Barrier::new(connections as usize),
+        over: AtomicBool::new(false),
+    };
     let found: io::Result<Vec<_>> = thread::scope(|scope| {
         let clients: Vec<_> = (1..=connections)
             .map(|log| {
-                let start = &start;
-                scope.spawn(move || run(address, kind, log, count, start))
+                let race = &race;
+                scope.spawn(move || run(address, kind, log, count, race))
             })
             .collect();
         clients.into_iter().map(|client| client.join().unwrap()).collect()
