@@ -5,11 +5,15 @@
 //! Both read standard input, check what they read, and stop with status 3 at a fault.
 //! `plain open DIR` opens the registry and the first log of DIR and prints a line for each.
 //! `plain append DIR N` writes N payloads of 200 bytes to a new file of DIR, each with two writes and two syncs.
+//! `plain serve DIR ADDR WORKERS SLOTS` serves the logs of DIR over HTTP, until it is stopped.
+//! `plain load ADDR CONNECTIONS KIND COUNT` asks a server so many times over each of so many connections, and prints the times.
 
 mod append;
+mod load;
 mod nquads;
 mod open;
 mod replay;
+mod serve;
 
 use std::io::{self, Read, Write};
 use std::process::ExitCode;
@@ -71,6 +75,43 @@ fn open(dir: &str) -> ExitCode {
     }
 }
 
+fn serve(words: &[String]) -> ExitCode {
+    let [dir, address, workers, slots] = words else {
+        eprintln!("usage: plain serve DIR ADDR WORKERS SLOTS");
+        return ExitCode::from(2);
+    };
+    let (Ok(workers), Ok(slots)) = (workers.parse(), slots.parse()) else {
+        return ExitCode::from(2);
+    };
+    match serve::serve(dir, address, workers, slots) {
+        Ok(()) => ExitCode::SUCCESS,
+        Err(message) => {
+            eprintln!("plain: {message}");
+            ExitCode::from(6)
+        }
+    }
+}
+
+fn load(words: &[String]) -> ExitCode {
+    let [address, connections, kind, count] = words else {
+        eprintln!("usage: plain load ADDR CONNECTIONS KIND COUNT");
+        return ExitCode::from(2);
+    };
+    let (Ok(connections), Ok(count)) = (connections.parse(), count.parse()) else {
+        return ExitCode::from(2);
+    };
+    match load::load(address, connections, kind, count) {
+        Ok(line) => {
+            println!("{line}");
+            ExitCode::SUCCESS
+        }
+        Err(message) => {
+            eprintln!("plain: {message}");
+            ExitCode::from(6)
+        }
+    }
+}
+
 fn main() -> ExitCode {
     let words: Vec<String> = std::env::args().skip(1).collect();
     let word = words.first().cloned().unwrap_or_default();
@@ -79,6 +120,12 @@ fn main() -> ExitCode {
     }
     if word == "append" {
         return append(&words[1..]);
+    }
+    if word == "serve" {
+        return serve(&words[1..]);
+    }
+    if word == "load" {
+        return load(&words[1..]);
     }
     match run(&word) {
         Ok(out) => match io::stdout().lock().write_all(&out) {

@@ -7,9 +7,15 @@ use std::fs;
 use std::path::Path;
 
 /// A patch's id, and the id that it names as the one before it.
-struct Link {
-    id: [u8; 16],
-    prev: Option<[u8; 16]>,
+pub struct Link {
+    pub id: [u8; 16],
+    pub prev: Option<[u8; 16]>,
+}
+
+/// What a log's file holds.
+pub struct Chain<'a> {
+    pub patches: Vec<(Link, &'a [u8])>,
+    pub versions: HashMap<[u8; 16], usize>,
 }
 
 fn refused<T>(text: String) -> Result<T, String> {
@@ -30,7 +36,7 @@ fn number(id: &[u8], at: usize) -> Result<[u8; 16], Fault> {
 }
 
 /// The rows of one patch.
-fn link(text: &[u8]) -> Result<Link, Fault> {
+pub fn link(text: &[u8]) -> Result<Link, Fault> {
     let mut reader = Reader { text, at: 0 };
     let (mut id, mut prev, mut inside) = (None, None, false);
     loop {
@@ -91,22 +97,33 @@ fn payloads(file: &[u8], slot: u32) -> Result<Vec<&[u8]>, String> {
     }
 }
 
-/// The line that tells what a log's file holds.
-pub fn log(dir: &str, slot: u32) -> Result<String, String> {
+/// The bytes of a log's file.
+pub fn file(dir: &str, slot: u32) -> Result<Vec<u8>, String> {
     let path = Path::new(dir).join(format!("rdj-{slot:04}"));
-    let file = fs::read(path).map_err(|error| error.to_string())?;
-    let mut chain: Vec<(Link, &[u8])> = Vec::new();
-    let mut versions: HashMap<[u8; 16], usize> = HashMap::new();
-    for payload in payloads(&file, slot)? {
-        let version = chain.len() + 1;
+    fs::read(path).map_err(|error| error.to_string())
+}
+
+/// The chain that a log's file holds.
+pub fn chain(file: &[u8], slot: u32) -> Result<Chain<'_>, String> {
+    let mut patches: Vec<(Link, &[u8])> = Vec::new();
+    let mut versions = HashMap::new();
+    for payload in payloads(file, slot)? {
+        let version = patches.len() + 1;
         let broken = || format!("broken chain at version {version}");
         let link = link(payload).map_err(|_| broken())?;
-        let follows = link.prev == chain.last().map(|(last, _)| last.id);
+        let follows = link.prev == patches.last().map(|(last, _)| last.id);
         if !follows || versions.insert(link.id, version).is_some() {
             return refused(broken());
         }
-        chain.push((link, payload));
+        patches.push((link, payload));
     }
+    Ok(Chain { patches, versions })
+}
+
+/// The line that tells what a log's file holds.
+pub fn log(dir: &str, slot: u32) -> Result<String, String> {
+    let file = file(dir, slot)?;
+    let chain = chain(&file, slot)?.patches;
     let head = match chain.last() {
         None => "none".into(),
         Some((link, _)) => text(&link.id),
@@ -114,7 +131,8 @@ pub fn log(dir: &str, slot: u32) -> Result<String, String> {
     Ok(format!("file {slot} patches {} head {head}", chain.len()))
 }
 
-fn text(id: &[u8; 16]) -> String {
+/// An id in its hyphenated form.
+pub fn text(id: &[u8; 16]) -> String {
     let hex: String = id.iter().map(|b| format!("{b:02x}")).collect();
     [&hex[..8], &hex[8..12], &hex[12..16], &hex[16..20], &hex[20..]].join("-")
 }

@@ -1,0 +1,246 @@
+//! Clients of a server of logs: so many connections, each of which asks and waits for the reply, over and over.
+//!
+//! All requests are made before the time begins, and of a reply only its status and its length are looked at, so that a client has
+//! little to do. The first connection that has asked for all ends the others, so that all are there for as long as the time runs.
+
+use std::io::{self, Read, Write};
+use std::net::TcpStream;
+use std::sync::atomic::{AtomicBool, Ordering};
+use std::sync::Barrier;
+use std::thread;
+use std::time::{Duration, Instant};
+
+/// How long a server may be silent.
+const PATIENCE: Duration = Duration::from_secs(75);
+
+const ROWS: u64 = 100;
+
+/// What the connections ask for.
+#[derive(Clone, Copy, PartialEq, Eq)]
+enum Kind {
+    /// A patch of two headers behind the head, each connection to a log of its own.
+    Append,
+    /// The same with a block of rows.
+    AppendRows,
+    /// A version, each connection of a log of its own.
+    Fetch,
+    /// A version of the first log.
+    FetchOne,
+}
+
+fn kind(word: &str) -> Option<Kind> {
+    match word {
+        "append" => Some(Kind::Append),
+        "append-rows" => Some(Kind::AppendRows),
+        "fetch" => Some(Kind::Fetch),
+        "fetch-one" => Some(Kind::FetchOne),
+        _ => None,
+    }
+}
+
+struct Line {
+    address: String,
+    stream: TcpStream,
+    read: Vec<u8>,
+    closed: bool,
+}
+
+fn dial(address: &str) -> io::Result<TcpStream> {
+    let stream = TcpStream::connect(address)?;
+    stream.set_nodelay(true)?;
+    stream.set_read_timeout(Some(PATIENCE))?;
+    Ok(stream)
+}
+
+fn wrong<T>(reply: &[u8]) -> io::Result<T> {
+    Err(io::Error::other(String::from_utf8_lossy(reply).into_owned()))
+}
+
+/// The value of a field of a head, which has the form that both servers print.
+fn field<'a>(head: &'a str, name: &str) -> Option<&'a str> {
+    let (_, rest) = head.split_once(name)?;
+    rest.split("\r\n").next()
+}
+
+impl Line {
+    fn open(address: &str) -> io::Result<Line> {
+        Ok(Line {
+            address: address.into(),
+            stream: dial(address)?,
+            read: vec![0; 65_536],
+            closed: false,
+        })
+    }
+
+    /// Dials again where the server has closed the connection.
+    fn ready(&mut self) -> io::Result<()> {
+        if self.closed {
+            self.stream = dial(&self.address)?;
+            self.closed = false;
+        }
+        Ok(())
+    }
+
+    /// The body of the reply to a request, which has status 200.
+    fn ask(&mut self, request: &[u8]) -> io::Result<&[u8]> {
+        self.stream.write_all(request)?;
+        let (mut had, mut whole) = (0, None);
+        loop {
+            let count = self.stream.read(&mut self.read[had..])?;
+            if count == 0 {
+                return wrong(&self.read[..had]);
+            }
+            had += count;
+            if whole.is_none() {
+                if let Some(end) = self.read[..had].windows(4).position(|four| four == b"\r\n\r\n") {
+                    let head = std::str::from_utf8(&self.read[..end]).map_err(io::Error::other)?;
+                    let length = field(head, "Content-Length: ").and_then(|text| text.parse::<usize>().ok());
+                    let Some(length) = length.filter(|_| head.starts_with("HTTP/1.1 200 ")) else {
+                        return wrong(&self.read[..had]);
+                    };
+                    self.closed = field(head, "Connection: close").is_some();
+                    whole = Some((end + 4, end + 4 + length));
+                }
+            }
+            if let Some((begin, end)) = whole.filter(|(_, end)| *end <= had) {
+                return Ok(&self.read[begin..end]);
+            }
+        }
+    }
+
+    /// How long a log is, and the id of its last patch.
+    fn log(&mut self, log: u32) -> io::Result<(u64, Option<String>)> {
+        let body = self.ask(get(log, "").as_bytes())?;
+        let text = std::str::from_utf8(body).map_err(io::Error::other)?;
+        let head = text.split("\"head\":\"").nth(1).map(|rest| rest[..36].to_string());
+        let version = text.split("\"version\":").nth(1).and_then(|rest| rest.trim_end_matches('}').parse().ok());
+        match version {
+            Some(version) => Ok((version, head)),
+            None => Err(io::Error::other(text.to_string())),
+        }
+    }
+}
+
+fn get(log: u32, behind: &str) -> String {
+    format!("GET /L{log}{behind} HTTP/1.1\r\nHost: a\r\n\r\n")
+}
+
+/// A number that looks random, another one for each.
+fn mixed(number: u64) -> u64 {
+    let mut z = number.wrapping_mul(0x9e37_79b9_7f4a_7c15);
+    z = (z ^ (z >> 30)).wrapping_mul(0xbf58_476d_1ce4_e5b9);
+    z = (z ^ (z >> 27)).wrapping_mul(0x94d0_49bb_1331_11eb);
+    z ^ (z >> 31)
+}
+
+/// The id of a version.
+fn id(version: u64) -> String {
+    let hex = format!("{:016x}{:016x}", mixed(version), mixed(!version));
+    [&hex[..8], &hex[8..12], &hex[12..16], &hex[16..20], &hex[20..]].join("-")
+}
+
+/// The patches that follow the head of a log, as requests.
+fn appends(log: u32, version: u64, head: Option<String>, rows: u64, count: u64) -> Vec<String> {
+    let (mut prev, mut made) = (head, Vec::new());
+    for version in version + 1..=version + count {
+        let id = id(version);
+        let mut patch = format!("H id <uuid:{id}> .\n");
+        if let Some(prev) = prev {
+            patch += &format!("H prev <uuid:{prev}> .\n");
+        }
+        if rows > 0 {
+            patch += "TX .\n";
+            for row in 0..rows {
+                patch += &format!("A <http://g/s{row}> <http://g/p{}> \"{version}\" .\n", row % 7);
+            }
+            patch += "TC .\n";
+        }
+        made.push(format!(
+            "POST /L{log} HTTP/1.1\r\nHost: a\r\nContent-Type: application/rdf-patch\r\nContent-Length: {}\r\n\r\n{patch}",
+            patch.len()
+        ));
+        prev = Some(id);
+    }
+    made
+}
+
+/// The requests of one connection.
+fn requests(line: &mut Line, kind: Kind, log: u32, count: u64) -> io::Result<Vec<String>> {
+    let log = if kind == Kind::FetchOne { 1 } else { log };
+    let (version, head) = line.log(log)?;
+    match kind {
+        Kind::Append => Ok(appends(log, version, head, 0, count)),
+        Kind::AppendRows => Ok(appends(log, version, head, ROWS, count)),
+        Kind::Fetch | Kind::FetchOne if version < 2 => Err(io::Error::other("nothing to fetch")),
+        // The first patch has no head before it, and so is shorter than all others.
+        Kind::Fetch | Kind::FetchOne => Ok((0..count)
+            .map(|turn| get(log, &format!("/{}", 2 + mixed(turn) % (version - 1))))
+            .collect()),
+    }
+}
+
+/// Where the connections wait for each other, and whether one of them has ended.
+struct Race {
+    start: Barrier,
+    over: AtomicBool,
+}
+
+/// When one connection began and ended, and how long each of its requests took.
+fn run(address: &str, kind: Kind, log: u32, count: u64, race: &Race) -> io::Result<(Instant, Instant, Vec<Duration>)> {
+    let prepared = Line::open(address).and_then(|mut line| {
+        let requests = requests(&mut line, kind, log, count)?;
+        line.ready()?;
+        Ok((line, requests))
+    });
+    // Who failed waits as well, so that nobody waits for it.
+    race.start.wait();
+    let (mut line, requests) = prepared?;
+    let mut times = Vec::with_capacity(requests.len());
+    let begin = Instant::now();
+    for request in &requests {
+        if race.over.load(Ordering::Relaxed) {
+            break;
+        }
+        line.ready()?;
+        let asked = Instant::now();
+        line.ask(request.as_bytes())?;
+        times.push(asked.elapsed());
+    }
+    race.over.store(true, Ordering::Relaxed);
+    Ok((begin, Instant::now(), times))
+}
+
+/// The line that tells what so many connections saw: requests, seconds, and the median and the 99th percentile of the latency in
+/// microseconds.
+pub fn load(address: &str, connections: u32, word: &str, count: u64) -> Result<String, String> {
+    let kind = kind(word).ok_or("kinds: append, append-rows, fetch, fetch-one")?;
+    let race = Race {
+        start: Barrier::new(connections as usize),
+        over: AtomicBool::new(false),
+    };
+    let found: io::Result<Vec<_>> = thread::scope(|scope| {
+        let clients: Vec<_> = (1..=connections)
+            .map(|log| {
+                let race = &race;
+                scope.spawn(move || run(address, kind, log, count, race))
+            })
+            .collect();
+        clients.into_iter().map(|client| client.join().unwrap()).collect()
+    });
+    let found = found.map_err(|error| error.to_string())?;
+    let begin = found.iter().map(|(begin, _, _)| *begin).min();
+    let end = found.iter().map(|(_, end, _)| *end).max();
+    let mut times: Vec<Duration> = found.into_iter().flat_map(|(_, _, times)| times).collect();
+    times.sort();
+    let (Some(begin), Some(end), false) = (begin, end, times.is_empty()) else {
+        return Err("nothing was asked".into());
+    };
+    let micros = |share: f64| times[((times.len() - 1) as f64 * share) as usize].as_nanos() as f64 / 1e3;
+    let seconds = (end - begin).as_secs_f64();
+    Ok(format!(
+        "requests {} seconds {seconds:.6} median {:.1} p99 {:.1}",
+        times.len(),
+        micros(0.5),
+        micros(0.99)
+    ))
+}
