@@ -42,11 +42,7 @@ struct Asking<'a> {
 }
 
 /// A dial whose connections give these texts. The call of `connect` of this number fails.
-fn dial_of(
-    alloc: Global,
-    texts: &[&str],
-    failing: Option<u64>,
-) -> Result<MemDial<MemLink>, Fail> {
+fn dial_of(alloc: Global, texts: &[&str], failing: Option<u64>) -> Result<MemDial<MemLink>, Fail> {
     let mut links = Vec::new(alloc);
     for text in texts {
         let content = Bytes::from_slice(alloc, text.as_bytes())?;
@@ -107,7 +103,11 @@ fn version_run<'a>(replies: &'a [&'a str], status: u8, out: &'a str, err: &'a st
 
 #[test]
 fn a_version_is_printed(rt: HostRuntime) -> Result<(), Fail> {
-    expect(&rt, rt.alloc(), &version_run(&[VERSION], 0, "{\"version\":1}\n", ""))
+    expect(
+        &rt,
+        rt.alloc(),
+        &version_run(&[VERSION], 0, "{\"version\":1}\n", ""),
+    )
 }
 
 #[test]
@@ -125,7 +125,15 @@ fn a_connect_that_fails_is_told(rt: HostRuntime) -> Result<(), Fail> {
     let alloc = rt.alloc();
     let mut net = dial_of(alloc, &[VERSION], Some(0))?;
     let failed = version_run(&[], 6, "", "rdfdelta: link failed\n");
-    expect_over(&rt, alloc, &mut net, &Asking { sent: &[], ..failed })
+    expect_over(
+        &rt,
+        alloc,
+        &mut net,
+        &Asking {
+            sent: &[],
+            ..failed
+        },
+    )
 }
 
 #[test]
@@ -237,8 +245,15 @@ fn a_patch_is_fetched_by_version_and_by_id(rt: HostRuntime) -> Result<(), Fail> 
     };
     expect(&rt, alloc, &by_version)?;
     let by_id = Asking {
-        words: &["fetch", ADDRESS, "ABC", "{00000000-0000-4000-8000-00000000000A}"],
-        sent: &["GET /ABC/00000000-0000-4000-8000-00000000000a HTTP/1.1\r\nHost: 127.0.0.1:1066\r\n\r\n"],
+        words: &[
+            "fetch",
+            ADDRESS,
+            "ABC",
+            "{00000000-0000-4000-8000-00000000000A}",
+        ],
+        sent: &[
+            "GET /ABC/00000000-0000-4000-8000-00000000000a HTTP/1.1\r\nHost: 127.0.0.1:1066\r\n\r\n",
+        ],
         ..by_version
     };
     expect(&rt, alloc, &by_id)
@@ -256,7 +271,9 @@ fn a_source_is_created_with_an_id_of_the_dice(rt: HostRuntime) -> Result<(), Fai
         status: 0,
         out: out.as_str(),
         err: "",
-        sent: &["POST /$/rpc HTTP/1.1\r\nHost: 127.0.0.1:1066\r\nContent-Type: application/json\r\nContent-Length: 100\r\n\r\n{\"id\":\"00000000-0000-4000-8000-000000000000\",\"name\":\"ABC\",\"operation\":\"create\",\"uri\":\"http://e/abc\"}"],
+        sent: &[
+            "POST /$/rpc HTTP/1.1\r\nHost: 127.0.0.1:1066\r\nContent-Type: application/json\r\nContent-Length: 100\r\n\r\n{\"id\":\"00000000-0000-4000-8000-000000000000\",\"name\":\"ABC\",\"operation\":\"create\",\"uri\":\"http://e/abc\"}",
+        ],
     };
     expect(&rt, alloc, &run)
 }
