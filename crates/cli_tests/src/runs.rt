@@ -258,11 +258,26 @@ fn other_words_are_refused(rt: HostRuntime) -> Result<(), Fail> {
         (&["--help", "me"], "rdfdelta: usage: --help\n"),
         (&["ping", "127.0.0.1"], "rdfdelta: usage: ping ADDR\n"),
         (&["list", "-e:80"], "rdfdelta: usage: list ADDR\n"),
-        (&["append", "e:80x", "ABC"], "rdfdelta: usage: append ADDR NAME\n"),
-        (&["describe", "e:", "ABC"], "rdfdelta: usage: describe ADDR NAME\n"),
-        (&["create", "e:80", "ABC"], "rdfdelta: usage: create ADDR NAME URI\n"),
-        (&["fetch", "e:80", "ABC", "12345678901"], "rdfdelta: usage: fetch ADDR NAME WHICH\n"),
-        (&["fetch", "e:80", "ABC", "first"], "rdfdelta: usage: fetch ADDR NAME WHICH\n"),
+        (
+            &["append", "e:80x", "ABC"],
+            "rdfdelta: usage: append ADDR NAME\n",
+        ),
+        (
+            &["describe", "e:", "ABC"],
+            "rdfdelta: usage: describe ADDR NAME\n",
+        ),
+        (
+            &["create", "e:80", "ABC"],
+            "rdfdelta: usage: create ADDR NAME URI\n",
+        ),
+        (
+            &["fetch", "e:80", "ABC", "12345678901"],
+            "rdfdelta: usage: fetch ADDR NAME WHICH\n",
+        ),
+        (
+            &["fetch", "e:80", "ABC", "first"],
+            "rdfdelta: usage: fetch ADDR NAME WHICH\n",
+        ),
     ] {
         runs(&rt, alloc, words, 2, "", err)?;
     }
