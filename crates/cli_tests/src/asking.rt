@@ -24,10 +24,37 @@ const PATCH: &str =
 const ASKED: &str =
     "POST /$/rpc HTTP/1.1\r\nHost: 127.0.0.1:1066\r\nContent-Type: application/json\r\nContent-Length: 36\r\n\r\n{\"name\":\"ABC\",\"operation\":\"version\"}";
 
-const SOURCE: &str =
-    "{\"id\":\"00000000-0000-4000-8000-000000000001\",\"name\":\"ABC\",\"slot\":1,\"uri\":\"http://e/abc\"}";
+/// What `describe` prints of a source and its log.
+const DESCRIBED: &str =
+    "{\"id\":\"00000000-0000-4000-8000-000000000001\",\"name\":\"ABC\",\"slot\":1,\"uri\":\"http://e/abc\"}\n{\"head\":null,\"version\":0}\n";
 
-const INFO: &str = "{\"head\":null,\"version\":0}";
+/// The source, behind which the connection ends.
+const CLOSING: &str =
+    "HTTP/1.1 200 OK\r\nConnection: close\r\nContent-Type: application/json\r\nContent-Length: 88\r\n\r\n{\"id\":\"00000000-0000-4000-8000-000000000001\",\"name\":\"ABC\",\"slot\":1,\"uri\":\"http://e/abc\"}";
+
+/// The log.
+const TOLD_LOG: &str =
+    "HTTP/1.1 200 OK\r\nContent-Type: application/json\r\nContent-Length: 25\r\n\r\n{\"head\":null,\"version\":0}";
+
+/// Both on one connection.
+const BOTH: &str =
+    "HTTP/1.1 200 OK\r\nContent-Type: application/json\r\nContent-Length: 88\r\n\r\n{\"id\":\"00000000-0000-4000-8000-000000000001\",\"name\":\"ABC\",\"slot\":1,\"uri\":\"http://e/abc\"}HTTP/1.1 200 OK\r\nContent-Type: application/json\r\nContent-Length: 25\r\n\r\n{\"head\":null,\"version\":0}";
+
+/// The request for the source.
+const ASKED_SOURCE: &str =
+    "POST /$/rpc HTTP/1.1\r\nHost: 127.0.0.1:1066\r\nContent-Type: application/json\r\nContent-Length: 35\r\n\r\n{\"name\":\"ABC\",\"operation\":\"source\"}";
+
+/// The request for the log.
+const ASKED_LOG: &str =
+    "POST /$/rpc HTTP/1.1\r\nHost: 127.0.0.1:1066\r\nContent-Type: application/json\r\nContent-Length: 32\r\n\r\n{\"name\":\"ABC\",\"operation\":\"log\"}";
+
+/// Both on one connection.
+const ASKED_BOTH: &str =
+    "POST /$/rpc HTTP/1.1\r\nHost: 127.0.0.1:1066\r\nContent-Type: application/json\r\nContent-Length: 35\r\n\r\n{\"name\":\"ABC\",\"operation\":\"source\"}POST /$/rpc HTTP/1.1\r\nHost: 127.0.0.1:1066\r\nContent-Type: application/json\r\nContent-Length: 32\r\n\r\n{\"name\":\"ABC\",\"operation\":\"log\"}";
+
+/// A source that was made.
+const CREATED: &str =
+    "HTTP/1.1 200 OK\r\nContent-Type: application/json\r\nContent-Length: 88\r\n\r\n{\"id\":\"00000000-0000-4000-8000-000000000001\",\"name\":\"ABC\",\"slot\":1,\"uri\":\"http://e/abc\"}";
 
 /// What is run over links that give these texts, and what it answers and sends.
 #[derive(Clone, Copy)]
@@ -183,52 +210,38 @@ fn what_is_no_patch_is_sent_to_nobody(rt: HostRuntime) -> Result<(), Fail> {
     Ok(())
 }
 
-/// A reply with this body. Where it closes, the connection ends behind it.
-fn reply_of(alloc: Global, closes: bool, body: &str) -> Result<String, Fail> {
-    let close = if closes { "Connection: close\r\n" } else { "" };
-    let length = body.len();
-    Ok(format!(in alloc;
-        "HTTP/1.1 200 OK\r\n{close}Content-Type: application/json\r\nContent-Length: {length}\r\n\r\n{body}"
-    )?)
+/// Runs `describe` over links that give these texts.
+fn describes(
+    rt: &impl Abort,
+    alloc: Global,
+    replies: &[&str],
+    status: u8,
+    err: &str,
+    sent: &[&str],
+) -> Result<(), Fail> {
+    expect(
+        rt,
+        alloc,
+        &Asking {
+            words: &["describe", ADDRESS, "ABC"],
+            text: "",
+            replies,
+            status,
+            out: if status == 0 { DESCRIBED } else { "" },
+            err,
+            sent,
+        },
+    )
 }
 
 #[test]
 fn a_source_and_its_log_are_described(rt: HostRuntime) -> Result<(), Fail> {
     let alloc = rt.alloc();
-    let source =
-        "POST /$/rpc HTTP/1.1\r\nHost: 127.0.0.1:1066\r\nContent-Type: application/json\r\nContent-Length: 35\r\n\r\n{\"name\":\"ABC\",\"operation\":\"source\"}";
-    let log =
-        "POST /$/rpc HTTP/1.1\r\nHost: 127.0.0.1:1066\r\nContent-Type: application/json\r\nContent-Length: 32\r\n\r\n{\"name\":\"ABC\",\"operation\":\"log\"}";
-    let out = format!(in alloc; "{SOURCE}\n{INFO}\n")?;
-    let second = reply_of(alloc, false, INFO)?;
-    let open = reply_of(alloc, false, SOURCE)?;
-    let both = format!(in alloc; "{open}{second}")?;
-    let asked = format!(in alloc; "{source}{log}")?;
-    let one = Asking {
-        words: &["describe", ADDRESS, "ABC"],
-        text: "",
-        replies: &[both.as_str()],
-        status: 0,
-        out: out.as_str(),
-        err: "",
-        sent: &[asked.as_str()],
-    };
-    expect(&rt, alloc, &one)?;
-    let closing = reply_of(alloc, true, SOURCE)?;
-    let two = Asking {
-        replies: &[closing.as_str(), second.as_str()],
-        sent: &[source, log],
-        ..one
-    };
-    expect(&rt, alloc, &two)?;
-    let cut = Asking {
-        replies: &[closing.as_str(), ""],
-        status: 7,
-        out: "",
-        err: "rdfdelta: answer cut short\n",
-        ..two
-    };
-    expect(&rt, alloc, &cut)
+    describes(&rt, alloc, &[BOTH], 0, "", &[ASKED_BOTH])?;
+    let asked = &[ASKED_SOURCE, ASKED_LOG];
+    describes(&rt, alloc, &[CLOSING, TOLD_LOG], 0, "", asked)?;
+    let short = "rdfdelta: answer cut short\n";
+    describes(&rt, alloc, &[CLOSING, ""], 7, short, asked)
 }
 
 #[test]
@@ -262,14 +275,12 @@ fn a_patch_is_fetched_by_version_and_by_id(rt: HostRuntime) -> Result<(), Fail> 
 #[test]
 fn a_source_is_created_with_an_id_of_the_dice(rt: HostRuntime) -> Result<(), Fail> {
     let alloc = rt.alloc();
-    let reply = reply_of(alloc, false, SOURCE)?;
-    let out = format!(in alloc; "{SOURCE}\n")?;
     let run = Asking {
         words: &["create", ADDRESS, "ABC", "http://e/abc"],
         text: "",
-        replies: &[reply.as_str()],
+        replies: &[CREATED],
         status: 0,
-        out: out.as_str(),
+        out: "{\"id\":\"00000000-0000-4000-8000-000000000001\",\"name\":\"ABC\",\"slot\":1,\"uri\":\"http://e/abc\"}\n",
         err: "",
         sent: &[
             "POST /$/rpc HTTP/1.1\r\nHost: 127.0.0.1:1066\r\nContent-Type: application/json\r\nContent-Length: 100\r\n\r\n{\"id\":\"00000000-0000-4000-8000-000000000000\",\"name\":\"ABC\",\"operation\":\"create\",\"uri\":\"http://e/abc\"}",
