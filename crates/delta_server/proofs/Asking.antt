@@ -1,8 +1,7 @@
 -- Words that ask for a server.
-use Rattle.std.proofs.Common.{◌≡◌, ◌≢◌, ℕ, ◌+◌, ◌<◌, ◌≤◌, ◌^◌, List, [], ◌∷◌, length, get_or, refl, sym, ◌∙◌, ap, subst, arith}
+use Rattle.std.proofs.Common.{◌≡◌, ◌≢◌, ℕ, List, [], ◌∷◌, length, get_or, refl, sym, ◌∙◌, subst, arith}
 use Rattle.std.specs.Prelude.{String, string_bytes, codes}
 use Rattle.std.specs.Fmt.{decimal}
-use Rattle.std.specs.List.{All}
 use Rattle.std.specs.declared.alloc.Global.{Global}
 use Rattle.std.proofs.lemmas.List.Elements.{All-nil, All-cons, All-head, All-tail}
 use Rattle.command_words.specs.Positions.{FitPositions, IsPlainWord}

@@ -1,10 +1,10 @@
 -- The count of files is that of the registry's own file.
-use Rattle.std.proofs.Common.{◌≡◌, ◌≢◌, ℕ, ◌+◌, List, [], ◌∷◌, length, refl, sym, ◌∙◌, ap, subst, arith}
+use Rattle.std.proofs.Common.{◌≡◌, ℕ, List, [], ◌∷◌, length, refl, sym, ◌∙◌, subst, arith}
 use Rattle.disk_model.specs.Past.{reads}
 use Rattle.disk_model.specs.declared.disk.Disk.{Ghosts}
 use Rattle.log_journal.proofs.OneReading.{one_list}
 use Rattle.log_journal.specs.File.{Holds}
-use Rattle.log_registry.specs.State.{StateView, events_in}
+use Rattle.log_registry.specs.State.{events_in}
 use Rattle.log_registry.specs.declared.fault.RegistryFault.{RegistryFault}
 use Rattle.log_registry.specs.declared.fault.RegistryFault.TheVariants as registry
 use Rattle.patch_log.specs.declared.fault.LogFault.{LogFault}
@@ -13,10 +13,9 @@ use Rattle.registry_core.proofs.Openings.{one_registry}
 use Rattle.registry_core.specs.Texts.{payloads_of}
 use Rattle.slot_checks.specs.Sound.{HoldsRegistry}
 use Rattle.slot_files.specs.Files.{Files, bytes_at}
-use Rattle.delta_session.specs.Opening.{IsOpenedRegistry, IsRefusedHall, IsRefused, registry_refused, miscounted, log_refused, wanting, of_log, of_registry}
+use Rattle.delta_session.specs.Opening.{IsRefusedHall, IsRefused, registry_refused, miscounted, log_refused, wanting, of_log, of_registry}
 use Rattle.delta_session.specs.declared.fault.HallFault.{HallFault}
 use Rattle.delta_session.specs.declared.fault.HallFault.TheVariants as halls
-use Rattle.delta_server.specs.Files.{AreRead}
 use Rattle.delta_server.specs.Serving.{AreAsked}
 
 -- a file is that of one registry

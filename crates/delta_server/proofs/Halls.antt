@@ -1,28 +1,19 @@
 -- The disks of a hall that was opened, refused or closed.
-use Rattle.std.proofs.Common.{◌≡◌, ◌≢◌, ◌⊎◌, inl, inr, ⊎_elim, ℕ, ◌+◌, ◌<◌, ◌≤◌, List, [], ◌∷◌, length, map, refl, sym, ◌∙◌, ap, subst, arith}
-use Rattle.std.specs.Prelude.{Option, Some, None}
+use Rattle.std.proofs.Common.{◌≡◌, inl, inr, ⊎_elim, ℕ, ◌+◌, ◌<◌, List, [], ◌∷◌, length, map, refl, sym, ◌∙◌, ap, subst, arith}
 use Rattle.delta_base.specs.Outside.{Rose}
 use Rattle.delta_base.specs.declared.limits.LogLimits.{LogLimits}
 use Rattle.delta_base.specs.declared.limits.TheConstants.{LOG_LIMITS}
-use Rattle.disk_model.specs.Past.{reads}
 use Rattle.disk_model.specs.declared.disk.Disk.{Ghosts}
 use Rattle.hall_logs.specs.Ends.{AreEnded}
 use Rattle.hall_logs.specs.Files.{AreLeft, AreOpened, AreRefused}
-use Rattle.log_journal.proofs.OneReading.{one_list}
-use Rattle.log_registry.specs.State.{StateView, events_in}
 use Rattle.log_registry.specs.declared.fault.RegistryFault.{RegistryFault}
 use Rattle.log_registry.specs.declared.fault.RegistryFault.TheVariants as registry
 use Rattle.patch_log.specs.State.{LogView}
 use Rattle.patch_log.specs.declared.fault.LogFault.{LogFault}
 use Rattle.patch_log.specs.declared.fault.LogFault.TheVariants as log
-use Rattle.registry_core.proofs.Openings.{one_registry}
-use Rattle.registry_core.specs.Texts.{payloads_of}
-use Rattle.shared_log.specs.History.{fixed_of}
 use Rattle.shared_log.specs.Passes.{LogSight}
 use Rattle.shared_log.specs.declared.value.LogFixed.{LogFixed}
-use Rattle.shared_registry.specs.History.{fixed_of as registry_fixed}
 use Rattle.shared_registry.specs.declared.value.RegistryFixed.{RegistryFixed}
-use Rattle.slot_files.specs.Files.{Files, bytes_at}
 use Rattle.turn_cell.specs.Sights.{Made}
 use Rattle.turn_cell.specs.Turns.{IsIn}
 use Rattle.delta_session.specs.Ends.{IsEnded}
@@ -31,7 +22,6 @@ use Rattle.delta_session.specs.Steps.{HallView, HallSight}
 use Rattle.delta_session.specs.declared.fault.HallFault.{HallFault}
 use Rattle.delta_session.specs.declared.fault.HallFault.TheVariants as halls
 use Rattle.delta_server.specs.Files.{AreMarked}
-use Rattle.delta_server.specs.Serving.{AreAsked}
 
 module _ {D : Type 0} (disks : Ghosts D) where
   -- ---- marks

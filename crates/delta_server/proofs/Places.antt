@@ -1,6 +1,6 @@
 -- Places in lists.
-use Rattle.std.proofs.Common.{◌≡◌, ⊎_elim, ℕ, ◌<◌, ◌≤◌, List, length, sym, ◌∙◌, arith}
-use Rattle.std.specs.Prelude.{Option, Some, None, slice_get}
+use Rattle.std.proofs.Common.{◌≡◌, ⊎_elim, ℕ, ◌<◌, List, length, sym, ◌∙◌}
+use Rattle.std.specs.Prelude.{Some, None, slice_get}
 use Rattle.std.proofs.lemmas.Option.{slice_get_cases}
 
 -- what stands at a place stands within

@@ -1,16 +1,15 @@
 -- Disks of files, taken one after another and put back.
-use Rattle.std.proofs.Common.{◌≡◌, ◌≢◌, ◌⊎◌, inl, inr, ⊎_elim, ℕ, zero, suc, ◌+◌, ◌<◌, ◌≤◌, List, [], ◌∷◌, ◌++◌, length, refl, sym, ◌∙◌, ap, subst, arith, length-append}
-use Rattle.std.specs.Prelude.{Option, Some, None, Result, Ok, Err, IfErr, OnOk, unwrap_or}
+use Rattle.std.proofs.Common.{◌≡◌, inl, inr, ⊎_elim, ℕ, ◌+◌, ◌<◌, ◌≤◌, List, [], ◌∷◌, ◌++◌, length, refl, ◌∙◌, ap, subst, arith}
+use Rattle.std.specs.Prelude.{Option, Some, Result, Ok, Err, IfErr, OnOk}
 use Rattle.std.proofs.lemmas.Bool.{cases_lt}
 use Rattle.delta_base.specs.Outside.{Rose}
 use Rattle.disk_model.specs.Past.{began, reads}
 use Rattle.disk_model.specs.Shelf.{SameOthers}
 use Rattle.disk_model.specs.declared.disk.Disk.{Ghosts}
-use Rattle.slot_checks.proofs.Steps.{all_kept, opened_kept, same_bytes, visit_kept}
+use Rattle.slot_checks.proofs.Steps.{all_kept, opened_kept, visit_kept}
 use Rattle.slot_checks.specs.Checks.{AreKept, IsKept}
 use Rattle.slot_files.proofs.Steps.{at_or_not, other_dir, other_number, visited}
 use Rattle.slot_files.specs.Files.{Files, SameBut, bytes_at}
-use Rattle.turn_cell.specs.Turns.{IsIn}
 use Rattle.delta_server.specs.Files.{AreMarked, AreRead, ArePutBack, HaveRead}
 
 module _ {D : Type 0} (disks : Ghosts D) where

@@ -1,15 +1,10 @@
 //! The disks of a directory's files.
-ghost use Rattle.std.specs.Prelude.{◌≡◌, ◌⊎◌, ℕ, ◌+◌, ◌<◌, ◌≤◌, ◌∷◌, [], List, IfOk, IfErr, IsErrOf, length, vec_len, vec_capacity};
+ghost use Rattle.std.specs.Prelude.{ℕ, ◌<◌, ◌≤◌, List};
 ghost use Rattle.delta_base.specs.Outside.{Rose};
-ghost use Rattle.delta_base.specs.declared.limits.TheConstants.{MOST_SLOTS};
-ghost use Rattle.disk_model.specs.Past.{reads};
-ghost use Rattle.slot_files.specs.Files.{bytes_at};
-ghost use Rattle.slot_checks.specs.Checks.{AreKept};
 ghost use Rattle.turn_cell.specs.Turns.{IsIn};
-ghost use Rattle.delta_server.specs.Files.{AreMarked, AreRead, ArePutBack};
+ghost use Rattle.delta_server.specs.Files.{AreMarked, ArePutBack};
 
-use delta_base::Text;
-use disk_model::{Shelf, ShelfFault};
+use disk_model::Shelf;
 
 /// Puts disks back, the last one first.
 pub fn put_back<H: Shelf>(shelf: &mut H, disks: Vec<H::D>)

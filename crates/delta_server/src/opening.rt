@@ -1,5 +1,5 @@
 //! A hall over the files of a directory.
-ghost use Rattle.std.specs.Prelude.{◌≡◌, ◌⊎◌, ℕ, ◌+◌, ◌<◌, ◌≤◌, [], ◌∷◌, List, IfOk, IfErr, OnOk, OnErr, length, vec_len, vec_capacity};
+ghost use Rattle.std.specs.Prelude.{◌≡◌, ◌⊎◌, ℕ, ◌+◌, ◌<◌, ◌≤◌, [], IfOk, IfErr, OnOk, OnErr, length, vec_capacity};
 ghost use Rattle.delta_base.specs.Outside.{Rose};
 ghost use Rattle.delta_base.specs.declared.limits.TheConstants.{MOST_SLOTS};
 ghost use Rattle.slot_files.specs.Files.{bytes_at};

@@ -1,5 +1,5 @@
 //! What the words ask for.
-ghost use Rattle.std.specs.Prelude.{◌≡◌, ◌≢◌, ◌∷◌, ◌≤◌, ℕ, List, IfOk, IfErr, OnOk};
+ghost use Rattle.std.specs.Prelude.{◌≡◌, ℕ, List, IfOk, IfErr, OnOk};
 ghost use Rattle.command_words.specs.Positions.{FitPositions};
 ghost use Rattle.delta_cli.specs.Channels.{words_of};
 ghost use Rattle.delta_cli.specs.Commands.{BeginsWith, FitsName, positions_of};

@@ -1,7 +1,5 @@
-use Rattle.std.proofs.Common.{◌≡◌, ◌⊎◌, inl, inr, ⊎_elim, ◌<◌, ◌+◌, ◌++◌, ◌∷◌, [], List, ℕ, length, refl, sym, ap, subst, ◌∙◌, arith, append_assoc, length-append}
+use Rattle.std.proofs.Common.{◌≡◌, ⊎_elim, ◌<◌, ◌+◌, ◌++◌, ◌∷◌, [], List, ℕ, length, ap, subst, ◌∙◌, arith, append_assoc, length-append}
 use Rattle.std.specs.Prelude.{Some}
-use Rattle.delta_base.specs.Outside.{Rose}
-use Rattle.turn_cell.specs.Turns.{IsIn}
 use Rattle.delta_server.specs.Files.{AreMarked}
 use Rattle.delta_server.proofs.Shelving.{AreBack, back_more, marked_split, rose_before, rose_behind}
 use Rattle.delta_server.proofs.files.put_back.Goals as goal

@@ -1,4 +1,4 @@
-use Rattle.std.proofs.Common.{◌≡◌, ◌⊎◌, ◌<◌, ◌≤◌, ◌++◌, List, ℕ, length, vec_len}
+use Rattle.std.proofs.Common.{◌≡◌, ◌<◌, ◌≤◌, ◌++◌, List, ℕ, length, vec_len}
 use Rattle.delta_base.specs.Outside.{Rose}
 use Rattle.turn_cell.specs.Turns.{IsIn}
 use Rattle.delta_server.specs.Files.{AreMarked}

@@ -1,4 +1,4 @@
-use Rattle.std.proofs.Common.{◌≡◌, ◌<◌, ◌≤◌, ◌+◌, IsTrue, ℕ, get_or, length, refl, sym, ap, subst, ◌∙◌, arith, true≢false}
+use Rattle.std.proofs.Common.{ℕ, get_or, refl, sym, subst, ◌∙◌, arith, true≢false}
 use Rattle.delta_base.specs.Outside.{Rose}
 use Rattle.delta_server.proofs.Risen.{risen_at, none_more, none_failed}
 use Rattle.delta_server.proofs.gates.have_failed.Goals as goal

@@ -1,6 +1,5 @@
-use Rattle.std.proofs.Common.{◌≡◌, ◌+◌, ◌≤◌, Err, List, ℕ, length, refl, sym, ap, subst, ◌∙◌, arith}
+use Rattle.std.proofs.Common.{List, ℕ, sym, subst}
 use Rattle.slot_checks.specs.Checks.{AreKept}
-use Rattle.delta_session.specs.declared.fault.HallFault.{HallFault}
 use Rattle.delta_server.specs.Ends.{Stops, at_files, at_hall, shelf_view}
 use Rattle.delta_server.proofs.Counted.{counted}
 use Rattle.delta_server.proofs.Halls.{refused_failing, refused_length, refused_marked}

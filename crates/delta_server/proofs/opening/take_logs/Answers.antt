@@ -1,9 +1,8 @@
-use Rattle.std.proofs.Common.{◌≡◌, ◌≤◌, ◌+◌, ◌++◌, ◌∷◌, [], List, ℕ, length, refl, sym, ap, subst, ◌∙◌, arith, length-append}
+use Rattle.std.proofs.Common.{◌≡◌, ◌+◌, ◌∷◌, [], List, ℕ, length, sym, ap, subst, ◌∙◌, arith, length-append}
 use Rattle.std.specs.Prelude.{Some}
 use Rattle.std.specs.Global.{Vec}
-use Rattle.disk_model.specs.Past.{began, reads}
+use Rattle.disk_model.specs.Past.{reads}
 use Rattle.slot_checks.proofs.Steps.{opened_kept, same_bytes, visit_kept}
-use Rattle.slot_checks.specs.Checks.{AreKept}
 use Rattle.slot_files.specs.Files.{bytes_at}
 use Rattle.delta_server.specs.Files.{AreMarked, AreRead}
 use Rattle.delta_server.proofs.Shelving.{marked_more, read_more}

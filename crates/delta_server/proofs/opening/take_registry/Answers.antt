@@ -1,9 +1,7 @@
-use Rattle.std.proofs.Common.{◌≡◌, List, ℕ, inl, inr, ◌+◌, ◌<◌, Err, refl, sym, ap, subst, ◌∙◌, arith}
-use Rattle.std.specs.Prelude.{Some}
-use Rattle.delta_base.specs.Outside.{Rose}
+use Rattle.std.proofs.Common.{List, ℕ, inl, inr, Err, refl, sym, ap, subst, ◌∙◌}
 use Rattle.disk_model.specs.Past.{reads}
 use Rattle.disk_model.specs.declared.shelf.ShelfFault.{ShelfFault}
-use Rattle.slot_checks.proofs.Steps.{all_kept, opened_kept, visit_kept}
+use Rattle.slot_checks.proofs.Steps.{all_kept, visit_kept}
 use Rattle.slot_checks.specs.Faults.{HasRegistryFault}
 use Rattle.slot_checks.specs.declared.fault.CheckFault.{CheckFault}
 use Rattle.delta_cli.specs.declared.refusal.Refusal.TheVariants as refusals

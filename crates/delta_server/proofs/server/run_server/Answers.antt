@@ -1,7 +1,6 @@
-use Rattle.std.proofs.Common.{◌≡◌, ◌⊎◌, inl, inr, List, ℕ, refl, sym, ap, subst, ◌∙◌}
+use Rattle.std.proofs.Common.{refl}
 use Rattle.std.proofs.KnownBytes.{Keeps-refl}
-use Rattle.delta_cli.specs.Channels.{channel, words_of}
-use Rattle.delta_server.specs.Ends.{Answers, served, failed, refused}
+use Rattle.delta_server.specs.Ends.{served, failed, refused}
 use Rattle.delta_server.proofs.Shelving.{err_at, on_ok}
 use Rattle.delta_server.proofs.server.run_server.Goals as goal
 use Rattle.delta_server.proofs.server.run_server.Goals.{in-Ok-answer, in-Err-answer}

@@ -1,4 +1,4 @@
-use Rattle.std.proofs.Common.{◌≡◌, ◌⊎◌, inl, inr, ◌+◌, ◌≤◌, List, ℕ, length, map, take, refl, sym, ap, subst, ◌∙◌, arith, true≢false}
+use Rattle.std.proofs.Common.{inl, inr, List, map, take, refl, sym, ap, subst, ◌∙◌, true≢false}
 use Rattle.slot_checks.proofs.Steps.{all_kept}
 use Rattle.delta_cli.specs.declared.refusal.Refusal.TheVariants as refusals
 use Rattle.delta_server.specs.Ends.{at_files, at_shelf}

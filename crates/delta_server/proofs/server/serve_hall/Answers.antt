@@ -1,4 +1,4 @@
-use Rattle.std.proofs.Common.{◌≡◌, ◌⊎◌, inl, inr, ◌+◌, ◌-◌, ◌≤◌, ◌++◌, List, ℕ, length, map, take, drop, refl, sym, ap, subst, ◌∙◌, arith, take-append-drop}
+use Rattle.std.proofs.Common.{◌≡◌, inr, ◌≤◌, ◌++◌, List, ℕ, length, map, take, drop, refl, sym, ap, subst, ◌∙◌, arith, take-append-drop}
 use Rattle.slot_checks.proofs.Steps.{all_kept}
 use Rattle.slot_checks.specs.Checks.{AreKept}
 use Rattle.delta_cli.specs.declared.refusal.Refusal.TheVariants as refusals

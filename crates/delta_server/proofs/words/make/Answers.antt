@@ -1,4 +1,4 @@
-use Rattle.std.proofs.Common.{◌≡◌, ◌∷◌, [], sym, ap, subst, ◌∙◌, arith}
+use Rattle.std.proofs.Common.{◌≡◌, ◌∷◌, [], sym, subst, ◌∙◌, arith}
 use Rattle.std.specs.Prelude.{Some, codes, string_bytes}
 use Rattle.std.specs.Fmt.{decimal}
 use Rattle.command_words.specs.Positions.{IsPlainWord}
