@@ -7,9 +7,11 @@ mod laws;
 mod lines;
 mod parts;
 mod printing;
+mod values;
 
 pub use canonical::canonical_lines;
 pub use fault::DocFault;
 pub use laws::{document_faults_are_met, documents_are_read, lines_are_read};
 pub use parts::read_document;
 pub use printing::{print_document, print_line, push_line};
+pub use values::quad_is_value;

@@ -20,6 +20,6 @@ pub use fault::TermFault;
 pub use iri::{Iri, has_scheme, is_forbidden};
 pub use label::Label;
 pub use names::{begins_name, is_name_base, is_name_char, is_name_start};
-pub use quad::{BadPosition, Quad};
+pub use quad::{BadPosition, Quad, copy_graph};
 pub use tag::Tag;
 pub use term::{Literal, LiteralKind, Term};

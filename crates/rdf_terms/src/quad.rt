@@ -58,7 +58,8 @@ fn first_bad_place(subject: &Term, predicate: &Term, graph: &Option<Term>) -> Op
     None
 }
 
-pub(crate) fn copy_graph(graph: &Option<Term>) -> Result<Option<Term>, OutOfMemory>
+/// A copy of a graph's name, where it has one.
+pub fn copy_graph(graph: &Option<Term>) -> Result<Option<Term>, OutOfMemory>
     ensures { IfOk result (λ g. g ≡ graph.now) }
 {
     Ok(match graph {
