@@ -18,10 +18,14 @@ def plain():
     return program
 
 
+def program():
+    """The path of rdfdelta, the one that bin/rdfdelta runs."""
+    return Path(subprocess.run([TOP / "bin/program"], stdout=subprocess.PIPE, check=True, text=True).stdout.strip())
+
+
 def built():
-    """The paths of rdfdelta, built by its wrapper, and of the plain Rust program."""
-    subprocess.run([TOP / "bin/rdfdelta", "replay"], stdin=subprocess.DEVNULL, check=True)
-    return TOP / "crates/rdfdelta/out/rdfdelta", plain()
+    """The paths of rdfdelta and of the plain Rust program."""
+    return program(), plain()
 
 
 def run(words, source, out):

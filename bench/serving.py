@@ -6,7 +6,7 @@ import subprocess
 import sys
 import time
 
-from measure import TOP
+from measure import program
 
 WORKERS = 16
 
@@ -16,12 +16,6 @@ def free_port():
     with socket.socket() as probe:
         probe.bind(("127.0.0.1", 0))
         return probe.getsockname()[1]
-
-
-def program():
-    """The path of the program, built by its wrapper."""
-    subprocess.run([TOP / "bin/rdfdelta", "replay"], stdin=subprocess.DEVNULL, check=True)
-    return TOP / "crates/rdfdelta/out/rdfdelta"
 
 
 class Server:
