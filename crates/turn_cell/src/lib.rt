@@ -4,8 +4,8 @@
 //! later stay finds; how long the history is can be asked at any time, without waiting.
 #![tactic(auto)]
 
-mod beds;
 mod chained;
+mod door;
 mod give_back;
 mod held;
 mod makes;

@@ -4,8 +4,8 @@ ghost use Rattle.turn_cell.specs.declared.view.Role.TheVariants.{Pass as IsPass}
 ghost use Rattle.turn_cell.specs.Turns.{AllOf, seat_of, first_seat};
 ghost use Rattle.turn_cell.specs.Sights.{IsNew, AreOf, Gathers};
 
-use crate::beds::Beds;
 use crate::chained::Chained;
+use crate::door::Door;
 use crate::plays::{Deal, TakeIn};
 use crate::rule::Making;
 use crate::steps::{Cell, Place};
@@ -87,8 +87,8 @@ fn lay<V: Chained>(alloc: Global, value: V, seats: u32) -> Result<(Turn<V>, Plac
     slots.push_reserved(Some(value));
     match Table::new(alloc, &[0, 0, count, faults], slots, &making) {
         Ok((table, seat)) => {
-            let beds = Beds::new();
-            Ok((Turn { table, beds }, seat))
+            let door = Door::new();
+            Ok((Turn { table, door }, seat))
         }
         Err(Refused { mut slots }) => {
             let Some(slot) = slots.pop() else {
