@@ -12,8 +12,7 @@ invariant_of-self c =
     let entry : Entry = record { patch = c.args.patch; by = c.args.by } in
     let entries = c.self.inside.chain.items in
     let kept = subst (λ (l : Listed Entry). IsKept (l.items ++ entry ∷ [])) (sym c.self.view_is) c.requires.kept in
-    let version : c.version-version.result + 1 ≡ length (patches_of entries) + 1 = ap (λ (n : ℕ). n + 1) (c.version-version.ensures.version ∙ sym (length-map entries patch_of)) in
-    (
+    let version : c.version-version.result + 1 ≡ length (patches_of entries) + 1 = ap (λ (n : ℕ). n + 1) (c.version-version.ensures.version ∙ sym (length-map entries patch_of)) in (
       rw c.push.ensures.items (index_grown entries entry c.self.inside.versions c.insert.new.self (c.version-version.result + 1) c.self.invariant.0 kept version c.in-Ok.ensures.updates.0),
       omega (arith, c.push.ensures.spare, c.self.invariant.1),
       omega (arith, c.insert.ensures.spare, c.self.invariant.2),
