@@ -142,6 +142,10 @@ class Volume:
             return 0
         return process if str(self.brick(number)) in words else 0
 
+    def signal_healer(self, what):
+        """To the process that heals this machine's bricks."""
+        os.kill(int(Path(f"/run/gluster/shd/{NAME}/{NAME}-shd.pid").read_text()), what)
+
     def signal(self, what, *numbers):
         for number in numbers:
             os.kill(self.process(number), what)
@@ -175,9 +179,9 @@ class Volume:
         """The folder at which the volume is mounted by a client of its own."""
         place = self.folder / name
         place.mkdir(exist_ok=True)
-        words = ["glusterfs", "--no-daemon", f"--volfile-server={ADDRESS}", f"--volfile-id=/{NAME}"]
-        log = f"--log-file={self.folder}/log/{name}.log"
-        self.clients[name] = subprocess.Popen([*words, log, place])
+        # As mount.glusterfs would, but as a process that can be killed.
+        words = ["glusterfs", "--no-daemon", f"--volfile-server={ADDRESS}", f"--volfile-id=/{NAME}", "--direct-io-mode=enable"]
+        self.clients[name] = subprocess.Popen([*words, f"--log-file={self.folder}/log/{name}.log", place])
         until(30, place.is_mount, f"{name} is mounted")
         return place
 
