@@ -15,8 +15,9 @@ from pathlib import Path
 
 HERE = Path(__file__).resolve().parent
 NAME, BRICKS = "rdfdelta", (1, 2, 3)
-# An address for documentation, which only this loopback has: glusterd takes none of 127.0.0.0/8.
+# Addresses for documentation, which only this network has: glusterd takes none of 127.0.0.0/8.
 ADDRESS = "192.0.2.1"
+LINKS = "198.51.100"
 INSIDE = "RDFDELTA_LOOPBACK"
 NAMESPACES = ["setpriv", "--pdeathsig", "KILL", "unshare", "--mount", "--net", "--pid", "--fork", "--kill-child", "--mount-proc"]
 WANTED = {
@@ -24,6 +25,7 @@ WANTED = {
     "gluster": "glusterfs-server",
     "glusterfs": "glusterfs-server",
     "ip": "iproute2",
+    "nsenter": "util-linux",
     "unshare": "util-linux",
     "setpriv": "util-linux",
     "mount": "mount",
@@ -75,7 +77,7 @@ def refuse_to_start():
 
 
 def reap(child):
-    """As the first process of the namespaces: takes note of the end of each one that has lost its parent, and ends with the child."""
+    """As the first process of the namespaces: takes note of the end of each one without a parent, and ends with the child."""
     while True:
         process, status = os.wait()
         if process == child:
@@ -108,7 +110,7 @@ class Volume:
     """A started volume of three replicas with the options of rdfdelta.group. Its bricks are folders of one disk."""
 
     def __init__(self, folder):
-        self.folder, self.clients = folder, {}
+        self.folder, self.clients, self.linked = folder, {}, []
         for name in "lib", "log", "run/gluster":
             (folder / name).mkdir(parents=True)
         for name, place in ("lib", "/var/lib/glusterd"), ("log", "/var/log/glusterfs"), ("run", "/run"):
@@ -175,15 +177,37 @@ class Volume:
             return self.unhealed() == 0
         return until(60, is_healed, "all bricks are healed")
 
+    def link(self, name):
+        """A network of its own for the client of a mount, as for another machine, with one link to that of the bricks."""
+        near, far = (f"{LINKS}.{2 * len(self.linked) + end}" for end in (0, 1))
+        run("ip", "netns", "add", name)
+        run("ip", "link", "add", name, "type", "veth", "peer", "name", "far", "netns", name)
+        run("ip", "address", "add", f"{near}/31", "dev", name)
+        run("ip", "link", "set", name, "up")
+        run("ip", "-n", name, "address", "add", f"{far}/31", "dev", "far")
+        run("ip", "-n", name, "link", "set", "far", "up")
+        run("ip", "-n", name, "route", "add", "default", "via", near)
+        self.linked.append(name)
+
     def mount(self, name):
-        """The folder at which the volume is mounted by a client of its own."""
+        """The folder at which the volume is mounted by a client in a network of its own."""
+        if name not in self.linked:
+            self.link(name)
         place = self.folder / name
         place.mkdir(exist_ok=True)
         # As mount.glusterfs would, but as a process that can be killed.
         words = ["glusterfs", "--no-daemon", f"--volfile-server={ADDRESS}", f"--volfile-id=/{NAME}", "--direct-io-mode=enable"]
-        self.clients[name] = subprocess.Popen([*words, f"--log-file={self.folder}/log/{name}.log", place])
+        words = ["nsenter", f"--net=/run/netns/{name}", *words, f"--log-file={self.folder}/log/{name}.log", place]
+        self.clients[name] = subprocess.Popen(words)
         until(30, place.is_mount, f"{name} is mounted")
         return place
+
+    def cut(self, name):
+        """Cuts the client of a mount off from all bricks: nothing comes through, and nobody is told."""
+        run("ip", "link", "set", name, "down")
+
+    def join(self, name):
+        run("ip", "link", "set", name, "up")
 
     def lose(self, name):
         """Kills the client of a mount, as the end of its machine would, and takes the mount away."""
