@@ -40,7 +40,7 @@ class Log:
             sys.exit(f"{self.name}: {status} {body}")
 
     def verify(self, server, version):
-        """Fetches what is new of the log, of which `check` told the version, and tests the chain and all that was acknowledged."""
+        """Fetches what is new of the log, whose version `check` told, and tests the chain and all that was acknowledged."""
         connection = server.connect()
         _, info = operation(connection, operation="log", name=self.name)
         if info["version"] < version:

@@ -2,7 +2,8 @@
 
 A script that calls `alone` is run again in namespaces of its own (mounts, network, processes) over a new folder. In them stands
 another glusterd than the machine's, if that has one: the files of glusterd, its sockets and its logs are in the folder, and the
-network is a loopback of its own. When the script ends, however it ends, all that it started ends with it, and the folder goes.
+network is a loopback of its own. When the script ends, however it ends, all that it started ends with it. The folder goes then,
+and stays only where the script was ended by SIGKILL.
 """
 import os
 import shutil
@@ -84,6 +85,15 @@ def reap(child):
             os._exit(abs(os.waitstatus_to_exitcode(status)))
 
 
+def end(process):
+    """Ends the first process of the namespaces, and all others with it. The one that made them ends once they have."""
+    children = Path(f"/proc/{process.pid}/task/{process.pid}/children").read_text().split()
+    for child in children:
+        os.kill(int(child), signal.SIGKILL)
+    if not children:
+        process.kill()
+
+
 def alone():
     """Returns the new folder in the namespaces. Outside of them, it runs the script there and ends with its status."""
     if INSIDE in os.environ:
@@ -94,15 +104,9 @@ def alone():
     refuse_to_start()
     with tempfile.TemporaryDirectory(prefix="rdfdelta-volume-") as folder:
         process = subprocess.Popen([*NAMESPACES, sys.executable, *sys.argv], env={**os.environ, INSIDE: folder})
-        for number in signal.SIGTERM, signal.SIGHUP:
-            signal.signal(number, lambda *_: process.kill())
-        try:
-            status = process.wait()
-        except KeyboardInterrupt:
-            status = 130
-        finally:
-            process.kill()
-            process.wait()
+        for number in signal.SIGINT, signal.SIGTERM, signal.SIGHUP:
+            signal.signal(number, lambda *_: end(process))
+        status = process.wait()
     sys.exit(status if status >= 0 else 128 - status)
 
 
