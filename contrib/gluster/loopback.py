@@ -127,7 +127,7 @@ class Volume:
         words = ["glusterd", "--no-daemon", "--volfile", folder / "glusterd.vol"]
         self.glusterd = subprocess.Popen(words, stderr=subprocess.DEVNULL)
         listed = ["gluster", "--mode=script", "volume", "list"]
-        until(30, lambda: subprocess.run(listed, capture_output=True).returncode == 0, "glusterd answers")
+        until(60, lambda: subprocess.run(listed, capture_output=True).returncode == 0, "glusterd answers")
         bricks = [f"{ADDRESS}:{self.brick(number)}" for number in BRICKS]
         # Asked without force, glusterd takes no brick on the disk of the system.
         gluster("volume", "create", NAME, "replica", len(BRICKS), *bricks, "force")
@@ -158,7 +158,7 @@ class Volume:
 
     def kill(self, *numbers):
         self.signal(signal.SIGKILL, *numbers)
-        until(10, lambda: not any(self.process(number) for number in numbers), f"bricks {numbers} end")
+        until(30, lambda: not any(self.process(number) for number in numbers), f"bricks {numbers} end")
 
     def start_bricks(self):
         """Starts the bricks that don't run."""
@@ -166,7 +166,7 @@ class Volume:
         self.await_bricks()
 
     def await_bricks(self):
-        until(30, lambda: all(self.process(number) for number in BRICKS), "all bricks run")
+        until(60, lambda: all(self.process(number) for number in BRICKS), "all bricks run")
 
     def unhealed(self):
         """How many entries aren't the same on all bricks, counted at each of them; none where a brick doesn't tell."""
@@ -203,7 +203,7 @@ class Volume:
         words = ["glusterfs", "--no-daemon", f"--volfile-server={ADDRESS}", f"--volfile-id=/{NAME}", "--direct-io-mode=enable"]
         words = ["nsenter", f"--net=/run/netns/{name}", *words, f"--log-file={self.folder}/log/{name}.log", place]
         self.clients[name] = subprocess.Popen(words)
-        until(30, place.is_mount, f"{name} is mounted")
+        until(60, place.is_mount, f"{name} is mounted")
         return place
 
     def cut(self, name):
