@@ -110,6 +110,37 @@ pub(crate) fn reply(alloc: Global, status: &str, body: &[u8]) -> Result<Vec<u8>,
     Ok(text)
 }
 
+/// A request to the first pass or the second one, and its reply.
+pub(crate) struct Exchange {
+    pub place: usize,
+    pub line: &'static str,
+    pub body: &'static [u8],
+    pub status: &'static str,
+    pub told: &'static [u8],
+}
+
+/// These requests are answered so, one behind another.
+pub(crate) fn answers_each<R: Abort + Wait>(
+    rt: &R,
+    alloc: Global,
+    hall: &mut Opened<MemDisk>,
+    exchanges: &[Exchange],
+) -> Result<(), OutOfMemory> {
+    for it in exchanges {
+        answers(
+            rt,
+            alloc,
+            hall,
+            it.place % 2,
+            it.line,
+            it.body,
+            it.status,
+            it.told,
+        )?;
+    }
+    Ok(())
+}
+
 /// A request with this first line and body is answered to one of the two passes with this status and body.
 pub(crate) fn answers<R: Abort + Wait>(
     rt: &R,

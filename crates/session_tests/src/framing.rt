@@ -1,7 +1,7 @@
 //! How requests come, and how sessions end.
 ghost use Rattle.std.specs.Prelude.{◌<◌};
 
-use crate::asking::{answers, link_of, open, reply, request, talks};
+use crate::asking::{Exchange, answers, answers_each, link_of, open, reply, request, talks};
 use crate::logs::{CREATE, FIRST, SOURCE};
 use crate::opened::Opened;
 use delta_base::OutOfMemory;
@@ -12,70 +12,56 @@ use std::process::Abort;
 use std::sync::Wait;
 use std::test::Fail;
 
+// Requests, and the replies to them.
+const REFUSED: &[(&[u8], &[u8])] = &[
+    (
+        b"GET /$/rpc HTTP/1.1\r\nHost: a\r\n\r\n",
+        b"HTTP/1.1 405 Method Not Allowed\r\nAllow: POST\r\nContent-Type: application/json\r\nContent-Length: 22\r\n\r\n{\"error\":\"bad_method\"}",
+    ),
+    (
+        b"DELETE /ABC HTTP/1.1\r\nHost: a\r\n\r\n",
+        b"HTTP/1.1 405 Method Not Allowed\r\nAllow: GET, POST\r\nContent-Type: application/json\r\nContent-Length: 22\r\n\r\n{\"error\":\"bad_method\"}",
+    ),
+    (
+        b"POST /ABC HTTP/1.1\r\nHost: a\r\nContent-Type: application/rdf-patch+thrift\r\nContent-Length: 1\r\n\r\nA",
+        b"HTTP/1.1 415 Unsupported Media Type\r\nContent-Type: application/json\r\nContent-Length: 17\r\n\r\n{\"error\":\"media\"}",
+    ),
+    (b"", b""),
+];
+
+const ANSWERED: &[Exchange] = &[
+    Exchange {
+        place: 0,
+        line: "GET /$/ping",
+        body: b"",
+        status: "200 OK",
+        told: b"{\"ping\":\"ok\"}",
+    },
+    Exchange {
+        place: 0,
+        line: "POST /$/rpc",
+        body: b"[]",
+        status: "400 Bad Request",
+        told: b"{\"error\":\"bad_json\"}",
+    },
+    Exchange {
+        place: 0,
+        line: "POST /$/rpc",
+        body: b"{}",
+        status: "400 Bad Request",
+        told: b"{\"error\":\"bad_call\",\"member\":\"operation\"}",
+    },
+];
+
 fn refuse_requests<R: Abort + Wait>(
     rt: &R,
     alloc: Global,
     hall: &mut Opened<MemDisk>,
-) -> Result<(), Fail> {
-    talks(
-        rt,
-        alloc,
-        hall,
-        0,
-        b"GET /$/rpc HTTP/1.1\r\nHost: a\r\n\r\n",
-        SessionEnd::Closed,
-        b"HTTP/1.1 405 Method Not Allowed\r\nAllow: POST\r\nContent-Type: application/json\r\nContent-Length: 22\r\n\r\n{\"error\":\"bad_method\"}",
-    )?;
-    talks(
-        rt,
-        alloc,
-        hall,
-        0,
-        b"DELETE /ABC HTTP/1.1\r\nHost: a\r\n\r\n",
-        SessionEnd::Closed,
-        b"HTTP/1.1 405 Method Not Allowed\r\nAllow: GET, POST\r\nContent-Type: application/json\r\nContent-Length: 22\r\n\r\n{\"error\":\"bad_method\"}",
-    )?;
-    talks(
-        rt,
-        alloc,
-        hall,
-        0,
-        b"POST /ABC HTTP/1.1\r\nHost: a\r\nContent-Type: application/rdf-patch+thrift\r\nContent-Length: 1\r\n\r\nA",
-        SessionEnd::Closed,
-        b"HTTP/1.1 415 Unsupported Media Type\r\nContent-Type: application/json\r\nContent-Length: 17\r\n\r\n{\"error\":\"media\"}",
-    )?;
-    talks(rt, alloc, hall, 0, b"", SessionEnd::Closed, b"")?;
-    answers(
-        rt,
-        alloc,
-        hall,
-        0,
-        "GET /$/ping",
-        b"",
-        "200 OK",
-        b"{\"ping\":\"ok\"}",
-    )?;
-    answers(
-        rt,
-        alloc,
-        hall,
-        0,
-        "POST /$/rpc",
-        b"[]",
-        "400 Bad Request",
-        b"{\"error\":\"bad_json\"}",
-    )?;
-    answers(
-        rt,
-        alloc,
-        hall,
-        0,
-        "POST /$/rpc",
-        b"{}",
-        "400 Bad Request",
-        b"{\"error\":\"bad_call\",\"member\":\"operation\"}",
-    )?;
-    Ok(())
+) -> Result<(), OutOfMemory> {
+    for (text, sent) in REFUSED {
+        talks(rt, alloc, hall, 0, text, SessionEnd::Closed, sent)?;
+    }
+    answers_each(rt, alloc, hall, ANSWERED)
 }
 
 #[test]
@@ -84,7 +70,7 @@ fn requests_are_refused(rt: HostRuntime) -> Result<(), Fail> {
     let mut hall = open(alloc)?;
     let ran = refuse_requests(&rt, alloc, &mut hall);
     drop(hall);
-    ran
+    Ok(ran?)
 }
 
 /// The texts of two requests, of which the first makes a source, and of their replies.

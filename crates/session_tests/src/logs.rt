@@ -1,5 +1,5 @@
 //! What logs say.
-use crate::asking::{answers, disk, open, over};
+use crate::asking::{Exchange, answers, answers_each, disk, open, over};
 use crate::opened::Opened;
 use delta_base::OutOfMemory;
 use disk_model::MemDisk;
@@ -25,83 +25,78 @@ pub(crate) const THIRD: &[u8] =
 
 pub(crate) const NINTH: &[u8] = b"H id <uuid:00000000-0000-4000-8000-000000000009> .\n";
 
+const APPENDED_AND_FETCHED: &[Exchange] = &[
+    Exchange {
+        place: 0,
+        line: "POST /$/rpc",
+        body: CREATE,
+        status: "200 OK",
+        told: SOURCE,
+    },
+    Exchange {
+        place: 0,
+        line: "POST /ABC",
+        body: FIRST,
+        status: "200 OK",
+        told: b"{\"version\":1}",
+    },
+    Exchange {
+        place: 1,
+        line: "GET /ABC/1",
+        body: b"",
+        status: "200 OK",
+        told: FIRST,
+    },
+    Exchange {
+        place: 1,
+        line: "GET /ABC/00000000-0000-4000-8000-000000000001",
+        body: b"",
+        status: "200 OK",
+        told: FIRST,
+    },
+    Exchange {
+        place: 0,
+        line: "POST /ABC",
+        body: SECOND,
+        status: "200 OK",
+        told: b"{\"version\":2}",
+    },
+    Exchange {
+        place: 0,
+        line: "POST /ABC",
+        body: THIRD,
+        status: "409 Conflict",
+        told: b"{\"error\":\"conflict\",\"head\":\"00000000-0000-4000-8000-000000000002\",\"prev_version\":1,\"version\":2}",
+    },
+    Exchange {
+        place: 0,
+        line: "POST /ABC",
+        body: FIRST,
+        status: "409 Conflict",
+        told: b"{\"error\":\"known\",\"same\":true,\"version\":1}",
+    },
+    Exchange {
+        place: 0,
+        line: "GET /ABC",
+        body: b"",
+        status: "200 OK",
+        told: b"{\"head\":\"00000000-0000-4000-8000-000000000002\",\"version\":2}",
+    },
+    Exchange {
+        place: 0,
+        line: "GET /ABC/4294967297",
+        body: b"",
+        status: "404 Not Found",
+        told: b"{\"error\":\"no_patch\",\"version\":2}",
+    },
+];
+
 fn append_and_fetch<R: Abort + Wait>(
     rt: &R,
     alloc: Global,
     hall: &mut Opened<MemDisk>,
 ) -> Result<(), Fail> {
-    answers(rt, alloc, hall, 0, "POST /$/rpc", CREATE, "200 OK", SOURCE)?;
-    answers(
-        rt,
-        alloc,
-        hall,
-        0,
-        "POST /ABC",
-        FIRST,
-        "200 OK",
-        b"{\"version\":1}",
-    )?;
-    answers(rt, alloc, hall, 1, "GET /ABC/1", b"", "200 OK", FIRST)?;
-    answers(
-        rt,
-        alloc,
-        hall,
-        1,
-        "GET /ABC/00000000-0000-4000-8000-000000000001",
-        b"",
-        "200 OK",
-        FIRST,
-    )?;
-    answers(
-        rt,
-        alloc,
-        hall,
-        0,
-        "POST /ABC",
-        SECOND,
-        "200 OK",
-        b"{\"version\":2}",
-    )?;
-    answers(
-        rt,
-        alloc,
-        hall,
-        0,
-        "POST /ABC",
-        THIRD,
-        "409 Conflict",
-        b"{\"error\":\"conflict\",\"head\":\"00000000-0000-4000-8000-000000000002\",\"prev_version\":1,\"version\":2}",
-    )?;
-    answers(
-        rt,
-        alloc,
-        hall,
-        0,
-        "POST /ABC",
-        FIRST,
-        "409 Conflict",
-        b"{\"error\":\"known\",\"same\":true,\"version\":1}",
-    )?;
-    answers(
-        rt,
-        alloc,
-        hall,
-        0,
-        "GET /ABC",
-        b"",
-        "200 OK",
-        b"{\"head\":\"00000000-0000-4000-8000-000000000002\",\"version\":2}",
-    )?;
-    answers(
-        rt,
-        alloc,
-        hall,
-        0,
-        "GET /ABC/4294967297",
-        b"",
-        "404 Not Found",
-        b"{\"error\":\"no_patch\",\"version\":2}",
-    )?;
+    answers_each(rt, alloc, hall, APPENDED_AND_FETCHED)?;
     assert!(rt; hall.own_faults(0) == 0);
     assert!(rt; hall.number(1) == 2);
     Ok(())
@@ -129,102 +124,79 @@ fn patches_are_appended_and_fetched(rt: HostRuntime) -> Result<(), Fail> {
     Ok(ran?)
 }
 
-fn refuse_patches<R: Abort + Wait>(
-    rt: &R,
-    alloc: Global,
-    hall: &mut Opened<MemDisk>,
-) -> Result<(), Fail> {
-    answers(rt, alloc, hall, 0, "POST /$/rpc", CREATE, "200 OK", SOURCE)?;
-    answers(
-        rt,
-        alloc,
-        hall,
-        0,
-        "POST /ABC",
-        SECOND,
-        "409 Conflict",
-        b"{\"error\":\"conflict\",\"head\":null,\"prev_version\":null,\"version\":0}",
-    )?;
-    answers(
-        rt,
-        alloc,
-        hall,
-        0,
-        "GET /ABC/1",
-        b"",
-        "404 Not Found",
-        b"{\"error\":\"no_patch\",\"version\":0}",
-    )?;
-    answers(
-        rt,
-        alloc,
-        hall,
-        0,
-        "GET /XYZ/1",
-        b"",
-        "404 Not Found",
-        b"{\"error\":\"no_source\"}",
-    )?;
-    answers(
-        rt,
-        alloc,
-        hall,
-        0,
-        "POST /XYZ",
-        b"A",
-        "404 Not Found",
-        b"{\"error\":\"no_source\"}",
-    )?;
-    answers(
-        rt,
-        alloc,
-        hall,
-        0,
-        "POST /ABC",
-        b"TX .\n",
-        "400 Bad Request",
-        b"{\"at\":5,\"error\":\"bad_patch\",\"kind\":\"OpenBlock\"}",
-    )?;
-    answers(
-        rt,
-        alloc,
-        hall,
-        0,
-        "POST /ABC",
-        b"A <a> <b> .",
-        "400 Bad Request",
-        b"{\"at\":2,\"error\":\"bad_patch\",\"kind\":\"RelativeIri\"}",
-    )?;
-    answers(
-        rt,
-        alloc,
-        hall,
-        0,
-        "POST /ABC",
-        FIRST,
-        "200 OK",
-        b"{\"version\":1}",
-    )?;
-    answers(
-        rt,
-        alloc,
-        hall,
-        0,
-        "POST /ABC",
-        NINTH,
-        "409 Conflict",
-        b"{\"error\":\"conflict\",\"head\":\"00000000-0000-4000-8000-000000000001\",\"prev_version\":0,\"version\":1}",
-    )?;
-    Ok(())
-}
+const REFUSED: &[Exchange] = &[
+    Exchange {
+        place: 0,
+        line: "POST /$/rpc",
+        body: CREATE,
+        status: "200 OK",
+        told: SOURCE,
+    },
+    Exchange {
+        place: 0,
+        line: "POST /ABC",
+        body: SECOND,
+        status: "409 Conflict",
+        told: b"{\"error\":\"conflict\",\"head\":null,\"prev_version\":null,\"version\":0}",
+    },
+    Exchange {
+        place: 0,
+        line: "GET /ABC/1",
+        body: b"",
+        status: "404 Not Found",
+        told: b"{\"error\":\"no_patch\",\"version\":0}",
+    },
+    Exchange {
+        place: 0,
+        line: "GET /XYZ/1",
+        body: b"",
+        status: "404 Not Found",
+        told: b"{\"error\":\"no_source\"}",
+    },
+    Exchange {
+        place: 0,
+        line: "POST /XYZ",
+        body: b"A",
+        status: "404 Not Found",
+        told: b"{\"error\":\"no_source\"}",
+    },
+    Exchange {
+        place: 0,
+        line: "POST /ABC",
+        body: b"TX .\n",
+        status: "400 Bad Request",
+        told: b"{\"at\":5,\"error\":\"bad_patch\",\"kind\":\"OpenBlock\"}",
+    },
+    Exchange {
+        place: 0,
+        line: "POST /ABC",
+        body: b"A <a> <b> .",
+        status: "400 Bad Request",
+        told: b"{\"at\":2,\"error\":\"bad_patch\",\"kind\":\"RelativeIri\"}",
+    },
+    Exchange {
+        place: 0,
+        line: "POST /ABC",
+        body: FIRST,
+        status: "200 OK",
+        told: b"{\"version\":1}",
+    },
+    Exchange {
+        place: 0,
+        line: "POST /ABC",
+        body: NINTH,
+        status: "409 Conflict",
+        told: b"{\"error\":\"conflict\",\"head\":\"00000000-0000-4000-8000-000000000001\",\"prev_version\":0,\"version\":1}",
+    },
+];
 
 #[test]
 fn patches_are_refused(rt: HostRuntime) -> Result<(), Fail> {
     let alloc = rt.alloc();
     let mut hall = open(alloc)?;
-    let ran = refuse_patches(&rt, alloc, &mut hall);
+    let ran = answers_each(&rt, alloc, &mut hall, REFUSED);
     drop(hall);
-    ran
+    Ok(ran?)
 }
 
 /// The file of the first log with as many patches as a log may have.

@@ -52,67 +52,64 @@ const FIRST: &[u8] = b"RDJ1\0\0\0\x01\0";
 
 const SECOND: &[u8] = b"RDJ1\0\0\0\x02\0";
 
-#[test]
-fn the_first_fault_of_the_files_is_told(rt: HostRuntime) -> Result<(), Fail> {
-    let alloc = rt.alloc();
-    refuses(
-        &rt,
-        alloc,
-        &[b"RDJ1"],
-        &[],
-        HallFault::Damaged { file: 0, at: 0 },
-    )?;
-    refuses(
-        &rt,
-        alloc,
-        &[FIRST, SECOND],
-        &[],
-        HallFault::WrongNumber { file: 0, found: 1 },
-    )?;
-    refuses(
-        &rt,
-        alloc,
-        &[b"RDJ1\0\0\0\0\x01\0\0\0\x03S 0\0", FIRST],
-        &[],
-        HallFault::BrokenEvent { place: 0 },
-    )?;
-    refuses(
-        &rt,
-        alloc,
-        &[REGISTRY, b"RDJ1"],
-        &[],
-        HallFault::WrongCount { disks: 2, slots: 2 },
-    )?;
-    refuses(
-        &rt,
-        alloc,
-        &[REGISTRY, FIRST, SECOND, SECOND],
-        &[],
-        HallFault::WrongCount { disks: 4, slots: 2 },
-    )?;
-    refuses(
-        &rt,
-        alloc,
-        &[REGISTRY, FIRST, FIRST],
-        &[],
-        HallFault::WrongNumber { file: 2, found: 1 },
-    )?;
-    refuses(
-        &rt,
-        alloc,
-        &[REGISTRY, b"RDJ1\0\0\0\x01\x01\0\0\0\x01X\0", SECOND],
-        &[],
-        HallFault::BrokenChain {
+/// Files of which a call of the last one's disk may fail, and why no hall is opened over them.
+struct Opening {
+    files: &'static [&'static [u8]],
+    failing: &'static [u64],
+    fault: HallFault,
+}
+
+const REFUSED: &[Opening] = &[
+    Opening {
+        files: &[b"RDJ1"],
+        failing: &[],
+        fault: HallFault::Damaged { file: 0, at: 0 },
+    },
+    Opening {
+        files: &[FIRST, SECOND],
+        failing: &[],
+        fault: HallFault::WrongNumber { file: 0, found: 1 },
+    },
+    Opening {
+        files: &[b"RDJ1\0\0\0\0\x01\0\0\0\x03S 0\0", FIRST],
+        failing: &[],
+        fault: HallFault::BrokenEvent { place: 0 },
+    },
+    Opening {
+        files: &[REGISTRY, b"RDJ1"],
+        failing: &[],
+        fault: HallFault::WrongCount { disks: 2, slots: 2 },
+    },
+    Opening {
+        files: &[REGISTRY, FIRST, SECOND, SECOND],
+        failing: &[],
+        fault: HallFault::WrongCount { disks: 4, slots: 2 },
+    },
+    Opening {
+        files: &[REGISTRY, FIRST, FIRST],
+        failing: &[],
+        fault: HallFault::WrongNumber { file: 2, found: 1 },
+    },
+    Opening {
+        files: &[REGISTRY, b"RDJ1\0\0\0\x01\x01\0\0\0\x01X\0", SECOND],
+        failing: &[],
+        fault: HallFault::BrokenChain {
             file: 1,
             version: 1,
         },
-    )?;
-    refuses(
-        &rt,
-        alloc,
-        &[REGISTRY, FIRST, SECOND],
-        &[1],
-        HallFault::DiskFault,
-    )?;
+    },
+    Opening {
+        files: &[REGISTRY, FIRST, SECOND],
+        failing: &[1],
+        fault: HallFault::DiskFault,
+    },
+];
+
+#[test]
+fn the_first_fault_of_the_files_is_told(rt: HostRuntime) -> Result<(), Fail> {
+    let alloc = rt.alloc();
+    for it in REFUSED {
+        refuses(&rt, alloc, it.files, it.failing, it.fault)?;
+    }
     Ok(())
 }
