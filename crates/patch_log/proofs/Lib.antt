@@ -1,6 +1,4 @@
-pub mod Place
 pub mod Growing
-pub mod Known
 pub mod Sound
 pub mod Openings
 pub mod States

@@ -1,24 +1,27 @@
 //! A chain whose patches are found by id without a walk along it.
-ghost use Rattle.std.specs.Prelude.{◌≡◌, ◌+◌, ◌<◌, ◌≤◌, [], ◌∷◌, ◌++◌, length, OnOk, OnErr};
+ghost use Rattle.std.specs.Prelude.{◌≡◌, ◌≢◌, ◌+◌, ◌^◌, ◌<◌, ◌≤◌, [], ◌∷◌, ◌++◌, None, length, IfOk, OnOk, OnErr, IsErrOf};
 ghost use Rattle.chain_core.specs.Chain.{IsKept};
-ghost use Rattle.chain_core.specs.Patches.{patches_of};
-ghost use Rattle.patch_log.specs.Index.{IsIndexOf};
+ghost use Rattle.chain_core.specs.Patches.{patches_of, version_of};
 
-use crate::index::{insert_ready, place_of};
+use crate::next_fault::NextFault;
 use chain_core::{Chain, Lookup, Patch};
 use delta_base::{Id, OutOfMemory};
 use std::alloc::Global;
+use std::collections::HashMap;
 use std::marker::Model;
 
-/// A chain, and its versions in the order of their ids.
-#[derive(Debug, Drop)]
+/// A chain, and its versions by the numbers of their ids.
+#[derive(Drop)]
 pub struct IndexedChain {
     chain: Chain,
-    versions: Vec<u32>,
+    versions: HashMap<u128, u32>,
+    /// How many places are ready in both.
+    places: usize,
 }
 
 impl Model for IndexedChain {
-    ghost use Rattle.std.specs.Prelude.{◌-◌, min, vec_len, vec_capacity};
+    ghost use Rattle.std.specs.Prelude.{◌≤◌};
+    ghost use Rattle.std.specs.HashMap.{spare};
     ghost use Rattle.delta_base.specs.Listed.{Listed};
     ghost use Rattle.chain_core.specs.declared.chain.Entry.{Entry};
     ghost use Rattle.chain_core.specs.Patches.{patches_of};
@@ -26,12 +29,10 @@ impl Model for IndexedChain {
 
     ghost Value = { Listed Entry };
 
-    ghost view = { λ c. record {
-      items = c.chain.items;
-      spare = min c.chain.spare (vec_capacity c.versions - vec_len c.versions);
-    } };
+    ghost view = { λ c. record { items = c.chain.items; spare = c.places } };
 
-    ghost invariant = { λ c. IsIndexOf c.versions.items (patches_of c.chain.items) };
+    ghost invariant = { λ c. IsIndexOf c.versions (patches_of c.chain.items)
+        × (c.places ≤ c.chain.spare) × (c.places ≤ spare c.versions) };
 }
 
 impl IndexedChain {
@@ -41,16 +42,38 @@ impl IndexedChain {
     {
         IndexedChain {
             chain: Chain::new(alloc),
-            versions: Vec::new(alloc),
+            versions: HashMap::new(alloc),
+            places: 0,
         }
     }
 
-    /// A chain and its versions in the order of their ids.
-    pub(crate) fn of(chain: Chain, versions: Vec<u32>) -> IndexedChain
-        requires { IsIndexOf versions.items (patches_of chain.items) }
-        ensures { result.items ≡ chain.items }
+    /// The chain with one patch more, unless one of its patches has the id already. The id is looked for and put in at once.
+    pub(crate) fn with(self, patch: Patch, by: u32) -> Result<IndexedChain, NextFault>
+        requires few { length self.items + 1 < 2 ^ 32 }
+        requires goes_on { version_of (patches_of self.items) patch.id ≡ None
+            → IsKept (self.items ++ record { patch = patch; by = by } ∷ []) }
+        ensures new { IfOk result (λ _. version_of (patches_of self.items) patch.id ≡ None) }
+        ensures added { IfOk result (λ chain.
+            chain.items ≡ self.items ++ record { patch = patch; by = by } ∷ []) }
+        ensures broken { IsErrOf result NextFault.Broken
+            → version_of (patches_of self.items) patch.id ≢ None }
     {
-        IndexedChain { chain, versions }
+        let IndexedChain {
+            mut chain,
+            mut versions,
+            places: _,
+        } = self;
+        chain.reserve()?;
+        let version = chain.version() + 1;
+        if versions.insert(patch.id.0, version)?.is_some() {
+            return Err(NextFault::Broken);
+        }
+        chain.push(patch, by);
+        Ok(IndexedChain {
+            chain,
+            versions,
+            places: 0,
+        })
     }
 
     /// Makes a place ready in the chain and in the index.
@@ -60,11 +83,11 @@ impl IndexedChain {
         ensures kept { self.old.spare ≤ self.new.spare }
         ensures err { OnErr result (self.new ≡ self.old) }
     {
-        self.chain.reserve()?;
-        if self.versions.len() < self.versions.capacity() {
-            return Ok(());
+        if self.places == 0 {
+            self.chain.reserve()?;
+            self.versions.reserve(1)?;
+            self.places = 1;
         }
-        self.versions.reserve(1)?;
         Ok(())
     }
 
@@ -76,11 +99,12 @@ impl IndexedChain {
         ensures spare { self.new.spare + 1 ≡ self.old.spare }
     {
         let version = self.chain.version() + 1;
-        match place_of(&self.chain, &self.versions, patch.id) {
-            Ok(_) => unreachable!(),
-            Err(at) => insert_ready(&mut self.versions, at, version),
+        match self.versions.insert(patch.id.0, version) {
+            Ok(_) => {}
+            Err(_) => unreachable!(),
         }
         self.chain.push(patch, by);
+        self.places -= 1;
     }
 }
 
@@ -91,11 +115,8 @@ impl Lookup for IndexedChain {
         &self.chain
     }
 
-    /// The version of the patch with an id, found by a binary search.
+    /// The version of the patch with an id, found by the index.
     fn version_of(&self, id: Id) -> Option<u32> {
-        match place_of(&self.chain, &self.versions, id) {
-            Ok(at) => Some(self.versions[at]),
-            Err(_) => None,
-        }
+        self.versions.get(&id.0).copied()
     }
 }

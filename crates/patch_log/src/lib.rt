@@ -3,12 +3,10 @@
 
 mod appending;
 mod fault;
-mod index;
 mod indexed;
 mod laws;
 mod next_fault;
 mod opening;
-mod read_chain;
 mod ready;
 mod state;
 

@@ -10,8 +10,7 @@ ghost use Rattle.patch_log.specs.Opening.{GoesOn, IsNextOf, AreFound};
 use crate::fault::LogFault;
 use crate::indexed::IndexedChain;
 use crate::next_fault::NextFault;
-use crate::read_chain::ReadChain;
-use chain_core::{Chain, Link, Patch};
+use chain_core::{Chain, Link, Lookup, Patch};
 use delta_base::Bytes;
 use log_journal::Payloads;
 use patch_meaning::{PatchFault, check_link};
@@ -61,10 +60,10 @@ fn next_link(alloc: Global, chain: &Chain, text: &[u8], most: u32) -> Result<Lin
 // The chain with the patch of a payload behind it.
 fn with_next(
     alloc: Global,
-    chain: ReadChain,
+    chain: IndexedChain,
     text: Bytes,
     most: u32,
-) -> Result<ReadChain, NextFault>
+) -> Result<IndexedChain, NextFault>
     ensures ok { IfOk result (λ longer. (patch : PatchRead)
         × IsNextOf (patches_of chain.items) text most patch
         × (longer.items ≡ chain.items ++ record { patch = patch; by = 0 } ∷ [])) }
@@ -84,7 +83,7 @@ pub fn read_log(alloc: Global, payloads: Payloads, most: u32) -> Result<IndexedC
     ensures faults { IfErr result (λ fault.
         ((version : ℕ) × (fault ≡ LogFault.BrokenChain version)) ⊎ (fault ≡ LogFault.OutOfMemory)) }
 {
-    let mut chain = ReadChain::new(alloc);
+    let mut chain = IndexedChain::new(alloc);
     for text in payloads.into_vec() {
         let version = u64::from(chain.chain().version()) + 1;
         chain = match with_next(alloc, chain, text, most) {
@@ -93,5 +92,5 @@ pub fn read_log(alloc: Global, payloads: Payloads, most: u32) -> Result<IndexedC
             Err(NextFault::OutOfMemory) => return Err(LogFault::OutOfMemory),
         };
     }
-    Ok(chain.indexed(alloc)?)
+    Ok(chain)
 }
