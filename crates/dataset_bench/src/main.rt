@@ -33,14 +33,23 @@ fn main(rt: HostRuntime) -> io::Result<ExitCode> {
     let Ok(inserted) = insert_keys(&mut index, count) else {
         return Ok(ExitCode::from(4));
     };
-    println!(rt; "insert {inserted} micros {}", start.elapsed(&rt)?.as_micros())?;
+    println!(rt;
+        "insert {inserted} micros {}",
+        start.elapsed(&rt)?.as_micros()
+    )?;
     let start = Instant::now(&rt)?;
     let Ok(matched) = match_keys::<Brand>(&index, count, Blank::new(1)) else {
         return Ok(ExitCode::from(4));
     };
-    println!(rt; "match {matched} micros {}", start.elapsed(&rt)?.as_micros())?;
+    println!(rt;
+        "match {matched} micros {}",
+        start.elapsed(&rt)?.as_micros()
+    )?;
     let start = Instant::now(&rt)?;
     let removed = remove_keys(&mut index, count);
-    println!(rt; "remove {removed} micros {}", start.elapsed(&rt)?.as_micros())?;
+    println!(rt;
+        "remove {removed} micros {}",
+        start.elapsed(&rt)?.as_micros()
+    )?;
     Ok(ExitCode::SUCCESS)
 }

@@ -11,6 +11,7 @@ use std::test::Fail;
 
 /// The parts that a key or a pattern of the tests may have, and one that no key has.
 const PARTS: [u32; 3] = [0, 1, 2];
+
 const FREE_AND_PARTS: [Option<u32>; 4] = [None, Some(0), Some(1), Some(3)];
 
 // Whether a new key is inserted. Where an allocation fails nothing has changed, and it comes in at the second try.
@@ -52,7 +53,11 @@ fn finds<L: Ledger>(
     let found = index.matching(pattern, steps)?;
     let mut left = found.len();
     for key in all {
-        if fits(pattern.g, key.g) && fits(pattern.s, key.s) && fits(pattern.p, key.p) && fits(pattern.o, key.o) {
+        if fits(pattern.g, key.g)
+            && fits(pattern.s, key.s)
+            && fits(pattern.p, key.p)
+            && fits(pattern.o, key.o)
+        {
             if left == 0 || !found.as_slice().contains(key) {
                 return Ok(false);
             }
@@ -63,7 +68,11 @@ fn finds<L: Ledger>(
 }
 
 // Whether each pattern of the four graphs finds what a walk finds.
-fn all_found<L: Ledger>(index: &QuadIndex, all: &[QuadKey], blank: Blank) -> Result<bool, OutOfMemory>
+fn all_found<L: Ledger>(
+    index: &QuadIndex,
+    all: &[QuadKey],
+    blank: Blank,
+) -> Result<bool, OutOfMemory>
     requires name { blank.name ≡ L.name }
     requires parts { blank.parts ≡ L.parts }
     requires some { 0 < L.parts }
