@@ -6,6 +6,8 @@ use Rattle.std.specs.declared.cmp.Ordering.TheVariants.{Less, Equal, Greater}
 use Rattle.std.specs.Ordering.{is_eq, eq_by_cmp, match_ordering, nat_cmp, ordering_then}
 use Rattle.std.specs.Cmp.{IsTotalOrder, eq_by_cmp_equiv, both_ways, nat_cmp_total, then_total}
 use Rattle.std.specs.List.{list_any, filter, IsDistinct, AllByRecursion}
+use Rattle.std.specs.Prelude.{Result, Ok, Err, IfOk, OnOk, OnErr}
+use Rattle.std.specs.Bool.{OnTrue, OnFalse}
 use Rattle.std.specs.List.Sorted.{IsStrictlySortedBy}
 use Rattle.std.specs.BTreeMap.{is_at}
 use Rattle.std.specs.BTreeSet.{insert_key}
@@ -24,7 +26,7 @@ use Rattle.quad_index.specs.Order.{placed_cmp, arranged, restored}
 use Rattle.quad_index.specs.Six.{six}
 use Rattle.quad_index.specs.Ordered.{Kept, keeps, with_key, without_key, keys_of, AreSix}
 use Rattle.quad_index.proofs.Fronts.{filter_mapped}
-use Rattle.quad_index.proofs.Members.{any_inserted, any_removed, removed_inserted, inserted_again}
+use Rattle.quad_index.proofs.Members.{any_inserted, any_removed, removed_inserted}
 
 -- ---- the orders are total, and tell all keys apart
 pub key_total : IsTotalOrder key_cmp
@@ -149,8 +151,15 @@ six_with orders key h = record {
 pub out_again : (kept : Kept) (key : QuadKey) → keeps kept key ≡ false → without_key key (with_key key kept) ≡ kept
 out_again kept key h = ap (λ (l : List Placed). record { order = kept.order; keys = l }) (removed_inserted placed_total (arranged kept.order key) kept.keys h)
 
-pub with_again : (keys : List QuadKey) (key : QuadKey) → IsStrictlySortedBy key_cmp keys → has_key keys key ≡ true → insert_key key_cmp keys key ≡ keys
-with_again keys key s h = inserted_again key_total key keys s h
+-- whatever an insertion comes to, all six orders hold the same keys
+pub six_after : {E : Type 0} (result : Result Bool E) (orders after : List Kept) (key : QuadKey) → AreSix orders → IfOk result (λ added. OnTrue added (after ≡ map (with_key key) orders)) → IfOk result (λ added. OnFalse added (after ≡ orders)) → OnErr result (after ≡ orders) → AreSix after
+six_after (Ok true) orders after key h new again err = subst AreSix (sym new) (six_with orders key h)
+six_after (Ok false) orders after key h new again err = subst AreSix (sym again) h
+six_after (Err e) orders after key h new again err = subst AreSix (sym err) h
+
+pub keys_after : {E : Type 0} (result : Result Bool E) (orders : List Kept) (keys before : List QuadKey) (key : QuadKey) → AreSix orders → keys_of orders ≡ before → OnOk result (keys ≡ keys_of (map (with_key key) orders)) → OnOk result (keys ≡ insert_key key_cmp before key)
+keys_after (Ok _) orders keys before key h e k = k ∙ keys_with orders key h ∙ ap (λ (l : List QuadKey). insert_key key_cmp l key) e
+keys_after (Err _) orders keys before key h e k = tt
 
 -- ---- a removal from all
 pub keys_without : (orders : List Kept) (key : QuadKey) → AreSix orders → keys_of (map (without_key key) orders) ≡ remove_key (is_at (key_cmp key)) (keys_of orders)

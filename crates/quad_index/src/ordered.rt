@@ -1,5 +1,6 @@
 //! The keys in one order.
-ghost use Rattle.std.specs.Prelude.{◌≡◌, ◌+◌, ◌≤◌, [], IsTrue, IfOk, OnOk, OnErr, length, map, false, not};
+ghost use Rattle.std.specs.Prelude.{◌≡◌, ◌+◌, ◌≤◌, [], IsTrue, IfOk, OnOk, OnErr, length, map, not};
+ghost use Rattle.std.specs.Bool.{OnFalse};
 ghost use Rattle.std.specs.List.{filter};
 ghost use Rattle.std.specs.List.Sorted.{IsStrictlySortedBy};
 ghost use Rattle.quad_index.specs.Key.{matches};
@@ -48,12 +49,14 @@ impl Ordered {
         self.keys.contains(&arranged(self.order, key))
     }
 
-    pub(crate) fn insert(&mut self, key: &QuadKey) -> Result<(), OutOfMemory>
+    /// Adds a key, and says whether it is new.
+    pub(crate) fn insert(&mut self, key: &QuadKey) -> Result<bool, OutOfMemory>
+        ensures added { IfOk result (λ added. added ≡ not (keeps self.old key.now)) }
         ensures ok { OnOk result (self.new ≡ with_key key.now self.old) }
+        ensures again { IfOk result (λ added. OnFalse added (self.new ≡ self.old)) }
         ensures err { OnErr result (self.new ≡ self.old) }
     {
-        self.keys.insert(arranged(self.order, key))?;
-        Ok(())
+        Ok(self.keys.insert(arranged(self.order, key))?)
     }
 
     pub(crate) fn remove(&mut self, key: &QuadKey)
@@ -87,6 +90,7 @@ impl Ordered {
         requires { IsTrue (leads self.now.order pattern.now) }
         ensures found { IfOk result (λ found. found.items ≡ filter (matches pattern.now) (map (restored self.now.order) self.now.keys)) }
         ensures cost { IfOk result (λ found. steps.new ≤ steps.old + length found.items + 1) }
+        ensures counted { IfOk result (λ found. steps.old + length found.items ≤ steps.new) }
         ensures sorted { IsStrictlySortedBy placed_cmp self.now.keys }
     {
         self.keys.len();
@@ -104,7 +108,8 @@ fn scan<L: Ledger>(
 ) -> Result<Vec<QuadKey>, OutOfMemory>
     requires { IsTrue (leads order pattern.now) }
     ensures found { IfOk result (λ found. found.items ≡ filter (matches pattern.now) (map (restored order) keys.now.keys)) }
-    ensures cost { steps.new ≤ steps.old + length (filter (matches pattern.now) (map (restored order) keys.now.keys)) + 1 }
+    ensures cost { IfOk result (λ found. steps.new ≤ steps.old + length found.items + 1) }
+    ensures counted { IfOk result (λ found. steps.old + length found.items ≤ steps.new) }
 {
     let mut found = Vec::new(alloc);
     let low = arranged(order, &lowest(pattern));

@@ -1,7 +1,7 @@
 use Rattle.std.proofs.Common.{rules, ◌≡◌, refl, sym, ap, subst, ◌∙◌, map, List, length, ◌<◌, ◌∷◌}
 use Rattle.quad_index.specs.Ordered.{Kept, with_key, without_key, keys_of, AreSix}
 use Rattle.quad_index.proofs.Six.{out_again}
-use Rattle.quad_index.proofs.index.+insert_all.Goals as goal
+use Rattle.quad_index.proofs.index.+insert_new.Goals as goal
 
 pub returns-in-Err-clause-err : goal.returns-in-Err-clause-err
 returns-in-Err-clause-err t c =
