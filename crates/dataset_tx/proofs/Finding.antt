@@ -23,7 +23,7 @@ use Rattle.quad_keys.proofs.Quads.{any_quads, own, quads_found}
 use Rattle.term_table.specs.Table.{same, term_at, number_of}
 use Rattle.term_table.proofs.Numbers.{named, one_number, same_exact, same_refl}
 use Rattle.dataset_tx.specs.declared.pattern.GraphPart.{GraphPart}
-use Rattle.dataset_tx.specs.declared.pattern.GraphPart.TheVariants.{Default, Named}
+use Rattle.dataset_tx.specs.declared.pattern.GraphPart.TheVariants.{Named}
 use Rattle.dataset_tx.specs.declared.pattern.Pattern.{Pattern}
 use Rattle.dataset_tx.specs.Pattern.{fits, fits_graph, fits_number, matches}
 use Rattle.dataset_tx.proofs.Numbered.{the_term, unnumbered}
@@ -69,17 +69,6 @@ module _ (terms : List Term) (wanted : Term) where
 
   pub graph_found : (graph : GraphPart) (o : Option ℕ) → IsDistinct same terms → graph ≡ Named wanted → o ≡ number_of terms wanted → (n : ℕ) → (n ≡ 0) ⊎ IsSome (term_at terms n) → fits_graph graph (term_at terms n) ≡ fits_number (option_map Some o) n
   graph_found graph o d is e n h = ap (λ (g : GraphPart). fits_graph g (term_at terms n)) is ∙ graph_at o d e n h
-
-pub default_found : (terms : List Term) (graph : GraphPart) → graph ≡ Default → (n : ℕ) → (n ≡ 0) ⊎ IsSome (term_at terms n) → fits_graph graph (term_at terms n) ≡ (0 == n)
-default_found terms graph is n h = ap (λ (g : GraphPart). fits_graph g (term_at terms n)) is ∙ by h
-  where
-    apart : (t : Term) (b : Bool) → term_at terms n ≡ Some t → (0 == n) ≡ b → b ≡ false
-    apart t true e s = absurd (no_zero terms t (ap (term_at terms) (eqb-true 0 n s) ∙ e))
-    apart t false e s = refl
-
-    by : (n ≡ 0) ⊎ IsSome (term_at terms n) → fits_graph Default (term_at terms n) ≡ (0 == n)
-    by (inl z) = ap (λ (m : ℕ). fits_graph Default (term_at terms m)) z ∙ sym (ap (λ (m : ℕ). 0 == m) z)
-    by (inr s) = ap (fits_graph Default) (the_term terms n s) ∙ sym (apart (term_of terms n) (0 == n) (the_term terms n s) refl)
 
 -- ---- the keys that were found
 

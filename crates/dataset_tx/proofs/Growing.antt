@@ -19,17 +19,12 @@ nothing_in x h = let low = h.1 in omega arith
 pub stays_same : (fresh old new : List Term) → IsDistinct same old → new ≡ old → Grows fresh old new
 stays_same fresh old new d e = record { more = []; new_is = e ∙ sym (append-nil old); each_once = subst (IsDistinct same) (sym e) d; came = λ t h. absurd (nothing_in t h) }
 
-joined : (old : List Term) (t : Term) → number_of old t ≡ None → interned old t ≡ old ++ t ∷ []
-joined old t e = by (list_any (same t) old) (is_new old t e)
+pub interned_grows : (old new : List Term) (t : Term) → IsDistinct same old → new ≡ interned old t → Grows (t ∷ []) old new
+interned_grows old new t d e = by (list_any (same t) old) refl e
   where
-    by : (b : Bool) → b ≡ false → cond b old (old ++ t ∷ []) ≡ old ++ t ∷ []
-    by true h = absurd cc
-    by false h = refl
-
-pub one_came : (old new : List Term) (t : Term) → IsDistinct same old → number_of old t ≡ None → new ≡ interned old t → Grows (t ∷ []) old new
-one_came old new t d e i =
-    let whole : new ≡ old ++ t ∷ [] = i ∙ joined old t e in
-    record { more = t ∷ []; new_is = whole; each_once = subst (IsDistinct same) (sym whole) (with_new old t d (is_new old t e)); came = λ x h. h }
+    by : (b : Bool) → list_any (same t) old ≡ b → new ≡ cond b old (old ++ t ∷ []) → Grows (t ∷ []) old new
+    by true h e = stays_same (t ∷ []) old new d e
+    by false h e = record { more = t ∷ []; new_is = e; each_once = subst (IsDistinct same) (sym e) (with_new old t d h); came = λ x c. c }
 
 pub one_too_many : (most : ℕ) (old new : List Term) (t : Term) → IsDistinct same old → number_of old t ≡ None → length old ≡ most → new ≡ old → AreMoreThan most (t ∷ []) new
 one_too_many most old new t d e full same_terms =

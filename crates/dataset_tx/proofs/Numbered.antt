@@ -68,9 +68,6 @@ no_predicate terms q e k h is = unnumbered terms q.predicate k.p e (the_term ter
 pub no_object : (terms : List Term) (q : Statement) → number_of terms q.object ≡ None → (k : QuadKey) → IsKnown terms k → q ≡ quad_of terms k → ⊥
 no_object terms q e k h is = unnumbered terms q.object k.o e (the_term terms k.o h.o_in ∙ ap Some (sym (ap (λ (x : Statement). x.object) is)))
 
-pub no_graph : (terms : List Term) (q : Statement) → ((n : ℕ) → IsGraphNumber terms q.graph n → ⊥) → (k : QuadKey) → IsKnown terms k → q ≡ quad_of terms k → ⊥
-no_graph terms q never k h is = never k.g (sym (ap (λ (x : Statement). x.graph) is), h.g_in)
-
 pub none_named : (terms : List Term) (t : Term) → number_of terms t ≡ None → (n : ℕ) → IsGraphNumber terms (Some t) n → ⊥
 none_named terms t e n h = unnumbered terms t n e h.0
 

@@ -5,21 +5,16 @@ use Rattle.std.specs.declared.cmp.Ordering.{Ordering}
 use Rattle.std.specs.declared.cmp.Ordering.TheVariants.{Less, Equal, Greater}
 use Rattle.std.specs.Option.{is_some}
 use Rattle.std.specs.Ordering.{nat_cmp, is_eq, match_ordering}
-use Rattle.std.specs.Cmp.{IsTotalOrder}
 use Rattle.std.specs.Cmp.Lexicographic.{slice_cmp, nat_list_cmp_total}
 use Rattle.std.specs.List.{AllByRecursion}
 use Rattle.std.specs.List.Sorted.{IsStrictlySortedBy}
 use Rattle.std.specs.BTreeMap.{is_at, insert_entry}
 use Rattle.std.specs.Map.{keys_of, remove_entry}
-use Rattle.std.proofs.lemmas.Cmp.{on_total}
 use Rattle.std.proofs.lemmas.Map.Keys.{sorted_head, sorted_tail}
 use Rattle.std.proofs.lemmas.Map.Lookups.{exact_bytes}
 use Rattle.rdf_terms.specs.Dataset.{PrefixKey, prefix_cmp}
 use Rattle.dataset_tx.specs.declared.prefixes.PrefixEntry.{PrefixEntry}
 use Rattle.dataset_tx.specs.Prefixes.{Row, RowBytes, bytes_cmp, row_cmp, at_bytes, has_row, row_bytes, StandsAt, setting, shown, settings_by, settings, set_to}
-
-pub row_total : IsTotalOrder row_cmp
-row_total = on_total (λ (row : RowBytes). row.items) nat_list_cmp_total
 
 pub nothing_left : {X : Type 0} (l : List X) → length l ≡ 0 → l ≡ []
 nothing_left [] e = refl

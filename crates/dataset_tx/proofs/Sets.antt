@@ -1,5 +1,5 @@
 -- Sets of keys by what they have.
-use Rattle.std.proofs.Common.{◌≡◌, length, Bool, true, false, cond, not, ◌&&◌, ◌||◌, List, [], ◌∷◌, ◌++◌, refl, sym, ◌∙◌, ap, subst}
+use Rattle.std.proofs.Common.{◌≡◌, Bool, true, false, cond, not, ◌&&◌, ◌||◌, List, [], ◌∷◌, ◌++◌, refl, sym, ◌∙◌, ap, subst}
 use mathlib.Core.Bool.{true≢false}
 use Rattle.std.specs.Ordering.{eq_by_cmp}
 use Rattle.std.specs.Cmp.{eq_by_cmp_equiv}
@@ -11,8 +11,8 @@ use Rattle.std.proofs.lemmas.Map.Lookups.{btree_set_from_contains}
 use Rattle.std.proofs.lemmas.List.Kept.{IsStrictlySortedBy-filter}
 use Rattle.quad_index.specs.declared.key.QuadKey.{QuadKey}
 use Rattle.quad_index.specs.Key.{key_cmp, has_key}
-use Rattle.quad_index.proofs.Members.{any_inserted, any_removed, removed_inserted, sorted_inserted, sorted_removed}
-use Rattle.quad_index.proofs.Six.{key_total, exact_key, any_filtered, from_tied, with_again}
+use Rattle.quad_index.proofs.Members.{any_inserted, inserted_again, any_removed, sorted_inserted, sorted_removed}
+use Rattle.quad_index.proofs.Six.{key_total, exact_key, any_filtered, from_tied}
 use Rattle.dataset_tx.specs.Staging.{without, AreStaged}
 
 abbrev IsSet : List QuadKey → Type 0
@@ -79,7 +79,7 @@ both false r h e = h
 
 pub again_ok : (index removed : List QuadKey) (k : QuadKey) → IsSet index → has_key index k ≡ true → has_key removed k ≡ false → without removed index ≡ insert_key key_cmp (without removed index) k
 again_ok index removed k s i r =
-    sym (with_again (without removed index) k (sorted_without removed index s) (has_without removed index k ∙ both (has_key index k) (has_key removed k) i r))
+    sym (inserted_again key_total k (without removed index) (sorted_without removed index s) (has_without removed index k ∙ both (has_key index k) (has_key removed k) i r))
 
 -- ---- adding a new key
 new_same : (e i a : Bool) → (e ≡ true → i ≡ false) → ((e || i) && not (cond e true a)) ≡ (i && not a)
@@ -121,9 +121,6 @@ new_ok index added removed k h r =
     ∙ ap (λ v. v && not (has_key removed q)) (has_inserted k index q)
     ∙ new_more (same k q) (has_key index q) (has_key removed q) (at_same (λ z. has_key removed z ≡ false) k q r)
     ∙ sym (has_inserted k (without removed index) q ∙ ap (λ v. same k q || v) (has_without removed index q)))
-
-pub out_again : (index : List QuadKey) (k : QuadKey) → has_key index k ≡ false → remove_key (is_at (key_cmp k)) (insert_key key_cmp index k) ≡ index
-out_again index k h = removed_inserted key_total k index h
 
 -- ---- deleting a key of the contents
 out_more : (e i r : Bool) → (i && not (cond e true r)) ≡ (not e && (i && not r))
@@ -186,10 +183,6 @@ without_none (k ∷ keys) = ap (λ l. k ∷ l) (without_none keys)
 
 pub none_staged : (index : List QuadKey) → IsSet index → AreStaged index [] []
 none_staged index s = record { sorted = s; added_in = λ q e. absurd (true≢false (sym e)); removed_in = λ q e. absurd (true≢false (sym e)) }
-
-pub nil_from_length : (keys : List QuadKey) → length keys ≡ 0 → keys ≡ []
-nil_from_length [] e = refl
-nil_from_length (k ∷ keys) e = cc
 
 -- ---- what a list has with one more behind it
 swapped : (a b : Bool) → (a || (b || false)) ≡ cond b true a

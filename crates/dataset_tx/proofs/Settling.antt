@@ -79,16 +79,6 @@ pub none_staged : (rows : List Row) → next_settings [] rows ≡ settings rows
 none_staged [] = refl
 none_staged (row ∷ rows) = ap (shown row.1) (none_staged rows)
 
-pub rows_alone : (rows staged : List Row) → staged ≡ [] → AreRows rows → IsSorted rows → AreStagedRows rows staged
-unfolding IsStrictlySortedBy
-rows_alone rows staged e st s = subst (AreStagedRows rows) (sym e) (record {
-  stand = st;
-  sorted = s;
-  staged_stand = tt;
-  staged_sorted = tt;
-  in_rows = λ row h. absurd (true≢false (sym h));
-})
-
 -- ---- a new row at which nothing stands
 
 placed_settings : (read : Row → Option PrefixEntry) (row : RowBytes) (rows : List Row) → read (row, None) ≡ None → has_row rows row.items ≡ false → settings_by read (insert_entry row_cmp rows row None) ≡ settings_by read rows

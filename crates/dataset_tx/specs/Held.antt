@@ -31,7 +31,8 @@ terms_of Abort = []
 
 -- each of the terms is one that was met before, or one of the changes
 abbrev pub AreMet : List Change → List Term → List Term → Type 0
-AreMet changes before terms = (t : Term) → Contains terms t → Contains before t ⊎ Contains (flat_map terms_of changes) t
+AreMet changes before terms =
+    (t : Term) → Contains terms t → Contains before t ⊎ Contains (flat_map terms_of changes) t
 
 -- the terms that were met before and those of the changes are more than so many
 pub record AreMore (most : ℕ) (changes : List Change) (before : List Term) : Type 0 where

@@ -94,7 +94,8 @@ next_settings staged rows = settings_by (becomes staged) rows
 
 -- what is to stand at some bytes
 abbrev pub standing : List Row → List Row → List ℕ → Option PrefixEntry
-standing staged rows bytes = unwrap_or (at_bytes bytes staged) (unwrap_or (at_bytes bytes rows) None)
+standing staged rows bytes =
+    unwrap_or (at_bytes bytes staged) (unwrap_or (at_bytes bytes rows) None)
 
 -- ---- what becomes of a row
 

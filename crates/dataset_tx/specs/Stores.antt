@@ -30,7 +30,11 @@ pub record IsSettled (s : Store) : Type 0 where
   pub prefixes : s.prefixes.next ≡ s.prefixes.contents
 
 abbrev pub held : Store → Bool → Held
-held s staged = record { contents = contents_of s; staged = if staged then Some (next_of s) else None; terms = s.terms }
+held s staged = record {
+  contents = contents_of s;
+  staged = if staged then Some (next_of s) else None;
+  terms = s.terms;
+}
 
 abbrev pub IsWhole : Store → Bool → Type 0
 IsWhole s true = IsStore s

@@ -1,7 +1,8 @@
 //! The dataset as its callers see it.
-ghost use Rattle.std.specs.Prelude.{◌≡◌, ◌+◌, ◌≤◌, [], Some, None, length, map, MatchOption, IfOk, OnOk, OnErr, IsErrOf, IsSome};
+ghost use Rattle.std.specs.Prelude.{◌≡◌, ◌+◌, ◌≤◌, [], Some, None, length, map, IfOk, OnOk, OnErr, IsErrOf, IsSome};
 ghost use Rattle.std.specs.List.{filter};
 ghost use Rattle.rdf_terms.specs.Dataset.{apply as applied, empty};
+ghost use Rattle.rdf_terms.specs.Line.{line};
 ghost use Rattle.term_table.specs.Table.{most};
 ghost use Rattle.dataset_tx.specs.declared.dataset.DataFault.TheVariants as fault;
 ghost use Rattle.dataset_tx.specs.Held.{AreMet, AreMore};
@@ -10,11 +11,12 @@ ghost use Rattle.dataset_tx.specs.Prefixes.{prefix_change};
 
 use crate::pattern::Pattern;
 use crate::store::Store;
-use delta_base::OutOfMemory;
+use delta_base::{OutOfMemory, Text};
 use quad_index::Steps;
-use quad_keys::in_line_order;
+use quad_keys::{in_line_order, lines};
 use rdf_terms::{Changes, Quads};
 use std::alloc::Global;
+use std::collections::BTreeSet;
 use std::marker::Model;
 use std::sync::ledger::Ledger;
 
@@ -72,7 +74,8 @@ impl Dataset {
         ensures err { OnErr result (self.new.contents ≡ self.old.contents) }
         ensures staged { self.new.staged ≡ None }
         ensures met { AreMet changes.now.items self.old.terms self.new.terms }
-        ensures full { IsErrOf result DataFault.TermsFull → AreMore most changes.now.items self.old.terms }
+        ensures full { IsErrOf result DataFault.TermsFull
+            → AreMore most changes.now.items self.old.terms }
     {
         self.stage(changes)?;
         self.commit_staged();
@@ -83,10 +86,12 @@ impl Dataset {
     pub fn stage(&mut self, changes: &Changes) -> Result<(), DataFault>
         requires { self.old.staged ≡ None }
         ensures contents { self.new.contents ≡ self.old.contents }
-        ensures ok { OnOk result (self.new.staged ≡ Some (applied changes.now.items self.old.contents)) }
+        ensures ok { OnOk result
+            (self.new.staged ≡ Some (applied changes.now.items self.old.contents)) }
         ensures err { OnErr result (self.new.staged ≡ None) }
         ensures met { AreMet changes.now.items self.old.terms self.new.terms }
-        ensures full { IsErrOf result DataFault.TermsFull → AreMore most changes.now.items self.old.terms }
+        ensures full { IsErrOf result DataFault.TermsFull
+            → AreMore most changes.now.items self.old.terms }
     {
         match self.store.stage_kept(changes.as_slice()) {
             Ok(()) => {
@@ -134,10 +139,23 @@ impl Dataset {
         )
     }
 
+    /// The lines of the quads, in the order of their bytes. No quad is copied.
+    pub fn lines(&self) -> Result<BTreeSet<Text>, OutOfMemory>
+        requires { self.now.staged ≡ None }
+        ensures { IfOk result (λ lines. lines.keys ≡ map line self.now.contents.quads) }
+    {
+        lines(
+            self.alloc,
+            &self.store.terms,
+            self.store.quads.index().all()?,
+        )
+    }
+
     /// The changes that set the prefixes, in the order of their rows.
     pub fn prefixes(&self) -> Result<Changes, OutOfMemory>
         requires { self.now.staged ≡ None }
-        ensures { IfOk result (λ changes. changes.items ≡ map prefix_change self.now.contents.prefixes) }
+        ensures { IfOk result
+            (λ changes. changes.items ≡ map prefix_change self.now.contents.prefixes) }
     {
         self.store.prefixes.changes()
     }
@@ -149,7 +167,8 @@ impl Dataset {
         steps: &mut Steps<L>,
     ) -> Result<Quads, OutOfMemory>
         requires { self.now.staged ≡ None }
-        ensures found { IfOk result (λ quads. quads.items ≡ filter (matches pattern.now) self.now.contents.quads) }
+        ensures found { IfOk result
+            (λ quads. quads.items ≡ filter (matches pattern.now) self.now.contents.quads) }
         ensures cost { IfOk result (λ quads. steps.new ≤ steps.old + length quads.items + 1) }
     {
         self.store.matching(self.alloc, pattern, steps)

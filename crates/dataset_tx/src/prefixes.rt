@@ -39,7 +39,10 @@ impl Model for PrefixMap {
 
     ghost Value = { StagedPrefixes };
 
-    ghost view = { λ p. record { contents = settings p.rows.entries; next = next_settings p.staged.entries p.rows.entries } };
+    ghost view = { λ p. record {
+      contents = settings p.rows.entries;
+      next = next_settings p.staged.entries p.rows.entries;
+    } };
 
     ghost invariant = { λ p. AreStagedRows p.rows.entries p.staged.entries };
 }
@@ -59,7 +62,8 @@ impl PrefixMap {
     /// Stages a prefix of a graph to be set.
     pub fn set(&mut self, prefix: &Text, iri: &Iri, graph: &Option<Term>) -> Result<(), OutOfMemory>
         ensures contents { self.new.contents ≡ self.old.contents }
-        ensures ok { OnOk result (self.new.next ≡ insert_entry prefix_cmp self.old.next (graph.now, prefix.now) iri.now) }
+        ensures ok { OnOk result (self.new.next
+            ≡ insert_entry prefix_cmp self.old.next (graph.now, prefix.now) iri.now) }
         ensures err { OnErr result (self.new.next ≡ self.old.next) }
     {
         let row = row_of(self.alloc, prefix, graph)?;
@@ -69,7 +73,8 @@ impl PrefixMap {
     /// Stages a prefix of a graph to be gone.
     pub fn remove(&mut self, prefix: &Text, graph: &Option<Term>) -> Result<(), OutOfMemory>
         ensures contents { self.new.contents ≡ self.old.contents }
-        ensures ok { OnOk result (self.new.next ≡ remove_entry (is_at (prefix_cmp (graph.now, prefix.now))) self.old.next) }
+        ensures ok { OnOk result (self.new.next
+            ≡ remove_entry (is_at (prefix_cmp (graph.now, prefix.now))) self.old.next) }
         ensures err { OnErr result (self.new.next ≡ self.old.next) }
     {
         let row = row_of(self.alloc, prefix, graph)?;
@@ -126,8 +131,13 @@ fn set_row(
     requires row { row.items ≡ row_bytes (graph.now, prefix.now) }
     ensures rows { AreStagedRows rows.new.entries staged.new.entries }
     ensures contents { settings rows.new.entries ≡ settings rows.old.entries }
-    ensures ok { OnOk result (next_settings staged.new.entries rows.new.entries ≡ insert_entry prefix_cmp (next_settings staged.old.entries rows.old.entries) (graph.now, prefix.now) iri.now) }
-    ensures err { OnErr result (next_settings staged.new.entries rows.new.entries ≡ next_settings staged.old.entries rows.old.entries) }
+    ensures ok { OnOk result
+        (next_settings staged.new.entries rows.new.entries
+        ≡ insert_entry prefix_cmp (next_settings staged.old.entries rows.old.entries)
+        (graph.now, prefix.now) iri.now) }
+    ensures err { OnErr result
+        (next_settings staged.new.entries rows.new.entries
+        ≡ next_settings staged.old.entries rows.old.entries) }
 {
     make_place(rows, &row)?;
     let entry = next_entry(rows, staged, row.as_slice(), prefix, iri, graph)?;
@@ -145,8 +155,13 @@ fn remove_row(
     requires rows { AreStagedRows rows.now.entries staged.old.entries }
     requires row { row.items ≡ row_bytes (graph.now, prefix.now) }
     ensures rows { AreStagedRows rows.now.entries staged.new.entries }
-    ensures ok { OnOk result (next_settings staged.new.entries rows.now.entries ≡ remove_entry (is_at (prefix_cmp (graph.now, prefix.now))) (next_settings staged.old.entries rows.now.entries)) }
-    ensures err { OnErr result (next_settings staged.new.entries rows.now.entries ≡ next_settings staged.old.entries rows.now.entries) }
+    ensures ok { OnOk result
+        (next_settings staged.new.entries rows.now.entries
+        ≡ remove_entry (is_at (prefix_cmp (graph.now, prefix.now)))
+        (next_settings staged.old.entries rows.now.entries)) }
+    ensures err { OnErr result
+        (next_settings staged.new.entries rows.now.entries
+        ≡ next_settings staged.old.entries rows.now.entries) }
 {
     if rows.contains_key(row.as_slice()) {
         drop(staged.insert(row, None)?);
@@ -162,9 +177,11 @@ fn copy_row(row: &Vec<u8>) -> Result<Vec<u8>, OutOfMemory>
 
 // Has a row among them, at which nothing stands if it is new.
 fn make_place(rows: &mut Rows, row: &Vec<u8>) -> Result<(), OutOfMemory>
-    ensures rows { (staged : List Row) → AreStagedRows rows.old.entries staged → AreStagedRows rows.new.entries staged }
+    ensures rows { (staged : List Row) → AreStagedRows rows.old.entries staged
+        → AreStagedRows rows.new.entries staged }
     ensures contents { settings rows.new.entries ≡ settings rows.old.entries }
-    ensures next { (staged : List Row) → AreStagedRows rows.old.entries staged → next_settings staged rows.new.entries ≡ next_settings staged rows.old.entries }
+    ensures next { (staged : List Row) → AreStagedRows rows.old.entries staged
+        → next_settings staged rows.new.entries ≡ next_settings staged rows.old.entries }
     ensures ok { OnOk result (has_row rows.new.entries row.now.items ≡ true) }
 {
     if !rows.contains_key(row.as_slice()) {
@@ -183,7 +200,9 @@ fn next_entry(
     iri: &Iri,
     graph: &Option<Term>,
 ) -> Result<PrefixEntry, OutOfMemory>
-    ensures { IfOk result (λ entry. entry ≡ set_to (graph.now, prefix.now) iri.now (standing staged.now.entries rows.now.entries row.now)) }
+    ensures { IfOk result (λ entry. entry
+        ≡ set_to (graph.now, prefix.now) iri.now
+        (standing staged.now.entries rows.now.entries row.now)) }
 {
     match current(rows, staged, row) {
         Some(entry) => entry_of(&entry.prefix, iri, &entry.graph),
@@ -205,7 +224,8 @@ fn current<'a>(rows: &'a Rows, staged: &'a Rows, row: &[u8]) -> Option<&'a Prefi
 }
 
 fn entry_of(prefix: &Text, iri: &Iri, graph: &Option<Term>) -> Result<PrefixEntry, OutOfMemory>
-    ensures { IfOk result (λ entry. entry ≡ record { prefix = prefix.now; iri = iri.now; graph = graph.now }) }
+    ensures { IfOk result
+        (λ entry. entry ≡ record { prefix = prefix.now; iri = iri.now; graph = graph.now }) }
 {
     Ok(PrefixEntry {
         prefix: prefix.copy()?,
@@ -218,7 +238,8 @@ fn entry_of(prefix: &Text, iri: &Iri, graph: &Option<Term>) -> Result<PrefixEntr
 fn settle_all(rows: &mut Rows, staged: &mut Rows)
     requires { AreStagedRows rows.old.entries staged.old.entries }
     ensures rows { AreStagedRows rows.new.entries staged.new.entries }
-    ensures contents { settings rows.new.entries ≡ next_settings staged.old.entries rows.old.entries }
+    ensures contents { settings rows.new.entries
+        ≡ next_settings staged.old.entries rows.old.entries }
     ensures staged { staged.new.entries ≡ [] }
 {
     while let Some((row, entry)) = staged.pop_first() {
@@ -231,7 +252,8 @@ fn settle(rows: &mut Rows, row: Vec<u8>, entry: Option<PrefixEntry>)
     requires { has_row rows.old.entries row.items ≡ true }
     ensures rows { rows.new.entries ≡ settled rows.old.entries row entry }
     ensures sorted { IsStrictlySortedBy row_cmp (keys_of rows.new.entries) }
-    ensures others { (other : RowBytes) → is_at (row_cmp row) other ≡ false → at_bytes other.items rows.new.entries ≡ at_bytes other.items rows.old.entries }
+    ensures others { (other : RowBytes) → is_at (row_cmp row) other ≡ false
+        → at_bytes other.items rows.new.entries ≡ at_bytes other.items rows.old.entries }
 {
     match entry {
         Some(entry) => match rows.insert(row, Some(entry)) {
@@ -269,7 +291,8 @@ fn give_back(rows: &mut Rows, row: &[u8])
 
 // Adds the change that sets what stands at a row, if anything does.
 fn push_change(changes: &mut Vec<Change>, entry: &Option<PrefixEntry>) -> Result<(), OutOfMemory>
-    ensures { OnOk result (changes.new.items ≡ changes.old.items ++ map prefix_change (shown entry.now [])) }
+    ensures { OnOk result
+        (changes.new.items ≡ changes.old.items ++ map prefix_change (shown entry.now [])) }
 {
     if let Some(entry) = entry {
         changes.push(change_of(entry)?)?;

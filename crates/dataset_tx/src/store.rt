@@ -1,4 +1,4 @@
-//! What a dataset keeps: its terms and their quads, and its prefixes, with what is staged beside them.
+//! What a dataset keeps: its terms, their quads and its prefixes, with what is staged beside them.
 ghost use Rattle.std.specs.Prelude.{◌≡◌, ◌+◌, ◌≤◌, [], length, IfOk, OnOk, IsErrOf};
 ghost use Rattle.std.specs.List.{filter};
 ghost use Rattle.rdf_terms.specs.Dataset.{effect, effects, empty, kept};
@@ -54,7 +54,8 @@ impl Store {
         ensures contents { contents_of self.new ≡ contents_of self.old }
         ensures ok { OnOk result (next_of self.new ≡ effect (Add quad.now) (next_of self.old)) }
         ensures grows { Grows (terms_of (Add quad.now)) self.old.terms self.new.terms }
-        ensures full { IsErrOf result DataFault.TermsFull → AreMoreThan most (terms_of (Add quad.now)) self.new.terms }
+        ensures full { IsErrOf result DataFault.TermsFull
+            → AreMoreThan most (terms_of (Add quad.now)) self.new.terms }
     {
         quad_is_value(quad);
         let key = number_quad(&mut self.terms, quad)?;
@@ -83,7 +84,8 @@ impl Store {
         ensures contents { contents_of self.new ≡ contents_of self.old }
         ensures ok { OnOk result (next_of self.new ≡ effect change.now (next_of self.old)) }
         ensures grows { Grows (terms_of change.now) self.old.terms self.new.terms }
-        ensures full { IsErrOf result DataFault.TermsFull → AreMoreThan most (terms_of change.now) self.new.terms }
+        ensures full { IsErrOf result DataFault.TermsFull
+            → AreMoreThan most (terms_of change.now) self.new.terms }
     {
         match change {
             Change::Add(quad) => self.stage_add(quad),
@@ -100,7 +102,8 @@ impl Store {
         ensures contents { contents_of self.new ≡ contents_of self.old }
         ensures ok { OnOk result (next_of self.new ≡ effect_in mode change.now (next_of self.old)) }
         ensures grows { Grows (terms_of change.now) self.old.terms self.new.terms }
-        ensures full { IsErrOf result DataFault.TermsFull → AreMoreThan most (terms_of change.now) self.new.terms }
+        ensures full { IsErrOf result DataFault.TermsFull
+            → AreMoreThan most (terms_of change.now) self.new.terms }
     {
         match mode {
             Mode::Skipped => Ok(()),
@@ -113,9 +116,11 @@ impl Store {
         requires { IsStore self.old }
         ensures store { IsStore self.new }
         ensures contents { contents_of self.new ≡ contents_of self.old }
-        ensures ok { OnOk result (next_of self.new ≡ effects (kept changes.now) (next_of self.old)) }
-        ensures met { AreMet (changes.now) self.old.terms self.new.terms }
-        ensures full { IsErrOf result DataFault.TermsFull → AreMore most (changes.now) self.old.terms }
+        ensures ok { OnOk result
+            (next_of self.new ≡ effects (kept changes.now) (next_of self.old)) }
+        ensures met { AreMet changes.now self.old.terms self.new.terms }
+        ensures full { IsErrOf result DataFault.TermsFull
+            → AreMore most changes.now self.old.terms }
     {
         let mut mode = Mode::Outside;
         let mut rest = changes;
@@ -160,7 +165,8 @@ impl Store {
     ) -> Result<Quads, OutOfMemory>
         requires store { IsStore self.now }
         requires settled { IsSettled self.now }
-        ensures found { IfOk result (λ quads. quads.items ≡ filter (matches pattern.now) (contents_of self.now).quads) }
+        ensures found { IfOk result
+            (λ quads. quads.items ≡ filter (matches pattern.now) (contents_of self.now).quads) }
         ensures cost { IfOk result (λ quads. steps.new ≤ steps.old + length quads.items + 1) }
     {
         let Some(pattern) = key_pattern(&self.terms, pattern) else {

@@ -3,7 +3,8 @@ use Rattle.quad_index.specs.declared.key.QuadKey.{QuadKey}
 use Rattle.quad_index.specs.Key.{key_cmp}
 use Rattle.std.specs.List.Sorted.{IsStrictlySortedBy}
 use Rattle.dataset_tx.specs.Staging.{without}
-use Rattle.dataset_tx.proofs.Sets.{one_out, sorted_out, without_none, nil_from_length}
+use Rattle.dataset_tx.proofs.Sets.{one_out, sorted_out, without_none}
+use Rattle.dataset_tx.proofs.Rows.{nothing_left}
 use Rattle.dataset_tx.proofs.keys.remove_all.Goals as goal
 
 pub loop-key-preserved : goal.loop-key-preserved
@@ -17,5 +18,5 @@ loop-key-preserved c = record {
 
 pub returns-clause-index : goal.returns-clause-index
 returns-clause-index c =
-    let none : c.loop-key.keys.keys ≡ [] = nil_from_length c.loop-key.keys.keys (search rules) in
+    let none : c.loop-key.keys.keys ≡ [] = nothing_left c.loop-key.keys.keys (search rules) in
     sym (without_none c.loop-key.index) ∙ ap (λ (l : List QuadKey). without l c.loop-key.index) (sym none) ∙ c.loop-key.invariant.same
