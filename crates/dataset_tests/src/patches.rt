@@ -1,0 +1,43 @@
+//! Datasets that patches make, and their texts.
+ghost use Rattle.std.specs.Prelude.{◌≡◌, None};
+
+use dataset_tx::Dataset;
+use nquads_documents::print_line;
+use patch_meaning::{Checked, check_patch};
+use rdf_terms::Quads;
+use std::alloc::Global;
+use std::test::Fail;
+
+const HEAD: &str = "H id <uuid:00000000-0000-4000-8000-000000000001> .\n";
+
+/// The patch of a text.
+pub fn patch_of(alloc: Global, text: &[u8]) -> Result<Checked, Fail> {
+    Ok(check_patch(alloc, text).ok().ok_or("no patch")?)
+}
+
+/// A patch with these rows.
+pub fn patch(alloc: Global, rows: &str) -> Result<Checked, Fail> {
+    let mut text = String::from_str(alloc, HEAD)?;
+    text.push_str(rows)?;
+    patch_of(alloc, text.as_bytes())
+}
+
+/// The lines of a dataset, one after another.
+pub fn lines(alloc: Global, dataset: &Dataset) -> Result<String, Fail>
+    requires { dataset.now.staged ≡ None }
+{
+    let mut text = String::new(alloc);
+    for line in &dataset.lines()? {
+        text.push_str(line.as_str())?;
+    }
+    Ok(text)
+}
+
+/// The lines of quads, one after another.
+pub fn lines_of(alloc: Global, quads: &Quads) -> Result<String, Fail> {
+    let mut text = String::new(alloc);
+    for quad in quads.as_slice() {
+        text.push_str(print_line(alloc, quad)?.as_str())?;
+    }
+    Ok(text)
+}

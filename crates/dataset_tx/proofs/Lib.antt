@@ -1,0 +1,11 @@
+pub mod Sets
+pub mod Closings
+pub mod Walks
+pub mod Growing
+pub mod Numbered
+pub mod Deleting
+pub mod Adding
+pub mod Meeting
+pub mod Rows
+pub mod Settling
+pub mod Finding

@@ -1,0 +1,176 @@
+//! The dataset as its callers see it.
+ghost use Rattle.std.specs.Prelude.{◌≡◌, ◌+◌, ◌≤◌, [], Some, None, length, map, IfOk, OnOk, OnErr, IsErrOf, IsSome};
+ghost use Rattle.std.specs.List.{filter};
+ghost use Rattle.rdf_terms.specs.Dataset.{apply as applied, empty};
+ghost use Rattle.rdf_terms.specs.Line.{line};
+ghost use Rattle.term_table.specs.Table.{most};
+ghost use Rattle.dataset_tx.specs.declared.dataset.DataFault.TheVariants as fault;
+ghost use Rattle.dataset_tx.specs.Held.{AreMet, AreMore};
+ghost use Rattle.dataset_tx.specs.Pattern.{matches};
+ghost use Rattle.dataset_tx.specs.Prefixes.{prefix_change};
+
+use crate::pattern::Pattern;
+use crate::store::Store;
+use delta_base::{OutOfMemory, Text};
+use quad_index::Steps;
+use quad_keys::{in_line_order, lines};
+use rdf_terms::{Changes, Quads};
+use std::alloc::Global;
+use std::collections::BTreeSet;
+use std::marker::Model;
+use std::sync::ledger::Ledger;
+
+/// Why changes can't be made.
+#[derive(Clone, Copy, Debug, PartialEq, Eq)]
+pub enum DataFault {
+    /// There is no number for one more term.
+    TermsFull,
+    OutOfMemory,
+}
+
+impl From<OutOfMemory> for DataFault {
+    ghost from_gives = { λ _ e. e ≡ fault.OutOfMemory };
+
+    fn from(_error: OutOfMemory) -> DataFault {
+        DataFault::OutOfMemory
+    }
+}
+
+/// A dataset, and what is staged beside it.
+#[derive(Drop)]
+pub struct Dataset {
+    alloc: Global,
+    store: Store,
+    is_staged: bool,
+}
+
+impl Model for Dataset {
+    ghost use Rattle.dataset_tx.specs.Held.{Held};
+    ghost use Rattle.dataset_tx.specs.Stores.{held, IsWhole};
+
+    ghost Value = { Held };
+
+    ghost view = { λ d. held d.store d.is_staged };
+
+    ghost invariant = { λ d. IsWhole d.store d.is_staged };
+}
+
+impl Dataset {
+    /// The empty dataset.
+    pub fn new(alloc: Global) -> Dataset
+        ensures { result ≡ record { contents = empty; staged = None; terms = [] } }
+    {
+        Dataset {
+            alloc,
+            store: Store::new(alloc),
+            is_staged: false,
+        }
+    }
+
+    /// Makes changes at once. Those of a block that an Abort ends change nothing.
+    pub fn apply(&mut self, changes: &Changes) -> Result<(), DataFault>
+        requires { self.old.staged ≡ None }
+        ensures ok { OnOk result (self.new.contents ≡ applied changes.now.items self.old.contents) }
+        ensures err { OnErr result (self.new.contents ≡ self.old.contents) }
+        ensures staged { self.new.staged ≡ None }
+        ensures met { AreMet changes.now.items self.old.terms self.new.terms }
+        ensures full { IsErrOf result DataFault.TermsFull
+            → AreMore most changes.now.items self.old.terms }
+    {
+        self.stage(changes)?;
+        self.commit_staged();
+        Ok(())
+    }
+
+    /// Keeps beside the contents what changes make of them.
+    pub fn stage(&mut self, changes: &Changes) -> Result<(), DataFault>
+        requires { self.old.staged ≡ None }
+        ensures contents { self.new.contents ≡ self.old.contents }
+        ensures ok { OnOk result
+            (self.new.staged ≡ Some (applied changes.now.items self.old.contents)) }
+        ensures err { OnErr result (self.new.staged ≡ None) }
+        ensures met { AreMet changes.now.items self.old.terms self.new.terms }
+        ensures full { IsErrOf result DataFault.TermsFull
+            → AreMore most changes.now.items self.old.terms }
+    {
+        match self.store.stage_kept(changes.as_slice()) {
+            Ok(()) => {
+                self.is_staged = true;
+                Ok(())
+            }
+            Err(fault) => {
+                self.store.give_up();
+                Err(fault)
+            }
+        }
+    }
+
+    /// Makes what is staged the contents. Takes no memory.
+    pub fn commit_staged(&mut self)
+        requires { IsSome self.old.staged }
+        ensures contents { Some self.new.contents ≡ self.old.staged }
+        ensures staged { self.new.staged ≡ None }
+        ensures terms { self.new.terms ≡ self.old.terms }
+    {
+        self.store.commit();
+        self.is_staged = false;
+    }
+
+    /// Gives up what is staged. Takes no memory.
+    pub fn drop_staged(&mut self)
+        requires { IsSome self.old.staged }
+        ensures contents { self.new.contents ≡ self.old.contents }
+        ensures staged { self.new.staged ≡ None }
+        ensures terms { self.new.terms ≡ self.old.terms }
+    {
+        self.store.give_up();
+        self.is_staged = false;
+    }
+
+    /// The quads, in the order of their lines.
+    pub fn quads(&self) -> Result<Quads, OutOfMemory>
+        requires { self.now.staged ≡ None }
+        ensures { IfOk result (λ quads. quads.items ≡ self.now.contents.quads) }
+    {
+        in_line_order(
+            self.alloc,
+            &self.store.terms,
+            self.store.quads.index().all()?,
+        )
+    }
+
+    /// The lines of the quads, in the order of their bytes. No quad is copied.
+    pub fn lines(&self) -> Result<BTreeSet<Text>, OutOfMemory>
+        requires { self.now.staged ≡ None }
+        ensures { IfOk result (λ lines. lines.keys ≡ map line self.now.contents.quads) }
+    {
+        lines(
+            self.alloc,
+            &self.store.terms,
+            self.store.quads.index().all()?,
+        )
+    }
+
+    /// The changes that set the prefixes, in the order of their rows.
+    pub fn prefixes(&self) -> Result<Changes, OutOfMemory>
+        requires { self.now.staged ≡ None }
+        ensures { IfOk result
+            (λ changes. changes.items ≡ map prefix_change self.now.contents.prefixes) }
+    {
+        self.store.prefixes.changes()
+    }
+
+    /// The quads that match, in the order of their lines. A step is a key looked at.
+    pub fn matching<L: Ledger>(
+        &self,
+        pattern: &Pattern,
+        steps: &mut Steps<L>,
+    ) -> Result<Quads, OutOfMemory>
+        requires { self.now.staged ≡ None }
+        ensures found { IfOk result
+            (λ quads. quads.items ≡ filter (matches pattern.now) self.now.contents.quads) }
+        ensures cost { IfOk result (λ quads. steps.new ≤ steps.old + length quads.items + 1) }
+    {
+        self.store.matching(self.alloc, pattern, steps)
+    }
+}

@@ -1,0 +1,312 @@
+//! The prefixes of a dataset, in the order of their rows.
+ghost use Rattle.std.specs.Prelude.{◌≡◌, ◌++◌, [], List, true, false, map, IfOk, OnOk, OnErr, option_copied};
+ghost use Rattle.std.specs.BTreeMap.{is_at, insert_entry};
+ghost use Rattle.std.specs.Map.{keys_of, remove_entry};
+ghost use Rattle.std.specs.List.Sorted.{IsStrictlySortedBy};
+ghost use Rattle.rdf_terms.specs.Dataset.{prefix_cmp};
+ghost use Rattle.dataset_tx.specs.Prefixes.{Row, RowBytes, prefix_change, row_bytes, row_cmp, has_row, at_bytes, AreRows, AreStagedRows, setting, shown, settings, next_settings, standing, set_to, settled};
+
+use delta_base::{Listing, OutOfMemory, Text};
+use nquads_text::{push_graph, push_quoted};
+use rdf_terms::{Change, Changes, Iri, Term, copy_graph};
+use std::alloc::Global;
+use std::collections::BTreeMap;
+use std::marker::Model;
+
+/// What stands under a prefix.
+#[derive(Drop)]
+pub struct PrefixEntry {
+    pub prefix: Text,
+    pub iri: Iri,
+    pub graph: Option<Term>,
+}
+
+// What stands at the bytes of a row: the prefix in its quotes, then the graph.
+type Rows = BTreeMap<Vec<u8>, Option<PrefixEntry>>;
+
+/// The prefixes, and what is staged beside them.
+#[derive(Drop)]
+pub struct PrefixMap {
+    alloc: Global,
+    /// Nothing stands at a row that is there for what is staged.
+    rows: Rows,
+    /// What rows become.
+    staged: Rows,
+}
+
+impl Model for PrefixMap {
+    ghost use Rattle.dataset_tx.specs.Prefixes.{StagedPrefixes, AreStagedRows, settings, next_settings};
+
+    ghost Value = { StagedPrefixes };
+
+    ghost view = { λ p. record {
+      contents = settings p.rows.entries;
+      next = next_settings p.staged.entries p.rows.entries;
+    } };
+
+    ghost invariant = { λ p. AreStagedRows p.rows.entries p.staged.entries };
+}
+
+impl PrefixMap {
+    pub fn new(alloc: Global) -> PrefixMap
+        ensures contents { result.contents ≡ [] }
+        ensures next { result.next ≡ [] }
+    {
+        PrefixMap {
+            alloc,
+            rows: BTreeMap::new(alloc),
+            staged: BTreeMap::new(alloc),
+        }
+    }
+
+    /// Stages a prefix of a graph to be set.
+    pub fn set(&mut self, prefix: &Text, iri: &Iri, graph: &Option<Term>) -> Result<(), OutOfMemory>
+        ensures contents { self.new.contents ≡ self.old.contents }
+        ensures ok { OnOk result (self.new.next
+            ≡ insert_entry prefix_cmp self.old.next (graph.now, prefix.now) iri.now) }
+        ensures err { OnErr result (self.new.next ≡ self.old.next) }
+    {
+        let row = row_of(self.alloc, prefix, graph)?;
+        set_row(&mut self.rows, &mut self.staged, row, prefix, iri, graph)
+    }
+
+    /// Stages a prefix of a graph to be gone.
+    pub fn remove(&mut self, prefix: &Text, graph: &Option<Term>) -> Result<(), OutOfMemory>
+        ensures contents { self.new.contents ≡ self.old.contents }
+        ensures ok { OnOk result (self.new.next
+            ≡ remove_entry (is_at (prefix_cmp (graph.now, prefix.now))) self.old.next) }
+        ensures err { OnErr result (self.new.next ≡ self.old.next) }
+    {
+        let row = row_of(self.alloc, prefix, graph)?;
+        remove_row(&self.rows, &mut self.staged, row, prefix, graph)
+    }
+
+    /// Makes what is staged the contents. Takes no memory.
+    pub fn commit(&mut self)
+        ensures contents { self.new.contents ≡ self.old.next }
+        ensures next { self.new.next ≡ self.old.next }
+    {
+        settle_all(&mut self.rows, &mut self.staged);
+    }
+
+    /// Gives up what is staged. Takes no memory.
+    pub fn give_up(&mut self)
+        ensures contents { self.new.contents ≡ self.old.contents }
+        ensures next { self.new.next ≡ self.old.contents }
+    {
+        give_back_all(&mut self.rows, &mut self.staged);
+    }
+
+    /// The changes that set the contents, in the order of their rows.
+    pub fn changes(&self) -> Result<Changes, OutOfMemory>
+        ensures { IfOk result (λ changes. changes.items ≡ map prefix_change self.now.contents) }
+    {
+        let mut changes = Vec::new(self.alloc);
+        for entry in self.rows.values() {
+            push_change(&mut changes, entry)?;
+        }
+        Ok(Listing::from_vec(changes))
+    }
+}
+
+// The bytes of a prefix and its graph, as a row writes them.
+fn row_of(alloc: Global, prefix: &Text, graph: &Option<Term>) -> Result<Vec<u8>, OutOfMemory>
+    ensures { IfOk result (λ row. row.items ≡ row_bytes (graph.now, prefix.now)) }
+{
+    let mut row = Vec::new(alloc);
+    push_quoted(&mut row, prefix.as_bytes())?;
+    push_graph(&mut row, graph)?;
+    Ok(row)
+}
+
+fn set_row(
+    rows: &mut Rows,
+    staged: &mut Rows,
+    row: Vec<u8>,
+    prefix: &Text,
+    iri: &Iri,
+    graph: &Option<Term>,
+) -> Result<(), OutOfMemory>
+    requires rows { AreStagedRows rows.old.entries staged.old.entries }
+    requires row { row.items ≡ row_bytes (graph.now, prefix.now) }
+    ensures rows { AreStagedRows rows.new.entries staged.new.entries }
+    ensures contents { settings rows.new.entries ≡ settings rows.old.entries }
+    ensures ok { OnOk result
+        (next_settings staged.new.entries rows.new.entries
+        ≡ insert_entry prefix_cmp (next_settings staged.old.entries rows.old.entries)
+        (graph.now, prefix.now) iri.now) }
+    ensures err { OnErr result
+        (next_settings staged.new.entries rows.new.entries
+        ≡ next_settings staged.old.entries rows.old.entries) }
+{
+    make_place(rows, &row)?;
+    let entry = next_entry(rows, staged, row.as_slice(), prefix, iri, graph)?;
+    drop(staged.insert(row, Some(entry))?);
+    Ok(())
+}
+
+fn remove_row(
+    rows: &Rows,
+    staged: &mut Rows,
+    row: Vec<u8>,
+    prefix: &Text,
+    graph: &Option<Term>,
+) -> Result<(), OutOfMemory>
+    requires rows { AreStagedRows rows.now.entries staged.old.entries }
+    requires row { row.items ≡ row_bytes (graph.now, prefix.now) }
+    ensures rows { AreStagedRows rows.now.entries staged.new.entries }
+    ensures ok { OnOk result
+        (next_settings staged.new.entries rows.now.entries
+        ≡ remove_entry (is_at (prefix_cmp (graph.now, prefix.now)))
+        (next_settings staged.old.entries rows.now.entries)) }
+    ensures err { OnErr result
+        (next_settings staged.new.entries rows.now.entries
+        ≡ next_settings staged.old.entries rows.now.entries) }
+{
+    if rows.contains_key(row.as_slice()) {
+        drop(staged.insert(row, None)?);
+    }
+    Ok(())
+}
+
+fn copy_row(row: &Vec<u8>) -> Result<Vec<u8>, OutOfMemory>
+    ensures { IfOk result (λ copy. copy.items ≡ row.now.items) }
+{
+    Ok(row.clone()?)
+}
+
+// Has a row among them, at which nothing stands if it is new.
+fn make_place(rows: &mut Rows, row: &Vec<u8>) -> Result<(), OutOfMemory>
+    ensures rows { (staged : List Row) → AreStagedRows rows.old.entries staged
+        → AreStagedRows rows.new.entries staged }
+    ensures contents { settings rows.new.entries ≡ settings rows.old.entries }
+    ensures next { (staged : List Row) → AreStagedRows rows.old.entries staged
+        → next_settings staged rows.new.entries ≡ next_settings staged rows.old.entries }
+    ensures ok { OnOk result (has_row rows.new.entries row.now.items ≡ true) }
+{
+    if !rows.contains_key(row.as_slice()) {
+        let copy = copy_row(row)?;
+        drop(rows.insert(copy, None)?);
+    }
+    Ok(())
+}
+
+// What is to stand at a row, where a prefix is set.
+fn next_entry(
+    rows: &Rows,
+    staged: &Rows,
+    row: &[u8],
+    prefix: &Text,
+    iri: &Iri,
+    graph: &Option<Term>,
+) -> Result<PrefixEntry, OutOfMemory>
+    ensures { IfOk result (λ entry. entry
+        ≡ set_to (graph.now, prefix.now) iri.now
+        (standing staged.now.entries rows.now.entries row.now)) }
+{
+    match current(rows, staged, row) {
+        Some(entry) => entry_of(&entry.prefix, iri, &entry.graph),
+        None => entry_of(prefix, iri, graph),
+    }
+}
+
+// What is to stand at a row.
+fn current<'a>(rows: &'a Rows, staged: &'a Rows, row: &[u8]) -> Option<&'a PrefixEntry>
+    ensures { option_copied result ≡ standing staged.now.entries rows.now.entries row.now }
+{
+    match staged.get(row) {
+        Some(entry) => entry.as_ref(),
+        None => match rows.get(row) {
+            Some(entry) => entry.as_ref(),
+            None => None,
+        },
+    }
+}
+
+fn entry_of(prefix: &Text, iri: &Iri, graph: &Option<Term>) -> Result<PrefixEntry, OutOfMemory>
+    ensures { IfOk result
+        (λ entry. entry ≡ record { prefix = prefix.now; iri = iri.now; graph = graph.now }) }
+{
+    Ok(PrefixEntry {
+        prefix: prefix.copy()?,
+        iri: iri.copy()?,
+        graph: copy_graph(graph)?,
+    })
+}
+
+// Puts what is staged at its rows.
+fn settle_all(rows: &mut Rows, staged: &mut Rows)
+    requires { AreStagedRows rows.old.entries staged.old.entries }
+    ensures rows { AreStagedRows rows.new.entries staged.new.entries }
+    ensures contents { settings rows.new.entries
+        ≡ next_settings staged.old.entries rows.old.entries }
+    ensures staged { staged.new.entries ≡ [] }
+{
+    while let Some((row, entry)) = staged.pop_first() {
+        settle(rows, row, entry);
+    }
+}
+
+// Puts at a row what is staged for it. The row is there, so this takes no memory.
+fn settle(rows: &mut Rows, row: Vec<u8>, entry: Option<PrefixEntry>)
+    requires { has_row rows.old.entries row.items ≡ true }
+    ensures rows { rows.new.entries ≡ settled rows.old.entries row entry }
+    ensures sorted { IsStrictlySortedBy row_cmp (keys_of rows.new.entries) }
+    ensures others { (other : RowBytes) → is_at (row_cmp row) other ≡ false
+        → at_bytes other.items rows.new.entries ≡ at_bytes other.items rows.old.entries }
+{
+    match entry {
+        Some(entry) => match rows.insert(row, Some(entry)) {
+            Ok(was) => drop(was),
+            Err(refused) => drop(refused),
+        },
+        None => drop(rows.remove(row.as_slice())),
+    }
+}
+
+// Takes out the rows that are there for what is staged alone.
+fn give_back_all(rows: &mut Rows, staged: &mut Rows)
+    requires { AreStagedRows rows.old.entries staged.old.entries }
+    ensures rows { AreStagedRows rows.new.entries staged.new.entries }
+    ensures contents { settings rows.new.entries ≡ settings rows.old.entries }
+    ensures staged { staged.new.entries ≡ [] }
+{
+    while let Some((row, entry)) = staged.pop_first() {
+        drop(entry);
+        give_back(rows, row.as_slice());
+    }
+}
+
+// Takes out a row where nothing stands.
+fn give_back(rows: &mut Rows, row: &[u8])
+    requires { IsStrictlySortedBy row_cmp (keys_of rows.old.entries) }
+    ensures contents { settings rows.new.entries ≡ settings rows.old.entries }
+    ensures stand { AreRows rows.old.entries → AreRows rows.new.entries }
+    ensures sorted { IsStrictlySortedBy row_cmp (keys_of rows.new.entries) }
+{
+    if let Some(None) = rows.get(row) {
+        drop(rows.remove(row));
+    }
+}
+
+// Adds the change that sets what stands at a row, if anything does.
+fn push_change(changes: &mut Vec<Change>, entry: &Option<PrefixEntry>) -> Result<(), OutOfMemory>
+    ensures { OnOk result
+        (changes.new.items ≡ changes.old.items ++ map prefix_change (shown entry.now [])) }
+{
+    if let Some(entry) = entry {
+        changes.push(change_of(entry)?)?;
+    }
+    Ok(())
+}
+
+// The change that sets a prefix.
+fn change_of(entry: &PrefixEntry) -> Result<Change, OutOfMemory>
+    ensures { IfOk result (λ change. change ≡ prefix_change (setting entry.now)) }
+{
+    Ok(Change::PrefixAdd {
+        prefix: entry.prefix.copy()?,
+        iri: entry.iri.copy()?,
+        graph: copy_graph(&entry.graph)?,
+    })
+}
