@@ -5,10 +5,12 @@
 //! Both read standard input, check what they read, and stop with status 3 at a fault.
 //! `plain open DIR` opens the registry and the first log of DIR and prints a line for each.
 //! `plain append DIR N` writes N payloads of 200 bytes to a new file of DIR, each with two writes and two syncs.
+//! `plain keys N` inserts N keys into six ordered sets, matches patterns of them and removes them, and prints the times.
 //! `plain serve DIR ADDR WORKERS SLOTS` serves the logs of DIR over HTTP, until it is stopped.
 //! `plain load ADDR CONNECTIONS KIND COUNT` asks a server so many times over each of so many connections, and prints the times.
 
 mod append;
+mod keys;
 mod load;
 mod nquads;
 mod open;
@@ -59,6 +61,15 @@ fn append(words: &[String]) -> ExitCode {
             ExitCode::from(5)
         }
     }
+}
+
+fn keys(words: &[String]) -> ExitCode {
+    let Some(Ok(count)) = words.first().map(|word| word.parse()) else {
+        eprintln!("usage: plain keys N");
+        return ExitCode::from(2);
+    };
+    keys::measure(count);
+    ExitCode::SUCCESS
 }
 
 fn open(dir: &str) -> ExitCode {
@@ -120,6 +131,9 @@ fn main() -> ExitCode {
     }
     if word == "append" {
         return append(&words[1..]);
+    }
+    if word == "keys" {
+        return keys(&words[1..]);
     }
     if word == "serve" {
         return serve(&words[1..]);

@@ -1,8 +1,12 @@
-//! Worked examples of datasets: blocks, what is staged, prefixes, and searches beside a walk over all quads.
+//! Worked examples of numbered terms, of keys in six orders, and of datasets.
 #![tactic(auto)]
 
 #[cfg(test)]
 mod changing;
+#[cfg(test)]
+mod indexes;
+#[cfg(test)]
+mod numbers;
 #[cfg(test)]
 mod patches;
 #[cfg(test)]
