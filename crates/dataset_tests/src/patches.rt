@@ -4,7 +4,7 @@ ghost use Rattle.std.specs.Prelude.{◌≡◌, None};
 use dataset_tx::Dataset;
 use nquads_documents::print_line;
 use patch_meaning::{Checked, check_patch};
-use rdf_terms::Quads;
+use rdf_terms::{Change, Changes, Quads};
 use std::alloc::Global;
 use std::test::Fail;
 
@@ -20,6 +20,30 @@ pub fn patch(alloc: Global, rows: &str) -> Result<Checked, Fail> {
     let mut text = String::from_str(alloc, HEAD)?;
     text.push_str(rows)?;
     patch_of(alloc, text.as_bytes())
+}
+
+fn change(alloc: Global, word: &str) -> Result<Change, Fail> {
+    match word {
+        "TX" => Ok(Change::Begin),
+        "TC" => Ok(Change::Commit),
+        "TA" => Ok(Change::Abort),
+        row => {
+            let patch = patch(alloc, row)?;
+            let first = patch.changes().as_slice().first().ok_or("no change")?;
+            let copy = first.copy()?;
+            drop(patch);
+            Ok(copy)
+        }
+    }
+}
+
+/// The changes of rows and words of blocks, also such as no patch has.
+pub fn changes(alloc: Global, words: &[&str]) -> Result<Changes, Fail> {
+    let mut changes = Changes::new(alloc);
+    for word in words {
+        changes.push(change(alloc, word)?).ok().ok_or("no memory")?;
+    }
+    Ok(changes)
 }
 
 /// The lines of a dataset, one after another.

@@ -14,7 +14,11 @@ use std::test::Fail;
 use stream_generator::patch_text;
 
 /// The quads that match, in at most as many steps and one more.
-fn search<L: Ledger>(dataset: &Dataset, pattern: &Pattern, steps: &mut Steps<L>) -> Result<Quads, Fail>
+fn search<L: Ledger>(
+    dataset: &Dataset,
+    pattern: &Pattern,
+    steps: &mut Steps<L>,
+) -> Result<Quads, Fail>
     requires { dataset.now.staged ≡ None }
     ensures { IfOk result (λ quads. steps.new ≤ steps.old + length quads.items + 1) }
 {
