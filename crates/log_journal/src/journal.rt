@@ -67,9 +67,9 @@ fn read_journal<D: Disk, R: Receiver>(
     limit: u64,
     receiver: &mut R,
 ) -> Result<u64, JournalFault>
-    requires { R.received receiver.old [] }
+    requires { R.received receiver.old [] receiver.old }
     ensures received { IfOk result (λ length. (payloads : List (List ℕ))
-        × R.received receiver.new payloads × (length ≡ journal_length payloads)
+        × R.received receiver.old payloads receiver.new × (length ≡ journal_length payloads)
         × (D.tells → Holds (reads (D.past disk.old)) number payloads)) }
     ensures fault { D.tells → IfErr result (HasFault (reads (D.past disk.old)) number limit) }
     ensures few { D.tells
@@ -158,11 +158,11 @@ impl<D: Disk> Journal<D> {
         limit: u64,
         receiver: &mut R,
     ) -> Result<Journal<D>, OpenRefusal<D>>
-        requires { R.received receiver.old [] }
+        requires { R.received receiver.old [] receiver.old }
 
         // The payloads received are those of all the bytes that the disk reads.
         ensures received { IfOk result (λ journal. (payloads : List (List ℕ))
-            × R.received receiver.new payloads × StandsFor journal number payloads
+            × R.received receiver.old payloads receiver.new × StandsFor journal number payloads
             × ((length_of journal) ≡ journal_length payloads)
             × (D.tells → Holds (reads (D.past disk)) number payloads)) }
         ensures fault { IfErr result (λ refusal. D.tells

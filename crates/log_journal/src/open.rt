@@ -64,9 +64,9 @@ pub fn read_payloads<D: Disk, R: Receiver>(
     number: u32,
     receiver: &mut R,
 ) -> Result<u64, JournalFault>
-    requires { R.received receiver.old [] }
+    requires { R.received receiver.old [] receiver.old }
     ensures received { IfOk result (λ length. (payloads : List (List ℕ))
-        × R.received receiver.new payloads × (length ≡ journal_length payloads)
+        × R.received receiver.old payloads receiver.new × (length ≡ journal_length payloads)
         × (D.tells → Holds (reads (D.past disk.old)) number payloads)) }
     ensures found { D.tells → ReadsPayloads (reads (D.past disk.old)) number result }
     ensures few { D.tells

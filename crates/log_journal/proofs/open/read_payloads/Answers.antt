@@ -46,7 +46,7 @@ loop-gate-preserved g c =
     record {
       past = c.read_payload.ensures.past ∙ c.loop-gate.invariant.past;
       payloads = payloads;
-      received = subst (λ (p : List ℕ). g.R.Receiver.received c.receive.new.self (before ++ p ∷ [])) c.from_vec.ensures (c.in_ok-receive.ensures before c.loop-gate.invariant.received);
+      received = subst (λ (p : List ℕ). g.R.Receiver.received c.args.receiver.now (before ++ p ∷ []) c.receive.new.self) c.from_vec.ensures (c.in_ok-receive.ensures c.args.receiver.now before c.loop-gate.invariant.received);
       read = λ told.
           let found = subst (λ p. HasPayload (reads p) place payload) c.loop-gate.invariant.past (c.in_ok-payload.ensures.found told).0 in
           one_more_of file c.args.number place c.len-in-loop-gate.result before payloads payload (c.loop-gate.invariant.read told) found.sized found.block_is refl size;

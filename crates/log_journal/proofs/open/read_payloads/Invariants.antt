@@ -8,7 +8,7 @@ abbrev pub invariant-loop-gate : goal.invariant-loop-gate
 invariant-loop-gate g l = record {
   past : g.D.Disk.past l.disk ≡ g.D.Disk.past l.fn.disk;
   payloads : List (List ℕ);
-  received : g.R.Receiver.received l.receiver payloads;
+  received : g.R.Receiver.received l.fn.receiver payloads l.receiver;
   read : g.D.Disk.tells → IsRead (reads (g.D.Disk.past l.fn.disk)) l.number payloads l.place;
   stands : g.D.Disk.tells → HasByte (reads (g.D.Disk.past l.fn.disk)) l.place l.gate;
   file_length : g.D.Disk.tells → l.file_length ≡ length (reads (g.D.Disk.past l.fn.disk));
