@@ -4,12 +4,12 @@ use Rattle.std.specs.Prelude.{unwrap_or, IsErrAnd}
 use Rattle.std.proofs.lemmas.Grind.{flat_map-append}
 use Rattle.std.proofs.lemmas.List.{take_more}
 use Rattle.disk_model.specs.Shelf.{SameOthers}
-use Rattle.slot_files.specs.Files.{Files, bytes_at}
+use Rattle.slot_files.specs.Files.{Files, IsKept, bytes_at}
 use Rattle.slot_files.proofs.Steps.{other_number, other_dir, at_or_not}
 use Rattle.slot_checks.specs.declared.fault.CheckFault.{CheckFault}
 use Rattle.slot_checks.specs.declared.lines.FileLine.{FileLine}
 use Rattle.slot_checks.specs.declared.lines.FileLine.TheVariants as line
-use Rattle.slot_checks.specs.Checks.{HasLines, StopsAtLog, StopsInLogs, Stops, at_log, IsKept, AreKept}
+use Rattle.slot_checks.specs.Checks.{HasLines, StopsAtLog, StopsInLogs, Stops, at_log, AreKept}
 use Rattle.slot_checks.specs.Faults.{HasFileFault}
 use Rattle.slot_checks.specs.Lines.{line_text, lines_text}
 use Rattle.slot_checks.specs.Sound.{IsLogLine, HoldsRegistry, AreLogLines}

@@ -1,6 +1,6 @@
 -- What a check of all files tells, and how it leaves them.
-use Rattle.std.specs.Prelude.{◌≡◌, ◌⊎◌, ℕ, ◌+◌, ◌≤◌, List, [], ◌∷◌, length, Option, Some, None}
-use Rattle.slot_files.specs.Files.{Files, bytes_at}
+use Rattle.std.specs.Prelude.{◌≡◌, ℕ, ◌+◌, ◌≤◌, List, ◌∷◌, length}
+use Rattle.slot_files.specs.Files.{Files, IsKept, bytes_at}
 use Rattle.slot_checks.specs.declared.fault.CheckFault.{CheckFault}
 use Rattle.slot_checks.specs.declared.lines.FileLine.{FileLine}
 use Rattle.slot_checks.specs.declared.lines.FileLine.TheVariants as line
@@ -36,11 +36,7 @@ pub data StopsAt (files : Files) (dir : List ℕ) (file : ℕ) (fault : CheckFau
   at_log : (slots records : ℕ) → HoldsRegistry (bytes_at files dir 0) slots records
       → StopsAtLog files dir slots file fault → StopsAt files dir file fault
 
--- a file is as it was; where there was none, there may be an empty one
-abbrev pub IsKept : Option (List ℕ) → Option (List ℕ) → Type 0
-IsKept old new = (new ≡ old) ⊎ ((old ≡ None) × (new ≡ Some []))
-
--- so is each file of this directory below this end, and every other file is as it was
+-- each file of this directory below this end was kept, and every other file is as it was
 pub record AreKept (dir : List ℕ) (end : ℕ) (old new : Files) : Type 0 where
   pub elsewhere : (other : List ℕ) (number : ℕ) → (other ≡ dir → ⊥) → new other number ≡ old other number
   pub here : (number : ℕ) → IsKept (old dir number) (new dir number)

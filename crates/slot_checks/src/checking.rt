@@ -17,8 +17,8 @@ ghost use Rattle.std.specs.Prelude.{
 ghost use Rattle.delta_base.specs.Outside.{Rose};
 ghost use Rattle.delta_base.specs.declared.limits.TheConstants.{MOST_SLOTS};
 ghost use Rattle.disk_model.specs.Shelf.{SameOthers};
-ghost use Rattle.slot_files.specs.Files.{bytes_at};
-ghost use Rattle.slot_checks.specs.Checks.{HasLines, IsReport, Stops, StopsInLogs, IsKept, AreKept};
+ghost use Rattle.slot_files.specs.Files.{IsKept, bytes_at};
+ghost use Rattle.slot_checks.specs.Checks.{HasLines, IsReport, Stops, StopsInLogs, AreKept};
 ghost use Rattle.slot_checks.specs.Faults.{HasFileFault};
 ghost use Rattle.slot_checks.specs.Sound.{IsLogLine};
 

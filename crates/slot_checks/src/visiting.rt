@@ -3,10 +3,9 @@ ghost use Rattle.delta_base.specs.declared.limits.TheConstants.{MOST_SLOTS};
 ghost use Rattle.std.specs.Prelude.{◌≡◌, ℕ, ◌≤◌, IfOk, IfErr, IsErrOf, Some};
 ghost use Rattle.delta_base.specs.Outside.{Rose};
 ghost use Rattle.disk_model.specs.Shelf.{SameOthers};
-ghost use Rattle.slot_files.specs.Files.{bytes_at};
+ghost use Rattle.slot_files.specs.Files.{IsKept, bytes_at};
 ghost use Rattle.slot_checks.specs.Sound.{IsLogLine, HoldsRegistry};
 ghost use Rattle.slot_checks.specs.Faults.{HasFileFault, HasRegistryFault};
-ghost use Rattle.slot_checks.specs.Checks.{IsKept};
 
 use crate::fault::CheckFault;
 use crate::lines::FileLine;

@@ -1,5 +1,5 @@
 -- The files of a registry and its logs, as they are made.
-use Rattle.std.specs.Prelude.{◌≡◌, ◌⊎◌, ℕ, zero, suc, ◌+◌, ◌<◌, ◌≤◌, List, [], ◌∷◌, length, Option, Some, unwrap_or}
+use Rattle.std.specs.Prelude.{◌≡◌, ◌⊎◌, ℕ, zero, suc, ◌+◌, ◌<◌, ◌≤◌, List, [], ◌∷◌, length, Option, Some, None, unwrap_or}
 use Rattle.std.specs.Fmt.{decimal}
 use Rattle.log_journal.specs.File.{file_of}
 
@@ -47,3 +47,7 @@ pub record StopsAt (dir : List ℕ) (slots number size : ℕ) (old new : Files) 
 -- the files of a directory that had bytes are as they were
 abbrev pub KeepsFull : List ℕ → Files → Files → Type 0
 KeepsFull dir old new = (number : ℕ) → 0 < length (bytes_at old dir number) → new dir number ≡ old dir number
+
+-- a file is as it was; where there was none, there may be an empty one
+abbrev pub IsKept : Option (List ℕ) → Option (List ℕ) → Type 0
+IsKept old new = (new ≡ old) ⊎ ((old ≡ None) × (new ≡ Some []))

@@ -5,11 +5,13 @@
 #![tactic(auto)]
 
 mod fault;
+mod journal;
 mod logs;
 mod making;
 mod opening;
 mod registry;
 
 pub use fault::InitFault;
+pub use journal::format_file;
 pub use making::init_slots;
 pub use registry::first_payload;

@@ -1,7 +1,7 @@
 use Rattle.std.proofs.Common.{◌++◌, ◌∷◌, [], List, ℕ, ◌∙◌, ap, sym}
 use Rattle.disk_model.specs.Past.{reads}
 use Rattle.log_journal.proofs.Steps.{front-none}
-use Rattle.slot_files.proofs.logs.formatted.Goals as goal
+use Rattle.slot_files.proofs.journal.formatted.Goals as goal
 
 pub returns-in-Ok-clause-ok : goal.returns-in-Ok-clause-ok
 returns-in-Ok-clause-ok g c told = (
