@@ -1,5 +1,5 @@
 -- Reading a zone goes on from payload to payload.
-use Rattle.std.proofs.Common.{◌≡◌, ◌⊎◌, inl, inr, ⊎_elim, ℕ, zero, suc, ◌+◌, ◌^◌, ◌<◌, ◌≤◌, Bool, true, false, List, [], ◌∷◌, ◌++◌, map, length, take, Option, None, refl, sym, ◌∙◌, ap, subst, arith, length-append, append_assoc}
+use Rattle.std.proofs.Common.{◌≡◌, ◌⊎◌, inl, inr, ⊎_elim, ℕ, ◌+◌, ◌^◌, ◌<◌, ◌≤◌, Bool, true, false, List, [], ◌∷◌, ◌++◌, map, length, Option, None, refl, sym, ◌∙◌, ap, subst, arith, length-append, append_assoc}
 use Rattle.std.specs.Prelude.{sum_by}
 use Rattle.std.specs.List.{AllByRecursion, Contains, flat_map}
 use Rattle.std.proofs.lemmas.List.{map-append, length-map, append-nil}
@@ -8,7 +8,7 @@ use Rattle.std.proofs.lemmas.List.Elements.{Contains-append_left, Contains-appen
 use Rattle.delta_base.specs.declared.id.Id.{Id}
 use Rattle.rdf_terms.specs.declared.term.Term.{Term}
 use Rattle.rdf_terms.specs.declared.change.Change.{Change}
-use Rattle.rdf_terms.specs.Dataset.{Dataset, apply}
+use Rattle.rdf_terms.specs.Dataset.{Dataset, apply, empty}
 use Rattle.term_table.specs.Table.{most}
 use Rattle.dataset_tx.specs.Held.{terms_of, AreMet, AreMore}
 use Rattle.chain_core.specs.declared.chain.Patch.{Patch}
@@ -25,7 +25,7 @@ use Rattle.patch_log.proofs.Openings.{breaks_at}
 use Rattle.zone_state.specs.declared.opening.Reading.{Reading}
 use Rattle.zone_state.specs.Brief.{Brief, brief_of, with_patch, id_of, last_of, version_in, changes_of}
 use Rattle.zone_state.specs.Next.{IsNext, AreFound}
-use Rattle.zone_state.specs.Opening.{HasRead, MeetsMore}
+use Rattle.zone_state.specs.Opening.{HasRead, MeetsMore, HasReceived}
 use Rattle.zone_state.specs.State.{brief_in}
 use Rattle.zone_state.proofs.Growing.{brief-push, bare-push, texts-push, bare_texts, bare_versions, bare_last, checked-push, chain-push}
 
@@ -34,7 +34,7 @@ use Rattle.zone_state.proofs.Growing.{brief-push, bare-push, texts-push, bare_te
 -- a text that is a patch which doesn't go behind the others
 pub not_next : (ids : List Id) (text : List ℕ) (most : ℕ) (read patch : CheckedPatch) → read.text ≡ text → IsPatch read.text read.meaning → ((read.meaning.prev ≡ last_of ids) × (version_in ids read.meaning.id ≡ None) → ⊥)
     → IsNext ids text most patch → ⊥
-not_next ids text most read patch text_is is none next =
+not_next ids text limit read patch text_is is none next =
     let one = subst (λ (t : List ℕ). IsPatch t read.meaning) text_is is in
     let other = subst (λ (t : List ℕ). IsPatch t patch.meaning) next.text_is next.checked in
     let same : read.meaning ≡ patch.meaning = one_meaning text read.meaning patch.meaning one other in
@@ -71,10 +71,10 @@ overflows_now changes more known met are = record { terms = are.terms; met = mee
 changes-push : (taken : List CheckedPatch) (patch : CheckedPatch) → changes_of (taken ++ patch ∷ []) ≡ changes_of taken ++ patch.meaning.changes
 changes-push taken patch = flat_map-append (λ (p : CheckedPatch). p.meaning.changes) taken (patch ∷ []) ∙ ap (λ (cs : List Change). changes_of taken ++ cs) (append-nil patch.meaning.changes)
 
-true_or_false : true ≡ false → ⊥
+pub true_or_false : true ≡ false → ⊥
 true_or_false same = cc
 
-true_and_false : (b : Bool) → b ≡ true → b ≡ false → ⊥
+pub true_and_false : (b : Bool) → b ≡ true → b ≡ false → ⊥
 true_and_false b t f = true_or_false (sym t ∙ f)
 
 not_full : (old new : Bool) → (old ≡ true → new ≡ true) → new ≡ false → old ≡ false
@@ -105,6 +105,17 @@ module _ (old mid new : Reading) (patch : CheckedPatch) (meets : MeetsMore old m
         (rw (ap (λ v. v.terms) contents) (meets_both (changes_of taken) patch.meaning.changes [] old.kept.contents.terms mid.kept.contents.terms (read.met (was_not_full is)) (meets.applied (sym full ∙ is)).1));
     overflow = λ is. subst (λ (cs : List Change). AreMore most cs []) (sym (changes-push taken patch)) (overflow_more taken read old.full refl is);
   }
+
+pub has_read_none : (reading : Reading) → reading.kept.ids.items ≡ [] → reading.kept.bytes ≡ 0 → reading.kept.contents ≡ record { contents = empty; staged = None; terms = [] } → reading.full ≡ false → HasRead reading []
+has_read_none reading ids bytes contents full = record {
+  ids_are = ids;
+  whole = λ is.
+      ap (λ (is : List Id). record { ids = is; bytes = reading.kept.bytes; contents = reading.kept.contents.contents }) ids
+      ∙ ap (λ (n : ℕ). record { ids = []; bytes = n; contents = reading.kept.contents.contents }) bytes
+      ∙ ap (λ (d : Dataset). record { ids = []; bytes = 0; contents = d }) (ap (λ v. v.contents) contents);
+  met = λ is. subst (λ (ts : List Term). AreMet [] [] ts) (sym (ap (λ v. v.terms) contents)) (meets_nothing []);
+  overflow = λ is. absurd (true_and_false reading.full is full);
+}
 
 -- ---- all payloads
 
@@ -162,16 +173,34 @@ found_more found text most taken patch are next = record {
   few = omega (arith, next.few, length-map taken id_of, length-append taken (patch ∷ []));
 }
 
--- further texts change nothing
-pub breaks_more : {T : Type 0} (IsSo : List T → Type 0) (items : List T) (item : T) (count : ℕ) → BreaksAt IsSo items count → BreaksAt IsSo (items ++ item ∷ []) count
-breaks_more IsSo items item count breaks = record {
-  within = omega (arith, breaks.within, length-append items (item ∷ []));
-  so_before = λ fewer before. subst IsSo (front items (item ∷ []) fewer (omega (arith, before, breaks.within))) (breaks.so_before fewer before);
-  broken = λ whole. breaks.broken (subst IsSo (sym (front items (item ∷ []) count breaks.within)) whole);
-}
-  where
-    front : {T : Type 0} (items more : List T) (n : ℕ) → n ≤ length items → take n items ≡ take n (items ++ more)
-    front [] more zero fits = refl
-    front [] more (suc n) fits = absurd (omega (arith, fits))
-    front (t ∷ items) more zero fits = refl
-    front {T} (t ∷ items) more (suc n) fits = ap (λ (ts : List T). t ∷ ts) (front items more n (omega (arith, fits)))
+-- ---- what was received
+
+module _ (first old new : Reading) (payloads : List (List ℕ)) (text : List ℕ) (has : HasReceived first payloads old) where
+  -- a payload that is the next patch
+  pub received_more : old.broken ≡ false → new.broken ≡ old.broken → new.most ≡ old.most
+      → ((patch : CheckedPatch) × IsNext old.kept.ids.items text old.most patch × ((taken : List CheckedPatch) → HasRead old taken → HasRead new (taken ++ patch ∷ [])))
+      → HasReceived first (payloads ++ text ∷ []) new
+  received_more whole still same added =
+      let found = has.found whole in
+      let read = found.2 in
+      let next = subst (λ (n : ℕ). IsNext (map id_of found.0) text n added.0) has.most_is (subst (λ (ids : List Id). IsNext ids text old.most added.0) read.ids_are added.1) in
+      record {
+        most_is = same ∙ has.most_is;
+        found = λ is. (found.0 ++ added.0 ∷ [], found_more payloads text first.most found.0 added.0 found.1 next, added.2 found.0 read);
+        breaks = λ is. absurd (true_and_false new.broken is (still ∙ whole));
+      }
+
+  -- one that isn't
+  pub received_broken : old.broken ≡ false → new.broken ≡ true → new.most ≡ old.most → new.kept.ids.items ≡ old.kept.ids.items
+      → ((patch : CheckedPatch) → IsNext old.kept.ids.items text old.most patch → ⊥) → HasReceived first (payloads ++ text ∷ []) new
+  received_broken whole broken same ids none =
+      let found = has.found whole in
+      let read = found.2 in
+      let count : length found.0 + 1 ≡ length new.kept.ids.items + 1 = omega (arith, ap length ids, ap length read.ids_are, length-map found.0 id_of) in
+      let no_next = λ (patch : CheckedPatch) (next : IsNext (map id_of found.0) text first.most patch).
+          none patch (subst (λ (n : ℕ). IsNext old.kept.ids.items text n patch) (sym has.most_is) (subst (λ (is : List Id). IsNext is text first.most patch) (sym read.ids_are) next)) in
+      record {
+        most_is = same ∙ has.most_is;
+        found = λ is. absurd (true_and_false new.broken broken is);
+        breaks = λ is. subst (λ (n : ℕ). BreaksAt (AreChained first.most) (payloads ++ text ∷ []) n) count (breaks payloads text [] first.most found.0 found.1 no_next);
+      }

@@ -1,6 +1,6 @@
 -- What a zone stands for behind the write of its next patch.
 use Rattle.std.proofs.Common.{◌≡◌, ◌⊎◌, ℕ, ◌+◌, ◌-◌, ◌≤◌, ◌<◌, ◌^◌, Bool, true, false, List, [], ◌∷◌, ◌++◌, map, length, Option, Some, None, Result, Ok, Err, refl, sym, ◌∙◌, ap, subst, arith, length-append}
-use Rattle.std.specs.Prelude.{IsTrue, not}
+use Rattle.std.specs.Prelude.{IsTrue, not, is_none}
 use Rattle.std.proofs.lemmas.List.{length-map}
 use Rattle.disk_model.specs.declared.disk.Disk.{Ghosts}
 use Rattle.disk_model.specs.Past.{Past, ok_syncs, EveryImage, LeavesOnly}
@@ -51,6 +51,34 @@ module _ {D : Type 0} {disks : Ghosts D} (journal : Journal D disks) (kept : Kep
   -- before a write
   pub journal_is : (taken : List CheckedPatch) (doubt : Option CheckedPatch) → StandsForZone disks.tells (disks.past (disk_of journal)) (view_of journal kept limits) taken doubt → StandsWith journal zone_number (texts taken) (text_in doubt)
   journal_is taken doubt stands = journal_stands journal (view_of journal kept limits) taken doubt refl is.length_is stands
+
+  -- another journal that stands for the same
+  module _ (new : Journal D disks) (stands : (number : ℕ) (payloads : List (List ℕ)) (doubt : Option (List ℕ)) → StandsWith journal number payloads doubt → StandsWith new number payloads doubt) (length_is : length_of new ≡ length_of journal)
+      (limit_is : limit_of new ≡ limit_of journal) where
+    settled_by : (j : Journal D disks) (payloads : List (List ℕ)) (doubt : Option (List ℕ)) → StandsWith j zone_number payloads doubt → is_settled j ≡ is_none doubt
+    settled_by j payloads None stands = stands.0
+    settled_by j payloads (Some doubt) stands = stands.0
+
+    there : StandsWith new zone_number (texts is.stands.0) (text_in is.stands.1)
+    there = stands zone_number (texts is.stands.0) (text_in is.stands.1) (journal_is is.stands.0 is.stands.1 is.stands.2)
+
+    pub settled_still : is_settled new ≡ is_settled journal
+    settled_still = settled_by new (texts is.stands.0) (text_in is.stands.1) there ∙ sym (settled_by journal (texts is.stands.0) (text_in is.stands.1) (journal_is is.stands.0 is.stands.1 is.stands.2))
+
+    pub kept_still : IsKept new kept limits
+    kept_still =
+        let before = is.stands.2 in
+        record {
+          length_is = length_is ∙ is.length_is;
+          limit_is = limit_is ∙ is.limit_is;
+          countable = is.countable;
+          unstaged = is.unstaged;
+          stands = (
+            is.stands.0,
+            is.stands.1,
+            zone_stands new (view_of new kept limits) is.stands.0 is.stands.1 refl (length_is ∙ is.length_is) before.brief_is before.without before.having there,
+          );
+        }
 
   -- what images hold during a write
   pub during_written : (new : Journal D disks) (patch : CheckedPatch) (payload : List ℕ) → payload ≡ patch.text → (taken : List CheckedPatch) (doubt : Option CheckedPatch)

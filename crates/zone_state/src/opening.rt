@@ -82,6 +82,7 @@ impl Reading {
     pub fn new(alloc: Global, most: u32) -> Reading
         ensures received { HasReceived result [] result }
         ensures most { result.most ≡ most }
+        ensures countable { most < 2 ^ 32 }
     {
         Reading {
             alloc,
@@ -198,12 +199,9 @@ impl Receiver for Reading {
 
     fn receive(&mut self, payload: Bytes) -> Result<(), OutOfMemory> {
         if self.broken {
-            drop(payload);
             return Ok(());
         }
-        let added = self.add_next(&payload);
-        drop(payload);
-        match added {
+        match self.add_next(&payload) {
             Ok(()) => Ok(()),
             Err(NextFault::Broken) => {
                 self.broken = true;
