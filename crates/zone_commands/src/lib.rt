@@ -3,8 +3,10 @@
 
 mod lines;
 mod reading;
+mod visiting;
 mod words;
 
 pub use lines::{quad_lines, row_lines};
 pub use reading::Reading;
+pub use visiting::{Lines, read_zone, read_zone_file};
 pub use words::{Position, graph_of, part_of, read_pattern, term_of};
