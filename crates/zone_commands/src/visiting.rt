@@ -8,6 +8,7 @@ ghost use Rattle.slot_files.specs.Files.{IsKept, bytes_at};
 ghost use Rattle.zone_state.specs.Fault.{HasZoneFault};
 ghost use Rattle.zone_state.specs.Zone.{zone_number};
 ghost use Rattle.zone_commands.specs.Files.{HasLines};
+ghost use Rattle.zone_commands.specs.Order.{IsInOrder};
 ghost use Rattle.zone_commands.specs.Readings.{lines_read};
 
 use crate::lines::{quad_lines, row_lines};
@@ -35,7 +36,8 @@ fn matching<D: Disk, L: Ledger>(
     requires name { blank.name ≡ L.name }
     requires parts { blank.parts ≡ L.parts }
     requires some { 0 < L.parts }
-    ensures { IfOk result (λ lines. lines.keys ≡ lines_read (Reading.Match pattern.now) zone.now.brief.contents) }
+    ensures { IsInOrder zone.now.brief.contents → IfOk result (λ lines.
+        lines.keys ≡ lines_read (Reading.Match pattern.now) zone.now.brief.contents) }
 {
     let mut steps = Steps::<L>::new(blank);
     quad_lines(alloc, zone.matching(pattern, &mut steps)?)
@@ -43,7 +45,8 @@ fn matching<D: Disk, L: Ledger>(
 
 // What is read of the dataset of a zone.
 fn lines_of<D: Disk>(alloc: Global, zone: &Zone<D>, reading: &Reading) -> Result<Lines, OutOfMemory>
-    ensures { IfOk result (λ lines. lines.keys ≡ lines_read reading.now zone.now.brief.contents) }
+    ensures { IsInOrder zone.now.brief.contents → IfOk result (λ lines.
+        lines.keys ≡ lines_read reading.now zone.now.brief.contents) }
 {
     match reading {
         Reading::Dump => zone.lines(),
