@@ -36,6 +36,7 @@ module _ (input input' out out' : Channel) (r : Replayed) (reads : Reads input i
   stops_printing (refusals.TooLong limit) stops = absurd stops
   stops_printing refusals.InputFailed stops = absurd stops
   stops_printing (refusals.NotEmpty file length) stops = absurd stops
+  stops_printing refusals.ZoneTermsFull stops = absurd stops
   stops_printing (refusals.File fault) stops = absurd stops
   stops_printing (refusals.WrongCount disks slots) stops = absurd stops
   stops_printing refusals.DiskFailed stops = absurd stops

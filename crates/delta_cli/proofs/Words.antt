@@ -9,12 +9,14 @@ use Rattle.std.proofs.lemmas.List.Elements.{All-nil, All-cons}
 use Rattle.command_words.specs.Positions.{ArePlain, FitPositions, IsPlainWord}
 use Rattle.rpc_calls.specs.declared.call.Call.{Call}
 use Rattle.rpc_calls.specs.declared.call.Call.TheVariants as calls
+use Rattle.zone_commands.specs.declared.reading.Reading.{Reading}
+use Rattle.zone_commands.specs.declared.reading.Reading.TheVariants as readings
 use Rattle.delta_cli.specs.declared.command.Command.{Command}
 use Rattle.delta_cli.specs.declared.command.Command.TheVariants as commands
 use Rattle.delta_cli.specs.declared.name.Name.{Name}
 use Rattle.delta_cli.specs.declared.name.Name.TheVariants as names
 use Rattle.delta_cli.specs.Channels.{words_of}
-use Rattle.delta_cli.specs.Commands.{AreWords, Asks, AsksFor, AsksNothing, BeginsWith, FitsName, IsNamed, IsOfTool, positions_of}
+use Rattle.delta_cli.specs.Commands.{AreWords, Asks, AsksFor, AsksNothing, AsksToRead, BeginsWith, FitsName, IsNamed, IsOfTool, positions_of}
 use Rattle.delta_cli.specs.Lines.{name_text}
 
 -- ---- numbers
@@ -40,6 +42,10 @@ one_name names.Gen names.Gen e = refl
 one_name names.Emit names.Emit e = refl
 one_name names.Init names.Init e = refl
 one_name names.Check names.Check e = refl
+one_name names.Zone names.Zone e = refl
+one_name names.Dump names.Dump e = refl
+one_name names.Prefixes names.Prefixes e = refl
+one_name names.Match names.Match e = refl
 one_name names.Serve names.Serve e = refl
 one_name names.Ping names.Ping e = refl
 one_name names.List names.List e = refl
@@ -73,6 +79,11 @@ name_of_call (calls.FetchVersion name version) = names.Fetch
 name_of_call (calls.FetchId name id) = names.Fetch
 name_of_call other = names.Ping
 
+abbrev name_of_reading : Reading → Name
+name_of_reading readings.Dump = names.Dump
+name_of_reading readings.Prefixes = names.Prefixes
+name_of_reading (readings.Match pattern) = names.Match
+
 abbrev name_of : Command → Name
 name_of commands.Replay = names.Replay
 name_of commands.Nquads = names.Nquads
@@ -80,6 +91,8 @@ name_of (commands.Gen patches) = names.Gen
 name_of (commands.Emit patches) = names.Emit
 name_of (commands.Init dir slots) = names.Init
 name_of (commands.Check dir) = names.Check
+name_of (commands.Zone dir) = names.Zone
+name_of (commands.Read dir reading) = name_of_reading reading
 name_of (commands.Ask address call) = name_of_call call
 name_of (commands.Describe address name) = names.Describe
 name_of (commands.Append address name) = names.Append
@@ -113,6 +126,11 @@ call_fits words dice address (calls.SourceByUri uri) asks = absurd asks
 call_fits words dice address (calls.Log name) asks = absurd asks
 call_fits words dice address (calls.Append name patch) asks = absurd asks
 
+reading_fits : (words : List (List ℕ)) (dir : List ℕ) (reading : Reading) → AsksToRead words dir reading → FitsName words (name_of_reading reading)
+reading_fits words dir readings.Dump asks = fits_words words names.Dump (dir ∷ []) asks refl
+reading_fits words dir readings.Prefixes asks = fits_words words names.Prefixes (dir ∷ []) asks refl
+reading_fits words dir (readings.Match pattern) asks = fits_words words names.Match (dir ∷ asks.0 ∷ asks.1 ∷ asks.2 ∷ asks.3 ∷ []) asks.4 refl
+
 -- the words of a command fit its name
 asks_fit : (words : List (List ℕ)) (dice : ℕ) (c : Command) → Asks words dice c → FitsName words (name_of c)
 asks_fit words dice commands.Replay is = alone words names.Replay refl is
@@ -125,6 +143,8 @@ asks_fit words dice (commands.Init dir slots) asks =
     subst (λ (ws : List (List ℕ)). FitsName ws names.Init) (sym asks.0)
     ((dir ∷ decimal slots ∷ [], refl), (All-cons IsPlainWord dir (decimal slots ∷ []) asks.1 (one_plain (decimal slots) (plain_number slots (omega (arith, asks.3)))), refl))
 asks_fit words dice (commands.Check dir) asks = subst (λ (ws : List (List ℕ)). FitsName ws names.Check) (sym asks.0) ((dir ∷ [], refl), (one_plain dir asks.1, refl))
+asks_fit words dice (commands.Zone dir) asks = fits_words words names.Zone (dir ∷ []) asks refl
+asks_fit words dice (commands.Read dir reading) asks = reading_fits words dir reading asks
 asks_fit words dice (commands.Ask address call) asks = call_fits words dice address call asks.0
 asks_fit words dice (commands.Describe address name) asks = fits_words words names.Describe (address ∷ name ∷ []) asks.0 refl
 asks_fit words dice (commands.Append address name) asks = fits_words words names.Append (address ∷ name ∷ []) asks.0 refl
@@ -152,6 +172,11 @@ call_of_tool (calls.SourceByUri uri) = tt
 call_of_tool (calls.Log name) = tt
 call_of_tool (calls.Append name patch) = tt
 
+reading_of_tool : (reading : Reading) → IsOfTool (name_of_reading reading)
+reading_of_tool readings.Dump = tt
+reading_of_tool readings.Prefixes = tt
+reading_of_tool (readings.Match pattern) = tt
+
 of_tool : (c : Command) → IsOfTool (name_of c)
 of_tool commands.Replay = tt
 of_tool commands.Nquads = tt
@@ -159,6 +184,8 @@ of_tool (commands.Gen patches) = tt
 of_tool (commands.Emit patches) = tt
 of_tool (commands.Init dir slots) = tt
 of_tool (commands.Check dir) = tt
+of_tool (commands.Zone dir) = tt
+of_tool (commands.Read dir reading) = reading_of_tool reading
 of_tool (commands.Ask address call) = call_of_tool call
 of_tool (commands.Describe address name) = tt
 of_tool (commands.Append address name) = tt

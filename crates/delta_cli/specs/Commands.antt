@@ -7,6 +7,9 @@ use Rattle.delta_base.specs.declared.id.Id.{Id}
 use Rattle.rpc_calls.specs.Routes.{version_of}
 use Rattle.rpc_calls.specs.declared.call.Call.{Call}
 use Rattle.rpc_calls.specs.declared.call.Call.TheVariants as calls
+use Rattle.zone_commands.specs.Words.{IsPatternOf}
+use Rattle.zone_commands.specs.declared.reading.Reading.{Reading}
+use Rattle.zone_commands.specs.declared.reading.Reading.TheVariants as readings
 use Rattle.delta_cli.specs.Addresses.{IsAddress}
 use Rattle.delta_cli.specs.Dice.{id_of}
 use Rattle.delta_cli.specs.declared.command.Command.{Command}
@@ -44,6 +47,14 @@ AsksFor words dice address (calls.FetchId name id) =
     × (version_of which ≡ None) × NamesId which id
 AsksFor words dice address other = ⊥
 
+-- the words ask for what is read of the zone of a directory
+abbrev pub AsksToRead : List (List ℕ) → List ℕ → Reading → Type 0
+AsksToRead words dir readings.Dump = AreWords words (codes "dump") (dir ∷ [])
+AsksToRead words dir readings.Prefixes = AreWords words (codes "prefixes") (dir ∷ [])
+AsksToRead words dir (readings.Match pattern) =
+    (g s p o : List ℕ) × AreWords words (codes "match") (dir ∷ g ∷ s ∷ p ∷ o ∷ [])
+    × IsPatternOf g s p o pattern
+
 -- The words ask for this command, with these dice. Numbers are decimal, without sign and leading zeros; a directory doesn't begin
 -- with `-`.
 abbrev pub Asks : List (List ℕ) → ℕ → Command → Type 0
@@ -53,6 +64,8 @@ Asks words dice (commands.Gen patches) = (words ≡ codes "gen" ∷ decimal patc
 Asks words dice (commands.Emit patches) = (words ≡ codes "emit" ∷ decimal patches ∷ []) × (patches ≤ 65536)
 Asks words dice (commands.Init dir slots) = (words ≡ codes "init" ∷ dir ∷ decimal slots ∷ []) × IsPlainWord dir × (1 ≤ slots) × (slots ≤ 16)
 Asks words dice (commands.Check dir) = (words ≡ codes "check" ∷ dir ∷ []) × IsPlainWord dir
+Asks words dice (commands.Zone dir) = AreWords words (codes "zone") (dir ∷ [])
+Asks words dice (commands.Read dir reading) = AsksToRead words dir reading
 Asks words dice (commands.Ask address call) = AsksFor words dice address call × IsAddress address
 Asks words dice (commands.Describe address name) = AreWords words (codes "describe") (address ∷ name ∷ []) × IsAddress address
 Asks words dice (commands.Append address name) = AreWords words (codes "append") (address ∷ name ∷ []) × IsAddress address
@@ -86,6 +99,10 @@ positions_of names.Gen = codes "N" ∷ []
 positions_of names.Emit = codes "N" ∷ []
 positions_of names.Init = codes "DIR" ∷ codes "SLOTS" ∷ []
 positions_of names.Check = codes "DIR" ∷ []
+positions_of names.Zone = codes "DIR" ∷ []
+positions_of names.Dump = codes "DIR" ∷ []
+positions_of names.Prefixes = codes "DIR" ∷ []
+positions_of names.Match = codes "DIR" ∷ codes "G" ∷ codes "S" ∷ codes "P" ∷ codes "O" ∷ []
 positions_of names.Serve = codes "DIR" ∷ codes "ADDR" ∷ codes "WORKERS" ∷ []
 positions_of names.Ping = codes "ADDR" ∷ []
 positions_of names.List = codes "ADDR" ∷ []
@@ -128,6 +145,14 @@ asks_server names.LogVersion = true
 asks_server names.Append = true
 asks_server names.Fetch = true
 asks_server other = false
+
+-- the command is on a zone, whose directory is its first position
+abbrev pub is_of_zone : Name → Bool
+is_of_zone names.Zone = true
+is_of_zone names.Dump = true
+is_of_zone names.Prefixes = true
+is_of_zone names.Match = true
+is_of_zone other = false
 
 -- the command is one call to a server
 abbrev pub IsOfCall : Name → Type 0

@@ -8,4 +8,5 @@ pub mod Lines
 pub mod Refusals
 pub mod Results
 pub mod Told
+pub mod Zones
 pub mod Tool

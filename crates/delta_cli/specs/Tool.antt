@@ -2,12 +2,15 @@
 use Rattle.std.specs.Prelude.{◌≡◌, ℕ, ◌+◌, List, length, Option}
 use Rattle.delta_base.specs.Outside.{Rose}
 use Rattle.slot_files.specs.Files.{Files, IsInitial, StopsAt, SameBut, KeepsFull}
+use Rattle.slot_files.specs.declared.fault.InitFault.{InitFault}
+use Rattle.slot_files.specs.declared.fault.InitFault.TheVariants as inits
 use Rattle.stream_generator.specs.Generator.{stream_text}
 use Rattle.slot_checks.specs.Checks.{AreKept, IsReport, Stops as CheckStops}
 use Rattle.slot_checks.specs.Lines.{lines_text}
 use Rattle.slot_checks.specs.declared.fault.CheckFault.{CheckFault}
 use Rattle.slot_checks.specs.declared.fault.CheckFault.TheVariants as checks
 use Rattle.slot_checks.specs.declared.lines.FileLine.{FileLine}
+use Rattle.stream_replay.specs.Lines.{bytes_of}
 use Rattle.rpc_calls.specs.declared.call.Call.TheVariants as calls
 use Rattle.delta_cli.specs.Asked.{Asked, Described, IsPatchWith, PrintsEnd, StopsAppend, StopsAsking}
 use Rattle.delta_cli.specs.Channels.{Channel, HasFailed, IsSilent, Tells, Writes, WritesFront}
@@ -16,6 +19,7 @@ use Rattle.delta_cli.specs.Document.{IsShown}
 use Rattle.delta_cli.specs.Lines.{line_of, status_of, out_of_memory_line}
 use Rattle.delta_cli.specs.Results.{Reads, Prints, HasLines, generated_line, StopsReplay, StopsNquads, StopsPrinting, StopsEmitting, StopsWriting}
 use Rattle.delta_cli.specs.Told.{Told, LeavesInput, LeavesFiles, LeavesNet, LeavesAll}
+use Rattle.delta_cli.specs.Zones.{IsNewZone, KeepsZone, ReadsZone, SparesZone, StopsMaking, StopsZone}
 use Rattle.delta_cli.specs.declared.command.Command.{Command}
 use Rattle.delta_cli.specs.declared.command.Command.TheVariants as commands
 use Rattle.delta_cli.specs.declared.refusal.Refusal.{Refusal}
@@ -30,6 +34,12 @@ Spares dir slots tells files files' = tells → KeepsFull dir files files' × Sa
 abbrev pub Reported : List ℕ → Type 0 → Files → Files → List FileLine → Type 0
 Reported dir tells files files' report =
     tells → IsReport files dir report × AreKept dir (length report) files files'
+
+-- the end of a command that makes files, and why it couldn't
+abbrev pub init_refusal : InitFault → Refusal
+init_refusal (inits.NotEmpty number length) = refusals.NotEmpty number length
+init_refusal inits.Failed = refusals.DiskFailed
+init_refusal inits.OutOfMemory = refusals.OutOfMemory
 
 -- the end of a check that finds a fault
 abbrev pub check_refusal : CheckFault → Refusal
@@ -74,6 +84,13 @@ module _ {L : Type 0} (left sent : L → Option (List ℕ)) (tells net_tells : T
   Does (commands.Check dir) old new =
       ((report : List FileLine) × Reported dir tells old.files new.files report
       × Writes old.out new.out (lines_text report)) × LeavesInput old new × LeavesNet old new
+  Does (commands.Zone dir) old new =
+      (tells → IsNewZone dir old.files new.files) × SparesZone dir tells old.files new.files
+      × LeavesInput old new × (new.out ≡ old.out) × LeavesNet old new
+  Does (commands.Read dir reading) old new =
+      ((lines : List (List ℕ)) × ReadsZone dir reading tells old.files lines
+      × Writes old.out new.out (bytes_of lines)) × KeepsZone dir tells old.files new.files
+      × LeavesInput old new × LeavesNet old new
   Does (commands.Ask address call) old new =
       PrintsEnd (Asked left sent net_tells address call old.net new.net) old.out new.out
       × LeavesInput old new × LeavesFiles old new
@@ -98,6 +115,13 @@ module _ {L : Type 0} (left sent : L → Option (List ℕ)) (tells net_tells : T
   Stops (commands.Check dir) refusal old new =
       StopsCheck dir tells old.files new.files old.shelf_faults new.shelf_faults old.out new.out refusal
       × LeavesInput old new × LeavesNet old new
+  Stops (commands.Zone dir) refusal old new =
+      StopsMaking dir tells old.files old.shelf_faults new.shelf_faults refusal
+      × SparesZone dir tells old.files new.files
+      × LeavesInput old new × (new.out ≡ old.out) × LeavesNet old new
+  Stops (commands.Read dir reading) refusal old new =
+      StopsZone dir reading tells old.files old.shelf_faults new.shelf_faults old.out new.out refusal
+      × KeepsZone dir tells old.files new.files × LeavesInput old new × LeavesNet old new
   Stops (commands.Ask address call) refusal old new =
       StopsAsking (Asked left sent net_tells address call old.net new.net) old.out new.out refusal
       × LeavesInput old new × LeavesFiles old new

@@ -47,8 +47,8 @@ pub fn make_asking(
     }
 }
 
-// The word at a place.
-fn text_at(alloc: Global, words: &[String], place: usize) -> Result<Text, OutOfMemory>
+/// The word at a place.
+pub fn text_at(alloc: Global, words: &[String], place: usize) -> Result<Text, OutOfMemory>
     requires { place < length words.now }
     ensures { IfOk result (λ text. text ≡ get_or (words_of words.now) place []) }
 {

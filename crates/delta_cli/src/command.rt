@@ -2,18 +2,20 @@
 ghost use Rattle.std.specs.Prelude.{◌≡◌, ◌<◌, ◌≤◌, ◌^◌, ◌∷◌, [], ℕ, List, false, IfOk, IfErr, OnOk};
 ghost use Rattle.delta_cli.specs.Channels.{words_of};
 ghost use Rattle.command_words.specs.Positions.{FitPositions};
-ghost use Rattle.delta_cli.specs.Commands.{Asks, BeginsWith, FitsName, HasFirst, IsNumberIn, IsOfTool, RefusesWords, asks_server, positions_of};
+ghost use Rattle.delta_cli.specs.Commands.{Asks, BeginsWith, FitsName, HasFirst, IsNumberIn, IsOfTool, RefusesWords, asks_server, is_of_zone, positions_of};
 
 use crate::calls::make_asking;
 use crate::name::Name;
 use crate::refusal::Refusal;
+use crate::zone_words::make_of_zone;
 use command_words::{WordsFault, read_words};
 use delta_base::{OutOfMemory, Text};
 use rpc_calls::Call;
 use std::alloc::Global;
+use zone_commands::Reading;
 
 /// A command with what its words say.
-#[derive(Debug, Drop)]
+#[derive(Drop)]
 pub enum Command {
     Replay,
     Nquads,
@@ -23,6 +25,10 @@ pub enum Command {
     Emit { patches: u32 },
     Init { dir: Text, slots: u8 },
     Check { dir: Text },
+    /// The file of a directory's zone, which is to be made.
+    Zone { dir: Text },
+    /// What is read of a directory's zone.
+    Read { dir: Text, reading: Reading },
     /// A call to the server at an address.
     Ask { address: Text, call: Call },
     /// A source of the server at an address, and its log.
@@ -77,6 +83,7 @@ fn read_positions(
 {
     match test_positions(alloc, name, words) {
         Ok(()) if name.asks_server() => make_asking(alloc, name, words, dice),
+        Ok(()) if name.is_of_zone() => make_of_zone(alloc, name, words),
         Ok(()) => make(alloc, name, words),
         Err(WordsFault::Usage) => Err(Refusal::Usage(name)),
         Err(WordsFault::OutOfMemory) => Err(Refusal::OutOfMemory),
@@ -95,11 +102,12 @@ fn test_positions(alloc: Global, name: Name, words: &[String]) -> Result<(), Wor
     }
 }
 
-// The command of this name, which asks no server, and whose words are one for each of its positions.
+// The command of this name, which asks no server and is on no zone, and whose words are one for each of its positions.
 fn make(alloc: Global, name: Name, words: &[String]) -> Result<Command, Refusal>
     requires fits { FitsName (words_of words.now) name }
     requires of_tool { IsOfTool name }
     requires alone { asks_server name ≡ false }
+    requires no_zone { is_of_zone name ≡ false }
     ensures asks { IfOk result (λ command. (dice : ℕ) → Asks (words_of words.now) dice command) }
     ensures refused { IfErr result (RefusesWords (words_of words.now)) }
 {

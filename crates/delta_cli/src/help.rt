@@ -16,6 +16,11 @@ pub const HELP: &str = "rdfdelta: RDF datasets kept in step by chained patches
   emit N            print N patches made by rule
   init DIR SLOTS    make the files of a registry and of SLOTS logs in a directory
   check DIR         open the files of a directory, print a line for each
+  zone DIR          make the file of a zone in a directory
+  dump DIR          print the canonical lines of a zone's dataset
+  prefixes DIR      print the rows that set the prefixes of a zone's dataset
+  match DIR G S P O print the lines that match a graph, subject, predicate and object; * is
+                    free, and `default` as G the default graph
   serve DIR ADDR WORKERS
                     serve the files of a directory over HTTP, with 1 to 16 workers
   ping ADDR         ask the server at an address whether it answers, print its answer

@@ -6,7 +6,7 @@ ghost use Rattle.delta_cli.specs.Tool.{Spares, StopsInit};
 use crate::refusal::Refusal;
 use delta_base::Text;
 use disk_model::Shelf;
-use slot_files::{InitFault, init_slots};
+use slot_files::init_slots;
 use std::alloc::Global;
 
 /// Makes the files of so many slots.
@@ -19,11 +19,6 @@ pub fn init<H: Shelf>(alloc: Global, dir: &Text, slots: u8, shelf: &mut H) -> Re
 {
     match init_slots(alloc, shelf, dir, slots) {
         Ok(()) => Ok(()),
-        Err(InitFault::NotEmpty { number, length }) => Err(Refusal::NotEmpty {
-            file: number,
-            length,
-        }),
-        Err(InitFault::Failed) => Err(Refusal::DiskFailed),
-        Err(InitFault::OutOfMemory) => Err(Refusal::OutOfMemory),
+        Err(fault) => Err(Refusal::of_init(fault)),
     }
 }

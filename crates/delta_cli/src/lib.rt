@@ -18,6 +18,8 @@ mod nquads;
 mod refusal;
 mod replay;
 mod tool;
+mod zone;
+mod zone_words;
 
 pub use address::is_address;
 pub use command::{Command, number_in};

@@ -29,6 +29,7 @@ pub fn line_of(alloc: Global, refusal: &Refusal) -> Result<Vec<u8>, OutOfMemory>
         Refusal::InputFailed => line(alloc, b"rdfdelta: input failed\n"),
         Refusal::OutputFailed => line(alloc, b"rdfdelta: output failed\n"),
         Refusal::NotEmpty { file, length } => not_empty_line(alloc, *file, *length),
+        Refusal::ZoneTermsFull => line(alloc, b"rdfdelta: refused: zone terms full\n"),
         Refusal::File(fault) => fault_text(alloc, *fault),
         Refusal::WrongCount { disks, slots } => wrong_count_line(alloc, *disks, *slots),
         Refusal::DiskFailed => line(alloc, b"rdfdelta: disk failed\n"),

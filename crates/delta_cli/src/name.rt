@@ -1,6 +1,6 @@
 //! The names of the commands.
 ghost use Rattle.std.specs.Prelude.{◌≡◌, ◌++◌, ◌∷◌, [], map};
-ghost use Rattle.delta_cli.specs.Commands.{IsNamed, asks_server, positions_of};
+ghost use Rattle.delta_cli.specs.Commands.{IsNamed, asks_server, is_of_zone, positions_of};
 ghost use Rattle.delta_cli.specs.Lines.{name_text, usage_text};
 
 /// A command, by the word that names it.
@@ -12,6 +12,10 @@ pub enum Name {
     Emit,
     Init,
     Check,
+    Zone,
+    Dump,
+    Prefixes,
+    Match,
     /// The command of the server, which this tool doesn't run.
     Serve,
     Ping,
@@ -40,6 +44,10 @@ impl Name {
             "emit" => Some(Name::Emit),
             "init" => Some(Name::Init),
             "check" => Some(Name::Check),
+            "zone" => Some(Name::Zone),
+            "dump" => Some(Name::Dump),
+            "prefixes" => Some(Name::Prefixes),
+            "match" => Some(Name::Match),
             "serve" => Some(Name::Serve),
             "ping" => Some(Name::Ping),
             "list" => Some(Name::List),
@@ -63,9 +71,17 @@ impl Name {
         match self {
             Name::Replay | Name::Nquads | Name::Gen | Name::Emit | Name::Init => false,
             Name::Check | Name::Serve | Name::Help | Name::Version => false,
+            Name::Zone | Name::Dump | Name::Prefixes | Name::Match => false,
             Name::Ping | Name::List | Name::Create | Name::Rename | Name::Remove => true,
             Name::Describe | Name::LogVersion | Name::Append | Name::Fetch => true,
         }
+    }
+
+    /// Whether the command is on a zone, whose directory is its first position.
+    pub fn is_of_zone(self) -> bool
+        ensures { result ≡ is_of_zone self }
+    {
+        matches!(self, Name::Zone | Name::Dump | Name::Prefixes | Name::Match)
     }
 
     /// What stands for each word behind the name.
@@ -76,7 +92,8 @@ impl Name {
             Name::Replay | Name::Nquads | Name::Help | Name::Version => &[],
             Name::Gen | Name::Emit => &["N"],
             Name::Init => &["DIR", "SLOTS"],
-            Name::Check => &["DIR"],
+            Name::Check | Name::Zone | Name::Dump | Name::Prefixes => &["DIR"],
+            Name::Match => &["DIR", "G", "S", "P", "O"],
             Name::Serve => &["DIR", "ADDR", "WORKERS"],
             Name::Ping | Name::List => &["ADDR"],
             Name::Create => &["ADDR", "NAME", "URI"],
@@ -97,6 +114,10 @@ impl Name {
             Name::Emit => b"emit N",
             Name::Init => b"init DIR SLOTS",
             Name::Check => b"check DIR",
+            Name::Zone => b"zone DIR",
+            Name::Dump => b"dump DIR",
+            Name::Prefixes => b"prefixes DIR",
+            Name::Match => b"match DIR G S P O",
             Name::Serve => b"serve DIR ADDR WORKERS",
             Name::Ping => b"ping ADDR",
             Name::List => b"list ADDR",

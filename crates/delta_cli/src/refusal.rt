@@ -12,7 +12,9 @@ use nquads_text::TextKind;
 use patch_meaning::PatchKind;
 use sink_writing::write_all;
 use slot_checks::CheckFault;
+use slot_files::InitFault;
 use std::alloc::Global;
+use zone_state::{ZONE_NUMBER, ZoneFault};
 
 /// How a command ends without its result.
 #[derive(Debug, Drop)]
@@ -49,6 +51,8 @@ pub enum Refusal {
         file: u32,
         length: u64,
     },
+    /// There are not numbers enough for the terms of a zone.
+    ZoneTermsFull,
     /// A file isn't in its form.
     File(CheckFault),
     /// There are not as many files as the registry's file says.
@@ -76,7 +80,8 @@ pub enum Refusal {
 
 impl Refusal {
     ghost use Rattle.std.specs.Prelude.{◌≡◌};
-    ghost use Rattle.delta_cli.specs.Tool.{check_refusal};
+    ghost use Rattle.delta_cli.specs.Tool.{check_refusal, init_refusal};
+    ghost use Rattle.delta_cli.specs.Zones.{zone_refusal};
 
     /// The end of a command that finds this fault of a file.
     pub fn of_check(fault: CheckFault) -> Refusal
@@ -86,6 +91,44 @@ impl Refusal {
             CheckFault::Failed => Refusal::DiskFailed,
             CheckFault::OutOfMemory => Refusal::OutOfMemory,
             fault => Refusal::File(fault),
+        }
+    }
+
+    /// The end of a command that makes a file where this is why it couldn't.
+    pub fn of_init(fault: InitFault) -> Refusal
+        ensures { result ≡ init_refusal fault }
+    {
+        match fault {
+            InitFault::NotEmpty { number, length } => Refusal::NotEmpty {
+                file: number,
+                length,
+            },
+            InitFault::Failed => Refusal::DiskFailed,
+            InitFault::OutOfMemory => Refusal::OutOfMemory,
+        }
+    }
+
+    /// The end of a command that finds this fault of a zone's file.
+    pub fn of_zone(fault: ZoneFault) -> Refusal
+        ensures { result ≡ zone_refusal fault }
+    {
+        let file = ZONE_NUMBER;
+        match fault {
+            ZoneFault::Failed => Refusal::DiskFailed,
+            ZoneFault::OutOfMemory => Refusal::OutOfMemory,
+            ZoneFault::TermsFull => Refusal::ZoneTermsFull,
+            ZoneFault::Damaged { at } => Refusal::File(CheckFault::Damaged { file, at }),
+            ZoneFault::WrongNumber { found } => {
+                Refusal::File(CheckFault::WrongNumber { file, found })
+            }
+            ZoneFault::OverLimit { length, limit } => Refusal::File(CheckFault::OverLimit {
+                file,
+                length,
+                limit,
+            }),
+            ZoneFault::BrokenChain { version } => {
+                Refusal::File(CheckFault::BrokenChain { file, version })
+            }
         }
     }
 }
@@ -124,7 +167,7 @@ fn status_of(refusal: &Refusal) -> u8
     ensures { result ≡ status_of refusal.now }
 {
     match refusal {
-        Refusal::NotEmpty { .. } | Refusal::Refused { .. } => 1,
+        Refusal::NotEmpty { .. } | Refusal::ZoneTermsFull | Refusal::Refused { .. } => 1,
         Refusal::UnknownCommand | Refusal::Usage(_) => 2,
         Refusal::Stream { .. }
         | Refusal::LongPatch { .. }

@@ -1,0 +1,23 @@
+use Rattle.std.proofs.Common.{sym, subst}
+use Rattle.delta_cli.specs.Channels.{channel}
+use Rattle.delta_cli.specs.Zones.{StopsZone}
+use Rattle.delta_cli.proofs.Made.{printing_stops, reading_stops}
+use Rattle.delta_cli.proofs.Printed.{err_weaker}
+use Rattle.delta_cli.proofs.zone.print_zone.Goals as goal
+
+pub returns-in-Ok-clause-stopped : goal.returns-in-Ok-clause-stopped
+returns-in-Ok-clause-stopped g c =
+    let old = c.args.shelf.now in
+    let new = c.read_zone.new.shelf in
+    err_weaker c.print_lines.result _ _
+    (printing_stops c.args.dir.now g.H.Shelf.tells (g.H.Shelf.files old) (g.H.Shelf.faults old) (g.H.Shelf.faults new) c.args.reading.now c.in-Ok.lines.keys c.in-Ok.ensures.ok
+    (channel (g.K.Sink.written c.args.out.now) (g.K.Sink.faults c.args.out.now)) (channel (g.K.Sink.written c.print_lines.new.out) (g.K.Sink.faults c.print_lines.new.out)))
+    c.print_lines.ensures.stopped
+
+pub returns-in-Err-clause-stopped : goal.returns-in-Err-clause-stopped
+returns-in-Err-clause-stopped g c =
+    let old = c.args.shelf.now in
+    let new = c.read_zone.new.shelf in
+    let out = channel (g.K.Sink.written c.args.out.now) (g.K.Sink.faults c.args.out.now) in
+    subst (StopsZone c.args.dir.now c.args.reading.now g.H.Shelf.tells (g.H.Shelf.files old) (g.H.Shelf.faults old) (g.H.Shelf.faults new) out out) (sym c.of_zone.ensures)
+    (reading_stops c.args.dir.now g.H.Shelf.tells (g.H.Shelf.files old) (g.H.Shelf.faults old) (g.H.Shelf.faults new) c.args.reading.now out c.read_zone.result c.in-Err.fault c.in-Err.is c.in-Err.ensures.fault c.read_zone.ensures.cause)

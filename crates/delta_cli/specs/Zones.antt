@@ -1,0 +1,96 @@
+-- What the commands on a zone do, or why they don't.
+use Rattle.std.specs.Prelude.{◌≡◌, ℕ, ◌<◌, List, [], length, Some}
+use Rattle.delta_base.specs.Outside.{Rose}
+use Rattle.delta_base.specs.declared.limits.TheConstants.{LOG_LIMITS}
+use Rattle.disk_model.specs.Shelf.{SameOthers}
+use Rattle.log_journal.specs.File.{file_of}
+use Rattle.slot_files.specs.Files.{Files, IsKept, bytes_at}
+use Rattle.slot_checks.specs.declared.fault.CheckFault.{CheckFault}
+use Rattle.slot_checks.specs.declared.fault.CheckFault.TheVariants as checks
+use Rattle.stream_replay.specs.Lines.{bytes_of}
+use Rattle.zone_state.specs.Fault.{HasZoneFault}
+use Rattle.zone_state.specs.Zone.{zone_number}
+use Rattle.zone_state.specs.declared.fault.ZoneFault.{ZoneFault}
+use Rattle.zone_state.specs.declared.fault.ZoneFault.TheVariants as zones
+use Rattle.zone_commands.specs.Files.{HasLines}
+use Rattle.zone_commands.specs.declared.reading.Reading.{Reading}
+use Rattle.delta_cli.specs.Channels.{Channel, HasFailed, IsSilent, WritesFront}
+use Rattle.delta_cli.specs.declared.refusal.Refusal.{Refusal}
+use Rattle.delta_cli.specs.declared.refusal.Refusal.TheVariants as refusals
+
+-- ---- its file is made
+
+-- the zone's file of a directory had no bytes, and is now an empty journal
+pub record IsNewZone (dir : List ℕ) (old new : Files) : Type 0 where
+  pub was_empty : bytes_at old dir zone_number ≡ []
+  pub is_journal : new dir zone_number ≡ Some (file_of zone_number [])
+
+-- where the shelf tells its files, the zone's file is as it was if it had bytes, and so is every other file
+abbrev pub SparesZone : List ℕ → Type 0 → Files → Files → Type 0
+SparesZone dir tells old new = tells
+    → (0 < length (bytes_at old dir zone_number) → new dir zone_number ≡ old dir zone_number)
+    × SameOthers (Some (dir, zone_number)) old new
+
+-- the file has bytes, so many
+pub record IsTaken (dir : List ℕ) (files : Files) (file size : ℕ) : Type 0 where
+  pub file_is : file ≡ zone_number
+  pub has_bytes : 0 < size
+  pub size_is : size ≡ length (bytes_at files dir zone_number)
+
+-- why it was not made
+abbrev pub StopsMaking : List ℕ → Type 0 → Files → ℕ → ℕ → Refusal → Type 0
+StopsMaking dir tells files faults faults' (refusals.NotEmpty file size) =
+    tells → IsTaken dir files file size
+StopsMaking dir tells files faults faults' refusals.DiskFailed = Rose faults faults'
+StopsMaking dir tells files faults faults' refusals.OutOfMemory = Unit {0}
+StopsMaking dir tells files faults faults' other = ⊥
+
+-- ---- it is read
+
+-- where the shelf tells its files, these lines are read of the zone's file of a directory
+abbrev pub ReadsZone : List ℕ → Reading → Type 0 → Files → List (List ℕ) → Type 0
+ReadsZone dir reading tells files lines =
+    tells → HasLines (bytes_at files dir zone_number) reading lines
+
+-- where the shelf tells its files, the zone's file was kept, and every other file is as it was
+abbrev pub KeepsZone : List ℕ → Type 0 → Files → Files → Type 0
+KeepsZone dir tells old new = tells
+    → IsKept (old dir zone_number) (new dir zone_number)
+    × SameOthers (Some (dir, zone_number)) old new
+
+-- the end of a command that finds a fault of a zone's file
+abbrev pub zone_refusal : ZoneFault → Refusal
+zone_refusal zones.Failed = refusals.DiskFailed
+zone_refusal zones.OutOfMemory = refusals.OutOfMemory
+zone_refusal zones.TermsFull = refusals.ZoneTermsFull
+zone_refusal (zones.Damaged at) = refusals.File (checks.Damaged zone_number at)
+zone_refusal (zones.WrongNumber found) = refusals.File (checks.WrongNumber zone_number found)
+zone_refusal (zones.OverLimit size limit) = refusals.File (checks.OverLimit zone_number size limit)
+zone_refusal (zones.BrokenChain version) = refusals.File (checks.BrokenChain zone_number version)
+
+-- a zone's file has this fault, and none that comes before it
+abbrev pub HasFileFault : List ℕ → CheckFault → Type 0
+HasFileFault file (checks.Damaged number at) =
+    (number ≡ zone_number) × HasZoneFault file LOG_LIMITS (zones.Damaged at)
+HasFileFault file (checks.WrongNumber number found) =
+    (number ≡ zone_number) × HasZoneFault file LOG_LIMITS (zones.WrongNumber found)
+HasFileFault file (checks.OverLimit number size limit) =
+    (number ≡ zone_number) × HasZoneFault file LOG_LIMITS (zones.OverLimit size limit)
+HasFileFault file (checks.BrokenChain number version) =
+    (number ≡ zone_number) × HasZoneFault file LOG_LIMITS (zones.BrokenChain version)
+HasFileFault file other = ⊥
+
+-- why nothing was read of it, or not all was written
+abbrev pub StopsZone : List ℕ → Reading → Type 0 → Files → ℕ → ℕ → Channel → Channel → Refusal → Type 0
+StopsZone dir reading tells files faults faults' out out' (refusals.File fault) =
+    (tells → HasFileFault (bytes_at files dir zone_number) fault) × IsSilent out out'
+StopsZone dir reading tells files faults faults' out out' refusals.ZoneTermsFull =
+    (tells → HasZoneFault (bytes_at files dir zone_number) LOG_LIMITS zones.TermsFull)
+    × IsSilent out out'
+StopsZone dir reading tells files faults faults' out out' refusals.DiskFailed =
+    Rose faults faults' × IsSilent out out'
+StopsZone dir reading tells files faults faults' out out' refusals.OutputFailed =
+    HasFailed out out' × ((lines : List (List ℕ)) × ReadsZone dir reading tells files lines
+    × WritesFront out out' (bytes_of lines))
+StopsZone dir reading tells files faults faults' out out' refusals.OutOfMemory = IsSilent out out'
+StopsZone dir reading tells files faults faults' out out' other = ⊥

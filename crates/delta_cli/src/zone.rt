@@ -1,0 +1,53 @@
+//! The commands on a zone: its file is made, or what is read of it is written.
+ghost use Rattle.std.specs.Prelude.{◌≡◌, ◌+◌, ℕ, List, IfErr, OnOk};
+ghost use Rattle.slot_files.specs.Files.{bytes_at};
+ghost use Rattle.stream_replay.specs.Lines.{bytes_of};
+ghost use Rattle.delta_cli.specs.Channels.{Writes, channel};
+ghost use Rattle.delta_cli.specs.Zones.{IsNewZone, KeepsZone, ReadsZone, SparesZone, StopsMaking, StopsZone};
+
+use crate::refusal::Refusal;
+use crate::replay::print_lines;
+use delta_base::{Sink, Text};
+use disk_model::Shelf;
+use slot_files::format_file;
+use std::alloc::Global;
+use zone_commands::{Reading, read_zone};
+use zone_state::ZONE_NUMBER;
+
+/// Makes the file of a directory's zone.
+pub fn make_zone<H: Shelf>(dir: &Text, shelf: &mut H) -> Result<(), Refusal>
+    ensures done { OnOk result (H.tells
+        → IsNewZone dir.now (H.files shelf.old) (H.files shelf.new)) }
+    ensures stopped { IfErr result (StopsMaking dir.now H.tells
+        (H.files shelf.old) (H.faults shelf.old) (H.faults shelf.new)) }
+    ensures spares { SparesZone dir.now H.tells (H.files shelf.old) (H.files shelf.new) }
+{
+    match format_file(shelf, dir, ZONE_NUMBER) {
+        Ok(()) => Ok(()),
+        Err(fault) => Err(Refusal::of_init(fault)),
+    }
+}
+
+/// Opens the zone of a directory, and writes what is read of it. Its file is left as it was.
+pub fn print_zone<H: Shelf, K: Sink>(
+    alloc: Global,
+    dir: &Text,
+    reading: &Reading,
+    shelf: &mut H,
+    out: &mut K,
+) -> Result<(), Refusal>
+    ensures done { OnOk result ((lines : List (List ℕ))
+        × ReadsZone dir.now reading.now H.tells (H.files shelf.old) lines
+        × Writes (channel (K.written out.old) (K.faults out.old))
+        (channel (K.written out.new) (K.faults out.new)) (bytes_of lines)) }
+    ensures stopped { IfErr result (StopsZone dir.now reading.now H.tells (H.files shelf.old)
+        (H.faults shelf.old) (H.faults shelf.new)
+        (channel (K.written out.old) (K.faults out.old))
+        (channel (K.written out.new) (K.faults out.new))) }
+    ensures keeps { KeepsZone dir.now H.tells (H.files shelf.old) (H.files shelf.new) }
+{
+    match read_zone(alloc, shelf, dir, reading) {
+        Ok(lines) => print_lines(alloc, &lines, out),
+        Err(fault) => Err(Refusal::of_zone(fault)),
+    }
+}

@@ -1,0 +1,4 @@
+pub mod Order
+pub mod Readings
+pub mod Words
+pub mod Files
