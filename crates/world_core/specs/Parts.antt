@@ -1,0 +1,100 @@
+-- The values of the code as the world that they stand for.
+use Rattle.std.specs.Prelude.{◌≡◌, ℕ, Bool, List, [], ◌∷◌, Option, Some, None}
+use Rattle.std.specs.List.{AllByRecursion}
+use Rattle.disk_model.specs.Past.{EveryImage}
+use Rattle.disk_model.specs.Plan.{plan_past}
+use Rattle.disk_model.specs.declared.plan.PlanDisk.{PlanDisk}
+use Rattle.log_journal.specs.File.{Holds}
+use Rattle.delta_base.specs.declared.limits.TheConstants.{LOG_LIMITS}
+use Rattle.delta_base.specs.declared.phase.Phase.TheVariants.{Settling, Body, Gate}
+use Rattle.chain_core.specs.declared.chain.Patch.{Patch}
+use Rattle.chain_core.specs.declared.fate.Fate.{Fate}
+use Rattle.chain_core.specs.declared.fate.Fate.TheVariants.{Done, Fails, Stops}
+use Rattle.chain_core.specs.declared.answer.LogAnswer.{LogAnswer}
+use Rattle.chain_core.specs.declared.answer.LogAnswer.TheVariants.{DiskFault}
+use Rattle.chain_core.specs.Log.{LogPoint, up, down}
+use Rattle.chain_core.specs.Patches.{texts_of}
+use Rattle.patch_log.specs.Log.{IsSound, StandsForLog, LeavesEither}
+use Rattle.patch_log.specs.State.{LogView, chain_of}
+use Rattle.world_core.specs.declared.log.TheConstants.{LOG_NUMBER}
+use Rattle.world_core.specs.declared.log.LogPart.{LogPart}
+use Rattle.world_core.specs.declared.log.LogPart.TheVariants.{Up, Down}
+use Rattle.world_core.specs.declared.zones.TheConstants.{ZONE_NUMBER}
+use Rattle.world_core.specs.declared.message.Message.{Message}
+use Rattle.world_core.specs.declared.message.Message.TheVariants.{Item}
+use Rattle.world_core.specs.declared.world.World.{World}
+use Rattle.world_core.specs.World.{WorldPoint}
+
+-- the calls of an append come to this where a stop is run as a failure; a phase that isn't run is done
+abbrev pub run_as : {T : Type 0} → Option T → Fate → Fate
+run_as doubt Done = Done
+run_as None (Fails Settling) = Done
+run_as None (Stops Settling opened) = Done
+run_as doubt (Fails phase) = Fails phase
+run_as doubt (Stops phase opened) = Fails phase
+
+-- how the gate is to stand where a log is stopped behind an append: one that was run as a failure
+abbrev pub stop_of : Fate → Option Bool
+stop_of (Stops phase opened) = Some opened
+stop_of other = None
+
+abbrev pub stop_by : Fate → LogAnswer → Option Bool
+stop_by fate DiskFault = stop_of fate
+stop_by fate other = None
+
+-- A disk under a log or a zone that runs. Each image holds the chain, with the patch in doubt or without; a stop leaves
+-- the one image or the other.
+pub record Carries (number : ℕ) (disk : PlanDisk) (chain : List Patch) (doubt : Option Patch)
+    : Type 0 where
+  pub stands : StandsForLog (plan_past disk) number LOG_LIMITS chain doubt
+  pub leaves : LeavesEither (plan_past disk) number chain doubt
+
+-- a log that runs
+pub record Runs (number : ℕ) (log : LogView PlanDisk) (chain : List Patch) (doubt : Option Patch)
+    : Type 0 where
+  pub chain_is : chain_of log ≡ chain
+  pub doubt_is : log.doubt ≡ doubt
+  pub number_is : log.number ≡ number
+  pub limits_is : log.limits ≡ LOG_LIMITS
+  pub on_disk : Carries number log.disk chain doubt
+
+-- a disk that a log was on, or one that is new: each of its images holds the chain
+abbrev pub Keeps : ℕ → PlanDisk → List Patch → Type 0
+Keeps number disk chain = StandsForLog (plan_past disk) number LOG_LIMITS chain None
+
+-- a log or zone of the code, in a file of this number, is one of the world
+abbrev pub IsPartOf : ℕ → LogPart → LogPoint → Type 0
+IsPartOf number (Up log) (up chain doubt) = Runs number log chain doubt
+IsPartOf number (Down disk) (down chain) = Keeps number disk chain
+IsPartOf number part other = ⊥
+
+-- one after another
+abbrev pub AreZonesOf : List LogPart → List LogPoint → Type 0
+AreZonesOf [] [] = Unit {0}
+AreZonesOf (part ∷ parts) (point ∷ points) =
+    IsPartOf ZONE_NUMBER part point × AreZonesOf parts points
+AreZonesOf parts points = ⊥
+
+-- a patch that is sent is the one that its text is
+abbrev pub IsSoundMessage : Message → Type 0
+IsSoundMessage (Item version patch) = IsSound patch
+IsSoundMessage other = Unit {0}
+
+abbrev pub IsSoundSent : Option Message → Type 0
+IsSoundSent None = Unit {0}
+IsSoundSent (Some message) = IsSoundMessage message
+
+pub record IsWorldOf (world : World) (point : WorldPoint) : Type 0 where
+  pub log_is : IsPartOf LOG_NUMBER world.log point.log
+  pub zones_are : AreZonesOf world.zones.items point.zones
+  pub pool_is : world.pool.items ≡ point.pool
+  pub sound : AllByRecursion IsSoundMessage world.pool.items
+
+-- every crash now leaves an image that has P
+abbrev pub EveryImageOf : LogPart → (List ℕ → Type 0) → Type 0
+EveryImageOf (Up log) P = EveryImage (plan_past log.disk) P
+EveryImageOf (Down disk) P = EveryImage (plan_past disk) P
+
+-- the file of this number holds patches that have P
+abbrev pub HoldsSome : ℕ → (List Patch → Type 0) → List ℕ → Type 0
+HoldsSome number P image = (found : List Patch) × P found × Holds image number (texts_of found)
