@@ -1,7 +1,6 @@
 -- The calls of a log keep up with the events.
 use Rattle.std.proofs.Common.{◌≡◌, ◌⊎◌, inl, inr, ⊎_elim, ℕ, zero, suc, ◌+◌, ◌<◌, ◌^◌, Bool, true, false, cond, List, [], ◌∷◌, ◌++◌, length, Option, Some, None, Result, Ok, Err, refl, sym, ◌∙◌, ap, subst, arith}
 use Rattle.std.specs.Prelude.{IfOk, slice_get}
-use Rattle.std.specs.Option.{option_map}
 use Rattle.std.specs.List.{AllByRecursion}
 use Rattle.disk_model.specs.Past.{Past, began, reads, MayLeave, EveryImage, image_of}
 use Rattle.disk_model.specs.Plan.{plan_past, plan_reads_left}
@@ -10,6 +9,7 @@ use Rattle.log_journal.specs.File.{Holds, header}
 use Rattle.log_journal.proofs.Steps.{started}
 use Rattle.delta_base.specs.declared.phase.Phase.TheVariants.{Settling, Body, Gate}
 use Rattle.delta_base.specs.declared.limits.LogLimits.{LogLimits}
+use Rattle.delta_base.specs.declared.fault.OutOfMemory.{OutOfMemory}
 use Rattle.chain_core.specs.declared.chain.Patch.{Patch}
 use Rattle.chain_core.specs.declared.chain.Entry.{Entry}
 use Rattle.chain_core.specs.declared.fate.Fate.{Fate}
@@ -18,12 +18,10 @@ use Rattle.chain_core.specs.declared.answer.LogAnswer.{LogAnswer}
 use Rattle.chain_core.specs.declared.answer.LogAnswer.TheVariants.{Accepted, Known as IsKnown, Conflict as IsConflict, Full as IsFull, DiskFault}
 use Rattle.chain_core.specs.declared.answer.Decision.{Decision}
 use Rattle.chain_core.specs.declared.answer.Decision.TheVariants.{Accept, Known, Conflict, Full}
-use Rattle.chain_core.specs.Chain.{patch_of, entry_at}
 use Rattle.chain_core.specs.Decision.{decision}
 use Rattle.chain_core.specs.Log.{LogPoint, up, down, with_doubt, stopped}
 use Rattle.chain_core.specs.Patches.{patches_of, texts_of, patch_at}
 use Rattle.chain_core.specs.Stay.{Outcome, accepted_by, decided_by, stay}
-use Rattle.chain_core.proofs.Patches.{patch_at-entries}
 use Rattle.patch_log.specs.Log.{IsSound, IsSoundLog, MayHold, StandsForLog}
 use Rattle.patch_log.specs.State.{LogView}
 use Rattle.patch_log.specs.declared.fault.LogFault.{LogFault}
@@ -33,10 +31,14 @@ use Rattle.patch_log.proofs.Reopened.{found_again, no_fault_again}
 use Rattle.patch_log.proofs.Sound.{texts_of-push}
 use Rattle.delta_base.specs.declared.limits.TheConstants.{LOG_LIMITS}
 use Rattle.world_core.specs.declared.zones.TheConstants.{ZONE_NUMBER}
+use Rattle.world_core.specs.declared.event.WorldEvent.{WorldEvent}
+use Rattle.world_core.specs.declared.event.WorldEvent.TheVariants.{Open}
+use Rattle.world_core.specs.declared.message.Message.{Message}
+use Rattle.world_core.specs.declared.log.TheConstants.{LOG_NUMBER}
 use Rattle.world_core.specs.declared.log.LogPart.{LogPart}
 use Rattle.world_core.specs.declared.log.LogPart.TheVariants.{Up, Down}
 use Rattle.world_core.specs.Parts.{run_as, stop_by, Carries, Runs, Keeps, IsPartOf, AreZonesOf, EveryImageOf, HoldsSome}
-use Rattle.world_core.specs.World.{MayBeFound, served}
+use Rattle.world_core.specs.World.{MayBeFound, served, while_up, sending}
 
 pub if_ok-map : {T E : Type 0} (P Q : T → Type 0) (result : Result T E) → ((value : T) → P value → Q value) → IfOk result P → IfOk result Q
 if_ok-map P Q (Ok value) implies holds = implies value holds
@@ -156,10 +158,35 @@ pub as_run : (limits : LogLimits) (chain : List Patch) (doubt : Option Patch) (p
     → AsRun fate answer after left (stay limits (up chain doubt) patch fate)
 as_run limits chain doubt patch fate after left answer is = decided_as_run chain patch (decision chain patch limits) fate doubt after left answer is
 
+-- ---- one event of a log
+
+-- a log that is up is one of a point that is up
+pub run_up_part : (part : LogPart) (log : LogView PlanDisk) (event : WorldEvent) (result : Result (LogPart × Option Message) OutOfMemory) → part ≡ Up log
+    → IfOk result (λ sent. (number : ℕ) → (chain : List Patch) → (doubt : Option Patch) → Runs number log chain doubt → IsPartOf number sent.0 (while_up LOG_LIMITS chain doubt event).0 × (sent.1 ≡ (while_up LOG_LIMITS chain doubt event).1))
+    → IfOk result (λ sent. (point : LogPoint) → IsPartOf LOG_NUMBER part point → IsPartOf LOG_NUMBER sent.0 (sending LOG_LIMITS point event).0 × (sent.1 ≡ (sending LOG_LIMITS point event).1))
+run_up_part part log event result same part_of = if_ok-map
+    (λ sent. (number : ℕ) → (chain : List Patch) → (doubt : Option Patch) → Runs number log chain doubt → IsPartOf number sent.0 (while_up LOG_LIMITS chain doubt event).0 × (sent.1 ≡ (while_up LOG_LIMITS chain doubt event).1))
+    (λ sent. (point : LogPoint) → IsPartOf LOG_NUMBER part point → IsPartOf LOG_NUMBER sent.0 (sending LOG_LIMITS point event).0 × (sent.1 ≡ (sending LOG_LIMITS point event).1))
+    result (λ sent ran point is. by_point sent ran point (subst (λ (p : LogPart). IsPartOf LOG_NUMBER p point) same is)) part_of
+  where
+    by_point : (sent : LogPart × Option Message) → ((number : ℕ) → (chain : List Patch) → (doubt : Option Patch) → Runs number log chain doubt → IsPartOf number sent.0 (while_up LOG_LIMITS chain doubt event).0 × (sent.1 ≡ (while_up LOG_LIMITS chain doubt event).1))
+        → (point : LogPoint) → IsPartOf LOG_NUMBER (Up log) point → IsPartOf LOG_NUMBER sent.0 (sending LOG_LIMITS point event).0 × (sent.1 ≡ (sending LOG_LIMITS point event).1)
+    by_point sent ran (up chain doubt) runs = ran LOG_NUMBER chain doubt runs
+    by_point sent ran (down chain) runs = absurd runs
+
+pub open_part : (part : LogPart) (disk : PlanDisk) (event : WorldEvent) (log : LogView PlanDisk) → part ≡ Down disk → event ≡ Open → ((chain : List Patch) → Keeps LOG_NUMBER disk chain → Runs LOG_NUMBER log chain None)
+    → (point : LogPoint) → IsPartOf LOG_NUMBER part point → IsPartOf LOG_NUMBER (Up log) (sending LOG_LIMITS point event).0 × (◌≡◌ {A = Option Message} None (sending LOG_LIMITS point event).1)
+open_part part disk event log same opens runs point is =
+    subst (λ (e : WorldEvent). IsPartOf LOG_NUMBER (Up log) (sending LOG_LIMITS point e).0 × (◌≡◌ {A = Option Message} None (sending LOG_LIMITS point e).1)) (sym opens) (by_point point (subst (λ (p : LogPart). IsPartOf LOG_NUMBER p point) same is))
+  where
+    by_point : (p : LogPoint) → IsPartOf LOG_NUMBER (Down disk) p → IsPartOf LOG_NUMBER (Up log) (sending LOG_LIMITS p Open).0 × (◌≡◌ {A = Option Message} None (sending LOG_LIMITS p Open).1)
+    by_point (up chain doubt) keeps = absurd keeps
+    by_point (down chain) keeps = (runs chain keeps, refl)
+
 -- ---- what is asked
 
-pub served_is : (entries : List Entry) (chain : List Patch) (version : ℕ) (got : Option Patch) → patches_of entries ≡ chain → got ≡ option_map patch_of (entry_at entries version) → served version got ≡ served version (patch_at chain version)
-served_is entries chain version got same is = ap (served version) (is ∙ sym (patch_at-entries entries version) ∙ ap (λ (patches : List Patch). patch_at patches version) same)
+pub served_is : (entries : List Entry) (chain : List Patch) (version : ℕ) (got : Option Patch) → patches_of entries ≡ chain → got ≡ patch_at (patches_of entries) version → served version got ≡ served version (patch_at chain version)
+served_is entries chain version got same is = ap (served version) (is ∙ ap (λ (patches : List Patch). patch_at patches version) same)
 
 -- ---- images
 

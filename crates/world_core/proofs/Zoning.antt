@@ -10,15 +10,19 @@ use Rattle.disk_model.specs.declared.plan.PlanDisk.{PlanDisk}
 use Rattle.chain_core.specs.declared.chain.Patch.{Patch}
 use Rattle.delta_base.specs.declared.limits.LogLimits.{LogLimits}
 use Rattle.chain_core.specs.declared.fate.Fate.{Fate}
-use Rattle.chain_core.specs.Chain.{patch_of}
-use Rattle.chain_core.specs.Log.{LogPoint, up}
+use Rattle.chain_core.specs.Patches.{patch_of}
+use Rattle.chain_core.specs.Log.{LogPoint, up, down, with_doubt}
 use Rattle.chain_core.specs.Stay.{stay}
 use Rattle.patch_log.specs.State.{LogView}
 use Rattle.world_core.specs.declared.zones.TheConstants.{ZONE_NUMBER}
+use Rattle.delta_base.specs.declared.limits.TheConstants.{LOG_LIMITS}
+use Rattle.world_core.specs.declared.event.WorldEvent.{WorldEvent}
+use Rattle.world_core.specs.declared.event.WorldEvent.TheVariants.{ZoneStop}
 use Rattle.world_core.specs.declared.log.LogPart.{LogPart}
+use Rattle.world_core.specs.declared.log.LogPart.TheVariants.{Up, Down}
 use Rattle.world_core.specs.declared.message.Message.{Message}
-use Rattle.world_core.specs.Parts.{Runs, IsPartOf, AreZonesOf, IsSoundMessage}
-use Rattle.world_core.specs.World.{handed, changed_at}
+use Rattle.world_core.specs.Parts.{Runs, Keeps, IsPartOf, AreZonesOf, IsSoundMessage}
+use Rattle.world_core.specs.World.{handed, changed_at, zone_after}
 
 pub handed_next : (limits : LogLimits) (taken : List Patch) (doubt : Option Patch) (version : ℕ) (patch : Patch) (fate : Fate) → version ≡ length taken + 1 → handed limits (up taken doubt) version patch fate ≡ (stay limits (up taken doubt) patch fate).0
 handed_next limits taken doubt version patch fate is = ap (λ (b : Bool). cond b (stay limits (up taken doubt) patch fate).0 (up taken doubt)) (eq-eqb version (length taken + 1) is)
@@ -52,6 +56,17 @@ zones_push [] [] part point are is = (is, tt)
 zones_push [] (first ∷ points) part point are is = absurd are
 zones_push (first ∷ parts) [] part point are is = absurd are
 zones_push (first ∷ parts) (top ∷ points) part point are is = (are.0, zones_push parts points part point are.1 is)
+
+-- a zone that is up is one of a point that is up
+pub stop_part : (part : LogPart) (zone : LogView PlanDisk) (pool : List Message) (event : WorldEvent) (place : ℕ) (opened : Bool) (disk : PlanDisk) → part ≡ Up zone → event ≡ ZoneStop place opened
+    → ((number : ℕ) → (chain : List Patch) → (doubt : Option Patch) → Runs number zone chain doubt → Keeps number disk (cond opened (with_doubt chain doubt) chain))
+    → (point : LogPoint) → IsPartOf ZONE_NUMBER part point → IsPartOf ZONE_NUMBER (Down disk) (zone_after LOG_LIMITS pool event point)
+stop_part part zone pool event place opened disk same stops left point is =
+    subst (λ (e : WorldEvent). IsPartOf ZONE_NUMBER (Down disk) (zone_after LOG_LIMITS pool e point)) (sym stops) (by_point point (subst (λ (p : LogPart). IsPartOf ZONE_NUMBER p point) same is))
+  where
+    by_point : (p : LogPoint) → IsPartOf ZONE_NUMBER (Up zone) p → IsPartOf ZONE_NUMBER (Down disk) (zone_after LOG_LIMITS pool (ZoneStop place opened) p)
+    by_point (up chain doubt) runs = left ZONE_NUMBER chain doubt runs
+    by_point (down chain) runs = absurd runs
 
 -- a zone has a point
 pub zone_at : (parts : List LogPart) (points : List LogPoint) (place : ℕ) (d : LogPart) → AreZonesOf parts points → place < length parts → (point : LogPoint) × IsPartOf ZONE_NUMBER (get_or parts place d) point

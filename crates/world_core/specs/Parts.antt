@@ -6,6 +6,7 @@ use Rattle.disk_model.specs.Plan.{plan_past}
 use Rattle.disk_model.specs.declared.plan.PlanDisk.{PlanDisk}
 use Rattle.log_journal.specs.File.{Holds}
 use Rattle.delta_base.specs.declared.limits.TheConstants.{LOG_LIMITS}
+use Rattle.delta_base.specs.declared.phase.Phase.{Phase}
 use Rattle.delta_base.specs.declared.phase.Phase.TheVariants.{Settling, Body, Gate}
 use Rattle.chain_core.specs.declared.chain.Patch.{Patch}
 use Rattle.chain_core.specs.declared.fate.Fate.{Fate}
@@ -25,13 +26,18 @@ use Rattle.world_core.specs.declared.message.Message.TheVariants.{Item}
 use Rattle.world_core.specs.declared.world.World.{World}
 use Rattle.world_core.specs.World.{WorldPoint}
 
--- the calls of an append come to this where a stop is run as a failure; a phase that isn't run is done
+-- a phase that isn't run is done
+abbrev pub fails_in : {T : Type 0} → Phase → Option T → Fate
+fails_in Settling None = Done
+fails_in Settling (Some doubtful) = Fails Settling
+fails_in Body doubt = Fails Body
+fails_in Gate doubt = Fails Gate
+
+-- the calls of an append come to this where a stop is run as a failure
 abbrev pub run_as : {T : Type 0} → Option T → Fate → Fate
 run_as doubt Done = Done
-run_as None (Fails Settling) = Done
-run_as None (Stops Settling opened) = Done
-run_as doubt (Fails phase) = Fails phase
-run_as doubt (Stops phase opened) = Fails phase
+run_as doubt (Fails phase) = fails_in phase doubt
+run_as doubt (Stops phase opened) = fails_in phase doubt
 
 -- how the gate is to stand where a log is stopped behind an append: one that was run as a failure
 abbrev pub stop_of : Fate → Option Bool

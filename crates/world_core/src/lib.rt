@@ -10,6 +10,7 @@ mod event;
 mod laws;
 mod log;
 mod message;
+mod plan;
 mod world;
 mod zones;
 

@@ -1,10 +1,10 @@
 //! A log over a disk whose syncs fail as planned, event by event.
-ghost use Rattle.std.specs.Prelude.{◌≡◌, ℕ, [], ◌∷◌, ◌++◌, List, Bool, Option, Some, None, IfOk, is_none, if◌then◌else◌};
+ghost use Rattle.std.specs.Prelude.{◌≡◌, ℕ, [], ◌∷◌, ◌++◌, List, Bool, Option, Some, None, IfOk, if◌then◌else◌};
 ghost use Rattle.delta_base.specs.declared.limits.TheConstants.{LOG_LIMITS};
 ghost use Rattle.chain_core.specs.declared.chain.Patch.{Patch as OnePatch};
 ghost use Rattle.chain_core.specs.Log.{LogPoint, up, with_doubt};
 ghost use Rattle.chain_core.specs.Patches.{patch_at, last_id};
-ghost use Rattle.chain_core.specs.Stay.{stay, fate_by_plan};
+ghost use Rattle.chain_core.specs.Stay.{stay};
 ghost use Rattle.patch_log.specs.Log.{bare};
 ghost use Rattle.world_core.specs.declared.log.TheConstants.{LOG_NUMBER};
 ghost use Rattle.world_core.specs.Parts.{run_as, stop_by, Runs, Keeps, IsPartOf, IsSoundMessage, IsSoundSent};
@@ -13,8 +13,9 @@ ghost use Rattle.world_core.specs.World.{told, served, appended, while_up, sendi
 use crate::disks::{new_disk, stopped_disk};
 use crate::event::WorldEvent;
 use crate::message::Message;
+use crate::plan::{failing_sync, stop_of};
 use chain_core::{Fate, LogAnswer};
-use delta_base::{LOG_LIMITS, OutOfMemory, Phase};
+use delta_base::{LOG_LIMITS, OutOfMemory};
 use disk_model::{PlanDisk, Planned};
 use patch_log::{LogFault, LogRefusal, LogState, append};
 use patch_meaning::Checked;
@@ -63,24 +64,6 @@ pub(crate) fn start(alloc: Global, number: u32) -> Result<LogState<PlanDisk>, Ou
     open(alloc, disk, number)
 }
 
-// The sync that is to fail for an append to come to this fate, counted from 0. A phase that isn't run fails nothing.
-fn failing_sync(settled: bool, fate: Fate) -> Option<u64>
-    ensures { (doubt : Option OnePatch) → settled ≡ is_none doubt
-        → fate_by_plan doubt result ≡ run_as doubt fate }
-{
-    let phase = match fate {
-        Fate::Done => return None,
-        Fate::Fails(phase) => phase,
-        Fate::Stops { phase, .. } => phase,
-    };
-    let before = if settled { 0 } else { 1 };
-    match phase {
-        Phase::Settling => { if settled { None } else { Some(0) } }
-        Phase::Body => Some(before),
-        Phase::Gate => Some(before + 1),
-    }
-}
-
 /// The disk as a stop leaves it: a gate in doubt stands open, or it is shut.
 pub(crate) fn stop(
     alloc: Global,
@@ -121,10 +104,7 @@ fn stop_by(fate: Fate, answer: LogAnswer) -> Option<bool>
     ensures { result ≡ stop_by fate answer }
 {
     match answer {
-        LogAnswer::DiskFault => match fate {
-            Fate::Stops { opened, .. } => Some(opened),
-            Fate::Done | Fate::Fails(_) => None,
-        },
+        LogAnswer::DiskFault => stop_of(fate),
         _ => None,
     }
 }

@@ -19,14 +19,41 @@ fn push_id(text: &mut Vec<u8>, front: &[u8], id: Id) -> Result<(), Fail> {
     Ok(())
 }
 
-/// A patch with this id, which names that one before it.
-pub fn patch_of(alloc: Global, id: Id, prev: Option<Id>) -> Result<Checked, Fail> {
+/// What a patch with this id adds and what it takes away: values from 0 to 4.
+pub fn values_of(id: Id) -> (u8, u8) {
+    let number = (id.0 % 16) as u8;
+    (number % 5, (number + 2) % 5)
+}
+
+// Adds a row of changes to the quad with this value.
+fn push_change(text: &mut Vec<u8>, code: &[u8], value: u8) -> Result<(), Fail>
+    requires { value < 10 }
+{
+    text.extend_from_slice(code)?;
+    text.extend_from_slice(b" <http://e/s> <http://e/p> \"")?;
+    text.push(b'0' + value)?;
+    text.extend_from_slice(b"\" .\n")?;
+    Ok(())
+}
+
+// The text of a patch with this id, which names that one before it.
+fn text_of(alloc: Global, id: Id, prev: Option<Id>) -> Result<Vec<u8>, Fail> {
     let mut text = Vec::new(alloc);
     push_id(&mut text, b"H id <uuid:", id)?;
     if let Some(prev) = prev {
         push_id(&mut text, b"H prev <uuid:", prev)?;
     }
-    text.extend_from_slice(b"TX .\nA <http://e/s> <http://e/p> <http://e/o> .\nTC .\n")?;
+    let (added, taken) = values_of(id);
+    text.extend_from_slice(b"TX .\n")?;
+    push_change(&mut text, b"A", added)?;
+    push_change(&mut text, b"D", taken)?;
+    text.extend_from_slice(b"TC .\n")?;
+    Ok(text)
+}
+
+/// A patch with this id, which names that one before it.
+pub fn patch_of(alloc: Global, id: Id, prev: Option<Id>) -> Result<Checked, Fail> {
+    let text = text_of(alloc, id, prev)?;
     let patch = check_patch(alloc, &text)?;
     Ok(patch)
 }
