@@ -1,24 +1,27 @@
 -- A zone takes what a log of the same patches accepts.
-use Rattle.std.proofs.Common.{◌≡◌, ◌≢◌, ◌↔◌, ℕ, ◌+◌, ◌≤◌, true, false, ltb, List, ◌∷◌, [], map, length, Option, Some, None, refl, sym, ◌∙◌, ap, subst, arith}
+use Rattle.std.proofs.Common.{◌≡◌, ◌↔◌, ℕ, ◌+◌, true, false, ltb, List, ◌++◌, ◌∷◌, [], map, length, Option, Some, None, refl, sym, ◌∙◌, ap, subst, arith}
 use Rattle.std.specs.Prelude.{sum_by}
 use Rattle.std.proofs.lemmas.List.{length-map}
 use Rattle.std.proofs.lemmas.Bool.Decides.{nat_tests}
 use Rattle.delta_base.specs.declared.id.Id.{Id}
 use Rattle.delta_base.specs.declared.limits.LogLimits.{LogLimits}
 use Rattle.delta_base.specs.declared.limits.TheConstants.{PAYLOAD_FRAME}
-use Rattle.disk_model.specs.Past.{Past, EveryImage}
+use Rattle.disk_model.specs.Past.{Past}
+use Rattle.log_journal.specs.File.{Holds}
+use Rattle.log_journal.specs.Journal.{HoldsWithOrWithout}
 use Rattle.log_journal.proofs.Steps.{either}
 use Rattle.chain_core.specs.declared.answer.Decision.{Decision}
 use Rattle.chain_core.specs.declared.answer.Decision.TheVariants.{Accept, Known, Conflict, Full as IsFull}
 use Rattle.chain_core.specs.declared.chain.Patch.{Patch}
 use Rattle.chain_core.specs.declared.fate.Fate.{Fate}
 use Rattle.chain_core.specs.Decision.{decision, same_id}
-use Rattle.chain_core.specs.Log.{LogPoint, up}
+use Rattle.chain_core.specs.Log.{up}
+use Rattle.chain_core.specs.Patches.{last_id, journal_length}
 use Rattle.chain_core.specs.Stay.{decided_by}
 use Rattle.chain_core.proofs.Decided.{IsAcceptable, accepted, decision-rest, same_id-refl}
 use Rattle.chain_core.proofs.Patches.{length-push}
-use Rattle.patch_meaning.specs.Checked.{CheckedPatch}
-use Rattle.patch_log.specs.Log.{bare, IsSoundLog, MayHold, StandsForLog}
+use Rattle.patch_meaning.specs.Checked.{CheckedPatch, texts}
+use Rattle.patch_log.specs.Log.{bare, IsSoundLog, StandsForLog}
 use Rattle.zone_state.specs.declared.answer.TakeAnswer.{TakeAnswer}
 use Rattle.zone_state.specs.declared.answer.TakeAnswer.TheVariants.{Applied, Diverged, Repeated, Full, TermsFull, OutOfMemory, DiskFault}
 use Rattle.zone_state.specs.Brief.{id_of, last_of, file_length}
@@ -65,8 +68,8 @@ module _ (taken : List CheckedPatch) (patch : Patch) (limits : LogLimits) where
 
   accepts : IsAcceptable chain patch limits → decision chain patch limits ≡ Accept (length chain + 1)
   accepts can =
-      let follows = ap (λ (id : Option Id). same_id id (Rattle.chain_core.specs.Patches.last_id chain)) can.follows ∙ same_id-refl (Rattle.chain_core.specs.Patches.last_id chain) in
-      let short : ltb limits.bytes (Rattle.chain_core.specs.Patches.journal_length (Rattle.std.proofs.Common.◌++◌ chain (patch ∷ []))) ≡ false = grind (arith, nat_tests, can.room) in
+      let follows = ap (λ (id : Option Id). same_id id (last_id chain)) can.follows ∙ same_id-refl (last_id chain) in
+      let short : ltb limits.bytes (journal_length (chain ++ patch ∷ [])) ≡ false = grind (arith, nat_tests, can.room) in
       decision-rest chain patch limits false can.new follows can.place short
 
   pub decided_alike : (version : ℕ) → (taking ids bytes patch limits ≡ Applied version) ↔ (decision chain patch limits ≡ Accept version)
@@ -104,15 +107,15 @@ pub zone_log : {D : Type 0} (tells : Type 0) (past : Past) (zone : ZoneView D) (
 zone_log tells past zone taken None stands told =
     let all = stands.on_disk told in
     record {
-      each = λ image left. subst (λ (ts : List (List ℕ)). Rattle.log_journal.specs.File.Holds image zone_number ts) (sym (bare_texts taken)) (all.each image left);
+      each = λ image left. subst (λ (ts : List (List ℕ)). Holds image zone_number ts) (sym (bare_texts taken)) (all.each image left);
       without = taken_log zone.limits taken stands.without;
       having = taken_log zone.limits taken stands.without;
     }
 zone_log tells past zone taken (Some doubt) stands told =
     let all = stands.on_disk told in
     record {
-      each = λ image left. subst (λ (ts : List (List ℕ)). Rattle.log_journal.specs.Journal.HoldsWithOrWithout zone_number ts doubt.text image) (sym (bare_texts taken))
-          (either (file_length zone.brief.ids zone.brief.bytes) zone_number (Rattle.patch_meaning.specs.Checked.texts taken) doubt.text all.doubt_sized image all.sized (all.each image left));
+      each = λ image left. subst (λ (ts : List (List ℕ)). HoldsWithOrWithout zone_number ts doubt.text image) (sym (bare_texts taken))
+          (either (file_length zone.brief.ids zone.brief.bytes) zone_number (texts taken) doubt.text all.doubt_sized image all.sized (all.each image left));
       without = taken_log zone.limits taken stands.without;
       having = subst (λ (ps : List Patch). IsSoundLog zone.limits ps) (bare-push taken doubt) (taken_log zone.limits (with_doubtful taken (Some doubt)) stands.having);
     }

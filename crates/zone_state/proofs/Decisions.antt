@@ -1,5 +1,5 @@
 -- What follows from what a zone decides, and what leads to it.
-use Rattle.std.proofs.Common.{◌≡◌, ◌≢◌, ℕ, ◌+◌, ◌≤◌, Bool, true, false, cond, not, eqb, ltb, List, length, Option, Some, None, refl, sym, ◌∙◌, ap, arith}
+use Rattle.std.proofs.Common.{◌≡◌, ◌≢◌, ℕ, ◌+◌, ◌≤◌, Bool, true, false, cond, not, eqb, ltb, List, length, Option, Some, None, refl, sym, ◌∙◌, ap, arith, subst}
 use Rattle.std.proofs.lemmas.Bool.{eq-eqb}
 use Rattle.std.proofs.lemmas.Bool.Decides.{nat_tests}
 use Rattle.delta_base.specs.declared.id.Id.{Id}
@@ -8,13 +8,13 @@ use Rattle.delta_base.specs.declared.limits.LogLimits.{LogLimits}
 use Rattle.delta_base.specs.declared.limits.TheConstants.{PAYLOAD_FRAME}
 use Rattle.chain_core.specs.declared.chain.Patch.{Patch}
 use Rattle.chain_core.specs.Decision.{same_id}
-use Rattle.chain_core.proofs.Decided.{same_id-true, same_id-refl}
+use Rattle.chain_core.proofs.Decided.{same_id-true}
 use Rattle.patch_meaning.specs.Checked.{CheckedPatch}
 use Rattle.zone_state.specs.declared.answer.TakeAnswer.{TakeAnswer}
 use Rattle.zone_state.specs.declared.answer.TakeAnswer.TheVariants.{Applied, Diverged, Repeated, Full}
 use Rattle.zone_state.specs.declared.answer.TakeAnswer.TheVariants as answers
 use Rattle.chain_core.specs.declared.fate.Fate.{Fate}
-use Rattle.chain_core.specs.Log.{LogPoint, up}
+use Rattle.chain_core.specs.Log.{up}
 use Rattle.zone_state.specs.Brief.{last_of, version_in, file_length}
 use Rattle.zone_state.specs.Taking.{taking, unless_repeated, within_limits, taken_by, taken_then}
 
@@ -95,7 +95,7 @@ IsDecided answers.DiskFault = ⊥
 IsDecided other = Unit {0}
 
 pub decided : (ids : List Id) (bytes : ℕ) (patch : Patch) (limits : LogLimits) → IsDecided (taking ids bytes patch limits)
-decided ids bytes patch limits = Rattle.std.proofs.Common.subst IsDecided (sym (tested ids bytes patch limits)) (by_each (same_id patch.prev (last_of ids)) (version_in ids patch.id))
+decided ids bytes patch limits = subst IsDecided (sym (tested ids bytes patch limits)) (by_each (same_id patch.prev (last_of ids)) (version_in ids patch.id))
   where
     by_size : (full long : Bool) → IsDecided (by_limits ids bytes patch limits full long)
     by_size true long = tt
@@ -109,6 +109,7 @@ decided ids bytes patch limits = Rattle.std.proofs.Common.subst IsDecided (sym (
 
 -- what is refused changes nothing, and is told
 pub record IsRefused (answer : TakeAnswer) : Type 0 where
+  pub no_version : (version : ℕ) → answer ≡ Applied version → ⊥
   pub no_terms : answer ≡ answers.TermsFull → ⊥
   pub no_want : answer ≡ answers.OutOfMemory → ⊥
   pub no_fault : answer ≡ answers.DiskFault → ⊥
@@ -117,9 +118,9 @@ pub record IsRefused (answer : TakeAnswer) : Type 0 where
 
 pub is_refused : (answer : TakeAnswer) → IsDecided answer → ((version : ℕ) → answer ≡ Applied version → ⊥) → IsRefused answer
 is_refused (Applied version) is never = absurd (never version refl)
-is_refused (Diverged have prev) is never = record { no_terms = λ same. cc; no_want = λ same. cc; no_fault = λ same. cc; same = λ taken patch. refl; outcome = λ fate taken doubt patch. refl }
-is_refused (Repeated version) is never = record { no_terms = λ same. cc; no_want = λ same. cc; no_fault = λ same. cc; same = λ taken patch. refl; outcome = λ fate taken doubt patch. refl }
-is_refused (Full what have limit) is never = record { no_terms = λ same. cc; no_want = λ same. cc; no_fault = λ same. cc; same = λ taken patch. refl; outcome = λ fate taken doubt patch. refl }
+is_refused (Diverged have prev) is never = record { no_version = never; no_terms = λ same. cc; no_want = λ same. cc; no_fault = λ same. cc; same = λ taken patch. refl; outcome = λ fate taken doubt patch. refl }
+is_refused (Repeated version) is never = record { no_version = never; no_terms = λ same. cc; no_want = λ same. cc; no_fault = λ same. cc; same = λ taken patch. refl; outcome = λ fate taken doubt patch. refl }
+is_refused (Full what have limit) is never = record { no_version = never; no_terms = λ same. cc; no_want = λ same. cc; no_fault = λ same. cc; same = λ taken patch. refl; outcome = λ fate taken doubt patch. refl }
 is_refused answers.TermsFull is never = absurd is
 is_refused answers.OutOfMemory is never = absurd is
 is_refused answers.DiskFault is never = absurd is

@@ -1,5 +1,5 @@
 -- A zone that took one patch more.
-use Rattle.std.proofs.Common.{◌≡◌, ◌≢◌, ℕ, suc, ◌+◌, ◌-◌, ◌*◌, ◌<◌, ◌≤◌, List, [], ◌∷◌, ◌++◌, map, length, Option, Some, None, refl, sym, ◌∙◌, ap, subst, arith, length-append}
+use Rattle.std.proofs.Common.{◌≡◌, ℕ, suc, ◌+◌, ◌-◌, ◌<◌, ◌≤◌, List, [], ◌∷◌, ◌++◌, map, length, Option, Some, None, refl, sym, ◌∙◌, ap, subst, arith, length-append, cond, eqb}
 use Rattle.std.specs.Prelude.{slice_get, sum_by}
 use Rattle.std.specs.Option.{option_map}
 use Rattle.std.proofs.lemmas.List.{map-append, length-map}
@@ -17,9 +17,10 @@ use Rattle.patch_meaning.specs.Checked.{CheckedPatch, AreChecked, texts, meaning
 use Rattle.patch_meaning.specs.Patch.{Meaning, IsPatch}
 use Rattle.patch_meaning.specs.Replay.{replay, replay_from}
 use Rattle.patch_log.specs.Log.{bare}
-use Rattle.zone_state.specs.Brief.{Brief, brief_of, with_patch, id_of, last_of, version_in, file_length}
+use Rattle.zone_state.specs.Brief.{brief_of, with_patch, id_of, last_of, version_in, file_length}
 use Rattle.zone_state.specs.Zone.{AreTaken}
 use Rattle.zone_state.proofs.Decisions.{CanBeTaken}
+use Rattle.std.specs.List.{AllByRecursion}
 
 -- ---- what is kept of patches
 
@@ -53,7 +54,7 @@ texts-push taken patch = map-append (λ (p : CheckedPatch). p.text) taken (patch
 
 pub bare_versions : (taken : List CheckedPatch) (id : Id) → version_of (map bare taken) id ≡ version_in (map id_of taken) id
 bare_versions [] id = refl
-bare_versions (patch ∷ taken) id = ap (λ (later : Option ℕ). Rattle.std.proofs.Common.cond (Rattle.std.proofs.Common.eqb patch.meaning.id.0 id.0) (Some 1) (option_map (λ version. version + 1) later)) (bare_versions taken id)
+bare_versions (patch ∷ taken) id = ap (λ (later : Option ℕ). cond (eqb patch.meaning.id.0 id.0) (Some 1) (option_map (λ version. version + 1) later)) (bare_versions taken id)
 
 -- the id of the last one is that of the last link
 last_behind : (head : Option Id) (taken : List CheckedPatch) → 0 < length taken → slice_get (map id_of taken) (length (map id_of taken) - 1) ≡ last_or head (links_of (map bare taken))
@@ -96,6 +97,6 @@ taken-push limits taken patch are one can =
         chain = chain-push taken patch are.log.chain can.follows can.new;
         few = omega (arith, are.log.few, differs, length-map (taken ++ patch ∷ []) bare, length-append taken (patch ∷ []), length-map taken id_of, length-map taken bare);
         room = omega (arith, can.room, ap journal_length longer, length-push (map bare taken) (bare patch), bare_length taken);
-        short = subst (λ (ps : List Patch). Rattle.std.specs.List.AllByRecursion (λ (p : Patch). length p.text ≤ PATCH_LIMIT) ps) (sym longer) (short-push (map bare taken) (bare patch) are.log.short one.short);
+        short = subst (λ (ps : List Patch). AllByRecursion (λ (p : Patch). length p.text ≤ PATCH_LIMIT) ps) (sym longer) (short-push (map bare taken) (bare patch) are.log.short one.short);
       };
     }

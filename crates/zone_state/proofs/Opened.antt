@@ -1,5 +1,5 @@
 -- A zone as it was opened.
-use Rattle.std.proofs.Common.{◌≡◌, ℕ, ◌+◌, ◌^◌, ◌<◌, ◌≤◌, List, map, length, None, refl, sym, ◌∙◌, ap, subst, arith}
+use Rattle.std.proofs.Common.{◌≡◌, ℕ, ◌^◌, ◌<◌, ◌≤◌, List, map, None, refl, sym, ◌∙◌, ap, subst, arith}
 use Rattle.std.proofs.lemmas.List.{length-map}
 use Rattle.disk_model.specs.declared.disk.Disk.{Ghosts}
 use Rattle.log_journal.specs.declared.journal.Journal.{Journal}
@@ -7,11 +7,11 @@ use Rattle.delta_base.specs.Journals.{journal_length as payloads_length}
 use Rattle.log_journal.specs.StandsFor.{StandsFor, length_of, limit_of, disk_of}
 use Rattle.delta_base.specs.declared.limits.LogLimits.{LogLimits}
 use Rattle.chain_core.specs.Patches.{texts_of, journal_length}
-use Rattle.patch_meaning.specs.Checked.{CheckedPatch, texts}
+use Rattle.patch_meaning.specs.Checked.{CheckedPatch}
 use Rattle.patch_log.specs.Log.{bare}
 use Rattle.patch_log.proofs.Sound.{sound_short}
 use Rattle.zone_state.specs.declared.kept.Kept.{Kept}
-use Rattle.zone_state.specs.Brief.{Brief, brief_of, id_of, file_length}
+use Rattle.zone_state.specs.Brief.{Brief, brief_of, file_length}
 use Rattle.zone_state.specs.Next.{AreFound}
 use Rattle.zone_state.specs.Zone.{AreTaken, StandsForZone, zone_number}
 use Rattle.zone_state.specs.State.{brief_in, view_of, IsKept}

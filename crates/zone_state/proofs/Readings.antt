@@ -1,6 +1,5 @@
 -- Reading a zone goes on from payload to payload.
-use Rattle.std.proofs.Common.{◌≡◌, ◌⊎◌, inl, inr, ⊎_elim, ℕ, ◌+◌, ◌^◌, ◌<◌, ◌≤◌, Bool, true, false, List, [], ◌∷◌, ◌++◌, map, length, Option, None, refl, sym, ◌∙◌, ap, subst, arith, length-append, append_assoc}
-use Rattle.std.specs.Prelude.{sum_by}
+use Rattle.std.proofs.Common.{◌≡◌, inl, inr, ⊎_elim, ℕ, ◌+◌, Bool, true, false, List, [], ◌∷◌, ◌++◌, map, length, None, refl, sym, ◌∙◌, ap, subst, arith, length-append}
 use Rattle.std.specs.List.{AllByRecursion, Contains, flat_map}
 use Rattle.std.proofs.lemmas.List.{map-append, length-map, append-nil}
 use Rattle.std.proofs.lemmas.Grind.{flat_map-append}
@@ -8,14 +7,14 @@ use Rattle.std.proofs.lemmas.List.Elements.{Contains-append_left, Contains-appen
 use Rattle.delta_base.specs.declared.id.Id.{Id}
 use Rattle.rdf_terms.specs.declared.term.Term.{Term}
 use Rattle.rdf_terms.specs.declared.change.Change.{Change}
-use Rattle.rdf_terms.specs.Dataset.{Dataset, apply, empty}
+use Rattle.rdf_terms.specs.Dataset.{Dataset, empty}
 use Rattle.term_table.specs.Table.{most}
 use Rattle.dataset_tx.specs.Held.{terms_of, AreMet, AreMore}
 use Rattle.chain_core.specs.declared.chain.Patch.{Patch}
 use Rattle.chain_core.specs.declared.chain.Entry.{Entry}
 use Rattle.chain_core.specs.Links.{IsChain}
-use Rattle.chain_core.specs.Patches.{patches_of, links_of, texts_of, version_of, last_id}
-use Rattle.patch_meaning.specs.Checked.{CheckedPatch, AreChecked, texts}
+use Rattle.chain_core.specs.Patches.{patches_of, links_of, texts_of}
+use Rattle.patch_meaning.specs.Checked.{CheckedPatch, AreChecked}
 use Rattle.patch_meaning.specs.Patch.{Meaning, IsPatch}
 use Rattle.patch_meaning.proofs.Settled.{one_meaning}
 use Rattle.chain_core.specs.Breaks.{BreaksAt}
@@ -23,11 +22,11 @@ use Rattle.patch_log.specs.Log.{bare, IsSound, AreChained}
 use Rattle.patch_log.specs.Opening.{IsNextOf, AreFound as AreFoundEntries}
 use Rattle.patch_log.proofs.Openings.{breaks_at}
 use Rattle.zone_state.specs.declared.opening.Reading.{Reading}
-use Rattle.zone_state.specs.Brief.{Brief, brief_of, with_patch, id_of, last_of, version_in, changes_of}
+use Rattle.zone_state.specs.Brief.{Brief, with_patch, id_of, last_of, version_in, changes_of}
 use Rattle.zone_state.specs.Next.{IsNext, AreFound}
 use Rattle.zone_state.specs.Opening.{HasRead, MeetsMore, HasReceived}
 use Rattle.zone_state.specs.State.{brief_in}
-use Rattle.zone_state.proofs.Growing.{brief-push, bare-push, texts-push, bare_texts, bare_versions, bare_last, checked-push, chain-push}
+use Rattle.zone_state.proofs.Growing.{brief-push, texts-push, bare_texts, bare_versions, bare_last, checked-push, chain-push}
 
 -- ---- one text
 
@@ -48,8 +47,8 @@ terms-left changes more t has = subst (λ (ts : List Term). Contains ts t) (sym 
 terms-right : (changes more : List Change) (t : Term) → Contains (flat_map terms_of more) t → Contains (flat_map terms_of (changes ++ more)) t
 terms-right changes more t has = subst (λ (ts : List Term). Contains ts t) (sym (flat_map-append terms_of changes more)) (Contains-append_right (flat_map terms_of changes) (flat_map terms_of more) t has)
 
-pub meets_nothing : (terms : List Term) → AreMet [] terms terms
-meets_nothing terms t has = inl has
+pub meets_none : (changes : List Change) (terms : List Term) → AreMet changes terms terms
+meets_none changes terms t has = inl has
 
 meets_further : (changes more : List Change) (before after : List Term) → AreMet changes before after → AreMet (changes ++ more) before after
 meets_further changes more before after met t has = ⊎_elim (λ (old : Contains before t). inl old) (λ (new : Contains (flat_map terms_of changes) t). inr (terms-left changes more t new)) (met t has)
@@ -113,7 +112,7 @@ has_read_none reading ids bytes contents full = record {
       ap (λ (is : List Id). record { ids = is; bytes = reading.kept.bytes; contents = reading.kept.contents.contents }) ids
       ∙ ap (λ (n : ℕ). record { ids = []; bytes = n; contents = reading.kept.contents.contents }) bytes
       ∙ ap (λ (d : Dataset). record { ids = []; bytes = 0; contents = d }) (ap (λ v. v.contents) contents);
-  met = λ is. subst (λ (ts : List Term). AreMet [] [] ts) (sym (ap (λ v. v.terms) contents)) (meets_nothing []);
+  met = λ is. subst (λ (ts : List Term). AreMet [] [] ts) (sym (ap (λ v. v.terms) contents)) (meets_none [] []);
   overflow = λ is. absurd (true_and_false reading.full is full);
 }
 
@@ -198,7 +197,7 @@ module _ (first old new : Reading) (payloads : List (List ℕ)) (text : List ℕ
       let read = found.2 in
       let count : length found.0 + 1 ≡ length new.kept.ids.items + 1 = omega (arith, ap length ids, ap length read.ids_are, length-map found.0 id_of) in
       let no_next = λ (patch : CheckedPatch) (next : IsNext (map id_of found.0) text first.most patch).
-          none patch (subst (λ (n : ℕ). IsNext old.kept.ids.items text n patch) (sym has.most_is) (subst (λ (is : List Id). IsNext is text first.most patch) (sym read.ids_are) next)) in
+      none patch (subst (λ (n : ℕ). IsNext old.kept.ids.items text n patch) (sym has.most_is) (subst (λ (is : List Id). IsNext is text first.most patch) (sym read.ids_are) next)) in
       record {
         most_is = same ∙ has.most_is;
         found = λ is. absurd (true_and_false new.broken broken is);

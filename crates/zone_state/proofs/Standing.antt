@@ -1,33 +1,29 @@
 -- What a zone stands for, when a write was done or failed.
-use Rattle.std.proofs.Common.{◌≡◌, ◌≢◌, ◌⊎◌, inl, ℕ, zero, suc, ◌+◌, Bool, true, false, List, [], ◌∷◌, ◌++◌, map, length, Option, Some, None, Result, Ok, Err, refl, sym, ◌∙◌, ap, subst, arith}
-use Rattle.std.specs.Prelude.{is_none, sum_by}
+use Rattle.std.proofs.Common.{◌≡◌, ◌⊎◌, inl, ℕ, zero, suc, ◌+◌, true, false, List, [], ◌∷◌, ◌++◌, map, length, Option, Some, None, Result, Ok, Err, refl, sym, ◌∙◌, ap, subst}
+use Rattle.std.specs.Prelude.{is_none}
 use Rattle.std.specs.Option.{option_map}
 use Rattle.disk_model.specs.declared.disk.Disk.{Ghosts}
-use Rattle.disk_model.specs.Past.{Past, EveryImage, LeavesOnly}
+use Rattle.disk_model.specs.Past.{Past, LeavesOnly}
 use Rattle.disk_model.proofs.Moments.{starts}
 use Rattle.delta_base.specs.Phases.{phase_by_syncs, phase_by_plan}
 use Rattle.delta_base.specs.declared.phase.Phase.{Phase}
 use Rattle.delta_base.specs.declared.phase.Phase.TheVariants.{Settling, Body, Gate}
 use Rattle.log_journal.specs.declared.journal.Journal.{Journal}
-use Rattle.log_journal.specs.File.{Holds}
 use Rattle.log_journal.specs.Journal.{HoldsAll, InDoubt, HoldsWithOrWithout}
-use Rattle.log_journal.specs.StandsFor.{StandsFor, StandsInDoubt, Leaves, length_of, limit_of, is_settled, disk_of}
-use Rattle.log_journal.specs.Writing.{StandsWith, HoldsDuring, payloads_left, doubt_left, failing, longer_by, LeavesEither as JournalLeaves}
+use Rattle.log_journal.specs.StandsFor.{Leaves, length_of, is_settled, disk_of}
+use Rattle.log_journal.specs.Writing.{StandsWith, HoldsDuring, payloads_left, doubt_left, failing, LeavesEither as JournalLeaves}
 use Rattle.log_journal.proofs.Steps.{either}
 use Rattle.delta_base.specs.declared.limits.LogLimits.{LogLimits}
-use Rattle.chain_core.specs.declared.chain.Patch.{Patch}
-use Rattle.chain_core.specs.declared.fate.Fate.{Fate}
 use Rattle.chain_core.specs.Patches.{texts_of}
 use Rattle.chain_core.specs.Stay.{fate_of, fate_by_syncs, fate_by_plan}
 use Rattle.patch_meaning.specs.Checked.{CheckedPatch, texts}
-use Rattle.patch_meaning.specs.Patch.{IsPatch}
 use Rattle.patch_log.specs.Log.{bare, payload_in, MayHoldDuring, LeavesEither}
 use Rattle.zone_state.specs.declared.answer.TakeAnswer.{TakeAnswer}
 use Rattle.zone_state.specs.declared.answer.TakeAnswer.TheVariants.{Applied, DiskFault}
-use Rattle.zone_state.specs.Brief.{Brief, brief_of, with_patch, id_of, file_length}
+use Rattle.zone_state.specs.Brief.{brief_of, file_length}
 use Rattle.zone_state.specs.Taking.{taken_by, taken_then}
-use Rattle.zone_state.specs.Zone.{ZoneView, AreTaken, with_doubtful, DiskHolds, StandsForZone, zone_number, doubt_of, point_of}
-use Rattle.zone_state.proofs.Growing.{bare_texts, texts-push, bare-push, brief-push}
+use Rattle.zone_state.specs.Zone.{ZoneView, AreTaken, with_doubtful, StandsForZone, zone_number, doubt_of, point_of}
+use Rattle.zone_state.proofs.Growing.{bare_texts, texts-push, bare-push}
 
 -- the text in doubt
 abbrev pub text_in : Option CheckedPatch → Option (List ℕ)

@@ -1,34 +1,36 @@
 -- What a zone stands for behind the write of its next patch.
-use Rattle.std.proofs.Common.{◌≡◌, ◌⊎◌, ℕ, ◌+◌, ◌-◌, ◌≤◌, ◌<◌, ◌^◌, Bool, true, false, List, [], ◌∷◌, ◌++◌, map, length, Option, Some, None, Result, Ok, Err, refl, sym, ◌∙◌, ap, subst, arith, length-append}
+use Rattle.std.proofs.Common.{◌≡◌, ℕ, ◌+◌, ◌-◌, ◌≤◌, ◌<◌, ◌^◌, false, List, [], ◌∷◌, ◌++◌, map, length, Option, Some, None, Result, Ok, Err, refl, sym, ◌∙◌, ap, subst, arith, length-append}
 use Rattle.std.specs.Prelude.{IsTrue, not, is_none}
 use Rattle.std.proofs.lemmas.List.{length-map}
 use Rattle.disk_model.specs.declared.disk.Disk.{Ghosts}
-use Rattle.disk_model.specs.Past.{Past, ok_syncs, EveryImage, LeavesOnly}
+use Rattle.disk_model.specs.Past.{ok_syncs, LeavesOnly}
 use Rattle.delta_base.specs.Phases.{phase_by_syncs, phase_by_plan}
 use Rattle.delta_base.specs.declared.phase.Phase.{Phase}
 use Rattle.delta_base.specs.declared.phase.Phase.TheVariants.{Settling}
 use Rattle.log_journal.specs.declared.journal.Journal.{Journal}
-use Rattle.log_journal.specs.File.{Holds}
 use Rattle.log_journal.specs.StandsFor.{Leaves, length_of, limit_of, is_settled, disk_of}
 use Rattle.log_journal.specs.Writing.{StandsWith, HoldsDuring, payloads_left, doubt_left, failing, longer_by, LeavesEither as JournalLeaves}
 use Rattle.delta_base.specs.declared.limits.LogLimits.{LogLimits}
 use Rattle.delta_base.specs.declared.limits.TheConstants.{PAYLOAD_FRAME}
 use Rattle.chain_core.specs.declared.fate.Fate.{Fate}
-use Rattle.chain_core.specs.Stay.{fate_of}
+use Rattle.chain_core.specs.declared.fate.Fate.TheVariants.{Done}
+use Rattle.chain_core.specs.Stay.{fate_of, fate_by_plan}
 use Rattle.patch_meaning.specs.Checked.{CheckedPatch, texts}
 use Rattle.patch_meaning.specs.Patch.{IsPatch}
-use Rattle.patch_log.specs.Log.{bare, MayHoldDuring}
+use Rattle.patch_log.specs.Log.{bare, MayHoldDuring, LeavesEither}
 use Rattle.zone_state.specs.declared.answer.TakeAnswer.{TakeAnswer}
 use Rattle.zone_state.specs.declared.answer.TakeAnswer.TheVariants.{Applied}
 use Rattle.zone_state.specs.declared.kept.Kept.{Kept}
-use Rattle.zone_state.specs.Brief.{Brief, brief_of, with_patch, id_of, file_length}
+use Rattle.zone_state.specs.Brief.{Brief, brief_of, with_patch, id_of, file_length, version_in}
 use Rattle.zone_state.specs.Taking.{taking, taken_by, TakeStay}
 use Rattle.zone_state.specs.Zone.{ZoneView, AreTaken, StandsForZone, zone_number, doubt_of, point_of}
 use Rattle.zone_state.specs.State.{brief_in, view_of, IsKept}
-use Rattle.zone_state.specs.Stay.{TookOne}
-use Rattle.zone_state.proofs.Decisions.{CanBeTaken, can_be_taken}
+use Rattle.zone_state.specs.Stay.{decided, TookOne}
+use Rattle.zone_state.proofs.Decisions.{CanBeTaken, can_be_taken, IsRefused}
 use Rattle.zone_state.proofs.Growing.{brief-push, taken-push}
 use Rattle.zone_state.proofs.Standing.{text_in, taken_after, answer_after, outcome_is, same_fate, same_plan, leaves_after, without_after, having_after, journal_stands, zone_stands, stands_after, during}
+use Rattle.delta_base.specs.declared.id.Id.{Id}
+use Rattle.rdf_terms.specs.Dataset.{Dataset, apply}
 
 -- what is kept behind a write
 abbrev pub brief_after : {T : Type 0} → Result T Phase → Brief → CheckedPatch → Brief
@@ -40,7 +42,7 @@ abbrev pub Carries : {D T : Type 0} {disks : Ghosts D} → Journal D disks → J
 Carries old new r payload = (number : ℕ) (payloads : List (List ℕ)) (doubt : Option (List ℕ)) → StandsWith old number payloads doubt → StandsWith new number (payloads_left r payloads payload) (doubt_left r doubt payload)
 
 module _ {D : Type 0} {disks : Ghosts D} (journal : Journal D disks) (kept : Kept) (limits : LogLimits) (is : IsKept journal kept limits) where
-  abbrev ids : List Rattle.delta_base.specs.declared.id.Id.Id
+  abbrev ids : List Id
   ids = kept.ids.items
 
   pub few : length kept.ids.items ≤ limits.patches
@@ -88,11 +90,14 @@ module _ {D : Type 0} {disks : Ghosts D} (journal : Journal D disks) (kept : Kep
   during_written new patch payload payload_is taken doubt stands leaves told =
       during journal new taken doubt patch (subst (λ (text : List ℕ). Leaves (HoldsDuring zone_number (texts taken) (text_in doubt) text) journal new) payload_is (leaves zone_number (texts taken) (text_in doubt) (journal_is taken doubt stands))) told
 
-  module _ (patch : CheckedPatch) (version : ℕ) (next : taking kept.ids.items kept.bytes (bare patch) limits ≡ Applied version) where
+  module _ (patch : CheckedPatch) (version : ℕ) (decided_so : Applied version ≡ taking kept.ids.items kept.bytes (bare patch) limits) where
+    next : taking kept.ids.items kept.bytes (bare patch) limits ≡ Applied version
+    next = sym decided_so
+
     can : CanBeTaken kept.ids.items kept.bytes (bare patch) limits
     can = (can_be_taken kept.ids.items kept.bytes (bare patch) limits version next).0
 
-    pub is_new : Rattle.zone_state.specs.Brief.version_in kept.ids.items patch.meaning.id ≡ None
+    pub is_new : version_in kept.ids.items patch.meaning.id ≡ None
     is_new = can.new
 
     pub countable_more : length kept.ids.items + 1 < 2 ^ 32
@@ -164,17 +169,34 @@ module _ {D : Type 0} {disks : Ghosts D} (journal : Journal D disks) (kept : Kep
                 (λ before. subst (λ (text : List ℕ). JournalLeaves (disks.past (disk_of new)) zone_number (payloads_left r (texts taken) text) (doubt_left r (text_in doubt) text)) payload_is (leaves plans told long before));
           }
 
+-- what is refused is a stay that changes nothing
+pub took_nothing : {D : Type 0} {disks : Ghosts D} (zone : ZoneView D) (taken : List CheckedPatch) (doubt : Option CheckedPatch) (patch : CheckedPatch) (answer : TakeAnswer) → StandsForZone disks.tells (disks.past zone.disk) zone taken doubt → IsRefused answer
+    → answer ≡ decided zone patch → TookOne disks zone zone taken doubt patch answer
+took_nothing {D} {disks} zone taken doubt patch answer stands told made =
+    let same = sym (told.same taken patch) in
+    let stay = λ (fate : Fate). subst (λ (ts : List CheckedPatch). TakeStay (decided zone patch) (map bare taken) (doubt_of doubt) (bare patch) fate (point_of ts doubt) answer) same
+    (subst (λ (d : TakeAnswer). taken_by d fate (map bare taken) (doubt_of doubt) (bare patch) ≡ (point_of taken doubt, Some answer)) made (told.outcome fate (map bare taken) (doubt_of doubt) (bare patch))) in
+    record {
+      left = doubt;
+      stands = subst (λ (ts : List CheckedPatch). StandsForZone disks.tells (disks.past zone.disk) zone ts doubt) same stands;
+      fate = Done;
+      stay = stay Done;
+      by_syncs = λ told_all version is. absurd (told.no_version version (made ∙ is));
+      planned = λ plans long. stay (fate_by_plan doubt (disks.next_failure zone.disk));
+      images = λ plans told_all long before. subst (λ (ts : List CheckedPatch). LeavesEither (disks.past zone.disk) zone_number (map bare ts) (doubt_of doubt)) same before;
+    }
+
 -- ---- what is kept, field by field
 
-pub brief_counted : (kept new : Kept) (patch : CheckedPatch) → new.ids.items ≡ kept.ids.items ++ patch.meaning.id ∷ [] → new.bytes ≡ kept.bytes + length patch.text → new.contents.contents ≡ Rattle.rdf_terms.specs.Dataset.apply patch.meaning.changes kept.contents.contents
+pub brief_counted : (kept new : Kept) (patch : CheckedPatch) → new.ids.items ≡ kept.ids.items ++ patch.meaning.id ∷ [] → new.bytes ≡ kept.bytes + length patch.text → new.contents.contents ≡ apply patch.meaning.changes kept.contents.contents
     → brief_in new ≡ with_patch (brief_in kept) patch
 brief_counted kept new patch ids bytes contents =
-    ap (λ (is : List Rattle.delta_base.specs.declared.id.Id.Id). record { ids = is; bytes = new.bytes; contents = new.contents.contents }) ids
+    ap (λ (is : List Id). record { ids = is; bytes = new.bytes; contents = new.contents.contents }) ids
     ∙ ap (λ (n : ℕ). record { ids = kept.ids.items ++ patch.meaning.id ∷ []; bytes = n; contents = new.contents.contents }) bytes
-    ∙ ap (λ (d : Rattle.rdf_terms.specs.Dataset.Dataset). record { ids = kept.ids.items ++ patch.meaning.id ∷ []; bytes = kept.bytes + length patch.text; contents = d }) contents
+    ∙ ap (λ (d : Dataset). record { ids = kept.ids.items ++ patch.meaning.id ∷ []; bytes = kept.bytes + length patch.text; contents = d }) contents
 
 pub brief_same : (kept new : Kept) → new.ids.items ≡ kept.ids.items → new.bytes ≡ kept.bytes → new.contents.contents ≡ kept.contents.contents → brief_in new ≡ brief_in kept
 brief_same kept new ids bytes contents =
-    ap (λ (is : List Rattle.delta_base.specs.declared.id.Id.Id). record { ids = is; bytes = new.bytes; contents = new.contents.contents }) ids
+    ap (λ (is : List Id). record { ids = is; bytes = new.bytes; contents = new.contents.contents }) ids
     ∙ ap (λ (n : ℕ). record { ids = kept.ids.items; bytes = n; contents = new.contents.contents }) bytes
-    ∙ ap (λ (d : Rattle.rdf_terms.specs.Dataset.Dataset). record { ids = kept.ids.items; bytes = kept.bytes; contents = d }) contents
+    ∙ ap (λ (d : Dataset). record { ids = kept.ids.items; bytes = kept.bytes; contents = d }) contents

@@ -1,4 +1,4 @@
-use Rattle.std.proofs.Common.{List, map}
+use Rattle.std.proofs.Common.{map}
 use Rattle.chain_core.specs.Decision.{decision}
 use Rattle.patch_log.specs.Log.{bare}
 use Rattle.zone_state.specs.Brief.{brief_of}

@@ -1,4 +1,4 @@
-use Rattle.std.proofs.Common.{◌≡◌, ◌+◌, ◌<◌, ◌≤◌, ◌^◌, ◌∷◌, [], ◌++◌, length, None, sym, ap, subst, arith, length-append}
+use Rattle.std.proofs.Common.{◌≡◌, ◌+◌, ◌<◌, ◌≤◌, ◌^◌, ◌∷◌, [], length, None, sym, ap, subst, arith, length-append}
 use Rattle.delta_base.specs.Listed.{Listed}
 use Rattle.delta_base.specs.declared.id.Id.{Id}
 use Rattle.zone_state.specs.Brief.{version_in}

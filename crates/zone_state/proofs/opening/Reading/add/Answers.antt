@@ -1,4 +1,4 @@
-use Rattle.std.proofs.Common.{◌≡◌, ◌∙◌, ◌+◌, ◌++◌, ◌∷◌, [], sym, ap, ℕ, length, List, subst, refl, arith}
+use Rattle.std.proofs.Common.{◌≡◌, ◌∙◌, ◌++◌, ◌∷◌, [], ap, length, List, refl, arith}
 use Rattle.delta_base.specs.declared.id.Id.{Id}
 use Rattle.zone_state.proofs.Readings.{has_read_more}
 use Rattle.zone_state.proofs.opening.Reading.add.Goals as goal

@@ -1,4 +1,4 @@
-use Rattle.std.proofs.Common.{◌≡◌, true, false, List, sym, ◌∙◌, ap, subst}
+use Rattle.std.proofs.Common.{List, ◌∙◌, ap, subst}
 use Rattle.rdf_terms.specs.declared.change.Change.{Change}
 use Rattle.rdf_terms.specs.Dataset.{apply}
 use Rattle.dataset_tx.specs.Held.{AreMet}

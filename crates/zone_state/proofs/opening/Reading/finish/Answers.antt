@@ -1,4 +1,3 @@
-use Rattle.std.proofs.Common.{◌≡◌}
 use Rattle.zone_state.proofs.opening.Reading.finish.Goals as goal
 
 pub returns-clause-ok : goal.returns-clause-ok

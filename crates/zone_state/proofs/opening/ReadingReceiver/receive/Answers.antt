@@ -1,4 +1,4 @@
-use Rattle.std.proofs.Common.{◌≡◌, Err, refl, ◌∙◌, ap}
+use Rattle.std.proofs.Common.{Err, refl, ◌∙◌, ap}
 use Rattle.patch_log.specs.declared.next_fault.NextFault.{NextFault}
 use Rattle.zone_state.specs.declared.opening.Reading.{Reading}
 use Rattle.zone_state.proofs.Readings.{received_more, received_broken}

@@ -1,4 +1,4 @@
-use Rattle.std.proofs.Common.{◌≡◌, ◌≤◌, ⊎_elim, ℕ, List, Err, None, sym, ◌∙◌, ap, subst, arith}
+use Rattle.std.proofs.Common.{◌≤◌, ⊎_elim, ℕ, List, Err, sym, ◌∙◌, ap, subst, arith}
 use Rattle.delta_base.specs.Journals.{journal_length}
 use Rattle.disk_model.specs.Past.{reads}
 use Rattle.chain_core.specs.Breaks.{BreaksAt}
@@ -57,12 +57,12 @@ returns-in-Err-finish-clause-fault g c told =
       subst (λ (n : ℕ). BreaksAt (AreChained n) payloads broken.0) most (c.finish.ensures.broken c.new-reading.result payloads e.received.1 broken.0 (is ∙ ap (λ (fault : ZoneFault). Err fault) broken.1)),
     ))
     (λ full.
-        let found = c.finish.ensures.terms_full c.new-reading.result payloads e.received.1 (is ∙ ap (λ (fault : ZoneFault). Err fault) full) in
-        let are = subst (λ (n : ℕ). AreFound payloads n found.0) most found.1 in
-        subst (λ (fault : ZoneFault). HasZoneFault file limits fault) (sym full) (
-          found.0,
-          subst (λ (ts : List (List ℕ)). Holds file zone_number ts) (sym are.texts_are) holds,
-          taken_found payloads limits found.0 are fits,
-          found.2,
-        ))
+    let found = c.finish.ensures.terms_full c.new-reading.result payloads e.received.1 (is ∙ ap (λ (fault : ZoneFault). Err fault) full) in
+    let are = subst (λ (n : ℕ). AreFound payloads n found.0) most found.1 in
+    subst (λ (fault : ZoneFault). HasZoneFault file limits fault) (sym full) (
+      found.0,
+      subst (λ (ts : List (List ℕ)). Holds file zone_number ts) (sym are.texts_are) holds,
+      taken_found payloads limits found.0 are fits,
+      found.2,
+    ))
     c.in-Err-finish.ensures.faults

@@ -1,5 +1,4 @@
-use Rattle.std.proofs.Common.{◌≡◌, Bool, ◌∙◌, ap}
-use Rattle.zone_state.specs.Zone.{ZoneView}
+use Rattle.std.proofs.Common.{Bool, ap}
 use Rattle.zone_state.specs.State.{view_of}
 use Rattle.zone_state.proofs.Written.{kept_still, settled_still}
 use Rattle.zone_state.proofs.zone.Zone.plan.Goals as goal
