@@ -1,5 +1,5 @@
 -- What a zone took begins the log.
-use Rattle.std.proofs.Common.{◌≡◌, ℕ, zero, suc, ◌+◌, Bool, true, false, cond, eqb, List, [], ◌∷◌, ◌++◌, length, Option, Some, None, refl, subst}
+use Rattle.std.proofs.Common.{◌≡◌, ℕ, zero, suc, ◌+◌, Bool, true, false, cond, eqb, List, [], ◌∷◌, ◌++◌, length, Option, Some, None, refl, sym, subst}
 use Rattle.std.specs.Prelude.{fold, slice_get, Contains}
 use Rattle.std.specs.List.{AllByRecursion}
 use Rattle.std.proofs.lemmas.Bool.{eqb-true}
@@ -11,7 +11,7 @@ use Rattle.chain_core.specs.Patches.{patch_at}
 use Rattle.chain_core.specs.Log.{LogPoint, up, down}
 use Rattle.chain_core.specs.Stay.{stay}
 use Rattle.world_core.specs.declared.log.TheConstants.{LOG_NUMBER}
-use Rattle.world_core.specs.declared.zones.TheConstants.{ZONE_NUMBER}
+use Rattle.zone_state.specs.declared.file.TheConstants.{ZONE_NUMBER}
 use Rattle.world_core.specs.declared.event.WorldEvent.{WorldEvent}
 use Rattle.world_core.specs.declared.event.WorldEvent.TheVariants.{Append, Serve, Describe, Stop, Open, NewZone, Deliver, ZoneStop, ZoneOpen}
 use Rattle.world_core.specs.declared.message.Message.{Message}
@@ -21,8 +21,11 @@ use Rattle.world_core.proofs.Growing.{chain_of, GrowsTo, Each, grows_on, stay_ea
 use Rattle.world_core.proofs.Worlds.{AreServed, none_served, step_serves, promises}
 use Rattle.world_core.specs.declared.log.LogPart.{LogPart}
 use Rattle.world_core.specs.declared.log.LogPart.TheVariants.{Up, Down}
-use Rattle.world_core.specs.Parts.{EveryImageOf, HoldsSome}
-use Rattle.world_core.proofs.Running.{HoldsWhatMayBeFound, EachHoldsWhatMayBeFound}
+use Rattle.world_core.specs.declared.zone.ZonePart.{ZonePart}
+use Rattle.world_core.specs.declared.zone.ZonePart.TheVariants.{Up as ZoneUp, Down as ZoneDown}
+use Rattle.world_core.specs.Parts.{IsZoneOf, AreZonesOf, EveryImageOf, EveryImageOfZone, HoldsSome, IsReplayed}
+use Rattle.world_core.proofs.Running.{HoldsWhatMayBeFound}
+use Rattle.world_core.proofs.Taking.{zone_images}
 
 -- all that may be found of a zone begins the chain
 abbrev Follows : List Patch → LogPoint → Type 0
@@ -109,23 +112,45 @@ always_follow limits events place zone taken is may =
 
 -- ---- in each image
 
-pub weaker_images : (part : LogPart) (P Q : List ℕ → Type 0) → ((image : List ℕ) → P image → Q image) → EveryImageOf part P → EveryImageOf part Q
+weaker_images : (part : LogPart) (P Q : List ℕ → Type 0) → ((image : List ℕ) → P image → Q image) → EveryImageOf part P → EveryImageOf part Q
 weaker_images (Up log) P Q implies each = λ image left. implies image (each image left)
 weaker_images (Down disk) P Q implies each = λ image left. implies image (each image left)
 
-zones_begin : (point : WorldPoint) (parts : List LogPart) (zones : List LogPoint) → AllByRecursion (Follows (chain_of point.log)) zones → EachHoldsWhatMayBeFound parts zones
-    → AllByRecursion (λ part. EveryImageOf part (HoldsSome ZONE_NUMBER (BeginsLog point.log))) parts
-zones_begin point [] zones all each = tt
-zones_begin point (part ∷ parts) [] all each = absurd each
-zones_begin point (part ∷ parts) (zone ∷ zones) all each = (
-  weaker_images part (HoldsWhatMayBeFound ZONE_NUMBER zone) (HoldsSome ZONE_NUMBER (BeginsLog point.log))
-      (λ image holds. (holds.0, begins_log point holds.0 (found_each (λ patches. GrowsTo patches (chain_of point.log)) zone holds.0 all.0 holds.1), holds.2)) each.0,
-  zones_begin point parts zones all.1 each.1,
+weaker_zone_images : (part : ZonePart) (P Q : List ℕ → Type 0) → ((image : List ℕ) → P image → Q image) → EveryImageOfZone part P → EveryImageOfZone part Q
+weaker_zone_images (ZoneUp zone) P Q implies each = λ image left. implies image (each image left)
+weaker_zone_images (ZoneDown disk) P Q implies each = λ image left. implies image (each image left)
+
+zones_begin : (point : WorldPoint) (parts : List ZonePart) (zones : List LogPoint) → AllByRecursion (Follows (chain_of point.log)) zones → AreZonesOf parts zones
+    → AllByRecursion (λ part. EveryImageOfZone part (HoldsSome ZONE_NUMBER (BeginsLog point.log))) parts
+zones_begin point [] zones all are = tt
+zones_begin point (part ∷ parts) [] all are = absurd are
+zones_begin point (part ∷ parts) (zone ∷ zones) all are = (
+  weaker_zone_images part (HoldsWhatMayBeFound ZONE_NUMBER zone) (HoldsSome ZONE_NUMBER (BeginsLog point.log))
+      (λ image holds. (holds.0, begins_log point holds.0 (found_each (λ patches. GrowsTo patches (chain_of point.log)) zone holds.0 all.0 holds.1), holds.2)) (zone_images part zone are.0),
+  zones_begin point parts zones all.1 are.1,
 )
 
-pub zones_promise : (limits : LogLimits) (events : List WorldEvent) (parts : List LogPart) → EachHoldsWhatMayBeFound parts (world limits events).zones
-    → AllByRecursion (λ part. EveryImageOf part (HoldsSome ZONE_NUMBER (BeginsLog (world limits events).log))) parts
-zones_promise limits events parts each = zones_begin (world limits events) parts (world limits events).zones (always_all limits events) each
+pub zones_promise : (limits : LogLimits) (events : List WorldEvent) (parts : List ZonePart) → AreZonesOf parts (world limits events).zones
+    → AllByRecursion (λ part. EveryImageOfZone part (HoldsSome ZONE_NUMBER (BeginsLog (world limits events).log))) parts
+zones_promise limits events parts are = zones_begin (world limits events) parts (world limits events).zones (always_all limits events) are
+
+-- ---- datasets
+
+zone_replayed : (point : WorldPoint) (part : ZonePart) (zone : LogPoint) → Follows (chain_of point.log) zone → IsZoneOf part zone → IsReplayed point.log part
+zone_replayed point (ZoneUp zone) (up taken doubt) follows runs =
+    (runs.checked, runs.stands.without.checked, subst (λ (patches : List Patch). BeginsLog point.log patches) (sym runs.taken_is) (begins_log point taken follows.0), runs.stands.brief_is)
+zone_replayed point (ZoneUp zone) (down taken) follows runs = absurd runs
+zone_replayed point (ZoneDown disk) zone follows keeps = tt
+
+zones_replayed : (point : WorldPoint) (parts : List ZonePart) (zones : List LogPoint) → AllByRecursion (Follows (chain_of point.log)) zones → AreZonesOf parts zones → AllByRecursion (IsReplayed point.log) parts
+zones_replayed point [] zones all are = tt
+zones_replayed point (part ∷ parts) [] all are = absurd are
+zones_replayed point (part ∷ parts) (zone ∷ zones) all are = (zone_replayed point part zone all.0 are.0, zones_replayed point parts zones all.1 are.1)
+
+pub zones_replay : (limits : LogLimits) (events : List WorldEvent) (parts : List ZonePart) → AreZonesOf parts (world limits events).zones → AllByRecursion (IsReplayed (world limits events).log) parts
+zones_replay limits events parts are = zones_replayed (world limits events) parts (world limits events).zones (always_all limits events) are
+
+-- ---- the log
 
 pub log_promises : (limits : LogLimits) (events : List WorldEvent) (part : LogPart) → EveryImageOf part (HoldsWhatMayBeFound LOG_NUMBER (world limits events).log) → EveryImageOf part (HoldsSome LOG_NUMBER (KeepsPromises limits events))
 log_promises limits events part each =

@@ -30,14 +30,13 @@ use Rattle.patch_log.specs.Fault.{HasLogFault}
 use Rattle.patch_log.proofs.Reopened.{found_again, no_fault_again}
 use Rattle.patch_log.proofs.Sound.{texts_of-push}
 use Rattle.delta_base.specs.declared.limits.TheConstants.{LOG_LIMITS}
-use Rattle.world_core.specs.declared.zones.TheConstants.{ZONE_NUMBER}
+use Rattle.world_core.specs.declared.log.TheConstants.{LOG_NUMBER}
 use Rattle.world_core.specs.declared.event.WorldEvent.{WorldEvent}
 use Rattle.world_core.specs.declared.event.WorldEvent.TheVariants.{Open}
 use Rattle.world_core.specs.declared.message.Message.{Message}
-use Rattle.world_core.specs.declared.log.TheConstants.{LOG_NUMBER}
 use Rattle.world_core.specs.declared.log.LogPart.{LogPart}
 use Rattle.world_core.specs.declared.log.LogPart.TheVariants.{Up, Down}
-use Rattle.world_core.specs.Parts.{run_as, stop_by, Carries, Runs, Keeps, IsPartOf, AreZonesOf, EveryImageOf, HoldsSome}
+use Rattle.world_core.specs.Parts.{run_as, stop_by, Carries, Runs, Keeps, IsPartOf, EveryImageOf, HoldsSome}
 use Rattle.world_core.specs.World.{MayBeFound, served, while_up, sending}
 
 pub if_ok-map : {T E : Type 0} (P Q : T → Type 0) (result : Result T E) → ((value : T) → P value → Q value) → IfOk result P → IfOk result Q
@@ -75,22 +74,26 @@ stop_keeps number opened old chain doubt image disk carries is may fresh =
 
 -- ---- opening
 
-stands_along : (past : Past) (n m : ℕ) (k l : LogLimits) (c e : List Patch) (d f : Option Patch) → n ≡ m → k ≡ l → c ≡ e → d ≡ f → StandsForLog past n k c d → StandsForLog past m l e f
+pub stands_along : (past : Past) (n m : ℕ) (k l : LogLimits) (c e : List Patch) (d f : Option Patch) → n ≡ m → k ≡ l → c ≡ e → d ≡ f → StandsForLog past n k c d → StandsForLog past m l e f
 stands_along past n m k l c e d f same_number same_limits same_chain same_doubt stands =
     subst (λ (x : Option Patch). StandsForLog past m l e x) same_doubt (subst (λ (x : List Patch). StandsForLog past m l x d) same_chain (subst (λ (x : LogLimits). StandsForLog past m x c d) same_limits (subst (λ (x : ℕ). StandsForLog past x k c d) same_number stands)))
 
-pub opened_runs : (number : ℕ) (disk : PlanDisk) (log : LogView PlanDisk) (chain : List Patch) → Keeps number disk chain → Holds (reads (plan_past disk)) number (texts_of (patches_of log.entries)) → IsSoundLog LOG_LIMITS (patches_of log.entries)
-    → (log.doubt ≡ None) × (log.number ≡ number) × (log.limits ≡ LOG_LIMITS) → StandsForLog (plan_past log.disk) log.number log.limits (patches_of log.entries) log.doubt → Runs number log chain None
-opened_runs number disk log chain keeps holds sound settled stands =
-    let found = found_again (plan_past disk) number LOG_LIMITS chain (patches_of log.entries) None (reads (plan_past disk)) keeps (plan_reads_left disk) holds sound.sound in
-    let same : patches_of log.entries ≡ chain = ⊎_elim (λ (is : patches_of log.entries ≡ chain). is) (λ (is : patches_of log.entries ≡ chain). is) found in
+-- what a disk keeps is what a read of it gives
+pub found_here : (number : ℕ) (disk : PlanDisk) (chain found : List Patch) → Keeps number disk chain → Holds (reads (plan_past disk)) number (texts_of found) → AllByRecursion IsSound found → found ≡ chain
+found_here number disk chain found keeps holds sound =
+    ⊎_elim (λ (is : found ≡ chain). is) (λ (is : found ≡ chain). is) (found_again (plan_past disk) number LOG_LIMITS chain found None (reads (plan_past disk)) keeps (plan_reads_left disk) holds sound)
+
+pub opened_runs : (disk : PlanDisk) (log : LogView PlanDisk) (chain : List Patch) → Keeps LOG_NUMBER disk chain → Holds (reads (plan_past disk)) LOG_NUMBER (texts_of (patches_of log.entries)) → IsSoundLog LOG_LIMITS (patches_of log.entries)
+    → (log.doubt ≡ None) × (log.number ≡ LOG_NUMBER) × (log.limits ≡ LOG_LIMITS) → StandsForLog (plan_past log.disk) log.number log.limits (patches_of log.entries) log.doubt → Runs log chain None
+opened_runs disk log chain keeps holds sound settled stands =
+    let same = found_here LOG_NUMBER disk chain (patches_of log.entries) keeps holds sound.sound in
     record {
       chain_is = same;
       doubt_is = settled.0;
       number_is = settled.1;
       limits_is = settled.2;
       on_disk = record {
-        stands = stands_along (plan_past log.disk) log.number number log.limits LOG_LIMITS (patches_of log.entries) chain log.doubt None settled.1 settled.2 same settled.0 stands;
+        stands = stands_along (plan_past log.disk) log.number LOG_NUMBER log.limits LOG_LIMITS (patches_of log.entries) chain log.doubt None settled.1 settled.2 same settled.0 stands;
         leaves = tt;
       };
     }
@@ -137,7 +140,7 @@ module _ (chain : List Patch) (patch : Patch) where
   body_stops false = stops (Stops Body false) DiskFault chain None false refl
 
   -- what it comes to, and what it came to as it was run
-  accepted_as_run : (fate : Fate) (doubt : Option Patch) (after : List Patch) (left : Option Patch) (answer : LogAnswer) → accepted_by (run_as doubt fate) chain doubt patch ≡ (up after left, Some answer) → AsRun fate answer after left (accepted_by fate chain doubt patch)
+  pub accepted_as_run : (fate : Fate) (doubt : Option Patch) (after : List Patch) (left : Option Patch) (answer : LogAnswer) → accepted_by (run_as doubt fate) chain doubt patch ≡ (up after left, Some answer) → AsRun fate answer after left (accepted_by fate chain doubt patch)
   accepted_as_run Done doubt after left answer is = unpacked Done _ _ after _ left _ answer (goes_on Done (Accepted (length chain + 1)) (chain ++ patch ∷ []) None refl) is
   accepted_as_run (Fails Settling) None after left answer is = unpacked (Fails Settling) _ _ after _ left _ answer (goes_on (Fails Settling) (Accepted (length chain + 1)) (chain ++ patch ∷ []) None refl) is
   accepted_as_run (Fails Settling) (Some doubtful) after left answer is = unpacked (Fails Settling) _ _ after _ left _ answer (goes_on (Fails Settling) DiskFault chain (Some doubtful) refl) is
@@ -162,24 +165,24 @@ as_run limits chain doubt patch fate after left answer is = decided_as_run chain
 
 -- a log that is up is one of a point that is up
 pub run_up_part : (part : LogPart) (log : LogView PlanDisk) (event : WorldEvent) (result : Result (LogPart × Option Message) OutOfMemory) → part ≡ Up log
-    → IfOk result (λ sent. (number : ℕ) → (chain : List Patch) → (doubt : Option Patch) → Runs number log chain doubt → IsPartOf number sent.0 (while_up LOG_LIMITS chain doubt event).0 × (sent.1 ≡ (while_up LOG_LIMITS chain doubt event).1))
-    → IfOk result (λ sent. (point : LogPoint) → IsPartOf LOG_NUMBER part point → IsPartOf LOG_NUMBER sent.0 (sending LOG_LIMITS point event).0 × (sent.1 ≡ (sending LOG_LIMITS point event).1))
+    → IfOk result (λ sent. (chain : List Patch) → (doubt : Option Patch) → Runs log chain doubt → IsPartOf sent.0 (while_up LOG_LIMITS chain doubt event).0 × (sent.1 ≡ (while_up LOG_LIMITS chain doubt event).1))
+    → IfOk result (λ sent. (point : LogPoint) → IsPartOf part point → IsPartOf sent.0 (sending LOG_LIMITS point event).0 × (sent.1 ≡ (sending LOG_LIMITS point event).1))
 run_up_part part log event result same part_of = if_ok-map
-    (λ sent. (number : ℕ) → (chain : List Patch) → (doubt : Option Patch) → Runs number log chain doubt → IsPartOf number sent.0 (while_up LOG_LIMITS chain doubt event).0 × (sent.1 ≡ (while_up LOG_LIMITS chain doubt event).1))
-    (λ sent. (point : LogPoint) → IsPartOf LOG_NUMBER part point → IsPartOf LOG_NUMBER sent.0 (sending LOG_LIMITS point event).0 × (sent.1 ≡ (sending LOG_LIMITS point event).1))
-    result (λ sent ran point is. by_point sent ran point (subst (λ (p : LogPart). IsPartOf LOG_NUMBER p point) same is)) part_of
+    (λ sent. (chain : List Patch) → (doubt : Option Patch) → Runs log chain doubt → IsPartOf sent.0 (while_up LOG_LIMITS chain doubt event).0 × (sent.1 ≡ (while_up LOG_LIMITS chain doubt event).1))
+    (λ sent. (point : LogPoint) → IsPartOf part point → IsPartOf sent.0 (sending LOG_LIMITS point event).0 × (sent.1 ≡ (sending LOG_LIMITS point event).1))
+    result (λ sent ran point is. by_point sent ran point (subst (λ (p : LogPart). IsPartOf p point) same is)) part_of
   where
-    by_point : (sent : LogPart × Option Message) → ((number : ℕ) → (chain : List Patch) → (doubt : Option Patch) → Runs number log chain doubt → IsPartOf number sent.0 (while_up LOG_LIMITS chain doubt event).0 × (sent.1 ≡ (while_up LOG_LIMITS chain doubt event).1))
-        → (point : LogPoint) → IsPartOf LOG_NUMBER (Up log) point → IsPartOf LOG_NUMBER sent.0 (sending LOG_LIMITS point event).0 × (sent.1 ≡ (sending LOG_LIMITS point event).1)
-    by_point sent ran (up chain doubt) runs = ran LOG_NUMBER chain doubt runs
+    by_point : (sent : LogPart × Option Message) → ((chain : List Patch) → (doubt : Option Patch) → Runs log chain doubt → IsPartOf sent.0 (while_up LOG_LIMITS chain doubt event).0 × (sent.1 ≡ (while_up LOG_LIMITS chain doubt event).1))
+        → (point : LogPoint) → IsPartOf (Up log) point → IsPartOf sent.0 (sending LOG_LIMITS point event).0 × (sent.1 ≡ (sending LOG_LIMITS point event).1)
+    by_point sent ran (up chain doubt) runs = ran chain doubt runs
     by_point sent ran (down chain) runs = absurd runs
 
-pub open_part : (part : LogPart) (disk : PlanDisk) (event : WorldEvent) (log : LogView PlanDisk) → part ≡ Down disk → event ≡ Open → ((chain : List Patch) → Keeps LOG_NUMBER disk chain → Runs LOG_NUMBER log chain None)
-    → (point : LogPoint) → IsPartOf LOG_NUMBER part point → IsPartOf LOG_NUMBER (Up log) (sending LOG_LIMITS point event).0 × (◌≡◌ {A = Option Message} None (sending LOG_LIMITS point event).1)
+pub open_part : (part : LogPart) (disk : PlanDisk) (event : WorldEvent) (log : LogView PlanDisk) → part ≡ Down disk → event ≡ Open → ((chain : List Patch) → Keeps LOG_NUMBER disk chain → Runs log chain None)
+    → (point : LogPoint) → IsPartOf part point → IsPartOf (Up log) (sending LOG_LIMITS point event).0 × (◌≡◌ {A = Option Message} None (sending LOG_LIMITS point event).1)
 open_part part disk event log same opens runs point is =
-    subst (λ (e : WorldEvent). IsPartOf LOG_NUMBER (Up log) (sending LOG_LIMITS point e).0 × (◌≡◌ {A = Option Message} None (sending LOG_LIMITS point e).1)) (sym opens) (by_point point (subst (λ (p : LogPart). IsPartOf LOG_NUMBER p point) same is))
+    subst (λ (e : WorldEvent). IsPartOf (Up log) (sending LOG_LIMITS point e).0 × (◌≡◌ {A = Option Message} None (sending LOG_LIMITS point e).1)) (sym opens) (by_point point (subst (λ (p : LogPart). IsPartOf p point) same is))
   where
-    by_point : (p : LogPoint) → IsPartOf LOG_NUMBER (Down disk) p → IsPartOf LOG_NUMBER (Up log) (sending LOG_LIMITS p Open).0 × (◌≡◌ {A = Option Message} None (sending LOG_LIMITS p Open).1)
+    by_point : (p : LogPoint) → IsPartOf (Down disk) p → IsPartOf (Up log) (sending LOG_LIMITS p Open).0 × (◌≡◌ {A = Option Message} None (sending LOG_LIMITS p Open).1)
     by_point (up chain doubt) keeps = absurd keeps
     by_point (down chain) keeps = (runs chain keeps, refl)
 
@@ -194,27 +197,23 @@ served_is entries chain version got same is = ap (served version) (is ∙ ap (λ
 abbrev pub HoldsWhatMayBeFound : ℕ → LogPoint → List ℕ → Type 0
 HoldsWhatMayBeFound number point = HoldsSome number (MayBeFound point)
 
--- the same of each zone
-abbrev pub EachHoldsWhatMayBeFound : List LogPart → List LogPoint → Type 0
-EachHoldsWhatMayBeFound [] points = Unit {0}
-EachHoldsWhatMayBeFound (part ∷ parts) [] = ⊥
-EachHoldsWhatMayBeFound (part ∷ parts) (point ∷ points) = EveryImageOf part (HoldsWhatMayBeFound ZONE_NUMBER point) × EachHoldsWhatMayBeFound parts points
-
--- each image of a log's disk holds what may be found
-pub images_found : (number : ℕ) (part : LogPart) (point : LogPoint) → IsPartOf number part point → EveryImageOf part (HoldsWhatMayBeFound number point)
-images_found number (Up log) (up chain None) runs = λ image left. (chain, inl refl, runs.on_disk.stands.each image left)
-images_found number (Up log) (up chain (Some patch)) runs = λ image left. ⊎_elim
+-- a disk that carries a log or a zone
+pub carried_images : (number : ℕ) (disk : PlanDisk) (chain : List Patch) (doubt : Option Patch) → Carries number disk chain doubt → EveryImage (plan_past disk) (HoldsWhatMayBeFound number (up chain doubt))
+carried_images number disk chain None carries = λ image left. (chain, inl refl, carries.stands.each image left)
+carried_images number disk chain (Some patch) carries = λ image left. ⊎_elim
     (λ (without : Holds image number (texts_of chain)). let found : HoldsWhatMayBeFound number (up chain (Some patch)) image = (chain, inl refl, without) in found)
     (λ (having : Holds image number (texts_of chain ++ patch.text ∷ [])). let found : HoldsWhatMayBeFound number (up chain (Some patch)) image = (chain ++ patch ∷ [], inr refl, subst (λ (texts : List (List ℕ)). Holds image number texts) (sym (texts_of-push chain patch)) having) in found)
-    (runs.on_disk.stands.each image left)
-images_found number (Up log) (down chain) runs = absurd runs
-images_found number (Down disk) (up chain doubt) keeps = absurd keeps
-images_found number (Down disk) (down chain) keeps = λ image left. (chain, refl, keeps.each image left)
+    (carries.stands.each image left)
 
-pub zones_found : (parts : List LogPart) (points : List LogPoint) → AreZonesOf parts points → EachHoldsWhatMayBeFound parts points
-zones_found [] points are = tt
-zones_found (part ∷ parts) [] are = absurd are
-zones_found (part ∷ parts) (point ∷ points) are = (images_found ZONE_NUMBER part point are.0, zones_found parts points are.1)
+pub kept_images : (number : ℕ) (disk : PlanDisk) (chain : List Patch) → Keeps number disk chain → EveryImage (plan_past disk) (HoldsWhatMayBeFound number (down chain))
+kept_images number disk chain keeps = λ image left. (chain, refl, keeps.each image left)
+
+-- each image of a log's disk holds what may be found
+pub images_found : (part : LogPart) (point : LogPoint) → IsPartOf part point → EveryImageOf part (HoldsWhatMayBeFound LOG_NUMBER point)
+images_found (Up log) (up chain doubt) runs = carried_images LOG_NUMBER log.disk chain doubt runs.on_disk
+images_found (Up log) (down chain) runs = absurd runs
+images_found (Down disk) (up chain doubt) keeps = absurd keeps
+images_found (Down disk) (down chain) keeps = kept_images LOG_NUMBER disk chain keeps
 
 -- ---- what is sent is sound
 

@@ -2,7 +2,7 @@
 //! of events.
 //!
 //! `specs/World.antt` says what events make of a world, over plain lists. `world_run` makes that world by the calls of
-//! logs over disks whose syncs fail as planned. The laws hold of every list of events.
+//! logs and zones over disks whose syncs fail as planned. The laws hold of every list of events.
 #![tactic(auto)]
 
 mod disks;
@@ -12,6 +12,7 @@ mod log;
 mod message;
 mod plan;
 mod world;
+mod zone;
 mod zones;
 
 pub use event::{WorldEvent, WorldEvents};
@@ -19,4 +20,5 @@ pub use laws::{accepted_patches_stay, chains_stay_chains, served_patches_stay, z
 pub use log::{LOG_NUMBER, LogPart};
 pub use message::{Message, Messages};
 pub use world::{World, world_run};
-pub use zones::{ZONE_NUMBER, ZoneParts};
+pub use zone::ZonePart;
+pub use zones::ZoneParts;

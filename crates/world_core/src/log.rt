@@ -34,17 +34,13 @@ pub enum LogPart {
 /// A log, and the message that it sent, if it sent one.
 pub(crate) type Sent = (LogPart, Option<Message>);
 
-/// Opens the log that a disk keeps.
-pub(crate) fn open(
-    alloc: Global,
-    disk: PlanDisk,
-    number: u32,
-) -> Result<LogState<PlanDisk>, OutOfMemory>
-    requires { (chain : List OnePatch) × Keeps number disk chain }
-    ensures { IfOk result (λ log. (chain : List OnePatch) → Keeps number disk chain
-        → Runs number log chain None) }
+// Opens the log that a disk keeps.
+fn open(alloc: Global, disk: PlanDisk) -> Result<LogState<PlanDisk>, OutOfMemory>
+    requires { (chain : List OnePatch) × Keeps LOG_NUMBER disk chain }
+    ensures { IfOk result (λ log. (chain : List OnePatch) → Keeps LOG_NUMBER disk chain
+        → Runs log chain None) }
 {
-    match LogState::open_on(alloc, disk, number, LOG_LIMITS) {
+    match LogState::open_on(alloc, disk, LOG_NUMBER, LOG_LIMITS) {
         Ok(log) => {
             let _chain = log.chain();
             Ok(log)
@@ -57,22 +53,18 @@ pub(crate) fn open(
 }
 
 /// An empty log over a new disk.
-pub(crate) fn start(alloc: Global, number: u32) -> Result<LogState<PlanDisk>, OutOfMemory>
-    ensures { IfOk result (λ log. Runs number log [] None) }
+pub(crate) fn start(alloc: Global) -> Result<LogState<PlanDisk>, OutOfMemory>
+    ensures { IfOk result (λ log. Runs log [] None) }
 {
-    let disk = new_disk(alloc, number)?;
-    open(alloc, disk, number)
+    let disk = new_disk(alloc, LOG_NUMBER)?;
+    open(alloc, disk)
 }
 
-/// The disk as a stop leaves it: a gate in doubt stands open, or it is shut.
-pub(crate) fn stop(
-    alloc: Global,
-    log: LogState<PlanDisk>,
-    opened: bool,
-) -> Result<PlanDisk, OutOfMemory>
-    ensures { IfOk result (λ disk. (number : ℕ) (chain : List OnePatch) (doubt : Option OnePatch)
-        → Runs number log chain doubt
-        → Keeps number disk (if opened then with_doubt chain doubt else chain)) }
+// The disk as a stop leaves it: a gate in doubt stands open, or it is shut.
+fn stop(alloc: Global, log: LogState<PlanDisk>, opened: bool) -> Result<PlanDisk, OutOfMemory>
+    ensures { IfOk result (λ disk. (chain : List OnePatch) (doubt : Option OnePatch)
+        → Runs log chain doubt
+        → Keeps LOG_NUMBER disk (if opened then with_doubt chain doubt else chain)) }
 {
     stopped_disk(alloc, log.close(), opened)
 }
@@ -83,9 +75,9 @@ fn append_by_plan(
     patch: &Checked,
     fate: Fate,
 ) -> Result<LogAnswer, OutOfMemory>
-    ensures { IfOk result (λ answer. (number : ℕ) (chain : List OnePatch) (doubt : Option OnePatch)
-        → Runs number log.old chain doubt
-        → (after : List OnePatch) × (left : Option OnePatch) × Runs number log.new after left
+    ensures { IfOk result (λ answer. (chain : List OnePatch) (doubt : Option OnePatch)
+        → Runs log.old chain doubt
+        → (after : List OnePatch) × (left : Option OnePatch) × Runs log.new after left
         × (stay LOG_LIMITS (up chain doubt) (bare patch.now) (run_as doubt fate)
         ≡ (up after left, Some answer))) }
 {
@@ -120,18 +112,18 @@ fn message_of(answer: LogAnswer) -> Option<Message>
     }
 }
 
-/// Appends with this fate. A stop is run as a failure of its phase, behind which the log is closed.
-pub(crate) fn append_as(
+// Appends with this fate. A stop is run as a failure of its phase, behind which the log is closed.
+fn append_as(
     alloc: Global,
     log: LogState<PlanDisk>,
     patch: &Checked,
     fate: Fate,
 ) -> Result<Sent, OutOfMemory>
     ensures sound { IfOk result (λ sent. IsSoundSent sent.1) }
-    ensures part { IfOk result (λ sent. (number : ℕ) (chain : List OnePatch)
-        (doubt : Option OnePatch) → Runs number log chain doubt
+    ensures part { IfOk result (λ sent. (chain : List OnePatch)
+        (doubt : Option OnePatch) → Runs log chain doubt
         → let outcome = stay LOG_LIMITS (up chain doubt) (bare patch.now) fate in
-        IsPartOf number sent.0 outcome.0 × (sent.1 ≡ told outcome.1)) }
+        IsPartOf sent.0 outcome.0 × (sent.1 ≡ told outcome.1)) }
 {
     let mut log = log;
     let answer = append_by_plan(&mut log, patch, fate)?;
@@ -144,8 +136,8 @@ pub(crate) fn append_as(
 // The patch of a version, as it is sent.
 fn serve(log: &LogState<PlanDisk>, version: u32) -> Result<Option<Message>, OutOfMemory>
     ensures sound { IfOk result IsSoundSent }
-    ensures message { IfOk result (λ message. (number : ℕ) (chain : List OnePatch)
-        (doubt : Option OnePatch) → Runs number log.now chain doubt
+    ensures message { IfOk result (λ message. (chain : List OnePatch)
+        (doubt : Option OnePatch) → Runs log.now chain doubt
         → message ≡ served version (patch_at chain version)) }
 {
     match log.chain().by_version(version) {
@@ -160,8 +152,8 @@ fn serve(log: &LogState<PlanDisk>, version: u32) -> Result<Option<Message>, OutO
 // How long the log is, and its head, as they are sent.
 fn describe(log: &LogState<PlanDisk>) -> Message
     ensures sound { IsSoundMessage result }
-    ensures told { (number : ℕ) (chain : List OnePatch) (doubt : Option OnePatch)
-        → Runs number log.now chain doubt
+    ensures told { (chain : List OnePatch) (doubt : Option OnePatch)
+        → Runs log.now chain doubt
         → Some result ≡ (while_up LOG_LIMITS chain doubt WorldEvent.Describe).1 }
 {
     let chain = log.chain();
@@ -174,10 +166,10 @@ fn describe(log: &LogState<PlanDisk>) -> Message
 // Runs an event of a log that is up.
 fn run_up(alloc: Global, log: LogState<PlanDisk>, event: &WorldEvent) -> Result<Sent, OutOfMemory>
     ensures sound { IfOk result (λ sent. IsSoundSent sent.1) }
-    ensures part { IfOk result (λ sent. (number : ℕ) (chain : List OnePatch)
-        (doubt : Option OnePatch) → Runs number log chain doubt
+    ensures part { IfOk result (λ sent. (chain : List OnePatch)
+        (doubt : Option OnePatch) → Runs log chain doubt
         → let sending = while_up LOG_LIMITS chain doubt event.now in
-        IsPartOf number sent.0 sending.0 × (sent.1 ≡ sending.1)) }
+        IsPartOf sent.0 sending.0 × (sent.1 ≡ sending.1)) }
 {
     match event {
         WorldEvent::Append { patch, fate } => append_as(alloc, log, patch, *fate),
@@ -200,16 +192,16 @@ fn run_up(alloc: Global, log: LogState<PlanDisk>, event: &WorldEvent) -> Result<
 
 /// Runs an event of a log.
 pub(crate) fn run_log(alloc: Global, log: LogPart, event: &WorldEvent) -> Result<Sent, OutOfMemory>
-    requires { (point : LogPoint) × IsPartOf LOG_NUMBER log point }
+    requires { (point : LogPoint) × IsPartOf log point }
     ensures sound { IfOk result (λ sent. IsSoundSent sent.1) }
-    ensures part { IfOk result (λ sent. (point : LogPoint) → IsPartOf LOG_NUMBER log point
+    ensures part { IfOk result (λ sent. (point : LogPoint) → IsPartOf log point
         → let sending = sending LOG_LIMITS point event.now in
-        IsPartOf LOG_NUMBER sent.0 sending.0 × (sent.1 ≡ sending.1)) }
+        IsPartOf sent.0 sending.0 × (sent.1 ≡ sending.1)) }
 {
     match log {
         LogPart::Up(log) => run_up(alloc, log, event),
         LogPart::Down(disk) => match event {
-            WorldEvent::Open => Ok((LogPart::Up(open(alloc, disk, LOG_NUMBER)?), None)),
+            WorldEvent::Open => Ok((LogPart::Up(open(alloc, disk)?), None)),
             _ => Ok((LogPart::Down(disk), None)),
         },
     }

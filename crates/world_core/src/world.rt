@@ -3,14 +3,14 @@ ghost use Rattle.std.specs.Prelude.{IfOk};
 ghost use Rattle.std.specs.List.{AllByRecursion};
 ghost use Rattle.delta_base.specs.declared.limits.TheConstants.{LOG_LIMITS};
 ghost use Rattle.world_core.specs.declared.log.TheConstants.{LOG_NUMBER};
-ghost use Rattle.world_core.specs.declared.zones.TheConstants.{ZONE_NUMBER};
+ghost use Rattle.zone_state.specs.declared.file.TheConstants.{ZONE_NUMBER};
 ghost use Rattle.world_core.specs.World.{WorldPoint, start, step, world, KeepsPromises, BeginsLog};
-ghost use Rattle.world_core.specs.Parts.{IsWorldOf, EveryImageOf, HoldsSome};
+ghost use Rattle.world_core.specs.Parts.{IsWorldOf, EveryImageOf, EveryImageOfZone, HoldsSome, IsReplayed};
 
 use crate::event::{WorldEvent, WorldEvents};
-use crate::log::{LOG_NUMBER, LogPart, run_log, start};
+use crate::log::{LogPart, run_log, start};
 use crate::message::Messages;
-use crate::zones::{ZONE_NUMBER, ZoneParts, run_zones};
+use crate::zones::{ZoneParts, run_zones};
 use delta_base::{Listing, OutOfMemory};
 use std::alloc::Global;
 
@@ -27,7 +27,7 @@ fn first(alloc: Global) -> Result<World, OutOfMemory>
     ensures { IfOk result (λ world. IsWorldOf world start) }
 {
     Ok(World {
-        log: LogPart::Up(start(alloc, LOG_NUMBER)?),
+        log: LogPart::Up(start(alloc)?),
         zones: Listing::new(alloc),
         pool: Listing::new(alloc),
     })
@@ -52,18 +52,20 @@ fn run(alloc: Global, world: World, event: &WorldEvent) -> Result<World, OutOfMe
     Ok(World { log, zones, pool })
 }
 
-/// The world that the events make, by the calls of logs over disks whose syncs fail as planned.
+/// The world that the events make, by the calls of logs and zones over disks whose syncs fail as planned.
 pub fn world_run(alloc: Global, events: &WorldEvents) -> Result<World, OutOfMemory>
     ensures world { IfOk result (λ w. IsWorldOf w (world LOG_LIMITS events.now.items)) }
 
     // Whatever a crash leaves of the log now is a chain that has each patch that was accepted or served at its version.
-    // What it leaves of a zone begins that chain.
+    // What it leaves of a zone begins that chain, and the dataset of a zone is the replay of the patches that it took.
     ensures promises { IfOk result (λ w. EveryImageOf w.log
         (HoldsSome LOG_NUMBER (KeepsPromises LOG_LIMITS events.now.items))) }
     ensures zone_promises { IfOk result (λ w. AllByRecursion
-        (λ zone. EveryImageOf zone
+        (λ zone. EveryImageOfZone zone
         (HoldsSome ZONE_NUMBER (BeginsLog (world LOG_LIMITS events.now.items).log)))
         w.zones.items) }
+    ensures replays { IfOk result (λ w. AllByRecursion
+        (IsReplayed (world LOG_LIMITS events.now.items).log) w.zones.items) }
 {
     let mut world = first(alloc)?;
     for event in events.as_slice() {

@@ -1,30 +1,26 @@
-//! The zones of a world. Each has a journal of its own; until there is a zone with a dataset, a log stands for it.
+//! The zones of a world, and the messages that reach them.
 ghost use Rattle.std.specs.Prelude.{◌≡◌, List, Option, Some, IfOk};
 ghost use Rattle.std.specs.List.{AllByRecursion};
 ghost use Rattle.delta_base.specs.declared.limits.TheConstants.{LOG_LIMITS};
 ghost use Rattle.chain_core.specs.declared.chain.Patch.{Patch as OnePatch};
 ghost use Rattle.chain_core.specs.Log.{LogPoint, up};
 ghost use Rattle.patch_log.specs.Log.{bare, IsSound};
-ghost use Rattle.world_core.specs.declared.zones.TheConstants.{ZONE_NUMBER};
-ghost use Rattle.world_core.specs.Parts.{Runs, IsPartOf, AreZonesOf, IsSoundMessage};
+ghost use Rattle.world_core.specs.Parts.{RunsZone, IsZoneOf, AreZonesOf, IsSoundMessage};
 ghost use Rattle.world_core.specs.World.{handed, delivered, changed_at, zone_after, zones_after};
 
 use crate::event::WorldEvent;
-use crate::log::{LogPart, append_as, open, start, stop};
 use crate::message::{Message, Messages};
+use crate::zone::{ZonePart, open, start, stop, take_as};
 use chain_core::{Fate, Patch};
 use delta_base::{Bytes, Listing, OutOfMemory};
 use disk_model::PlanDisk;
-use patch_log::LogState;
 use patch_meaning::{Checked, PatchFault, check_patch};
 use std::alloc::Global;
 use std::mem;
-
-/// The number of a zone's file.
-pub const ZONE_NUMBER: u32 = 1000;
+use zone_state::Zone;
 
 /// Zones in the order in which they came, numbered from 0.
-pub type ZoneParts = Listing<LogPart>;
+pub type ZoneParts = Listing<ZonePart>;
 
 // A patch that was sent, checked again.
 fn check(alloc: Global, patch: &Patch) -> Result<Checked, OutOfMemory>
@@ -43,42 +39,41 @@ fn check(alloc: Global, patch: &Patch) -> Result<Checked, OutOfMemory>
 // Hands a patch of this version to a zone that runs, which takes it where it is the next one.
 fn hand(
     alloc: Global,
-    zone: LogState<PlanDisk>,
+    zone: Zone<PlanDisk>,
     version: u32,
     patch: &Patch,
     fate: Fate,
-) -> Result<LogPart, OutOfMemory>
+) -> Result<ZonePart, OutOfMemory>
     requires { IsSound patch.now }
     ensures { IfOk result (λ part. (taken : List OnePatch) (doubt : Option OnePatch)
-        → Runs ZONE_NUMBER zone taken doubt
-        → IsPartOf ZONE_NUMBER part (handed LOG_LIMITS (up taken doubt) version patch.now fate)) }
+        → RunsZone zone taken doubt
+        → IsZoneOf part (handed LOG_LIMITS (up taken doubt) version patch.now fate)) }
 {
-    if u64::from(version) != u64::from(zone.chain().version()) + 1 {
-        return Ok(LogPart::Up(zone));
+    if u64::from(version) != u64::from(zone.version()) + 1 {
+        return Ok(ZonePart::Up(zone));
     }
     let checked = check(alloc, patch)?;
-    let (part, sent) = append_as(alloc, zone, &checked, fate)?;
+    let part = take_as(alloc, zone, &checked, fate)?;
     drop(checked);
-    drop(sent);
     Ok(part)
 }
 
 // Hands a message to a zone.
 fn deliver(
     alloc: Global,
-    part: LogPart,
+    part: ZonePart,
     message: &Message,
     fate: Fate,
-) -> Result<LogPart, OutOfMemory>
+) -> Result<ZonePart, OutOfMemory>
     requires sound { IsSoundMessage message.now }
-    requires zone { (point : LogPoint) × IsPartOf ZONE_NUMBER part point }
-    ensures { IfOk result (λ after. (point : LogPoint) → IsPartOf ZONE_NUMBER part point
-        → IsPartOf ZONE_NUMBER after (delivered LOG_LIMITS (Some message.now) fate point)) }
+    requires zone { (point : LogPoint) × IsZoneOf part point }
+    ensures { IfOk result (λ after. (point : LogPoint) → IsZoneOf part point
+        → IsZoneOf after (delivered LOG_LIMITS (Some message.now) fate point)) }
 {
     match message {
         Message::Item { version, patch } => match part {
-            LogPart::Up(zone) => hand(alloc, zone, *version, patch, fate),
-            LogPart::Down(disk) => Ok(LogPart::Down(disk)),
+            ZonePart::Up(zone) => hand(alloc, zone, *version, patch, fate),
+            ZonePart::Down(disk) => Ok(ZonePart::Down(disk)),
         },
         Message::Accepted { .. } | Message::Info { .. } => Ok(part),
     }
@@ -87,14 +82,14 @@ fn deliver(
 // Runs an event of the zone that it is about.
 fn run_zone(
     alloc: Global,
-    part: LogPart,
+    part: ZonePart,
     pool: &Messages,
     event: &WorldEvent,
-) -> Result<LogPart, OutOfMemory>
+) -> Result<ZonePart, OutOfMemory>
     requires sound { AllByRecursion IsSoundMessage pool.now.items }
-    requires zone { (point : LogPoint) × IsPartOf ZONE_NUMBER part point }
-    ensures { IfOk result (λ after. (point : LogPoint) → IsPartOf ZONE_NUMBER part point
-        → IsPartOf ZONE_NUMBER after (zone_after LOG_LIMITS pool.now.items event.now point)) }
+    requires zone { (point : LogPoint) × IsZoneOf part point }
+    ensures { IfOk result (λ after. (point : LogPoint) → IsZoneOf part point
+        → IsZoneOf after (zone_after LOG_LIMITS pool.now.items event.now point)) }
 {
     match event {
         WorldEvent::Deliver { message, fate, .. } => match pool.get(*message as usize) {
@@ -102,12 +97,12 @@ fn run_zone(
             None => Ok(part),
         },
         WorldEvent::ZoneStop { opened, .. } => match part {
-            LogPart::Up(zone) => Ok(LogPart::Down(stop(alloc, zone, *opened)?)),
-            LogPart::Down(disk) => Ok(LogPart::Down(disk)),
+            ZonePart::Up(zone) => Ok(ZonePart::Down(stop(alloc, zone, *opened)?)),
+            ZonePart::Down(disk) => Ok(ZonePart::Down(disk)),
         },
         WorldEvent::ZoneOpen { .. } => match part {
-            LogPart::Up(zone) => Ok(LogPart::Up(zone)),
-            LogPart::Down(disk) => Ok(LogPart::Up(open(alloc, disk, ZONE_NUMBER)?)),
+            ZonePart::Up(zone) => Ok(ZonePart::Up(zone)),
+            ZonePart::Down(disk) => Ok(ZonePart::Up(open(alloc, disk)?)),
         },
         _ => Ok(part),
     }
@@ -133,7 +128,7 @@ fn change(
         return Ok(Listing::from_vec(parts));
     }
     let none = PlanDisk::new(alloc, Bytes::from_vec(Vec::new(alloc)))?;
-    let found = mem::replace(&mut parts[place], LogPart::Down(none));
+    let found = mem::replace(&mut parts[place], ZonePart::Down(none));
     let part = run_zone(alloc, found, pool, event)?;
     let blank = mem::replace(&mut parts[place], part);
     drop(blank);
@@ -155,7 +150,7 @@ pub(crate) fn run_zones(
     match event {
         WorldEvent::NewZone => {
             let mut zones = zones;
-            zones.push(LogPart::Up(start(alloc, ZONE_NUMBER)?))?;
+            zones.push(ZonePart::Up(start(alloc)?))?;
             Ok(zones)
         }
         WorldEvent::Deliver { zone, .. } => change(alloc, zones, pool, *zone, event),

@@ -25,6 +25,15 @@ pub fn values_of(id: Id) -> (u8, u8) {
     (number % 5, (number + 2) % 5)
 }
 
+/// The line of the quad with a value.
+pub fn line_of(value: u8) -> [u8; 32]
+    requires { value < 10 }
+{
+    let mut line = *b"<http://e/s> <http://e/p> \"0\" .\n";
+    line[27] = b'0' + value;
+    line
+}
+
 // Adds a row of changes to the quad with this value.
 fn push_change(text: &mut Vec<u8>, code: &[u8], value: u8) -> Result<(), Fail>
     requires { value < 10 }

@@ -1,4 +1,5 @@
 //! What events make of a world, computed plainly by the cases of the definition. Patches are told by their links.
+use crate::events::values_of;
 use chain_core::{Fate, Link};
 use delta_base::{Id, Phase};
 use patch_meaning::Checked;
@@ -59,6 +60,17 @@ impl Point {
             Some(last) => Some(last.id),
             None => None,
         }
+    }
+
+    /// Which values the replay of its patches has, from 0 to 4.
+    pub fn values(&self) -> [bool; 5] {
+        let mut values = [false; 5];
+        for link in &self.chain {
+            let (added, taken) = values_of(link.id);
+            values[added as usize] = true;
+            values[taken as usize] = false;
+        }
+        values
     }
 
     // The patch names the head, and its id is new. Room there is always.

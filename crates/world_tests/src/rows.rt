@@ -1,10 +1,11 @@
 //! Worlds of a few events.
 use crate::events::{add, append, append_many, id_of, patch_of};
+use crate::parts::has_values;
 use chain_core::{Chain, Fate};
 use delta_base::{Listing, Phase};
 use std::alloc::Global;
 use std::test::Fail;
-use world_core::{LogPart, Message, World, WorldEvent, WorldEvents, world_run};
+use world_core::{LogPart, Message, World, WorldEvent, WorldEvents, ZonePart, world_run};
 
 // The chain has just the patches with these numbers, in order.
 fn is_chain(chain: &Chain, numbers: &[u32]) -> bool {
@@ -25,6 +26,31 @@ fn has_chain(part: &LogPart, numbers: &[u32]) -> bool {
     match part {
         LogPart::Up(log) => is_chain(log.chain(), numbers),
         LogPart::Down(_) => false,
+    }
+}
+
+// The zone runs, has taken so many patches, the last one with this number, and its dataset has just these values.
+fn has_taken(part: &ZonePart, version: u32, head: u32, values: &[bool; 5]) -> Result<bool, Fail> {
+    match part {
+        ZonePart::Up(zone) => {
+            let same = zone.version() == version && zone.head() == Some(id_of(head));
+            let replayed = has_values(zone, values)?;
+            Ok(same && replayed)
+        }
+        ZonePart::Down(_) => Ok(false),
+    }
+}
+
+// The same of the first zone of a world.
+fn first_has_taken(
+    world: &World,
+    version: u32,
+    head: u32,
+    values: &[bool; 5],
+) -> Result<bool, Fail> {
+    match world.zones.get(0) {
+        Some(zone) => has_taken(zone, version, head, values),
+        None => Ok(false),
     }
 }
 
@@ -150,7 +176,7 @@ fn a_zone_takes_an_item_once(rt: HostRuntime) -> Result<(), Fail> {
     let world = world_run(alloc, &events)?;
     drop(events);
     assert!(rt; has_chain(&world.log, &[1]));
-    assert!(rt; world.zones.get(0).is_some_and(|zone| has_chain(zone, &[1])));
+    assert!(rt; first_has_taken(&world, 1, 1, &[false, true, false, false, false])?);
     drop(world);
     Ok(())
 }
@@ -168,12 +194,7 @@ fn a_zone_waits_for_the_patch_behind_its_own(rt: HostRuntime) -> Result<(), Fail
     }
     let world = world_run(alloc, &events)?;
     drop(events);
-    assert!(rt;
-        world
-            .zones
-            .get(0)
-            .is_some_and(|zone| has_chain(zone, &[1, 2]))
-    );
+    assert!(rt; first_has_taken(&world, 2, 2, &[false, true, true, false, false])?);
     drop(world);
     Ok(())
 }

@@ -4,13 +4,21 @@ use chain_core::Fate;
 use delta_base::{Listing, Phase};
 use std::alloc::Global;
 use std::test::Fail;
-use world_core::{LogPart, WorldEvent, world_run};
+use world_core::{LogPart, WorldEvent, ZonePart, world_run};
 
 // How many patches it has, if it is up.
 fn version_of(part: &LogPart) -> Option<u32> {
     match part {
         LogPart::Up(log) => Some(log.chain().version()),
         LogPart::Down(_) => None,
+    }
+}
+
+// The same of a zone.
+fn taken_of(part: &ZonePart) -> Option<u32> {
+    match part {
+        ZonePart::Up(zone) => Some(zone.version()),
+        ZonePart::Down(_) => None,
     }
 }
 
@@ -65,7 +73,7 @@ fn taken_behind(alloc: Global, phase: Phase, opened: bool) -> Result<Option<u32>
     add(&mut events, WorldEvent::ZoneOpen { zone: 0 })?;
     let world = world_run(alloc, &events)?;
     drop(events);
-    let taken = world.zones.get(0).and_then(version_of);
+    let taken = world.zones.get(0).and_then(taken_of);
     drop(world);
     Ok(taken)
 }

@@ -1,11 +1,4 @@
-use Rattle.std.proofs.Common.{◌≡◌, List, Option, refl, sym, subst}
-use Rattle.delta_base.specs.declared.limits.TheConstants.{LOG_LIMITS}
-use Rattle.chain_core.specs.Log.{LogPoint}
-use Rattle.world_core.specs.declared.event.WorldEvent.{WorldEvent}
-use Rattle.world_core.specs.declared.log.LogPart.{LogPart}
-use Rattle.world_core.specs.declared.log.LogPart.TheVariants.{Up}
-use Rattle.world_core.specs.declared.message.Message.{Message}
-use Rattle.world_core.proofs.Running.{if_ok-map, run_up_part, open_part}
+use Rattle.world_core.proofs.Running.{run_up_part, open_part}
 use Rattle.world_core.proofs.log.run_log.Goals as goal
 
 pub returns-in-Up-clause-part : goal.returns-in-Up-clause-part
