@@ -1,0 +1,43 @@
+//! Disks whose syncs fail as planned: new ones, and what a stop leaves.
+ghost use Rattle.std.specs.Prelude.{◌≡◌, ℕ, [], List, Option, IfOk, if◌then◌else◌};
+ghost use Rattle.chain_core.specs.declared.chain.Patch.{Patch};
+ghost use Rattle.chain_core.specs.Log.{with_doubt};
+ghost use Rattle.world_core.specs.Parts.{Carries, Keeps};
+
+use delta_base::{Bytes, OutOfMemory};
+use disk_model::PlanDisk;
+use log_journal::{FormatFault, format};
+use std::alloc::Global;
+
+/// A new disk with an empty journal.
+pub(crate) fn new_disk(alloc: Global, number: u32) -> Result<PlanDisk, OutOfMemory>
+    ensures { IfOk result (λ disk. Keeps number disk []) }
+{
+    let mut disk = PlanDisk::new(alloc, Bytes::from_slice(alloc, &[])?)?;
+    match format(&mut disk, number) {
+        Ok(()) => Ok(disk),
+        Err(FormatFault::Failed) => Err(OutOfMemory),
+        Err(FormatFault::NotEmpty { .. }) => unreachable!(),
+    }
+}
+
+// The image that a stop leaves: in the one each byte that isn't synced is 1, and the other has what was synced.
+fn image_left(opened: bool) -> u64
+    ensures { result ≡ (if opened then 257 else 0) }
+{
+    if opened { 257 } else { 0 }
+}
+
+/// A disk as a stop leaves it: a gate in doubt stands open, or it is shut.
+pub(crate) fn stopped_disk(
+    alloc: Global,
+    disk: PlanDisk,
+    opened: bool,
+) -> Result<PlanDisk, OutOfMemory>
+    ensures { IfOk result (λ left. (number : ℕ) (chain : List Patch) (doubt : Option Patch)
+        → Carries number disk chain doubt
+        → Keeps number left (if opened then with_doubt chain doubt else chain)) }
+{
+    let image = disk.image(image_left(opened))?;
+    PlanDisk::new(alloc, image)
+}

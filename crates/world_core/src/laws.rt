@@ -1,0 +1,41 @@
+//! Laws of every world. These functions do nothing: their contracts are theorems.
+ghost use Rattle.std.specs.Prelude.{◌≡◌, ℕ, ◌++◌, List, Some, slice_get};
+ghost use Rattle.delta_base.specs.declared.limits.LogLimits.{LogLimits};
+ghost use Rattle.chain_core.specs.declared.chain.Patch.{Patch};
+ghost use Rattle.chain_core.specs.Links.{IsChain};
+ghost use Rattle.chain_core.specs.Log.{LogPoint};
+ghost use Rattle.chain_core.specs.Patches.{links_of, patch_at};
+ghost use Rattle.patch_log.specs.Log.{bare};
+ghost use Rattle.patch_meaning.specs.Checked.{CheckedPatch};
+ghost use Rattle.world_core.specs.declared.event.WorldEvent.{WorldEvent};
+ghost use Rattle.world_core.specs.World.{world, MayBeFound, WasAccepted, WasServed, BeginsLog};
+
+/// Whatever happens, the log is a chain, and so is all that a crash may leave of it.
+pub fn chains_stay_chains()
+    ensures { (limits : LogLimits) (events : List WorldEvent) (found : List Patch)
+        → MayBeFound (world limits events).log found → IsChain (links_of found) }
+{}
+
+/// A patch whose append was told to be accepted stands at the version told, whatever happens then and whatever a crash
+/// leaves.
+pub fn accepted_patches_stay()
+    ensures { (limits : LogLimits) (events more : List WorldEvent) (patch : CheckedPatch)
+        (version : ℕ) (found : List Patch) → WasAccepted limits events patch version
+        → MayBeFound (world limits (events ++ more)).log found
+        → patch_at found version ≡ Some (bare patch) }
+{}
+
+/// So does a patch that was served.
+pub fn served_patches_stay()
+    ensures { (limits : LogLimits) (events more : List WorldEvent) (patch : Patch) (version : ℕ)
+        (found : List Patch) → WasServed limits events patch version
+        → MayBeFound (world limits (events ++ more)).log found
+        → patch_at found version ≡ Some patch }
+{}
+
+/// What a zone took begins the log, whatever happened and whatever a crash leaves of either.
+pub fn zones_follow()
+    ensures { (limits : LogLimits) (events : List WorldEvent) (place : ℕ) (zone : LogPoint)
+        (taken : List Patch) → slice_get (world limits events).zones place ≡ Some zone
+        → MayBeFound zone taken → BeginsLog (world limits events).log taken }
+{}

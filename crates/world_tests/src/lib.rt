@@ -1,0 +1,15 @@
+//! Worked examples of worlds: what is accepted, what a stop leaves, what a zone takes, and many worlds made by rule.
+#![tactic(auto)]
+
+#[cfg(test)]
+mod events;
+#[cfg(test)]
+mod parts;
+#[cfg(test)]
+mod plain;
+#[cfg(test)]
+mod random;
+#[cfg(test)]
+mod rows;
+#[cfg(test)]
+mod stops;

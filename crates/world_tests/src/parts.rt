@@ -1,0 +1,210 @@
+//! Compares worlds that were run with plain ones.
+use crate::events::line_of;
+use crate::plain::{Note, Plain, Point};
+use chain_core::{Chain, Link};
+use delta_base::{Bytes, LOG_LIMITS};
+use disk_model::PlanDisk;
+use patch_log::LogState;
+use std::alloc::Global;
+use std::test::Fail;
+use world_core::{LOG_NUMBER, LogPart, Message, World, ZonePart};
+use zone_state::{ZONE_NUMBER, Zone};
+
+// The chain has just the patches with these links, in order, and then this one.
+fn has_links(chain: &Chain, links: &[Link], last: Option<Link>) -> bool {
+    let count = chain.version() as usize;
+    let more = if last.is_some() { 1 } else { 0 };
+    if count != links.len() + more {
+        return false;
+    }
+    for version in 1..=chain.version() {
+        let Some(patch) = chain.by_version(version) else {
+            return false;
+        };
+        let wanted = match links.get(version as usize - 1) {
+            Some(link) => Some(*link),
+            None => last,
+        };
+        let found = Link {
+            id: patch.id,
+            prev: patch.prev,
+        };
+        if wanted != Some(found) {
+            return false;
+        }
+    }
+    true
+}
+
+// Opening a disk finds just these patches.
+fn keeps(
+    alloc: Global,
+    disk: PlanDisk,
+    number: u32,
+    links: &[Link],
+    last: Option<Link>,
+) -> Result<bool, Fail> {
+    match LogState::open_on(alloc, disk, number, LOG_LIMITS) {
+        Ok(log) => {
+            let same = has_links(log.chain(), links, last);
+            drop(log);
+            Ok(same)
+        }
+        Err(refusal) => {
+            drop(refusal);
+            Ok(false)
+        }
+    }
+}
+
+// The same of an image.
+fn holds(
+    alloc: Global,
+    image: Bytes,
+    number: u32,
+    links: &[Link],
+    last: Option<Link>,
+) -> Result<bool, Fail> {
+    let disk = PlanDisk::new(alloc, image)?;
+    keeps(alloc, disk, number, links, last)
+}
+
+// What a stop leaves of a disk is the plain one, with the patch in doubt or without.
+fn leaves(alloc: Global, disk: PlanDisk, number: u32, point: &Point) -> Result<bool, Fail> {
+    let shut = disk.image(0)?;
+    let open = disk.image(257)?;
+    drop(disk);
+    let without = holds(alloc, shut, number, &point.chain, None)?;
+    let having = holds(alloc, open, number, &point.chain, point.doubt)?;
+    Ok(without && having)
+}
+
+// A log is the plain one, and so is what a stop leaves of it.
+fn is_log(alloc: Global, part: LogPart, point: &Point) -> Result<bool, Fail> {
+    match part {
+        LogPart::Up(log) => {
+            let same = point.up
+                && log.is_settled() == point.doubt.is_none()
+                && has_links(log.chain(), &point.chain, None);
+            let left = leaves(alloc, log.close(), LOG_NUMBER, point)?;
+            Ok(same && left)
+        }
+        LogPart::Down(disk) => {
+            let same = keeps(alloc, disk, LOG_NUMBER, &point.chain, None)?;
+            Ok(same && !point.up)
+        }
+    }
+}
+
+/// The zone's dataset has just these values.
+pub fn has_values(zone: &Zone<PlanDisk>, values: &[bool; 5]) -> Result<bool, Fail> {
+    let lines = zone.lines()?;
+    let mut rest = lines.iter();
+    let mut same = true;
+    for (value, is_there) in values.iter().enumerate() {
+        if *is_there {
+            let wanted = line_of(value as u8);
+            same = same
+                && rest
+                    .next()
+                    .is_some_and(|line| line.as_bytes() == wanted.as_slice());
+        }
+    }
+    let is_all = rest.next().is_none();
+    drop(lines);
+    Ok(same && is_all)
+}
+
+// A zone is the plain one: its version, its head and its dataset.
+fn is_taken(zone: &Zone<PlanDisk>, point: &Point) -> Result<bool, Fail> {
+    let same = zone.version() == point.version() && zone.head() == point.head();
+    let replayed = has_values(zone, &point.values())?;
+    Ok(same && replayed)
+}
+
+// Opening a disk as a zone finds the plain one.
+fn reopens(alloc: Global, disk: PlanDisk, point: &Point) -> Result<bool, Fail> {
+    match Zone::open_on(alloc, disk, LOG_LIMITS) {
+        Ok(zone) => {
+            let same = is_taken(&zone, point)?;
+            drop(zone);
+            Ok(same)
+        }
+        Err(refusal) => {
+            drop(refusal);
+            Ok(false)
+        }
+    }
+}
+
+// A zone is the plain one, and so is what a stop leaves of it.
+fn is_zone(alloc: Global, part: ZonePart, point: &Point) -> Result<bool, Fail> {
+    match part {
+        ZonePart::Up(zone) => {
+            let same = point.up && zone.is_settled() == point.doubt.is_none();
+            let taken = is_taken(&zone, point)?;
+            let left = leaves(alloc, zone.close(), ZONE_NUMBER, point)?;
+            Ok(same && taken && left)
+        }
+        ZonePart::Down(disk) => {
+            let same = reopens(alloc, disk, point)?;
+            Ok(same && !point.up)
+        }
+    }
+}
+
+// A message says what the plain one does.
+fn is_note(message: &Message, note: Note) -> bool {
+    let said = match message {
+        Message::Accepted { version } => Note::Accepted { version: *version },
+        Message::Info { version, head } => Note::Info {
+            version: *version,
+            head: *head,
+        },
+        Message::Item { version, patch } => Note::Item {
+            version: *version,
+            patch: Link {
+                id: patch.id,
+                prev: patch.prev,
+            },
+        },
+    };
+    said == note
+}
+
+/// Just these messages were sent, in order.
+pub fn are_notes(messages: &[Message], notes: &[Note]) -> bool {
+    if messages.len() != notes.len() {
+        return false;
+    }
+    for (message, note) in messages.iter().zip(notes) {
+        if !is_note(message, *note) {
+            return false;
+        }
+    }
+    true
+}
+
+// The zones are the plain ones.
+fn are_zones(alloc: Global, parts: Vec<ZonePart>, points: &[Point]) -> Result<bool, Fail> {
+    if parts.len() != points.len() {
+        drop(parts);
+        return Ok(false);
+    }
+    let mut same = true;
+    for (part, point) in parts.into_iter().zip(points) {
+        let alike = is_zone(alloc, part, point)?;
+        same = same && alike;
+    }
+    Ok(same)
+}
+
+/// A world is the plain one.
+pub fn is_world(alloc: Global, world: World, plain: &Plain) -> Result<bool, Fail> {
+    let World { log, zones, pool } = world;
+    let told = are_notes(pool.as_slice(), &plain.pool);
+    drop(pool);
+    let followed = are_zones(alloc, zones.into_vec(), &plain.zones)?;
+    let same = is_log(alloc, log, &plain.log)?;
+    Ok(told && followed && same)
+}

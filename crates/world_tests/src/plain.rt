@@ -1,0 +1,250 @@
+//! What events make of a world, computed plainly by the cases of the definition. Patches are told by their links.
+use crate::events::values_of;
+use chain_core::{Fate, Link};
+use delta_base::{Id, Phase};
+use patch_meaning::Checked;
+use std::alloc::Global;
+use std::test::Fail;
+use world_core::{WorldEvent, WorldEvents};
+
+/// A log or a zone: whether it is up, its patches, and the one in doubt.
+#[derive(Drop)]
+pub struct Point {
+    pub up: bool,
+    pub chain: Vec<Link>,
+    pub doubt: Option<Link>,
+}
+
+/// A message that was sent.
+#[derive(Clone, Copy, PartialEq, Eq)]
+pub enum Note {
+    Accepted { version: u32 },
+    Info { version: u32, head: Option<Id> },
+    Item { version: u32, patch: Link },
+}
+
+/// A world.
+#[derive(Drop)]
+pub struct Plain {
+    pub log: Point,
+    pub zones: Vec<Point>,
+    pub pool: Vec<Note>,
+}
+
+/// The link of a patch.
+pub fn link_of(patch: &Checked) -> Link {
+    Link {
+        id: patch.id(),
+        prev: patch.prev(),
+    }
+}
+
+impl Point {
+    /// An empty one that is up.
+    pub fn new(alloc: Global) -> Point {
+        Point {
+            up: true,
+            chain: Vec::new(alloc),
+            doubt: None,
+        }
+    }
+
+    /// How many patches it has.
+    pub fn version(&self) -> u32 {
+        u32::try_from(self.chain.len()).unwrap_or(u32::MAX)
+    }
+
+    /// The id of its last patch.
+    pub fn head(&self) -> Option<Id> {
+        match self.chain.last() {
+            Some(last) => Some(last.id),
+            None => None,
+        }
+    }
+
+    /// Which values the replay of its patches has, from 0 to 4.
+    pub fn values(&self) -> [bool; 5] {
+        let mut values = [false; 5];
+        for link in &self.chain {
+            let (added, taken) = values_of(link.id);
+            values[added as usize] = true;
+            values[taken as usize] = false;
+        }
+        values
+    }
+
+    // The patch names the head, and its id is new. Room there is always.
+    fn fits(&self, patch: Link) -> bool {
+        for old in &self.chain {
+            if old.id == patch.id {
+                return false;
+            }
+        }
+        patch.prev == self.head()
+    }
+
+    // The patch is behind the others, and none is in doubt.
+    fn accept(&mut self, patch: Link) -> Result<Option<u32>, Fail> {
+        self.chain.push(patch)?;
+        self.doubt = None;
+        Ok(Some(self.version()))
+    }
+
+    // It is down, with this patch where its gate stands open.
+    fn halt(&mut self, doubt: Option<Link>, opened: bool) -> Result<(), Fail> {
+        if let (Some(patch), true) = (doubt, opened) {
+            self.chain.push(patch)?;
+        }
+        self.up = false;
+        self.doubt = None;
+        Ok(())
+    }
+
+    // Fails in this phase, or goes on where there is nothing to settle.
+    fn fail(&mut self, patch: Link, phase: Phase) -> Result<Option<u32>, Fail> {
+        match phase {
+            Phase::Settling => {
+                if self.doubt.is_none() {
+                    return self.accept(patch);
+                }
+            }
+            Phase::Body => self.doubt = None,
+            Phase::Gate => self.doubt = Some(patch),
+        }
+        Ok(None)
+    }
+
+    // Stops in this phase, or goes on where there is nothing to settle.
+    fn stop(&mut self, patch: Link, phase: Phase, opened: bool) -> Result<Option<u32>, Fail> {
+        match phase {
+            Phase::Settling => {
+                if self.doubt.is_none() {
+                    return self.accept(patch);
+                }
+                self.halt(self.doubt, opened)?;
+            }
+            Phase::Body => self.halt(None, opened)?,
+            Phase::Gate => self.halt(Some(patch), opened)?,
+        }
+        Ok(None)
+    }
+
+    /// An append with this fate: the version where it was accepted.
+    pub fn stay(&mut self, patch: Link, fate: Fate) -> Result<Option<u32>, Fail> {
+        if !self.up || !self.fits(patch) {
+            return Ok(None);
+        }
+        match fate {
+            Fate::Done => self.accept(patch),
+            Fate::Fails(phase) => self.fail(patch, phase),
+            Fate::Stops { phase, opened } => self.stop(patch, phase, opened),
+        }
+    }
+
+    // A stop between two calls.
+    fn close(&mut self, opened: bool) -> Result<(), Fail> {
+        if self.up {
+            self.halt(self.doubt, opened)?;
+        }
+        Ok(())
+    }
+}
+
+impl Plain {
+    /// An empty log that is up, no zone and no message.
+    pub fn new(alloc: Global) -> Plain {
+        Plain {
+            log: Point::new(alloc),
+            zones: Vec::new(alloc),
+            pool: Vec::new(alloc),
+        }
+    }
+
+    // What is sent to who asks for a version.
+    fn serve(&mut self, version: u32) -> Result<(), Fail> {
+        if !self.log.up || version == 0 {
+            return Ok(());
+        }
+        if let Some(patch) = self.log.chain.get(version as usize - 1) {
+            let patch = *patch;
+            self.pool.push(Note::Item { version, patch })?;
+        }
+        Ok(())
+    }
+
+    // An event of the log.
+    fn run_log(&mut self, event: &WorldEvent) -> Result<(), Fail> {
+        match event {
+            WorldEvent::Append { patch, fate } => {
+                if let Some(version) = self.log.stay(link_of(patch), *fate)? {
+                    self.pool.push(Note::Accepted { version })?;
+                }
+            }
+            WorldEvent::Serve { version } => self.serve(*version)?,
+            WorldEvent::Describe => {
+                if self.log.up {
+                    let version = self.log.version();
+                    let head = self.log.head();
+                    self.pool.push(Note::Info { version, head })?;
+                }
+            }
+            WorldEvent::Stop { opened } => self.log.close(*opened)?,
+            WorldEvent::Open => self.log.up = true,
+            _ => {}
+        }
+        Ok(())
+    }
+
+    // A message reaches a zone.
+    fn deliver(&mut self, message: u32, zone: u32, fate: Fate) -> Result<(), Fail> {
+        let Some(Note::Item { version, patch }) = self.pool.get(message as usize) else {
+            return Ok(());
+        };
+        let (version, patch) = (*version, *patch);
+        if let Some(zone) = self.zones.get_mut(zone as usize) {
+            if u64::from(version) == u64::from(zone.version()) + 1 {
+                let _taken = zone.stay(patch, fate)?;
+            }
+        }
+        Ok(())
+    }
+
+    // An event of a zone.
+    fn run_zone(&mut self, alloc: Global, event: &WorldEvent) -> Result<(), Fail> {
+        match event {
+            WorldEvent::NewZone => self.zones.push(Point::new(alloc))?,
+            WorldEvent::Deliver {
+                message,
+                zone,
+                fate,
+            } => self.deliver(*message, *zone, *fate)?,
+            WorldEvent::ZoneStop { zone, opened } => {
+                if let Some(zone) = self.zones.get_mut(*zone as usize) {
+                    zone.close(*opened)?;
+                }
+            }
+            WorldEvent::ZoneOpen { zone } => {
+                if let Some(zone) = self.zones.get_mut(*zone as usize) {
+                    zone.up = true;
+                }
+            }
+            _ => {}
+        }
+        Ok(())
+    }
+
+    /// Any event. One that doesn't fit changes nothing.
+    pub fn step(&mut self, alloc: Global, event: &WorldEvent) -> Result<(), Fail> {
+        self.run_zone(alloc, event)?;
+        self.run_log(event)
+    }
+
+    /// The world that these events make.
+    pub fn of(alloc: Global, events: &WorldEvents) -> Result<Plain, Fail> {
+        let mut plain = Plain::new(alloc);
+        for event in events.as_slice() {
+            plain.step(alloc, event)?;
+        }
+        Ok(plain)
+    }
+}
