@@ -72,7 +72,7 @@ header_alone file head number is header_is short =
     })
 
 -- behind the payloads that were read the file breaks off, or ends behind one more
-pub payload_missing : (file : List ℕ) (number gate : ℕ) (payloads : List (List ℕ)) (fault : JournalFault) → IsRead file number payloads gate → ReadsPayload file gate (Err fault) → ReadsPayloads file number (Err fault)
+pub payload_missing : (file : List ℕ) (number gate : ℕ) (payloads : List (List ℕ)) (fault : JournalFault) → IsRead file number payloads gate → ReadsPayload file gate (Err fault) → ReadsPayloads {T = ℕ} file number (Err fault)
 payload_missing file number gate payloads (Damaged at) so_far (inl broken) = inr (record {
   payloads = payloads;
   rest = drop gate file;

@@ -1,8 +1,7 @@
 -- What reading a journal's file finds.
-use Rattle.std.specs.Prelude.{◌≡◌, ◌≢◌, ◌⊎◌, ℕ, ◌+◌, ◌^◌, ◌<◌, ◌≤◌, Bool, IsTrue, Result, Ok, Err, List, ◌∷◌, ◌++◌, [], length, drop, Vec}
+use Rattle.std.specs.Prelude.{◌≡◌, ◌≢◌, ◌⊎◌, ℕ, ◌+◌, ◌^◌, ◌<◌, Bool, IsTrue, Result, Ok, Err, List, ◌∷◌, ◌++◌, [], length, drop, Vec}
 use Rattle.std.specs.declared.alloc.Global.{Global}
 use Rattle.delta_base.specs.Journals.{journal_length}
-use Rattle.delta_base.specs.Listed.{Listed}
 use Rattle.delta_base.specs.Outside.{Rose}
 use Rattle.log_journal.specs.File.{front, header, block, Holds, AreSized, BreaksOff, HasNoHeader, HasHeader, Damage}
 use Rattle.log_journal.specs.declared.fault.JournalFault.{JournalFault}
@@ -53,10 +52,9 @@ ReadsPayload file at (Err (OverLimit length limit)) = ⊥
 ReadsPayload file at (Err Failed) = Unit {0}
 ReadsPayload file at (Err OutOfMemory) = Unit {0}
 
--- the file holds these payloads, and their journal has this length; or which fault comes first
-abbrev pub ReadsPayloads : List ℕ → ℕ → Result (ℕ × Listed (List ℕ)) JournalFault → Type 0
-ReadsPayloads file number (Ok found) =
-    Holds file number found.1.items × (found.0 ≡ length (front number found.1.items) + 1)
+-- which fault of the file comes first, whatever its limit
+abbrev pub ReadsPayloads : {T : Type 0} → List ℕ → ℕ → Result T JournalFault → Type 0
+ReadsPayloads file number (Ok done) = Unit {0}
 ReadsPayloads file number (Err (Damaged at)) = Damage file number at
 ReadsPayloads file number (Err (WrongNumber found)) = HasHeader file found × (found ≢ number)
 ReadsPayloads file number (Err (OverLimit length limit)) = ⊥
@@ -78,13 +76,6 @@ pub record IsRead (file : List ℕ) (number : ℕ) (payloads : List (List ℕ)) 
   pub parts : file ≡ front number payloads ++ drop gate file
   pub place : gate ≡ length (front number payloads)
   pub sized : AreSized payloads
-
--- the file holds these payloads, and their journal has this length, within the limit; or which fault comes first
-abbrev pub Reads : List ℕ → ℕ → ℕ → Result (ℕ × Listed (List ℕ)) JournalFault → Type 0
-Reads file number limit (Ok found) =
-    Holds file number found.1.items × (found.0 ≡ length (front number found.1.items) + 1)
-    × (found.0 ≤ limit)
-Reads file number limit (Err fault) = HasFault file number limit fault
 
 -- the disk's count of faults rose where this is a fault of the disk, and else is as it was
 abbrev pub CountsFor : JournalFault → ℕ → ℕ → Type 0

@@ -7,13 +7,14 @@ ghost use Rattle.disk_model.specs.Past.{reads, synced, ok_syncs, synced_bytes, f
 ghost use Rattle.disk_model.specs.Calls.{WroteSome};
 ghost use Rattle.log_journal.specs.File.{Holds, file_of};
 ghost use Rattle.log_journal.specs.Journal.{HoldsWithOrWithout};
-ghost use Rattle.log_journal.specs.Reading.{Reads, HasFault, CountsReading, ShortReading};
+ghost use Rattle.log_journal.specs.Reading.{HasFault, CountsReading, ShortReading};
 
 use crate::block::Block;
 use crate::fault::{FormatFault, JournalFault};
 use crate::open::{Payloads, format, read_payloads};
+use crate::receiver::Receiver;
 use crate::synced_writes::write_synced;
-use delta_base::{EMPTY_JOURNAL, Failed, PAYLOAD_FRAME};
+use delta_base::{EMPTY_JOURNAL, Failed, Listing, PAYLOAD_FRAME};
 use disk_model::{Disk, Planned};
 use std::alloc::Global;
 
@@ -58,18 +59,22 @@ pub struct StartRefusal<D: Disk> {
     pub fault: FormatFault,
 }
 
-// The payloads and the length of the journal on a disk.
-fn read_journal<D: Disk>(
+// Hands on the payloads of the journal on a disk, and answers its length.
+fn read_journal<D: Disk, R: Receiver>(
     alloc: Global,
     disk: &mut D,
     number: u32,
     limit: u64,
-) -> Result<(u64, Payloads), JournalFault>
-    ensures found { D.tells → Reads (reads (D.past disk.old)) number limit result }
+    receiver: &mut R,
+) -> Result<u64, JournalFault>
+    requires { R.received receiver.old [] receiver.old }
+    ensures received { IfOk result (λ length. (payloads : List (List ℕ))
+        × R.received receiver.old payloads receiver.new × (length ≡ journal_length payloads)
+        × (D.tells → Holds (reads (D.past disk.old)) number payloads)) }
+    ensures fault { D.tells → IfErr result (HasFault (reads (D.past disk.old)) number limit) }
     ensures few { D.tells
-        → IfOk result (λ found. D.read_bytes disk.new ≤ D.read_bytes disk.old + found.0) }
-    ensures length { IfOk result (λ found. found.0 ≡ journal_length found.1.items) }
-    ensures within { IfOk result (λ found. (EMPTY_JOURNAL ≤ found.0) × (found.0 ≤ limit)) }
+        → IfOk result (λ length. D.read_bytes disk.new ≤ D.read_bytes disk.old + length) }
+    ensures within { IfOk result (λ length. (EMPTY_JOURNAL ≤ length) × (length ≤ limit)) }
     ensures synced { D.tells → OnOk result (D.past disk.new ≡ synced (D.past disk.old)) }
     ensures past { D.tells → (D.past disk.new ≡ D.past disk.old)
         ⊎ (D.past disk.new ≡ synced (D.past disk.old)) }
@@ -83,11 +88,11 @@ fn read_journal<D: Disk>(
     ensures mark { D.mark disk.new ≡ D.mark disk.old }
 {
     disk.sync()?;
-    let (length, payloads) = read_payloads(alloc, disk, number)?;
+    let length = read_payloads(alloc, disk, number, receiver)?;
     if limit < length {
         return Err(JournalFault::OverLimit { length, limit });
     }
-    Ok((length, payloads))
+    Ok(length)
 }
 
 impl<D: Disk> Journal<D> {
@@ -138,17 +143,66 @@ impl<D: Disk> Journal<D> {
         ensures mark { IfOk result (λ opened. D.mark (disk_of opened.0) ≡ D.mark disk) }
         ensures mark_refused { IfErr result (λ refusal. D.mark refusal.disk ≡ D.mark disk) }
     {
+        let mut payloads = Listing::new(alloc);
+        match Journal::open_with(alloc, disk, number, limit, &mut payloads) {
+            Ok(journal) => Ok((journal, payloads)),
+            Err(refusal) => Err(refusal),
+        }
+    }
+
+    /// Opens a file that a crash may have left, and hands its payloads on one by one. A refusal hands the disk back.
+    pub fn open_with<R: Receiver>(
+        alloc: Global,
+        disk: D,
+        number: u32,
+        limit: u64,
+        receiver: &mut R,
+    ) -> Result<Journal<D>, OpenRefusal<D>>
+        requires { R.received receiver.old [] receiver.old }
+
+        // The payloads received are those of all the bytes that the disk reads.
+        ensures received { IfOk result (λ journal. (payloads : List (List ℕ))
+            × R.received receiver.old payloads receiver.new × StandsFor journal number payloads
+            × ((length_of journal) ≡ journal_length payloads)
+            × (D.tells → Holds (reads (D.past disk)) number payloads)) }
+        ensures fault { IfErr result (λ refusal. D.tells
+            → HasFault (reads (D.past disk)) number limit refusal.fault) }
+
+        // A crash at any moment leaves what it might have left before, and a read gives what it gave.
+        ensures kept { IfOk result (λ journal. D.tells
+            → Keeps (D.past disk) (D.past (disk_of journal))) }
+        ensures kept_refused { IfErr result (λ refusal. D.tells
+            → Keeps (D.past disk) (D.past refusal.disk)) }
+
+        // It reads no more than the journal.
+        ensures few { IfOk result (λ journal. D.tells
+            → D.read_bytes (disk_of journal) ≤ D.read_bytes disk + (length_of journal)) }
+        ensures limit { IfOk result (λ journal. (limit_of journal) ≡ limit) }
+        ensures within { IfOk result (λ journal. (length_of journal) ≤ limit) }
+        ensures cause { IfErr result (λ refusal. refusal.fault ≡ JournalFault.Failed
+            → Rose (D.faults disk) (D.faults refusal.disk)) }
+
+        // A fault is counted where a call of the disk failed, and else none.
+        ensures faults { IfOk result (λ journal. D.faults (disk_of journal) ≡ D.faults disk) }
+        ensures never_falls { IfErr result (λ refusal. D.faults disk ≤ D.faults refusal.disk) }
+        ensures faults_refused { IfErr result (λ refusal. refusal.fault ≢ JournalFault.Failed
+            → D.faults refusal.disk ≡ D.faults disk) }
+
+        // Where no failure is planned, its disk fails for want of memory alone.
+        ensures long { D.plans → IfOk result (λ journal. D.short (disk_of journal) ≡ D.short disk) }
+        ensures planned { D.plans → IfErr result (λ refusal. refusal.fault ≡ JournalFault.Failed
+            → D.next_failure disk ≡ None → IsTrue (D.short refusal.disk)) }
+        ensures mark { IfOk result (λ journal. D.mark (disk_of journal) ≡ D.mark disk) }
+        ensures mark_refused { IfErr result (λ refusal. D.mark refusal.disk ≡ D.mark disk) }
+    {
         let mut disk = disk;
-        match read_journal(alloc, &mut disk, number, limit) {
-            Ok((end, payloads)) => {
-                let journal = Journal {
-                    disk,
-                    end,
-                    limit,
-                    settled: true,
-                };
-                Ok((journal, payloads))
-            }
+        match read_journal(alloc, &mut disk, number, limit, receiver) {
+            Ok(end) => Ok(Journal {
+                disk,
+                end,
+                limit,
+                settled: true,
+            }),
             Err(fault) => Err(OpenRefusal { disk, fault }),
         }
     }

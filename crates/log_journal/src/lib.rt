@@ -12,6 +12,7 @@ mod laws;
 mod making;
 mod open;
 mod reading;
+mod receiver;
 mod synced_writes;
 mod writing;
 
@@ -21,4 +22,5 @@ pub use journal::{AppendFault, Journal, OpenRefusal, StartRefusal};
 pub use laws::one_reading;
 pub use making::make_block;
 pub use open::{Payloads, format};
+pub use receiver::Receiver;
 pub use writing::write;

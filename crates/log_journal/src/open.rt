@@ -1,5 +1,5 @@
 //! Makes and opens journals.
-ghost use Rattle.std.specs.Prelude.{◌≡◌, ◌≢◌, ◌⊎◌, ℕ, ◌+◌, ◌<◌, ◌≤◌, ◌↔◌, ◌++◌, [], ◌∷◌, None, IsTrue, length, IfOk, IfErr, OnOk, OnErr, IsErrOf};
+ghost use Rattle.std.specs.Prelude.{◌≡◌, ◌≢◌, ◌⊎◌, ℕ, ◌+◌, ◌<◌, ◌≤◌, ◌↔◌, ◌++◌, [], ◌∷◌, List, None, IsTrue, length, IfOk, IfErr, OnOk, OnErr, IsErrOf};
 ghost use Rattle.delta_base.specs.declared.limits.TheConstants.{EMPTY_JOURNAL};
 ghost use Rattle.delta_base.specs.Journals.{journal_length};
 ghost use Rattle.delta_base.specs.Outside.{Rose};
@@ -10,6 +10,7 @@ ghost use Rattle.log_journal.specs.Reading.{ReadsPayloads, CountsReading, ShortR
 
 use crate::fault::{FormatFault, JournalFault};
 use crate::reading::{read_payload, read_start};
+use crate::receiver::Receiver;
 use crate::synced_writes::write_synced;
 use delta_base::{Bytes, Listing, PAYLOAD_FRAME};
 use disk_model::Disk;
@@ -56,17 +57,21 @@ pub fn format<D: Disk>(disk: &mut D, number: u32) -> Result<(), FormatFault>
     Ok(())
 }
 
-// The payloads up to the gate that is shut, and the place behind it.
-pub fn read_payloads<D: Disk>(
+// Hands on the payloads up to the gate that is shut, one by one. Answers the place behind it.
+pub fn read_payloads<D: Disk, R: Receiver>(
     alloc: Global,
     disk: &mut D,
     number: u32,
-) -> Result<(u64, Payloads), JournalFault>
+    receiver: &mut R,
+) -> Result<u64, JournalFault>
+    requires { R.received receiver.old [] receiver.old }
+    ensures received { IfOk result (λ length. (payloads : List (List ℕ))
+        × R.received receiver.old payloads receiver.new × (length ≡ journal_length payloads)
+        × (D.tells → Holds (reads (D.past disk.old)) number payloads)) }
     ensures found { D.tells → ReadsPayloads (reads (D.past disk.old)) number result }
     ensures few { D.tells
-        → IfOk result (λ found. D.read_bytes disk.new ≤ D.read_bytes disk.old + found.0) }
-    ensures length { IfOk result (λ found. found.0 ≡ journal_length found.1.items) }
-    ensures behind { IfOk result (λ found. EMPTY_JOURNAL ≤ found.0) }
+        → IfOk result (λ length. D.read_bytes disk.new ≤ D.read_bytes disk.old + length) }
+    ensures behind { IfOk result (λ length. EMPTY_JOURNAL ≤ length) }
     ensures past { D.past disk.new ≡ D.past disk.old }
     ensures cause { IsErrOf result JournalFault.Failed
         → Rose (D.faults disk.old) (D.faults disk.new) }
@@ -78,12 +83,11 @@ pub fn read_payloads<D: Disk>(
     let file_length = disk.len()?;
     let mut gate = read_start(disk, file_length, number)?;
     let mut place = 8;
-    let mut payloads = Listing::new(alloc);
     while gate == 1 {
         let (payload, next) = read_payload(alloc, disk, file_length, place)?;
         place += PAYLOAD_FRAME + payload.len() as u64;
         gate = next;
-        payloads.push(Bytes::from_vec(payload))?;
+        receiver.receive(Bytes::from_vec(payload))?;
     }
-    Ok((place + 1, payloads))
+    Ok(place + 1)
 }

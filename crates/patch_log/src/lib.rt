@@ -14,5 +14,6 @@ pub use appending::{append, append_all, append_made};
 pub use fault::{LogFault, LogRefusal};
 pub use indexed::IndexedChain;
 pub use laws::{logs_are_found_again, logs_have_no_fault};
+pub use next_fault::NextFault;
 pub use ready::Ready;
 pub use state::LogState;
