@@ -1,9 +1,10 @@
 //! Asking a log's server.
-ghost use Rattle.std.specs.Prelude.{◌≡◌, ◌≤◌, ℕ, true, List, IsSome, IfOk, IsErrOf};
+ghost use Rattle.std.specs.Prelude.{◌≡◌, ◌≤◌, ◌++◌, ℕ, true, List, IsSome, IfOk, IsErrOf};
 ghost use Rattle.std.specs.List.{list_all};
 ghost use Rattle.delta_base.specs.Outside.{Rose};
 ghost use Rattle.http_text.specs.Print.{is_visible};
 ghost use Rattle.rpc_answers.specs.Answers.{NamesItsFault};
+ghost use Rattle.delta_client.specs.Lines.{links_in};
 ghost use Rattle.follower.specs.Ends.{IsRefusal, LogSays, LogTold};
 ghost use Rattle.follower.specs.Exchanges.{Asks, Said as WasSaid, calls_of, net_of};
 
@@ -50,7 +51,7 @@ fn log_call(name: &Text) -> Result<Call, OutOfMemory>
 }
 
 /// The version and the head of the peer's log.
-pub fn ask_log<N: Dial>(
+pub(crate) fn ask_log<N: Dial>(
     alloc: Global,
     net: &mut N,
     line: &mut Line<N::L>,
@@ -77,5 +78,23 @@ pub fn ask_log<N: Dial>(
     match said {
         Ok(answer) => log_told(alloc, answer),
         Err(fault) => Err(SyncEnd::from(fault)),
+    }
+}
+
+/// Hangs up what is open.
+pub(crate) fn end_line<N: Dial>(line: Line<N::L>, net: &mut N)
+    requires { IsSome line.open → N.awaits net.old }
+    ensures back { N.tells → N.back net.new ≡ N.back net.old ++ links_in line.open }
+    ensures to_come { N.tells → N.to_come net.new ≡ N.to_come net.old }
+    ensures addresses { N.tells → N.addresses net.new ≡ N.addresses net.old }
+    ensures tries { N.tries net.new ≡ N.tries net.old }
+    ensures never_falls { N.faults net.old ≤ N.faults net.new }
+{
+    let mut line = line;
+    line.hang_up(net);
+    let Line { open } = line;
+    match open {
+        None => {}
+        Some(_) => unreachable!(),
     }
 }
