@@ -41,6 +41,10 @@ pub on_ok : {E P Q : Type 0} (result : Result (Unit {0}) E) → (P → Q) → On
 on_ok (Ok done) then is = then is
 on_ok (Err fault) then is = tt
 
+pub on_err : {T E : Type 0} {P Q : E → Type 0} (result : Result T E) → ((fault : E) → P fault → Q fault) → IfErr result P → IfErr result Q
+on_err (Ok done) then is = tt
+on_err (Err fault) then is = then fault is
+
 -- ---- decisions
 
 -- the zone decided so by itself

@@ -7,7 +7,7 @@ use Rattle.rpc_answers.specs.declared.answer.Answer.{Answer}
 use Rattle.rpc_calls.specs.declared.call.Call.{Call}
 use Rattle.rpc_calls.specs.declared.call.Call.TheVariants as calls
 use Rattle.delta_client.specs.Asking.{call_text}
-use Rattle.delta_client.specs.Lines.{Connection, GoesOver, IsHungUp, IsOpen, Over, Told, behind, links_in}
+use Rattle.delta_client.specs.Lines.{Connection, GoesOver, IsHungUp, IsOpen, Over, Told, behind, links_in, told_of}
 use Rattle.delta_client.specs.declared.fault.AskFault.{AskFault}
 use Rattle.delta_client.specs.declared.line.Open.{Open}
 use Rattle.follower.specs.Exchanges.{Said, Net, fetches, links_of, stands_then, told_then, TriesFor, IsAnswered, Exchanged, AsksOne, Asks}
@@ -19,13 +19,24 @@ fetches_append name from (one ∷ first) second =
     ap (λ (cs : List Call). calls.FetchVersion name from ∷ cs) (fetches_append name (from + 1) first second
     ∙ ap (λ (n : ℕ). fetches name (from + 1) first ++ fetches name n second) (omega arith))
 
+-- what is told of a dial, part by part
+pub hung_up : {L : Type 0} (to_come to_come' : List L) (addresses addresses' : List (List ℕ)) (back back' : List L) → to_come' ≡ to_come → addresses' ≡ addresses → back' ≡ back
+    → told_of to_come' addresses' back' ≡ told_of to_come addresses back
+hung_up to_come to_come' addresses addresses' back back' a b c = cc
+
 module _ {L : Type 0} (left sent : L → Option (List ℕ)) (address : List ℕ) where
   pub asks_none : (talk : Option (Open L)) (net : Net L) → Asks left sent address [] [] talk net net talk
   asks_none talk net = (refl, refl)
 
-  pub asks_one : (call : Call) (said : Said) (talk line : Option (Open L)) (before after : Net L) → AsksOne left sent address call said talk before after line
+  asks_one : (call : Call) (said : Said) (talk line : Option (Open L)) (before after : Net L) → AsksOne left sent address call said talk before after line
       → Asks left sent address (call ∷ []) (said ∷ []) talk before after line
   asks_one call said talk line before after one = (after, line, one, (refl, refl))
+
+  -- one call, by what it is and what was said
+  pub asks_call : (call wanted : Call) (said it : Said) (talk line : Option (Open L)) (before after : Net L) → call ≡ wanted → said ≡ it → AsksOne left sent address call said talk before after line
+      → Asks left sent address (wanted ∷ []) (it ∷ []) talk before after line
+  asks_call call wanted said it talk line before after same so one =
+      asks_one wanted it talk line before after (subst (λ (s : Said). AsksOne left sent address wanted s talk before after line) so (subst (λ (c : Call). AsksOne left sent address c said talk before after line) same one))
 
   pub asks_both : (first second : List Call) (said more : List Said) (talk next line : Option (Open L)) (before between after : Net L)
       → Asks left sent address first said talk before between next → Asks left sent address second more next between after line

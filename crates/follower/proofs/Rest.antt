@@ -10,7 +10,6 @@ use Rattle.patch_meaning.specs.Checked.{CheckedPatch}
 use Rattle.rpc_answers.specs.declared.answer.Answer.{Answer}
 use Rattle.rpc_answers.specs.declared.answer.Answer.TheVariants as answer
 use Rattle.rpc_calls.specs.declared.call.Call.{Call}
-use Rattle.delta_client.specs.declared.fault.AskFault.{AskFault}
 use Rattle.delta_client.specs.declared.line.Open.{Open}
 use Rattle.zone_state.specs.Brief.{Brief, changes_of}
 use Rattle.zone_state.specs.Zone.{ZoneView}
@@ -54,6 +53,9 @@ module _ {D : Type 0} (before mid : List Term) (more : List CheckedPatch) (learn
 
 -- ---- fetches
 
+abbrev text_said : CheckedPatch → Said
+text_said patch = Ok (answer.Patch patch.text)
+
 -- these patches were fetched and taken, one after another
 pub record Gone {D L : Type 0} (disk_tells net_tells : Type 0) (past : D → Past) (left sent : L → Option (List ℕ)) (address name : List ℕ)
     (old now : ZoneView D) (talk line : Option (Open L)) (before after : Net L) (more : List CheckedPatch) : Type 0 where
@@ -71,7 +73,7 @@ module _ {D L : Type 0} (disk_tells net_tells : Type 0) (past : D → Past) (lef
       → Asks left sent address (fetches name (length old.brief.ids + 1) (texts_said more)) (texts_said more) talk before between next → Asks left sent address (fetches name version said) said next between after line
       → Asks left sent address (fetches name (length old.brief.ids + 1) (texts_said more ++ said)) (texts_said more ++ said) talk before after line
   asks_more more said version next line between after is first second =
-      let from : version ≡ length old.brief.ids + 1 + length (texts_said more) = omega (arith, is, length-map more (λ (patch : CheckedPatch). Ok {E = AskFault} (answer.Patch patch.text))) in
+      let from : version ≡ length old.brief.ids + 1 + length (texts_said more) = omega (arith, is, length-map more text_said) in
       subst (λ (cs : List Call). Asks left sent address cs (texts_said more ++ said) talk before after line)
       (sym (fetches_append name (length old.brief.ids + 1) (texts_said more) said))
       (asks_both left sent address (fetches name (length old.brief.ids + 1) (texts_said more)) (fetches name (length old.brief.ids + 1 + length (texts_said more)) said) (texts_said more) said talk next line before between after first
@@ -96,7 +98,7 @@ module _ {D L : Type 0} (disk_tells net_tells : Type 0) (past : D → Past) (lef
         learnt = met_both more (one ∷ []) old.terms now.terms new.terms so.learnt took.learnt;
         count = omega (arith, grown, so.count, length_push more one);
         asks = λ tells. subst (λ (said : List Said). Asks left sent address (fetches name (length old.brief.ids + 1) said) said talk before after line)
-            (sym (map-append (λ (patch : CheckedPatch). Ok {E = AskFault} (answer.Patch patch.text)) more (one ∷ [])))
+            (sym (map-append text_said more (one ∷ [])))
             (asks_more more (texts_said (one ∷ [])) version next line between after (omega (arith, is, so.count)) (so.asks tells) (asks tells));
       }
 

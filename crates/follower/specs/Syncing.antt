@@ -113,16 +113,16 @@ texts_said more = map (λ patch. Ok (answer.Patch patch.text)) more
 abbrev pub came : ℕ → Option Id → List CheckedPatch → List Said → List Said
 came theirs head more last = Ok (answer.Info theirs head) ∷ (texts_said more ++ last)
 
--- the zone is no longer than the log, and at its version has its head
-abbrev pub GoesBefore : {D : Type 0} → ZoneView D → ℕ → Option Id → Type 0
-GoesBefore zone theirs head = (length zone.brief.ids ≤ theirs) × (length zone.brief.ids ≡ theirs → head ≡ last_of zone.brief.ids)
+-- a copy of this version and head goes before a log: it is no longer, and at the log's version has the log's head
+abbrev pub GoesBefore : ℕ → Option Id → ℕ → Option Id → Type 0
+GoesBefore mine have theirs head = (mine ≤ theirs) × (mine ≡ theirs → head ≡ have)
 
--- how the log's version and head end it, where they aren't ahead of the zone
-abbrev pub Compares : {D : Type 0} → ZoneView D → ℕ → Option Id → SyncEnd → Type 0
-Compares zone theirs head (PeerBehind mine found) = (mine ≡ length zone.brief.ids) × (found ≡ theirs) × (theirs < mine)
-Compares zone theirs head (Diverged version have named) =
-    (version ≡ length zone.brief.ids) × (theirs ≡ version) × (have ≡ last_of zone.brief.ids) × (named ≡ head) × (named ≢ have)
-Compares zone theirs head other = ⊥
+-- how a log ends it that a copy of this version and head doesn't go before
+abbrev pub Compares : ℕ → Option Id → ℕ → Option Id → SyncEnd → Type 0
+Compares mine have theirs head (PeerBehind version found) = (version ≡ mine) × (found ≡ theirs) × (theirs < mine)
+Compares mine have theirs head (Diverged version last named) =
+    (version ≡ mine) × (theirs ≡ mine) × (last ≡ have) × (named ≡ head) × (head ≢ have)
+Compares mine have theirs head other = ⊥
 
 -- how it ends to fetch the versions behind the zone's up to that of the peer's log: a fetch ended it, or none was left
 pub data RestIs {D : Type 0} (old new : ZoneView D) (theirs : ℕ) (last : List Said) (more : List CheckedPatch) (end : SyncEnd) : Type 0 where
@@ -133,6 +133,6 @@ pub data RestIs {D : Type 0} (old new : ZoneView D) (theirs : ℕ) (last : List 
 -- before; or the zone goes before it, and followed.
 pub data EndIs {D : Type 0} (old new : ZoneView D) (said : List Said) (more : List CheckedPatch) (end : SyncEnd) : Type 0 where
   unanswered : more ≡ [] → new ≡ old → LogEnds said end → EndIs old new said more end
-  compared : (theirs : ℕ) (head : Option Id) → said ≡ came theirs head [] [] → more ≡ [] → new ≡ old → Compares new theirs head end → EndIs old new said more end
-  followed : (theirs : ℕ) (head : Option Id) (last : List Said) → said ≡ came theirs head more last → GoesBefore old theirs head
+  compared : (theirs : ℕ) (head : Option Id) → said ≡ came theirs head [] [] → more ≡ [] → new ≡ old → Compares (length new.brief.ids) (last_of new.brief.ids) theirs head end → EndIs old new said more end
+  followed : (theirs : ℕ) (head : Option Id) (last : List Said) → said ≡ came theirs head more last → GoesBefore (length old.brief.ids) (last_of old.brief.ids) theirs head
       → RestIs old new theirs last more end → EndIs old new said more end

@@ -1,12 +1,12 @@
 //! Catching up with a log of a server.
-ghost use Rattle.std.specs.Prelude.{◌≡◌, ◌≤◌, ◌+◌, ◌++◌, ◌∷◌, [], List, None, Ok, true, length, IsSome, IfOk, OnOk, IfErr, IsErrOf};
+ghost use Rattle.std.specs.Prelude.{◌≡◌, ◌≤◌, ◌+◌, ◌++◌, ◌∷◌, [], List, None, Ok, true, length, IsSome, IfOk, OnOk, IfErr, IfNone, IfSome, IsErrOf};
 ghost use Rattle.std.specs.List.{list_all};
 ghost use Rattle.delta_base.specs.Outside.{Rose};
 ghost use Rattle.http_text.specs.Print.{is_visible};
 ghost use Rattle.patch_meaning.specs.Checked.{CheckedPatch};
 ghost use Rattle.rpc_answers.specs.declared.answer.Answer.TheVariants as given;
 ghost use Rattle.follower.specs.Exchanges.{Asks, Exchanged, Said as WasSaid, calls_of, fetches, net_of};
-ghost use Rattle.follower.specs.Syncing.{EndIs, FetchEnds, IsText, RestIs, Stayed, Took, TookMore, texts_said};
+ghost use Rattle.follower.specs.Syncing.{Compares, EndIs, FetchEnds, GoesBefore, IsText, RestIs, Stayed, Took, TookMore, texts_said};
 
 use crate::asking::{ask_log, end_line};
 use crate::ends::SyncEnd;
@@ -107,6 +107,24 @@ fn take_rest<N: Dial, D: Disk>(
     SyncEnd::CaughtUp { version: theirs }
 }
 
+// The end by a log's version and head, where a copy of these doesn't go before it.
+fn compared(mine: u32, have: Option<Id>, theirs: u32, head: Option<Id>) -> Option<SyncEnd>
+    ensures ends { IfSome result (Compares mine have theirs head) }
+    ensures before { IfNone result (GoesBefore mine have theirs head) }
+{
+    if theirs < mine {
+        return Some(SyncEnd::PeerBehind { mine, theirs });
+    }
+    if theirs == mine && head != have {
+        return Some(SyncEnd::Diverged {
+            version: mine,
+            have,
+            theirs: head,
+        });
+    }
+    None
+}
+
 // Catches up with a log that has this version and head.
 fn catch_up<N: Dial, D: Disk>(
     alloc: Global,
@@ -133,18 +151,10 @@ fn catch_up<N: Dial, D: Disk>(
     ensures limits { zone.new.limits ≡ zone.old.limits }
     ensures mark { D.mark zone.new.disk ≡ D.mark zone.old.disk }
 {
-    let mine = zone.version();
-    if theirs < mine {
-        return SyncEnd::PeerBehind { mine, theirs };
+    match compared(zone.version(), zone.head(), theirs, head) {
+        Some(end) => end,
+        None => take_rest(alloc, net, line, address, name, zone, theirs),
     }
-    if theirs == mine && head != zone.head() {
-        return SyncEnd::Diverged {
-            version: mine,
-            have: zone.head(),
-            theirs: head,
-        };
-    }
-    take_rest(alloc, net, line, address, name, zone, theirs)
 }
 
 // Catches up over a line on which nothing is open.

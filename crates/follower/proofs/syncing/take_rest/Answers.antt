@@ -1,4 +1,5 @@
 use Rattle.std.proofs.Common.{◌≡◌, ◌≤◌, ℕ, ◌+◌, [], ◌∷◌, ◌++◌, List, Option, length, refl, arith, sym, ◌∙◌, ap}
+use Rattle.std.proofs.lemmas.List.{length_push}
 use Rattle.patch_meaning.specs.Checked.{CheckedPatch}
 use Rattle.zone_state.specs.Brief.{Brief}
 use Rattle.follower.specs.Exchanges.{net_of}
@@ -30,7 +31,7 @@ loop-before-preserved g c =
         c.loop-before.zone c.take_one.new.zone c.loop-before.line.open c.take_one.new.line.open (told c.loop-before.net) (told c.take_one.new.net) so.gone.0 next (c.loop-before.before + 1) version so.gone.1 e.ok.2 e.ok.3 in
     record {
       gone = (so.gone.0 ++ next ∷ [], gone);
-      version = omega (arith, gone.count, so.gone.1.count, so.version);
+      version = omega (arith, gone.count, so.gone.1.count, so.version, length_push so.gone.0 next);
       within = omega arith;
       awaits = e.awaits;
       link = omega (arith, so.link, e.never_falls);
@@ -46,13 +47,15 @@ returns-in-Err-clause-follows g c =
     let e = c.in-Err.ensures in
     let version : c.loop-before.before + 1 ≡ length c.loop-before.zone.brief.ids + 1 = omega (arith, so.version) in
     let within : c.loop-before.before + 1 ≤ c.args.theirs = omega arith in
-    (e.err.0, so.gone.0, gone_stopped g.D.Disk.tells g.N.Dial.tells g.D.Disk.past g.N.L.Link.left g.N.L.Link.sent c.args.address.now c.args.name.now c.args.zone.now c.args.line.now.open (told c.args.net.now)
-        c.loop-before.zone c.take_one.new.zone c.loop-before.line.open c.take_one.new.line.open (told c.loop-before.net) (told c.take_one.new.net) so.gone.0 e.err.0 (c.loop-before.before + 1) c.args.theirs c.in-Err.end version within so.gone.1 e.err.1 e.stayed e.err.2)
+    let it = gone_stopped g.D.Disk.tells g.N.Dial.tells g.D.Disk.past g.N.L.Link.left g.N.L.Link.sent c.args.address.now c.args.name.now c.args.zone.now c.args.line.now.open (told c.args.net.now)
+        c.loop-before.zone c.take_one.new.zone c.loop-before.line.open c.take_one.new.line.open (told c.loop-before.net) (told c.take_one.new.net) so.gone.0 e.err.0 (c.loop-before.before + 1) c.args.theirs c.in-Err.end version within so.gone.1 e.err.1 e.stayed e.err.2 in
+    (e.err.0, so.gone.0, it.0, it.1, it.2)
 
 pub returns-clause-follows : goal.returns-clause-follows
 returns-clause-follows g c =
     let told = λ (net : g.row.N.Denot). net_of (g.N.Dial.to_come net) (g.N.Dial.addresses net) (g.N.Dial.back net) (g.N.Dial.tries net) in
     let so = c.loop-before.invariant in
     let version : c.args.theirs ≡ length c.loop-before.zone.brief.ids = omega (arith, so.version, so.within) in
-    ([], so.gone.0, gone_through g.D.Disk.tells g.N.Dial.tells g.D.Disk.past g.N.L.Link.left g.N.L.Link.sent c.args.address.now c.args.name.now c.args.zone.now c.args.line.now.open (told c.args.net.now)
-        c.loop-before.zone c.loop-before.line.open (told c.loop-before.net) so.gone.0 c.args.theirs version so.gone.1)
+    let it = gone_through g.D.Disk.tells g.N.Dial.tells g.D.Disk.past g.N.L.Link.left g.N.L.Link.sent c.args.address.now c.args.name.now c.args.zone.now c.args.line.now.open (told c.args.net.now)
+        c.loop-before.zone c.loop-before.line.open (told c.loop-before.net) so.gone.0 c.args.theirs version so.gone.1 in
+    ([], so.gone.0, it.0, it.1, it.2)
