@@ -1,0 +1,52 @@
+-- What a zone keeps of the patches that it took.
+use Rattle.std.specs.Prelude.{ℕ, ◌+◌, ◌-◌, ◌*◌, ◌==◌, slice_get, List, [], ◌∷◌, ◌++◌, Option, None, Some, length, map, sum_by, if◌then◌else◌}
+use Rattle.std.specs.List.{flat_map}
+use Rattle.std.specs.Option.{option_map}
+use Rattle.delta_base.specs.declared.id.Id.{Id}
+use Rattle.delta_base.specs.declared.limits.TheConstants.{EMPTY_JOURNAL, PAYLOAD_FRAME}
+use Rattle.rdf_terms.specs.declared.change.Change.{Change}
+use Rattle.rdf_terms.specs.Dataset.{Dataset, apply}
+use Rattle.patch_meaning.specs.Checked.{CheckedPatch, meanings}
+use Rattle.patch_meaning.specs.Replay.{replay}
+
+-- the ids in their order, how many bytes the texts have, and the dataset that the patches make
+pub record Brief : Type 0 where
+  pub ids : List Id
+  pub bytes : ℕ
+  pub contents : Dataset
+
+abbrev pub id_of : CheckedPatch → Id
+id_of patch = patch.meaning.id
+
+abbrev pub brief_of : List CheckedPatch → Brief
+brief_of taken = record {
+  ids = map id_of taken;
+  bytes = sum_by (λ patch. length patch.text) taken;
+  contents = replay (meanings taken);
+}
+
+-- what is kept with one patch more
+abbrev pub with_patch : Brief → CheckedPatch → Brief
+with_patch brief patch = record {
+  ids = brief.ids ++ patch.meaning.id ∷ [];
+  bytes = brief.bytes + length patch.text;
+  contents = apply patch.meaning.changes brief.contents;
+}
+
+-- the changes of patches, one after another
+abbrev pub changes_of : List CheckedPatch → List Change
+changes_of taken = flat_map (λ patch. patch.meaning.changes) taken
+
+-- the id of the last one
+abbrev pub last_of : List Id → Option Id
+last_of ids = slice_get ids (length ids - 1)
+
+-- the version of the patch with this id, counted from 1
+abbrev pub version_in : List Id → Id → Option ℕ
+version_in [] id = None
+version_in (first ∷ ids) id =
+    if first.0 == id.0 then Some 1 else option_map (λ version. version + 1) (version_in ids id)
+
+-- the length of a journal that holds patches with these ids and so many bytes
+abbrev pub file_length : List Id → ℕ → ℕ
+file_length ids bytes = EMPTY_JOURNAL + PAYLOAD_FRAME * length ids + bytes

@@ -1,0 +1,40 @@
+-- Why a zone can't be opened.
+use Rattle.std.specs.Prelude.{ℕ, List, []}
+use Rattle.delta_base.specs.declared.limits.LogLimits.{LogLimits}
+use Rattle.term_table.specs.Table.{most}
+use Rattle.dataset_tx.specs.Held.{AreMore}
+use Rattle.log_journal.specs.File.{Holds}
+use Rattle.patch_meaning.specs.Checked.{CheckedPatch, texts}
+use Rattle.patch_log.specs.declared.fault.LogFault.{LogFault}
+use Rattle.patch_log.specs.declared.fault.LogFault.TheVariants as log
+use Rattle.patch_log.specs.Fault.{HasLogFault}
+use Rattle.zone_state.specs.declared.fault.ZoneFault.{ZoneFault}
+use Rattle.zone_state.specs.declared.fault.ZoneFault.TheVariants as zone
+use Rattle.zone_state.specs.Brief.{changes_of}
+use Rattle.zone_state.specs.Zone.{zone_number, AreTaken}
+
+-- a fault of a log, as one of a zone
+abbrev pub of_log : LogFault → ZoneFault
+of_log log.Failed = zone.Failed
+of_log (log.Damaged at) = zone.Damaged at
+of_log (log.WrongNumber found) = zone.WrongNumber found
+of_log (log.OverLimit length limit) = zone.OverLimit length limit
+of_log log.OutOfMemory = zone.OutOfMemory
+of_log (log.BrokenChain version) = zone.BrokenChain version
+
+-- The file has this fault, and none that comes before it: those of a log, and then that its patches have more terms than
+-- there are numbers. What a file can't tell is free: that its disk failed, and want of memory.
+abbrev pub HasZoneFault : List ℕ → LogLimits → ZoneFault → Type 0
+HasZoneFault file limits (zone.Damaged at) =
+    HasLogFault file zone_number limits (log.Damaged at)
+HasZoneFault file limits (zone.WrongNumber found) =
+    HasLogFault file zone_number limits (log.WrongNumber found)
+HasZoneFault file limits (zone.OverLimit length limit) =
+    HasLogFault file zone_number limits (log.OverLimit length limit)
+HasZoneFault file limits (zone.BrokenChain version) =
+    HasLogFault file zone_number limits (log.BrokenChain version)
+HasZoneFault file limits zone.TermsFull =
+    (taken : List CheckedPatch) × Holds file zone_number (texts taken)
+    × AreTaken limits taken × AreMore most (changes_of taken) []
+HasZoneFault file limits zone.Failed = Unit {0}
+HasZoneFault file limits zone.OutOfMemory = Unit {0}

@@ -1,0 +1,9 @@
+pub mod Brief
+pub mod Ids
+pub mod Taking
+pub mod Zone
+pub mod Stay
+pub mod Fault
+pub mod Next
+pub mod State
+pub mod Opening

@@ -1,0 +1,37 @@
+-- What is kept while the payloads of a zone's journal are read.
+use Rattle.std.specs.Prelude.{◌≡◌, ℕ, ◌+◌, true, false, List, [], length, map}
+use Rattle.rdf_terms.specs.declared.change.Change.{Change}
+use Rattle.rdf_terms.specs.Dataset.{apply}
+use Rattle.term_table.specs.Table.{most}
+use Rattle.dataset_tx.specs.Held.{AreMet, AreMore}
+use Rattle.chain_core.specs.Breaks.{BreaksAt}
+use Rattle.patch_meaning.specs.Checked.{CheckedPatch}
+use Rattle.patch_log.specs.Log.{AreChained}
+use Rattle.zone_state.specs.declared.opening.Reading.{Reading}
+use Rattle.zone_state.specs.Brief.{brief_of, id_of, changes_of}
+use Rattle.zone_state.specs.Next.{AreFound}
+use Rattle.zone_state.specs.State.{brief_in}
+
+-- these patches were read; the dataset is theirs unless they have too many terms
+pub record HasRead (reading : Reading) (taken : List CheckedPatch) : Type 0 where
+  pub ids_are : reading.kept.ids.items ≡ map id_of taken
+  pub whole : reading.full ≡ false → brief_in reading.kept ≡ brief_of taken
+  pub met : reading.full ≡ false → AreMet (changes_of taken) [] reading.kept.contents.terms
+  pub overflow : reading.full ≡ true → AreMore most (changes_of taken) []
+
+-- the changes were applied, or have too many terms, or those before had
+pub record MeetsMore (old new : Reading) (changes : List Change) : Type 0 where
+  pub stays_full : old.full ≡ true → new.full ≡ true
+  pub applied : new.full ≡ false
+      → (new.kept.contents.contents ≡ apply changes old.kept.contents.contents)
+      × AreMet changes old.kept.contents.terms new.kept.contents.terms
+  pub overflow : old.full ≡ false → new.full ≡ true
+      → AreMore most changes old.kept.contents.terms
+
+-- the payloads are those of patches that were read, or break off behind these
+pub record HasReceived (first : Reading) (payloads : List (List ℕ)) (reading : Reading) : Type 0 where
+  pub most_is : reading.most ≡ first.most
+  pub found : reading.broken ≡ false → (taken : List CheckedPatch)
+      × AreFound payloads first.most taken × HasRead reading taken
+  pub breaks : reading.broken ≡ true
+      → BreaksAt (AreChained first.most) payloads (length reading.kept.ids.items + 1)

@@ -1,0 +1,34 @@
+-- What a zone keeps.
+use Rattle.std.specs.Prelude.{◌≡◌, ◌^◌, ◌<◌, List, Option, None}
+use Rattle.disk_model.specs.declared.disk.Disk.{Ghosts}
+use Rattle.log_journal.specs.declared.journal.Journal.{Journal}
+use Rattle.log_journal.specs.StandsFor.{length_of, limit_of, is_settled, disk_of}
+use Rattle.delta_base.specs.declared.limits.LogLimits.{LogLimits}
+use Rattle.patch_meaning.specs.Checked.{CheckedPatch}
+use Rattle.zone_state.specs.declared.kept.Kept.{Kept}
+use Rattle.zone_state.specs.Brief.{Brief, file_length}
+use Rattle.zone_state.specs.Zone.{ZoneView, StandsForZone}
+
+abbrev pub brief_in : Kept → Brief
+brief_in kept = record { ids = kept.ids.items; bytes = kept.bytes; contents = kept.contents.contents }
+
+abbrev pub view_of : {D : Type 0} {disks : Ghosts D} → Journal D disks → Kept → LogLimits
+    → ZoneView D
+view_of journal kept limits = record {
+  brief = brief_in kept;
+  terms = kept.contents.terms;
+  settled = is_settled journal;
+  limits = limits;
+  disk = disk_of journal;
+}
+
+-- the journal's length and limit are those of the patches taken, nothing is staged, and the zone stands for some patches
+pub record IsKept {D : Type 0} {disks : Ghosts D} (journal : Journal D disks) (kept : Kept)
+    (limits : LogLimits) : Type 0 where
+  pub length_is : length_of journal ≡ file_length kept.ids.items kept.bytes
+  pub limit_is : limit_of journal ≡ limits.bytes
+  pub countable : limits.patches < 2 ^ 32
+  pub unstaged : kept.contents.staged ≡ None
+  pub stands : (taken : List CheckedPatch) × (doubt : Option CheckedPatch)
+      × StandsForZone disks.tells (disks.past (disk_of journal)) (view_of journal kept limits)
+      taken doubt

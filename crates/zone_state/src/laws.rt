@@ -1,0 +1,40 @@
+//! What zones have in common with logs. These functions do nothing: their contracts are theorems.
+ghost use Rattle.std.specs.Prelude.{◌≡◌, ◌↔◌, ℕ, List, Option, map};
+ghost use Rattle.delta_base.specs.declared.limits.LogLimits.{LogLimits};
+ghost use Rattle.disk_model.specs.Past.{Past};
+ghost use Rattle.chain_core.specs.declared.answer.Decision.TheVariants.{Accept};
+ghost use Rattle.chain_core.specs.declared.chain.Patch.{Patch};
+ghost use Rattle.chain_core.specs.declared.fate.Fate.{Fate};
+ghost use Rattle.chain_core.specs.Decision.{decision};
+ghost use Rattle.chain_core.specs.Log.{up};
+ghost use Rattle.chain_core.specs.Stay.{stay};
+ghost use Rattle.patch_meaning.specs.Checked.{CheckedPatch};
+ghost use Rattle.patch_log.specs.Log.{bare, IsSoundLog, StandsForLog};
+ghost use Rattle.zone_state.specs.declared.answer.TakeAnswer.TheVariants.{Applied};
+ghost use Rattle.zone_state.specs.Brief.{brief_of};
+ghost use Rattle.zone_state.specs.Taking.{taking, taken_by};
+ghost use Rattle.zone_state.specs.Zone.{ZoneView, AreTaken, StandsForZone, zone_number, doubt_of};
+
+use disk_model::Disk;
+
+/// A zone takes what a log of the same patches accepts, and comes to what that comes to.
+pub fn zones_decide_as_logs()
+    ensures decided { (limits : LogLimits) (taken : List CheckedPatch) (patch : Patch) (version : ℕ)
+        → (taking (brief_of taken).ids (brief_of taken).bytes patch limits ≡ Applied version)
+        ↔ (decision (map bare taken) patch limits ≡ Accept version) }
+    ensures stays { (limits : LogLimits) (taken : List CheckedPatch) (doubt : Option Patch)
+        (patch : Patch) (fate : Fate)
+        → (taken_by (taking (brief_of taken).ids (brief_of taken).bytes patch limits)
+        fate (map bare taken) doubt patch).0
+        ≡ (stay limits (up (map bare taken) doubt) patch fate).0 }
+{}
+
+/// Patches that were taken are a log, and the disk of a zone stands for it.
+pub fn zones_stand_as_logs<D: Disk>()
+    ensures taken { (limits : LogLimits) (taken : List CheckedPatch) → AreTaken limits taken
+        → IsSoundLog limits (map bare taken) }
+    ensures stands { D.tells → (past : Past) (zone : ZoneView D)
+        (taken : List CheckedPatch) (doubt : Option CheckedPatch)
+        → StandsForZone D.tells past zone taken doubt
+        → StandsForLog past zone_number zone.limits (map bare taken) (doubt_of doubt) }
+{}

@@ -1,0 +1,284 @@
+//! A zone: its journal on a disk, and what it keeps of the patches that it took.
+ghost use Rattle.std.specs.Prelude.{◌≡◌, ◌≢◌, ◌⊎◌, ℕ, ◌+◌, ◌≤◌, ◌++◌, [], ◌∷◌, List, Option, None, length, map, IsTrue, IfOk, IfErr};
+ghost use Rattle.std.specs.List.{filter};
+ghost use Rattle.delta_base.specs.Outside.{Rose};
+ghost use Rattle.disk_model.specs.Past.{reads, EveryImage, LeavesOnly, Keeps};
+ghost use Rattle.log_journal.specs.File.{Holds};
+ghost use Rattle.rdf_terms.specs.Line.{line};
+ghost use Rattle.term_table.specs.Table.{most};
+ghost use Rattle.dataset_tx.specs.Held.{AreMet, AreMore};
+ghost use Rattle.dataset_tx.specs.Pattern.{matches};
+ghost use Rattle.dataset_tx.specs.Prefixes.{prefix_change};
+ghost use Rattle.patch_meaning.specs.Checked.{CheckedPatch, texts};
+ghost use Rattle.patch_log.specs.Log.{bare, MayHoldDuring};
+ghost use Rattle.zone_state.specs.Brief.{with_patch, last_of, file_length, changes_of};
+ghost use Rattle.zone_state.specs.Taking.{IsWant, IsDecidedBy};
+ghost use Rattle.zone_state.specs.Zone.{zone_number, StandsForZone, doubt_of};
+ghost use Rattle.zone_state.specs.Stay.{decided, TookOne};
+ghost use Rattle.zone_state.specs.Fault.{HasZoneFault};
+
+use crate::answer::TakeAnswer;
+use crate::fault::{ZoneFault, ZoneRefusal};
+use crate::file::ZONE_NUMBER;
+use crate::kept::Kept;
+use crate::opening::Reading;
+use dataset_tx::{DataFault, Pattern};
+use delta_base::{Id, LogLimits, OutOfMemory, Text};
+use disk_model::{Disk, Planned};
+use log_journal::{Journal, OpenRefusal, write};
+use patch_log::LogFault;
+use patch_meaning::Checked;
+use quad_index::Steps;
+use rdf_terms::{Changes, Quads};
+use std::alloc::Global;
+use std::collections::BTreeSet;
+use std::marker::Model;
+use std::sync::ledger::Ledger;
+
+/// Patches taken in order, whose texts stand on the disk alone.
+#[derive(Drop)]
+pub struct Zone<D: Disk> {
+    alloc: Global,
+    kept: Kept,
+    journal: Journal<D>,
+    limits: LogLimits,
+}
+
+impl<D: Disk> Model for Zone<D> {
+    ghost use Rattle.zone_state.specs.Zone.{ZoneView};
+    ghost use Rattle.zone_state.specs.State.{view_of, IsKept};
+
+    ghost Value = { ZoneView D };
+
+    ghost view = { λ z. view_of z.journal z.kept z.limits };
+
+    ghost invariant = { λ z. IsKept z.journal z.kept z.limits };
+}
+
+impl<D: Disk> Zone<D> {
+    /// Opens a file that a crash may have left. A refusal hands the disk back.
+    pub fn open_on(alloc: Global, disk: D, limits: LogLimits) -> Result<Zone<D>, ZoneRefusal<D>>
+        // The patches taken are those of the journal's payloads, and none is in doubt.
+        ensures taken { IfOk result (λ zone. (taken : List CheckedPatch)
+            × StandsForZone D.tells (D.past zone.disk) zone taken None
+            × AreMet (changes_of taken) [] zone.terms
+            × (D.tells → Holds (reads (D.past disk)) zone_number (texts taken))) }
+        ensures limits { IfOk result (λ zone. zone.limits ≡ limits) }
+        ensures fault { D.tells → IfErr result (λ refusal.
+            HasZoneFault (reads (D.past disk)) limits refusal.fault) }
+
+        // A crash at any moment leaves what it might have left before, and a read gives what it gave.
+        ensures kept { D.tells → IfOk result (λ zone. Keeps (D.past disk) (D.past zone.disk)) }
+        ensures kept_refused { D.tells → IfErr result (λ refusal.
+            Keeps (D.past disk) (D.past refusal.disk)) }
+
+        // It reads no more than the journal.
+        ensures few { D.tells → IfOk result (λ zone. D.read_bytes zone.disk
+            ≤ D.read_bytes disk + file_length zone.brief.ids zone.brief.bytes) }
+        ensures cause { IfErr result (λ refusal. refusal.fault ≡ ZoneFault.Failed
+            → Rose (D.faults disk) (D.faults refusal.disk)) }
+
+        // A fault is counted where a call of the disk failed, and else none.
+        ensures faults { IfOk result (λ zone. D.faults zone.disk ≡ D.faults disk) }
+        ensures never_falls { IfErr result (λ refusal. D.faults disk ≤ D.faults refusal.disk) }
+        ensures faults_refused { IfErr result (λ refusal. refusal.fault ≢ ZoneFault.Failed
+            → D.faults refusal.disk ≡ D.faults disk) }
+
+        // Where no failure is planned, its disk fails for want of memory alone.
+        ensures long { D.plans → IfOk result (λ zone. D.short zone.disk ≡ D.short disk) }
+        ensures planned { D.plans → IfErr result (λ refusal. refusal.fault ≡ ZoneFault.Failed
+            → D.next_failure disk ≡ None → IsTrue (D.short refusal.disk)) }
+        ensures mark { IfOk result (λ zone. D.mark zone.disk ≡ D.mark disk) }
+        ensures mark_refused { IfErr result (λ refusal. D.mark refusal.disk ≡ D.mark disk) }
+    {
+        let mut reading = Reading::new(alloc, limits.patches);
+        match Journal::open_with(alloc, disk, ZONE_NUMBER, limits.bytes, &mut reading) {
+            Ok(journal) => match reading.finish() {
+                Ok(kept) => Ok(Zone {
+                    alloc,
+                    kept,
+                    journal,
+                    limits,
+                }),
+                Err(fault) => Err(ZoneRefusal {
+                    disk: journal.close(),
+                    fault,
+                }),
+            },
+            Err(OpenRefusal { disk, fault }) => {
+                drop(reading);
+                Err(ZoneRefusal {
+                    disk,
+                    fault: ZoneFault::from(LogFault::from(fault)),
+                })
+            }
+        }
+    }
+
+    /// How many patches it took.
+    pub fn version(&self) -> u32
+        ensures version { result ≡ length self.now.brief.ids }
+        ensures stands { (taken : List CheckedPatch) × (doubt : Option CheckedPatch)
+            × StandsForZone D.tells (D.past self.now.disk) self.now taken doubt }
+    {
+        self.kept.ids.len()
+    }
+
+    /// The id of the last one.
+    pub fn head(&self) -> Option<Id>
+        ensures { result ≡ last_of self.now.brief.ids }
+    {
+        self.kept.ids.last()
+    }
+
+    /// No patch is in doubt.
+    pub fn is_settled(&self) -> bool
+        ensures { result ≡ self.now.settled }
+    {
+        self.journal.is_settled()
+    }
+
+    /// How often its disk has failed.
+    pub fn faults(&self) -> u64
+        ensures { result ≡ D.faults self.now.disk }
+    {
+        self.journal.faults()
+    }
+
+    /// The quads, in the order of their lines.
+    pub fn dump(&self) -> Result<Quads, OutOfMemory>
+        ensures { IfOk result (λ quads. quads.items ≡ self.now.brief.contents.quads) }
+    {
+        self.kept.contents.quads()
+    }
+
+    /// The lines of the quads, in the order of their bytes. No quad is copied.
+    pub fn lines(&self) -> Result<BTreeSet<Text>, OutOfMemory>
+        ensures { IfOk result (λ lines. lines.keys ≡ map line self.now.brief.contents.quads) }
+    {
+        self.kept.contents.lines()
+    }
+
+    /// The changes that set the prefixes, in the order of their rows.
+    pub fn prefixes(&self) -> Result<Changes, OutOfMemory>
+        ensures { IfOk result (λ changes.
+            changes.items ≡ map prefix_change self.now.brief.contents.prefixes) }
+    {
+        self.kept.contents.prefixes()
+    }
+
+    /// The quads that match, in the order of their lines. A step is a key looked at.
+    pub fn matching<L: Ledger>(
+        &self,
+        pattern: &Pattern,
+        steps: &mut Steps<L>,
+    ) -> Result<Quads, OutOfMemory>
+        ensures found { IfOk result (λ quads.
+            quads.items ≡ filter (matches pattern.now) self.now.brief.contents.quads) }
+        ensures cost { IfOk result (λ quads. steps.new ≤ steps.old + length quads.items + 1) }
+    {
+        self.kept.contents.matching(pattern, steps)
+    }
+
+    /// Takes the next patch, or says why not. It diverges, its id is repeated, a limit is reached, memory is wanted or numbers
+    /// for its terms are, or the disk failed: in this order, but that want of memory may come before the numbers.
+    pub fn take_next(&mut self, patch: &Checked) -> TakeAnswer
+        ensures decided { IsDecidedBy (decided self.old patch.now) result }
+
+        // It is one stay of the zone, whatever patches it stood for.
+        ensures stay { (taken : List CheckedPatch) (doubt : Option CheckedPatch)
+            → StandsForZone D.tells (D.past self.old.disk) self.old taken doubt
+            → result ≢ TakeAnswer.TermsFull → result ≢ TakeAnswer.OutOfMemory
+            → TookOne D.Disk self.old self.new taken doubt patch.now result }
+
+        // Where memory or numbers for terms are wanted, the patch is the next one.
+        ensures want { (result ≡ TakeAnswer.TermsFull) ⊎ (result ≡ TakeAnswer.OutOfMemory)
+            → IsWant (decided self.old patch.now) result }
+        ensures terms_full { result ≡ TakeAnswer.TermsFull
+            → AreMore most patch.now.meaning.changes self.old.terms }
+        ensures terms { AreMet patch.now.meaning.changes self.old.terms self.new.terms }
+
+        ensures applied { (version : ℕ) → result ≡ TakeAnswer.Applied version
+            → self.new.brief ≡ with_patch self.old.brief patch.now }
+        ensures refused { ((version : ℕ) → result ≢ TakeAnswer.Applied version)
+            → self.new.brief ≡ self.old.brief }
+
+        // Where its disk wasn't asked, nothing changes but what is known of terms.
+        ensures untouched { result ≢ TakeAnswer.DiskFault
+            → ((version : ℕ) → result ≢ TakeAnswer.Applied version)
+            → self.new ≡ record self.old { terms = self.new.terms } }
+
+        // A crash at any moment of the call leaves the patches taken, with the one in doubt, with the new one, or with neither.
+        // What is applied is in every image.
+        ensures any_moment { D.tells → (taken : List CheckedPatch) (doubt : Option CheckedPatch)
+            → StandsForZone D.tells (D.past self.old.disk) self.old taken doubt
+            → LeavesOnly (MayHoldDuring zone_number (map bare taken) (doubt_of doubt)
+            (bare patch.now)) (D.past self.old.disk) (D.past self.new.disk) }
+        ensures kept { (version : ℕ) → result ≡ TakeAnswer.Applied version → D.tells
+            → (taken : List CheckedPatch) (doubt : Option CheckedPatch)
+            → StandsForZone D.tells (D.past self.old.disk) self.old taken doubt
+            → EveryImage (D.past self.new.disk) (λ image.
+            Holds image zone_number (texts (taken ++ patch.now ∷ []))) }
+
+        ensures cause { result ≡ TakeAnswer.DiskFault
+            → Rose (D.faults self.old.disk) (D.faults self.new.disk) }
+        ensures faults { D.faults self.old.disk ≤ D.faults self.new.disk }
+        ensures well { result ≢ TakeAnswer.DiskFault
+            → D.faults self.new.disk ≡ D.faults self.old.disk }
+        ensures stays_short { D.plans → IsTrue (D.short self.old.disk)
+            → IsTrue (D.short self.new.disk) }
+        ensures limits { self.new.limits ≡ self.old.limits }
+        ensures mark { D.mark self.new.disk ≡ D.mark self.old.disk }
+    {
+        let decided = self.kept.taking(patch, &self.limits);
+        match decided {
+            TakeAnswer::Applied { version } => match self.kept.prepare(self.alloc, patch) {
+                Ok(block) => match write(&mut self.journal, &block) {
+                    Ok(()) => {
+                        let size = patch.text().len() as u64;
+                        self.kept.commit_staged(patch.id(), size);
+                        TakeAnswer::Applied { version }
+                    }
+                    Err(_) => {
+                        self.kept.drop_staged();
+                        TakeAnswer::DiskFault
+                    }
+                },
+                Err(DataFault::TermsFull) => TakeAnswer::TermsFull,
+                Err(DataFault::OutOfMemory) => TakeAnswer::OutOfMemory,
+            },
+            refused => refused,
+        }
+    }
+
+    /// Gives the disk back.
+    pub fn close(self) -> D
+        ensures disk { result ≡ self.disk }
+        ensures stands { (taken : List CheckedPatch) × (doubt : Option CheckedPatch)
+            × StandsForZone D.tells (D.past result) self taken doubt }
+    {
+        let Zone { journal, .. } = self;
+        journal.close()
+    }
+}
+
+impl<D: Planned> Zone<D> {
+    /// Plans which sync of its disk fails.
+    pub fn plan(&mut self, next: Option<u64>)
+        ensures same { self.new ≡ record self.old { disk = self.new.disk } }
+        ensures next { D.next_failure self.new.disk ≡ next }
+        ensures past { D.past self.new.disk ≡ D.past self.old.disk }
+        ensures short { D.short self.new.disk ≡ D.short self.old.disk }
+        ensures faults { D.faults self.new.disk ≡ D.faults self.old.disk }
+        ensures mark { D.mark self.new.disk ≡ D.mark self.old.disk }
+    {
+        self.journal.plan(next);
+    }
+
+    /// Whether a call of its disk has failed for want of memory.
+    pub fn is_short(&self) -> bool
+        ensures { result ≡ D.short self.now.disk }
+    {
+        self.journal.is_short()
+    }
+}
