@@ -204,7 +204,7 @@ fn is_found<L: Ledger>(
     Ok(())
 }
 
-// Each of the sixteen patterns finds what a walk finds, in three graphs and in one that has no quad.
+// Each of the sixteen patterns finds what a walk does, in three graphs and in one without quads.
 fn are_found<L: Ledger>(
     rt: &impl Abort,
     alloc: Global,
