@@ -101,7 +101,7 @@ fn examples_make(
     Ok(())
 }
 
-// Behind the first changes a dataset has these lines, and behind those of an example what that says.
+// Behind the first changes a dataset has these lines, and behind an example's what that says.
 fn all_make(
     rt: &impl Abort,
     alloc: Global,

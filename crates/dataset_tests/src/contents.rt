@@ -91,7 +91,7 @@ pub fn has(
     Ok(())
 }
 
-/// Makes changes. Where memory is wanting the dataset has what it had, and a second try makes them.
+/// Makes changes. Where memory is wanting the dataset has what it had, and a second try does.
 pub fn make(
     rt: &impl Abort,
     alloc: Global,
@@ -113,7 +113,7 @@ pub fn make(
     }
 }
 
-/// Stages changes. Where memory is wanting the dataset has what it had, and a second try stages them.
+/// Stages changes. Where memory is wanting the dataset has what it had, and a second try does.
 pub fn stage(
     rt: &impl Abort,
     alloc: Global,

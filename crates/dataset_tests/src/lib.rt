@@ -1,6 +1,6 @@
 //! Worked examples of numbered terms, of keys in six orders, and of datasets.
 //!
-//! Where memory is wanting once, an example compares what stands then, and succeeds at a second try.
+//! Where memory is wanting once, an example compares what stands, and succeeds at a second try.
 #![tactic(auto)]
 
 #[cfg(test)]

@@ -1,5 +1,5 @@
 //! Searches by all patterns, beside walks over all quads.
-ghost use Rattle.std.specs.Prelude.{◌≡◌, ◌<◌, None};
+ghost use Rattle.std.specs.Prelude.{◌≡◌, ◌+◌, ◌≤◌, ◌<◌, None, IfOk, IfSome};
 
 use crate::contents::make;
 use crate::patches::{HEAD, patch_of};
@@ -160,18 +160,21 @@ fn are_those(found: &[Quad], all: &[Quad], pattern: &Pattern) -> bool {
     rest.is_empty()
 }
 
+// How many quads are found, in at most as many steps and one more, where a walk finds them too.
 fn finds<L: Ledger>(
     dataset: &Dataset,
     all: &[Quad],
     pattern: &Pattern,
     steps: &mut Steps<L>,
-) -> Result<bool, OutOfMemory>
+) -> Result<Option<usize>, OutOfMemory>
     requires { dataset.now.staged ≡ None }
+    ensures { IfOk result (λ those. IfSome those (λ count. steps.new ≤ steps.old + count + 1)) }
 {
     let found = dataset.matching(pattern, steps)?;
+    let count = found.len();
     let those = are_those(found.as_slice(), all, pattern);
     drop(found);
-    Ok(those)
+    if those { Ok(Some(count)) } else { Ok(None) }
 }
 
 // What a walk finds is found.
@@ -197,11 +200,11 @@ fn is_found<L: Ledger>(
         Err(error) => Err(error),
     };
     drop(pattern);
-    assert!(rt; found?, "at {mask} {graph}");
+    assert!(rt; found?.is_some(), "at {mask} {graph}");
     Ok(())
 }
 
-// Each of the sixteen patterns finds what a walk finds, in three graphs and in one that has no quad.
+// Each of the sixteen patterns finds what a walk does, in three graphs and in one without quads.
 fn are_found<L: Ledger>(
     rt: &impl Abort,
     alloc: Global,
