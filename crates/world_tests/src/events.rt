@@ -1,10 +1,10 @@
 //! Events, and the patches in them.
 use chain_core::Fate;
-use delta_base::{Id, id_text};
+use delta_base::{Id, Listing, id_text};
 use patch_meaning::{Checked, check_patch};
 use std::alloc::Global;
 use std::test::Fail;
-use world_core::{WorldEvent, WorldEvents};
+use world_core::{World, WorldEvent, WorldEvents, world_run};
 
 /// The id whose last digits are this number.
 pub fn id_of(number: u32) -> Id {
@@ -20,51 +20,117 @@ fn push_id(text: &mut Vec<u8>, front: &[u8], id: Id) -> Result<(), Fail> {
 }
 
 /// What a patch with this id adds and what it takes away: values from 0 to 4.
-pub fn values_of(id: Id) -> (u8, u8) {
+pub fn values_of(id: Id) -> (u8, u8)
+    ensures added { result.0 < 5 }
+    ensures taken { result.1 < 5 }
+{
     let number = (id.0 % 16) as u8;
     (number % 5, (number + 2) % 5)
 }
 
 /// The line of the quad with a value.
 pub fn line_of(value: u8) -> [u8; 32]
-    requires { value < 10 }
+    requires { value < 5 }
 {
     let mut line = *b"<http://e/s> <http://e/p> \"0\" .\n";
     line[27] = b'0' + value;
     line
 }
 
-// Adds a row of changes to the quad with this value.
+// Adds a row that adds the quad with a value, or takes it away.
 fn push_change(text: &mut Vec<u8>, code: &[u8], value: u8) -> Result<(), Fail>
-    requires { value < 10 }
+    requires { value < 5 }
 {
     text.extend_from_slice(code)?;
-    text.extend_from_slice(b" <http://e/s> <http://e/p> \"")?;
-    text.push(b'0' + value)?;
-    text.extend_from_slice(b"\" .\n")?;
+    text.extend_from_slice(&line_of(value))?;
     Ok(())
 }
 
-// The text of a patch with this id, which names that one before it.
-fn text_of(alloc: Global, id: Id, prev: Option<Id>) -> Result<Vec<u8>, Fail> {
-    let mut text = Vec::new(alloc);
-    push_id(&mut text, b"H id <uuid:", id)?;
+// Adds the rows of a patch with this id, which names that one before it.
+fn push_rows(text: &mut Vec<u8>, id: Id, prev: Option<Id>) -> Result<(), Fail> {
+    push_id(text, b"H id <uuid:", id)?;
     if let Some(prev) = prev {
-        push_id(&mut text, b"H prev <uuid:", prev)?;
+        push_id(text, b"H prev <uuid:", prev)?;
     }
     let (added, taken) = values_of(id);
     text.extend_from_slice(b"TX .\n")?;
-    push_change(&mut text, b"A", added)?;
-    push_change(&mut text, b"D", taken)?;
+    push_change(text, b"A ", added)?;
+    push_change(text, b"D ", taken)?;
     text.extend_from_slice(b"TC .\n")?;
-    Ok(text)
+    Ok(())
 }
 
 /// A patch with this id, which names that one before it.
 pub fn patch_of(alloc: Global, id: Id, prev: Option<Id>) -> Result<Checked, Fail> {
-    let text = text_of(alloc, id, prev)?;
+    let mut text = Vec::new(alloc);
+    push_rows(&mut text, id, prev)?;
     let patch = check_patch(alloc, &text)?;
     Ok(patch)
+}
+
+/// An event, with the numbers of patches in the place of patches.
+#[derive(Clone, Copy)]
+pub enum Step {
+    /// An append of a patch with this number behind the one with that number, or of a first one where that is 0.
+    Append {
+        number: u32,
+        before: u32,
+        fate: Fate,
+    },
+    Serve {
+        version: u32,
+    },
+    Describe,
+    Stop {
+        opened: bool,
+    },
+    Open,
+    NewZone,
+    /// A message reaches the first zone.
+    Deliver {
+        message: u32,
+        fate: Fate,
+    },
+    ZoneOpen,
+}
+
+/// An append of the patch with this number behind the one before it.
+pub fn next(number: u32, fate: Fate) -> Step {
+    Step::Append {
+        number,
+        before: number.saturating_sub(1),
+        fate,
+    }
+}
+
+fn event_of(alloc: Global, step: Step) -> Result<WorldEvent, Fail> {
+    let event = match step {
+        Step::Append {
+            number,
+            before,
+            fate,
+        } => {
+            let prev = if before == 0 {
+                None
+            } else {
+                Some(id_of(before))
+            };
+            let patch = patch_of(alloc, id_of(number), prev)?;
+            WorldEvent::Append { patch, fate }
+        }
+        Step::Serve { version } => WorldEvent::Serve { version },
+        Step::Describe => WorldEvent::Describe,
+        Step::Stop { opened } => WorldEvent::Stop { opened },
+        Step::Open => WorldEvent::Open,
+        Step::NewZone => WorldEvent::NewZone,
+        Step::Deliver { message, fate } => WorldEvent::Deliver {
+            message,
+            zone: 0,
+            fate,
+        },
+        Step::ZoneOpen => WorldEvent::ZoneOpen { zone: 0 },
+    };
+    Ok(event)
 }
 
 /// Adds an event.
@@ -78,27 +144,27 @@ pub fn add(events: &mut WorldEvents, event: WorldEvent) -> Result<(), Fail> {
     }
 }
 
-/// Adds an append of a patch with this number behind the one with that number, or of a first one where that is 0.
-pub fn append(
-    alloc: Global,
-    events: &mut WorldEvents,
-    number: u32,
-    before: u32,
-    fate: Fate,
-) -> Result<(), Fail> {
-    let prev = if before == 0 {
-        None
-    } else {
-        Some(id_of(before))
-    };
-    let patch = patch_of(alloc, id_of(number), prev)?;
-    add(events, WorldEvent::Append { patch, fate })
-}
-
-/// Adds appends of so many patches, one behind another, each accepted.
-pub fn append_many(alloc: Global, events: &mut WorldEvents, count: u32) -> Result<(), Fail> {
-    for before in 0..count {
-        append(alloc, events, before + 1, before, Fate::Done)?;
+fn add_all(alloc: Global, events: &mut WorldEvents, steps: &[Step]) -> Result<(), Fail> {
+    for step in steps {
+        let event = event_of(alloc, *step)?;
+        add(events, event)?;
     }
     Ok(())
+}
+
+/// Runs the world of these events.
+pub fn run_events(alloc: Global, events: WorldEvents) -> Result<World, Fail> {
+    let ran = world_run(alloc, &events);
+    drop(events);
+    match ran {
+        Ok(world) => Ok(world),
+        Err(_) => Err(Fail::from("no memory")),
+    }
+}
+
+/// The world of these events.
+pub fn run(alloc: Global, steps: &[Step]) -> Result<World, Fail> {
+    let mut events = Listing::new(alloc);
+    add_all(alloc, &mut events, steps)?;
+    run_events(alloc, events)
 }

@@ -1,12 +1,12 @@
 //! Many lists of events, made by rule.
-use crate::events::{add, id_of, patch_of};
+use crate::events::{add, id_of, patch_of, run_events};
 use crate::parts::is_world;
 use crate::plain::Plain;
 use chain_core::Fate;
 use delta_base::{Listing, Phase};
 use std::alloc::Global;
 use std::test::Fail;
-use world_core::{WorldEvent, WorldEvents, world_run};
+use world_core::{WorldEvent, WorldEvents};
 
 // How many lists a test runs, and how many events each has.
 const LISTS: u32 = 2_500;
@@ -113,10 +113,21 @@ fn make(
 ) -> Result<(), Fail> {
     for _ in 0..EVENTS {
         let event = rolls.event(alloc, plain)?;
-        plain.step(alloc, &event)?;
-        add(events, event)?;
+        match plain.step(alloc, &event) {
+            Ok(()) => add(events, event)?,
+            Err(fail) => {
+                drop(event);
+                return Err(fail);
+            }
+        }
     }
     Ok(())
+}
+
+// Whether the events come to the plain world.
+fn comes_to(alloc: Global, events: WorldEvents, plain: &Plain) -> Result<bool, Fail> {
+    let world = run_events(alloc, events)?;
+    is_world(alloc, world, plain)
 }
 
 // A list of events, run and computed: whether the two worlds are one.
@@ -124,11 +135,9 @@ fn is_run_as_computed(alloc: Global, rolls: &mut Rolls) -> Result<bool, Fail> {
     let mut events = Listing::new(alloc);
     let mut plain = Plain::new(alloc);
     make(alloc, rolls, &mut events, &mut plain)?;
-    let world = world_run(alloc, &events)?;
-    drop(events);
-    let same = is_world(alloc, world, &plain)?;
+    let same = comes_to(alloc, events, &plain);
     drop(plain);
-    Ok(same)
+    same
 }
 
 // Whether all lists are that begin with this number.

@@ -1,11 +1,11 @@
 //! Worlds of a few events.
-use crate::events::{add, append, append_many, id_of, patch_of};
+use crate::events::{Step, id_of, next, patch_of, run};
 use crate::parts::has_values;
 use chain_core::{Chain, Fate};
-use delta_base::{Listing, Phase};
+use delta_base::Phase;
 use std::alloc::Global;
 use std::test::Fail;
-use world_core::{LogPart, Message, World, WorldEvent, WorldEvents, ZonePart, world_run};
+use world_core::{LogPart, Message, World, ZonePart};
 
 // The chain has just the patches with these numbers, in order.
 fn is_chain(chain: &Chain, numbers: &[u32]) -> bool {
@@ -21,7 +21,7 @@ fn is_chain(chain: &Chain, numbers: &[u32]) -> bool {
     true
 }
 
-// The part is up and has just the patches with these numbers, in order.
+// The log is up and has just the patches with these numbers, in order.
 fn has_chain(part: &LogPart, numbers: &[u32]) -> bool {
     match part {
         LogPart::Up(log) => is_chain(log.chain(), numbers),
@@ -29,28 +29,15 @@ fn has_chain(part: &LogPart, numbers: &[u32]) -> bool {
     }
 }
 
-// The zone runs, has taken so many patches, the last one with this number, and its dataset has just these values.
-fn has_taken(part: &ZonePart, version: u32, head: u32, values: &[bool; 5]) -> Result<bool, Fail> {
-    match part {
-        ZonePart::Up(zone) => {
+// The first zone runs, has taken so many patches, the last one with this number, and its dataset has just these values.
+fn has_taken(world: &World, version: u32, head: u32, values: &[bool; 5]) -> Result<bool, Fail> {
+    match world.zones.get(0) {
+        Some(ZonePart::Up(zone)) => {
             let same = zone.version() == version && zone.head() == Some(id_of(head));
             let replayed = has_values(zone, values)?;
             Ok(same && replayed)
         }
-        ZonePart::Down(_) => Ok(false),
-    }
-}
-
-// The same of the first zone of a world.
-fn first_has_taken(
-    world: &World,
-    version: u32,
-    head: u32,
-    values: &[bool; 5],
-) -> Result<bool, Fail> {
-    match world.zones.get(0) {
-        Some(zone) => has_taken(zone, version, head, values),
-        None => Ok(false),
+        Some(ZonePart::Down(_)) | None => Ok(false),
     }
 }
 
@@ -69,78 +56,42 @@ fn was_told(world: &World, versions: &[u32]) -> bool {
     true
 }
 
-// The first patch is accepted, and the second is left in doubt.
-fn in_doubt(alloc: Global) -> Result<WorldEvents, Fail> {
-    let mut events = Listing::new(alloc);
-    append(alloc, &mut events, 1, 0, Fate::Done)?;
-    append(alloc, &mut events, 2, 1, Fate::Fails(Phase::Gate))?;
-    Ok(events)
+// The log has just these patches, and just these versions were told to be accepted.
+fn came_to(world: World, numbers: &[u32], versions: &[u32]) -> bool {
+    let same = has_chain(&world.log, numbers) && was_told(&world, versions);
+    drop(world);
+    same
 }
 
-// The world behind that where the log is stopped and opened again.
-fn reopened(alloc: Global, opened: bool) -> Result<World, Fail> {
-    let mut events = in_doubt(alloc)?;
-    add(&mut events, WorldEvent::Stop { opened })?;
-    add(&mut events, WorldEvent::Open)?;
-    let world = world_run(alloc, &events)?;
-    drop(events);
-    Ok(world)
+// The first patch is accepted and the second one fails at its gate; then come two more events.
+fn behind_a_doubt(alloc: Global, third: Step, fourth: Step) -> Result<World, Fail> {
+    let doubtful = next(2, Fate::Fails(Phase::Gate));
+    run(alloc, &[next(1, Fate::Done), doubtful, third, fourth])
 }
 
 #[test]
 fn a_doubt_is_found_where_its_gate_stands_open(rt: HostRuntime) -> Result<(), Fail> {
-    let world = reopened(rt.alloc(), true)?;
-    assert!(rt; has_chain(&world.log, &[1, 2]));
-    assert!(rt; was_told(&world, &[1]));
-    drop(world);
-    let world = reopened(rt.alloc(), false)?;
-    assert!(rt; has_chain(&world.log, &[1]));
-    assert!(rt; was_told(&world, &[1]));
-    drop(world);
+    let world = behind_a_doubt(rt.alloc(), Step::Stop { opened: true }, Step::Open)?;
+    assert!(rt; came_to(world, &[1, 2], &[1]));
+    Ok(())
+}
+
+#[test]
+fn a_doubt_is_gone_where_its_gate_is_shut(rt: HostRuntime) -> Result<(), Fail> {
+    let world = behind_a_doubt(rt.alloc(), Step::Stop { opened: false }, Step::Open)?;
+    assert!(rt; came_to(world, &[1], &[1]));
     Ok(())
 }
 
 #[test]
 fn the_next_append_settles_a_doubt(rt: HostRuntime) -> Result<(), Fail> {
-    let alloc = rt.alloc();
-    let mut events = in_doubt(alloc)?;
-    append(alloc, &mut events, 3, 1, Fate::Done)?;
-    let world = world_run(alloc, &events)?;
-    drop(events);
-    assert!(rt; has_chain(&world.log, &[1, 3]));
-    assert!(rt; was_told(&world, &[1, 2]));
-    drop(world);
-    Ok(())
-}
-
-#[test]
-fn what_is_asked_is_sent(rt: HostRuntime) -> Result<(), Fail> {
-    let alloc = rt.alloc();
-    let mut events = Listing::new(alloc);
-    add(&mut events, WorldEvent::Describe)?;
-    append(alloc, &mut events, 1, 0, Fate::Done)?;
-    add(&mut events, WorldEvent::Serve { version: 1 })?;
-    add(&mut events, WorldEvent::Serve { version: 2 })?;
-    add(&mut events, WorldEvent::Describe)?;
-    let world = world_run(alloc, &events)?;
-    drop(events);
-    let sent = world.pool.as_slice();
-    assert!(rt; sent.len() == 4);
-    assert!(rt;
-        matches!(
-            &sent[0],
-            Message::Info {
-                version: 0,
-                head: None
-            }
-        )
-    );
-    assert!(rt; matches!(&sent[1], Message::Accepted { version: 1 }));
-    assert!(rt; has_text(alloc, &sent[2])?);
-    assert!(rt;
-        matches!(&sent[3], Message::Info { version: 1, head: Some(id) } if *id == id_of(1))
-    );
-    drop(world);
+    let third = Step::Append {
+        number: 3,
+        before: 1,
+        fate: Fate::Done,
+    };
+    let world = behind_a_doubt(rt.alloc(), third, Step::Open)?;
+    assert!(rt; came_to(world, &[1, 3], &[1, 2]));
     Ok(())
 }
 
@@ -155,46 +106,93 @@ fn has_text(alloc: Global, message: &Message) -> Result<bool, Fail> {
     Ok(same)
 }
 
+// What was sent is how long the log was, that the patch was accepted, the patch, and how long the log is.
+fn was_sent(alloc: Global, sent: &[Message]) -> Result<bool, Fail> {
+    let [before, accepted, item, after] = sent else {
+        return Ok(false);
+    };
+    let empty = matches!(
+        before,
+        Message::Info {
+            version: 0,
+            head: None
+        }
+    );
+    let told = matches!(accepted, Message::Accepted { version: 1 });
+    let long = matches!(after, Message::Info { version: 1, head: Some(id) } if *id == id_of(1));
+    let served = has_text(alloc, item)?;
+    Ok(empty && told && long && served)
+}
+
+#[test]
+fn what_is_asked_is_sent(rt: HostRuntime) -> Result<(), Fail> {
+    let alloc = rt.alloc();
+    let served = Step::Serve { version: 1 };
+    let missing = Step::Serve { version: 2 };
+    let steps = [
+        Step::Describe,
+        next(1, Fate::Done),
+        served,
+        missing,
+        Step::Describe,
+    ];
+    let world = run(alloc, &steps)?;
+    let same = was_sent(alloc, world.pool.as_slice());
+    drop(world);
+    assert!(rt; same?);
+    Ok(())
+}
+
 // A message reaches the first zone.
-fn deliver(message: u32) -> WorldEvent {
-    WorldEvent::Deliver {
+fn deliver(message: u32) -> Step {
+    Step::Deliver {
         message,
-        zone: 0,
         fate: Fate::Done,
     }
 }
 
 #[test]
 fn a_zone_takes_an_item_once(rt: HostRuntime) -> Result<(), Fail> {
-    let alloc = rt.alloc();
-    let mut events = Listing::new(alloc);
-    append(alloc, &mut events, 1, 0, Fate::Done)?;
-    add(&mut events, WorldEvent::Serve { version: 1 })?;
-    add(&mut events, WorldEvent::NewZone)?;
-    add(&mut events, deliver(1))?;
-    add(&mut events, deliver(1))?;
-    let world = world_run(alloc, &events)?;
-    drop(events);
-    assert!(rt; has_chain(&world.log, &[1]));
-    assert!(rt; first_has_taken(&world, 1, 1, &[false, true, false, false, false])?);
-    drop(world);
+    let served = Step::Serve { version: 1 };
+    let steps = [
+        next(1, Fate::Done),
+        served,
+        Step::NewZone,
+        deliver(1),
+        deliver(1),
+    ];
+    let world = run(rt.alloc(), &steps)?;
+    let taken = has_taken(&world, 1, 1, &[false, true, false, false, false]);
+    assert!(rt; came_to_log(world, &[1]));
+    assert!(rt; taken?);
     Ok(())
+}
+
+// The log has just these patches.
+fn came_to_log(world: World, numbers: &[u32]) -> bool {
+    let same = has_chain(&world.log, numbers);
+    drop(world);
+    same
 }
 
 #[test]
 fn a_zone_waits_for_the_patch_behind_its_own(rt: HostRuntime) -> Result<(), Fail> {
-    let alloc = rt.alloc();
-    let mut events = Listing::new(alloc);
-    append_many(alloc, &mut events, 2)?;
-    add(&mut events, WorldEvent::Serve { version: 2 })?;
-    add(&mut events, WorldEvent::Serve { version: 1 })?;
-    add(&mut events, WorldEvent::NewZone)?;
-    for message in [2, 3, 0, 2] {
-        add(&mut events, deliver(message))?;
-    }
-    let world = world_run(alloc, &events)?;
-    drop(events);
-    assert!(rt; first_has_taken(&world, 2, 2, &[false, true, true, false, false])?);
+    let second = Step::Serve { version: 2 };
+    let first = Step::Serve { version: 1 };
+    let steps = [
+        next(1, Fate::Done),
+        next(2, Fate::Done),
+        second,
+        first,
+        Step::NewZone,
+        deliver(2),
+        deliver(3),
+        deliver(0),
+        deliver(2),
+    ];
+    let world = run(rt.alloc(), &steps)?;
+    let taken = has_taken(&world, 2, 2, &[false, true, true, false, false]);
     drop(world);
+    assert!(rt; taken?);
     Ok(())
 }
