@@ -1,7 +1,6 @@
 -- How fetches go on, one after another.
-use Rattle.std.proofs.Common.{◌≡◌, inl, inr, ℕ, ◌+◌, ◌<◌, ◌≤◌, List, [], ◌∷◌, ◌++◌, length, map, Option, Some, None, Result, Ok, Err, refl, sym, ◌∙◌, ap, subst, arith}
+use Rattle.std.proofs.Common.{◌≡◌, inl, inr, ℕ, ◌+◌, ◌≤◌, List, [], ◌∷◌, ◌++◌, length, Option, Ok, refl, sym, ◌∙◌, ap, subst, arith}
 use Rattle.std.proofs.lemmas.List.{append-nil, length_push, map-append, length-map}
-use Rattle.delta_base.specs.declared.id.Id.{Id}
 use Rattle.disk_model.specs.declared.disk.Disk.{Ghosts}
 use Rattle.rdf_terms.specs.declared.term.Term.{Term}
 use Rattle.term_table.specs.Table.{most}

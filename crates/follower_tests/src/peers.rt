@@ -60,19 +60,15 @@ pub(crate) fn reply(
     body: &[u8],
 ) -> Result<Vec<u8>, OutOfMemory> {
     let length = format!(in alloc; "{}", body.len())?;
-    joined(
-        alloc,
-        &[
-            b"HTTP/1.1 ",
-            line,
-            b"\r\n",
-            fields,
-            b"Content-Length: ",
-            length.as_bytes(),
-            b"\r\n\r\n",
-            body,
-        ],
-    )
+    let mut text = Vec::from_slice(alloc, b"HTTP/1.1 ")?;
+    text.extend_from_slice(line)?;
+    text.extend_from_slice(b"\r\n")?;
+    text.extend_from_slice(fields)?;
+    text.extend_from_slice(b"Content-Length: ")?;
+    text.extend_from_slice(length.as_bytes())?;
+    text.extend_from_slice(b"\r\n\r\n")?;
+    text.extend_from_slice(body)?;
+    Ok(text)
 }
 
 /// The answer with this JSON.

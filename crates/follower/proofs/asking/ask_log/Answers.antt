@@ -1,4 +1,4 @@
-use Rattle.std.proofs.Common.{◌≡◌, ℕ, [], ◌∷◌, Option, Result, Ok, Err, refl, ap}
+use Rattle.std.proofs.Common.{ℕ, [], ◌∷◌, Option, Result, Ok, Err, refl, ap}
 use Rattle.delta_base.specs.declared.id.Id.{Id}
 use Rattle.rpc_answers.specs.declared.answer.Answer.{Answer}
 use Rattle.rpc_calls.specs.declared.call.Call.TheVariants as calls

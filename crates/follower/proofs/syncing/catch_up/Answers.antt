@@ -1,4 +1,4 @@
-use Rattle.std.proofs.Common.{◌≡◌, ℕ, [], ◌∷◌, ◌++◌, Option, Ok, refl, subst}
+use Rattle.std.proofs.Common.{ℕ, [], ◌∷◌, ◌++◌, Option, Ok, refl, subst}
 use Rattle.delta_base.specs.declared.id.Id.{Id}
 use Rattle.rpc_answers.specs.declared.answer.Answer.TheVariants as answer
 use Rattle.zone_state.specs.Brief.{last_of}

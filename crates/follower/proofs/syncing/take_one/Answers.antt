@@ -1,4 +1,4 @@
-use Rattle.std.proofs.Common.{◌≡◌, [], ◌∷◌, Result, Ok, Err, refl, ap}
+use Rattle.std.proofs.Common.{[], ◌∷◌, Ok, Err, refl, ap}
 use Rattle.rpc_answers.specs.declared.answer.Answer.{Answer}
 use Rattle.rpc_answers.specs.declared.answer.Answer.TheVariants as answer
 use Rattle.rpc_calls.specs.declared.call.Call.TheVariants as calls

@@ -1,7 +1,6 @@
-use Rattle.std.proofs.Common.{◌≡◌, ◌≤◌, ℕ, ◌+◌, [], ◌∷◌, ◌++◌, List, Option, length, refl, arith, sym, ◌∙◌, ap}
+use Rattle.std.proofs.Common.{◌≡◌, ◌≤◌, ◌+◌, [], ◌∷◌, ◌++◌, length, refl, arith, sym, ◌∙◌}
 use Rattle.std.proofs.lemmas.List.{length_push}
 use Rattle.patch_meaning.specs.Checked.{CheckedPatch}
-use Rattle.zone_state.specs.Brief.{Brief}
 use Rattle.follower.specs.Exchanges.{net_of}
 use Rattle.follower.proofs.Rest.{gone_none, gone_on, gone_stopped, gone_through}
 use Rattle.follower.proofs.syncing.take_rest.Goals as goal

@@ -1,10 +1,9 @@
-use Rattle.std.proofs.Common.{rules, ◌≡◌, ◌+◌, [], ◌∷◌, List, Result, Ok, Err, length, sym, ◌∙◌, ap, subst}
-use Rattle.std.specs.Prelude.{IfErr}
+use Rattle.std.proofs.Common.{rules, ◌≡◌, [], ◌∷◌, Ok, sym, ap, subst}
 use Rattle.rpc_answers.specs.declared.answer.Answer.{Answer}
 use Rattle.rpc_answers.specs.declared.answer.Answer.TheVariants as answer
 use Rattle.follower.specs.declared.ends.SyncEnd.TheVariants as ends
 use Rattle.follower.specs.Grown.{Stayed}
-use Rattle.follower.specs.Syncing.{FetchRefuses, told, no_patch}
+use Rattle.follower.specs.Syncing.{told, no_patch}
 use Rattle.follower.proofs.Amid.{stayed_none}
 use Rattle.follower.proofs.Answered.{on_err}
 use Rattle.follower.proofs.taking.take_answer.Goals as goal
