@@ -8,3 +8,5 @@ mod asking;
 mod runs;
 #[cfg(test)]
 mod words;
+#[cfg(test)]
+mod zones;

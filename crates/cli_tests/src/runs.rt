@@ -12,7 +12,7 @@ const ID: &str = "H id <uuid:00000000-0000-4000-8000-000000000001> .\n";
 pub(crate) const P1: &str =
     "H id <uuid:00000000-0000-4000-8000-000000000001> .\nTX .\nA <http://e/s> <http://e/p> <http://e/o> .\nTC .\n";
 
-const P2: &str =
+pub(crate) const P2: &str =
     "H id <uuid:00000000-0000-4000-8000-000000000002> .\nH prev <uuid:00000000-0000-4000-8000-000000000001> .\nTX .\nA <http://e/s> <http://e/p> <http://e/o2> .\nTC .\n";
 
 const LINE: &str = "<http://e/s> <http://e/p> <http://e/o> .\n";
@@ -40,16 +40,16 @@ fn nobody(alloc: Global) -> Result<MemDial<MemLink>, Fail> {
 
 /// What is run, and what it answers.
 #[derive(Clone, Copy)]
-struct Run<'a> {
-    words: &'a [&'a str],
-    text: &'a str,
-    status: u8,
-    out: &'a str,
-    err: &'a str,
+pub(crate) struct Run<'a> {
+    pub(crate) words: &'a [&'a str],
+    pub(crate) text: &'a str,
+    pub(crate) status: u8,
+    pub(crate) out: &'a str,
+    pub(crate) err: &'a str,
 }
 
 /// Runs the tool on a shelf, and looks at the status and at what was written.
-fn expect_on(
+pub(crate) fn expect_on(
     rt: &impl Abort,
     alloc: Global,
     shelf: &mut MemShelf,
@@ -255,6 +255,9 @@ fn other_words_are_refused(rt: HostRuntime) -> Result<(), Fail> {
         (&["init", "d", "17"], "rdfdelta: usage: init DIR SLOTS\n"),
         (&["init", "-d", "2"], "rdfdelta: usage: init DIR SLOTS\n"),
         (&["check"], "rdfdelta: usage: check DIR\n"),
+        (&["zone"], "rdfdelta: usage: zone DIR\n"),
+        (&["dump", "z", "z"], "rdfdelta: usage: dump DIR\n"),
+        (&["prefixes", "-z"], "rdfdelta: usage: prefixes DIR\n"),
         (&["--help", "me"], "rdfdelta: usage: --help\n"),
         (&["ping", "127.0.0.1"], "rdfdelta: usage: ping ADDR\n"),
         (&["list", "-e:80"], "rdfdelta: usage: list ADDR\n"),

@@ -1,6 +1,6 @@
 -- Words, and the commands that they ask for.
 use Rattle.std.proofs.Common.{◌≡◌, ℕ, zero, suc, ◌+◌, ◌*◌, ◌<◌, ◌≤◌, ◌^◌, List, [], ◌∷◌, length, get_or, drop, Some, None, refl, sym, ap, subst, ◌∙◌, arith, ne_eqb}
-use Rattle.std.specs.Prelude.{String, string_bytes}
+use Rattle.std.specs.Prelude.{String, codes, string_bytes}
 use Rattle.std.specs.List.{All}
 use Rattle.std.specs.declared.alloc.Global.{Global}
 use Rattle.std.specs.Fmt.{decimal}
@@ -9,6 +9,8 @@ use Rattle.std.proofs.lemmas.List.Elements.{All-nil, All-cons}
 use Rattle.command_words.specs.Positions.{ArePlain, FitPositions, IsPlainWord}
 use Rattle.rpc_calls.specs.declared.call.Call.{Call}
 use Rattle.rpc_calls.specs.declared.call.Call.TheVariants as calls
+use Rattle.dataset_tx.specs.declared.pattern.Pattern.{Pattern}
+use Rattle.zone_commands.specs.Words.{IsPatternOf}
 use Rattle.zone_commands.specs.declared.reading.Reading.{Reading}
 use Rattle.zone_commands.specs.declared.reading.Reading.TheVariants as readings
 use Rattle.delta_cli.specs.declared.command.Command.{Command}
@@ -238,3 +240,61 @@ module _ (words : List (List ℕ)) (name : Name) (fits : FitsName words name) wh
   three_are count b d is_b is_d =
       subst (λ (t : List ℕ). AreWords words (name_text name) (get_or words 1 [] ∷ b ∷ t ∷ [])) (sym is_d)
       (subst (λ (t : List ℕ). AreWords words (name_text name) (get_or words 1 [] ∷ t ∷ get_or words 3 [] ∷ [])) (sym is_b) (three_words count))
+
+-- ---- words that ask for the quads of a zone that match
+
+cut_five : (words rest : List (List ℕ)) (x : List ℕ) → words ≡ x ∷ rest → length words ≡ 6 → ArePlain (drop 1 words)
+    → AreWords words x (get_or words 1 [] ∷ get_or words 2 [] ∷ get_or words 3 [] ∷ get_or words 4 [] ∷ get_or words 5 [] ∷ [])
+cut_five words [] x is long plain = absurd (omega (arith, long, ap length is))
+cut_five words (a ∷ []) x is long plain = absurd (omega (arith, long, ap length is))
+cut_five words (a ∷ (b ∷ [])) x is long plain = absurd (omega (arith, long, ap length is))
+cut_five words (a ∷ (b ∷ (d ∷ []))) x is long plain = absurd (omega (arith, long, ap length is))
+cut_five words (a ∷ (b ∷ (d ∷ (e ∷ [])))) x is long plain = absurd (omega (arith, long, ap length is))
+cut_five words (a ∷ (b ∷ (d ∷ (e ∷ (f ∷ []))))) x is long plain =
+    subst (λ (ws : List (List ℕ)). ArePlain (drop 1 ws) → AreWords ws x (get_or ws 1 [] ∷ get_or ws 2 [] ∷ get_or ws 3 [] ∷ get_or ws 4 [] ∷ get_or ws 5 [] ∷ [])) (sym is) (λ p. (refl, p)) plain
+cut_five words (a ∷ (b ∷ (d ∷ (e ∷ (f ∷ (g ∷ rest)))))) x is long plain = absurd (omega (arith, long, ap length is))
+
+no_call : (call : Call) → name_of_call call ≡ names.Match → ⊥
+no_call calls.Ping is = cc
+no_call calls.List is = cc
+no_call (calls.Create name uri id) is = cc
+no_call (calls.Rename name new_name) is = cc
+no_call (calls.Remove name) is = cc
+no_call (calls.Version name) is = cc
+no_call (calls.FetchVersion name version) is = cc
+no_call (calls.FetchId name id) is = cc
+no_call (calls.Source name) is = cc
+no_call (calls.SourceById id) is = cc
+no_call (calls.SourceByUri uri) is = cc
+no_call (calls.Log name) is = cc
+no_call (calls.Append name patch) is = cc
+
+module _ (words : List (List ℕ)) (fits : FitsName words names.Match) where
+  -- the words behind the name, of which the first was taken
+  pub five_are : (dir : List ℕ) → dir ≡ get_or words 1 []
+      → AreWords words (codes "match") (dir ∷ get_or words 2 [] ∷ get_or words 3 [] ∷ get_or words 4 [] ∷ get_or words 5 [] ∷ [])
+  five_are dir is =
+      subst (λ (t : List ℕ). AreWords words (codes "match") (t ∷ get_or words 2 [] ∷ get_or words 3 [] ∷ get_or words 4 [] ∷ get_or words 5 [] ∷ [])) (sym is)
+      (cut_five words fits.0.0 (codes "match") fits.0.1 (omega (arith, fits.1.1)) fits.1.0)
+
+  -- words that stand for no pattern ask for nothing
+  pub matchless : ((pattern : Pattern) → IsPatternOf (get_or words 2 []) (get_or words 3 []) (get_or words 4 []) (get_or words 5 []) pattern → ⊥) → AsksNothing words
+  matchless none dice c asks = by c (same_name words (name_of c) names.Match (asks_fit words dice c asks).0 fits.0) asks
+    where
+      by : (command : Command) → name_of command ≡ names.Match → Asks words dice command → ⊥
+      by (commands.Read dir (readings.Match pattern)) is asked =
+          none pattern (subst (λ (ws : List (List ℕ)). IsPatternOf (get_or ws 2 []) (get_or ws 3 []) (get_or ws 4 []) (get_or ws 5 []) pattern) (sym asked.4.0) asked.5)
+      by (commands.Read dir readings.Dump) is asked = cc
+      by (commands.Read dir readings.Prefixes) is asked = cc
+      by (commands.Ask address call) is asked = no_call call is
+      by (commands.Describe address name) is asked = cc
+      by (commands.Append address name) is asked = cc
+      by commands.Replay is asked = cc
+      by commands.Nquads is asked = cc
+      by (commands.Gen patches) is asked = cc
+      by (commands.Emit patches) is asked = cc
+      by (commands.Init dir slots) is asked = cc
+      by (commands.Check dir) is asked = cc
+      by (commands.Zone dir) is asked = cc
+      by commands.Help is asked = cc
+      by commands.Version is asked = cc
