@@ -1,0 +1,4 @@
+mod Chains
+mod Taken
+mod Answered
+mod Rest

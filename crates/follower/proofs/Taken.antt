@@ -1,0 +1,70 @@
+-- What a zone took, step by step.
+use Rattle.std.proofs.Common.{◌≡◌, ◌⊎◌, inl, inr, ⊎_elim, ℕ, List, [], ◌∷◌, ◌++◌, Option, sym, subst, append_assoc}
+use Rattle.std.specs.List.{Contains, flat_map}
+use Rattle.std.proofs.lemmas.List.{append-nil}
+use Rattle.std.proofs.lemmas.Grind.{flat_map-append}
+use Rattle.std.proofs.lemmas.List.Elements.{Contains-append_left, Contains-append_right}
+use Rattle.disk_model.specs.Past.{Past}
+use Rattle.rdf_terms.specs.declared.term.Term.{Term}
+use Rattle.rdf_terms.specs.declared.change.Change.{Change}
+use Rattle.dataset_tx.specs.Held.{terms_of, AreMet, AreMore}
+use Rattle.patch_meaning.specs.Checked.{CheckedPatch}
+use Rattle.zone_state.specs.Brief.{changes_of}
+use Rattle.zone_state.specs.Zone.{ZoneView, StandsForZone}
+use Rattle.follower.specs.Syncing.{TookMore}
+
+module _ {D : Type 0} (tells : Type 0) (past : D → Past) where
+  pub took_same : (old new : ZoneView D) → ((taken : List CheckedPatch) (doubt : Option CheckedPatch) → StandsForZone tells (past old.disk) old taken doubt
+      → (left : Option CheckedPatch) × StandsForZone tells (past new.disk) new taken left) → TookMore tells past old new []
+  took_same old new same taken doubt stands =
+      let here = same taken doubt stands in
+      (here.0, subst (λ (ps : List CheckedPatch). StandsForZone tells (past new.disk) new ps here.0) (sym (append-nil taken)) here.1)
+
+  pub took_none : (zone : ZoneView D) → TookMore tells past zone zone []
+  took_none zone = took_same zone zone (λ taken doubt stands. (doubt, stands))
+
+  pub took_both : (old mid new : ZoneView D) (more next : List CheckedPatch) → TookMore tells past old mid more → TookMore tells past mid new next → TookMore tells past old new (more ++ next)
+  took_both old mid new more next first second taken doubt stands =
+      let there = first taken doubt stands in
+      let here = second (taken ++ more) there.0 there.1 in
+      (here.0, subst (λ (ps : List CheckedPatch). StandsForZone tells (past new.disk) new ps here.0) (append_assoc taken more next) here.1)
+
+  -- a zone that stays
+  pub took_still : (old mid new : ZoneView D) (more : List CheckedPatch) → TookMore tells past old mid more → TookMore tells past mid new [] → TookMore tells past old new more
+  took_still old mid new more first second =
+      subst (λ (ps : List CheckedPatch). TookMore tells past old new ps) (append-nil more) (took_both old mid new more [] first second)
+
+  -- where what it needs isn't there, a zone learns of terms alone
+  pub took_want : (old new : ZoneView D) → new ≡ record old { terms = new.terms } → TookMore tells past old new []
+  took_want old new is = took_same old new (λ taken doubt stands.
+      let here : StandsForZone tells (past old.disk) (record old { terms = new.terms }) taken doubt =
+          record { brief_is = stands.brief_is; settled_is = stands.settled_is; without = stands.without; having = stands.having; on_disk = stands.on_disk } in
+      (doubt, subst (λ (zone : ZoneView D). StandsForZone tells (past zone.disk) zone taken doubt) (sym is) here))
+
+-- ---- terms
+
+pub met_none : (terms : List Term) → AreMet [] terms terms
+met_none terms t is = inl is
+
+-- terms that were met behind changes and others
+met_behind : (first second : List Change) (before mid : List Term) → AreMet first before mid → (t : Term) → Contains mid t ⊎ Contains (flat_map terms_of second) t
+    → Contains before t ⊎ Contains (flat_map terms_of (first ++ second)) t
+met_behind first second before mid one t (inl was) =
+    ⊎_elim (λ (h : Contains before t). inl h)
+    (λ (h : Contains (flat_map terms_of first) t). inr (subst (λ (ts : List Term). Contains ts t) (sym (flat_map-append terms_of first second)) (Contains-append_left (flat_map terms_of first) (flat_map terms_of second) t h)))
+    (one t was)
+met_behind first second before mid one t (inr new) =
+    inr (subst (λ (ts : List Term). Contains ts t) (sym (flat_map-append terms_of first second)) (Contains-append_right (flat_map terms_of first) (flat_map terms_of second) t new))
+
+pub met_both : (first second : List CheckedPatch) (before mid after : List Term) → AreMet (changes_of first) before mid → AreMet (changes_of second) mid after → AreMet (changes_of (first ++ second)) before after
+met_both first second before mid after one two =
+    subst (λ (cs : List Change). AreMet cs before after) (sym (flat_map-append (λ (patch : CheckedPatch). patch.meaning.changes) first second))
+    (λ t is. met_behind (changes_of first) (changes_of second) before mid one t (two t is))
+
+pub more_both : (most : ℕ) (first second : List CheckedPatch) (before mid : List Term) → AreMet (changes_of first) before mid → AreMore most (changes_of second) mid → AreMore most (changes_of (first ++ second)) before
+more_both most first second before mid one are = record {
+  terms = are.terms;
+  met = met_both first second before mid are.terms one are.met;
+  each_once = are.each_once;
+  many = are.many;
+}

@@ -1,0 +1,40 @@
+use Rattle.std.proofs.Common.{◌≡◌, [], ◌∷◌, Result, Ok, Err, refl, ap}
+use Rattle.rpc_answers.specs.declared.answer.Answer.{Answer}
+use Rattle.rpc_answers.specs.declared.answer.Answer.TheVariants as answer
+use Rattle.rpc_calls.specs.declared.call.Call.TheVariants as calls
+use Rattle.follower.specs.Exchanges.{Said, net_of}
+use Rattle.follower.specs.Syncing.{answered, faulty}
+use Rattle.follower.proofs.Answered.{on_ok, on_err}
+use Rattle.follower.proofs.Chains.{asks_call}
+use Rattle.follower.proofs.syncing.take_one.Goals as goal
+
+pub returns-in-Ok-said-clause-ok : goal.returns-in-Ok-said-clause-ok
+returns-in-Ok-said-clause-ok g c =
+    let told = λ (net : g.row.N.Denot). net_of (g.N.Dial.to_come net) (g.N.Dial.addresses net) (g.N.Dial.back net) (g.N.Dial.tries net) in
+    let e = c.in-Ok-said.ensures in
+    let said : Said = Ok c.in-Ok-said.answer in
+    on_ok c.take_answer.result (λ is. (is.0, is.2, is.3,
+        λ tells. asks_call g.N.L.Link.left g.N.L.Link.sent c.args.address.now c.in-Ok.call (calls.FetchVersion c.args.name.now c.args.version) said (Ok (answer.Patch is.0.text)) c.args.line.now.open c.ask_again-said.new.line.open (told c.args.net.now) (told c.ask_again-said.new.net)
+        c.in-Ok.ensures (ap (λ (a : Answer). Ok a) is.1) (record { over = e.over tells; kept = e.kept; tried = e.tried })))
+    c.take_answer.ensures.ok
+
+pub returns-in-Ok-said-clause-err : goal.returns-in-Ok-said-clause-err
+returns-in-Ok-said-clause-err g c =
+    let told = λ (net : g.row.N.Denot). net_of (g.N.Dial.to_come net) (g.N.Dial.addresses net) (g.N.Dial.back net) (g.N.Dial.tries net) in
+    let e = c.in-Ok-said.ensures in
+    let said : Said = Ok c.in-Ok-said.answer in
+    on_err c.take_answer.result (λ end is. (said ∷ [], answered c.in-Ok-said.answer refl is,
+        λ tells. asks_call g.N.L.Link.left g.N.L.Link.sent c.args.address.now c.in-Ok.call (calls.FetchVersion c.args.name.now c.args.version) said said c.args.line.now.open c.ask_again-said.new.line.open (told c.args.net.now) (told c.ask_again-said.new.net)
+        c.in-Ok.ensures refl (record { over = e.over tells; kept = e.kept; tried = e.tried })))
+    c.take_answer.ensures.err
+
+pub returns-in-Err-said-clause-err : goal.returns-in-Err-said-clause-err
+returns-in-Err-said-clause-err g c =
+    let told = λ (net : g.row.N.Denot). net_of (g.N.Dial.to_come net) (g.N.Dial.addresses net) (g.N.Dial.back net) (g.N.Dial.tries net) in
+    let e = c.in-Err-said.ensures in
+    let said : Said = Err c.in-Err-said.fault in (
+      said ∷ [],
+      faulty c.in-Err-said.fault refl c.from.ensures,
+      λ tells. asks_call g.N.L.Link.left g.N.L.Link.sent c.args.address.now c.in-Ok.call (calls.FetchVersion c.args.name.now c.args.version) said said c.args.line.now.open c.ask_again-said.new.line.open (told c.args.net.now) (told c.ask_again-said.new.net)
+      c.in-Ok.ensures refl (record { over = e.over tells; kept = e.kept; tried = e.tried }),
+    )

@@ -1,0 +1,16 @@
+use Rattle.std.proofs.Common.{rules, ◌≡◌, ◌+◌, [], List, Result, Ok, Err, length, sym, ◌∙◌, ap, subst}
+use Rattle.std.specs.Prelude.{IfErr}
+use Rattle.rpc_answers.specs.declared.answer.Answer.{Answer}
+use Rattle.rpc_answers.specs.declared.answer.Answer.TheVariants as answer
+use Rattle.follower.specs.declared.ends.SyncEnd.TheVariants as ends
+use Rattle.follower.specs.Syncing.{FetchRefuses, told, no_patch}
+use Rattle.follower.proofs.Answered.{on_err}
+use Rattle.follower.proofs.taking.take_answer.Goals as goal
+
+pub returns-in-Patch-clause-err : goal.returns-in-Patch-clause-err
+returns-in-Patch-clause-err g c =
+    let text : c.args.answer ≡ answer.Patch c.as_slice.result.now = search rules in
+    on_err c.take_text-taken.result (λ end is. told c.as_slice.result.now text is) c.take_text-taken.ensures.err
+
+pub returns-in-NoPatch-clause-err : goal.returns-in-NoPatch-clause-err
+returns-in-NoPatch-clause-err g c = no_patch c.in-NoPatch.version c.in-NoPatch.is (ap ends.NoPatch c.requires.next)

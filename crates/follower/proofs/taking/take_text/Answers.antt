@@ -1,0 +1,55 @@
+use Rattle.std.proofs.Common.{rules, ◌≡◌, ◌≢◌, [], List, Result, length, sym, subst}
+use Rattle.std.specs.Prelude.{OnOk, IfErr}
+use Rattle.patch_meaning.specs.Checked.{CheckedPatch}
+use Rattle.zone_state.specs.Zone.{ZoneView}
+use Rattle.follower.specs.declared.ends.SyncEnd.{SyncEnd}
+use Rattle.follower.specs.declared.ends.SyncEnd.TheVariants.{DiskFault}
+use Rattle.follower.specs.Syncing.{IsText, Stayed, TextEnds, Took, end_of}
+use Rattle.follower.proofs.Answered.{Answers, no_patch_ends, took_ok, took_err, took_stayed, took_untouched, taken_settles, on_ok}
+use Rattle.follower.proofs.taking.take_text.Goals as goal
+
+pub returns-in-Err-clause-err : goal.returns-in-Err-clause-err
+returns-in-Err-clause-err g c =
+    let ends = no_patch_ends c.args.zone.now c.args.text.now c.args.version c.requires c.in-Err.fault c.in-Err.ensures.fault in
+    subst (λ (end : SyncEnd). TextEnds c.args.zone.now.terms [] c.args.zone.now c.args.text.now end) (sym c.no_patch.ensures) ends.0
+
+pub returns : goal.returns
+returns g c =
+    let e = c.take_next-answer.ensures in
+    let next : CheckedPatch = c.in-Ok.patch in
+    let stands = c.version-mine.ensures.stands in
+    let so : Answers g.D.Disk.tells g.D.Disk.past c.args.zone.now c.take_next-answer.new.self next c.take_next-answer.result = record {
+      by = e.decided;
+      stay = λ taken doubt stands no_terms no_want. let took = e.stay taken doubt stands no_terms no_want in (took.left, took.stands);
+      want = e.want;
+      untouched = e.untouched;
+      terms_full = e.terms_full;
+      terms = e.terms;
+      applied = e.applied;
+      refused = e.refused;
+      limits = e.limits;
+      settled = λ version is. taken_settles g.D.Disk c.args.zone.now c.take_next-answer.new.self stands.0 stands.1 next c.take_next-answer.result e.decided
+      (e.stay stands.0 stands.1 stands.2 (λ same. cc) (λ same. cc)) version is;
+    } in
+    let version : c.version-mine.result ≡ length c.args.zone.now.brief.ids = c.version-mine.ensures.version in
+    let ends : c.told.result ≡ end_of c.take_next-answer.result c.id-id.result c.version-mine.result = c.told.ensures in
+    let text : IsText c.args.text.now next = c.in-Ok.ensures.ok in
+    let old : ZoneView g.row.D.Denot = c.args.zone.now in
+    let new : ZoneView g.row.D.Denot = c.take_next-answer.new.self in
+    record {
+      ok = subst (λ (r : Result (Unit {0}) SyncEnd). OnOk r ((one : CheckedPatch) × IsText c.args.text.now one × Took g.D.Disk.tells g.D.Disk.past old new one)) (sym ends)
+          (on_ok (end_of c.take_next-answer.result c.id-id.result c.version-mine.result) (λ took. (next, text, took)) (took_ok g.D.Disk.tells g.D.Disk.past old new next c.take_next-answer.result c.id-id.result c.version-mine.result so));
+      err = subst (λ (r : Result (Unit {0}) SyncEnd). IfErr r (λ end. TextEnds old.terms [] new c.args.text.now end)) (sym ends)
+          (took_err g.D.Disk.tells g.D.Disk.past old new next c.args.text.now text c.id-id.result c.id-id.ensures c.version-mine.result version c.take_next-answer.result so);
+      stayed = subst (λ (r : Result (Unit {0}) SyncEnd). IfErr r (λ end. Stayed g.D.Disk.tells g.D.Disk.past old new)) (sym ends)
+          (took_stayed g.D.Disk.tells g.D.Disk.past old new next c.take_next-answer.result c.id-id.result c.version-mine.result so);
+      untouched = subst (λ (r : Result (Unit {0}) SyncEnd). IfErr r (λ end. end ≢ DiskFault → new ≡ record old { terms = new.terms })) (sym ends)
+          (took_untouched g.D.Disk.tells g.D.Disk.past old new next c.take_next-answer.result c.id-id.result c.version-mine.result so);
+      disk = search rules;
+      link = search rules;
+      faults = search rules;
+      well = search rules;
+      stays_short = search rules;
+      limits = search rules;
+      mark = search rules;
+    }

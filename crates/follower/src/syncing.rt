@@ -1,0 +1,218 @@
+//! Catching up with a log of a server.
+ghost use Rattle.std.specs.Prelude.{◌≡◌, ◌≤◌, ◌+◌, ◌++◌, ◌∷◌, [], List, None, Ok, true, length, IsSome, IfOk, OnOk, IfErr, IfNone, IfSome, IsErrOf};
+ghost use Rattle.std.specs.List.{list_all};
+ghost use Rattle.delta_base.specs.Outside.{Rose};
+ghost use Rattle.http_text.specs.Print.{is_visible};
+ghost use Rattle.patch_meaning.specs.Checked.{CheckedPatch};
+ghost use Rattle.rpc_answers.specs.declared.answer.Answer.TheVariants as given;
+ghost use Rattle.follower.specs.Exchanges.{Asks, Exchanged, Said as WasSaid, calls_of, fetches, net_of};
+ghost use Rattle.follower.specs.Syncing.{Compares, EndIs, FetchEnds, GoesBefore, IsText, RestIs, Stayed, Took, TookMore, texts_said};
+
+use crate::asking::{ask_log, end_line};
+use crate::ends::SyncEnd;
+use crate::taking::take_answer;
+use delta_base::{Id, OutOfMemory, Text};
+use delta_client::{Dial, Line, ask_again};
+use disk_model::Disk;
+use rpc_calls::Call;
+use std::alloc::Global;
+use zone_state::Zone;
+
+// The call for the patch of a version.
+fn fetch_call(name: &Text, version: u32) -> Result<Call, OutOfMemory>
+    ensures { IfOk result (λ call. call ≡ Call.FetchVersion name.now version) }
+{
+    let name = name.copy()?;
+    Ok(Call::FetchVersion {
+        name,
+        version: u64::from(version),
+    })
+}
+
+// Fetches the zone's next patch, which has this version, and takes it.
+fn take_one<N: Dial, D: Disk>(
+    alloc: Global,
+    net: &mut N,
+    line: &mut Line<N::L>,
+    address: &Text,
+    name: &Text,
+    zone: &mut Zone<D>,
+    version: u32,
+) -> Result<(), SyncEnd>
+    requires visible { list_all is_visible address.now ≡ true }
+    requires awaits { IsSome line.old.open → N.awaits net.old }
+    requires next { version ≡ length zone.old.brief.ids + 1 }
+    ensures ok { OnOk result ((next : CheckedPatch) × IsText next.text next × Took D.tells D.past zone.old zone.new next
+        × (N.tells → Asks N.L.left N.L.sent address.now (fetches name.now version (texts_said (next ∷ []))) (texts_said (next ∷ []))
+        line.old.open (net_of (N.to_come net.old) (N.addresses net.old) (N.back net.old) (N.tries net.old))
+        (net_of (N.to_come net.new) (N.addresses net.new) (N.back net.new) (N.tries net.new)) line.new.open)) }
+    ensures err { IfErr result (λ end. (said : List WasSaid) × FetchEnds zone.old.terms [] zone.new said end
+        × (N.tells → Asks N.L.left N.L.sent address.now (fetches name.now version said) said
+        line.old.open (net_of (N.to_come net.old) (N.addresses net.old) (N.back net.old) (N.tries net.old))
+        (net_of (N.to_come net.new) (N.addresses net.new) (N.back net.new) (N.tries net.new)) line.new.open)) }
+    ensures stayed { IfErr result (λ _. Stayed D.tells D.past zone.old zone.new) }
+    ensures awaits { IsSome line.new.open → N.awaits net.new }
+    ensures link { IsErrOf result SyncEnd.LinkFault → Rose (N.faults net.old) (N.faults net.new) }
+    ensures never_falls { N.faults net.old ≤ N.faults net.new }
+    ensures disk { IsErrOf result SyncEnd.DiskFault → Rose (D.faults zone.old.disk) (D.faults zone.new.disk) }
+    ensures faults { D.faults zone.old.disk ≤ D.faults zone.new.disk }
+    ensures limits { zone.new.limits ≡ zone.old.limits }
+    ensures mark { D.mark zone.new.disk ≡ D.mark zone.old.disk }
+{
+    let call = match fetch_call(name, version) {
+        Ok(call) => call,
+        Err(_) => return Err(SyncEnd::OutOfMemory),
+    };
+    let said = ask_again(alloc, net, line, address, &call);
+    drop(call);
+    match said {
+        Ok(answer) => take_answer(alloc, zone, answer, version),
+        Err(fault) => Err(SyncEnd::from(fault)),
+    }
+}
+
+// Fetches and takes each patch behind the zone's version up to the one that the peer's log has.
+fn take_rest<N: Dial, D: Disk>(
+    alloc: Global,
+    net: &mut N,
+    line: &mut Line<N::L>,
+    address: &Text,
+    name: &Text,
+    zone: &mut Zone<D>,
+    theirs: u32,
+) -> SyncEnd
+    requires visible { list_all is_visible address.now ≡ true }
+    requires awaits { IsSome line.old.open → N.awaits net.old }
+    requires behind { length zone.old.brief.ids ≤ theirs }
+    ensures follows { (last : List WasSaid) × (more : List CheckedPatch) × TookMore D.tells D.past zone.old zone.new more
+        × RestIs zone.old zone.new theirs last more result
+        × (N.tells → Asks N.L.left N.L.sent address.now (fetches name.now (length zone.old.brief.ids + 1) (texts_said more ++ last)) (texts_said more ++ last)
+        line.old.open (net_of (N.to_come net.old) (N.addresses net.old) (N.back net.old) (N.tries net.old))
+        (net_of (N.to_come net.new) (N.addresses net.new) (N.back net.new) (N.tries net.new)) line.new.open) }
+    ensures awaits { IsSome line.new.open → N.awaits net.new }
+    ensures link { result ≡ SyncEnd.LinkFault → Rose (N.faults net.old) (N.faults net.new) }
+    ensures never_falls { N.faults net.old ≤ N.faults net.new }
+    ensures disk { result ≡ SyncEnd.DiskFault → Rose (D.faults zone.old.disk) (D.faults zone.new.disk) }
+    ensures faults { D.faults zone.old.disk ≤ D.faults zone.new.disk }
+    ensures limits { zone.new.limits ≡ zone.old.limits }
+    ensures mark { D.mark zone.new.disk ≡ D.mark zone.old.disk }
+{
+    let mine = zone.version();
+    for before in mine..theirs {
+        match take_one(alloc, net, line, address, name, zone, before + 1) {
+            Ok(()) => {}
+            Err(end) => return end,
+        }
+    }
+    SyncEnd::CaughtUp { version: theirs }
+}
+
+// The end by a log's version and head, where a copy of these doesn't go before it.
+fn compared(mine: u32, have: Option<Id>, theirs: u32, head: Option<Id>) -> Option<SyncEnd>
+    ensures ends { IfSome result (Compares mine have theirs head) }
+    ensures before { IfNone result (GoesBefore mine have theirs head) }
+{
+    if theirs < mine {
+        return Some(SyncEnd::PeerBehind { mine, theirs });
+    }
+    if theirs == mine && head != have {
+        return Some(SyncEnd::Diverged {
+            version: mine,
+            have,
+            theirs: head,
+        });
+    }
+    None
+}
+
+// Catches up with a log that has this version and head.
+fn catch_up<N: Dial, D: Disk>(
+    alloc: Global,
+    net: &mut N,
+    line: &mut Line<N::L>,
+    address: &Text,
+    name: &Text,
+    zone: &mut Zone<D>,
+    theirs: u32,
+    head: Option<Id>,
+) -> SyncEnd
+    requires visible { list_all is_visible address.now ≡ true }
+    requires awaits { IsSome line.old.open → N.awaits net.old }
+    ensures follows { (rest : List WasSaid) × (more : List CheckedPatch) × TookMore D.tells D.past zone.old zone.new more
+        × EndIs zone.old zone.new (Ok (given.Info theirs head) ∷ rest) more result
+        × (N.tells → Asks N.L.left N.L.sent address.now (fetches name.now (length zone.old.brief.ids + 1) rest) rest
+        line.old.open (net_of (N.to_come net.old) (N.addresses net.old) (N.back net.old) (N.tries net.old))
+        (net_of (N.to_come net.new) (N.addresses net.new) (N.back net.new) (N.tries net.new)) line.new.open) }
+    ensures awaits { IsSome line.new.open → N.awaits net.new }
+    ensures link { result ≡ SyncEnd.LinkFault → Rose (N.faults net.old) (N.faults net.new) }
+    ensures never_falls { N.faults net.old ≤ N.faults net.new }
+    ensures disk { result ≡ SyncEnd.DiskFault → Rose (D.faults zone.old.disk) (D.faults zone.new.disk) }
+    ensures faults { D.faults zone.old.disk ≤ D.faults zone.new.disk }
+    ensures limits { zone.new.limits ≡ zone.old.limits }
+    ensures mark { D.mark zone.new.disk ≡ D.mark zone.old.disk }
+{
+    match compared(zone.version(), zone.head(), theirs, head) {
+        Some(end) => end,
+        None => take_rest(alloc, net, line, address, name, zone, theirs),
+    }
+}
+
+// Catches up over a line on which nothing is open.
+fn sync_over<N: Dial, D: Disk>(
+    alloc: Global,
+    net: &mut N,
+    line: &mut Line<N::L>,
+    address: &Text,
+    name: &Text,
+    zone: &mut Zone<D>,
+) -> SyncEnd
+    requires visible { list_all is_visible address.now ≡ true }
+    requires awaits { IsSome line.old.open → N.awaits net.old }
+    ensures follows { (said : List WasSaid) × (more : List CheckedPatch) × TookMore D.tells D.past zone.old zone.new more
+        × EndIs zone.old zone.new said more result
+        × (N.tells → Asks N.L.left N.L.sent address.now (calls_of name.now (length zone.old.brief.ids) said) said
+        line.old.open (net_of (N.to_come net.old) (N.addresses net.old) (N.back net.old) (N.tries net.old))
+        (net_of (N.to_come net.new) (N.addresses net.new) (N.back net.new) (N.tries net.new)) line.new.open) }
+    ensures awaits { IsSome line.new.open → N.awaits net.new }
+    ensures link { result ≡ SyncEnd.LinkFault → Rose (N.faults net.old) (N.faults net.new) }
+    ensures never_falls { N.faults net.old ≤ N.faults net.new }
+    ensures disk { result ≡ SyncEnd.DiskFault → Rose (D.faults zone.old.disk) (D.faults zone.new.disk) }
+    ensures faults { D.faults zone.old.disk ≤ D.faults zone.new.disk }
+    ensures limits { zone.new.limits ≡ zone.old.limits }
+    ensures mark { D.mark zone.new.disk ≡ D.mark zone.old.disk }
+{
+    match ask_log(alloc, net, line, address, name) {
+        Ok((theirs, head)) => catch_up(alloc, net, line, address, name, zone, theirs, head),
+        Err(end) => end,
+    }
+}
+
+/// Asks for the log, and then fetches and takes each patch behind the zone's version up to the version answered.
+pub fn sync<N: Dial, D: Disk>(
+    alloc: Global,
+    net: &mut N,
+    address: &Text,
+    name: &Text,
+    zone: &mut Zone<D>,
+) -> SyncEnd
+    requires { list_all is_visible address.now ≡ true }
+
+    // The zone has taken what it had and then the patches whose texts the peer answered, in their order. So it ended by what was
+    // said, and these calls were made, and no other.
+    ensures follows { (said : List WasSaid) × (more : List CheckedPatch) × TookMore D.tells D.past zone.old zone.new more
+        × EndIs zone.old zone.new said more result
+        × (N.tells → Exchanged N.L.left N.L.sent address.now (calls_of name.now (length zone.old.brief.ids) said) said None
+        (net_of (N.to_come net.old) (N.addresses net.old) (N.back net.old) (N.tries net.old))
+        (net_of (N.to_come net.new) (N.addresses net.new) (N.back net.new) (N.tries net.new))) }
+    ensures link { result ≡ SyncEnd.LinkFault → Rose (N.faults net.old) (N.faults net.new) }
+    ensures never_falls { N.faults net.old ≤ N.faults net.new }
+    ensures disk { result ≡ SyncEnd.DiskFault → Rose (D.faults zone.old.disk) (D.faults zone.new.disk) }
+    ensures faults { D.faults zone.old.disk ≤ D.faults zone.new.disk }
+    ensures limits { zone.new.limits ≡ zone.old.limits }
+    ensures mark { D.mark zone.new.disk ≡ D.mark zone.old.disk }
+{
+    let mut line = Line::new();
+    let end = sync_over(alloc, net, &mut line, address, name, zone);
+    end_line(line, net);
+    end
+}

@@ -1,0 +1,140 @@
+//! How catching up ends, by what the peer answers.
+use crate::peers::{INFOS, PATCHES, dial_of, joined, json, log_and, patch, reply, short, synced, zone_at};
+use std::alloc::Global;
+use std::process::Abort;
+use std::test::Fail;
+
+/// A zone at this version that reads these bytes ends so, and has this version then.
+fn ends_as<R: Abort>(
+    rt: &R,
+    alloc: Global,
+    mine: usize,
+    bytes: &[u8],
+    wanted: (&str, u64, u64),
+    after: u32,
+) -> Result<(), Fail> {
+    let mut zone = zone_at(alloc, mine, &[])?;
+    let mut net = dial_of(alloc, &[bytes], &[])?;
+    let end = synced(alloc, &mut net, &mut zone)?;
+    let told = short(&end);
+    assert!(rt; told.0 == wanted.0 && told.1 == wanted.1 && told.2 == wanted.2, "{} {} {}", told.0, told.1, told.2);
+    assert!(rt; zone.version() == after);
+    drop(end);
+    Ok(())
+}
+
+#[test]
+fn a_zone_at_2_catches_up_with_a_log_of_5(rt: HostRuntime) -> Result<(), Fail> {
+    let alloc = rt.alloc();
+    let bytes = log_and(alloc, INFOS[5], &PATCHES[2..])?;
+    ends_as(&rt, alloc, 2, &bytes, ("CaughtUp", 5, 0), 5)
+}
+
+#[test]
+fn a_zone_that_is_equal_has_caught_up(rt: HostRuntime) -> Result<(), Fail> {
+    let alloc = rt.alloc();
+    for version in 0..=5 {
+        let bytes = json(alloc, b"200 OK", INFOS[version])?;
+        ends_as(&rt, alloc, version, &bytes, ("CaughtUp", version as u64, 0), version as u32)?;
+        drop(bytes);
+    }
+    Ok(())
+}
+
+#[test]
+fn a_log_of_1_is_behind_a_zone_at_2(rt: HostRuntime) -> Result<(), Fail> {
+    let alloc = rt.alloc();
+    let bytes = json(alloc, b"200 OK", INFOS[1])?;
+    ends_as(&rt, alloc, 2, &bytes, ("PeerBehind", 2, 1), 2)
+}
+
+#[test]
+fn another_head_at_the_zones_version_diverges(rt: HostRuntime) -> Result<(), Fail> {
+    let alloc = rt.alloc();
+    let info = b"{\"head\":\"00000000-0000-4000-8000-000000000009\",\"version\":2}";
+    let bytes = json(alloc, b"200 OK", info)?;
+    ends_as(&rt, alloc, 2, &bytes, ("Diverged", 2, 0), 2)
+}
+
+#[test]
+fn a_patch_behind_another_one_diverges(rt: HostRuntime) -> Result<(), Fail> {
+    let alloc = rt.alloc();
+    let bytes = log_and(alloc, INFOS[5], &[PATCHES[2], PATCHES[4]])?;
+    ends_as(&rt, alloc, 2, &bytes, ("Diverged", 3, 0), 3)
+}
+
+#[test]
+fn a_patch_that_was_taken_is_repeated(rt: HostRuntime) -> Result<(), Fail> {
+    let alloc = rt.alloc();
+    let again =
+        b"H id <uuid:00000000-0000-4000-8000-000000000001> .\nH prev <uuid:00000000-0000-4000-8000-000000000002> .\n";
+    let bytes = log_and(alloc, INFOS[5], &[again])?;
+    ends_as(&rt, alloc, 2, &bytes, ("Repeated", 1, 0), 2)
+}
+
+#[test]
+fn a_text_that_is_no_patch_is_told_with_its_version(rt: HostRuntime) -> Result<(), Fail> {
+    let alloc = rt.alloc();
+    let bytes = log_and(alloc, INFOS[5], &[PATCHES[2], b"H id 1 .\n"])?;
+    ends_as(&rt, alloc, 2, &bytes, ("BadPatch", 4, 0), 3)
+}
+
+#[test]
+fn a_patch_that_the_peer_has_not_is_told(rt: HostRuntime) -> Result<(), Fail> {
+    let alloc = rt.alloc();
+    let log = log_and(alloc, INFOS[5], &[PATCHES[2]])?;
+    let none = json(alloc, b"404 Not Found", b"{\"error\":\"no_patch\",\"version\":3}")?;
+    let bytes = joined(alloc, &[&log, &none])?;
+    ends_as(&rt, alloc, 2, &bytes, ("NoPatch", 4, 0), 3)
+}
+
+#[test]
+fn a_name_without_a_source_is_told(rt: HostRuntime) -> Result<(), Fail> {
+    let alloc = rt.alloc();
+    let bytes = json(alloc, b"404 Not Found", b"{\"error\":\"no_source\"}")?;
+    ends_as(&rt, alloc, 2, &bytes, ("NoSuchName", 0, 0), 2)?;
+    let log = log_and(alloc, INFOS[5], &[PATCHES[2]])?;
+    let later = joined(alloc, &[&log, &bytes])?;
+    ends_as(&rt, alloc, 2, &later, ("NoSuchName", 0, 0), 3)
+}
+
+#[test]
+fn a_refusal_is_told_with_its_body(rt: HostRuntime) -> Result<(), Fail> {
+    let alloc = rt.alloc();
+    let body = b"{\"error\":\"out_of_memory\"}";
+    let bytes = json(alloc, b"503 Service Unavailable", body)?;
+    ends_as(&rt, alloc, 2, &bytes, ("PeerRefused", 503, body.len() as u64), 2)?;
+    let log = log_and(alloc, INFOS[5], &[PATCHES[2]])?;
+    let later = joined(alloc, &[&log, &bytes])?;
+    ends_as(&rt, alloc, 2, &later, ("PeerRefused", 503, body.len() as u64), 3)
+}
+
+#[test]
+fn an_answer_of_another_kind_is_not_understood(rt: HostRuntime) -> Result<(), Fail> {
+    let alloc = rt.alloc();
+    let text = patch(alloc, PATCHES[2])?;
+    ends_as(&rt, alloc, 2, &text, ("NotUnderstood", 0, 0), 2)?;
+    let log = json(alloc, b"200 OK", INFOS[5])?;
+    let twice = joined(alloc, &[&log, &log])?;
+    ends_as(&rt, alloc, 2, &twice, ("NotUnderstood", 0, 0), 2)
+}
+
+#[test]
+fn bytes_that_are_no_answer_are_told_with_their_place(rt: HostRuntime) -> Result<(), Fail> {
+    let alloc = rt.alloc();
+    ends_as(&rt, alloc, 2, b"SSH-2.0-x\r\n", ("NotUnderstood", 0, 0), 2)?;
+    let log = json(alloc, b"200 OK", INFOS[5])?;
+    let other = reply(alloc, b"200 OK", b"Content-Type: application/json\r\n", b"{\"a\":1}")?;
+    let bytes = joined(alloc, &[&log, &other])?;
+    ends_as(&rt, alloc, 2, &bytes, ("NotUnderstood", 7, 0), 2)
+}
+
+#[test]
+fn bytes_that_end_early_are_cut_short(rt: HostRuntime) -> Result<(), Fail> {
+    let alloc = rt.alloc();
+    let bytes = log_and(alloc, INFOS[5], &PATCHES[2..])?;
+    let log = json(alloc, b"200 OK", INFOS[5])?;
+    ends_as(&rt, alloc, 2, &bytes[..log.len() - 1], ("CutShort", 0, 0), 2)?;
+    ends_as(&rt, alloc, 2, &bytes[..log.len()], ("CutShort", 0, 0), 2)?;
+    ends_as(&rt, alloc, 2, &bytes[..bytes.len() - 1], ("CutShort", 0, 0), 4)
+}

@@ -1,0 +1,179 @@
+//! Peers that give written replies, zones in memory, and ends in short.
+ghost use Rattle.std.specs.Prelude.{◌≡◌, true, IfOk};
+ghost use Rattle.std.specs.List.{list_all};
+ghost use Rattle.http_text.specs.Print.{is_visible};
+
+use delta_base::{Bytes, Calls, Listing, LogLimits, MemLink, OutOfMemory, Text};
+use delta_client::MemDial;
+use disk_model::MemDisk;
+use follower::{SyncEnd, sync};
+use patch_meaning::check_patch;
+use std::alloc::Global;
+use std::test::Fail;
+use zone_state::Zone;
+
+pub(crate) const LIMITS: LogLimits = LogLimits {
+    patches: 65_536,
+    bytes: 67_108_864,
+};
+
+/// The file of a zone that took nothing.
+const EMPTY: &[u8] = b"RDJ1\0\0\x03\xe8\0";
+
+/// Five patches, each behind the one before it.
+pub(crate) static PATCHES: [&[u8]; 5] = [
+    b"H id <uuid:00000000-0000-4000-8000-000000000001> .\nTX .\nA <http://e/s> <http://e/p> <http://e/o> .\nTC .\n",
+    b"H id <uuid:00000000-0000-4000-8000-000000000002> .\nH prev <uuid:00000000-0000-4000-8000-000000000001> .\nA <http://e/s> <http://e/p> <http://e/o2> .\n",
+    b"H id <uuid:00000000-0000-4000-8000-000000000003> .\nH prev <uuid:00000000-0000-4000-8000-000000000002> .\nD <http://e/s> <http://e/p> <http://e/o> .\n",
+    b"H id <uuid:00000000-0000-4000-8000-000000000004> .\nH prev <uuid:00000000-0000-4000-8000-000000000003> .\n",
+    b"H id <uuid:00000000-0000-4000-8000-000000000005> .\nH prev <uuid:00000000-0000-4000-8000-000000000004> .\nA <http://e/s> <http://e/p> \"5\" .\n",
+];
+
+/// What the log's call is answered with by a log of so many of them; 0 stands for a log of none.
+pub(crate) static INFOS: [&[u8]; 6] = [
+    b"{\"head\":null,\"version\":0}",
+    b"{\"head\":\"00000000-0000-4000-8000-000000000001\",\"version\":1}",
+    b"{\"head\":\"00000000-0000-4000-8000-000000000002\",\"version\":2}",
+    b"{\"head\":\"00000000-0000-4000-8000-000000000003\",\"version\":3}",
+    b"{\"head\":\"00000000-0000-4000-8000-000000000004\",\"version\":4}",
+    b"{\"head\":\"00000000-0000-4000-8000-000000000005\",\"version\":5}",
+];
+
+/// The request for the log ABC.
+pub(crate) const LOG_ASKED: &[u8] =
+    b"POST /$/rpc HTTP/1.1\r\nHost: e:80\r\nContent-Type: application/json\r\nContent-Length: 32\r\n\r\n{\"name\":\"ABC\",\"operation\":\"log\"}";
+
+/// Texts one behind another.
+pub(crate) fn joined(alloc: Global, texts: &[&[u8]]) -> Result<Vec<u8>, OutOfMemory> {
+    let mut all = Vec::new(alloc);
+    for text in texts {
+        all.extend_from_slice(text)?;
+    }
+    Ok(all)
+}
+
+/// A reply with this first line, fields and body.
+pub(crate) fn reply(
+    alloc: Global,
+    line: &[u8],
+    fields: &[u8],
+    body: &[u8],
+) -> Result<Vec<u8>, OutOfMemory> {
+    let length = format!(in alloc; "{}", body.len())?;
+    joined(
+        alloc,
+        &[
+            b"HTTP/1.1 ",
+            line,
+            b"\r\n",
+            fields,
+            b"Content-Length: ",
+            length.as_bytes(),
+            b"\r\n\r\n",
+            body,
+        ],
+    )
+}
+
+/// The answer with this JSON.
+pub(crate) fn json(alloc: Global, line: &[u8], body: &[u8]) -> Result<Vec<u8>, OutOfMemory> {
+    reply(alloc, line, b"Content-Type: application/json\r\n", body)
+}
+
+/// The answer with a patch.
+pub(crate) fn patch(alloc: Global, text: &[u8]) -> Result<Vec<u8>, OutOfMemory> {
+    reply(alloc, b"200 OK", b"Content-Type: application/rdf-patch\r\n", text)
+}
+
+/// The answer to the log's call, and then these patches.
+pub(crate) fn log_and(
+    alloc: Global,
+    info: &[u8],
+    texts: &[&[u8]],
+) -> Result<Vec<u8>, OutOfMemory> {
+    let mut all = json(alloc, b"200 OK", info)?;
+    for text in texts {
+        let next = patch(alloc, text)?;
+        all.extend_from_slice(&next)?;
+        drop(next);
+    }
+    Ok(all)
+}
+
+/// Numbers of calls.
+pub(crate) fn calls(alloc: Global, numbers: &[u64]) -> Result<Calls, OutOfMemory> {
+    Ok(Listing::from_vec(Vec::from_slice(alloc, numbers)?))
+}
+
+/// A dial whose connections give these texts, and whose calls of these numbers fail.
+pub(crate) fn dial_of(
+    alloc: Global,
+    texts: &[&[u8]],
+    failing: &[u64],
+) -> Result<MemDial<MemLink>, OutOfMemory> {
+    let mut links = Vec::new(alloc);
+    for text in texts {
+        let content = Bytes::from_slice(alloc, text)?;
+        links.push(MemLink::new(alloc, content, 8_192, calls(alloc, &[])?))?;
+    }
+    MemDial::new(alloc, links, calls(alloc, failing)?)
+}
+
+/// A zone that took the first so many of the five, and whose disk's calls of these numbers fail, the ones of its opening counted.
+pub(crate) fn zone_at(alloc: Global, version: usize, failing: &[u64]) -> Result<Zone<MemDisk>, Fail> {
+    let bytes = Bytes::from_slice(alloc, EMPTY)?;
+    let disk = MemDisk::from_image(alloc, bytes, calls(alloc, failing)?)?;
+    let mut zone = match Zone::open_on(alloc, disk, LIMITS) {
+        Ok(zone) => zone,
+        Err(_) => return Err(Fail::from("not opened")),
+    };
+    for text in &PATCHES[..version.min(5)] {
+        let next = check_patch(alloc, text)?;
+        zone.take_next(&next);
+        drop(next);
+    }
+    Ok(zone)
+}
+
+/// The host of all requests.
+fn host(alloc: Global) -> Result<Text, OutOfMemory>
+    ensures { IfOk result (λ host. list_all is_visible host ≡ true) }
+{
+    Text::from_str(alloc, "e:80")
+}
+
+/// Catches up with the log ABC.
+pub(crate) fn synced(
+    alloc: Global,
+    net: &mut MemDial<MemLink>,
+    zone: &mut Zone<MemDisk>,
+) -> Result<SyncEnd, OutOfMemory> {
+    let host = host(alloc)?;
+    let name = Text::from_str(alloc, "ABC")?;
+    Ok(sync(alloc, net, &host, &name, zone))
+}
+
+/// An end by its name, with its numbers.
+pub(crate) fn short(end: &SyncEnd) -> (&'static str, u64, u64) {
+    match end {
+        SyncEnd::CaughtUp { version } => ("CaughtUp", u64::from(*version), 0),
+        SyncEnd::NoSuchName => ("NoSuchName", 0, 0),
+        SyncEnd::PeerBehind { mine, theirs } => {
+            ("PeerBehind", u64::from(*mine), u64::from(*theirs))
+        }
+        SyncEnd::NoPatch { version } => ("NoPatch", u64::from(*version), 0),
+        SyncEnd::PeerRefused { status, body } => {
+            ("PeerRefused", u64::from(*status), body.len() as u64)
+        }
+        SyncEnd::Diverged { version, .. } => ("Diverged", u64::from(*version), 0),
+        SyncEnd::Repeated { version, .. } => ("Repeated", u64::from(*version), 0),
+        SyncEnd::BadPatch { version, .. } => ("BadPatch", u64::from(*version), 0),
+        SyncEnd::LinkFault => ("LinkFault", 0, 0),
+        SyncEnd::CutShort => ("CutShort", 0, 0),
+        SyncEnd::NotUnderstood { at } => ("NotUnderstood", *at, 0),
+        SyncEnd::Full { have, limit, .. } => ("Full", *have, *limit),
+        SyncEnd::TermsFull => ("TermsFull", 0, 0),
+        SyncEnd::DiskFault => ("DiskFault", 0, 0),
+        SyncEnd::OutOfMemory => ("OutOfMemory", 0, 0),
+    }
+}
