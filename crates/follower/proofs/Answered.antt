@@ -20,19 +20,23 @@ use Rattle.chain_core.specs.Log.{LogPoint, up, down}
 use Rattle.chain_core.specs.Decision.{same_id}
 use Rattle.chain_core.proofs.Decided.{same_id-refl}
 use Rattle.patch_meaning.specs.Checked.{CheckedPatch, Refuses}
-use Rattle.patch_meaning.specs.Patch.{IsPatchFault}
+use Rattle.patch_meaning.specs.Patch.{IsPatch}
 use Rattle.patch_meaning.specs.declared.fault.PatchFault.{PatchFault}
 use Rattle.patch_meaning.specs.declared.fault.PatchFault.TheVariants as faults
 use Rattle.patch_log.specs.Log.{bare}
+use Rattle.rpc_answers.specs.declared.answer.Answer.TheVariants as answers
 use Rattle.zone_state.specs.declared.answer.TakeAnswer.{TakeAnswer}
 use Rattle.zone_state.specs.declared.answer.TakeAnswer.TheVariants as take
-use Rattle.zone_state.specs.Brief.{Brief, last_of, version_in, file_length, with_patch}
+use Rattle.zone_state.specs.Brief.{Brief, last_of, version_in, file_length, with_patch, changes_of}
 use Rattle.zone_state.specs.Taking.{taking, unless_repeated, taken_then, IsDecidedBy, IsWant, TakeStay}
 use Rattle.zone_state.specs.Stay.{decided, TookOne}
 use Rattle.zone_state.specs.Zone.{ZoneView, StandsForZone, doubt_of, point_of}
 use Rattle.follower.specs.declared.ends.SyncEnd.{SyncEnd}
 use Rattle.follower.specs.declared.ends.SyncEnd.TheVariants.{BadPatch, LinkFault, DiskFault}
-use Rattle.follower.specs.Syncing.{TookMore, Took, Stayed, IsNextOf, IsText, TextEnds, end_of, of_patch}
+use Rattle.follower.specs.Exchanges.{Said}
+use Rattle.follower.specs.Grown.{Took, Stayed, LeavesAmid, WasTried, untried, was_last}
+use Rattle.follower.specs.Syncing.{IsNextOf, IsText, TextEnds, end_of, of_patch}
+use Rattle.follower.proofs.Amid.{amid_same}
 use Rattle.follower.proofs.Taken.{took_same, took_want}
 
 -- ---- results
@@ -44,6 +48,10 @@ on_ok (Err fault) then is = tt
 pub on_err : {T E : Type 0} {P Q : E → Type 0} (result : Result T E) → ((fault : E) → P fault → Q fault) → IfErr result P → IfErr result Q
 on_err (Ok done) then is = tt
 on_err (Err fault) then is = then fault is
+
+pub both_err : {T E : Type 0} (P Q : E → Type 0) (result : Result T E) → IfErr result P → IfErr result Q → IfErr result (λ fault. P fault × Q fault)
+both_err P Q (Ok done) one other = tt
+both_err P Q (Err fault) one other = (one, other)
 
 -- ---- decisions
 
@@ -97,6 +105,7 @@ pub record Answers {D : Type 0} (tells : Type 0) (past : D → Past) (old new : 
   pub applied : (version : ℕ) → answer ≡ take.Applied version → new.brief ≡ with_patch old.brief next
   pub refused : ((version : ℕ) → answer ≢ take.Applied version) → new.brief ≡ old.brief
   pub limits : new.limits ≡ old.limits
+  pub amid : LeavesAmid tells past old new (next ∷ [])
   pub settled : (version : ℕ) → answer ≡ take.Applied version → new.settled ≡ true
 
 module _ {D : Type 0} (tells : Type 0) (past : D → Past) (old new : ZoneView D) (next : CheckedPatch) where
@@ -112,8 +121,9 @@ module _ {D : Type 0} (tells : Type 0) (past : D → Past) (old new : ZoneView D
   took_ok (take.Applied version) id mine so = record {
     brief = so.applied version refl;
     took = λ taken doubt stands. so.stay taken doubt stands (λ same. cc) (λ same. cc);
+    amid = so.amid;
     settled = so.settled version refl;
-    learnt = subst (λ (cs : List Change). AreMet cs old.terms new.terms) changes_one so.terms;
+    met = subst (λ (cs : List Change). AreMet cs old.terms new.terms) changes_one so.terms;
   }
   took_ok (take.Diverged have prev) id mine so = tt
   took_ok (take.Repeated version) id mine so = tt
@@ -122,21 +132,37 @@ module _ {D : Type 0} (tells : Type 0) (past : D → Past) (old new : ZoneView D
   took_ok take.OutOfMemory id mine so = tt
   took_ok take.DiskFault id mine so = tt
 
-  -- its disk wasn't asked
-  still : (answer : TakeAnswer) → answer ≢ take.DiskFault → ((version : ℕ) → answer ≢ take.Applied version) → Answers tells past old new next answer → Stayed tells past old new
-  still answer no_fault refused so = record { brief = so.refused refused; took = took_want tells past old new (so.untouched no_fault refused) }
+  module _ (said : List Said) (checked : IsPatch next.text next.meaning) (is_said : said ≡ Ok (answers.Patch next.text) ∷ []) where
+    tried : WasTried said (next ∷ [])
+    tried = was_last [] next is_said refl checked
 
-  pub took_stayed : (answer : TakeAnswer) (id : Id) (mine : ℕ) → Answers tells past old new next answer → IfErr (end_of answer id mine) (λ _. Stayed tells past old new)
-  took_stayed (take.Applied version) id mine so = tt
-  took_stayed (take.Diverged have prev) id mine so = still (take.Diverged have prev) (λ same. cc) (λ version same. cc) so
-  took_stayed (take.Repeated version) id mine so = still (take.Repeated version) (λ same. cc) (λ version same. cc) so
-  took_stayed (take.Full what have limit) id mine so = still (take.Full what have limit) (λ same. cc) (λ version same. cc) so
-  took_stayed take.TermsFull id mine so = still take.TermsFull (λ same. cc) (λ version same. cc) so
-  took_stayed take.OutOfMemory id mine so = still take.OutOfMemory (λ same. cc) (λ version same. cc) so
-  took_stayed take.DiskFault id mine so = record {
-    brief = so.refused (λ version same. cc);
-    took = took_same tells past old new (λ taken doubt stands. so.stay taken doubt stands (λ same. cc) (λ same. cc));
-  }
+    met : AreMet next.meaning.changes old.terms new.terms → (ps : List CheckedPatch) × WasTried said ps × AreMet (changes_of ([] ++ ps)) old.terms new.terms
+    met are = (next ∷ [], tried, subst (λ (cs : List Change). AreMet cs old.terms new.terms) changes_one are)
+
+    -- its disk wasn't asked
+    still : (answer : TakeAnswer) → answer ≢ take.DiskFault → ((version : ℕ) → answer ≢ take.Applied version) → Answers tells past old new next answer → Stayed tells past old new said
+    still answer no_fault refused so =
+        let same = so.untouched no_fault refused in
+        record {
+          brief = so.refused refused;
+          grew = record { took = took_want tells past old new same; amid = ([], untried refl, amid_same tells past old new same); met = met so.terms };
+        }
+
+    pub took_stayed : (answer : TakeAnswer) (id : Id) (mine : ℕ) → Answers tells past old new next answer → IfErr (end_of answer id mine) (λ _. Stayed tells past old new said)
+    took_stayed (take.Applied version) id mine so = tt
+    took_stayed (take.Diverged have prev) id mine so = still (take.Diverged have prev) (λ same. cc) (λ version same. cc) so
+    took_stayed (take.Repeated version) id mine so = still (take.Repeated version) (λ same. cc) (λ version same. cc) so
+    took_stayed (take.Full what have limit) id mine so = still (take.Full what have limit) (λ same. cc) (λ version same. cc) so
+    took_stayed take.TermsFull id mine so = still take.TermsFull (λ same. cc) (λ version same. cc) so
+    took_stayed take.OutOfMemory id mine so = still take.OutOfMemory (λ same. cc) (λ version same. cc) so
+    took_stayed take.DiskFault id mine so = record {
+      brief = so.refused (λ version same. cc);
+      grew = record {
+        took = took_same tells past old new (λ taken doubt stands. so.stay taken doubt stands (λ same. cc) (λ same. cc));
+        amid = (next ∷ [], tried, so.amid);
+        met = met so.terms;
+      };
+    }
 
   -- a refusal is what the zone decides, as it is then
   decided_now : (answer : TakeAnswer) → IsDecidedBy (decided old next) answer → new.brief ≡ old.brief → new.limits ≡ old.limits

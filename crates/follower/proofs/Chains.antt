@@ -97,7 +97,7 @@ module _ {L : Type 0} (left sent : L → Option (List ℕ)) (address : List ℕ)
   exchanged [] [] standing talk line before end after is asks hung tries =
       let links : links_in line ≡ links_of standing = ap (λ (o : Option (Open L)). links_in o) asks.1 ∙ same_links standing talk is in (
         hung ∙ (ap (λ (net : Net L). record net.told { back = net.told.back ++ links_in line }) asks.0
-        ∙ ap (λ (links : List L). record before.told { back = before.told.back ++ links }) links),
+            ∙ ap (λ (links : List L). record before.told { back = before.told.back ++ links }) links),
         tries ∙ ap (λ (net : Net L). net.tries) asks.0,
       )
   exchanged (call ∷ calls) (Ok a ∷ said) standing talk line before end after is asks hung tries =

@@ -1,4 +1,5 @@
 mod Chains
 mod Taken
+mod Amid
 mod Answered
 mod Rest

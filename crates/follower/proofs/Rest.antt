@@ -1,5 +1,5 @@
 -- How fetches go on, one after another.
-use Rattle.std.proofs.Common.{◌≡◌, ℕ, ◌+◌, ◌<◌, ◌≤◌, List, [], ◌∷◌, ◌++◌, length, map, Option, Some, None, Result, Ok, Err, refl, sym, ◌∙◌, ap, subst, arith}
+use Rattle.std.proofs.Common.{◌≡◌, inl, inr, ℕ, ◌+◌, ◌<◌, ◌≤◌, List, [], ◌∷◌, ◌++◌, length, map, Option, Some, None, Result, Ok, Err, refl, sym, ◌∙◌, ap, subst, arith}
 use Rattle.std.proofs.lemmas.List.{append-nil, length_push, map-append, length-map}
 use Rattle.delta_base.specs.declared.id.Id.{Id}
 use Rattle.disk_model.specs.Past.{Past}
@@ -16,8 +16,10 @@ use Rattle.zone_state.specs.Zone.{ZoneView}
 use Rattle.follower.specs.declared.ends.SyncEnd.{SyncEnd}
 use Rattle.follower.specs.declared.ends.SyncEnd.TheVariants.{CaughtUp, NoSuchName, PeerBehind, NoPatch, PeerRefused, Diverged, Repeated, BadPatch, LinkFault, CutShort, NotUnderstood, Full, TermsFull, DiskFault, OutOfMemory}
 use Rattle.follower.specs.Exchanges.{Said, Net, fetches, Asks}
-use Rattle.follower.specs.Syncing.{TookMore, Took, Stayed, TextEnds, FetchRefuses, told, no_source, no_patch, refused, FetchEnds, answered, faulty, not_asked, texts_said, RestIs, stopped, caught_up}
+use Rattle.follower.specs.Grown.{TookMore, LeavesAmid, untried, GrewBy, Took, Stayed}
+use Rattle.follower.specs.Syncing.{TextEnds, FetchRefuses, told, no_source, no_patch, refused, FetchEnds, answered, faulty, not_asked, texts_said, RestIs, stopped, caught_up}
 use Rattle.follower.proofs.Chains.{fetches_append, asks_none, asks_both}
+use Rattle.follower.proofs.Amid.{IsClear, amid_none, amid_both}
 use Rattle.follower.proofs.Taken.{took_none, took_both, took_still, met_none, met_both, more_both}
 
 -- ---- an end behind patches that were taken
@@ -60,6 +62,8 @@ text_said patch = Ok (answer.Patch patch.text)
 pub record Gone {D L : Type 0} (disk_tells net_tells : Type 0) (past : D → Past) (left sent : L → Option (List ℕ)) (address name : List ℕ)
     (old now : ZoneView D) (talk line : Option (Open L)) (before after : Net L) (more : List CheckedPatch) : Type 0 where
   pub took : TookMore disk_tells past old now more
+  pub clear : IsClear old now more
+  pub amid : LeavesAmid disk_tells past old now more
   pub learnt : AreMet (changes_of more) old.terms now.terms
   pub count : length now.brief.ids ≡ length old.brief.ids + length more
   pub asks : net_tells → Asks left sent address (fetches name (length old.brief.ids + 1) (texts_said more)) (texts_said more) talk before after line
@@ -77,11 +81,13 @@ module _ {D L : Type 0} (disk_tells net_tells : Type 0) (past : D → Past) (lef
       subst (λ (cs : List Call). Asks left sent address cs (texts_said more ++ said) talk before after line)
       (sym (fetches_append name (length old.brief.ids + 1) (texts_said more) said))
       (asks_both left sent address (fetches name (length old.brief.ids + 1) (texts_said more)) (fetches name (length old.brief.ids + 1 + length (texts_said more)) said) (texts_said more) said talk next line before between after first
-          (subst (λ (n : ℕ). Asks left sent address (fetches name n said) said next between after line) from second))
+      (subst (λ (n : ℕ). Asks left sent address (fetches name n said) said next between after line) from second))
 
   pub gone_none : GoneTo old talk before []
   gone_none = record {
     took = took_none disk_tells past old;
+    clear = inl (refl, refl);
+    amid = amid_none disk_tells past old;
     learnt = met_none old.terms;
     count = omega arith;
     asks = λ tells. asks_none left sent address talk before;
@@ -95,7 +101,9 @@ module _ {D L : Type 0} (disk_tells net_tells : Type 0) (past : D → Past) (lef
       let grown : length new.brief.ids ≡ length now.brief.ids + 1 = ap (λ (b : Brief). length b.ids) took.brief ∙ length_push now.brief.ids one.meaning.id in
       record {
         took = took_both disk_tells past old now new more (one ∷ []) so.took took.took;
-        learnt = met_both more (one ∷ []) old.terms now.terms new.terms so.learnt took.learnt;
+        clear = inr took.settled;
+        amid = amid_both disk_tells past old now new more (one ∷ []) so.took so.clear so.amid took.amid;
+        learnt = met_both more (one ∷ []) old.terms now.terms new.terms so.learnt took.met;
         count = omega (arith, grown, so.count, length_push more one);
         asks = λ tells. subst (λ (said : List Said). Asks left sent address (fetches name (length old.brief.ids + 1) said) said talk before after line)
             (sym (map-append text_said more (one ∷ [])))
@@ -104,16 +112,18 @@ module _ {D L : Type 0} (disk_tells net_tells : Type 0) (past : D → Past) (lef
 
   -- what the fetches come to: what was said last, and the patches taken
   abbrev pub Ended : ZoneView D → Option (Open L) → Net L → ℕ → List Said → List CheckedPatch → SyncEnd → Type 0
-  Ended new line after theirs last more end = TookMore disk_tells past old new more × RestIs old new theirs last more end
+  Ended new line after theirs last more end = GrewBy disk_tells past old new more last × RestIs old new theirs last more end
       × (net_tells → Asks left sent address (fetches name (length old.brief.ids + 1) (texts_said more ++ last)) (texts_said more ++ last) talk before after line)
 
   -- a fetch that ends it
   pub gone_stopped : (now new : ZoneView D) (next line : Option (Open L)) (between after : Net L) (more : List CheckedPatch) (said : List Said) (version theirs : ℕ) (end : SyncEnd)
-      → version ≡ length now.brief.ids + 1 → version ≤ theirs → GoneTo now next between more → FetchEnds now.terms [] new said end → Stayed disk_tells past now new
+      → version ≡ length now.brief.ids + 1 → version ≤ theirs → GoneTo now next between more → FetchEnds now.terms [] new said end → Stayed disk_tells past now new said
       → (net_tells → Asks left sent address (fetches name version said) said next between after line) → Ended new line after theirs said more end
   gone_stopped now new next line between after more said version theirs end is within so ends stays asks =
-      let same : length new.brief.ids ≡ length now.brief.ids = ap (λ (b : Brief). length b.ids) stays.brief in (
-        took_still disk_tells past old now new more so.took stays.took,
+      let same : length new.brief.ids ≡ length now.brief.ids = ap (λ (b : Brief). length b.ids) stays.brief in
+      let tried = stays.grew.amid in
+      let met = stays.grew.met in (
+        record { took = took_still disk_tells past old now new more so.took stays.grew.took; amid = (tried.0, tried.1, amid_both disk_tells past old now new more tried.0 so.took so.clear so.amid tried.2); met = (met.0, met.1, met_both more met.0 old.terms now.terms new.terms so.learnt met.2) },
         stopped (omega (arith, same, is, within)) (ends_behind old.terms now.terms more so.learnt new said end ends),
         λ tells. asks_more more said version next line between after (omega (arith, is, so.count)) (so.asks tells) (asks tells),
       )
@@ -122,7 +132,11 @@ module _ {D L : Type 0} (disk_tells net_tells : Type 0) (past : D → Past) (lef
   pub gone_through : (now : ZoneView D) (line : Option (Open L)) (after : Net L) (more : List CheckedPatch) (theirs : ℕ) → theirs ≡ length now.brief.ids → GoneTo now line after more
       → Ended now line after theirs [] more (CaughtUp theirs)
   gone_through now line after more theirs is so = (
-    so.took,
+    record {
+      took = so.took;
+      amid = ([], untried refl, subst (λ (ps : List CheckedPatch). LeavesAmid disk_tells past old now ps) (sym (append-nil more)) so.amid);
+      met = ([], untried refl, subst (λ (ps : List CheckedPatch). AreMet (changes_of ps) old.terms now.terms) (sym (append-nil more)) so.learnt);
+    },
     caught_up is refl refl,
     λ tells. subst (λ (said : List Said). Asks left sent address (fetches name (length old.brief.ids + 1) said) said talk before after line) (sym (append-nil (texts_said more))) (so.asks tells),
   )

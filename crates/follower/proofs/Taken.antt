@@ -11,7 +11,7 @@ use Rattle.dataset_tx.specs.Held.{terms_of, AreMet, AreMore}
 use Rattle.patch_meaning.specs.Checked.{CheckedPatch}
 use Rattle.zone_state.specs.Brief.{changes_of}
 use Rattle.zone_state.specs.Zone.{ZoneView, StandsForZone}
-use Rattle.follower.specs.Syncing.{TookMore}
+use Rattle.follower.specs.Grown.{TookMore}
 
 module _ {D : Type 0} (tells : Type 0) (past : D → Past) where
   pub took_same : (old new : ZoneView D) → ((taken : List CheckedPatch) (doubt : Option CheckedPatch) → StandsForZone tells (past old.disk) old taken doubt
@@ -38,7 +38,7 @@ module _ {D : Type 0} (tells : Type 0) (past : D → Past) where
   pub took_want : (old new : ZoneView D) → new ≡ record old { terms = new.terms } → TookMore tells past old new []
   took_want old new is = took_same old new (λ taken doubt stands.
       let here : StandsForZone tells (past old.disk) (record old { terms = new.terms }) taken doubt =
-          record { brief_is = stands.brief_is; settled_is = stands.settled_is; without = stands.without; having = stands.having; on_disk = stands.on_disk } in
+      record { brief_is = stands.brief_is; settled_is = stands.settled_is; without = stands.without; having = stands.having; on_disk = stands.on_disk } in
       (doubt, subst (λ (zone : ZoneView D). StandsForZone tells (past zone.disk) zone taken doubt) (sym is) here))
 
 -- ---- terms

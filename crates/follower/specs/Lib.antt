@@ -1,3 +1,4 @@
 pub mod Exchanges
 pub mod Ends
+pub mod Grown
 pub mod Syncing

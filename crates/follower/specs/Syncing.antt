@@ -1,10 +1,9 @@
 -- What catching up makes of what a peer said, and which end that has.
-use Rattle.std.specs.Prelude.{◌≡◌, true, ◌≢◌, ◌⊎◌, ℕ, ◌+◌, ◌<◌, ◌≤◌, List, [], ◌∷◌, ◌++◌, Option, Some, None, Result, Ok, Err, length, map}
+use Rattle.std.specs.Prelude.{◌≡◌, ◌≢◌, ◌⊎◌, ℕ, ◌+◌, ◌<◌, ◌≤◌, List, [], ◌∷◌, ◌++◌, Option, Some, None, Result, Ok, Err, length, map}
 use Rattle.delta_base.specs.declared.id.Id.{Id}
-use Rattle.disk_model.specs.Past.{Past}
 use Rattle.rdf_terms.specs.declared.term.Term.{Term}
 use Rattle.term_table.specs.Table.{most}
-use Rattle.dataset_tx.specs.Held.{AreMet, AreMore}
+use Rattle.dataset_tx.specs.Held.{AreMore}
 use Rattle.patch_meaning.specs.Checked.{CheckedPatch}
 use Rattle.patch_meaning.specs.Patch.{IsPatch, IsPatchFault}
 use Rattle.patch_meaning.specs.declared.fault.PatchFault.{PatchFault}
@@ -14,33 +13,13 @@ use Rattle.rpc_answers.specs.declared.answer.Answer.{Answer}
 use Rattle.rpc_answers.specs.declared.answer.Answer.TheVariants as answer
 use Rattle.zone_state.specs.declared.answer.TakeAnswer.{TakeAnswer}
 use Rattle.zone_state.specs.declared.answer.TakeAnswer.TheVariants as take
-use Rattle.zone_state.specs.Brief.{last_of, with_patch, changes_of}
+use Rattle.zone_state.specs.Brief.{last_of, changes_of}
 use Rattle.zone_state.specs.Stay.{decided}
-use Rattle.zone_state.specs.Zone.{ZoneView, StandsForZone}
+use Rattle.zone_state.specs.Zone.{ZoneView}
 use Rattle.follower.specs.declared.ends.SyncEnd.{SyncEnd}
 use Rattle.follower.specs.declared.ends.SyncEnd.TheVariants.{CaughtUp, NoSuchName, PeerBehind, NoPatch, Diverged, Repeated, BadPatch, Full, TermsFull, DiskFault, OutOfMemory}
 use Rattle.follower.specs.Ends.{IsRefusal, LogEnds, of_ask}
 use Rattle.follower.specs.Exchanges.{Said}
-
--- ---- the zone
-
--- for whatever patches the zone stood, it stands for them and these
-abbrev pub TookMore : {D : Type 0} → Type 0 → (D → Past) → ZoneView D → ZoneView D → List CheckedPatch → Type 0
-TookMore tells past old new more =
-    (taken : List CheckedPatch) (doubt : Option CheckedPatch) → StandsForZone tells (past old.disk) old taken doubt
-    → (left : Option CheckedPatch) × StandsForZone tells (past new.disk) new (taken ++ more) left
-
--- the zone took this patch
-pub record Took {D : Type 0} (tells : Type 0) (past : D → Past) (old new : ZoneView D) (next : CheckedPatch) : Type 0 where
-  pub brief : new.brief ≡ with_patch old.brief next
-  pub took : TookMore tells past old new (next ∷ [])
-  pub settled : new.settled ≡ true
-  pub learnt : AreMet (changes_of (next ∷ [])) old.terms new.terms
-
--- the zone is as it was, but for the terms that it knows and the state of its disk
-pub record Stayed {D : Type 0} (tells : Type 0) (past : D → Past) (old new : ZoneView D) : Type 0 where
-  pub brief : new.brief ≡ old.brief
-  pub took : TookMore tells past old new []
 
 -- the patch is the next one
 abbrev pub IsNextOf : {D : Type 0} → ZoneView D → CheckedPatch → Type 0

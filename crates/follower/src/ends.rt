@@ -5,14 +5,24 @@ use patch_meaning::PatchFault;
 
 #[derive(Drop)]
 pub enum SyncEnd {
-    CaughtUp { version: u32 },
+    CaughtUp {
+        version: u32,
+    },
     NoSuchName,
     /// The peer's log is shorter than the zone.
-    PeerBehind { mine: u32, theirs: u32 },
+    PeerBehind {
+        mine: u32,
+        theirs: u32,
+    },
     /// The peer answered that it has no patch of this version.
-    NoPatch { version: u32 },
+    NoPatch {
+        version: u32,
+    },
     /// Another answer whose status isn't 200, with its body.
-    PeerRefused { status: u16, body: Bytes },
+    PeerRefused {
+        status: u16,
+        body: Bytes,
+    },
     /// Behind so many patches, of which the last has the id `have`, the peer has another one.
     Diverged {
         version: u32,
@@ -20,12 +30,20 @@ pub enum SyncEnd {
         theirs: Option<Id>,
     },
     /// The next patch has the id of this version.
-    Repeated { version: u32, id: Id },
+    Repeated {
+        version: u32,
+        id: Id,
+    },
     /// The text that the peer answered for this version is no patch.
-    BadPatch { version: u32, fault: PatchFault },
+    BadPatch {
+        version: u32,
+        fault: PatchFault,
+    },
     LinkFault,
     CutShort,
-    NotUnderstood { at: u64 },
+    NotUnderstood {
+        at: u64,
+    },
     Full {
         what: FullKind,
         have: u64,

@@ -1,12 +1,13 @@
 //! Catching up with a log of a server.
-ghost use Rattle.std.specs.Prelude.{◌≡◌, ◌≤◌, ◌+◌, ◌++◌, ◌∷◌, [], List, None, Ok, true, length, IsSome, IfOk, OnOk, IfErr, IfNone, IfSome, IsErrOf};
+ghost use Rattle.std.specs.Prelude.{◌≡◌, ◌≢◌, ◌≤◌, ◌+◌, ◌++◌, ◌∷◌, [], List, None, Ok, true, length, IsSome, IsTrue, IfOk, OnOk, IfErr, IfNone, IfSome, IsErrOf};
 ghost use Rattle.std.specs.List.{list_all};
 ghost use Rattle.delta_base.specs.Outside.{Rose};
 ghost use Rattle.http_text.specs.Print.{is_visible};
 ghost use Rattle.patch_meaning.specs.Checked.{CheckedPatch};
 ghost use Rattle.rpc_answers.specs.declared.answer.Answer.TheVariants as given;
 ghost use Rattle.follower.specs.Exchanges.{Asks, Exchanged, Said as WasSaid, calls_of, fetches, net_of};
-ghost use Rattle.follower.specs.Syncing.{Compares, EndIs, FetchEnds, GoesBefore, IsText, RestIs, Stayed, Took, TookMore, texts_said};
+ghost use Rattle.follower.specs.Grown.{GrewBy, Stayed, Took};
+ghost use Rattle.follower.specs.Syncing.{Compares, EndIs, FetchEnds, GoesBefore, IsText, RestIs, texts_said};
 
 use crate::asking::{ask_log, end_line};
 use crate::ends::SyncEnd;
@@ -46,16 +47,18 @@ fn take_one<N: Dial, D: Disk>(
         × (N.tells → Asks N.L.left N.L.sent address.now (fetches name.now version (texts_said (next ∷ []))) (texts_said (next ∷ []))
         line.old.open (net_of (N.to_come net.old) (N.addresses net.old) (N.back net.old) (N.tries net.old))
         (net_of (N.to_come net.new) (N.addresses net.new) (N.back net.new) (N.tries net.new)) line.new.open)) }
-    ensures err { IfErr result (λ end. (said : List WasSaid) × FetchEnds zone.old.terms [] zone.new said end
+    ensures err { IfErr result (λ end. (said : List WasSaid) × FetchEnds zone.old.terms [] zone.new said end × Stayed D.tells D.past zone.old zone.new said
         × (N.tells → Asks N.L.left N.L.sent address.now (fetches name.now version said) said
         line.old.open (net_of (N.to_come net.old) (N.addresses net.old) (N.back net.old) (N.tries net.old))
         (net_of (N.to_come net.new) (N.addresses net.new) (N.back net.new) (N.tries net.new)) line.new.open)) }
-    ensures stayed { IfErr result (λ _. Stayed D.tells D.past zone.old zone.new) }
+    ensures untouched { IfErr result (λ end. end ≢ SyncEnd.DiskFault → zone.new ≡ record zone.old { terms = zone.new.terms }) }
     ensures awaits { IsSome line.new.open → N.awaits net.new }
     ensures link { IsErrOf result SyncEnd.LinkFault → Rose (N.faults net.old) (N.faults net.new) }
     ensures never_falls { N.faults net.old ≤ N.faults net.new }
     ensures disk { IsErrOf result SyncEnd.DiskFault → Rose (D.faults zone.old.disk) (D.faults zone.new.disk) }
     ensures faults { D.faults zone.old.disk ≤ D.faults zone.new.disk }
+    ensures well { (IsErrOf result SyncEnd.DiskFault → ⊥) → D.faults zone.new.disk ≡ D.faults zone.old.disk }
+    ensures stays_short { D.plans → IsTrue (D.short zone.old.disk) → IsTrue (D.short zone.new.disk) }
     ensures limits { zone.new.limits ≡ zone.old.limits }
     ensures mark { D.mark zone.new.disk ≡ D.mark zone.old.disk }
 {
@@ -84,7 +87,7 @@ fn take_rest<N: Dial, D: Disk>(
     requires visible { list_all is_visible address.now ≡ true }
     requires awaits { IsSome line.old.open → N.awaits net.old }
     requires behind { length zone.old.brief.ids ≤ theirs }
-    ensures follows { (last : List WasSaid) × (more : List CheckedPatch) × TookMore D.tells D.past zone.old zone.new more
+    ensures follows { (last : List WasSaid) × (more : List CheckedPatch) × GrewBy D.tells D.past zone.old zone.new more last
         × RestIs zone.old zone.new theirs last more result
         × (N.tells → Asks N.L.left N.L.sent address.now (fetches name.now (length zone.old.brief.ids + 1) (texts_said more ++ last)) (texts_said more ++ last)
         line.old.open (net_of (N.to_come net.old) (N.addresses net.old) (N.back net.old) (N.tries net.old))
@@ -94,6 +97,9 @@ fn take_rest<N: Dial, D: Disk>(
     ensures never_falls { N.faults net.old ≤ N.faults net.new }
     ensures disk { result ≡ SyncEnd.DiskFault → Rose (D.faults zone.old.disk) (D.faults zone.new.disk) }
     ensures faults { D.faults zone.old.disk ≤ D.faults zone.new.disk }
+    ensures well { result ≢ SyncEnd.DiskFault → D.faults zone.new.disk ≡ D.faults zone.old.disk }
+    ensures settled { zone.old.settled ≡ true → result ≢ SyncEnd.DiskFault → zone.new.settled ≡ true }
+    ensures stays_short { D.plans → IsTrue (D.short zone.old.disk) → IsTrue (D.short zone.new.disk) }
     ensures limits { zone.new.limits ≡ zone.old.limits }
     ensures mark { D.mark zone.new.disk ≡ D.mark zone.old.disk }
 {
@@ -138,7 +144,7 @@ fn catch_up<N: Dial, D: Disk>(
 ) -> SyncEnd
     requires visible { list_all is_visible address.now ≡ true }
     requires awaits { IsSome line.old.open → N.awaits net.old }
-    ensures follows { (rest : List WasSaid) × (more : List CheckedPatch) × TookMore D.tells D.past zone.old zone.new more
+    ensures follows { (rest : List WasSaid) × (more : List CheckedPatch) × GrewBy D.tells D.past zone.old zone.new more (Ok (given.Info theirs head) ∷ rest)
         × EndIs zone.old zone.new (Ok (given.Info theirs head) ∷ rest) more result
         × (N.tells → Asks N.L.left N.L.sent address.now (fetches name.now (length zone.old.brief.ids + 1) rest) rest
         line.old.open (net_of (N.to_come net.old) (N.addresses net.old) (N.back net.old) (N.tries net.old))
@@ -148,6 +154,9 @@ fn catch_up<N: Dial, D: Disk>(
     ensures never_falls { N.faults net.old ≤ N.faults net.new }
     ensures disk { result ≡ SyncEnd.DiskFault → Rose (D.faults zone.old.disk) (D.faults zone.new.disk) }
     ensures faults { D.faults zone.old.disk ≤ D.faults zone.new.disk }
+    ensures well { result ≢ SyncEnd.DiskFault → D.faults zone.new.disk ≡ D.faults zone.old.disk }
+    ensures settled { zone.old.settled ≡ true → result ≢ SyncEnd.DiskFault → zone.new.settled ≡ true }
+    ensures stays_short { D.plans → IsTrue (D.short zone.old.disk) → IsTrue (D.short zone.new.disk) }
     ensures limits { zone.new.limits ≡ zone.old.limits }
     ensures mark { D.mark zone.new.disk ≡ D.mark zone.old.disk }
 {
@@ -168,7 +177,7 @@ fn sync_over<N: Dial, D: Disk>(
 ) -> SyncEnd
     requires visible { list_all is_visible address.now ≡ true }
     requires awaits { IsSome line.old.open → N.awaits net.old }
-    ensures follows { (said : List WasSaid) × (more : List CheckedPatch) × TookMore D.tells D.past zone.old zone.new more
+    ensures follows { (said : List WasSaid) × (more : List CheckedPatch) × GrewBy D.tells D.past zone.old zone.new more said
         × EndIs zone.old zone.new said more result
         × (N.tells → Asks N.L.left N.L.sent address.now (calls_of name.now (length zone.old.brief.ids) said) said
         line.old.open (net_of (N.to_come net.old) (N.addresses net.old) (N.back net.old) (N.tries net.old))
@@ -178,6 +187,9 @@ fn sync_over<N: Dial, D: Disk>(
     ensures never_falls { N.faults net.old ≤ N.faults net.new }
     ensures disk { result ≡ SyncEnd.DiskFault → Rose (D.faults zone.old.disk) (D.faults zone.new.disk) }
     ensures faults { D.faults zone.old.disk ≤ D.faults zone.new.disk }
+    ensures well { result ≢ SyncEnd.DiskFault → D.faults zone.new.disk ≡ D.faults zone.old.disk }
+    ensures settled { zone.old.settled ≡ true → result ≢ SyncEnd.DiskFault → zone.new.settled ≡ true }
+    ensures stays_short { D.plans → IsTrue (D.short zone.old.disk) → IsTrue (D.short zone.new.disk) }
     ensures limits { zone.new.limits ≡ zone.old.limits }
     ensures mark { D.mark zone.new.disk ≡ D.mark zone.old.disk }
 {
@@ -199,7 +211,7 @@ pub fn sync<N: Dial, D: Disk>(
 
     // The zone has taken what it had and then the patches whose texts the peer answered, in their order. So it ended by what was
     // said, and these calls were made, and no other.
-    ensures follows { (said : List WasSaid) × (more : List CheckedPatch) × TookMore D.tells D.past zone.old zone.new more
+    ensures follows { (said : List WasSaid) × (more : List CheckedPatch) × GrewBy D.tells D.past zone.old zone.new more said
         × EndIs zone.old zone.new said more result
         × (N.tells → Exchanged N.L.left N.L.sent address.now (calls_of name.now (length zone.old.brief.ids) said) said None
         (net_of (N.to_come net.old) (N.addresses net.old) (N.back net.old) (N.tries net.old))
@@ -208,6 +220,9 @@ pub fn sync<N: Dial, D: Disk>(
     ensures never_falls { N.faults net.old ≤ N.faults net.new }
     ensures disk { result ≡ SyncEnd.DiskFault → Rose (D.faults zone.old.disk) (D.faults zone.new.disk) }
     ensures faults { D.faults zone.old.disk ≤ D.faults zone.new.disk }
+    ensures well { result ≢ SyncEnd.DiskFault → D.faults zone.new.disk ≡ D.faults zone.old.disk }
+    ensures settled { zone.old.settled ≡ true → result ≢ SyncEnd.DiskFault → zone.new.settled ≡ true }
+    ensures stays_short { D.plans → IsTrue (D.short zone.old.disk) → IsTrue (D.short zone.new.disk) }
     ensures limits { zone.new.limits ≡ zone.old.limits }
     ensures mark { D.mark zone.new.disk ≡ D.mark zone.old.disk }
 {

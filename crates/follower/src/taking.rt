@@ -1,10 +1,11 @@
 //! Taking the patch that was fetched.
-ghost use Rattle.std.specs.Prelude.{◌≡◌, ◌≢◌, ◌≤◌, ◌+◌, [], length, IsTrue, OnOk, IfErr, IsErrOf};
+ghost use Rattle.std.specs.Prelude.{◌≡◌, ◌≢◌, ◌≤◌, ◌+◌, ◌∷◌, [], Ok, length, IsTrue, OnOk, IfErr, IsErrOf};
 ghost use Rattle.delta_base.specs.Outside.{Rose};
 ghost use Rattle.patch_meaning.specs.Checked.{CheckedPatch};
 ghost use Rattle.rpc_answers.specs.Answers.{NamesItsFault};
 ghost use Rattle.rpc_answers.specs.declared.answer.Answer.TheVariants as given;
-ghost use Rattle.follower.specs.Syncing.{FetchRefuses, IsText, Stayed, TextEnds, Took, end_of, of_patch};
+ghost use Rattle.follower.specs.Grown.{Stayed, Took};
+ghost use Rattle.follower.specs.Syncing.{FetchRefuses, IsText, TextEnds, end_of, of_patch};
 
 use crate::asking::refused;
 use crate::ends::SyncEnd;
@@ -55,7 +56,8 @@ fn take_text<D: Disk>(
     ensures ok { OnOk result ((next : CheckedPatch) × IsText text.now next
         × Took D.tells D.past zone.old zone.new next) }
     ensures err { IfErr result (λ end. TextEnds zone.old.terms [] zone.new text.now end) }
-    ensures stayed { IfErr result (λ _. Stayed D.tells D.past zone.old zone.new) }
+    ensures stayed { IfErr result (λ _. Stayed D.tells D.past zone.old zone.new
+        (Ok (given.Patch text.now) ∷ [])) }
     ensures untouched { IfErr result (λ end. end ≢ SyncEnd.DiskFault
         → zone.new ≡ record zone.old { terms = zone.new.terms }) }
     ensures disk { IsErrOf result SyncEnd.DiskFault
@@ -92,7 +94,7 @@ pub(crate) fn take_answer<D: Disk>(
     ensures ok { OnOk result ((next : CheckedPatch) × (answer ≡ given.Patch next.text)
         × IsText next.text next × Took D.tells D.past zone.old zone.new next) }
     ensures err { IfErr result (λ end. FetchRefuses zone.old.terms [] zone.new answer end) }
-    ensures stayed { IfErr result (λ _. Stayed D.tells D.past zone.old zone.new) }
+    ensures stayed { IfErr result (λ _. Stayed D.tells D.past zone.old zone.new (Ok answer ∷ [])) }
     ensures untouched { IfErr result (λ end. end ≢ SyncEnd.DiskFault
         → zone.new ≡ record zone.old { terms = zone.new.terms }) }
     ensures disk { IsErrOf result SyncEnd.DiskFault

@@ -1,5 +1,7 @@
 //! How catching up ends, by what the peer answers.
-use crate::peers::{INFOS, PATCHES, dial_of, joined, json, log_and, patch, reply, short, synced, zone_at};
+use crate::peers::{
+    INFOS, PATCHES, dial_of, joined, json, log_and, patch, reply, short, synced, zone_at,
+};
 use std::alloc::Global;
 use std::process::Abort;
 use std::test::Fail;
@@ -17,7 +19,13 @@ fn ends_as<R: Abort>(
     let mut net = dial_of(alloc, &[bytes], &[])?;
     let end = synced(alloc, &mut net, &mut zone)?;
     let told = short(&end);
-    assert!(rt; told.0 == wanted.0 && told.1 == wanted.1 && told.2 == wanted.2, "{} {} {}", told.0, told.1, told.2);
+    assert!(rt;
+        told.0 == wanted.0 && told.1 == wanted.1 && told.2 == wanted.2,
+        "{} {} {}",
+        told.0,
+        told.1,
+        told.2
+    );
     assert!(rt; zone.version() == after);
     drop(end);
     Ok(())
@@ -35,7 +43,14 @@ fn a_zone_that_is_equal_has_caught_up(rt: HostRuntime) -> Result<(), Fail> {
     let alloc = rt.alloc();
     for version in 0..=5 {
         let bytes = json(alloc, b"200 OK", INFOS[version])?;
-        ends_as(&rt, alloc, version, &bytes, ("CaughtUp", version as u64, 0), version as u32)?;
+        ends_as(
+            &rt,
+            alloc,
+            version,
+            &bytes,
+            ("CaughtUp", version as u64, 0),
+            version as u32,
+        )?;
         drop(bytes);
     }
     Ok(())
@@ -83,7 +98,11 @@ fn a_text_that_is_no_patch_is_told_with_its_version(rt: HostRuntime) -> Result<(
 fn a_patch_that_the_peer_has_not_is_told(rt: HostRuntime) -> Result<(), Fail> {
     let alloc = rt.alloc();
     let log = log_and(alloc, INFOS[5], &[PATCHES[2]])?;
-    let none = json(alloc, b"404 Not Found", b"{\"error\":\"no_patch\",\"version\":3}")?;
+    let none = json(
+        alloc,
+        b"404 Not Found",
+        b"{\"error\":\"no_patch\",\"version\":3}",
+    )?;
     let bytes = joined(alloc, &[&log, &none])?;
     ends_as(&rt, alloc, 2, &bytes, ("NoPatch", 4, 0), 3)
 }
@@ -103,10 +122,24 @@ fn a_refusal_is_told_with_its_body(rt: HostRuntime) -> Result<(), Fail> {
     let alloc = rt.alloc();
     let body = b"{\"error\":\"out_of_memory\"}";
     let bytes = json(alloc, b"503 Service Unavailable", body)?;
-    ends_as(&rt, alloc, 2, &bytes, ("PeerRefused", 503, body.len() as u64), 2)?;
+    ends_as(
+        &rt,
+        alloc,
+        2,
+        &bytes,
+        ("PeerRefused", 503, body.len() as u64),
+        2,
+    )?;
     let log = log_and(alloc, INFOS[5], &[PATCHES[2]])?;
     let later = joined(alloc, &[&log, &bytes])?;
-    ends_as(&rt, alloc, 2, &later, ("PeerRefused", 503, body.len() as u64), 3)
+    ends_as(
+        &rt,
+        alloc,
+        2,
+        &later,
+        ("PeerRefused", 503, body.len() as u64),
+        3,
+    )
 }
 
 #[test]
@@ -124,7 +157,12 @@ fn bytes_that_are_no_answer_are_told_with_their_place(rt: HostRuntime) -> Result
     let alloc = rt.alloc();
     ends_as(&rt, alloc, 2, b"SSH-2.0-x\r\n", ("NotUnderstood", 0, 0), 2)?;
     let log = json(alloc, b"200 OK", INFOS[5])?;
-    let other = reply(alloc, b"200 OK", b"Content-Type: application/json\r\n", b"{\"a\":1}")?;
+    let other = reply(
+        alloc,
+        b"200 OK",
+        b"Content-Type: application/json\r\n",
+        b"{\"a\":1}",
+    )?;
     let bytes = joined(alloc, &[&log, &other])?;
     ends_as(&rt, alloc, 2, &bytes, ("NotUnderstood", 7, 0), 2)
 }
@@ -134,7 +172,21 @@ fn bytes_that_end_early_are_cut_short(rt: HostRuntime) -> Result<(), Fail> {
     let alloc = rt.alloc();
     let bytes = log_and(alloc, INFOS[5], &PATCHES[2..])?;
     let log = json(alloc, b"200 OK", INFOS[5])?;
-    ends_as(&rt, alloc, 2, &bytes[..log.len() - 1], ("CutShort", 0, 0), 2)?;
+    ends_as(
+        &rt,
+        alloc,
+        2,
+        &bytes[..log.len() - 1],
+        ("CutShort", 0, 0),
+        2,
+    )?;
     ends_as(&rt, alloc, 2, &bytes[..log.len()], ("CutShort", 0, 0), 2)?;
-    ends_as(&rt, alloc, 2, &bytes[..bytes.len() - 1], ("CutShort", 0, 0), 4)
+    ends_as(
+        &rt,
+        alloc,
+        2,
+        &bytes[..bytes.len() - 1],
+        ("CutShort", 0, 0),
+        4,
+    )
 }

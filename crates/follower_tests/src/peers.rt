@@ -82,15 +82,16 @@ pub(crate) fn json(alloc: Global, line: &[u8], body: &[u8]) -> Result<Vec<u8>, O
 
 /// The answer with a patch.
 pub(crate) fn patch(alloc: Global, text: &[u8]) -> Result<Vec<u8>, OutOfMemory> {
-    reply(alloc, b"200 OK", b"Content-Type: application/rdf-patch\r\n", text)
+    reply(
+        alloc,
+        b"200 OK",
+        b"Content-Type: application/rdf-patch\r\n",
+        text,
+    )
 }
 
 /// The answer to the log's call, and then these patches.
-pub(crate) fn log_and(
-    alloc: Global,
-    info: &[u8],
-    texts: &[&[u8]],
-) -> Result<Vec<u8>, OutOfMemory> {
+pub(crate) fn log_and(alloc: Global, info: &[u8], texts: &[&[u8]]) -> Result<Vec<u8>, OutOfMemory> {
     let mut all = json(alloc, b"200 OK", info)?;
     for text in texts {
         let next = patch(alloc, text)?;
@@ -120,7 +121,11 @@ pub(crate) fn dial_of(
 }
 
 /// A zone that took the first so many of the five, and whose disk's calls of these numbers fail, the ones of its opening counted.
-pub(crate) fn zone_at(alloc: Global, version: usize, failing: &[u64]) -> Result<Zone<MemDisk>, Fail> {
+pub(crate) fn zone_at(
+    alloc: Global,
+    version: usize,
+    failing: &[u64],
+) -> Result<Zone<MemDisk>, Fail> {
     let bytes = Bytes::from_slice(alloc, EMPTY)?;
     let disk = MemDisk::from_image(alloc, bytes, calls(alloc, failing)?)?;
     let mut zone = match Zone::open_on(alloc, disk, LIMITS) {

@@ -1,5 +1,7 @@
 //! What a zone has taken, what was asked, over which connections, and what failing calls leave.
-use crate::peers::{INFOS, LOG_ASKED, PATCHES, dial_of, joined, log_and, patch, reply, short, synced, zone_at};
+use crate::peers::{
+    INFOS, LOG_ASKED, PATCHES, dial_of, joined, log_and, patch, reply, short, synced, zone_at,
+};
 use delta_client::Dial;
 use std::process::Abort;
 use std::test::Fail;

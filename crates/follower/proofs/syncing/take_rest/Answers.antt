@@ -15,7 +15,8 @@ loop-before-init g c =
       within = omega (arith, c.version-mine.ensures.version, c.requires.behind);
       awaits = c.requires.awaits;
       link = omega arith;
-      faults = omega arith;
+      faults = refl;
+      stays_short = λ plans is. is;
       limits = refl;
       mark = refl;
     }
@@ -28,14 +29,15 @@ loop-before-preserved g c =
     let next : CheckedPatch = e.ok.0 in
     let version : c.loop-before.before + 1 ≡ length c.loop-before.zone.brief.ids + 1 = omega (arith, so.version) in
     let gone = gone_on g.D.Disk.tells g.N.Dial.tells g.D.Disk.past g.N.L.Link.left g.N.L.Link.sent c.args.address.now c.args.name.now c.args.zone.now c.args.line.now.open (told c.args.net.now)
-        c.loop-before.zone c.take_one.new.zone c.loop-before.line.open c.take_one.new.line.open (told c.loop-before.net) (told c.take_one.new.net) so.gone.0 next (c.loop-before.before + 1) version so.gone.1 e.ok.2 e.ok.3 in
+    c.loop-before.zone c.take_one.new.zone c.loop-before.line.open c.take_one.new.line.open (told c.loop-before.net) (told c.take_one.new.net) so.gone.0 next (c.loop-before.before + 1) version so.gone.1 e.ok.2 e.ok.3 in
     record {
       gone = (so.gone.0 ++ next ∷ [], gone);
       version = omega (arith, gone.count, so.gone.1.count, so.version, length_push so.gone.0 next);
       within = omega arith;
       awaits = e.awaits;
       link = omega (arith, so.link, e.never_falls);
-      faults = omega (arith, so.faults, e.faults);
+      faults = e.well (λ same. cc) ∙ so.faults;
+      stays_short = λ plans is. e.stays_short plans (so.stays_short plans is);
       limits = e.limits ∙ so.limits;
       mark = e.mark ∙ so.mark;
     }
@@ -48,7 +50,7 @@ returns-in-Err-clause-follows g c =
     let version : c.loop-before.before + 1 ≡ length c.loop-before.zone.brief.ids + 1 = omega (arith, so.version) in
     let within : c.loop-before.before + 1 ≤ c.args.theirs = omega arith in
     let it = gone_stopped g.D.Disk.tells g.N.Dial.tells g.D.Disk.past g.N.L.Link.left g.N.L.Link.sent c.args.address.now c.args.name.now c.args.zone.now c.args.line.now.open (told c.args.net.now)
-        c.loop-before.zone c.take_one.new.zone c.loop-before.line.open c.take_one.new.line.open (told c.loop-before.net) (told c.take_one.new.net) so.gone.0 e.err.0 (c.loop-before.before + 1) c.args.theirs c.in-Err.end version within so.gone.1 e.err.1 e.stayed e.err.2 in
+    c.loop-before.zone c.take_one.new.zone c.loop-before.line.open c.take_one.new.line.open (told c.loop-before.net) (told c.take_one.new.net) so.gone.0 e.err.0 (c.loop-before.before + 1) c.args.theirs c.in-Err.end version within so.gone.1 e.err.1 e.err.2 e.err.3 in
     (e.err.0, so.gone.0, it.0, it.1, it.2)
 
 pub returns-clause-follows : goal.returns-clause-follows
@@ -57,5 +59,5 @@ returns-clause-follows g c =
     let so = c.loop-before.invariant in
     let version : c.args.theirs ≡ length c.loop-before.zone.brief.ids = omega (arith, so.version, so.within) in
     let it = gone_through g.D.Disk.tells g.N.Dial.tells g.D.Disk.past g.N.L.Link.left g.N.L.Link.sent c.args.address.now c.args.name.now c.args.zone.now c.args.line.now.open (told c.args.net.now)
-        c.loop-before.zone c.loop-before.line.open (told c.loop-before.net) so.gone.0 c.args.theirs version so.gone.1 in
+    c.loop-before.zone c.loop-before.line.open (told c.loop-before.net) so.gone.0 c.args.theirs version so.gone.1 in
     ([], so.gone.0, it.0, it.1, it.2)

@@ -1,5 +1,5 @@
 use Rattle.std.proofs.Common.{◌≡◌, ◌≤◌, List, length}
-use Rattle.std.specs.Prelude.{IsSome}
+use Rattle.std.specs.Prelude.{IsSome, IsTrue}
 use Rattle.patch_meaning.specs.Checked.{CheckedPatch}
 use Rattle.follower.specs.Exchanges.{net_of}
 use Rattle.follower.proofs.Rest.{GoneTo}
@@ -14,7 +14,8 @@ invariant-loop-before g l =
       within : l.before ≤ l.theirs;
       awaits : IsSome l.line.open → g.N.Dial.awaits l.net;
       link : g.N.Dial.faults l.fn.net ≤ g.N.Dial.faults l.net;
-      faults : g.D.Disk.faults l.fn.zone.disk ≤ g.D.Disk.faults l.zone.disk;
+      faults : g.D.Disk.faults l.zone.disk ≡ g.D.Disk.faults l.fn.zone.disk;
+      stays_short : g.D.Disk.plans → IsTrue (g.D.Disk.short l.fn.zone.disk) → IsTrue (g.D.Disk.short l.zone.disk);
       limits : l.zone.limits ≡ l.fn.zone.limits;
       mark : g.D.Disk.mark l.zone.disk ≡ g.D.Disk.mark l.fn.zone.disk;
     }

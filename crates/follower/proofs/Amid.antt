@@ -1,0 +1,135 @@
+-- What a crash leaves while patches are taken.
+use Rattle.std.proofs.Common.{◌≡◌, ◌⊎◌, inl, inr, ⊎_elim, ℕ, Bool, true, List, [], ◌∷◌, ◌++◌, map, Option, Some, None, Ok, refl, sym, ◌∙◌, ap, subst, append_assoc}
+use Rattle.std.specs.Prelude.{is_none}
+use Rattle.std.proofs.lemmas.List.{append-nil, map-append}
+use Rattle.disk_model.specs.Past.{Past, LeavesOnly}
+use Rattle.disk_model.proofs.Moments.{starts, weaker, then_other}
+use Rattle.log_journal.specs.File.{Holds}
+use Rattle.log_journal.specs.Journal.{HoldsWithOrWithout}
+use Rattle.log_journal.proofs.Steps.{either}
+use Rattle.patch_meaning.specs.Checked.{CheckedPatch, texts}
+use Rattle.patch_log.specs.Log.{bare, MayHoldDuring}
+use Rattle.zone_state.specs.Brief.{file_length}
+use Rattle.zone_state.specs.Zone.{ZoneView, StandsForZone, zone_number, doubt_of}
+use Rattle.zone_state.proofs.Growing.{bare_texts}
+use Rattle.rpc_answers.specs.declared.answer.Answer.TheVariants as answer
+use Rattle.follower.specs.Exchanges.{Said}
+use Rattle.follower.specs.Grown.{TookMore, HoldsAmid, LeavesAmid, WasTried, untried, was_last, GrewBy, Stayed}
+use Rattle.follower.proofs.Taken.{took_none, met_none}
+
+-- ---- images
+
+module _ (taken : List CheckedPatch) (image : List ℕ) where
+  abbrev HoldsTexts : List (List ℕ) → Type 0
+  HoldsTexts payloads = Holds image zone_number payloads
+
+  texts_more : (one : CheckedPatch) → texts taken ++ one.text ∷ [] ≡ texts (taken ++ one ∷ [])
+  texts_more one = sym (map-append (λ (patch : CheckedPatch). patch.text) taken (one ∷ []))
+
+  -- those before, and none of these
+  before_them : (doubt : Option CheckedPatch) (more : List CheckedPatch) → HoldsTexts (texts taken) → HoldsAmid taken doubt more image
+  before_them doubt more holds = inl ([], more, refl, subst (λ (ps : List CheckedPatch). HoldsTexts (texts ps)) (sym (append-nil taken)) holds)
+
+  with_one : (one : CheckedPatch) → HoldsTexts (texts taken ++ one.text ∷ []) → HoldsTexts (texts (taken ++ one ∷ []))
+  with_one one holds = subst HoldsTexts (texts_more one) holds
+
+  doubted : (one : CheckedPatch) (more : List CheckedPatch) → HoldsWithOrWithout zone_number (texts taken) one.text image → HoldsAmid taken (Some one) more image
+  doubted one more (inl without) = before_them (Some one) more without
+  doubted one more (inr holds) = inr (one, refl, with_one one holds)
+
+  next_one : (doubt : Option CheckedPatch) (next : CheckedPatch) → HoldsWithOrWithout zone_number (texts taken) next.text image → HoldsAmid taken doubt (next ∷ []) image
+  next_one doubt next (inl without) = before_them doubt (next ∷ []) without
+  next_one doubt next (inr holds) = inl (next ∷ [], [], refl, with_one next holds)
+
+  during : (doubt : Option CheckedPatch) (next : CheckedPatch) → MayHoldDuring zone_number (map bare taken) (doubt_of doubt) (bare next) image → HoldsAmid taken doubt (next ∷ []) image
+  during None next holds =
+      next_one None next (subst (λ (ts : List (List ℕ)). HoldsWithOrWithout zone_number ts next.text image) (bare_texts taken) holds)
+  during (Some one) next (inl holds) =
+      doubted one (next ∷ []) (subst (λ (ts : List (List ℕ)). HoldsWithOrWithout zone_number ts one.text image) (bare_texts taken) holds)
+  during (Some one) next (inr holds) =
+      next_one (Some one) next (subst (λ (ts : List (List ℕ)). HoldsWithOrWithout zone_number ts next.text image) (bare_texts taken) holds)
+
+  -- more may be taken
+  amid_more : (doubt : Option CheckedPatch) (more tried : List CheckedPatch) → HoldsAmid taken doubt more image → HoldsAmid taken doubt (more ++ tried) image
+  amid_more doubt more tried (inl is) = inl (is.0, is.1 ++ tried, ap (λ (ps : List CheckedPatch). ps ++ tried) is.2 ∙ append_assoc is.0 is.1 tried, is.3)
+  amid_more doubt more tried (inr is) = inr is
+
+  -- these were taken before, and nothing was left in doubt
+  amid_behind : (doubt left : Option CheckedPatch) (more tried : List CheckedPatch) → left ≡ None → HoldsAmid (taken ++ more) left tried image → HoldsAmid taken doubt (more ++ tried) image
+  amid_behind doubt left more tried none (inl is) =
+      inl (more ++ is.0, is.1, ap (λ (ps : List CheckedPatch). more ++ ps) is.2 ∙ sym (append_assoc more is.0 is.1), subst (λ (ps : List CheckedPatch). HoldsTexts (texts ps)) (append_assoc taken more is.0) is.3)
+  amid_behind doubt left more tried none (inr is) = absurd (no_one left is.0 none is.1)
+    where
+      no_one : (left : Option CheckedPatch) (one : CheckedPatch) → left ≡ None → left ≡ Some one → ⊥
+      no_one left one none is = let same : None ≡ Some one = sym none ∙ is in cc
+
+-- ---- zones
+
+nothing_left : (left : Option CheckedPatch) → is_none left ≡ true → left ≡ None
+nothing_left None is = refl
+nothing_left (Some one) is = absurd (cc)
+
+-- nothing was taken yet, or nothing is in doubt
+abbrev pub IsClear : {D : Type 0} → ZoneView D → ZoneView D → List CheckedPatch → Type 0
+IsClear old now more = ((more ≡ []) × (now ≡ old)) ⊎ (now.settled ≡ true)
+
+module _ {D : Type 0} (tells : Type 0) (past : D → Past) where
+  pub amid_none : (zone : ZoneView D) → LeavesAmid tells past zone zone []
+  amid_none zone told taken None stands =
+      let all = stands.on_disk told in
+      starts (HoldsAmid taken None []) (past zone.disk) (λ image left. before_them taken image None [] (all.each image left))
+  amid_none zone told taken (Some one) stands =
+      let all = stands.on_disk told in
+      starts (HoldsAmid taken (Some one) []) (past zone.disk) (λ image left.
+      doubted taken image one [] (either (file_length zone.brief.ids zone.brief.bytes) zone_number (texts taken) one.text all.doubt_sized image all.sized (all.each image left)))
+
+  -- the disk wasn't asked
+  pub amid_same : (old new : ZoneView D) → new ≡ record old { terms = new.terms } → LeavesAmid tells past old new []
+  amid_same old new is told taken doubt stands =
+      subst (λ (zone : ZoneView D). LeavesOnly (HoldsAmid taken doubt []) (past old.disk) (past zone.disk)) (sym is) (amid_none old told taken doubt stands)
+
+  pub amid_one : (old new : ZoneView D) (next : CheckedPatch)
+      → (tells → (taken : List CheckedPatch) (doubt : Option CheckedPatch) → StandsForZone tells (past old.disk) old taken doubt
+      → LeavesOnly (MayHoldDuring zone_number (map bare taken) (doubt_of doubt) (bare next)) (past old.disk) (past new.disk))
+      → LeavesAmid tells past old new (next ∷ [])
+  amid_one old new next leaves told taken doubt stands =
+      weaker (MayHoldDuring zone_number (map bare taken) (doubt_of doubt) (bare next)) (HoldsAmid taken doubt (next ∷ []))
+      (λ image holds. during taken image doubt next holds) (past old.disk) (past new.disk) (leaves told taken doubt stands)
+
+  pub amid_both : (old mid new : ZoneView D) (more tried : List CheckedPatch) → TookMore tells past old mid more → IsClear old mid more → LeavesAmid tells past old mid more
+      → LeavesAmid tells past mid new tried → LeavesAmid tells past old new (more ++ tried)
+  amid_both old mid new more tried took (inl same) first second told taken doubt stands =
+      let here = subst (λ (zone : ZoneView D). LeavesAmid tells past zone new tried) same.1 second in
+      subst (λ (ps : List CheckedPatch). LeavesOnly (HoldsAmid taken doubt (ps ++ tried)) (past old.disk) (past new.disk)) (sym same.0) (here told taken doubt stands)
+  amid_both old mid new more tried took (inr settled) first second told taken doubt stands =
+      let there = took taken doubt stands in
+      let none : there.0 ≡ None = nothing_left there.0 (sym there.1.settled_is ∙ settled) in
+      then_other (HoldsAmid taken doubt more) (HoldsAmid (taken ++ more) there.0 tried) (HoldsAmid taken doubt (more ++ tried)) (past old.disk) (past mid.disk) (past new.disk)
+      (λ image holds. amid_more taken image doubt more tried holds) (λ image holds. amid_behind taken image doubt there.0 more tried none holds)
+      (first told taken doubt stands) (second told (taken ++ more) there.0 there.1)
+
+  -- ---- what a zone grew by
+
+  -- nothing happened
+  pub grew_none : (zone : ZoneView D) (said : List Said) → GrewBy tells past zone zone [] said
+  grew_none zone said = record { took = took_none tells past zone; amid = ([], untried refl, amid_none zone); met = ([], untried refl, met_none zone.terms) }
+
+  pub stayed_none : (zone : ZoneView D) (said : List Said) → Stayed tells past zone zone said
+  stayed_none zone said = record { brief = refl; grew = grew_none zone said }
+
+  -- something was said before
+  was_behind : (front said : List Said) (tried : List CheckedPatch) → WasTried said tried → WasTried (front ++ said) tried
+  was_behind front said tried (untried is) = untried is
+  was_behind front said tried (was_last before next is_said is checked) =
+      was_last (front ++ before) next (ap (λ (ss : List Said). front ++ ss) is_said ∙ sym (append_assoc front before (Ok (answer.Patch next.text) ∷ []))) is checked
+
+  pub grew_behind : (front said : List Said) (old new : ZoneView D) (more : List CheckedPatch) → GrewBy tells past old new more said → GrewBy tells past old new more (front ++ said)
+  grew_behind front said old new more grew = record {
+    took = grew.took;
+    amid = (grew.amid.0, was_behind front said grew.amid.0 grew.amid.1, grew.amid.2);
+    met = (grew.met.0, was_behind front said grew.met.0 grew.met.1, grew.met.2);
+  }
+
+pub clear_settles : {D : Type 0} (old now : ZoneView D) (more : List CheckedPatch) → IsClear old now more → old.settled ≡ true → now.settled ≡ true
+clear_settles {D} old now more (inl same) settled = ap (λ (zone : ZoneView D). zone.settled) same.1 ∙ settled
+clear_settles old now more (inr is) settled = is
