@@ -6,4 +6,5 @@ mod Generated
 mod Made
 mod Printed
 mod Shown
+mod Synced
 pub mod Words
