@@ -30,8 +30,7 @@ const ASKED_ONE: &str =
 /// A reply with this status, type of content and body.
 fn reply(alloc: Global, status: &str, kind: &str, body: &str) -> Result<String, OutOfMemory> {
     let length = body.len();
-    Ok(format!(
-        in alloc;
+    Ok(format!(in alloc;
         "HTTP/1.1 {status}\r\nContent-Type: application/{kind}\r\nContent-Length: {length}\r\n\r\n{body}"
     )?)
 }
@@ -71,9 +70,7 @@ fn syncs(
     let mut out = MemSink::new(alloc, Calls::new(alloc));
     let mut err = MemSink::new(alloc, Calls::new(alloc));
     let words = words_of(alloc, &["sync", "z", ADDRESS, "ABC"])?;
-    let status = run_tool(
-        alloc, &words, &mut input, &mut out, &mut err, shelf, net, 0,
-    );
+    let status = run_tool(alloc, &words, &mut input, &mut out, &mut err, shelf, net, 0);
     assert!(rt; status == end.status);
     assert!(rt; out.written() == end.out.as_bytes());
     assert!(rt; err.written() == end.err.as_bytes());

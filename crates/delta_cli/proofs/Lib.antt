@@ -4,6 +4,7 @@ mod Appended
 mod Checked
 mod Generated
 mod Made
+mod Pieces
 mod Printed
 mod Shown
 mod Synced
