@@ -10,7 +10,7 @@ use std::alloc::Global;
 use std::process::Abort;
 use std::test::Fail;
 
-const ADDRESS: &str = "127.0.0.1:1066";
+pub(crate) const ADDRESS: &str = "127.0.0.1:1066";
 
 const VERSION: &str =
     "HTTP/1.1 200 OK\r\nContent-Type: application/json\r\nContent-Length: 13\r\n\r\n{\"version\":1}";
@@ -69,7 +69,11 @@ struct Asking<'a> {
 }
 
 /// A dial whose connections give these texts. The call of `connect` of this number fails.
-fn dial_of(alloc: Global, texts: &[&str], failing: Option<u64>) -> Result<MemDial<MemLink>, Fail> {
+pub(crate) fn dial_of(
+    alloc: Global,
+    texts: &[&str],
+    failing: Option<u64>,
+) -> Result<MemDial<MemLink>, Fail> {
     let mut links = Vec::new(alloc);
     for text in texts {
         let content = Bytes::from_slice(alloc, text.as_bytes())?;
@@ -79,7 +83,7 @@ fn dial_of(alloc: Global, texts: &[&str], failing: Option<u64>) -> Result<MemDia
 }
 
 /// Each connection was hung up, and these were sent on them.
-fn expect_sent(rt: &impl Abort, net: &MemDial<MemLink>, sent: &[&str]) {
+pub(crate) fn expect_sent(rt: &impl Abort, net: &MemDial<MemLink>, sent: &[&str]) {
     let back = net.back();
     assert!(rt; back.len() == sent.len());
     for (link, text) in back.iter().zip(sent) {

@@ -7,6 +7,8 @@ mod asking;
 #[cfg(test)]
 mod runs;
 #[cfg(test)]
+mod syncs;
+#[cfg(test)]
 mod words;
 #[cfg(test)]
 mod zones;

@@ -258,6 +258,14 @@ fn other_words_are_refused(rt: HostRuntime) -> Result<(), Fail> {
         (&["zone"], "rdfdelta: usage: zone DIR\n"),
         (&["dump", "z", "z"], "rdfdelta: usage: dump DIR\n"),
         (&["prefixes", "-z"], "rdfdelta: usage: prefixes DIR\n"),
+        (
+            &["sync", "z", "e:80"],
+            "rdfdelta: usage: sync DIR ADDR NAME\n",
+        ),
+        (
+            &["sync", "z", "e", "ABC"],
+            "rdfdelta: usage: sync DIR ADDR NAME\n",
+        ),
         (&["--help", "me"], "rdfdelta: usage: --help\n"),
         (&["ping", "127.0.0.1"], "rdfdelta: usage: ping ADDR\n"),
         (&["list", "-e:80"], "rdfdelta: usage: list ADDR\n"),

@@ -14,7 +14,7 @@ const PREFIXES: &str =
 const ROWS: &str =
     "PA \"a\" <http://a/1> _:h .\nPA \"a\" <http://a/2> _:g .\nPA \"ex\" <http://e/> .\n";
 
-const BOTH: &str =
+pub(crate) const BOTH: &str =
     "<http://e/s> <http://e/p> <http://e/o2> .\n<http://e/s> <http://e/p> <http://e/o> .\n";
 
 const USAGE: &str = "rdfdelta: usage: match DIR G S P O\n";
@@ -39,7 +39,7 @@ fn put(bytes: &mut Vec<u8>, payload: &[u8]) -> Result<(), OutOfMemory> {
 }
 
 /// The journal of a zone that took these patches.
-fn zone_of(alloc: Global, patches: &[&str]) -> Result<Vec<u8>, OutOfMemory> {
+pub(crate) fn zone_of(alloc: Global, patches: &[&str]) -> Result<Vec<u8>, OutOfMemory> {
     let mut bytes = header(alloc, 1000)?;
     for patch in patches {
         put(&mut bytes, patch.as_bytes())?;
@@ -59,7 +59,7 @@ fn generated(alloc: Global, patches: u32) -> Result<Vec<u8>, OutOfMemory> {
 }
 
 /// A shelf whose directory `z` has a zone's file with these bytes.
-fn shelf_with(alloc: Global, bytes: &[u8]) -> Result<MemShelf, Fail> {
+pub(crate) fn shelf_with(alloc: Global, bytes: &[u8]) -> Result<MemShelf, Fail> {
     let dir = Text::from_str(alloc, "z")?;
     let mut shelf = MemShelf::new(alloc, Calls::new(alloc));
     let mut disk = shelf.disk(&dir, 1000)?;
@@ -91,6 +91,16 @@ fn runs(
             err,
         },
     )
+}
+
+/// Dumps the zone of a shelf.
+pub(crate) fn dumps(
+    rt: &impl Abort,
+    alloc: Global,
+    shelf: &mut MemShelf,
+    out: &str,
+) -> Result<(), Fail> {
+    runs(rt, alloc, shelf, &["dump", "z"], 0, out, "")
 }
 
 #[test]

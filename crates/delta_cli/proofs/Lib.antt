@@ -4,6 +4,8 @@ mod Appended
 mod Checked
 mod Generated
 mod Made
+mod Pieces
 mod Printed
 mod Shown
+mod Synced
 pub mod Words

@@ -37,6 +37,7 @@ module _ (input input' out out' : Channel) (r : Replayed) (reads : Reads input i
   stops_printing refusals.InputFailed stops = absurd stops
   stops_printing (refusals.NotEmpty file length) stops = absurd stops
   stops_printing refusals.ZoneTermsFull stops = absurd stops
+  stops_printing (refusals.ZoneFull have limit) stops = absurd stops
   stops_printing (refusals.File fault) stops = absurd stops
   stops_printing (refusals.WrongCount disks slots) stops = absurd stops
   stops_printing refusals.DiskFailed stops = absurd stops
@@ -44,6 +45,9 @@ module _ (input input' out out' : Channel) (r : Replayed) (reads : Reads input i
   stops_printing (refusals.Refused status body) stops = absurd stops
   stops_printing (refusals.NotUnderstood at) stops = absurd stops
   stops_printing refusals.CutShort stops = absurd stops
+  stops_printing (refusals.BadPatch version fault) stops = absurd stops
+  stops_printing (refusals.PeerBehind mine theirs) stops = absurd stops
+  stops_printing (refusals.NoPatch version) stops = absurd stops
   stops_printing (refusals.Chain fault) stops = absurd stops
 
 -- the next patch, and those behind it

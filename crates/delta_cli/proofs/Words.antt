@@ -1,5 +1,5 @@
 -- Words, and the commands that they ask for.
-use Rattle.std.proofs.Common.{◌≡◌, ℕ, zero, suc, ◌+◌, ◌*◌, ◌<◌, ◌≤◌, ◌^◌, List, [], ◌∷◌, length, get_or, drop, Some, None, refl, sym, ap, subst, ◌∙◌, arith, ne_eqb}
+use Rattle.std.proofs.Common.{◌≡◌, ℕ, zero, suc, ◌+◌, ◌*◌, ◌<◌, ◌≤◌, ◌^◌, List, [], ◌∷◌, length, get_or, drop, Some, None, refl, sym, ap, subst, ◌∙◌, arith, ne_eqb, true, false, true≢false}
 use Rattle.std.specs.Prelude.{String, codes, string_bytes}
 use Rattle.std.specs.List.{All}
 use Rattle.std.specs.declared.alloc.Global.{Global}
@@ -18,7 +18,8 @@ use Rattle.delta_cli.specs.declared.command.Command.TheVariants as commands
 use Rattle.delta_cli.specs.declared.name.Name.{Name}
 use Rattle.delta_cli.specs.declared.name.Name.TheVariants as names
 use Rattle.delta_cli.specs.Channels.{words_of}
-use Rattle.delta_cli.specs.Commands.{AreWords, Asks, AsksFor, AsksNothing, AsksToRead, BeginsWith, FitsName, IsNamed, IsOfTool, positions_of}
+use Rattle.delta_cli.specs.Addresses.{IsAddress}
+use Rattle.delta_cli.specs.Commands.{AreWords, Asks, AsksFor, AsksNothing, AsksToRead, BeginsWith, FitsName, IsNamed, IsOfTool, asks_server, positions_of}
 use Rattle.delta_cli.specs.Lines.{name_text}
 
 -- ---- numbers
@@ -48,6 +49,7 @@ one_name names.Zone names.Zone e = refl
 one_name names.Dump names.Dump e = refl
 one_name names.Prefixes names.Prefixes e = refl
 one_name names.Match names.Match e = refl
+one_name names.Sync names.Sync e = refl
 one_name names.Serve names.Serve e = refl
 one_name names.Ping names.Ping e = refl
 one_name names.List names.List e = refl
@@ -95,6 +97,7 @@ name_of (commands.Init dir slots) = names.Init
 name_of (commands.Check dir) = names.Check
 name_of (commands.Zone dir) = names.Zone
 name_of (commands.Read dir reading) = name_of_reading reading
+name_of (commands.Sync dir address name) = names.Sync
 name_of (commands.Ask address call) = name_of_call call
 name_of (commands.Describe address name) = names.Describe
 name_of (commands.Append address name) = names.Append
@@ -147,6 +150,7 @@ asks_fit words dice (commands.Init dir slots) asks =
 asks_fit words dice (commands.Check dir) asks = subst (λ (ws : List (List ℕ)). FitsName ws names.Check) (sym asks.0) ((dir ∷ [], refl), (one_plain dir asks.1, refl))
 asks_fit words dice (commands.Zone dir) asks = fits_words words names.Zone (dir ∷ []) asks refl
 asks_fit words dice (commands.Read dir reading) asks = reading_fits words dir reading asks
+asks_fit words dice (commands.Sync dir address name) asks = fits_words words names.Sync (dir ∷ address ∷ name ∷ []) asks.0 refl
 asks_fit words dice (commands.Ask address call) asks = call_fits words dice address call asks.0
 asks_fit words dice (commands.Describe address name) asks = fits_words words names.Describe (address ∷ name ∷ []) asks.0 refl
 asks_fit words dice (commands.Append address name) asks = fits_words words names.Append (address ∷ name ∷ []) asks.0 refl
@@ -188,6 +192,7 @@ of_tool (commands.Init dir slots) = tt
 of_tool (commands.Check dir) = tt
 of_tool (commands.Zone dir) = tt
 of_tool (commands.Read dir reading) = reading_of_tool reading
+of_tool (commands.Sync dir address name) = tt
 of_tool (commands.Ask address call) = call_of_tool call
 of_tool (commands.Describe address name) = tt
 of_tool (commands.Append address name) = tt
@@ -254,20 +259,23 @@ cut_five words (a ∷ (b ∷ (d ∷ (e ∷ (f ∷ []))))) x is long plain =
     subst (λ (ws : List (List ℕ)). ArePlain (drop 1 ws) → AreWords ws x (get_or ws 1 [] ∷ get_or ws 2 [] ∷ get_or ws 3 [] ∷ get_or ws 4 [] ∷ get_or ws 5 [] ∷ [])) (sym is) (λ p. (refl, p)) plain
 cut_five words (a ∷ (b ∷ (d ∷ (e ∷ (f ∷ (g ∷ rest)))))) x is long plain = absurd (omega (arith, long, ap length is))
 
-no_call : (call : Call) → name_of_call call ≡ names.Match → ⊥
-no_call calls.Ping is = cc
-no_call calls.List is = cc
-no_call (calls.Create name uri id) is = cc
-no_call (calls.Rename name new_name) is = cc
-no_call (calls.Remove name) is = cc
-no_call (calls.Version name) is = cc
-no_call (calls.FetchVersion name version) is = cc
-no_call (calls.FetchId name id) is = cc
-no_call (calls.Source name) is = cc
-no_call (calls.SourceById id) is = cc
-no_call (calls.SourceByUri uri) is = cc
-no_call (calls.Log name) is = cc
-no_call (calls.Append name patch) is = cc
+call_asks : (call : Call) → asks_server (name_of_call call) ≡ true
+call_asks calls.Ping = refl
+call_asks calls.List = refl
+call_asks (calls.Create name uri id) = refl
+call_asks (calls.Rename name new_name) = refl
+call_asks (calls.Remove name) = refl
+call_asks (calls.Version name) = refl
+call_asks (calls.FetchVersion name version) = refl
+call_asks (calls.FetchId name id) = refl
+call_asks (calls.Source name) = refl
+call_asks (calls.SourceById id) = refl
+call_asks (calls.SourceByUri uri) = refl
+call_asks (calls.Log name) = refl
+call_asks (calls.Append name patch) = refl
+
+no_call : (call : Call) (name : Name) → asks_server name ≡ false → name_of_call call ≡ name → ⊥
+no_call call name alone is = true≢false (sym (call_asks call) ∙ ap asks_server is ∙ alone)
 
 module _ (words : List (List ℕ)) (fits : FitsName words names.Match) where
   -- the words behind the name, of which the first was taken
@@ -286,7 +294,39 @@ module _ (words : List (List ℕ)) (fits : FitsName words names.Match) where
           none pattern (subst (λ (ws : List (List ℕ)). IsPatternOf (get_or ws 2 []) (get_or ws 3 []) (get_or ws 4 []) (get_or ws 5 []) pattern) (sym asked.4.0) asked.5)
       by (commands.Read dir readings.Dump) is asked = cc
       by (commands.Read dir readings.Prefixes) is asked = cc
-      by (commands.Ask address call) is asked = no_call call is
+      by (commands.Sync dir address name) is asked = cc
+      by (commands.Ask address call) is asked = no_call call names.Match refl is
+      by (commands.Describe address name) is asked = cc
+      by (commands.Append address name) is asked = cc
+      by commands.Replay is asked = cc
+      by commands.Nquads is asked = cc
+      by (commands.Gen patches) is asked = cc
+      by (commands.Emit patches) is asked = cc
+      by (commands.Init dir slots) is asked = cc
+      by (commands.Check dir) is asked = cc
+      by (commands.Zone dir) is asked = cc
+      by commands.Help is asked = cc
+      by commands.Version is asked = cc
+
+-- ---- words by which a zone catches up
+
+module _ (words : List (List ℕ)) (fits : FitsName words names.Sync) where
+  -- the words behind the name, each of which was taken
+  pub sync_are : (dir address name : List ℕ) → dir ≡ get_or words 1 [] → address ≡ get_or words 2 [] → name ≡ get_or words 3 []
+      → AreWords words (codes "sync") (dir ∷ address ∷ name ∷ [])
+  sync_are dir address name is_dir is_address is_name =
+      subst (λ (t : List ℕ). AreWords words (codes "sync") (t ∷ address ∷ name ∷ [])) (sym is_dir) (three_are words names.Sync fits refl address name is_address is_name)
+
+  -- words with no address in its place ask for nothing
+  pub unaddressed : (IsAddress (get_or words 2 []) → ⊥) → AsksNothing words
+  unaddressed none dice c asks = by c (same_name words (name_of c) names.Sync (asks_fit words dice c asks).0 fits.0) asks
+    where
+      by : (command : Command) → name_of command ≡ names.Sync → Asks words dice command → ⊥
+      by (commands.Sync dir address name) is asked = none (subst (λ (ws : List (List ℕ)). IsAddress (get_or ws 2 [])) (sym asked.0.0) asked.1)
+      by (commands.Read dir readings.Dump) is asked = cc
+      by (commands.Read dir readings.Prefixes) is asked = cc
+      by (commands.Read dir (readings.Match pattern)) is asked = cc
+      by (commands.Ask address call) is asked = no_call call names.Sync refl is
       by (commands.Describe address name) is asked = cc
       by (commands.Append address name) is asked = cc
       by commands.Replay is asked = cc

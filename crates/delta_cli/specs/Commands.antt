@@ -66,6 +66,7 @@ Asks words dice (commands.Init dir slots) = (words ≡ codes "init" ∷ dir ∷ 
 Asks words dice (commands.Check dir) = (words ≡ codes "check" ∷ dir ∷ []) × IsPlainWord dir
 Asks words dice (commands.Zone dir) = AreWords words (codes "zone") (dir ∷ [])
 Asks words dice (commands.Read dir reading) = AsksToRead words dir reading
+Asks words dice (commands.Sync dir address name) = AreWords words (codes "sync") (dir ∷ address ∷ name ∷ []) × IsAddress address
 Asks words dice (commands.Ask address call) = AsksFor words dice address call × IsAddress address
 Asks words dice (commands.Describe address name) = AreWords words (codes "describe") (address ∷ name ∷ []) × IsAddress address
 Asks words dice (commands.Append address name) = AreWords words (codes "append") (address ∷ name ∷ []) × IsAddress address
@@ -77,6 +78,7 @@ abbrev pub Fits : Command → Type 0
 Fits (commands.Gen patches) = patches ≤ 65536
 Fits (commands.Emit patches) = patches ≤ 65536
 Fits (commands.Init dir slots) = (1 ≤ slots) × (slots ≤ 16)
+Fits (commands.Sync dir address name) = IsAddress address
 Fits (commands.Ask address call) = IsAddress address
 Fits (commands.Describe address name) = IsAddress address
 Fits (commands.Append address name) = IsAddress address
@@ -103,6 +105,7 @@ positions_of names.Zone = codes "DIR" ∷ []
 positions_of names.Dump = codes "DIR" ∷ []
 positions_of names.Prefixes = codes "DIR" ∷ []
 positions_of names.Match = codes "DIR" ∷ codes "G" ∷ codes "S" ∷ codes "P" ∷ codes "O" ∷ []
+positions_of names.Sync = codes "DIR" ∷ codes "ADDR" ∷ codes "NAME" ∷ []
 positions_of names.Serve = codes "DIR" ∷ codes "ADDR" ∷ codes "WORKERS" ∷ []
 positions_of names.Ping = codes "ADDR" ∷ []
 positions_of names.List = codes "ADDR" ∷ []
@@ -152,6 +155,7 @@ is_of_zone names.Zone = true
 is_of_zone names.Dump = true
 is_of_zone names.Prefixes = true
 is_of_zone names.Match = true
+is_of_zone names.Sync = true
 is_of_zone other = false
 
 -- the command is one call to a server

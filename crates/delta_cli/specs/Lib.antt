@@ -9,4 +9,5 @@ pub mod Refusals
 pub mod Results
 pub mod Told
 pub mod Zones
+pub mod Syncs
 pub mod Tool

@@ -6,7 +6,9 @@ use Rattle.delta_base.specs.Ids.{text_of}
 use Rattle.chain_core.specs.declared.testing.ChainFault.{ChainFault}
 use Rattle.chain_core.specs.declared.testing.ChainFault.TheVariants as chains
 use Rattle.nquads_text.specs.Names.{text_kind_name}
-use Rattle.patch_meaning.specs.Names.{patch_kind_name}
+use Rattle.patch_meaning.specs.Names.{fault_name, patch_kind_name}
+use Rattle.patch_meaning.specs.declared.fault.PatchFault.{PatchFault}
+use Rattle.patch_meaning.specs.declared.fault.PatchFault.TheVariants as faults
 use Rattle.slot_checks.specs.Lines.{fault_line}
 use Rattle.delta_cli.specs.declared.name.Name.{Name}
 use Rattle.delta_cli.specs.declared.name.Name.TheVariants as names
@@ -26,6 +28,7 @@ name_text names.Zone = codes "zone"
 name_text names.Dump = codes "dump"
 name_text names.Prefixes = codes "prefixes"
 name_text names.Match = codes "match"
+name_text names.Sync = codes "sync"
 name_text names.Serve = codes "serve"
 name_text names.Ping = codes "ping"
 name_text names.List = codes "list"
@@ -51,6 +54,7 @@ usage_text names.Zone = codes "zone DIR"
 usage_text names.Dump = codes "dump DIR"
 usage_text names.Prefixes = codes "prefixes DIR"
 usage_text names.Match = codes "match DIR G S P O"
+usage_text names.Sync = codes "sync DIR ADDR NAME"
 usage_text names.Serve = codes "serve DIR ADDR WORKERS"
 usage_text names.Ping = codes "ping ADDR"
 usage_text names.List = codes "list ADDR"
@@ -89,6 +93,29 @@ refused_line status body = codes "rdfdelta: refused: " ++ (decimal status ++ (co
 abbrev pub not_understood_line : ℕ → List ℕ
 not_understood_line at = codes "rdfdelta: answer: byte " ++ (decimal at ++ codes ": not understood\n")
 
+-- a zone that takes no patch more
+abbrev pub zone_full_line : ℕ → ℕ → List ℕ
+zone_full_line have limit =
+    codes "rdfdelta: refused: zone full: have " ++ (decimal have ++ (codes ", limit " ++ (decimal limit ++ 10 ∷ [])))
+
+-- a text that is no patch; one that is too long is so at the first byte past the limit
+abbrev pub fault_at : PatchFault → ℕ
+fault_at (faults.At at kind) = at
+fault_at (faults.TooLong size limit) = limit
+fault_at faults.OutOfMemory = 0
+
+abbrev pub bad_patch_line : ℕ → ℕ → List ℕ → List ℕ
+bad_patch_line version at kind =
+    codes "rdfdelta: answer: patch " ++ (decimal version ++ (codes ": byte " ++ (decimal at ++ (codes ": " ++ (kind ++ 10 ∷ [])))))
+
+-- a log that is shorter than the zone
+abbrev pub peer_behind_line : ℕ → ℕ → List ℕ
+peer_behind_line mine theirs =
+    codes "rdfdelta: peer behind: have " ++ (decimal mine ++ (codes ", peer " ++ (decimal theirs ++ 10 ∷ [])))
+
+abbrev pub no_patch_line : ℕ → List ℕ
+no_patch_line version = codes "rdfdelta: peer has no patch " ++ (decimal version ++ 10 ∷ [])
+
 abbrev pub chain_line : ChainFault → List ℕ
 chain_line (chains.Diverged version have found) =
     codes "rdfdelta: diverged at version " ++ (decimal version ++ (codes ": have " ++ (id_or_none have ++ (codes ", found " ++ (id_or_none found ++ 10 ∷ [])))))
@@ -106,6 +133,7 @@ line_of refusals.InputFailed = codes "rdfdelta: input failed\n"
 line_of refusals.OutputFailed = codes "rdfdelta: output failed\n"
 line_of (refusals.NotEmpty file length) = codes "rdfdelta: refused: file " ++ (decimal file ++ (codes " not empty: " ++ (decimal length ++ 10 ∷ [])))
 line_of refusals.ZoneTermsFull = codes "rdfdelta: refused: zone terms full\n"
+line_of (refusals.ZoneFull have limit) = zone_full_line have limit
 line_of (refusals.File fault) = fault_line fault
 line_of (refusals.WrongCount disks slots) =
     codes "rdfdelta: file 0: wrong count: disks " ++ (decimal disks ++ (codes ", slots " ++ (decimal slots ++ 10 ∷ [])))
@@ -114,6 +142,9 @@ line_of refusals.LinkFailed = codes "rdfdelta: link failed\n"
 line_of (refusals.Refused status body) = refused_line status body
 line_of (refusals.NotUnderstood at) = not_understood_line at
 line_of refusals.CutShort = codes "rdfdelta: answer cut short\n"
+line_of (refusals.BadPatch version fault) = bad_patch_line version (fault_at fault) (fault_name fault)
+line_of (refusals.PeerBehind mine theirs) = peer_behind_line mine theirs
+line_of (refusals.NoPatch version) = no_patch_line version
 line_of (refusals.Chain fault) = chain_line fault
 line_of refusals.OutOfMemory = out_of_memory_line
 
@@ -129,11 +160,15 @@ status_of refusals.InputFailed = 4
 status_of refusals.OutputFailed = 4
 status_of (refusals.NotEmpty file length) = 1
 status_of refusals.ZoneTermsFull = 1
+status_of (refusals.ZoneFull have limit) = 1
 status_of refusals.DiskFailed = 5
 status_of refusals.LinkFailed = 6
 status_of (refusals.Refused status body) = 1
 status_of (refusals.NotUnderstood at) = 7
 status_of refusals.CutShort = 7
+status_of (refusals.BadPatch version fault) = 7
+status_of (refusals.PeerBehind mine theirs) = 10
+status_of (refusals.NoPatch version) = 10
 status_of (refusals.File fault) = 9
 status_of (refusals.WrongCount disks slots) = 9
 status_of (refusals.Chain fault) = 10

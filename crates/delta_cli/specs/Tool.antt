@@ -19,6 +19,7 @@ use Rattle.delta_cli.specs.Document.{IsShown}
 use Rattle.delta_cli.specs.Lines.{line_of, status_of, out_of_memory_line}
 use Rattle.delta_cli.specs.Results.{Reads, Prints, HasLines, generated_line, StopsReplay, StopsNquads, StopsPrinting, StopsEmitting, StopsWriting}
 use Rattle.delta_cli.specs.Told.{Told, LeavesInput, LeavesFiles, LeavesNet, LeavesAll}
+use Rattle.delta_cli.specs.Syncs.{CatchesUp, StopsSync}
 use Rattle.delta_cli.specs.Zones.{IsNewZone, KeepsZone, ReadsZone, SparesZone, StopsMaking, StopsZone}
 use Rattle.delta_cli.specs.declared.command.Command.{Command}
 use Rattle.delta_cli.specs.declared.command.Command.TheVariants as commands
@@ -91,6 +92,9 @@ module _ {L : Type 0} (left sent : L → Option (List ℕ)) (tells net_tells : T
       ((lines : List (List ℕ)) × ReadsZone dir reading tells old.files lines
       × Writes old.out new.out (bytes_of lines)) × KeepsZone dir tells old.files new.files
       × LeavesInput old new × LeavesNet old new
+  Does (commands.Sync dir address name) old new =
+      CatchesUp left sent tells net_tells dir address name old.files new.files
+      old.shelf_faults new.shelf_faults old.net new.net old.out new.out × LeavesInput old new
   Does (commands.Ask address call) old new =
       PrintsEnd (Asked left sent net_tells address call old.net new.net) old.out new.out
       × LeavesInput old new × LeavesFiles old new
@@ -122,6 +126,9 @@ module _ {L : Type 0} (left sent : L → Option (List ℕ)) (tells net_tells : T
   Stops (commands.Read dir reading) refusal old new =
       StopsZone dir reading tells old.files old.shelf_faults new.shelf_faults old.out new.out refusal
       × KeepsZone dir tells old.files new.files × LeavesInput old new × LeavesNet old new
+  Stops (commands.Sync dir address name) refusal old new =
+      StopsSync left sent tells net_tells dir address name old.files new.files
+      old.shelf_faults new.shelf_faults old.net new.net old.out new.out refusal × LeavesInput old new
   Stops (commands.Ask address call) refusal old new =
       StopsAsking (Asked left sent net_tells address call old.net new.net) old.out new.out refusal
       × LeavesInput old new × LeavesFiles old new

@@ -20,21 +20,50 @@ pub enum Command {
     Replay,
     Nquads,
     /// So many patches of the generator, replayed.
-    Gen { patches: u32 },
+    Gen {
+        patches: u32,
+    },
     /// So many patches of the generator, written.
-    Emit { patches: u32 },
-    Init { dir: Text, slots: u8 },
-    Check { dir: Text },
+    Emit {
+        patches: u32,
+    },
+    Init {
+        dir: Text,
+        slots: u8,
+    },
+    Check {
+        dir: Text,
+    },
     /// The file of a directory's zone, which is to be made.
-    Zone { dir: Text },
+    Zone {
+        dir: Text,
+    },
     /// What is read of a directory's zone.
-    Read { dir: Text, reading: Reading },
+    Read {
+        dir: Text,
+        reading: Reading,
+    },
+    /// The zone of a directory, which is to catch up with a log of the server at an address.
+    Sync {
+        dir: Text,
+        address: Text,
+        name: Text,
+    },
     /// A call to the server at an address.
-    Ask { address: Text, call: Call },
+    Ask {
+        address: Text,
+        call: Call,
+    },
     /// A source of the server at an address, and its log.
-    Describe { address: Text, name: Text },
+    Describe {
+        address: Text,
+        name: Text,
+    },
     /// The input, a patch, for a log of the server at an address.
-    Append { address: Text, name: Text },
+    Append {
+        address: Text,
+        name: Text,
+    },
     Help,
     Version,
 }

@@ -21,6 +21,8 @@ pub const HELP: &str = "rdfdelta: RDF datasets kept in step by chained patches
   prefixes DIR      print the rows that set the prefixes of a zone's dataset
   match DIR G S P O print the lines that match a graph, subject, predicate and object; * is
                     free, and `default` as G the default graph
+  sync DIR ADDR NAME
+                    have a zone catch up with a log of the server at an address
   serve DIR ADDR WORKERS
                     serve the files of a directory over HTTP, with 1 to 16 workers
   ping ADDR         ask the server at an address whether it answers, print its answer

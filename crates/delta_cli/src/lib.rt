@@ -17,6 +17,7 @@ mod name;
 mod nquads;
 mod refusal;
 mod replay;
+mod sync;
 mod tool;
 mod zone;
 mod zone_words;

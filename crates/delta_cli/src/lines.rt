@@ -1,12 +1,14 @@
 //! The lines on err.
 ghost use Rattle.std.specs.Prelude.{◌≡◌, ◌++◌, ◌∷◌, [], IfOk, OnOk, codes};
 ghost use Rattle.std.specs.Fmt.{decimal};
-ghost use Rattle.delta_cli.specs.Lines.{id_or_none, usage_text, place_line, limit_line, chain_line, line_of, not_understood_line, refused_line};
+ghost use Rattle.patch_meaning.specs.Names.{fault_name};
+ghost use Rattle.delta_cli.specs.Lines.{bad_patch_line, chain_line, fault_at, id_or_none, limit_line, line_of, no_patch_line, not_understood_line, peer_behind_line, place_line, refused_line, usage_text, zone_full_line};
 
 use crate::name::Name;
 use crate::refusal::Refusal;
 use chain_core::ChainFault;
 use delta_base::{Bytes, Id, OutOfMemory, id_text};
+use patch_meaning::PatchFault;
 use slot_checks::fault_text;
 use std::alloc::Global;
 
@@ -30,6 +32,7 @@ pub fn line_of(alloc: Global, refusal: &Refusal) -> Result<Vec<u8>, OutOfMemory>
         Refusal::OutputFailed => line(alloc, b"rdfdelta: output failed\n"),
         Refusal::NotEmpty { file, length } => not_empty_line(alloc, *file, *length),
         Refusal::ZoneTermsFull => line(alloc, b"rdfdelta: refused: zone terms full\n"),
+        Refusal::ZoneFull { have, limit } => zone_full_line(alloc, *have, *limit),
         Refusal::File(fault) => fault_text(alloc, *fault),
         Refusal::WrongCount { disks, slots } => wrong_count_line(alloc, *disks, *slots),
         Refusal::DiskFailed => line(alloc, b"rdfdelta: disk failed\n"),
@@ -37,6 +40,9 @@ pub fn line_of(alloc: Global, refusal: &Refusal) -> Result<Vec<u8>, OutOfMemory>
         Refusal::Refused { status, body } => refused_line(alloc, *status, body),
         Refusal::NotUnderstood { at } => not_understood_line(alloc, *at),
         Refusal::CutShort => line(alloc, b"rdfdelta: answer cut short\n"),
+        Refusal::BadPatch { version, fault } => bad_patch_line(alloc, *version, *fault),
+        Refusal::PeerBehind { mine, theirs } => peer_behind_line(alloc, *mine, *theirs),
+        Refusal::NoPatch { version } => no_patch_line(alloc, *version),
         Refusal::Chain(fault) => chain_line(alloc, *fault),
         Refusal::OutOfMemory => line(alloc, b"rdfdelta: out of memory\n"),
     }
@@ -69,6 +75,49 @@ fn wrong_count_line(alloc: Global, disks: u64, slots: u32) -> Result<Vec<u8>, Ou
         ++ (decimal disks ++ (codes ", slots " ++ (decimal slots ++ 10 ∷ [])))) }
 {
     let text = format!(in alloc; "rdfdelta: file 0: wrong count: disks {disks}, slots {slots}\n")?;
+    Ok(text.into_bytes())
+}
+
+fn zone_full_line(alloc: Global, have: u64, limit: u64) -> Result<Vec<u8>, OutOfMemory>
+    ensures { IfOk result (λ text. text.items ≡ zone_full_line have limit) }
+{
+    let text = format!(in alloc; "rdfdelta: refused: zone full: have {have}, limit {limit}\n")?;
+    Ok(text.into_bytes())
+}
+
+// The first byte past the limit, where a text is too long.
+fn fault_at(fault: PatchFault) -> u64
+    ensures { result ≡ fault_at fault }
+{
+    match fault {
+        PatchFault::At { at, .. } => at,
+        PatchFault::TooLong { limit, .. } => limit,
+        PatchFault::OutOfMemory => 0,
+    }
+}
+
+fn bad_patch_line(alloc: Global, version: u32, fault: PatchFault) -> Result<Vec<u8>, OutOfMemory>
+    ensures { IfOk result (λ text. text.items ≡ bad_patch_line version (fault_at fault) (fault_name fault)) }
+{
+    let at = fault_at(fault);
+    let front = format!(in alloc; "rdfdelta: answer: patch {version}: byte {at}: ")?;
+    let mut text = front.into_bytes();
+    text.extend_from_slice(fault.name().as_bytes())?;
+    text.push(b'\n')?;
+    Ok(text)
+}
+
+fn peer_behind_line(alloc: Global, mine: u32, theirs: u32) -> Result<Vec<u8>, OutOfMemory>
+    ensures { IfOk result (λ text. text.items ≡ peer_behind_line mine theirs) }
+{
+    let text = format!(in alloc; "rdfdelta: peer behind: have {mine}, peer {theirs}\n")?;
+    Ok(text.into_bytes())
+}
+
+fn no_patch_line(alloc: Global, version: u32) -> Result<Vec<u8>, OutOfMemory>
+    ensures { IfOk result (λ text. text.items ≡ no_patch_line version) }
+{
+    let text = format!(in alloc; "rdfdelta: peer has no patch {version}\n")?;
     Ok(text.into_bytes())
 }
 

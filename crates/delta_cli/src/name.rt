@@ -16,6 +16,8 @@ pub enum Name {
     Dump,
     Prefixes,
     Match,
+    /// A zone catches up with a log of a server.
+    Sync,
     /// The command of the server, which this tool doesn't run.
     Serve,
     Ping,
@@ -48,6 +50,7 @@ impl Name {
             "dump" => Some(Name::Dump),
             "prefixes" => Some(Name::Prefixes),
             "match" => Some(Name::Match),
+            "sync" => Some(Name::Sync),
             "serve" => Some(Name::Serve),
             "ping" => Some(Name::Ping),
             "list" => Some(Name::List),
@@ -71,7 +74,7 @@ impl Name {
         match self {
             Name::Replay | Name::Nquads | Name::Gen | Name::Emit | Name::Init => false,
             Name::Check | Name::Serve | Name::Help | Name::Version => false,
-            Name::Zone | Name::Dump | Name::Prefixes | Name::Match => false,
+            Name::Zone | Name::Dump | Name::Prefixes | Name::Match | Name::Sync => false,
             Name::Ping | Name::List | Name::Create | Name::Rename | Name::Remove => true,
             Name::Describe | Name::LogVersion | Name::Append | Name::Fetch => true,
         }
@@ -81,7 +84,10 @@ impl Name {
     pub fn is_of_zone(self) -> bool
         ensures { result ≡ is_of_zone self }
     {
-        matches!(self, Name::Zone | Name::Dump | Name::Prefixes | Name::Match)
+        matches!(
+            self,
+            Name::Zone | Name::Dump | Name::Prefixes | Name::Match | Name::Sync
+        )
     }
 
     /// What stands for each word behind the name.
@@ -94,6 +100,7 @@ impl Name {
             Name::Init => &["DIR", "SLOTS"],
             Name::Check | Name::Zone | Name::Dump | Name::Prefixes => &["DIR"],
             Name::Match => &["DIR", "G", "S", "P", "O"],
+            Name::Sync => &["DIR", "ADDR", "NAME"],
             Name::Serve => &["DIR", "ADDR", "WORKERS"],
             Name::Ping | Name::List => &["ADDR"],
             Name::Create => &["ADDR", "NAME", "URI"],
@@ -118,6 +125,7 @@ impl Name {
             Name::Dump => b"dump DIR",
             Name::Prefixes => b"prefixes DIR",
             Name::Match => b"match DIR G S P O",
+            Name::Sync => b"sync DIR ADDR NAME",
             Name::Serve => b"serve DIR ADDR WORKERS",
             Name::Ping => b"ping ADDR",
             Name::List => b"list ADDR",

@@ -9,7 +9,7 @@ use crate::name::Name;
 use chain_core::ChainFault;
 use delta_base::{Bytes, OutOfMemory, Sink};
 use nquads_text::TextKind;
-use patch_meaning::PatchKind;
+use patch_meaning::{PatchFault, PatchKind};
 use sink_writing::write_all;
 use slot_checks::CheckFault;
 use slot_files::InitFault;
@@ -53,6 +53,11 @@ pub enum Refusal {
     },
     /// There are not numbers enough for the terms of a zone.
     ZoneTermsFull,
+    /// A zone takes no patch more: what it has of what is limited, and the limit.
+    ZoneFull {
+        have: u64,
+        limit: u64,
+    },
     /// A file isn't in its form.
     File(CheckFault),
     /// There are not as many files as the registry's file says.
@@ -73,7 +78,21 @@ pub enum Refusal {
     },
     /// The server's bytes end before an answer does.
     CutShort,
-    /// The patches of the stream are no chain.
+    /// The text that the server has for this version is no patch.
+    BadPatch {
+        version: u32,
+        fault: PatchFault,
+    },
+    /// The server's log is shorter than the zone.
+    PeerBehind {
+        mine: u32,
+        theirs: u32,
+    },
+    /// The server's log has no patch of this version, which it told.
+    NoPatch {
+        version: u32,
+    },
+    /// The patches of the stream, or of a zone and the next one, are no chain.
     Chain(ChainFault),
     OutOfMemory,
 }
@@ -167,7 +186,8 @@ fn status_of(refusal: &Refusal) -> u8
     ensures { result ≡ status_of refusal.now }
 {
     match refusal {
-        Refusal::NotEmpty { .. } | Refusal::ZoneTermsFull | Refusal::Refused { .. } => 1,
+        Refusal::NotEmpty { .. } | Refusal::ZoneTermsFull | Refusal::ZoneFull { .. } => 1,
+        Refusal::Refused { .. } => 1,
         Refusal::UnknownCommand | Refusal::Usage(_) => 2,
         Refusal::Stream { .. }
         | Refusal::LongPatch { .. }
@@ -176,9 +196,9 @@ fn status_of(refusal: &Refusal) -> u8
         Refusal::InputFailed | Refusal::OutputFailed => 4,
         Refusal::DiskFailed => 5,
         Refusal::LinkFailed => 6,
-        Refusal::NotUnderstood { .. } | Refusal::CutShort => 7,
+        Refusal::NotUnderstood { .. } | Refusal::CutShort | Refusal::BadPatch { .. } => 7,
         Refusal::OutOfMemory => 8,
         Refusal::File(_) | Refusal::WrongCount { .. } => 9,
-        Refusal::Chain(_) => 10,
+        Refusal::Chain(_) | Refusal::PeerBehind { .. } | Refusal::NoPatch { .. } => 10,
     }
 }

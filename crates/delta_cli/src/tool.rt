@@ -16,6 +16,7 @@ use crate::init::init;
 use crate::nquads::nquads;
 use crate::refusal::{Refusal, report};
 use crate::replay::replay;
+use crate::sync::sync_zone;
 use crate::zone::{make_zone, print_zone};
 use delta_base::{Sink, Source};
 use delta_client::Dial;
@@ -98,6 +99,9 @@ fn run_command<S: Source, K: Sink, H: Shelf, N: Dial>(
         Command::Check { dir } => check(alloc, dir, shelf, out),
         Command::Zone { dir } => make_zone(dir, shelf),
         Command::Read { dir, reading } => print_zone(alloc, dir, reading, shelf, out),
+        Command::Sync { dir, address, name } => {
+            sync_zone(alloc, dir, address, name, shelf, net, out)
+        }
         Command::Ask { address, call } => ask(alloc, address, call, net, out),
         Command::Describe { address, name } => describe(alloc, address, name, net, out),
         Command::Append { address, name } => append(alloc, address, name, input, net, out),

@@ -5,12 +5,13 @@ ghost use Rattle.delta_cli.specs.Channels.{words_of};
 ghost use Rattle.delta_cli.specs.Commands.{Asks, FitsName, RefusesWords, is_of_zone};
 ghost use Rattle.delta_cli.specs.declared.name.Name.TheVariants as names;
 
+use crate::address::is_address;
 use crate::calls::text_at;
 use crate::command::Command;
 use crate::name::Name;
 use crate::refusal::Refusal;
 use dataset_tx::Pattern;
-use delta_base::OutOfMemory;
+use delta_base::{OutOfMemory, Text};
 use std::alloc::Global;
 use zone_commands::{Reading, read_pattern};
 
@@ -32,6 +33,7 @@ pub fn make_of_zone(alloc: Global, name: Name, words: &[String]) -> Result<Comma
             dir,
             reading: Reading::Prefixes,
         }),
+        Name::Sync => make_sync(alloc, dir, words),
         Name::Match => match pattern_in(alloc, words) {
             Ok(Some(pattern)) => Ok(Command::Read {
                 dir,
@@ -42,6 +44,21 @@ pub fn make_of_zone(alloc: Global, name: Name, words: &[String]) -> Result<Comma
         },
         _ => unreachable!(),
     }
+}
+
+// The command by which the zone of a directory catches up with a log: behind the directory stand an address and a name.
+fn make_sync(alloc: Global, dir: Text, words: &[String]) -> Result<Command, Refusal>
+    requires fits { FitsName (words_of words.now) names.Sync }
+    requires dir { dir ≡ get_or (words_of words.now) 1 [] }
+    ensures asks { IfOk result (λ command. (dice : ℕ) → Asks (words_of words.now) dice command) }
+    ensures refused { IfErr result (RefusesWords (words_of words.now)) }
+{
+    let address = text_at(alloc, words, 2)?;
+    if !is_address(address.as_str()) {
+        return Err(Refusal::Usage(Name::Sync));
+    }
+    let name = text_at(alloc, words, 3)?;
+    Ok(Command::Sync { dir, address, name })
 }
 
 // The pattern that the words behind the directory stand for.

@@ -1,2 +1,3 @@
 pub mod Popping
 pub mod Sorted
+mod Followed

@@ -2,3 +2,4 @@ pub mod Order
 pub mod Readings
 pub mod Words
 pub mod Files
+pub mod Following

@@ -1,11 +1,13 @@
-//! What the commands on a follower's copy read of its file, which is left as it was.
+//! What the commands on a follower's copy read of its file, which they leave as it was, and how the copy catches up.
 #![tactic(auto)]
 
+mod following;
 mod lines;
 mod reading;
 mod visiting;
 mod words;
 
+pub use following::{follow_file, follow_zone};
 pub use lines::{quad_lines, row_lines};
 pub use reading::Reading;
 pub use visiting::{Lines, read_zone, read_zone_file};

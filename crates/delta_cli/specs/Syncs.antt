@@ -1,0 +1,89 @@
+-- What `sync` does with a zone and a log of a server, or why it stops.
+use Rattle.std.specs.Prelude.{◌≡◌, ◌⊎◌, ℕ, List, [], ◌∷◌, ◌++◌, Option, Some, codes}
+use Rattle.std.specs.Fmt.{decimal}
+use Rattle.delta_base.specs.Outside.{Rose}
+use Rattle.delta_base.specs.declared.limits.FullKind.{FullKind}
+use Rattle.delta_base.specs.declared.limits.TheConstants.{LOG_LIMITS}
+use Rattle.chain_core.specs.declared.testing.ChainFault.TheVariants as chains
+use Rattle.disk_model.specs.Shelf.{SameOthers}
+use Rattle.slot_files.specs.Files.{Files, bytes_at}
+use Rattle.rpc_answers.specs.Answers.{body_of}
+use Rattle.rpc_answers.specs.Prints.{compact}
+use Rattle.rpc_answers.specs.declared.answer.Answer.TheVariants.{NoSource}
+use Rattle.zone_state.specs.Fault.{HasZoneFault}
+use Rattle.zone_state.specs.Zone.{zone_number}
+use Rattle.zone_state.specs.declared.fault.ZoneFault.TheVariants as zones
+use Rattle.follower.specs.Exchanges.{Net as Dialled}
+use Rattle.follower.specs.declared.ends.SyncEnd.{SyncEnd}
+use Rattle.follower.specs.declared.ends.SyncEnd.TheVariants as ends
+use Rattle.zone_commands.specs.Following.{Followed}
+use Rattle.delta_cli.specs.Channels.{Channel, IsSilent, Writes}
+use Rattle.delta_cli.specs.Results.{StopsPrinting}
+use Rattle.delta_cli.specs.Told.{Net}
+use Rattle.delta_cli.specs.Zones.{HasFileFault, KeepsZone}
+use Rattle.delta_cli.specs.declared.refusal.Refusal.{Refusal}
+use Rattle.delta_cli.specs.declared.refusal.Refusal.TheVariants as refusals
+
+-- the zone has so many patches, which are all of the log
+abbrev pub caught_up_line : ℕ → List ℕ
+caught_up_line version = codes "caught up at version " ++ (decimal version ++ 10 ∷ [])
+
+-- what is told of a dial, without the count of its faults
+abbrev pub dialled : {L : Type 0} → Net L → Dialled L
+dialled net = record { told = net.links; tries = net.tries }
+
+-- which refusal tells this end
+abbrev pub TellsEnd : SyncEnd → Refusal → Type 0
+TellsEnd end (refusals.Refused status body) =
+    (end ≡ ends.PeerRefused status body)
+    ⊎ ((end ≡ ends.NoSuchName) × (status ≡ 404) × (body ≡ compact (body_of NoSource)))
+TellsEnd end (refusals.ZoneFull have limit) = (what : FullKind) × (end ≡ ends.Full what have limit)
+TellsEnd end refusals.ZoneTermsFull = end ≡ ends.TermsFull
+TellsEnd end refusals.DiskFailed = end ≡ ends.DiskFault
+TellsEnd end refusals.LinkFailed = end ≡ ends.LinkFault
+TellsEnd end (refusals.NotUnderstood at) = end ≡ ends.NotUnderstood at
+TellsEnd end refusals.CutShort = end ≡ ends.CutShort
+TellsEnd end (refusals.BadPatch version fault) = end ≡ ends.BadPatch version fault
+TellsEnd end (refusals.Chain (chains.Diverged version have found)) =
+    end ≡ ends.Diverged version have found
+TellsEnd end (refusals.Chain (chains.Repeated id version)) = end ≡ ends.Repeated version id
+TellsEnd end (refusals.PeerBehind mine theirs) = end ≡ ends.PeerBehind mine theirs
+TellsEnd end (refusals.NoPatch version) = end ≡ ends.NoPatch version
+TellsEnd end refusals.OutOfMemory = (end ≡ ends.OutOfMemory) ⊎ (end ≡ ends.NoSuchName)
+TellsEnd end other = ⊥
+
+-- why the zone of a directory can't be opened
+abbrev pub StopsOpening : List ℕ → Type 0 → Files → ℕ → ℕ → Refusal → Type 0
+StopsOpening dir tells files faults faults' (refusals.File fault) =
+    tells → HasFileFault (bytes_at files dir zone_number) fault
+StopsOpening dir tells files faults faults' refusals.ZoneTermsFull =
+    tells → HasZoneFault (bytes_at files dir zone_number) LOG_LIMITS zones.TermsFull
+StopsOpening dir tells files faults faults' refusals.DiskFailed = Rose faults faults'
+StopsOpening dir tells files faults faults' refusals.OutOfMemory = Unit {0}
+StopsOpening dir tells files faults faults' other = ⊥
+
+module _ {L : Type 0} (left sent : L → Option (List ℕ)) (tells net_tells : Type 0) (dir address name : List ℕ) where
+  -- The zone of the directory followed the log, and that ended so; every other file is as it was. A failed disk or link has raised its count.
+  pub record Synced (files files' : Files) (faults faults' : ℕ) (net net' : Net L) (end : SyncEnd) : Type 0 where
+    pub followed : Followed left sent tells net_tells address name
+        (bytes_at files dir zone_number) (bytes_at files' dir zone_number) (dialled net) (dialled net') end
+    pub others : tells → SameOthers (Some (dir, zone_number)) files files'
+    pub disk : end ≡ ends.DiskFault → Rose faults faults'
+    pub link : end ≡ ends.LinkFault → Rose net.faults net'.faults
+
+  -- the zone caught up, and the version is written
+  abbrev pub CatchesUp : Files → Files → ℕ → ℕ → Net L → Net L → Channel → Channel → Type 0
+  CatchesUp files files' faults faults' net net' out out' =
+      (version : ℕ) × Synced files files' faults faults' net net' (ends.CaughtUp version)
+      × Writes out out' (caught_up_line version)
+
+  -- Why no version was written: the zone could not be opened, and then nobody was connected to; or catching up ended otherwise; or it
+  -- caught up, and that isn't printed.
+  pub data StopsSync (files files' : Files) (faults faults' : ℕ) (net net' : Net L) (out out' : Channel) (refusal : Refusal) : Type 0 where
+    unopened : StopsOpening dir tells files faults faults' refusal → KeepsZone dir tells files files' → net' ≡ net
+        → IsSilent out out' → StopsSync files files' faults faults' net net' out out' refusal
+    ended : (end : SyncEnd) → Synced files files' faults faults' net net' end → TellsEnd end refusal
+        → IsSilent out out' → StopsSync files files' faults faults' net net' out out' refusal
+    unprinted : (version : ℕ) → Synced files files' faults faults' net net' (ends.CaughtUp version)
+        → StopsPrinting (caught_up_line version) out out' refusal
+        → StopsSync files files' faults faults' net net' out out' refusal

@@ -1,0 +1,121 @@
+//! The command `sync`: a zone catches up with a log of a server.
+ghost use Rattle.std.specs.Prelude.{◌≡◌, ◌≢◌, ℕ, IfErr, IfOk, OnOk};
+ghost use Rattle.delta_client.specs.Lines.{told_of};
+ghost use Rattle.follower.specs.declared.ends.SyncEnd.TheVariants as ends;
+ghost use Rattle.delta_cli.specs.Addresses.{IsAddress};
+ghost use Rattle.delta_cli.specs.Channels.{Writes, channel};
+ghost use Rattle.delta_cli.specs.Results.{StopsPrinting};
+ghost use Rattle.delta_cli.specs.Syncs.{CatchesUp, StopsSync, TellsEnd, caught_up_line};
+ghost use Rattle.delta_cli.specs.Told.{net_of};
+
+use crate::refusal::Refusal;
+use chain_core::ChainFault;
+use delta_base::{OutOfMemory, Sink, Text};
+use delta_client::Dial;
+use disk_model::Shelf;
+use follower::SyncEnd;
+use rpc_answers::{Answer, into_reply};
+use sink_writing::write_all;
+use std::alloc::Global;
+use zone_commands::follow_zone;
+
+/// Catches the zone of a directory up with a log of the server at an address, and writes the version that they have. No other
+/// file is asked for.
+pub fn sync_zone<H: Shelf, N: Dial, K: Sink>(
+    alloc: Global,
+    dir: &Text,
+    address: &Text,
+    name: &Text,
+    shelf: &mut H,
+    net: &mut N,
+    out: &mut K,
+) -> Result<(), Refusal>
+    requires { IsAddress address.now }
+    ensures done { OnOk result (CatchesUp N.L.left N.L.sent H.tells N.tells dir.now address.now name.now
+        (H.files shelf.old) (H.files shelf.new) (H.faults shelf.old) (H.faults shelf.new)
+        (net_of (told_of (N.to_come net.old) (N.addresses net.old) (N.back net.old))
+        (N.tries net.old) (N.faults net.old))
+        (net_of (told_of (N.to_come net.new) (N.addresses net.new) (N.back net.new))
+        (N.tries net.new) (N.faults net.new))
+        (channel (K.written out.old) (K.faults out.old))
+        (channel (K.written out.new) (K.faults out.new))) }
+    ensures stopped { IfErr result (StopsSync N.L.left N.L.sent H.tells N.tells dir.now address.now name.now
+        (H.files shelf.old) (H.files shelf.new) (H.faults shelf.old) (H.faults shelf.new)
+        (net_of (told_of (N.to_come net.old) (N.addresses net.old) (N.back net.old))
+        (N.tries net.old) (N.faults net.old))
+        (net_of (told_of (N.to_come net.new) (N.addresses net.new) (N.back net.new))
+        (N.tries net.new) (N.faults net.new))
+        (channel (K.written out.old) (K.faults out.old))
+        (channel (K.written out.new) (K.faults out.new))) }
+{
+    match follow_zone(alloc, shelf, net, dir, address, name) {
+        Ok(SyncEnd::CaughtUp { version }) => print_version(alloc, version, out),
+        Ok(end) => Err(refusal_of(alloc, end)),
+        Err(fault) => Err(Refusal::of_zone(fault)),
+    }
+}
+
+// Writes the version at which a zone caught up.
+fn print_version<K: Sink>(alloc: Global, version: u32, out: &mut K) -> Result<(), Refusal>
+    ensures done { OnOk result (Writes (channel (K.written out.old) (K.faults out.old))
+        (channel (K.written out.new) (K.faults out.new)) (caught_up_line version)) }
+    ensures stopped { IfErr result (StopsPrinting (caught_up_line version)
+        (channel (K.written out.old) (K.faults out.old))
+        (channel (K.written out.new) (K.faults out.new))) }
+{
+    let Ok(line) = version_line(alloc, version) else {
+        return Err(Refusal::OutOfMemory);
+    };
+    write_all(out, line.as_bytes()).map_err(|_| Refusal::OutputFailed)
+}
+
+fn version_line(alloc: Global, version: u32) -> Result<String, OutOfMemory>
+    ensures { IfOk result (λ line. line.bytes.items ≡ caught_up_line version) }
+{
+    Ok(format!(in alloc; "caught up at version {version}\n")?)
+}
+
+// The refusal that tells this end, at which the zone hasn't caught up.
+fn refusal_of(alloc: Global, end: SyncEnd) -> Refusal
+    requires { (version : ℕ) → end ≢ ends.CaughtUp version }
+    ensures { TellsEnd end result }
+{
+    match end {
+        SyncEnd::CaughtUp { .. } => unreachable!(),
+        SyncEnd::NoSuchName => no_source(alloc),
+        SyncEnd::PeerBehind { mine, theirs } => Refusal::PeerBehind { mine, theirs },
+        SyncEnd::NoPatch { version } => Refusal::NoPatch { version },
+        SyncEnd::PeerRefused { status, body } => Refusal::Refused { status, body },
+        SyncEnd::Diverged {
+            version,
+            have,
+            theirs,
+        } => Refusal::Chain(ChainFault::Diverged {
+            version,
+            have,
+            found: theirs,
+        }),
+        SyncEnd::Repeated { version, id } => Refusal::Chain(ChainFault::Repeated { id, version }),
+        SyncEnd::BadPatch { version, fault } => Refusal::BadPatch { version, fault },
+        SyncEnd::LinkFault => Refusal::LinkFailed,
+        SyncEnd::CutShort => Refusal::CutShort,
+        SyncEnd::NotUnderstood { at } => Refusal::NotUnderstood { at },
+        SyncEnd::Full { have, limit, .. } => Refusal::ZoneFull { have, limit },
+        SyncEnd::TermsFull => Refusal::ZoneTermsFull,
+        SyncEnd::DiskFault => Refusal::DiskFailed,
+        SyncEnd::OutOfMemory => Refusal::OutOfMemory,
+    }
+}
+
+// The refusal that a log isn't there, with the body of the server's answer.
+fn no_source(alloc: Global) -> Refusal
+    ensures { TellsEnd SyncEnd.NoSuchName result }
+{
+    match into_reply(alloc, Answer::NoSource, false) {
+        Ok(reply) => Refusal::Refused {
+            status: reply.status,
+            body: reply.body,
+        },
+        Err(_) => Refusal::OutOfMemory,
+    }
+}
