@@ -30,9 +30,10 @@ fn header(alloc: Global, number: u32) -> Result<Vec<u8>, OutOfMemory> {
 
 /// Adds a payload to a journal.
 fn put(bytes: &mut Vec<u8>, payload: &[u8]) -> Result<(), OutOfMemory> {
+    let length = u32::try_from(payload.len()).unwrap_or(u32::MAX);
     bytes.pop();
     bytes.push(1)?;
-    bytes.extend_from_slice(&(payload.len() as u32).to_be_bytes())?;
+    bytes.extend_from_slice(&length.to_be_bytes())?;
     bytes.extend_from_slice(payload)?;
     bytes.push(0)?;
     Ok(())

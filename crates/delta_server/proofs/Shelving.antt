@@ -7,9 +7,9 @@ use Rattle.disk_model.specs.Past.{began, reads}
 use Rattle.disk_model.specs.Shelf.{SameOthers}
 use Rattle.disk_model.specs.declared.disk.Disk.{Ghosts}
 use Rattle.slot_checks.proofs.Steps.{all_kept, opened_kept, visit_kept}
-use Rattle.slot_checks.specs.Checks.{AreKept, IsKept}
+use Rattle.slot_checks.specs.Checks.{AreKept}
 use Rattle.slot_files.proofs.Steps.{at_or_not, other_dir, other_number, visited}
-use Rattle.slot_files.specs.Files.{Files, SameBut, bytes_at}
+use Rattle.slot_files.specs.Files.{Files, IsKept, SameBut, bytes_at}
 use Rattle.delta_server.specs.Files.{AreMarked, AreRead, ArePutBack, HaveRead}
 
 module _ {D : Type 0} (disks : Ghosts D) where
