@@ -66,7 +66,8 @@ Asks words dice (commands.Init dir slots) = (words ≡ codes "init" ∷ dir ∷ 
 Asks words dice (commands.Check dir) = (words ≡ codes "check" ∷ dir ∷ []) × IsPlainWord dir
 Asks words dice (commands.Zone dir) = AreWords words (codes "zone") (dir ∷ [])
 Asks words dice (commands.Read dir reading) = AsksToRead words dir reading
-Asks words dice (commands.Sync dir address name) = AreWords words (codes "sync") (dir ∷ address ∷ name ∷ []) × IsAddress address
+Asks words dice (commands.Sync dir address name) =
+    AreWords words (codes "sync") (dir ∷ address ∷ name ∷ []) × IsAddress address
 Asks words dice (commands.Ask address call) = AsksFor words dice address call × IsAddress address
 Asks words dice (commands.Describe address name) = AreWords words (codes "describe") (address ∷ name ∷ []) × IsAddress address
 Asks words dice (commands.Append address name) = AreWords words (codes "append") (address ∷ name ∷ []) × IsAddress address

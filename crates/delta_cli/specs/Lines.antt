@@ -96,7 +96,8 @@ not_understood_line at = codes "rdfdelta: answer: byte " ++ (decimal at ++ codes
 -- a zone that takes no patch more
 abbrev pub zone_full_line : ℕ → ℕ → List ℕ
 zone_full_line have limit =
-    codes "rdfdelta: refused: zone full: have " ++ (decimal have ++ (codes ", limit " ++ (decimal limit ++ 10 ∷ [])))
+    codes "rdfdelta: refused: zone full: have "
+    ++ (decimal have ++ (codes ", limit " ++ (decimal limit ++ 10 ∷ [])))
 
 -- a text that is no patch; one that is too long is so at the first byte past the limit
 abbrev pub fault_at : PatchFault → ℕ
@@ -106,12 +107,14 @@ fault_at faults.OutOfMemory = 0
 
 abbrev pub bad_patch_line : ℕ → ℕ → List ℕ → List ℕ
 bad_patch_line version at kind =
-    codes "rdfdelta: answer: patch " ++ (decimal version ++ (codes ": byte " ++ (decimal at ++ (codes ": " ++ (kind ++ 10 ∷ [])))))
+    codes "rdfdelta: answer: patch "
+    ++ (decimal version ++ (codes ": byte " ++ (decimal at ++ (codes ": " ++ (kind ++ 10 ∷ [])))))
 
 -- a log that is shorter than the zone
 abbrev pub peer_behind_line : ℕ → ℕ → List ℕ
 peer_behind_line mine theirs =
-    codes "rdfdelta: peer behind: have " ++ (decimal mine ++ (codes ", peer " ++ (decimal theirs ++ 10 ∷ [])))
+    codes "rdfdelta: peer behind: have "
+    ++ (decimal mine ++ (codes ", peer " ++ (decimal theirs ++ 10 ∷ [])))
 
 abbrev pub no_patch_line : ℕ → List ℕ
 no_patch_line version = codes "rdfdelta: peer has no patch " ++ (decimal version ++ 10 ∷ [])
@@ -142,7 +145,8 @@ line_of refusals.LinkFailed = codes "rdfdelta: link failed\n"
 line_of (refusals.Refused status body) = refused_line status body
 line_of (refusals.NotUnderstood at) = not_understood_line at
 line_of refusals.CutShort = codes "rdfdelta: answer cut short\n"
-line_of (refusals.BadPatch version fault) = bad_patch_line version (fault_at fault) (fault_name fault)
+line_of (refusals.BadPatch version fault) =
+    bad_patch_line version (fault_at fault) (fault_name fault)
 line_of (refusals.PeerBehind mine theirs) = peer_behind_line mine theirs
 line_of (refusals.NoPatch version) = no_patch_line version
 line_of (refusals.Chain fault) = chain_line fault

@@ -62,28 +62,37 @@ StopsOpening dir tells files faults faults' refusals.DiskFailed = Rose faults fa
 StopsOpening dir tells files faults faults' refusals.OutOfMemory = Unit {0}
 StopsOpening dir tells files faults faults' other = ⊥
 
-module _ {L : Type 0} (left sent : L → Option (List ℕ)) (tells net_tells : Type 0) (dir address name : List ℕ) where
-  -- The zone of the directory followed the log, and that ended so; every other file is as it was. A failed disk or link has raised its count.
-  pub record Synced (files files' : Files) (faults faults' : ℕ) (net net' : Net L) (end : SyncEnd) : Type 0 where
+module _ {L : Type 0} (left sent : L → Option (List ℕ)) (tells net_tells : Type 0)
+    (dir address name : List ℕ) where
+  -- The zone of the directory followed the log, and that ended so; every other file is as it was. A failed
+  -- disk or link has raised its count.
+  pub record Synced (files files' : Files) (faults faults' : ℕ) (net net' : Net L)
+      (end : SyncEnd) : Type 0 where
     pub followed : Followed left sent tells net_tells address name
-        (bytes_at files dir zone_number) (bytes_at files' dir zone_number) (dialled net) (dialled net') end
+        (bytes_at files dir zone_number) (bytes_at files' dir zone_number)
+        (dialled net) (dialled net') end
     pub others : tells → SameOthers (Some (dir, zone_number)) files files'
     pub disk : end ≡ ends.DiskFault → Rose faults faults'
     pub link : end ≡ ends.LinkFault → Rose net.faults net'.faults
 
   -- the zone caught up, and the version is written
-  abbrev pub CatchesUp : Files → Files → ℕ → ℕ → Net L → Net L → Channel → Channel → Type 0
+  abbrev pub CatchesUp : Files → Files → ℕ → ℕ → Net L → Net L → Channel → Channel
+      → Type 0
   CatchesUp files files' faults faults' net net' out out' =
       (version : ℕ) × Synced files files' faults faults' net net' (ends.CaughtUp version)
       × Writes out out' (caught_up_line version)
 
-  -- Why no version was written: the zone could not be opened, and then nobody was connected to; or catching up ended otherwise; or it
-  -- caught up, and that isn't printed.
-  pub data StopsSync (files files' : Files) (faults faults' : ℕ) (net net' : Net L) (out out' : Channel) (refusal : Refusal) : Type 0 where
-    unopened : StopsOpening dir tells files faults faults' refusal → KeepsZone dir tells files files' → net' ≡ net
-        → IsSilent out out' → StopsSync files files' faults faults' net net' out out' refusal
-    ended : (end : SyncEnd) → Synced files files' faults faults' net net' end → TellsEnd end refusal
-        → IsSilent out out' → StopsSync files files' faults faults' net net' out out' refusal
-    unprinted : (version : ℕ) → Synced files files' faults faults' net net' (ends.CaughtUp version)
+  -- Why no version was written: the zone could not be opened, and then nobody was connected to; or catching
+  -- up ended otherwise; or it caught up, and that isn't printed.
+  pub data StopsSync (files files' : Files) (faults faults' : ℕ) (net net' : Net L)
+      (out out' : Channel) (refusal : Refusal) : Type 0 where
+    unopened : StopsOpening dir tells files faults faults' refusal
+        → KeepsZone dir tells files files' → net' ≡ net → IsSilent out out'
+        → StopsSync files files' faults faults' net net' out out' refusal
+    ended : (end : SyncEnd) → Synced files files' faults faults' net net' end
+        → TellsEnd end refusal → IsSilent out out'
+        → StopsSync files files' faults faults' net net' out out' refusal
+    unprinted : (version : ℕ)
+        → Synced files files' faults faults' net net' (ends.CaughtUp version)
         → StopsPrinting (caught_up_line version) out out' refusal
         → StopsSync files files' faults faults' net net' out out' refusal

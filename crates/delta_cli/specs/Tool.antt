@@ -94,7 +94,8 @@ module _ {L : Type 0} (left sent : L → Option (List ℕ)) (tells net_tells : T
       × LeavesInput old new × LeavesNet old new
   Does (commands.Sync dir address name) old new =
       CatchesUp left sent tells net_tells dir address name old.files new.files
-      old.shelf_faults new.shelf_faults old.net new.net old.out new.out × LeavesInput old new
+      old.shelf_faults new.shelf_faults old.net new.net old.out new.out
+      × LeavesInput old new
   Does (commands.Ask address call) old new =
       PrintsEnd (Asked left sent net_tells address call old.net new.net) old.out new.out
       × LeavesInput old new × LeavesFiles old new
@@ -128,7 +129,8 @@ module _ {L : Type 0} (left sent : L → Option (List ℕ)) (tells net_tells : T
       × KeepsZone dir tells old.files new.files × LeavesInput old new × LeavesNet old new
   Stops (commands.Sync dir address name) refusal old new =
       StopsSync left sent tells net_tells dir address name old.files new.files
-      old.shelf_faults new.shelf_faults old.net new.net old.out new.out refusal × LeavesInput old new
+      old.shelf_faults new.shelf_faults old.net new.net old.out new.out refusal
+      × LeavesInput old new
   Stops (commands.Ask address call) refusal old new =
       StopsAsking (Asked left sent net_tells address call old.net new.net) old.out new.out refusal
       × LeavesInput old new × LeavesFiles old new

@@ -19,8 +19,8 @@ use sink_writing::write_all;
 use std::alloc::Global;
 use zone_commands::follow_zone;
 
-/// Catches the zone of a directory up with a log of the server at an address, and writes the version that they have. No other
-/// file is asked for.
+/// Catches the zone of a directory up with a log of the server at an address, and writes the version
+/// that they have. No other file is asked for.
 pub fn sync_zone<H: Shelf, N: Dial, K: Sink>(
     alloc: Global,
     dir: &Text,
@@ -31,7 +31,8 @@ pub fn sync_zone<H: Shelf, N: Dial, K: Sink>(
     out: &mut K,
 ) -> Result<(), Refusal>
     requires { IsAddress address.now }
-    ensures done { OnOk result (CatchesUp N.L.left N.L.sent H.tells N.tells dir.now address.now name.now
+    ensures done { OnOk result (CatchesUp N.L.left N.L.sent H.tells N.tells
+        dir.now address.now name.now
         (H.files shelf.old) (H.files shelf.new) (H.faults shelf.old) (H.faults shelf.new)
         (net_of (told_of (N.to_come net.old) (N.addresses net.old) (N.back net.old))
         (N.tries net.old) (N.faults net.old))
@@ -39,7 +40,8 @@ pub fn sync_zone<H: Shelf, N: Dial, K: Sink>(
         (N.tries net.new) (N.faults net.new))
         (channel (K.written out.old) (K.faults out.old))
         (channel (K.written out.new) (K.faults out.new))) }
-    ensures stopped { IfErr result (StopsSync N.L.left N.L.sent H.tells N.tells dir.now address.now name.now
+    ensures stopped { IfErr result (StopsSync N.L.left N.L.sent H.tells N.tells
+        dir.now address.now name.now
         (H.files shelf.old) (H.files shelf.new) (H.faults shelf.old) (H.faults shelf.new)
         (net_of (told_of (N.to_come net.old) (N.addresses net.old) (N.back net.old))
         (N.tries net.old) (N.faults net.old))
