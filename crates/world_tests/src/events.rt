@@ -1,4 +1,6 @@
 //! Events, and the patches in them.
+ghost use Rattle.std.specs.Prelude.{◌<◌};
+
 use chain_core::Fate;
 use delta_base::{Id, Listing, id_text};
 use patch_meaning::{Checked, check_patch};

@@ -1,4 +1,6 @@
 //! Stops at each call of a log's device, and of a zone's.
+ghost use Rattle.std.specs.Prelude.{◌<◌};
+
 use crate::events::{Step, next, run};
 use chain_core::Fate;
 use delta_base::Phase;
