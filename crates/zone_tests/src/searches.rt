@@ -7,7 +7,7 @@ use delta_base::LOG_LIMITS;
 use disk_model::MemDisk;
 use nquads_text::read_term;
 use quad_index::Steps;
-use rdf_terms::{Change, Term};
+use rdf_terms::Change;
 use std::alloc::Global;
 use std::marker::Brand;
 use std::sync::ledger::{Blank, Ledger};
@@ -57,19 +57,24 @@ fn a_zone_has_the_prefixes_that_it_took(rt: HostRuntime) -> Result<(), Fail> {
     Ok(())
 }
 
-// The term of a text.
-fn term(alloc: Global, text: &str) -> Result<Term, Fail> {
-    match read_term(alloc, text.as_bytes(), 0) {
-        Ok((term, _)) => Ok(term),
+// The pattern of an object in the default graph.
+fn pattern_of(alloc: Global, object: &[u8]) -> Result<Pattern, Fail> {
+    match read_term(alloc, object, 0) {
+        Ok((object, _)) => Ok(Pattern {
+            graph: GraphPart::Default,
+            subject: None,
+            predicate: None,
+            object: Some(object),
+        }),
         Err(_) => Err(Fail::from("no term")),
     }
 }
 
 // How many quads a zone has with this object.
-fn with_object<L: Ledger>(
+fn found_with<L: Ledger>(
     alloc: Global,
     zone: &Zone<MemDisk>,
-    object: &str,
+    object: &[u8],
     blank: Blank,
 ) -> Result<usize, Fail>
     requires name { blank.name ≡ L.name }
@@ -77,17 +82,11 @@ fn with_object<L: Ledger>(
     requires some { 0 < L.parts }
 {
     let mut steps = Steps::<L>::new(blank);
-    let pattern = Pattern {
-        graph: GraphPart::Default,
-        subject: None,
-        predicate: None,
-        object: Some(term(alloc, object)?),
-    };
-    let found = zone.matching(&pattern, &mut steps);
+    let pattern = pattern_of(alloc, object)?;
+    let found = zone.matching(&pattern, &mut steps)?;
     drop(pattern);
-    let quads = found?;
-    let count = quads.len();
-    drop(quads);
+    let count = found.len();
+    drop(found);
     Ok(count)
 }
 
@@ -95,10 +94,9 @@ fn with_object<L: Ledger>(
 fn a_pattern_finds_the_quads_of_a_zone(rt: HostRuntime) -> Result<(), Fail> {
     let alloc = rt.alloc();
     let zone = zone_of(alloc, &[FIRST, SECOND])?;
-    let one = with_object::<Brand>(alloc, &zone, "<http://e/o2>", Blank::new(1))?;
-    let none = with_object::<Brand>(alloc, &zone, "<http://e/o3>", Blank::new(1))?;
-    drop(zone);
-    assert!(rt; one == 1);
-    assert!(rt; none == 0);
+    for (object, count) in [(b"<http://e/o2>", 1), (b"<http://e/o3>", 0)] {
+        let found = found_with::<Brand>(alloc, &zone, object, Blank::new(1))?;
+        assert!(rt; found == count);
+    }
     Ok(())
 }
