@@ -1,8 +1,9 @@
 -- What a crash leaves while patches are taken.
-use Rattle.std.proofs.Common.{◌≡◌, ◌⊎◌, inl, inr, ⊎_elim, ℕ, Bool, true, List, [], ◌∷◌, ◌++◌, map, Option, Some, None, Ok, refl, sym, ◌∙◌, ap, subst, append_assoc}
+use Rattle.std.proofs.Common.{◌≡◌, ◌⊎◌, inl, inr, ℕ, true, List, [], ◌∷◌, ◌++◌, map, Option, Some, None, Ok, refl, sym, ◌∙◌, ap, subst, append_assoc}
 use Rattle.std.specs.Prelude.{is_none}
 use Rattle.std.proofs.lemmas.List.{append-nil, map-append}
-use Rattle.disk_model.specs.Past.{Past, LeavesOnly}
+use Rattle.disk_model.specs.declared.disk.Disk.{Ghosts}
+use Rattle.disk_model.specs.Past.{LeavesOnly}
 use Rattle.disk_model.proofs.Moments.{starts, weaker, then_other}
 use Rattle.log_journal.specs.File.{Holds}
 use Rattle.log_journal.specs.Journal.{HoldsWithOrWithout}
@@ -10,11 +11,11 @@ use Rattle.log_journal.proofs.Steps.{either}
 use Rattle.patch_meaning.specs.Checked.{CheckedPatch, texts}
 use Rattle.patch_log.specs.Log.{bare, MayHoldDuring}
 use Rattle.zone_state.specs.Brief.{file_length}
-use Rattle.zone_state.specs.Zone.{ZoneView, StandsForZone, zone_number, doubt_of}
+use Rattle.zone_state.specs.Zone.{ZoneView, zone_number, doubt_of}
 use Rattle.zone_state.proofs.Growing.{bare_texts}
 use Rattle.rpc_answers.specs.declared.answer.Answer.TheVariants as answer
 use Rattle.follower.specs.Exchanges.{Said}
-use Rattle.follower.specs.Grown.{TookMore, HoldsAmid, LeavesAmid, WasTried, untried, was_last, GrewBy, Stayed}
+use Rattle.follower.specs.Grown.{Stands, TookMore, HoldsAmid, LeavesAmid, WasTried, untried, was_last, GrewBy, Stayed}
 use Rattle.follower.proofs.Taken.{took_none, met_none}
 
 -- ---- images
@@ -73,48 +74,48 @@ nothing_left (Some one) is = absurd (cc)
 abbrev pub IsClear : {D : Type 0} → ZoneView D → ZoneView D → List CheckedPatch → Type 0
 IsClear old now more = ((more ≡ []) × (now ≡ old)) ⊎ (now.settled ≡ true)
 
-module _ {D : Type 0} (tells : Type 0) (past : D → Past) where
-  pub amid_none : (zone : ZoneView D) → LeavesAmid tells past zone zone []
+module _ {D : Type 0} (disks : Ghosts D) where
+  pub amid_none : (zone : ZoneView D) → LeavesAmid disks zone zone []
   amid_none zone told taken None stands =
       let all = stands.on_disk told in
-      starts (HoldsAmid taken None []) (past zone.disk) (λ image left. before_them taken image None [] (all.each image left))
+      starts (HoldsAmid taken None []) (disks.past zone.disk) (λ image left. before_them taken image None [] (all.each image left))
   amid_none zone told taken (Some one) stands =
       let all = stands.on_disk told in
-      starts (HoldsAmid taken (Some one) []) (past zone.disk) (λ image left.
+      starts (HoldsAmid taken (Some one) []) (disks.past zone.disk) (λ image left.
       doubted taken image one [] (either (file_length zone.brief.ids zone.brief.bytes) zone_number (texts taken) one.text all.doubt_sized image all.sized (all.each image left)))
 
   -- the disk wasn't asked
-  pub amid_same : (old new : ZoneView D) → new ≡ record old { terms = new.terms } → LeavesAmid tells past old new []
+  pub amid_same : (old new : ZoneView D) → new ≡ record old { terms = new.terms } → LeavesAmid disks old new []
   amid_same old new is told taken doubt stands =
-      subst (λ (zone : ZoneView D). LeavesOnly (HoldsAmid taken doubt []) (past old.disk) (past zone.disk)) (sym is) (amid_none old told taken doubt stands)
+      subst (λ (zone : ZoneView D). LeavesOnly (HoldsAmid taken doubt []) (disks.past old.disk) (disks.past zone.disk)) (sym is) (amid_none old told taken doubt stands)
 
   pub amid_one : (old new : ZoneView D) (next : CheckedPatch)
-      → (tells → (taken : List CheckedPatch) (doubt : Option CheckedPatch) → StandsForZone tells (past old.disk) old taken doubt
-      → LeavesOnly (MayHoldDuring zone_number (map bare taken) (doubt_of doubt) (bare next)) (past old.disk) (past new.disk))
-      → LeavesAmid tells past old new (next ∷ [])
+      → (disks.tells → (taken : List CheckedPatch) (doubt : Option CheckedPatch) → Stands disks old taken doubt
+      → LeavesOnly (MayHoldDuring zone_number (map bare taken) (doubt_of doubt) (bare next)) (disks.past old.disk) (disks.past new.disk))
+      → LeavesAmid disks old new (next ∷ [])
   amid_one old new next leaves told taken doubt stands =
       weaker (MayHoldDuring zone_number (map bare taken) (doubt_of doubt) (bare next)) (HoldsAmid taken doubt (next ∷ []))
-      (λ image holds. during taken image doubt next holds) (past old.disk) (past new.disk) (leaves told taken doubt stands)
+      (λ image holds. during taken image doubt next holds) (disks.past old.disk) (disks.past new.disk) (leaves told taken doubt stands)
 
-  pub amid_both : (old mid new : ZoneView D) (more tried : List CheckedPatch) → TookMore tells past old mid more → IsClear old mid more → LeavesAmid tells past old mid more
-      → LeavesAmid tells past mid new tried → LeavesAmid tells past old new (more ++ tried)
+  pub amid_both : (old mid new : ZoneView D) (more tried : List CheckedPatch) → TookMore disks old mid more → IsClear old mid more → LeavesAmid disks old mid more
+      → LeavesAmid disks mid new tried → LeavesAmid disks old new (more ++ tried)
   amid_both old mid new more tried took (inl same) first second told taken doubt stands =
-      let here = subst (λ (zone : ZoneView D). LeavesAmid tells past zone new tried) same.1 second in
-      subst (λ (ps : List CheckedPatch). LeavesOnly (HoldsAmid taken doubt (ps ++ tried)) (past old.disk) (past new.disk)) (sym same.0) (here told taken doubt stands)
+      let here = subst (λ (zone : ZoneView D). LeavesAmid disks zone new tried) same.1 second in
+      subst (λ (ps : List CheckedPatch). LeavesOnly (HoldsAmid taken doubt (ps ++ tried)) (disks.past old.disk) (disks.past new.disk)) (sym same.0) (here told taken doubt stands)
   amid_both old mid new more tried took (inr settled) first second told taken doubt stands =
       let there = took taken doubt stands in
       let none : there.0 ≡ None = nothing_left there.0 (sym there.1.settled_is ∙ settled) in
-      then_other (HoldsAmid taken doubt more) (HoldsAmid (taken ++ more) there.0 tried) (HoldsAmid taken doubt (more ++ tried)) (past old.disk) (past mid.disk) (past new.disk)
+      then_other (HoldsAmid taken doubt more) (HoldsAmid (taken ++ more) there.0 tried) (HoldsAmid taken doubt (more ++ tried)) (disks.past old.disk) (disks.past mid.disk) (disks.past new.disk)
       (λ image holds. amid_more taken image doubt more tried holds) (λ image holds. amid_behind taken image doubt there.0 more tried none holds)
       (first told taken doubt stands) (second told (taken ++ more) there.0 there.1)
 
   -- ---- what a zone grew by
 
   -- nothing happened
-  pub grew_none : (zone : ZoneView D) (said : List Said) → GrewBy tells past zone zone [] said
-  grew_none zone said = record { took = took_none tells past zone; amid = ([], untried refl, amid_none zone); met = ([], untried refl, met_none zone.terms) }
+  pub grew_none : (zone : ZoneView D) (said : List Said) → GrewBy disks zone zone [] said
+  grew_none zone said = record { took = took_none disks zone; amid = ([], untried refl, amid_none zone); met = ([], untried refl, met_none zone.terms) }
 
-  pub stayed_none : (zone : ZoneView D) (said : List Said) → Stayed tells past zone zone said
+  pub stayed_none : (zone : ZoneView D) (said : List Said) → Stayed disks zone zone said
   stayed_none zone said = record { brief = refl; grew = grew_none zone said }
 
   -- something was said before
@@ -123,7 +124,7 @@ module _ {D : Type 0} (tells : Type 0) (past : D → Past) where
   was_behind front said tried (was_last before next is_said is checked) =
       was_last (front ++ before) next (ap (λ (ss : List Said). front ++ ss) is_said ∙ sym (append_assoc front before (Ok (answer.Patch next.text) ∷ []))) is checked
 
-  pub grew_behind : (front said : List Said) (old new : ZoneView D) (more : List CheckedPatch) → GrewBy tells past old new more said → GrewBy tells past old new more (front ++ said)
+  pub grew_behind : (front said : List Said) (old new : ZoneView D) (more : List CheckedPatch) → GrewBy disks old new more said → GrewBy disks old new more (front ++ said)
   grew_behind front said old new more grew = record {
     took = grew.took;
     amid = (grew.amid.0, was_behind front said grew.amid.0 grew.amid.1, grew.amid.2);

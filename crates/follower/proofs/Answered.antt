@@ -1,10 +1,8 @@
 -- What a zone's answer to the next patch comes to.
-use Rattle.std.proofs.Common.{◌≡◌, ◌≢◌, ◌⊎◌, inl, inr, ⊎_elim, ℕ, ◌+◌, Bool, true, false, not, cond, eqb, ltb, List, [], ◌∷◌, ◌++◌, length, map, Option, Some, None, Result, Ok, Err, refl, sym, ◌∙◌, ap, subst}
+use Rattle.std.proofs.Common.{◌≡◌, ◌≢◌, ◌⊎◌, inl, ⊎_elim, ℕ, ◌+◌, Bool, true, false, not, cond, eqb, ltb, List, [], ◌∷◌, ◌++◌, length, map, Option, Some, None, Result, Ok, Err, refl, sym, ◌∙◌, ap, subst}
 use Rattle.std.specs.Prelude.{OnOk, IfErr, is_none}
 use Rattle.std.proofs.lemmas.List.{append-nil}
 use Rattle.delta_base.specs.declared.id.Id.{Id}
-use Rattle.disk_model.specs.Past.{Past}
-use Rattle.rdf_terms.specs.declared.term.Term.{Term}
 use Rattle.rdf_terms.specs.declared.change.Change.{Change}
 use Rattle.term_table.specs.Table.{most}
 use Rattle.dataset_tx.specs.Held.{AreMet, AreMore}
@@ -30,11 +28,11 @@ use Rattle.zone_state.specs.declared.answer.TakeAnswer.TheVariants as take
 use Rattle.zone_state.specs.Brief.{Brief, last_of, version_in, file_length, with_patch, changes_of}
 use Rattle.zone_state.specs.Taking.{taking, unless_repeated, taken_then, IsDecidedBy, IsWant, TakeStay}
 use Rattle.zone_state.specs.Stay.{decided, TookOne}
-use Rattle.zone_state.specs.Zone.{ZoneView, StandsForZone, doubt_of, point_of}
+use Rattle.zone_state.specs.Zone.{ZoneView, doubt_of, point_of}
 use Rattle.follower.specs.declared.ends.SyncEnd.{SyncEnd}
 use Rattle.follower.specs.declared.ends.SyncEnd.TheVariants.{BadPatch, LinkFault, DiskFault}
 use Rattle.follower.specs.Exchanges.{Said}
-use Rattle.follower.specs.Grown.{Took, Stayed, LeavesAmid, WasTried, untried, was_last}
+use Rattle.follower.specs.Grown.{Stands, Took, Stayed, LeavesAmid, WasTried, untried, was_last}
 use Rattle.follower.specs.Syncing.{IsNextOf, IsText, TextEnds, end_of, of_patch}
 use Rattle.follower.proofs.Amid.{amid_same}
 use Rattle.follower.proofs.Taken.{took_same, took_want}
@@ -94,10 +92,10 @@ module _ (ids : List Id) (bytes : ℕ) (patch : Patch) (limits : LogLimits) wher
 -- ---- an answer
 
 -- what taking a patch comes to, by its answer
-pub record Answers {D : Type 0} (tells : Type 0) (past : D → Past) (old new : ZoneView D) (next : CheckedPatch) (answer : TakeAnswer) : Type 0 where
+pub record Answers {D : Type 0} (disks : Ghosts D) (old new : ZoneView D) (next : CheckedPatch) (answer : TakeAnswer) : Type 0 where
   pub by : IsDecidedBy (decided old next) answer
-  pub stay : (taken : List CheckedPatch) (doubt : Option CheckedPatch) → StandsForZone tells (past old.disk) old taken doubt → answer ≢ take.TermsFull → answer ≢ take.OutOfMemory
-      → (left : Option CheckedPatch) × StandsForZone tells (past new.disk) new (taken_then answer taken next) left
+  pub stay : (taken : List CheckedPatch) (doubt : Option CheckedPatch) → Stands disks old taken doubt → answer ≢ take.TermsFull → answer ≢ take.OutOfMemory
+      → (left : Option CheckedPatch) × Stands disks new (taken_then answer taken next) left
   pub want : (answer ≡ take.TermsFull) ⊎ (answer ≡ take.OutOfMemory) → IsWant (decided old next) answer
   pub untouched : answer ≢ take.DiskFault → ((version : ℕ) → answer ≢ take.Applied version) → new ≡ record old { terms = new.terms }
   pub terms_full : answer ≡ take.TermsFull → AreMore most next.meaning.changes old.terms
@@ -105,10 +103,10 @@ pub record Answers {D : Type 0} (tells : Type 0) (past : D → Past) (old new : 
   pub applied : (version : ℕ) → answer ≡ take.Applied version → new.brief ≡ with_patch old.brief next
   pub refused : ((version : ℕ) → answer ≢ take.Applied version) → new.brief ≡ old.brief
   pub limits : new.limits ≡ old.limits
-  pub amid : LeavesAmid tells past old new (next ∷ [])
+  pub amid : LeavesAmid disks old new (next ∷ [])
   pub settled : (version : ℕ) → answer ≡ take.Applied version → new.settled ≡ true
 
-module _ {D : Type 0} (tells : Type 0) (past : D → Past) (old new : ZoneView D) (next : CheckedPatch) where
+module _ {D : Type 0} (disks : Ghosts D) (old new : ZoneView D) (next : CheckedPatch) where
   -- what was decided of the zone as it was is decided of it as it is
   same_decision : new.brief ≡ old.brief → new.limits ≡ old.limits → decided new next ≡ decided old next
   same_decision brief limits =
@@ -117,7 +115,7 @@ module _ {D : Type 0} (tells : Type 0) (past : D → Past) (old new : ZoneView D
   changes_one : next.meaning.changes ≡ next.meaning.changes ++ []
   changes_one = sym (append-nil next.meaning.changes)
 
-  pub took_ok : (answer : TakeAnswer) (id : Id) (mine : ℕ) → Answers tells past old new next answer → OnOk (end_of answer id mine) (Took tells past old new next)
+  pub took_ok : (answer : TakeAnswer) (id : Id) (mine : ℕ) → Answers disks old new next answer → OnOk (end_of answer id mine) (Took disks old new next)
   took_ok (take.Applied version) id mine so = record {
     brief = so.applied version refl;
     took = λ taken doubt stands. so.stay taken doubt stands (λ same. cc) (λ same. cc);
@@ -140,15 +138,15 @@ module _ {D : Type 0} (tells : Type 0) (past : D → Past) (old new : ZoneView D
     met are = (next ∷ [], tried, subst (λ (cs : List Change). AreMet cs old.terms new.terms) changes_one are)
 
     -- its disk wasn't asked
-    still : (answer : TakeAnswer) → answer ≢ take.DiskFault → ((version : ℕ) → answer ≢ take.Applied version) → Answers tells past old new next answer → Stayed tells past old new said
+    still : (answer : TakeAnswer) → answer ≢ take.DiskFault → ((version : ℕ) → answer ≢ take.Applied version) → Answers disks old new next answer → Stayed disks old new said
     still answer no_fault refused so =
         let same = so.untouched no_fault refused in
         record {
           brief = so.refused refused;
-          grew = record { took = took_want tells past old new same; amid = ([], untried refl, amid_same tells past old new same); met = met so.terms };
+          grew = record { took = took_want disks old new same; amid = ([], untried refl, amid_same disks old new same); met = met so.terms };
         }
 
-    pub took_stayed : (answer : TakeAnswer) (id : Id) (mine : ℕ) → Answers tells past old new next answer → IfErr (end_of answer id mine) (λ _. Stayed tells past old new said)
+    pub took_stayed : (answer : TakeAnswer) (id : Id) (mine : ℕ) → Answers disks old new next answer → IfErr (end_of answer id mine) (λ _. Stayed disks old new said)
     took_stayed (take.Applied version) id mine so = tt
     took_stayed (take.Diverged have prev) id mine so = still (take.Diverged have prev) (λ same. cc) (λ version same. cc) so
     took_stayed (take.Repeated version) id mine so = still (take.Repeated version) (λ same. cc) (λ version same. cc) so
@@ -158,7 +156,7 @@ module _ {D : Type 0} (tells : Type 0) (past : D → Past) (old new : ZoneView D
     took_stayed take.DiskFault id mine so = record {
       brief = so.refused (λ version same. cc);
       grew = record {
-        took = took_same tells past old new (λ taken doubt stands. so.stay taken doubt stands (λ same. cc) (λ same. cc));
+        took = took_same disks old new (λ taken doubt stands. so.stay taken doubt stands (λ same. cc) (λ same. cc));
         amid = (next ∷ [], tried, so.amid);
         met = met so.terms;
       };
@@ -177,7 +175,7 @@ module _ {D : Type 0} (tells : Type 0) (past : D → Past) (old new : ZoneView D
   is_next one brief limits = (one.0, same_decision brief limits ∙ one.1)
 
   module _ (text : List ℕ) (is_text : IsText text next) (id : Id) (id_is : id ≡ next.meaning.id) (mine : ℕ) (mine_is : mine ≡ length old.brief.ids) where
-    pub took_err : (answer : TakeAnswer) → Answers tells past old new next answer → IfErr (end_of answer id mine) (λ end. TextEnds old.terms [] new text end)
+    pub took_err : (answer : TakeAnswer) → Answers disks old new next answer → IfErr (end_of answer id mine) (λ end. TextEnds old.terms [] new text end)
     took_err (take.Applied version) so = tt
     took_err (take.Diverged have prev) so =
         let is = decided_now (take.Diverged have prev) so.by (so.refused (λ version same. cc)) so.limits (λ same. cc) (λ same. cc) (λ same. cc) in
@@ -194,7 +192,7 @@ module _ {D : Type 0} (tells : Type 0) (past : D → Past) (old new : ZoneView D
     took_err take.DiskFault so = (next, is_text, is_next (⊎_elim (λ is. absurd (no_decision is)) (λ other. other.0) so.by) (so.refused (λ version same. cc)) so.limits)
 
   -- where the disk didn't fail, and nothing was taken
-  pub took_untouched : (answer : TakeAnswer) (id : Id) (mine : ℕ) → Answers tells past old new next answer → IfErr (end_of answer id mine) (λ end. end ≢ DiskFault → new ≡ record old { terms = new.terms })
+  pub took_untouched : (answer : TakeAnswer) (id : Id) (mine : ℕ) → Answers disks old new next answer → IfErr (end_of answer id mine) (λ end. end ≢ DiskFault → new ≡ record old { terms = new.terms })
   took_untouched (take.Applied version) id mine so = tt
   took_untouched (take.Diverged have prev) id mine so = λ other. so.untouched (λ same. cc) (λ version same. cc)
   took_untouched (take.Repeated version) id mine so = λ other. so.untouched (λ same. cc) (λ version same. cc)

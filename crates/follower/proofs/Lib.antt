@@ -3,3 +3,4 @@ mod Taken
 mod Amid
 mod Answered
 mod Rest
+mod Causes

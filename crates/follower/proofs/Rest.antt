@@ -1,8 +1,7 @@
 -- How fetches go on, one after another.
-use Rattle.std.proofs.Common.{◌≡◌, inl, inr, ℕ, ◌+◌, ◌<◌, ◌≤◌, List, [], ◌∷◌, ◌++◌, length, map, Option, Some, None, Result, Ok, Err, refl, sym, ◌∙◌, ap, subst, arith}
+use Rattle.std.proofs.Common.{◌≡◌, inl, inr, ℕ, ◌+◌, ◌≤◌, List, [], ◌∷◌, ◌++◌, length, Option, Ok, refl, sym, ◌∙◌, ap, subst, arith}
 use Rattle.std.proofs.lemmas.List.{append-nil, length_push, map-append, length-map}
-use Rattle.delta_base.specs.declared.id.Id.{Id}
-use Rattle.disk_model.specs.Past.{Past}
+use Rattle.disk_model.specs.declared.disk.Disk.{Ghosts}
 use Rattle.rdf_terms.specs.declared.term.Term.{Term}
 use Rattle.term_table.specs.Table.{most}
 use Rattle.dataset_tx.specs.Held.{AreMet}
@@ -59,18 +58,18 @@ abbrev text_said : CheckedPatch → Said
 text_said patch = Ok (answer.Patch patch.text)
 
 -- these patches were fetched and taken, one after another
-pub record Gone {D L : Type 0} (disk_tells net_tells : Type 0) (past : D → Past) (left sent : L → Option (List ℕ)) (address name : List ℕ)
+pub record Gone {D L : Type 0} (disks : Ghosts D) (net_tells : Type 0) (left sent : L → Option (List ℕ)) (address name : List ℕ)
     (old now : ZoneView D) (talk line : Option (Open L)) (before after : Net L) (more : List CheckedPatch) : Type 0 where
-  pub took : TookMore disk_tells past old now more
+  pub took : TookMore disks old now more
   pub clear : IsClear old now more
-  pub amid : LeavesAmid disk_tells past old now more
+  pub amid : LeavesAmid disks old now more
   pub learnt : AreMet (changes_of more) old.terms now.terms
   pub count : length now.brief.ids ≡ length old.brief.ids + length more
   pub asks : net_tells → Asks left sent address (fetches name (length old.brief.ids + 1) (texts_said more)) (texts_said more) talk before after line
 
-module _ {D L : Type 0} (disk_tells net_tells : Type 0) (past : D → Past) (left sent : L → Option (List ℕ)) (address name : List ℕ) (old : ZoneView D) (talk : Option (Open L)) (before : Net L) where
+module _ {D L : Type 0} (disks : Ghosts D) (net_tells : Type 0) (left sent : L → Option (List ℕ)) (address name : List ℕ) (old : ZoneView D) (talk : Option (Open L)) (before : Net L) where
   abbrev pub GoneTo : ZoneView D → Option (Open L) → Net L → List CheckedPatch → Type 0
-  GoneTo now line after more = Gone disk_tells net_tells past left sent address name old now talk line before after more
+  GoneTo now line after more = Gone disks net_tells left sent address name old now talk line before after more
 
   -- what was asked, with one list more
   asks_more : (more : List CheckedPatch) (said : List Said) (version : ℕ) (next line : Option (Open L)) (between after : Net L) → version ≡ length old.brief.ids + length more + 1
@@ -85,9 +84,9 @@ module _ {D L : Type 0} (disk_tells net_tells : Type 0) (past : D → Past) (lef
 
   pub gone_none : GoneTo old talk before []
   gone_none = record {
-    took = took_none disk_tells past old;
+    took = took_none disks old;
     clear = inl (refl, refl);
-    amid = amid_none disk_tells past old;
+    amid = amid_none disks old;
     learnt = met_none old.terms;
     count = omega arith;
     asks = λ tells. asks_none left sent address talk before;
@@ -95,14 +94,14 @@ module _ {D L : Type 0} (disk_tells net_tells : Type 0) (past : D → Past) (lef
 
   -- one patch more
   pub gone_on : (now new : ZoneView D) (next line : Option (Open L)) (between after : Net L) (more : List CheckedPatch) (one : CheckedPatch) (version : ℕ) → version ≡ length now.brief.ids + 1
-      → GoneTo now next between more → Took disk_tells past now new one → (net_tells → Asks left sent address (fetches name version (texts_said (one ∷ []))) (texts_said (one ∷ [])) next between after line)
+      → GoneTo now next between more → Took disks now new one → (net_tells → Asks left sent address (fetches name version (texts_said (one ∷ []))) (texts_said (one ∷ [])) next between after line)
       → GoneTo new line after (more ++ one ∷ [])
   gone_on now new next line between after more one version is so took asks =
       let grown : length new.brief.ids ≡ length now.brief.ids + 1 = ap (λ (b : Brief). length b.ids) took.brief ∙ length_push now.brief.ids one.meaning.id in
       record {
-        took = took_both disk_tells past old now new more (one ∷ []) so.took took.took;
+        took = took_both disks old now new more (one ∷ []) so.took took.took;
         clear = inr took.settled;
-        amid = amid_both disk_tells past old now new more (one ∷ []) so.took so.clear so.amid took.amid;
+        amid = amid_both disks old now new more (one ∷ []) so.took so.clear so.amid took.amid;
         learnt = met_both more (one ∷ []) old.terms now.terms new.terms so.learnt took.met;
         count = omega (arith, grown, so.count, length_push more one);
         asks = λ tells. subst (λ (said : List Said). Asks left sent address (fetches name (length old.brief.ids + 1) said) said talk before after line)
@@ -112,18 +111,18 @@ module _ {D L : Type 0} (disk_tells net_tells : Type 0) (past : D → Past) (lef
 
   -- what the fetches come to: what was said last, and the patches taken
   abbrev pub Ended : ZoneView D → Option (Open L) → Net L → ℕ → List Said → List CheckedPatch → SyncEnd → Type 0
-  Ended new line after theirs last more end = GrewBy disk_tells past old new more last × RestIs old new theirs last more end
+  Ended new line after theirs last more end = GrewBy disks old new more last × RestIs old new theirs last more end
       × (net_tells → Asks left sent address (fetches name (length old.brief.ids + 1) (texts_said more ++ last)) (texts_said more ++ last) talk before after line)
 
   -- a fetch that ends it
   pub gone_stopped : (now new : ZoneView D) (next line : Option (Open L)) (between after : Net L) (more : List CheckedPatch) (said : List Said) (version theirs : ℕ) (end : SyncEnd)
-      → version ≡ length now.brief.ids + 1 → version ≤ theirs → GoneTo now next between more → FetchEnds now.terms [] new said end → Stayed disk_tells past now new said
+      → version ≡ length now.brief.ids + 1 → version ≤ theirs → GoneTo now next between more → FetchEnds now.terms [] new said end → Stayed disks now new said
       → (net_tells → Asks left sent address (fetches name version said) said next between after line) → Ended new line after theirs said more end
   gone_stopped now new next line between after more said version theirs end is within so ends stays asks =
       let same : length new.brief.ids ≡ length now.brief.ids = ap (λ (b : Brief). length b.ids) stays.brief in
       let tried = stays.grew.amid in
       let met = stays.grew.met in (
-        record { took = took_still disk_tells past old now new more so.took stays.grew.took; amid = (tried.0, tried.1, amid_both disk_tells past old now new more tried.0 so.took so.clear so.amid tried.2); met = (met.0, met.1, met_both more met.0 old.terms now.terms new.terms so.learnt met.2) },
+        record { took = took_still disks old now new more so.took stays.grew.took; amid = (tried.0, tried.1, amid_both disks old now new more tried.0 so.took so.clear so.amid tried.2); met = (met.0, met.1, met_both more met.0 old.terms now.terms new.terms so.learnt met.2) },
         stopped (omega (arith, same, is, within)) (ends_behind old.terms now.terms more so.learnt new said end ends),
         λ tells. asks_more more said version next line between after (omega (arith, is, so.count)) (so.asks tells) (asks tells),
       )
@@ -134,7 +133,7 @@ module _ {D L : Type 0} (disk_tells net_tells : Type 0) (past : D → Past) (lef
   gone_through now line after more theirs is so = (
     record {
       took = so.took;
-      amid = ([], untried refl, subst (λ (ps : List CheckedPatch). LeavesAmid disk_tells past old now ps) (sym (append-nil more)) so.amid);
+      amid = ([], untried refl, subst (λ (ps : List CheckedPatch). LeavesAmid disks old now ps) (sym (append-nil more)) so.amid);
       met = ([], untried refl, subst (λ (ps : List CheckedPatch). AreMet (changes_of ps) old.terms now.terms) (sym (append-nil more)) so.learnt);
     },
     caught_up is refl refl,

@@ -1,45 +1,45 @@
 -- What a zone took, step by step.
-use Rattle.std.proofs.Common.{◌≡◌, ◌⊎◌, inl, inr, ⊎_elim, ℕ, List, [], ◌∷◌, ◌++◌, Option, sym, subst, append_assoc}
+use Rattle.std.proofs.Common.{◌≡◌, ◌⊎◌, inl, inr, ⊎_elim, ℕ, List, [], ◌++◌, Option, sym, subst, append_assoc}
 use Rattle.std.specs.List.{Contains, flat_map}
 use Rattle.std.proofs.lemmas.List.{append-nil}
 use Rattle.std.proofs.lemmas.Grind.{flat_map-append}
 use Rattle.std.proofs.lemmas.List.Elements.{Contains-append_left, Contains-append_right}
-use Rattle.disk_model.specs.Past.{Past}
+use Rattle.disk_model.specs.declared.disk.Disk.{Ghosts}
 use Rattle.rdf_terms.specs.declared.term.Term.{Term}
 use Rattle.rdf_terms.specs.declared.change.Change.{Change}
 use Rattle.dataset_tx.specs.Held.{terms_of, AreMet, AreMore}
 use Rattle.patch_meaning.specs.Checked.{CheckedPatch}
 use Rattle.zone_state.specs.Brief.{changes_of}
-use Rattle.zone_state.specs.Zone.{ZoneView, StandsForZone}
-use Rattle.follower.specs.Grown.{TookMore}
+use Rattle.zone_state.specs.Zone.{ZoneView}
+use Rattle.follower.specs.Grown.{Stands, TookMore}
 
-module _ {D : Type 0} (tells : Type 0) (past : D → Past) where
-  pub took_same : (old new : ZoneView D) → ((taken : List CheckedPatch) (doubt : Option CheckedPatch) → StandsForZone tells (past old.disk) old taken doubt
-      → (left : Option CheckedPatch) × StandsForZone tells (past new.disk) new taken left) → TookMore tells past old new []
+module _ {D : Type 0} (disks : Ghosts D) where
+  pub took_same : (old new : ZoneView D) → ((taken : List CheckedPatch) (doubt : Option CheckedPatch) → Stands disks old taken doubt
+      → (left : Option CheckedPatch) × Stands disks new taken left) → TookMore disks old new []
   took_same old new same taken doubt stands =
       let here = same taken doubt stands in
-      (here.0, subst (λ (ps : List CheckedPatch). StandsForZone tells (past new.disk) new ps here.0) (sym (append-nil taken)) here.1)
+      (here.0, subst (λ (ps : List CheckedPatch). Stands disks new ps here.0) (sym (append-nil taken)) here.1)
 
-  pub took_none : (zone : ZoneView D) → TookMore tells past zone zone []
+  pub took_none : (zone : ZoneView D) → TookMore disks zone zone []
   took_none zone = took_same zone zone (λ taken doubt stands. (doubt, stands))
 
-  pub took_both : (old mid new : ZoneView D) (more next : List CheckedPatch) → TookMore tells past old mid more → TookMore tells past mid new next → TookMore tells past old new (more ++ next)
+  pub took_both : (old mid new : ZoneView D) (more next : List CheckedPatch) → TookMore disks old mid more → TookMore disks mid new next → TookMore disks old new (more ++ next)
   took_both old mid new more next first second taken doubt stands =
       let there = first taken doubt stands in
       let here = second (taken ++ more) there.0 there.1 in
-      (here.0, subst (λ (ps : List CheckedPatch). StandsForZone tells (past new.disk) new ps here.0) (append_assoc taken more next) here.1)
+      (here.0, subst (λ (ps : List CheckedPatch). Stands disks new ps here.0) (append_assoc taken more next) here.1)
 
   -- a zone that stays
-  pub took_still : (old mid new : ZoneView D) (more : List CheckedPatch) → TookMore tells past old mid more → TookMore tells past mid new [] → TookMore tells past old new more
+  pub took_still : (old mid new : ZoneView D) (more : List CheckedPatch) → TookMore disks old mid more → TookMore disks mid new [] → TookMore disks old new more
   took_still old mid new more first second =
-      subst (λ (ps : List CheckedPatch). TookMore tells past old new ps) (append-nil more) (took_both old mid new more [] first second)
+      subst (λ (ps : List CheckedPatch). TookMore disks old new ps) (append-nil more) (took_both old mid new more [] first second)
 
   -- where what it needs isn't there, a zone learns of terms alone
-  pub took_want : (old new : ZoneView D) → new ≡ record old { terms = new.terms } → TookMore tells past old new []
+  pub took_want : (old new : ZoneView D) → new ≡ record old { terms = new.terms } → TookMore disks old new []
   took_want old new is = took_same old new (λ taken doubt stands.
-      let here : StandsForZone tells (past old.disk) (record old { terms = new.terms }) taken doubt =
+      let here : Stands disks (record old { terms = new.terms }) taken doubt =
       record { brief_is = stands.brief_is; settled_is = stands.settled_is; without = stands.without; having = stands.having; on_disk = stands.on_disk } in
-      (doubt, subst (λ (zone : ZoneView D). StandsForZone tells (past zone.disk) zone taken doubt) (sym is) here))
+      (doubt, subst (λ (zone : ZoneView D). Stands disks zone taken doubt) (sym is) here))
 
 -- ---- terms
 

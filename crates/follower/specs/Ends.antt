@@ -21,7 +21,8 @@ of_ask ask.OutOfMemory = OutOfMemory
 -- how an answer ends it that says nothing of the log; want of memory is free
 abbrev pub IsRefusal : Answer → SyncEnd → Type 0
 IsRefusal a (NotUnderstood at) = (status_of a ≡ 200) × (at ≡ 0)
-IsRefusal a (PeerRefused status body) = (status_of a ≢ 200) × (status ≡ status_of a) × (body ≡ compact (body_of a))
+IsRefusal a (PeerRefused status body) =
+    (status_of a ≢ 200) × (status ≡ status_of a) × (body ≡ compact (body_of a))
 IsRefusal a OutOfMemory = Unit {0}
 IsRefusal a other = ⊥
 

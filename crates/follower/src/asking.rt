@@ -61,9 +61,9 @@ pub(crate) fn ask_log<N: Dial>(
     requires visible { list_all is_visible address.now ≡ true }
     requires awaits { IsSome line.old.open → N.awaits net.old }
     ensures asked { (said : List WasSaid) × LogSays said result
-        × ((mine : ℕ) → N.tells → Asks N.L.left N.L.sent address.now (calls_of name.now mine said) said
-        line.old.open (net_of (N.to_come net.old) (N.addresses net.old) (N.back net.old) (N.tries net.old))
-        (net_of (N.to_come net.new) (N.addresses net.new) (N.back net.new) (N.tries net.new)) line.new.open) }
+        × ((mine : ℕ) → N.tells → Asks N.L.left N.L.sent address.now
+        (calls_of name.now mine said) said
+        line.old.open (net_of N.Dial net.old) (net_of N.Dial net.new) line.new.open) }
     ensures awaits { IsSome line.new.open → N.awaits net.new }
     ensures link { IsErrOf result SyncEnd.LinkFault → Rose (N.faults net.old) (N.faults net.new) }
     ensures disk { IsErrOf result SyncEnd.DiskFault → ⊥ }

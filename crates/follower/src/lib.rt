@@ -1,13 +1,16 @@
 //! A zone that catches up with a log of a server.
 //!
-//! `specs/Exchanges.antt` says over which connections calls go one after another, and what is sent and answered on them; `specs/Ends.antt`
-//! how an answer ends catching up; `specs/Syncing.antt` what the zone has taken then, and why it ended.
+//! `specs/Exchanges.antt` says over which connections calls go one after another, and what is sent and answered on them;
+//! `specs/Grown.antt` what a zone has gone through then; `specs/Ends.antt` and `specs/Syncing.antt` why catching up ended,
+//! and `specs/Causes.antt` the cause of each end.
 #![tactic(auto)]
 
 mod asking;
 mod ends;
+mod laws;
 mod syncing;
 mod taking;
 
 pub use ends::SyncEnd;
+pub use laws::ends_have_causes;
 pub use syncing::sync;

@@ -43,22 +43,26 @@ fn take_one<N: Dial, D: Disk>(
     requires visible { list_all is_visible address.now ≡ true }
     requires awaits { IsSome line.old.open → N.awaits net.old }
     requires next { version ≡ length zone.old.brief.ids + 1 }
-    ensures ok { OnOk result ((next : CheckedPatch) × IsText next.text next × Took D.tells D.past zone.old zone.new next
-        × (N.tells → Asks N.L.left N.L.sent address.now (fetches name.now version (texts_said (next ∷ []))) (texts_said (next ∷ []))
-        line.old.open (net_of (N.to_come net.old) (N.addresses net.old) (N.back net.old) (N.tries net.old))
-        (net_of (N.to_come net.new) (N.addresses net.new) (N.back net.new) (N.tries net.new)) line.new.open)) }
-    ensures err { IfErr result (λ end. (said : List WasSaid) × FetchEnds zone.old.terms [] zone.new said end × Stayed D.tells D.past zone.old zone.new said
+    ensures ok { OnOk result ((next : CheckedPatch) × IsText next.text next
+        × Took D.Disk zone.old zone.new next × (N.tells → Asks N.L.left N.L.sent address.now
+        (fetches name.now version (texts_said (next ∷ []))) (texts_said (next ∷ []))
+        line.old.open (net_of N.Dial net.old) (net_of N.Dial net.new) line.new.open)) }
+    ensures err { IfErr result (λ end. (said : List WasSaid)
+        × FetchEnds zone.old.terms [] zone.new said end × Stayed D.Disk zone.old zone.new said
         × (N.tells → Asks N.L.left N.L.sent address.now (fetches name.now version said) said
-        line.old.open (net_of (N.to_come net.old) (N.addresses net.old) (N.back net.old) (N.tries net.old))
-        (net_of (N.to_come net.new) (N.addresses net.new) (N.back net.new) (N.tries net.new)) line.new.open)) }
-    ensures untouched { IfErr result (λ end. end ≢ SyncEnd.DiskFault → zone.new ≡ record zone.old { terms = zone.new.terms }) }
+        line.old.open (net_of N.Dial net.old) (net_of N.Dial net.new) line.new.open)) }
+    ensures untouched { IfErr result (λ end. end ≢ SyncEnd.DiskFault
+        → zone.new ≡ record zone.old { terms = zone.new.terms }) }
     ensures awaits { IsSome line.new.open → N.awaits net.new }
     ensures link { IsErrOf result SyncEnd.LinkFault → Rose (N.faults net.old) (N.faults net.new) }
     ensures never_falls { N.faults net.old ≤ N.faults net.new }
-    ensures disk { IsErrOf result SyncEnd.DiskFault → Rose (D.faults zone.old.disk) (D.faults zone.new.disk) }
+    ensures disk { IsErrOf result SyncEnd.DiskFault
+        → Rose (D.faults zone.old.disk) (D.faults zone.new.disk) }
     ensures faults { D.faults zone.old.disk ≤ D.faults zone.new.disk }
-    ensures well { (IsErrOf result SyncEnd.DiskFault → ⊥) → D.faults zone.new.disk ≡ D.faults zone.old.disk }
-    ensures stays_short { D.plans → IsTrue (D.short zone.old.disk) → IsTrue (D.short zone.new.disk) }
+    ensures well { (IsErrOf result SyncEnd.DiskFault → ⊥)
+        → D.faults zone.new.disk ≡ D.faults zone.old.disk }
+    ensures stays_short { D.plans → IsTrue (D.short zone.old.disk)
+        → IsTrue (D.short zone.new.disk) }
     ensures limits { zone.new.limits ≡ zone.old.limits }
     ensures mark { D.mark zone.new.disk ≡ D.mark zone.old.disk }
 {
@@ -87,19 +91,24 @@ fn take_rest<N: Dial, D: Disk>(
     requires visible { list_all is_visible address.now ≡ true }
     requires awaits { IsSome line.old.open → N.awaits net.old }
     requires behind { length zone.old.brief.ids ≤ theirs }
-    ensures follows { (last : List WasSaid) × (more : List CheckedPatch) × GrewBy D.tells D.past zone.old zone.new more last
+    ensures follows { (last : List WasSaid) × (more : List CheckedPatch)
+        × GrewBy D.Disk zone.old zone.new more last
         × RestIs zone.old zone.new theirs last more result
-        × (N.tells → Asks N.L.left N.L.sent address.now (fetches name.now (length zone.old.brief.ids + 1) (texts_said more ++ last)) (texts_said more ++ last)
-        line.old.open (net_of (N.to_come net.old) (N.addresses net.old) (N.back net.old) (N.tries net.old))
-        (net_of (N.to_come net.new) (N.addresses net.new) (N.back net.new) (N.tries net.new)) line.new.open) }
+        × (N.tells → Asks N.L.left N.L.sent address.now
+        (fetches name.now (length zone.old.brief.ids + 1) (texts_said more ++ last))
+        (texts_said more ++ last)
+        line.old.open (net_of N.Dial net.old) (net_of N.Dial net.new) line.new.open) }
     ensures awaits { IsSome line.new.open → N.awaits net.new }
     ensures link { result ≡ SyncEnd.LinkFault → Rose (N.faults net.old) (N.faults net.new) }
     ensures never_falls { N.faults net.old ≤ N.faults net.new }
-    ensures disk { result ≡ SyncEnd.DiskFault → Rose (D.faults zone.old.disk) (D.faults zone.new.disk) }
+    ensures disk { result ≡ SyncEnd.DiskFault
+        → Rose (D.faults zone.old.disk) (D.faults zone.new.disk) }
     ensures faults { D.faults zone.old.disk ≤ D.faults zone.new.disk }
     ensures well { result ≢ SyncEnd.DiskFault → D.faults zone.new.disk ≡ D.faults zone.old.disk }
-    ensures settled { zone.old.settled ≡ true → result ≢ SyncEnd.DiskFault → zone.new.settled ≡ true }
-    ensures stays_short { D.plans → IsTrue (D.short zone.old.disk) → IsTrue (D.short zone.new.disk) }
+    ensures settled { zone.old.settled ≡ true → result ≢ SyncEnd.DiskFault
+        → zone.new.settled ≡ true }
+    ensures stays_short { D.plans → IsTrue (D.short zone.old.disk)
+        → IsTrue (D.short zone.new.disk) }
     ensures limits { zone.new.limits ≡ zone.old.limits }
     ensures mark { D.mark zone.new.disk ≡ D.mark zone.old.disk }
 {
@@ -144,19 +153,23 @@ fn catch_up<N: Dial, D: Disk>(
 ) -> SyncEnd
     requires visible { list_all is_visible address.now ≡ true }
     requires awaits { IsSome line.old.open → N.awaits net.old }
-    ensures follows { (rest : List WasSaid) × (more : List CheckedPatch) × GrewBy D.tells D.past zone.old zone.new more (Ok (given.Info theirs head) ∷ rest)
+    ensures follows { (rest : List WasSaid) × (more : List CheckedPatch)
+        × GrewBy D.Disk zone.old zone.new more (Ok (given.Info theirs head) ∷ rest)
         × EndIs zone.old zone.new (Ok (given.Info theirs head) ∷ rest) more result
-        × (N.tells → Asks N.L.left N.L.sent address.now (fetches name.now (length zone.old.brief.ids + 1) rest) rest
-        line.old.open (net_of (N.to_come net.old) (N.addresses net.old) (N.back net.old) (N.tries net.old))
-        (net_of (N.to_come net.new) (N.addresses net.new) (N.back net.new) (N.tries net.new)) line.new.open) }
+        × (N.tells → Asks N.L.left N.L.sent address.now
+        (fetches name.now (length zone.old.brief.ids + 1) rest) rest
+        line.old.open (net_of N.Dial net.old) (net_of N.Dial net.new) line.new.open) }
     ensures awaits { IsSome line.new.open → N.awaits net.new }
     ensures link { result ≡ SyncEnd.LinkFault → Rose (N.faults net.old) (N.faults net.new) }
     ensures never_falls { N.faults net.old ≤ N.faults net.new }
-    ensures disk { result ≡ SyncEnd.DiskFault → Rose (D.faults zone.old.disk) (D.faults zone.new.disk) }
+    ensures disk { result ≡ SyncEnd.DiskFault
+        → Rose (D.faults zone.old.disk) (D.faults zone.new.disk) }
     ensures faults { D.faults zone.old.disk ≤ D.faults zone.new.disk }
     ensures well { result ≢ SyncEnd.DiskFault → D.faults zone.new.disk ≡ D.faults zone.old.disk }
-    ensures settled { zone.old.settled ≡ true → result ≢ SyncEnd.DiskFault → zone.new.settled ≡ true }
-    ensures stays_short { D.plans → IsTrue (D.short zone.old.disk) → IsTrue (D.short zone.new.disk) }
+    ensures settled { zone.old.settled ≡ true → result ≢ SyncEnd.DiskFault
+        → zone.new.settled ≡ true }
+    ensures stays_short { D.plans → IsTrue (D.short zone.old.disk)
+        → IsTrue (D.short zone.new.disk) }
     ensures limits { zone.new.limits ≡ zone.old.limits }
     ensures mark { D.mark zone.new.disk ≡ D.mark zone.old.disk }
 {
@@ -177,19 +190,23 @@ fn sync_over<N: Dial, D: Disk>(
 ) -> SyncEnd
     requires visible { list_all is_visible address.now ≡ true }
     requires awaits { IsSome line.old.open → N.awaits net.old }
-    ensures follows { (said : List WasSaid) × (more : List CheckedPatch) × GrewBy D.tells D.past zone.old zone.new more said
+    ensures follows { (said : List WasSaid) × (more : List CheckedPatch)
+        × GrewBy D.Disk zone.old zone.new more said
         × EndIs zone.old zone.new said more result
-        × (N.tells → Asks N.L.left N.L.sent address.now (calls_of name.now (length zone.old.brief.ids) said) said
-        line.old.open (net_of (N.to_come net.old) (N.addresses net.old) (N.back net.old) (N.tries net.old))
-        (net_of (N.to_come net.new) (N.addresses net.new) (N.back net.new) (N.tries net.new)) line.new.open) }
+        × (N.tells → Asks N.L.left N.L.sent address.now
+        (calls_of name.now (length zone.old.brief.ids) said) said
+        line.old.open (net_of N.Dial net.old) (net_of N.Dial net.new) line.new.open) }
     ensures awaits { IsSome line.new.open → N.awaits net.new }
     ensures link { result ≡ SyncEnd.LinkFault → Rose (N.faults net.old) (N.faults net.new) }
     ensures never_falls { N.faults net.old ≤ N.faults net.new }
-    ensures disk { result ≡ SyncEnd.DiskFault → Rose (D.faults zone.old.disk) (D.faults zone.new.disk) }
+    ensures disk { result ≡ SyncEnd.DiskFault
+        → Rose (D.faults zone.old.disk) (D.faults zone.new.disk) }
     ensures faults { D.faults zone.old.disk ≤ D.faults zone.new.disk }
     ensures well { result ≢ SyncEnd.DiskFault → D.faults zone.new.disk ≡ D.faults zone.old.disk }
-    ensures settled { zone.old.settled ≡ true → result ≢ SyncEnd.DiskFault → zone.new.settled ≡ true }
-    ensures stays_short { D.plans → IsTrue (D.short zone.old.disk) → IsTrue (D.short zone.new.disk) }
+    ensures settled { zone.old.settled ≡ true → result ≢ SyncEnd.DiskFault
+        → zone.new.settled ≡ true }
+    ensures stays_short { D.plans → IsTrue (D.short zone.old.disk)
+        → IsTrue (D.short zone.new.disk) }
     ensures limits { zone.new.limits ≡ zone.old.limits }
     ensures mark { D.mark zone.new.disk ≡ D.mark zone.old.disk }
 {
@@ -200,6 +217,7 @@ fn sync_over<N: Dial, D: Disk>(
 }
 
 /// Asks for the log, and then fetches and takes each patch behind the zone's version up to the version answered.
+/// Connections are made to the address, and all are hung up.
 pub fn sync<N: Dial, D: Disk>(
     alloc: Global,
     net: &mut N,
@@ -209,20 +227,24 @@ pub fn sync<N: Dial, D: Disk>(
 ) -> SyncEnd
     requires { list_all is_visible address.now ≡ true }
 
-    // The zone has taken what it had and then the patches whose texts the peer answered, in their order. So it ended by what was
-    // said, and these calls were made, and no other.
-    ensures follows { (said : List WasSaid) × (more : List CheckedPatch) × GrewBy D.tells D.past zone.old zone.new more said
+    // The zone took the patches whose texts the peer answered, in their order. It ended by what was said, and these calls
+    // were made and no other.
+    ensures follows { (said : List WasSaid) × (more : List CheckedPatch)
+        × GrewBy D.Disk zone.old zone.new more said
         × EndIs zone.old zone.new said more result
-        × (N.tells → Exchanged N.L.left N.L.sent address.now (calls_of name.now (length zone.old.brief.ids) said) said None
-        (net_of (N.to_come net.old) (N.addresses net.old) (N.back net.old) (N.tries net.old))
-        (net_of (N.to_come net.new) (N.addresses net.new) (N.back net.new) (N.tries net.new))) }
+        × (N.tells → Exchanged N.L.left N.L.sent address.now
+        (calls_of name.now (length zone.old.brief.ids) said) said None
+        (net_of N.Dial net.old) (net_of N.Dial net.new)) }
     ensures link { result ≡ SyncEnd.LinkFault → Rose (N.faults net.old) (N.faults net.new) }
     ensures never_falls { N.faults net.old ≤ N.faults net.new }
-    ensures disk { result ≡ SyncEnd.DiskFault → Rose (D.faults zone.old.disk) (D.faults zone.new.disk) }
+    ensures disk { result ≡ SyncEnd.DiskFault
+        → Rose (D.faults zone.old.disk) (D.faults zone.new.disk) }
     ensures faults { D.faults zone.old.disk ≤ D.faults zone.new.disk }
     ensures well { result ≢ SyncEnd.DiskFault → D.faults zone.new.disk ≡ D.faults zone.old.disk }
-    ensures settled { zone.old.settled ≡ true → result ≢ SyncEnd.DiskFault → zone.new.settled ≡ true }
-    ensures stays_short { D.plans → IsTrue (D.short zone.old.disk) → IsTrue (D.short zone.new.disk) }
+    ensures settled { zone.old.settled ≡ true → result ≢ SyncEnd.DiskFault
+        → zone.new.settled ≡ true }
+    ensures stays_short { D.plans → IsTrue (D.short zone.old.disk)
+        → IsTrue (D.short zone.new.disk) }
     ensures limits { zone.new.limits ≡ zone.old.limits }
     ensures mark { D.mark zone.new.disk ≡ D.mark zone.old.disk }
 {

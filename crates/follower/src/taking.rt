@@ -54,9 +54,9 @@ fn take_text<D: Disk>(
 ) -> Result<(), SyncEnd>
     requires { version ≡ length zone.old.brief.ids + 1 }
     ensures ok { OnOk result ((next : CheckedPatch) × IsText text.now next
-        × Took D.tells D.past zone.old zone.new next) }
+        × Took D.Disk zone.old zone.new next) }
     ensures err { IfErr result (λ end. TextEnds zone.old.terms [] zone.new text.now end) }
-    ensures stayed { IfErr result (λ _. Stayed D.tells D.past zone.old zone.new
+    ensures stayed { IfErr result (λ _. Stayed D.Disk zone.old zone.new
         (Ok (given.Patch text.now) ∷ [])) }
     ensures untouched { IfErr result (λ end. end ≢ SyncEnd.DiskFault
         → zone.new ≡ record zone.old { terms = zone.new.terms }) }
@@ -92,9 +92,9 @@ pub(crate) fn take_answer<D: Disk>(
     requires named { NamesItsFault answer }
     requires next { version ≡ length zone.old.brief.ids + 1 }
     ensures ok { OnOk result ((next : CheckedPatch) × (answer ≡ given.Patch next.text)
-        × IsText next.text next × Took D.tells D.past zone.old zone.new next) }
+        × IsText next.text next × Took D.Disk zone.old zone.new next) }
     ensures err { IfErr result (λ end. FetchRefuses zone.old.terms [] zone.new answer end) }
-    ensures stayed { IfErr result (λ _. Stayed D.tells D.past zone.old zone.new (Ok answer ∷ [])) }
+    ensures stayed { IfErr result (λ _. Stayed D.Disk zone.old zone.new (Ok answer ∷ [])) }
     ensures untouched { IfErr result (λ end. end ≢ SyncEnd.DiskFault
         → zone.new ≡ record zone.old { terms = zone.new.terms }) }
     ensures disk { IsErrOf result SyncEnd.DiskFault

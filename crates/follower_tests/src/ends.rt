@@ -15,7 +15,7 @@ fn ends_as<R: Abort>(
     wanted: (&str, u64, u64),
     after: u32,
 ) -> Result<(), Fail> {
-    let mut zone = zone_at(alloc, mine, &[])?;
+    let mut zone = zone_at(alloc, mine)?;
     let mut net = dial_of(alloc, &[bytes], &[])?;
     let end = synced(alloc, &mut net, &mut zone)?;
     let told = short(&end);

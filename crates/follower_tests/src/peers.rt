@@ -60,19 +60,15 @@ pub(crate) fn reply(
     body: &[u8],
 ) -> Result<Vec<u8>, OutOfMemory> {
     let length = format!(in alloc; "{}", body.len())?;
-    joined(
-        alloc,
-        &[
-            b"HTTP/1.1 ",
-            line,
-            b"\r\n",
-            fields,
-            b"Content-Length: ",
-            length.as_bytes(),
-            b"\r\n\r\n",
-            body,
-        ],
-    )
+    let mut text = Vec::from_slice(alloc, b"HTTP/1.1 ")?;
+    text.extend_from_slice(line)?;
+    text.extend_from_slice(b"\r\n")?;
+    text.extend_from_slice(fields)?;
+    text.extend_from_slice(b"Content-Length: ")?;
+    text.extend_from_slice(length.as_bytes())?;
+    text.extend_from_slice(b"\r\n\r\n")?;
+    text.extend_from_slice(body)?;
+    Ok(text)
 }
 
 /// The answer with this JSON.
@@ -120,17 +116,23 @@ pub(crate) fn dial_of(
     MemDial::new(alloc, links, calls(alloc, failing)?)
 }
 
-/// A zone that took the first so many of the five, and whose disk's calls of these numbers fail, the ones of its opening counted.
-pub(crate) fn zone_at(
+/// A zone that took nothing, on a disk whose calls of these numbers fail; none where one of them is a call of the opening.
+pub(crate) fn new_zone(
     alloc: Global,
-    version: usize,
     failing: &[u64],
-) -> Result<Zone<MemDisk>, Fail> {
+) -> Result<Option<Zone<MemDisk>>, OutOfMemory> {
     let bytes = Bytes::from_slice(alloc, EMPTY)?;
     let disk = MemDisk::from_image(alloc, bytes, calls(alloc, failing)?)?;
-    let mut zone = match Zone::open_on(alloc, disk, LIMITS) {
-        Ok(zone) => zone,
-        Err(_) => return Err(Fail::from("not opened")),
+    match Zone::open_on(alloc, disk, LIMITS) {
+        Ok(zone) => Ok(Some(zone)),
+        Err(_) => Ok(None),
+    }
+}
+
+/// A zone that took the first so many of the five.
+pub(crate) fn zone_at(alloc: Global, version: usize) -> Result<Zone<MemDisk>, Fail> {
+    let Some(mut zone) = new_zone(alloc, &[])? else {
+        return Err(Fail::from("not opened"));
     };
     for text in &PATCHES[..version.min(5)] {
         let next = check_patch(alloc, text)?;

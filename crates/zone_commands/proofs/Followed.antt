@@ -3,6 +3,7 @@ use Rattle.std.proofs.Common.{◌≡◌, ◌≢◌, inl, inr, ⊎_elim, ℕ, tru
 use Rattle.std.proofs.lemmas.List.{length-map}
 use Rattle.delta_base.specs.declared.limits.LogLimits.{LogLimits}
 use Rattle.delta_base.specs.declared.limits.TheConstants.{LOG_LIMITS}
+use Rattle.disk_model.specs.declared.disk.Disk.{Ghosts}
 use Rattle.disk_model.specs.Past.{Past, MayLeave, LeavesOnly, reads}
 use Rattle.disk_model.proofs.Moments.{went_nowhere}
 use Rattle.log_journal.specs.File.{Holds}
@@ -122,29 +123,29 @@ module _ {D : Type 0} where
 pub read_last : (P : List ℕ → Type 0) (old new : Past) → LeavesOnly P old new → MayLeave new (reads new) → P (reads new)
 read_last P old new only left = only.each (reads new) (new, only.goes_on, went_nowhere new, left)
 
-module _ {D L : Type 0} (tells net_tells : Type 0) (past : D → Past) (left sent : L → Option (List ℕ)) (address name file : List ℕ) (net net' : Net L) where
+module _ {D L : Type 0} (disks : Ghosts D) (net_tells : Type 0) (left sent : L → Option (List ℕ)) (address name file : List ℕ) (net net' : Net L) where
   -- a zone was opened, caught up and was closed
   pub of_disk : (old new : ZoneView D) (end : SyncEnd)
-      → (taken : List CheckedPatch) × StandsForZone tells (past old.disk) old taken None × AreMet (changes_of taken) [] old.terms × (tells → Holds file zone_number (texts taken))
+      → (taken : List CheckedPatch) × StandsForZone disks.tells (disks.past old.disk) old taken None × AreMet (changes_of taken) [] old.terms × (disks.tells → Holds file zone_number (texts taken))
       → old.limits ≡ LOG_LIMITS → new.limits ≡ old.limits → (old.settled ≡ true → end ≢ DiskFault → new.settled ≡ true)
-      → (said : List Said) × (more : List CheckedPatch) × GrewBy tells past old new more said × EndIs old new said more end
+      → (said : List Said) × (more : List CheckedPatch) × GrewBy disks old new more said × EndIs old new said more end
       × (net_tells → Exchanged left sent address (calls_of name (length old.brief.ids) said) said None net net')
-      → (disk : D) → disk ≡ new.disk → ((d : D) → tells → MayLeave (past d) (reads (past d))) → Followed left sent tells net_tells address name file (reads (past disk)) net net' end
+      → (disk : D) → disk ≡ new.disk → ((d : D) → disks.tells → MayLeave (disks.past d) (reads (disks.past d))) → Followed left sent disks.tells net_tells address name file (reads (disks.past disk)) net net' end
   of_disk old new end found old_limits new_limits settled follows disk is may =
       let grown = follows.2.took found.0 None found.1 in
       let amid = follows.2.amid in
       let limits = new_limits ∙ old_limits in
       let count : length old.brief.ids ≡ length found.0 = ap (λ (b : Brief). length b.ids) found.1.brief_is ∙ length-map found.0 id_of in
-      subst (λ (d : D). Followed left sent tells net_tells address name file (reads (past d)) net net' end) (sym is) (record {
+      subst (λ (d : D). Followed left sent disks.tells net_tells address name file (reads (disks.past d)) net net' end) (sym is) (record {
         taken = found.0;
         more = follows.1;
         was = λ tell. record { holds = found.3 tell; chain = subst (λ (l : LogLimits). AreTaken l found.0) old_limits found.1.without };
-        is = λ tell. file_left tells (past new.disk) new (found.0 ++ follows.1) grown.0 end limits grown.1 (settled found.1.settled_is) tell (may new.disk tell);
+        is = λ tell. file_left disks.tells (disks.past new.disk) new (found.0 ++ follows.1) grown.0 end limits grown.1 (settled found.1.settled_is) tell (may new.disk tell);
         met = old.terms;
         met' = new.terms;
         are_met = found.2;
         said = follows.0;
-        tried = λ tell. (amid.0, amid.1, read_last (HoldsAmid found.0 None (follows.1 ++ amid.0)) (past old.disk) (past new.disk) (amid.2 tell found.0 None found.1) (may new.disk tell));
+        tried = λ tell. (amid.0, amid.1, read_last (HoldsAmid found.0 None (follows.1 ++ amid.0)) (disks.past old.disk) (disks.past new.disk) (amid.2 tell found.0 None found.1) (may new.disk tell));
         ended = end_of_zone old new found.0 (found.0 ++ follows.1) follows.0 follows.1 end found.1.brief_is old_limits grown.1.brief_is limits follows.3;
         asked = λ tell. subst (λ (n : ℕ). Exchanged left sent address (calls_of name n follows.0) follows.0 None net net') count (follows.4 tell);
       })

@@ -1,4 +1,4 @@
-use Rattle.std.proofs.Common.{◌≡◌, ℕ, [], ◌∷◌, Option, Result, Ok, Err, refl, ap}
+use Rattle.std.proofs.Common.{ℕ, [], ◌∷◌, Option, Result, Ok, Err, refl, ap}
 use Rattle.delta_base.specs.declared.id.Id.{Id}
 use Rattle.rpc_answers.specs.declared.answer.Answer.{Answer}
 use Rattle.rpc_calls.specs.declared.call.Call.TheVariants as calls
@@ -14,12 +14,12 @@ says a (Err end) is = answered a refl is
 
 pub returns-in-Err-clause-asked : goal.returns-in-Err-clause-asked
 returns-in-Err-clause-asked g c =
-    let told = λ (net : g.row.N.Denot). net_of (g.N.Dial.to_come net) (g.N.Dial.addresses net) (g.N.Dial.back net) (g.N.Dial.tries net) in
+    let told = λ (net : g.row.N.Denot). net_of g.N.Dial net in
     ([], not_asked refl refl, λ mine tells. asks_none g.N.L.Link.left g.N.L.Link.sent c.args.address.now c.args.line.now.open (told c.args.net.now))
 
 pub returns-in-Ok-said-clause-asked : goal.returns-in-Ok-said-clause-asked
 returns-in-Ok-said-clause-asked g c =
-    let told = λ (net : g.row.N.Denot). net_of (g.N.Dial.to_come net) (g.N.Dial.addresses net) (g.N.Dial.back net) (g.N.Dial.tries net) in
+    let told = λ (net : g.row.N.Denot). net_of g.N.Dial net in
     let e = c.in-Ok-said.ensures in
     let said : Said = Ok c.in-Ok-said.answer in (
       said ∷ [],
@@ -30,7 +30,7 @@ returns-in-Ok-said-clause-asked g c =
 
 pub returns-in-Err-said-clause-asked : goal.returns-in-Err-said-clause-asked
 returns-in-Err-said-clause-asked g c =
-    let told = λ (net : g.row.N.Denot). net_of (g.N.Dial.to_come net) (g.N.Dial.addresses net) (g.N.Dial.back net) (g.N.Dial.tries net) in
+    let told = λ (net : g.row.N.Denot). net_of g.N.Dial net in
     let e = c.in-Err-said.ensures in
     let said : Said = Err c.in-Err-said.fault in (
       said ∷ [],

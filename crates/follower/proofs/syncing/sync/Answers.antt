@@ -7,7 +7,7 @@ use Rattle.follower.proofs.syncing.sync.Goals as goal
 
 pub returns-clause-follows : goal.returns-clause-follows
 returns-clause-follows g c =
-    let told = λ (net : g.row.N.Denot). net_of (g.N.Dial.to_come net) (g.N.Dial.addresses net) (g.N.Dial.back net) (g.N.Dial.tries net) in
+    let told = λ (net : g.row.N.Denot). net_of g.N.Dial net in
     let all = c.sync_over-end.ensures.follows in
     let e = c.end_line.ensures in
     let none = subst (λ (o : Option (Open g.row.N-L.Denot)). IsOpen g.N.L.Link.left None o) (sym c.new-line.ensures) tt in (

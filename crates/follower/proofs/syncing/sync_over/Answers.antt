@@ -10,11 +10,11 @@ use Rattle.follower.proofs.syncing.sync_over.Goals as goal
 pub returns-in-Err-clause-follows : goal.returns-in-Err-clause-follows
 returns-in-Err-clause-follows g c =
     let asked = c.in-Err.ensures.asked in
-    (asked.0, [], grew_none g.D.Disk.tells g.D.Disk.past c.args.zone.now asked.0, unanswered refl refl asked.1, asked.2 (length c.args.zone.now.brief.ids))
+    (asked.0, [], grew_none g.D.Disk c.args.zone.now asked.0, unanswered refl refl asked.1, asked.2 (length c.args.zone.now.brief.ids))
 
 pub returns-in-Ok-clause-follows : goal.returns-in-Ok-clause-follows
 returns-in-Ok-clause-follows g c =
-    let told = λ (net : g.row.N.Denot). net_of (g.N.Dial.to_come net) (g.N.Dial.addresses net) (g.N.Dial.back net) (g.N.Dial.tries net) in
+    let told = λ (net : g.row.N.Denot). net_of g.N.Dial net in
     let asked = c.in-Ok.ensures.asked in
     let rest = c.catch_up.ensures.follows in
     let mine = length c.args.zone.now.brief.ids in

@@ -7,9 +7,9 @@ use Rattle.follower.proofs.syncing.take_rest.Given as goal
 
 abbrev pub invariant-loop-before : goal.invariant-loop-before
 invariant-loop-before g l =
-    let told = λ (net : g.row.N.Denot). net_of (g.N.Dial.to_come net) (g.N.Dial.addresses net) (g.N.Dial.back net) (g.N.Dial.tries net) in
+    let told = λ (net : g.row.N.Denot). net_of g.N.Dial net in
     record {
-      gone : (more : List CheckedPatch) × GoneTo g.D.Disk.tells g.N.Dial.tells g.D.Disk.past g.N.L.Link.left g.N.L.Link.sent l.address l.name l.fn.zone l.fn.line.open (told l.fn.net) l.zone l.line.open (told l.net) more;
+      gone : (more : List CheckedPatch) × GoneTo g.D.Disk g.N.Dial.tells g.N.L.Link.left g.N.L.Link.sent l.address l.name l.fn.zone l.fn.line.open (told l.fn.net) l.zone l.line.open (told l.net) more;
       version : length l.zone.brief.ids ≡ l.before;
       within : l.before ≤ l.theirs;
       awaits : IsSome l.line.open → g.N.Dial.awaits l.net;

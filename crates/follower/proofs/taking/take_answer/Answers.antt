@@ -1,10 +1,9 @@
-use Rattle.std.proofs.Common.{rules, ◌≡◌, ◌+◌, [], ◌∷◌, List, Result, Ok, Err, length, sym, ◌∙◌, ap, subst}
-use Rattle.std.specs.Prelude.{IfErr}
+use Rattle.std.proofs.Common.{rules, ◌≡◌, [], ◌∷◌, Ok, sym, ap, subst}
 use Rattle.rpc_answers.specs.declared.answer.Answer.{Answer}
 use Rattle.rpc_answers.specs.declared.answer.Answer.TheVariants as answer
 use Rattle.follower.specs.declared.ends.SyncEnd.TheVariants as ends
 use Rattle.follower.specs.Grown.{Stayed}
-use Rattle.follower.specs.Syncing.{FetchRefuses, told, no_patch}
+use Rattle.follower.specs.Syncing.{told, no_patch}
 use Rattle.follower.proofs.Amid.{stayed_none}
 use Rattle.follower.proofs.Answered.{on_err}
 use Rattle.follower.proofs.taking.take_answer.Goals as goal
@@ -20,13 +19,13 @@ returns-in-NoPatch-clause-err g c = no_patch c.in-NoPatch.version c.in-NoPatch.i
 pub returns-in-Patch-clause-stayed : goal.returns-in-Patch-clause-stayed
 returns-in-Patch-clause-stayed g c =
     let text : c.args.answer ≡ answer.Patch c.as_slice.result.now = search rules in
-    on_err c.take_text-taken.result (λ end is. subst (λ (a : Answer). Stayed g.D.Disk.tells g.D.Disk.past c.args.zone.now c.take_text-taken.new.zone (Ok a ∷ [])) (sym text) is) c.take_text-taken.ensures.stayed
+    on_err c.take_text-taken.result (λ end is. subst (λ (a : Answer). Stayed g.D.Disk c.args.zone.now c.take_text-taken.new.zone (Ok a ∷ [])) (sym text) is) c.take_text-taken.ensures.stayed
 
 pub returns-in-NoSource-clause-stayed : goal.returns-in-NoSource-clause-stayed
-returns-in-NoSource-clause-stayed g c = stayed_none g.D.Disk.tells g.D.Disk.past c.args.zone.now (Ok c.args.answer ∷ [])
+returns-in-NoSource-clause-stayed g c = stayed_none g.D.Disk c.args.zone.now (Ok c.args.answer ∷ [])
 
 pub returns-in-NoPatch-clause-stayed : goal.returns-in-NoPatch-clause-stayed
-returns-in-NoPatch-clause-stayed g c = stayed_none g.D.Disk.tells g.D.Disk.past c.args.zone.now (Ok c.args.answer ∷ [])
+returns-in-NoPatch-clause-stayed g c = stayed_none g.D.Disk c.args.zone.now (Ok c.args.answer ∷ [])
 
 pub returns-in_default-clause-stayed : goal.returns-in_default-clause-stayed
-returns-in_default-clause-stayed g c = stayed_none g.D.Disk.tells g.D.Disk.past c.args.zone.now (Ok c.args.answer ∷ [])
+returns-in_default-clause-stayed g c = stayed_none g.D.Disk c.args.zone.now (Ok c.args.answer ∷ [])

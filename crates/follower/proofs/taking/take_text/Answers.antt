@@ -19,14 +19,14 @@ returns-in-Err-clause-err g c =
     subst (λ (end : SyncEnd). TextEnds c.args.zone.now.terms [] c.args.zone.now c.args.text.now end) (sym c.no_patch.ensures) ends.0
 
 pub returns-in-Err-clause-stayed : goal.returns-in-Err-clause-stayed
-returns-in-Err-clause-stayed g c = stayed_none g.D.Disk.tells g.D.Disk.past c.args.zone.now (Ok (answers.Patch c.args.text.now) ∷ [])
+returns-in-Err-clause-stayed g c = stayed_none g.D.Disk c.args.zone.now (Ok (answers.Patch c.args.text.now) ∷ [])
 
 pub returns : goal.returns
 returns g c =
     let e = c.take_next-answer.ensures in
     let next : CheckedPatch = c.in-Ok.patch in
     let stands = c.version-mine.ensures.stands in
-    let so : Answers g.D.Disk.tells g.D.Disk.past c.args.zone.now c.take_next-answer.new.self next c.take_next-answer.result = record {
+    let so : Answers g.D.Disk c.args.zone.now c.take_next-answer.new.self next c.take_next-answer.result = record {
       by = e.decided;
       stay = λ taken doubt stands no_terms no_want. let took = e.stay taken doubt stands no_terms no_want in (took.left, took.stands);
       want = e.want;
@@ -36,7 +36,7 @@ returns g c =
       applied = e.applied;
       refused = e.refused;
       limits = e.limits;
-      amid = amid_one g.D.Disk.tells g.D.Disk.past c.args.zone.now c.take_next-answer.new.self next e.any_moment;
+      amid = amid_one g.D.Disk c.args.zone.now c.take_next-answer.new.self next e.any_moment;
       settled = λ version is. taken_settles g.D.Disk c.args.zone.now c.take_next-answer.new.self stands.0 stands.1 next c.take_next-answer.result e.decided
           (e.stay stands.0 stands.1 stands.2 (λ same. cc) (λ same. cc)) version is;
     } in
@@ -48,14 +48,14 @@ returns g c =
     let said : List Said = Ok (answers.Patch c.args.text.now) ∷ [] in
     let is_said : said ≡ Ok (answers.Patch next.text) ∷ [] = ap (λ (t : List ℕ). Ok (answers.Patch t) ∷ []) (sym text.0) in
     record {
-      ok = subst (λ (r : Result (Unit {0}) SyncEnd). OnOk r ((one : CheckedPatch) × IsText c.args.text.now one × Took g.D.Disk.tells g.D.Disk.past old new one)) (sym ends)
-          (on_ok (end_of c.take_next-answer.result c.id-id.result c.version-mine.result) (λ took. (next, text, took)) (took_ok g.D.Disk.tells g.D.Disk.past old new next c.take_next-answer.result c.id-id.result c.version-mine.result so));
+      ok = subst (λ (r : Result (Unit {0}) SyncEnd). OnOk r ((one : CheckedPatch) × IsText c.args.text.now one × Took g.D.Disk old new one)) (sym ends)
+          (on_ok (end_of c.take_next-answer.result c.id-id.result c.version-mine.result) (λ took. (next, text, took)) (took_ok g.D.Disk old new next c.take_next-answer.result c.id-id.result c.version-mine.result so));
       err = subst (λ (r : Result (Unit {0}) SyncEnd). IfErr r (λ end. TextEnds old.terms [] new c.args.text.now end)) (sym ends)
-          (took_err g.D.Disk.tells g.D.Disk.past old new next c.args.text.now text c.id-id.result c.id-id.ensures c.version-mine.result version c.take_next-answer.result so);
-      stayed = subst (λ (r : Result (Unit {0}) SyncEnd). IfErr r (λ end. Stayed g.D.Disk.tells g.D.Disk.past old new said)) (sym ends)
-          (took_stayed g.D.Disk.tells g.D.Disk.past old new next said (subst (λ (t : List ℕ). IsPatch t next.meaning) (sym text.0) text.1) is_said c.take_next-answer.result c.id-id.result c.version-mine.result so);
+          (took_err g.D.Disk old new next c.args.text.now text c.id-id.result c.id-id.ensures c.version-mine.result version c.take_next-answer.result so);
+      stayed = subst (λ (r : Result (Unit {0}) SyncEnd). IfErr r (λ end. Stayed g.D.Disk old new said)) (sym ends)
+          (took_stayed g.D.Disk old new next said (subst (λ (t : List ℕ). IsPatch t next.meaning) (sym text.0) text.1) is_said c.take_next-answer.result c.id-id.result c.version-mine.result so);
       untouched = subst (λ (r : Result (Unit {0}) SyncEnd). IfErr r (λ end. end ≢ DiskFault → new ≡ record old { terms = new.terms })) (sym ends)
-          (took_untouched g.D.Disk.tells g.D.Disk.past old new next c.take_next-answer.result c.id-id.result c.version-mine.result so);
+          (took_untouched g.D.Disk old new next c.take_next-answer.result c.id-id.result c.version-mine.result so);
       disk = search rules;
       link = search rules;
       faults = search rules;

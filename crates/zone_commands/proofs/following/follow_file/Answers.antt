@@ -6,8 +6,8 @@ pub returns-in-Ok-clause-ok : goal.returns-in-Ok-clause-ok
 returns-in-Ok-clause-ok g c =
     let old = c.args.net.now in
     let new = c.sync-end.new.net in
-    of_disk g.D.Disk.tells g.N.Dial.tells g.D.Disk.past g.N.L.Link.left g.N.L.Link.sent c.args.address.now c.args.name.now _
-    (net_of (g.N.Dial.to_come old) (g.N.Dial.addresses old) (g.N.Dial.back old) (g.N.Dial.tries old))
-    (net_of (g.N.Dial.to_come new) (g.N.Dial.addresses new) (g.N.Dial.back new) (g.N.Dial.tries new))
+    of_disk g.D.Disk g.N.Dial.tells g.N.L.Link.left g.N.L.Link.sent c.args.address.now c.args.name.now _
+    (net_of g.N.Dial old)
+    (net_of g.N.Dial new)
     c.in-Ok.zone c.sync-end.new.zone c.sync-end.result c.in-Ok.ensures.taken c.in-Ok.ensures.limits c.sync-end.ensures.limits c.sync-end.ensures.settled c.sync-end.ensures.follows
     c.close.result c.close.ensures.disk g.met.D.Disk.reads_may_be_left
