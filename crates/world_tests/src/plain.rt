@@ -160,6 +160,27 @@ impl Plain {
         }
     }
 
+    /// The version behind those of a zone, or the first one where there is no such zone.
+    pub fn wanted(&self, zone: u32) -> u32 {
+        match self.zones.get(zone as usize) {
+            Some(zone) => zone.version().saturating_add(1),
+            None => 1,
+        }
+    }
+
+    /// Which message has the patch of a version, if one has.
+    pub fn item(&self, wanted: u32) -> Option<u32> {
+        for (place, note) in self.pool.iter().enumerate() {
+            match note {
+                Note::Item { version, .. } if *version == wanted => {
+                    return u32::try_from(place).ok();
+                }
+                _ => {}
+            }
+        }
+        None
+    }
+
     // What is sent to who asks for a version.
     fn serve(&mut self, version: u32) -> Result<(), Fail> {
         if !self.log.up || version == 0 {

@@ -11,7 +11,7 @@ use world_core::{WorldEvent, WorldEvents};
 // How many lists a test runs, and how many events each has.
 const LISTS: u32 = 2_500;
 
-const EVENTS: u32 = 20;
+const EVENTS: u32 = 40;
 
 // Numbers by rule: each is the one before it times a factor and one more, of which the high digits are taken.
 #[derive(Drop)]
@@ -65,11 +65,28 @@ impl Rolls {
         Ok(WorldEvent::Append { patch, fate })
     }
 
-    // A message reaches one of two zones.
-    fn deliver(&mut self) -> WorldEvent {
+    // A version is asked for, most times one that a zone lacks.
+    fn serve(&mut self, plain: &Plain) -> WorldEvent {
+        let zone = self.roll() / 8;
+        let version = if self.roll() < 12 {
+            plain.wanted(zone)
+        } else {
+            self.roll()
+        };
+        WorldEvent::Serve { version }
+    }
+
+    // A message reaches one of two zones, most times the one that it lacks.
+    fn deliver(&mut self, plain: &Plain) -> WorldEvent {
+        let zone = self.roll() / 8;
+        let other = self.roll();
+        let message = match plain.item(plain.wanted(zone)) {
+            Some(message) if self.roll() < 12 => message,
+            _ => other,
+        };
         WorldEvent::Deliver {
-            message: self.roll(),
-            zone: self.roll() / 8,
+            message,
+            zone,
             fate: self.fate(),
         }
     }
@@ -78,8 +95,8 @@ impl Rolls {
     fn zone_event(&mut self) -> WorldEvent {
         let zone = self.roll() / 7;
         match self.roll() {
-            0..=3 => WorldEvent::NewZone,
-            4..=7 => WorldEvent::ZoneStop {
+            0..=4 => WorldEvent::NewZone,
+            5 | 6 => WorldEvent::ZoneStop {
                 zone,
                 opened: self.flip(),
             },
@@ -89,17 +106,15 @@ impl Rolls {
 
     fn event(&mut self, alloc: Global, plain: &Plain) -> Result<WorldEvent, Fail> {
         match self.roll() {
-            0..=4 => self.append(alloc, plain),
-            5 | 6 => Ok(WorldEvent::Serve {
-                version: self.roll() / 3,
-            }),
-            7 => Ok(WorldEvent::Describe),
-            8 => Ok(WorldEvent::Stop {
+            0..=3 => self.append(alloc, plain),
+            4..=6 => Ok(self.serve(plain)),
+            7 if self.flip() => Ok(WorldEvent::Describe),
+            7 => Ok(WorldEvent::Stop {
                 opened: self.flip(),
             }),
-            9 | 10 => Ok(WorldEvent::Open),
-            11 | 12 => Ok(self.zone_event()),
-            _ => Ok(self.deliver()),
+            8 | 9 => Ok(WorldEvent::Open),
+            10 | 11 => Ok(self.zone_event()),
+            _ => Ok(self.deliver(plain)),
         }
     }
 }
