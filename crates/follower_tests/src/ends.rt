@@ -1,7 +1,5 @@
 //! How catching up ends, by what the peer answers.
-use crate::peers::{
-    INFOS, PATCHES, dial_of, joined, json, log_and, patch, reply, short, synced, zone_at,
-};
+use crate::peers::{INFOS, PATCHES, caught_up, dial_of, joined, json, log_and, patch, reply};
 use std::alloc::Global;
 use std::process::Abort;
 use std::test::Fail;
@@ -15,19 +13,17 @@ fn ends_as<R: Abort>(
     wanted: (&str, u64, u64),
     after: u32,
 ) -> Result<(), Fail> {
-    let mut zone = zone_at(alloc, mine)?;
     let mut net = dial_of(alloc, &[bytes], &[])?;
-    let end = synced(alloc, &mut net, &mut zone)?;
-    let told = short(&end);
+    let (told, version) = caught_up(alloc, mine, &mut net)?;
+    drop(net);
+    assert!(rt; told.0 == wanted.0, "{}", told.0);
     assert!(rt;
-        told.0 == wanted.0 && told.1 == wanted.1 && told.2 == wanted.2,
-        "{} {} {}",
-        told.0,
+        told.1 == wanted.1 && told.2 == wanted.2,
+        "{} {}",
         told.1,
         told.2
     );
-    assert!(rt; zone.version() == after);
-    drop(end);
+    assert!(rt; version == after);
     Ok(())
 }
 

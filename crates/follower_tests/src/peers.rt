@@ -160,6 +160,21 @@ pub(crate) fn synced(
     Ok(sync(alloc, net, &host, &name, zone))
 }
 
+/// How a zone of this version ends catching up with the log ABC, and its version then.
+pub(crate) fn caught_up(
+    alloc: Global,
+    mine: usize,
+    net: &mut MemDial<MemLink>,
+) -> Result<((&'static str, u64, u64), u32), Fail> {
+    let mut zone = zone_at(alloc, mine)?;
+    let end = synced(alloc, net, &mut zone)?;
+    let told = short(&end);
+    drop(end);
+    let after = zone.version();
+    drop(zone);
+    Ok((told, after))
+}
+
 /// An end by its name, with its numbers.
 pub(crate) fn short(end: &SyncEnd) -> (&'static str, u64, u64) {
     match end {
