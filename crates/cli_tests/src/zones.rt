@@ -3,6 +3,7 @@ use crate::runs::{P1, P2, Run, expect_on};
 use delta_base::{Calls, OutOfMemory, Text};
 use disk_model::{Disk, MemShelf, Shelf};
 use std::alloc::Global;
+use std::collections::BTreeSet;
 use std::process::Abort;
 use std::test::Fail;
 use stream_generator::push_patch;
@@ -172,6 +173,34 @@ fn quads_that_match_are_printed(rt: HostRuntime) -> Result<(), Fail> {
         runs(&rt, alloc, &mut shelf, &words, 0, out, "")?;
     }
     Ok(())
+}
+
+/// The lines of the quads of predicate 3 that so many patches of the generator leave: a third of them delete the quads of
+/// the first third.
+fn lines_left(alloc: Global, patches: u32) -> Result<String, Fail> {
+    let mut lines = BTreeSet::new(alloc);
+    for made in patches / 3..patches {
+        if made % 7 == 2 {
+            let quad = made + 1;
+            let subject = quad % 100;
+            lines.insert(format!(in alloc; "<http://g/s{subject}> <http://g/p3> \"{quad}\" .\n")?)?;
+        }
+    }
+    let mut text = String::new(alloc);
+    for line in &lines {
+        text.push_str(line.as_str())?;
+    }
+    Ok(text)
+}
+
+#[test]
+fn many_quads_match(rt: HostRuntime) -> Result<(), Fail> {
+    let alloc = rt.alloc();
+    let bytes = generated(alloc, 1_500)?;
+    let mut shelf = shelf_with(alloc, bytes.as_slice())?;
+    let lines = lines_left(alloc, 1_500)?;
+    let words = ["match", "z", "default", "*", "<http://g/p3>", "*"];
+    runs(&rt, alloc, &mut shelf, &words, 0, lines.as_str(), "")
 }
 
 #[test]
