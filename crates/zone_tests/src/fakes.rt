@@ -1,0 +1,82 @@
+//! What the tests run on.
+use delta_base::{Bytes, Id, Listing, LogLimits};
+use disk_model::{Disk, MemDisk};
+use patch_meaning::check_patch;
+use std::alloc::Global;
+use std::test::Fail;
+use zone_state::{TakeAnswer, Zone};
+
+/// A file of no patches.
+pub const EMPTY: &[u8] = b"RDJ1\0\0\x03\xe8\0";
+
+/// A patch of 104 bytes that names none before it.
+pub const FIRST: &[u8] =
+    b"H id <uuid:00000000-0000-4000-8000-000000000001> .\nTX .\nA <http://e/s> <http://e/p> <http://e/o> .\nTC .\n";
+
+/// The patch of 158 bytes behind it.
+pub const SECOND: &[u8] =
+    b"H id <uuid:00000000-0000-4000-8000-000000000002> .\nH prev <uuid:00000000-0000-4000-8000-000000000001> .\nTX .\nA <http://e/s> <http://e/p> <http://e/o2> .\nTC .\n";
+
+/// The patch behind that, which sets two prefixes and takes a quad away.
+pub const THIRD: &[u8] =
+    b"H id <uuid:00000000-0000-4000-8000-000000000003> .\nH prev <uuid:00000000-0000-4000-8000-000000000002> .\nTX .\nPA \"f\" <http://f/> .\nPA \"e\" <http://e/> .\nD <http://e/s> <http://e/p> <http://e/o> .\nTC .\n";
+
+pub const ID1: Id = Id(0x0000_0000_0000_4000_8000_0000_0000_0001);
+
+pub const ID2: Id = Id(0x0000_0000_0000_4000_8000_0000_0000_0002);
+
+pub const ID3: Id = Id(0x0000_0000_0000_4000_8000_0000_0000_0003);
+
+pub const ID9: Id = Id(0x0000_0000_0000_4000_8000_0000_0000_0009);
+
+/// The lines of the quads that patches add.
+pub const LINE1: &str = "<http://e/s> <http://e/p> <http://e/o> .\n";
+
+pub const LINE2: &str = "<http://e/s> <http://e/p> <http://e/o2> .\n";
+
+/// A disk with these bytes, whose calls of these numbers fail.
+pub fn disk_of(alloc: Global, image: &[u8], failing: &[u64]) -> Result<MemDisk, Fail> {
+    let calls = Listing::from_vec(Vec::from_slice(alloc, failing)?);
+    let bytes = Bytes::from_slice(alloc, image)?;
+    Ok(MemDisk::from_image(alloc, bytes, calls)?)
+}
+
+/// The zone on a disk.
+pub fn open<D: Disk + Drop>(alloc: Global, disk: D, limits: LogLimits) -> Result<Zone<D>, Fail> {
+    match Zone::open_on(alloc, disk, limits) {
+        Ok(zone) => Ok(zone),
+        Err(_) => Err(Fail::from("not opened")),
+    }
+}
+
+/// What a zone answers to the patch that a text is.
+pub fn take<D: Disk>(alloc: Global, zone: &mut Zone<D>, text: &[u8]) -> Result<TakeAnswer, Fail> {
+    let patch = check_patch(alloc, text)?;
+    let answer = zone.take_next(&patch);
+    drop(patch);
+    Ok(answer)
+}
+
+/// Whether a zone has these lines.
+pub fn has_lines<D: Disk>(zone: &Zone<D>, lines: &[&str]) -> Result<bool, Fail> {
+    let found = zone.lines()?;
+    let same = found.len() == lines.len()
+        && found
+            .iter()
+            .zip(lines)
+            .all(|(found, line)| found.as_str() == *line);
+    drop(found);
+    Ok(same)
+}
+
+/// A journal with these payloads.
+pub fn journal_of(alloc: Global, payloads: &[&[u8]]) -> Result<Vec<u8>, Fail> {
+    let mut bytes = b"RDJ1\0\0\x03\xe8".to_vec(alloc)?;
+    for payload in payloads {
+        bytes.push(1)?;
+        bytes.extend_from_slice(&u32::try_from(payload.len())?.to_be_bytes())?;
+        bytes.extend_from_slice(payload)?;
+    }
+    bytes.push(0)?;
+    Ok(bytes)
+}
