@@ -7,7 +7,8 @@ use Rattle.slot_files.specs.Files.{Files, bytes_at, SameBut}
 abbrev pub AreFull : List ℕ → ℕ → Files → Type 0
 AreFull dir end files = (number : ℕ) → number < end → 0 < length (bytes_at files dir number)
 
--- the first file without bytes is a journal of these payloads now, and every other file is as it was
+-- the first file without bytes is a journal of these payloads now, and every other file is
+-- as it was
 pub record FillsFirst (dir : List ℕ) (payloads : List (List ℕ)) (old new : Files) : Type 0 where
   pub number : ℕ
   pub before : AreFull dir number old

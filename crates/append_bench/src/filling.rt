@@ -1,5 +1,6 @@
 //! Fills a new journal.
-ghost use Rattle.std.specs.Prelude.{◌≡◌, ℕ, ◌+◌, ◌*◌, ◌++◌, ◌<◌, ◌≤◌, ◌^◌, [], List, Some, false, length, replicate, IsTrue, IfOk, OnOk, IsErrOf};
+ghost use Rattle.std.specs.Prelude.{◌≡◌, ℕ, ◌+◌, ◌*◌, ◌++◌, ◌<◌, ◌≤◌, ◌^◌, [], List, Some};
+ghost use Rattle.std.specs.Prelude.{false, length, replicate, IsTrue, IfOk, OnOk, IsErrOf};
 ghost use Rattle.delta_base.specs.declared.limits.TheConstants.{PAYLOAD_FRAME};
 ghost use Rattle.delta_base.specs.Outside.{Rose};
 ghost use Rattle.disk_model.specs.Past.{reads};
@@ -65,7 +66,8 @@ fn append_all<D: Disk>(journal: &mut Journal<D>, block: &Block, count: u32) -> R
     Ok(())
 }
 
-// Whether the file was empty, and is now a journal with some payloads. A file that has bytes is left as it is.
+// Whether the file was empty, and is now a journal with some payloads. A file that has bytes is
+// left as it is.
 fn fill<H: Shelf>(
     shelf: &mut H,
     dir: &Text,

@@ -1,5 +1,5 @@
-//! Worked examples of ids, lists, texts and tables, of sources, sinks and links that fail in mid-stream, and of whole texts that
-//! are written.
+//! Worked examples of ids, lists, texts and tables, of sources, sinks and links that fail in
+//! mid-stream, and of whole texts that are written.
 #![tactic(auto)]
 
 #[cfg(test)]

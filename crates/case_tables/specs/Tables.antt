@@ -12,7 +12,8 @@ is_in_row c row = nat_le row.0 c && nat_le c row.1
 abbrev pub has_char : List (ℕ × ℕ) → ℕ → Bool
 has_char rows c = list_any (is_in_row c) rows
 
--- each row has a character, and begins behind the last of the row before, the first row at `low` or behind it
+-- each row has a character, and begins behind the last of the row before, the first row at `low`
+-- or behind it
 abbrev pub rows_rise : ℕ → List (ℕ × ℕ) → Bool
 rows_rise low [] = true
 rows_rise low (row ∷ rows) = nat_le low row.0 && nat_le row.0 row.1 && rows_rise (row.1 + 1) rows

@@ -1,4 +1,5 @@
-//! Tables that stand in the program and are only read: sets of characters as rows, and lists of names.
+//! Tables that stand in the program and are only read: sets of characters as rows, and
+//! lists of names.
 #![tactic(auto)]
 
 mod names;

@@ -40,19 +40,24 @@ impl<const N: usize> NameTable<N> {
     }
 }
 
-/// The value beside the first name that is the word, or the last value where no name is: at most 32 rows, of which the names
-/// stand in a `NameTable` of that many names and the values are the arms of a choice by its places.
+/// The value beside the first name that is the word, or the last value where no name is: at most 32
+/// rows, of which the names stand in a `NameTable` of that many names and the values are the arms
+/// of a choice by its places.
 #[macro_export]
 macro_rules! case_rows {
     ($count:literal, $word:expr; $($rows:tt)+) => {
         $crate::case_rows!(@row $count ($word) [] []
-            (0 1 2 3 4 5 6 7 8 9 10 11 12 13 14 15 16 17 18 19 20 21 22 23 24 25 26 27 28 29 30 31) $($rows)+)
+            (0 1 2 3 4 5 6 7 8 9 10 11 12 13 14 15 16 17 18 19 20 21 22 23 24 25 26 27 28 29 30 31)
+            $($rows)+)
     };
-    (@row $count:literal ($word:expr) [$($names:literal)*] [$($arms:tt)*] ($place:literal $($places:literal)*)
+    (@row $count:literal ($word:expr) [$($names:literal)*] [$($arms:tt)*]
+        ($place:literal $($places:literal)*)
         $name:literal => $value:expr, $($rows:tt)+) => {
-        $crate::case_rows!(@row $count ($word) [$($names)* $name] [$($arms)* Some($place) => $value,] ($($places)*) $($rows)+)
+        $crate::case_rows!(@row $count ($word) [$($names)* $name]
+            [$($arms)* Some($place) => $value,] ($($places)*) $($rows)+)
     };
-    (@row $count:literal ($word:expr) [$($names:literal)*] [$($arms:tt)*] ($($places:literal)*) _ => $other:expr $(,)?) => {
+    (@row $count:literal ($word:expr) [$($names:literal)*] [$($arms:tt)*] ($($places:literal)*)
+        _ => $other:expr $(,)?) => {
         match $crate::NameTable::<$count>::new(&[$($names),*]).find($word) {
             $($arms)*
             Some(_) => $other,

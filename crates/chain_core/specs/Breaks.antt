@@ -1,5 +1,6 @@
 -- Where patches stop being a chain.
-use Rattle.std.specs.Prelude.{◌≡◌, ◌≢◌, ℕ, ◌+◌, ◌<◌, ◌≤◌, List, length, Option, None, Some, take, slice_get}
+use Rattle.std.specs.Prelude.{◌≡◌, ◌≢◌, ℕ, ◌+◌, ◌<◌, ◌≤◌, List, length}
+use Rattle.std.specs.Prelude.{Option, None, Some, take, slice_get}
 use Rattle.std.specs.Option.{option_map}
 use Rattle.delta_base.specs.declared.id.Id.{Id}
 use Rattle.chain_core.specs.declared.link.Link.{Link}
@@ -22,7 +23,8 @@ pub record DivergesAt (ls : List Link) (version : ℕ) (have found : Option Id) 
   pub found_is : option_map (λ l. l.prev) (slice_get ls version) ≡ Some found
   pub differ : found ≢ have
 
--- behind some the chain breaks: the next names the last of their ids, and one of them has its own id
+-- behind some the chain breaks: the next names the last of their ids, and one of them has
+-- its own id
 pub record RepeatsAt (ls : List Link) (id : Id) (version : ℕ) : Type 0 where
   pub taken : ℕ
   pub breaks : BreaksAt IsChain ls (taken + 1)

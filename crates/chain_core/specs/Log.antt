@@ -1,5 +1,6 @@
 -- A log: a chain, and the patch whose gate may stand open on its disk.
-use Rattle.std.specs.Prelude.{◌≤◌, List, [], ◌∷◌, ◌++◌, length, Option, Some, None, Bool, if◌then◌else◌}
+use Rattle.std.specs.Prelude.{◌≤◌, List, [], ◌∷◌, ◌++◌, length}
+use Rattle.std.specs.Prelude.{Option, Some, None, Bool, if◌then◌else◌}
 use Rattle.std.specs.List.{AllByRecursion}
 use Rattle.delta_base.specs.declared.limits.LogLimits.{LogLimits}
 use Rattle.delta_base.specs.declared.limits.TheConstants.{PATCH_LIMIT}
@@ -7,7 +8,8 @@ use Rattle.chain_core.specs.declared.chain.Patch.{Patch}
 use Rattle.chain_core.specs.Links.{IsChain}
 use Rattle.chain_core.specs.Patches.{links_of, journal_length}
 
--- a log that runs, with its chain and the patch in doubt, or one that was stopped, with what its disk holds
+-- a log that runs, with its chain and the patch in doubt, or one that was stopped, with what
+-- its disk holds
 pub data LogPoint : Type 0 where
   up : List Patch → Option Patch → LogPoint
   down : List Patch → LogPoint

@@ -1,5 +1,6 @@
 -- One stay in a log's turn: what an append makes of the log.
-use Rattle.std.specs.Prelude.{◌≡◌, ℕ, ◌+◌, List, [], ◌∷◌, ◌++◌, length, Option, Some, None, if◌then◌else◌}
+use Rattle.std.specs.Prelude.{◌≡◌, ℕ, ◌+◌, List, [], ◌∷◌, ◌++◌, length}
+use Rattle.std.specs.Prelude.{Option, Some, None, if◌then◌else◌}
 use Rattle.delta_base.specs.declared.limits.LogLimits.{LogLimits}
 use Rattle.chain_core.specs.declared.chain.Patch.{Patch}
 use Rattle.delta_base.specs.declared.phase.Phase.{Phase}
@@ -10,7 +11,10 @@ use Rattle.chain_core.specs.declared.fate.Fate.TheVariants.{Done, Fails, Stops}
 use Rattle.chain_core.specs.declared.answer.Decision.{Decision}
 use Rattle.chain_core.specs.declared.answer.Decision.TheVariants.{Accept, Known, Conflict, Full}
 use Rattle.chain_core.specs.declared.answer.LogAnswer.{LogAnswer}
-use Rattle.chain_core.specs.declared.answer.LogAnswer.TheVariants.{Accepted, DiskFault, Known as IsKnown, Conflict as IsConflict, Full as IsFull}
+use Rattle.chain_core.specs.declared.answer.LogAnswer.TheVariants.{Accepted, DiskFault}
+use Rattle.chain_core.specs.declared.answer.LogAnswer.TheVariants.{Known as IsKnown}
+use Rattle.chain_core.specs.declared.answer.LogAnswer.TheVariants.{Conflict as IsConflict}
+use Rattle.chain_core.specs.declared.answer.LogAnswer.TheVariants.{Full as IsFull}
 use Rattle.chain_core.specs.Decision.{decision}
 use Rattle.chain_core.specs.Log.{LogPoint, up, down}
 
@@ -27,7 +31,8 @@ answer_of (Full what have limit) = IsFull what have limit
 abbrev pub done : List Patch → Patch → Outcome
 done chain patch = (up (chain ++ patch ∷ []) None, Some (Accepted (length chain + 1)))
 
--- an append that is accepted, by what its device calls come to. Without a doubt there is no settling that could fail.
+-- an append that is accepted, by what its device calls come to. Without a doubt there is no
+-- settling that could fail.
 abbrev pub accepted_by : Fate → List Patch → Option Patch → Patch → Outcome
 accepted_by Done chain doubt patch = done chain patch
 accepted_by (Fails Settling) chain None patch = done chain patch

@@ -2,7 +2,8 @@
 
 use delta_base::Phase;
 
-/// How the device calls of an append end. `opened` says whether a gate that was being written stands open after a stop.
+/// How the device calls of an append end. `opened` says whether a gate that was being written
+/// stands open after a stop.
 #[derive(Clone, Copy, Debug, PartialEq, Eq)]
 pub enum Fate {
     Done,

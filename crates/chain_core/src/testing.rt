@@ -1,5 +1,6 @@
 //! The test whether patches are a chain, patch by patch.
-ghost use Rattle.std.specs.Prelude.{◌≡◌, ◌+◌, ◌-◌, ◌<◌, ◌^◌, List, [], ◌∷◌, ◌++◌, OnOk, OnErr, IfNone, IfSome};
+ghost use Rattle.std.specs.Prelude.{◌≡◌, ◌+◌, ◌-◌, ◌<◌, ◌^◌, List, [], ◌∷◌};
+ghost use Rattle.std.specs.Prelude.{◌++◌, OnOk, OnErr, IfNone, IfSome};
 ghost use Rattle.chain_core.specs.declared.link.Link.{Link};
 ghost use Rattle.chain_core.specs.Links.{IsChain};
 ghost use Rattle.chain_core.specs.Breaks.{Breaks};
@@ -13,7 +14,8 @@ use std::collections::BTreeMap;
 /// Why patches are no chain.
 #[derive(Clone, Copy, Debug, PartialEq, Eq)]
 pub enum ChainFault {
-    /// Behind `version` patches, of which the last has the id `have`, one names `found` as the one before it.
+    /// Behind `version` patches, of which the last has the id `have`, one names `found` as the
+    /// one before it.
     Diverged {
         version: u32,
         have: Option<Id>,

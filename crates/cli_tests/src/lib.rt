@@ -1,5 +1,5 @@
-//! The words behind a command as positions, and runs of the tool on worked examples: what it writes, and with which status it
-//! ends.
+//! The words behind a command as positions, and runs of the tool on worked examples: what it
+//! writes, and with which status it ends.
 #![tactic(auto)]
 
 #[cfg(test)]

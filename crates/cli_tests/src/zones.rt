@@ -175,8 +175,8 @@ fn quads_that_match_are_printed(rt: HostRuntime) -> Result<(), Fail> {
     Ok(())
 }
 
-/// The lines of the quads of predicate 3 that so many patches of the generator leave: a third of them delete the quads of
-/// the first third.
+/// The lines of the quads of predicate 3 that so many patches of the generator leave: a third of
+/// them delete the quads of the first third.
 fn lines_left(alloc: Global, patches: u32) -> Result<String, Fail> {
     let mut lines = BTreeSet::new(alloc);
     for made in patches / 3..patches {

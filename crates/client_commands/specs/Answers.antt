@@ -27,8 +27,8 @@ of_ask asks.CutShort = faults.CutShort
 of_ask (asks.NotUnderstood at) = faults.NotUnderstood at
 of_ask asks.OutOfMemory = faults.OutOfMemory
 
--- the end of a call that was answered: what is printed, the refusal that the answer is, or an answer of another kind. Want of
--- memory is free
+-- the end of a call that was answered: what is printed, the refusal that the answer is, or an
+-- answer of another kind. Want of memory is free
 abbrev pub EndsAnswered : Call → Answer → Result (List ℕ) ClientFault → Type 0
 EndsAnswered call a (Ok text) = IsAnswerTo call a × (text ≡ printed a)
 EndsAnswered call a (Err (faults.Refused status body)) =

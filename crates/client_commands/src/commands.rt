@@ -79,8 +79,8 @@ fn end_line<N: Dial>(line: Line<N::L>, net: &mut N)
     }
 }
 
-/// Asks one call over a new connection, which is hung up, and gives what is printed: the answer's JSON and a line feed, or a
-/// patch's bytes.
+/// Asks one call over a new connection, which is hung up, and gives what is printed: the answer's
+/// JSON and a line feed, or a patch's bytes.
 pub fn ask_once<N: Dial>(
     alloc: Global,
     net: &mut N,
@@ -147,7 +147,8 @@ fn join(first: Bytes, second: Result<Bytes, ClientFault>) -> Result<Bytes, Clien
     }
 }
 
-/// Asks for a source, and then, only where it was answered, for its log, and gives the JSON of both, a line each.
+/// Asks for a source, and then, only where it was answered, for its log, and gives the JSON of
+/// both, a line each.
 pub fn describe<N: Dial>(
     alloc: Global,
     net: &mut N,

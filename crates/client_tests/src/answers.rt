@@ -23,7 +23,8 @@ fn ask_once(alloc: Global, link: &mut MemLink) -> Result<Result<u32, AskFault>, 
     }
 }
 
-/// The call over a link that gives this text in pieces is answered so, and its request was sent whole.
+/// The call over a link that gives this text in pieces is answered so, and its request
+/// was sent whole.
 fn is_answered<R: Abort>(
     rt: &R,
     alloc: Global,

@@ -28,7 +28,8 @@ fn a_dial_without_links_fails(rt: HostRuntime) -> Result<(), Fail> {
     Ok(())
 }
 
-/// Where this call of the first link fails, the link is hung up and one fault is counted, and the next call goes over the second.
+/// Where this call of the first link fails, the link is hung up and one fault is counted, and the
+/// next call goes over the second.
 fn fails_at<R: Abort>(rt: &R, alloc: Global, number: u64) -> Result<(), OutOfMemory> {
     let mut links = Vec::new(alloc);
     links.push(link_of(alloc, FIRST, 1, &[number])?)?;

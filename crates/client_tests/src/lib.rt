@@ -1,5 +1,5 @@
-//! Worked examples of calls over connections in memory and over sockets: what is sent, what is answered, which connections are
-//! made, and what each failing call leaves.
+//! Worked examples of calls over connections in memory and over sockets: what is sent, what is
+//! answered, which connections are made, and what each failing call leaves.
 #![tactic(auto)]
 
 #[cfg(test)]

@@ -5,7 +5,8 @@ use delta_client::{AskFault, Dial, MemDial};
 use std::process::Abort;
 use std::test::Fail;
 
-/// So many connections were tried for and made, each to the host of the calls, and all are hung up. None has failed.
+/// So many connections were tried for and made, each to the host of the calls, and all are hung up.
+/// None has failed.
 fn went_over<R: Abort>(rt: &R, net: &MemDial<MemLink>, connections: usize) {
     assert!(rt; net.tries() == connections as u64);
     assert!(rt; net.addresses().len() == connections);

@@ -1,4 +1,5 @@
-//! Calls over the system's sockets, to a server in the same thread: its replies are there before they are asked for.
+//! Calls over the system's sockets, to a server in the same thread: its replies are there before
+//! they are asked for.
 use crate::links::{FIRST, SECOND, call, version_told};
 use delta_base::{Link, Text};
 use delta_client::{Dial, DialFault, Line, Open, TcpDial, ask_again, is_host};

@@ -1,10 +1,12 @@
-//! The words behind a command, read by `clap` as positions of one simple command: each position holds one word, and all
-//! are required.
+//! The words behind a command, read by `clap` as positions of one simple command: each position
+//! holds one word, and all are required.
 #![tactic(auto)]
 
-ghost use Rattle.std.specs.Prelude.{◌≡◌, ◌≢◌, ◌↔◌, IsTrue, ◌+◌, ◌<◌, true, Some, is_some, IfOk, OnOk, map, drop, length, All, string_bytes};
+ghost use Rattle.std.specs.Prelude.{◌≡◌, ◌≢◌, ◌↔◌, IsTrue, ◌+◌, ◌<◌, true, Some, is_some};
+ghost use Rattle.std.specs.Prelude.{IfOk, OnOk, map, drop, length, All, string_bytes};
 ghost use Rattle.clap.specs.Words.{app_of, found_of, first_value};
-ghost use Rattle.command_words.specs.Positions.{ArePlain, FitPositions, IsPlainWord, are_apart, positions_app};
+ghost use Rattle.command_words.specs.Positions.{ArePlain, FitPositions, IsPlainWord};
+ghost use Rattle.command_words.specs.Positions.{are_apart, positions_app};
 
 use clap::error::ErrorKind;
 use clap::{Arg, ArgMatches, Command, Error};
@@ -16,7 +18,8 @@ fn positions_command<'a>(
     name: &'a str,
     names: &'a [&'a str],
 ) -> Result<Command<'a>, AllocError>
-    ensures { IfOk result (λ c. app_of c ≡ positions_app name.entry.now (map (λ s. s.now) names.entry.now)) }
+    ensures { IfOk result (λ c.
+        app_of c ≡ positions_app name.entry.now (map (λ s. s.now) names.entry.now)) }
 {
     let mut command = Command::new(alloc, name).disable_help_flag(true);
     for id in names {
@@ -31,7 +34,8 @@ fn values_of<'a>(
     names: &[&str],
     matches: &ArgMatches<'a>,
 ) -> Result<Vec<&'a str>, AllocError>
-    requires { All (λ name. is_some (first_value (found_of matches.now) name.now) ≡ true) names.now }
+    requires { All
+        (λ name. is_some (first_value (found_of matches.now) name.now) ≡ true) names.now }
     ensures { IfOk result (λ v. map (λ word. Some word.now) v.items
         ≡ map (λ name. first_value (found_of matches.now) name.now) names.now) }
 {
@@ -62,10 +66,12 @@ fn parse_positions<'a>(
     requires few { length names.now < 1000 }
     requires command { 0 < length words.now }
     requires plain { ArePlain (drop 1 (map string_bytes words.now)) }
-    ensures values { IfOk result (λ m. map (λ name. first_value (found_of m) name.now) names.entry.now
+    ensures values { IfOk result (λ m.
+        map (λ name. first_value (found_of m) name.now) names.entry.now
         ≡ map (λ word. Some word) (drop 1 (map string_bytes words.entry.now))) }
     ensures count { OnOk result (length words.entry.now ≡ length names.entry.now + 1) }
-    ensures usage { result ≡ Err WordsFault.Usage → length words.entry.now ≢ length names.entry.now + 1 }
+    ensures usage { result ≡ Err WordsFault.Usage
+        → length words.entry.now ≢ length names.entry.now + 1 }
 {
     let Ok(command) = positions_command(alloc, words[0].as_str(), names) else {
         return Err(WordsFault::OutOfMemory);
@@ -89,9 +95,11 @@ pub fn read_positions<'a>(
     requires few { length names.now < 1000 }
     requires command { 0 < length words.now }
     requires plain { ArePlain (drop 1 (map string_bytes words.now)) }
-    ensures words { IfOk result (λ v. map (λ s. s.now) v.items ≡ drop 1 (map string_bytes words.entry.now)) }
+    ensures words { IfOk result (λ v.
+        map (λ s. s.now) v.items ≡ drop 1 (map string_bytes words.entry.now)) }
     ensures count { OnOk result (length words.entry.now ≡ length names.entry.now + 1) }
-    ensures usage { result ≡ Err WordsFault.Usage → length words.entry.now ≢ length names.entry.now + 1 }
+    ensures usage { result ≡ Err WordsFault.Usage
+        → length words.entry.now ≢ length names.entry.now + 1 }
 {
     let matches = parse_positions(alloc, names, words)?;
     match values_of(alloc, names, &matches) {
@@ -123,8 +131,10 @@ pub fn read_words<'a>(
     requires apart { are_apart (map (λ s. s.now) names.now) ≡ true }
     requires few { length names.now < 1000 }
     requires command { 0 < length words.now }
-    ensures words { IfOk result (λ v. map (λ s. s.now) v.items ≡ drop 1 (map string_bytes words.entry.now)) }
-    ensures fit { OnOk result (FitPositions (map (λ s. s.now) names.entry.now) (map string_bytes words.entry.now)) }
+    ensures words { IfOk result (λ v.
+        map (λ s. s.now) v.items ≡ drop 1 (map string_bytes words.entry.now)) }
+    ensures fit { OnOk result
+        (FitPositions (map (λ s. s.now) names.entry.now) (map string_bytes words.entry.now)) }
     ensures usage { result ≡ Err WordsFault.Usage
         → ¬ (FitPositions (map (λ s. s.now) names.entry.now) (map string_bytes words.entry.now)) }
 {

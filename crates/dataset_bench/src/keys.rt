@@ -12,7 +12,8 @@ pub fn key_of(number: u32) -> QuadKey {
     }
 }
 
-/// A pattern that the key of a number matches: by its subject, its subject and predicate, its object, or its predicate and object.
+/// A pattern that the key of a number matches: by its subject, its subject and predicate, its
+/// object, or its predicate and object.
 pub fn pattern_of(number: u32) -> KeyPattern {
     let QuadKey { g: _, s, p, o } = key_of(number);
     let kind = number / 4 % 4;

@@ -1,6 +1,8 @@
-//! Inserts keys made by rule into an index, matches patterns of them and removes them, to measure how fast.
+//! Inserts keys made by rule into an index, matches patterns of them and removes them, to
+//! measure how fast.
 //!
-//! `dataset_bench N` prints for each of the three how many keys it met and how many microseconds it took.
+//! `dataset_bench N` prints for each of the three how many keys it met and how many
+//! microseconds it took.
 #![tactic(auto)]
 
 mod keys;

@@ -3,7 +3,8 @@ use Rattle.std.specs.Prelude.{◌⊎◌, ℕ, ◌<◌, List, ◌∷◌, [], leng
 use Rattle.std.specs.List.{Contains, IsDistinct, flat_map}
 use Rattle.rdf_terms.specs.declared.term.Term.{Term}
 use Rattle.rdf_terms.specs.declared.change.Change.{Change}
-use Rattle.rdf_terms.specs.declared.change.Change.TheVariants.{Add, Delete, PrefixAdd, PrefixDelete, Begin, Commit, Abort}
+use Rattle.rdf_terms.specs.declared.change.Change.TheVariants.{Add, Delete, PrefixAdd}
+use Rattle.rdf_terms.specs.declared.change.Change.TheVariants.{PrefixDelete, Begin, Commit, Abort}
 use Rattle.rdf_terms.specs.declared.term.Term.TheVariants as term
 use Rattle.rdf_terms.specs.Dataset.{Dataset}
 use Rattle.term_table.specs.Table.{same}

@@ -1,5 +1,6 @@
 //! The dataset as its callers see it.
-ghost use Rattle.std.specs.Prelude.{◌≡◌, ◌+◌, ◌≤◌, [], Some, None, length, map, IfOk, OnOk, OnErr, IsErrOf, IsSome};
+ghost use Rattle.std.specs.Prelude.{◌≡◌, ◌+◌, ◌≤◌, [], Some, None, length};
+ghost use Rattle.std.specs.Prelude.{map, IfOk, OnOk, OnErr, IsErrOf, IsSome};
 ghost use Rattle.std.specs.List.{filter};
 ghost use Rattle.rdf_terms.specs.Dataset.{apply as applied, empty};
 ghost use Rattle.rdf_terms.specs.Line.{line};

@@ -1,10 +1,14 @@
 //! The prefixes of a dataset, in the order of their rows.
-ghost use Rattle.std.specs.Prelude.{◌≡◌, ◌++◌, [], List, true, false, map, IfOk, OnOk, OnErr, option_copied};
+ghost use Rattle.std.specs.Prelude.{◌≡◌, ◌++◌, [], List, true, false, map};
+ghost use Rattle.std.specs.Prelude.{IfOk, OnOk, OnErr, option_copied};
 ghost use Rattle.std.specs.BTreeMap.{is_at, insert_entry};
 ghost use Rattle.std.specs.Map.{keys_of, remove_entry};
 ghost use Rattle.std.specs.List.Sorted.{IsStrictlySortedBy};
 ghost use Rattle.rdf_terms.specs.Dataset.{prefix_cmp};
-ghost use Rattle.dataset_tx.specs.Prefixes.{Row, RowBytes, prefix_change, row_bytes, row_cmp, has_row, at_bytes, AreRows, AreStagedRows, setting, shown, settings, next_settings, standing, set_to, settled};
+ghost use Rattle.dataset_tx.specs.Prefixes.{Row, RowBytes, prefix_change, row_bytes};
+ghost use Rattle.dataset_tx.specs.Prefixes.{row_cmp, has_row, at_bytes, AreRows};
+ghost use Rattle.dataset_tx.specs.Prefixes.{AreStagedRows, setting, shown, settings};
+ghost use Rattle.dataset_tx.specs.Prefixes.{next_settings, standing, set_to, settled};
 
 use delta_base::{Listing, OutOfMemory, Text};
 use nquads_text::{push_graph, push_quoted};
@@ -35,7 +39,8 @@ pub struct PrefixMap {
 }
 
 impl Model for PrefixMap {
-    ghost use Rattle.dataset_tx.specs.Prefixes.{StagedPrefixes, AreStagedRows, settings, next_settings};
+    ghost use Rattle.dataset_tx.specs.Prefixes.{StagedPrefixes, AreStagedRows};
+    ghost use Rattle.dataset_tx.specs.Prefixes.{settings, next_settings};
 
     ghost Value = { StagedPrefixes };
 

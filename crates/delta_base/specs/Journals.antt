@@ -4,4 +4,5 @@ use Rattle.delta_base.specs.declared.limits.TheConstants.{EMPTY_JOURNAL, PAYLOAD
 
 -- the length of a journal with these payloads
 abbrev pub journal_length : List (List ℕ) → ℕ
-journal_length payloads = EMPTY_JOURNAL + sum_by (λ payload. PAYLOAD_FRAME + length payload) payloads
+journal_length payloads =
+    EMPTY_JOURNAL + sum_by (λ payload. PAYLOAD_FRAME + length payload) payloads

@@ -10,7 +10,8 @@ use uuid::Uuid;
 #[derive(Clone, Copy, Debug, PartialEq, Eq, PartialOrd, Ord, Hash)]
 pub struct Id(pub u128);
 
-/// The id that a text names, in one of the four forms of a UUID: 32 digits, with hyphens, in braces, or as a URN.
+/// The id that a text names, in one of the four forms of a UUID: 32 digits, with hyphens, in
+/// braces, or as a URN.
 pub fn read_id(text: &[u8]) -> Option<Id>
     ensures { option_map (λ id. id.0) result ≡ number_of text.now }
 {

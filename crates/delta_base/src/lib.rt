@@ -1,7 +1,8 @@
 //! Ids, texts, lists, limits and the traits of the outside, on which every other crate stands.
 //!
-//! Nothing here knows of RDF. Sources, sinks and links tell their bytes to contracts where they can, and count their failed
-//! calls, so that a caller's contract can say that a fault has its cause outside.
+//! Nothing here knows of RDF. Sources, sinks and links tell their bytes to contracts where
+//! they can, and count their failed calls, so that a caller's contract can say that a fault
+//! has its cause outside.
 #![tactic(auto)]
 
 mod count;

@@ -39,5 +39,6 @@ pub const MOST_SLOTS: u32 = 16;
 /// The bytes of a journal without payloads: its header and a gate.
 pub const EMPTY_JOURNAL: u64 = 9;
 
-/// The bytes that a journal has for a payload beside the payload: its length and the gate behind it.
+/// The bytes that a journal has for a payload beside the payload: its length and the
+/// gate behind it.
 pub const PAYLOAD_FRAME: u64 = 5;

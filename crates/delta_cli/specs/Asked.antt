@@ -24,8 +24,8 @@ Ended = Result (List ℕ) ClientFault
 -- ---- what was asked
 
 module _ {L : Type 0} (left sent : L → Option (List ℕ)) (tells : Type 0) (address : List ℕ) where
-  -- One connection was tried for. Where the dial tells, the call was asked over it, and ended so. A failed link has raised the
-  -- dial's count.
+  -- One connection was tried for. Where the dial tells, the call was asked over it, and ended so. A
+  -- failed link has raised the dial's count.
   pub record Asked (call : Call) (net net' : Net L) (ended : Ended) : Type 0 where
     pub tries : CountsCall net.tries net'.tries
     pub asks : tells → AsksOnce left sent address call net.links net'.links ended
@@ -91,7 +91,11 @@ StopsPatch input input' refusals.InputFailed = HasFailed input input'
 StopsPatch input input' refusals.OutOfMemory = Unit {0}
 StopsPatch input input' other = ⊥
 
--- Why a patch was not appended: the input was not read as one, and then nobody was connected to; or asking for it stopped.
-pub data StopsAppend (input input' out out' : Channel) (Unasked : Type 0) (Stops : List ℕ → Refusal → Type 0) (refusal : Refusal) : Type 0 where
-  unread : StopsPatch input input' refusal → Unasked → IsSilent out out' → StopsAppend input input' out out' Unasked Stops refusal
-  asked : IsPatchWith input input' (λ text. Stops text refusal) → StopsAppend input input' out out' Unasked Stops refusal
+-- Why a patch was not appended: the input was not read as one, and then nobody was connected to; or
+-- asking for it stopped.
+pub data StopsAppend (input input' out out' : Channel) (Unasked : Type 0)
+    (Stops : List ℕ → Refusal → Type 0) (refusal : Refusal) : Type 0 where
+  unread : StopsPatch input input' refusal → Unasked → IsSilent out out'
+      → StopsAppend input input' out out' Unasked Stops refusal
+  asked : IsPatchWith input input' (λ text. Stops text refusal)
+      → StopsAppend input input' out out' Unasked Stops refusal

@@ -1,5 +1,6 @@
 -- What is told of the objects of the outside that a command works with.
-use Rattle.std.specs.Prelude.{◌⊎◌, ℕ, ◌<◌, List, length, Option, None, Some, map, String, string_bytes}
+use Rattle.std.specs.Prelude.{◌⊎◌, ℕ, ◌<◌, List, length, Option}
+use Rattle.std.specs.Prelude.{None, Some, map, String, string_bytes}
 use Rattle.std.specs.declared.alloc.Global.{Global}
 use Rattle.std.specs.Io.KnownBytes.{Appends, Keeps}
 use Rattle.delta_base.specs.Outside.{Rose}

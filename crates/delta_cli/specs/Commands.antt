@@ -1,5 +1,6 @@
 -- The commands, and the words that ask for them.
-use Rattle.std.specs.Prelude.{◌≡◌, ℕ, ◌≤◌, Bool, true, false, List, [], ◌∷◌, Option, None, Some, codes}
+use Rattle.std.specs.Prelude.{◌≡◌, ℕ, ◌≤◌, Bool, true, false, List}
+use Rattle.std.specs.Prelude.{[], ◌∷◌, Option, None, Some, codes}
 use Rattle.std.specs.Fmt.{decimal}
 use Rattle.command_words.specs.Positions.{ArePlain, FitPositions, IsPlainWord}
 use Rattle.delta_base.specs.Ids.{number_of}
@@ -28,8 +29,8 @@ AreWords words command rest = (words ≡ command ∷ rest) × ArePlain rest
 abbrev pub NamesId : List ℕ → Id → Type 0
 NamesId text id = number_of text ≡ Some id.0
 
--- The words ask a server at the address for this. A source is created with an id made of the dice. A patch is fetched by a version
--- of 1 to 10 digits, or by an id.
+-- The words ask a server at the address for this. A source is created with an id made of the dice.
+-- A patch is fetched by a version of 1 to 10 digits, or by an id.
 abbrev pub AsksFor : List (List ℕ) → ℕ → List ℕ → Call → Type 0
 AsksFor words dice address calls.Ping = AreWords words (codes "ping") (address ∷ [])
 AsksFor words dice address calls.List = AreWords words (codes "list") (address ∷ [])
@@ -37,8 +38,10 @@ AsksFor words dice address (calls.Create name uri id) =
     AreWords words (codes "create") (address ∷ name ∷ uri ∷ []) × (id ≡ Some (id_of dice))
 AsksFor words dice address (calls.Rename name new_name) =
     AreWords words (codes "rename") (address ∷ name ∷ new_name ∷ [])
-AsksFor words dice address (calls.Remove name) = AreWords words (codes "remove") (address ∷ name ∷ [])
-AsksFor words dice address (calls.Version name) = AreWords words (codes "version") (address ∷ name ∷ [])
+AsksFor words dice address (calls.Remove name) =
+    AreWords words (codes "remove") (address ∷ name ∷ [])
+AsksFor words dice address (calls.Version name) =
+    AreWords words (codes "version") (address ∷ name ∷ [])
 AsksFor words dice address (calls.FetchVersion name version) =
     (which : List ℕ) × AreWords words (codes "fetch") (address ∷ name ∷ which ∷ [])
     × (version_of which ≡ Some version)
@@ -55,22 +58,27 @@ AsksToRead words dir (readings.Match pattern) =
     (g s p o : List ℕ) × AreWords words (codes "match") (dir ∷ g ∷ s ∷ p ∷ o ∷ [])
     × IsPatternOf g s p o pattern
 
--- The words ask for this command, with these dice. Numbers are decimal, without sign and leading zeros; a directory doesn't begin
--- with `-`.
+-- The words ask for this command, with these dice. Numbers are decimal, without sign and leading
+-- zeros; a directory doesn't begin with `-`.
 abbrev pub Asks : List (List ℕ) → ℕ → Command → Type 0
 Asks words dice commands.Replay = words ≡ codes "replay" ∷ []
 Asks words dice commands.Nquads = words ≡ codes "nquads" ∷ []
-Asks words dice (commands.Gen patches) = (words ≡ codes "gen" ∷ decimal patches ∷ []) × (patches ≤ 65536)
-Asks words dice (commands.Emit patches) = (words ≡ codes "emit" ∷ decimal patches ∷ []) × (patches ≤ 65536)
-Asks words dice (commands.Init dir slots) = (words ≡ codes "init" ∷ dir ∷ decimal slots ∷ []) × IsPlainWord dir × (1 ≤ slots) × (slots ≤ 16)
+Asks words dice (commands.Gen patches) =
+    (words ≡ codes "gen" ∷ decimal patches ∷ []) × (patches ≤ 65536)
+Asks words dice (commands.Emit patches) =
+    (words ≡ codes "emit" ∷ decimal patches ∷ []) × (patches ≤ 65536)
+Asks words dice (commands.Init dir slots) =
+    (words ≡ codes "init" ∷ dir ∷ decimal slots ∷ []) × IsPlainWord dir × (1 ≤ slots) × (slots ≤ 16)
 Asks words dice (commands.Check dir) = (words ≡ codes "check" ∷ dir ∷ []) × IsPlainWord dir
 Asks words dice (commands.Zone dir) = AreWords words (codes "zone") (dir ∷ [])
 Asks words dice (commands.Read dir reading) = AsksToRead words dir reading
 Asks words dice (commands.Sync dir address name) =
     AreWords words (codes "sync") (dir ∷ address ∷ name ∷ []) × IsAddress address
 Asks words dice (commands.Ask address call) = AsksFor words dice address call × IsAddress address
-Asks words dice (commands.Describe address name) = AreWords words (codes "describe") (address ∷ name ∷ []) × IsAddress address
-Asks words dice (commands.Append address name) = AreWords words (codes "append") (address ∷ name ∷ []) × IsAddress address
+Asks words dice (commands.Describe address name) =
+    AreWords words (codes "describe") (address ∷ name ∷ []) × IsAddress address
+Asks words dice (commands.Append address name) =
+    AreWords words (codes "append") (address ∷ name ∷ []) × IsAddress address
 Asks words dice commands.Help = words ≡ codes "--help" ∷ []
 Asks words dice commands.Version = words ≡ codes "--version" ∷ []
 
@@ -128,7 +136,8 @@ BeginsWith words name = (rest : List (List ℕ)) × (words ≡ name_text name �
 abbrev pub HasFirst : List (List ℕ) → List ℕ → Type 0
 HasFirst words first = (rest : List (List ℕ)) × (words ≡ first ∷ rest)
 
--- the first word names the command, and behind it stands a word for each of its positions, none of which begins with `-`
+-- the first word names the command, and behind it stands a word for each of its positions, none of
+-- which begins with `-`
 abbrev pub FitsName : List (List ℕ) → Name → Type 0
 FitsName words name = BeginsWith words name × FitPositions (positions_of name) words
 

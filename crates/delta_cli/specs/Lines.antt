@@ -77,7 +77,8 @@ id_or_none (Some id) = text_of id.0
 
 -- a fault of the input at a place, whose line is counted from 1
 abbrev pub place_line : ℕ → ℕ → List ℕ → List ℕ
-place_line line at kind = codes "rdfdelta: input: line " ++ (decimal line ++ (codes " byte " ++ (decimal at ++ (codes ": " ++ (kind ++ 10 ∷ [])))))
+place_line line at kind = codes "rdfdelta: input: line "
+    ++ (decimal line ++ (codes " byte " ++ (decimal at ++ (codes ": " ++ (kind ++ 10 ∷ [])))))
 
 abbrev pub limit_line : ℕ → List ℕ
 limit_line limit = codes "rdfdelta: input: too long: limit " ++ (decimal limit ++ 10 ∷ [])
@@ -87,11 +88,13 @@ out_of_memory_line = codes "rdfdelta: out of memory\n"
 
 -- an answer of another status than 200
 abbrev pub refused_line : ℕ → List ℕ → List ℕ
-refused_line status body = codes "rdfdelta: refused: " ++ (decimal status ++ (codes " " ++ (body ++ 10 ∷ [])))
+refused_line status body =
+    codes "rdfdelta: refused: " ++ (decimal status ++ (codes " " ++ (body ++ 10 ∷ [])))
 
 -- bytes that are no answer, from this place on
 abbrev pub not_understood_line : ℕ → List ℕ
-not_understood_line at = codes "rdfdelta: answer: byte " ++ (decimal at ++ codes ": not understood\n")
+not_understood_line at =
+    codes "rdfdelta: answer: byte " ++ (decimal at ++ codes ": not understood\n")
 
 -- a zone that takes no patch more
 abbrev pub zone_full_line : ℕ → ℕ → List ℕ
@@ -121,8 +124,10 @@ no_patch_line version = codes "rdfdelta: peer has no patch " ++ (decimal version
 
 abbrev pub chain_line : ChainFault → List ℕ
 chain_line (chains.Diverged version have found) =
-    codes "rdfdelta: diverged at version " ++ (decimal version ++ (codes ": have " ++ (id_or_none have ++ (codes ", found " ++ (id_or_none found ++ 10 ∷ [])))))
-chain_line (chains.Repeated id version) = codes "rdfdelta: repeated id " ++ (text_of id.0 ++ (codes " at version " ++ (decimal version ++ 10 ∷ [])))
+    codes "rdfdelta: diverged at version " ++ (decimal version ++ (codes ": have "
+    ++ (id_or_none have ++ (codes ", found " ++ (id_or_none found ++ 10 ∷ [])))))
+chain_line (chains.Repeated id version) = codes "rdfdelta: repeated id "
+    ++ (text_of id.0 ++ (codes " at version " ++ (decimal version ++ 10 ∷ [])))
 
 -- the line on err
 unfoldable pub line_of : Refusal → List ℕ
@@ -134,12 +139,14 @@ line_of (refusals.Document line at kind) = place_line line at (text_kind_name ki
 line_of (refusals.TooLong limit) = limit_line limit
 line_of refusals.InputFailed = codes "rdfdelta: input failed\n"
 line_of refusals.OutputFailed = codes "rdfdelta: output failed\n"
-line_of (refusals.NotEmpty file length) = codes "rdfdelta: refused: file " ++ (decimal file ++ (codes " not empty: " ++ (decimal length ++ 10 ∷ [])))
+line_of (refusals.NotEmpty file length) = codes "rdfdelta: refused: file "
+    ++ (decimal file ++ (codes " not empty: " ++ (decimal length ++ 10 ∷ [])))
 line_of refusals.ZoneTermsFull = codes "rdfdelta: refused: zone terms full\n"
 line_of (refusals.ZoneFull have limit) = zone_full_line have limit
 line_of (refusals.File fault) = fault_line fault
 line_of (refusals.WrongCount disks slots) =
-    codes "rdfdelta: file 0: wrong count: disks " ++ (decimal disks ++ (codes ", slots " ++ (decimal slots ++ 10 ∷ [])))
+    codes "rdfdelta: file 0: wrong count: disks "
+    ++ (decimal disks ++ (codes ", slots " ++ (decimal slots ++ 10 ∷ [])))
 line_of refusals.DiskFailed = codes "rdfdelta: disk failed\n"
 line_of refusals.LinkFailed = codes "rdfdelta: link failed\n"
 line_of (refusals.Refused status body) = refused_line status body

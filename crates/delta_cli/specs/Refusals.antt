@@ -6,4 +6,5 @@ use Rattle.delta_cli.specs.Lines.{line_of, status_of, out_of_memory_line}
 
 -- the line was told with its status, or there was no memory to make it
 abbrev pub Reports : Refusal → Channel → Channel → ℕ → Type 0
-Reports refusal err err' status = ((status ≡ status_of refusal) × Tells err err' (line_of refusal)) ⊎ ((status ≡ 8) × Tells err err' out_of_memory_line)
+Reports refusal err err' status = ((status ≡ status_of refusal) × Tells err err' (line_of refusal))
+    ⊎ ((status ≡ 8) × Tells err err' out_of_memory_line)

@@ -20,23 +20,27 @@ use Rattle.delta_cli.specs.Lines.{id_or_none}
 use Rattle.delta_cli.specs.declared.refusal.Refusal.{Refusal}
 use Rattle.delta_cli.specs.declared.refusal.Refusal.TheVariants as refusals
 
--- where the input tells its bytes, it was read to its end, has at most 268,435,456 bytes, and they are such
+-- where the input tells its bytes, it was read to its end, has at most 268,435,456 bytes, and
+-- they are such
 abbrev pub Reads : Channel → Channel → (List ℕ → Type 0) → Type 0
 Reads before after IsSuch = ReadsBytes before.bytes after.bytes IsSuch
 
 -- what the text has as its result was written
-pub record Prints (Has : List ℕ → List ℕ → Type 0) (out out' : Channel) (text : List ℕ) : Type 0 where
+pub record Prints (Has : List ℕ → List ℕ → Type 0) (out out' : Channel)
+    (text : List ℕ) : Type 0 where
   pub result : List ℕ
   pub has : Has text result
   pub written : Writes out out' result
 
 -- out failed, and a front of it was written
-pub record PrintsFront (Has : List ℕ → List ℕ → Type 0) (out out' : Channel) (text : List ℕ) : Type 0 where
+pub record PrintsFront (Has : List ℕ → List ℕ → Type 0) (out out' : Channel)
+    (text : List ℕ) : Type 0 where
   pub result : List ℕ
   pub has : Has text result
   pub written : WritesFront out out' result
 
--- the text is a stream whose patches are a chain, and these are the canonical lines of the dataset that they make
+-- the text is a stream whose patches are a chain, and these are the canonical lines of the dataset
+-- that they make
 pub record HasLines (text result : List ℕ) : Type 0 where
   pub patches : List Meaning
   pub stream : IsStream text patches
@@ -45,7 +49,8 @@ pub record HasLines (text result : List ℕ) : Type 0 where
 
 -- so many patches and quads, and the last patch's id
 abbrev pub counts_line : ℕ → ℕ → Option Id → List ℕ
-counts_line patches quads head = codes "patches " ++ (decimal patches ++ (codes " quads " ++ (decimal quads ++ (codes " head " ++ (id_or_none head ++ 10 ∷ [])))))
+counts_line patches quads head = codes "patches " ++ (decimal patches
+    ++ (codes " quads " ++ (decimal quads ++ (codes " head " ++ (id_or_none head ++ 10 ∷ [])))))
 
 -- what the stream of so many generated patches comes to: a third of them delete a quad
 abbrev pub generated_line : ℕ → List ℕ
@@ -78,7 +83,8 @@ StopsDocument text other = ⊥
 
 -- why an input has no canonical form
 abbrev pub StopsReading : Channel → Channel → Refusal → Type 0
-StopsReading input input' (refusals.Document line at kind) = Reads input input' (IsFaultyDocument line at kind)
+StopsReading input input' (refusals.Document line at kind) =
+    Reads input input' (IsFaultyDocument line at kind)
 StopsReading input input' (refusals.TooLong limit) = IsTooLong input.bytes × (limit ≡ stream_limit)
 StopsReading input input' refusals.InputFailed = HasFailed input input'
 StopsReading input input' refusals.OutOfMemory = Unit {0}
@@ -90,19 +96,25 @@ StopsReplay (refusals.Stream line at kind) input input' out out' =
     Reads input input' (IsFaulty line at kind) × IsSilent out out'
 StopsReplay (refusals.LongPatch size limit) input input' out out' =
     Reads input input' (IsLong size limit) × IsSilent out out'
-StopsReplay (refusals.Chain fault) input input' out out' = Reads input input' (IsUnchained fault) × IsSilent out out'
-StopsReplay (refusals.TooLong limit) input input' out out' = IsTooLong input.bytes × (limit ≡ stream_limit) × IsSilent out out'
+StopsReplay (refusals.Chain fault) input input' out out' =
+    Reads input input' (IsUnchained fault) × IsSilent out out'
+StopsReplay (refusals.TooLong limit) input input' out out' =
+    IsTooLong input.bytes × (limit ≡ stream_limit) × IsSilent out out'
 StopsReplay refusals.InputFailed input input' out out' = HasFailed input input' × IsSilent out out'
-StopsReplay refusals.OutputFailed input input' out out' = HasFailed out out' × Reads input input' (PrintsFront HasLines out out')
+StopsReplay refusals.OutputFailed input input' out out' =
+    HasFailed out out' × Reads input input' (PrintsFront HasLines out out')
 StopsReplay refusals.OutOfMemory input input' out out' = IsSilent out out'
 StopsReplay other input input' out out' = ⊥
 
 -- why `nquads` prints no lines of its input
 abbrev pub StopsNquads : Refusal → Channel → Channel → Channel → Channel → Type 0
-StopsNquads (refusals.Document line at kind) input input' out out' = Reads input input' (IsFaultyDocument line at kind) × IsSilent out out'
-StopsNquads (refusals.TooLong limit) input input' out out' = IsTooLong input.bytes × (limit ≡ stream_limit) × IsSilent out out'
+StopsNquads (refusals.Document line at kind) input input' out out' =
+    Reads input input' (IsFaultyDocument line at kind) × IsSilent out out'
+StopsNquads (refusals.TooLong limit) input input' out out' =
+    IsTooLong input.bytes × (limit ≡ stream_limit) × IsSilent out out'
 StopsNquads refusals.InputFailed input input' out out' = HasFailed input input' × IsSilent out out'
-StopsNquads refusals.OutputFailed input input' out out' = HasFailed out out' × Reads input input' (PrintsFront IsShown out out')
+StopsNquads refusals.OutputFailed input input' out out' =
+    HasFailed out out' × Reads input input' (PrintsFront IsShown out out')
 StopsNquads refusals.OutOfMemory input input' out out' = IsSilent out out'
 StopsNquads other input input' out out' = ⊥
 
@@ -111,7 +123,8 @@ abbrev pub StopsWriting : List ℕ → Refusal → Channel → Channel → Type 
 StopsWriting text refusals.OutputFailed out out' = HasFailed out out' × WritesFront out out' text
 StopsWriting text other out out' = ⊥
 
--- why a text is not written whose parts are made on the way; all memory is taken before its first byte
+-- why a text is not written whose parts are made on the way; all memory is taken before
+-- its first byte
 abbrev pub StopsEmitting : List ℕ → Refusal → Channel → Channel → Type 0
 StopsEmitting text refusals.OutOfMemory out out' = IsSilent out out'
 StopsEmitting text other out out' = StopsWriting text other out out'

@@ -64,8 +64,8 @@ StopsOpening dir tells files faults faults' other = ⊥
 
 module _ {L : Type 0} (left sent : L → Option (List ℕ)) (tells net_tells : Type 0)
     (dir address name : List ℕ) where
-  -- The zone of the directory followed the log, and that ended so; every other file is as it was. A failed
-  -- disk or link has raised its count.
+  -- The zone of the directory followed the log, and that ended so; every other file is as it was. A
+  -- failed disk or link has raised its count.
   pub record Synced (files files' : Files) (faults faults' : ℕ) (net net' : Net L)
       (end : SyncEnd) : Type 0 where
     pub followed : Followed left sent tells net_tells address name
@@ -82,8 +82,8 @@ module _ {L : Type 0} (left sent : L → Option (List ℕ)) (tells net_tells : T
       (version : ℕ) × Synced files files' faults faults' net net' (ends.CaughtUp version)
       × Writes out out' (caught_up_line version)
 
-  -- Why no version was written: the zone could not be opened, and then nobody was connected to; or catching
-  -- up ended otherwise; or it caught up, and that isn't printed.
+  -- Why no version was written: the zone could not be opened, and then nobody was connected to; or
+  -- catching up ended otherwise; or it caught up, and that isn't printed.
   pub data StopsSync (files files' : Files) (faults faults' : ℕ) (net net' : Net L)
       (out out' : Channel) (refusal : Refusal) : Type 0 where
     unopened : StopsOpening dir tells files faults faults' refusal

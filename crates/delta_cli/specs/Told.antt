@@ -13,7 +13,8 @@ pub record Net (L : Type 0) : Type 0 where
 abbrev pub net_of : {L : Type 0} → Links L → ℕ → ℕ → Net L
 net_of links tries faults = record { links = links; tries = tries; faults = faults }
 
--- the input, the output, the files that the shelf has, how often a call of the shelf has failed, and the dial
+-- the input, the output, the files that the shelf has, how often a call of the shelf has failed,
+-- and the dial
 pub record Told (L : Type 0) : Type 0 where
   pub input : Channel
   pub out : Channel
@@ -40,4 +41,5 @@ module _ {L : Type 0} where
 
   -- nothing was read, written on out or changed in a file, and nobody was connected to
   abbrev pub LeavesAll : Told L → Told L → Type 0
-  LeavesAll old new = LeavesInput old new × (new.out ≡ old.out) × LeavesFiles old new × LeavesNet old new
+  LeavesAll old new =
+      LeavesInput old new × (new.out ≡ old.out) × LeavesFiles old new × LeavesNet old new

@@ -25,7 +25,8 @@ pub record IsNewZone (dir : List ℕ) (old new : Files) : Type 0 where
   pub was_empty : bytes_at old dir zone_number ≡ []
   pub is_journal : new dir zone_number ≡ Some (file_of zone_number [])
 
--- where the shelf tells its files, the zone's file is as it was if it had bytes, and so is every other file
+-- where the shelf tells its files, the zone's file is as it was if it had bytes, and so is
+-- every other file
 abbrev pub SparesZone : List ℕ → Type 0 → Files → Files → Type 0
 SparesZone dir tells old new = tells
     → (0 < length (bytes_at old dir zone_number) → new dir zone_number ≡ old dir zone_number)
@@ -81,7 +82,8 @@ HasFileFault file (checks.BrokenChain number version) =
 HasFileFault file other = ⊥
 
 -- why nothing was read of it, or not all was written
-abbrev pub StopsZone : List ℕ → Reading → Type 0 → Files → ℕ → ℕ → Channel → Channel → Refusal → Type 0
+abbrev pub StopsZone : List ℕ → Reading → Type 0 → Files → ℕ → ℕ
+    → Channel → Channel → Refusal → Type 0
 StopsZone dir reading tells files faults faults' out out' (refusals.File fault) =
     (tells → HasFileFault (bytes_at files dir zone_number) fault) × IsSilent out out'
 StopsZone dir reading tells files faults faults' out out' refusals.ZoneTermsFull =

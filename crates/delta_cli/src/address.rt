@@ -26,8 +26,8 @@ fn is_port(bytes: &[u8]) -> bool
     (1..=5).contains(&bytes.len()) && are_digits(bytes)
 }
 
-/// Whether a word is an address: at most 255 characters from `!` to `~`, of which the last `:` has 1 to 5 digits behind
-/// it and nothing else.
+/// Whether a word is an address: at most 255 characters from `!` to `~`, of which the last `:` has
+/// 1 to 5 digits behind it and nothing else.
 pub fn is_address(word: &str) -> bool
     ensures { IsTrue result ↔ IsAddress word.now }
 {

@@ -6,7 +6,8 @@ ghost use Rattle.patch_meaning.specs.Checked.{Refuses};
 ghost use Rattle.patch_meaning.specs.Patch.{IsPatch, Meaning};
 ghost use Rattle.stream_replay.specs.Places.{line_number};
 ghost use Rattle.delta_cli.specs.Addresses.{IsAddress};
-ghost use Rattle.delta_cli.specs.Asked.{Asked, IsPatchWith, IsReadAs, PrintsEnd, StopsAppend, StopsAsking, StopsPatch, StopsText};
+ghost use Rattle.delta_cli.specs.Asked.{Asked, IsPatchWith, IsReadAs, PrintsEnd};
+ghost use Rattle.delta_cli.specs.Asked.{StopsAppend, StopsAsking, StopsPatch, StopsText};
 ghost use Rattle.delta_cli.specs.Channels.{channel};
 ghost use Rattle.delta_cli.specs.Told.{net_of};
 
@@ -19,8 +20,8 @@ use patch_meaning::{PatchFault, check_patch};
 use rpc_calls::Call;
 use std::alloc::Global;
 
-/// Reads the input to its end, which is to be a patch, has the server at an address append it to a log, and writes what its
-/// answer prints.
+/// Reads the input to its end, which is to be a patch, has the server at an address append it to a
+/// log, and writes what its answer prints.
 pub fn append<S: Source, K: Sink, N: Dial>(
     alloc: Global,
     address: &Text,

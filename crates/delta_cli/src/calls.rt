@@ -2,7 +2,8 @@
 ghost use Rattle.std.specs.Prelude.{◌≡◌, ◌<◌, [], ℕ, get_or, length, true, IfOk, IfErr};
 ghost use Rattle.rpc_calls.specs.Routes.{version_of};
 ghost use Rattle.delta_cli.specs.Channels.{words_of};
-ghost use Rattle.delta_cli.specs.Commands.{Asks, AsksFor, FitsName, IsOfCall, RefusesWords, asks_server};
+ghost use Rattle.delta_cli.specs.Commands.{Asks, AsksFor, FitsName, IsOfCall};
+ghost use Rattle.delta_cli.specs.Commands.{RefusesWords, asks_server};
 ghost use Rattle.delta_cli.specs.declared.name.Name.TheVariants as names;
 
 use crate::address::is_address;
@@ -15,7 +16,8 @@ use http_text::{are_digits, digits_value};
 use rpc_calls::Call;
 use std::alloc::Global;
 
-/// The command of this name, which asks a server, and whose words are one for each of its positions.
+/// The command of this name, which asks a server, and whose words are one for each
+/// of its positions.
 pub fn make_asking(
     alloc: Global,
     name: Name,

@@ -13,7 +13,8 @@ use sink_writing::write_all;
 use slot_checks::{Report, check_files, report_text};
 use std::alloc::Global;
 
-/// Opens the files of a directory, and writes a line for each. Each is left as it was, and no other is asked for.
+/// Opens the files of a directory, and writes a line for each. Each is left as it was, and no other
+/// is asked for.
 pub fn check<H: Shelf, K: Sink>(
     alloc: Global,
     dir: &Text,
@@ -24,7 +25,8 @@ pub fn check<H: Shelf, K: Sink>(
         × Reported dir.now H.tells (H.files shelf.old) (H.files shelf.new) report
         × Writes (channel (K.written out.old) (K.faults out.old))
         (channel (K.written out.new) (K.faults out.new)) (lines_text report)) }
-    ensures stopped { IfErr result (StopsCheck dir.now H.tells (H.files shelf.old) (H.files shelf.new)
+    ensures stopped { IfErr result
+        (StopsCheck dir.now H.tells (H.files shelf.old) (H.files shelf.new)
         (H.faults shelf.old) (H.faults shelf.new)
         (channel (K.written out.old) (K.faults out.old))
         (channel (K.written out.new) (K.faults out.new))) }
@@ -37,8 +39,11 @@ pub fn check<H: Shelf, K: Sink>(
 
 // Writes the lines of a report.
 fn print_report<K: Sink>(alloc: Global, report: &Report, out: &mut K) -> Result<(), Refusal>
-    ensures done { OnOk result (Writes (channel (K.written out.old) (K.faults out.old)) (channel (K.written out.new) (K.faults out.new)) (lines_text report.now.items)) }
-    ensures stopped { IfErr result (StopsPrinting (lines_text report.now.items) (channel (K.written out.old) (K.faults out.old)) (channel (K.written out.new) (K.faults out.new))) }
+    ensures done { OnOk result (Writes (channel (K.written out.old) (K.faults out.old))
+        (channel (K.written out.new) (K.faults out.new)) (lines_text report.now.items)) }
+    ensures stopped { IfErr result (StopsPrinting (lines_text report.now.items)
+        (channel (K.written out.old) (K.faults out.old))
+        (channel (K.written out.new) (K.faults out.new))) }
 {
     let Ok(text) = report_text(alloc, report) else {
         return Err(Refusal::OutOfMemory);

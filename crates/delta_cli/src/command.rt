@@ -2,7 +2,9 @@
 ghost use Rattle.std.specs.Prelude.{◌≡◌, ◌<◌, ◌≤◌, ◌^◌, ◌∷◌, [], ℕ, List, false, IfOk, IfErr, OnOk};
 ghost use Rattle.delta_cli.specs.Channels.{words_of};
 ghost use Rattle.command_words.specs.Positions.{FitPositions};
-ghost use Rattle.delta_cli.specs.Commands.{Asks, BeginsWith, FitsName, HasFirst, IsNumberIn, IsOfTool, RefusesWords, asks_server, is_of_zone, positions_of};
+ghost use Rattle.delta_cli.specs.Commands.{Asks, BeginsWith, FitsName, HasFirst};
+ghost use Rattle.delta_cli.specs.Commands.{IsNumberIn, IsOfTool, RefusesWords};
+ghost use Rattle.delta_cli.specs.Commands.{asks_server, is_of_zone, positions_of};
 
 use crate::calls::make_asking;
 use crate::name::Name;
@@ -123,7 +125,8 @@ fn read_positions(
 fn test_positions(alloc: Global, name: Name, words: &[String]) -> Result<(), WordsFault>
     requires { BeginsWith (words_of words.now) name }
     ensures fit { OnOk result (FitPositions (positions_of name) (words_of words.now)) }
-    ensures usage { result ≡ Err WordsFault.Usage → ¬ (FitPositions (positions_of name) (words_of words.now)) }
+    ensures usage { result ≡ Err WordsFault.Usage
+        → ¬ (FitPositions (positions_of name) (words_of words.now)) }
 {
     match read_words(alloc, name.positions(), words) {
         Ok(_values) => Ok(()),
@@ -131,7 +134,8 @@ fn test_positions(alloc: Global, name: Name, words: &[String]) -> Result<(), Wor
     }
 }
 
-// The command of this name, which asks no server and is on no zone, and whose words are one for each of its positions.
+// The command of this name, which asks no server and is on no zone, and whose words are one for
+// each of its positions.
 fn make(alloc: Global, name: Name, words: &[String]) -> Result<Command, Refusal>
     requires fits { FitsName (words_of words.now) name }
     requires of_tool { IsOfTool name }

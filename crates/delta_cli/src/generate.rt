@@ -2,7 +2,8 @@
 ghost use Rattle.std.specs.Prelude.{◌≡◌, ◌≤◌, IfOk, IfErr, OnOk};
 ghost use Rattle.stream_generator.specs.Generator.{stream_text};
 ghost use Rattle.delta_cli.specs.Channels.{Writes, channel};
-ghost use Rattle.delta_cli.specs.Results.{StopsEmitting, StopsPrinting, counts_line, generated_line};
+ghost use Rattle.delta_cli.specs.Results.{StopsEmitting, StopsPrinting};
+ghost use Rattle.delta_cli.specs.Results.{counts_line, generated_line};
 
 use crate::lines::push_id;
 use crate::refusal::Refusal;
@@ -12,7 +13,8 @@ use std::alloc::Global;
 use stream_generator::{GeneratedSource, MOST_BYTES, push_patch};
 use stream_replay::{ReplayFault, replay_source};
 
-/// Replays so many patches, and writes how many patches and quads there are, and the last patch's id.
+/// Replays so many patches, and writes how many patches and quads there are, and the
+/// last patch's id.
 pub fn generate<K: Sink>(alloc: Global, patches: u32, out: &mut K) -> Result<(), Refusal>
     requires { patches ≤ 65536 }
     ensures done { OnOk result (Writes (channel (K.written out.old) (K.faults out.old))
@@ -25,8 +27,8 @@ pub fn generate<K: Sink>(alloc: Global, patches: u32, out: &mut K) -> Result<(),
     write_all(out, line.as_slice()).map_err(|_| Refusal::OutputFailed)
 }
 
-// The line with the counts of so many patches. Their stream has no fault, and the generator fails only where there is no memory
-// for its next patch; so only want of memory stops their replay.
+// The line with the counts of so many patches. Their stream has no fault, and the generator fails
+// only where there is no memory for its next patch; so only want of memory stops their replay.
 fn count(alloc: Global, patches: u32) -> Result<Vec<u8>, OutOfMemory>
     requires { patches ≤ 65536 }
     ensures { IfOk result (λ line. line.items ≡ generated_line patches) }
@@ -56,11 +58,15 @@ fn counts_line(
     Ok(line)
 }
 
-/// Writes so many patches, of which one is in memory at a time. All memory is taken before the first byte is written.
+/// Writes so many patches, of which one is in memory at a time. All memory is taken before the
+/// first byte is written.
 pub fn emit<K: Sink>(alloc: Global, patches: u32, out: &mut K) -> Result<(), Refusal>
     requires { patches ≤ 65536 }
-    ensures done { OnOk result (Writes (channel (K.written out.old) (K.faults out.old)) (channel (K.written out.new) (K.faults out.new)) (stream_text patches)) }
-    ensures stopped { IfErr result (λ refusal. StopsEmitting (stream_text patches) refusal (channel (K.written out.old) (K.faults out.old)) (channel (K.written out.new) (K.faults out.new))) }
+    ensures done { OnOk result (Writes (channel (K.written out.old) (K.faults out.old))
+        (channel (K.written out.new) (K.faults out.new)) (stream_text patches)) }
+    ensures stopped { IfErr result (λ refusal.
+        StopsEmitting (stream_text patches) refusal (channel (K.written out.old) (K.faults out.old))
+        (channel (K.written out.new) (K.faults out.new))) }
 {
     let mut room = Room::new(alloc)?;
     let Ok(mut text) = Vec::with_capacity(alloc, MOST_BYTES) else {

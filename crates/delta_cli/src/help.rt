@@ -48,8 +48,11 @@ pub const VERSION: &str = "rdfdelta 0.1.0\n";
 
 /// Writes a text that is known.
 pub fn print<K: Sink>(text: &str, out: &mut K) -> Result<(), Refusal>
-    ensures done { OnOk result (Writes (channel (K.written out.old) (K.faults out.old)) (channel (K.written out.new) (K.faults out.new)) text.now) }
-    ensures stopped { IfErr result (λ refusal. StopsWriting text.now refusal (channel (K.written out.old) (K.faults out.old)) (channel (K.written out.new) (K.faults out.new))) }
+    ensures done { OnOk result (Writes (channel (K.written out.old) (K.faults out.old))
+        (channel (K.written out.new) (K.faults out.new)) text.now) }
+    ensures stopped { IfErr result (λ refusal.
+        StopsWriting text.now refusal (channel (K.written out.old) (K.faults out.old))
+        (channel (K.written out.new) (K.faults out.new))) }
 {
     write_all(out, text.as_bytes()).map_err(|_| Refusal::OutputFailed)
 }

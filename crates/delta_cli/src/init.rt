@@ -13,8 +13,10 @@ use std::alloc::Global;
 pub fn init<H: Shelf>(alloc: Global, dir: &Text, slots: u8, shelf: &mut H) -> Result<(), Refusal>
     requires some { 1 ≤ slots }
     requires few { slots ≤ 16 }
-    ensures done { OnOk result (H.tells → IsInitial dir.now slots (H.files shelf.old) (H.files shelf.new)) }
-    ensures stopped { IfErr result (StopsInit dir.now slots H.tells (H.files shelf.old) (H.files shelf.new) (H.faults shelf.old) (H.faults shelf.new)) }
+    ensures done { OnOk result (H.tells
+        → IsInitial dir.now slots (H.files shelf.old) (H.files shelf.new)) }
+    ensures stopped { IfErr result (StopsInit dir.now slots H.tells (H.files shelf.old)
+        (H.files shelf.new) (H.faults shelf.old) (H.faults shelf.new)) }
     ensures spares { Spares dir.now slots H.tells (H.files shelf.old) (H.files shelf.new) }
 {
     match init_slots(alloc, shelf, dir, slots) {

@@ -34,11 +34,13 @@ pub fn read_all<S: Source>(
     limit: usize,
 ) -> Result<Vec<u8>, InputFault>
     requires { limit < 2 ^ 40 }
-    ensures bytes { IfOk result (λ text. Consumes (S.left input.old) (S.left input.new) text.items) }
+    ensures bytes { IfOk result (λ text.
+        Consumes (S.left input.old) (S.left input.new) text.items) }
     ensures end { OnOk result (IsAtEnd (S.left input.new)) }
     ensures too_long { IsErrOf result InputFault.TooLong → IsLonger (S.left input.old) limit }
     ensures within { IfOk result (λ text. length text.items ≤ limit) }
-    ensures failed { IsErrOf result InputFault.Failed → Rose (S.faults input.old) (S.faults input.new) }
+    ensures failed { IsErrOf result InputFault.Failed
+        → Rose (S.faults input.old) (S.faults input.new) }
     ensures never_falls { S.faults input.old ≤ S.faults input.new }
 {
     let mut text = Vec::new(alloc);

@@ -2,7 +2,10 @@
 ghost use Rattle.std.specs.Prelude.{◌≡◌, ◌++◌, ◌∷◌, [], IfOk, OnOk, codes};
 ghost use Rattle.std.specs.Fmt.{decimal};
 ghost use Rattle.patch_meaning.specs.Names.{fault_name};
-ghost use Rattle.delta_cli.specs.Lines.{bad_patch_line, chain_line, fault_at, id_or_none, limit_line, line_of, no_patch_line, not_understood_line, peer_behind_line, place_line, refused_line, usage_text, zone_full_line};
+ghost use Rattle.delta_cli.specs.Lines.{bad_patch_line, chain_line, fault_at, id_or_none};
+ghost use Rattle.delta_cli.specs.Lines.{limit_line, line_of, no_patch_line};
+ghost use Rattle.delta_cli.specs.Lines.{not_understood_line, peer_behind_line, place_line};
+ghost use Rattle.delta_cli.specs.Lines.{refused_line, usage_text, zone_full_line};
 
 use crate::name::Name;
 use crate::refusal::Refusal;
@@ -55,7 +58,8 @@ fn line(alloc: Global, text: &[u8]) -> Result<Vec<u8>, OutOfMemory>
 }
 
 fn usage_line(alloc: Global, name: Name) -> Result<Vec<u8>, OutOfMemory>
-    ensures { IfOk result (λ text. text.items ≡ codes "rdfdelta: usage: " ++ (usage_text name ++ 10 ∷ [])) }
+    ensures { IfOk result (λ text.
+        text.items ≡ codes "rdfdelta: usage: " ++ (usage_text name ++ 10 ∷ [])) }
 {
     let mut text = Vec::from_slice(alloc, b"rdfdelta: usage: ")?;
     text.extend_from_slice(name.usage())?;
@@ -64,7 +68,8 @@ fn usage_line(alloc: Global, name: Name) -> Result<Vec<u8>, OutOfMemory>
 }
 
 fn not_empty_line(alloc: Global, file: u32, length: u64) -> Result<Vec<u8>, OutOfMemory>
-    ensures { IfOk result (λ text. text.items ≡ codes "rdfdelta: refused: file " ++ (decimal file ++ (codes " not empty: " ++ (decimal length ++ 10 ∷ [])))) }
+    ensures { IfOk result (λ text. text.items ≡ codes "rdfdelta: refused: file "
+        ++ (decimal file ++ (codes " not empty: " ++ (decimal length ++ 10 ∷ [])))) }
 {
     let text = format!(in alloc; "rdfdelta: refused: file {file} not empty: {length}\n")?;
     Ok(text.into_bytes())
@@ -97,7 +102,8 @@ fn fault_at(fault: PatchFault) -> u64
 }
 
 fn bad_patch_line(alloc: Global, version: u32, fault: PatchFault) -> Result<Vec<u8>, OutOfMemory>
-    ensures { IfOk result (λ text. text.items ≡ bad_patch_line version (fault_at fault) (fault_name fault)) }
+    ensures { IfOk result (λ text.
+        text.items ≡ bad_patch_line version (fault_at fault) (fault_name fault)) }
 {
     let at = fault_at(fault);
     let front = format!(in alloc; "rdfdelta: answer: patch {version}: byte {at}: ")?;
@@ -174,7 +180,8 @@ fn diverged_line(
     have: Option<Id>,
     found: Option<Id>,
 ) -> Result<Vec<u8>, OutOfMemory>
-    ensures { IfOk result (λ text. text.items ≡ chain_line (ChainFault.Diverged version have found)) }
+    ensures { IfOk result (λ text.
+        text.items ≡ chain_line (ChainFault.Diverged version have found)) }
 {
     let front = format!(in alloc; "rdfdelta: diverged at version {version}: have ")?;
     let mut text = front.into_bytes();

@@ -3,7 +3,8 @@ ghost use Rattle.std.specs.Prelude.{◌≡◌, ◌<◌, ◌^◌, length, IfOk, I
 ghost use Rattle.sink_writing.specs.Writing.{joined};
 ghost use Rattle.delta_cli.specs.Channels.{Writes, channel};
 ghost use Rattle.delta_cli.specs.Document.{IsShown};
-ghost use Rattle.delta_cli.specs.Results.{AreShown, Prints, Reads, StopsDocument, StopsNquads, StopsPrinting, StopsReading};
+ghost use Rattle.delta_cli.specs.Results.{AreShown, Prints, Reads, StopsDocument};
+ghost use Rattle.delta_cli.specs.Results.{StopsNquads, StopsPrinting, StopsReading};
 
 use crate::input::{InputFault, read_all};
 use crate::refusal::Refusal;
@@ -16,11 +17,15 @@ use stream_replay::STREAM_LIMIT;
 /// Reads a document to its end, and writes its canonical form.
 pub fn nquads<S: Source, K: Sink>(alloc: Global, input: &mut S, out: &mut K) -> Result<(), Refusal>
     ensures done { OnOk result (Reads
-        (channel (S.left input.old) (S.faults input.old)) (channel (S.left input.new) (S.faults input.new))
-        (Prints IsShown (channel (K.written out.old) (K.faults out.old)) (channel (K.written out.new) (K.faults out.new)))) }
+        (channel (S.left input.old) (S.faults input.old))
+        (channel (S.left input.new) (S.faults input.new))
+        (Prints IsShown (channel (K.written out.old) (K.faults out.old))
+        (channel (K.written out.new) (K.faults out.new)))) }
     ensures stopped { IfErr result (λ refusal. StopsNquads refusal
-        (channel (S.left input.old) (S.faults input.old)) (channel (S.left input.new) (S.faults input.new))
-        (channel (K.written out.old) (K.faults out.old)) (channel (K.written out.new) (K.faults out.new))) }
+        (channel (S.left input.old) (S.faults input.old))
+        (channel (S.left input.new) (S.faults input.new))
+        (channel (K.written out.old) (K.faults out.old))
+        (channel (K.written out.new) (K.faults out.new))) }
 {
     match read_lines(alloc, input) {
         Ok(lines) => print_texts(alloc, lines.as_slice(), out),
@@ -30,8 +35,11 @@ pub fn nquads<S: Source, K: Sink>(alloc: Global, input: &mut S, out: &mut K) -> 
 
 // Writes the texts.
 fn print_texts<K: Sink>(alloc: Global, texts: &[Vec<u8>], out: &mut K) -> Result<(), Refusal>
-    ensures done { OnOk result (Writes (channel (K.written out.old) (K.faults out.old)) (channel (K.written out.new) (K.faults out.new)) (joined texts.now)) }
-    ensures stopped { IfErr result (StopsPrinting (joined texts.now) (channel (K.written out.old) (K.faults out.old)) (channel (K.written out.new) (K.faults out.new))) }
+    ensures done { OnOk result (Writes (channel (K.written out.old) (K.faults out.old))
+        (channel (K.written out.new) (K.faults out.new)) (joined texts.now)) }
+    ensures stopped { IfErr result
+        (StopsPrinting (joined texts.now) (channel (K.written out.old) (K.faults out.old))
+        (channel (K.written out.new) (K.faults out.new))) }
 {
     let room = Room::new(alloc)?;
     write_texts(out, texts, room).map_err(|_| Refusal::OutputFailed)
@@ -39,8 +47,10 @@ fn print_texts<K: Sink>(alloc: Global, texts: &[Vec<u8>], out: &mut K) -> Result
 
 // The canonical lines of the input's document.
 fn read_lines<S: Source>(alloc: Global, input: &mut S) -> Result<Vec<Vec<u8>>, Refusal>
-    ensures ok { IfOk result (λ lines. Reads (channel (S.left input.old) (S.faults input.old)) (channel (S.left input.new) (S.faults input.new)) (AreShown lines.items)) }
-    ensures stopped { IfErr result (StopsReading (channel (S.left input.old) (S.faults input.old)) (channel (S.left input.new) (S.faults input.new))) }
+    ensures ok { IfOk result (λ lines. Reads (channel (S.left input.old) (S.faults input.old))
+        (channel (S.left input.new) (S.faults input.new)) (AreShown lines.items)) }
+    ensures stopped { IfErr result (StopsReading (channel (S.left input.old) (S.faults input.old))
+        (channel (S.left input.new) (S.faults input.new))) }
 {
     match read_all(alloc, input, STREAM_LIMIT) {
         Ok(text) => lines_of(alloc, text.as_slice()),

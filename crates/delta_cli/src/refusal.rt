@@ -165,7 +165,8 @@ impl From<OutOfMemory> for Refusal {
 
 /// Writes the line of a refusal on `err`, and gives its status.
 pub fn report<E: Sink>(alloc: Global, refusal: Refusal, err: &mut E) -> u8
-    ensures { Reports refusal (channel (E.written err.old) (E.faults err.old)) (channel (E.written err.new) (E.faults err.new)) result }
+    ensures { Reports refusal (channel (E.written err.old) (E.faults err.old))
+        (channel (E.written err.new) (E.faults err.new)) result }
 {
     let status = status_of(&refusal);
     let line = line_of(alloc, &refusal);

@@ -2,7 +2,8 @@
 ghost use Rattle.std.specs.Prelude.{◌≡◌, IfErr, OnOk};
 ghost use Rattle.stream_replay.specs.Lines.{bytes_of};
 ghost use Rattle.delta_cli.specs.Channels.{Writes, channel};
-ghost use Rattle.delta_cli.specs.Results.{HasLines, Prints, Reads, StopsPrinting, StopsReplay, refusal_of};
+ghost use Rattle.delta_cli.specs.Results.{HasLines, Prints, Reads, StopsPrinting};
+ghost use Rattle.delta_cli.specs.Results.{StopsReplay, refusal_of};
 
 use crate::refusal::Refusal;
 use delta_base::{Sink, Source};
@@ -13,11 +14,15 @@ use stream_replay::{Lines, ReplayFault, STREAM_LIMIT, replay_source, write_lines
 /// Reads a stream to its end, and writes the lines of its replay.
 pub fn replay<S: Source, K: Sink>(alloc: Global, input: &mut S, out: &mut K) -> Result<(), Refusal>
     ensures done { OnOk result (Reads
-        (channel (S.left input.old) (S.faults input.old)) (channel (S.left input.new) (S.faults input.new))
-        (Prints HasLines (channel (K.written out.old) (K.faults out.old)) (channel (K.written out.new) (K.faults out.new)))) }
+        (channel (S.left input.old) (S.faults input.old))
+        (channel (S.left input.new) (S.faults input.new))
+        (Prints HasLines (channel (K.written out.old) (K.faults out.old))
+        (channel (K.written out.new) (K.faults out.new)))) }
     ensures stopped { IfErr result (λ refusal. StopsReplay refusal
-        (channel (S.left input.old) (S.faults input.old)) (channel (S.left input.new) (S.faults input.new))
-        (channel (K.written out.old) (K.faults out.old)) (channel (K.written out.new) (K.faults out.new))) }
+        (channel (S.left input.old) (S.faults input.old))
+        (channel (S.left input.new) (S.faults input.new))
+        (channel (K.written out.old) (K.faults out.old))
+        (channel (K.written out.new) (K.faults out.new))) }
 {
     match replay_source(alloc, input) {
         Ok(replayed) => print_lines(alloc, &replayed.lines, out),
@@ -27,8 +32,11 @@ pub fn replay<S: Source, K: Sink>(alloc: Global, input: &mut S, out: &mut K) -> 
 
 /// Writes the lines.
 pub fn print_lines<K: Sink>(alloc: Global, lines: &Lines, out: &mut K) -> Result<(), Refusal>
-    ensures done { OnOk result (Writes (channel (K.written out.old) (K.faults out.old)) (channel (K.written out.new) (K.faults out.new)) (bytes_of lines.now.keys)) }
-    ensures stopped { IfErr result (StopsPrinting (bytes_of lines.now.keys) (channel (K.written out.old) (K.faults out.old)) (channel (K.written out.new) (K.faults out.new))) }
+    ensures done { OnOk result (Writes (channel (K.written out.old) (K.faults out.old))
+        (channel (K.written out.new) (K.faults out.new)) (bytes_of lines.now.keys)) }
+    ensures stopped { IfErr result
+        (StopsPrinting (bytes_of lines.now.keys) (channel (K.written out.old) (K.faults out.old))
+        (channel (K.written out.new) (K.faults out.new))) }
 {
     let room = Room::new(alloc)?;
     write_lines(out, lines, room).map_err(|_| Refusal::OutputFailed)

@@ -19,8 +19,8 @@ use sink_writing::write_all;
 use std::alloc::Global;
 use zone_commands::follow_zone;
 
-/// Catches the zone of a directory up with a log of the server at an address, and writes the version
-/// that they have. No other file is asked for.
+/// Catches the zone of a directory up with a log of the server at an address, and writes the
+/// version that they have. No other file is asked for.
 pub fn sync_zone<H: Shelf, N: Dial, K: Sink>(
     alloc: Global,
     dir: &Text,

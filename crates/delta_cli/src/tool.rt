@@ -23,8 +23,8 @@ use delta_client::Dial;
 use disk_model::Shelf;
 use std::alloc::Global;
 
-/// Runs the command that the words ask for; a source that it has made gets an id of the dice. It answers the status, writes the
-/// result on `out`, and where the status isn't 0 a line on `err`.
+/// Runs the command that the words ask for; a source that it has made gets an id of the dice. It
+/// answers the status, writes the result on `out`, and where the status isn't 0 a line on `err`.
 pub fn run_tool<S: Source, K: Sink, E: Sink, H: Shelf, N: Dial>(
     alloc: Global,
     words: &[String],

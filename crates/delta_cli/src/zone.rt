@@ -3,7 +3,8 @@ ghost use Rattle.std.specs.Prelude.{◌≡◌, ◌+◌, ℕ, List, IfErr, OnOk};
 ghost use Rattle.slot_files.specs.Files.{bytes_at};
 ghost use Rattle.stream_replay.specs.Lines.{bytes_of};
 ghost use Rattle.delta_cli.specs.Channels.{Writes, channel};
-ghost use Rattle.delta_cli.specs.Zones.{IsNewZone, KeepsZone, ReadsZone, SparesZone, StopsMaking, StopsZone};
+ghost use Rattle.delta_cli.specs.Zones.{IsNewZone, KeepsZone, ReadsZone};
+ghost use Rattle.delta_cli.specs.Zones.{SparesZone, StopsMaking, StopsZone};
 
 use crate::refusal::Refusal;
 use crate::replay::print_lines;

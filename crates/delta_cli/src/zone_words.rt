@@ -46,8 +46,8 @@ pub fn make_of_zone(alloc: Global, name: Name, words: &[String]) -> Result<Comma
     }
 }
 
-// The command by which the zone of a directory catches up: behind the directory stand an address and
-// a name.
+// The command by which the zone of a directory catches up: behind the directory stand an address
+// and a name.
 fn make_sync(alloc: Global, dir: Text, words: &[String]) -> Result<Command, Refusal>
     requires fits { FitsName (words_of words.now) names.Sync }
     requires dir { dir ≡ get_or (words_of words.now) 1 [] }

@@ -15,7 +15,8 @@ use Rattle.rpc_answers.specs.Prints.{IsPrintOf, IsNoAnswer}
 use Rattle.rpc_calls.specs.declared.call.Call.{Call}
 use Rattle.rpc_calls.specs.Requests.{request_for}
 use Rattle.delta_client.specs.declared.fault.AskFault.{AskFault}
-use Rattle.delta_client.specs.declared.fault.AskFault.TheVariants.{LinkFault, CutShort, NotUnderstood, OutOfMemory}
+use Rattle.delta_client.specs.declared.fault.AskFault.TheVariants.{LinkFault, CutShort}
+use Rattle.delta_client.specs.declared.fault.AskFault.TheVariants.{NotUnderstood, OutOfMemory}
 use Rattle.delta_client.specs.declared.asking.Asked.{Asked}
 
 -- the text of a call's request to a host

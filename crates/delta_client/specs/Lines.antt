@@ -1,5 +1,6 @@
 -- Calls one after another, over as many connections as it takes.
-use Rattle.std.specs.Prelude.{◌≡◌, ◌⊎◌, ℕ, List, [], ◌∷◌, ◌++◌, Option, Some, None, Result, Ok, Err, MatchBool}
+use Rattle.std.specs.Prelude.{◌≡◌, ◌⊎◌, ℕ, List, [], ◌∷◌, ◌++◌, Option}
+use Rattle.std.specs.Prelude.{Some, None, Result, Ok, Err, MatchBool}
 use Rattle.std.specs.Io.KnownBytes.{Appends, Consumes}
 use Rattle.http_text.specs.Taken.{GaveReplies}
 use Rattle.http_text.specs.declared.message.RawReply.{RawReply}
@@ -92,7 +93,8 @@ module _ {L : Type 0} (left : L → Option (List ℕ)) where
 
 module _ {L : Type 0} (left sent : L → Option (List ℕ)) where
   -- A call's text was sent over the connection, whose link then is this one, and the answer is what
-  -- the next reply prints; or a front of it was sent, there is no answer, and the connection is hung up.
+  -- the next reply prints; or a front of it was sent, there is no answer, and the connection
+  -- is hung up.
   abbrev pub AnswersOver : List ℕ → Connection L → L → Told L → Told L → Option (Open L)
       → Result Answer AskFault → Type 0
   AnswersOver text over link made after line (Ok answer) =

@@ -26,7 +26,8 @@ pub struct Asked {
     pub close: bool,
 }
 
-/// Whether a text can stand as the host of a request: a space or a control in it would end the line.
+/// Whether a text can stand as the host of a request: a space or a control in it would
+/// end the line.
 pub fn is_host(text: &Text) -> bool
     ensures { result ≡ list_all is_visible text.now }
 {
@@ -65,7 +66,8 @@ fn hear<L: Link>(alloc: Global, link: &mut L, reader: &mut ReplyReader) -> Resul
     }
 }
 
-/// Sends a call's request, and answers what the next reply says. The reader keeps the bytes behind that reply.
+/// Sends a call's request, and answers what the next reply says. The reader keeps the bytes
+/// behind that reply.
 pub fn ask<L: Link>(
     alloc: Global,
     link: &mut L,

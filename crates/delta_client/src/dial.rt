@@ -1,5 +1,6 @@
 //! Where connections are made.
-ghost use Rattle.std.specs.Prelude.{◌≡◌, ◌<◌, ◌≤◌, ◌++◌, ◌∷◌, [], List, ℕ, IfOk, OnOk, OnErr, IsErrOf};
+ghost use Rattle.std.specs.Prelude.{◌≡◌, ◌<◌, ◌≤◌, ◌++◌, ◌∷◌, [], List};
+ghost use Rattle.std.specs.Prelude.{ℕ, IfOk, OnOk, OnErr, IsErrOf};
 ghost use Rattle.delta_base.specs.Memory.{CountsCall};
 ghost use Rattle.delta_base.specs.Outside.{Rose};
 
@@ -12,7 +13,8 @@ pub enum DialFault {
     OutOfMemory,
 }
 
-/// Where connections are made, and where they end. What is said of them holds where it `tells` them.
+/// Where connections are made, and where they end. What is said of them holds where
+/// it `tells` them.
 pub trait Dial {
     type L: Link;
 

@@ -1,8 +1,10 @@
-//! One call to a server over a connection, and calls one after another over as many connections as it takes.
+//! One call to a server over a connection, and calls one after another over as many connections
+//! as it takes.
 //!
-//! Connections are made by a `Dial`, one value each. `ask` sends a request and reads the next reply; `ask_again` does so over the
-//! connection that a `Line` has open, or over a new one. `specs/Lines.antt` says which connections a call goes over, what is sent
-//! on them, and which reply it answers.
+//! Connections are made by a `Dial`, one value each. `ask` sends a request and reads the next
+//! reply; `ask_again` does so over the connection that a `Line` has open, or over a new one.
+//! `specs/Lines.antt` says which connections a call goes over, what is sent on them, and which
+//! reply it answers.
 #![tactic(auto)]
 
 mod asking;

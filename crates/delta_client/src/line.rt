@@ -1,12 +1,15 @@
 //! Calls to one address one after another. A connection is kept until a reply closes it.
-ghost use Rattle.std.specs.Prelude.{◌≡◌, ◌⊎◌, ◌<◌, ◌≤◌, ◌++◌, ℕ, List, Option, Some, None, true, IfOk, IfErr, IfSome, IfNone, IsErrOf, IsNone, IsSome, OnErr, OnOk};
+ghost use Rattle.std.specs.Prelude.{◌≡◌, ◌⊎◌, ◌<◌, ◌≤◌, ◌++◌, ℕ, List, Option};
+ghost use Rattle.std.specs.Prelude.{Some, None, true, IfOk, IfErr, IfSome};
+ghost use Rattle.std.specs.Prelude.{IfNone, IsErrOf, IsNone, IsSome, OnErr, OnOk};
 ghost use Rattle.std.specs.List.{list_all};
 ghost use Rattle.delta_base.specs.Memory.{CountsCall};
 ghost use Rattle.delta_base.specs.Outside.{Rose};
 ghost use Rattle.http_text.specs.Print.{is_visible};
 ghost use Rattle.rpc_answers.specs.Answers.{NamesItsFault};
 ghost use Rattle.delta_client.specs.Asking.{call_text};
-ghost use Rattle.delta_client.specs.Lines.{AnswersOver, Connection, IsBegun, IsOpen, Over, links_in, told_of};
+ghost use Rattle.delta_client.specs.Lines.{AnswersOver, Connection, IsBegun};
+ghost use Rattle.delta_client.specs.Lines.{IsOpen, Over, links_in, told_of};
 
 use crate::asking::ask;
 use crate::dial::{Dial, DialFault};
@@ -24,7 +27,8 @@ pub struct Open<L> {
     pub reader: ReplyReader,
 }
 
-/// The connection that is open. There is none before the first call, behind a reply that closes, and behind a fault.
+/// The connection that is open. There is none before the first call, behind a reply that closes,
+/// and behind a fault.
 #[derive(Drop)]
 pub struct Line<L> {
     pub open: Option<Open<L>>,
@@ -146,8 +150,8 @@ fn ask_open<N: Dial>(
     }
 }
 
-/// Asks over the connection that is open, or over a new one, which stays open unless the reply closes it. Behind a fault
-/// nothing is open.
+/// Asks over the connection that is open, or over a new one, which stays open unless the reply
+/// closes it. Behind a fault nothing is open.
 pub fn ask_again<N: Dial>(
     alloc: Global,
     net: &mut N,

@@ -40,8 +40,8 @@ impl<L> Model for MemDial<L> {
 }
 
 impl<L> MemDial<L> {
-    /// The links are given in their order. The calls of `connect` of the numbers in `failing`, from 0, fail, and so does one
-    /// that finds no memory or no link.
+    /// The links are given in their order. The calls of `connect` of the numbers in `failing`, from
+    /// 0, fail, and so does one that finds no memory or no link.
     pub fn new(alloc: Global, links: Vec<L>, failing: Calls) -> Result<MemDial<L>, OutOfMemory>
     where
         L: Drop,

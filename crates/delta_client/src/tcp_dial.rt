@@ -31,7 +31,8 @@ impl<'a, R> TcpDial<'a, R> {
     }
 }
 
-// The link of a connection. Small writes go out at once, and a silent server doesn't hold whoever asks it for ever.
+// The link of a connection. Small writes go out at once, and a silent server doesn't hold whoever
+// asks it for ever.
 fn link_over(stream: TcpStream) -> io::Result<StdLink<TcpStream>> {
     let patience = Some(Duration::from_secs(PATIENCE));
     stream.set_nodelay(true)?;

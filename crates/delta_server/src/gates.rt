@@ -1,5 +1,6 @@
 //! The gates of workers and those that are idle.
-ghost use Rattle.std.specs.Prelude.{◌≡◌, ◌↔◌, ◌+◌, ◌≤◌, ◌++◌, [], List, IfOk, IsTrue, map, length, take, drop, reverse, vec_len, vec_capacity};
+ghost use Rattle.std.specs.Prelude.{◌≡◌, ◌↔◌, ◌+◌, ◌≤◌, ◌++◌, [], List, IfOk, IsTrue, map};
+ghost use Rattle.std.specs.Prelude.{length, take, drop, reverse, vec_len, vec_capacity};
 ghost use Rattle.delta_base.specs.Outside.{Rose};
 ghost use Rattle.delta_server.specs.Gates.{HaveFailed};
 

@@ -1,5 +1,6 @@
 //! A hall over the files of a directory.
-ghost use Rattle.std.specs.Prelude.{◌≡◌, ◌⊎◌, ℕ, ◌+◌, ◌<◌, ◌≤◌, [], IfOk, IfErr, OnOk, OnErr, length, vec_capacity};
+ghost use Rattle.std.specs.Prelude.{◌≡◌, ◌⊎◌, ℕ, ◌+◌, ◌<◌, ◌≤◌, [], IfOk};
+ghost use Rattle.std.specs.Prelude.{IfErr, OnOk, OnErr, length, vec_capacity};
 ghost use Rattle.delta_base.specs.Outside.{Rose};
 ghost use Rattle.delta_base.specs.declared.limits.TheConstants.{MOST_SLOTS};
 ghost use Rattle.slot_files.specs.Files.{bytes_at};
@@ -46,7 +47,8 @@ fn refusal_of(fault: HallFault) -> Refusal
     }
 }
 
-// Takes the disk of the registry's file, and tells how many slots it says. Where it isn't in its form, it is put back.
+// Takes the disk of the registry's file, and tells how many slots it says. Where it isn't in its
+// form, it is put back.
 fn take_registry<H: Shelf>(
     alloc: Global,
     shelf: &mut H,
@@ -153,7 +155,8 @@ fn take_disks<H: Shelf>(alloc: Global, shelf: &mut H, dir: &Text) -> Result<Vec<
     }
 }
 
-/// Opens the hall of a directory's files for so many workers. Where it can't be opened, all disks are put back.
+/// Opens the hall of a directory's files for so many workers. Where it can't be opened, all disks
+/// are put back.
 pub fn open<H: Shelf>(
     alloc: Global,
     shelf: &mut H,

@@ -25,8 +25,9 @@ pub struct Served<G> {
     pub gates: Vec<G>,
 }
 
-/// Serves what the words ask for: opens the hall of a directory's files, and has each worker serve the connections of
-/// its own gate until that gives no more. Where the status isn't 0, a line stands on `err`.
+/// Serves what the words ask for: opens the hall of a directory's files, and has each worker serve
+/// the connections of its own gate until that gives no more. Where the status isn't 0, a line
+/// stands on `err`.
 pub fn run_server<R: Threads + Wait + Sync, H: Shelf, G: Gate + Send, E: Sink>(
     rt: &R,
     alloc: Global,

@@ -60,7 +60,8 @@ SaysNone (Some (listed sources)) said = ⊥
 SaysNone None said = said ≡ OutOfMemory
 
 -- what follows the look-up of a name: more steps, where it gave a source
-abbrev pub BehindLookup : (ℕ → List Step → Said → Type 0) → Option RegistryReply → List Step → Said → Type 0
+abbrev pub BehindLookup : (ℕ → List Step → Said → Type 0) → Option RegistryReply
+    → List Step → Said → Type 0
 BehindLookup P (Some (found (Some source))) rest said = P source.slot rest said
 BehindLookup P (Some (found None)) rest said =
     (rest ≡ []) × SaysNone (Some (found None)) said

@@ -14,7 +14,8 @@ use Rattle.delta_session.specs.Steps.{HallView, HallSight}
 module _ {D : Type 0} (disks : Ghosts D) where
   -- The registry was closed with these passes, and its disk stands for it. The file holds its
   -- events, or these and the one in doubt, and so does each image that a crash may leave.
-  pub record EndsRegistry (made : Made (StateView D)) (passes : List RegistrySight) (disk : D) : Type 0 where
+  pub record EndsRegistry (made : Made (StateView D)) (passes : List RegistrySight)
+      (disk : D) : Type 0 where
     pub registry : StateView D
     pub closed : IsClosedOf disks made passes registry
     pub stands : StandsInTurn disks registry

@@ -30,8 +30,8 @@ AreSaid dice (e ∷ exchanges) (steps ∷ more) last =
 AreSaid dice [] (steps ∷ more) last = ⊥
 AreSaid dice (e ∷ exchanges) [] last = ⊥
 
--- What the answers of a session come to: the steps of all requests, in their order, are the calls of
--- this pass and no others. What they add up to is told for the registry, and for each log.
+-- What the answers of a session come to: the steps of all requests, in their order, are the calls
+-- of this pass and no others. What they add up to is told for the registry, and for each log.
 pub record Served {D : Type 0} (hall : HallView D) (before : HallSight)
     (exchanges : List Exchange) (after : HallSight) : Type 0 where
   pub steps : List (List Step)

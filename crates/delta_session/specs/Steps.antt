@@ -1,4 +1,5 @@
--- What a pass of a hall knows, and what it asks of the hall's lists: the registry's, and each log's.
+-- What a pass of a hall knows, and what it asks of the hall's lists: the registry's,
+-- and each log's.
 use Rattle.std.specs.Prelude.{◌≡◌, ℕ, List, [], ◌∷◌, Option}
 use Rattle.chain_core.specs.Replies.{LogCall, LogReply}
 use Rattle.log_registry.specs.State.{StateView}
@@ -36,7 +37,8 @@ lookup call reply = of_registry (record { call = call; reply = reply })
 
 -- a step on the log of a slot; its reply is none where memory ran out
 abbrev pub visit : ℕ → LogCall → Option LogReply → Step
-visit slot call reply = of_log (record { slot = slot; asked = record { call = call; reply = reply } })
+visit slot call reply =
+    of_log (record { slot = slot; asked = record { call = call; reply = reply } })
 
 -- those that ask the registry, in their order
 abbrev pub lookups_of : List Step → List Lookup

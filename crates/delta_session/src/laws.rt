@@ -1,4 +1,5 @@
-//! Laws of a hall's answers. These functions do nothing but call others like them: their contracts are theorems.
+//! Laws of a hall's answers. These functions do nothing but call others like them: their
+//! contracts are theorems.
 ghost use Rattle.delta_session.specs.Laws.{SessionsAreServed, PassesStay};
 
 use disk_model::Disk;

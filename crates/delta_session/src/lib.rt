@@ -1,9 +1,9 @@
-//! A hall: the registry of named sources and the log of each slot, which up to sixteen passes share; and the sessions
-//! that serve it.
+//! A hall: the registry of named sources and the log of each slot, which up to sixteen passes
+//! share; and the sessions that serve it.
 //!
-//! A request asks the registry, or a log whose source it names, each at a point of its own list. `specs/Answered.antt`
-//! says which lists a request asks and what is said to it; `specs/Sessions.antt` says what a session comes to for the
-//! pass that serves it.
+//! A request asks the registry, or a log whose source it names, each at a point of its own list.
+//! `specs/Answered.antt` says which lists a request asks and what is said to it;
+//! `specs/Sessions.antt` says what a session comes to for the pass that serves it.
 #![tactic(auto)]
 
 mod answering;

@@ -86,8 +86,8 @@ fn open_logs<D: Disk>(
     }
 }
 
-/// Opens the files of a hall, of which the first is that of the registry, and shares it among workers, whose passes have
-/// the numbers from 1 on. A refusal hands all disks back in their order.
+/// Opens the files of a hall, of which the first is that of the registry, and shares it among
+/// workers, whose passes have the numbers from 1 on. A refusal hands all disks back in their order.
 pub fn open_hall<D: Disk>(
     alloc: Global,
     disks: Vec<D>,

@@ -9,8 +9,8 @@ use shared_registry::{RegistryPass, RegistryValue};
 use std::marker::Model;
 use turn_cell::Pass;
 
-/// What a worker knows of a hall: of its registry, and of each log; and the number of which the next id of a source is
-/// made.
+/// What a worker knows of a hall: of its registry, and of each log; and the number of which the
+/// next id of a source is made.
 pub struct HallPass<D: Disk> {
     pub(crate) registry: RegistryPass<D>,
     pub(crate) logs: LogsPass<D>,
@@ -69,8 +69,8 @@ impl<D: Disk> HallPass<D> {
     }
 }
 
-/// The passes of a hall, and the room by which the hall is closed without memory. The room stays with whoever closes
-/// the hall, since a place for a pass can't be shared among threads.
+/// The passes of a hall, and the room by which the hall is closed without memory. The room stays
+/// with whoever closes the hall, since a place for a pass can't be shared among threads.
 #[derive(Drop)]
 pub struct HallPasses<D: Disk> {
     pub passes: Vec<HallPass<D>>,

@@ -14,7 +14,8 @@ use std::sync::Wait;
 use std::thread::Threads;
 use worker_pool::{Gate, Post, serve_all};
 
-/// What is left once no gate gives a connection more: the disks in the order of their files, and the gates in theirs.
+/// What is left once no gate gives a connection more: the disks in the order of their files, and
+/// the gates in theirs.
 #[derive(Drop)]
 pub struct Worked<D: Disk, G> {
     pub disks: Vec<D>,
@@ -71,8 +72,8 @@ fn relieve<'a, D: Disk, G>(
     gates.reverse();
 }
 
-/// Has each pass serve the connections of its own gate until no gate gives one more, and closes the hall. Where memory
-/// for that runs out, the hall is closed with no connection served.
+/// Has each pass serve the connections of its own gate until no gate gives one more, and closes the
+/// hall. Where memory for that runs out, the hall is closed with no connection served.
 pub fn serve_gates<R: Threads + Wait + Sync, D: Disk + Send, G: Gate + Send>(
     rt: &R,
     alloc: Global,

@@ -17,8 +17,8 @@ use http_text::SessionEnd;
 use std::alloc::Global;
 use std::sync::Wait;
 
-/// Answers the requests of one connection in their order, until it ends. Sources that are made without an id take the
-/// ids of the numbers from `dice` on.
+/// Answers the requests of one connection in their order, until it ends. Sources that are made
+/// without an id take the ids of the numbers from `dice` on.
 pub fn serve_session<R: Wait, L: Link, D: Disk>(
     rt: &R,
     alloc: Global,

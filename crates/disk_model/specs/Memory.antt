@@ -1,5 +1,6 @@
 -- How contracts see a disk in memory.
-use Rattle.std.specs.Prelude.{◌≡◌, ◌⊎◌, ℕ, Bool, false, IsTrue, not, ◌==◌, ◌||◌, nat_le, List, Option, option_map, Result, IsOk, IsErr}
+use Rattle.std.specs.Prelude.{◌≡◌, ◌⊎◌, ℕ, Bool, false, IsTrue, not, ◌==◌, ◌||◌}
+use Rattle.std.specs.Prelude.{nat_le, List, Option, option_map, Result, IsOk, IsErr}
 use Rattle.std.specs.List.{list_any}
 use Rattle.std.specs.Option.{option_map_or}
 use Rattle.disk_model.specs.Calls.{counted}

@@ -1,6 +1,9 @@
 //! A disk in memory, which keeps its writes and syncs.
-ghost use Rattle.std.specs.Prelude.{◌≡◌, ◌↔◌, ◌⊎◌, ◌≤◌, ◌++◌, length, OnOk, OnErr, IfOk, IfSome, IsErr, IsTrue, Some, None, [], ◌∷◌, option_map, is_ok, if◌then◌else◌};
-ghost use Rattle.disk_model.specs.Past.{Past, MayLeave, reads, overwritten, began, wrote, synced, is_orderly, image_of, left_as};
+ghost use Rattle.std.specs.Prelude.{◌≡◌, ◌↔◌, ◌⊎◌, ◌≤◌, ◌++◌, length, OnOk, OnErr};
+ghost use Rattle.std.specs.Prelude.{IfOk, IfSome, IsErr, IsTrue, Some, None, []};
+ghost use Rattle.std.specs.Prelude.{◌∷◌, option_map, is_ok, if◌then◌else◌};
+ghost use Rattle.disk_model.specs.Past.{Past, MayLeave, reads, overwritten, began};
+ghost use Rattle.disk_model.specs.Past.{wrote, synced, is_orderly, image_of, left_as};
 ghost use Rattle.disk_model.specs.Replay.{replayed, after};
 ghost use Rattle.disk_model.specs.Calls.{ReadsAt, counted};
 ghost use Rattle.delta_base.specs.Outside.{CountsFault, HasCause};
@@ -18,7 +21,8 @@ pub enum Kept {
     Synced,
 }
 
-/// A disk in memory. It keeps its calls as data, so that what a crash may leave follows from what it holds.
+/// A disk in memory. It keeps its calls as data, so that what a crash may leave follows from
+/// what it holds.
 #[derive(Drop)]
 pub struct MemDisk {
     alloc: Global,
@@ -117,7 +121,8 @@ fn replay(alloc: Global, first: &[u8], kept: &[Kept], choice: u64) -> Result<Vec
 }
 
 impl MemDisk {
-    ghost use Rattle.disk_model.specs.Memory.{memory_past, memory_mark, fails_next, IsUnused, CountsCall};
+    ghost use Rattle.disk_model.specs.Memory.{memory_past, memory_mark};
+    ghost use Rattle.disk_model.specs.Memory.{fails_next, IsUnused, CountsCall};
 
     // Of which no call was made yet.
     fn unused(
@@ -205,8 +210,8 @@ impl MemDisk {
         }
     }
 
-    /// What a crash now may leave: 0 gives what was synced, 1 what a read gives, and another choice what a read
-    /// gives with the choice's low byte in the place of each byte that isn't synced.
+    /// What a crash now may leave: 0 gives what was synced, 1 what a read gives, and another choice
+    /// what a read gives with the choice's low byte in the place of each byte that isn't synced.
     pub fn image(&self, choice: u64) -> Result<Bytes, OutOfMemory>
         ensures value { IfOk result (λ image. image ≡ image_of (memory_past self.now) choice) }
         ensures may_be_left { IfOk result (λ image. MayLeave (memory_past self.now) image) }
@@ -230,7 +235,9 @@ impl MemDisk {
 }
 
 impl Disk for MemDisk {
-    ghost use Rattle.disk_model.specs.Memory.{memory_past, memory_mark, memory_reads_left, bytes_read, faults_of, fails_next, found_no_memory, CountsCall, FailsAsListed, LeavesOfWrite};
+    ghost use Rattle.disk_model.specs.Memory.{memory_past, memory_mark, memory_reads_left};
+    ghost use Rattle.disk_model.specs.Memory.{bytes_read, faults_of, fails_next, found_no_memory};
+    ghost use Rattle.disk_model.specs.Memory.{CountsCall, FailsAsListed, LeavesOfWrite};
 
     ghost tells = { Unit };
 

@@ -1,5 +1,6 @@
 -- The ends of catching up, each with its cause.
-use Rattle.std.specs.Prelude.{◌≡◌, ◌≢◌, ◌⊎◌, ℕ, ◌+◌, ◌<◌, List, [], ◌∷◌, ◌++◌, Option, Ok, Err, length}
+use Rattle.std.specs.Prelude.{◌≡◌, ◌≢◌, ◌⊎◌, ℕ, ◌+◌, ◌<◌, List, []}
+use Rattle.std.specs.Prelude.{◌∷◌, ◌++◌, Option, Ok, Err, length}
 use Rattle.delta_base.specs.declared.id.Id.{Id}
 use Rattle.term_table.specs.Table.{most}
 use Rattle.dataset_tx.specs.Held.{AreMore}
@@ -15,7 +16,11 @@ use Rattle.zone_state.specs.Brief.{last_of, changes_of}
 use Rattle.zone_state.specs.Stay.{decided}
 use Rattle.zone_state.specs.Zone.{ZoneView}
 use Rattle.follower.specs.declared.ends.SyncEnd.{SyncEnd}
-use Rattle.follower.specs.declared.ends.SyncEnd.TheVariants.{CaughtUp, NoSuchName, PeerBehind, NoPatch, PeerRefused, Diverged, Repeated, BadPatch, LinkFault, CutShort, NotUnderstood, Full, TermsFull, DiskFault, OutOfMemory}
+use Rattle.follower.specs.declared.ends.SyncEnd.TheVariants.{CaughtUp, NoSuchName, PeerBehind}
+use Rattle.follower.specs.declared.ends.SyncEnd.TheVariants.{NoPatch, PeerRefused, Diverged}
+use Rattle.follower.specs.declared.ends.SyncEnd.TheVariants.{Repeated, BadPatch, LinkFault}
+use Rattle.follower.specs.declared.ends.SyncEnd.TheVariants.{CutShort, NotUnderstood, Full}
+use Rattle.follower.specs.declared.ends.SyncEnd.TheVariants.{TermsFull, DiskFault, OutOfMemory}
 use Rattle.follower.specs.Exchanges.{Said}
 use Rattle.follower.specs.Syncing.{IsNextOf, came}
 
@@ -27,7 +32,8 @@ module _ {D : Type 0} (old new : ZoneView D) (said : List Said) (more : List Che
   -- behind the patches taken the fetch of the zone's next version was answered with this text
   abbrev pub FetchedText : List ℕ → Type 0
   FetchedText text =
-      (theirs : ℕ) × (head : Option Id) × (said ≡ came theirs head more (Ok (answer.Patch text) ∷ []))
+      (theirs : ℕ) × (head : Option Id)
+      × (said ≡ came theirs head more (Ok (answer.Patch text) ∷ []))
       × (length new.brief.ids < theirs)
 
   -- it is the text of this patch

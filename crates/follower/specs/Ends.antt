@@ -8,7 +8,8 @@ use Rattle.rpc_answers.specs.declared.answer.Answer.TheVariants as answer
 use Rattle.rpc_answers.specs.Answers.{status_of, body_of}
 use Rattle.rpc_answers.specs.Prints.{compact}
 use Rattle.follower.specs.declared.ends.SyncEnd.{SyncEnd}
-use Rattle.follower.specs.declared.ends.SyncEnd.TheVariants.{NoSuchName, NotUnderstood, PeerRefused, LinkFault, CutShort, OutOfMemory}
+use Rattle.follower.specs.declared.ends.SyncEnd.TheVariants.{NoSuchName, NotUnderstood, PeerRefused}
+use Rattle.follower.specs.declared.ends.SyncEnd.TheVariants.{LinkFault, CutShort, OutOfMemory}
 use Rattle.follower.specs.Exchanges.{Said}
 
 -- a call without an answer, as an end

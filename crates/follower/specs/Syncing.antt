@@ -1,5 +1,6 @@
 -- What catching up makes of what a peer said, and which end that has.
-use Rattle.std.specs.Prelude.{◌≡◌, ◌≢◌, ℕ, ◌+◌, ◌<◌, ◌≤◌, List, [], ◌∷◌, ◌++◌, Option, Result, Ok, Err, length, map}
+use Rattle.std.specs.Prelude.{◌≡◌, ◌≢◌, ℕ, ◌+◌, ◌<◌, ◌≤◌, List, [], ◌∷◌}
+use Rattle.std.specs.Prelude.{◌++◌, Option, Result, Ok, Err, length, map}
 use Rattle.delta_base.specs.declared.id.Id.{Id}
 use Rattle.rdf_terms.specs.declared.term.Term.{Term}
 use Rattle.term_table.specs.Table.{most}
@@ -17,7 +18,10 @@ use Rattle.zone_state.specs.Brief.{last_of, changes_of}
 use Rattle.zone_state.specs.Stay.{decided}
 use Rattle.zone_state.specs.Zone.{ZoneView}
 use Rattle.follower.specs.declared.ends.SyncEnd.{SyncEnd}
-use Rattle.follower.specs.declared.ends.SyncEnd.TheVariants.{CaughtUp, NoSuchName, PeerBehind, NoPatch, Diverged, Repeated, BadPatch, Full, TermsFull, DiskFault, OutOfMemory}
+use Rattle.follower.specs.declared.ends.SyncEnd.TheVariants.{CaughtUp, NoSuchName, PeerBehind}
+use Rattle.follower.specs.declared.ends.SyncEnd.TheVariants.{NoPatch, Diverged, Repeated}
+use Rattle.follower.specs.declared.ends.SyncEnd.TheVariants.{BadPatch, Full, TermsFull}
+use Rattle.follower.specs.declared.ends.SyncEnd.TheVariants.{DiskFault, OutOfMemory}
 use Rattle.follower.specs.Ends.{IsRefusal, LogEnds, of_ask}
 use Rattle.follower.specs.Exchanges.{Said}
 
@@ -123,8 +127,8 @@ module _ {D : Type 0} (old new : ZoneView D) where
     caught_up : theirs ≡ length new.brief.ids → last ≡ [] → end ≡ CaughtUp theirs
         → RestIs theirs last more end
 
-  -- Why catching up ended, by what was said and the patches taken of it: the log's call told no log;
-  -- or one that the zone doesn't go before; or the zone goes before it, and followed.
+  -- Why catching up ended, by what was said and the patches taken of it: the log's call told no
+  -- log; or one that the zone doesn't go before; or the zone goes before it, and followed.
   pub data EndIs (said : List Said) (more : List CheckedPatch) (end : SyncEnd) : Type 0 where
     unanswered : more ≡ [] → new ≡ old → LogEnds said end → EndIs said more end
     compared : (theirs : ℕ) (head : Option Id) → said ≡ came theirs head [] [] → more ≡ []

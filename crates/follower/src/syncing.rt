@@ -1,13 +1,17 @@
 //! Catching up with a log of a server.
-ghost use Rattle.std.specs.Prelude.{◌≡◌, ◌≢◌, ◌≤◌, ◌+◌, ◌++◌, ◌∷◌, [], List, None, Ok, true, length, IsSome, IsTrue, IfOk, OnOk, IfErr, IfNone, IfSome, IsErrOf};
+ghost use Rattle.std.specs.Prelude.{◌≡◌, ◌≢◌, ◌≤◌, ◌+◌, ◌++◌, ◌∷◌, [], List};
+ghost use Rattle.std.specs.Prelude.{None, Ok, true, length, IsSome, IsTrue};
+ghost use Rattle.std.specs.Prelude.{IfOk, OnOk, IfErr, IfNone, IfSome, IsErrOf};
 ghost use Rattle.std.specs.List.{list_all};
 ghost use Rattle.delta_base.specs.Outside.{Rose};
 ghost use Rattle.http_text.specs.Print.{is_visible};
 ghost use Rattle.patch_meaning.specs.Checked.{CheckedPatch};
 ghost use Rattle.rpc_answers.specs.declared.answer.Answer.TheVariants as given;
-ghost use Rattle.follower.specs.Exchanges.{Asks, Exchanged, Said as WasSaid, calls_of, fetches, net_of};
+ghost use Rattle.follower.specs.Exchanges.{Asks, Exchanged, Said as WasSaid};
+ghost use Rattle.follower.specs.Exchanges.{calls_of, fetches, net_of};
 ghost use Rattle.follower.specs.Grown.{GrewBy, Stayed, Took};
-ghost use Rattle.follower.specs.Syncing.{Compares, EndIs, FetchEnds, GoesBefore, IsText, RestIs, texts_said};
+ghost use Rattle.follower.specs.Syncing.{Compares, EndIs, FetchEnds, GoesBefore};
+ghost use Rattle.follower.specs.Syncing.{IsText, RestIs, texts_said};
 
 use crate::asking::{ask_log, end_line};
 use crate::ends::SyncEnd;
@@ -216,8 +220,8 @@ fn sync_over<N: Dial, D: Disk>(
     }
 }
 
-/// Asks for the log, and then fetches and takes each patch behind the zone's version up to the version answered.
-/// Connections are made to the address, and all are hung up.
+/// Asks for the log, and then fetches and takes each patch behind the zone's version up to the
+/// version answered. Connections are made to the address, and all are hung up.
 pub fn sync<N: Dial, D: Disk>(
     alloc: Global,
     net: &mut N,
@@ -227,8 +231,8 @@ pub fn sync<N: Dial, D: Disk>(
 ) -> SyncEnd
     requires { list_all is_visible address.now ≡ true }
 
-    // The zone took the patches whose texts the peer answered, in their order. It ended by what was said, and these calls
-    // were made and no other.
+    // The zone took the patches whose texts the peer answered, in their order. It ended by what was
+    // said, and these calls were made and no other.
     ensures follows { (said : List WasSaid) × (more : List CheckedPatch)
         × GrewBy D.Disk zone.old zone.new more said
         × EndIs zone.old zone.new said more result

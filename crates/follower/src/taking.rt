@@ -1,5 +1,6 @@
 //! Taking the patch that was fetched.
-ghost use Rattle.std.specs.Prelude.{◌≡◌, ◌≢◌, ◌≤◌, ◌+◌, ◌∷◌, [], Ok, length, IsTrue, OnOk, IfErr, IsErrOf};
+ghost use Rattle.std.specs.Prelude.{◌≡◌, ◌≢◌, ◌≤◌, ◌+◌, ◌∷◌, [], Ok};
+ghost use Rattle.std.specs.Prelude.{length, IsTrue, OnOk, IfErr, IsErrOf};
 ghost use Rattle.delta_base.specs.Outside.{Rose};
 ghost use Rattle.patch_meaning.specs.Checked.{CheckedPatch};
 ghost use Rattle.rpc_answers.specs.Answers.{NamesItsFault};

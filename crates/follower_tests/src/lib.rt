@@ -1,4 +1,5 @@
-//! Worked examples of a zone that catches up over connections in memory: what it takes, what is asked, and how it ends.
+//! Worked examples of a zone that catches up over connections in memory: what it takes, what is
+//! asked, and how it ends.
 #![tactic(auto)]
 
 #[cfg(test)]

@@ -116,7 +116,8 @@ pub(crate) fn dial_of(
     MemDial::new(alloc, links, calls(alloc, failing)?)
 }
 
-/// A zone that took nothing, on a disk whose calls of these numbers fail; none where one of them is a call of the opening.
+/// A zone that took nothing, on a disk whose calls of these numbers fail; none where one of them is
+/// a call of the opening.
 pub(crate) fn new_zone(
     alloc: Global,
     failing: &[u64],

@@ -67,7 +67,8 @@ fn a_connect_that_fails_is_told(rt: HostRuntime) -> Result<(), Fail> {
     Ok(())
 }
 
-/// The lines of a zone's dataset, which takes this version of the log over a connection that gives these bytes.
+/// The lines of a zone's dataset, which takes this version of the log over a connection that
+/// gives these bytes.
 fn lines_behind(alloc: Global, mine: usize, bytes: &[u8]) -> Result<BTreeSet<Text>, Fail> {
     let mut net = dial_of(alloc, &[bytes], &[])?;
     let mut zone = zone_at(alloc, mine)?;

@@ -8,8 +8,8 @@ ghost use Rattle.patch_meaning.specs.Stream.{IsStream};
 ghost use Rattle.stream_generator.specs.Generator.{stream_text};
 ghost use Rattle.generated_replay.specs.Meanings.{head, meanings};
 
-/// The text of so many generated patches is a stream of as many patches, which are a chain. Each adds a quad of its own, and a
-/// third of them, rounded down, delete an earlier one.
+/// The text of so many generated patches is a stream of as many patches, which are a chain. Each
+/// adds a quad of its own, and a third of them, rounded down, delete an earlier one.
 pub fn generated_streams_are_chains()
     ensures stream { (n : ℕ) → n ≤ 65536 → IsStream (stream_text n) (meanings n) }
     ensures short { (n : ℕ) → n ≤ 65536 → length (stream_text n) ≤ 256 * n }

@@ -46,8 +46,8 @@ impl<D: Disk> HallLogs<D> {
         &self.logs[slot as usize - 1]
     }
 
-    /// Adds a patch to the log of a slot, or says why not: Known, Conflict, Full, want of memory and a disk fault, in
-    /// this order.
+    /// Adds a patch to the log of a slot, or says why not: Known, Conflict, Full, want of memory
+    /// and a disk fault, in this order.
     pub fn append<R: Wait>(
         &self,
         rt: &R,

@@ -132,8 +132,8 @@ fn make_room<D: Disk>(alloc: Global, files: usize, seats: u32) -> Result<Memory<
 }
 
 impl<D: Disk> HallLogs<D> {
-    /// Opens the logs of files, whose numbers go up from 1, and shares them among passes, whose numbers go up from 1. A
-    /// refusal hands all disks back.
+    /// Opens the logs of files, whose numbers go up from 1, and shares them among passes, whose
+    /// numbers go up from 1. A refusal hands all disks back.
     pub fn open_on(
         alloc: Global,
         disks: Vec<D>,

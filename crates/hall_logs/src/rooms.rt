@@ -29,8 +29,8 @@ impl<D: Disk> Model for Lists<D> {
         × (16 ≤ vec_capacity r.lists) };
 }
 
-/// Room for the passes of each log and for the disks of all. It stays with whoever closes the logs, since a place for a
-/// pass can't be shared among threads.
+/// Room for the passes of each log and for the disks of all. It stays with whoever closes the logs,
+/// since a place for a pass can't be shared among threads.
 #[derive(Drop)]
 pub struct Rooms<D: Disk> {
     pub(crate) lists: Lists<D>,

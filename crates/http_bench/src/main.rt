@@ -1,4 +1,5 @@
-//! Feeds standard input to a reader of requests in pieces of one size, to measure what small pieces cost.
+//! Feeds standard input to a reader of requests in pieces of one size, to measure what
+//! small pieces cost.
 //!
 //! `http_bench SIZE` prints how many requests it took, and how many bytes their bodies have.
 #![tactic(auto)]
@@ -25,7 +26,8 @@ fn take_one(reader: &mut RequestReader, tally: Tally) -> Option<Tally> {
     })
 }
 
-/// Feeds a text in pieces of `size` bytes, or of one byte where that is 0, and takes at most as many requests as it has bytes.
+/// Feeds a text in pieces of `size` bytes, or of one byte where that is 0, and takes at most as
+/// many requests as it has bytes.
 fn count_requests(alloc: Global, text: &[u8], size: u32) -> Result<Tally, FrameFault> {
     let mut reader = RequestReader::new(alloc);
     let mut tally = Tally {

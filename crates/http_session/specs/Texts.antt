@@ -1,4 +1,5 @@
--- The texts that a session writes by itself: the continue line, the reply for want of memory, and refusals.
+-- The texts that a session writes by itself: the continue line, the reply for want of
+-- memory, and refusals.
 use Rattle.std.specs.Prelude.{ℕ, Bool, true, false, List, [], ◌++◌, Some, None, codes}
 use Rattle.httparse.specs.Ascii.{crlf_bytes}
 use Rattle.http_text.specs.Faults.{frame_name, frame_status}
@@ -17,7 +18,12 @@ continue_line false = []
 
 -- a reply in JSON
 abbrev pub json_reply : ℕ → Bool → List ℕ → RawReply
-json_reply status close body = record { status = status; close = close; content_type = Some (codes "application/json"); body = body }
+json_reply status close body = record {
+  status = status;
+  close = close;
+  content_type = Some (codes "application/json");
+  body = body;
+}
 
 -- the reply for want of memory
 abbrev pub memory_text : Bool → List ℕ
@@ -26,5 +32,6 @@ memory_text close = reply_text (json_reply 503 close (codes "{\"error\":\"out_of
 -- the reply to bytes that are no request
 abbrev pub refusal_text : FrameFault → List ℕ
 refusal_text fault =
-    let body = codes "{\"error\":\"bad_request\",\"kind\":\"" ++ (frame_name fault ++ codes "\"}") in
+    let body = codes "{\"error\":\"bad_request\",\"kind\":\""
+    ++ (frame_name fault ++ codes "\"}") in
     reply_text (json_reply (frame_status fault) true body) None

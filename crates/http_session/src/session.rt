@@ -1,5 +1,6 @@
 //! One connection from its first byte to its end.
-ghost use Rattle.std.specs.Prelude.{◌≡◌, ◌+◌, ◌<◌, ◌≤◌, ℕ, Bool, List, [], false, None, Ok, Err, OnOk, IfErr};
+ghost use Rattle.std.specs.Prelude.{◌≡◌, ◌+◌, ◌<◌, ◌≤◌, ℕ, Bool, List, []};
+ghost use Rattle.std.specs.Prelude.{false, None, Ok, Err, OnOk, IfErr};
 ghost use Rattle.std.specs.Io.KnownBytes.{Appends, IsAtEnd};
 ghost use Rattle.delta_base.specs.Outside.{Rose};
 ghost use Rattle.http_text.specs.Readers.{fault_of, was_told};
@@ -8,7 +9,8 @@ ghost use Rattle.http_text.specs.declared.message.Message.{Message};
 ghost use Rattle.http_session.specs.Said.{IsPrintableSaid, said_text};
 ghost use Rattle.http_session.specs.Output.{most_requests};
 ghost use Rattle.http_session.specs.Talks.{Moment, TalksOn, IsDrained, moment_of};
-ghost use Rattle.http_session.specs.Stands.{AnsweredAll, AnswersAs, Ended, RefusesAs, Stands, StopsSending, TellsAs, TookExpect};
+ghost use Rattle.http_session.specs.Stands.{AnsweredAll, AnswersAs, Ended, RefusesAs};
+ghost use Rattle.http_session.specs.Stands.{Stands, StopsSending, TellsAs, TookExpect};
 
 use crate::answerer::{Answerer, Said};
 use crate::texts::{continue_text, memory_text, refusal_text};
@@ -27,9 +29,11 @@ const PIECE: usize = 8_192;
 // Sends a whole text.
 fn send<L: Link>(link: &mut L, text: &[u8]) -> Result<(), SessionEnd>
     ensures sent { OnOk result (Appends (L.sent link.old) (L.sent link.new) text.now) }
-    ensures stops { IfErr result (λ end. StopsSending (L.sent link.old) (L.sent link.new) text.now end) }
+    ensures stops { IfErr result (λ end.
+        StopsSending (L.sent link.old) (L.sent link.new) text.now end) }
     ensures keeps { L.left link.new ≡ L.left link.old }
-    ensures failed { result ≡ Err SessionEnd.LinkFault → Rose (L.faults link.old) (L.faults link.new) }
+    ensures failed { result ≡ Err SessionEnd.LinkFault
+        → Rose (L.faults link.old) (L.faults link.new) }
     ensures never_falls { L.faults link.old ≤ L.faults link.new }
 {
     match send_all(link, text) {
@@ -40,9 +44,11 @@ fn send<L: Link>(link: &mut L, text: &[u8]) -> Result<(), SessionEnd>
 
 // Tells the client to send a body, where the head at the front asks for that and wasn't told.
 fn tell<L: Link>(link: &mut L, reader: &mut RequestReader) -> Result<(), SessionEnd>
-    ensures tells { (asks : Bool) × TookExpect reader.old reader.new asks × TellsAs asks (L.sent link.old) (L.sent link.new) result }
+    ensures tells { (asks : Bool) × TookExpect reader.old reader.new asks
+        × TellsAs asks (L.sent link.old) (L.sent link.new) result }
     ensures keeps { L.left link.new ≡ L.left link.old }
-    ensures failed { result ≡ Err SessionEnd.LinkFault → Rose (L.faults link.old) (L.faults link.new) }
+    ensures failed { result ≡ Err SessionEnd.LinkFault
+        → Rose (L.faults link.old) (L.faults link.new) }
     ensures never_falls { L.faults link.old ≤ L.faults link.new }
 {
     if !reader.take_expect() {
@@ -62,10 +68,13 @@ fn send_said<L: Link>(
     close: bool,
 ) -> Result<(), SessionEnd>
     requires { IsPrintableSaid said }
-    ensures sent { OnOk result (Appends (L.sent link.old) (L.sent link.new) (said_text said close)) }
-    ensures stops { IfErr result (λ end. StopsSending (L.sent link.old) (L.sent link.new) (said_text said close) end) }
+    ensures sent { OnOk result
+        (Appends (L.sent link.old) (L.sent link.new) (said_text said close)) }
+    ensures stops { IfErr result (λ end.
+        StopsSending (L.sent link.old) (L.sent link.new) (said_text said close) end) }
     ensures keeps { L.left link.new ≡ L.left link.old }
-    ensures failed { result ≡ Err SessionEnd.LinkFault → Rose (L.faults link.old) (L.faults link.new) }
+    ensures failed { result ≡ Err SessionEnd.LinkFault
+        → Rose (L.faults link.old) (L.faults link.new) }
     ensures never_falls { L.faults link.old ≤ L.faults link.new }
 {
     match said {
@@ -92,10 +101,12 @@ fn answer<R: Wait, A: Answerer, L: Link>(
 ) -> Result<(), SessionEnd>
     requires ready { A.ready answerer.now state.old }
     requires few { before < most_requests }
-    ensures answers { (said : _) × A.answers answerer.now state.old request said state.new × AnswersAs before request said (L.sent link.old) (L.sent link.new) result }
+    ensures answers { (said : _) × A.answers answerer.now state.old request said state.new
+        × AnswersAs before request said (L.sent link.old) (L.sent link.new) result }
     ensures ready { A.ready answerer.now state.new }
     ensures keeps { L.left link.new ≡ L.left link.old }
-    ensures failed { result ≡ Err SessionEnd.LinkFault → Rose (L.faults link.old) (L.faults link.new) }
+    ensures failed { result ≡ Err SessionEnd.LinkFault
+        → Rose (L.faults link.old) (L.faults link.new) }
     ensures never_falls { L.faults link.old ≤ L.faults link.new }
 {
     let closes = request.close;
@@ -111,7 +122,8 @@ fn answer<R: Wait, A: Answerer, L: Link>(
     Ok(())
 }
 
-// Answers the requests that wait, and tells the one that is still to come to send its body, where it asks.
+// Answers the requests that wait, and tells the one that is still to come to send its body,
+// where it asks.
 fn answer_waiting<R: Wait, A: Answerer, L: Link>(
     rt: &R,
     alloc: Global,
@@ -124,8 +136,12 @@ fn answer_waiting<R: Wait, A: Answerer, L: Link>(
     requires ready { A.ready answerer.now state.old }
     requires few { answered.old < most_requests }
     ensures all { (from : Moment A.State) (read : List ℕ) (messages : List Message)
-        → Stands (A.answers answerer.now) from (moment_of state.old (L.left link.old) (L.sent link.old) (L.faults link.old)) read messages reader.old answered.old
-        → AnsweredAll (A.answers answerer.now) from (moment_of state.new (L.left link.new) (L.sent link.new) (L.faults link.new)) read messages reader.new answered.new result }
+        → Stands (A.answers answerer.now) from
+        (moment_of state.old (L.left link.old) (L.sent link.old) (L.faults link.old))
+        read messages reader.old answered.old
+        → AnsweredAll (A.answers answerer.now) from
+        (moment_of state.new (L.left link.new) (L.sent link.new) (L.faults link.new))
+        read messages reader.new answered.new result }
     ensures ready { A.ready answerer.now state.new }
     ensures few { OnOk result (answered.new < most_requests) }
     ensures fault { fault_of reader.new ≡ fault_of reader.old }
@@ -171,7 +187,8 @@ fn serve_link<R: Wait, A: Answerer, L: Link>(
     requires gave { GaveRequests [] [] reader.old }
     requires untold { was_told reader.old ≡ false }
     requires well { fault_of reader.old ≡ None }
-    ensures ended { Ended (A.answers answerer.now) (moment_of state.old (L.left link.old) (L.sent link.old) (L.faults link.old))
+    ensures ended { Ended (A.answers answerer.now)
+        (moment_of state.old (L.left link.old) (L.sent link.old) (L.faults link.old))
         (moment_of state.new (L.left link.new) (L.sent link.new) (L.faults link.new)) result }
     ensures ready { A.ready answerer.now state.new }
 {
@@ -199,8 +216,8 @@ fn serve_link<R: Wait, A: Answerer, L: Link>(
     unreachable!()
 }
 
-/// Carries one connection: reads requests from the link in pieces, has each answered, and sends the replies in their order, until
-/// the connection ends.
+/// Carries one connection: reads requests from the link in pieces, has each answered, and sends the
+/// replies in their order, until the connection ends.
 pub fn converse<R: Wait, A: Answerer, L: Link>(
     rt: &R,
     alloc: Global,
@@ -209,7 +226,8 @@ pub fn converse<R: Wait, A: Answerer, L: Link>(
     link: &mut L,
 ) -> SessionEnd
     requires { A.ready answerer.now state.old }
-    ensures talks { TalksOn (A.answers answerer.now) (moment_of state.old (L.left link.old) (L.sent link.old) (L.faults link.old))
+    ensures talks { TalksOn (A.answers answerer.now)
+        (moment_of state.old (L.left link.old) (L.sent link.old) (L.faults link.old))
         (moment_of state.new (L.left link.new) (L.sent link.new) (L.faults link.new)) result }
     ensures drained { IsDrained (L.left link.new) result }
     ensures failed { result ≡ SessionEnd.LinkFault → Rose (L.faults link.old) (L.faults link.new) }

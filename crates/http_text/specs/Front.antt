@@ -11,7 +11,8 @@ use Rattle.http_text.specs.declared.message.Kind.{Kind}
 use Rattle.http_text.specs.declared.message.RawRequest.{RawRequest}
 use Rattle.http_text.specs.declared.message.RawReply.{RawReply}
 use Rattle.http_text.specs.declared.framing.FrameFault.{FrameFault}
-use Rattle.http_text.specs.declared.framing.FrameFault.TheVariants.{BadHead, TooManyFields, HeadTooLong, OutOfMemory}
+use Rattle.http_text.specs.declared.framing.FrameFault.TheVariants.{BadHead, TooManyFields}
+use Rattle.http_text.specs.declared.framing.FrameFault.TheVariants.{HeadTooLong, OutOfMemory}
 use Rattle.http_text.specs.declared.front.Front.{Front}
 use Rattle.http_text.specs.declared.front.Front.TheVariants.{Whole, Interim, Open}
 
@@ -39,7 +40,8 @@ reply_at head rows = record {
 
 -- the text begins with a head, and this is its first fault
 abbrev pub IsOwnFault : Kind → ℕ → List ℕ → FrameFault → Type 0
-IsOwnFault kind room text fault = (head : Head) × (behind : List ℕ) × BeginsWithHead kind room text head behind × (framing_behind head ≡ Err fault)
+IsOwnFault kind room text fault = (head : Head) × (behind : List ℕ)
+    × BeginsWithHead kind room text head behind × (framing_behind head ≡ Err fault)
 
 -- the fault is that of the text's head, unless memory ran out
 abbrev pub TellsFaultAt : Kind → ℕ → List ℕ → FrameFault → Type 0
@@ -52,9 +54,11 @@ TellsFaultAt kind room text fault = IsOwnFault kind room text fault
 -- what was read is what stands at the front
 abbrev pub FrontIs : Kind → ℕ → List ℕ → Result Front FrameFault → Type 0
 FrontIs kind room text (Ok (Whole message framing len)) =
-    (head : Head) × BeginsWithHead kind room text head (drop len text) × (len ≡ length (print_head head))
+    (head : Head) × BeginsWithHead kind room text head (drop len text)
+    × (len ≡ length (print_head head))
     × (framing_behind head ≡ Ok framing) × (message ≡ message_of head [])
 FrontIs kind room text (Ok (Interim len)) =
-    (head : Head) × IsInterim kind head × ReadsHead kind text head (drop len text) × (len ≡ length (print_head head)) × (len ≤ room)
+    (head : Head) × IsInterim kind head × ReadsHead kind text head (drop len text)
+    × (len ≡ length (print_head head)) × (len ≤ room)
 FrontIs kind room text (Ok Open) = HasNoHead kind text × ¬ (IsBadHead kind text)
 FrontIs kind room text (Err fault) = TellsFaultAt kind room text fault

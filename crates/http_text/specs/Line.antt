@@ -11,9 +11,11 @@ IsSize digits = (0 < length digits) × (length digits ≤ 16) × AllPass is_asci
 
 -- what the text is
 abbrev pub FollowsLine : List ℕ → LineAt → Type 0
-FollowsLine text Size = (digits : List ℕ) × (pad : List ℕ) × IsSize digits × AllPass is_ows pad × (text ≡ digits ++ pad)
+FollowsLine text Size =
+    (digits : List ℕ) × (pad : List ℕ) × IsSize digits × AllPass is_ows pad × (text ≡ digits ++ pad)
 FollowsLine text Extension =
-    (digits : List ℕ) × (pad : List ℕ) × (extension : List ℕ) × IsSize digits × AllPass is_ows pad × AllPass is_extension_byte extension
+    (digits : List ℕ) × (pad : List ℕ) × (extension : List ℕ) × IsSize digits
+    × AllPass is_ows pad × AllPass is_extension_byte extension
     × (text ≡ digits ++ (pad ++ 59 ∷ extension))
 FollowsLine text Unknown = Unit {0}
 

@@ -1,13 +1,18 @@
 -- The messages of a stream, requests or replies, and how it ends.
-use Rattle.std.specs.Prelude.{◌≡◌, ◌≢◌, ◌⊎◌, ◌≤◌, ◌==◌, ℕ, Bool, false, List, [], ◌∷◌, ◌++◌, length, take, drop, Result, Ok, Err, codes, nat_eq, if◌then◌else◌}
+use Rattle.std.specs.Prelude.{◌≡◌, ◌≢◌, ◌⊎◌, ◌≤◌, ◌==◌, ℕ, Bool, false, List, [], ◌∷◌, ◌++◌}
+use Rattle.std.specs.Prelude.{length, take, drop, Result, Ok, Err, codes, nat_eq, if◌then◌else◌}
 use Rattle.std.specs.List.{starts_with}
 use Rattle.httparse.specs.Grammar.{RequestHead, ResponseHead, status_code}
-use Rattle.http_text.specs.Heads.{Head, request, reply, print_head, fields_of, minor_of, most_fields, ReadsHead, HasNoHead, HasTooManyFields, IsBadHead, is_interim, PassesOver, room_behind}
+use Rattle.http_text.specs.Heads.{Head, request, reply, print_head, fields_of, minor_of}
+use Rattle.http_text.specs.Heads.{most_fields, ReadsHead, HasNoHead, HasTooManyFields}
+use Rattle.http_text.specs.Heads.{IsBadHead, is_interim, PassesOver, room_behind}
 use Rattle.http_text.specs.Fields.{rows_of, values_of, first_of, closes}
 use Rattle.http_text.specs.Framing.{framing_of, expects}
-use Rattle.http_text.specs.Chunks.{ChunkedBody, IsChunkedBody, print_chunked, data_of, IsChunkedFault}
+use Rattle.http_text.specs.Chunks.{ChunkedBody, IsChunkedBody}
+use Rattle.http_text.specs.Chunks.{print_chunked, data_of, IsChunkedFault}
 use Rattle.http_text.specs.declared.framing.FrameFault.{FrameFault}
-use Rattle.http_text.specs.declared.framing.FrameFault.TheVariants.{BadHead, TooManyFields, HeadTooLong, OutOfMemory}
+use Rattle.http_text.specs.declared.framing.FrameFault.TheVariants.{BadHead, TooManyFields}
+use Rattle.http_text.specs.declared.framing.FrameFault.TheVariants.{HeadTooLong, OutOfMemory}
 use Rattle.http_text.specs.declared.framing.Framing.{Framing}
 use Rattle.http_text.specs.declared.framing.Framing.TheVariants.{Sized, Chunked}
 use Rattle.http_text.specs.declared.message.Kind.{Kind}
@@ -80,13 +85,15 @@ abbrev pub framing_behind : Head → Result Framing FrameFault
 framing_behind head = framing_of (kind_of head) (minor_of head) (rows_of (fields_of head))
 
 -- the text begins with a head within the limits, of which so many bytes are left
-pub record BeginsWithHead (kind : Kind) (room : ℕ) (text : List ℕ) (head : Head) (behind : List ℕ) : Type 0 where
+pub record BeginsWithHead (kind : Kind) (room : ℕ) (text : List ℕ)
+    (head : Head) (behind : List ℕ) : Type 0 where
   pub reads : ReadsHead kind text head behind
   pub short : length (print_head head) ≤ room
   pub few : length (fields_of head) ≤ most_fields
   pub final : is_interim head ≡ false
 
--- the text begins with what is passed over and a whole head without a fault, which asks for 100 Continue or doesn't
+-- the text begins with what is passed over and a whole head without a fault, which asks for 100
+-- Continue or doesn't
 pub record BeginsWithGoodHead (kind : Kind) (text : List ℕ) (asks : Bool) : Type 0 where
   pub passed : List Head
   pub from : List ℕ
@@ -101,7 +108,8 @@ pub record BeginsWithGoodHead (kind : Kind) (text : List ℕ) (asks : Bool) : Ty
 -- the text is that body, by its framing
 abbrev pub IsBody : Framing → List ℕ → List ℕ → Type 0
 IsBody (Sized size) text body = (length text ≡ size) × (body ≡ text)
-IsBody Chunked text body = (b : ChunkedBody) × IsChunkedBody b × (text ≡ print_chunked b) × (body ≡ data_of b.chunks)
+IsBody Chunked text body =
+    (b : ChunkedBody) × IsChunkedBody b × (text ≡ print_chunked b) × (body ≡ data_of b.chunks)
 
 -- the text is that message: what is passed over, a head without a fault, and the body behind it
 pub record IsMessage (kind : Kind) (text : List ℕ) (message : Message) : Type 0 where
@@ -128,20 +136,23 @@ IsBodyFault Chunked text fault = IsChunkedFault text fault
 abbrev pub IsFaultOfHead : Kind → ℕ → List ℕ → FrameFault → Type 0
 IsFaultOfHead kind room text fault =
     (head : Head) × (behind : List ℕ) × BeginsWithHead kind room text head behind
-    × ((framing_behind head ≡ Err fault) ⊎ ((framing : Framing) × (framing_behind head ≡ Ok framing) × IsBodyFault framing behind fault))
+    × ((framing_behind head ≡ Err fault)
+    ⊎ ((framing : Framing) × (framing_behind head ≡ Ok framing) × IsBodyFault framing behind fault))
 
 -- the fault of a text whose head may have so many bytes
 abbrev pub IsFaultAt : Kind → ℕ → List ℕ → FrameFault → Type 0
 IsFaultAt kind room text TooManyFields = HasTooManyFields kind (take room text)
 IsFaultAt kind room text BadHead = IsBadHead kind (take room text)
-IsFaultAt kind room text HeadTooLong = (room ≤ length text) × HasNoHead kind (take room text) × ¬ (IsBadHead kind (take room text))
+IsFaultAt kind room text HeadTooLong =
+    (room ≤ length text) × HasNoHead kind (take room text) × ¬ (IsBadHead kind (take room text))
 IsFaultAt kind room text OutOfMemory = ⊥
 IsFaultAt kind room text fault = IsFaultOfHead kind room text fault
 
 -- the fault of the rest behind the last whole message
 abbrev pub IsFrameFault : Kind → List ℕ → FrameFault → Type 0
 IsFrameFault kind rest fault =
-    (passed : List Head) × (text : List ℕ) × PassesOver kind rest passed text × IsFaultAt kind (room_behind passed) text fault
+    (passed : List Head) × (text : List ℕ) × PassesOver kind rest passed text
+    × IsFaultAt kind (room_behind passed) text fault
 
 -- ---- streams
 
@@ -149,11 +160,13 @@ IsFrameFault kind rest fault =
 abbrev pub AreMessages : Kind → List ℕ → List Message → List ℕ → Type 0
 AreMessages kind bytes [] rest = bytes ≡ rest
 AreMessages kind bytes (message ∷ messages) rest =
-    (text : List ℕ) × (more : List ℕ) × (bytes ≡ text ++ more) × IsMessage kind text message × AreMessages kind more messages rest
+    (text : List ℕ) × (more : List ℕ) × (bytes ≡ text ++ more) × IsMessage kind text message
+    × AreMessages kind more messages rest
 
 -- no message stands at the front
 abbrev pub BeginsNoMessage : Kind → List ℕ → Type 0
-BeginsNoMessage kind rest = (text more : List ℕ) (message : Message) → IsMessage kind text message → rest ≡ text ++ more → ⊥
+BeginsNoMessage kind rest =
+    (text more : List ℕ) (message : Message) → IsMessage kind text message → rest ≡ text ++ more → ⊥
 
 -- how a stream ends
 pub data End : Type 0 where
@@ -163,8 +176,10 @@ pub data End : Type 0 where
 abbrev pub EndsAs : Kind → List ℕ → End → Type 0
 EndsAs kind rest between = rest ≡ []
 EndsAs kind rest (faulty fault) = IsFrameFault kind rest fault
-EndsAs kind rest inside = (rest ≢ []) × BeginsNoMessage kind rest × ((fault : FrameFault) → ¬ (IsFrameFault kind rest fault))
+EndsAs kind rest inside = (rest ≢ []) × BeginsNoMessage kind rest
+    × ((fault : FrameFault) → ¬ (IsFrameFault kind rest fault))
 
 -- the bytes are these messages, and what is behind them ends so
 abbrev pub Reads : Kind → List ℕ → List Message → End → Type 0
-Reads kind bytes messages end = (rest : List ℕ) × AreMessages kind bytes messages rest × EndsAs kind rest end
+Reads kind bytes messages end =
+    (rest : List ℕ) × AreMessages kind bytes messages rest × EndsAs kind rest end

@@ -1,10 +1,12 @@
 -- The requests that a client writes, and the replies of a server.
-use Rattle.std.specs.Prelude.{◌≡◌, ◌≤◌, ◌++◌, ℕ, Bool, ◌&&◌, not, ◌==◌, nat_le, false, true, List, [], ◌∷◌, length, Option, Some, None, codes, unwrap_or}
+use Rattle.std.specs.Prelude.{◌≡◌, ◌≤◌, ◌++◌, ℕ, Bool, ◌&&◌, not, ◌==◌, nat_le, false, true}
+use Rattle.std.specs.Prelude.{List, [], ◌∷◌, length, Option, Some, None, codes, unwrap_or}
 use Rattle.std.specs.Fmt.{decimal}
 use Rattle.std.specs.List.{list_all, list_any}
 use Rattle.http.specs.StatusCode.{code_digits, reason_phrase}
 use Rattle.httparse.specs.Ascii.{crlf_bytes}
-use Rattle.httparse.specs.Grammar.{is_value_byte, Field, crlf, RequestHead, print_request, ResponseHead, print_response, print_version}
+use Rattle.httparse.specs.Grammar.{is_value_byte, Field, crlf, RequestHead, print_request}
+use Rattle.httparse.specs.Grammar.{ResponseHead, print_response, print_version}
 use Rattle.http_text.specs.Heads.{most_head}
 use Rattle.http_text.specs.Framing.{most_body}
 use Rattle.http_text.specs.declared.message.RawRequest.{RawRequest}
@@ -17,7 +19,8 @@ field name value = record { name = name; raw = 32 ∷ value; end = crlf }
 -- the fields of the body, where its type is given
 abbrev pub body_fields : Option (List ℕ) → ℕ → List Field
 body_fields None size = []
-body_fields (Some kind) size = field (codes "Content-Type") kind ∷ (field (codes "Content-Length") (decimal size) ∷ [])
+body_fields (Some kind) size =
+    field (codes "Content-Type") kind ∷ (field (codes "Content-Length") (decimal size) ∷ [])
 
 -- the request line, Host, the fields of the body, and an empty line
 abbrev pub head_for : RawRequest → List ℕ → RequestHead
@@ -51,7 +54,8 @@ HasMethod request (Some kind) = (request.method ≡ codes "POST") × (list_all i
 -- what a client may write
 pub record IsPrintable (request : RawRequest) (host : List ℕ) : Type 0 where
   pub method : HasMethod request request.content_type
-  pub path : (rest : List ℕ) × (request.path ≡ 47 ∷ rest) × (list_all is_path_byte request.path ≡ true)
+  pub path : (rest : List ℕ) × (request.path ≡ 47 ∷ rest)
+      × (list_all is_path_byte request.path ≡ true)
   pub host_bytes : list_all is_visible host ≡ true
   pub http11 : request.http10 ≡ false
   pub stays : request.close ≡ false
@@ -88,7 +92,8 @@ close_fields false = []
 
 -- Allow where it is given, Connection where the session ends, and the fields of the body
 abbrev pub reply_fields : RawReply → Option (List ℕ) → List Field
-reply_fields reply allow = allow_fields allow ++ (close_fields reply.close ++ body_fields reply.content_type (length reply.body))
+reply_fields reply allow = allow_fields allow
+    ++ (close_fields reply.close ++ body_fields reply.content_type (length reply.body))
 
 abbrev pub reply_head : RawReply → Option (List ℕ) → ResponseHead
 reply_head reply allow = record {

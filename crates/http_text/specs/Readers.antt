@@ -1,7 +1,10 @@
 -- What a reader stands for.
-use Rattle.std.specs.Prelude.{◌≡◌, ◌⊎◌, ℕ, Bool, true, false, List, [], ◌∷◌, ◌++◌, take, Option, Some, None, Result, Ok, Err}
+use Rattle.std.specs.Prelude.{◌≡◌, ◌⊎◌, ℕ, Bool, true, false, List, [], ◌∷◌}
+use Rattle.std.specs.Prelude.{◌++◌, take, Option, Some, None, Result, Ok, Err}
 use Rattle.http_text.specs.Heads.{Head, PassesOver, room_behind}
-use Rattle.http_text.specs.Messages.{message_of, message_expects, BeginsWithHead, BeginsWithGoodHead, framing_behind, IsMessage, IsFrameFault, AreMessages, Reads, between, inside, faulty}
+use Rattle.http_text.specs.Messages.{message_of, message_expects, BeginsWithHead}
+use Rattle.http_text.specs.Messages.{BeginsWithGoodHead, framing_behind, IsMessage}
+use Rattle.http_text.specs.Messages.{IsFrameFault, AreMessages, Reads, between, inside, faulty}
 use Rattle.http_text.specs.Follow.{Follows}
 use Rattle.http_text.specs.Front.{TellsFaultAt}
 use Rattle.http_text.specs.declared.follow.Progress.{Progress}
@@ -18,7 +21,8 @@ use Rattle.http_text.specs.declared.reader.Stage.TheVariants.{Head as InHead, Bo
 use Rattle.http_text.specs.declared.reader.MessageReader.{MessageReader}
 
 -- the rest is what was passed over, and the front of a head
-pub record HoldsHead (kind : Kind) (rest : List ℕ) (room : ℕ) (progress : Progress) (pending : List ℕ) : Type 0 where
+pub record HoldsHead (kind : Kind) (rest : List ℕ) (room : ℕ) (progress : Progress)
+    (pending : List ℕ) : Type 0 where
   pub passed : List Head
   pub passes : PassesOver kind rest passed pending
   pub room_is : room ≡ room_behind passed
@@ -26,7 +30,8 @@ pub record HoldsHead (kind : Kind) (rest : List ℕ) (room : ℕ) (progress : Pr
   pub follows : Follows kind pending progress
 
 -- the rest is a whole head without a fault, and what has come of its body
-pub record HoldsBody (kind : Kind) (rest : List ℕ) (message : Message) (body : List ℕ) (part : Part) (pending : List ℕ) : Type 0 where
+pub record HoldsBody (kind : Kind) (rest : List ℕ) (message : Message) (body : List ℕ)
+    (part : Part) (pending : List ℕ) : Type 0 where
   pub passed : List Head
   pub from : List ℕ
   pub passes : PassesOver kind rest passed from
@@ -41,7 +46,8 @@ pub record HoldsBody (kind : Kind) (rest : List ℕ) (message : Message) (body :
 -- the rest has no fault yet, and has come so far
 abbrev pub Holds : Kind → Stage → List ℕ → List ℕ → Type 0
 Holds kind (InHead room progress) pending rest = HoldsHead kind rest room progress pending
-Holds kind (Body message body part) pending rest = HoldsBody kind rest message body.items part pending
+Holds kind (Body message body part) pending rest =
+    HoldsBody kind rest message body.items part pending
 Holds kind (Faulty broken) pending rest = ⊥
 
 -- the fault is that of the rest, unless memory ran out
@@ -51,7 +57,8 @@ TellsFault kind rest fault = IsFrameFault kind rest fault
 
 -- the rest is what was passed over and a head with this fault, unless memory ran out
 abbrev pub HasHeadFault : Kind → List ℕ → FrameFault → Type 0
-HasHeadFault kind rest fault = (passed : List Head) × (text : List ℕ) × PassesOver kind rest passed text × TellsFaultAt kind (room_behind passed) text fault
+HasHeadFault kind rest fault = (passed : List Head) × (text : List ℕ)
+    × PassesOver kind rest passed text × TellsFaultAt kind (room_behind passed) text fault
 
 -- whether the head in front of a fault is whole, without a fault, and asks for 100 Continue
 abbrev pub KnowsAsk : Kind → List ℕ → FrameFault → Bool → Type 0
@@ -60,13 +67,15 @@ KnowsAsk kind rest fault false = HasHeadFault kind rest fault ⊎ BeginsWithGood
 
 -- the rest has this fault, unless memory ran out, and what is told of the head in front of it holds
 abbrev pub BreaksAs : Kind → List ℕ → Broken → Type 0
-BreaksAs kind rest broken = TellsFault kind rest broken.fault × KnowsAsk kind rest broken.fault broken.expects
+BreaksAs kind rest broken =
+    TellsFault kind rest broken.fault × KnowsAsk kind rest broken.fault broken.expects
 
 -- and else it has this fault, unless memory ran out
 abbrev pub HoldsStage : Kind → Stage → List ℕ → List ℕ → Type 0
 HoldsStage kind (Faulty broken) pending rest = BreaksAs kind rest broken
 HoldsStage kind (InHead room progress) pending rest = Holds kind (InHead room progress) pending rest
-HoldsStage kind (Body message body part) pending rest = Holds kind (Body message body part) pending rest
+HoldsStage kind (Body message body part) pending rest =
+    Holds kind (Body message body part) pending rest
 
 -- the stage and the bytes that are kept go together
 abbrev pub CanGoOn : Kind → Stage → List ℕ → Type 0
@@ -76,15 +85,20 @@ CanGoOn kind stage pending = (rest : List ℕ) × Holds kind stage pending rest
 abbrev pub NextIs : Kind → List ℕ → List Message → List Message → Stage → List ℕ → Type 0
 NextIs kind text old new stage pending =
     ((new ≡ old) × Holds kind stage pending text)
-    ⊎ ((message : Message) × (new ≡ old ++ message ∷ []) × IsMessage kind text message × Holds kind stage pending [])
+    ⊎ ((message : Message) × (new ≡ old ++ message ∷ []) × IsMessage kind text message
+    × Holds kind stage pending [])
 
 -- a step used some of a piece, or met a fault
-abbrev pub AdvanceIs : Kind → Bool → List ℕ → List ℕ → List Message → List Message → List ℕ → Result (ℕ × Stage) FrameFault → Type 0
-AdvanceIs kind asks rest piece old new pending (Ok (used, stage)) = UsesSome piece used × NextIs kind (rest ++ take used piece) old new stage pending
-AdvanceIs kind asks rest piece old new pending (Err fault) = (new ≡ old) × BreaksAs kind (rest ++ piece) (record { fault = fault; expects = asks })
+abbrev pub AdvanceIs : Kind → Bool → List ℕ → List ℕ → List Message → List Message
+    → List ℕ → Result (ℕ × Stage) FrameFault → Type 0
+AdvanceIs kind asks rest piece old new pending (Ok (used, stage)) =
+    UsesSome piece used × NextIs kind (rest ++ take used piece) old new stage pending
+AdvanceIs kind asks rest piece old new pending (Err fault) =
+    (new ≡ old) × BreaksAs kind (rest ++ piece) (record { fault = fault; expects = asks })
 
 -- the text is what is passed over and a whole head without a fault, of this message
-pub record IsHeadOf (kind : Kind) (text : List ℕ) (message : Message) (framing : Framing) : Type 0 where
+pub record IsHeadOf (kind : Kind) (text : List ℕ) (message : Message)
+    (framing : Framing) : Type 0 where
   pub passed : List Head
   pub from : List ℕ
   pub passes : PassesOver kind text passed from
@@ -94,25 +108,30 @@ pub record IsHeadOf (kind : Kind) (text : List ℕ) (message : Message) (framing
   pub message_is : message ≡ message_of head []
 
 -- what a body begins as behind a whole head
-abbrev pub BeginsBody : Kind → List ℕ → List Message → List Message → Result Stage FrameFault → Type 0
+abbrev pub BeginsBody : Kind → List ℕ → List Message → List Message
+    → Result Stage FrameFault → Type 0
 BeginsBody kind text old new (Ok stage) = NextIs kind text old new stage []
 BeginsBody kind text old new (Err fault) = (new ≡ old) × (fault ≡ OutOfMemory)
 
 -- where a reader is behind a step in a head, or the fault of the text
-abbrev pub EndsHead : Kind → List ℕ → List ℕ → List Message → List Message → Result Stage FrameFault → Type 0
+abbrev pub EndsHead : Kind → List ℕ → List ℕ → List Message → List Message
+    → Result Stage FrameFault → Type 0
 EndsHead kind text pending old new (Ok stage) = NextIs kind text old new stage pending
 EndsHead kind text pending old new (Err fault) = (new ≡ old) × HasHeadFault kind text fault
 
 -- the bytes are the messages taken and those that wait, and then a rest of which this much is kept
 abbrev pub HoldsAll : Kind → List ℕ → List Message → List Message → Stage → List ℕ → Type 0
-HoldsAll kind bytes taken queue stage pending = (rest : List ℕ) × AreMessages kind bytes (taken ++ queue) rest × Holds kind stage pending rest
+HoldsAll kind bytes taken queue stage pending =
+    (rest : List ℕ) × AreMessages kind bytes (taken ++ queue) rest × Holds kind stage pending rest
 
 -- the bytes are the messages taken and those that wait, and then a rest with this fault
 abbrev pub HoldsFaulty : Kind → List ℕ → List Message → List Message → Broken → Type 0
-HoldsFaulty kind bytes taken queue broken = (rest : List ℕ) × AreMessages kind bytes (taken ++ queue) rest × BreaksAs kind rest broken
+HoldsFaulty kind bytes taken queue broken =
+    (rest : List ℕ) × AreMessages kind bytes (taken ++ queue) rest × BreaksAs kind rest broken
 
 -- a piece was read
-abbrev pub ReadsPiece : Kind → List ℕ → List Message → List Message → List ℕ → Result Stage Broken → Type 0
+abbrev pub ReadsPiece : Kind → List ℕ → List Message → List Message
+    → List ℕ → Result Stage Broken → Type 0
 ReadsPiece kind bytes taken queue pending (Ok stage) = HoldsAll kind bytes taken queue stage pending
 ReadsPiece kind bytes taken queue pending (Err broken) = HoldsFaulty kind bytes taken queue broken
 
@@ -147,14 +166,18 @@ asks_first (message ∷ messages) stage = message_expects message
 -- the reader was given these bytes, and of their messages these were taken
 abbrev pub StandsFor : Kind → List ℕ → List Message → MessageReader → Type 0
 StandsFor kind bytes taken reader =
-    (rest : List ℕ) × AreMessages kind bytes (taken ++ waiting reader) rest × HoldsStage kind reader.stage reader.pending.items rest
+    (rest : List ℕ) × AreMessages kind bytes (taken ++ waiting reader) rest
+    × HoldsStage kind reader.stage reader.pending.items rest
 
 -- a reader that was given some bytes
 abbrev pub IsReader : MessageReader → Type 0
-IsReader reader = (bytes : List ℕ) × (taken : List Message) × StandsFor reader.kind bytes taken reader
+IsReader reader =
+    (bytes : List ℕ) × (taken : List Message) × StandsFor reader.kind bytes taken reader
 
 -- the messages so far are those of the bytes, and the fault, where there is one, is theirs
 abbrev pub Decides : {T : Type 0} → Kind → List ℕ → List Message → Result T FrameFault → Type 0
-Decides kind bytes messages (Ok done) = Reads kind bytes messages between ⊎ Reads kind bytes messages inside
-Decides kind bytes messages (Err OutOfMemory) = (rest : List ℕ) × AreMessages kind bytes messages rest
+Decides kind bytes messages (Ok done) =
+    Reads kind bytes messages between ⊎ Reads kind bytes messages inside
+Decides kind bytes messages (Err OutOfMemory) =
+    (rest : List ℕ) × AreMessages kind bytes messages rest
 Decides kind bytes messages (Err fault) = Reads kind bytes messages (faulty fault)

@@ -1,11 +1,15 @@
 -- What a reader keeps of the rest behind the last whole message.
-use Rattle.std.specs.Prelude.{◌≡◌, ◌⊎◌, ◌+◌, ◌<◌, ◌≤◌, ◌-◌, ℕ, List, [], ◌∷◌, ◌++◌, length, take, Option, Some, None, Result, Ok, Err, codes}
+use Rattle.std.specs.Prelude.{◌≡◌, ◌⊎◌, ◌+◌, ◌<◌, ◌≤◌, ◌-◌, ℕ, List, [], ◌∷◌, ◌++◌}
+use Rattle.std.specs.Prelude.{length, take, Option, Some, None, Result, Ok, Err, codes}
 use Rattle.std.specs.List.{flat_map}
-use Rattle.httparse.specs.Grammar.{print_version, ChunkLine, print_chunk_line, chunk_size, HasNoChunkLine, NeverHasChunkLine, HasNoSection, NeverHasSection}
+use Rattle.httparse.specs.Grammar.{print_version, ChunkLine, print_chunk_line, chunk_size}
+use Rattle.httparse.specs.Grammar.{HasNoChunkLine, NeverHasChunkLine, HasNoSection, NeverHasSection}
 use Rattle.http_text.specs.Heads.{Head, print_head, HasNoHead, IsBadHead, IsInterim}
 use Rattle.http_text.specs.Framing.{most_body}
-use Rattle.http_text.specs.Chunks.{most_line, most_trailers, IsShortLine, AreChunks, data_of, print_chunk, Chunk}
-use Rattle.http_text.specs.Messages.{message_of, BeginsWithHead, framing_behind, IsBody, IsBodyFault}
+use Rattle.http_text.specs.Chunks.{most_line, most_trailers, IsShortLine}
+use Rattle.http_text.specs.Chunks.{AreChunks, data_of, print_chunk, Chunk}
+use Rattle.http_text.specs.Messages.{message_of, BeginsWithHead}
+use Rattle.http_text.specs.Messages.{framing_behind, IsBody, IsBodyFault}
 use Rattle.http_text.specs.Follow.{Follows}
 use Rattle.http_text.specs.Line.{FollowsLine}
 use Rattle.http_text.specs.Front.{TellsFaultAt}
@@ -19,7 +23,8 @@ use Rattle.http_text.specs.declared.framing.Framing.TheVariants as framings
 use Rattle.http_text.specs.declared.stage.HeadEnd.{HeadEnd}
 use Rattle.http_text.specs.declared.stage.HeadEnd.TheVariants.{Open, Interim, Whole}
 use Rattle.http_text.specs.declared.stage.Part.{Part}
-use Rattle.http_text.specs.declared.stage.Part.TheVariants.{Sized, Line, Content, ContentEnd, Trailers}
+use Rattle.http_text.specs.declared.stage.Part.TheVariants.{Sized, Line, Content}
+use Rattle.http_text.specs.declared.stage.Part.TheVariants.{ContentEnd, Trailers}
 
 -- a head that hasn't ended, and has no fault
 pub record IsOpenHead (kind : Kind) (room : ℕ) (text : List ℕ) : Type 0 where
@@ -39,7 +44,8 @@ pub record AreOpenTrailers (text : List ℕ) : Type 0 where
   pub none : HasNoSection text
   pub good : ¬ (NeverHasSection text)
 
--- behind these chunks, within a chunk of this line: its content so far, of which so many bytes are left
+-- behind these chunks, within a chunk of this line: its content so far, of which so many
+-- bytes are left
 pub record IsInChunk (body behind content : List ℕ) (left : ℕ) : Type 0 where
   pub chunks : List Chunk
   pub line : ChunkLine
@@ -74,7 +80,8 @@ HoldsLine framing body behind text = (framing ≡ framings.Chunked) × IsAtLine 
 
 -- and one in which the trailers do
 abbrev pub HoldsTrailers : Framing → List ℕ → List ℕ → List ℕ → Type 0
-HoldsTrailers framing body behind text = (framing ≡ framings.Chunked) × IsAtTrailers body behind text
+HoldsTrailers framing body behind text =
+    (framing ≡ framings.Chunked) × IsAtTrailers body behind text
 
 -- trailers are followed as the fields behind a status line are
 abbrev pub some_status_line : List ℕ
@@ -87,16 +94,23 @@ FollowsTrailers text progress = Follows Replies (some_status_line ++ text) progr
 abbrev pub HoldsPart : Part → List ℕ → List ℕ → Framing → List ℕ → Type 0
 HoldsPart (Sized left) body pending framing behind =
     (0 < left) × (framing ≡ framings.Sized (length body + left)) × (behind ≡ body) × (pending ≡ [])
-HoldsPart (Line at) body pending framing behind = HoldsLine framing body behind pending × IsOpenLine pending × FollowsLine pending at
+HoldsPart (Line at) body pending framing behind =
+    HoldsLine framing body behind pending × IsOpenLine pending × FollowsLine pending at
 HoldsPart (Content left) body pending framing behind =
-    (framing ≡ framings.Chunked) × (0 < left) × ((content : List ℕ) × IsInChunk body behind content left) × (pending ≡ [])
+    (framing ≡ framings.Chunked) × (0 < left)
+    × ((content : List ℕ) × IsInChunk body behind content left) × (pending ≡ [])
 HoldsPart ContentEnd body pending framing behind =
-    (framing ≡ framings.Chunked) × ((content before : List ℕ) × IsInChunk body before content 0 × (behind ≡ before ++ pending)) × ((pending ≡ []) ⊎ (pending ≡ 13 ∷ []))
-HoldsPart (Trailers progress) body pending framing behind = HoldsTrailers framing body behind pending × AreOpenTrailers pending × FollowsTrailers pending progress
+    (framing ≡ framings.Chunked)
+    × ((content before : List ℕ) × IsInChunk body before content 0 × (behind ≡ before ++ pending))
+    × ((pending ≡ []) ⊎ (pending ≡ 13 ∷ []))
+HoldsPart (Trailers progress) body pending framing behind =
+    HoldsTrailers framing body behind pending × AreOpenTrailers pending
+    × FollowsTrailers pending progress
 
 -- some bytes behind some head are a body that has come so far
 abbrev pub IsSomePart : Part → List ℕ → List ℕ → Type 0
-IsSomePart part body pending = (framing : Framing) × (behind : List ℕ) × HoldsPart part body pending framing behind
+IsSomePart part body pending =
+    (framing : Framing) × (behind : List ℕ) × HoldsPart part body pending framing behind
 
 -- the fault of a body, unless memory ran out
 abbrev pub TellsBodyFault : Framing → List ℕ → FrameFault → Type 0
@@ -108,20 +122,26 @@ abbrev pub UsesSome : List ℕ → ℕ → Type 0
 UsesSome piece used = (0 < used) × (used ≤ length piece)
 
 -- a head goes on, or is whole, or has a fault
-abbrev pub HeadStepIs : Kind → ℕ → List ℕ → List ℕ → List ℕ → Result (ℕ × HeadEnd) FrameFault → Type 0
-HeadStepIs kind room old new piece (Ok (used, Open progress)) = UsesSome piece used × (new ≡ old ++ take used piece) × IsOpenHead kind room new × Follows kind new progress
+abbrev pub HeadStepIs : Kind → ℕ → List ℕ → List ℕ → List ℕ
+    → Result (ℕ × HeadEnd) FrameFault → Type 0
+HeadStepIs kind room old new piece (Ok (used, Open progress)) = UsesSome piece used
+    × (new ≡ old ++ take used piece) × IsOpenHead kind room new × Follows kind new progress
 HeadStepIs kind room old new piece (Ok (used, Interim left)) =
     UsesSome piece used × (new ≡ [])
-    × ((head : Head) × IsInterim kind head × (old ++ take used piece ≡ print_head head) × (length (print_head head) ≤ room) × (left ≡ room - length (print_head head)))
+    × ((head : Head) × IsInterim kind head × (old ++ take used piece ≡ print_head head)
+    × (length (print_head head) ≤ room) × (left ≡ room - length (print_head head)))
 HeadStepIs kind room old new piece (Ok (used, Whole message framing)) =
     UsesSome piece used × (new ≡ [])
-    × ((head : Head) × BeginsWithHead kind room (old ++ take used piece) head [] × (framing_behind head ≡ Ok framing) × (message ≡ message_of head []))
+    × ((head : Head) × BeginsWithHead kind room (old ++ take used piece) head []
+    × (framing_behind head ≡ Ok framing) × (message ≡ message_of head []))
 HeadStepIs kind room old new piece (Err fault) = TellsFaultAt kind room (old ++ piece) fault
 
 -- a body goes on, or is whole, or has a fault
-abbrev pub PartStepIs : Framing → List ℕ → List ℕ → List ℕ → List ℕ → Result (ℕ × Option Part) FrameFault → Type 0
+abbrev pub PartStepIs : Framing → List ℕ → List ℕ → List ℕ → List ℕ
+    → Result (ℕ × Option Part) FrameFault → Type 0
 PartStepIs framing behind piece body pending (Ok (used, None)) =
     UsesSome piece used × IsBody framing (behind ++ take used piece) body × (pending ≡ [])
 PartStepIs framing behind piece body pending (Ok (used, Some part)) =
     UsesSome piece used × HoldsPart part body pending framing (behind ++ take used piece)
-PartStepIs framing behind piece body pending (Err fault) = TellsBodyFault framing (behind ++ piece) fault
+PartStepIs framing behind piece body pending (Err fault) =
+    TellsBodyFault framing (behind ++ piece) fault

@@ -25,9 +25,11 @@ GaveRequests bytes taken reader = StandsFor Requests bytes (request_messages tak
 abbrev pub GaveReplies : List ℕ → List RawReply → MessageReader → Type 0
 GaveReplies bytes taken reader = StandsFor Replies bytes (reply_messages taken) reader
 
--- behind the messages taken stand what is passed over and a whole head without a fault, which asks for 100 Continue
+-- behind the messages taken stand what is passed over and a whole head without a fault, which asks
+-- for 100 Continue
 abbrev pub AsksBehind : Kind → List ℕ → List Message → Type 0
-AsksBehind kind bytes taken = (rest : List ℕ) × AreMessages kind bytes taken rest × BeginsWithGoodHead kind rest true
+AsksBehind kind bytes taken =
+    (rest : List ℕ) × AreMessages kind bytes taken rest × BeginsWithGoodHead kind rest true
 
 abbrev pub AsksAtFront : List ℕ → List RawRequest → Type 0
 AsksAtFront bytes taken = AsksBehind Requests bytes (request_messages taken)

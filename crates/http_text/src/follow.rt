@@ -1,6 +1,8 @@
-//! How a head that comes in pieces is followed, so that none of its bytes is read again with each piece.
+//! How a head that comes in pieces is followed, so that none of its bytes is read again
+//! with each piece.
 //!
-//! What is followed is open: it has no fault, and no head ends in it. What isn't followed is left to `httparse`.
+//! What is followed is open: it has no fault, and no head ends in it. What isn't followed is
+//! left to `httparse`.
 ghost use Rattle.std.specs.Prelude.{◌≡◌, ◌≤◌, ◌<◌, ◌++◌, ◌∷◌, [], ℕ, List, true, length, take};
 ghost use Rattle.httparse.specs.Grammar.{is_token_byte};
 ghost use Rattle.http_text.specs.Follow.{Follows, is_known};
@@ -40,7 +42,8 @@ fn is_token_byte(byte: u8) -> bool
 }
 
 fn after_blank(kind: Kind, byte: u8) -> Progress
-    ensures { (text : List ℕ) → Follows kind text at.Blank → Follows kind (text ++ byte ∷ []) result }
+    ensures { (text : List ℕ) → Follows kind text at.Blank
+        → Follows kind (text ++ byte ∷ []) result }
 {
     if byte == b'\n' {
         return Progress::Blank;
@@ -60,7 +63,8 @@ fn after_blank(kind: Kind, byte: u8) -> Progress
 }
 
 fn after_blank_end(kind: Kind, byte: u8) -> Progress
-    ensures { (text : List ℕ) → Follows kind text at.BlankEnd → Follows kind (text ++ byte ∷ []) result }
+    ensures { (text : List ℕ) → Follows kind text at.BlankEnd
+        → Follows kind (text ++ byte ∷ []) result }
 {
     if byte == b'\n' {
         return Progress::Blank;
@@ -69,7 +73,8 @@ fn after_blank_end(kind: Kind, byte: u8) -> Progress
 }
 
 fn after_method(kind: Kind, byte: u8) -> Progress
-    ensures { (text : List ℕ) → Follows kind text at.Method → Follows kind (text ++ byte ∷ []) result }
+    ensures { (text : List ℕ) → Follows kind text at.Method
+        → Follows kind (text ++ byte ∷ []) result }
 {
     if byte == b' ' {
         return Progress::Target;
@@ -81,7 +86,8 @@ fn after_method(kind: Kind, byte: u8) -> Progress
 }
 
 fn after_target(kind: Kind, byte: u8) -> Progress
-    ensures { (text : List ℕ) → Follows kind text at.Target → Follows kind (text ++ byte ∷ []) result }
+    ensures { (text : List ℕ) → Follows kind text at.Target
+        → Follows kind (text ++ byte ∷ []) result }
 {
     if goes_on(byte) {
         return Progress::Target;
@@ -90,7 +96,8 @@ fn after_target(kind: Kind, byte: u8) -> Progress
 }
 
 fn after_reason(kind: Kind, byte: u8) -> Progress
-    ensures { (text : List ℕ) → Follows kind text at.Reason → Follows kind (text ++ byte ∷ []) result }
+    ensures { (text : List ℕ) → Follows kind text at.Reason
+        → Follows kind (text ++ byte ∷ []) result }
 {
     if is_value_byte(byte) {
         return Progress::Reason;
@@ -99,7 +106,8 @@ fn after_reason(kind: Kind, byte: u8) -> Progress
 }
 
 fn after_line(kind: Kind, byte: u8) -> Progress
-    ensures { (text : List ℕ) → Follows kind text at.Line → Follows kind (text ++ byte ∷ []) result }
+    ensures { (text : List ℕ) → Follows kind text at.Line
+        → Follows kind (text ++ byte ∷ []) result }
 {
     if is_token_byte(byte) {
         return Progress::Name;
@@ -108,7 +116,8 @@ fn after_line(kind: Kind, byte: u8) -> Progress
 }
 
 fn after_name(kind: Kind, byte: u8) -> Progress
-    ensures { (text : List ℕ) → Follows kind text at.Name → Follows kind (text ++ byte ∷ []) result }
+    ensures { (text : List ℕ) → Follows kind text at.Name
+        → Follows kind (text ++ byte ∷ []) result }
 {
     if byte == b':' {
         return Progress::Value;
@@ -120,7 +129,8 @@ fn after_name(kind: Kind, byte: u8) -> Progress
 }
 
 fn after_value(kind: Kind, byte: u8) -> Progress
-    ensures { (text : List ℕ) → Follows kind text at.Value → Follows kind (text ++ byte ∷ []) result }
+    ensures { (text : List ℕ) → Follows kind text at.Value
+        → Follows kind (text ++ byte ∷ []) result }
 {
     if byte == b'\n' {
         return Progress::Line;
@@ -135,7 +145,8 @@ fn after_value(kind: Kind, byte: u8) -> Progress
 }
 
 fn after_value_end(kind: Kind, byte: u8) -> Progress
-    ensures { (text : List ℕ) → Follows kind text at.ValueEnd → Follows kind (text ++ byte ∷ []) result }
+    ensures { (text : List ℕ) → Follows kind text at.ValueEnd
+        → Follows kind (text ++ byte ∷ []) result }
 {
     if byte == b'\n' {
         return Progress::Line;
@@ -144,7 +155,8 @@ fn after_value_end(kind: Kind, byte: u8) -> Progress
 }
 
 fn after_byte(kind: Kind, progress: Progress, byte: u8) -> Progress
-    ensures { (text : List ℕ) → Follows kind text progress → Follows kind (text ++ byte ∷ []) result }
+    ensures { (text : List ℕ) → Follows kind text progress
+        → Follows kind (text ++ byte ∷ []) result }
 {
     match progress {
         Progress::Blank => after_blank(kind, byte),
@@ -172,7 +184,8 @@ fn is_known(progress: Progress) -> bool
 /// Follows a head as far as it goes: how many bytes that is, and where it then is.
 pub fn follow(kind: Kind, progress: Progress, bytes: &[u8]) -> (usize, Progress)
     ensures within { result.0 ≤ length bytes.now }
-    ensures follows { (text : List ℕ) → Follows kind text progress → Follows kind (text ++ take result.0 bytes.now) result.1 }
+    ensures follows { (text : List ℕ) → Follows kind text progress
+        → Follows kind (text ++ take result.0 bytes.now) result.1 }
     ensures known { 0 < result.0 → is_known result.1 ≡ true }
 {
     let mut progress = progress;

@@ -1,10 +1,12 @@
 //! How the body of a message is framed.
-ghost use Rattle.std.specs.Prelude.{◌≡◌, List, ℕ, ◌≤◌, All, length, map, Ok, Option, Some, None, true};
+ghost use Rattle.std.specs.Prelude.{◌≡◌, List, ℕ, ◌≤◌, All, length};
+ghost use Rattle.std.specs.Prelude.{map, Ok, Option, Some, None, true};
 ghost use Rattle.std.specs.List.{list_all};
 ghost use Rattle.std.specs.Char.{is_ascii_digit};
 ghost use Rattle.std.specs.Str.Parse.{digits_value};
 ghost use Rattle.httparse.specs.Spans.{IsHeaderWithin, header_bytes};
-ghost use Rattle.http_text.specs.Framing.{expects, framing_by_length, framing_of, has_body, is_continue, lacks_host, length_of};
+ghost use Rattle.http_text.specs.Framing.{expects, framing_by_length, framing_of};
+ghost use Rattle.http_text.specs.Framing.{has_body, is_continue, lacks_host, length_of};
 ghost use Rattle.http_text.specs.Fields.{first_of};
 ghost use Rattle.http_text.specs.declared.message.Kind.TheVariants as kinds;
 ghost use Rattle.std.specs.Option.{option_copied};
@@ -128,7 +130,8 @@ pub fn digits_value(digits: &[u8]) -> u64
 
 // The framing of a body by the values of Content-Length.
 fn by_length(kind: Kind, count: usize, first: Option<&[u8]>) -> Result<Framing, FrameFault>
-    ensures { (values : List (List ℕ)) → count ≡ length values → option_copied first.entry ≡ first_of values
+    ensures { (values : List (List ℕ)) → count ≡ length values
+        → option_copied first.entry ≡ first_of values
         → result ≡ framing_by_length kind values }
 {
     let Some(value) = first else {
@@ -166,7 +169,8 @@ fn lacks_host(kind: Kind, text: &[u8], version: u8, headers: &[HeaderSpan]) -> b
     }
 }
 
-/// The framing of the body behind a head of that version with these fields, or the head's first fault.
+/// The framing of the body behind a head of that version with these fields, or the
+/// head's first fault.
 pub fn read_framing(
     kind: Kind,
     text: &[u8],
@@ -218,7 +222,8 @@ fn is_continue(value: Option<&[u8]>) -> bool
 /// Whether a request of that version with these fields asks for 100 Continue before its body.
 pub fn expects(text: &[u8], version: u8, headers: &[HeaderSpan], framing: Framing) -> bool
     requires headers { All (IsHeaderWithin (length text.now)) headers.now }
-    requires framing { framing_of kinds.Requests version (map (header_bytes text.now) headers.now) ≡ Ok framing }
+    requires framing { framing_of kinds.Requests version (map (header_bytes text.now) headers.now)
+        ≡ Ok framing }
     ensures { result ≡ expects version (map (header_bytes text.now) headers.now) }
 {
     version == 1 && is_continue(first_named(text, headers, b"expect")) && has_body(framing)

@@ -1,5 +1,6 @@
 //! The head at the front of a text, with what it says of its body.
-ghost use Rattle.std.specs.Prelude.{◌≡◌, ◌≤◌, ◌==◌, All, IfOk, length, map, take, List, [], ℕ, Ok, Option};
+ghost use Rattle.std.specs.Prelude.{◌≡◌, ◌≤◌, ◌==◌, All, IfOk, length};
+ghost use Rattle.std.specs.Prelude.{map, take, List, [], ℕ, Ok, Option};
 ghost use Rattle.std.specs.Option.{option_copied, option_map};
 ghost use Rattle.httparse.specs.Spans.{IsHeaderWithin, IsWithin, header_bytes};
 ghost use Rattle.http_text.specs.Front.{FrontIs, reply_at, request_at};
@@ -16,7 +17,8 @@ use delta_base::{Bytes, OutOfMemory};
 use httparse::spans::{HeaderSpan, RequestSpans, ResponseSpans};
 use std::alloc::Global;
 
-/// What stands at the front of a text: a whole head, a reply with status 100, or the beginning of a head.
+/// What stands at the front of a text: a whole head, a reply with status 100, or the beginning
+/// of a head.
 #[derive(Drop)]
 pub enum Front {
     Whole {
@@ -86,8 +88,10 @@ fn read_request(
     requires method { IsWithin (length text.now) head.method }
     requires path { IsWithin (length text.now) head.path }
     requires headers { All (IsHeaderWithin (length text.now)) headers.now }
-    requires framing { framing_of kinds.Requests head.version (map (header_bytes text.now) headers.now) ≡ Ok framing }
-    ensures { IfOk result (λ request. request ≡ request_at text.now head (map (header_bytes text.now) headers.now)) }
+    requires framing { framing_of kinds.Requests head.version
+        (map (header_bytes text.now) headers.now) ≡ Ok framing }
+    ensures { IfOk result (λ request.
+        request ≡ request_at text.now head (map (header_bytes text.now) headers.now)) }
 {
     let content_type = copy_of(alloc, first_named(text, headers, b"content-type"))?;
     let encoding = copy_of(alloc, first_named(text, headers, b"content-encoding"))?;
@@ -111,7 +115,8 @@ fn read_reply(
     headers: &[HeaderSpan],
 ) -> Result<RawReply, OutOfMemory>
     requires headers { All (IsHeaderWithin (length text.now)) headers.now }
-    ensures { IfOk result (λ reply. reply ≡ reply_at head (map (header_bytes text.now) headers.now)) }
+    ensures { IfOk result (λ reply.
+        reply ≡ reply_at head (map (header_bytes text.now) headers.now)) }
 {
     let content_type = copy_of(alloc, first_named(text, headers, b"content-type"))?;
     Ok(RawReply {

@@ -74,7 +74,8 @@ pub fn find_line_at(text: &[u8]) -> LineAt
 /// Whether a chunk line goes on to the end of some bytes where it was.
 pub fn stays_there(at: LineAt, bytes: &[u8]) -> bool
     ensures known { IsTrue result → is_followed at ≡ true }
-    ensures follows { IsTrue result → (text : List ℕ) → FollowsLine text at → FollowsLine (text ++ bytes.now) at }
+    ensures follows { IsTrue result → (text : List ℕ) → FollowsLine text at
+        → FollowsLine (text ++ bytes.now) at }
 {
     match at {
         LineAt::Size => are_blanks(bytes),

@@ -4,7 +4,9 @@ ghost use Rattle.std.specs.List.{flat_map};
 ghost use Rattle.std.specs.Option.{option_copied};
 ghost use Rattle.httparse.specs.Ascii.{crlf_bytes};
 ghost use Rattle.httparse.specs.Grammar.{print_field, print_request, print_response, print_version};
-ghost use Rattle.http_text.specs.Print.{FitsReader, IsPrintable, IsPrintableReply, allow_fields, body_fields, close_fields, field, head_for, phrase_of, reply_head, reply_text, request_text, status_line};
+ghost use Rattle.http_text.specs.Print.{FitsReader, IsPrintable, IsPrintableReply, allow_fields};
+ghost use Rattle.http_text.specs.Print.{body_fields, close_fields, field, head_for, phrase_of};
+ghost use Rattle.http_text.specs.Print.{reply_head, reply_text, request_text, status_line};
 ghost use Rattle.http_text.specs.Messages.{IsMessage};
 ghost use Rattle.http_text.specs.declared.message.Kind.TheVariants as kinds;
 ghost use Rattle.http_text.specs.declared.message.Message.TheVariants as forms;
@@ -28,7 +30,8 @@ fn push_line(text: &mut Vec<u8>, method: &[u8], path: &[u8]) -> Result<(), Alloc
 
 // Adds a field.
 fn push_field(text: &mut Vec<u8>, name: &[u8], value: &[u8]) -> Result<(), AllocError>
-    ensures { OnOk result (text.new.items ≡ text.old.items ++ print_field (field name.now value.now)) }
+    ensures { OnOk result (text.new.items
+        ≡ text.old.items ++ print_field (field name.now value.now)) }
 {
     text.extend_from_slice(name)?;
     text.extend_from_slice(b": ")?;
@@ -64,7 +67,8 @@ fn push_body_fields(
     kind: Option<&[u8]>,
     size: usize,
 ) -> Result<(), AllocError>
-    ensures { OnOk result (text.new.items ≡ text.old.items ++ flat_map print_field (body_fields (option_copied kind.entry) size)) }
+    ensures { OnOk result (text.new.items
+        ≡ text.old.items ++ flat_map print_field (body_fields (option_copied kind.entry) size)) }
 {
     let Some(kind) = kind else {
         return Ok(());
@@ -79,7 +83,8 @@ fn push_body_fields(
 pub fn print_request(alloc: Global, request: &RawRequest, host: &Text) -> Result<Bytes, OutOfMemory>
     requires { IsPrintable request.now host.now }
     ensures text { IfOk result (λ text. text ≡ request_text request.now host.now) }
-    ensures again { IfOk result (λ text. FitsReader (print_request (head_for request.now host.now)) request.now.body
+    ensures again { IfOk result (λ text.
+        FitsReader (print_request (head_for request.now host.now)) request.now.body
         → IsMessage kinds.Requests text (forms.Request request.now)) }
 {
     let kind = slice_of(&request.content_type);
@@ -120,7 +125,8 @@ fn push_status_line(text: &mut Vec<u8>, status: StatusCode) -> Result<(), AllocE
 
 // Adds Allow, where it is given.
 fn push_allow(text: &mut Vec<u8>, allow: Option<&[u8]>) -> Result<(), AllocError>
-    ensures { OnOk result (text.new.items ≡ text.old.items ++ flat_map print_field (allow_fields (option_copied allow.entry))) }
+    ensures { OnOk result (text.new.items
+        ≡ text.old.items ++ flat_map print_field (allow_fields (option_copied allow.entry))) }
 {
     if let Some(methods) = allow {
         push_field(text, b"Allow", methods)?;
@@ -130,7 +136,8 @@ fn push_allow(text: &mut Vec<u8>, allow: Option<&[u8]>) -> Result<(), AllocError
 
 // Adds Connection, where the session ends.
 fn push_close(text: &mut Vec<u8>, close: bool) -> Result<(), AllocError>
-    ensures { OnOk result (text.new.items ≡ text.old.items ++ flat_map print_field (close_fields close)) }
+    ensures { OnOk result (text.new.items
+        ≡ text.old.items ++ flat_map print_field (close_fields close)) }
 {
     if close {
         push_field(text, b"Connection", b"close")?;
@@ -138,8 +145,8 @@ fn push_close(text: &mut Vec<u8>, close: bool) -> Result<(), AllocError>
     Ok(())
 }
 
-/// The text of a reply, with the methods that are allowed where they are given. A reader takes the reply from it again, whatever
-/// follows.
+/// The text of a reply, with the methods that are allowed where they are given. A reader takes the
+/// reply from it again, whatever follows.
 pub fn print_reply(
     alloc: Global,
     reply: &RawReply,
@@ -147,7 +154,8 @@ pub fn print_reply(
 ) -> Result<Bytes, OutOfMemory>
     requires { IsPrintableReply reply.now (option_copied allow) }
     ensures text { IfOk result (λ text. text ≡ reply_text reply.now (option_copied allow.entry)) }
-    ensures again { IfOk result (λ text. FitsReader (print_response (reply_head reply.now (option_copied allow.entry))) reply.now.body
+    ensures again { IfOk result (λ text. FitsReader
+        (print_response (reply_head reply.now (option_copied allow.entry))) reply.now.body
         → IsMessage kinds.Replies text (forms.Reply reply.now)) }
 {
     let status = StatusCode::from_u16(reply.status).unwrap();

@@ -1,6 +1,11 @@
 //! Messages from a stream of bytes that comes in any pieces.
-ghost use Rattle.std.specs.Prelude.{◌≡◌, ◌⊎◌, ◌||◌, ◌+◌, ◌<◌, ◌≤◌, ◌++◌, ◌∷◌, length, take, false, List, ℕ, [], IfErr, IfNone, IfOk, IfSome, IsTrue, MatchOption, OnErr, OnOk, Some, None, Err};
-ghost use Rattle.http_text.specs.Readers.{AdvanceIs, BeginsBody, CanGoOn, Decides, EndsHead, Holds, HoldsAll, HoldsHead, HoldsStage, IsHeadOf, IsReader, ReadsPiece, StandsFor, asks_first, fault_of, stage_expects, stage_fault, waiting, was_told};
+ghost use Rattle.std.specs.Prelude.{◌≡◌, ◌⊎◌, ◌||◌, ◌+◌, ◌<◌, ◌≤◌, ◌++◌, ◌∷◌, length};
+ghost use Rattle.std.specs.Prelude.{take, false, List, ℕ, [], IfErr, IfNone, IfOk, IfSome};
+ghost use Rattle.std.specs.Prelude.{IsTrue, MatchOption, OnErr, OnOk, Some, None, Err};
+ghost use Rattle.http_text.specs.Readers.{AdvanceIs, BeginsBody, CanGoOn, Decides, EndsHead};
+ghost use Rattle.http_text.specs.Readers.{Holds, HoldsAll, HoldsHead, HoldsStage, IsHeadOf};
+ghost use Rattle.http_text.specs.Readers.{IsReader, ReadsPiece, StandsFor, asks_first, fault_of};
+ghost use Rattle.http_text.specs.Readers.{stage_expects, stage_fault, waiting, was_told};
 ghost use Rattle.http_text.specs.Messages.{End, Reads, between, inside};
 ghost use Rattle.http_text.specs.Taken.{AsksBehind, taken_after};
 ghost use Rattle.http_text.specs.declared.follow.Progress.{Progress as At};
@@ -72,11 +77,13 @@ impl Stage {
         }
     }
 
-    /// Adds a piece to a body that goes on behind it, where its bytes have room. The stage stays in place, so small pieces cost little.
+    /// Adds a piece to a body that goes on behind it, where its bytes have room. The stage stays in
+    /// place, so small pieces cost little.
     fn extend_body(&mut self, piece: &[u8]) -> bool
         ensures same { result ≡ false → self.new ≡ self.old }
         ensures good { IsTrue result → stage_fault self.old ≡ None }
-        ensures held { IsTrue result → (kind : Kind) (pending rest : List ℕ) → HoldsStage kind self.old pending rest
+        ensures held { IsTrue result
+            → (kind : Kind) (pending rest : List ℕ) → HoldsStage kind self.old pending rest
             → Holds kind self.new pending (rest ++ piece.now) }
     {
         match self {
@@ -163,7 +170,8 @@ fn step_part(
 ) -> Result<(usize, Option<Part>), FrameFault>
     requires piece { 0 < length piece.now }
     requires held { IsSomePart part body.old.items pending.old.items }
-    ensures { (framing : framings.Framing) (behind : List ℕ) → HoldsPart part body.old.items pending.old.items framing behind
+    ensures { (framing : framings.Framing) (behind : List ℕ)
+        → HoldsPart part body.old.items pending.old.items framing behind
         → PartStepIs framing behind piece.now body.new.items pending.new.items result }
 {
     match part {
@@ -177,8 +185,10 @@ fn step_part(
 
 // The message with its body.
 fn with_body(message: Message, body: Vec<u8>) -> Message
-    ensures request { (request : RawRequest) → message ≡ forms.Request request → result ≡ forms.Request (record request { body = body.items }) }
-    ensures reply { (reply : RawReply) → message ≡ forms.Reply reply → result ≡ forms.Reply (record reply { body = body.items }) }
+    ensures request { (request : RawRequest) → message ≡ forms.Request request
+        → result ≡ forms.Request (record request { body = body.items }) }
+    ensures reply { (reply : RawReply) → message ≡ forms.Reply reply
+        → result ≡ forms.Reply (record reply { body = body.items }) }
 {
     let body = Bytes::from_vec(body);
     match message {
@@ -194,7 +204,8 @@ fn after_head(
     queue: &mut VecDeque<Message>,
     end: HeadEnd,
 ) -> Result<Stage, FrameFault>
-    ensures { (kind : Kind) (rest old new piece : List ℕ) (used : ℕ) (progress : At) → HoldsHead kind rest room progress old
+    ensures { (kind : Kind) (rest old new piece : List ℕ) (used : ℕ) (progress : At)
+        → HoldsHead kind rest room progress old
         → HeadStepIs kind room old new piece (Ok (used, end))
         → EndsHead kind (rest ++ take used piece) new queue.old.items queue.new.items result }
 {
@@ -226,7 +237,8 @@ fn advance(
     requires piece { 0 < length piece.now }
     requires held { CanGoOn kind stage pending.old.items }
     ensures { (rest : List ℕ) → Holds kind stage pending.old.items rest
-        → AdvanceIs kind (stage_expects stage) rest piece.now queue.old.items queue.new.items pending.new.items result }
+        → AdvanceIs kind (stage_expects stage) rest piece.now queue.old.items
+        queue.new.items pending.new.items result }
 {
     match stage {
         Stage::Faulty(broken) => Err(broken.fault),
@@ -271,7 +283,8 @@ fn read_piece(
 ) -> Result<Stage, Broken>
     requires held { CanGoOn kind stage pending.old.items }
     ensures held { IfOk result (λ next. CanGoOn kind next pending.new.items) }
-    ensures read { (bytes : List ℕ) (taken : List Message) → HoldsAll kind bytes taken queue.old.items stage pending.old.items
+    ensures read { (bytes : List ℕ) (taken : List Message)
+        → HoldsAll kind bytes taken queue.old.items stage pending.old.items
         → ReadsPiece kind (bytes ++ piece.now) taken queue.new.items pending.new.items result }
 {
     let mut stage = stage;
@@ -318,15 +331,19 @@ impl MessageReader {
         ensures kind { self.new.kind ≡ self.old.kind }
         ensures reader { IsReader self.new }
         // The reader then stands for the bytes so far and this piece.
-        ensures stands { (bytes : List ℕ) (taken : List Message) → StandsFor self.old.kind bytes taken self.old
+        ensures stands { (bytes : List ℕ) (taken : List Message)
+            → StandsFor self.old.kind bytes taken self.old
             → StandsFor self.old.kind (bytes ++ piece.now) taken self.new }
-        // The messages are then those of all the bytes, and the fault is theirs, however they were cut.
-        ensures decides { (bytes : List ℕ) (taken : List Message) → StandsFor self.old.kind bytes taken self.old
+        // The messages are then those of all the bytes, and the fault is theirs, however
+        // they were cut.
+        ensures decides { (bytes : List ℕ) (taken : List Message)
+            → StandsFor self.old.kind bytes taken self.old
             → Decides self.old.kind (bytes ++ piece.now) (taken ++ waiting self.new) result }
         ensures ok { OnOk result (fault_of self.new ≡ None) }
         ensures fault { IfErr result (λ fault. fault_of self.new ≡ Some fault) }
         // A fault that was met is answered again, want of memory among them.
-        ensures again { (met : Fault) → fault_of self.old ≡ Some met → (result ≡ Err met) × (fault_of self.new ≡ Some met) }
+        ensures again { (met : Fault) → fault_of self.old ≡ Some met
+            → (result ≡ Err met) × (fault_of self.new ≡ Some met) }
         ensures told { was_told self.new ≡ was_told self.old }
     {
         if self.stage.extend_body(piece) {
@@ -370,11 +387,13 @@ impl MessageReader {
         ensures none { IfNone result (waiting self.old ≡ []) }
         ensures empty { IfNone result (waiting self.new ≡ []) }
         ensures first { IfSome result (λ message. waiting self.old ≡ message ∷ waiting self.new) }
-        ensures rest { (bytes : List ℕ) (taken : List Message) → StandsFor self.old.kind bytes taken self.old
+        ensures rest { (bytes : List ℕ) (taken : List Message)
+            → StandsFor self.old.kind bytes taken self.old
             → StandsFor self.old.kind bytes (taken_after taken result) self.new }
         ensures fault { fault_of self.new ≡ fault_of self.old }
         ensures reader { IsReader self.new }
-        ensures told { MatchOption result (was_told self.new ≡ was_told self.old) (λ _. was_told self.new ≡ false) }
+        ensures told { MatchOption result (was_told self.new ≡ was_told self.old)
+            (λ _. was_told self.new ≡ false) }
     {
         let next = self.queue.pop_front();
         if next.is_some() {
@@ -393,19 +412,24 @@ impl MessageReader {
         }
     }
 
-    /// Whether the head of the next message, or else that of the rest behind the last one, asks for 100 Continue before its body.
-    /// It answers so once for each head.
+    /// Whether the head of the next message, or else that of the rest behind the last one, asks for
+    /// 100 Continue before its body. It answers so once for each head.
     pub fn take_expect(&mut self) -> bool
         requires { IsReader self.old }
         ensures kind { self.new.kind ≡ self.old.kind }
         ensures reader { IsReader self.new }
-        ensures stands { (bytes : List ℕ) (taken : List Message) → StandsFor self.old.kind bytes taken self.old → StandsFor self.old.kind bytes taken self.new }
+        ensures stands { (bytes : List ℕ) (taken : List Message)
+            → StandsFor self.old.kind bytes taken self.old
+            → StandsFor self.old.kind bytes taken self.new }
         ensures told { was_told self.new ≡ (was_told self.old || result) }
         ensures once { IsTrue result → was_told self.old ≡ false }
-        ensures asks { IsTrue result → (bytes : List ℕ) (taken : List Message) → StandsFor self.old.kind bytes taken self.old
+        ensures asks { IsTrue result
+            → (bytes : List ℕ) (taken : List Message) → StandsFor self.old.kind bytes taken self.old
             → AsksBehind self.old.kind bytes taken }
-        ensures quiet { result ≡ false → was_told self.old ≡ false → (bytes : List ℕ) (taken : List Message) → StandsFor self.old.kind bytes taken self.old
-            → ((waiting self.old ≡ []) × (fault_of self.old ≡ Some OutOfMemory)) ⊎ ¬ (AsksBehind self.old.kind bytes taken) }
+        ensures quiet { result ≡ false → was_told self.old ≡ false
+            → (bytes : List ℕ) (taken : List Message) → StandsFor self.old.kind bytes taken self.old
+            → ((waiting self.old ≡ []) × (fault_of self.old ≡ Some OutOfMemory))
+            ⊎ ¬ (AsksBehind self.old.kind bytes taken) }
         ensures waiting { waiting self.new ≡ waiting self.old }
         ensures fault { fault_of self.new ≡ fault_of self.old }
     {
@@ -419,9 +443,11 @@ impl MessageReader {
     /// Tests that the stream may end here.
     pub fn finish(&self) -> Result<(), CutShort>
         requires { fault_of self.now ≡ None }
-        ensures between { OnOk result ((bytes : List ℕ) (taken : List Message) → StandsFor self.now.kind bytes taken self.now
+        ensures between { OnOk result ((bytes : List ℕ) (taken : List Message)
+            → StandsFor self.now.kind bytes taken self.now
             → Reads self.now.kind bytes (taken ++ waiting self.now) between) }
-        ensures inside { OnErr result ((bytes : List ℕ) (taken : List Message) → StandsFor self.now.kind bytes taken self.now
+        ensures inside { OnErr result ((bytes : List ℕ) (taken : List Message)
+            → StandsFor self.now.kind bytes taken self.now
             → Reads self.now.kind bytes (taken ++ waiting self.now) inside) }
     {
         match self.stage {
@@ -442,6 +468,7 @@ impl MessageReader {
 
 /// A stream has one reading: its messages and its end are determined by its bytes.
 pub fn one_reading()
-    ensures { (kind : Kind) (bytes : List ℕ) (xs ys : List Message) (end other : End) → Reads kind bytes xs end
+    ensures { (kind : Kind) (bytes : List ℕ) (xs ys : List Message) (end other : End)
+        → Reads kind bytes xs end
         → Reads kind bytes ys other → (xs ≡ ys) × (end ≡ other) }
 {}

@@ -26,7 +26,8 @@ impl Model for ReplyReader {
 }
 
 impl ReplyReader {
-    ghost use Rattle.std.specs.Prelude.{◌≡◌, ◌++◌, ◌∷◌, ℕ, List, [], map, None, Some, IfErr, IfNone, IfSome, OnErr, OnOk};
+    ghost use Rattle.std.specs.Prelude.{◌≡◌, ◌++◌, ◌∷◌, ℕ, List, [], map, None};
+    ghost use Rattle.std.specs.Prelude.{Some, IfErr, IfNone, IfSome, OnErr, OnOk};
     ghost use Rattle.http_text.specs.Messages.{Reads, between, inside};
     ghost use Rattle.http_text.specs.Readers.{Decides, fault_of, waiting};
     ghost use Rattle.http_text.specs.Taken.{GaveReplies, reply_messages, taken_after};
@@ -48,14 +49,18 @@ impl ReplyReader {
     /// Takes the next piece. After a fault it answers that fault again.
     pub fn feed(&mut self, piece: &[u8]) -> Result<(), FrameFault>
         // The reader then stands for the bytes so far and this piece.
-        ensures stands { (bytes : List ℕ) (taken : List Taken) → GaveReplies bytes taken self.old → GaveReplies (bytes ++ piece.now) taken self.new }
-        // The replies are then those of all the bytes, and the fault is theirs, however they were cut.
+        ensures stands { (bytes : List ℕ) (taken : List Taken) → GaveReplies bytes taken self.old
+            → GaveReplies (bytes ++ piece.now) taken self.new }
+        // The replies are then those of all the bytes, and the fault is theirs, however
+        // they were cut.
         ensures decides { (bytes : List ℕ) (taken : List Taken) → GaveReplies bytes taken self.old
-            → Decides kinds.Replies (bytes ++ piece.now) (reply_messages taken ++ waiting self.new) result }
+            → Decides kinds.Replies (bytes ++ piece.now)
+            (reply_messages taken ++ waiting self.new) result }
         ensures ok { OnOk result (fault_of self.new ≡ None) }
         ensures fault { IfErr result (λ fault. fault_of self.new ≡ Some fault) }
         // A fault that was met is answered again, want of memory among them.
-        ensures again { (met : Fault) → fault_of self.old ≡ Some met → (result ≡ Err met) × (fault_of self.new ≡ Some met) }
+        ensures again { (met : Fault) → fault_of self.old ≡ Some met
+            → (result ≡ Err met) × (fault_of self.new ≡ Some met) }
     {
         self.reader.feed(piece)
     }
@@ -64,8 +69,10 @@ impl ReplyReader {
     pub fn take(&mut self) -> Option<RawReply>
         ensures none { IfNone result (waiting self.old ≡ []) }
         ensures empty { IfNone result (waiting self.new ≡ []) }
-        ensures first { IfSome result (λ reply. waiting self.old ≡ forms.Reply reply ∷ waiting self.new) }
-        ensures rest { (bytes : List ℕ) (taken : List Taken) → GaveReplies bytes taken self.old → GaveReplies bytes (taken_after taken result) self.new }
+        ensures first { IfSome result (λ reply.
+            waiting self.old ≡ forms.Reply reply ∷ waiting self.new) }
+        ensures rest { (bytes : List ℕ) (taken : List Taken) → GaveReplies bytes taken self.old
+            → GaveReplies bytes (taken_after taken result) self.new }
         ensures fault { fault_of self.new ≡ fault_of self.old }
     {
         match self.reader.take() {
@@ -78,9 +85,11 @@ impl ReplyReader {
     /// Tests that the stream may end here.
     pub fn finish(&self) -> Result<(), CutShort>
         requires { fault_of self.now ≡ None }
-        ensures between { OnOk result ((bytes : List ℕ) (taken : List Taken) → GaveReplies bytes taken self.now
+        ensures between { OnOk result ((bytes : List ℕ) (taken : List Taken)
+            → GaveReplies bytes taken self.now
             → Reads kinds.Replies bytes (reply_messages taken ++ waiting self.now) between) }
-        ensures inside { OnErr result ((bytes : List ℕ) (taken : List Taken) → GaveReplies bytes taken self.now
+        ensures inside { OnErr result ((bytes : List ℕ) (taken : List Taken)
+            → GaveReplies bytes taken self.now
             → Reads kinds.Replies bytes (reply_messages taken ++ waiting self.now) inside) }
     {
         self.reader.finish()

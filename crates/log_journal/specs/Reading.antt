@@ -1,11 +1,14 @@
 -- What reading a journal's file finds.
-use Rattle.std.specs.Prelude.{◌≡◌, ◌≢◌, ◌⊎◌, ℕ, ◌+◌, ◌^◌, ◌<◌, Bool, IsTrue, Result, Ok, Err, List, ◌∷◌, ◌++◌, [], length, drop, Vec}
+use Rattle.std.specs.Prelude.{◌≡◌, ◌≢◌, ◌⊎◌, ℕ, ◌+◌, ◌^◌, ◌<◌, Bool, IsTrue, Result}
+use Rattle.std.specs.Prelude.{Ok, Err, List, ◌∷◌, ◌++◌, [], length, drop, Vec}
 use Rattle.std.specs.declared.alloc.Global.{Global}
 use Rattle.delta_base.specs.Journals.{journal_length}
 use Rattle.delta_base.specs.Outside.{Rose}
-use Rattle.log_journal.specs.File.{front, header, block, Holds, AreSized, BreaksOff, HasNoHeader, HasHeader, Damage}
+use Rattle.log_journal.specs.File.{front, header, block, Holds, AreSized}
+use Rattle.log_journal.specs.File.{BreaksOff, HasNoHeader, HasHeader, Damage}
 use Rattle.log_journal.specs.declared.fault.JournalFault.{JournalFault}
-use Rattle.log_journal.specs.declared.fault.JournalFault.TheVariants.{Failed, Damaged, WrongNumber, OverLimit, OutOfMemory}
+use Rattle.log_journal.specs.declared.fault.JournalFault.TheVariants.{Failed, Damaged, WrongNumber}
+use Rattle.log_journal.specs.declared.fault.JournalFault.TheVariants.{OverLimit, OutOfMemory}
 
 -- a file begins with a header of this number; or its fault
 abbrev pub ReadsHeader : {T : Type 0} → List ℕ → ℕ → Result T JournalFault → Type 0
@@ -35,7 +38,8 @@ pub record HasPayload (file : List ℕ) (at : ℕ) (payload : List ℕ) : Type 0
   pub sized : length payload < 2 ^ 32
   pub block_is : drop at file ≡ block payload ++ drop (at + 5 + length payload) file
 
--- what stands at a gate's place breaks off in the field that begins here, or is whole and ends the file
+-- what stands at a gate's place breaks off in the field that begins here, or is whole and
+-- ends the file
 abbrev pub EndsAt : List ℕ → ℕ → ℕ → Type 0
 EndsAt file at place =
     ((offset : ℕ) × BreaksOff (drop at file) offset × (place ≡ at + offset))

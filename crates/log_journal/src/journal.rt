@@ -1,5 +1,8 @@
-//! A file of payloads behind gates. A gate is opened only once what stands behind it is on the disk.
-ghost use Rattle.std.specs.Prelude.{◌≡◌, ◌≢◌, None, false, ◌⊎◌, ℕ, ◌+◌, ◌<◌, ◌≤◌, ◌↔◌, ◌++◌, [], ◌∷◌, List, length, IsTrue, not, OnOk, OnErr, IsErrOf, IfOk, IfErr, IsOk, is_ok, if◌then◌else◌};
+//! A file of payloads behind gates. A gate is opened only once what stands behind it is
+//! on the disk.
+ghost use Rattle.std.specs.Prelude.{◌≡◌, ◌≢◌, None, false, ◌⊎◌, ℕ, ◌+◌, ◌<◌, ◌≤◌, ◌↔◌};
+ghost use Rattle.std.specs.Prelude.{◌++◌, [], ◌∷◌, List, length, IsTrue, not, OnOk, OnErr};
+ghost use Rattle.std.specs.Prelude.{IsErrOf, IfOk, IfErr, IsOk, is_ok, if◌then◌else◌};
 ghost use Rattle.delta_base.specs.declared.limits.TheConstants.{EMPTY_JOURNAL, PAYLOAD_FRAME};
 ghost use Rattle.delta_base.specs.Journals.{journal_length};
 ghost use Rattle.delta_base.specs.Outside.{Rose, HasCause};
@@ -25,7 +28,9 @@ pub enum AppendFault {
 }
 
 impl From<Failed> for AppendFault {
-    ghost use Rattle.log_journal.specs.declared.journal.AppendFault.TheVariants.{Failed as NotWritten};
+    ghost use Rattle.log_journal.specs.declared.journal.AppendFault.TheVariants.{
+      Failed as NotWritten,
+    };
 
     ghost from_gives = { λ _ e. e ≡ NotWritten };
 
@@ -96,7 +101,8 @@ fn read_journal<D: Disk, R: Receiver>(
 }
 
 impl<D: Disk> Journal<D> {
-    ghost use Rattle.log_journal.specs.StandsFor.{StandsFor, StandsInDoubt, Leaves, length_of, limit_of, is_settled, disk_of};
+    ghost use Rattle.log_journal.specs.StandsFor.{StandsFor, StandsInDoubt, Leaves};
+    ghost use Rattle.log_journal.specs.StandsFor.{length_of, limit_of, is_settled, disk_of};
     ghost use Rattle.log_journal.specs.Payload.{payload_of};
     ghost use Rattle.log_journal.specs.Append.{syncs_of, DoneByPlan};
 
@@ -114,7 +120,8 @@ impl<D: Disk> Journal<D> {
         ensures fault { IfErr result (λ refusal. D.tells
             → HasFault (reads (D.past disk)) number limit refusal.fault) }
 
-        // A crash at any moment leaves what it might have left before, and a read gives what it gave.
+        // A crash at any moment leaves what it might have left before, and a read gives
+        // what it gave.
         ensures kept { IfOk result (λ opened. D.tells
             → Keeps (D.past disk) (D.past (disk_of opened.0))) }
         ensures kept_refused { IfErr result (λ refusal. D.tells
@@ -150,7 +157,8 @@ impl<D: Disk> Journal<D> {
         }
     }
 
-    /// Opens a file that a crash may have left, and hands its payloads on one by one. A refusal hands the disk back.
+    /// Opens a file that a crash may have left, and hands its payloads on one by one. A refusal
+    /// hands the disk back.
     pub fn open_with<R: Receiver>(
         alloc: Global,
         disk: D,
@@ -168,7 +176,8 @@ impl<D: Disk> Journal<D> {
         ensures fault { IfErr result (λ refusal. D.tells
             → HasFault (reads (D.past disk)) number limit refusal.fault) }
 
-        // A crash at any moment leaves what it might have left before, and a read gives what it gave.
+        // A crash at any moment leaves what it might have left before, and a read gives
+        // what it gave.
         ensures kept { IfOk result (λ journal. D.tells
             → Keeps (D.past disk) (D.past (disk_of journal))) }
         ensures kept_refused { IfErr result (λ refusal. D.tells
@@ -227,7 +236,8 @@ impl<D: Disk> Journal<D> {
 
         // After a failure some of its bytes may be written, and nothing more is synced.
         ensures err { D.tells
-            → IfErr result (λ refusal. WroteSome 0 EMPTY_JOURNAL (D.past disk) (D.past refusal.disk)) }
+            → IfErr result (λ refusal.
+            WroteSome 0 EMPTY_JOURNAL (D.past disk) (D.past refusal.disk)) }
         ensures cause { IfErr result (λ refusal. refusal.fault ≡ FormatFault.Failed
             → Rose (D.faults disk) (D.faults refusal.disk)) }
         ensures faults { IfOk result (λ journal. D.faults (disk_of journal) ≡ D.faults disk) }
@@ -260,7 +270,8 @@ impl<D: Disk> Journal<D> {
     }
 
     pub fn room_for(&self, payload: u64) -> bool
-        ensures { IsTrue result ↔ ((length_of self.now) + PAYLOAD_FRAME + payload ≤ (limit_of self.now)) }
+        ensures { IsTrue result
+            ↔ ((length_of self.now) + PAYLOAD_FRAME + payload ≤ (limit_of self.now)) }
     {
         let room = self.limit - self.end;
         room >= PAYLOAD_FRAME && room - PAYLOAD_FRAME >= payload
@@ -322,7 +333,8 @@ impl<D: Disk> Journal<D> {
             → DoneByPlan 2 (syncs_of result (is_settled self.new))
             (D.next_failure (disk_of self.old)) (D.next_failure (disk_of self.new)) }
 
-        // After a planned failure what was synced has no new payload, and the gate is open where what wasn't synced is 1.
+        // After a planned failure what was synced has no new payload, and the gate is open where
+        // what wasn't synced is 1.
         ensures images { D.plans → D.tells → IsTrue (not (D.short (disk_of self.new)))
             → IsErrOf result AppendFault.Failed → (is_settled self.new) ≡ false
             → (number : ℕ) (payloads : List (List ℕ)) → StandsFor self.old number payloads
@@ -331,7 +343,8 @@ impl<D: Disk> Journal<D> {
             (payloads ++ payload_of block.now ∷ []) }
 
         ensures full { IsErrOf result (AppendFault.Full (length_of self.old) (limit_of self.old))
-            ↔ ((limit_of self.old) < (length_of self.old) + PAYLOAD_FRAME + length (payload_of block.now)) }
+            ↔ ((limit_of self.old)
+            < (length_of self.old) + PAYLOAD_FRAME + length (payload_of block.now)) }
         ensures full_shows { (length limit : ℕ) → IsErrOf result (AppendFault.Full length limit)
             → (length ≡ (length_of self.old)) × (limit ≡ (limit_of self.old))
             × (self.new ≡ self.old) }
@@ -344,7 +357,8 @@ impl<D: Disk> Journal<D> {
         ensures long { D.plans → OnOk result
             (D.short (disk_of self.new) ≡ D.short (disk_of self.old)) }
         ensures longer { OnOk result
-            ((length_of self.new) ≡ (length_of self.old) + PAYLOAD_FRAME + length (payload_of block.now)) }
+            ((length_of self.new)
+            ≡ (length_of self.old) + PAYLOAD_FRAME + length (payload_of block.now)) }
         ensures same_length { OnErr result ((length_of self.new) ≡ (length_of self.old)) }
         ensures limit { (limit_of self.new) ≡ (limit_of self.old) }
         ensures mark { D.mark (disk_of self.new) ≡ D.mark (disk_of self.old) }
@@ -389,7 +403,8 @@ impl<D: Disk> Journal<D> {
             → DoneByPlan 1 (if is_ok result then 1 else 0)
             (D.next_failure (disk_of self.old)) (D.next_failure (disk_of self.new)) }
 
-        // After a planned failure what was synced is as it was, and the gate that was open where what wasn't synced is 1 is still open there.
+        // After a planned failure what was synced is as it was, and the gate that was open where
+        // what wasn't synced is 1 is still open there.
         ensures images { D.plans → D.tells → IsTrue (not (D.short (disk_of self.new)))
             → is_ok result ≡ false
             → (number : ℕ) (payloads : List (List ℕ)) (doubt : List ℕ)

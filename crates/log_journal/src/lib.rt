@@ -1,8 +1,9 @@
 //! A journal of payloads, each on the disk before it is acknowledged.
 //!
-//! A file is a header and then payloads, each behind a gate of one byte. A gate is opened only once what stands behind
-//! it is on the disk, so that a crash at any moment leaves the payloads with the newest one or without it. Layers above
-//! cite `StandsFor` and `StandsInDoubt`, and say nothing of bytes.
+//! A file is a header and then payloads, each behind a gate of one byte. A gate is opened only
+//! once what stands behind it is on the disk, so that a crash at any moment leaves the payloads
+//! with the newest one or without it. Layers above cite `StandsFor` and `StandsInDoubt`, and say
+//! nothing of bytes.
 #![tactic(auto)]
 
 mod block;

@@ -1,5 +1,6 @@
 //! Makes and opens journals.
-ghost use Rattle.std.specs.Prelude.{◌≡◌, ◌≢◌, ◌⊎◌, ℕ, ◌+◌, ◌<◌, ◌≤◌, ◌↔◌, ◌++◌, [], ◌∷◌, List, None, IsTrue, length, IfOk, IfErr, OnOk, OnErr, IsErrOf};
+ghost use Rattle.std.specs.Prelude.{◌≡◌, ◌≢◌, ◌⊎◌, ℕ, ◌+◌, ◌<◌, ◌≤◌, ◌↔◌, ◌++◌, [], ◌∷◌, List};
+ghost use Rattle.std.specs.Prelude.{None, IsTrue, length, IfOk, IfErr, OnOk, OnErr, IsErrOf};
 ghost use Rattle.delta_base.specs.declared.limits.TheConstants.{EMPTY_JOURNAL};
 ghost use Rattle.delta_base.specs.Journals.{journal_length};
 ghost use Rattle.delta_base.specs.Outside.{Rose};
@@ -32,7 +33,8 @@ pub fn format<D: Disk>(disk: &mut D, number: u32) -> Result<(), FormatFault>
         → D.past disk.new ≡ D.past disk.old }
 
     // After a failure some of its bytes may be written, and nothing more is synced.
-    ensures err { D.tells → OnErr result (WroteSome 0 EMPTY_JOURNAL (D.past disk.old) (D.past disk.new)) }
+    ensures err { D.tells
+        → OnErr result (WroteSome 0 EMPTY_JOURNAL (D.past disk.old) (D.past disk.new)) }
     ensures cause { IsErrOf result FormatFault.Failed
         → Rose (D.faults disk.old) (D.faults disk.new) }
     ensures faults { D.faults disk.old ≤ D.faults disk.new }

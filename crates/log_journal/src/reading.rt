@@ -1,11 +1,14 @@
 //! Reads a journal's file: the header, and then payload by payload up to a gate that is shut.
-ghost use Rattle.std.specs.Prelude.{◌≡◌, ◌+◌, ◌^◌, ◌<◌, ◌≤◌, ◌↔◌, length, take, drop, IsTrue, not, IfOk, IfErr, IfSome, IfNone, OnOk, IsErrOf, is_some, if◌then◌else◌};
+ghost use Rattle.std.specs.Prelude.{◌≡◌, ◌+◌, ◌^◌, ◌<◌, ◌≤◌, ◌↔◌, length, take};
+ghost use Rattle.std.specs.Prelude.{drop, IsTrue, not, IfOk, IfErr, IfSome};
+ghost use Rattle.std.specs.Prelude.{IfNone, OnOk, IsErrOf, is_some, if◌then◌else◌};
 ghost use Rattle.delta_base.specs.declared.limits.TheConstants.{EMPTY_JOURNAL, PAYLOAD_FRAME};
 ghost use Rattle.delta_base.specs.Outside.{CountsFault, HasCause, Rose};
 ghost use Rattle.disk_model.specs.Past.{reads};
 ghost use Rattle.disk_model.specs.Calls.{KeepsPlan};
 ghost use Rattle.std.specs.Int.{w32, to_be_bytes};
-ghost use Rattle.log_journal.specs.Reading.{ReadsHeader, ReadsStart, ReadsPayload, HasByte, CountsReading, ShortReading};
+ghost use Rattle.log_journal.specs.Reading.{ReadsHeader, ReadsStart, ReadsPayload};
+ghost use Rattle.log_journal.specs.Reading.{HasByte, CountsReading, ShortReading};
 
 use crate::fault::JournalFault;
 use delta_base::Failed;
@@ -89,7 +92,8 @@ pub fn read_start<D: Disk>(disk: &mut D, file_length: u64, number: u32) -> Resul
     ensures faults { D.faults disk.old ≤ D.faults disk.new }
     ensures counts { CountsReading result (D.faults disk.old) (D.faults disk.new) }
     ensures planned { D.plans → ShortReading result (D.short disk.old) (D.short disk.new) }
-    ensures few { D.tells → OnOk result (D.read_bytes disk.new ≤ D.read_bytes disk.old + EMPTY_JOURNAL) }
+    ensures few { D.tells
+        → OnOk result (D.read_bytes disk.new ≤ D.read_bytes disk.old + EMPTY_JOURNAL) }
     ensures mark { D.mark disk.new ≡ D.mark disk.old }
 {
     let mut start = [0u8; 9];
@@ -107,8 +111,8 @@ pub fn read_start<D: Disk>(disk: &mut D, file_length: u64, number: u32) -> Resul
     Err(JournalFault::Damaged { at: 8 })
 }
 
-/// The payload behind the open gate at a place, and the byte of the gate behind it. The two are read at once, since the
-/// gate behind a payload always belongs to the journal.
+/// The payload behind the open gate at a place, and the byte of the gate behind it. The two are
+/// read at once, since the gate behind a payload always belongs to the journal.
 pub fn read_payload<D: Disk>(
     alloc: Global,
     disk: &mut D,

@@ -49,7 +49,8 @@ fn each_fault_of_a_file_has_its_place(rt: HostRuntime) -> Result<(), Fail> {
         (b"RDJ1\0\0\0\x01", JournalFault::Damaged { at: 8 }),
         (b"RDJ1\0\0\0\x02", JournalFault::WrongNumber { found: 2 }),
         (b"RDJ1\0\0\0", JournalFault::Damaged { at: 0 }),
-        // A length that breaks off, a payload that does, and a whole one without the gate behind it.
+        // A length that breaks off, a payload that does, and a whole one without the
+        // gate behind it.
         (b"RDJ1\0\0\0\x01\x01\0\0\0", JournalFault::Damaged { at: 9 }),
         (
             b"RDJ1\0\0\0\x01\x01\0\0\0\0",
@@ -86,8 +87,8 @@ fn each_fault_of_a_file_has_its_place(rt: HostRuntime) -> Result<(), Fail> {
     Ok(())
 }
 
-// The disk of an empty journal, of which these calls fail. The opening makes a sync, a look at the length and a read, and
-// an append four calls.
+// The disk of an empty journal, of which these calls fail. The opening makes a sync, a look at the
+// length and a read, and an append four calls.
 fn empty(alloc: Global, failing: &[u64]) -> Result<MemDisk, Fail> {
     let image = Bytes::from_slice(alloc, &EMPTY)?;
     Ok(MemDisk::from_image(alloc, image, calls(alloc, failing)?)?)
@@ -144,7 +145,8 @@ fn a_crash_in_doubt_leaves_the_payload_or_not(rt: HostRuntime) -> Result<(), Fai
 fn an_opening_reads_each_payload_in_two(rt: HostRuntime) -> Result<(), Fail> {
     let alloc = rt.alloc();
     let image = b"RDJ1\0\0\0\x01\x01\0\0\0\x01a\x01\0\0\0\x02bc\0tail";
-    // A sync, a look at the length, the header, and twice two reads: call 7 is none of the opening's.
+    // A sync, a look at the length, the header, and twice two reads: call 7 is none
+    // of the opening's.
     for (failing, is_opened) in [(6, false), (7, true)] {
         let bytes = Bytes::from_slice(alloc, image.as_slice())?;
         let disk = MemDisk::from_image(alloc, bytes, calls(alloc, &[failing])?)?;
@@ -173,7 +175,8 @@ fn a_planned_journal_fails_in_its_phase(rt: HostRuntime) -> Result<(), Fail> {
         assert_eq!(rt; write(&mut journal, &block), answer);
     }
     assert!(rt; !journal.is_short());
-    // The second payload is in doubt: what was synced has one payload, and with 1 for what wasn't there are two.
+    // The second payload is in doubt: what was synced has one payload, and with 1 for what wasn't
+    // there are two.
     let disk = journal.close();
     for (choice, count) in [(0, 1), (257, 2)] {
         let reopened = MemDisk::from_image(alloc, disk.image(choice)?, no_calls(alloc))?;
@@ -185,7 +188,8 @@ fn a_planned_journal_fails_in_its_phase(rt: HostRuntime) -> Result<(), Fail> {
     Ok(())
 }
 
-// Appends up to ten times over a disk that fails for good after some calls: how many were acknowledged, and the disk.
+// Appends up to ten times over a disk that fails for good after some calls: how many were
+// acknowledged, and the disk.
 fn append_ten(alloc: Global, fuse: u64) -> Result<(usize, MemDisk), Fail> {
     let block = make_block(alloc, b"abc")?;
     let disk = MemDisk::with_fuse(alloc, Bytes::from_slice(alloc, &EMPTY)?, fuse)?;

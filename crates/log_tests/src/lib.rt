@@ -1,4 +1,5 @@
-//! Worked examples of chains, disks, journals, logs and the files of them, and what a crash or a failing call leaves.
+//! Worked examples of chains, disks, journals, logs and the files of them, and what a crash or a
+//! failing call leaves.
 #![tactic(auto)]
 
 #[cfg(test)]

@@ -188,7 +188,8 @@ fn a_full_log_shows_its_numbers(rt: HostRuntime) -> Result<(), Fail> {
     Ok(())
 }
 
-// A log of one patch whose second append failed at the gate's sync: an opening makes three calls and an append four.
+// A log of one patch whose second append failed at the gate's sync: an opening makes three calls
+// and an append four.
 fn in_doubt(alloc: Global) -> Result<(LogState<MemDisk>, LogAnswer), Fail> {
     let mut log = open(alloc, disk_of(alloc, EMPTY, &[10])?, LIMITS)?;
     add(alloc, &mut log, FIRST)?;
@@ -305,7 +306,8 @@ fn numbered(alloc: Global, number: u32) -> Result<Checked, Fail> {
     Ok(check_patch(alloc, text.as_bytes())?)
 }
 
-// How many of ten chained appends are acknowledged over a disk whose calls all fail after so many, and the disk.
+// How many of ten chained appends are acknowledged over a disk whose calls all fail after so many,
+// and the disk.
 fn run_ten(alloc: Global, patches: &[Checked], fuse: u64) -> Result<Option<(u32, MemDisk)>, Fail> {
     let disk = MemDisk::with_fuse(alloc, Bytes::from_slice(alloc, EMPTY)?, fuse)?;
     match LogState::open_on(alloc, disk, 1, LIMITS) {

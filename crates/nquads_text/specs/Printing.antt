@@ -35,13 +35,15 @@ IsGraphValue (Some g) = IsTermValue g
 
 -- what each quad keeps of its terms
 abbrev pub HasTermValues : Statement → Type 0
-HasTermValues q = IsTermValue q.subject × IsTermValue q.predicate × IsTermValue q.object × IsGraphValue q.graph
+HasTermValues q =
+    IsTermValue q.subject × IsTermValue q.predicate × IsTermValue q.object × IsGraphValue q.graph
 
 -- ---- what can't go on with a term that stands before it
 
 -- a character of a label, behind any dots
 abbrev pub LabelGoesOn : List ℕ → Type 0
-LabelGoesOn rest = (dots behind after : List ℕ) × (c : ℕ) × IsTrue (list_all (λ b. b == 46) dots) × (rest ≡ dots ++ behind) × CharAt behind c after × IsTrue (is_name_char c)
+LabelGoesOn rest = (dots behind after : List ℕ) × (c : ℕ) × IsTrue (list_all (λ b. b == 46) dots)
+    × (rest ≡ dots ++ behind) × CharAt behind c after × IsTrue (is_name_char c)
 
 -- behind a string, an `@` and a `^` go on; behind a tag, a letter, a digit and a dash
 abbrev pub EndsKind : LiteralKind → List ℕ → Type 0

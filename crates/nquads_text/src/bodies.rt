@@ -1,9 +1,12 @@
 //! The text inside an IRIREF and inside a string.
 
-ghost use Rattle.std.specs.Prelude.{◌≡◌, ◌≤◌, ◌<◌, ◌+◌, ℕ, List, length, drop, IfOk, IsTrue, slice_index, slice_range};
+ghost use Rattle.std.specs.Prelude.{◌≡◌, ◌≤◌, ◌<◌, ◌+◌, ℕ, List, length, drop};
+ghost use Rattle.std.specs.Prelude.{IfOk, IsTrue, slice_index, slice_range};
 ghost use Rattle.std.specs.String.{string_bytes};
 ghost use Rattle.nquads_text.specs.Fault.{Gives};
-ghost use Rattle.nquads_text.specs.Reading.{iri_body_at, string_body_at, with_front, is_plain_iri as plain_in_iri, is_plain_string as plain_in_string};
+ghost use Rattle.nquads_text.specs.Reading.{iri_body_at, string_body_at, with_front};
+ghost use Rattle.nquads_text.specs.Reading.{is_plain_iri as plain_in_iri};
+ghost use Rattle.nquads_text.specs.Reading.{is_plain_string as plain_in_string};
 
 use crate::fault::ReadFault;
 use crate::pieces::{iri_piece, string_piece};
@@ -38,7 +41,8 @@ fn push_plain_iri(out: &mut String, text: &[u8], at: usize) -> Result<usize, Out
     requires { at ≤ length text.now }
     ensures low { IfOk result (λ run. at ≤ run) }
     ensures high { IfOk result (λ run. run ≤ length text.now) }
-    ensures same { IfOk result (λ run. with_front (string_bytes out.new) (iri_body_at (drop run text.now))
+    ensures same { IfOk result (λ run.
+        with_front (string_bytes out.new) (iri_body_at (drop run text.now))
         ≡ with_front (string_bytes out.old) (iri_body_at (drop at text.now))) }
 {
     let run = plain_iri_end(text, at);
@@ -77,7 +81,8 @@ fn plain_string_end(text: &[u8], at: usize) -> usize
     requires { at ≤ length text.now }
     ensures low { at ≤ result }
     ensures high { result ≤ length text.now }
-    ensures plain { (k : ℕ) → at ≤ k → k < result → IsTrue (plain_in_string (slice_index text.now k)) }
+    ensures plain { (k : ℕ) → at ≤ k → k < result
+        → IsTrue (plain_in_string (slice_index text.now k)) }
 {
     for i in at..text.len() {
         if !is_plain_string(text[i]) {
@@ -92,7 +97,8 @@ fn push_plain_string(out: &mut String, text: &[u8], at: usize) -> Result<usize, 
     requires { at ≤ length text.now }
     ensures low { IfOk result (λ run. at ≤ run) }
     ensures high { IfOk result (λ run. run ≤ length text.now) }
-    ensures same { IfOk result (λ run. with_front (string_bytes out.new) (string_body_at (drop run text.now))
+    ensures same { IfOk result (λ run.
+        with_front (string_bytes out.new) (string_body_at (drop run text.now))
         ≡ with_front (string_bytes out.old) (string_body_at (drop at text.now))) }
 {
     let run = plain_string_end(text, at);

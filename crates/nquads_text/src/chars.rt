@@ -1,7 +1,10 @@
 ghost use Rattle.std.specs.Prelude.{◌≡◌, ◌≤◌, ◌<◌, ◌+◌, length, drop, IfOk, IfErr};
 ghost use Rattle.nquads_text.specs.Fault.{Gives, IsFault};
 ghost use Rattle.nquads_text.specs.Grammar.{is_line_end as ends_line};
-ghost use Rattle.nquads_text.specs.Reading.{char_at as char_of, digit_at as digit_of, four_digits_at as four_digits_of, eight_digits_at as eight_digits_of, code_at as code_of, uchar_at as uchar_of};
+ghost use Rattle.nquads_text.specs.Reading.{char_at as char_of, digit_at as digit_of};
+ghost use Rattle.nquads_text.specs.Reading.{four_digits_at as four_digits_of};
+ghost use Rattle.nquads_text.specs.Reading.{eight_digits_at as eight_digits_of};
+ghost use Rattle.nquads_text.specs.Reading.{code_at as code_of, uchar_at as uchar_of};
 
 use crate::fault::{ReadFault, TextKind};
 
@@ -57,7 +60,8 @@ pub fn char_at(text: &[u8], at: usize) -> Result<(char, usize), ReadFault>
 fn digit_at(text: &[u8], start: usize, at: usize) -> Result<(u32, usize), ReadFault>
     requires begins { start ≤ length text.now }
     requires within { at ≤ length text.now }
-    ensures gives { Gives text.now (λ n. n) result (digit_of (drop start text.now) (drop at text.now)) }
+    ensures gives { Gives text.now (λ n. n) result
+        (digit_of (drop start text.now) (drop at text.now)) }
     ensures small { IfOk result (λ x. x.0 < 16) }
     ensures further { IfOk result (λ x. at < x.1) }
 {
@@ -75,7 +79,8 @@ fn digit_at(text: &[u8], start: usize, at: usize) -> Result<(u32, usize), ReadFa
 fn four_digits_at(text: &[u8], start: usize, at: usize) -> Result<(u32, usize), ReadFault>
     requires begins { start ≤ length text.now }
     requires within { at ≤ length text.now }
-    ensures gives { Gives text.now (λ n. n) result (four_digits_of (drop start text.now) (drop at text.now)) }
+    ensures gives { Gives text.now (λ n. n) result
+        (four_digits_of (drop start text.now) (drop at text.now)) }
     ensures small { IfOk result (λ x. x.0 < 65536) }
     ensures further { IfOk result (λ x. at < x.1) }
 {
@@ -90,7 +95,8 @@ fn four_digits_at(text: &[u8], start: usize, at: usize) -> Result<(u32, usize), 
 fn eight_digits_at(text: &[u8], start: usize, at: usize) -> Result<(u32, usize), ReadFault>
     requires begins { start ≤ length text.now }
     requires within { at ≤ length text.now }
-    ensures gives { Gives text.now (λ n. n) result (eight_digits_of (drop start text.now) (drop at text.now)) }
+    ensures gives { Gives text.now (λ n. n) result
+        (eight_digits_of (drop start text.now) (drop at text.now)) }
     ensures further { IfOk result (λ x. at < x.1) }
 {
     let (high, next) = four_digits_at(text, start, at)?;
@@ -103,7 +109,8 @@ fn eight_digits_at(text: &[u8], start: usize, at: usize) -> Result<(u32, usize),
 fn code_at(text: &[u8], start: usize, letter: char, at: usize) -> Result<(u32, usize), ReadFault>
     requires begins { start ≤ length text.now }
     requires within { at ≤ length text.now }
-    ensures gives { Gives text.now (λ n. n) result (code_of (drop start text.now) letter (drop at text.now)) }
+    ensures gives { Gives text.now (λ n. n) result
+        (code_of (drop start text.now) letter (drop at text.now)) }
     ensures further { IfOk result (λ x. at < x.1) }
 {
     match letter {
@@ -123,7 +130,8 @@ fn code_at(text: &[u8], start: usize, letter: char, at: usize) -> Result<(u32, u
 pub fn uchar_at(text: &[u8], start: usize, at: usize) -> Result<(char, usize), ReadFault>
     requires begins { start ≤ length text.now }
     requires within { at ≤ length text.now }
-    ensures gives { Gives text.now (λ c. c) result (uchar_of (drop start text.now) (drop at text.now)) }
+    ensures gives { Gives text.now (λ c. c) result
+        (uchar_of (drop start text.now) (drop at text.now)) }
     ensures further { IfOk result (λ x. at < x.1) }
 {
     let (letter, next) = char_at(text, at)?;

@@ -1,8 +1,9 @@
 //! N-Quads text: terms are read and printed.
 //!
-//! `read_term` answers the term that the grammar has at a place of a text (`specs/Grammar.antt`), and else the text's first
-//! fault (`specs/Faults.antt`). `print_term` writes a term's canonical text, which is read as that term again. The functions
-//! of `laws` do nothing: their contracts tie the reading to the grammar and the faults, token by token.
+//! `read_term` answers the term that the grammar has at a place of a text (`specs/Grammar.antt`),
+//! and else the text's first fault (`specs/Faults.antt`). `print_term` writes a term's canonical
+//! text, which is read as that term again. The functions of `laws` do nothing: their contracts tie
+//! the reading to the grammar and the faults, token by token.
 #![tactic(auto)]
 
 mod bodies;

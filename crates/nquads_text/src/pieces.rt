@@ -3,7 +3,8 @@
 ghost use Rattle.std.specs.Prelude.{◌≡◌, ◌≤◌, ◌<◌, ◌+◌, length, drop, IfOk};
 ghost use Rattle.std.specs.String.{string_bytes};
 ghost use Rattle.nquads_text.specs.Fault.{Gives};
-ghost use Rattle.nquads_text.specs.Reading.{iri_piece as iri_piece_of, string_piece as string_piece_of};
+ghost use Rattle.nquads_text.specs.Reading.{iri_piece as iri_piece_of};
+ghost use Rattle.nquads_text.specs.Reading.{string_piece as string_piece_of};
 ghost use Rattle.nquads_text.specs.Grammar.{echar as echar_of};
 
 use crate::chars::{char_at, is_line_end, uchar_at};

@@ -97,7 +97,8 @@ pub fn push_graph(out: &mut Vec<u8>, graph: &Option<Term>) -> Result<(), OutOfMe
 /// The canonical text of a term.
 pub fn print_term(alloc: Global, term: &Term) -> Result<Text, OutOfMemory>
     ensures text { IfOk result (λ text. text ≡ term_text term.now) }
-    ensures read_again { IfOk result (λ text. (rest : List ℕ) → EndsTerm term.now rest → TermAt (text ++ rest) term.now rest) }
+    ensures read_again { IfOk result (λ text. (rest : List ℕ) → EndsTerm term.now rest
+        → TermAt (text ++ rest) term.now rest) }
 {
     let mut out = Vec::new(alloc);
     push_term(&mut out, term)?;

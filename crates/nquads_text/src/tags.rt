@@ -28,7 +28,8 @@ pub fn is_tag_byte(first: bool, b: u8) -> bool
 pub fn tag(alloc: Global, text: &[u8], start: usize, from: usize) -> Result<(Tag, usize), ReadFault>
     requires begins { start ≤ length text.now }
     requires within { from ≤ length text.now }
-    ensures { Gives text.now (λ t. t) result (tag_at true false (drop start text.now) (drop from text.now)) }
+    ensures { Gives text.now (λ t. t) result
+        (tag_at true false (drop start text.now) (drop from text.now)) }
 {
     let mut out = String::new(alloc);
     let mut first = true;

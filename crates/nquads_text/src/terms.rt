@@ -4,7 +4,9 @@ ghost use Rattle.std.specs.Prelude.{◌≡◌, ◌<◌, ◌≤◌, ℕ, List, le
 ghost use Rattle.nquads_text.specs.Fault.{Fault, Gives, FailsBy, IsAnswer, IsFaultAnswer};
 ghost use Rattle.nquads_text.specs.Faults.{TermFault};
 ghost use Rattle.nquads_text.specs.Grammar.{TermAt};
-ghost use Rattle.nquads_text.specs.Terms.{iri_at, iri_needed as iri_needed_at, skip_blanks as behind_blanks, kind_of as kind_for, datatype_at, suffix_at, typed_at, literal_at, term_at};
+ghost use Rattle.nquads_text.specs.Terms.{iri_at, iri_needed as iri_needed_at};
+ghost use Rattle.nquads_text.specs.Terms.{skip_blanks as behind_blanks, kind_of as kind_for};
+ghost use Rattle.nquads_text.specs.Terms.{datatype_at, suffix_at, typed_at, literal_at, term_at};
 ghost use Rattle.rdf_terms.specs.declared.term.Term.{Term};
 
 use crate::bodies::{iri_body, string_body};
@@ -77,7 +79,8 @@ fn kind_of(
 ) -> Result<(LiteralKind, usize), ReadFault>
     requires begins { start ≤ length text.now }
     requires within { end ≤ length text.now }
-    ensures { Gives text.now (λ k. k) result (kind_for (drop start text.now) iri (drop end text.now)) }
+    ensures { Gives text.now (λ k. k) result
+        (kind_for (drop start text.now) iri (drop end text.now)) }
 {
     match LiteralKind::of_datatype(iri) {
         Ok(kind) => Ok((kind, end)),
@@ -98,7 +101,8 @@ fn datatype(
 ) -> Result<(LiteralKind, usize), ReadFault>
     requires begins { start ≤ length text.now }
     requires within { at ≤ length text.now }
-    ensures { Gives text.now (λ k. k) result (datatype_at (drop start text.now) (drop at text.now)) }
+    ensures { Gives text.now (λ k. k) result
+        (datatype_at (drop start text.now) (drop at text.now)) }
 {
     let (hat, next) = char_at(text, at)?;
     if hat != '^' {
@@ -196,10 +200,13 @@ fn term(alloc: Global, text: &[u8], at: usize) -> Result<(Term, usize), ReadFaul
 /// The longest term at a place, and the place behind it; else the first fault.
 pub fn read_term(alloc: Global, text: &[u8], at: usize) -> Result<(Term, usize), ReadFault>
     requires { at ≤ length text.now }
-    ensures ok { IfOk result (λ r. TermAt (drop at text.now) r.0 (drop r.1 text.now) × (at < r.1) × (r.1 ≤ length text.now)) }
-    ensures only { (t : Term) (after : List ℕ) → TermAt (drop at text.now) t after → IsAnswer text.now result t after }
+    ensures ok { IfOk result (λ r. TermAt (drop at text.now) r.0 (drop r.1 text.now)
+        × (at < r.1) × (r.1 ≤ length text.now)) }
+    ensures only { (t : Term) (after : List ℕ) → TermAt (drop at text.now) t after
+        → IsAnswer text.now result t after }
     ensures fault { IfErr result (FailsBy (TermFault (drop at text.now)) text.now) }
-    ensures only_fault { (f : Fault) → TermFault (drop at text.now) f → IsFaultAnswer text.now result f }
+    ensures only_fault { (f : Fault) → TermFault (drop at text.now) f
+        → IsFaultAnswer text.now result f }
     ensures gives { Gives text.now (λ t. t) result (term_at (drop at text.now)) }
 {
     term(alloc, text, at)

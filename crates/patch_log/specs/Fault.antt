@@ -19,8 +19,8 @@ of_journal (journal.WrongNumber found) = log.WrongNumber found
 of_journal (journal.OverLimit length limit) = log.OverLimit length limit
 of_journal journal.OutOfMemory = log.OutOfMemory
 
--- The file of this number has this fault, and none that comes before it. What a file can't tell is free: that its disk
--- failed, and want of memory.
+-- The file of this number has this fault, and none that comes before it. What a file can't tell is
+-- free: that its disk failed, and want of memory.
 abbrev pub HasLogFault : List ℕ → ℕ → LogLimits → LogFault → Type 0
 HasLogFault file number limits (log.Damaged at) =
     HasFault file number limits.bytes (journal.Damaged at)

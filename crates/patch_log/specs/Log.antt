@@ -50,7 +50,8 @@ pub record StandsForLog (past : Past) (number : ℕ) (limits : LogLimits) (chain
   pub without : IsSoundLog limits chain
   pub having : IsSoundLog limits (with_doubt chain doubt)
 
--- while a patch is added, an image holds the chain, or the chain with the patch in doubt or with the new one
+-- while a patch is added, an image holds the chain, or the chain with the patch in doubt or with
+-- the new one
 abbrev pub MayHoldDuring : ℕ → List Patch → Option Patch → Patch → List ℕ → Type 0
 MayHoldDuring number chain None patch image =
     HoldsWithOrWithout number (payloads_of chain) patch.text image
@@ -58,7 +59,8 @@ MayHoldDuring number chain (Some doubt) patch image =
     HoldsWithOrWithout number (payloads_of chain) doubt.text image
     ⊎ HoldsWithOrWithout number (payloads_of chain) patch.text image
 
--- what was synced is without the patch in doubt, and with 1 for each byte that wasn't synced the file has it
+-- what was synced is without the patch in doubt, and with 1 for each byte that wasn't synced the
+-- file has it
 abbrev pub LeavesEither : Past → ℕ → List Patch → Option Patch → Type 0
 LeavesEither past number chain doubt =
     JournalLeaves past number (payloads_of chain) (payload_in doubt)

@@ -1,5 +1,6 @@
 -- Appends to one log, one after another.
-use Rattle.std.specs.Prelude.{◌≡◌, ◌≢◌, ◌⊎◌, ℕ, ◌-◌, ◌≤◌, List, [], ◌∷◌, ◌++◌, Bool, true, false, not, IsTrue, Option}
+use Rattle.std.specs.Prelude.{◌≡◌, ◌≢◌, ◌⊎◌, ℕ, ◌-◌, ◌≤◌, List, [], ◌∷◌}
+use Rattle.std.specs.Prelude.{◌++◌, Bool, true, false, not, IsTrue, Option}
 use Rattle.std.specs.List.{AllByRecursion}
 use Rattle.delta_base.specs.Outside.{Rose}
 use Rattle.delta_base.specs.declared.limits.LogLimits.{LogLimits}
@@ -11,7 +12,8 @@ use Rattle.chain_core.specs.declared.chain.Entry.{Entry}
 use Rattle.chain_core.specs.declared.fate.Fate.{Fate}
 use Rattle.chain_core.specs.declared.answer.Decision.TheVariants.{Accept}
 use Rattle.chain_core.specs.declared.answer.LogAnswer.{LogAnswer}
-use Rattle.chain_core.specs.declared.answer.LogAnswer.TheVariants.{Accepted, Known, Conflict, Full, DiskFault, OutOfMemory}
+use Rattle.chain_core.specs.declared.answer.LogAnswer.TheVariants.{Accepted, Known, Conflict}
+use Rattle.chain_core.specs.declared.answer.LogAnswer.TheVariants.{Full, DiskFault, OutOfMemory}
 use Rattle.chain_core.specs.Decision.{decision}
 use Rattle.chain_core.specs.Log.{LogPoint, up}
 use Rattle.chain_core.specs.Stay.{Stay, fate_by_syncs, fate_by_plan}
@@ -49,7 +51,8 @@ pub record Appended {D : Type 0} (disks : Ghosts D) (before after : LogView D) (
   pub accepted : (version : ℕ) → answer ≡ Accepted version
       → after.entries ≡ before.entries ++ record { patch = patch; by = by } ∷ []
   pub refused : ((version : ℕ) → answer ≢ Accepted version) → after.entries ≡ before.entries
-  -- a crash at any moment leaves the chain, or the chain with the patch in doubt or with the new one
+  -- a crash at any moment leaves the chain, or the chain with the patch in doubt or with
+  -- the new one
   pub any_moment : disks.tells
       → LeavesOnly (MayHoldDuring before.number (chain_of before) before.doubt patch)
       (disks.past before.disk) (disks.past after.disk)
@@ -61,7 +64,8 @@ pub record Appended {D : Type 0} (disks : Ghosts D) (before after : LogView D) (
   pub images : disks.plans → disks.tells → IsTrue (not (disks.short after.disk))
       → LeavesEither (disks.past before.disk) before.number (chain_of before) before.doubt
       → LeavesEither (disks.past after.disk) after.number (chain_of after) after.doubt
-  -- the disk is asked for a patch that can be accepted, and is told of where its count of faults rose
+  -- the disk is asked for a patch that can be accepted, and is told of where its count
+  -- of faults rose
   pub cause : answer ≡ DiskFault → Rose (disks.faults before.disk) (disks.faults after.disk)
   pub faults : disks.faults before.disk ≤ disks.faults after.disk
   pub well : answer ≢ DiskFault → disks.faults after.disk ≡ disks.faults before.disk
@@ -87,7 +91,8 @@ Run {D} disks by before (patch ∷ patches) (answer ∷ answers) after =
 Run disks by before [] (answer ∷ answers) after = ⊥
 Run disks by before (patch ∷ patches) [] after = ⊥
 
--- while these patches are added, an image holds what it may hold during one of the appends, or is as before them all
+-- while these patches are added, an image holds what it may hold during one of the appends, or is
+-- as before them all
 abbrev pub HoldsInRun : {D : Type 0} → Ghosts D → ℕ → LogView D → List Patch → List ℕ → Type 0
 HoldsInRun {D} disks by before patches image =
     MayLeave (disks.past before.disk) image

@@ -15,8 +15,8 @@ use disk_model::Disk;
 use patch_meaning::Checked;
 use std::alloc::Global;
 
-/// Adds a patch that was made ready, or for which no memory was found. Says why not in this order: Known, Conflict,
-/// Full, want of memory, a disk fault.
+/// Adds a patch that was made ready, or for which no memory was found. Says why not in this order:
+/// Known, Conflict, Full, want of memory, a disk fault.
 pub fn append_made<D: Disk>(
     log: &mut LogState<D>,
     patch: &Checked,
@@ -35,7 +35,8 @@ pub fn append_made<D: Disk>(
     }
 }
 
-/// Adds a patch, or says why not: Known, Conflict, Full, want of memory and a disk fault, in this order.
+/// Adds a patch, or says why not: Known, Conflict, Full, want of memory and a disk fault,
+/// in this order.
 pub fn append<D: Disk>(log: &mut LogState<D>, patch: &Checked, by: u32) -> LogAnswer
     ensures { Appended D.Disk log.old log.new (bare patch.now) by result }
 {
@@ -56,7 +57,8 @@ pub fn append_all<D: Disk>(
     ensures grown { GrowsBy by log.old.entries log.new.entries }
     ensures none { OnErr result (log.new ≡ log.old) }
 
-    // A crash at any moment leaves what it might have left before, or what an append of the run may leave.
+    // A crash at any moment leaves what it might have left before, or what an append of the
+    // run may leave.
     ensures any_moment { D.tells → LeavesOnly (HoldsInRun D.Disk by log.old (map bare patches.now))
         (D.past log.old.disk) (D.past log.new.disk) }
 

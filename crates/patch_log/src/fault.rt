@@ -10,7 +10,8 @@ pub enum LogFault {
     WrongNumber { found: u32 },
     OverLimit { length: u64, limit: u64 },
     OutOfMemory,
-    /// So many first payloads are no chain of patches, or more than there may be, and fewer are one.
+    /// So many first payloads are no chain of patches, or more than there may be, and
+    /// fewer are one.
     BrokenChain { version: u64 },
 }
 

@@ -1,5 +1,6 @@
 //! A chain whose patches are found by id without a walk along it.
-ghost use Rattle.std.specs.Prelude.{◌≡◌, ◌≢◌, ◌+◌, ◌^◌, ◌<◌, ◌≤◌, [], ◌∷◌, ◌++◌, None, length, IfOk, OnOk, OnErr, IsErrOf};
+ghost use Rattle.std.specs.Prelude.{◌≡◌, ◌≢◌, ◌+◌, ◌^◌, ◌<◌, ◌≤◌, [], ◌∷◌, ◌++◌};
+ghost use Rattle.std.specs.Prelude.{None, length, IfOk, OnOk, OnErr, IsErrOf};
 ghost use Rattle.chain_core.specs.Chain.{IsKept};
 ghost use Rattle.chain_core.specs.Patches.{patches_of, version_of};
 
@@ -47,7 +48,8 @@ impl IndexedChain {
         }
     }
 
-    /// The chain with one patch more, unless one of its patches has the id already. The id is looked for and put in at once.
+    /// The chain with one patch more, unless one of its patches has the id already. The id is
+    /// looked for and put in at once.
     pub(crate) fn with(self, patch: Patch, by: u32) -> Result<IndexedChain, NextFault>
         requires few { length self.items + 1 < 2 ^ 32 }
         requires goes_on { version_of (patches_of self.items) patch.id ≡ None

@@ -20,7 +20,8 @@ pub fn logs_have_no_fault()
         → (fault ≡ LogFault.Failed) ⊎ (fault ≡ LogFault.OutOfMemory) }
 {}
 
-/// Whatever a crash leaves of a log that runs, opening it finds the chain, with the patch in doubt or without.
+/// Whatever a crash leaves of a log that runs, opening it finds the chain, with the patch in
+/// doubt or without.
 pub fn logs_are_found_again()
     ensures found { (past : Past) (number : ℕ) (limits : LogLimits) (chain found : List Patch)
         (doubt : Option Patch) (image : List ℕ)

@@ -1,5 +1,6 @@
 //! Reads the patches of a journal's payloads.
-ghost use Rattle.std.specs.Prelude.{◌≡◌, ◌⊎◌, ℕ, ◌+◌, ◌^◌, ◌<◌, ◌≤◌, ◌++◌, [], ◌∷◌, length, IfOk, IfErr, IsErrOf, IsTrue, ◌↔◌};
+ghost use Rattle.std.specs.Prelude.{◌≡◌, ◌⊎◌, ℕ, ◌+◌, ◌^◌, ◌<◌, ◌≤◌, ◌++◌, [], ◌∷◌};
+ghost use Rattle.std.specs.Prelude.{length, IfOk, IfErr, IsErrOf, IsTrue, ◌↔◌};
 ghost use Rattle.chain_core.specs.declared.chain.Patch.{Patch as PatchRead};
 ghost use Rattle.chain_core.specs.Chain.{IsKept};
 ghost use Rattle.chain_core.specs.Patches.{patches_of, last_id};
@@ -39,7 +40,8 @@ fn follows(chain: &Chain, link: Link) -> bool
     link.prev == chain.head()
 }
 
-// The id and the previous id of the patch that a text is, if it goes behind the chain where its id is new.
+// The id and the previous id of the patch that a text is, if it goes behind the chain where its
+// id is new.
 fn next_link(alloc: Global, chain: &Chain, text: &[u8], most: u32) -> Result<Link, NextFault>
     ensures ok { IfOk result (λ link. GoesOn (patches_of chain.now.items) text.now most
         (record { id = link.id; prev = link.prev; text = text.now })) }

@@ -51,8 +51,8 @@ use patch_meaning::Checked;
 use std::alloc::Global;
 use std::marker::Model;
 
-/// A log: its chain with an index by id, and its journal on a disk. A patch whose gate was left in doubt is kept beside
-/// the chain.
+/// A log: its chain with an index by id, and its journal on a disk. A patch whose gate was left in
+/// doubt is kept beside the chain.
 #[derive(Drop)]
 pub struct LogState<D: Disk> {
     alloc: Global,
@@ -91,7 +91,8 @@ impl<D: Disk> LogState<D> {
         number: u32,
         limits: LogLimits,
     ) -> Result<LogState<D>, LogRefusal<D>>
-        // The chain is that of the journal's payloads, brought by no pass, and no patch is in doubt.
+        // The chain is that of the journal's payloads, brought by no pass, and no patch
+        // is in doubt.
         ensures payloads { D.tells → IfOk result (λ log.
             Holds (reads (D.past disk)) number (payloads_of (chain_of log))) }
         ensures log { IfOk result (λ log. IsSoundLog limits (chain_of log)) }
@@ -102,7 +103,8 @@ impl<D: Disk> LogState<D> {
         ensures fault { D.tells → IfErr result (λ refusal.
             HasLogFault (reads (D.past disk)) number limits refusal.fault) }
 
-        // A crash at any moment leaves what it might have left before, and a read gives what it gave.
+        // A crash at any moment leaves what it might have left before, and a read gives
+        // what it gave.
         ensures kept { D.tells → IfOk result (λ log. Keeps (D.past disk) (D.past log.disk)) }
         ensures kept_refused { D.tells → IfErr result (λ refusal.
             Keeps (D.past disk) (D.past refusal.disk)) }

@@ -1,5 +1,7 @@
 -- Where the end of a text, and not the text, is what ended a reading.
-use Rattle.std.specs.Prelude.{◌≡◌, ℕ, ◌-◌, Bool, true, false, List, [], ◌∷◌, length, slice_index, Result, Ok, Err, ◌==◌, ◌||◌, ◌&&◌, not, is_none, nat_lt, if◌then◌else◌}
+use Rattle.std.specs.Prelude.{◌≡◌, ℕ, ◌-◌, Bool, true, false, List, [], ◌∷◌}
+use Rattle.std.specs.Prelude.{length, slice_index, Result, Ok, Err, ◌==◌}
+use Rattle.std.specs.Prelude.{◌||◌, ◌&&◌, not, is_none, nat_lt, if◌then◌else◌}
 use Rattle.std.specs.List.{list_all}
 use Rattle.bstr.specs.Utf8.{decoded}
 use Rattle.rdf_terms.specs.declared.term.LiteralKind.{LiteralKind}
@@ -7,11 +9,15 @@ use Rattle.rdf_terms.specs.declared.term.LiteralKind.TheVariants.{Plain, Typed, 
 use Rattle.rdf_terms.specs.declared.term.Term.{Term}
 use Rattle.rdf_terms.specs.declared.term.Term.TheVariants as term
 use Rattle.nquads_text.specs.declared.fault.TextKind.{TextKind}
-use Rattle.nquads_text.specs.declared.fault.TextKind.TheVariants.{NotUtf8, BadIri, RelativeIri, BadEscape, BadLabel, BadLang, LangStringWithoutTag, BadPosition, MissingDot, BadToken, Truncated}
+use Rattle.nquads_text.specs.declared.fault.TextKind.TheVariants.{NotUtf8, BadIri, RelativeIri}
+use Rattle.nquads_text.specs.declared.fault.TextKind.TheVariants.{BadEscape, BadLabel, BadLang}
+use Rattle.nquads_text.specs.declared.fault.TextKind.TheVariants.{LangStringWithoutTag, BadPosition}
+use Rattle.nquads_text.specs.declared.fault.TextKind.TheVariants.{MissingDot, BadToken, Truncated}
 use Rattle.nquads_text.specs.Fault.{Read as TextRead}
 use Rattle.nquads_text.specs.Grammar.{is_blank}
 use Rattle.patch_rows.specs.declared.fault.RowKind.{RowKind}
-use Rattle.patch_rows.specs.declared.fault.RowKind.TheVariants.{Common, UnknownCode, WrongCount, TooLong}
+use Rattle.patch_rows.specs.declared.fault.RowKind.TheVariants.{Common, UnknownCode}
+use Rattle.patch_rows.specs.declared.fault.RowKind.TheVariants.{WrongCount, TooLong}
 use Rattle.patch_rows.specs.Fault.{Fault}
 use Rattle.patch_rows.specs.Reading.{stands}
 
@@ -22,7 +28,8 @@ leads b = nat_lt 0xC1 b && nat_lt b 0xF5
 -- the front of a character, which further bytes make whole
 abbrev pub is_front : List ℕ → Bool
 is_front [] = false
-is_front (b ∷ rest) = leads b && (is_none (decoded (b ∷ rest)).char && (decoded (b ∷ rest)).size == length (b ∷ rest))
+is_front (b ∷ rest) =
+    leads b && (is_none (decoded (b ∷ rest)).char && (decoded (b ∷ rest)).size == length (b ∷ rest))
 
 -- the text ends here, or within a character
 abbrev pub is_cut : List ℕ → Bool
@@ -62,9 +69,11 @@ AtEnd (Err f) = ends_row f.0 f.1 ≡ true
 
 -- ---- labels
 
--- no character that begins with these two bytes is one of a label: arrows and signs, the private use of the last planes and before them
+-- no character that begins with these two bytes is one of a label: arrows and signs, the private
+-- use of the last planes and before them
 abbrev pub no_name_pair : ℕ → ℕ → Bool
-no_name_pair b c = (b == 0xE2 && (nat_lt 0x86 c && nat_lt c 0xB0)) || ((b == 0xEF && nat_lt c 0xA4) || (b == 0xF3 && nat_lt 0xAF c))
+no_name_pair b c = (b == 0xE2 && (nat_lt 0x86 c && nat_lt c 0xB0))
+    || ((b == 0xEF && nat_lt c 0xA4) || (b == 0xF3 && nat_lt 0xAF c))
 
 -- the same of one byte, or of two of `size` bytes
 abbrev pub no_name_begins : ℕ → ℕ → ℕ → Bool
@@ -72,16 +81,19 @@ no_name_begins size b c = b == 0xEE || (b == 0xF4 || (nat_lt 1 size && no_name_p
 
 -- the front of a character that may be one of a label
 abbrev pub begins_name_char : List ℕ → Bool
-begins_name_char rest = is_front rest && not (no_name_begins (length rest) (slice_index rest 0) (slice_index rest 1))
+begins_name_char rest =
+    is_front rest && not (no_name_begins (length rest) (slice_index rest 0) (slice_index rest 1))
 
--- behind a label nothing but dots stands, up to the text's end or to the front of a character of a label
+-- behind a label nothing but dots stands, up to the text's end or to the front of a character
+-- of a label
 unfoldable pub label_open : List ℕ → Bool
 label_open [] = true
 label_open (b ∷ rest) = if b == 46 then label_open rest else begins_name_char (b ∷ rest)
 
 -- ---- terms
 
--- a string may still get a datatype behind blanks, and a tag may go on; `quoted` says whether the literal ends in a quote
+-- a string may still get a datatype behind blanks, and a tag may go on; `quoted` says whether the
+-- literal ends in a quote
 abbrev pub kind_open : LiteralKind → Bool → List ℕ → Bool
 kind_open Plain quoted after = quoted && list_all is_blank after
 kind_open (Typed iri) quoted after = false
@@ -89,13 +101,15 @@ kind_open (Tagged tag) quoted after = length after == 0
 
 -- the last byte is a quote of what begins where start does and ends before after
 abbrev pub ends_quoted : List ℕ → List ℕ → Bool
-ends_quoted start after = nat_lt (length after) (length start) && slice_index start (length start - length after - 1) == 34
+ends_quoted start after = nat_lt (length after) (length start)
+    && slice_index start (length start - length after - 1) == 34
 
 -- a literal that more text may change
 abbrev pub literal_open : List ℕ → Term → List ℕ → Bool
 literal_open start (term.Iri iri) after = false
 literal_open start (term.Blank label) after = false
-literal_open start (term.Literal literal) after = kind_open literal.kind (ends_quoted start after) after
+literal_open start (term.Literal literal) after =
+    kind_open literal.kind (ends_quoted start after) after
 
 -- a label that more text may change, which isn't one in brackets
 abbrev pub blank_open : List ℕ → Term → List ℕ → Bool

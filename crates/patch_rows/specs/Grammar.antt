@@ -1,6 +1,8 @@
--- The grammar of the rows of a patch, on whole texts. A relation `X text value after` says that the text begins with an X of that
--- value and that `after` stands behind it. Each token is the longest text of its form in the whole text.
-use Rattle.std.specs.Prelude.{◌≡◌, ℕ, ◌+◌, ◌≤◌, ◌<◌, ◌⊎◌, Bool, true, List, [], ◌∷◌, ◌++◌, length, take, drop, IsTrue, ◌==◌, ◌||◌, not, Option, Some, None, codes}
+-- The grammar of the rows of a patch, on whole texts. A relation `X text value after` says that the
+-- text begins with an X of that value and that `after` stands behind it. Each token is the longest
+-- text of its form in the whole text.
+use Rattle.std.specs.Prelude.{◌≡◌, ℕ, ◌+◌, ◌≤◌, ◌<◌, ◌⊎◌, Bool, true, List, [], ◌∷◌, ◌++◌, length}
+use Rattle.std.specs.Prelude.{take, drop, IsTrue, ◌==◌, ◌||◌, not, Option, Some, None, codes}
 use Rattle.std.specs.List.{list_all, flat_map}
 use Rattle.std.specs.Str.{encode_utf8_all}
 use Rattle.std.specs.Char.{is_ascii_alphabetic, is_ascii_alphanumeric}
@@ -28,7 +30,8 @@ is_space b = b == 32 || b == 9 || is_line_end b
 
 -- '#' [^#xA#xD]*: characters, in UTF-8
 abbrev pub IsComment : List ℕ → Type 0
-IsComment bytes = (cs : List ℕ) × (bytes ≡ 35 ∷ encode_utf8_all cs) × IsTrue (scalars cs) × IsTrue (list_all (λ c. not (is_line_end c)) cs)
+IsComment bytes = (cs : List ℕ) × (bytes ≡ 35 ∷ encode_utf8_all cs) × IsTrue (scalars cs)
+    × IsTrue (list_all (λ c. not (is_line_end c)) cs)
 
 -- one byte of white space, or a comment
 abbrev pub IsGap : List ℕ → Type 0
@@ -89,11 +92,13 @@ WordAt text word after = Longest (IsWord is_ascii_alphabetic) text word after ×
 
 -- `<_:x>`, with the characters written as in an IRIREF
 abbrev pub InBrackets : List ℕ → List ℕ → List ℕ → Type 0
-InBrackets text x after = (body cs : List ℕ) × (text ≡ 60 ∷ (body ++ 62 ∷ after)) × Spells IriPiece body cs × (encode_utf8_all cs ≡ 95 ∷ 58 ∷ x)
+InBrackets text x after = (body cs : List ℕ) × (text ≡ 60 ∷ (body ++ 62 ∷ after))
+    × Spells IriPiece body cs × (encode_utf8_all cs ≡ 95 ∷ 58 ∷ x)
 
 -- a term as in N-Triples, or a blank node's label in brackets
 abbrev pub RowTerm : List ℕ → Term → List ℕ → Type 0
-RowTerm text t after = TermAt text t after ⊎ ((label : List ℕ) × InBrackets text label after × IsLabel label × (t ≡ term.Blank label))
+RowTerm text t after = TermAt text t after
+    ⊎ ((label : List ℕ) × InBrackets text label after × IsLabel label × (t ≡ term.Blank label))
 
 -- where any term may stand
 abbrev pub is_any : Term → Bool
@@ -114,7 +119,8 @@ plain string = term.Literal (record { lexical = string; kind = Plain })
 -- a prefix: a plain string, or without quotes a word, a word and a colon, or a colon
 pub data PrefixAt (text prefix after : List ℕ) : Type 0 where
   string : RowTerm text (plain prefix) after → PrefixAt text prefix after
-  word : Longest IsKey text prefix after → (StartsWith (λ b. b == 58) after → ⊥) → PrefixAt text prefix after
+  word : Longest IsKey text prefix after → (StartsWith (λ b. b == 58) after → ⊥)
+      → PrefixAt text prefix after
   word_colon : Longest IsKey text prefix (58 ∷ after) → PrefixAt text prefix after
   colon : text ≡ 58 ∷ after → prefix ≡ [] → PrefixAt text prefix after
 
@@ -132,11 +138,13 @@ EndAt text after = (from : List ℕ) × Space text from × (from ≡ 46 ∷ afte
 -- the graph, if there is one, and the row's end
 abbrev pub GraphAt : List ℕ → Option Term → List ℕ → Type 0
 GraphAt text None after = EndAt text after
-GraphAt text (Some g) after = (behind : List ℕ) × Spaced (Placed is_node) text g behind × EndAt behind after
+GraphAt text (Some g) after =
+    (behind : List ℕ) × Spaced (Placed is_node) text g behind × EndAt behind after
 
 -- the terms of a quad and the row's end
 abbrev pub QuadAt : List ℕ → Statement → List ℕ → Type 0
-QuadAt text q after = (s p o : List ℕ) × Spaced (Placed is_node) text q.subject s × Spaced (Placed is_iri) s q.predicate p
+QuadAt text q after = (s p o : List ℕ) × Spaced (Placed is_node) text q.subject s
+    × Spaced (Placed is_iri) s q.predicate p
     × Spaced (Placed is_any) p q.object o × GraphAt o q.graph after
 
 -- the code of a change
@@ -158,20 +166,24 @@ code_of (row.Change c) = code_of_change c
 abbrev pub ChangeAt : List ℕ → Change → List ℕ → Type 0
 ChangeAt text (change.Add q) after = QuadAt text q after
 ChangeAt text (change.Delete q) after = QuadAt text q after
-ChangeAt text (change.PrefixAdd prefix iri graph) after = (p i : List ℕ) × Spaced PrefixAt text prefix p × Spaced PrefixIriAt p iri i × GraphAt i graph after
-ChangeAt text (change.PrefixDelete prefix graph) after = (p : List ℕ) × Spaced PrefixAt text prefix p × GraphAt p graph after
+ChangeAt text (change.PrefixAdd prefix iri graph) after = (p i : List ℕ)
+    × Spaced PrefixAt text prefix p × Spaced PrefixIriAt p iri i × GraphAt i graph after
+ChangeAt text (change.PrefixDelete prefix graph) after =
+    (p : List ℕ) × Spaced PrefixAt text prefix p × GraphAt p graph after
 ChangeAt text change.Begin after = EndAt text after
 ChangeAt text change.Commit after = EndAt text after
 ChangeAt text change.Abort after = EndAt text after
 
 -- what stands behind a row's code
 abbrev pub PartsAt : List ℕ → Row → List ℕ → Type 0
-PartsAt text (row.Header key value) after = (k v : List ℕ) × Spaced KeyAt text key k × Spaced (Placed is_any) k value v × EndAt v after
+PartsAt text (row.Header key value) after =
+    (k v : List ℕ) × Spaced KeyAt text key k × Spaced (Placed is_any) k value v × EndAt v after
 PartsAt text (row.Change c) after = ChangeAt text c after
 
 -- a row of any length
 unfoldable pub RowAt : List ℕ → Row → List ℕ → Type 0
-RowAt text r after = (behind : List ℕ) × WordAt text (letters (code_of r)) behind × PartsAt behind r after
+RowAt text r after =
+    (behind : List ℕ) × WordAt text (letters (code_of r)) behind × PartsAt behind r after
 
 -- the row stands there whatever follows
 abbrev pub RowDecided : List ℕ → Row → List ℕ → Type 0
@@ -193,11 +205,13 @@ IsSettled text r = (rest : List ℕ) × RowDecided (row_front text) r rest
 
 -- a row within the limit: it has no more bytes, and in a text that has more the front decides it
 abbrev pub ShortRowAt : List ℕ → Row → List ℕ → Type 0
-ShortRowAt text r after = RowAt text r after × (length text ≤ length after + row_limit) × (row_limit < length text → IsSettled text r)
+ShortRowAt text r after = RowAt text r after × (length text ≤ length after + row_limit)
+    × (row_limit < length text → IsSettled text r)
 
 -- The bytes of the text from `at` to `end` are this row.
 unfoldable pub IsRowAt : List ℕ → ℕ → Row → ℕ → Type 0
-IsRowAt text at r end = ShortRowAt (drop at text) r (drop end text) × (at < end) × (end ≤ length text)
+IsRowAt text at r end =
+    ShortRowAt (drop at text) r (drop end text) × (at < end) × (end ≤ length text)
 
 -- The row is decided: it stands there whatever follows the text.
 abbrev pub IsDecidedRow : List ℕ → ℕ → Row → ℕ → Type 0

@@ -12,13 +12,15 @@ use Rattle.patch_rows.specs.Grammar.{IsKey, letters, code_of}
 
 -- the terms of a quad, each behind a space
 abbrev pub quad_text : Statement → List ℕ
-quad_text q = 32 ∷ (term_text q.subject ++ 32 ∷ (term_text q.predicate ++ 32 ∷ (term_text q.object ++ graph_text q.graph)))
+quad_text q = 32 ∷ (term_text q.subject
+    ++ 32 ∷ (term_text q.predicate ++ 32 ∷ (term_text q.object ++ graph_text q.graph)))
 
 -- the parts of a change, each behind a space; a prefix is written in quotes
 abbrev pub change_text : Change → List ℕ
 change_text (change.Add q) = quad_text q
 change_text (change.Delete q) = quad_text q
-change_text (change.PrefixAdd prefix iri graph) = 32 ∷ (quoted prefix ++ 32 ∷ (iri_text iri ++ graph_text graph))
+change_text (change.PrefixAdd prefix iri graph) =
+    32 ∷ (quoted prefix ++ 32 ∷ (iri_text iri ++ graph_text graph))
 change_text (change.PrefixDelete prefix graph) = 32 ∷ (quoted prefix ++ graph_text graph)
 change_text change.Begin = []
 change_text change.Commit = []
@@ -39,7 +41,8 @@ row_text r = letters (code_of r) ++ (parts_text r ++ 32 ∷ 46 ∷ [])
 abbrev pub IsChangeValue : Change → Type 0
 IsChangeValue (change.Add q) = HasTermValues q
 IsChangeValue (change.Delete q) = HasTermValues q
-IsChangeValue (change.PrefixAdd prefix iri graph) = IsUtf8 prefix × IsUtf8 iri × IsIri iri × IsGraphValue graph
+IsChangeValue (change.PrefixAdd prefix iri graph) =
+    IsUtf8 prefix × IsUtf8 iri × IsIri iri × IsGraphValue graph
 IsChangeValue (change.PrefixDelete prefix graph) = IsUtf8 prefix × IsGraphValue graph
 IsChangeValue change.Begin = Unit {0}
 IsChangeValue change.Commit = Unit {0}

@@ -1,5 +1,7 @@
 -- Reading the tokens of a row from left to right, with the first fault that is met.
-use Rattle.std.specs.Prelude.{ℕ, zero, suc, ◌-◌, Bool, true, false, List, [], ◌∷◌, length, take, drop, Option, Some, None, Result, Ok, Err, ◌==◌, ◌&&◌, not, if◌then◌else◌}
+use Rattle.std.specs.Prelude.{ℕ, zero, suc, ◌-◌, Bool, true, false, List, []}
+use Rattle.std.specs.Prelude.{◌∷◌, length, take, drop, Option, Some, None}
+use Rattle.std.specs.Prelude.{Result, Ok, Err, ◌==◌, ◌&&◌, not, if◌then◌else◌}
 use Rattle.std.specs.Char.{is_ascii_alphabetic}
 use Rattle.std.specs.List.{list_all, prefix_len}
 use Rattle.std.specs.Str.{bytes_eq}
@@ -8,7 +10,8 @@ use Rattle.rdf_terms.specs.declared.term.LiteralKind.{LiteralKind}
 use Rattle.rdf_terms.specs.declared.term.LiteralKind.TheVariants.{Plain, Typed, Tagged}
 use Rattle.rdf_terms.specs.declared.term.Term.{Term}
 use Rattle.rdf_terms.specs.declared.term.Term.TheVariants as term
-use Rattle.nquads_text.specs.declared.fault.TextKind.TheVariants.{BadIri, RelativeIri, BadLabel, BadPosition, BadToken, Truncated}
+use Rattle.nquads_text.specs.declared.fault.TextKind.TheVariants.{BadIri, RelativeIri, BadLabel}
+use Rattle.nquads_text.specs.declared.fault.TextKind.TheVariants.{BadPosition, BadToken, Truncated}
 use Rattle.nquads_text.specs.Fault.{Read as TextRead}
 use Rattle.nquads_text.specs.Faults.{begins_term}
 use Rattle.nquads_text.specs.Reading.{char_at, iri_body_at}
@@ -22,17 +25,21 @@ use Rattle.nquads_text.specs.Grammar.{is_line_end}
 use Rattle.patch_rows.specs.Grammar.{is_space, is_word_byte, letters}
 use Rattle.patch_rows.specs.Faults.{is_dot}
 
--- a character of a comment at the front of `here`, `room` bytes being behind its first, and what `more` finds behind it
+-- a character of a comment at the front of `here`, `room` bytes being behind its first, and what
+-- `more` finds behind it
 abbrev pub comment_step : TextRead ℕ → List ℕ → ℕ → (Bool → ℕ → List ℕ) → List ℕ
 comment_step (Err e) here room more = here
 comment_step (Ok x) here room more = more (not (is_line_end x.0)) (room - length x.1)
 
--- the text behind white space and comments, from inside a comment or not; `skip` bytes are left of the character before
+-- the text behind white space and comments, from inside a comment or not; `skip` bytes are left of
+-- the character before
 unfoldable pub space_behind : Bool → ℕ → List ℕ → List ℕ
 space_behind comment skip [] = []
 space_behind comment (suc skip) (b ∷ rest) = space_behind comment skip rest
-space_behind true zero (b ∷ rest) = comment_step (char_at (b ∷ rest)) (b ∷ rest) (length rest) (λ goes_on k. space_behind goes_on k rest)
-space_behind false zero (b ∷ rest) = if is_space b then space_behind false 0 rest else (if b == 35 then space_behind true 0 rest else b ∷ rest)
+space_behind true zero (b ∷ rest) = comment_step (char_at (b ∷ rest)) (b ∷ rest)
+    (length rest) (λ goes_on k. space_behind goes_on k rest)
+space_behind false zero (b ∷ rest) = if is_space b then space_behind false 0 rest
+    else (if b == 35 then space_behind true 0 rest else b ∷ rest)
 
 abbrev pub skip_space : List ℕ → List ℕ
 skip_space rest = space_behind false 0 rest
@@ -60,7 +67,8 @@ begins_blank (a ∷ b ∷ rest) = a == 95 && b == 58
 
 -- a label that is all of what stands between the brackets
 abbrev pub whole_label : List ℕ → List ℕ → TextRead (List ℕ) → Read Term
-whole_label start after (Ok x) = if length x.1 == 0 then Ok (term.Blank x.0, after) else Err (Common BadLabel, start)
+whole_label start after (Ok x) =
+    if length x.1 == 0 then Ok (term.Blank x.0, after) else Err (Common BadLabel, start)
 whole_label start after (Err f) = Err (Common BadLabel, start)
 
 -- what stands between brackets: a label behind `_:`, or an IRI; start is the text from the `<` on
@@ -117,13 +125,16 @@ or_bad_position None start after = Err (Common BadPosition, start)
 -- an IRI that is written as a string
 unfoldable pub iri_of_string : List ℕ → List ℕ → List ℕ → Read (List ℕ)
 iri_of_string start string after =
-    if list_all (λ b. not (is_forbidden b)) string then (if has_scheme string then Ok (string, after) else Err (Common RelativeIri, start))
+    if list_all (λ b. not (is_forbidden b)) string
+    then (if has_scheme string then Ok (string, after) else Err (Common RelativeIri, start))
     else Err (Common BadIri, start)
 
 abbrev pub iri_of_term : List ℕ → Term → List ℕ → Read (List ℕ)
 iri_of_term start (term.Iri iri) after = Ok (iri, after)
 iri_of_term start (term.Blank label) after = Err (Common BadPosition, start)
-iri_of_term start (term.Literal literal) after = or_bad_position (plain_of literal.kind literal.lexical) start after >>= λ string. iri_of_string start string.0 string.1
+iri_of_term start (term.Literal literal) after =
+    or_bad_position (plain_of literal.kind literal.lexical) start after
+    >>= λ string. iri_of_string start string.0 string.1
 
 -- ---- the ends of rows
 
@@ -170,4 +181,5 @@ abbrev pub uncut : List ℕ × List ℕ → Read (List ℕ)
 uncut x = if length x.1 == 0 then Err (Common Truncated, []) else Ok x
 
 unfoldable pub word_at : List ℕ → Read (List ℕ)
-word_at rest = if stands is_ascii_alphabetic rest then uncut (run_of is_ascii_alphabetic rest) else Err (other (Common BadToken) rest)
+word_at rest = if stands is_ascii_alphabetic rest then uncut (run_of is_ascii_alphabetic rest)
+    else Err (other (Common BadToken) rest)

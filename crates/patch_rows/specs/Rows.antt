@@ -1,12 +1,15 @@
--- Reading a row from left to right, where its text is whole or may go on. What more text may change counts as cut by the text's end.
-use Rattle.std.specs.Prelude.{ℕ, Bool, List, [], take, drop, Option, Some, None, Ok, Err, ◌==◌, ◌||◌, if◌then◌else◌}
+-- Reading a row from left to right, where its text is whole or may go on. What more text may change
+-- counts as cut by the text's end.
+use Rattle.std.specs.Prelude.{ℕ, Bool, List, [], take, drop, Option, Some}
+use Rattle.std.specs.Prelude.{None, Ok, Err, ◌==◌, ◌||◌, if◌then◌else◌}
 use Rattle.std.specs.Char.{is_ascii_alphabetic}
 use Rattle.std.specs.List.{prefix_len}
 use Rattle.rdf_terms.specs.declared.change.Change.{Change}
 use Rattle.rdf_terms.specs.declared.change.Change.TheVariants as change
 use Rattle.rdf_terms.specs.declared.term.Term.{Term}
 use Rattle.rdf_terms.specs.Quad.{Statement, statement, is_iri}
-use Rattle.nquads_text.specs.declared.fault.TextKind.TheVariants.{BadPosition, MissingDot, BadToken, Truncated}
+use Rattle.nquads_text.specs.declared.fault.TextKind.TheVariants.{BadPosition, MissingDot}
+use Rattle.nquads_text.specs.declared.fault.TextKind.TheVariants.{BadToken, Truncated}
 use Rattle.nquads_text.specs.Faults.{begins_term}
 use Rattle.patch_rows.specs.declared.codes.Code.{Code}
 use Rattle.patch_rows.specs.declared.codes.Code.TheVariants as code
@@ -19,7 +22,9 @@ use Rattle.patch_rows.specs.Cut.{literal_open, blank_open}
 use Rattle.patch_rows.specs.Fault.{Read, ◌>>=◌}
 use Rattle.patch_rows.specs.Grammar.{is_word_byte, is_any, is_node}
 use Rattle.patch_rows.specs.Faults.{is_dot}
-use Rattle.patch_rows.specs.Reading.{skip_space, stands, other, needed_term_at, key_at, past_colon, plain_text, or_bad_position, iri_of_term, dot_at, end_at, uncut, word_at, code_named}
+use Rattle.patch_rows.specs.Reading.{skip_space, stands, other, needed_term_at, key_at}
+use Rattle.patch_rows.specs.Reading.{past_colon, plain_text, or_bad_position, iri_of_term}
+use Rattle.patch_rows.specs.Reading.{dot_at, end_at, uncut, word_at, code_named}
 
 -- ---- terms
 
@@ -37,7 +42,8 @@ term_of Open rest = open_term rest
 -- the term, unless it is a label that more text may change
 abbrev pub unless_open : TextEnd → List ℕ → Term → List ℕ → Read Term
 unless_open Known start t after = Ok (t, after)
-unless_open Open start t after = if blank_open start t after then Err (Common Truncated, []) else Ok (t, after)
+unless_open Open start t after =
+    if blank_open start t after then Err (Common Truncated, []) else Ok (t, after)
 
 -- a term that may stand in its place
 unfoldable pub placed_of : TextEnd → (Term → Bool) → List ℕ → Read Term
@@ -68,7 +74,10 @@ open_word_prefix rest = do
 
 -- a prefix that is written as a word, and the colon behind it
 abbrev pub word_prefix_of : TextEnd → List ℕ → Read (List ℕ)
-word_prefix_of Known rest = Ok (take (prefix_len is_word_byte rest) rest, past_colon (drop (prefix_len is_word_byte rest) rest))
+word_prefix_of Known rest = Ok (
+  take (prefix_len is_word_byte rest) rest,
+  past_colon (drop (prefix_len is_word_byte rest) rest),
+)
 word_prefix_of Open rest = open_word_prefix rest
 
 unfoldable pub prefix_of : TextEnd → List ℕ → Read (List ℕ)
@@ -88,7 +97,9 @@ prefix_iri_of end rest = do
 -- a graph and the dot, or the dot; white space and comments are behind us
 unfoldable pub graph_or_dot_of : TextEnd → List ℕ → Read (Option Term)
 graph_or_dot_of end rest =
-    if stands begins_term rest then (placed_of end is_node rest >>= λ g. end_at (Common MissingDot) g.1 >>= λ after. Ok (Some g.0, after))
+    if stands begins_term rest
+    then (placed_of end is_node rest >>= λ g. end_at (Common MissingDot) g.1
+    >>= λ after. Ok (Some g.0, after))
     else (dot_at (Common MissingDot) rest >>= λ after. Ok (None, after))
 
 abbrev pub graph_of : TextEnd → List ℕ → Read (Option Term)
@@ -145,7 +156,8 @@ abbrev pub by_code : TextEnd → Option Code → List ℕ → List ℕ → Read 
 by_code end (Some c) start rest = parts_of end c rest
 by_code end None start rest = Err (UnknownCode, start)
 
--- a row of any length; of a text that may go on Truncated, and NotUtf8 at the front of a character, mean that more text decides
+-- a row of any length; of a text that may go on Truncated, and NotUtf8 at the front of a character,
+-- mean that more text decides
 unfoldable pub row_of : TextEnd → List ℕ → Read Row
 row_of end rest = do
   word ← word_at rest

@@ -7,7 +7,9 @@ ghost use Rattle.patch_rows.specs.Fault.{IsThere};
 ghost use Rattle.patch_rows.specs.declared.fault.RowKind.TheVariants.{Common};
 ghost use Rattle.patch_rows.specs.declared.fault.RowFault.TheVariants as faults;
 ghost use Rattle.nquads_text.specs.declared.fault.TextKind.TheVariants.{Truncated};
-ghost use Rattle.patch_rows.specs.Cut.{is_front as front, begins_name_char as names, label_open, is_cut, ends_quoted as ends_in_quote, kind_open, literal_open, blank_open, ends_row};
+ghost use Rattle.patch_rows.specs.Cut.{is_front as front, begins_name_char as names};
+ghost use Rattle.patch_rows.specs.Cut.{label_open, is_cut, ends_quoted as ends_in_quote};
+ghost use Rattle.patch_rows.specs.Cut.{kind_open, literal_open, blank_open, ends_row};
 
 use crate::fault::{RowFault, RowKind};
 use crate::terms::is_at;
@@ -64,7 +66,8 @@ fn begins_name_char(rest: &[u8]) -> bool
     }
 }
 
-/// Whether the front of a character that a label may have reaches the text's end from this place on.
+/// Whether the front of a character that a label may have reaches the text's end from
+/// this place on.
 pub fn is_name_at(text: &[u8], at: usize) -> bool
     requires { at ≤ length text.now }
     ensures { result ≡ names (drop at text.now) }

@@ -1,4 +1,5 @@
-//! What the reading, the grammar and the table of faults have in common. These functions do nothing: their contracts are theorems.
+//! What the reading, the grammar and the table of faults have in common. These functions do
+//! nothing: their contracts are theorems.
 
 ghost use Rattle.std.specs.Prelude.{◌≡◌, List, ℕ, Ok, Err};
 ghost use Rattle.rdf_terms.specs.declared.term.Term.{Term};
@@ -12,18 +13,23 @@ ghost use Rattle.patch_rows.specs.Rows.{row_at};
 
 /// A row of any length is read exactly where the grammar has one; else its first fault is met.
 pub fn rows_are_read()
-    ensures found { (text : List ℕ) (r : Row) (after : List ℕ) → row_at text ≡ Ok (r, after) → RowAt text r after }
-    ensures again { (text : List ℕ) (r : Row) (after : List ℕ) → RowAt text r after → row_at text ≡ Ok (r, after) }
+    ensures found { (text : List ℕ) (r : Row) (after : List ℕ) → row_at text ≡ Ok (r, after)
+        → RowAt text r after }
+    ensures again { (text : List ℕ) (r : Row) (after : List ℕ) → RowAt text r after
+        → row_at text ≡ Ok (r, after) }
     ensures fault { (text : List ℕ) (f : Fault) → row_at text ≡ Err f → RowFault text f }
     ensures only_fault { (text : List ℕ) (f : Fault) → RowFault text f → row_at text ≡ Err f }
 {}
 
 /// The same of a term of a row.
 pub fn row_terms_are_read()
-    ensures found { (text : List ℕ) (t : Term) (after : List ℕ) → row_term_at text ≡ Ok (t, after) → RowTerm text t after }
-    ensures again { (text : List ℕ) (t : Term) (after : List ℕ) → RowTerm text t after → row_term_at text ≡ Ok (t, after) }
+    ensures found { (text : List ℕ) (t : Term) (after : List ℕ) → row_term_at text ≡ Ok (t, after)
+        → RowTerm text t after }
+    ensures again { (text : List ℕ) (t : Term) (after : List ℕ) → RowTerm text t after
+        → row_term_at text ≡ Ok (t, after) }
     ensures fault { (text : List ℕ) (f : Fault) → row_term_at text ≡ Err f → RowTermFault text f }
-    ensures only_fault { (text : List ℕ) (f : Fault) → RowTermFault text f → row_term_at text ≡ Err f }
+    ensures only_fault { (text : List ℕ) (f : Fault) → RowTermFault text f
+        → row_term_at text ≡ Err f }
 {}
 
 /// White space and comments are skipped, and no more than they.

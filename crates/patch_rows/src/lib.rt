@@ -1,8 +1,10 @@
 //! The rows of patches: they are read and printed.
 //!
-//! `specs/Grammar.antt` says what a row is, and `specs/Faults.antt` what its first fault is. Rows are read by `patch_reader`, which keeps
-//! their limit; what it reads them with stands in `parts` (`specs/Rows.antt`). `print_row` writes a row's canonical text, which is read as
-//! that row again. The functions of `laws` do nothing: their contracts tie the reading to the grammar and the faults.
+//! `specs/Grammar.antt` says what a row is, and `specs/Faults.antt` what its first fault is.
+//! Rows are read by `patch_reader`, which keeps their limit; what it reads them with stands in
+//! `parts` (`specs/Rows.antt`). `print_row` writes a row's canonical text, which is read as that
+//! row again. The functions of `laws` do nothing: their contracts tie the reading to the grammar
+//! and the faults.
 #![tactic(auto)]
 
 mod codes;

@@ -1,5 +1,5 @@
-//! Rows of any length and their parts, for readers that keep the limit of rows or go over a row step by step: of a whole text and of a text
-//! that may go on.
+//! Rows of any length and their parts, for readers that keep the limit of rows or go over a row
+//! step by step: of a whole text and of a text that may go on.
 
 pub use crate::codes::{Code, find_code};
 pub use crate::cut::{ends, is_cut_at, is_name_at};

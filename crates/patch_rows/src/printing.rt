@@ -2,8 +2,10 @@
 
 ghost use Rattle.std.specs.Prelude.{◌≡◌, ◌≤◌, ◌+◌, ◌-◌, ◌++◌, ◌∷◌, [], ℕ, List, OnOk, IfOk, length};
 ghost use Rattle.nquads_text.specs.Printing.{HasTermValues};
-ghost use Rattle.patch_rows.specs.Grammar.{RowAt, row_limit, IsDecidedRow, letters, code_of as code_for, code_of_change as code_for_change};
-ghost use Rattle.patch_rows.specs.Printing.{quad_text, change_text, parts_text, row_text, IsChangeValue, IsRowValue, IsWritable};
+ghost use Rattle.patch_rows.specs.Grammar.{RowAt, row_limit, IsDecidedRow, letters};
+ghost use Rattle.patch_rows.specs.Grammar.{code_of as code_for, code_of_change as code_for_change};
+ghost use Rattle.patch_rows.specs.Printing.{quad_text, change_text, parts_text, row_text};
+ghost use Rattle.patch_rows.specs.Printing.{IsChangeValue, IsRowValue, IsWritable};
 
 use crate::codes::Code;
 use crate::row::Row;

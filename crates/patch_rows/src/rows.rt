@@ -1,11 +1,13 @@
-//! Rows, by their codes. Each kind of row has a function of its own, so that a row pays for its own parts alone.
+//! Rows, by their codes. Each kind of row has a function of its own, so that a row pays for its
+//! own parts alone.
 
 ghost use Rattle.std.specs.Prelude.{◌≡◌, ◌≤◌, ◌<◌, length, drop, true, false, IfOk};
 ghost use Rattle.rdf_terms.specs.Quad.{may_be_graph};
 ghost use Rattle.patch_rows.specs.declared.codes.Code.TheVariants as codes;
 ghost use Rattle.patch_rows.specs.Fault.{Gives, Ends};
 ghost use Rattle.patch_rows.specs.Reading.{dot_at, end_at};
-ghost use Rattle.patch_rows.specs.Rows.{graph_or_dot_of, graph_of, header_of, bare_at, quad_of, added_of, removed_of, parts_of, row_of as row_given};
+ghost use Rattle.patch_rows.specs.Rows.{graph_or_dot_of, graph_of, header_of, bare_at, quad_of};
+ghost use Rattle.patch_rows.specs.Rows.{added_of, removed_of, parts_of, row_of as row_given};
 
 use crate::codes::{Code, find_code};
 use crate::cut::TextEnd;
@@ -212,7 +214,8 @@ fn parts(
     }
 }
 
-/// The row at a place, of any length, and the place behind its dot; else its first fault. What more text may change counts as cut by the text's end.
+/// The row at a place, of any length, and the place behind its dot; else its first fault. What more
+/// text may change counts as cut by the text's end.
 #[tactic(auto, unfolding(crate::specs::Rows::row_of))]
 pub fn row_of(
     alloc: Global,

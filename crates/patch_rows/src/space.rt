@@ -16,15 +16,20 @@ pub fn is_space(b: u8) -> bool
     matches!(b, b' ' | b'\t' | b'\n' | b'\r')
 }
 
-/// The place behind white space and comments, as far as they are known, and whether a comment goes on there.
+/// The place behind white space and comments, as far as they are known, and whether a comment
+/// goes on there.
 #[tactic(auto, using(crate::proofs::GapSteps::gap_steps))]
 pub fn pass_gap(text: &[u8], from: usize, in_comment: bool) -> (usize, bool)
     requires { from ≤ length text.now }
     ensures low { from ≤ result.0 }
-    ensures same { (more : List ℕ) → space_behind in_comment 0 (drop from (text.now ++ more)) ≡ space_behind result.1 0 (drop result.0 (text.now ++ more)) }
+    ensures same { (more : List ℕ) → space_behind in_comment 0 (drop from (text.now ++ more))
+        ≡ space_behind result.1 0 (drop result.0 (text.now ++ more)) }
     ensures high { result.0 ≤ length text.now }
-    ensures stuck { result.1 ≡ true → (fault : Fault) × (char_of (drop result.0 text.now) ≡ Err fault) }
-    ensures stops { result.1 ≡ false → result.0 < length text.now → (more : List ℕ) → space_behind false 0 (drop result.0 (text.now ++ more)) ≡ drop result.0 (text.now ++ more) }
+    ensures stuck { result.1 ≡ true
+        → (fault : Fault) × (char_of (drop result.0 text.now) ≡ Err fault) }
+    ensures stops { result.1 ≡ false → result.0 < length text.now
+        → (more : List ℕ) → space_behind false 0 (drop result.0 (text.now ++ more))
+        ≡ drop result.0 (text.now ++ more) }
 {
     let mut at = from;
     let mut comment = in_comment;
@@ -64,7 +69,8 @@ pub fn pass_space(text: &[u8], from: usize) -> usize
 pub fn skip_space(text: &[u8], at: usize) -> usize
     requires { at ≤ length text.now }
     ensures space { Space (drop at text.now) (drop result text.now) }
-    ensures only { (after : List ℕ) → Space (drop at text.now) after → drop result text.now ≡ after }
+    ensures only { (after : List ℕ) → Space (drop at text.now) after
+        → drop result text.now ≡ after }
     ensures none { StartsWith begins_space (drop result text.now) → ⊥ }
     ensures low { at ≤ result }
     ensures high { result ≤ length text.now }

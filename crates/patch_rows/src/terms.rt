@@ -1,6 +1,7 @@
 //! The terms of rows: as in N-Triples, and blank nodes in brackets.
 
-ghost use Rattle.std.specs.Prelude.{◌≡◌, ◌≤◌, ◌<◌, ◌==◌, ◌+◌, IsTrue, length, drop, IfOk, true, false};
+ghost use Rattle.std.specs.Prelude.{◌≡◌, ◌≤◌, ◌<◌, ◌==◌, ◌+◌, IsTrue};
+ghost use Rattle.std.specs.Prelude.{length, drop, IfOk, true, false};
 ghost use Rattle.std.specs.Char.{is_ascii_alphabetic};
 ghost use Rattle.rdf_terms.specs.Iri.{IsIri, has_scheme as spells_scheme};
 ghost use Rattle.rdf_terms.specs.Quad.{is_iri as iri_stands, is_literal as literal_stands};
@@ -10,8 +11,11 @@ ghost use Rattle.nquads_text.specs.Terms.{label_at, term_at};
 ghost use Rattle.patch_rows.specs.Fault.{Gives, IsThere, in_row};
 ghost use Rattle.patch_rows.specs.Grammar.{is_any, is_node};
 ghost use Rattle.patch_rows.specs.Faults.{is_dot};
-ghost use Rattle.patch_rows.specs.Reading.{stands, other as other_of, begins_blank as blank_begins, whole_label, bracketed as bracketed_of, bracket_at, row_term_at, needed_term_at};
-ghost use Rattle.patch_rows.specs.Rows.{open_term as open_term_of, term_of, unless_open as unless_open_of, placed_of};
+ghost use Rattle.patch_rows.specs.Reading.{stands, other as other_of, begins_blank as blank_begins};
+ghost use Rattle.patch_rows.specs.Reading.{whole_label, bracketed as bracketed_of, bracket_at};
+ghost use Rattle.patch_rows.specs.Reading.{row_term_at, needed_term_at};
+ghost use Rattle.patch_rows.specs.Rows.{open_term as open_term_of, term_of};
+ghost use Rattle.patch_rows.specs.Rows.{unless_open as unless_open_of, placed_of};
 
 use crate::cut::{TextEnd, cut_off, is_open_blank, is_open_literal};
 use crate::fault::{RowFault, RowKind};
@@ -98,7 +102,8 @@ fn blank(
     requires begins { start ≤ length text.now }
     requires within { end ≤ length text.now }
     requires some { 1 ≤ length body.now }
-    ensures { Gives text.now result (whole_label (drop start text.now) (drop end text.now) (label_at body.now (drop 1 body.now))) }
+    ensures { Gives text.now result (whole_label (drop start text.now)
+        (drop end text.now) (label_at body.now (drop 1 body.now))) }
 {
     let bad = RowFault::at(start, RowKind::Common(TextKind::BadLabel));
     match label(alloc, body, 0, 1) {
@@ -194,7 +199,8 @@ fn unless_open(
 ) -> Result<(Term, usize), RowFault>
     requires begins { at ≤ length text.now }
     requires within { end ≤ length text.now }
-    ensures gives { Gives text.now result (unless_open_of text_end (drop at text.now) term (drop end text.now)) }
+    ensures gives { Gives text.now result
+        (unless_open_of text_end (drop at text.now) term (drop end text.now)) }
     ensures same { IfOk result (λ x. x.0 ≡ term) }
 {
     match text_end {

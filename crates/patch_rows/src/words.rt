@@ -1,12 +1,16 @@
 //! Words, keys, prefixes and their IRIs.
 
-ghost use Rattle.std.specs.Prelude.{◌≡◌, ◌≤◌, ◌<◌, ◌+◌, List, ℕ, [], length, drop, take, IfOk, IsUtf8, slice_range};
+ghost use Rattle.std.specs.Prelude.{◌≡◌, ◌≤◌, ◌<◌, ◌+◌, List, ℕ, [], length};
+ghost use Rattle.std.specs.Prelude.{drop, take, IfOk, IsUtf8, slice_range};
 ghost use Rattle.std.specs.Char.{is_ascii_alphabetic};
 ghost use Rattle.std.specs.List.{prefix_len};
 ghost use Rattle.patch_rows.specs.Fault.{Gives, GivesSlice};
 ghost use Rattle.patch_rows.specs.Grammar.{is_word_byte as in_word};
-ghost use Rattle.patch_rows.specs.Reading.{word_at, key_at, uncut, iri_of_string as iri_for, past_colon as behind_colon};
-ghost use Rattle.patch_rows.specs.Rows.{open_key as open_key_of, key_of, quoted_of, open_word_prefix as open_word_prefix_of, word_prefix_of, prefix_of, prefix_iri_of};
+ghost use Rattle.patch_rows.specs.Reading.{word_at, key_at, uncut, iri_of_string as iri_for};
+ghost use Rattle.patch_rows.specs.Reading.{past_colon as behind_colon};
+ghost use Rattle.patch_rows.specs.Rows.{open_key as open_key_of, key_of, quoted_of};
+ghost use Rattle.patch_rows.specs.Rows.{open_word_prefix as open_word_prefix_of};
+ghost use Rattle.patch_rows.specs.Rows.{word_prefix_of, prefix_of, prefix_iri_of};
 
 use crate::cut::{TextEnd, cut_off};
 use crate::fault::{RowFault, RowKind};
@@ -71,8 +75,10 @@ pub fn word(text: &[u8], at: usize) -> Result<(&[u8], usize), RowFault>
 /// The text of the word at a place.
 fn word_text(alloc: Global, text: &[u8], at: usize) -> Result<(Text, usize), OutOfMemory>
     requires { at ≤ length text.now }
-    ensures word { IfOk result (λ w. w.0 ≡ take (prefix_len in_word (drop at text.now)) (drop at text.now)) }
-    ensures end { IfOk result (λ w. drop w.1 text.now ≡ drop (prefix_len in_word (drop at text.now)) (drop at text.now)) }
+    ensures word { IfOk result (λ w.
+        w.0 ≡ take (prefix_len in_word (drop at text.now)) (drop at text.now)) }
+    ensures end { IfOk result (λ w.
+        drop w.1 text.now ≡ drop (prefix_len in_word (drop at text.now)) (drop at text.now)) }
     ensures high { IfOk result (λ w. w.1 ≤ length text.now) }
 {
     let end = word_end(text, at);

@@ -1,5 +1,5 @@
-//! Worked examples of rows, of rows that come in pieces, of patches, of streams that are made by rule and of replays, and each
-//! fault with its place.
+//! Worked examples of rows, of rows that come in pieces, of patches, of streams that are made by
+//! rule and of replays, and each fault with its place.
 #![tactic(auto)]
 
 #[cfg(test)]

@@ -1,4 +1,5 @@
-// A row is let go by `drop`: where it goes out of scope instead, the proof of the function takes a minute longer.
+// A row is let go by `drop`: where it goes out of scope instead, the proof of the function takes
+// a minute longer.
 ghost use Rattle.std.specs.Prelude.{◌≡◌, ◌<◌, length, drop};
 ghost use Rattle.nquads_text.specs.Grammar.{StartsWith};
 ghost use Rattle.patch_rows.specs.Grammar.{begins_space};
@@ -138,7 +139,8 @@ fn whole_end(alloc: Global, text: &[u8], at: usize) -> Result<usize, RowFault>
     }
 }
 
-/// Each front of a text whose row is decided has the row of the whole text, and a longer front decides it too.
+/// Each front of a text whose row is decided has the row of the whole text, and a longer front
+/// decides it too.
 fn agrees(rt: &impl Abort, alloc: Global, text: &[u8]) {
     let at = skip_space(text, 0);
     assert!(rt; at < text.len());
@@ -219,7 +221,8 @@ fn in_bytes(alloc: Global, text: &[u8]) -> Result<(Vec<u64>, Result<(), RowFault
     Ok((ends, answer))
 }
 
-/// In whatever pieces the text is fed, its rows end at these places, and this is answered at its end.
+/// In whatever pieces the text is fed, its rows end at these places, and this is answered
+/// at its end.
 fn reads(
     rt: &impl Abort,
     alloc: Global,

@@ -195,7 +195,8 @@ fn a_patch_of_one_byte_too_many_is_too_long(rt: HostRuntime) -> Result<(), Fail>
     Ok(())
 }
 
-/// Replays rows, a line of 4,200,002 bytes that is a comment, and more rows, and looks at the fault.
+/// Replays rows, a line of 4,200,002 bytes that is a comment, and more rows, and looks
+/// at the fault.
 fn long_ends(
     rt: &impl Abort,
     alloc: Global,

@@ -11,7 +11,8 @@ use Rattle.quad_index.specs.declared.order.Order.TheVariants.{Gspo, Gpos, Gosp, 
 
 -- from the first part
 abbrev pub placed_cmp : Placed → Placed → Ordering
-placed_cmp a b = ordering_then (nat_cmp a.first b.first) (ordering_then (nat_cmp a.second b.second) (ordering_then (nat_cmp a.third b.third) (nat_cmp a.fourth b.fourth)))
+placed_cmp a b = ordering_then (nat_cmp a.first b.first) (ordering_then (nat_cmp a.second b.second)
+    (ordering_then (nat_cmp a.third b.third) (nat_cmp a.fourth b.fourth)))
 
 abbrev pub arranged : Order → QuadKey → Placed
 arranged Gspo k = record { first = k.g; second = k.s; third = k.p; fourth = k.o }
@@ -30,11 +31,17 @@ restored Posg x = record { g = x.fourth; s = x.third; p = x.first; o = x.second 
 restored Ospg x = record { g = x.fourth; s = x.second; p = x.third; o = x.first }
 
 abbrev pub lowest : KeyPattern → QuadKey
-lowest pattern = record { g = unwrap_or pattern.g 0; s = unwrap_or pattern.s 0; p = unwrap_or pattern.p 0; o = unwrap_or pattern.o 0 }
+lowest pattern = record {
+  g = unwrap_or pattern.g 0;
+  s = unwrap_or pattern.s 0;
+  p = unwrap_or pattern.p 0;
+  o = unwrap_or pattern.o 0;
+}
 
 -- of four parts in their order, no free one stands before a bound one
 abbrev pub bound_first : Option ℕ → Option ℕ → Option ℕ → Option ℕ → Bool
-bound_first a b c d = (is_some a || not (is_some b)) && (is_some b || not (is_some c)) && (is_some c || not (is_some d))
+bound_first a b c d = (is_some a || not (is_some b)) && (is_some b || not (is_some c))
+    && (is_some c || not (is_some d))
 
 -- whether the bound parts of a pattern stand first in an order
 abbrev pub leads : Order → KeyPattern → Bool

@@ -21,10 +21,14 @@ abbrev pub keeps : Kept → QuadKey → Bool
 keeps kept key = list_any (is_at (placed_cmp (arranged kept.order key))) kept.keys
 
 abbrev pub with_key : QuadKey → Kept → Kept
-with_key key kept = record { order = kept.order; keys = insert_key placed_cmp kept.keys (arranged kept.order key) }
+with_key key kept =
+    record { order = kept.order; keys = insert_key placed_cmp kept.keys (arranged kept.order key) }
 
 abbrev pub without_key : QuadKey → Kept → Kept
-without_key key kept = record { order = kept.order; keys = remove_key (is_at (placed_cmp (arranged kept.order key))) kept.keys }
+without_key key kept = record {
+  order = kept.order;
+  keys = remove_key (is_at (placed_cmp (arranged kept.order key))) kept.keys;
+}
 
 -- the keys of the first of several orders
 abbrev pub keys_of : List Kept → List QuadKey
@@ -34,4 +38,5 @@ keys_of (kept ∷ _) = map (restored kept.order) kept.keys
 -- all six orders hold the same keys
 pub record AreSix (orders : List Kept) : Type 0 where
   pub tags : map (λ kept. kept.order) orders ≡ six
-  pub same : AllByRecursion (λ kept. (key : QuadKey) → keeps kept key ≡ has_key (keys_of orders) key) orders
+  pub same : AllByRecursion
+      (λ kept. (key : QuadKey) → keeps kept key ≡ has_key (keys_of orders) key) orders

@@ -88,7 +88,8 @@ impl Ordered {
         steps: &mut Steps<L>,
     ) -> Result<Vec<QuadKey>, OutOfMemory>
         requires { IsTrue (leads self.now.order pattern.now) }
-        ensures found { IfOk result (λ found. found.items ≡ filter (matches pattern.now) (map (restored self.now.order) self.now.keys)) }
+        ensures found { IfOk result (λ found. found.items
+            ≡ filter (matches pattern.now) (map (restored self.now.order) self.now.keys)) }
         ensures cost { IfOk result (λ found. steps.new ≤ steps.old + length found.items + 1) }
         ensures counted { IfOk result (λ found. steps.old + length found.items ≤ steps.new) }
         ensures sorted { IsStrictlySortedBy placed_cmp self.now.keys }
@@ -107,7 +108,8 @@ fn scan<L: Ledger>(
     steps: &mut Steps<L>,
 ) -> Result<Vec<QuadKey>, OutOfMemory>
     requires { IsTrue (leads order pattern.now) }
-    ensures found { IfOk result (λ found. found.items ≡ filter (matches pattern.now) (map (restored order) keys.now.keys)) }
+    ensures found { IfOk result (λ found.
+        found.items ≡ filter (matches pattern.now) (map (restored order) keys.now.keys)) }
     ensures cost { IfOk result (λ found. steps.new ≤ steps.old + length found.items + 1) }
     ensures counted { IfOk result (λ found. steps.old + length found.items ≤ steps.new) }
 {

@@ -12,10 +12,13 @@ abbrev pub Misfits : (List ℕ → Type 0) → List ℕ → List ℕ → Type 0
 Misfits Form front [] = Form front → ⊥
 Misfits Form front (c ∷ rest) = Begins Form (front ++ c ∷ []) → ⊥
 
--- the place of the first character that no text of the form with the same characters before it has there, or the text's length
+-- the place of the first character that no text of the form with the same characters before it has
+-- there, or the text's length
 abbrev pub FirstMisfit : (List ℕ → Type 0) → List ℕ → ℕ → Type 0
-FirstMisfit Form cs at = (front rest : List ℕ) × (cs ≡ front ++ rest) × (at ≡ length (encode_utf8_all front)) × Begins Form front × Misfits Form front rest
+FirstMisfit Form cs at = (front rest : List ℕ) × (cs ≡ front ++ rest)
+    × (at ≡ length (encode_utf8_all front)) × Begins Form front × Misfits Form front rest
 
 -- the same for a text in UTF-8
 abbrev pub StopsFitting : (List ℕ → Type 0) → List ℕ → ℕ → Type 0
-StopsFitting Form text at = (cs : List ℕ) × (scalars cs ≡ true) × (text ≡ encode_utf8_all cs) × FirstMisfit Form cs at
+StopsFitting Form text at =
+    (cs : List ℕ) × (scalars cs ≡ true) × (text ≡ encode_utf8_all cs) × FirstMisfit Form cs at

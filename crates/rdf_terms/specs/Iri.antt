@@ -1,11 +1,13 @@
 -- What an IRI is: no forbidden character, and a scheme in front.
-use Rattle.std.specs.Prelude.{◌≡◌, ◌++◌, length, ℕ, Bool, true, false, ◌==◌, nat_lt, ◌||◌, ◌&&◌, not, List, [], ◌∷◌, if◌then◌else◌, IsTrue}
+use Rattle.std.specs.Prelude.{◌≡◌, ◌++◌, length, ℕ, Bool, true, false, ◌==◌, nat_lt}
+use Rattle.std.specs.Prelude.{◌||◌, ◌&&◌, not, List, [], ◌∷◌, if◌then◌else◌, IsTrue}
 use Rattle.std.specs.List.{list_all}
 use Rattle.std.specs.Char.{is_ascii_alphabetic, is_ascii_alphanumeric}
 
 -- the characters that no IRI holds: those up to space, and < > " { } | ^ ` \
 abbrev pub is_forbidden : ℕ → Bool
-is_forbidden c = nat_lt c 33 || c == 60 || c == 62 || c == 34 || c == 123 || c == 125 || c == 124 || c == 94 || c == 96 || c == 92
+is_forbidden c = nat_lt c 33 || c == 60 || c == 62 || c == 34 || c == 123
+    || c == 125 || c == 124 || c == 94 || c == 96 || c == 92
 
 -- a byte that may stand behind the first letter of a scheme: a letter, a digit, + - .
 abbrev pub is_scheme_byte : ℕ → Bool
@@ -27,7 +29,8 @@ AllowedAll bytes = IsTrue (list_all (λ b. not (is_forbidden b)) bytes)
 
 -- a forbidden byte stands there, and none before it
 abbrev pub FirstForbidden : List ℕ → ℕ → Type 0
-FirstForbidden text at = (front rest : List ℕ) × (c : ℕ) × (text ≡ front ++ c ∷ rest) × (at ≡ length front) × AllowedAll front × IsTrue (is_forbidden c)
+FirstForbidden text at = (front rest : List ℕ) × (c : ℕ) × (text ≡ front ++ c ∷ rest)
+    × (at ≡ length front) × AllowedAll front × IsTrue (is_forbidden c)
 
 -- the bytes of an IRI; the forbidden characters are all below 128, so they are single bytes
 pub record IsIri (bytes : List ℕ) : Type 0 where

@@ -1,5 +1,6 @@
 -- What a blank node's label is.
-use Rattle.std.specs.Prelude.{◌≡◌, ℕ, Bool, true, false, List, [], ◌∷◌, IsTrue, ◌==◌, ◌||◌, not, Option, Some, None}
+use Rattle.std.specs.Prelude.{◌≡◌, ℕ, Bool, true, false, List, [], ◌∷◌}
+use Rattle.std.specs.Prelude.{IsTrue, ◌==◌, ◌||◌, not, Option, Some, None}
 use Rattle.std.specs.Str.{encode_utf8_all}
 use lib.Utf8.{scalars}
 use Rattle.rdf_terms.specs.Names.{is_name_char, begins_name}

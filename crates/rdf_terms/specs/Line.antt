@@ -12,7 +12,8 @@ use Rattle.rdf_terms.specs.Quad.{Statement}
 
 -- a byte of a string: `"`, `\`, line feed and carriage return behind a backslash
 abbrev pub escaped : ℕ → List ℕ
-escaped b = if b == 34 then 92 ∷ 34 ∷ [] else (if b == 92 then 92 ∷ 92 ∷ [] else (if b == 10 then 92 ∷ 110 ∷ [] else (if b == 13 then 92 ∷ 114 ∷ [] else b ∷ [])))
+escaped b = if b == 34 then 92 ∷ 34 ∷ [] else (if b == 92 then 92 ∷ 92 ∷ []
+    else (if b == 10 then 92 ∷ 110 ∷ [] else (if b == 13 then 92 ∷ 114 ∷ [] else b ∷ [])))
 
 -- a string in its quotes
 abbrev pub quoted : List ℕ → List ℕ
@@ -40,7 +41,8 @@ graph_text (Some g) = 32 ∷ term_text g
 
 -- terms separated by one space, then a space, `.` and line feed
 unfoldable pub line : Statement → List ℕ
-line q = term_text q.subject ++ 32 ∷ (term_text q.predicate ++ 32 ∷ (term_text q.object ++ (graph_text q.graph ++ (32 ∷ 46 ∷ 10 ∷ []))))
+line q = term_text q.subject ++ 32 ∷ (term_text q.predicate
+    ++ 32 ∷ (term_text q.object ++ (graph_text q.graph ++ (32 ∷ 46 ∷ 10 ∷ []))))
 
 -- the order of the lines' bytes
 abbrev pub line_cmp : Statement → Statement → Ordering

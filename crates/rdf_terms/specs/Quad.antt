@@ -33,7 +33,10 @@ is_quad q = not (is_literal q.subject) && is_iri q.predicate && may_be_graph q.g
 
 -- the first place, from 0, whose term isn't allowed there; any term may be the object
 abbrev pub bad_place : Term → Term → Option Term → Option ℕ
-bad_place subject predicate graph = if is_literal subject then Some 0 else (if not (is_iri predicate) then Some 1 else (if not (may_be_graph graph) then Some 3 else None))
+bad_place subject predicate graph =
+    if is_literal subject then Some 0
+    else (if not (is_iri predicate) then Some 1
+    else (if not (may_be_graph graph) then Some 3 else None))
 
 -- the statement of these terms
 abbrev pub statement : Term → Term → Term → Option Term → Statement

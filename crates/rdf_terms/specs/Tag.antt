@@ -1,5 +1,6 @@
 -- What a language tag is.
-use Rattle.std.specs.Prelude.{◌≡◌, ℕ, Bool, ◌<◌, List, [], ◌∷◌, ◌++◌, length, map, IsTrue, if◌then◌else◌}
+use Rattle.std.specs.Prelude.{◌≡◌, ℕ, Bool, ◌<◌, List, [], ◌∷◌, ◌++◌}
+use Rattle.std.specs.Prelude.{length, map, IsTrue, if◌then◌else◌}
 use Rattle.std.specs.List.{list_all, flat_map}
 use Rattle.std.specs.Char.{is_ascii_alphabetic, is_ascii_alphanumeric, to_ascii_lowercase}
 
@@ -14,7 +15,8 @@ AreWords test (word ∷ words) = IsWord test word × AreWords test words
 
 -- letters, then any number of dashes with letters and digits behind each
 abbrev pub TagForm : List ℕ → Type 0
-TagForm bytes = (first : List ℕ) × (parts : List (List ℕ)) × IsWord is_ascii_alphabetic first × AreWords is_ascii_alphanumeric parts × (bytes ≡ first ++ flat_map (λ part. 45 ∷ part) parts)
+TagForm bytes = (first : List ℕ) × (parts : List (List ℕ)) × IsWord is_ascii_alphabetic first
+    × AreWords is_ascii_alphanumeric parts × (bytes ≡ first ++ flat_map (λ part. 45 ∷ part) parts)
 
 -- letters in lower case, all else as it is
 abbrev pub lower : List ℕ → List ℕ

@@ -38,11 +38,13 @@ kind_of datatype =
 
 -- a literal with this datatype
 abbrev pub IsTyped : List ℕ → List ℕ → Literal → Type 0
-IsTyped lexical datatype literal = (literal.lexical ≡ lexical) × (kind_of datatype ≡ Ok literal.kind)
+IsTyped lexical datatype literal =
+    (literal.lexical ≡ lexical) × (kind_of datatype ≡ Ok literal.kind)
 
 -- a literal with this tag, which is kept in lower case
 abbrev pub IsTagged : List ℕ → List ℕ → Literal → Type 0
-IsTagged lexical tag literal = TagForm tag × (literal ≡ record { lexical = lexical; kind = Tagged (lower tag) })
+IsTagged lexical tag literal =
+    TagForm tag × (literal ≡ record { lexical = lexical; kind = Tagged (lower tag) })
 
 -- the first character that no tag with the same characters before it has there; or no memory
 abbrev pub IsTagFault : List ℕ → TermFault → Type 0

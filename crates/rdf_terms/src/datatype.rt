@@ -6,7 +6,8 @@ use crate::iri::Iri;
 use delta_base::OutOfMemory;
 use std::marker::Model;
 
-/// The datatype of a typed literal, seen as its bytes: an IRI that is neither xsd:string nor rdf:langString.
+/// The datatype of a typed literal, seen as its bytes: an IRI that is neither
+/// xsd:string nor rdf:langString.
 #[derive(Debug, PartialEq, Eq, PartialOrd, Ord, Hash, Drop)]
 pub struct Datatype {
     iri: Iri,

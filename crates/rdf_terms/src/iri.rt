@@ -1,5 +1,7 @@
 ghost use Rattle.std.specs.Prelude.{◌≡◌, IfOk, MatchResult, MatchOption, IsUtf8};
-ghost use Rattle.rdf_terms.specs.Iri.{has_scheme as spells_scheme, is_forbidden as forbids, is_scheme_byte as in_scheme, ends_scheme as spells_end, IsIri, AllowedAll, FirstForbidden};
+ghost use Rattle.rdf_terms.specs.Iri.{has_scheme as spells_scheme, is_forbidden as forbids};
+ghost use Rattle.rdf_terms.specs.Iri.{is_scheme_byte as in_scheme, ends_scheme as spells_end};
+ghost use Rattle.rdf_terms.specs.Iri.{IsIri, AllowedAll, FirstForbidden};
 ghost use Rattle.rdf_terms.specs.Terms.{IsIriFault};
 
 use crate::fault::TermFault;

@@ -1,6 +1,7 @@
 ghost use Rattle.std.specs.Prelude.{◌≡◌, IfOk, MatchOption, MatchResult};
 ghost use Rattle.rdf_terms.specs.Fit.{StopsFitting};
-ghost use Rattle.rdf_terms.specs.Label.{IsLabel, LabelChars, may_follow as follows, may_end as ends};
+ghost use Rattle.rdf_terms.specs.Label.{IsLabel, LabelChars};
+ghost use Rattle.rdf_terms.specs.Label.{may_follow as follows, may_end as ends};
 ghost use Rattle.rdf_terms.specs.Terms.{IsLabelFault};
 
 use crate::fault::TermFault;

@@ -1,7 +1,8 @@
 //! RDF terms, quads, changes, and what changes do to a dataset (RDF 1.1 Concepts, RDF 1.1 N-Quads).
 //!
-//! Every value keeps its rule: an `Iri` is an IRI, a `Label` a label, a `Tag` a tag in lower case, a `Quad` has terms that
-//! are allowed in their places. Contracts see them as their bytes, and a quad as a record.
+//! Every value keeps its rule: an `Iri` is an IRI, a `Label` a label, a `Tag` a tag in lower case,
+//! a `Quad` has terms that are allowed in their places. Contracts see them as their bytes, and a
+//! quad as a record.
 #![tactic(auto)]
 
 mod change;

@@ -24,7 +24,12 @@ impl Model for Quad {
 
     ghost invariant = { λ q. IsTrue (is_quad (statement q.subject q.predicate q.object q.graph)) };
 
-    ghost inverse = { λ v. record { subject = v.subject; predicate = v.predicate; object = v.object; graph = v.graph } };
+    ghost inverse = { λ v. record {
+      subject = v.subject;
+      predicate = v.predicate;
+      object = v.object;
+      graph = v.graph;
+    } };
 }
 
 /// The first place, from 0, whose term isn't allowed there.
@@ -88,7 +93,9 @@ impl Quad {
         object: Term,
         graph: Option<Term>,
     ) -> Result<Quad, BadPosition>
-        ensures { let place = bad_place subject predicate graph in MatchResult result (λ q. (q ≡ statement subject predicate object graph) × (place ≡ None)) (λ e. place ≡ Some e.place) }
+        ensures { let place = bad_place subject predicate graph in MatchResult result
+            (λ q. (q ≡ statement subject predicate object graph) × (place ≡ None))
+            (λ e. place ≡ Some e.place) }
     {
         if let Some(place) = first_bad_place(&subject, &predicate, &graph) {
             drop(subject);

@@ -30,7 +30,8 @@ impl Model for Tag {
 impl Tag {
     /// The tag of a text in any case: what stands behind `@`.
     pub(crate) fn new(alloc: Global, text: &Text) -> Result<Tag, TermFault>
-        ensures { MatchResult result (λ t. TagForm text.now × (t ≡ lower text.now)) (λ e. IsTagFault text.now e) }
+        ensures { MatchResult result (λ t. TagForm text.now × (t ≡ lower text.now))
+            (λ e. IsTagFault text.now e) }
     {
         if let Some(at) = first_misfit(text.as_str()) {
             return Err(TermFault::BadLang { at });

@@ -70,7 +70,8 @@ impl Literal {
 
     /// A literal with a datatype.
     pub fn typed(lexical: Text, datatype: Iri) -> Result<Literal, TermFault>
-        ensures { MatchResult result (IsTyped lexical datatype) (λ fault. kind_of datatype ≡ Err fault) }
+        ensures { MatchResult result (IsTyped lexical datatype)
+            (λ fault. kind_of datatype ≡ Err fault) }
     {
         Ok(Literal {
             lexical,

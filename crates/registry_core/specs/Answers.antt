@@ -4,9 +4,16 @@ use Rattle.delta_base.specs.declared.source_info.SourceInfo.{SourceInfo}
 use Rattle.registry_core.specs.declared.event.Event.{Event}
 use Rattle.registry_core.specs.declared.event.Event.TheVariants.{Created}
 use Rattle.registry_core.specs.declared.answer.CreateAnswer.{CreateAnswer}
-use Rattle.registry_core.specs.declared.answer.CreateAnswer.TheVariants.{Made, BadName, BadUri, NameTaken, IdTaken, Full, OutOfMemory, DiskFault}
+use Rattle.registry_core.specs.declared.answer.CreateAnswer.TheVariants.{Made, BadName, BadUri}
+use Rattle.registry_core.specs.declared.answer.CreateAnswer.TheVariants.{NameTaken, IdTaken, Full}
+use Rattle.registry_core.specs.declared.answer.CreateAnswer.TheVariants.{OutOfMemory, DiskFault}
 use Rattle.registry_core.specs.declared.answer.ChangeAnswer.{ChangeAnswer}
-use Rattle.registry_core.specs.declared.answer.ChangeAnswer.TheVariants.{Done, NoSuchName, BadName as IsBadName, NameTaken as IsNameTaken, Full as IsFull, OutOfMemory as Wants, DiskFault as Fails}
+use Rattle.registry_core.specs.declared.answer.ChangeAnswer.TheVariants.{Done, NoSuchName}
+use Rattle.registry_core.specs.declared.answer.ChangeAnswer.TheVariants.{BadName as IsBadName}
+use Rattle.registry_core.specs.declared.answer.ChangeAnswer.TheVariants.{NameTaken as IsNameTaken}
+use Rattle.registry_core.specs.declared.answer.ChangeAnswer.TheVariants.{Full as IsFull}
+use Rattle.registry_core.specs.declared.answer.ChangeAnswer.TheVariants.{OutOfMemory as Wants}
+use Rattle.registry_core.specs.declared.answer.ChangeAnswer.TheVariants.{DiskFault as Fails}
 
 -- A call makes an event, or its answer tells what the events say, or the disk failed it, or memory
 -- ran out.

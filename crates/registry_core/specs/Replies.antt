@@ -1,5 +1,6 @@
 -- What a registry replies to each call, by its slots and its events.
-use Rattle.std.specs.Prelude.{◌≡◌, ◌⊎◌, ℕ, ◌+◌, ◌==◌, nat_lt, List, [], ◌∷◌, Option, Some, None, option_map, if◌then◌else◌}
+use Rattle.std.specs.Prelude.{◌≡◌, ◌⊎◌, ℕ, ◌+◌, ◌==◌, nat_lt, List, [], ◌∷◌}
+use Rattle.std.specs.Prelude.{Option, Some, None, option_map, if◌then◌else◌}
 use Rattle.delta_base.specs.declared.id.Id.{Id}
 use Rattle.delta_base.specs.declared.limits.FullKind.TheVariants.{Slots, Bytes}
 use Rattle.delta_base.specs.declared.limits.TheConstants.{REGISTRY_LIMIT}
@@ -7,13 +8,19 @@ use Rattle.delta_base.specs.declared.source_info.SourceInfo.{SourceInfo}
 use Rattle.registry_core.specs.declared.event.Event.{Event}
 use Rattle.registry_core.specs.declared.event.Event.TheVariants.{Created, Renamed, Removed}
 use Rattle.registry_core.specs.declared.answer.CreateAnswer.{CreateAnswer}
-use Rattle.registry_core.specs.declared.answer.CreateAnswer.TheVariants.{Made, BadName, BadUri, NameTaken, IdTaken, Full}
+use Rattle.registry_core.specs.declared.answer.CreateAnswer.TheVariants.{Made, BadName, BadUri}
+use Rattle.registry_core.specs.declared.answer.CreateAnswer.TheVariants.{NameTaken, IdTaken, Full}
 use Rattle.registry_core.specs.declared.answer.ChangeAnswer.{ChangeAnswer}
-use Rattle.registry_core.specs.declared.answer.ChangeAnswer.TheVariants.{Done, NoSuchName, BadName as IsBadName, NameTaken as IsNameTaken, Full as IsFull}
+use Rattle.registry_core.specs.declared.answer.ChangeAnswer.TheVariants.{Done, NoSuchName}
+use Rattle.registry_core.specs.declared.answer.ChangeAnswer.TheVariants.{BadName as IsBadName}
+use Rattle.registry_core.specs.declared.answer.ChangeAnswer.TheVariants.{NameTaken as IsNameTaken}
+use Rattle.registry_core.specs.declared.answer.ChangeAnswer.TheVariants.{Full as IsFull}
 use Rattle.registry_core.specs.Names.{name_fault, uri_fault}
-use Rattle.registry_core.specs.Sources.{sources, used, named, source_named, source_with_id, source_with_uri, by_name}
+use Rattle.registry_core.specs.Sources.{sources, used, named, source_named}
+use Rattle.registry_core.specs.Sources.{source_with_id, source_with_uri, by_name}
 use Rattle.registry_core.specs.Texts.{longer_by, registry_length}
-use Rattle.registry_core.specs.Answers.{Ending, made, told, failed, wanting, end_of_create, end_of_change, event_in, first_or}
+use Rattle.registry_core.specs.Answers.{Ending, made, told, failed, wanting}
+use Rattle.registry_core.specs.Answers.{end_of_create, end_of_change, event_in, first_or}
 
 -- a length that is over the limit
 abbrev pub too_long : ℕ → Option ℕ

@@ -1,7 +1,9 @@
 //! Finds sources among those that live.
-ghost use Rattle.std.specs.Prelude.{◌≡◌, ◌<◌, ◌≤◌, ℕ, length, insert, None, IfSome, IfNone, IfOk, slice_get};
+ghost use Rattle.std.specs.Prelude.{◌≡◌, ◌<◌, ◌≤◌, ℕ, length, insert};
+ghost use Rattle.std.specs.Prelude.{None, IfSome, IfNone, IfOk, slice_get};
 ghost use Rattle.std.specs.List.{AllByRecursion};
-ghost use Rattle.registry_core.specs.Sources.{source_named, source_with_id, source_with_uri, source_in, HasSlot, put, by_name};
+ghost use Rattle.registry_core.specs.Sources.{source_named, source_with_id, source_with_uri};
+ghost use Rattle.registry_core.specs.Sources.{source_in, HasSlot, put, by_name};
 
 use delta_base::{Id, OutOfMemory, SourceInfo, Sources};
 use std::alloc::Global;

@@ -1,7 +1,9 @@
 //! Where a text stops being a name or a URI. Nothing here takes memory.
 ghost use Rattle.std.specs.Prelude.{◌≡◌, ◌≤◌, IfNone, length, position};
 ghost use Rattle.rdf_terms.specs.Iri.{is_forbidden as no_iri_byte};
-ghost use Rattle.registry_core.specs.Names.{may_stand as stands, name_stop, name_fault as stops_name, uri_stop, uri_fault as stops_uri};
+ghost use Rattle.registry_core.specs.Names.{may_stand as stands, name_stop};
+ghost use Rattle.registry_core.specs.Names.{name_fault as stops_name};
+ghost use Rattle.registry_core.specs.Names.{uri_stop, uri_fault as stops_uri};
 
 use rdf_terms::{has_scheme, is_forbidden};
 

@@ -1,10 +1,12 @@
 //! A registry: its events, and the sources that live after them.
-ghost use Rattle.std.specs.Prelude.{◌≡◌, ◌+◌, ◌<◌, ◌≤◌, ◌↔◌, ◌++◌, ◌∷◌, [], length, Some, IsTrue, IfOk, IfErr, OnOk, IfSome, IfNone, slice_get};
+ghost use Rattle.std.specs.Prelude.{◌≡◌, ◌+◌, ◌<◌, ◌≤◌, ◌↔◌, ◌++◌, ◌∷◌, [], length, Some};
+ghost use Rattle.std.specs.Prelude.{IsTrue, IfOk, IfErr, OnOk, IfSome, IfNone, slice_get};
 ghost use Rattle.std.specs.List.{AllByRecursion};
 ghost use Rattle.delta_base.specs.declared.source_info.SourceInfo.{SourceInfo as AnySource};
 ghost use Rattle.registry_core.specs.Checks.{IsRefused, IsRefusal, StopsCreate, StopsChange};
 ghost use Rattle.registry_core.specs.Events.{events_of, IsSlot, IsMade, IsNext, IsRegistry};
-ghost use Rattle.registry_core.specs.Replies.{create_reply, rename_reply, remove_reply, renaming, removal, next_source};
+ghost use Rattle.registry_core.specs.Replies.{create_reply, rename_reply, remove_reply};
+ghost use Rattle.registry_core.specs.Replies.{renaming, removal, next_source};
 ghost use Rattle.delta_base.specs.declared.limits.TheConstants.{REGISTRY_LIMIT};
 ghost use Rattle.registry_core.specs.Sources.{sources, named, by_name, HasSlot};
 ghost use Rattle.registry_core.specs.Tables.{IsReadyFor};

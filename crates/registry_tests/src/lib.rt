@@ -1,4 +1,5 @@
-//! Worked examples of a registry, alone and shared, and what a crash or a failing call leaves of it.
+//! Worked examples of a registry, alone and shared, and what a crash or a failing call
+//! leaves of it.
 #![tactic(auto)]
 
 #[cfg(test)]

@@ -1,5 +1,6 @@
 -- The table of answers: the status and the body of each.
-use Rattle.std.specs.Prelude.{ℕ, ◌<◌, ◌^◌, List, [], ◌∷◌, Option, Some, None, codes, map, unwrap_or, IsSome, nat_eq, if◌then◌else◌}
+use Rattle.std.specs.Prelude.{ℕ, ◌<◌, ◌^◌, List, [], ◌∷◌, Option, Some, None}
+use Rattle.std.specs.Prelude.{codes, map, unwrap_or, IsSome, nat_eq, if◌then◌else◌}
 use Rattle.std.specs.Option.{ForSome}
 use Rattle.std.specs.List.{All}
 use lib.Pointwise.{pointwise}
@@ -11,7 +12,8 @@ use Rattle.http_text.specs.declared.framing.FrameFault.{FrameFault}
 use Rattle.http_text.specs.declared.framing.FrameFault.TheVariants as frame
 use Rattle.rpc_answers.specs.declared.answer.Answer.{Answer}
 use Rattle.rpc_answers.specs.declared.answer.Answer.TheVariants as answer
-use Rattle.rpc_answers.specs.Values.{object_of, word, whole, whole_or_null, id_data, id_or_null, limit_name, source_data, sources_data}
+use Rattle.rpc_answers.specs.Values.{object_of, word, whole, whole_or_null, id_data}
+use Rattle.rpc_answers.specs.Values.{id_or_null, limit_name, source_data, sources_data}
 
 -- a value in JSON, or the text of a patch
 pub data Body : Type 0 where
@@ -54,29 +56,41 @@ abbrev pub row_of : Answer → Row
 row_of answer.Pong = says 200 ((codes "ping", word (codes "ok")) ∷ [])
 row_of (answer.Sources sources) = says 200 ((codes "sources", sources_data sources.items) ∷ [])
 row_of (answer.Source source) = record { status = 200; body = json (source_data source) }
-row_of (answer.Info version head) = says 200 ((codes "head", id_or_null head) ∷ (codes "version", whole version) ∷ [])
+row_of (answer.Info version head) =
+    says 200 ((codes "head", id_or_null head) ∷ (codes "version", whole version) ∷ [])
 row_of (answer.Version version) = says 200 ((codes "version", whole version) ∷ [])
 row_of (answer.Patch text) = record { status = 200; body = patch text }
 row_of answer.NoRoute = refuses 404 (codes "no_route")
 row_of answer.NoSource = refuses 404 (codes "no_source")
-row_of (answer.NoPatch version) = says 404 ((codes "error", word (codes "no_patch")) ∷ (codes "version", whole version) ∷ [])
+row_of (answer.NoPatch version) =
+    says 404 ((codes "error", word (codes "no_patch")) ∷ (codes "version", whole version) ∷ [])
 row_of answer.BadMethod = refuses 405 (codes "bad_method")
 row_of answer.Media = refuses 415 (codes "media")
 row_of answer.BadJson = refuses 400 (codes "bad_json")
-row_of (answer.BadCall name) = says 400 ((codes "error", word (codes "bad_call")) ∷ (codes "member", string name) ∷ [])
-row_of (answer.BadPatch at kind) = says 400 ((codes "at", whole at) ∷ (codes "error", word (codes "bad_patch")) ∷ (codes "kind", string kind) ∷ [])
-row_of (answer.BadName at) = says 400 ((codes "at", whole at) ∷ (codes "error", word (codes "bad_name")) ∷ [])
-row_of (answer.BadUri at) = says 400 ((codes "at", whole at) ∷ (codes "error", word (codes "bad_uri")) ∷ [])
-row_of (answer.Known version same) = says 409 ((codes "error", word (codes "known")) ∷ (codes "same", boolean same) ∷ (codes "version", whole version) ∷ [])
+row_of (answer.BadCall name) =
+    says 400 ((codes "error", word (codes "bad_call")) ∷ (codes "member", string name) ∷ [])
+row_of (answer.BadPatch at kind) = says 400 ((codes "at", whole at)
+    ∷ (codes "error", word (codes "bad_patch")) ∷ (codes "kind", string kind) ∷ [])
+row_of (answer.BadName at) =
+    says 400 ((codes "at", whole at) ∷ (codes "error", word (codes "bad_name")) ∷ [])
+row_of (answer.BadUri at) =
+    says 400 ((codes "at", whole at) ∷ (codes "error", word (codes "bad_uri")) ∷ [])
+row_of (answer.Known version same) = says 409 ((codes "error", word (codes "known"))
+    ∷ (codes "same", boolean same) ∷ (codes "version", whole version) ∷ [])
 row_of (answer.Conflict version head prev_version) = says 409
-    ((codes "error", word (codes "conflict")) ∷ (codes "head", id_or_null head) ∷ (codes "prev_version", whole_or_null prev_version) ∷ (codes "version", whole version) ∷ [])
-row_of (answer.NameTaken id) = says 409 ((codes "error", word (codes "name_taken")) ∷ (codes "id", id_data id) ∷ [])
-row_of (answer.IdTaken name) = says 409 ((codes "error", word (codes "id_taken")) ∷ (codes "name", string name) ∷ [])
+    ((codes "error", word (codes "conflict")) ∷ (codes "head", id_or_null head)
+    ∷ (codes "prev_version", whole_or_null prev_version) ∷ (codes "version", whole version) ∷ [])
+row_of (answer.NameTaken id) =
+    says 409 ((codes "error", word (codes "name_taken")) ∷ (codes "id", id_data id) ∷ [])
+row_of (answer.IdTaken name) =
+    says 409 ((codes "error", word (codes "id_taken")) ∷ (codes "name", string name) ∷ [])
 row_of (answer.Full what have limit) = says 507
-    ((codes "error", word (codes "full")) ∷ (codes "have", whole have) ∷ (codes "limit", whole limit) ∷ (codes "what", word (limit_name what)) ∷ [])
+    ((codes "error", word (codes "full")) ∷ (codes "have", whole have)
+    ∷ (codes "limit", whole limit) ∷ (codes "what", word (limit_name what)) ∷ [])
 row_of answer.DiskFault = refuses 500 (codes "disk_fault")
 row_of answer.OutOfMemory = refuses 503 (codes "out_of_memory")
-row_of (answer.BadRequest kind) = says (unwrap_or (status_beside kind) 0) ((codes "error", word (codes "bad_request")) ∷ (codes "kind", string kind) ∷ [])
+row_of (answer.BadRequest kind) = says (unwrap_or (status_beside kind) 0)
+    ((codes "error", word (codes "bad_request")) ∷ (codes "kind", string kind) ∷ [])
 
 abbrev pub status_of : Answer → ℕ
 status_of a = (row_of a).status
@@ -96,7 +110,8 @@ NamesItsFault other = Unit {0}
 abbrev pub IsSource : SourceInfo → Type 0
 IsSource source = (source.slot < 2 ^ 32) × IsId source.id.0
 
--- an answer as it can stand: its numbers are within their types, and a refused request says one of the faults
+-- an answer as it can stand: its numbers are within their types, and a refused request says one
+-- of the faults
 abbrev pub CanStand : Answer → Type 0
 CanStand (answer.Sources sources) = All IsSource sources.items
 CanStand (answer.Source source) = IsSource source
@@ -107,7 +122,8 @@ CanStand (answer.BadPatch at kind) = at < 2 ^ 64
 CanStand (answer.BadName at) = at < 2 ^ 64
 CanStand (answer.BadUri at) = at < 2 ^ 64
 CanStand (answer.Known version same) = version < 2 ^ 32
-CanStand (answer.Conflict version head prev_version) = (version < 2 ^ 32) × ForSome head (λ id. IsId id.0) × ForSome prev_version (λ n. n < 2 ^ 32)
+CanStand (answer.Conflict version head prev_version) =
+    (version < 2 ^ 32) × ForSome head (λ id. IsId id.0) × ForSome prev_version (λ n. n < 2 ^ 32)
 CanStand (answer.NameTaken id) = IsId id.0
 CanStand (answer.Full what have limit) = (have < 2 ^ 64) × (limit < 2 ^ 64)
 CanStand (answer.BadRequest kind) = IsSome (status_beside kind)

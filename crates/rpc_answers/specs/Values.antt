@@ -1,6 +1,7 @@
 -- The values in JSON of which the bodies of answers are made.
 use Rattle.std.specs.Prelude.{ℕ, List, [], ◌∷◌, Option, Some, None, codes, map}
-use Rattle.serde_json.specs.Data.{Data, null, number, unsigned, string, array, object, Members, member, no_members}
+use Rattle.serde_json.specs.Data.{Data, null, number, unsigned, string}
+use Rattle.serde_json.specs.Data.{array, object, Members, member, no_members}
 use Rattle.serde_json.specs.View.{items_of}
 use Rattle.delta_base.specs.Ids.{text_of}
 use Rattle.delta_base.specs.declared.id.Id.{Id}

@@ -22,7 +22,8 @@ fn refusal_body(alloc: Global, name: &str) -> Result<Value, OutOfMemory>
 
 // A refusal with a place in a text.
 fn place_body(alloc: Global, at: u64, name: &str) -> Result<Value, OutOfMemory>
-    ensures { IfOk result (λ v. view v ≡ object_of ((codes "at", whole at) ∷ (codes "error", word name.now) ∷ [])) }
+    ensures { IfOk result (λ v.
+        view v ≡ object_of ((codes "at", whole at) ∷ (codes "error", word name.now) ∷ [])) }
 {
     Ok(json!(in alloc; {"at": at, "error": name})?)
 }

@@ -1,10 +1,12 @@
 //! The values of members.
-ghost use Rattle.std.specs.Prelude.{◌≡◌, ◌↔◌, ◌<◌, ◌^◌, ℕ, Bool, List, Option, IfSome, IfNone, IsTrue};
+ghost use Rattle.std.specs.Prelude.{◌≡◌, ◌↔◌, ◌<◌, ◌^◌, ℕ, Bool, List};
+ghost use Rattle.std.specs.Prelude.{Option, IfSome, IfNone, IsTrue};
 ghost use Rattle.std.specs.Option.{ForSome};
 ghost use Rattle.serde_json.specs.Data.{string, boolean};
 ghost use Rattle.serde_json.specs.View.{view};
 ghost use Rattle.delta_base.specs.Ids.{IsId};
-ghost use Rattle.rpc_answers.specs.Values.{word, whole, whole_or_null, id_data, id_or_null, limit_name};
+ghost use Rattle.rpc_answers.specs.Values.{word, whole, whole_or_null};
+ghost use Rattle.rpc_answers.specs.Values.{id_data, id_or_null, limit_name};
 
 use delta_base::{FullKind, Id, exact_id};
 use serde_json::Value;
@@ -53,8 +55,10 @@ pub fn flag_in(value: &Value) -> Option<bool>
 
 /// A whole number below 2^32, or null.
 pub fn short_or_null_in(value: &Value) -> Option<Option<u32>>
-    ensures found { IfSome result (λ n. (view value.now ≡ whole_or_null n) × ForSome n (λ k. k < 2 ^ 32)) }
-    ensures none { IfNone result ((n : Option ℕ) → ForSome n (λ k. k < 2 ^ 32) → view value.now ≡ whole_or_null n → ⊥) }
+    ensures found { IfSome result (λ n. (view value.now ≡ whole_or_null n)
+        × ForSome n (λ k. k < 2 ^ 32)) }
+    ensures none { IfNone result ((n : Option ℕ) → ForSome n (λ k. k < 2 ^ 32)
+        → view value.now ≡ whole_or_null n → ⊥) }
 {
     match value {
         Value::Null => Some(None),
@@ -76,8 +80,10 @@ pub fn id_in(value: &Value) -> Option<Id>
 
 /// An id's own text, or null.
 pub fn id_or_null_in(value: &Value) -> Option<Option<Id>>
-    ensures found { IfSome result (λ id. (view value.now ≡ id_or_null id) × ForSome id (λ i. IsId i.0)) }
-    ensures none { IfNone result ((id : Option Id) → ForSome id (λ i. IsId i.0) → view value.now ≡ id_or_null id → ⊥) }
+    ensures found { IfSome result (λ id. (view value.now ≡ id_or_null id)
+        × ForSome id (λ i. IsId i.0)) }
+    ensures none { IfNone result ((id : Option Id) → ForSome id (λ i. IsId i.0)
+        → view value.now ≡ id_or_null id → ⊥) }
 {
     match value {
         Value::Null => Some(None),

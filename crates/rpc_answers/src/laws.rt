@@ -7,7 +7,8 @@ ghost use Rattle.http_text.specs.declared.message.RawReply.{RawReply};
 ghost use Rattle.http_session.specs.Texts.{memory_text, refusal_text};
 ghost use Rattle.rpc_answers.specs.declared.answer.Answer.{Answer};
 ghost use Rattle.rpc_answers.specs.declared.fault.AnswerFault.{AnswerFault};
-ghost use Rattle.rpc_answers.specs.Prints.{IsCompactPrintOf, IsPrintOf, IsRefused, IsReadBack, bare};
+ghost use Rattle.rpc_answers.specs.Prints.{IsCompactPrintOf, IsPrintOf};
+ghost use Rattle.rpc_answers.specs.Prints.{IsRefused, IsReadBack, bare};
 
 /// A reply prints one answer at most, but for the room of a list.
 pub fn replies_are_one_answer()

@@ -1,7 +1,8 @@
 //! What a server answers, as replies of HTTP and read back from them.
 //!
-//! `specs/Answers.antt` is the table of answers: the status and the body of each. `print_answer` writes the body byte for byte;
-//! `read_answer` takes any text of the same value. The law `replies_are_one_answer` says that a reply prints one answer at most.
+//! `specs/Answers.antt` is the table of answers: the status and the body of each. `print_answer`
+//! writes the body byte for byte; `read_answer` takes any text of the same value. The law
+//! `replies_are_one_answer` says that a reply prints one answer at most.
 #![tactic(auto)]
 
 mod answer;

@@ -14,8 +14,12 @@ use serde_json::Value;
 
 // The place of a refusal with this name.
 fn place_in(value: &Value, name: &str) -> Option<u64>
-    ensures found { IfSome result (λ at. (view value.now ≡ object_of ((codes "at", whole at) ∷ (codes "error", word name.now) ∷ [])) × (at < 2 ^ 64)) }
-    ensures none { IfNone result ((at : ℕ) → at < 2 ^ 64 → view value.now ≡ object_of ((codes "at", whole at) ∷ (codes "error", word name.now) ∷ []) → ⊥) }
+    ensures found { IfSome result (λ at.
+        (view value.now ≡ object_of ((codes "at", whole at) ∷ (codes "error", word name.now) ∷ []))
+        × (at < 2 ^ 64)) }
+    ensures none { IfNone result ((at : ℕ) → at < 2 ^ 64
+        → view value.now ≡ object_of ((codes "at", whole at) ∷ (codes "error", word name.now) ∷ [])
+        → ⊥) }
 {
     let (at, error) = two_members(value, "at", "error")?;
     if !is_word(error, name) {
@@ -25,8 +29,10 @@ fn place_in(value: &Value, name: &str) -> Option<u64>
 }
 
 fn info_in(status: u16, value: &Value) -> Option<(u32, Option<Id>)>
-    ensures found { IfSome result (λ row. IsRowOf status (view value.now) (Answer.Info row.0 row.1)) }
-    ensures none { IfNone result ((version : ℕ) (head : Option Id) → IsRowOf status (view value.now) (Answer.Info version head) → ⊥) }
+    ensures found { IfSome result (λ row.
+        IsRowOf status (view value.now) (Answer.Info row.0 row.1)) }
+    ensures none { IfNone result ((version : ℕ) (head : Option Id)
+        → IsRowOf status (view value.now) (Answer.Info version head) → ⊥) }
 {
     let (head, version) = two_members(value, "head", "version")?;
     if status != 200 {
@@ -38,8 +44,10 @@ fn info_in(status: u16, value: &Value) -> Option<(u32, Option<Id>)>
 }
 
 fn version_in(status: u16, value: &Value) -> Option<u32>
-    ensures found { IfSome result (λ version. IsRowOf status (view value.now) (Answer.Version version)) }
-    ensures none { IfNone result ((version : ℕ) → IsRowOf status (view value.now) (Answer.Version version) → ⊥) }
+    ensures found { IfSome result (λ version.
+        IsRowOf status (view value.now) (Answer.Version version)) }
+    ensures none { IfNone result ((version : ℕ)
+        → IsRowOf status (view value.now) (Answer.Version version) → ⊥) }
 {
     let version = one_member(value, "version")?;
     if status != 200 {
@@ -49,8 +57,10 @@ fn version_in(status: u16, value: &Value) -> Option<u32>
 }
 
 fn no_patch_in(status: u16, value: &Value) -> Option<u32>
-    ensures found { IfSome result (λ version. IsRowOf status (view value.now) (Answer.NoPatch version)) }
-    ensures none { IfNone result ((version : ℕ) → IsRowOf status (view value.now) (Answer.NoPatch version) → ⊥) }
+    ensures found { IfSome result (λ version.
+        IsRowOf status (view value.now) (Answer.NoPatch version)) }
+    ensures none { IfNone result ((version : ℕ)
+        → IsRowOf status (view value.now) (Answer.NoPatch version) → ⊥) }
 {
     let (error, version) = two_members(value, "error", "version")?;
     if status != 404 || !is_word(error, "no_patch") {
@@ -60,8 +70,10 @@ fn no_patch_in(status: u16, value: &Value) -> Option<u32>
 }
 
 fn known_in(status: u16, value: &Value) -> Option<(u32, bool)>
-    ensures found { IfSome result (λ row. IsRowOf status (view value.now) (Answer.Known row.0 row.1)) }
-    ensures none { IfNone result ((version : ℕ) (same : Bool) → IsRowOf status (view value.now) (Answer.Known version same) → ⊥) }
+    ensures found { IfSome result (λ row.
+        IsRowOf status (view value.now) (Answer.Known row.0 row.1)) }
+    ensures none { IfNone result ((version : ℕ) (same : Bool)
+        → IsRowOf status (view value.now) (Answer.Known version same) → ⊥) }
 {
     let (error, same, version) = three_members(value, "error", "same", "version")?;
     if status != 409 || !is_word(error, "known") {
@@ -73,7 +85,8 @@ fn known_in(status: u16, value: &Value) -> Option<(u32, bool)>
 }
 
 fn conflict_in(status: u16, value: &Value) -> Option<(u32, Option<Id>, Option<u32>)>
-    ensures found { IfSome result (λ row. IsRowOf status (view value.now) (Answer.Conflict row.0 row.1 row.2)) }
+    ensures found { IfSome result (λ row.
+        IsRowOf status (view value.now) (Answer.Conflict row.0 row.1 row.2)) }
     ensures none { IfNone result ((version : ℕ) (head : Option Id) (prev_version : Option ℕ)
         → IsRowOf status (view value.now) (Answer.Conflict version head prev_version) → ⊥) }
 {
@@ -95,7 +108,8 @@ fn conflict_in(status: u16, value: &Value) -> Option<(u32, Option<Id>, Option<u3
 
 fn name_taken_in(status: u16, value: &Value) -> Option<Id>
     ensures found { IfSome result (λ id. IsRowOf status (view value.now) (Answer.NameTaken id)) }
-    ensures none { IfNone result ((id : Id) → IsRowOf status (view value.now) (Answer.NameTaken id) → ⊥) }
+    ensures none { IfNone result ((id : Id)
+        → IsRowOf status (view value.now) (Answer.NameTaken id) → ⊥) }
 {
     let (error, id) = two_members(value, "error", "id")?;
     if status != 409 || !is_word(error, "name_taken") {
@@ -105,8 +119,10 @@ fn name_taken_in(status: u16, value: &Value) -> Option<Id>
 }
 
 fn full_in(status: u16, value: &Value) -> Option<(FullKind, u64, u64)>
-    ensures found { IfSome result (λ row. IsRowOf status (view value.now) (Answer.Full row.0 row.1 row.2)) }
-    ensures none { IfNone result ((what : FullKind) (have limit : ℕ) → IsRowOf status (view value.now) (Answer.Full what have limit) → ⊥) }
+    ensures found { IfSome result (λ row.
+        IsRowOf status (view value.now) (Answer.Full row.0 row.1 row.2)) }
+    ensures none { IfNone result ((what : FullKind) (have limit : ℕ)
+        → IsRowOf status (view value.now) (Answer.Full what have limit) → ⊥) }
 {
     let (error, have, limit, what) = four_members(value, "error", "have", "limit", "what")?;
     if status != 507 || !is_word(error, "full") {
@@ -121,7 +137,8 @@ fn full_in(status: u16, value: &Value) -> Option<(FullKind, u64, u64)>
 /// The answer of a status and a value, where it is one of numbers and ids.
 pub fn numbers_in(status: u16, value: &Value) -> Option<Answer>
     ensures found { IfSome result (λ a. IsRowOf status (view value.now) a) }
-    ensures none { IfNone result ((a : Answer) → IsOfNumbers a → IsRowOf status (view value.now) a → ⊥) }
+    ensures none { IfNone result ((a : Answer) → IsOfNumbers a
+        → IsRowOf status (view value.now) a → ⊥) }
 {
     if let Some((version, head)) = info_in(status, value) {
         return Some(Answer::Info { version, head });

@@ -1,7 +1,8 @@
 //! Answers as replies.
 ghost use Rattle.std.specs.Prelude.{◌≡◌, List, ℕ, Option, IfOk, unwrap_or};
 ghost use Rattle.http_text.specs.Print.{IsAllow, IsPrintableReply};
-ghost use Rattle.rpc_answers.specs.Answers.{status_beside, status_of, body_of, media_type, CanStand, NamesItsFault};
+ghost use Rattle.rpc_answers.specs.Answers.{status_beside, status_of, body_of};
+ghost use Rattle.rpc_answers.specs.Answers.{media_type, CanStand, NamesItsFault};
 ghost use Rattle.rpc_answers.specs.Prints.{IsTextOf, compact, IsPrintOf, IsCompactPrintOf};
 
 use crate::answer::Answer;
@@ -74,12 +75,14 @@ fn body_text(alloc: Global, answer: &Answer) -> Result<Bytes, OutOfMemory>
     Ok(Bytes::from_vec(text?))
 }
 
-/// The reply that prints an answer: the body in compact form, byte for byte. It may be written as it is, with any methods allowed.
+/// The reply that prints an answer: the body in compact form, byte for byte. It may be written as
+/// it is, with any methods allowed.
 pub fn print_answer(alloc: Global, answer: &Answer, close: bool) -> Result<RawReply, OutOfMemory>
     requires { NamesItsFault answer.now }
     ensures exact { IfOk result (λ reply. IsCompactPrintOf reply answer.now close) }
     ensures print { IfOk result (λ reply. IsPrintOf reply answer.now) }
-    ensures printable { IfOk result (λ reply. (allow : Option (List ℕ)) → IsAllow allow → IsPrintableReply reply allow) }
+    ensures printable { IfOk result (λ reply. (allow : Option (List ℕ)) → IsAllow allow
+        → IsPrintableReply reply allow) }
 {
     let status = status_of(answer);
     let content_type = Bytes::from_slice(alloc, media_type(answer))?;
@@ -96,7 +99,8 @@ pub fn print_answer(alloc: Global, answer: &Answer, close: bool) -> Result<RawRe
 fn patch_reply(alloc: Global, text: Bytes, close: bool) -> Result<RawReply, OutOfMemory>
     ensures exact { IfOk result (λ reply. IsCompactPrintOf reply (Answer.Patch text) close) }
     ensures print { IfOk result (λ reply. IsPrintOf reply (Answer.Patch text)) }
-    ensures printable { IfOk result (λ reply. (allow : Option (List ℕ)) → IsAllow allow → IsPrintableReply reply allow) }
+    ensures printable { IfOk result (λ reply. (allow : Option (List ℕ)) → IsAllow allow
+        → IsPrintableReply reply allow) }
 {
     let content_type = Bytes::from_slice(alloc, b"application/rdf-patch")?;
     Ok(RawReply {
@@ -112,7 +116,8 @@ pub fn into_reply(alloc: Global, answer: Answer, close: bool) -> Result<RawReply
     requires { NamesItsFault answer }
     ensures exact { IfOk result (λ reply. IsCompactPrintOf reply answer close) }
     ensures print { IfOk result (λ reply. IsPrintOf reply answer) }
-    ensures printable { IfOk result (λ reply. (allow : Option (List ℕ)) → IsAllow allow → IsPrintableReply reply allow) }
+    ensures printable { IfOk result (λ reply. (allow : Option (List ℕ)) → IsAllow allow
+        → IsPrintableReply reply allow) }
 {
     match answer {
         Answer::Patch { text } => patch_reply(alloc, text, close),

@@ -17,9 +17,11 @@ use std::alloc::Global;
 
 // The slot, id, name and URI of a source.
 fn parts_in(value: &Value) -> Option<(u32, Id, &str, &str)>
-    ensures found { IfSome result (λ row. (view value.now ≡ source_data (record { slot = row.0; id = row.1; name = row.2.now; uri = row.3.now }))
+    ensures found { IfSome result (λ row. (view value.now
+        ≡ source_data (record { slot = row.0; id = row.1; name = row.2.now; uri = row.3.now }))
         × IsSource (record { slot = row.0; id = row.1; name = row.2.now; uri = row.3.now })) }
-    ensures none { IfNone result ((source : SourceInfo) → IsSource source → view value.now ≡ source_data source → ⊥) }
+    ensures none { IfNone result ((source : SourceInfo) → IsSource source
+        → view value.now ≡ source_data source → ⊥) }
 {
     let (id, name, slot, uri) = four_members(value, "id", "name", "slot", "uri")?;
     let id = id_in(id)?;
@@ -31,8 +33,10 @@ fn parts_in(value: &Value) -> Option<(u32, Id, &str, &str)>
 
 // A source.
 fn source_in(alloc: Global, value: &Value) -> Result<Option<SourceInfo>, OutOfMemory>
-    ensures found { IfOk result (λ o. IfSome o (λ source. (view value.now ≡ source_data source) × IsSource source)) }
-    ensures none { IfOk result (λ o. IfNone o ((source : SourceInfo) → IsSource source → view value.now ≡ source_data source → ⊥)) }
+    ensures found { IfOk result (λ o. IfSome o (λ source. (view value.now ≡ source_data source)
+        × IsSource source)) }
+    ensures none { IfOk result (λ o. IfNone o ((source : SourceInfo) → IsSource source
+        → view value.now ≡ source_data source → ⊥)) }
 {
     match parts_in(value) {
         None => Ok(None),
@@ -51,8 +55,11 @@ fn source_in(alloc: Global, value: &Value) -> Result<Option<SourceInfo>, OutOfMe
 
 // Sources in their order.
 fn sources_in(alloc: Global, values: &[Value]) -> Result<Option<Vec<SourceInfo>>, OutOfMemory>
-    ensures found { IfOk result (λ o. IfSome o (λ sources. (array (items_view values.now) ≡ sources_data sources.items) × All IsSource sources.items)) }
-    ensures none { IfOk result (λ o. IfNone o ((sources : List SourceInfo) → All IsSource sources → array (items_view values.now) ≡ sources_data sources → ⊥)) }
+    ensures found { IfOk result (λ o.
+        IfSome o (λ sources. (array (items_view values.now) ≡ sources_data sources.items)
+        × All IsSource sources.items)) }
+    ensures none { IfOk result (λ o. IfNone o ((sources : List SourceInfo) → All IsSource sources
+        → array (items_view values.now) ≡ sources_data sources → ⊥)) }
 {
     let mut sources = Vec::new(alloc);
     for value in values {
@@ -66,8 +73,10 @@ fn sources_in(alloc: Global, values: &[Value]) -> Result<Option<Vec<SourceInfo>>
 
 // The sources of an answer, where it is a list.
 fn list_in(alloc: Global, value: &Value) -> Result<Option<Vec<SourceInfo>>, OutOfMemory>
-    ensures found { IfOk result (λ o. IfSome o (λ sources. IsRowOf 200 (view value.now) (Answer.Sources (record { items = sources.items; spare = 0 })))) }
-    ensures none { IfOk result (λ o. IfNone o ((sources : Listed SourceInfo) → IsRowOf 200 (view value.now) (Answer.Sources sources) → ⊥)) }
+    ensures found { IfOk result (λ o. IfSome o (λ sources. IsRowOf 200 (view value.now)
+        (Answer.Sources (record { items = sources.items; spare = 0 })))) }
+    ensures none { IfOk result (λ o. IfNone o ((sources : Listed SourceInfo)
+        → IsRowOf 200 (view value.now) (Answer.Sources sources) → ⊥)) }
 {
     let Some(list) = one_member(value, "sources") else {
         return Ok(None);
@@ -85,7 +94,8 @@ pub fn sources_answer_in(
     value: &Value,
 ) -> Result<Option<Answer>, OutOfMemory>
     ensures found { IfOk result (λ o. IfSome o (λ a. IsRowOf status (view value.now) a)) }
-    ensures none { IfOk result (λ o. IfNone o ((a : Answer) → IsOfSources a → IsRowOf status (view value.now) a → ⊥)) }
+    ensures none { IfOk result (λ o. IfNone o ((a : Answer) → IsOfSources a
+        → IsRowOf status (view value.now) a → ⊥)) }
 {
     if status != 200 {
         return Ok(None);

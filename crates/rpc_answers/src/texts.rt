@@ -12,8 +12,10 @@ use serde_json::Value;
 use std::alloc::Global;
 
 fn bad_call_in(status: u16, value: &Value) -> Option<&str>
-    ensures found { IfSome result (λ name. IsRowOf status (view value.now) (Answer.BadCall name.now)) }
-    ensures none { IfNone result ((name : List ℕ) → IsRowOf status (view value.now) (Answer.BadCall name) → ⊥) }
+    ensures found { IfSome result (λ name.
+        IsRowOf status (view value.now) (Answer.BadCall name.now)) }
+    ensures none { IfNone result ((name : List ℕ)
+        → IsRowOf status (view value.now) (Answer.BadCall name) → ⊥) }
 {
     let (error, name) = two_members(value, "error", "member")?;
     if status != 400 || !is_word(error, "bad_call") {
@@ -23,8 +25,10 @@ fn bad_call_in(status: u16, value: &Value) -> Option<&str>
 }
 
 fn bad_patch_in(status: u16, value: &Value) -> Option<(u64, &str)>
-    ensures found { IfSome result (λ row. IsRowOf status (view value.now) (Answer.BadPatch row.0 row.1.now)) }
-    ensures none { IfNone result ((at : ℕ) (kind : List ℕ) → IsRowOf status (view value.now) (Answer.BadPatch at kind) → ⊥) }
+    ensures found { IfSome result (λ row.
+        IsRowOf status (view value.now) (Answer.BadPatch row.0 row.1.now)) }
+    ensures none { IfNone result ((at : ℕ) (kind : List ℕ)
+        → IsRowOf status (view value.now) (Answer.BadPatch at kind) → ⊥) }
 {
     let (at, error, kind) = three_members(value, "at", "error", "kind")?;
     if status != 400 || !is_word(error, "bad_patch") {
@@ -36,8 +40,10 @@ fn bad_patch_in(status: u16, value: &Value) -> Option<(u64, &str)>
 }
 
 fn id_taken_in(status: u16, value: &Value) -> Option<&str>
-    ensures found { IfSome result (λ name. IsRowOf status (view value.now) (Answer.IdTaken name.now)) }
-    ensures none { IfNone result ((name : List ℕ) → IsRowOf status (view value.now) (Answer.IdTaken name) → ⊥) }
+    ensures found { IfSome result (λ name.
+        IsRowOf status (view value.now) (Answer.IdTaken name.now)) }
+    ensures none { IfNone result ((name : List ℕ)
+        → IsRowOf status (view value.now) (Answer.IdTaken name) → ⊥) }
 {
     let (error, name) = two_members(value, "error", "name")?;
     if status != 409 || !is_word(error, "id_taken") {
@@ -47,8 +53,10 @@ fn id_taken_in(status: u16, value: &Value) -> Option<&str>
 }
 
 fn bad_request_in(status: u16, value: &Value) -> Option<&str>
-    ensures found { IfSome result (λ kind. IsRowOf status (view value.now) (Answer.BadRequest kind.now)) }
-    ensures none { IfNone result ((kind : List ℕ) → IsRowOf status (view value.now) (Answer.BadRequest kind) → ⊥) }
+    ensures found { IfSome result (λ kind.
+        IsRowOf status (view value.now) (Answer.BadRequest kind.now)) }
+    ensures none { IfNone result ((kind : List ℕ)
+        → IsRowOf status (view value.now) (Answer.BadRequest kind) → ⊥) }
 {
     let (error, kind) = two_members(value, "error", "kind")?;
     if !is_word(error, "bad_request") {
@@ -64,7 +72,8 @@ fn bad_request_in(status: u16, value: &Value) -> Option<&str>
 /// The answer of a status and a value, where it is one with a text.
 pub fn texts_in(alloc: Global, status: u16, value: &Value) -> Result<Option<Answer>, OutOfMemory>
     ensures found { IfOk result (λ o. IfSome o (λ a. IsRowOf status (view value.now) a)) }
-    ensures none { IfOk result (λ o. IfNone o ((a : Answer) → IsOfTexts a → IsRowOf status (view value.now) a → ⊥)) }
+    ensures none { IfOk result (λ o. IfNone o ((a : Answer) → IsOfTexts a
+        → IsRowOf status (view value.now) a → ⊥)) }
 {
     if let Some(name) = bad_call_in(status, value) {
         let member = Text::from_str(alloc, name)?;

@@ -5,7 +5,8 @@ ghost use Rattle.std.specs.Option.{ForSome};
 ghost use Rattle.serde_json.specs.View.{view};
 ghost use Rattle.delta_base.specs.Ids.{IsId};
 ghost use Rattle.rpc_answers.specs.Answers.{IsSource};
-ghost use Rattle.rpc_answers.specs.Values.{whole_or_null, id_data, id_or_null, limit_name, source_data};
+ghost use Rattle.rpc_answers.specs.Values.{whole_or_null, id_data, id_or_null};
+ghost use Rattle.rpc_answers.specs.Values.{limit_name, source_data};
 
 use delta_base::{FullKind, Id, OutOfMemory, SourceInfo, id_string};
 use serde_json::{Value, json};

@@ -1,7 +1,8 @@
 //! Calls: what a request asks of the server, and the request by which a client asks it.
 //!
-//! `specs/Calls.antt` says what a request asks, or the first reason why it is no call; `specs/Requests.antt` says which request a
-//! client sends for a call. Neither knows of connections or of logs.
+//! `specs/Calls.antt` says what a request asks, or the first reason why it is no call;
+//! `specs/Requests.antt` says which request a client sends for a call. Neither knows of connections
+//! or of logs.
 #![tactic(auto)]
 
 mod call;

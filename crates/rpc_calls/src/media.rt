@@ -1,6 +1,7 @@
 //! Bodies that aren't taken.
 ghost use Rattle.std.specs.Prelude.{◌≡◌};
-ghost use Rattle.rpc_calls.specs.Media.{media_type, is_refused_coding, is_refused_type, has_refused_media};
+ghost use Rattle.rpc_calls.specs.Media.{media_type, is_refused_coding};
+ghost use Rattle.rpc_calls.specs.Media.{is_refused_type, has_refused_media};
 
 use delta_base::Bytes;
 use http_text::{RawRequest, split_at_byte, trim_blanks};

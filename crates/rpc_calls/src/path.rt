@@ -42,7 +42,8 @@ pub fn read_segment(alloc: Global, segment: &[u8]) -> Result<Option<Text>, OutOf
 
 /// Adds a segment to a path.
 pub fn push_segment(path: &mut String, text: &[u8]) -> Result<(), AllocError>
-    ensures text { OnOk result (string_bytes path.new ≡ string_bytes path.old ++ 47 ∷ segment_of text.now) }
+    ensures text { OnOk result (string_bytes path.new
+        ≡ string_bytes path.old ++ 47 ∷ segment_of text.now) }
     ensures bytes { All (λ byte. byte < 256) text.now }
 {
     path.push_str("/")?;

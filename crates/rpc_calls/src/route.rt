@@ -1,6 +1,7 @@
 //! Where a path leads.
 ghost use Rattle.std.specs.Prelude.{◌≡◌, IfOk};
-ghost use Rattle.rpc_calls.specs.Routes.{allowed, has_post, route_behind, route_of, service_route, version_of};
+ghost use Rattle.rpc_calls.specs.Routes.{allowed, has_post, route_behind};
+ghost use Rattle.rpc_calls.specs.Routes.{route_of, service_route, version_of};
 
 use crate::path::{cut_path, read_segment};
 use delta_base::{Id, OutOfMemory, Text, read_id};

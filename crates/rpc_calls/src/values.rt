@@ -26,7 +26,8 @@ pub fn named(alloc: Global, word: &str, name: &Text) -> Result<Value, OutOfMemor
 
 /// The operation on an id.
 pub fn with_id(alloc: Global, id: Id) -> Result<Value, OutOfMemory>
-    ensures value { IfOk result (λ value. view value ≡ object_of (codes "source_by_id") (one (codes "id") (text_of id.0))) }
+    ensures value { IfOk result (λ value.
+        view value ≡ object_of (codes "source_by_id") (one (codes "id") (text_of id.0))) }
     ensures fits { IsId id.0 }
 {
     let text = id_string(alloc, id)?;
@@ -35,14 +36,16 @@ pub fn with_id(alloc: Global, id: Id) -> Result<Value, OutOfMemory>
 
 /// The operation on a URI.
 pub fn with_uri(alloc: Global, uri: &Text) -> Result<Value, OutOfMemory>
-    ensures { IfOk result (λ value. view value ≡ object_of (codes "source_by_uri") (one (codes "uri") uri.now)) }
+    ensures { IfOk result (λ value.
+        view value ≡ object_of (codes "source_by_uri") (one (codes "uri") uri.now)) }
 {
     Ok(json!(in alloc; {"operation": "source_by_uri", "uri": uri.as_str()})?)
 }
 
 /// `create`, with an id if it is given.
 pub fn created(alloc: Global, name: &Text, uri: &Text, id: Option<Id>) -> Result<Value, OutOfMemory>
-    ensures value { IfOk result (λ value. view value ≡ object_of (codes "create") (new_source name.now uri.now id)) }
+    ensures value { IfOk result (λ value.
+        view value ≡ object_of (codes "create") (new_source name.now uri.now id)) }
     ensures fits { ForSome id (λ i. IsId i.0) }
 {
     let Some(id) = id else {
@@ -52,15 +55,18 @@ pub fn created(alloc: Global, name: &Text, uri: &Text, id: Option<Id>) -> Result
     };
     let text = id_string(alloc, id)?;
     Ok(
-        json!(in alloc; {"id": text, "name": name.as_str(), "operation": "create", "uri": uri.as_str()})?,
+        json!(in alloc; {"id": text, "name": name.as_str(), "operation": "create",
+            "uri": uri.as_str()})?,
     )
 }
 
 /// `rename`.
 pub fn renamed(alloc: Global, name: &Text, new_name: &Text) -> Result<Value, OutOfMemory>
-    ensures { IfOk result (λ value. view value ≡ object_of (codes "rename") (member (codes "name") (string name.now) (one (codes "new_name") new_name.now))) }
+    ensures { IfOk result (λ value. view value ≡ object_of (codes "rename")
+        (member (codes "name") (string name.now) (one (codes "new_name") new_name.now))) }
 {
     Ok(
-        json!(in alloc; {"name": name.as_str(), "new_name": new_name.as_str(), "operation": "rename"})?,
+        json!(in alloc; {"name": name.as_str(), "new_name": new_name.as_str(),
+            "operation": "rename"})?,
     )
 }

@@ -1,4 +1,5 @@
-//! Worked examples of requests that are calls and of those that are none, of answers as replies, and of both read back.
+//! Worked examples of requests that are calls and of those that are none, of answers as replies,
+//! and of both read back.
 #![tactic(auto)]
 
 #[cfg(test)]

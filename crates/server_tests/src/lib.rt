@@ -1,5 +1,5 @@
-//! Runs of the server on worked examples: its statuses and lines, what connections are sent, and what stands on the
-//! shelf and at the gates behind it.
+//! Runs of the server on worked examples: its statuses and lines, what connections are sent, and
+//! what stands on the shelf and at the gates behind it.
 #![tactic(auto)]
 
 #[cfg(test)]

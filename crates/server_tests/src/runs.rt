@@ -21,7 +21,8 @@ pub(crate) fn words_of(alloc: Global, words: &[&str]) -> Result<Vec<String>, Out
     Ok(made)
 }
 
-/// A shelf with the files of two slots in the directory `d`. The calls of these numbers behind that fail.
+/// A shelf with the files of two slots in the directory `d`. The calls of these numbers
+/// behind that fail.
 pub(crate) fn shelf(alloc: Global, failing: &[u64]) -> Result<MemShelf, Fail> {
     let mut calls = Calls::new(alloc);
     for number in failing {

@@ -1,4 +1,5 @@
-//! Workers that serve at once: the first connection ends only where the second was answered meanwhile.
+//! Workers that serve at once: the first connection ends only where the second
+//! was answered meanwhile.
 ghost use Rattle.std.specs.Prelude.{None};
 
 use crate::runs::{TWO, add_gate, fill, run, shelf};
@@ -13,8 +14,8 @@ const LOOKS: u32 = 100_000_000;
 
 const PING: &[u8] = b"GET /$/ping HTTP/1.1\r\nHost: a\r\n\r\n";
 
-/// A connection that asks whether the server is there. One that waits gives its last byte only after the other was
-/// answered.
+/// A connection that asks whether the server is there. One that waits gives its last byte only
+/// after the other was answered.
 #[derive(Drop)]
 struct Asking<'a> {
     answered: &'a AtomicU64,

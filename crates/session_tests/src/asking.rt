@@ -16,8 +16,8 @@ pub(crate) fn disk(alloc: Global, bytes: &[u8], failing: &[u64]) -> Result<MemDi
     MemDisk::from_image(alloc, Bytes::from_slice(alloc, bytes)?, failing)
 }
 
-/// The disks of a hall of two slots, of which the calls of these numbers fail on that of the registry, and on that of
-/// the first log.
+/// The disks of a hall of two slots, of which the calls of these numbers fail on that of the
+/// registry, and on that of the first log.
 pub(crate) fn disks(
     alloc: Global,
     registry: &[u64],
@@ -141,7 +141,8 @@ pub(crate) fn answers_each<R: Abort + Wait>(
     Ok(())
 }
 
-/// A request with this first line and body is answered to one of the two passes with this status and body.
+/// A request with this first line and body is answered to one of the two passes with this
+/// status and body.
 pub(crate) fn answers<R: Abort + Wait>(
     rt: &R,
     alloc: Global,

@@ -46,7 +46,8 @@ fn append_in_vain<R: Abort + Wait>(
     Ok(())
 }
 
-// An opening of a log's file makes three calls, and an append a write and a sync, a write and a sync.
+// An opening of a log's file makes three calls, and an append a write and a sync, a write
+// and a sync.
 #[test]
 fn each_call_of_a_disk_fails(rt: HostRuntime) -> Result<(), Fail> {
     let alloc = rt.alloc();
@@ -75,8 +76,8 @@ fn a_gate_that_failed_may_be_open(rt: HostRuntime) -> Result<(), Fail> {
     Ok(())
 }
 
-/// The first read has both requests. Where this call of the link fails, a front of the replies was sent, and what was done
-/// stays done.
+/// The first read has both requests. Where this call of the link fails, a front of the replies was
+/// sent, and what was done stays done.
 fn fails_at<R: Abort + Wait>(
     rt: &R,
     alloc: Global,

@@ -1,5 +1,5 @@
-//! Worked examples of a hall and its sessions: replies byte for byte, how sessions end, what faults of links and disks
-//! leave, and what is wrong with files.
+//! Worked examples of a hall and its sessions: replies byte for byte, how sessions end, what faults
+//! of links and disks leave, and what is wrong with files.
 #![tactic(auto)]
 
 #[cfg(test)]

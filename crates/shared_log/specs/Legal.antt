@@ -1,6 +1,6 @@
 -- Which calls of a pass are legal, as a relation over what the pass knew before the call, its
--- reply, and what the pass knows behind it. A pass knows a history: entries, each with its patch and
--- the number of the pass that brought it.
+-- reply, and what the pass knows behind it. A pass knows a history: entries, each with its patch
+-- and the number of the pass that brought it.
 use Rattle.std.specs.Prelude.{◌≡◌, ◌⊎◌, ℕ, [], ◌∷◌, ◌++◌}
 use Rattle.delta_base.specs.Outside.{Rose}
 use Rattle.delta_base.specs.declared.limits.LogLimits.{LogLimits}

@@ -16,7 +16,8 @@ abbrev pub MayFail : Event → RegistrySight → RegistrySight → Type 0
 MayFail event p q = (failed_of q ≡ failed_of p) ⊎ (failed_of q ≡ failed_of p ++ event ∷ [])
 
 -- what a call told, by how it ended
-abbrev pub IsTold : Ending → ℕ → RegistryCall → RegistryReply → RegistrySight → RegistrySight → Type 0
+abbrev pub IsTold : Ending → ℕ → RegistryCall → RegistryReply
+    → RegistrySight → RegistrySight → Type 0
 -- the pass has brought the event, where the events before it give this reply
 IsTold (made event) slots call reply p q =
     (place : ℕ) × (brought : Brought event place p q)

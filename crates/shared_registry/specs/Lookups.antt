@@ -5,7 +5,8 @@ use Rattle.delta_base.specs.Outside.{RoseBy}
 use Rattle.registry_core.specs.declared.event.Event.{Event}
 use Rattle.registry_core.specs.Answers.{Ending, made, told, failed, wanting}
 use Rattle.registry_core.specs.Replies.{RegistryCall, RegistryReply, ending}
-use Rattle.turn_cell.specs.Knowing.{IsSame, Wants, seen_of, mine_of, failed_of, own_faults_of, looks_of}
+use Rattle.turn_cell.specs.Knowing.{IsSame, Wants, seen_of, mine_of}
+use Rattle.turn_cell.specs.Knowing.{failed_of, own_faults_of, looks_of}
 use Rattle.shared_registry.specs.Passes.{RegistrySight}
 use Rattle.shared_registry.specs.Legal.{Legal}
 
@@ -14,7 +15,8 @@ pub record Lookup : Type 0 where
   pub call : RegistryCall
   pub reply : Option RegistryReply
 
-abbrev pub IsReplied : ℕ → RegistrySight → RegistryCall → Option RegistryReply → RegistrySight → Type 0
+abbrev pub IsReplied : ℕ → RegistrySight → RegistryCall → Option RegistryReply
+    → RegistrySight → Type 0
 IsReplied slots p call (Some reply) q = Legal slots p call reply q
 IsReplied slots p call None q = Wants p q
 
@@ -58,7 +60,8 @@ events_faulted (asked ∷ more) = faulted_by (ending_of asked.call asked.reply) 
 -- It is the same pass, and knows all that it knew. It has looked once for each call at least; its
 -- own places grew by as many as made an event; no more came as failed than met a fault of the disk,
 -- and its own faults rose by as many as did.
-pub record RegistryAddsUp (p : RegistrySight) (asked : List Lookup) (q : RegistrySight) : Type 0 where
+pub record RegistryAddsUp (p : RegistrySight) (asked : List Lookup)
+    (q : RegistrySight) : Type 0 where
   pub same : IsSame p q
   pub seen : IsPrefix (seen_of p) (seen_of q)
   pub looks : looks_of p + length asked ≤ looks_of q

@@ -1,5 +1,6 @@
 //! A registry that threads share.
-ghost use Rattle.std.specs.Prelude.{◌≡◌, ◌<◌, ◌≤◌, ℕ, ◌+◌, Some, IfOk, IfErr, IfSome, OnOk, OnErr, slice_get};
+ghost use Rattle.std.specs.Prelude.{◌≡◌, ◌<◌, ◌≤◌, ℕ, ◌+◌, Some, IfOk};
+ghost use Rattle.std.specs.Prelude.{IfErr, IfSome, OnOk, OnErr, slice_get};
 ghost use Rattle.std.specs.Prelude.{vec_len, vec_capacity};
 ghost use Rattle.std.specs.List.{AllByRecursion};
 ghost use Rattle.registry_core.specs.Replies as asked;

@@ -26,7 +26,8 @@ pub struct RegistryFixed {
     pub mark: Option<(LinkedList<u8>, u64)>,
 }
 
-/// A registry that lies in a turn. Its disk stands for its events, with the one in doubt or without.
+/// A registry that lies in a turn. Its disk stands for its events, with the one in
+/// doubt or without.
 #[derive(Drop)]
 pub struct RegistryValue<D: Disk> {
     registry: RegistryState<D>,

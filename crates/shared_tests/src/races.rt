@@ -33,7 +33,8 @@ fn numbered(alloc: Global, number: u32, prev: Option<Id>) -> Option<Checked> {
     check_patch(alloc, &text).ok()
 }
 
-// Brings patches of its own until each is accepted or too many tries are made, and answers how many were.
+// Brings patches of its own until each is accepted or too many tries are made, and answers
+// how many were.
 fn contend<R: Wait>(
     rt: &R,
     alloc: Global,

@@ -12,7 +12,8 @@ use std::marker::Model;
 /// How many bytes of short texts are written at once.
 pub const PIECE: usize = 65_536;
 
-/// A room in which short texts wait for each other, seen as the bytes that wait. Its memory is taken when it is made.
+/// A room in which short texts wait for each other, seen as the bytes that wait. Its memory is
+/// taken when it is made.
 #[derive(Drop)]
 pub struct Room {
     bytes: Vec<u8>,
@@ -40,8 +41,10 @@ impl Room {
 
     /// Puts a text behind those in the room. Where there is no place for it, all are written.
     pub fn put<K: Sink>(&mut self, out: &mut K, text: &[u8]) -> Result<(), Failed>
-        ensures put { OnOk result (AppendsFirst (K.written out.old) (K.written out.new) (self.old ++ text.now) self.new) }
-        ensures front { AppendsFront (K.written out.old) (K.written out.new) (self.old ++ text.now) }
+        ensures put { OnOk result
+            (AppendsFirst (K.written out.old) (K.written out.new) (self.old ++ text.now) self.new) }
+        ensures front { AppendsFront (K.written out.old) (K.written out.new)
+            (self.old ++ text.now) }
         ensures failed { IsErr result → Rose (K.faults out.old) (K.faults out.new) }
         ensures never_falls { K.faults out.old ≤ K.faults out.new }
     {

@@ -10,7 +10,8 @@ use delta_base::{Failed, Sink};
 /// Writes texts one after another, a room of them at once.
 pub fn write_texts<K: Sink>(out: &mut K, texts: &[Vec<u8>], mut room: Room) -> Result<(), Failed>
     requires { room ≡ [] }
-    ensures whole { OnOk result (Appends (K.written out.old) (K.written out.new) (joined texts.now)) }
+    ensures whole { OnOk result
+        (Appends (K.written out.old) (K.written out.new) (joined texts.now)) }
     ensures front { AppendsFront (K.written out.old) (K.written out.new) (joined texts.now) }
     ensures failed { IsErr result → Rose (K.faults out.old) (K.faults out.new) }
     ensures never_falls { K.faults out.old ≤ K.faults out.new }

@@ -35,8 +35,8 @@ abbrev pub of_shelf : ShelfFault → CheckFault
 of_shelf shelf.Failed = check.Failed
 of_shelf shelf.OutOfMemory = check.OutOfMemory
 
--- The registry's file has this fault, and none that comes before it. That a call failed, and want of
--- memory, are free.
+-- The registry's file has this fault, and none that comes before it. That a call failed, and want
+-- of memory, are free.
 abbrev pub HasRegistryFault : List ℕ → CheckFault → Type 0
 HasRegistryFault file (check.Damaged number at) = (number ≡ 0) × HasFault file (registry.Damaged at)
 HasRegistryFault file (check.WrongNumber number found) =
@@ -50,10 +50,14 @@ HasRegistryFault file check.OutOfMemory = Unit {0}
 
 -- a log's file has this fault, and none that comes before it
 abbrev pub HasFileFault : List ℕ → ℕ → CheckFault → Type 0
-HasFileFault file number (check.Damaged at_file at) = (at_file ≡ number) × HasLogFault file number LOG_LIMITS (log.Damaged at)
-HasFileFault file number (check.WrongNumber at_file found) = (at_file ≡ number) × HasLogFault file number LOG_LIMITS (log.WrongNumber found)
-HasFileFault file number (check.OverLimit at_file length limit) = (at_file ≡ number) × HasLogFault file number LOG_LIMITS (log.OverLimit length limit)
-HasFileFault file number (check.BrokenChain at_file version) = (at_file ≡ number) × HasLogFault file number LOG_LIMITS (log.BrokenChain version)
+HasFileFault file number (check.Damaged at_file at) =
+    (at_file ≡ number) × HasLogFault file number LOG_LIMITS (log.Damaged at)
+HasFileFault file number (check.WrongNumber at_file found) =
+    (at_file ≡ number) × HasLogFault file number LOG_LIMITS (log.WrongNumber found)
+HasFileFault file number (check.OverLimit at_file length limit) =
+    (at_file ≡ number) × HasLogFault file number LOG_LIMITS (log.OverLimit length limit)
+HasFileFault file number (check.BrokenChain at_file version) =
+    (at_file ≡ number) × HasLogFault file number LOG_LIMITS (log.BrokenChain version)
 HasFileFault file number (check.BrokenEvent place) = ⊥
 HasFileFault file number check.Failed = Unit {0}
 HasFileFault file number check.OutOfMemory = Unit {0}

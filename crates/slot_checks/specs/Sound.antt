@@ -30,4 +30,5 @@ pub record IsLogLine (file : List ℕ) (number : ℕ) (line_ : FileLine) : Type 
 -- the lines of the logs' files from a number on
 abbrev pub AreLogLines : Files → List ℕ → ℕ → List FileLine → Type 0
 AreLogLines files dir from [] = Unit {0}
-AreLogLines files dir from (line_ ∷ lines) = IsLogLine (bytes_at files dir from) from line_ × AreLogLines files dir (from + 1) lines
+AreLogLines files dir from (line_ ∷ lines) =
+    IsLogLine (bytes_at files dir from) from line_ × AreLogLines files dir (from + 1) lines

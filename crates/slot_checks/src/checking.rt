@@ -82,13 +82,14 @@ fn add_logs<H: Shelf>(
     Ok(())
 }
 
-/// Opens the registry's file and then those of its logs, and tells what each holds, or the first fault. Each of their
-/// disks is put back.
+/// Opens the registry's file and then those of its logs, and tells what each holds, or the first
+/// fault. Each of their disks is put back.
 pub fn check_files<H: Shelf>(alloc: Global, shelf: &mut H, dir: &Text) -> Result<Report, CheckFault>
     ensures ok { H.tells → IfOk result (λ report.
         IsReport (H.files shelf.old) dir.now report.items) }
 
-    // Each file that has a line is left as it was, and no other was asked for. One that didn't exist is empty.
+    // Each file that has a line is left as it was, and no other was asked for. One that didn't
+    // exist is empty.
     ensures kept { H.tells → IfOk result (λ report.
         AreKept dir.now (length report.items) (H.files shelf.old) (H.files shelf.new)) }
 

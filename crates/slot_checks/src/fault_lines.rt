@@ -21,7 +21,8 @@ fn wrong_number(alloc: Global, file: u32, found: u32) -> Result<Vec<u8>, OutOfMe
 }
 
 fn over_limit(alloc: Global, file: u32, length: u64, limit: u64) -> Result<Vec<u8>, OutOfMemory>
-    ensures { IfOk result (λ text. text.items ≡ fault_line (CheckFault.OverLimit file length limit)) }
+    ensures { IfOk result (λ text.
+        text.items ≡ fault_line (CheckFault.OverLimit file length limit)) }
 {
     let text = format!(in alloc;
         "rdfdelta: file {file}: over limit: have {length}, limit {limit}\n"

@@ -11,7 +11,8 @@ use disk_model::Disk;
 use log_registry::{RegistryRefusal, RegistryState};
 use std::alloc::Global;
 
-/// What the registry's file holds: how many slots there are, and how many records, that of the slots among them.
+/// What the registry's file holds: how many slots there are, and how many records, that of the
+/// slots among them.
 #[derive(Clone, Copy)]
 pub struct RegistryFile {
     pub slots: u32,

@@ -1,5 +1,6 @@
 -- The files of a registry and its logs, as they are made.
-use Rattle.std.specs.Prelude.{◌≡◌, ◌⊎◌, ℕ, zero, suc, ◌+◌, ◌<◌, ◌≤◌, List, [], ◌∷◌, length, Option, Some, None, unwrap_or}
+use Rattle.std.specs.Prelude.{◌≡◌, ◌⊎◌, ℕ, zero, suc, ◌+◌, ◌<◌, ◌≤◌, List}
+use Rattle.std.specs.Prelude.{[], ◌∷◌, length, Option, Some, None, unwrap_or}
 use Rattle.std.specs.Fmt.{decimal}
 use Rattle.log_journal.specs.File.{file_of}
 
@@ -15,14 +16,17 @@ bytes_at files dir number = unwrap_or (files dir number) []
 abbrev pub slots_payload : ℕ → List ℕ
 slots_payload slots = 83 ∷ 32 ∷ decimal slots
 
--- the files of a directory from 1 on and below `end` had no bytes, and are now empty journals of their numbers
+-- the files of a directory from 1 on and below `end` had no bytes, and are now empty journals
+-- of their numbers
 pub record AreMade (dir : List ℕ) (end : ℕ) (old new : Files) : Type 0 where
   pub were_empty : (number : ℕ) → 1 ≤ number → number < end → bytes_at old dir number ≡ []
-  pub are_journals : (number : ℕ) → 1 ≤ number → number < end → new dir number ≡ Some (file_of number [])
+  pub are_journals : (number : ℕ) → 1 ≤ number → number < end
+      → new dir number ≡ Some (file_of number [])
 
 -- all files are as they were, but for those of a directory from `first` on and below `end`
 pub record SameBut (dir : List ℕ) (first end : ℕ) (old new : Files) : Type 0 where
-  pub elsewhere : (other : List ℕ) (number : ℕ) → (other ≡ dir → ⊥) → new other number ≡ old other number
+  pub elsewhere : (other : List ℕ) (number : ℕ) → (other ≡ dir → ⊥)
+      → new other number ≡ old other number
   pub here : (number : ℕ) → (number < first) ⊎ (end ≤ number) → new dir number ≡ old dir number
 
 -- the logs' files and then the registry's, which holds the number of slots
@@ -46,7 +50,8 @@ pub record StopsAt (dir : List ℕ) (slots number size : ℕ) (old new : Files) 
 
 -- the files of a directory that had bytes are as they were
 abbrev pub KeepsFull : List ℕ → Files → Files → Type 0
-KeepsFull dir old new = (number : ℕ) → 0 < length (bytes_at old dir number) → new dir number ≡ old dir number
+KeepsFull dir old new =
+    (number : ℕ) → 0 < length (bytes_at old dir number) → new dir number ≡ old dir number
 
 -- a file is as it was; where there was none, there may be an empty one
 abbrev pub IsKept : Option (List ℕ) → Option (List ℕ) → Type 0

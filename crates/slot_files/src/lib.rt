@@ -1,7 +1,7 @@
 //! Makes the files of a registry and of its logs.
 //!
-//! The logs' files come first and the registry's last, so that a registry that can be opened has all its logs' files. A
-//! file that has bytes is never written.
+//! The logs' files come first and the registry's last, so that a registry that can be opened has
+//! all its logs' files. A file that has bytes is never written.
 #![tactic(auto)]
 
 mod fault;

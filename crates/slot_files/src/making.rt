@@ -12,8 +12,8 @@ use disk_model::Shelf;
 use log_journal::make_block;
 use std::alloc::Global;
 
-/// Makes the files of the logs, from 1 to the number of slots, and then file 0 of the registry. Each of their disks is
-/// put back.
+/// Makes the files of the logs, from 1 to the number of slots, and then file 0 of the registry.
+/// Each of their disks is put back.
 pub fn init_slots<H: Shelf>(
     alloc: Global,
     shelf: &mut H,

@@ -14,7 +14,8 @@ use delta_base::{REGISTRY_LIMIT, Text};
 use disk_model::{Disk, Shelf};
 use log_journal::{AppendFault, Block, FormatFault, Journal};
 
-/// The registry's first payload: `S`, a space and the number of slots in decimal. It is written into the buffer.
+/// The registry's first payload: `S`, a space and the number of slots in decimal. It is written
+/// into the buffer.
 pub fn first_payload<'a>(slots: u8, room: &'a mut [u8; 4]) -> &'a [u8]
     requires { slots ≤ MOST_SLOTS }
     ensures payload { result.now ≡ slots_payload slots }

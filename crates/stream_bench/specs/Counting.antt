@@ -6,7 +6,8 @@ use Rattle.patch_reader.specs.Rows.{Gap, RowsUpTo}
 
 -- the text is these many rows, with white space and comments around them
 abbrev pub HasRows : List ℕ → ℕ → Type 0
-HasRows text count = (rows_ : List PlacedRow) × (to : ℕ) × RowsUpTo text 0 rows_ to × Gap text to (length text) × (length rows_ ≡ count)
+HasRows text count = (rows_ : List PlacedRow) × (to : ℕ) × RowsUpTo text 0 rows_ to
+    × Gap text to (length text) × (length rows_ ≡ count)
 
 -- all but the rows stays
 abbrev pub SameText : Reader → Reader → Type 0
@@ -14,7 +15,8 @@ SameText old new = (new.fed ≡ old.fed) × (new.end ≡ old.end) × (new.fault 
 
 -- a row was taken, or none was ready
 abbrev pub TakesOne : Reader → Bool → Reader → Type 0
-TakesOne old true new = (length new.taken ≡ length old.taken + 1) × (length new.ready < length old.ready)
+TakesOne old true new =
+    (length new.taken ≡ length old.taken + 1) × (length new.ready < length old.ready)
 TakesOne old false new = (new.taken ≡ old.taken) × (new.ready ≡ [])
 
 -- so many rows were taken, of a text whose places fit a u64

@@ -34,7 +34,8 @@ fn take_rows(reader: &mut PatchReader, before: usize) -> usize
     count
 }
 
-/// The number of rows of a text that is fed in pieces of `size` bytes, or of one byte where that is 0.
+/// The number of rows of a text that is fed in pieces of `size` bytes, or of one byte where
+/// that is 0.
 pub fn count_rows(alloc: Global, text: &[u8], size: u32) -> Result<usize, RowFault>
     ensures { IfOk result (λ count. HasRows text.now count) }
 {

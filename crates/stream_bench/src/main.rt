@@ -1,4 +1,5 @@
-//! Feeds standard input to a reader of rows in pieces of one size, to measure what small pieces cost.
+//! Feeds standard input to a reader of rows in pieces of one size, to measure what
+//! small pieces cost.
 //!
 //! `stream_bench SIZE` prints how many rows it read.
 #![tactic(auto)]

@@ -1,5 +1,6 @@
 -- A stream of any number of patches, made by rule: large input that is known.
-use Rattle.std.specs.Prelude.{ℕ, zero, suc, pred, ◌+◌, ◌^◌, ◌/◌, ◌%◌, ◌==◌, List, [], ◌++◌, codes, if◌then◌else◌}
+use Rattle.std.specs.Prelude.{ℕ, zero, suc, pred, ◌+◌, ◌^◌, ◌/◌, ◌%◌}
+use Rattle.std.specs.Prelude.{◌==◌, List, [], ◌++◌, codes, if◌then◌else◌}
 use Rattle.std.specs.Fmt.{decimal}
 use Rattle.delta_base.specs.Ids.{text_of}
 
@@ -13,7 +14,8 @@ object_text k = codes "> \"" ++ (decimal k ++ codes "\" .\n")
 
 -- the quad of patch k, and the row's dot
 abbrev pub quad_text : ℕ → List ℕ
-quad_text k = codes " <http://g/s" ++ (decimal (k % 100) ++ (codes "> <http://g/p" ++ (decimal (k % 7) ++ object_text k)))
+quad_text k = codes " <http://g/s"
+    ++ (decimal (k % 100) ++ (codes "> <http://g/p" ++ (decimal (k % 7) ++ object_text k)))
 
 -- the row of this code with the quad of patch k
 abbrev pub quad_row : List ℕ → ℕ → List ℕ
@@ -24,7 +26,8 @@ id_row k = codes "H id <uuid:" ++ (text_of (id_of k) ++ codes "> .\n")
 
 -- the first patch names none before it
 abbrev pub prev_row : ℕ → List ℕ
-prev_row k = if k == 1 then [] else codes "H prev <uuid:" ++ (text_of (id_of (pred k)) ++ codes "> .\n")
+prev_row k =
+    if k == 1 then [] else codes "H prev <uuid:" ++ (text_of (id_of (pred k)) ++ codes "> .\n")
 
 -- each third patch deletes the quad of an earlier one
 abbrev pub delete_row : ℕ → List ℕ

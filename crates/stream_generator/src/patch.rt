@@ -1,8 +1,10 @@
 //! The text of one patch.
-ghost use Rattle.std.specs.Prelude.{◌≡◌, ◌<◌, ◌≤◌, ◌%◌, ◌++◌, IfOk, codes, decimal, length, vec_len};
+ghost use Rattle.std.specs.Prelude.{◌≡◌, ◌<◌, ◌≤◌, ◌%◌, ◌++◌, IfOk};
+ghost use Rattle.std.specs.Prelude.{codes, decimal, length, vec_len};
 ghost use Rattle.delta_base.specs.Ids.{text_of};
 ghost use Rattle.stream_generator.specs.Appended.{Appends};
-ghost use Rattle.stream_generator.specs.Generator.{id_of, prev_row, object_text, quad_text, quad_row, delete_row, block_rows, patch_text};
+ghost use Rattle.stream_generator.specs.Generator.{id_of, prev_row, object_text, quad_text};
+ghost use Rattle.stream_generator.specs.Generator.{quad_row, delete_row, block_rows, patch_text};
 
 use delta_base::{Id, OutOfMemory, id_text};
 use itoa::Buffer;
@@ -87,7 +89,8 @@ fn push_delete_row(text: &mut Vec<u8>, number: u32) -> Result<(), OutOfMemory>
 
 // Appends a header row whose value is the id of the patch of this number.
 fn push_id_row(text: &mut Vec<u8>, front: &[u8], number: u32) -> Result<(), OutOfMemory>
-    ensures { Appends (front.now ++ (text_of (id_of number) ++ codes "> .\n")) text.old text.new result }
+    ensures { Appends
+        (front.now ++ (text_of (id_of number) ++ codes "> .\n")) text.old text.new result }
 {
     push(text, front)?;
     push(text, &id_text(Id(FIRST_ID + u128::from(number))))?;
@@ -122,7 +125,8 @@ fn push_quad(text: &mut Vec<u8>, number: u32) -> Result<(), OutOfMemory>
 
 // Appends what stands behind the number of the quad's subject.
 fn push_predicate(text: &mut Vec<u8>, number: u32) -> Result<(), OutOfMemory>
-    ensures { Appends (codes "> <http://g/p" ++ (decimal (number % 7) ++ object_text number)) text.old text.new result }
+    ensures { Appends (codes "> <http://g/p" ++ (decimal (number % 7) ++ object_text number))
+        text.old text.new result }
 {
     push(text, b"> <http://g/p")?;
     push_number(text, number % 7)?;

@@ -1,5 +1,6 @@
 //! The stream as a source.
-ghost use Rattle.std.specs.Prelude.{◌≡◌, ◌-◌, ◌<◌, ◌≤◌, ◌^◌, ◌++◌, [], Some, take, length, vec_len, IfOk, OnOk};
+ghost use Rattle.std.specs.Prelude.{◌≡◌, ◌-◌, ◌<◌, ◌≤◌, ◌^◌, ◌++◌, [], Some};
+ghost use Rattle.std.specs.Prelude.{take, length, vec_len, IfOk, OnOk};
 ghost use Rattle.std.specs.Io.KnownBytes.{ReadConsumes};
 ghost use Rattle.delta_base.specs.Outside.{CountsFault, HasCause};
 ghost use Rattle.stream_generator.specs.Generator.{stream_text};
@@ -57,8 +58,8 @@ impl Cursor {
     }
 }
 
-/// The stream of so many patches, of which one is in memory at a time. A read fails only where there is no memory for
-/// the next patch.
+/// The stream of so many patches, of which one is in memory at a time. A read fails only where
+/// there is no memory for the next patch.
 #[derive(Drop)]
 pub struct GeneratedSource {
     alloc: Global,

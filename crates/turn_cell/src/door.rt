@@ -1,12 +1,13 @@
 //! The door before the turn, at which passes wait that want it.
 //!
-//! A pass goes in before it draws a ticket, and opens the door for the next one behind its stay. So a ticket is served
-//! as soon as it is drawn, and no pass sleeps that has one: served in their order, passes that sleep would each wait
-//! until the one before had been woken, stayed and gone. At the door whoever is awake goes in, and who is woken tries
-//! again beside those that have just come.
+//! A pass goes in before it draws a ticket, and opens the door for the next one behind its stay.
+//! So a ticket is served as soon as it is drawn, and no pass sleeps that has one: served in
+//! their order, passes that sleep would each wait until the one before had been woken, stayed
+//! and gone. At the door whoever is awake goes in, and who is woken tries again beside those
+//! that have just come.
 //!
-//! Nothing that is proved rests on it: a pass takes the value only when its ticket is served, also where several went
-//! in at once.
+//! Nothing that is proved rests on it: a pass takes the value only when its ticket is served, also
+//! where several went in at once.
 use crossbeam_utils::CachePadded;
 use std::hint::spin_loop;
 use std::sync::Wait;
@@ -20,8 +21,8 @@ const SHUT: u64 = 1;
 // A pass is inside, and others may sleep.
 const AWAITED: u64 = 2;
 
-// How often a pass looks before it sleeps: a stay without a call of the disk is shorter than so many looks, and a
-// sleep costs a call of the system on both sides.
+// How often a pass looks before it sleeps: a stay without a call of the disk is shorter than so
+// many looks, and a sleep costs a call of the system on both sides.
 const LOOKS: u32 = 100;
 
 // On cache lines of its own, so that passes at one door don't slow those at the next.
@@ -44,7 +45,8 @@ impl Door {
         }
     }
 
-    // Opens the door. Where passes may sleep, one is woken: it leaves the door awaited for the others.
+    // Opens the door. Where passes may sleep, one is woken: it leaves the door awaited
+    // for the others.
     pub(crate) fn open(&self) {
         if self.word.swap(OPEN, Ordering::SeqCst) == AWAITED {
             self.word.wake_one();

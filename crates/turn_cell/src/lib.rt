@@ -1,7 +1,8 @@
 //! A turn that threads take one after another, over a value whose history only grows.
 //!
-//! A pass waits for the turn, has the value for the time of its stay, and hands it on. What one pass published, each
-//! later stay finds; how long the history is can be asked at any time, without waiting.
+//! A pass waits for the turn, has the value for the time of its stay, and hands it on. What
+//! one pass published, each later stay finds; how long the history is can be asked at any
+//! time, without waiting.
 #![tactic(auto)]
 
 mod chained;

@@ -1,5 +1,6 @@
 //! A turn is made of a value, and gives it back at the end.
-ghost use Rattle.std.specs.Prelude.{◌≡◌, ℕ, ◌+◌, ◌<◌, ◌≤◌, ◌++◌, ◌∷◌, [], Some, None, IfOk, IfErr, slice_get, vec_len, vec_capacity};
+ghost use Rattle.std.specs.Prelude.{◌≡◌, ℕ, ◌+◌, ◌<◌, ◌≤◌, ◌++◌, ◌∷◌, [], Some, None};
+ghost use Rattle.std.specs.Prelude.{IfOk, IfErr, slice_get, vec_len, vec_capacity};
 ghost use Rattle.turn_cell.specs.declared.view.Role.TheVariants.{Pass as IsPass};
 ghost use Rattle.turn_cell.specs.Turns.{AllOf, seat_of, first_seat};
 ghost use Rattle.turn_cell.specs.Sights.{IsNew, AreOf, Gathers};

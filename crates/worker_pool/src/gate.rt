@@ -10,7 +10,8 @@ pub struct Arrival<L> {
     pub dice: u128,
 }
 
-/// Where connections come from, and where they are put back. What is said of them holds where it `tells` them.
+/// Where connections come from, and where they are put back. What is said of them holds where
+/// it `tells` them.
 pub trait Gate {
     type L;
 

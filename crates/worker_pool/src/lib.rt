@@ -1,8 +1,8 @@
 //! Workers, each with a gate through which its connections come.
 //!
-//! A gate gives connections one after another and takes each back; a worker serves one at a time; `serve_all` has the workers
-//! serve side by side, on threads. What a worker does on a connection is the worker's own relation, so nothing here knows of
-//! HTTP or of logs.
+//! A gate gives connections one after another and takes each back; a worker serves one at a time;
+//! `serve_all` has the workers serve side by side, on threads. What a worker does on a connection
+//! is the worker's own relation, so nothing here knows of HTTP or of logs.
 #![tactic(auto)]
 
 mod gate;

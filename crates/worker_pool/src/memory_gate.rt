@@ -41,8 +41,8 @@ impl<L> Model for MemGate<L> {
 impl<L> MemGate<L> {
     ghost use Rattle.worker_pool.specs.Memory.{numbered};
 
-    /// The links arrive in their order, with the dice 0, 1, 2 and so on. The calls of `next` of the numbers in `failing`,
-    /// from 0, fail.
+    /// The links arrive in their order, with the dice 0, 1, 2 and so on. The calls of `next` of the
+    /// numbers in `failing`, from 0, fail.
     pub fn new(alloc: Global, links: Vec<L>, failing: Calls) -> Result<MemGate<L>, OutOfMemory>
     where
         L: Drop,

@@ -14,8 +14,8 @@ pub struct Post<G, W> {
     pub worker: W,
 }
 
-/// Has each worker serve the arrivals of its own gate, on a thread where one can be made, until its gate gives no more.
-/// Takes no memory.
+/// Has each worker serve the arrivals of its own gate, on a thread where one can be made, until its
+/// gate gives no more. Takes no memory.
 pub fn serve_all<R: Threads + Wait + Sync, G: Gate + Send, W: Worker<G::L> + Send>(
     rt: &R,
     posts: Vec<Post<G, W>>,

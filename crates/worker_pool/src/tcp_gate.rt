@@ -24,7 +24,8 @@ pub struct TcpGate<'a> {
 }
 
 impl<'a> TcpGate<'a> {
-    /// The gate of this place. Its dice begin at the base plus 2^32 times the place, and rise by 2^36 at each arrival.
+    /// The gate of this place. Its dice begin at the base plus 2^32 times the place, and rise by
+    /// 2^36 at each arrival.
     pub fn new(listener: Option<&'a TcpListener>, base: u128, place: u32) -> TcpGate<'a>
         ensures { result.faults ≡ 0 }
     {
@@ -36,7 +37,8 @@ impl<'a> TcpGate<'a> {
     }
 }
 
-// The link of a connection. Small writes go out at once, and a silent peer doesn't hold whoever serves it for ever.
+// The link of a connection. Small writes go out at once, and a silent peer doesn't hold whoever
+// serves it for ever.
 fn link_over(stream: TcpStream) -> io::Result<StdLink<TcpStream>> {
     let patience = Some(Duration::from_secs(PATIENCE));
     stream.set_nodelay(true)?;

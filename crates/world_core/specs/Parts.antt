@@ -64,8 +64,8 @@ abbrev pub stopped_if : LogPoint → Option Bool → LogPoint
 stopped_if point None = point
 stopped_if point (Some opened) = stopped point opened
 
--- A disk under a log or a zone that runs. Each image holds the chain, with the patch in doubt or without; a stop leaves
--- the one image or the other.
+-- A disk under a log or a zone that runs. Each image holds the chain, with the patch in doubt or
+-- without; a stop leaves the one image or the other.
 pub record Carries (number : ℕ) (disk : PlanDisk) (chain : List Patch) (doubt : Option Patch)
     : Type 0 where
   pub stands : StandsForLog (plan_past disk) number LOG_LIMITS chain doubt
@@ -139,7 +139,8 @@ EveryImageOfZone (ZoneDown disk) P = EveryImage (plan_past disk) P
 abbrev pub HoldsSome : ℕ → (List Patch → Type 0) → List ℕ → Type 0
 HoldsSome number P image = (found : List Patch) × P found × Holds image number (texts_of found)
 
--- the dataset of a zone that runs is the replay of so many first patches as its version says, checked again
+-- the dataset of a zone that runs is the replay of so many first patches as its version
+-- says, checked again
 abbrev pub IsReplayed : LogPoint → ZonePart → Type 0
 IsReplayed log (ZoneUp zone) = (taken : List CheckedPatch) × AreChecked taken
     × BeginsLog log (map bare taken) × (zone.brief ≡ brief_of taken)

@@ -1,5 +1,6 @@
 -- A world as events make it: one log, its zones, and all messages that were ever sent.
-use Rattle.std.specs.Prelude.{◌≡◌, ◌⊎◌, ℕ, zero, suc, ◌+◌, ◌==◌, if◌then◌else◌, List, [], ◌∷◌, ◌++◌, length, fold, slice_get, Contains, Option, Some, None}
+use Rattle.std.specs.Prelude.{◌≡◌, ◌⊎◌, ℕ, zero, suc, ◌+◌, ◌==◌, if◌then◌else◌, List, [], ◌∷◌}
+use Rattle.std.specs.Prelude.{◌++◌, length, fold, slice_get, Contains, Option, Some, None}
 use Rattle.delta_base.specs.declared.limits.LogLimits.{LogLimits}
 use Rattle.chain_core.specs.declared.chain.Patch.{Patch}
 use Rattle.chain_core.specs.declared.fate.Fate.{Fate}
@@ -12,12 +13,14 @@ use Rattle.chain_core.specs.Stay.{Outcome, stay}
 use Rattle.patch_log.specs.Log.{bare}
 use Rattle.patch_meaning.specs.Checked.{CheckedPatch}
 use Rattle.world_core.specs.declared.event.WorldEvent.{WorldEvent}
-use Rattle.world_core.specs.declared.event.WorldEvent.TheVariants.{Append, Serve, Describe, Stop, Open, NewZone, Deliver, ZoneStop, ZoneOpen}
+use Rattle.world_core.specs.declared.event.WorldEvent.TheVariants.{Append, Serve, Describe}
+use Rattle.world_core.specs.declared.event.WorldEvent.TheVariants.{Stop, Open, NewZone}
+use Rattle.world_core.specs.declared.event.WorldEvent.TheVariants.{Deliver, ZoneStop, ZoneOpen}
 use Rattle.world_core.specs.declared.message.Message.{Message}
 use Rattle.world_core.specs.declared.message.Message.TheVariants.{Accepted, Info, Item}
 
--- A log, its zones, and the messages in the order in which they were sent. A zone is a point as a log is: the patches
--- that it took are its chain.
+-- A log, its zones, and the messages in the order in which they were sent. A zone is a point as a
+-- log is: the patches that it took are its chain.
 pub record WorldPoint : Type 0 where
   pub log : LogPoint
   pub zones : List LogPoint
@@ -65,7 +68,8 @@ abbrev pub joined : List Message → Option Message → List Message
 joined pool None = pool
 joined pool (Some message) = pool ++ message ∷ []
 
--- A zone takes the patch behind its own as a log does: where it names the head, its id is new and there is room.
+-- A zone takes the patch behind its own as a log does: where it names the head, its id is new and
+-- there is room.
 abbrev pub handed : LogLimits → LogPoint → ℕ → Patch → Fate → LogPoint
 handed limits (up taken doubt) version patch fate =
     if version == length taken + 1 then (stay limits (up taken doubt) patch fate).0

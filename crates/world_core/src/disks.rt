@@ -21,7 +21,8 @@ pub(crate) fn new_disk(alloc: Global, number: u32) -> Result<PlanDisk, OutOfMemo
     }
 }
 
-// The image that a stop leaves: in the one each byte that isn't synced is 1, and the other has what was synced.
+// The image that a stop leaves: in the one each byte that isn't synced is 1, and the other has
+// what was synced.
 fn image_left(opened: bool) -> u64
     ensures { result ≡ (if opened then 257 else 0) }
 {

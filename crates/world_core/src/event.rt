@@ -18,8 +18,8 @@ pub enum WorldEvent {
     Open,
     /// A zone is made, and runs.
     NewZone,
-    /// A message that was sent reaches a zone, whose device calls come to this fate. Messages and zones are numbered
-    /// from 0.
+    /// A message that was sent reaches a zone, whose device calls come to this fate. Messages and
+    /// zones are numbered from 0.
     Deliver { message: u32, zone: u32, fate: Fate },
     /// A zone stops between two calls.
     ZoneStop { zone: u32, opened: bool },

@@ -16,8 +16,8 @@ pub fn chains_stay_chains()
         → MayBeFound (world limits events).log found → IsChain (links_of found) }
 {}
 
-/// A patch whose append was told to be accepted stands at the version told, whatever happens then and whatever a crash
-/// leaves.
+/// A patch whose append was told to be accepted stands at the version told, whatever happens then
+/// and whatever a crash leaves.
 pub fn accepted_patches_stay()
     ensures { (limits : LogLimits) (events more : List WorldEvent) (patch : CheckedPatch)
         (version : ℕ) (found : List Patch) → WasAccepted limits events patch version

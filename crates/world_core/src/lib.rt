@@ -1,8 +1,9 @@
-//! The world of one log: what happens to it and to its zones, what it sends, and what a crash leaves, for every list
-//! of events.
+//! The world of one log: what happens to it and to its zones, what it sends, and what a crash
+//! leaves, for every list of events.
 //!
-//! `specs/World.antt` says what events make of a world, over plain lists. `world_run` makes that world by the calls of
-//! logs and zones over disks whose syncs fail as planned. The laws hold of every list of events.
+//! `specs/World.antt` says what events make of a world, over plain lists. `world_run` makes that
+//! world by the calls of logs and zones over disks whose syncs fail as planned. The laws hold of
+//! every list of events.
 #![tactic(auto)]
 
 mod disks;

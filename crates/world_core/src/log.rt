@@ -1,5 +1,6 @@
 //! A log over a disk whose syncs fail as planned, event by event.
-ghost use Rattle.std.specs.Prelude.{◌≡◌, ℕ, [], ◌∷◌, ◌++◌, List, Bool, Option, Some, None, IfOk, if◌then◌else◌};
+ghost use Rattle.std.specs.Prelude.{◌≡◌, ℕ, [], ◌∷◌, ◌++◌, List, Bool};
+ghost use Rattle.std.specs.Prelude.{Option, Some, None, IfOk, if◌then◌else◌};
 ghost use Rattle.delta_base.specs.declared.limits.TheConstants.{LOG_LIMITS};
 ghost use Rattle.chain_core.specs.declared.chain.Patch.{Patch as OnePatch};
 ghost use Rattle.chain_core.specs.Log.{LogPoint, up, with_doubt};
@@ -7,7 +8,8 @@ ghost use Rattle.chain_core.specs.Patches.{patch_at, last_id};
 ghost use Rattle.chain_core.specs.Stay.{stay};
 ghost use Rattle.patch_log.specs.Log.{bare};
 ghost use Rattle.world_core.specs.declared.log.TheConstants.{LOG_NUMBER};
-ghost use Rattle.world_core.specs.Parts.{run_as, stop_by, Runs, Keeps, IsPartOf, IsSoundMessage, IsSoundSent};
+ghost use Rattle.world_core.specs.Parts.{run_as, stop_by, Runs, Keeps};
+ghost use Rattle.world_core.specs.Parts.{IsPartOf, IsSoundMessage, IsSoundSent};
 ghost use Rattle.world_core.specs.World.{told, served, appended, while_up, sending};
 
 use crate::disks::{new_disk, stopped_disk};

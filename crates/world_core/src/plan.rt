@@ -7,7 +7,8 @@ ghost use Rattle.world_core.specs.Parts.{run_as, stop_of};
 use chain_core::Fate;
 use delta_base::Phase;
 
-/// The sync that is to fail for an append to come to this fate, counted from 0. A phase that isn't run fails nothing.
+/// The sync that is to fail for an append to come to this fate, counted from 0. A phase that isn't
+/// run fails nothing.
 pub(crate) fn failing_sync(settled: bool, fate: Fate) -> Option<u64>
     ensures { (doubt : Option Patch) → settled ≡ is_none doubt
         → fate_by_plan doubt result ≡ run_as doubt fate }

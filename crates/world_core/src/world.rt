@@ -5,7 +5,8 @@ ghost use Rattle.delta_base.specs.declared.limits.TheConstants.{LOG_LIMITS};
 ghost use Rattle.world_core.specs.declared.log.TheConstants.{LOG_NUMBER};
 ghost use Rattle.zone_state.specs.declared.file.TheConstants.{ZONE_NUMBER};
 ghost use Rattle.world_core.specs.World.{WorldPoint, start, step, world, KeepsPromises, BeginsLog};
-ghost use Rattle.world_core.specs.Parts.{IsWorldOf, EveryImageOf, EveryImageOfZone, HoldsSome, IsReplayed};
+ghost use Rattle.world_core.specs.Parts.{IsWorldOf, EveryImageOf};
+ghost use Rattle.world_core.specs.Parts.{EveryImageOfZone, HoldsSome, IsReplayed};
 
 use crate::event::{WorldEvent, WorldEvents};
 use crate::log::{LogPart, run_log, start};
@@ -52,12 +53,14 @@ fn run(alloc: Global, world: World, event: &WorldEvent) -> Result<World, OutOfMe
     Ok(World { log, zones, pool })
 }
 
-/// The world that the events make, by the calls of logs and zones over disks whose syncs fail as planned.
+/// The world that the events make, by the calls of logs and zones over disks whose syncs
+/// fail as planned.
 pub fn world_run(alloc: Global, events: &WorldEvents) -> Result<World, OutOfMemory>
     ensures world { IfOk result (λ w. IsWorldOf w (world LOG_LIMITS events.now.items)) }
 
-    // Whatever a crash leaves of the log now is a chain that has each patch that was accepted or served at its version.
-    // What it leaves of a zone begins that chain, and the dataset of a zone is the replay of the patches that it took.
+    // Whatever a crash leaves of the log now is a chain that has each patch that was accepted or
+    // served at its version. What it leaves of a zone begins that chain, and the dataset of a zone
+    // is the replay of the patches that it took.
     ensures promises { IfOk result (λ w. EveryImageOf w.log
         (HoldsSome LOG_NUMBER (KeepsPromises LOG_LIMITS events.now.items))) }
     ensures zone_promises { IfOk result (λ w. AllByRecursion

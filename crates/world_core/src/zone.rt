@@ -24,8 +24,9 @@ pub enum ZonePart {
     Down(PlanDisk),
 }
 
-/// Opens the zone that a disk keeps. That there are too many terms is answered as want of memory: within its limits a
-/// zone has fewer terms than there are numbers, but no clause says that a text has no more terms than bytes.
+/// Opens the zone that a disk keeps. That there are too many terms is answered as want of memory:
+/// within its limits a zone has fewer terms than there are numbers, but no clause says that a text
+/// has no more terms than bytes.
 pub(crate) fn open(alloc: Global, disk: PlanDisk) -> Result<Zone<PlanDisk>, OutOfMemory>
     requires { (taken : List OnePatch) × Keeps ZONE_NUMBER disk taken }
     ensures { IfOk result (λ zone. (taken : List OnePatch) → Keeps ZONE_NUMBER disk taken
@@ -71,8 +72,9 @@ fn stop_by(fate: Fate, answer: TakeAnswer) -> Option<bool>
     }
 }
 
-// Takes a patch, so that the calls of the disk come to this fate, and tells how the gate is to stand where the zone is
-// stopped behind that. Too many terms are answered as where a zone is opened.
+// Takes a patch, so that the calls of the disk come to this fate, and tells how the gate is
+// to stand where the zone is stopped behind that. Too many terms are answered as where a
+// zone is opened.
 fn take_by_plan(
     zone: &mut Zone<PlanDisk>,
     patch: &Checked,
@@ -96,7 +98,8 @@ fn take_by_plan(
     }
 }
 
-/// Takes a patch with this fate. A stop is run as a failure of its phase, behind which the zone is closed.
+/// Takes a patch with this fate. A stop is run as a failure of its phase, behind which the
+/// zone is closed.
 pub(crate) fn take_as(
     alloc: Global,
     zone: Zone<PlanDisk>,

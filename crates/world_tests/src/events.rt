@@ -73,7 +73,8 @@ pub fn patch_of(alloc: Global, id: Id, prev: Option<Id>) -> Result<Checked, Fail
 /// An event, with the numbers of patches in the place of patches.
 #[derive(Clone, Copy)]
 pub enum Step {
-    /// An append of a patch with this number behind the one with that number, or of a first one where that is 0.
+    /// An append of a patch with this number behind the one with that number, or of a first one
+    /// where that is 0.
     Append {
         number: u32,
         before: u32,

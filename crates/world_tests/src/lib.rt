@@ -1,4 +1,5 @@
-//! Worked examples of worlds: what is accepted, what a stop leaves, what a zone takes, and many worlds made by rule.
+//! Worked examples of worlds: what is accepted, what a stop leaves, what a zone takes, and many
+//! worlds made by rule.
 #![tactic(auto)]
 
 #[cfg(test)]

@@ -1,4 +1,5 @@
-//! What events make of a world, computed plainly by the cases of the definition. Patches are told by their links.
+//! What events make of a world, computed plainly by the cases of the definition. Patches are told
+//! by their links.
 use crate::events::values_of;
 use chain_core::{Fate, Link};
 use delta_base::{Id, Phase};

@@ -13,7 +13,8 @@ const LISTS: u32 = 2_500;
 
 const EVENTS: u32 = 40;
 
-// Numbers by rule: each is the one before it times a factor and one more, of which the high digits are taken.
+// Numbers by rule: each is the one before it times a factor and one more, of which the high
+// digits are taken.
 #[derive(Drop)]
 struct Rolls {
     state: u64,

@@ -29,7 +29,8 @@ fn has_chain(part: &LogPart, numbers: &[u32]) -> bool {
     }
 }
 
-// The first zone runs, has taken so many patches, the last one with this number, and its dataset has just these values.
+// The first zone runs, has taken so many patches, the last one with this number, and its dataset
+// has just these values.
 fn has_taken(world: &World, version: u32, head: u32, values: &[bool; 5]) -> Result<bool, Fail> {
     match world.zones.get(0) {
         Some(ZonePart::Up(zone)) => {
@@ -106,7 +107,8 @@ fn has_text(alloc: Global, message: &Message) -> Result<bool, Fail> {
     Ok(same)
 }
 
-// What was sent is how long the log was, that the patch was accepted, the patch, and how long the log is.
+// What was sent is how long the log was, that the patch was accepted, the patch, and how long
+// the log is.
 fn was_sent(alloc: Global, sent: &[Message]) -> Result<bool, Fail> {
     let [before, accepted, item, after] = sent else {
         return Ok(false);

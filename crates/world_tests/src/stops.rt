@@ -24,7 +24,8 @@ fn taken_of(world: &World) -> Option<u32> {
     }
 }
 
-// So many patches are accepted, the next append comes to this fate, and the log is opened again: how many it has then.
+// So many patches are accepted, the next append comes to this fate, and the log is opened again:
+// how many it has then.
 fn found_behind(alloc: Global, accepted: u32, fate: Fate) -> Result<Option<u32>, Fail>
     requires { accepted < 10 }
 {
@@ -39,7 +40,8 @@ fn found_behind(alloc: Global, accepted: u32, fate: Fate) -> Result<Option<u32>,
     Ok(found)
 }
 
-// Where the log stops, how its gate stands then, and how many patches more it has than were accepted.
+// Where the log stops, how its gate stands then, and how many patches more it has
+// than were accepted.
 const STOPS: [(Phase, bool, u32); 5] = [
     (Phase::Body, false, 0),
     (Phase::Body, true, 0),
@@ -69,7 +71,8 @@ fn each_stop_leaves_what_was_acknowledged(rt: HostRuntime) -> Result<(), Fail> {
     Ok(())
 }
 
-// A zone stops in this phase of taking the first patch, and is opened again: how many patches it has then.
+// A zone stops in this phase of taking the first patch, and is opened again: how many patches
+// it has then.
 fn taken_behind(alloc: Global, phase: Phase, opened: bool) -> Result<Option<u32>, Fail> {
     let taking = Step::Deliver {
         message: 1,

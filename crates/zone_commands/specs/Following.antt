@@ -23,15 +23,16 @@ zone_of taken terms = record {
   disk = tt;
 }
 
--- the file is that of a zone that took these patches, or of one that took these and the one at which its
--- disk failed
+-- the file is that of a zone that took these patches, or of one that took these and the one at
+-- which its disk failed
 abbrev pub IsLeft : List ℕ → List CheckedPatch → SyncEnd → Type 0
 IsLeft file taken end =
     IsZoneFile file taken
     ⊎ ((end ≡ DiskFault) × ((last : CheckedPatch) × IsZoneFile file (taken ++ last ∷ [])))
 
--- Where the file is told, it was that of a zone that took some patches, and then took these more. Catching up
--- ended so by what was said, and where the dial tells, these calls were made and no other.
+-- Where the file is told, it was that of a zone that took some patches, and then took these
+-- more. Catching up ended so by what was said, and where the dial tells, these calls were made
+-- and no other.
 pub record Followed {L : Type 0} (left sent : L → Option (List ℕ)) (tells net_tells : Type 0)
     (address name file file' : List ℕ) (net net' : Net L) (end : SyncEnd) : Type 0 where
   pub taken : List CheckedPatch

@@ -9,8 +9,8 @@ use Rattle.zone_commands.specs.Order.{in_order, row_line}
 use Rattle.zone_commands.specs.declared.reading.Reading.{Reading}
 use Rattle.zone_commands.specs.declared.reading.Reading.TheVariants as reading
 
--- the lines of the quads, which stand in their order; the rows that set the prefixes; or the lines of the quads that
--- match, in the same order
+-- the lines of the quads, which stand in their order; the rows that set the prefixes; or the lines
+-- of the quads that match, in the same order
 abbrev pub lines_read : Reading → Dataset → List (List ℕ)
 lines_read reading.Dump dataset = map line dataset.quads
 lines_read reading.Prefixes dataset =

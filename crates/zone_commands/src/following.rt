@@ -53,8 +53,8 @@ pub fn follow_file<D: Disk, N: Dial>(
     }
 }
 
-/// Catches the zone of a directory up with a log of the server at an address. No other file is asked
-/// for.
+/// Catches the zone of a directory up with a log of the server at an address. No other file
+/// is asked for.
 pub fn follow_zone<H: Shelf, N: Dial>(
     alloc: Global,
     shelf: &mut H,

@@ -1,4 +1,5 @@
-//! What the commands on a follower's copy read of its file, which they leave as it was, and how the copy catches up.
+//! What the commands on a follower's copy read of its file, which they leave as it was, and how the
+//! copy catches up.
 #![tactic(auto)]
 
 mod following;

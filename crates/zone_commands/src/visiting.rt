@@ -61,7 +61,8 @@ pub fn read_zone_file<D: Disk>(
     disk: D,
     reading: &Reading,
 ) -> (D, Result<Lines, ZoneFault>)
-    ensures ok { D.tells → IfOk result.1 (λ lines. HasLines (reads (D.past disk)) reading.now lines.keys) }
+    ensures ok { D.tells
+        → IfOk result.1 (λ lines. HasLines (reads (D.past disk)) reading.now lines.keys) }
     ensures fault { D.tells → IfErr result.1 (HasZoneFault (reads (D.past disk)) LOG_LIMITS) }
     ensures kept { D.tells → reads (D.past result.0) ≡ reads (D.past disk) }
     ensures cause { IsErrOf result.1 ZoneFault.Failed → Rose (D.faults disk) (D.faults result.0) }
@@ -88,7 +89,8 @@ pub fn read_zone<H: Shelf>(
     reading: &Reading,
 ) -> Result<Lines, ZoneFault>
     ensures ok { H.tells → IfOk result
-        (λ lines. HasLines (bytes_at (H.files shelf.old) dir.now zone_number) reading.now lines.keys) }
+        (λ lines.
+        HasLines (bytes_at (H.files shelf.old) dir.now zone_number) reading.now lines.keys) }
     ensures fault { H.tells → IfErr result
         (HasZoneFault (bytes_at (H.files shelf.old) dir.now zone_number) LOG_LIMITS) }
     ensures kept { H.tells → IsKept (H.files shelf.old dir.now zone_number)

@@ -22,8 +22,9 @@ of_log (log.OverLimit length limit) = zone.OverLimit length limit
 of_log log.OutOfMemory = zone.OutOfMemory
 of_log (log.BrokenChain version) = zone.BrokenChain version
 
--- The file has this fault, and none that comes before it: those of a log, and then that its patches have more terms than
--- there are numbers. What a file can't tell is free: that its disk failed, and want of memory.
+-- The file has this fault, and none that comes before it: those of a log, and then that its patches
+-- have more terms than there are numbers. What a file can't tell is free: that its disk failed, and
+-- want of memory.
 abbrev pub HasZoneFault : List ℕ → LogLimits → ZoneFault → Type 0
 HasZoneFault file limits (zone.Damaged at) =
     HasLogFault file zone_number limits (log.Damaged at)

@@ -29,7 +29,8 @@ pub record MeetsMore (old new : Reading) (changes : List Change) : Type 0 where
       → AreMore most changes old.kept.contents.terms
 
 -- the payloads are those of patches that were read, or break off behind these
-pub record HasReceived (first : Reading) (payloads : List (List ℕ)) (reading : Reading) : Type 0 where
+pub record HasReceived (first : Reading) (payloads : List (List ℕ))
+    (reading : Reading) : Type 0 where
   pub most_is : reading.most ≡ first.most
   pub found : reading.broken ≡ false → (taken : List CheckedPatch)
       × AreFound payloads first.most taken × HasRead reading taken

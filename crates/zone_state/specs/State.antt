@@ -10,7 +10,8 @@ use Rattle.zone_state.specs.Brief.{Brief, file_length}
 use Rattle.zone_state.specs.Zone.{ZoneView, StandsForZone}
 
 abbrev pub brief_in : Kept → Brief
-brief_in kept = record { ids = kept.ids.items; bytes = kept.bytes; contents = kept.contents.contents }
+brief_in kept =
+    record { ids = kept.ids.items; bytes = kept.bytes; contents = kept.contents.contents }
 
 abbrev pub view_of : {D : Type 0} {disks : Ghosts D} → Journal D disks → Kept → LogLimits
     → ZoneView D
@@ -22,7 +23,8 @@ view_of journal kept limits = record {
   disk = disk_of journal;
 }
 
--- the journal's length and limit are those of the patches taken, nothing is staged, and the zone stands for some patches
+-- the journal's length and limit are those of the patches taken, nothing is staged, and the zone
+-- stands for some patches
 pub record IsKept {D : Type 0} {disks : Ghosts D} (journal : Journal D disks) (kept : Kept)
     (limits : LogLimits) : Type 0 where
   pub length_is : length_of journal ≡ file_length kept.ids.items kept.bytes

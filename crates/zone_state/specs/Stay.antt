@@ -30,8 +30,8 @@ pub record TookOne {D : Type 0} (disks : Ghosts D) (before after : ZoneView D)
   pub by_syncs : disks.tells → (version : ℕ) → decided before patch ≡ Applied version
       → fate ≡ fate_by_syncs doubt
       (ok_syncs (disks.past after.disk) - ok_syncs (disks.past before.disk))
-  -- where the syncs fail as planned, it is that of the plan, and a patch that is left in doubt stands where what wasn't synced
-  -- is 1, and not in what was synced
+  -- where the syncs fail as planned, it is that of the plan, and a patch that is left in doubt
+  -- stands where what wasn't synced is 1, and not in what was synced
   pub planned : disks.plans → IsTrue (not (disks.short after.disk))
       → TakeStay (decided before patch) (map bare taken) (doubt_of doubt) (bare patch)
       (fate_by_plan doubt (disks.next_failure before.disk))

@@ -1,5 +1,6 @@
 -- What a zone makes of one more patch, and what taking it may come to.
-use Rattle.std.specs.Prelude.{◌≡◌, ◌⊎◌, ℕ, ◌+◌, ◌==◌, nat_lt, not, List, [], ◌∷◌, ◌++◌, length, Option, Some, None, if◌then◌else◌}
+use Rattle.std.specs.Prelude.{◌≡◌, ◌⊎◌, ℕ, ◌+◌, ◌==◌, nat_lt, not, List, [], ◌∷◌}
+use Rattle.std.specs.Prelude.{◌++◌, length, Option, Some, None, if◌then◌else◌}
 use Rattle.std.specs.Option.{option_map}
 use Rattle.delta_base.specs.declared.id.Id.{Id}
 use Rattle.delta_base.specs.declared.limits.FullKind.TheVariants.{Patches, Bytes}
@@ -14,7 +15,9 @@ use Rattle.chain_core.specs.Log.{LogPoint, up}
 use Rattle.chain_core.specs.Stay.{accepted_by}
 use Rattle.patch_meaning.specs.Checked.{CheckedPatch}
 use Rattle.zone_state.specs.declared.answer.TakeAnswer.{TakeAnswer}
-use Rattle.zone_state.specs.declared.answer.TakeAnswer.TheVariants.{Applied, Diverged, Repeated, Full, TermsFull, OutOfMemory, DiskFault}
+use Rattle.zone_state.specs.declared.answer.TakeAnswer.TheVariants.{Applied, Diverged}
+use Rattle.zone_state.specs.declared.answer.TakeAnswer.TheVariants.{Repeated, Full, TermsFull}
+use Rattle.zone_state.specs.declared.answer.TakeAnswer.TheVariants.{OutOfMemory, DiskFault}
 use Rattle.zone_state.specs.Brief.{last_of, version_in, file_length}
 
 -- of a patch whose id is new
@@ -66,7 +69,8 @@ abbrev pub taken_then : TakeAnswer → List CheckedPatch → CheckedPatch → Li
 taken_then (Applied version) taken patch = taken ++ patch ∷ []
 taken_then other taken patch = taken
 
--- the answer is the decision; or the patch is the next one, and what it needs isn't there or the disk failed
+-- the answer is the decision; or the patch is the next one, and what it needs isn't there or
+-- the disk failed
 abbrev pub IsDecidedBy : TakeAnswer → TakeAnswer → Type 0
 IsDecidedBy decided answer =
     (answer ≡ decided)

@@ -16,7 +16,8 @@ use Rattle.zone_state.specs.Brief.{Brief, brief_of, file_length}
 abbrev pub zone_number : ℕ
 zone_number = ZONE_NUMBER
 
--- what is kept of the patches taken; terms that its dataset has met; whether no gate is in doubt; the limits; and the disk
+-- what is kept of the patches taken; terms that its dataset has met; whether no gate is in doubt;
+-- the limits; and the disk
 pub record ZoneView (D : Type 0) : Type 0 where
   pub brief : Brief
   pub terms : List Term
@@ -38,8 +39,8 @@ abbrev pub DiskHolds : Past → ℕ → List CheckedPatch → Option CheckedPatc
 DiskHolds past end taken None = HoldsAll past end zone_number (texts taken)
 DiskHolds past end taken (Some doubt) = InDoubt past end zone_number (texts taken) doubt.text
 
--- A zone stands for the patches that it took, and for the one whose gate may stand open. Of a disk that tells nothing,
--- nothing is said.
+-- A zone stands for the patches that it took, and for the one whose gate may stand open. Of a disk
+-- that tells nothing, nothing is said.
 pub record StandsForZone {D : Type 0} (tells : Type 0) (past : Past) (zone : ZoneView D)
     (taken : List CheckedPatch) (doubt : Option CheckedPatch) : Type 0 where
   pub brief_is : zone.brief ≡ brief_of taken

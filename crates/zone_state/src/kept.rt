@@ -1,5 +1,6 @@
 //! What is kept of the patches that were taken.
-ghost use Rattle.std.specs.Prelude.{◌≡◌, ◌+◌, ◌*◌, ◌^◌, ◌<◌, ◌≤◌, [], ◌∷◌, ◌++◌, length, IfOk, OnOk, OnErr, IsErrOf, IsSome, None, Some};
+ghost use Rattle.std.specs.Prelude.{◌≡◌, ◌+◌, ◌*◌, ◌^◌, ◌<◌, ◌≤◌, [], ◌∷◌, ◌++◌, length};
+ghost use Rattle.std.specs.Prelude.{IfOk, OnOk, OnErr, IsErrOf, IsSome, None, Some};
 ghost use Rattle.delta_base.specs.declared.limits.TheConstants.{PATCH_LIMIT};
 ghost use Rattle.rdf_terms.specs.Dataset.{apply, empty};
 ghost use Rattle.term_table.specs.Table.{most};
@@ -123,7 +124,8 @@ impl Kept {
         self.contents.drop_staged();
     }
 
-    /// Makes what is staged the contents, and counts its patch in a place that is ready. Takes no memory.
+    /// Makes what is staged the contents, and counts its patch in a place that is ready.
+    /// Takes no memory.
     pub fn commit_staged(&mut self, id: Id, size: u64)
         requires staged { IsSome self.old.contents.staged }
         requires ready { 1 ≤ self.old.ids.spare }

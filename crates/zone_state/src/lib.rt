@@ -1,7 +1,8 @@
-//! A follower's copy: the patches that it took stand on its disk, and beside them it keeps their ids and the dataset that
-//! they make.
+//! A follower's copy: the patches that it took stand on its disk, and beside them it keeps their
+//! ids and the dataset that they make.
 //!
-//! A zone takes the next patch of a chain or says why not. What it has taken stands in every image that a crash may leave.
+//! A zone takes the next patch of a chain or says why not. What it has taken stands in every image
+//! that a crash may leave.
 #![tactic(auto)]
 
 mod answer;

@@ -1,5 +1,6 @@
 //! Reads the patches of a zone's journal, payload by payload.
-ghost use Rattle.std.specs.Prelude.{◌≡◌, ◌⊎◌, ℕ, ◌+◌, ◌^◌, ◌<◌, ◌≤◌, ◌↔◌, ◌++◌, [], ◌∷◌, List, length, false, None, IfOk, IfErr, OnOk, IsErrOf, IsTrue};
+ghost use Rattle.std.specs.Prelude.{◌≡◌, ◌⊎◌, ℕ, ◌+◌, ◌^◌, ◌<◌, ◌≤◌, ◌↔◌, ◌++◌, [], ◌∷◌, List};
+ghost use Rattle.std.specs.Prelude.{length, false, None, IfOk, IfErr, OnOk, IsErrOf, IsTrue};
 ghost use Rattle.term_table.specs.Table.{most};
 ghost use Rattle.dataset_tx.specs.Held.{AreMet, AreMore};
 ghost use Rattle.chain_core.specs.Breaks.{BreaksAt};
@@ -20,8 +21,9 @@ use patch_log::NextFault;
 use patch_meaning::{Checked, PatchFault, check_patch};
 use std::alloc::Global;
 
-/// What is kept of the payloads that were read. Behind one that isn't the next patch nothing more is kept, and where there are
-/// too many terms the dataset stays behind: a fault that comes first may still be read.
+/// What is kept of the payloads that were read. Behind one that isn't the next patch nothing more
+/// is kept, and where there are too many terms the dataset stays behind: a fault that comes first
+/// may still be read.
 #[derive(Drop)]
 pub struct Reading {
     alloc: Global,

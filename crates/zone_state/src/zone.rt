@@ -1,5 +1,6 @@
 //! A zone: its journal on a disk, and what it keeps of the patches that it took.
-ghost use Rattle.std.specs.Prelude.{◌≡◌, ◌≢◌, ◌⊎◌, ℕ, ◌+◌, ◌≤◌, ◌++◌, [], ◌∷◌, List, Option, None, length, map, IsTrue, IfOk, IfErr};
+ghost use Rattle.std.specs.Prelude.{◌≡◌, ◌≢◌, ◌⊎◌, ℕ, ◌+◌, ◌≤◌, ◌++◌, [], ◌∷◌, List};
+ghost use Rattle.std.specs.Prelude.{Option, None, length, map, IsTrue, IfOk, IfErr};
 ghost use Rattle.std.specs.List.{filter};
 ghost use Rattle.delta_base.specs.Outside.{Rose};
 ghost use Rattle.disk_model.specs.Past.{reads, EveryImage, LeavesOnly, Keeps};
@@ -67,7 +68,8 @@ impl<D: Disk> Zone<D> {
         ensures fault { D.tells → IfErr result (λ refusal.
             HasZoneFault (reads (D.past disk)) limits refusal.fault) }
 
-        // A crash at any moment leaves what it might have left before, and a read gives what it gave.
+        // A crash at any moment leaves what it might have left before, and a read gives
+        // what it gave.
         ensures kept { D.tells → IfOk result (λ zone. Keeps (D.past disk) (D.past zone.disk)) }
         ensures kept_refused { D.tells → IfErr result (λ refusal.
             Keeps (D.past disk) (D.past refusal.disk)) }
@@ -180,8 +182,9 @@ impl<D: Disk> Zone<D> {
         self.kept.contents.matching(pattern, steps)
     }
 
-    /// Takes the next patch, or says why not. It diverges, its id is repeated, a limit is reached, memory is wanted or numbers
-    /// for its terms are, or the disk failed: in this order, but that want of memory may come before the numbers.
+    /// Takes the next patch, or says why not. It diverges, its id is repeated, a limit is reached,
+    /// memory is wanted or numbers for its terms are, or the disk failed: in this order, but that
+    /// want of memory may come before the numbers.
     pub fn take_next(&mut self, patch: &Checked) -> TakeAnswer
         ensures decided { IsDecidedBy (decided self.old patch.now) result }
 
@@ -208,8 +211,8 @@ impl<D: Disk> Zone<D> {
             → ((version : ℕ) → result ≢ TakeAnswer.Applied version)
             → self.new ≡ record self.old { terms = self.new.terms } }
 
-        // A crash at any moment of the call leaves the patches taken, with the one in doubt, with the new one, or with neither.
-        // What is applied is in every image.
+        // A crash at any moment of the call leaves the patches taken, with the one in doubt, with
+        // the new one, or with neither. What is applied is in every image.
         ensures any_moment { D.tells → (taken : List CheckedPatch) (doubt : Option CheckedPatch)
             → StandsForZone D.tells (D.past self.old.disk) self.old taken doubt
             → LeavesOnly (MayHoldDuring zone_number (map bare taken) (doubt_of doubt)

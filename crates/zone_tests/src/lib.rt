@@ -1,4 +1,5 @@
-//! Worked examples of zones: what they answer, what they keep, and what a crash or a failing call leaves of them.
+//! Worked examples of zones: what they answer, what they keep, and what a crash or a failing call
+//! leaves of them.
 #![tactic(auto)]
 
 #[cfg(test)]
