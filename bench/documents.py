@@ -1,5 +1,8 @@
 #!/usr/bin/env python3
-"""Prints an N-Quads document of mixed terms: documents.py QUADS [SEED]."""
+"""Prints an N-Quads document of mixed terms: documents.py QUADS [SEED [loose]].
+
+Most of its statements are in canonical form. With the word `loose` none is: tabs stand between the terms, and strings begin with an
+escape by number."""
 import random
 import sys
 
@@ -23,15 +26,21 @@ def object_term(draw):
     return f'"{text}"'
 
 
+def loosened(terms):
+    """The same terms, none of them parted by one space, and their strings with an escape in front."""
+    return "\t".join(rf'"\u{ord(term[1]):04X}{term[2:]}' if term[0] == '"' else term for term in terms)
+
+
 def main():
     quads = int(sys.argv[1])
     draw = random.Random(int(sys.argv[2]) if len(sys.argv) > 2 else 1)
+    shown = loosened if sys.argv[3:] == ["loose"] else " ".join
     write = sys.stdout.write
     for _ in range(quads):
         subject = f"<http://example.org/resource/{draw.randrange(200000)}>" if draw.random() < 0.9 else f"_:b{draw.randrange(100000)}"
         predicate = f"<http://example.org/vocabulary#property{draw.randrange(300)}>"
-        graph = f" <http://example.org/graph/{draw.randrange(50)}>" if draw.random() < 0.5 else ""
-        write(f"{subject} {predicate} {object_term(draw)}{graph} .\n")
+        graph = [f"<http://example.org/graph/{draw.randrange(50)}>"] if draw.random() < 0.5 else []
+        write(f"{shown([subject, predicate, object_term(draw), *graph])} .\n")
 
 
 main()

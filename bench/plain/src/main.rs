@@ -17,7 +17,7 @@ mod open;
 mod replay;
 mod serve;
 
-use std::io::{self, Read, Write};
+use std::io::{self, BufWriter, Read, Write};
 use std::process::ExitCode;
 
 /// Why a text was refused: its kind, and its place in bytes.
@@ -26,21 +26,26 @@ pub struct Fault {
     pub kind: &'static str,
 }
 
-fn run(word: &str) -> Result<Vec<u8>, String> {
+/// What the program `word` writes for standard input.
+fn run(word: &str) -> Result<io::Result<()>, String> {
     let mut text = Vec::new();
     io::stdin()
         .lock()
         .read_to_end(&mut text)
         .map_err(|error| error.to_string())?;
+    let mut out = BufWriter::with_capacity(1 << 16, io::stdout().lock());
     let made = match word {
-        "nquads" => nquads::canonical(&text),
-        "replay" => replay::lines(&text),
+        "nquads" => nquads::canonical(&text, &mut out),
+        "replay" => replay::lines(&text, &mut out),
         _ => return Err("usage: plain nquads|replay".into()),
     };
-    made.map_err(|fault| {
-        let line = 1 + text[..fault.at].iter().filter(|b| **b == b'\n').count();
-        format!("line {line} byte {}: {}", fault.at, fault.kind)
-    })
+    match made {
+        Ok(written) => Ok(written.and_then(|()| out.flush())),
+        Err(fault) => {
+            let line = 1 + text[..fault.at].iter().filter(|b| **b == b'\n').count();
+            Err(format!("line {line} byte {}: {}", fault.at, fault.kind))
+        }
+    }
 }
 
 fn append(words: &[String]) -> ExitCode {
@@ -142,10 +147,8 @@ fn main() -> ExitCode {
         return load(&words[1..]);
     }
     match run(&word) {
-        Ok(out) => match io::stdout().lock().write_all(&out) {
-            Ok(()) => ExitCode::SUCCESS,
-            Err(_) => ExitCode::from(4),
-        },
+        Ok(Ok(())) => ExitCode::SUCCESS,
+        Ok(Err(_)) => ExitCode::from(4),
         Err(message) => {
             eprintln!("plain: {message}");
             ExitCode::from(3)

@@ -1,6 +1,7 @@
 //! Opens a log: reads its journal, checks each payload as a patch, and finds where the patches are no chain, by an index of ids.
 
-use crate::nquads::Reader;
+use crate::nquads::{fault, utf8};
+use crate::replay::{Id, Rows};
 use crate::Fault;
 use std::collections::HashMap;
 use std::fs;
@@ -8,62 +9,53 @@ use std::path::Path;
 
 /// A patch's id, and the id that it names as the one before it.
 pub struct Link {
-    pub id: [u8; 16],
-    pub prev: Option<[u8; 16]>,
+    pub id: Id,
+    pub prev: Option<Id>,
 }
 
 /// What a log's file holds.
 pub struct Chain<'a> {
     pub patches: Vec<(Link, &'a [u8])>,
-    pub versions: HashMap<[u8; 16], usize>,
+    pub versions: HashMap<Id, usize>,
 }
 
 fn refused<T>(text: String) -> Result<T, String> {
     Err(text)
 }
 
-fn number(id: &[u8], at: usize) -> Result<[u8; 16], Fault> {
-    let digits: Vec<u8> = id.iter().filter(|b| **b != b'-').copied().collect();
-    let mut bytes = [0; 16];
-    for (byte, pair) in bytes.iter_mut().zip(digits.chunks(2)) {
-        let digit = |b: u8| (b as char).to_digit(16);
-        match (digit(pair[0]), pair.get(1).and_then(|b| digit(*b))) {
-            (Some(high), Some(low)) => *byte = (high * 16 + low) as u8,
-            _ => return Err(Fault { at, kind: "BadId" }),
-        }
-    }
-    Ok(bytes)
-}
-
 /// The rows of one patch.
 pub fn link(text: &[u8]) -> Result<Link, Fault> {
-    let mut reader = Reader { text, at: 0 };
+    let mut reader = Rows::new(utf8(text)?);
     let (mut id, mut prev, mut inside) = (None, None, false);
+    let mut room = Vec::new();
     loop {
-        reader.space();
+        reader.gap();
         let start = reader.at;
         if reader.peek().is_none() {
             break;
         }
         match reader.word() {
             b"H" => {
-                reader.space();
-                let is_id = reader.word() == b"id";
-                let place = if is_id { &mut id } else { &mut prev };
-                *place = Some(number(&reader.id()?, start)?);
+                let (key, value) = reader.header(&mut room)?;
+                let Some(value) = value else { return fault(start, "BadId") };
+                let place = if key == b"id" { &mut id } else { &mut prev };
+                *place = Some(value);
+                continue;
+            }
+            b"A" | b"D" => {
+                room.clear();
+                reader.statement(&mut room)?;
+                continue;
             }
             b"TX" => inside = true,
             b"TC" | b"TA" => inside = false,
-            b"A" | b"D" => {
-                reader.quad()?;
-            }
-            _ => return Err(Fault { at: start, kind: "UnknownCode" }),
+            _ => return fault(start, "UnknownCode"),
         }
-        reader.end()?;
+        reader.dot()?;
     }
     match id {
-        _ if inside => Err(Fault { at: text.len(), kind: "OpenBlock" }),
-        None => Err(Fault { at: text.len(), kind: "NoId" }),
+        _ if inside => fault(text.len(), "OpenBlock"),
+        None => fault(text.len(), "NoId"),
         Some(id) => Ok(Link { id, prev }),
     }
 }
@@ -126,13 +118,13 @@ pub fn log(dir: &str, slot: u32) -> Result<String, String> {
     let chain = chain(&file, slot)?.patches;
     let head = match chain.last() {
         None => "none".into(),
-        Some((link, _)) => text(&link.id),
+        Some((link, _)) => text(link.id),
     };
     Ok(format!("file {slot} patches {} head {head}", chain.len()))
 }
 
 /// An id in its hyphenated form.
-pub fn text(id: &[u8; 16]) -> String {
-    let hex: String = id.iter().map(|b| format!("{b:02x}")).collect();
+pub fn text(id: Id) -> String {
+    let hex = format!("{id:032x}");
     [&hex[..8], &hex[8..12], &hex[12..16], &hex[16..20], &hex[20..]].join("-")
 }

@@ -2,6 +2,7 @@
 //! An append makes the writes and syncs of `append`.
 
 use crate::open;
+use crate::replay::Id;
 use std::collections::HashMap;
 use std::fs::{File, OpenOptions};
 use std::io::{self, Read, Write};
@@ -24,8 +25,8 @@ struct Log {
     file: File,
     end: u64,
     texts: Vec<Vec<u8>>,
-    versions: HashMap<[u8; 16], usize>,
-    head: Option<[u8; 16]>,
+    versions: HashMap<Id, usize>,
+    head: Option<Id>,
 }
 
 /// A request: what it asks for, its body, and whether the connection ends behind it.
@@ -97,7 +98,7 @@ impl Log {
     fn describe(&self) -> Reply {
         let head = match &self.head {
             None => "null".into(),
-            Some(id) => format!("\"{}\"", open::text(id)),
+            Some(id) => format!("\"{}\"", open::text(*id)),
         };
         json("200 OK", format!(r#"{{"head":{head},"version":{}}}"#, self.texts.len()))
     }
