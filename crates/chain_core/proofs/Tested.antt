@@ -1,15 +1,11 @@
 -- What a test that is kept says of the patch behind the chain.
-use Rattle.std.proofs.Common.{◌≡◌, ℕ, ◌+◌, Bool, true, false, cond, eqb, ltb, List, [], ◌∷◌, ◌++◌, length, take, Option, Some, None, refl, sym, ap, subst, ◌∙◌, nat_cmp, length-append, arith}
-use Rattle.std.specs.Prelude.{slice_get}
-use Rattle.std.specs.BTreeMap.{get}
+use Rattle.std.proofs.Common.{◌≡◌, ℕ, ◌+◌, cond, List, [], ◌∷◌, ◌++◌, length, take, Option, Some, None, refl, sym, ap, subst, ◌∙◌, length-append, arith}
+use Rattle.std.specs.Prelude.{nat_eq, slice_get}
+use Rattle.std.specs.HashMap.{get}
 use Rattle.std.specs.Option.{option_map}
-use Rattle.std.specs.Ordering.{is_eq}
-use Rattle.std.specs.declared.cmp.Ordering.TheVariants.{Less, Equal, Greater}
 use Rattle.std.proofs.Math.Seq.{get_or-append_seam, take-append-add}
-use Rattle.std.proofs.lemmas.Bool.{ltb-true, eqb-true}
 use Rattle.std.proofs.lemmas.List.{take_at, take-append-le}
 use Rattle.std.proofs.lemmas.Option.{none-some, slice_get_read}
-use mathlib.Core.Bool.{true≢false}
 use Rattle.delta_base.specs.declared.id.Id.{Id}
 use Rattle.chain_core.specs.declared.link.Link.{Link}
 use Rattle.chain_core.specs.declared.testing.ChainTest.{ChainTest}
@@ -65,33 +61,15 @@ repeats ls more x t version is same found = record {
 pub follows : (ls : List Link) (x : Link) (t : ChainTest) → IsTested ls t → x.prev ≡ t.head → version_in ls x.id ≡ None → IsChain (ls ++ x ∷ [])
 follows ls x t is same absent = chain-push ls x is.chain (same ∙ is.head_is) absent
 
--- ---- numbers as keys of a map
-
-tested : (less same : Bool) → (less ≡ true → same ≡ false) → is_eq (cond less Less (cond same Equal Greater)) ≡ same
-tested true true apart = absurd (true≢false (apart refl))
-tested true false apart = refl
-tested false true apart = refl
-tested false false apart = refl
-
-apart_from : (a b : ℕ) → ltb a b ≡ true → eqb a b ≡ false
-apart_from a b less =
-    elim (eqb a b) as (λ e. eqb a b ≡ e → e ≡ false) [
-      | true ↦ λ e. let lt = ltb-true a b less in let same = eqb-true a b e in absurd (omega arith)
-      | false ↦ λ e. refl
-    ] refl
-
-pub same_test : (a b : ℕ) → is_eq (nat_cmp a b) ≡ eqb a b
-same_test a b = tested (ltb a b) (eqb a b) (apart_from a b)
-
 -- ---- one patch more
 
 pub tested_more : (ls : List Link) (x : Link) (old new : ChainTest) → IsTested ls old → IsChain (ls ++ x ∷ []) → new.version ≡ old.version + 1 → new.head ≡ Some x.id
-    → ((q : ℕ) → get nat_cmp new.versions q ≡ cond (is_eq (nat_cmp x.id.0 q)) (Some (old.version + 1)) (get nat_cmp old.versions q)) → IsTested (ls ++ x ∷ []) new
+    → ((q : ℕ) → get nat_eq new.versions q ≡ cond (nat_eq x.id.0 q) (Some (old.version + 1)) (get nat_eq old.versions q)) → IsTested (ls ++ x ∷ []) new
 tested_more ls x old new is chain version head updates = record {
   chain = chain;
   version_is = version ∙ ap (λ (n : ℕ). n + 1) is.version_is ∙ sym (length-append ls (x ∷ []));
   head_is = head ∙ sym (last_or-push None ls x);
   versions_are = λ id.
-      version_more id ls x (get nat_cmp old.versions id.0) (get nat_cmp new.versions id.0) (is_eq (nat_cmp x.id.0 id.0)) (same_test x.id.0 id.0) (is.versions_are id) (new_behind ls x chain.differ)
-      (updates id.0 ∙ ap (λ (n : ℕ). cond (is_eq (nat_cmp x.id.0 id.0)) (Some (n + 1)) (get nat_cmp old.versions id.0)) is.version_is);
+      version_more id ls x (get nat_eq old.versions id.0) (get nat_eq new.versions id.0) (nat_eq x.id.0 id.0) refl (is.versions_are id) (new_behind ls x chain.differ)
+      (updates id.0 ∙ ap (λ (n : ℕ). cond (nat_eq x.id.0 id.0) (Some (n + 1)) (get nat_eq old.versions id.0)) is.version_is);
 }

@@ -1,15 +1,14 @@
 -- What is kept of a chain to test the patch behind it.
-use Rattle.std.specs.Prelude.{◌≡◌, ℕ, List, None, length}
-use Rattle.std.specs.Ordering.{nat_cmp}
-use Rattle.std.specs.BTreeMap.{BTreeMap, get}
+use Rattle.std.specs.Prelude.{◌≡◌, ℕ, List, None, length, nat_eq}
+use Rattle.std.specs.HashMap.{HashMap, get}
 use Rattle.delta_base.specs.declared.id.Id.{Id}
 use Rattle.chain_core.specs.declared.link.Link.{Link}
 use Rattle.chain_core.specs.declared.testing.ChainTest.{ChainTest}
 use Rattle.chain_core.specs.Links.{IsChain, last_or, version_in}
 
 -- the versions of patches by the numbers of their ids
-abbrev pub AreVersions : BTreeMap ℕ ℕ → List Link → Type 0
-AreVersions versions ls = (id : Id) → get nat_cmp versions id.0 ≡ version_in ls id
+abbrev pub AreVersions : {S : Type 0} → HashMap ℕ ℕ S → List Link → Type 0
+AreVersions versions ls = (id : Id) → get nat_eq versions id.0 ≡ version_in ls id
 
 -- the patches are a chain, and its length, its last id and its versions are kept
 pub record IsTested (ls : List Link) (t : ChainTest) : Type 0 where

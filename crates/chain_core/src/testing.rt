@@ -9,7 +9,7 @@ ghost use Rattle.chain_core.specs.Tested.{IsTested};
 use crate::link::Link;
 use delta_base::{Id, OutOfMemory};
 use std::alloc::Global;
-use std::collections::BTreeMap;
+use std::collections::HashMap;
 
 /// Why patches are no chain.
 #[derive(Clone, Copy, Debug, PartialEq, Eq)]
@@ -29,14 +29,14 @@ pub enum ChainFault {
 }
 
 /// What is kept of a chain to test the patch behind it.
-#[derive(Debug, Drop)]
+#[derive(Drop)]
 pub struct ChainTest {
     /// How many patches it has.
     version: u32,
     /// The id of the last one.
     head: Option<Id>,
     /// The versions by their ids.
-    versions: BTreeMap<u128, u32>,
+    versions: HashMap<u128, u32>,
 }
 
 impl ChainTest {
@@ -47,7 +47,7 @@ impl ChainTest {
         ChainTest {
             version: 0,
             head: None,
-            versions: BTreeMap::new(alloc),
+            versions: HashMap::new(alloc),
         }
     }
 
@@ -89,12 +89,12 @@ impl ChainTest {
         Ok(())
     }
 
-    ghost use Rattle.std.specs.Ordering.{nat_cmp};
-    ghost use Rattle.std.specs.BTreeMap.{get};
+    ghost use Rattle.std.specs.Prelude.{nat_eq};
+    ghost use Rattle.std.specs.HashMap.{get};
 
     // The version that has an id.
     fn version_of(&self, id: Id) -> Option<u32>
-        ensures { result ≡ get nat_cmp self.now.versions id.0 }
+        ensures { result ≡ get nat_eq self.now.versions id.0 }
     {
         self.versions.get(&id.0).copied()
     }

@@ -9,3 +9,4 @@ mod Printed
 mod Shown
 mod Synced
 pub mod Words
+mod WrittenLines

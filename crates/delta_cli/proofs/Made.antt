@@ -6,7 +6,6 @@ use Rattle.delta_base.specs.declared.limits.TheConstants.{LOG_LIMITS}
 use Rattle.slot_files.specs.Files.{Files, StopsAt, bytes_at}
 use Rattle.slot_files.specs.declared.fault.InitFault.{InitFault}
 use Rattle.slot_files.specs.declared.fault.InitFault.TheVariants as inits
-use Rattle.stream_replay.specs.Lines.{bytes_of}
 use Rattle.zone_state.specs.Fault.{HasZoneFault}
 use Rattle.zone_state.specs.Zone.{zone_number}
 use Rattle.zone_state.specs.declared.fault.ZoneFault.{ZoneFault}
@@ -15,7 +14,7 @@ use Rattle.zone_commands.specs.declared.reading.Reading.{Reading}
 use Rattle.delta_cli.specs.Channels.{Channel}
 use Rattle.delta_cli.specs.Results.{StopsPrinting}
 use Rattle.delta_cli.specs.Tool.{StopsInit, init_refusal}
-use Rattle.delta_cli.specs.Zones.{ReadsZone, StopsMaking, StopsZone, zone_refusal}
+use Rattle.delta_cli.specs.Zones.{ReadsZone, StopsMaking, StopsZone, bytes_of, zone_refusal}
 use Rattle.delta_cli.specs.declared.refusal.Refusal.{Refusal}
 use Rattle.delta_cli.specs.declared.refusal.Refusal.TheVariants as refusals
 

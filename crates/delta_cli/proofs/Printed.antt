@@ -1,7 +1,7 @@
 -- From what a text has to what was printed of it.
 use Rattle.std.proofs.Common.{◌≡◌, ℕ, zero, suc, ◌+◌, ◌-◌, ◌<◌, ◌≤◌, inl, inr, ⊎_elim, List, ◌++◌, Option, None, Some, Result, Ok, Err, IfErr, ap, arith}
 use Rattle.delta_base.specs.Outside.{Rose}
-use Rattle.stream_replay.specs.Lines.{bytes_of}
+use Rattle.delta_cli.specs.Zones.{bytes_of}
 use Rattle.stream_generator.specs.Generator.{patch_text, patches_from}
 use Rattle.stream_replay.specs.declared.replay.Replayed.{Replayed}
 use Rattle.stream_replay.specs.Source.{Reads as ReadsBytes, IsReplayed}
@@ -18,14 +18,14 @@ pub err_weaker : {T E : Type 0} (r : Result T E) (P Q : E → Type 0) → ((e : 
 err_weaker (Ok x) P Q f h = tt
 err_weaker (Err e) P Q f h = f e h
 
-pub has_lines : (r : Replayed) (text : List ℕ) → IsReplayed r text → HasLines text (bytes_of r.lines.keys)
-has_lines r text is = record { patches = is.meanings; stream = is.stream; chain = is.replayed.chain; lines_are = is.replayed.bytes_are }
+pub has_lines : (r : Replayed) (text : List ℕ) → IsReplayed r text → HasLines text (bytes_of r.lines)
+has_lines r text is = record { patches = is.meanings; stream = is.stream; chain = is.replayed.chain; lines_are = is.replayed.lines_are }
 
 module _ (input input' out out' : Channel) (r : Replayed) (reads : Reads input input' (IsReplayed r)) where
-  pub stops_printing : (refusal : Refusal) → StopsPrinting (bytes_of r.lines.keys) out out' refusal → StopsReplay refusal input input' out out'
+  pub stops_printing : (refusal : Refusal) → StopsPrinting (bytes_of r.lines) out out' refusal → StopsReplay refusal input input' out out'
   stops_printing refusals.OutputFailed stops = (
     stops.0,
-    reads_weaker input.bytes input'.bytes (IsReplayed r) (PrintsFront HasLines out out') (λ text is. record { result = bytes_of r.lines.keys; has = has_lines r text is; written = stops.1 }) reads,
+    reads_weaker input.bytes input'.bytes (IsReplayed r) (PrintsFront HasLines out out') (λ text is. record { result = bytes_of r.lines; has = has_lines r text is; written = stops.1 }) reads,
   )
   stops_printing refusals.OutOfMemory stops = stops
   stops_printing refusals.UnknownCommand stops = absurd stops

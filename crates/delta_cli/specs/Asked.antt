@@ -7,7 +7,7 @@ use Rattle.delta_base.specs.declared.limits.TheConstants.{PATCH_LIMIT}
 use Rattle.patch_meaning.specs.Patch.{IsPatch, IsPatchFault, Meaning}
 use Rattle.patch_meaning.specs.declared.fault.PatchFault.TheVariants as patches
 use Rattle.patch_meaning.specs.declared.fault.PatchKind.{PatchKind}
-use Rattle.stream_replay.specs.Places.{line_number}
+use Rattle.patch_reader.specs.Places.{line_number}
 use Rattle.rpc_calls.specs.declared.call.Call.{Call}
 use Rattle.client_commands.specs.Asks.{AsksBoth, AsksOnce}
 use Rattle.client_commands.specs.declared.fault.ClientFault.{ClientFault}

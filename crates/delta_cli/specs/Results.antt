@@ -9,7 +9,7 @@ use Rattle.patch_meaning.specs.Replay.{links_of, replay}
 use Rattle.patch_meaning.specs.Stream.{IsStream}
 use Rattle.stream_replay.specs.Places.{IsFaulty, IsLong}
 use Rattle.stream_replay.specs.Source.{Reads as ReadsBytes, IsTooLong, IsUnchained, stream_limit}
-use Rattle.std.specs.Global.{Vec}
+use Rattle.std.specs.Borrow.{Bor}
 use Rattle.sink_writing.specs.Writing.{joined}
 use Rattle.stream_replay.specs.declared.fault.ReplayFault.{ReplayFault}
 use Rattle.stream_replay.specs.declared.fault.ReplayFault.TheVariants as replays
@@ -56,8 +56,8 @@ counts_line patches quads head = codes "patches " ++ (decimal patches
 abbrev pub generated_line : ℕ → List ℕ
 generated_line patches = counts_line patches (patches - patches / 3) (head patches)
 
--- these vectors are the canonical lines of the text
-abbrev pub AreShown : List (Vec ℕ) → List ℕ → Type 0
+-- these are the canonical lines of the text
+abbrev pub AreShown : List (Bor (List ℕ)) → List ℕ → Type 0
 AreShown lines text = IsShown text (joined lines)
 
 -- the end of a command whose input has no replay
@@ -81,10 +81,8 @@ StopsDocument text (refusals.Document line at kind) = IsFaultyDocument line at k
 StopsDocument text refusals.OutOfMemory = Unit {0}
 StopsDocument text other = ⊥
 
--- why an input has no canonical form
+-- why an input is not read to its end
 abbrev pub StopsReading : Channel → Channel → Refusal → Type 0
-StopsReading input input' (refusals.Document line at kind) =
-    Reads input input' (IsFaultyDocument line at kind)
 StopsReading input input' (refusals.TooLong limit) = IsTooLong input.bytes × (limit ≡ stream_limit)
 StopsReading input input' refusals.InputFailed = HasFailed input input'
 StopsReading input input' refusals.OutOfMemory = Unit {0}

@@ -10,7 +10,6 @@ use Rattle.slot_checks.specs.Lines.{lines_text}
 use Rattle.slot_checks.specs.declared.fault.CheckFault.{CheckFault}
 use Rattle.slot_checks.specs.declared.fault.CheckFault.TheVariants as checks
 use Rattle.slot_checks.specs.declared.lines.FileLine.{FileLine}
-use Rattle.stream_replay.specs.Lines.{bytes_of}
 use Rattle.rpc_calls.specs.declared.call.Call.TheVariants as calls
 use Rattle.delta_cli.specs.Asked.{Asked, Described, IsPatchWith}
 use Rattle.delta_cli.specs.Asked.{PrintsEnd, StopsAppend, StopsAsking}
@@ -22,8 +21,8 @@ use Rattle.delta_cli.specs.Results.{Reads, Prints, HasLines, generated_line, Sto
 use Rattle.delta_cli.specs.Results.{StopsNquads, StopsPrinting, StopsEmitting, StopsWriting}
 use Rattle.delta_cli.specs.Told.{Told, LeavesInput, LeavesFiles, LeavesNet, LeavesAll}
 use Rattle.delta_cli.specs.Syncs.{CatchesUp, StopsSync}
-use Rattle.delta_cli.specs.Zones.{IsNewZone, KeepsZone, ReadsZone}
-use Rattle.delta_cli.specs.Zones.{SparesZone, StopsMaking, StopsZone}
+use Rattle.delta_cli.specs.Zones.{IsNewZone, KeepsZone, ReadsZone, SparesZone}
+use Rattle.delta_cli.specs.Zones.{StopsMaking, StopsZone, bytes_of}
 use Rattle.delta_cli.specs.declared.command.Command.{Command}
 use Rattle.delta_cli.specs.declared.command.Command.TheVariants as commands
 use Rattle.delta_cli.specs.declared.refusal.Refusal.{Refusal}
@@ -142,8 +141,8 @@ module _ {L : Type 0} (left sent : L → Option (List ℕ)) (tells net_tells : T
       × Spares dir slots tells old.files new.files × LeavesInput old new
       × (new.out ≡ old.out) × LeavesNet old new
   Stops (commands.Check dir) refusal old new =
-      StopsCheck dir tells old.files new.files old.shelf_faults new.shelf_faults
-      old.out new.out refusal
+      StopsCheck dir tells old.files new.files old.shelf_faults
+      new.shelf_faults old.out new.out refusal
       × LeavesInput old new × LeavesNet old new
   Stops (commands.Zone dir) refusal old new =
       StopsMaking dir tells old.files old.shelf_faults new.shelf_faults refusal
@@ -161,8 +160,8 @@ module _ {L : Type 0} (left sent : L → Option (List ℕ)) (tells net_tells : T
       StopsAsking (Asked left sent net_tells address call old.net new.net) old.out new.out refusal
       × LeavesInput old new × LeavesFiles old new
   Stops (commands.Describe address name) refusal old new =
-      StopsAsking (Described left sent net_tells address name old.net new.net)
-      old.out new.out refusal
+      StopsAsking
+      (Described left sent net_tells address name old.net new.net) old.out new.out refusal
       × LeavesInput old new × LeavesFiles old new
   Stops (commands.Append address name) refusal old new =
       StopsAppend old.input new.input old.out new.out (LeavesNet old new)

@@ -1,5 +1,6 @@
 -- What the commands on a zone do, or why they don't.
 use Rattle.std.specs.Prelude.{◌≡◌, ℕ, ◌<◌, List, [], length, Some}
+use Rattle.std.specs.List.{flat_map}
 use Rattle.delta_base.specs.Outside.{Rose}
 use Rattle.delta_base.specs.declared.limits.TheConstants.{LOG_LIMITS}
 use Rattle.disk_model.specs.Shelf.{SameOthers}
@@ -7,7 +8,6 @@ use Rattle.log_journal.specs.File.{file_of}
 use Rattle.slot_files.specs.Files.{Files, IsKept, bytes_at}
 use Rattle.slot_checks.specs.declared.fault.CheckFault.{CheckFault}
 use Rattle.slot_checks.specs.declared.fault.CheckFault.TheVariants as checks
-use Rattle.stream_replay.specs.Lines.{bytes_of}
 use Rattle.zone_state.specs.Fault.{HasZoneFault}
 use Rattle.zone_state.specs.Zone.{zone_number}
 use Rattle.zone_state.specs.declared.fault.ZoneFault.{ZoneFault}
@@ -80,6 +80,10 @@ HasFileFault file (checks.OverLimit number size limit) =
 HasFileFault file (checks.BrokenChain number version) =
     (number ≡ zone_number) × HasZoneFault file LOG_LIMITS (zones.BrokenChain version)
 HasFileFault file other = ⊥
+
+-- the bytes of lines, one after another
+abbrev pub bytes_of : List (List ℕ) → List ℕ
+bytes_of lines = flat_map (λ line. line) lines
 
 -- why nothing was read of it, or not all was written
 abbrev pub StopsZone : List ℕ → Reading → Type 0 → Files → ℕ → ℕ

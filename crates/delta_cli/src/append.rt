@@ -4,7 +4,7 @@ ghost use Rattle.delta_base.specs.declared.limits.TheConstants.{PATCH_LIMIT};
 ghost use Rattle.delta_client.specs.Lines.{told_of};
 ghost use Rattle.patch_meaning.specs.Checked.{Refuses};
 ghost use Rattle.patch_meaning.specs.Patch.{IsPatch, Meaning};
-ghost use Rattle.stream_replay.specs.Places.{line_number};
+ghost use Rattle.patch_reader.specs.Places.{line_number};
 ghost use Rattle.delta_cli.specs.Addresses.{IsAddress};
 ghost use Rattle.delta_cli.specs.Asked.{Asked, IsPatchWith, IsReadAs, PrintsEnd};
 ghost use Rattle.delta_cli.specs.Asked.{StopsAppend, StopsAsking, StopsPatch, StopsText};

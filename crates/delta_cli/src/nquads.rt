@@ -27,14 +27,19 @@ pub fn nquads<S: Source, K: Sink>(alloc: Global, input: &mut S, out: &mut K) -> 
         (channel (K.written out.old) (K.faults out.old))
         (channel (K.written out.new) (K.faults out.new))) }
 {
-    match read_lines(alloc, input) {
+    let text = match read_text(alloc, input) {
+        Ok(text) => text,
+        Err(refusal) => return Err(refusal),
+    };
+    let mut printed = Vec::new(alloc);
+    match lines_of(alloc, text.as_slice(), &mut printed) {
         Ok(lines) => print_texts(alloc, lines.as_slice(), out),
         Err(refusal) => Err(refusal),
     }
 }
 
 // Writes the texts.
-fn print_texts<K: Sink>(alloc: Global, texts: &[Vec<u8>], out: &mut K) -> Result<(), Refusal>
+fn print_texts<K: Sink>(alloc: Global, texts: &[&[u8]], out: &mut K) -> Result<(), Refusal>
     ensures done { OnOk result (Writes (channel (K.written out.old) (K.faults out.old))
         (channel (K.written out.new) (K.faults out.new)) (joined texts.now)) }
     ensures stopped { IfErr result
@@ -45,15 +50,15 @@ fn print_texts<K: Sink>(alloc: Global, texts: &[Vec<u8>], out: &mut K) -> Result
     write_texts(out, texts, room).map_err(|_| Refusal::OutputFailed)
 }
 
-// The canonical lines of the input's document.
-fn read_lines<S: Source>(alloc: Global, input: &mut S) -> Result<Vec<Vec<u8>>, Refusal>
-    ensures ok { IfOk result (λ lines. Reads (channel (S.left input.old) (S.faults input.old))
-        (channel (S.left input.new) (S.faults input.new)) (AreShown lines.items)) }
+// The input to its end.
+fn read_text<S: Source>(alloc: Global, input: &mut S) -> Result<Vec<u8>, Refusal>
+    ensures ok { IfOk result (λ text. Reads (channel (S.left input.old) (S.faults input.old))
+        (channel (S.left input.new) (S.faults input.new)) (λ bytes. bytes ≡ text.items)) }
     ensures stopped { IfErr result (StopsReading (channel (S.left input.old) (S.faults input.old))
         (channel (S.left input.new) (S.faults input.new))) }
 {
     match read_all(alloc, input, STREAM_LIMIT) {
-        Ok(text) => lines_of(alloc, text.as_slice()),
+        Ok(text) => Ok(text),
         Err(InputFault::Failed) => Err(Refusal::InputFailed),
         Err(InputFault::TooLong) => Err(Refusal::TooLong {
             limit: STREAM_LIMIT as u64,
@@ -63,11 +68,15 @@ fn read_lines<S: Source>(alloc: Global, input: &mut S) -> Result<Vec<Vec<u8>>, R
 }
 
 // The canonical lines of a text.
-fn lines_of(alloc: Global, text: &[u8]) -> Result<Vec<Vec<u8>>, Refusal>
+fn lines_of<'t>(
+    alloc: Global,
+    text: &'t [u8],
+    printed: &'t mut Vec<u8>,
+) -> Result<Vec<&'t [u8]>, Refusal>
     ensures ok { IfOk result (λ lines. AreShown lines.items text.now) }
     ensures stopped { IfErr result (StopsDocument text.now) }
 {
-    match canonical_lines(alloc, text) {
+    match canonical_lines(alloc, text, printed) {
         Ok(lines) => Ok(lines),
         Err(DocFault::At { line, at, kind }) => Err(Refusal::Document { line, at, kind }),
         Err(DocFault::OutOfMemory) => Err(Refusal::OutOfMemory),

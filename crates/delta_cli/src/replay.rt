@@ -1,15 +1,16 @@
 //! The command `replay`: the canonical lines of the dataset that a stream of patches makes.
 ghost use Rattle.std.specs.Prelude.{◌≡◌, IfErr, OnOk};
-ghost use Rattle.stream_replay.specs.Lines.{bytes_of};
 ghost use Rattle.delta_cli.specs.Channels.{Writes, channel};
 ghost use Rattle.delta_cli.specs.Results.{HasLines, Prints, Reads, StopsPrinting};
 ghost use Rattle.delta_cli.specs.Results.{StopsReplay, refusal_of};
+ghost use Rattle.delta_cli.specs.Zones.{bytes_of};
 
 use crate::refusal::Refusal;
 use delta_base::{Sink, Source};
+use line_log::MadeLines;
 use sink_writing::Room;
 use std::alloc::Global;
-use stream_replay::{Lines, ReplayFault, STREAM_LIMIT, replay_source, write_lines};
+use stream_replay::{ReplayFault, STREAM_LIMIT, replay_source, write_lines};
 
 /// Reads a stream to its end, and writes the lines of its replay.
 pub fn replay<S: Source, K: Sink>(alloc: Global, input: &mut S, out: &mut K) -> Result<(), Refusal>
@@ -25,17 +26,17 @@ pub fn replay<S: Source, K: Sink>(alloc: Global, input: &mut S, out: &mut K) -> 
         (channel (K.written out.new) (K.faults out.new))) }
 {
     match replay_source(alloc, input) {
-        Ok(replayed) => print_lines(alloc, &replayed.lines, out),
+        Ok(replayed) => print_made(alloc, &replayed.lines, out),
         Err(fault) => Err(refusal_of(fault)),
     }
 }
 
-/// Writes the lines.
-pub fn print_lines<K: Sink>(alloc: Global, lines: &Lines, out: &mut K) -> Result<(), Refusal>
+// Writes the lines, where there is memory for a room of them.
+fn print_made<K: Sink>(alloc: Global, lines: &MadeLines, out: &mut K) -> Result<(), Refusal>
     ensures done { OnOk result (Writes (channel (K.written out.old) (K.faults out.old))
-        (channel (K.written out.new) (K.faults out.new)) (bytes_of lines.now.keys)) }
-    ensures stopped { IfErr result
-        (StopsPrinting (bytes_of lines.now.keys) (channel (K.written out.old) (K.faults out.old))
+        (channel (K.written out.new) (K.faults out.new)) (bytes_of lines.now)) }
+    ensures stopped { IfErr result (StopsPrinting (bytes_of lines.now)
+        (channel (K.written out.old) (K.faults out.old))
         (channel (K.written out.new) (K.faults out.new))) }
 {
     let room = Room::new(alloc)?;

@@ -29,7 +29,7 @@ document_part (b ∷ rest) x (suc n) pos le e =
     let k : length rest - length (drop n rest) ≡ n = omega arith in
     rw e (ap (λ (m : ℕ). with_part x (document_at m rest)) k ∙ ap (with_part x) (document_skip n rest))
 
-after_part : (quads : List Statement) (x : Option Statement) (read : Read (List Statement)) → after_quads quads (with_part x read) ≡ after_quads (quads ++ part_list x) read
+pub after_part : (quads : List Statement) (x : Option Statement) (read : Read (List Statement)) → after_quads quads (with_part x read) ≡ after_quads (quads ++ part_list x) read
 after_part quads None (Ok y) = ap (λ (q : List Statement). Ok (q ++ y.0, y.1)) (sym (append-nil quads))
 after_part quads None (Err f) = refl
 after_part quads (Some q) (Ok y) = ap (λ (t : List Statement). Ok (t, y.1)) (sym (append_assoc quads (q ∷ []) y.0))

@@ -3,6 +3,7 @@ pub mod Answering
 pub mod BlankLaws
 pub mod CanonicalLaws
 pub mod Comments
+pub mod Cuts
 pub mod DocumentFaults
 pub mod DocumentLaws
 pub mod Documents
@@ -10,6 +11,7 @@ pub mod LineEnds
 pub mod LineFaults
 pub mod LineLaws
 pub mod Parted
+pub mod Pushed
 pub mod Rising
 pub mod Shorter
 pub mod Showing

@@ -12,6 +12,7 @@ use Rattle.std.proofs.lemmas.List.Sorted.{Contains-permutation, IsPermutation-ma
 use Rattle.rdf_terms.specs.Quad.{Statement}
 use Rattle.rdf_terms.specs.Line.{line}
 use Rattle.nquads_documents.specs.Canonical.{AreCanonical, IsCanonical}
+use Rattle.nquads_documents.specs.Shown.{AreLinesOf}
 
 -- elements that show a text
 module _ {X : Type 0} (shown : X → List ℕ) where
@@ -46,18 +47,22 @@ module _ {X : Type 0} (shown : X → List ℕ) where
   joined_shown [] = refl
   joined_shown (x ∷ xs) = ap (λ (t : List ℕ). shown x ++ t) (joined_shown xs)
 
-  pub made_lines : (quads : List Statement) (xs ys zs : List X) → map shown xs ≡ map line quads → IsPermutation xs ys → IsSorted shown_cmp ys → zs ≡ dedup same_shown ys → AreCanonical quads (map shown zs)
-  made_lines quads xs ys zs lines moved sorted kept =
+  -- the lines of the elements are those of the quads
+  pub made_of : (quads : List Statement) (xs ys zs : List X) → AreLinesOf quads (map shown xs) → IsPermutation xs ys → IsSorted shown_cmp ys → zs ≡ dedup same_shown ys → AreCanonical quads (map shown zs)
+  made_of quads xs ys zs are moved sorted kept =
       let texts = map shown ys in
       let once : map shown zs ≡ dedup bytes_eq texts = ap (map shown) kept ∙ shown-dedup ys in
-      let moves : IsPermutation (map line quads) texts = subst (λ (l : List (List ℕ)). IsPermutation l texts) lines (IsPermutation-map shown xs ys moved) in
+      let moves : IsPermutation (map shown xs) texts = IsPermutation-map shown xs ys moved in
       record {
         same = λ l. (
-          λ has. Contains-permutation texts (map line quads) l (IsPermutation-sym (map line quads) texts moves) (Contains-from_dedup bytes_eq texts l (subst (λ (t : List (List ℕ)). Contains t l) once has)),
-          λ has. subst (λ (t : List (List ℕ)). Contains t l) (sym once) (Contains-dedup nat_list_eq_equiv (λ x y e. same_text x y (sym e)) texts l (Contains-permutation (map line quads) texts l moves has)),
+          λ has. (are l).0 (Contains-permutation texts (map shown xs) l (IsPermutation-sym (map shown xs) texts moves) (Contains-from_dedup bytes_eq texts l (subst (λ (t : List (List ℕ)). Contains t l) once has))),
+          λ has. subst (λ (t : List (List ℕ)). Contains t l) (sym once) (Contains-dedup nat_list_eq_equiv (λ x y e. same_text x y (sym e)) texts l (Contains-permutation (map shown xs) texts l moves ((are l).1 has))),
         );
         rising = rising_shown zs (subst (IsStrictlySortedBy shown_cmp) (sym kept) (IsStrictlySortedBy-dedup (on_texts shown) (λ x y. texts_ties (shown x) (shown y)) ys sorted));
       }
+
+  pub made_lines : (quads : List Statement) (xs ys zs : List X) → map shown xs ≡ map line quads → IsPermutation xs ys → IsSorted shown_cmp ys → zs ≡ dedup same_shown ys → AreCanonical quads (map shown zs)
+  made_lines quads xs ys zs lines = made_of quads xs ys zs (subst (AreLinesOf quads) (sym lines) (λ l. (λ has. has, λ has. has)))
 
   pub made_canonical : (quads : List Statement) (zs : List X) (text : List ℕ) → AreCanonical quads (map shown zs) → text ≡ flat_map shown zs → IsCanonical quads text
   made_canonical quads zs text are joined = record { lines = map shown zs; joined = joined ∙ joined_shown zs; are = are }

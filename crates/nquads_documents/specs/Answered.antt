@@ -12,5 +12,6 @@ use Rattle.nquads_text.specs.Faults.{TermFault}
 -- the statements of the document, or its first fault with its line and place
 abbrev pub Answered : List ℕ → Result (Listed Statement) DocFault → Type 0
 Answered text (Ok quads) = IsDocument text quads.items
-Answered text (Err (fault.At line at kind)) = DocumentFault TermFault text (kind, drop at text) × (at ≤ length text) × (line ≡ line_of text at)
+Answered text (Err (fault.At line at kind)) = DocumentFault TermFault text (kind, drop at text)
+    × (at ≤ length text) × (line ≡ line_of text at)
 Answered text (Err fault.OutOfMemory) = Unit {0}

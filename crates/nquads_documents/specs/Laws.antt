@@ -19,24 +19,30 @@ IsQuadValue q = IsTrue (is_quad q) × HasTermValues q
 
 -- printed lines, one behind another, are read as their statements
 abbrev pub LinesRead : Type 0
-LinesRead = (quads : List Statement) → All IsQuadValue quads → document_at 0 (flat_map line quads) ≡ Ok (quads, [])
+LinesRead = (quads : List Statement) → All IsQuadValue quads
+    → document_at 0 (flat_map line quads) ≡ Ok (quads, [])
 
 -- no line is the front of another
 abbrev pub LinesApart : Type 0
-LinesApart = (p q : Statement) (more : List ℕ) → IsQuadValue p → IsQuadValue q → line p ++ more ≡ line q → p ≡ q
+LinesApart = (p q : Statement) (more : List ℕ) → IsQuadValue p → IsQuadValue q
+    → line p ++ more ≡ line q → p ≡ q
 
 -- a printed document is read as its statements, each once
 abbrev pub CanonicalRead : Type 0
-CanonicalRead = (quads : List Statement) (text : List ℕ) → All IsQuadValue quads → IsCanonical quads text
-    → (kept : List Statement) × (document_at 0 text ≡ Ok (kept, [])) × ((q : Statement) → Contains kept q ↔ Contains quads q)
+CanonicalRead =
+    (quads : List Statement) (text : List ℕ) → All IsQuadValue quads → IsCanonical quads text
+    → (kept : List Statement) × (document_at 0 text ≡ Ok (kept, []))
+    × ((q : Statement) → Contains kept q ↔ Contains quads q)
 
 -- the text is a document of the same statements
 abbrev pub IsDocumentOf : List Statement → List ℕ → Type 0
-IsDocumentOf quads text = (kept : List Statement) × IsDocument text kept × ((q : Statement) → Contains kept q ↔ Contains quads q)
+IsDocumentOf quads text = (kept : List Statement) × IsDocument text kept
+    × ((q : Statement) → Contains kept q ↔ Contains quads q)
 
 -- lists of the same statements have one canonical text
 abbrev pub CanonicalOnce : Type 0
-CanonicalOnce = (p q : List Statement) (a b : List ℕ) → ((s : Statement) → Contains p s ↔ Contains q s) → IsCanonical p a → IsCanonical q b → a ≡ b
+CanonicalOnce = (p q : List Statement) (a b : List ℕ)
+    → ((s : Statement) → Contains p s ↔ Contains q s) → IsCanonical p a → IsCanonical q b → a ≡ b
 
 -- a printed line is a document of its one statement
 abbrev pub LinesAgain : Type 0
@@ -52,11 +58,13 @@ TermsAgain = (text after : List ℕ) (t : Term) → TermAt text t after → term
 
 -- what is read to its end as a document is one
 abbrev pub DocumentsFound : Type 0
-DocumentsFound = (text : List ℕ) (quads : List Statement) → document_at 0 text ≡ Ok (quads, []) → IsDocument text quads
+DocumentsFound = (text : List ℕ) (quads : List Statement) → document_at 0 text ≡ Ok (quads, [])
+    → IsDocument text quads
 
 -- and a document is read
 abbrev pub DocumentsAgain : Type 0
-DocumentsAgain = (text : List ℕ) (quads : List Statement) → IsDocument text quads → document_at 0 text ≡ Ok (quads, [])
+DocumentsAgain = (text : List ℕ) (quads : List Statement) → IsDocument text quads
+    → document_at 0 text ≡ Ok (quads, [])
 
 -- the fault that is met where a term is needed is its first
 abbrev pub TermFaultsFound : (List ℕ → Fault → Type 0) → Type 0
@@ -68,24 +76,30 @@ TermFaultsAgain TermFault = (text : List ℕ) (f : Fault) → TermFault text f �
 
 -- the fault that is met in a document is its first
 abbrev pub DocumentFaultsFound : (List ℕ → Fault → Type 0) → Type 0
-DocumentFaultsFound TermFault = (text : List ℕ) (f : Fault) → document_at 0 text ≡ Err f → DocumentFault TermFault text f
+DocumentFaultsFound TermFault =
+    (text : List ℕ) (f : Fault) → document_at 0 text ≡ Err f → DocumentFault TermFault text f
 
 -- and the first is met
 abbrev pub DocumentFaultsAgain : (List ℕ → Fault → Type 0) → Type 0
-DocumentFaultsAgain TermFault = (text : List ℕ) (f : Fault) → DocumentFault TermFault text f → document_at 0 text ≡ Err f
+DocumentFaultsAgain TermFault =
+    (text : List ℕ) (f : Fault) → DocumentFault TermFault text f → document_at 0 text ≡ Err f
 
 -- a text is a document, or it has a first fault
 abbrev pub DocumentOrFault : (List ℕ → Fault → Type 0) → Type 0
-DocumentOrFault TermFault = (text : List ℕ) → ((quads : List Statement) × IsDocument text quads) ⊎ ((f : Fault) × DocumentFault TermFault text f)
+DocumentOrFault TermFault = (text : List ℕ) → ((quads : List Statement) × IsDocument text quads)
+    ⊎ ((f : Fault) × DocumentFault TermFault text f)
 
 -- and never both
 abbrev pub NeverBoth : (List ℕ → Fault → Type 0) → Type 0
-NeverBoth TermFault = (text : List ℕ) (quads : List Statement) (f : Fault) → IsDocument text quads → DocumentFault TermFault text f → ⊥
+NeverBoth TermFault = (text : List ℕ) (quads : List Statement) (f : Fault) → IsDocument text quads
+    → DocumentFault TermFault text f → ⊥
 
 -- a text is a document of one list of statements only
 abbrev pub DocumentsOnce : Type 0
-DocumentsOnce = (text : List ℕ) (quads others : List Statement) → IsDocument text quads → IsDocument text others → quads ≡ others
+DocumentsOnce = (text : List ℕ) (quads others : List Statement) → IsDocument text quads
+    → IsDocument text others → quads ≡ others
 
 -- and it has one first fault only
 abbrev pub FaultsOnce : (List ℕ → Fault → Type 0) → Type 0
-FaultsOnce TermFault = (text : List ℕ) (f g : Fault) → DocumentFault TermFault text f → DocumentFault TermFault text g → f ≡ g
+FaultsOnce TermFault = (text : List ℕ) (f g : Fault) → DocumentFault TermFault text f
+    → DocumentFault TermFault text g → f ≡ g

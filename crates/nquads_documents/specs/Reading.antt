@@ -1,5 +1,6 @@
 -- Reading a document from left to right, with the first fault that is met.
-use Rattle.std.specs.Prelude.{◌≡◌, ℕ, zero, suc, ◌+◌, ◌-◌, ◌≤◌, List, [], ◌∷◌, length, take, drop, Option, Some, None, Result, Ok, Err, ◌==◌, count_by, if◌then◌else◌}
+use Rattle.std.specs.Prelude.{◌≡◌, ℕ, zero, suc, ◌+◌, ◌-◌, ◌≤◌, List, [], ◌∷◌, length, take, drop}
+use Rattle.std.specs.Prelude.{Option, Some, None, Result, Ok, Err, ◌==◌, count_by, if◌then◌else◌}
 use Rattle.rdf_terms.specs.Quad.{Statement}
 use Rattle.nquads_text.specs.declared.fault.TextKind.TheVariants.{BadToken}
 use Rattle.nquads_text.specs.Fault.{Fails, Read, ◌>>=◌}
@@ -12,11 +13,13 @@ use Rattle.nquads_text.specs.declared.fault.ReadFault.{ReadFault}
 use Rattle.nquads_documents.specs.declared.fault.DocFault.{DocFault}
 use Rattle.nquads_documents.specs.declared.fault.DocFault.TheVariants as fault
 
--- what follows the rest of a comment, the line's end standing in it; `skip` bytes are left of the character before
+-- what follows the rest of a comment, the line's end standing in it; `skip` bytes are left of
+-- the character before
 unfoldable pub comment_at : ℕ → List ℕ → Read (Unit {0})
 comment_at skip [] = Ok (tt, [])
 comment_at (suc skip) (b ∷ rest) = comment_at skip rest
-comment_at zero (b ∷ rest) = if is_line_end b then Ok (tt, b ∷ rest) else (char_at (b ∷ rest) >>= λ c. comment_at (length rest - length c.1) rest)
+comment_at zero (b ∷ rest) = if is_line_end b then Ok (tt, b ∷ rest)
+    else (char_at (b ∷ rest) >>= λ c. comment_at (length rest - length c.1) rest)
 
 -- where a line has to end, and something else stands
 unfoldable pub no_end_at : List ℕ → Read (Unit {0})
@@ -27,7 +30,8 @@ no_end_at rest = do
 -- the line's end, or a comment up to it
 abbrev pub end_by : List ℕ → Read (Unit {0})
 end_by [] = Ok (tt, [])
-end_by (b ∷ rest) = if is_line_end b then Ok (tt, b ∷ rest) else (if b == 35 then comment_at 0 rest else no_end_at (b ∷ rest))
+end_by (b ∷ rest) = if is_line_end b then Ok (tt, b ∷ rest)
+    else (if b == 35 then comment_at 0 rest else no_end_at (b ∷ rest))
 
 -- behind a statement's dot: blanks, and a comment or nothing
 unfoldable pub line_end_at : List ℕ → Read (Unit {0})
@@ -46,7 +50,8 @@ statement_part rest = do
   end ← line_end_at quad.1
   Ok (Some quad.0, end.1)
 
--- the next part of a document: the end of a line, a comment, or a statement with what follows it on its line
+-- the next part of a document: the end of a line, a comment, or a statement with what follows it
+-- on its line
 abbrev pub part_by : List ℕ → Read (Option Statement)
 part_by [] = Ok (None, [])
 part_by (b ∷ rest) = if is_line_end b then Ok (None, rest)
@@ -81,5 +86,6 @@ ReadsAll text (Err e) = Fails text e (document_at 0 text)
 -- the same, with the line of the fault's place
 abbrev pub Reads : List ℕ → Result (Listed Statement) DocFault → Type 0
 Reads text (Ok quads) = document_at 0 text ≡ Ok (quads.items, [])
-Reads text (Err (fault.At line at kind)) = (document_at 0 text ≡ Err (kind, drop at text)) × (at ≤ length text) × (line ≡ line_of text at)
+Reads text (Err (fault.At line at kind)) =
+    (document_at 0 text ≡ Err (kind, drop at text)) × (at ≤ length text) × (line ≡ line_of text at)
 Reads text (Err fault.OutOfMemory) = Unit {0}

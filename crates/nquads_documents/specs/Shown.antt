@@ -1,35 +1,82 @@
 -- The canonical lines of a document, as a reader gives them.
-use Rattle.std.specs.Prelude.{◌≡◌, ◌≤◌, ℕ, List, [], length, drop, map, Vec, Option, option_map, Result, Ok, Err}
+use Rattle.std.specs.Prelude.{◌≡◌, ◌↔◌, ◌≤◌, ℕ, Bool, List, [], ◌∷◌, ◌++◌, length, drop, map}
+use Rattle.std.specs.Prelude.{Vec, Option, Some, None, true, false, Result, Ok, Err, slice_range}
+use Rattle.std.specs.Borrow.{Bor}
 use Rattle.std.specs.declared.alloc.Global.{Global}
-use Rattle.std.specs.List.{flat_map}
+use Rattle.std.specs.List.{Contains, flat_map}
 use Rattle.rdf_terms.specs.Quad.{Statement}
-use Rattle.rdf_terms.specs.Line.{line}
-use Rattle.nquads_text.specs.Fault.{Fails}
+use Rattle.rdf_terms.specs.Line.{line, lines}
+use Rattle.nquads_text.specs.Fault.{Fails, Read}
 use Rattle.nquads_text.specs.Faults.{TermFault}
 use Rattle.nquads_text.specs.declared.fault.ReadFault.{ReadFault}
 use Rattle.nquads_documents.specs.declared.fault.DocFault.{DocFault}
 use Rattle.nquads_documents.specs.declared.fault.DocFault.TheVariants as fault
 use Rattle.nquads_documents.specs.Canonical.{AreCanonical, IsCanonical}
 use Rattle.nquads_documents.specs.Faults.{DocumentFault}
-use Rattle.nquads_documents.specs.Grammar.{IsDocument}
-use Rattle.nquads_documents.specs.Reading.{part_at, document_at, line_of}
+use Rattle.nquads_documents.specs.Grammar.{IsDocument, of_line}
+use Rattle.nquads_documents.specs.Reading.{document_at, line_of}
+
+-- ---- what is read and written at once
+
+-- the text of what is read is appended, and the result is the place behind it; or the first fault
+abbrev pub Pushes : {X : Type 0} → (X → List ℕ) → List ℕ → List ℕ → List ℕ → Result ℕ ReadFault
+    → Read X → Type 0
+Pushes {X} text_of text old new (Ok end) read = (x : X) × (read ≡ Ok (x, drop end text))
+    × (end ≤ length text) × (new ≡ old ++ text_of x)
+Pushes text_of text old new (Err e) read = Fails text e read
+
+-- the part is a statement
+abbrev pub is_statement : Option Statement → Bool
+is_statement None = false
+is_statement (Some q) = true
+
+-- the line of a part is appended, if it has one, and the result tells that and the place behind it;
+-- or the first fault
+abbrev pub PushesPart : List ℕ → List ℕ → List ℕ → Result (Bool × ℕ) ReadFault
+    → Read (Option Statement) → Type 0
+PushesPart text old new (Ok x) read = (q : Option Statement) × (read ≡ Ok (q, drop x.1 text))
+    × (x.1 ≤ length text) × (x.0 ≡ is_statement q) × (new ≡ old ++ lines (of_line q))
+PushesPart text old new (Err e) read = Fails text e read
+
+-- ---- lines that are lent
 
 -- the bytes of a line
-abbrev pub bytes_of : Vec ℕ Global → List ℕ
-bytes_of l = l.items
+abbrev pub shown : Bor (List ℕ) → List ℕ
+shown l = l.now
 
--- the line of the part that is read, where it is a statement; or the first fault
-abbrev pub ShowsPart : List ℕ → ℕ → Result (Option (Vec ℕ Global) × ℕ) ReadFault → Type 0
-ShowsPart text at (Ok x) = (q : Option Statement) × (part_at (drop at text) ≡ Ok (q, drop x.1 text)) × (x.1 ≤ length text) × (option_map bytes_of x.0 ≡ option_map line q)
-ShowsPart text at (Err e) = Fails text e (part_at (drop at text))
+-- the lines in some bytes from a place on, of which each begins where the one before ends
+abbrev pub cut : List ℕ → ℕ → List ℕ → List (List ℕ)
+cut bytes from [] = []
+cut bytes from (end ∷ ends) = slice_range bytes from end ∷ cut bytes end ends
 
--- the lines of the statements that are read, in the text's order; or the first fault
-abbrev pub ShowsAll : List ℕ → Result (Vec (Vec ℕ Global) Global) ReadFault → Type 0
-ShowsAll text (Ok lines) = (quads : List Statement) × (document_at 0 text ≡ Ok (quads, [])) × (map bytes_of lines.items ≡ map line quads)
-ShowsAll text (Err e) = Fails text e (document_at 0 text)
+-- the ends rise from that place up to the end of the bytes
+abbrev pub AreCuts : List ℕ → ℕ → List ℕ → Type 0
+AreCuts bytes from [] = from ≡ length bytes
+AreCuts bytes from (end ∷ ends) = (from ≤ end) × (end ≤ length bytes) × AreCuts bytes end ends
 
--- the lines are the canonical ones of the document, and one after another its canonical form; or its first fault with its line and place
-abbrev pub IsCanonicalOf : List ℕ → Result (Vec (Vec ℕ Global) Global) DocFault → Type 0
-IsCanonicalOf text (Ok lines) = (quads : List Statement) × IsDocument text quads × IsCanonical quads (flat_map bytes_of lines.items) × AreCanonical quads (map bytes_of lines.items)
-IsCanonicalOf text (Err (fault.At line at kind)) = DocumentFault TermFault text (kind, drop at text) × (at ≤ length text) × (line ≡ line_of text at)
+-- the lines are those of the statements, in any order
+abbrev pub AreLinesOf : List Statement → List (List ℕ) → Type 0
+AreLinesOf quads lines = (l : List ℕ) → Contains lines l ↔ Contains (map line quads) l
+
+-- the lent lines and the printed ones are those of the statements that are read; or the first fault
+abbrev pub HasShown : List ℕ → List ℕ
+    → Result (Vec (Bor (List ℕ)) Global × Vec ℕ Global) ReadFault → Type 0
+HasShown text printed (Ok x) = (quads : List Statement) × (document_at 0 text ≡ Ok (quads, []))
+    × AreCuts printed 0 x.1.items
+    × AreLinesOf quads (map shown x.0.items ++ cut printed 0 x.1.items)
+HasShown text printed (Err e) = Fails text e (document_at 0 text)
+
+-- the lines are those of the statements that are read; or the first fault
+abbrev pub HoldsAll : List ℕ → Result (Vec (Bor (List ℕ)) Global) ReadFault → Type 0
+HoldsAll text (Ok lines) = (quads : List Statement) × (document_at 0 text ≡ Ok (quads, []))
+    × AreLinesOf quads (map shown lines.items)
+HoldsAll text (Err e) = Fails text e (document_at 0 text)
+
+-- the lines are the canonical ones of the document, and one after another its canonical form;
+-- or its first fault with its line and place
+abbrev pub IsCanonicalOf : List ℕ → Result (Vec (Bor (List ℕ)) Global) DocFault → Type 0
+IsCanonicalOf text (Ok lines) = (quads : List Statement) × IsDocument text quads
+    × IsCanonical quads (flat_map shown lines.items) × AreCanonical quads (map shown lines.items)
+IsCanonicalOf text (Err (fault.At line at kind)) = DocumentFault TermFault text (kind, drop at text)
+    × (at ≤ length text) × (line ≡ line_of text at)
 IsCanonicalOf text (Err fault.OutOfMemory) = Unit {0}

@@ -1,4 +1,5 @@
-//! N-Quads documents (RDF 1.1 N-Quads): read, printed in canonical form, and told apart from what is none.
+//! N-Quads documents (RDF 1.1 N-Quads): read, printed in canonical form, and told apart from
+//! what is none.
 #![tactic(auto)]
 
 mod canonical;
@@ -7,6 +8,7 @@ mod laws;
 mod lines;
 mod parts;
 mod printing;
+mod pushing;
 mod values;
 
 pub use canonical::canonical_lines;

@@ -2,7 +2,8 @@
 
 ghost use Rattle.std.specs.Prelude.{◌≡◌, ◌≤◌, ◌<◌, length, drop, take, count_by, ◌+◌, ◌==◌, IfOk};
 ghost use Rattle.nquads_text.specs.Fault.{Gives};
-ghost use Rattle.nquads_documents.specs.Reading.{part_at, comment_part, statement_part, document_at, line_of, Reads, ReadsAll};
+ghost use Rattle.nquads_documents.specs.Reading.{part_at, comment_part, statement_part};
+ghost use Rattle.nquads_documents.specs.Reading.{document_at, line_of, Reads, ReadsAll};
 ghost use Rattle.nquads_documents.specs.Answered.{Answered};
 
 use crate::fault::DocFault;
@@ -12,9 +13,10 @@ use nquads_text::{ReadFault, read_statement, skip_blanks};
 use rdf_terms::{Quad, Quads};
 use std::alloc::Global;
 
-/// The next part of a document: the end of a line, a comment, or a statement with what follows it on its line.
+/// The next part of a document: the end of a line, a comment, or a statement with what follows it
+/// on its line.
 #[tactic(auto, using(crate::proofs::Steps::part_steps))]
-pub fn part(alloc: Global, text: &[u8], from: usize) -> Result<(Option<Quad>, usize), ReadFault>
+fn part(alloc: Global, text: &[u8], from: usize) -> Result<(Option<Quad>, usize), ReadFault>
     requires { from < length text.now }
     ensures { Gives text.now (λ q. q) result (part_at (drop from text.now)) }
 {

@@ -28,7 +28,8 @@ pub fn push_line(out: &mut Vec<u8>, quad: &Quad) -> Result<(), OutOfMemory>
     Ok(())
 }
 
-/// The bytes of a line beside those of its terms: spaces, brackets and quotes, the dot and the line feed.
+/// The bytes of a line beside those of its terms: spaces, brackets and quotes, the dot and
+/// the line feed.
 const LINE_MARKS: usize = 16;
 
 fn kind_room(kind: &LiteralKind) -> usize {
@@ -109,7 +110,8 @@ fn canonical(alloc: Global, quads: &[Quad]) -> Result<Vec<u8>, OutOfMemory>
     }
 }
 
-/// The canonical lines of the quads, each once, in the order of their bytes. They are read again as these quads.
+/// The canonical lines of the quads, each once, in the order of their bytes. They are read again
+/// as these quads.
 #[tactic(auto, using(crate::proofs::Again::document_again))]
 pub fn print_document(alloc: Global, quads: &Quads) -> Result<Text, OutOfMemory>
     ensures text { IfOk result (λ text. IsCanonical quads.now.items text) }

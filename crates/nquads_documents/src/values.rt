@@ -43,7 +43,8 @@ fn graph_is_value(graph: &Option<Term>)
     }
 }
 
-/// Each part of a statement is a term that can be printed, and stands where it may. It only says so.
+/// Each part of a statement is a term that can be printed, and stands where it may. It
+/// only says so.
 pub fn quad_is_value(quad: &Quad)
     ensures { IsQuadValue quad.now }
 {

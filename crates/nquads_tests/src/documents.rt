@@ -12,6 +12,24 @@ fn fault_of(alloc: Global, text: &[u8]) -> Option<(usize, usize, TextKind)> {
     }
 }
 
+// The same, where no quad is kept.
+fn lines_fault_of(alloc: Global, text: &[u8]) -> Option<(usize, usize, TextKind)> {
+    let mut printed = Vec::new(alloc);
+    match canonical_lines(alloc, text, &mut printed) {
+        Err(DocFault::At { line, at, kind }) => Some((line, at, kind)),
+        _ => None,
+    }
+}
+
+fn has_lines(alloc: Global, text: &str, wanted: &str) -> bool {
+    let mut printed = Vec::new(alloc);
+    let Ok(lines) = canonical_lines(alloc, text.as_bytes(), &mut printed) else {
+        return false;
+    };
+    let joined = lines.as_slice().concat(alloc);
+    joined.is_ok_and(|joined| joined.as_slice() == wanted.as_bytes())
+}
+
 fn printed_again(alloc: Global, text: &[u8]) -> Option<Text> {
     let quads = read_document(alloc, text).ok()?;
     print_document(alloc, &quads).ok()
@@ -33,6 +51,8 @@ fn the_first_fault_of_a_statement_is_met(rt: HostRuntime) {
     ] {
         let fault = fault_of(rt.alloc(), text.as_bytes());
         assert_eq!(rt; fault, Some((1, at, kind)), "{text}");
+        let fault = lines_fault_of(rt.alloc(), text.as_bytes());
+        assert_eq!(rt; fault, Some((1, at, kind)), "{text}");
     }
 }
 
@@ -53,8 +73,16 @@ fn a_fault_is_placed_by_line_and_byte(rt: HostRuntime) {
         ),
         (b"# \xC3\xA9\n# \xC3\n", 2, 7, TextKind::NotUtf8),
         (b"\n\n.", 3, 2, TextKind::BadToken),
+        (
+            b"<a:s> <a:p> \"x\" .\n<a:s>\t<a:p> _:o .\n<a:s> _:p _:o .\n",
+            3,
+            42,
+            TextKind::BadPosition,
+        ),
     ] {
         let fault = fault_of(rt.alloc(), text);
+        assert_eq!(rt; fault, Some((line, at, kind)));
+        let fault = lines_fault_of(rt.alloc(), text);
         assert_eq!(rt; fault, Some((line, at, kind)));
     }
 }
@@ -92,9 +120,25 @@ fn empty_lines_hold_no_statement(rt: HostRuntime) {
 
 #[test]
 fn the_lines_of_a_document_are_rising(rt: HostRuntime) {
-    let text = "_:b<a:p>_:o.\n<a:s> <a:p> \"x\" . # c\n_:b <a:p> _:o .\n";
-    let lines = canonical_lines(rt.alloc(), text.as_bytes());
-    let text = lines.ok().and_then(|lines| lines.concat(rt.alloc()).ok());
-    let wanted = "<a:s> <a:p> \"x\" .\n_:b <a:p> _:o .\n";
-    assert!(rt; text.is_some_and(|text| text.as_slice() == wanted.as_bytes()));
+    for (text, wanted) in [
+        ("", ""),
+        (
+            "_:b<a:p>_:o.\n<a:s> <a:p> \"x\" . # c\n_:b <a:p> _:o .\n",
+            "<a:s> <a:p> \"x\" .\n_:b <a:p> _:o .\n",
+        ),
+        (
+            "<b:s> <a:p> \"\u{e9}\"@en <a:g> .\n<a:s> <a:p> <a:o> .\n<b:s> <a:p> \"\u{e9}\"@en <a:g> .\n",
+            "<a:s> <a:p> <a:o> .\n<b:s> <a:p> \"\u{e9}\"@en <a:g> .\n",
+        ),
+        (
+            "<a:s>\t<a:p>\t\"1\"^^<a:t>\t_:g .\r\n<a:s> <a:p> \"\\t\"@EN-US .\n<\\u0061:s> <a:p> <a:o>.",
+            "<a:s> <a:p> \"\t\"@en-us .\n<a:s> <a:p> \"1\"^^<a:t> _:g .\n<a:s> <a:p> <a:o> .\n",
+        ),
+        (
+            "_:c <a:p> \"\\\"\\\\\\n\\r\" .\n# c\n\n_:c <a:p> \"\\u0022\\u005C\\n\\r\" .\n_:a <a:p> _:b.",
+            "_:a <a:p> _:b .\n_:c <a:p> \"\\\"\\\\\\n\\r\" .\n",
+        ),
+    ] {
+        assert!(rt; has_lines(rt.alloc(), text, wanted), "{text}");
+    }
 }

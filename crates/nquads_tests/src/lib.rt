@@ -4,6 +4,8 @@
 #[cfg(test)]
 mod documents;
 #[cfg(test)]
+mod scans;
+#[cfg(test)]
 mod terms;
 #[cfg(test)]
 mod text;

@@ -3,6 +3,7 @@ pub mod BlankRuns
 pub mod Blanks
 pub mod Spelled
 pub mod EscapeFaults
+mod Escaping
 pub mod Fronts
 pub mod IriLaws
 pub mod InString
@@ -17,6 +18,7 @@ pub mod Needed
 pub mod NameRuns
 pub mod PieceFaults
 pub mod Plain
+pub mod PlainRuns
 pub mod Printed
 pub mod Runs
 pub mod Steps

@@ -1,40 +1,15 @@
 //! The text inside an IRIREF and inside a string.
 
-ghost use Rattle.std.specs.Prelude.{◌≡◌, ◌≤◌, ◌<◌, ◌+◌, ℕ, List, length, drop};
-ghost use Rattle.std.specs.Prelude.{IfOk, IsTrue, slice_index, slice_range};
+ghost use Rattle.std.specs.Prelude.{◌≡◌, ◌≤◌, length, drop, IfOk};
 ghost use Rattle.std.specs.String.{string_bytes};
 ghost use Rattle.nquads_text.specs.Fault.{Gives};
 ghost use Rattle.nquads_text.specs.Reading.{iri_body_at, string_body_at, with_front};
-ghost use Rattle.nquads_text.specs.Reading.{is_plain_iri as plain_in_iri};
-ghost use Rattle.nquads_text.specs.Reading.{is_plain_string as plain_in_string};
 
 use crate::fault::ReadFault;
 use crate::pieces::{iri_piece, string_piece};
+use crate::plain_runs::{plain_iri_end, plain_string_end};
 use delta_base::OutOfMemory;
-use rdf_terms::is_forbidden;
 use std::alloc::Global;
-
-/// Whether the byte stands for itself in an IRI.
-fn is_plain_iri(b: u8) -> bool
-    ensures { result ≡ plain_in_iri b }
-{
-    b < 128 && !is_forbidden(char::from(b))
-}
-
-/// The end of some bytes from `at` on that stand for themselves in an IRI.
-fn plain_iri_end(text: &[u8], at: usize) -> usize
-    requires { at ≤ length text.now }
-    ensures low { at ≤ result }
-    ensures high { result ≤ length text.now }
-    ensures plain { (k : ℕ) → at ≤ k → k < result → IsTrue (plain_in_iri (slice_index text.now k)) }
-{
-    for i in at..text.len() {
-        if !is_plain_iri(text[i]) {
-            return i;
-        }
-    }
-    text.len()
-}
 
 /// Appends bytes that stand for themselves, and gives the place behind them.
 fn push_plain_iri(out: &mut String, text: &[u8], at: usize) -> Result<usize, OutOfMemory>
@@ -67,29 +42,6 @@ pub fn iri_body(alloc: Global, text: &[u8], start: usize) -> Result<(String, usi
         }
         at = next;
     }
-}
-
-/// Whether the byte stands for itself in a string.
-fn is_plain_string(b: u8) -> bool
-    ensures { result ≡ plain_in_string b }
-{
-    b < 128 && b != b'"' && b != b'\\' && b != b'\n' && b != b'\r'
-}
-
-/// The end of some bytes from `at` on that stand for themselves in a string.
-fn plain_string_end(text: &[u8], at: usize) -> usize
-    requires { at ≤ length text.now }
-    ensures low { at ≤ result }
-    ensures high { result ≤ length text.now }
-    ensures plain { (k : ℕ) → at ≤ k → k < result
-        → IsTrue (plain_in_string (slice_index text.now k)) }
-{
-    for i in at..text.len() {
-        if !is_plain_string(text[i]) {
-            return i;
-        }
-    }
-    text.len()
 }
 
 /// Appends bytes that stand for themselves, and gives the place behind them.

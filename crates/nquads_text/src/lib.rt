@@ -12,6 +12,7 @@ mod fault;
 mod labels;
 mod laws;
 mod pieces;
+mod plain_runs;
 mod printing;
 mod statement;
 mod tags;
@@ -26,6 +27,7 @@ pub use laws::{
     strings_are_read, tags_are_read, terms_are_read, terms_are_settled,
 };
 pub use pieces::{iri_piece, string_piece};
+pub use plain_runs::{plain_iri_end, plain_string_end};
 pub use printing::{print_term, push_graph, push_iri, push_quoted, push_term};
 pub use statement::read_statement;
 pub use tags::is_tag_byte;

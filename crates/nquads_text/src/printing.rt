@@ -1,6 +1,7 @@
 //! The canonical text of a term.
 
-ghost use Rattle.std.specs.Prelude.{◌≡◌, ◌++◌, ◌∷◌, [], ℕ, List, OnOk, IfOk};
+ghost use Rattle.std.specs.Prelude.{◌≡◌, ◌≤◌, ◌<◌, ◌++◌, ◌∷◌, [], ℕ, List};
+ghost use Rattle.std.specs.Prelude.{length, drop, true, OnOk, IfOk, slice_index};
 ghost use Rattle.std.specs.List.{flat_map};
 ghost use Rattle.nquads_text.specs.Grammar.{TermAt};
 ghost use Rattle.nquads_text.specs.Printing.{IsKind, IsGraphValue, IsTermValue, EndsTerm};
@@ -23,13 +24,55 @@ fn push_escaped(out: &mut Vec<u8>, b: u8) -> Result<(), OutOfMemory>
     Ok(())
 }
 
+/// Whether the byte is written as itself.
+#[inline(always)]
+fn is_unescaped(b: u8) -> bool
+    ensures { result ≡ true → escaped b ≡ b ∷ [] }
+{
+    b != b'"' && b != b'\\' && b != b'\n' && b != b'\r'
+}
+
+/// The end of some bytes from `at` on that are written as themselves.
+fn unescaped_end(text: &[u8], at: usize) -> usize
+    requires { at ≤ length text.now }
+    ensures low { at ≤ result }
+    ensures high { result ≤ length text.now }
+    ensures same { (k : ℕ) → at ≤ k → k < result
+        → escaped (slice_index text.now k) ≡ slice_index text.now k ∷ [] }
+{
+    for i in at..text.len() {
+        if !is_unescaped(text[i]) {
+            return i;
+        }
+    }
+    text.len()
+}
+
+/// Appends bytes that are written as themselves, and one that isn't; gives the place behind.
+fn push_run(out: &mut Vec<u8>, text: &[u8], at: usize) -> Result<usize, OutOfMemory>
+    requires { at < length text.now }
+    ensures low { IfOk result (λ next. at < next) }
+    ensures high { IfOk result (λ next. next ≤ length text.now) }
+    ensures leads { IfOk result (λ next. out.new.items ++ flat_map escaped (drop next text.now)
+        ≡ out.old.items ++ flat_map escaped (drop at text.now)) }
+{
+    let run = unescaped_end(text, at);
+    out.extend_from_slice(&text[at..run])?;
+    if run == text.len() {
+        return Ok(run);
+    }
+    push_escaped(out, text[run])?;
+    Ok(run + 1)
+}
+
 /// Appends a string in its quotes.
 pub fn push_quoted(out: &mut Vec<u8>, text: &[u8]) -> Result<(), OutOfMemory>
     ensures { OnOk result (out.new.items ≡ out.old.items ++ quoted text.now) }
 {
     out.push(b'"')?;
-    for b in text {
-        push_escaped(out, *b)?;
+    let mut at = 0;
+    while at < text.len() {
+        at = push_run(out, text, at)?;
     }
     out.push(b'"')?;
     Ok(())

@@ -1,41 +1,43 @@
 -- A text while its rows are taken, and what it is at its end.
-use Rattle.std.proofs.Common.{◌≡◌, ℕ, ◌<◌, ◌≤◌, List, [], ◌∷◌, ◌++◌, length, Err, refl, sym, ap, subst, ◌∙◌, inl, inr, arith}
+use Rattle.std.proofs.Common.{◌≡◌, ℕ, ◌<◌, ◌≤◌, List, [], ◌∷◌, ◌++◌, length, codes, Some, Err, refl, sym, ap, subst, ◌∙◌, inl, inr, arith}
 use Rattle.std.proofs.lemmas.List.{map-append}
+use Rattle.patch_rows.specs.declared.row.Row.TheVariants as rows
 use Rattle.patch_rows.specs.declared.fault.RowFault.{RowFault}
 use Rattle.patch_rows.specs.declared.fault.RowFault.TheVariants as row
 use Rattle.patch_meaning.specs.declared.checked.ReadRows.{ReadRows}
 use Rattle.patch_meaning.specs.declared.draft.Draft.{Draft}
 use Rattle.chain_core.specs.declared.link.Link.{Link}
+use Rattle.delta_base.specs.declared.id.Id.{Id}
+use Rattle.delta_base.specs.Ids.{number_of}
 use Rattle.rdf_terms.specs.declared.change.Change.{Change}
+use Rattle.rdf_terms.specs.declared.change.Change.TheVariants as change
+use Rattle.patch_rows.specs.declared.row.Row.{Row}
+use Rattle.patch_rows.specs.Grammar.{IsRowAt}
 use Rattle.patch_meaning.specs.declared.fault.PatchFault.{PatchFault}
 use Rattle.patch_meaning.specs.declared.role.Role.{Role}
+use Rattle.patch_meaning.specs.declared.role.Role.TheVariants as roles
 use Rattle.patch_meaning.specs.declared.rows.Next.{Next}
-use Rattle.patch_meaning.specs.Checked.{AreRead, HasDrafted, Refuses, IsStopped}
+use Rattle.patch_meaning.specs.Checked.{AreRead, HasTaken, HasDrafted, Refuses, IsStopped}
 use Rattle.patch_meaning.specs.Draft.{Stands}
 use Rattle.patch_meaning.specs.Next.{IsNextRow, IsNext}
 use Rattle.patch_meaning.specs.PartRead.{LacksEnd, meaning_of}
 use Rattle.delta_base.specs.declared.limits.TheConstants.{PATCH_LIMIT}
 use Rattle.patch_meaning.specs.Patch.{IsPatch, IsWell, AreTaken, IsPatchFault, rows_, no_row, refused, open_block, no_id, refusal, row_refused}
-use Rattle.patch_meaning.specs.Roles.{role, said, changes_of}
+use Rattle.patch_meaning.specs.Roles.{value_id, header_role, role, IsFoundRole, said, changes_of}
 use Rattle.patch_meaning.specs.Rows.{RowsTo}
 use Rattle.patch_reader.specs.declared.placed.PlacedRow.{PlacedRow}
-use Rattle.patch_reader.specs.Rows.{Gap, RowsUpTo}
+use Rattle.patch_reader.specs.Rows.{Gap}
+use Rattle.row_scan.specs.declared.row.Says.{Says}
+use Rattle.row_scan.specs.declared.row.Says.TheVariants as says
+use Rattle.row_scan.specs.declared.row.ScannedRow.{ScannedRow}
+use Rattle.row_scan.specs.Found.{change_by}
+use Rattle.row_scan.specs.Rows.{id_row, IsSaid, HasRow}
+use Rattle.row_scan.proofs.Rows.{row_there, stands_alone}
 use Rattle.patch_meaning.proofs.Rowed.{rows_more, row_within}
-
--- the rows up to a place were taken, and of them this is known
-pub record HasTaken (text : List ℕ) (at : ℕ) (Known : List Role → Type 0) : Type 0 where
-  pub rs : List PlacedRow
-  pub reads : RowsUpTo text 0 rs at
-  pub within : at ≤ length text
-  pub known : Known (said rs)
 
 -- what is known of rows that were taken and kept
 abbrev pub kept : ReadRows → List Role → Type 0
 kept d rs = AreRead rs d
-
--- what is known of rows that were taken
-abbrev pub drafted : Draft → List Role → Type 0
-drafted d rs = Stands rs d
 
 pub started : (text : List ℕ) (Known : List Role → Type 0) → Known [] → HasTaken text 0 Known
 started text Known s = record { rs = []; reads = refl; within = omega arith; known = s }
@@ -51,6 +53,32 @@ taken text at Old New next h is step =
           (ap (λ (r : Role). said h.rs ++ r ∷ []) is.3 ∙ sym (map-append (λ (r : PlacedRow). role r.row) h.rs (placed ∷ [])))
           (step (said h.rs) h.known);
     }
+
+-- ---- rows that a scan found
+
+id_role : (digits : List ℕ) (id : Id) → number_of digits ≡ Some id.0 → role (id_row (codes "id") digits) ≡ roles.Id (Some id)
+unfolding header_role value_id
+id_role digits id named = rw named refl
+
+prev_role : (digits : List ℕ) (id : Id) → number_of digits ≡ Some id.0 → role (id_row (codes "prev") digits) ≡ roles.Prev (Some id)
+unfolding header_role value_id
+prev_role digits id named = rw named refl
+
+-- the row itself
+row_found : (text : List ℕ) (at end : ℕ) (s : Says) → IsSaid text at end s → (r : Role) × IsFoundRole s r × (x : Row) × IsRowAt text at x end × (r ≡ role x)
+row_found text at end (says.Quad adds line) is =
+    let change : Change = change_by adds is.0 in
+    (roles.Change change, (is.0, refl), rows.Change change, row_there text at (record { adds = adds; line = line; end = end }) is.0 is.1, refl)
+row_found text at end says.Begin is = (roles.Change change.Begin, refl, rows.Change change.Begin, stands_alone text at end (rows.Change change.Begin) is.row, refl)
+row_found text at end says.Commit is = (roles.Change change.Commit, refl, rows.Change change.Commit, stands_alone text at end (rows.Change change.Commit) is.row, refl)
+row_found text at end says.Abort is = (roles.Change change.Abort, refl, rows.Change change.Abort, stands_alone text at end (rows.Change change.Abort) is.row, refl)
+row_found text at end (says.Id id) is = (roles.Id (Some id), refl, id_row (codes "id") is.0, stands_alone text at end (id_row (codes "id") is.0) is.2.row, sym (id_role is.0 id is.1))
+row_found text at end (says.Prev id) is = (roles.Prev (Some id), refl, id_row (codes "prev") is.0, stands_alone text at end (id_row (codes "prev") is.0) is.2.row, sym (prev_role is.0 id is.1))
+
+pub next_found : (text : List ℕ) (from at : ℕ) (row : ScannedRow) → Gap text from at → HasRow text at row → (r : Role) × IsFoundRole row.says r × IsNextRow text from (record { role = r; at = at; end = row.end })
+next_found text from at row gap is =
+    let r = row_found text at row.end row.says is in
+    (r.0, r.1, (r.2, gap, r.3, r.4))
 
 -- what is left gets less
 pub further : (text : List ℕ) (at : ℕ) (next : Next) → IsNextRow text at next → (at < next.end) × (next.end ≤ length text)

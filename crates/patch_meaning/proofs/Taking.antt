@@ -7,6 +7,8 @@ use Rattle.std.proofs.lemmas.Grind.{flat_map-append}
 use Rattle.delta_base.specs.declared.id.Id.{Id}
 use Rattle.rdf_terms.specs.declared.change.Change.{Change}
 use Rattle.rdf_terms.specs.declared.change.Change.TheVariants as change
+use Rattle.rdf_terms.specs.Quad.{Statement}
+use Rattle.row_scan.specs.Found.{change_by}
 use Rattle.patch_meaning.specs.declared.draft.Draft.{Draft}
 use Rattle.patch_meaning.specs.declared.fault.PatchKind.{PatchKind}
 use Rattle.patch_meaning.specs.declared.fault.PatchKind.TheVariants as kinds
@@ -194,3 +196,8 @@ change_stands rs c old new s free id prev changes inside =
           subst AreOutside (sym (ap (λ (l : List Change). l ++ more) now ∙ append_assoc (changes_of rs) (c ∷ []) more))
           (s.blocks (c ∷ more) (behind_more old.in_block c more free (subst (λ (b : Bool). AreBehind b more) inside behind)));
     }
+
+-- a row that adds or deletes a quad
+pub quad_stands : (rs : List Role) (adds : Bool) (quad : Statement) (old : Draft) → Stands rs old → Stands (rs ++ roles.Change (change_by adds quad) ∷ []) (record old { has_change = true })
+quad_stands rs true quad old s = change_stands rs (change.Add quad) old (record old { has_change = true }) s refl refl refl refl refl
+quad_stands rs false quad old s = change_stands rs (change.Delete quad) old (record old { has_change = true }) s refl refl refl refl refl

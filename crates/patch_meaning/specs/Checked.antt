@@ -1,5 +1,6 @@
 -- A checked patch, as contracts see it.
-use Rattle.std.specs.Prelude.{◌≡◌, ◌⊎◌, ℕ, List, [], ◌∷◌, Option, Some, length, map}
+use Rattle.std.specs.Prelude.{◌≡◌, ◌⊎◌, ℕ, ◌<◌, ◌≤◌, List, [], ◌∷◌, Option}
+use Rattle.std.specs.Prelude.{None, Some, Result, Ok, Err, length, map}
 use Rattle.delta_base.specs.declared.id.Id.{Id}
 use Rattle.rdf_terms.specs.declared.change.Change.{Change}
 use Rattle.patch_meaning.specs.declared.checked.ReadRows.{ReadRows}
@@ -13,6 +14,7 @@ use Rattle.patch_meaning.specs.Draft.{Stands}
 use Rattle.patch_meaning.specs.Patch.{Meaning, IsPatch, IsPatchFault, refusal}
 use Rattle.patch_meaning.specs.Roles.{said, changes_of}
 use Rattle.patch_reader.specs.declared.placed.PlacedRow.{PlacedRow}
+use Rattle.patch_reader.specs.Rows.{RowsUpTo}
 use Rattle.patch_meaning.specs.Rows.{RowsTo}
 
 -- a text, and what it says as a patch
@@ -21,7 +23,8 @@ pub record CheckedPatch : Type 0 where
   pub meaning : Meaning
 
 abbrev pub checked : List ℕ → Id → Option Id → List Change → CheckedPatch
-checked text id prev changes = record { text = text; meaning = record { id = id; prev = prev; changes = changes } }
+checked text id prev changes =
+    record { text = text; meaning = record { id = id; prev = prev; changes = changes } }
 
 -- what patches say, one after another
 abbrev pub meanings : List CheckedPatch → List Meaning
@@ -50,10 +53,28 @@ IsStopped rs next fault =
 abbrev pub AreRead : List Role → ReadRows → Type 0
 AreRead rs read = Stands rs read.draft × (changes_of rs ≡ read.changes.items)
 
+-- these rows were taken, and no change is kept
+abbrev pub AreDrafted : Draft → List Role → Type 0
+AreDrafted d rs = Stands rs d
+
+-- the rows up to a place were taken, and of them this is known
+pub record HasTaken (text : List ℕ) (at : ℕ) (Known : List Role → Type 0) : Type 0 where
+  pub rs : List PlacedRow
+  pub reads : RowsUpTo text 0 rs at
+  pub within : at ≤ length text
+  pub known : Known (said rs)
+
 -- all rows of the text were taken
 abbrev pub HasRead : List ℕ → ReadRows → Type 0
 HasRead text read = (rs : List PlacedRow) × RowsTo text 0 rs (length text) × AreRead (said rs) read
 
 -- the same where no change is kept
 abbrev pub HasDrafted : List ℕ → Draft → Type 0
-HasDrafted text d = (rs : List PlacedRow) × RowsTo text 0 rs (length text) × Stands (said rs) d
+HasDrafted text d = (rs : List PlacedRow) × RowsTo text 0 rs (length text) × AreDrafted d (said rs)
+
+-- The next row behind a place was taken, and this is the place behind it; or all were taken; or it
+-- is the text's first fault.
+abbrev pub TakesNext : List ℕ → ℕ → Draft → Result (Option ℕ) PatchFault → Type 0
+TakesNext text at d (Ok (Some end)) = (at < end) × HasTaken text end (AreDrafted d)
+TakesNext text at d (Ok None) = HasDrafted text d
+TakesNext text at d (Err fault) = Refuses text fault

@@ -1,5 +1,6 @@
 -- A stream of which some rows were taken.
-use Rattle.std.specs.Prelude.{◌≡◌, ◌⊎◌, ℕ, ◌+◌, ◌≤◌, true, false, List, [], ◌∷◌, ◌++◌, Option, Some, None, length}
+use Rattle.std.specs.Prelude.{◌≡◌, ◌⊎◌, ℕ, ◌+◌, ◌≤◌, true, false, List}
+use Rattle.std.specs.Prelude.{[], ◌∷◌, ◌++◌, Option, Some, None, length}
 use Rattle.delta_base.specs.declared.limits.TheConstants.{PATCH_LIMIT}
 use Rattle.chain_core.specs.declared.link.Link.{Link}
 use Rattle.rdf_terms.specs.declared.change.Change.{Change}
@@ -20,7 +21,8 @@ use Rattle.patch_meaning.specs.Roles.{role, said, change_of, changes_of}
 use Rattle.patch_meaning.specs.Rows.{AreUpTo}
 use Rattle.patch_reader.specs.declared.placed.PlacedRow.{PlacedRow}
 use Rattle.patch_reader.specs.Rows.{Gap, RowsUpTo, NoRowAt}
-use Rattle.patch_meaning.specs.Stream.{ArePatches, AreStream, IsEndFault, IsStreamFault, begins, cut, texts_of, within}
+use Rattle.patch_meaning.specs.Stream.{ArePatches, AreStream, IsEndFault}
+use Rattle.patch_meaning.specs.Stream.{IsStreamFault, begins, cut, texts_of, within}
 
 -- ---- rows that come one at a time
 
@@ -70,8 +72,10 @@ changes_behind done changes says = changes_left done changes ++ change_of says
 -- the row was taken, and a patch was completed where the next one begins with it
 abbrev pub HasTakenNext : PartRead → Role → ℕ → Option Link → PartRead → Type 0
 HasTakenNext old says at done new =
-    (rs : List PlacedRow) (ms : List Meaning) (changes : List Change) (r : PlacedRow) → IsCutInto rs ms changes old → AreUpTo rs at → role r.row ≡ says → r.at ≡ at
-    → IsCutInto (rs ++ r ∷ []) (ms ++ meanings_of done changes) (changes_behind done changes says) new
+    (rs : List PlacedRow) (ms : List Meaning) (changes : List Change) (r : PlacedRow)
+    → IsCutInto rs ms changes old → AreUpTo rs at → role r.row ≡ says → r.at ≡ at
+    → IsCutInto (rs ++ r ∷ []) (ms ++ meanings_of done changes)
+    (changes_behind done changes says) new
 
 -- the rows are patches that are complete, and one whose last row is refused, which is the fault
 pub record AreRefused (rs : List PlacedRow) (fault : PatchFault) : Type 0 where
@@ -107,11 +111,14 @@ IsBrokenAt p at kind fault =
 -- the last patch of a stream that stops there: it has no rows, or it is complete
 abbrev pub IsLast : PartRead → ℕ → Option Link → Type 0
 IsLast p stop None = (rs : List PlacedRow) → HasPart rs p → has_some rs ≡ false
-IsLast p stop (Some link) = ((rs : List PlacedRow) → HasPart rs p → has_some rs ≡ true) × IsComplete p stop link
+IsLast p stop (Some link) =
+    ((rs : List PlacedRow) → HasPart rs p → has_some rs ≡ true) × IsComplete p stop link
 
 -- the stream of these rows ends there, with the patch that was completed last
 abbrev pub EndsStream : PartRead → ℕ → Option Link → Type 0
-EndsStream p stop done = (rs : List PlacedRow) (ms : List Meaning) (changes : List Change) → IsCutInto rs ms changes p → AreUpTo rs stop → AreStream rs stop (ms ++ meanings_of done changes)
+EndsStream p stop done =
+    (rs : List PlacedRow) (ms : List Meaning) (changes : List Change) → IsCutInto rs ms changes p
+    → AreUpTo rs stop → AreStream rs stop (ms ++ meanings_of done changes)
 
 -- the last patch of a stream has rows, and this fault
 abbrev pub IsBrokenAtEnd : PartRead → ℕ → PatchFault → Type 0
@@ -121,7 +128,8 @@ IsBrokenAtEnd p stop fault =
 
 -- ---- a whole text
 
--- the rows up to this place were cut into patches that are complete, with their texts, and one that may go on
+-- the rows up to this place were cut into patches that are complete, with their texts, and one that
+-- may go on
 pub record HasCut (text : List ℕ) (at : ℕ) (k : Cutting) : Type 0 where
   pub rs : List PlacedRow
   pub reads : RowsUpTo text 0 rs at

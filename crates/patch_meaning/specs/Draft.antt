@@ -4,7 +4,8 @@ use Rattle.rdf_terms.specs.declared.change.Change.{Change}
 use Rattle.patch_meaning.specs.declared.draft.Draft.{Draft}
 use Rattle.patch_meaning.specs.declared.fault.PatchKind.{PatchKind}
 use Rattle.patch_meaning.specs.declared.role.Role.{Role}
-use Rattle.patch_meaning.specs.Patch.{AreOutside, AreInside, AreParted, AreTaken, has_some, prev_list, refusal}
+use Rattle.patch_meaning.specs.Patch.{AreOutside, AreInside, AreParted}
+use Rattle.patch_meaning.specs.Patch.{AreTaken, has_some, prev_list, refusal}
 use Rattle.patch_meaning.specs.Roles.{ids_of, prevs_of, changes_of, is_open}
 
 -- changes that may follow where a block is open, or none is

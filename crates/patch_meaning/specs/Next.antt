@@ -10,7 +10,8 @@ use Rattle.patch_reader.specs.Rows.{Gap, NoRowAt}
 
 -- what a row says that stands there, behind white space and comments
 abbrev pub IsNextRow : List ℕ → ℕ → Next → Type 0
-IsNextRow text from next = (r : Row) × Gap text from next.at × IsRowAt text next.at r next.end × (next.role ≡ role r)
+IsNextRow text from next =
+    (r : Row) × Gap text from next.at × IsRowAt text next.at r next.end × (next.role ≡ role r)
 
 -- the next row, or none up to the text's end, or the first fault of the next row
 abbrev pub IsNext : List ℕ → ℕ → Result (Option Next) RowFault → Type 0

@@ -1,5 +1,6 @@
 -- Patches, and the first fault of a text that is none.
-use Rattle.std.specs.Prelude.{◌≡◌, ℕ, ◌<◌, ◌≤◌, Bool, true, false, List, [], ◌∷◌, ◌++◌, Option, Some, None, length, map, if◌then◌else◌}
+use Rattle.std.specs.Prelude.{◌≡◌, ℕ, ◌<◌, ◌≤◌, Bool, true, false, List, [], ◌∷◌}
+use Rattle.std.specs.Prelude.{◌++◌, Option, Some, None, length, map, if◌then◌else◌}
 use Rattle.delta_base.specs.declared.id.Id.{Id}
 use Rattle.delta_base.specs.declared.limits.TheConstants.{PATCH_LIMIT}
 use Rattle.rdf_terms.specs.declared.change.Change.{Change}
@@ -123,7 +124,8 @@ row_refused (row.At at kind) = faults.At at (kinds.Row kind)
 row_refused row.OutOfMemory = faults.OutOfMemory
 
 -- The first fault of the rows of a text. Rows that are well come up to this place.
-pub data IsRowsFault (text : List ℕ) (rows_ : List PlacedRow) (to : ℕ) (fault : PatchFault) : Type 0 where
+pub data IsRowsFault (text : List ℕ) (rows_ : List PlacedRow) (to : ℕ)
+    (fault : PatchFault) : Type 0 where
   no_row : (at : ℕ) (kind : RowKind) → NoRowAt text to kind at
       → fault ≡ faults.At at (kinds.Row kind) → IsRowsFault text rows_ to fault
   refused : (r : Row) (end : ℕ) (why : PatchKind) → IsRowAt text to r end

@@ -1,5 +1,6 @@
 -- What the rows of a patch say.
-use Rattle.std.specs.Prelude.{ℕ, Bool, true, false, ◌||◌, List, [], ◌∷◌, Option, None, take, drop, length, map, codes, nat_eq, if◌then◌else◌}
+use Rattle.std.specs.Prelude.{◌≡◌, ℕ, Bool, true, false, ◌||◌, List, [], ◌∷◌, Option, None}
+use Rattle.std.specs.Prelude.{Some, take, drop, length, map, codes, nat_eq, if◌then◌else◌}
 use Rattle.std.specs.List.{flat_map}
 use Rattle.std.specs.Option.{option_map, option_or}
 use Rattle.std.specs.Cmp.Lexicographic.{pointwise}
@@ -16,6 +17,10 @@ use Rattle.patch_rows.specs.declared.row.Row.TheVariants as rows
 use Rattle.patch_meaning.specs.declared.role.Role.{Role}
 use Rattle.patch_meaning.specs.declared.role.Role.TheVariants as roles
 use Rattle.patch_reader.specs.declared.placed.PlacedRow.{PlacedRow}
+use Rattle.rdf_terms.specs.Quad.{Statement}
+use Rattle.row_scan.specs.Found.{change_by}
+use Rattle.row_scan.specs.declared.row.Says.{Says}
+use Rattle.row_scan.specs.declared.row.Says.TheVariants as says
 
 -- ---- ids
 
@@ -28,7 +33,8 @@ id_in text = option_map as_id (number_of text)
 
 -- the id behind a word with which the text begins
 abbrev pub id_behind : List ℕ → List ℕ → Option Id
-id_behind word text = if pointwise nat_eq (take (length word) text) word then id_in (drop (length word) text) else None
+id_behind word text = if pointwise nat_eq (take (length word) text) word
+    then id_in (drop (length word) text) else None
 
 -- `uuid:` or `urn:uuid:`, and the id
 abbrev pub iri_id : List ℕ → Option Id
@@ -52,11 +58,22 @@ value_id (terms.Literal literal) = string_id literal.lexical literal.kind
 unfoldable pub header_role : List ℕ → Term → Role
 header_role key value =
     if pointwise nat_eq key (codes "id") then roles.Id (value_id value)
-    else (if pointwise nat_eq key (codes "prev") || pointwise nat_eq key (codes "previous") then roles.Prev (value_id value) else roles.Other)
+    else (if pointwise nat_eq key (codes "prev") || pointwise nat_eq key (codes "previous")
+    then roles.Prev (value_id value) else roles.Other)
 
 abbrev pub role : Row → Role
 role (rows.Header key value) = header_role key value
 role (rows.Change change) = roles.Change change
+
+-- a row says this, of which a scan found so much
+abbrev pub IsFoundRole : Says → Role → Type 0
+IsFoundRole (says.Quad adds line) r =
+    (quad : Statement) × (r ≡ roles.Change (change_by adds quad))
+IsFoundRole says.Begin r = r ≡ roles.Change change.Begin
+IsFoundRole says.Commit r = r ≡ roles.Change change.Commit
+IsFoundRole says.Abort r = r ≡ roles.Change change.Abort
+IsFoundRole (says.Id id) r = r ≡ roles.Id (Some id)
+IsFoundRole (says.Prev id) r = r ≡ roles.Prev (Some id)
 
 -- what the rows of a text say
 abbrev pub said : List PlacedRow → List Role

@@ -1,5 +1,6 @@
 -- Streams: how rows are cut into patches, and the first fault of a text that is no stream.
-use Rattle.std.specs.Prelude.{◌≡◌, ℕ, ◌+◌, ◌-◌, ◌<◌, ◌≤◌, nat_lt, Bool, true, false, ◌||◌, List, [], ◌∷◌, ◌++◌, Some, fold, length, if◌then◌else◌}
+use Rattle.std.specs.Prelude.{◌≡◌, ℕ, ◌+◌, ◌-◌, ◌<◌, ◌≤◌, nat_lt, Bool, true, false, ◌||◌}
+use Rattle.std.specs.Prelude.{List, [], ◌∷◌, ◌++◌, Some, fold, length, if◌then◌else◌}
 use Rattle.std.specs.List.{slice_range}
 use Rattle.patch_rows.specs.declared.row.Row.{Row}
 use Rattle.patch_rows.specs.declared.fault.RowKind.{RowKind}
@@ -25,7 +26,8 @@ pub record Part : Type 0 where
   pub from : ℕ
   pub rows_ : List PlacedRow
 
--- with a header behind a change, and with an id row where there is one already, the next patch begins
+-- with a header behind a change, and with an id row where there is one already, the
+-- next patch begins
 abbrev pub begins : List Role → Role → Bool
 begins rs (roles.Id id) = has_some (ids_of rs) || has_some (changes_of rs)
 begins rs (roles.Prev id) = has_some (changes_of rs)
@@ -39,8 +41,12 @@ pub record Cut : Type 0 where
 
 abbrev pub cut_with : Cut → PlacedRow → Cut
 cut_with c r =
-    if begins (said c.last.rows_) (role r.row) then record { done = c.done ++ c.last ∷ []; last = record { from = r.at; rows_ = r ∷ [] } }
-    else record { done = c.done; last = record { from = c.last.from; rows_ = c.last.rows_ ++ r ∷ [] } }
+    if begins (said c.last.rows_) (role r.row)
+    then record { done = c.done ++ c.last ∷ []; last = record { from = r.at; rows_ = r ∷ [] } }
+    else record {
+      done = c.done;
+      last = record { from = c.last.from; rows_ = c.last.rows_ ++ r ∷ [] };
+    }
 
 -- rows are cut from the front on; the first patch begins where the text does
 abbrev pub cut : List PlacedRow → Cut
@@ -70,12 +76,14 @@ AreStream (r ∷ rs) stop ms = ArePatches ((cut (r ∷ rs)).done ++ (cut (r ∷ 
 -- the texts of patches, each from its place to where the next one begins, or to this place
 abbrev pub texts_of : List ℕ → List Part → ℕ → List (List ℕ)
 texts_of text [] stop = []
-texts_of text (part ∷ parts) stop = slice_range text part.from (stop_of parts stop) ∷ texts_of text parts stop
+texts_of text (part ∷ parts) stop =
+    slice_range text part.from (stop_of parts stop) ∷ texts_of text parts stop
 
 -- the texts of the patches of which these are the rows; without rows there is none
 abbrev pub cut_texts : List ℕ → List PlacedRow → List (List ℕ)
 cut_texts text [] = []
-cut_texts text (r ∷ rs) = texts_of text ((cut (r ∷ rs)).done ++ (cut (r ∷ rs)).last ∷ []) (length text)
+cut_texts text (r ∷ rs) =
+    texts_of text ((cut (r ∷ rs)).done ++ (cut (r ∷ rs)).last ∷ []) (length text)
 
 -- the text is a stream of patches that say this
 pub record IsStream (text : List ℕ) (ms : List Meaning) : Type 0 where

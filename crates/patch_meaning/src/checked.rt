@@ -19,8 +19,8 @@ use rdf_terms::Changes;
 use std::alloc::Global;
 use std::marker::Model;
 
-/// A patch whose text was checked: its id, the id of the patch before it, its changes and its text are those of one
-/// patch.
+/// A patch whose text was checked: its id, the id of the patch before it, its changes and its text
+/// are those of one patch.
 #[derive(Drop)]
 pub struct Checked {
     id: Id,
@@ -37,7 +37,8 @@ impl Model for Checked {
 
     ghost view = { λ c. checked c.text c.id c.prev c.changes.items };
 
-    ghost invariant = { λ c. IsPatch c.text (record { id = c.id; prev = c.prev; changes = c.changes.items }) };
+    ghost invariant = { λ c.
+        IsPatch c.text (record { id = c.id; prev = c.prev; changes = c.changes.items }) };
 }
 
 impl Checked {
@@ -49,7 +50,8 @@ impl Checked {
         changes: Changes,
     ) -> Result<Checked, OutOfMemory>
         requires { IsPatch text.now (meaning_of link changes.items) }
-        ensures { IfOk result (λ c. c ≡ record { text = text.now; meaning = meaning_of link changes.items }) }
+        ensures { IfOk result (λ c.
+            c ≡ record { text = text.now; meaning = meaning_of link changes.items }) }
     {
         let text = Bytes::from_slice(alloc, text)?;
         Ok(Checked {
@@ -155,9 +157,11 @@ fn read_rows(alloc: Global, text: &[u8]) -> Result<ReadRows, PatchFault>
 
 // Takes a row, and answers the place behind it.
 fn take(read: &mut ReadRows, next: Next) -> Result<usize, PatchFault>
-    ensures ok { OnOk result ((rs : List Said) → AreRead rs read.old → AreRead (rs ++ next.role ∷ []) read.new) }
+    ensures ok { OnOk result ((rs : List Said) → AreRead rs read.old
+        → AreRead (rs ++ next.role ∷ []) read.new) }
     ensures end { IfOk result (λ end. end ≡ next.end) }
-    ensures fault { IfErr result (λ fault. (rs : List Said) → AreRead rs read.old → IsStopped rs next fault) }
+    ensures fault { IfErr result (λ fault. (rs : List Said) → AreRead rs read.old
+        → IsStopped rs next fault) }
 {
     let Next { role, at, end } = next;
     match read.draft.take(&role) {

@@ -1,7 +1,8 @@
 //! A stream that is cut into patches while its rows come one at a time.
 
 ghost use Rattle.std.specs.Prelude.{◌≡◌, IfOk, IfErr, OnErr};
-ghost use Rattle.patch_meaning.specs.Cutting.{Begins, EndsStream, HasTakenNext, IsBrokenAt, IsBrokenAtEnd, IsBrokenBy, IsCutAt, IsLast, IsLeft};
+ghost use Rattle.patch_meaning.specs.Cutting.{Begins, EndsStream, HasTakenNext, IsBrokenAt};
+ghost use Rattle.patch_meaning.specs.Cutting.{IsBrokenAtEnd, IsBrokenBy, IsCutAt, IsLast, IsLeft};
 ghost use Rattle.patch_meaning.specs.PartRead.{IsIncomplete, IsToldAt};
 
 use crate::fault::{PatchFault, PatchKind};

@@ -1,15 +1,18 @@
 //! A patch of which some rows were read.
 
-ghost use Rattle.std.specs.Prelude.{◌≡◌, ◌++◌, ◌∷◌, [], List, None, Some, MatchResult, OnErr};
+ghost use Rattle.std.specs.Prelude.{◌≡◌, ◌++◌, ◌∷◌, [], Bool, List, None, Some, MatchResult, OnErr};
 ghost use Rattle.patch_meaning.specs.declared.role.Role.{Role as Said};
 ghost use Rattle.patch_meaning.specs.declared.role.Role.TheVariants as roles;
 ghost use Rattle.patch_meaning.specs.Patch.{block_refusal};
-ghost use Rattle.patch_meaning.specs.Roles.{open_after};
+ghost use Rattle.patch_meaning.specs.Roles.{open_after, IsFoundRole};
+ghost use Rattle.rdf_terms.specs.Quad.{Statement};
+ghost use Rattle.row_scan.specs.Found.{change_by};
 
 use crate::fault::PatchKind;
 use crate::role::Role;
 use delta_base::Id;
 use rdf_terms::Change;
+use row_scan::Says;
 
 /// A patch, as far as its rows were read. Who reads them keeps the changes.
 #[derive(Clone, Copy)]
@@ -46,6 +49,25 @@ impl Draft {
             Role::Prev(prev) => self.take_prev(*prev),
             Role::Other => self.take_other(),
             Role::Change(change) => self.take_change(change),
+        }
+    }
+
+    /// Takes the next row, of which a scan found what it says, with no row made.
+    #[inline]
+    pub fn take_found(&mut self, says: Says) -> Result<(), PatchKind>
+        ensures { (rs : List Said) (r : Said)
+            → IsFoundRole says r → Stands rs self.old → Takes rs r result self.new }
+    {
+        match says {
+            Says::Quad { .. } => {
+                self.take_quad();
+                Ok(())
+            }
+            Says::Begin => self.take_change(&Change::Begin),
+            Says::Commit => self.take_change(&Change::Commit),
+            Says::Abort => self.take_change(&Change::Abort),
+            Says::Id(id) => self.put_id(id),
+            Says::Prev(prev) => self.put_prev(prev),
         }
     }
 
@@ -113,6 +135,16 @@ impl Draft {
         Ok(())
     }
 
+    /// Takes a row that adds or deletes a quad, which may stand behind any others.
+    #[inline]
+    pub fn take_quad(&mut self)
+        ensures { (rs : List Said) (adds : Bool) (quad : Statement) → Stands rs self.old
+            → Stands (rs ++ roles.Change (change_by adds quad) ∷ []) self.new }
+    {
+        self.has_change = true;
+    }
+
+    #[inline]
     fn take_change(&mut self, change: &Change) -> Result<(), PatchKind>
         ensures row { (rs : List Said)
             → Stands rs self.old → Takes rs (roles.Change change.now) result self.new }
@@ -130,8 +162,11 @@ impl Draft {
 }
 
 // Whether a block is open behind a change, where it may stand.
+#[inline]
 fn in_block_behind(change: &Change, in_block: bool) -> Result<bool, PatchKind>
-    ensures { MatchResult result (λ after. (after ≡ open_after in_block change.now) × (block_refusal in_block change.now ≡ None)) (λ why. block_refusal in_block change.now ≡ Some why) }
+    ensures { MatchResult result (λ after. (after ≡ open_after in_block change.now)
+        × (block_refusal in_block change.now ≡ None))
+        (λ why. block_refusal in_block change.now ≡ Some why) }
 {
     match change {
         Change::Begin => {

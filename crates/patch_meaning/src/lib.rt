@@ -1,4 +1,5 @@
-//! Patches: what the rows of a text say together (`specs/Patch.antt`), and the first fault of a text that is no patch.
+//! Patches: what the rows of a text say together (`specs/Patch.antt`), and the first fault of a
+//! text that is no patch.
 #![tactic(auto)]
 
 mod checked;

@@ -3,19 +3,23 @@
 ghost use Rattle.std.specs.Prelude.{◌≡◌, ◌≤◌, ◌++◌, ◌∷◌, [], List, length, IfOk, IfErr, OnOk};
 ghost use Rattle.delta_base.specs.declared.limits.TheConstants.{PATCH_LIMIT};
 ghost use Rattle.rdf_terms.specs.declared.change.Change.{Change};
+ghost use Rattle.patch_meaning.specs.declared.fault.PatchFault.TheVariants as faults;
 ghost use Rattle.patch_meaning.specs.declared.role.Role.{Role as Said};
-ghost use Rattle.patch_meaning.specs.Checked.{HasDrafted, Refuses, IsStopped};
+ghost use Rattle.patch_meaning.specs.Checked.{HasTaken, AreDrafted, HasDrafted};
+ghost use Rattle.patch_meaning.specs.Checked.{Refuses, IsStopped, TakesNext};
 ghost use Rattle.patch_meaning.specs.Draft.{Stands};
 ghost use Rattle.patch_meaning.specs.PartRead.{meaning_of};
 ghost use Rattle.patch_meaning.specs.Patch.{IsPatch};
 
 use crate::checked::refuse;
 use crate::draft::Draft;
-use crate::fault::PatchFault;
+use crate::fault::{PatchFault, PatchKind};
 use crate::part::whole;
-use crate::rows::{Next, next_row};
+use crate::rows::{Next, row_from};
 use chain_core::Link;
 use delta_base::PATCH_LIMIT;
+use patch_rows::skip_space;
+use row_scan::scan_row;
 use std::alloc::Global;
 
 /// The ids of one patch. A fault is the text's first. No change is kept, and no text copied.
@@ -43,10 +47,36 @@ fn draft_rows(alloc: Global, text: &[u8]) -> Result<Draft, PatchFault>
 {
     let mut draft = Draft::new();
     let mut at = 0;
-    while let Some(next) = next_row(alloc, text, at)? {
-        at = take(&mut draft, next)?;
+    while let Some(end) = take_next(alloc, &mut draft, text, at)? {
+        at = end;
     }
     Ok(draft)
+}
+
+// Takes the next row behind a place, if there is one, and answers the place behind it. Of a row
+// that the scan finds no term is made.
+#[inline(always)]
+fn take_next(
+    alloc: Global,
+    draft: &mut Draft,
+    text: &[u8],
+    from: usize,
+) -> Result<Option<usize>, PatchFault>
+    requires short { length text.now ≤ PATCH_LIMIT }
+    requires taken { HasTaken text.now from (AreDrafted draft.old) }
+    ensures { TakesNext text.now from draft.new result }
+{
+    let at = skip_space(text, from);
+    if let Some(row) = scan_row(text, at) {
+        return match draft.take_found(row.says) {
+            Ok(()) => Ok(Some(row.end)),
+            Err(kind) => Err(fault_at(at, kind)),
+        };
+    }
+    match row_from(alloc, text, at)? {
+        None => Ok(None),
+        Some(next) => Ok(Some(take(draft, next)?)),
+    }
 }
 
 // Takes a row, and answers the place behind it.
@@ -63,12 +93,15 @@ fn take(draft: &mut Draft, next: Next) -> Result<usize, PatchFault>
             drop(role);
             Ok(end)
         }
-        Err(kind) => refuse(
-            role,
-            PatchFault::At {
-                at: at as u64,
-                kind,
-            },
-        ),
+        Err(kind) => refuse(role, fault_at(at, kind)),
+    }
+}
+
+fn fault_at(at: usize, kind: PatchKind) -> PatchFault
+    ensures { result ≡ faults.At at kind }
+{
+    PatchFault::At {
+        at: at as u64,
+        kind,
     }
 }

@@ -1,15 +1,20 @@
 //! A patch of a stream of which some rows were read.
 
-ghost use Rattle.std.specs.Prelude.{◌≡◌, ◌+◌, ◌++◌, ◌∷◌, [], List, IfOk, IfErr, OnOk, OnErr, nat_lt, ◌-◌};
+ghost use Rattle.std.specs.Prelude.{◌≡◌, ◌+◌, ◌++◌, ◌∷◌, [], Bool, List};
+ghost use Rattle.std.specs.Prelude.{IfOk, IfErr, OnOk, OnErr, nat_lt, ◌-◌};
 ghost use Rattle.delta_base.specs.declared.limits.TheConstants.{PATCH_LIMIT};
 ghost use Rattle.patch_meaning.specs.declared.fault.PatchFault.TheVariants as faults;
 ghost use Rattle.patch_meaning.specs.declared.role.Role.{Role as Said};
+ghost use Rattle.patch_meaning.specs.declared.role.Role.TheVariants as roles;
 ghost use Rattle.patch_meaning.specs.Draft.{Stands};
 ghost use Rattle.patch_meaning.specs.Patch.{IsWell, has_some};
-ghost use Rattle.patch_meaning.specs.PartRead.{meaning_of, HasPart, IsComplete, IsIncomplete, IsRefused, IsToldAt, LacksEnd};
+ghost use Rattle.patch_meaning.specs.PartRead.{meaning_of, HasPart, IsComplete};
+ghost use Rattle.patch_meaning.specs.PartRead.{IsIncomplete, IsRefused, IsToldAt, LacksEnd};
 ghost use Rattle.patch_meaning.specs.Roles.{role, said, changes_of};
 ghost use Rattle.patch_meaning.specs.Stream.{begins, within};
 ghost use Rattle.patch_reader.specs.declared.placed.PlacedRow.{PlacedRow};
+ghost use Rattle.rdf_terms.specs.Quad.{Statement};
+ghost use Rattle.row_scan.specs.Found.{change_by};
 
 use crate::draft::Draft;
 use crate::fault::{PatchFault, PatchKind};
@@ -85,6 +90,18 @@ impl Part {
         }
     }
 
+    /// Takes a row that adds or deletes a quad, which may stand behind any others.
+    #[inline]
+    pub fn take_quad(&mut self)
+        ensures rows { (rs : List PlacedRow) (r : PlacedRow) (adds : Bool) (quad : Statement)
+            → HasPart rs self.old → role r.row ≡ roles.Change (change_by adds quad)
+            → HasPart (rs ++ r ∷ []) self.new }
+        ensures from { self.new.from ≡ self.old.from }
+    {
+        self.draft.take_quad();
+        self.has_rows = true;
+    }
+
     /// What is wrong at a place; where the patch is too long up to there, that.
     pub fn fault_at(&self, at: u64, kind: PatchKind) -> PatchFault
         ensures fault { result ≡ within self.now.from at kind }
@@ -123,7 +140,8 @@ fn too_long(from: u64, at: u64) -> PatchFault
 pub fn whole(draft: Draft, stop: u64) -> Result<Link, PatchFault>
     ensures ok { IfOk result (λ link. (rs : List Said)
         → Stands rs draft → IsWell rs (meaning_of link (changes_of rs))) }
-    ensures fault { IfErr result (λ fault. (rs : List Said) → Stands rs draft → LacksEnd rs stop fault) }
+    ensures fault { IfErr result (λ fault. (rs : List Said) → Stands rs draft
+        → LacksEnd rs stop fault) }
     ensures told { IfErr result (IsToldAt stop) }
 {
     if draft.in_block {

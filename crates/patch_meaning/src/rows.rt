@@ -1,7 +1,10 @@
 //! The next row of a text.
 
-ghost use Rattle.std.specs.Prelude.{◌≤◌, length};
+ghost use Rattle.std.specs.Prelude.{◌≤◌, ℕ, drop, length};
+ghost use Rattle.nquads_text.specs.Grammar.{StartsWith};
 ghost use Rattle.patch_meaning.specs.Next.{IsNext};
+ghost use Rattle.patch_reader.specs.Rows.{Gap};
+ghost use Rattle.patch_rows.specs.Grammar.{begins_space};
 
 use crate::role::{Role, role_of};
 use patch_reader::read_row;
@@ -16,13 +19,24 @@ pub struct Next {
     pub end: usize,
 }
 
-/// The next row behind a place, if there is one. It is inlined, so that what a row says isn't moved on its way to who takes it.
+/// The next row behind a place, if there is one. It is inlined, so that what a row says isn't moved
+/// on its way to who takes it.
 #[inline(always)]
 pub fn next_row(alloc: Global, text: &[u8], from: usize) -> Result<Option<Next>, RowFault>
     requires { from ≤ length text.now }
     ensures { IsNext text.now from result }
 {
-    let at = skip_space(text, from);
+    row_from(alloc, text, skip_space(text, from))
+}
+
+/// The row that begins at a place behind white space, unless the text ends there. It is inlined for
+/// the same reason.
+#[inline(always)]
+pub fn row_from(alloc: Global, text: &[u8], at: usize) -> Result<Option<Next>, RowFault>
+    requires within { at ≤ length text.now }
+    requires begins { StartsWith begins_space (drop at text.now) → ⊥ }
+    ensures { (from : ℕ) → Gap text.now from at → IsNext text.now from result }
+{
     if at == text.len() {
         return Ok(None);
     }

@@ -4,7 +4,9 @@ ghost use Rattle.std.specs.Prelude.{◌≡◌, ◌≤◌, ◌++◌, IfOk, IfErr,
 ghost use Rattle.std.specs.List.{slice_range};
 ghost use Rattle.patch_meaning.specs.declared.fault.PatchFault.TheVariants as faults;
 ghost use Rattle.patch_meaning.specs.Checked.{meanings};
-ghost use Rattle.patch_meaning.specs.Cutting.{HasCut, HasCutAll, IsNextOf, IsNextToCut, IsTextOf, RefusesStream, Stops, changes_behind, changes_left, checked_of};
+ghost use Rattle.patch_meaning.specs.Cutting.{HasCut, HasCutAll, IsNextOf, IsNextToCut};
+ghost use Rattle.patch_meaning.specs.Cutting.{IsTextOf, RefusesStream, Stops};
+ghost use Rattle.patch_meaning.specs.Cutting.{changes_behind, changes_left, checked_of};
 ghost use Rattle.patch_meaning.specs.Stream.{IsSplit, IsStream};
 
 use crate::checked::{Checked, keep, refuse};
@@ -22,8 +24,8 @@ use std::mem;
 /// Patches in the order of their stream.
 pub type Patches = Listing<Checked>;
 
-/// A stream of which some rows were read: patches that are complete, and the one to which the next row may belong, with its
-/// changes.
+/// A stream of which some rows were read: patches that are complete, and the one to which the next
+/// row may belong, with its changes.
 #[derive(Drop)]
 pub struct Cutting {
     patches: Patches,
@@ -31,8 +33,8 @@ pub struct Cutting {
     changes: Changes,
 }
 
-/// The patches of a stream, each with its own text. A fault is that of the first patch that has one, with its place from the
-/// stream's front.
+/// The patches of a stream, each with its own text. A fault is that of the first patch that has
+/// one, with its place from the stream's front.
 pub fn split_stream(alloc: Global, text: &[u8]) -> Result<Patches, PatchFault>
     ensures stream { IfOk result (λ patches. IsStream text.now (meanings patches.items)) }
     ensures split { IfOk result (λ patches. IsSplit text.now patches.items) }
@@ -82,7 +84,8 @@ impl Cutting {
         }
     }
 
-    // Puts the patch that was completed before a row behind the others, if there is one, and keeps the change of the row.
+    // Puts the patch that was completed before a row behind the others, if there is one, and keeps
+    // the change of the row.
     fn go_on(
         &mut self,
         alloc: Global,
@@ -91,8 +94,10 @@ impl Cutting {
         done: Option<Link>,
     ) -> Result<(), PatchFault>
         requires { IsTextOf text.now done self.old.changes.items }
-        ensures patches { OnOk result (self.new.patches.items ≡ self.old.patches.items ++ checked_of text.now done self.old.changes.items) }
-        ensures changes { OnOk result (self.new.changes.items ≡ changes_behind done self.old.changes.items says) }
+        ensures patches { OnOk result (self.new.patches.items
+            ≡ self.old.patches.items ++ checked_of text.now done self.old.changes.items) }
+        ensures changes { OnOk result (self.new.changes.items
+            ≡ changes_behind done self.old.changes.items says) }
         ensures part { self.new.part ≡ self.old.part }
         ensures fault { IfErr result (λ fault. fault ≡ faults.OutOfMemory) }
     {
@@ -105,8 +110,10 @@ impl Cutting {
     // Puts a patch with its text behind those that are complete, if there is one.
     fn put(&mut self, alloc: Global, text: &[u8], done: Option<Link>) -> Result<(), OutOfMemory>
         requires { IsTextOf text.now done self.old.changes.items }
-        ensures patches { OnOk result (self.new.patches.items ≡ self.old.patches.items ++ checked_of text.now done self.old.changes.items) }
-        ensures changes { OnOk result (self.new.changes.items ≡ changes_left done self.old.changes.items) }
+        ensures patches { OnOk result (self.new.patches.items
+            ≡ self.old.patches.items ++ checked_of text.now done self.old.changes.items) }
+        ensures changes { OnOk result (self.new.changes.items
+            ≡ changes_left done self.old.changes.items) }
         ensures part { self.new.part ≡ self.old.part }
     {
         match done {

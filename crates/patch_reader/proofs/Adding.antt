@@ -3,7 +3,7 @@ use Rattle.std.proofs.Common.{◌≡◌, ℕ, List, [], ◌∷◌, ◌++◌, ref
 use Rattle.patch_reader.specs.declared.placed.PlacedRow.{PlacedRow}
 use Rattle.patch_rows.specs.declared.cut.TextEnd.{TextEnd}
 use Rattle.patch_rows.specs.declared.cut.TextEnd.TheVariants as ends
-use Rattle.patch_reader.specs.Rows.{RowsUpTo, RowsStand, Adds, StayReady}
+use Rattle.patch_reader.specs.Rows.{RowsUpTo, RowsStand, Adds}
 
 pub rows_joined : (text : List ℕ) (from mid to : ℕ) (rows_ others : List PlacedRow) → RowsUpTo text from rows_ mid → RowsUpTo text mid others to → RowsUpTo text from (rows_ ++ others) to
 rows_joined text from mid to [] others up more = subst (λ (n : ℕ). RowsUpTo text n others to) (sym up) more
@@ -13,29 +13,10 @@ pub stand_joined : (end : TextEnd) (text : List ℕ) (from mid to : ℕ) (rows_ 
 stand_joined ends.Open text from mid to rows_ others up more = λ others_text. rows_joined (text ++ others_text) from mid to rows_ others (up others_text) (more others_text)
 stand_joined ends.Known text from mid to rows_ others up more = rows_joined text from mid to rows_ others up more
 
-none_stand : (end : TextEnd) (text : List ℕ) (from : ℕ) → RowsStand end text from [] from
-none_stand ends.Open text from = λ more. refl
-none_stand ends.Known text from = refl
-
-pub rows_end : (rows_ : List PlacedRow) → rows_ ++ [] ≡ rows_
-rows_end [] = refl
-rows_end (r ∷ rows_) = ap (λ (t : List PlacedRow). r ∷ t) (rows_end rows_)
-
 pub rows_assoc : (a b c : List PlacedRow) → (a ++ b) ++ c ≡ a ++ (b ++ c)
 rows_assoc [] b c = refl
 rows_assoc (r ∷ a) b c = ap (λ (t : List PlacedRow). r ∷ t) (rows_assoc a b c)
 
-pub adds_none : (end : TextEnd) (text : List ℕ) (from : ℕ) (old : List PlacedRow) → Adds end text from old old from
-adds_none end text from old = ([], sym (rows_end old), none_stand end text from)
-
 pub adds_more : (end : TextEnd) (text : List ℕ) (from to last : ℕ) (old mid new : List PlacedRow) (r : PlacedRow) → Adds end text from old mid to → new ≡ mid ++ r ∷ [] → RowsStand end text to (r ∷ []) last → Adds end text from old new last
 adds_more end text from to last old mid new r (rows_, is, up) more there =
     (rows_ ++ r ∷ [], more ∙ ap (λ (t : List PlacedRow). t ++ r ∷ []) is ∙ rows_assoc old rows_ (r ∷ []), stand_joined end text from to last rows_ (r ∷ []) up there)
-
--- ---- rows that were ready
-
-pub stay_on : (old mid new : List PlacedRow) → StayReady old mid → StayReady mid new → StayReady old new
-stay_on old mid new (rows_, is) (more, e) = (rows_ ++ more, e ∙ ap (λ (t : List PlacedRow). t ++ more) is ∙ rows_assoc old rows_ more)
-
-pub stay_same : (old new : List PlacedRow) → new ≡ old → StayReady old new
-stay_same old new e = ([], e ∙ sym (rows_end old))

@@ -170,11 +170,6 @@ hat_breaks start (b ∷ rest) all =
     blank_no_at : (b : ℕ) → is_blank b ≡ true → nat_eq b 64 ≡ false
     blank_no_at b e = grind (arith, nat_tests, e)
 
-all_blank_skipped : (text : List ℕ) → list_all is_blank text ≡ true → skip_blanks text ≡ []
-unfolding skip_blanks
-all_blank_skipped [] all = refl
-all_blank_skipped (b ∷ rest) all = let p = and_parts (is_blank b) (list_all is_blank rest) all in rw p.0 (all_blank_skipped rest p.1)
-
 -- no datatype: nothing but blanks stands there
 typed_open : (whole start text : List ℕ) (x : LiteralKind × List ℕ) → Behind whole text → (skipped : List ℕ) → skip_blanks text ≡ skipped → typed_at start text skipped ≡ Ok x
     → kind_open x.0 (ends_quoted whole x.1) x.1 ≡ true → list_all is_blank text ≡ true
@@ -440,13 +435,6 @@ pub data TermBreaks (t : Term) (longer : List ℕ → Read Term) : Type 0 where
 
 abbrev pub IsOpen : List ℕ → Term × List ℕ → Type 0
 IsOpen start x = (literal_open start x.0 x.1 ≡ true) ⊎ (blank_open start x.0 x.1 ≡ true)
-
-less_front : (b : ℕ) (rest : List ℕ) (c : ℕ) (after : List ℕ) → char_at (b ∷ rest) ≡ Ok (c, after) → nat_eq c 60 ≡ true → (b ≡ 60) × (rest ≡ after)
-unfolding encode_utf8
-less_front b rest c after e less =
-    let s = char_spelled (b ∷ rest) c after e in
-    let whole : b ∷ rest ≡ 60 ∷ after = s.1 ∙ ap (λ (k : ℕ). encode_utf8 k ++ after) (eqb-true c 60 less) in
-    (cc, cc)
 
 no_iri : (start iri after : List ℕ) → IsOpen start (term.Iri iri, after) → ⊥
 no_iri start iri after (inl e) = false≢true e

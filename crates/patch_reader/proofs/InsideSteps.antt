@@ -18,7 +18,7 @@ use Rattle.nquads_text.proofs.Runs.{more as piece_more, last as piece_last, piec
 use Rattle.patch_rows.specs.declared.fault.RowKind.TheVariants.{Common}
 use Rattle.patch_reader.specs.declared.inside.Inside.TheVariants as inside
 use Rattle.patch_rows.specs.Cut.{leads, is_front, is_cut, ends_text, ends_row, TextAtEnd, label_open, begins_name_char}
-use Rattle.patch_reader.specs.Inside.{IsLabelOpen, AreBlanksOpen, IsTagOpen, IsSuffixOpen, IsStringOpen, OpenInside}
+use Rattle.patch_reader.specs.Inside.{IsLabelOpen, AreBlanksOpen, IsTagOpen, IsStringOpen, OpenInside}
 use Rattle.patch_rows.proofs.GapSteps.{char_longer}
 use Rattle.patch_reader.proofs.RowStays.{cut_char}
 use Rattle.patch_reader.proofs.Stays.{Stays, string_piece_stays, iri_piece_stays}
@@ -60,9 +60,6 @@ run_over test text more from end low high e all =
     let there : drop end (text ++ more) ≡ drop n (drop from text) ++ more =
     drop-append-le end text more high ∙ ap (λ (t : List ℕ). t ++ more) (ap (λ (k : ℕ). drop k text) e ∙ sym (drop-drop n from text)) in
     ap (list_all test) (drop-append-le from text more low) ∙ run_behind test (drop from text) more (ap (list_all test) (sym there) ∙ all)
-
-pub all_passed : (test : ℕ → Bool) (text : List ℕ) (at : ℕ) → at ≡ length text → list_all test (drop at text) ≡ true
-all_passed test text at e = ap (list_all test) (nothing_there text at e)
 
 -- ---- labels
 
@@ -183,9 +180,6 @@ iri_ends text at place kind e o = subst TextAtEnd (sym (pieces-fault iri_piece (
 
 pub tag_begins : (text more : List ℕ) (at : ℕ) → at < length text → get_or text at 0 ≡ 64 → OpenInside (inside.Tag (at + 1) true false) (text ++ more) → OpenInside (inside.Suffix at) (text ++ more)
 tag_begins text more at lt is o = inr (drop (at + 1) (text ++ more), first_there text more at 64 lt is, o)
-
-pub suffix_ends : (text : List ℕ) (at : ℕ) → at ≡ length text → OpenInside (inside.Suffix at) text
-suffix_ends text at e = let none = nothing_there text at e in subst IsSuffixOpen (sym none) (inl (inl refl))
 
 skips_twice : (xs more : List ℕ) → skip_blanks (xs ++ more) ≡ skip_blanks (skip_blanks xs ++ more)
 unfolding skip_blanks

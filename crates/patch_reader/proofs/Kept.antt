@@ -96,8 +96,8 @@ module _ (text kept : List ℕ) (base : ℕ) (k : Keeps text base kept) where
     stays some = subst (λ (t : List ℕ). (more : List ℕ) → Space (drop at kept ++ more) (t ++ more)) skipped
         (space_there (drop at kept) (λ cut. some (ap is_cut (sym skipped) ∙ cut)))
 
-    row_next : (end : ℕ) (r : Row) → start < end → end ≤ length kept → ShortRowDecided (drop start kept) r (drop end kept) → RowsDecided text (base + at) (placed_row base r start end ∷ []) (base + end)
-    row_next end r lt le d = subst (λ (p : PlacedRow). RowsDecided text (base + at) (p ∷ []) (base + end)) (sym (placed_is r start end high le))
+    row_next : (end : ℕ) (r : Row) → start < end → end ≤ length kept → ShortRowDecided (drop start kept) r (drop end kept) → RowsDecided text (base + at) (placed_row base r start end ∷ []) (further_place base end)
+    row_next end r lt le d = subst (λ (p : PlacedRow). RowsDecided text (base + at) (p ∷ []) p.end) (sym (placed_is r start end high le))
         (λ more. (gap_open at start low high (stays (row_not_cut (drop start kept) r (drop end kept) d)) more, row_open start end r lt le d more, refl))
 
     fault_next : (place : ℕ) (kind : RowKind) → start < length kept → place ≤ length kept → FirstFaultDecided (drop start kept) (kind, drop place kept) → NextFault text (base + at) kind (further_place base place)
@@ -145,11 +145,11 @@ module _ (text kept : List ℕ) (base : ℕ) (k : Keeps text base kept) where
       omega (arith, s, within, high),
     )
 
-    row_known : (end : ℕ) (r : Row) → IsRowAt kept start r end → RowsUpTo text (base + at) (placed_row base r start end ∷ []) (base + end)
+    row_known : (end : ℕ) (r : Row) → IsRowAt kept start r end → RowsUpTo text (base + at) (placed_row base r start end ∷ []) (further_place base end)
     unfolding IsRowAt
     row_known end r is =
         let s = size in let within = k.1 in let lt = is.1 in let le = is.2 in
-        subst (λ (p : PlacedRow). RowsUpTo text (base + at) (p ∷ []) (base + end)) (sym (placed_is r start end high le)) (
+        subst (λ (p : PlacedRow). RowsUpTo text (base + at) (p ∷ []) p.end) (sym (placed_is r start end high le)) (
           gap_known,
           (
             subst (λ (t : List ℕ). ShortRowAt t r (drop (base + end) text)) (sym (here start)) (subst (λ (t : List ℕ). ShortRowAt (drop start kept) r t) (sym (here end)) is.0),
@@ -179,13 +179,13 @@ module _ (text kept : List ℕ) (base : ℕ) (k : Keeps text base kept) where
 
 -- ---- what is answered of the next row
 
-abbrev pub moved : ℕ → ℕ → Result (Option (Row × ℕ)) RowAnswer → Result (Option (PlacedRow × ℕ)) RowAnswer
-moved base start (Ok (Some x)) = Ok (Some (placed_row base x.0 start x.1, x.1))
+abbrev pub moved : ℕ → ℕ → Result (Option (Row × ℕ)) RowAnswer → Result (Option PlacedRow) RowAnswer
+moved base start (Ok (Some x)) = Ok (Some (placed_row base x.0 start x.1))
 moved base start (Ok None) = Ok None
 moved base start (Err fault) = Err (moved_fault base fault)
 
 pub next_given : (end : TextEnd) (text kept : List ℕ) (base at start : ℕ) (answer : Result (Option (Row × ℕ)) RowAnswer) → at ≤ start → start ≤ length kept → Space (drop at kept) (drop start kept)
-    → GivesRow end kept start answer → Keeps text base kept → GivesNext end text base at (moved base start answer)
+    → GivesRow end kept start answer → Keeps text base kept → GivesNext end text (base + at) (moved base start answer)
 next_given ends.Open text kept base at start (Ok (Some x)) low high space d k = row_next text kept base k at start low high space x.1 x.0 d.1 d.2 d.0
 next_given ends.Open text kept base at start (Ok None) low high space d k = none_next text kept base k at start low high space d
 next_given ends.Open text kept base at start (Err (faults.At place kind)) low high space d k = fault_next text kept base k at start low high space place kind d.1 d.2 d.0
@@ -194,11 +194,6 @@ next_given ends.Known text kept base at start (Ok (Some x)) low high space d k =
 next_given ends.Known text kept base at start (Ok None) low high space d k = none_known text kept base k at start low high space d
 next_given ends.Known text kept base at start (Err (faults.At place kind)) low high space d k = fault_known text kept base k at start low high space place kind d.1 d.2 d.0
 next_given ends.Known text kept base at start (Err faults.OutOfMemory) low high space d k = tt
-
-pub row_further : (end : TextEnd) (kept : List ℕ) (start : ℕ) (x : Row × ℕ) → GivesRow end kept start (Ok (Some x)) → (start < x.1) × (x.1 ≤ length kept)
-unfolding IsRowAt
-row_further ends.Open kept start x d = (d.1, d.2)
-row_further ends.Known kept start x d = (d.1, d.2)
 
 pub whole_fault : (text : List ℕ) (at : ℕ) (fault : RowAnswer) → at ≤ length text → (at ≡ length text → ⊥) → FailsBy (FirstFault (drop at text)) text fault → Reads text at (Err fault)
 whole_fault text at (faults.At place kind) le ne bad = (bad.0, omega (arith, le, ne), bad.1)

@@ -11,6 +11,8 @@ pub mod Limits
 pub mod RowAnswers
 pub mod FrontSteps
 pub mod Kept
+pub mod LineFeeds
+pub mod Holding
 pub mod Adding
 pub mod WindowSteps
 pub mod InsideSteps
@@ -19,4 +21,4 @@ pub mod Begun
 pub mod ProgressSteps
 pub mod Answered
 pub mod RowEnds
-pub mod Holding
+pub mod ReadOn

@@ -127,13 +127,6 @@ then_sure (Err e) longer f g ends sure h = by (ends h)
 whole_ends : {X : Type 0} (whole : List ℕ → Read X) (rest : List ℕ) → Ends (whole rest) (λ more. whole (rest ++ more))
 whole_ends whole rest h = Final.ended (subst (λ (t : List ℕ). AtEnd (whole t)) (sym (append-nil rest)) h)
 
-opens_of : {X : Type 0} (live : Read X) (longer : List ℕ → Read X) → Ends live longer → Opens live longer
-opens_of live longer ends h = by (ends h)
-  where
-    by : Final longer → Outcome longer
-    by (Final.ended a) = Outcome.ended a
-    by (Final.broken bytes l b) = Outcome.broken bytes l b
-
 -- ---- at a cut, and before the byte that stops
 
 cut_space : (rest : List ℕ) → is_cut rest ≡ true → is_cut (skip_space rest) ≡ true
@@ -307,10 +300,6 @@ live_is_needed rest x e =
     by : (t : Term × List ℕ) (o : Bool) → cond {A = Read Term} o (Err (Common Truncated, [])) (Ok t) ≡ Ok x → got t ≡ Ok x
     by t true e = absurd cc
     by t false e = e
-
-position_sure : ends_row (Common BadPosition) [] ≡ false
-unfolding ends_row ends_text
-position_sure = refl
 
 no_position_end : (rest : List ℕ) → ends_row (Common BadPosition) rest ≡ true → ⊥
 unfolding ends_row ends_text

@@ -1,18 +1,15 @@
 -- What isn't cut ends white space and comments; what is cut begins no row that is decided.
-use Rattle.std.proofs.Common.{◌≡◌, ℕ, ◌≤◌, true, false, List, [], ◌∷◌, ◌++◌, length, sym, ap, subst, ◌∙◌, ⊎_elim, append-nil, arith}
+use Rattle.std.proofs.Common.{◌≡◌, ℕ, ◌≤◌, true, false, List, [], ◌∷◌, ◌++◌, length, subst, ⊎_elim, arith}
 use Rattle.std.specs.Char.{is_ascii_alphabetic}
 use Rattle.nquads_text.specs.declared.fault.TextKind.TheVariants.{BadToken}
 use Rattle.patch_rows.specs.declared.fault.RowKind.TheVariants.{Common}
 use Rattle.patch_rows.specs.Grammar.{Space, row_limit}
 use Rattle.patch_rows.specs.Reading.{skip_space, word_at}
 use Rattle.patch_rows.specs.Rows.{live_row, row_of}
-use Rattle.patch_rows.proofs.SpaceLaws.{skipped, skips}
+use Rattle.patch_rows.proofs.SpaceLaws.{skipped}
 use Rattle.patch_rows.specs.Cut.{AtEnd, is_cut}
 use Rattle.patch_reader.proofs.Completions.{front_length}
 use Rattle.patch_reader.proofs.RowStays.{end_then, cut_stands, no_letter, cut_other, space_stays}
-
-pub space_is : (text from : List ℕ) → Space (text ++ []) (from ++ []) → skip_space text ≡ from
-space_is text from s = ap skip_space (sym (append-nil text)) ∙ skips (text ++ []) (from ++ []) s ∙ append-nil from
 
 pub space_there : (text : List ℕ) → (is_cut (skip_space text) ≡ true → ⊥) → (more : List ℕ) → Space (text ++ more) (skip_space text ++ more)
 space_there text some = λ more. ⊎_elim

@@ -333,9 +333,6 @@ late_then : {X : Type 0} (start more : List ℕ) (r longer : Read Term) (f g : T
 late_then start more r longer f g (inl h) stays still_open = chained more r longer f g h (λ x e. stays x)
 late_then start more r longer f g (inr (x, e, blank, is, rest)) stays still_open = let f_is = rest.1 in rw (e, f_is) (still_open x rest.0 blank rest.2 is)
 
-blanks_alike : (fits : Term → Bool) → Type 0
-blanks_alike fits = (a b : List ℕ) → fits (term.Blank a) ≡ fits (term.Blank b)
-
 pub placed_stays : (fits : Term → Bool) (more rest : List ℕ) → ((a b : List ℕ) → fits (term.Blank a) ≡ fits (term.Blank b)) → Keeps more (placed_of Open fits rest) (placed_of Known fits (rest ++ more))
 unfolding placed_of
 placed_stays fits more rest alike =

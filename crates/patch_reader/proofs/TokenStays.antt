@@ -210,9 +210,6 @@ dot_front b rest c after e dot =
 
 -- the steps on a character that was read, with and without more text
 module _ (b : ℕ) (rest : List ℕ) where
-  size_by : (dot name : Bool) (k m : ℕ) → ℕ
-  size_by dot name k m = cond dot (cond (nat_eq m 0) 0 (suc k + m)) (cond name (suc k + m) 0)
-
   pub behind_char : (k m : ℕ) → drop (0 + (suc k + m)) (b ∷ rest) ≡ drop (k + m) rest
   behind_char k m = ap (λ (n : ℕ). drop n (b ∷ rest)) (let t : 0 + (suc k + m) ≡ suc (k + m) = omega arith in t)
 

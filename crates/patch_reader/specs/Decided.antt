@@ -1,5 +1,6 @@
 -- What is decided of the row at a text's front, before the end of the text is known.
-use Rattle.std.specs.Prelude.{◌≡◌, ℕ, ◌<◌, ◌≤◌, List, ◌++◌, length, drop, Option, Some, None, Result, Ok, Err}
+use Rattle.std.specs.Prelude.{◌≡◌, ℕ, ◌<◌, ◌≤◌, List, ◌++◌, length}
+use Rattle.std.specs.Prelude.{drop, Option, Some, None, Result, Ok, Err}
 use Rattle.patch_rows.specs.declared.row.Row.{Row}
 use Rattle.patch_rows.specs.declared.fault.RowFault.{RowFault as RowAnswer}
 use Rattle.patch_rows.specs.declared.fault.RowFault.TheVariants as faults
@@ -11,7 +12,8 @@ use Rattle.patch_rows.specs.declared.cut.TextEnd.TheVariants as ends
 
 -- more text decides the row of any length
 abbrev pub Undecided : List ℕ → Type 0
-Undecided text = ((r : Row) (after : List ℕ) → RowDecided text r after → ⊥) × ((f : Fault) → FaultDecided text f → ⊥)
+Undecided text = ((r : Row) (after : List ℕ) → RowDecided text r after → ⊥)
+    × ((f : Fault) → FaultDecided text f → ⊥)
 
 -- ---- within the limit
 
@@ -25,21 +27,28 @@ FirstFaultDecided text f = (more : List ℕ) → FirstFault (text ++ more) (f.0,
 
 -- more text decides
 abbrev pub MoreDecides : List ℕ → Type 0
-MoreDecides text = ((r : Row) (after : List ℕ) → ShortRowDecided text r after → ⊥) × ((f : Fault) → FirstFaultDecided text f → ⊥)
+MoreDecides text = ((r : Row) (after : List ℕ) → ShortRowDecided text r after → ⊥)
+    × ((f : Fault) → FirstFaultDecided text f → ⊥)
 
--- What is answered of the row at a place: the row and the place behind it where they are decided, none where more text decides, and else the
--- decided fault at its place. Want of memory says nothing.
+-- What is answered of the row at a place: the row and the place behind it where they are
+-- decided, none where more text decides, and else the decided fault at its place. Want of
+-- memory says nothing.
 abbrev pub Decides : List ℕ → ℕ → Result (Option (Row × ℕ)) RowAnswer → Type 0
-Decides text at (Ok (Some x)) = ShortRowDecided (drop at text) x.0 (drop x.1 text) × (at < x.1) × (x.1 ≤ length text)
+Decides text at (Ok (Some x)) =
+    ShortRowDecided (drop at text) x.0 (drop x.1 text) × (at < x.1) × (x.1 ≤ length text)
 Decides text at (Ok None) = MoreDecides (drop at text)
-Decides text at (Err (faults.At place kind)) = FirstFaultDecided (drop at text) (kind, drop place text) × (at < length text) × (place ≤ length text)
+Decides text at (Err (faults.At place kind)) =
+    FirstFaultDecided (drop at text) (kind, drop place text)
+    × (at < length text) × (place ≤ length text)
 Decides text at (Err faults.OutOfMemory) = Unit {0}
 
--- The same where the text is known to be whole: the row that stands there, none at the text's end, and else the row's first fault.
+-- The same where the text is known to be whole: the row that stands there, none at the text's end,
+-- and else the row's first fault.
 abbrev pub Reads : List ℕ → ℕ → Result (Option (Row × ℕ)) RowAnswer → Type 0
 Reads text at (Ok (Some x)) = IsRowAt text at x.0 x.1
 Reads text at (Ok None) = at ≡ length text
-Reads text at (Err (faults.At place kind)) = FirstFault (drop at text) (kind, drop place text) × (at < length text) × (place ≤ length text)
+Reads text at (Err (faults.At place kind)) =
+    FirstFault (drop at text) (kind, drop place text) × (at < length text) × (place ≤ length text)
 Reads text at (Err faults.OutOfMemory) = Unit {0}
 
 -- the one or the other

@@ -1,4 +1,5 @@
--- How far a token is known that is at the front of a row or of a part: what stands behind a mark in it decides whether it is open.
+-- How far a token is known that is at the front of a row or of a part: what stands behind a mark in
+-- it decides whether it is open.
 use Rattle.std.specs.Prelude.{◌≡◌, ◌⊎◌, ℕ, ◌≤◌, true, false, List, [], ◌∷◌, ◌++◌, drop, Ok, Err}
 use Rattle.std.specs.Char.{is_ascii_alphabetic}
 use Rattle.std.specs.List.{list_all}
@@ -17,7 +18,8 @@ IsLabelOpen rest = label_open (drop (name_len 0 rest) rest) ≡ true
 
 -- behind a string and blanks: nothing else stands there, or a datatype that the text's end cuts off
 abbrev pub AreBlanksOpen : List ℕ → Type 0
-AreBlanksOpen rest = (list_all is_blank rest ≡ true) ⊎ ((start text : List ℕ) → TextAtEnd (typed_at start text (skip_blanks rest)))
+AreBlanksOpen rest = (list_all is_blank rest ≡ true)
+    ⊎ ((start text : List ℕ) → TextAtEnd (typed_at start text (skip_blanks rest)))
 
 -- a tag that reaches the text's end
 abbrev pub IsTagOpen : Read (List ℕ) → Type 0
@@ -26,7 +28,8 @@ IsTagOpen (Err f) = ends_text f.0 f.1 ≡ true
 
 -- behind a closing quote
 abbrev pub IsSuffixOpen : List ℕ → Type 0
-IsSuffixOpen rest = AreBlanksOpen rest ⊎ ((tag : List ℕ) × (rest ≡ 64 ∷ tag) × ((start : List ℕ) → IsTagOpen (tag_at true false start tag)))
+IsSuffixOpen rest = AreBlanksOpen rest ⊎ ((tag : List ℕ) × (rest ≡ 64 ∷ tag)
+    × ((start : List ℕ) → IsTagOpen (tag_at true false start tag)))
 
 -- a string that the text's end cuts off, or what stands behind it is open
 abbrev pub IsStringOpen : Read (List ℕ) → Type 0
@@ -42,7 +45,8 @@ OpenInside (inside.Label mark) text = IsLabelOpen (drop mark text)
 OpenInside (inside.String mark) text = IsStringOpen (string_body_at (drop mark text))
 OpenInside (inside.Suffix mark) text = IsSuffixOpen (drop mark text)
 OpenInside (inside.Blanks mark) text = AreBlanksOpen (drop mark text)
-OpenInside (inside.Tag mark first some) text = (start : List ℕ) → IsTagOpen (tag_at first some start (drop mark text))
+OpenInside (inside.Tag mark first some) text =
+    (start : List ℕ) → IsTagOpen (tag_at first some start (drop mark text))
 OpenInside (inside.Datatype mark) text = TextAtEnd (iri_needed (skip_blanks (drop mark text)))
 OpenInside (inside.Iri mark) text = TextAtEnd (iri_body_at (drop mark text))
 
@@ -61,4 +65,5 @@ IsInsideWithin size (inside.Iri mark) = mark ≤ size
 
 -- however the text goes on, a token that is open from the one mark on is from the other
 abbrev pub IsFurther : List ℕ → Inside → Inside → Type 0
-IsFurther text old new = (more : List ℕ) → OpenInside new (text ++ more) → OpenInside old (text ++ more)
+IsFurther text old new =
+    (more : List ℕ) → OpenInside new (text ++ more) → OpenInside old (text ++ more)

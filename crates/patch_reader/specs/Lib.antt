@@ -1,4 +1,5 @@
 pub mod Decided
+pub mod Held
 pub mod Inside
 pub mod Limit
 pub mod Pieces

@@ -1,5 +1,6 @@
--- Places in what is kept, as places of the whole text.
-use Rattle.std.specs.Prelude.{ℕ, ◌+◌, ◌-◌, ◌^◌, min}
+-- Places in what is kept, as places of the whole text, and their lines.
+use Rattle.std.specs.Prelude.{ℕ, ◌+◌, ◌-◌, ◌≤◌, ◌^◌, ◌==◌, List, min, take}
+use Rattle.std.specs.Prelude.{count_by, Option, Some, None, Result, Ok, Err}
 use Rattle.patch_rows.specs.declared.row.Row.{Row}
 use Rattle.patch_rows.specs.declared.fault.RowFault.{RowFault as RowAnswer}
 use Rattle.patch_rows.specs.declared.fault.RowFault.TheVariants as faults
@@ -14,4 +15,20 @@ moved_fault base (faults.At at kind) = faults.At (further_place base at) kind
 moved_fault base faults.OutOfMemory = faults.OutOfMemory
 
 abbrev pub placed_row : ℕ → Row → ℕ → ℕ → PlacedRow
-placed_row base r at end = record { row = r; at = further_place base at; end = further_place base end }
+placed_row base r at end =
+    record { row = r; at = further_place base at; end = further_place base end }
+
+-- the place of the row or of the fault isn't before this one
+abbrev pub IsFrom : ℕ → Result (Option PlacedRow) RowAnswer → Type 0
+IsFrom base (Ok (Some r)) = base ≤ r.at
+IsFrom base (Ok None) = Unit {0}
+IsFrom base (Err (faults.At at kind)) = base ≤ at
+IsFrom base (Err faults.OutOfMemory) = Unit {0}
+
+-- how many line feeds stand before a place
+abbrev pub feeds_before : List ℕ → ℕ → ℕ
+feeds_before text at = count_by (λ b. b == 10) (take at text)
+
+-- the line of a place, counted from 1
+abbrev pub line_number : List ℕ → ℕ → ℕ
+line_number text at = feeds_before text at + 1

@@ -1,5 +1,7 @@
--- What is left to read of a row from a part on, and how far the reading of an unfinished row is known.
-use Rattle.std.specs.Prelude.{◌⊎◌, ℕ, ◌≤◌, Bool, true, false, List, ◌++◌, length, drop, Option, Some, None, Result, Ok, if◌then◌else◌}
+-- What is left to read of a row from a part on, and how far the reading of an unfinished
+-- row is known.
+use Rattle.std.specs.Prelude.{◌⊎◌, ℕ, ◌≤◌, Bool, true, false, List, ◌++◌, length}
+use Rattle.std.specs.Prelude.{drop, Option, Some, None, Result, Ok, if◌then◌else◌}
 use Rattle.rdf_terms.specs.Quad.{is_iri}
 use Rattle.nquads_text.specs.declared.fault.TextKind.TheVariants.{MissingDot, BadToken}
 use Rattle.nquads_text.specs.Faults.{begins_term}
@@ -23,7 +25,8 @@ use Rattle.patch_reader.specs.declared.progress.Step.TheVariants as step
 use Rattle.patch_rows.specs.Cut.{AtEnd}
 use Rattle.patch_reader.specs.Inside.{OpenInside, IsInsideWithin}
 
--- ---- the rest of a row, of which only what stands behind it is given; white space and comments are behind us
+-- ---- the rest of a row, of which only what stands behind it is given; white space and comments
+-- are behind us
 
 abbrev pub Rest : Type 0
 Rest = Result (List ℕ) Fault
@@ -164,7 +167,8 @@ IsUnfinished text = AtEnd (live_row text)
 -- what is read from a place on meets the text's end
 abbrev pub OpenAt : Place → List ℕ → Type 0
 OpenAt (place.Row start) text = AtEnd (live_row (drop start text))
-OpenAt (place.Gap p mark comment) text = AtEnd (rest_from p (space_behind comment 0 (drop mark text)))
+OpenAt (place.Gap p mark comment) text =
+    AtEnd (rest_from p (space_behind comment 0 (drop mark text)))
 OpenAt (place.Token p start) text = AtEnd (rest_from p (drop start text))
 
 -- where the one meets the end of a text that goes on, the other does
@@ -173,7 +177,8 @@ Leads text old new = (more : List ℕ) → OpenAt new (text ++ more) → OpenAt 
 
 -- the row is unfinished as long as what is read from there on meets the end
 abbrev pub Follows : List ℕ → Progress → Type 0
-Follows text p = ((more : List ℕ) → OpenAt p.place (text ++ more) → IsUnfinished (text ++ more)) × ((more : List ℕ) → OpenInside p.inside (text ++ more) → IsUnfinished (text ++ more))
+Follows text p = ((more : List ℕ) → OpenAt p.place (text ++ more) → IsUnfinished (text ++ more))
+    × ((more : List ℕ) → OpenInside p.inside (text ++ more) → IsUnfinished (text ++ more))
 
 -- the places lie within the text
 abbrev pub IsPlaceWithin : ℕ → Place → Type 0
@@ -186,19 +191,23 @@ IsWithin size p = IsPlaceWithin size p.place × IsInsideWithin size p.inside
 
 -- what is read inside meets the end only where it does from further inside
 abbrev pub LeadsInside : List ℕ → Progress → Inside → Type 0
-LeadsInside text old new = (more : List ℕ) → OpenInside new (text ++ more) → OpenAt old.place (text ++ more) ⊎ OpenInside old.inside (text ++ more)
+LeadsInside text old new = (more : List ℕ) → OpenInside new (text ++ more)
+    → OpenAt old.place (text ++ more) ⊎ OpenInside old.inside (text ++ more)
 
 -- one step: it leads on, or reading meets the end there, or nothing is known
 abbrev pub IsStep : List ℕ → Progress → Step → Type 0
 IsStep text old (step.Goes new) = Leads text old.place new × IsPlaceWithin (length text) new
-IsStep text old (step.Open new) = Leads text old.place new × IsPlaceWithin (length text) new × OpenAt new text
-IsStep text old (step.Enters new) = LeadsInside text old new × IsInsideWithin (length text) new × OpenInside new text
+IsStep text old (step.Open new) =
+    Leads text old.place new × IsPlaceWithin (length text) new × OpenAt new text
+IsStep text old (step.Enters new) =
+    LeadsInside text old new × IsInsideWithin (length text) new × OpenInside new text
 IsStep text old step.Unknown = Unit {0}
 
 -- the row is unfinished, and it is followed from there on
 abbrev pub IsFollowed : List ℕ → Progress → Option Progress → Type 0
 IsFollowed text old None = Unit {0}
-IsFollowed text old (Some p) = IsWithin (length text) p × (Follows text old → Follows text p × IsUnfinished text)
+IsFollowed text old (Some p) =
+    IsWithin (length text) p × (Follows text old → Follows text p × IsUnfinished text)
 
 -- at a place, with nothing known of what begins there
 abbrev pub progress_at : Place → Progress

@@ -1,4 +1,5 @@
-//! How far the token at the front of a row or of a part is known, so that it isn't read again for each piece.
+//! How far the token at the front of a row or of a part is known, so that it isn't read again
+//! for each piece.
 
 ghost use Rattle.std.specs.Prelude.{◌≡◌, ◌⊎◌, ◌≤◌, ◌<◌, ◌++◌, ℕ, List, true, length, drop};
 ghost use Rattle.rdf_terms.specs.Names.{is_name_char as in_name};
@@ -54,7 +55,8 @@ pub enum Inside {
     },
 }
 
-/// How many kinds of places a token goes through at most: a string, behind it, blanks, behind `^^`, and an IRIREF.
+/// How many kinds of places a token goes through at most: a string, behind it, blanks, behind `^^`,
+/// and an IRIREF.
 const STAGES: usize = 5;
 
 /// Over the letters of a row's code.

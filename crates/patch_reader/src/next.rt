@@ -1,17 +1,16 @@
 //! The next rows of a text whose front isn't kept.
 
-ghost use Rattle.std.specs.Prelude.{◌≡◌, ℕ, ◌+◌, ◌<◌, ◌≤◌, List, length, drop, IfOk, IfSome};
+ghost use Rattle.std.specs.Prelude.{◌≡◌, ℕ, ◌+◌, ◌≤◌, List, length, drop};
 ghost use Rattle.nquads_text.specs.Grammar.{StartsWith};
 ghost use Rattle.patch_rows.specs.Grammar.{begins_space};
 ghost use Rattle.patch_reader.specs.Decided.{Reads, GivesRow};
-ghost use Rattle.patch_reader.specs.Places.{moved_fault, placed_row};
-ghost use Rattle.patch_reader.specs.Rows.{GivesNext, TakesNext, Adds, StayReady, Stops, Keeps};
+ghost use Rattle.patch_reader.specs.Places.{IsFrom, moved_fault, placed_row};
+ghost use Rattle.patch_reader.specs.Rows.{GivesNext, Keeps};
 
 use crate::placed::PlacedRow;
 use crate::reading::{decided_row, read_row};
 use patch_rows::{Row, RowFault, TextEnd, skip_space};
 use std::alloc::Global;
-use std::collections::VecDeque;
 
 /// The row with its places in the whole text, of which `base` bytes stand before what is kept.
 fn placed(row: Row, base: u64, at: usize, end: usize) -> PlacedRow
@@ -69,70 +68,24 @@ fn row_there(
     }
 }
 
-/// The next row behind a place of what is kept, and the place behind it; none where more text decides, or at the text's end.
-fn next_row(
+/// The next row behind a place of what is kept; none where more text decides, or at the text's end.
+#[inline(never)]
+pub fn next_row(
     alloc: Global,
     kept: &[u8],
     at: usize,
     base: u64,
     end: TextEnd,
-) -> Result<Option<(PlacedRow, usize)>, RowFault>
+) -> Result<Option<PlacedRow>, RowFault>
     requires { at ≤ length kept.now }
-    ensures gives { (text : List ℕ) → Keeps text base kept.now → GivesNext end text base at result }
-    ensures further { IfOk result (λ found. IfSome found (λ x. (at < x.1) × (x.1 ≤ length kept.now))) }
+    ensures gives { (text : List ℕ) → Keeps text base kept.now
+        → GivesNext end text (base + at) result }
+    ensures from { IsFrom base result }
 {
     let start = skip_space(kept, at);
     match row_there(alloc, kept, start, end) {
-        Ok(Some((row, behind))) => Ok(Some((placed(row, base, start, behind), behind))),
+        Ok(Some((row, behind))) => Ok(Some(placed(row, base, start, behind))),
         Ok(None) => Ok(None),
         Err(fault) => Err(moved(fault, base)),
-    }
-}
-
-/// Puts the next row behind those that are ready, and answers the place behind it.
-fn take_next(
-    alloc: Global,
-    kept: &[u8],
-    at: usize,
-    base: u64,
-    end: TextEnd,
-    ready: &mut VecDeque<PlacedRow>,
-) -> Result<Option<usize>, RowFault>
-    requires { at ≤ length kept.now }
-    ensures takes { (text : List ℕ) → Keeps text base kept.now → TakesNext end text base at ready.old.items ready.new.items result }
-    ensures further { IfOk result (λ found. IfSome found (λ behind. (at < behind) × (behind ≤ length kept.now))) }
-    ensures stay { StayReady ready.old.items ready.new.items }
-{
-    ready.reserve(1)?;
-    match next_row(alloc, kept, at, base, end) {
-        Ok(Some((row, behind))) => {
-            ready.push_back_reserved(row);
-            Ok(Some(behind))
-        }
-        Ok(None) => Ok(None),
-        Err(fault) => Err(fault),
-    }
-}
-
-/// Puts the rows of what is kept behind those that are ready, as far as they are known. It answers the place behind them, and the fault there.
-pub fn take_rows(
-    alloc: Global,
-    kept: &[u8],
-    base: u64,
-    end: TextEnd,
-    ready: &mut VecDeque<PlacedRow>,
-) -> (usize, Option<RowFault>)
-    ensures within { result.0 ≤ length kept.now }
-    ensures adds { (text : List ℕ) → Keeps text base kept.now → Adds end text base ready.old.items ready.new.items (base + result.0) }
-    ensures stops { (text : List ℕ) → Keeps text base kept.now → Stops end text (base + result.0) result.1 }
-    ensures stay { StayReady ready.old.items ready.new.items }
-{
-    let mut at = 0;
-    'rows: loop {
-        match take_next(alloc, kept, at, base, end, ready) {
-            Ok(Some(behind)) => at = behind,
-            Ok(None) => return (at, None),
-            Err(fault) => return (at, Some(fault)),
-        }
     }
 }

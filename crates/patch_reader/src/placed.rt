@@ -2,7 +2,8 @@
 
 use patch_rows::Row;
 
-/// A row of a text, its first byte, and the place behind its dot, both counted from the text's front.
+/// A row of a text, its first byte, and the place behind its dot, both counted from
+/// the text's front.
 #[derive(Drop)]
 pub struct PlacedRow {
     pub row: Row,

@@ -1,13 +1,20 @@
 //! How far the reading of an unfinished row is known, so that it isn't read again for each piece.
 
-ghost use Rattle.std.specs.Prelude.{◌≡◌, ◌≤◌, ◌<◌, ◌++◌, ℕ, List, true, false, length, drop, slice_index, Err};
+ghost use Rattle.std.specs.Prelude.{◌≡◌, ◌≤◌, ◌<◌, ◌++◌, ℕ, List, true};
+ghost use Rattle.std.specs.Prelude.{false, length, drop, slice_index, Err};
 ghost use Rattle.nquads_text.specs.Fault.{Fault};
 ghost use Rattle.nquads_text.specs.Faults.{begins_term};
 ghost use Rattle.nquads_text.specs.Reading.{char_at as char_of};
 ghost use Rattle.patch_rows.specs.Fault.{Ends};
 ghost use Rattle.patch_rows.specs.Reading.{space_behind, stands};
 ghost use Rattle.patch_reader.specs.Inside.{OpenInside, IsInsideWithin};
-ghost use Rattle.patch_reader.specs.Progress.{part_at, part_behind as part_behind_of, takes_term as term_is_taken, takes_node as node_is_taken, takes_word as word_is_taken, first_part as first_part_of, OpenAt, LeadsInside, IsPlaceWithin, IsWithin, IsStep, IsFollowed, progress_at};
+ghost use Rattle.patch_reader.specs.Progress.{part_at, part_behind as part_behind_of};
+ghost use Rattle.patch_reader.specs.Progress.{takes_term as term_is_taken};
+ghost use Rattle.patch_reader.specs.Progress.{takes_node as node_is_taken};
+ghost use Rattle.patch_reader.specs.Progress.{takes_word as word_is_taken};
+ghost use Rattle.patch_reader.specs.Progress.{first_part as first_part_of, OpenAt};
+ghost use Rattle.patch_reader.specs.Progress.{LeadsInside, IsPlaceWithin, IsWithin};
+ghost use Rattle.patch_reader.specs.Progress.{IsStep, IsFollowed, progress_at};
 ghost use Rattle.patch_reader.specs.declared.progress.Part.TheVariants as parts;
 ghost use Rattle.patch_reader.specs.declared.progress.Place.TheVariants as place;
 
@@ -69,15 +76,6 @@ pub enum Place {
 pub struct Progress {
     pub place: Place,
     pub inside: Inside,
-}
-
-/// What stands at the front of what is kept.
-#[derive(Clone, Copy)]
-pub enum Region {
-    /// White space and comments, or the rest of a comment.
-    Gap { comment: bool },
-    /// An unfinished row.
-    Row { progress: Progress },
 }
 
 /// One step through an unfinished row.
@@ -257,7 +255,8 @@ fn step_part(alloc: Global, text: &[u8], part: Part, start: usize) -> Step
 fn code_begins(text: &[u8], start: usize) -> Inside
     requires { start ≤ length text.now }
     ensures within { IsInsideWithin (length text.now) result }
-    ensures leads { (more : List ℕ) → OpenInside result (text.now ++ more) → OpenAt (place.Row start) (text.now ++ more) }
+    ensures leads { (more : List ℕ) → OpenInside result (text.now ++ more)
+        → OpenAt (place.Row start) (text.now ++ more) }
 {
     if is_letter_at(text, start) {
         return Inside::Letters { mark: start + 1 };
@@ -271,7 +270,8 @@ fn label_begins(text: &[u8], part: Part, start: usize) -> Inside
     requires line { slice_index text.now start ≡ 95 }
     requires node { node_is_taken part ≡ true }
     ensures within { IsInsideWithin (length text.now) result }
-    ensures leads { (more : List ℕ) → OpenInside result (text.now ++ more) → OpenAt (place.Token part start) (text.now ++ more) }
+    ensures leads { (more : List ℕ) → OpenInside result (text.now ++ more)
+        → OpenAt (place.Token part start) (text.now ++ more) }
 {
     if !is_at(text, start + 1, b':') {
         return Inside::Nothing;
@@ -291,7 +291,8 @@ fn label_begins(text: &[u8], part: Part, start: usize) -> Inside
 fn part_begins(text: &[u8], part: Part, start: usize) -> Inside
     requires { start < length text.now }
     ensures within { IsInsideWithin (length text.now) result }
-    ensures leads { (more : List ℕ) → OpenInside result (text.now ++ more) → OpenAt (place.Token part start) (text.now ++ more) }
+    ensures leads { (more : List ℕ) → OpenInside result (text.now ++ more)
+        → OpenAt (place.Token part start) (text.now ++ more) }
 {
     if takes_term(part) && text[start] == b'"' {
         return Inside::String { mark: start + 1 };
@@ -311,8 +312,10 @@ fn part_begins(text: &[u8], part: Part, start: usize) -> Inside
 /// Whether a graph may stand there, and none does.
 fn lacks_graph(text: &[u8], part: Part, start: usize) -> bool
     requires { start ≤ length text.now }
-    ensures yes { result ≡ true → (part ≡ parts.Graph) × (stands begins_term (drop start text.now) ≡ false) }
-    ensures none { result ≡ false → part ≡ parts.Graph → stands begins_term (drop start text.now) ≡ true }
+    ensures yes { result ≡ true
+        → (part ≡ parts.Graph) × (stands begins_term (drop start text.now) ≡ false) }
+    ensures none { result ≡ false → part ≡ parts.Graph
+        → stands begins_term (drop start text.now) ≡ true }
 {
     matches!(part, Part::Graph) && !is_term_at(text, start)
 }
@@ -322,7 +325,8 @@ fn in_code(text: &[u8], start: usize, inside: Inside) -> Inside
     requires begins { start ≤ length text.now }
     requires within { IsInsideWithin (length text.now) inside }
     ensures within { IsInsideWithin (length text.now) result }
-    ensures leads { LeadsInside text.now (record { place = place.Row start; inside = inside }) result }
+    ensures leads { LeadsInside text.now
+        (record { place = place.Row start; inside = inside }) result }
 {
     match inside {
         Inside::Nothing => code_begins(text, start),
@@ -348,7 +352,8 @@ fn in_part(text: &[u8], part: Part, start: usize, inside: Inside) -> Inside
     requires begins { start < length text.now }
     requires within { IsInsideWithin (length text.now) inside }
     ensures within { IsInsideWithin (length text.now) result }
-    ensures leads { LeadsInside text.now (record { place = place.Token part start; inside = inside }) result }
+    ensures leads { LeadsInside text.now
+        (record { place = place.Token part start; inside = inside }) result }
 {
     match inside {
         Inside::Nothing => part_begins(text, part, start),

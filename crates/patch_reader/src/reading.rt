@@ -1,6 +1,7 @@
 //! Rows within their limit.
 
-ghost use Rattle.std.specs.Prelude.{◌≡◌, ◌≤◌, ◌<◌, ◌+◌, ℕ, true, false, length, take, drop, IfOk, IfErr};
+ghost use Rattle.std.specs.Prelude.{◌≡◌, ◌≤◌, ◌<◌, ◌+◌, ℕ, true, false};
+ghost use Rattle.std.specs.Prelude.{length, take, drop, IfOk, IfErr};
 ghost use Rattle.nquads_text.specs.Grammar.{StartsWith};
 ghost use Rattle.patch_rows.specs.declared.row.Row.{Row};
 ghost use Rattle.patch_rows.specs.Fault.{Fault, Gives, FailsBy, IsAnswer, IsFaultAnswer};
@@ -10,11 +11,8 @@ ghost use Rattle.patch_reader.specs.Decided.{Decides};
 ghost use Rattle.patch_reader.specs.Limit.{front_row_at, limited_row_at};
 
 use patch_rows::parts::{ends, row_of};
-use patch_rows::{Row, RowFault, RowKind, TextEnd};
+use patch_rows::{ROW_LIMIT, Row, RowFault, RowKind, TextEnd};
 use std::alloc::Global;
-
-/// The bytes that a row may have.
-pub const ROW_LIMIT: usize = 4_194_304;
 
 /// Whether more bytes stand from a place on than a row may have.
 fn is_long(text: &[u8], at: usize) -> bool
@@ -34,7 +32,8 @@ fn front_of(text: &[u8], at: usize) -> &[u8]
     &text[..at + ROW_LIMIT + 1]
 }
 
-/// The row at a place behind which more bytes stand than a row may have: as many and one more decide it.
+/// The row at a place behind which more bytes stand than a row may have: as many and one
+/// more decide it.
 #[tactic(auto, using(crate::proofs::FrontSteps::front_steps))]
 fn front_row(alloc: Global, text: &[u8], at: usize) -> Result<(Row, usize), RowFault>
     requires low { at ≤ length text.now }
@@ -73,8 +72,8 @@ fn long_row(alloc: Global, text: &[u8], at: usize) -> Result<Option<(Row, usize)
     }
 }
 
-/// The row at a place and the place behind it where the text decides them, whatever follows it, and none where more text decides; else the
-/// row's first fault, decided likewise.
+/// The row at a place and the place behind it where the text decides them, whatever follows it, and
+/// none where more text decides; else the row's first fault, decided likewise.
 #[tactic(auto, using(crate::proofs::Answered::answered))]
 pub fn decided_row(alloc: Global, text: &[u8], at: usize) -> Result<Option<(Row, usize)>, RowFault>
     requires { at ≤ length text.now }
@@ -107,14 +106,16 @@ fn limited_row(alloc: Global, text: &[u8], at: usize) -> Result<(Row, usize), Ro
     row_of(alloc, text, at, TextEnd::Known)
 }
 
-/// The row that begins at a place of a whole text, and the place behind its dot; else its first fault.
+/// The row that begins at a place of a whole text, and the place behind its dot; else
+/// its first fault.
 pub fn read_row(alloc: Global, text: &[u8], at: usize) -> Result<(Row, usize), RowFault>
     requires some { at < length text.now }
     requires begins { StartsWith begins_space (drop at text.now) → ⊥ }
     ensures ok { IfOk result (λ r. IsRowAt text.now at r.0 r.1) }
     ensures only { (r : Row) (end : ℕ) → IsRowAt text.now at r end → IsAnswer result r end }
     ensures fault { IfErr result (FailsBy (FirstFault (drop at text.now)) text.now) }
-    ensures only_fault { (f : Fault) → FirstFault (drop at text.now) f → IsFaultAnswer text.now result f }
+    ensures only_fault { (f : Fault) → FirstFault (drop at text.now) f
+        → IsFaultAnswer text.now result f }
     ensures gives { Gives text.now result (limited_row_at (drop at text.now)) }
 {
     limited_row(alloc, text, at)

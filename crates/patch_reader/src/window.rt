@@ -1,29 +1,23 @@
-//! What is kept of a text whose rows are read as its pieces come.
+//! A text that comes in pieces, and its rows.
 
-ghost use Rattle.std.specs.Prelude.{◌≡◌, ◌≤◌, ◌++◌, [], true, false, length, drop, None, Some, IfNone, IfSome, option_to_list};
-ghost use Rattle.patch_rows.specs.declared.fault.RowFault.{RowFault as Answer};
-ghost use Rattle.patch_rows.specs.Grammar.{row_limit};
+ghost use Rattle.std.specs.Prelude.{◌≡◌, ◌+◌, ◌++◌, ◌≤◌, [], true, None};
+ghost use Rattle.std.specs.Prelude.{length, drop, IfSome, OnOk, OnErr};
 ghost use Rattle.patch_rows.specs.declared.cut.TextEnd.TheVariants as ends;
-ghost use Rattle.patch_reader.specs.declared.progress.Region.TheVariants as regions;
-ghost use Rattle.patch_rows.specs.Cut.{is_cut};
-ghost use Rattle.patch_reader.specs.Pieces.{Tells};
-ghost use Rattle.patch_reader.specs.Window.{IsStuck, StaysStuck, StaysHeld, StaysKnown};
-ghost use Rattle.patch_reader.specs.Window.{SameRows, IsQuiet, IsAtGap, EndsWithin};
-ghost use Rattle.patch_reader.specs.Window.{AddsRows, StopsThere, AddsDecided, StopsUndecided};
-ghost use Rattle.patch_reader.specs.Window.{WindowStands, StandsLonger, StandsWhole, StandsBehind};
-ghost use Rattle.patch_reader.specs.Places.{further_place};
-ghost use Rattle.patch_reader.specs.Progress.{IsUnfinished, Follows};
-ghost use Rattle.patch_reader.specs.Rows.{StayReady};
+ghost use Rattle.patch_reader.specs.Places.{IsFrom, line_number};
+ghost use Rattle.patch_reader.specs.Rows.{GivesNext, Stops};
 
-use crate::next::take_rows;
+use crate::front::{Region, follow_rest, is_new, note_unfinished, pass_front};
+use crate::lines::feeds_in;
+use crate::next::next_row;
+use crate::past::Fed;
 use crate::placed::PlacedRow;
-use crate::progress::{Progress, Region, at_row, follow, is_past_gap, is_within};
-use crate::reading::ROW_LIMIT;
-use patch_rows::parts::{is_cut_at, pass_gap};
+use delta_base::OutOfMemory;
 use patch_rows::{RowFault, TextEnd};
 use std::alloc::Global;
-use std::collections::VecDeque;
 use std::marker::Model;
+
+/// The bytes that a text may have, so that each place and each line of it has a number.
+const TEXT_LIMIT: u64 = u64::MAX - 1;
 
 /// Lets the first bytes go.
 fn drop_front(bytes: &mut Vec<u8>, size: usize)
@@ -33,230 +27,171 @@ fn drop_front(bytes: &mut Vec<u8>, size: usize)
     bytes.drain(..size);
 }
 
-/// Follows an unfinished row within its limit up to the text's end; none where something may be decided.
-fn follow_row(alloc: Global, row: &[u8], progress: Progress) -> Option<Progress>
-    ensures short { IfSome result (λ _. length row.now ≤ row_limit) }
-    ensures unfinished { IfSome result (λ _. Follows row.now progress → IsUnfinished row.now) }
-    ensures follows { IfSome result (λ p. Follows row.now progress → Follows row.now p) }
-{
-    if row.len() > ROW_LIMIT || !is_within(progress, row.len()) {
-        return None;
-    }
-    follow(alloc, row, progress)
-}
-
-/// Whether nothing stands behind white space and comments, or in a comment the front of a character.
-fn is_gap_open(kept: &[u8], comment: bool) -> bool
-    ensures yes { result ≡ true → (is_cut kept.now ≡ true) × (comment ≡ false → kept.now ≡ []) }
-    ensures none { result ≡ false → comment ≡ true → is_cut kept.now ≡ false }
-{
-    if comment {
-        return is_cut_at(kept, 0);
-    }
-    kept.is_empty()
-}
-
-/// The bytes of an unfinished row, and the rows that were not taken yet. `PatchReader` says what they are of the text that was fed.
+/// The bytes of a text that comes in pieces, from a place on, and how far its rows were read.
 #[derive(Drop)]
 pub struct RowWindow {
     alloc: Global,
-    /// What isn't read yet.
+    fed: Fed,
     kept: Vec<u8>,
-    /// The place of its first byte.
+    /// The place of the first byte that is kept.
     from: u64,
-    /// What stands there.
+    /// The line feeds before it.
+    feeds: u64,
+    /// How many of the bytes were read.
+    at: usize,
+    /// What stands behind them.
     region: Region,
     /// The place behind the last row.
     passed: u64,
-    ready: VecDeque<PlacedRow>,
-    fault: Option<RowFault>,
 }
 
 impl Model for RowWindow {
+    ghost use Rattle.std.specs.Prelude.{◌+◌};
+    ghost use Rattle.patch_reader.specs.Held.{Holds, row_place};
     ghost use Rattle.patch_reader.specs.Window.{Window};
 
     ghost Value = { Window };
 
     ghost view = { λ r. record {
-      ready = r.ready.items;
-      fault = r.fault;
+      fed = r.fed.text;
       passed = r.passed;
-      from = r.from;
-      kept = r.kept.items;
-      region = r.region;
+      front = row_place (r.from + r.at) r.region;
+      kept = r.from;
     } };
+
+    ghost invariant = { λ r. Holds r.fed.text r.passed r.from r.kept.items r.feeds r.at r.region };
 }
 
 impl RowWindow {
+    ghost use Rattle.patch_reader.specs.Window.{GoesOn, LetsGo, RowBegins, row_front};
+
+    /// Nothing was fed.
     pub fn new(alloc: Global) -> RowWindow
-        ensures stands { WindowStands ends.Open [] [] result }
-        ensures none { (result.ready ≡ []) × (result.fault ≡ None) }
+        ensures { result ≡ record { fed = []; passed = 0; front = None; kept = 0 } }
     {
         RowWindow {
             alloc,
+            fed: Fed::new(),
             kept: Vec::new(alloc),
             from: 0,
+            feeds: 0,
+            at: 0,
             region: Region::Gap { comment: false },
             passed: 0,
-            ready: VecDeque::new(alloc),
-            fault: None,
         }
     }
 
-    /// Lets the first bytes of what is kept go.
-    fn pass(&mut self, size: usize)
-        requires { size ≤ length self.old.kept }
-        ensures kept { self.new.kept ≡ drop size self.old.kept }
-        ensures from { self.new.from ≡ further_place self.old.from size }
-        ensures same { (self.new.region ≡ self.old.region) × SameRows self.old self.new }
+    /// The text goes on with a piece. Where no memory is left for it, or no number for its places,
+    /// all is as before.
+    pub fn push(&mut self, piece: &[u8]) -> Result<(), OutOfMemory>
+        ensures ok { OnOk result (self.new
+            ≡ record self.old { fed = self.old.fed ++ piece.now; front = self.new.front }) }
+        ensures err { OnErr result (self.new ≡ self.old) }
     {
-        drop_front(&mut self.kept, size);
-        self.from = self.from.saturating_add(size as u64);
+        if piece.len() as u64 > TEXT_LIMIT - (self.from + self.kept.len() as u64) {
+            return Err(OutOfMemory);
+        }
+        self.kept.extend_from_slice(piece)?;
+        self.fed.feed(piece);
+        self.at += pass_front(&self.kept[self.at..], &mut self.region);
+        Ok(())
     }
 
-    /// Lets white space and comments in front of a row go.
-    fn skip_gap(&mut self, in_comment: bool)
-        requires { self.old.region ≡ regions.Gap in_comment }
-        ensures held { StaysHeld self.old self.new }
-        ensures stuck { IsStuck self.new.kept self.new.region }
-        ensures same { SameRows self.old self.new }
+    /// The place where the next row begins, as far as that is known. None where it was read and
+    /// found unfinished: `next` follows it then.
+    pub fn row_place(&self) -> Option<u64>
+        ensures value { result ≡ self.now.front }
+        ensures begins { IfSome result (RowBegins self.now) }
     {
-        let (at, comment) = pass_gap(&self.kept, 0, in_comment);
-        let begins = is_past_gap(&self.kept, at, comment);
-        self.pass(at);
-        self.region = if begins {
-            Region::Row { progress: at_row() }
-        } else {
-            Region::Gap { comment }
-        };
+        if is_new(self.region) {
+            return Some(self.from + self.at as u64);
+        }
+        None
     }
 
-    /// Whether nothing can be decided yet, as far as that is known.
-    fn is_unfinished(&mut self) -> bool
-        ensures held { StaysHeld self.old self.new }
-        ensures stuck { StaysStuck self.old self.new }
-        ensures nothing { result ≡ true → IsQuiet self.old }
-        ensures gap { result ≡ false → IsAtGap ends.Open self.old }
-        ensures same { (self.new.from ≡ self.old.from) × SameRows self.old self.new }
+    /// What stands there.
+    pub fn row_front(&self) -> &[u8]
+        ensures { result.now ≡ row_front self.now }
     {
-        match self.region {
-            Region::Gap { comment } => is_gap_open(&self.kept, comment),
-            Region::Row { progress } => match follow_row(self.alloc, &self.kept, progress) {
-                Some(progress) => {
-                    self.region = Region::Row { progress };
-                    true
-                }
-                None => false,
-            },
+        if is_new(self.region) {
+            return &self.kept[self.at..];
+        }
+        &[]
+    }
+
+    /// Whether nothing more is decided, as far as that is known of an unfinished row. It costs less
+    /// than to ask for the next one.
+    pub fn is_quiet(&mut self) -> bool
+        ensures quiet { result ≡ true → Stops ends.Open self.old.fed self.old.passed None }
+        ensures same { self.new ≡ record self.old { front = self.new.front } }
+    {
+        let rest = &self.kept[self.at..];
+        follow_rest(self.alloc, rest, &mut self.region, TextEnd::Open)
+    }
+
+    /// The next row, with its places: of a text that may go on one that is decided. None where
+    /// more text decides, or where a whole text ends; a fault where it is the text's first
+    /// one, whatever follows.
+    pub fn next(&mut self, end: TextEnd) -> Result<Option<PlacedRow>, RowFault>
+        ensures gives { GivesNext end self.old.fed self.old.passed result }
+        ensures kept { IsFrom self.old.kept result }
+        ensures goes_on { GoesOn self.old result self.new }
+    {
+        if follow_rest(self.alloc, &self.kept[self.at..], &mut self.region, end) {
+            return Ok(None);
+        }
+        match next_row(self.alloc, &self.kept, self.at, self.from, end) {
+            Ok(Some(row)) => {
+                self.pass_row(row.end);
+                Ok(Some(row))
+            }
+            Ok(None) => {
+                note_unfinished(&mut self.region);
+                Ok(None)
+            }
+            Err(fault) => Err(fault),
         }
     }
 
-    /// Lets rows go that were read.
-    fn pass_rows(&mut self, size: usize)
-        requires { size ≤ length self.old.kept }
-        ensures kept { self.new.kept ≡ drop size self.old.kept }
-        ensures from { self.new.from ≡ further_place self.old.from size }
-        ensures passed { self.new.passed ≡ further_place self.old.from size }
-        ensures region { self.new.region ≡ regions.Gap false }
-        ensures same { (self.new.ready ≡ self.old.ready) × (self.new.fault ≡ self.old.fault) }
+    /// Goes on behind a row that ends at this place, as a caller found it at the front.
+    pub fn pass_row(&mut self, end: u64)
+        requires low { self.old.kept ≤ end }
+        requires high { end ≤ length self.old.fed }
+        ensures { self.new ≡ record self.old { passed = end; front = self.new.front } }
     {
-        self.pass(size);
-        self.passed = self.from;
+        let at = (end - self.from) as usize;
         self.region = Region::Gap { comment: false };
+        self.at = at + pass_front(&self.kept[at..], &mut self.region);
+        self.passed = end;
     }
 
-    /// Reads the rows of what is kept, as far as they are known.
-    fn read(&mut self, end: TextEnd)
-        ensures adds { AddsRows end self.old self.new }
-        ensures stops { StopsThere end self.old self.new }
-        ensures held { StaysKnown self.old self.new }
-        ensures within { EndsWithin self.old self.new }
-        ensures stay { StayReady self.old.ready self.new.ready }
+    /// Lets go what was read, and white space and comments behind it.
+    pub fn settle(&mut self)
+        ensures { LetsGo self.old self.new }
     {
-        let (size, fault) = take_rows(self.alloc, &self.kept, self.from, end, &mut self.ready);
-        self.fault = fault;
-        if size == 0 {
+        if self.at == 0 {
             return;
         }
-        self.pass_rows(size);
+        self.feeds += feeds_in(&self.kept[..self.at]);
+        drop_front(&mut self.kept, self.at);
+        self.from += self.at as u64;
+        self.at = 0;
     }
 
-    /// Lets white space and comments in front of a row go, where it isn't in one.
-    fn enter_row(&mut self)
-        ensures held { StaysHeld self.old self.new }
-        ensures stuck { IsStuck self.new.kept self.new.region }
-        ensures same { SameRows self.old self.new }
+    /// The place behind the last byte that was fed.
+    pub fn end(&self) -> u64
+        ensures value { result ≡ length self.now.fed }
+        ensures kept { self.now.kept ≤ result }
     {
-        if let Region::Gap { comment } = self.region {
-            self.skip_gap(comment);
-        }
+        self.from + self.kept.len() as u64
     }
 
-    /// Reads the rows that are decided.
-    fn read_decided(&mut self)
-        requires { self.old.fault ≡ None }
-        ensures adds { AddsDecided self.old self.new }
-        ensures stops { StopsUndecided self.old self.new }
-        ensures held { StaysKnown self.old self.new }
-        ensures within { EndsWithin self.old self.new }
-        ensures stay { StayReady self.old.ready self.new.ready }
+    /// The line of a place that is kept, or of the text's end, counted from 1.
+    pub fn line_at(&self, place: u64) -> u64
+        requires low { self.now.kept ≤ place }
+        requires high { place ≤ length self.now.fed }
+        ensures { result ≡ line_number self.now.fed place }
     {
-        if self.is_unfinished() {
-            return;
-        }
-        self.read(TextEnd::Open);
-    }
-
-    /// What is answered.
-    pub fn answer(&self) -> Result<(), RowFault>
-        ensures { Tells self.now.fault result }
-    {
-        match self.fault {
-            None => Ok(()),
-            Some(fault) => Err(fault),
-        }
-    }
-
-    /// Takes a further piece of the text. A fault is answered where the text so far has it as its first one whatever follows.
-    pub fn feed(&mut self, piece: &[u8]) -> Result<(), RowFault>
-        ensures stands { StandsLonger piece.now self.old self.new }
-        ensures answer { Tells self.new.fault result }
-        ensures stays { (fault : Answer) → self.old.fault ≡ Some fault → self.new ≡ self.old }
-        ensures ready { StayReady self.old.ready self.new.ready }
-    {
-        if let Some(fault) = self.fault {
-            return Err(fault);
-        }
-        if self.kept.extend_from_slice(piece).is_err() {
-            self.fault = Some(RowFault::OutOfMemory);
-            return Err(RowFault::OutOfMemory);
-        }
-        self.enter_row();
-        self.read_decided();
-        self.answer()
-    }
-
-    /// Reads what is left of the text, which ends here. A fault is answered where the text has it as its first one.
-    pub fn finish(&mut self) -> Result<(), RowFault>
-        ensures ended { StandsWhole self.old self.new }
-        ensures answer { Tells self.new.fault result }
-        ensures stays { (fault : Answer) → self.old.fault ≡ Some fault → self.new ≡ self.old }
-        ensures ready { StayReady self.old.ready self.new.ready }
-    {
-        if let Some(fault) = self.fault {
-            return Err(fault);
-        }
-        self.read(TextEnd::Known);
-        self.answer()
-    }
-
-    /// The next row with its places; none where no row is ready.
-    pub fn take_placed(&mut self) -> Option<PlacedRow>
-        ensures takes { StandsBehind self.old result self.new }
-        ensures ready { self.old.ready ≡ option_to_list result ++ self.new.ready }
-        ensures none { IfNone result (self.old.ready ≡ []) }
-        ensures fault { self.new.fault ≡ self.old.fault }
-    {
-        self.ready.pop_front()
+        self.feeds + feeds_in(&self.kept[..(place - self.from) as usize]) + 1
     }
 }

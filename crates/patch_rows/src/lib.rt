@@ -24,5 +24,5 @@ pub use fault::{RowFault, RowKind};
 pub use laws::{row_terms_are_read, rows_are_read, rows_are_writable, space_is_skipped};
 pub use printing::print_row;
 pub use rdf_terms::Change;
-pub use row::Row;
+pub use row::{ROW_LIMIT, Row};
 pub use space::{is_space, skip_space};

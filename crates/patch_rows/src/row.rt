@@ -5,6 +5,9 @@ ghost use Rattle.std.specs.Prelude.{◌≡◌, IfOk};
 use delta_base::{OutOfMemory, Text};
 use rdf_terms::{Change, Term};
 
+/// The bytes that a row may have.
+pub const ROW_LIMIT: usize = 4_194_304;
+
 /// A row of a patch.
 #[derive(Debug, PartialEq, Eq, PartialOrd, Ord, Hash, Drop)]
 pub enum Row {

@@ -1,13 +1,14 @@
 //! Streams with values from the format's description, read in pieces of several sizes.
 use chain_core::ChainFault;
 use delta_base::{Bytes, Calls, Id, MemSink, MemSource, read_id};
+use line_log::MadeLines;
 use patch_meaning::PatchKind;
 use patch_rows::RowKind;
 use sink_writing::Room;
 use std::alloc::Global;
 use std::process::Abort;
 use std::test::Fail;
-use stream_replay::{Lines, ReplayFault, replay_source, write_lines};
+use stream_replay::{ReplayFault, replay_source, write_lines};
 
 const ID: &str = "H id <uuid:00000000-0000-4000-8000-000000000001> .\n";
 
@@ -38,7 +39,7 @@ fn source(alloc: Global, parts: &[&str], piece: usize) -> Result<MemSource, Fail
 }
 
 /// Writes the lines, and looks at them.
-fn writes(rt: &impl Abort, alloc: Global, lines: &Lines, wanted: &str) -> Result<(), Fail> {
+fn writes(rt: &impl Abort, alloc: Global, lines: &MadeLines, wanted: &str) -> Result<(), Fail> {
     let mut out = MemSink::new(alloc, calls(alloc, None)?);
     let room = Room::new(alloc)?;
     assert!(rt; write_lines(&mut out, lines, room).is_ok());

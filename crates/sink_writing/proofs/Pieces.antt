@@ -1,10 +1,9 @@
 -- Texts that are written one after another, short ones together.
-use Rattle.std.proofs.Common.{◌≡◌, ℕ, ◌+◌, ◌<◌, List, [], ◌∷◌, ◌++◌, length, drop, get_or, Option, sym, ap, subst, ◌∙◌, append_assoc, append-nil}
+use Rattle.std.proofs.Common.{◌≡◌, ℕ, ◌+◌, ◌<◌, List, [], ◌++◌, length, drop, get_or, Option, sym, ap, subst, ◌∙◌, append_assoc, append-nil}
 use Rattle.std.proofs.lemmas.List.{drop_more}
 use Rattle.std.specs.Io.KnownBytes.{Appends}
 use Rattle.std.proofs.KnownBytes.{Appends-trans}
-use Rattle.std.specs.Global.{Vec}
-use Rattle.std.proofs.lemmas.List.Concat.{flat_map-cons}
+use Rattle.std.specs.Borrow.{Bor}
 use Rattle.sink_writing.specs.Writing.{AppendsFront, AppendsFirst, joined}
 
 -- a front of the whole was written, and this is the rest
@@ -42,18 +41,15 @@ text_front a b c whole room text left w p =
     written_front a b c whole (room ++ text) left (subst (Written a b whole) (sym (append_assoc room text left)) w) p
 
 -- the next of several texts, and the room before and after it
-pub written_line : (a b c : Option (List ℕ)) (whole room room' line : List ℕ) (v : Vec ℕ) (left left' : List (Vec ℕ)) → left ≡ v ∷ left' → line ≡ v.items → Written a b whole (room ++ joined left) → AppendsFirst b c (room ++ line) room'
-    → Written a c whole (room' ++ joined left')
-written_line a b c whole room room' line v left left' e is w p =
-    written_more a b c whole (room ++ joined left) p.0 (room' ++ joined left') w
-    (ap (λ (l : List (Vec ℕ)). room ++ joined l) e ∙ ap (λ (l : List ℕ). room ++ l) (flat_map-cons (λ (x : Vec ℕ). x.items) v left' ∙ ap (λ (l : List ℕ). l ++ joined left') (sym is)) ∙ sym (append_assoc room line (joined left'))
-    ∙ ap (λ (l : List ℕ). l ++ joined left') p.1 ∙ append_assoc p.0 room' (joined left')) p.2
+next_of : (room : List ℕ) (texts : List (Bor (List ℕ))) (i : ℕ) (d : Bor (List ℕ)) → i < length texts → room ++ joined (drop i texts) ≡ room ++ ((get_or texts i d).now ++ joined (drop (i + 1) texts))
+next_of room texts i d lt = ap (λ (l : List (Bor (List ℕ))). room ++ joined l) (drop_more texts i d lt)
 
-pub line_front : (a b c : Option (List ℕ)) (whole room line : List ℕ) (v : Vec ℕ) (left left' : List (Vec ℕ)) → left ≡ v ∷ left' → line ≡ v.items → Written a b whole (room ++ joined left) → AppendsFront b c (room ++ line) → AppendsFront a c whole
-line_front a b c whole room line v left left' e is w p =
-    written_front a b c whole (room ++ line) (joined left')
-    (subst (Written a b whole) (ap (λ (l : List (Vec ℕ)). room ++ joined l) e ∙ ap (λ (l : List ℕ). room ++ l) (flat_map-cons (λ (x : Vec ℕ). x.items) v left' ∙ ap (λ (l : List ℕ). l ++ joined left') (sym is)) ∙ sym (append_assoc room line (joined left'))) w) p
+pub written_line : (a b c : Option (List ℕ)) (whole room room' : List ℕ) (texts : List (Bor (List ℕ))) (i : ℕ) (d : Bor (List ℕ)) → i < length texts → Written a b whole (room ++ joined (drop i texts))
+    → AppendsFirst b c (room ++ (get_or texts i d).now) room' → Written a c whole (room' ++ joined (drop (i + 1) texts))
+written_line a b c whole room room' texts i d lt w p =
+    written_text a b c whole room room' (get_or texts i d).now (joined (drop (i + 1) texts)) (subst (Written a b whole) (next_of room texts i d lt) w) p
 
--- an item, and what stands behind it
-pub drop_item : {X : Type 0} (xs : List X) (i : ℕ) (item : X) → i < length xs → item ≡ get_or xs i item → drop i xs ≡ item ∷ drop (i + 1) xs
-drop_item xs i item lt is = drop_more xs i item lt ∙ ap (λ (x : _). x ∷ drop (i + 1) xs) (sym is)
+pub line_front : (a b c : Option (List ℕ)) (whole room : List ℕ) (texts : List (Bor (List ℕ))) (i : ℕ) (d : Bor (List ℕ)) → i < length texts → Written a b whole (room ++ joined (drop i texts))
+    → AppendsFront b c (room ++ (get_or texts i d).now) → AppendsFront a c whole
+line_front a b c whole room texts i d lt w p =
+    text_front a b c whole room (get_or texts i d).now (joined (drop (i + 1) texts)) (subst (Written a b whole) (next_of room texts i d lt) w) p

@@ -8,7 +8,7 @@ use crate::room::Room;
 use delta_base::{Failed, Sink};
 
 /// Writes texts one after another, a room of them at once.
-pub fn write_texts<K: Sink>(out: &mut K, texts: &[Vec<u8>], mut room: Room) -> Result<(), Failed>
+pub fn write_texts<K: Sink>(out: &mut K, texts: &[&[u8]], mut room: Room) -> Result<(), Failed>
     requires { room ≡ [] }
     ensures whole { OnOk result
         (Appends (K.written out.old) (K.written out.new) (joined texts.now)) }
@@ -17,7 +17,7 @@ pub fn write_texts<K: Sink>(out: &mut K, texts: &[Vec<u8>], mut room: Room) -> R
     ensures never_falls { K.faults out.old ≤ K.faults out.new }
 {
     for text in texts {
-        room.put(out, text.as_slice())?;
+        room.put(out, text)?;
     }
     room.write_out(out)
 }

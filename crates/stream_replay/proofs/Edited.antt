@@ -1,129 +1,181 @@
--- What the changes of a patch do, while they are read.
-use Rattle.std.proofs.Common.{◌≡◌, ℕ, zero, suc, Bool, true, List, [], ◌∷◌, ◌++◌, length, take, drop, map, Option, Some, None, refl, sym, ap, subst, ◌∙◌, append_assoc, append-nil, length-append, ◌⊎◌, inl, inr, arith}
+-- What changes do to the lines of a dataset.
+use Rattle.std.proofs.Common.{◌≡◌, ℕ, Bool, true, false, cond, List, [], ◌∷◌, ◌++◌, length, take, map, Option, Some, None, refl, sym, ap, subst, ◌∙◌, append_assoc, append-nil, length-append, arith, ◌⊎◌, inl, inr}
 use Rattle.std.specs.Prelude.{is_some}
+use Rattle.std.specs.Ordering.{nat_cmp, match_ordering, is_eq}
+use Rattle.std.specs.declared.cmp.Ordering.{Ordering}
+use Rattle.std.specs.declared.cmp.Ordering.TheVariants.{Less, Equal, Greater}
+use Rattle.std.specs.Cmp.Lexicographic.{slice_cmp}
+use Rattle.std.specs.BTreeSet.{insert_key}
+use Rattle.std.specs.Set.{remove_key}
 use Rattle.std.specs.List.{flat_map}
-use Rattle.std.proofs.lemmas.Grind.{flat_map-append}
-use Rattle.std.proofs.lemmas.List.{map-append, take-append-le, drop-append-le, drop_all}
+use Rattle.std.proofs.lemmas.List.{take-append-le}
+use Rattle.std.proofs.lemmas.List.Concat.{flat_map-cons}
 use Rattle.std.proofs.Math.Seq.{take-length}
+use Rattle.line_log.specs.Edits.{edited, made}
+use Rattle.line_log.proofs.Folds.{made_append}
 use Rattle.rdf_terms.specs.declared.change.Change.{Change}
-use Rattle.rdf_terms.specs.declared.change.Change.TheVariants.{PrefixAdd, PrefixDelete, Begin, Commit, Abort}
+use Rattle.rdf_terms.specs.declared.change.Change.TheVariants.{Add, Delete, PrefixAdd, PrefixDelete, Begin, Commit, Abort}
 use Rattle.rdf_terms.specs.declared.term.Term.{Term}
-use Rattle.rdf_terms.specs.Dataset.{kept, kept_behind}
-use Rattle.stream_replay.specs.declared.lines.LineEdit.{LineEdit}
-use Rattle.stream_replay.specs.declared.edits.Edits.{Edits}
-use Rattle.stream_replay.specs.Edits.{AreEdits, AreEditsBehind, HasEdits, edits_of}
-use Rattle.stream_replay.specs.Lines.{line_edit}
-use Rattle.stream_replay.proofs.Changed.{edited}
+use Rattle.rdf_terms.specs.Line.{line, lines}
+use Rattle.rdf_terms.specs.Quad.{Statement}
+use Rattle.rdf_terms.specs.Dataset.{Dataset, apply, effect, effects, kept, kept_behind}
+use Rattle.row_scan.specs.Found.{change_by}
+use Rattle.stream_replay.specs.Edits.{AreEditsBehind, MakesLines}
 
-pub none_yet : AreEditsBehind None [] []
-none_yet = ([], λ more. refl, refl)
+-- ---- a key goes in where its image goes in
 
-joined : (cs ds : List Change) (es fs : List LineEdit) → AreEdits cs es → AreEdits ds fs → AreEdits (cs ++ ds) (es ++ fs)
-joined cs ds es fs a b =
-    map-append line_edit es fs ∙ ap (λ (l : List (Bool × List ℕ)). l ++ map line_edit fs) a ∙ ap (λ (l : List (Bool × List ℕ)). flat_map edits_of cs ++ l) b ∙ sym (flat_map-append edits_of cs ds)
+map-insert_key : {A B : Type 0} (f : A → B) (R : B → B → Ordering) (xs : List A) (x : A) → map f (insert_key (λ a b. R (f a) (f b)) xs x) ≡ insert_key R (map f xs) (f x)
+map-insert_key f R [] x = refl
+map-insert_key f R (y ∷ ys) x =
+    elim (R (f x) (f y)) as (λ o. map f (match_ordering o (x ∷ y ∷ ys) (y ∷ ys) (y ∷ insert_key (λ a b. R (f a) (f b)) ys x)) ≡ match_ordering o (f x ∷ f y ∷ map f ys) (f y ∷ map f ys) (f y ∷ insert_key R (map f ys) (f x))) [
+      | Less ↦ refl
+      | Equal ↦ refl
+      | Greater ↦ ap (λ (l : List _). f y ∷ l) (map-insert_key f R ys x)
+    ]
 
-in_two : {X : Type 0} (n : ℕ) (xs : List X) → take n xs ++ drop n xs ≡ xs
-in_two zero xs = refl
-in_two (suc n) [] = refl
-in_two {X} (suc n) (x ∷ xs) = ap (λ (l : List X). x ∷ l) (in_two n xs)
+map-remove_key : {A B : Type 0} (f : A → B) (test : B → Bool) (xs : List A) → map f (remove_key (λ a. test (f a)) xs) ≡ remove_key test (map f xs)
+map-remove_key f test [] = refl
+map-remove_key f test (y ∷ ys) =
+    elim (test (f y)) as (λ b. map f (cond b ys (y ∷ remove_key (λ a. test (f a)) ys)) ≡ cond b (map f ys) (f y ∷ remove_key test (map f ys))) [
+      | true ↦ refl
+      | false ↦ ap (λ (l : List _). f y ∷ l) (map-remove_key f test ys)
+    ]
 
-both_parts : (before inside : List Change) (count : ℕ) (edits : List LineEdit) → AreEdits before (take count edits) → AreEdits inside (drop count edits) → AreEdits (before ++ inside) edits
-both_parts before inside count edits front back = subst (AreEdits (before ++ inside)) (in_two count edits) (joined before inside (take count edits) (drop count edits) front back)
+-- ---- one more change
 
--- where no more changes follow, these are what those do that stand
-pub kept_edits : (block : Option ℕ) (cs : List Change) (es : List LineEdit) → AreEditsBehind block cs es → AreEdits (kept cs) es
-kept_edits None cs es (before, all, are) = subst (λ (l : List Change). AreEdits l es) (sym (sym (ap kept (append-nil cs)) ∙ all [] ∙ append-nil before)) are
-kept_edits (Some count) cs es (before, inside, all, front, back, within) =
-    subst (λ (l : List Change). AreEdits l es) (sym (sym (ap kept (append-nil cs)) ∙ all [])) (both_parts before inside count es front back)
+-- what one change does
+abbrev edits_of : Change → List (Bool × List ℕ)
+edits_of (Add q) = (true, line q) ∷ []
+edits_of (Delete q) = (false, line q) ∷ []
+edits_of (PrefixAdd prefix iri graph) = []
+edits_of (PrefixDelete prefix graph) = []
+edits_of Begin = []
+edits_of Commit = []
+edits_of Abort = []
+
+effect_edited : (c : Change) (d : Dataset) → map line (effect c d).quads ≡ edited (edits_of c) (map line d.quads)
+effect_edited (Add q) d = map-insert_key line (slice_cmp nat_cmp) d.quads q
+effect_edited (Delete q) d = map-remove_key line (λ l. is_eq (slice_cmp nat_cmp (line q) l)) d.quads
+effect_edited (PrefixAdd prefix iri graph) d = refl
+effect_edited (PrefixDelete prefix graph) d = refl
+effect_edited Begin d = refl
+effect_edited Commit d = refl
+effect_edited Abort d = refl
+
+makes_more : (c : Change) (d : Dataset) (edits : List (Bool × List ℕ)) → MakesLines edits d → MakesLines (edits ++ edits_of c) (effect c d)
+makes_more c d edits makes = made_append edits (edits_of c) ∙ ap (edited (edits_of c)) makes ∙ sym (effect_edited c d)
+
+effects-append : (cs ds : List Change) (d : Dataset) → effects (cs ++ ds) d ≡ effects ds (effects cs d)
+effects-append [] ds d = refl
+effects-append (c ∷ cs) ds d = effects-append cs ds (effect c d)
 
 -- a change that neither begins nor ends a block
-abbrev pub IsPlain : Change → Type 0
+abbrev IsPlain : Change → Type 0
 IsPlain c = ((more : List Change) → kept (c ∷ more) ≡ c ∷ kept more) × ((held more : List Change) → kept_behind held (c ∷ more) ≡ kept_behind (held ++ c ∷ []) more)
 
-stays : (cs : List Change) (c : Change) (before : List Change) → ((more : List Change) → kept (cs ++ more) ≡ before ++ kept more) → ((more : List Change) → kept (c ∷ more) ≡ c ∷ kept more)
-    → (more : List Change) → kept ((cs ++ c ∷ []) ++ more) ≡ (before ++ c ∷ []) ++ kept more
-stays cs c before all outside more = ap kept (append_assoc cs (c ∷ []) more) ∙ all (c ∷ more) ∙ ap (λ (l : List Change). before ++ l) (outside more) ∙ sym (append_assoc before (c ∷ []) (kept more))
+-- outside a block it is done at once
+goes_on : (cs : List Change) (c : Change) (d after : Dataset) → ((more : List Change) → kept (c ∷ more) ≡ c ∷ kept more) → ((more : List Change) → apply (cs ++ more) d ≡ apply more after)
+    → (more : List Change) → apply ((cs ++ c ∷ []) ++ more) d ≡ apply more (effect c after)
+goes_on cs c d after plain all more =
+    ap (λ (l : List Change). apply l d) (append_assoc cs (c ∷ []) more) ∙ all (c ∷ more) ∙ ap (λ (l : List Change). effects l after) (plain more)
 
-pub plain_more : (block : Option ℕ) (cs : List Change) (c : Change) (es added : List LineEdit) → IsPlain c → AreEdits (c ∷ []) added → AreEditsBehind block cs es → AreEditsBehind block (cs ++ c ∷ []) (es ++ added)
-plain_more None cs c es added plain does (before, all, are) = (before ++ c ∷ [], stays cs c before all plain.0, joined before (c ∷ []) es added are does)
-plain_more (Some count) cs c es added plain does (before, inside, all, front, back, within) = (
-  before,
+plain_more : (block : Option ℕ) (cs : List Change) (c : Change) (d : Dataset) (es : List (Bool × List ℕ)) → IsPlain c → AreEditsBehind block cs d es → AreEditsBehind block (cs ++ c ∷ []) d (es ++ edits_of c)
+plain_more None cs c d es plain (after, all, makes) = (effect c after, goes_on cs c d after plain.0 all, makes_more c after es makes)
+plain_more (Some count) cs c d es plain (after, inside, all, front, whole, within) = (
+  after,
   inside ++ c ∷ [],
-  λ more. ap kept (append_assoc cs (c ∷ []) more) ∙ all (c ∷ more) ∙ ap (λ (l : List Change). before ++ l) (plain.1 inside more),
-  subst (AreEdits before) (sym (take-append-le count es added within)) front,
-  subst (AreEdits (inside ++ c ∷ [])) (sym (drop-append-le count es added within)) (joined inside (c ∷ []) (drop count es) added back does),
-  omega (arith, within, length-append es added),
+  λ more. ap (λ (l : List Change). apply l d) (append_assoc cs (c ∷ []) more) ∙ all (c ∷ more) ∙ ap (λ (l : List Change). effects l after) (plain.1 inside more),
+  subst (λ (l : List (Bool × List ℕ)). MakesLines l after) (sym (take-append-le count es (edits_of c) within)) front,
+  subst (MakesLines (es ++ edits_of c)) (sym (effects-append inside (c ∷ []) after)) (makes_more c (effects inside after) es whole),
+  omega (arith, within, length-append es (edits_of c)),
 )
 
--- a change that does nothing to lines
-pub silent_more : (block : Option ℕ) (cs : List Change) (c : Change) (es : List LineEdit) → IsPlain c → edits_of c ≡ [] → AreEditsBehind block cs es → AreEditsBehind block (cs ++ c ∷ []) es
-silent_more block cs c es plain none are =
-    subst (AreEditsBehind block (cs ++ c ∷ [])) (append-nil es) (plain_more block cs c es [] plain (sym (append-nil (edits_of c) ∙ none)) are)
+-- a quad is added or deleted
+pub quad_more : (block : Option ℕ) (cs : List Change) (d : Dataset) (es new : List (Bool × List ℕ)) (adds : Bool) (bytes : List ℕ) (quad : Statement) → new ≡ es ++ (adds, bytes) ∷ [] → bytes ≡ line quad
+    → AreEditsBehind block cs d es → AreEditsBehind block (cs ++ change_by adds quad ∷ []) d new
+quad_more block cs d es new true bytes quad is of are =
+    subst (AreEditsBehind block (cs ++ Add quad ∷ []) d) (sym (is ∙ ap (λ (l : List ℕ). es ++ (true, l) ∷ []) of)) (plain_more block cs (Add quad) d es ((λ more. refl), λ held more. refl) are)
+quad_more block cs d es new false bytes quad is of are =
+    subst (AreEditsBehind block (cs ++ Delete quad ∷ []) d) (sym (is ∙ ap (λ (l : List ℕ). es ++ (false, l) ∷ []) of)) (plain_more block cs (Delete quad) d es ((λ more. refl), λ held more. refl) are)
 
-pub begun : (cs : List Change) (es : List LineEdit) (count : ℕ) → count ≡ length es → AreEditsBehind None cs es → AreEditsBehind (Some count) (cs ++ Begin ∷ []) es
-begun cs es count all (before, stand, are) = (
-  before,
+-- a change that does nothing to lines
+silent_more : (block : Option ℕ) (cs : List Change) (c : Change) (d : Dataset) (es : List (Bool × List ℕ)) → IsPlain c → edits_of c ≡ [] → AreEditsBehind block cs d es → AreEditsBehind block (cs ++ c ∷ []) d es
+silent_more block cs c d es plain none are =
+    subst (AreEditsBehind block (cs ++ c ∷ []) d) (ap (λ (l : List (Bool × List ℕ)). es ++ l) none ∙ append-nil es) (plain_more block cs c d es plain are)
+
+-- a prefix does nothing to lines
+pub prefix_more : (block : Option ℕ) (cs : List Change) (c : Change) (d : Dataset) (es : List (Bool × List ℕ))
+    → ((prefix iri : List ℕ) × (graph : Option Term) × (c ≡ PrefixAdd prefix iri graph)) ⊎ ((prefix : List ℕ) × (graph : Option Term) × (c ≡ PrefixDelete prefix graph))
+    → AreEditsBehind block cs d es → AreEditsBehind block (cs ++ c ∷ []) d es
+prefix_more block cs c d es (inl (prefix, iri, graph, is)) are =
+    subst (λ (e : Change). AreEditsBehind block (cs ++ e ∷ []) d es) (sym is) (silent_more block cs (PrefixAdd prefix iri graph) d es ((λ more. refl), λ held more. refl) refl are)
+prefix_more block cs c d es (inr (prefix, graph, is)) are =
+    subst (λ (e : Change). AreEditsBehind block (cs ++ e ∷ []) d es) (sym is) (silent_more block cs (PrefixDelete prefix graph) d es ((λ more. refl), λ held more. refl) refl are)
+
+-- ---- blocks
+
+pub begun : (cs : List Change) (d : Dataset) (es : List (Bool × List ℕ)) (count : ℕ) → count ≡ length es → AreEditsBehind None cs d es → AreEditsBehind (Some count) (cs ++ Begin ∷ []) d es
+begun cs d es count all (after, stand, makes) = (
+  after,
   [],
-  λ more. ap kept (append_assoc cs (Begin ∷ []) more) ∙ stand (Begin ∷ more),
-  subst (AreEdits before) (sym (ap (λ (n : ℕ). take n es) all ∙ take-length es)) are,
-  ap (map line_edit) (ap (λ (n : ℕ). drop n es) all ∙ drop_all (length es) es (omega arith)),
+  λ more. ap (λ (l : List Change). apply l d) (append_assoc cs (Begin ∷ []) more) ∙ stand (Begin ∷ more),
+  subst (λ (l : List (Bool × List ℕ)). MakesLines l after) (sym (ap (λ (n : ℕ). take n es) all ∙ take-length es)) makes,
+  makes,
   omega (arith, all),
 )
 
-pub begun_inside : (cs : List Change) (es : List LineEdit) (count : ℕ) → AreEditsBehind (Some count) cs es → AreEditsBehind (Some count) (cs ++ Begin ∷ []) es
-begun_inside cs es count (before, inside, all, front, back, within) = (
-  before,
+-- a block begins inside another
+pub begun_again : (block : Option ℕ) (cs : List Change) (d : Dataset) (es : List (Bool × List ℕ)) → is_some block ≡ true → AreEditsBehind block cs d es → AreEditsBehind block (cs ++ Begin ∷ []) d es
+begun_again None cs d es some are = absurd cc
+begun_again (Some count) cs d es some (after, inside, all, front, whole, within) = (
+  after,
   inside ++ Begin ∷ [],
-  λ more. ap kept (append_assoc cs (Begin ∷ []) more) ∙ all (Begin ∷ more),
+  λ more. ap (λ (l : List Change). apply l d) (append_assoc cs (Begin ∷ []) more) ∙ all (Begin ∷ more),
   front,
-  subst (AreEdits (inside ++ Begin ∷ [])) (append-nil (drop count es)) (joined inside (Begin ∷ []) (drop count es) [] back refl),
+  subst (MakesLines es) (sym (effects-append inside (Begin ∷ []) after)) whole,
   within,
 )
 
-pub committed : (block : Option ℕ) (cs : List Change) (es : List LineEdit) → AreEditsBehind block cs es → AreEditsBehind None (cs ++ Commit ∷ []) es
-committed None cs es (before, all, are) =
-    (before ++ Commit ∷ [], stays cs Commit before all (λ more. refl), subst (AreEdits (before ++ Commit ∷ [])) (append-nil es) (joined before (Commit ∷ []) es [] are refl))
-committed (Some count) cs es (before, inside, all, front, back, within) = (
-  before ++ inside,
-  λ more. ap kept (append_assoc cs (Commit ∷ []) more) ∙ all (Commit ∷ more) ∙ sym (append_assoc before inside (kept more)),
-  both_parts before inside count es front back,
+pub committed : (block : Option ℕ) (cs : List Change) (d : Dataset) (es : List (Bool × List ℕ)) → AreEditsBehind block cs d es → AreEditsBehind None (cs ++ Commit ∷ []) d es
+committed None cs d es (after, all, makes) = (after, goes_on cs Commit d after (λ more. refl) all, makes)
+committed (Some count) cs d es (after, inside, all, front, whole, within) = (
+  effects inside after,
+  λ more. ap (λ (l : List Change). apply l d) (append_assoc cs (Commit ∷ []) more) ∙ all (Commit ∷ more) ∙ effects-append inside (kept more) after,
+  whole,
 )
 
-pub aborted : (cs : List Change) (es : List LineEdit) (count : ℕ) → AreEditsBehind (Some count) cs es → AreEditsBehind None (cs ++ Abort ∷ []) (take count es)
-aborted cs es count (before, inside, all, front, back, within) = (before, λ more. ap kept (append_assoc cs (Abort ∷ []) more) ∙ all (Abort ∷ more), front)
+pub aborted : (block : Option ℕ) (cs : List Change) (d : Dataset) (es : List (Bool × List ℕ)) (count : ℕ) → block ≡ Some count → AreEditsBehind block cs d es → AreEditsBehind None (cs ++ Abort ∷ []) d (take count es)
+aborted None cs d es count is are = absurd cc
+aborted (Some n) cs d es count is (after, inside, all, front, whole, within) = (
+  after,
+  λ more. ap (λ (l : List Change). apply l d) (append_assoc cs (Abort ∷ []) more) ∙ all (Abort ∷ more),
+  subst (λ (o : Option ℕ). MakesLines (take (or_zero o) es) after) is front,
+)
+  where
+    or_zero : Option ℕ → ℕ
+    or_zero None = 0
+    or_zero (Some n) = n
 
-pub aborted_outside : (cs : List Change) (es : List LineEdit) → AreEditsBehind None cs es → AreEditsBehind None (cs ++ Abort ∷ []) es
-aborted_outside cs es (before, all, are) =
-    (before ++ Abort ∷ [], stays cs Abort before all (λ more. refl), subst (AreEdits (before ++ Abort ∷ [])) (append-nil es) (joined before (Abort ∷ []) es [] are refl))
+pub aborted_outside : (block : Option ℕ) (cs : List Change) (d : Dataset) (es : List (Bool × List ℕ)) → ((count : ℕ) → block ≡ Some count → ⊥) → AreEditsBehind block cs d es → AreEditsBehind block (cs ++ Abort ∷ []) d es
+aborted_outside None cs d es none (after, all, makes) = (after, goes_on cs Abort d after (λ more. refl) all, makes)
+aborted_outside (Some count) cs d es none are = absurd (none count refl)
 
-pub no_block : (block : Option ℕ) → ((count : ℕ) → block ≡ Some count → ⊥) → block ≡ None
-no_block None none = refl
-no_block (Some count) none = absurd (none count refl)
+-- ---- a patch that is complete
 
--- a change that puts one line among others, or takes it out
-pub pushed : (c : Change) (edit : LineEdit) (old new : Edits) → IsPlain c → AreEdits (c ∷ []) (edit ∷ []) → new.before_block ≡ old.before_block → new.lines.items ≡ old.lines.items ++ edit ∷ []
-    → (changes : List Change) → HasEdits changes old → HasEdits (changes ++ c ∷ []) new
-pushed c edit old new plain does block lines changes has =
-    subst (λ (b : Option ℕ). AreEditsBehind b (changes ++ c ∷ []) new.lines.items) (sym block)
-    (subst (AreEditsBehind old.before_block (changes ++ c ∷ [])) (sym lines) (plain_more old.before_block changes c old.lines.items (edit ∷ []) plain does has))
+-- where no more changes follow, its lines are made
+pub all_made : (block : Option ℕ) (cs : List Change) (d : Dataset) (es : List (Bool × List ℕ)) → AreEditsBehind block cs d es → MakesLines es (apply cs d)
+all_made None cs d es (after, all, makes) = subst (MakesLines es) (sym (ap (λ (l : List Change). apply l d) (sym (append-nil cs)) ∙ all [])) makes
+all_made (Some count) cs d es (after, inside, all, front, whole, within) = subst (MakesLines es) (sym (ap (λ (l : List Change). apply l d) (sym (append-nil cs)) ∙ all [])) whole
 
--- a block begins inside another
-pub begun_again : (block : Option ℕ) (cs : List Change) (es : List LineEdit) → is_some block ≡ true → AreEditsBehind block cs es → AreEditsBehind block (cs ++ Begin ∷ []) es
-begun_again None cs es some has = absurd cc
-begun_again (Some count) cs es some has = begun_inside cs es count has
+pub none_yet : (d : Dataset) (es : List (Bool × List ℕ)) → MakesLines es d → AreEditsBehind None [] d es
+none_yet d es makes = (d, λ more. refl, makes)
 
-none_left : {X : Type 0} (xs : List X) → length xs ≡ 0 → xs ≡ []
-none_left [] e = refl
-none_left (x ∷ xs) e = absurd cc
+-- ---- the lines of a dataset
 
--- behind the last edit nothing is left to do
-pub all_made : (edits left : List LineEdit) (was now : List (List ℕ)) → length left ≡ 0 → edited (map line_edit left) now ≡ edited (map line_edit edits) was → now ≡ edited (map line_edit edits) was
-all_made edits left was now none e = sym (ap (λ (l : List LineEdit). edited (map line_edit l) now) (none_left left none)) ∙ e
+flat_by_map : {X : Type 0} (f : X → List ℕ) (xs : List X) → flat_map f xs ≡ flat_map (λ (l : List ℕ). l) (map f xs)
+flat_by_map f [] = refl
+flat_by_map f (x ∷ xs) = flat_map-cons f x xs ∙ ap (λ (l : List ℕ). f x ++ l) (flat_by_map f xs) ∙ sym (flat_map-cons (λ (l : List ℕ). l) (f x) (map f xs))
 
--- a prefix does nothing to lines
-pub prefix_more : (c : Change) (e : Edits) → ((prefix iri : List ℕ) × (graph : Option Term) × (c ≡ PrefixAdd prefix iri graph)) ⊎ ((prefix : List ℕ) × (graph : Option Term) × (c ≡ PrefixDelete prefix graph))
-    → (changes : List Change) → HasEdits changes e → HasEdits (changes ++ c ∷ []) e
-prefix_more c e (inl (prefix, iri, graph, is)) changes has =
-    subst (λ (d : Change). HasEdits (changes ++ d ∷ []) e) (sym is) (silent_more e.before_block changes (PrefixAdd prefix iri graph) e.lines.items ((λ more. refl), λ held more. refl) refl has)
-prefix_more c e (inr (prefix, graph, is)) changes has =
-    subst (λ (d : Change). HasEdits (changes ++ d ∷ []) e) (sym is) (silent_more e.before_block changes (PrefixDelete prefix graph) e.lines.items ((λ more. refl), λ held more. refl) refl has)
+-- the bytes of the lines are the dataset's lines
+pub joined_lines : (edits : List (Bool × List ℕ)) (d : Dataset) → MakesLines edits d → flat_map (λ (l : List ℕ). l) (made edits) ≡ lines d.quads
+joined_lines edits d makes = ap (flat_map (λ (l : List ℕ). l)) makes ∙ sym (flat_by_map line d.quads)

@@ -1,75 +1,42 @@
 -- A stream to which pieces were fed.
-use Rattle.std.proofs.Common.{◌≡◌, ℕ, ◌+◌, true, false, List, [], ◌++◌, length, Option, Some, None, Result, Ok, Err, refl, sym, subst, append-nil, arith, ◌≤◌, ap}
-use Rattle.std.specs.Global.{Vec}
-use Rattle.std.specs.Prelude.{is_some, OnOk}
-use Rattle.patch_reader.specs.Rows.{Gap}
+use Rattle.std.proofs.Common.{◌≡◌, ℕ, List, ◌++◌, Option, Some, None, refl, sym, ap, subst, ◌∙◌}
+use Rattle.patch_rows.specs.declared.cut.TextEnd.TheVariants as cuts
+use Rattle.patch_reader.specs.Window.{Window}
 use Rattle.stream_replay.specs.declared.fault.ReplayFault.{ReplayFault}
 use Rattle.stream_replay.specs.declared.progress.Progress.{Progress}
 use Rattle.stream_replay.specs.declared.stream.Streaming.{Streaming}
-use Rattle.stream_replay.specs.declared.window.Window.{Window}
-use Rattle.stream_replay.specs.Spaces.{PassesSpace}
 use Rattle.stream_replay.specs.Source.{EndsText}
-use Rattle.stream_replay.specs.Streaming.{HasMet, HasStreamed, IsStreaming, IsTold}
-use Rattle.stream_replay.specs.Windows.{IsHeld, IsWindow}
-use Rattle.stream_replay.proofs.Held.{held_end}
-use Rattle.stream_replay.proofs.Streams.{streamed_passed, streamed_longer, streamed_whole, gap_later}
+use Rattle.stream_replay.specs.Streaming.{HasFed, HasMet, HasStreamed, IsRead, IsTold}
+use Rattle.stream_replay.proofs.Streams.{now, streamed_longer, streamed_whole}
 
-pub on_map : {T E : Type 0} (r : Result T E) (A B : Type 0) → OnOk r A → (A → B) → OnOk r B
-on_map (Ok x) A B a f = f a
-on_map (Err e) A B a f = tt
+-- no fault was met
+abbrev IsWell : Option ReplayFault → Type 0
+IsWell fault = (told : ReplayFault) → fault ≡ Some told → ⊥
 
--- ---- without a fault
+no_fault : (fault : Option ReplayFault) (text : List ℕ) (s : Streaming) → IsWell fault → HasMet fault text s → (s.window.fed ≡ text) × IsRead cuts.Open s
+no_fault None text s well has = has
+no_fault (Some told) text s well has = absurd (well told refl)
 
-pub no_fault : (fault : Option ReplayFault) (text : List ℕ) (s : Streaming) → ((told : ReplayFault) → fault ≡ Some told → ⊥) → HasMet fault text s → IsStreaming false text s
-no_fault None text s none has = has
-no_fault (Some told) text s none has = absurd (none told refl)
+-- ---- a piece more
 
-pub fed_none : (fault : Option ReplayFault) (text : List ℕ) (s : Streaming) → is_some fault ≡ false → HasMet fault text s → IsStreaming false text s
-fed_none None text s none has = has
-fed_none (Some told) text s none has = absurd cc
+-- the window has the piece
+abbrev IsPushed : Window → List ℕ → Window → Type 0
+IsPushed old piece new = new ≡ record old { fed = old.fed ++ piece; front = new.front }
 
-pub make_fed : (fault : Option ReplayFault) (text : List ℕ) (s : Streaming) → is_some fault ≡ false → IsStreaming false text s → HasMet fault text s
-make_fed None text s none is = is
-make_fed (Some told) text s none is = absurd cc
+read_longer : (old new : Window) (piece : List ℕ) (p : Progress) → IsPushed old piece new → HasStreamed cuts.Open old.fed old.passed p → HasStreamed cuts.Open new.fed new.passed p
+read_longer old new piece p is h = subst (λ (w : Window). HasStreamed cuts.Open w.fed w.passed p) (sym is) (streamed_longer old.fed piece old.passed p h)
 
-pub streaming_longer : (text more : List ℕ) (old new : Streaming) → IsStreaming false text old → (IsWindow text old.window → IsWindow (text ++ more) new.window) → new.window.base ≡ old.window.base
-    → new.window.from ≡ old.window.from → new.progress ≡ old.progress → IsStreaming false (text ++ more) new
-streaming_longer text more old new s pushed base from same = record {
-  window_ = pushed s.window_;
-  progress_ = subst (λ (p : Progress). HasStreamed false (text ++ more) (new.window.base + new.window.from) p) (sym same)
-      (subst (λ (n : ℕ). HasStreamed false (text ++ more) n old.progress) (sym (omega (arith, base, from)))
-      (streamed_longer text more (old.window.base + old.window.from) old.progress s.progress_));
-}
-
-pub streaming_whole : (text : List ℕ) (s : Streaming) → IsStreaming false text s → IsStreaming true text s
-streaming_whole text s is = record { window_ = is.window_; progress_ = streamed_whole true text (s.window.base + s.window.from) s.progress is.progress_ }
+-- a fault was met
+pub fed_stopped : (text piece : List ℕ) (old : Streaming) (pushed : Window) (told : ReplayFault) → IsWell old.fault → IsPushed old.window piece pushed
+    → (HasStreamed cuts.Open pushed.fed pushed.passed old.progress → IsTold cuts.Open pushed.fed told) → HasFed text old → IsTold cuts.Open (text ++ piece) told
+fed_stopped text piece old pushed told well push stops has =
+    let met = no_fault old.fault text old well has in
+    subst (λ (t : List ℕ). IsTold cuts.Open t told) (ap (λ (w : Window). w.fed) push ∙ ap (λ (t : List ℕ). t ++ piece) met.0) (stops (read_longer old.window pushed piece old.progress push met.1))
 
 -- ---- the text is whole
 
-pub faulty_whole : (text : List ℕ) (told : ReplayFault) → ((more : List ℕ) → EndsText told (text ++ more)) → EndsText told text
-faulty_whole text told all = subst (EndsText told) (append-nil text) (all [])
+pub faulty_whole : (text : List ℕ) (told : ReplayFault) → IsTold cuts.Open text told → EndsText told text
+faulty_whole text told is = is text (now cuts.Open text)
 
-pub told_whole : (text : List ℕ) (told : ReplayFault) → IsTold true text told → EndsText told text
-told_whole text told all = subst (EndsText told) (append-nil text) (all [] (λ whole. refl))
-
-pub gap_end : (text : List ℕ) (w : Window) → IsWindow text w → Gap w.bytes.items w.from (length w.bytes.items) → Gap text (w.base + w.from) (length text)
-gap_end text w held gap =
-    subst (λ (n : ℕ). Gap text (w.base + w.from) n) (held_end text w.base w.bytes.items w.feeds held)
-    (subst (λ (t : List ℕ). Gap t (w.base + w.from) (w.base + length w.bytes.items)) (append-nil text)
-    (gap_later text [] w.base w.from (length w.bytes.items) w.bytes.items w.feeds held (subst (λ (t : List ℕ). Gap t w.from (length w.bytes.items)) (sym (append-nil w.bytes.items)) gap)))
-
--- white space was read over, and what was read was let go
-held_same : (text : List ℕ) (old new : Window) → new.base ≡ old.base → new.bytes ≡ old.bytes → new.feeds ≡ old.feeds → IsWindow text old → IsWindow text new
-held_same text old new base bytes feeds held =
-    subst (λ (n : ℕ). IsHeld text n new.bytes.items new.feeds) (sym base)
-    (subst (λ (v : Vec ℕ). IsHeld text old.base v.items new.feeds) (sym bytes) (subst (λ (n : ℕ). IsHeld text old.base old.bytes.items n) (sym feeds) held))
-
-pub settled : (text : List ℕ) (old mid new : Window) (p : Progress) → IsWindow text old → mid.base ≡ old.base → mid.bytes ≡ old.bytes → mid.feeds ≡ old.feeds → old.from ≤ mid.from
-    → PassesSpace old.bytes.items old.from mid.from → (IsWindow text mid → IsWindow text new) → new.base + new.from ≡ mid.base + mid.from → HasStreamed false text (old.base + old.from) p
-    → IsWindow text new × HasStreamed false text (new.base + new.from) p
-settled text old mid new p held base bytes feeds further passes ok place h =
-    let high : mid.from ≤ length old.bytes.items = omega (arith, mid.within, mid.bytes.ok.0, ap (λ (v : Vec ℕ). length v.items) bytes) in
-    let at : new.base + new.from ≡ old.base + mid.from = omega (arith, place, base) in (
-      ok (held_same text old mid base bytes feeds held),
-      subst (λ (n : ℕ). HasStreamed false text n p) (sym at) (streamed_passed text old.base old.from mid.from old.bytes.items old.feeds p held further high passes h),
-    )
+pub fed_whole : (text : List ℕ) (s : Streaming) → IsWell s.fault → HasFed text s → (s.window.fed ≡ text) × IsRead cuts.Known s
+fed_whole text s well has = let met = no_fault s.fault text s well has in (met.0, streamed_whole s.window.fed s.window.passed s.progress met.1)

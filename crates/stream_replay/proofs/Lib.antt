@@ -1,11 +1,6 @@
-pub mod Changed
 pub mod Edited
 pub mod Taken
-pub mod Held
 pub mod Streams
-pub mod Finds
 pub mod Fed
 pub mod Inputs
-pub mod PassedSpace
-pub mod Printed
-pub mod WholeLines
+pub mod WrittenLines

@@ -1,246 +1,281 @@
 -- A stream while its rows are taken.
-use Rattle.std.proofs.Common.{◌≡◌, ℕ, ◌+◌, ◌≤◌, Bool, true, false, List, [], ◌∷◌, ◌++◌, length, drop, Option, refl, sym, ap, subst, ◌∙◌, ◌⊎◌, inl, inr, append_assoc, append-nil, length-append, arith}
-use Rattle.std.specs.Prelude.{count_by, ◌==◌, nat_lt}
+use Rattle.std.proofs.Common.{◌≡◌, ℕ, ◌+◌, ◌<◌, ◌≤◌, Bool, true, false, List, [], ◌∷◌, ◌++◌, length, drop, Option, None, Some, Ok, refl, sym, ap, subst, ◌∙◌, ◌⊎◌, inl, inr, append_assoc, append-nil, length-drop, arith}
+use Rattle.std.specs.Prelude.{codes, nat_lt}
 use Rattle.std.proofs.lemmas.Bool.Decides.{nat_tests}
+use Rattle.std.proofs.lemmas.List.{drop-drop, drop-append-le}
 use Rattle.delta_base.specs.declared.limits.TheConstants.{PATCH_LIMIT}
-use Rattle.std.proofs.lemmas.List.{drop-drop, drop-append-le, take-append-le}
 use Rattle.chain_core.specs.declared.link.Link.{Link}
 use Rattle.rdf_terms.specs.declared.change.Change.{Change}
+use Rattle.rdf_terms.specs.Dataset.{Dataset}
+use Rattle.rdf_terms.specs.Quad.{Statement}
+use Rattle.row_scan.specs.declared.row.Says.{Says}
+use Rattle.row_scan.specs.declared.row.Says.TheVariants as says
+use Rattle.row_scan.specs.Found.{change_by}
+use Rattle.row_scan.specs.declared.row.ScannedRow.{ScannedRow}
+use Rattle.row_scan.specs.Rows.{HasRow, IsSaid, id_row}
+use Rattle.delta_base.specs.declared.id.Id.{Id}
+use Rattle.delta_base.specs.Ids.{number_of}
+use Rattle.rdf_terms.specs.declared.change.Change.TheVariants as change
+use Rattle.patch_rows.specs.declared.row.Row.TheVariants as row
+use Rattle.patch_rows.specs.declared.cut.TextEnd.{TextEnd}
+use Rattle.patch_rows.specs.declared.cut.TextEnd.TheVariants as cuts
 use Rattle.patch_rows.specs.declared.fault.RowKind.{RowKind}
+use Rattle.patch_rows.specs.declared.fault.RowFault.TheVariants as rows
 use Rattle.patch_rows.specs.declared.row.Row.{Row}
-use Rattle.patch_rows.specs.Faults.{FirstFault}
-use Rattle.patch_rows.specs.Grammar.{Space, ShortRowAt, IsRowAt}
-use Rattle.patch_meaning.specs.declared.fault.PatchFault.{PatchFault}
-use Rattle.patch_meaning.specs.declared.fault.PatchFault.TheVariants as faults
-use Rattle.patch_meaning.specs.declared.rows.Next.{Next}
-use Rattle.patch_meaning.specs.Cutting.{HasTakenNext, AreRefused, EndsWith, EndsStream, IsBrokenAt, IsBrokenAtEnd, IsBrokenBy, changes_left, meanings_of}
-use Rattle.patch_meaning.specs.Patch.{Meaning}
-use Rattle.patch_meaning.specs.Roles.{said}
+use Rattle.patch_rows.specs.Grammar.{ShortRowAt, IsRowAt, IsDecidedRow}
 use Rattle.patch_reader.specs.declared.placed.PlacedRow.{PlacedRow}
-use Rattle.patch_reader.specs.Rows.{Gap, NoRowAt}
+use Rattle.patch_reader.specs.Rows.{Gap, FaultBehind, GivesNext, RowsStand, RowsUpTo, Stops}
+use Rattle.patch_reader.specs.Window.{Window, GoesOn, RowBegins, row_front}
+use Rattle.patch_reader.proofs.Adding.{stand_joined}
+use Rattle.patch_meaning.specs.declared.fault.PatchFault.{PatchFault}
+use Rattle.patch_meaning.specs.declared.role.Role.{Role}
+use Rattle.patch_meaning.specs.declared.role.Role.TheVariants as roles
+use Rattle.patch_meaning.specs.Cutting.{HasTakenNext, AreRefused, EndsWith, EndsStream, IsBrokenAt, IsBrokenAtEnd, IsBrokenBy, RefusesStream, changes_left, meanings_of}
+use Rattle.patch_meaning.specs.PartRead.{HasPart}
+use Rattle.patch_meaning.specs.Patch.{Meaning}
+use Rattle.patch_meaning.specs.Replay.{replay}
+use Rattle.patch_meaning.specs.Roles.{header_role, role, said, value_id}
+use Rattle.stream_replay.specs.Found.{found_role}
 use Rattle.patch_meaning.specs.Rows.{AreUpTo, RowsTo}
-use Rattle.patch_meaning.specs.Stream.{AreStream, IsStream, IsStreamFault, begins, cut, next, over}
-use Rattle.patch_meaning.proofs.Cuts.{with_changes}
-use Rattle.patch_meaning.proofs.Rowed.{front_up_to, row_within, rows_more, rows_up_to}
+use Rattle.patch_meaning.specs.Stream.{IsStream, IsStreamFault, begins, cut, next, over}
+use Rattle.patch_meaning.proofs.Cuts.{taken_next, with_changes}
+use Rattle.patch_meaning.proofs.Rowed.{front_up_to, row_within as row_ends, rows_more, rows_up_to}
+use Rattle.patch_reader.proofs.Holding.{row_within}
 use Rattle.patch_meaning.proofs.StreamFaults.{refused_fault, no_row_fault, end_fault}
-use Rattle.stream_replay.specs.declared.progress.Progress.{Progress}
 use Rattle.stream_replay.specs.declared.fault.ReplayFault.{ReplayFault}
 use Rattle.stream_replay.specs.declared.fault.ReplayFault.TheVariants as ends
-use Rattle.stream_replay.specs.Spaces.{PassesSpace}
-use Rattle.stream_replay.specs.Source.{EndsText}
-use Rattle.stream_replay.specs.Places.{line_number}
-use Rattle.stream_replay.specs.Replaying.{IsReplay, EndsChain}
+use Rattle.stream_replay.specs.declared.progress.Progress.{Progress}
+use Rattle.stream_replay.specs.declared.replay.Replay.{Replay}
 use Rattle.stream_replay.specs.Edits.{HasEdits}
-use Rattle.stream_replay.specs.Streaming.{IsNextIn, FindsFault, RowsBefore, HasStreamed, HoldsMore, IsTold}
-use Rattle.stream_replay.specs.Windows.{IsHeld, Tells}
-use Rattle.stream_replay.proofs.Held.{held_end}
+use Rattle.stream_replay.specs.Replaying.{IsReplay, EndsChain}
+use Rattle.stream_replay.specs.Source.{EndsText}
+use Rattle.stream_replay.specs.Streaming.{AwaitsRow, HasStreamed, HoldsMore, IsRefused, MayBe}
 
--- ---- places of a window as places of its text
+-- ---- what the whole text may be
 
-held_drop : (text more : List ℕ) (base n : ℕ) (bytes : List ℕ) (feeds : ℕ) → IsHeld text base bytes feeds → drop n (bytes ++ more) ≡ drop (base + n) (text ++ more)
-held_drop text more base n bytes feeds h =
-    ap (λ (l : List ℕ). drop n (l ++ more)) (sym h.bytes_are) ∙ ap (drop n) (sym (drop-append-le base text more h.within)) ∙ drop-drop n base (text ++ more)
+pub rows_there : (end : TextEnd) (text whole : List ℕ) (from to : ℕ) (rs : List PlacedRow) → MayBe end text whole → RowsStand end text from rs to → RowsUpTo whole from rs to
+rows_there cuts.Open text whole from to rs (more, is) stand = subst (λ (t : List ℕ). RowsUpTo t from rs to) (sym is) (stand more)
+rows_there cuts.Known text whole from to rs is stand = subst (λ (t : List ℕ). RowsUpTo t from rs to) (sym is) stand
 
-held_length : (text more : List ℕ) (base : ℕ) (bytes : List ℕ) (feeds : ℕ) → IsHeld text base bytes feeds → base + length (bytes ++ more) ≡ length (text ++ more)
-held_length text more base bytes feeds h = let e = held_end text base bytes feeds h in omega (arith, length-append bytes more, length-append text more)
+rows_stand : (end : TextEnd) (text : List ℕ) (from to : ℕ) (rs : List PlacedRow) → ((whole : List ℕ) → MayBe end text whole → RowsUpTo whole from rs to) → RowsStand end text from rs to
+rows_stand cuts.Open text from to rs up = λ more. up (text ++ more) (more, refl)
+rows_stand cuts.Known text from to rs up = up text refl
 
-pub gap_later : (text more : List ℕ) (base from to : ℕ) (bytes : List ℕ) (feeds : ℕ) → IsHeld text base bytes feeds → Gap (bytes ++ more) from to → Gap (text ++ more) (base + from) (base + to)
-gap_later text more base from to bytes feeds h gap =
-    let low = gap.1 in let high = gap.2 in let len = held_length text more base bytes feeds h in (
-      subst (λ (l : List ℕ). Space l (drop (base + to) (text ++ more))) (held_drop text more base from bytes feeds h)
-          (subst (λ (l : List ℕ). Space (drop from (bytes ++ more)) l) (held_drop text more base to bytes feeds h) gap.0),
-      omega arith,
-      omega arith,
-    )
+fault_there : (end : TextEnd) (text whole : List ℕ) (from at : ℕ) (kind : RowKind) → MayBe end text whole → Stops end text from (Some (rows.At at kind)) → FaultBehind whole from kind at
+fault_there cuts.Open text whole from at kind (more, is) stop = subst (λ (t : List ℕ). FaultBehind t from kind at) (sym is) (stop.0, (stop.1 more).0, (stop.1 more).1)
+fault_there cuts.Known text whole from at kind is stop = subst (λ (t : List ℕ). FaultBehind t from kind at) (sym is) stop
 
-row_later : (text more : List ℕ) (base at end : ℕ) (bytes : List ℕ) (feeds : ℕ) (r : Row) → IsHeld text base bytes feeds → IsRowAt (bytes ++ more) at r end → IsRowAt (text ++ more) (base + at) r (base + end)
-unfolding IsRowAt
-row_later text more base at end bytes feeds r h is =
-    let low = is.1 in let high = is.2 in let len = held_length text more base bytes feeds h in (
-      subst (λ (l : List ℕ). ShortRowAt l r (drop (base + end) (text ++ more))) (held_drop text more base at bytes feeds h)
-          (subst (λ (l : List ℕ). ShortRowAt (drop at (bytes ++ more)) r l) (held_drop text more base end bytes feeds h) is.0),
-      omega arith,
-      omega arith,
-    )
+-- nothing may follow
+pub now : (end : TextEnd) (text : List ℕ) → MayBe end text text
+now cuts.Open text = ([], sym (append-nil text))
+now cuts.Known text = refl
 
-no_row_later : (text more : List ℕ) (base to at : ℕ) (kind : RowKind) (bytes : List ℕ) (feeds : ℕ) → IsHeld text base bytes feeds → NoRowAt (bytes ++ more) to kind at → NoRowAt (text ++ more) (base + to) kind (base + at)
-no_row_later text more base to at kind bytes feeds h is =
-    let low = is.0 in let high = is.2 in let len = held_length text more base bytes feeds h in (
-      omega arith,
-      subst (λ (l : List ℕ). FirstFault l (kind, drop (base + at) (text ++ more))) (held_drop text more base to bytes feeds h)
-          (subst (λ (l : List ℕ). FirstFault (drop to (bytes ++ more)) (kind, l)) (held_drop text more base at bytes feeds h) is.1),
-      omega arith,
-    )
+pub fault_within : (end : TextEnd) (text : List ℕ) (from at : ℕ) (kind : RowKind) → Stops end text from (Some (rows.At at kind)) → at ≤ length text
+fault_within end text from at kind stop = (fault_there end text text from at kind (now end text) stop).2.2
 
--- ---- a fault with its line, in a text that goes on
+pub streamed_at : (end : TextEnd) (text other : List ℕ) (at place : ℕ) (p : Progress) → other ≡ text → place ≡ at → HasStreamed end text at p → HasStreamed end other place p
+streamed_at end text other at place p same there h = subst (λ (n : ℕ). HasStreamed end other n p) (sym there) (subst (λ (t : List ℕ). HasStreamed end t at p) (sym same) h)
 
-line_longer : (text more : List ℕ) (at : ℕ) → at ≤ length text → line_number text at ≡ line_number (text ++ more) at
-line_longer text more at within = ap (λ (l : List ℕ). count_by (λ b. b == 10) l + 1) (sym (take-append-le at text more within))
-
--- the first fault of a text ends its replay
-pub ends_faulty : (text more : List ℕ) (fault : PatchFault) (told : ReplayFault) → Tells text fault told → IsStreamFault (text ++ more) fault → EndsText told (text ++ more)
-ends_faulty text more (faults.At at kind) told (within, tells) is =
-    subst (λ (e : ReplayFault). EndsText e (text ++ more)) (sym tells) (record { fault_is = is; line_is = line_longer text more at within })
-ends_faulty text more (faults.TooLong size limit) told tells is = subst (λ (e : ReplayFault). EndsText e (text ++ more)) (sym tells) is
-ends_faulty text more faults.OutOfMemory told tells is = subst (λ (e : ReplayFault). EndsText e (text ++ more)) (sym tells) tt
-
--- ---- the text goes on
-
-no_whole : {X : Type 0} → false ≡ true → X
-no_whole e = absurd cc
-
-pub streamed_longer : (text more : List ℕ) (at : ℕ) (p : Progress) → HasStreamed false text at p → HasStreamed false (text ++ more) at p
-streamed_longer text more at p h = record {
+-- the text goes on, or it is known to be whole
+streamed_in : (end : TextEnd) (text longer : List ℕ) (at : ℕ) (p : Progress) → ((whole : List ℕ) → MayBe end longer whole → MayBe cuts.Open text whole) → HasStreamed cuts.Open text at p → HasStreamed end longer at p
+streamed_in end text longer at p may h = record {
   rs = h.rs;
   ms = h.ms;
-  reads = λ rest none. subst (λ (t : List ℕ). RowsBefore t h.rs at) (sym (append_assoc text more rest)) (h.reads (more ++ rest) (λ e. no_whole e));
   changes = h.changes;
+  reads = rows_stand end longer 0 at h.rs (λ whole is. rows_there cuts.Open text whole 0 at h.rs (may whole is) h.reads);
   parts = h.parts;
   edits = h.edits;
   replayed = h.replayed;
 }
 
-pub streamed_whole : (whole : Bool) (text : List ℕ) (at : ℕ) (p : Progress) → HasStreamed false text at p → HasStreamed whole text at p
-streamed_whole whole text at p h = record {
-  rs = h.rs;
-  ms = h.ms;
-  reads = λ rest none. h.reads rest (λ e. no_whole e);
-  changes = h.changes;
-  parts = h.parts;
-  edits = h.edits;
-  replayed = h.replayed;
-}
+pub may_later : (text more whole : List ℕ) → MayBe cuts.Open (text ++ more) whole → MayBe cuts.Open text whole
+may_later text more whole (rest, is) = (more ++ rest, is ∙ append_assoc text more rest)
 
--- white space was read over
-pub streamed_passed : (text : List ℕ) (base from to : ℕ) (bytes : List ℕ) (feeds : ℕ) (p : Progress) → IsHeld text base bytes feeds → from ≤ to → to ≤ length bytes → PassesSpace bytes from to
-    → HasStreamed false text (base + from) p → HasStreamed false text (base + to) p
-streamed_passed text base from to bytes feeds p held low high passes h = record {
-  rs = h.rs;
-  ms = h.ms;
-  reads = λ more none.
-      let before = h.reads more none in (
-        before.0,
-        before.1,
-        λ end gap.
-            before.2 end
-            (let later = gap.1 in let within = gap.2 in (
-              subst (λ (l : List ℕ). Space l (drop end (text ++ more))) (sym (drop-append-le from bytes more (omega arith)) ∙ held_drop text more base from bytes feeds held)
-                  (passes more (drop end (text ++ more)) (subst (λ (l : List ℕ). Space l (drop end (text ++ more))) (sym (held_drop text more base to bytes feeds held) ∙ drop-append-le to bytes more high) gap.0)),
-              omega arith,
-              gap.2,
-            )),
-      );
-  changes = h.changes;
-  parts = h.parts;
-  edits = h.edits;
-  replayed = h.replayed;
-}
+pub streamed_longer : (text more : List ℕ) (at : ℕ) (p : Progress) → HasStreamed cuts.Open text at p → HasStreamed cuts.Open (text ++ more) at p
+streamed_longer text more at p h = streamed_in cuts.Open text (text ++ more) at p (may_later text more) h
+
+pub streamed_whole : (text : List ℕ) (at : ℕ) (p : Progress) → HasStreamed cuts.Open text at p → HasStreamed cuts.Known text at p
+streamed_whole text at p h = streamed_in cuts.Known text text at p (λ whole is. ([], is ∙ sym (append-nil text))) h
 
 -- ---- one more row
 
--- the rows come no further than the next one
-up_to_next : (text : List ℕ) (rs : List PlacedRow) (at stop : ℕ) → RowsBefore text rs at → Gap text at stop → AreUpTo rs stop
-up_to_next text rs at stop before gap = let behind = before.2 stop gap in rows_up_to text 0 before.0 stop rs before.1 behind.1
+-- the window passed a row
+pub record HasPassed (end : TextEnd) (old new : Window) (r : PlacedRow) : Type 0 where
+  pub stands : RowsStand end old.fed old.passed (r ∷ []) r.end
+  pub fed : new.fed ≡ old.fed
+  pub passed : new.passed ≡ r.end
+  pub low : old.passed ≤ r.at
+  pub further : r.at < r.end
+  pub within : r.end ≤ length old.fed
 
-abbrev placed_at : ℕ → Row → Next → PlacedRow
-placed_at base r row = record { row = r; at = base + row.at; end = base + row.end }
+pub next_passed : (end : TextEnd) (old new : Window) (o : Option PlacedRow) (r : PlacedRow) → o ≡ Some r → GivesNext end old.fed old.passed (Ok o) → GoesOn old (Ok o) new → HasPassed end old new r
+next_passed end old new o r is given goes =
+    let stands = subst (λ (o : Option PlacedRow). GivesNext end old.fed old.passed (Ok o)) is given in
+    let moved = subst (λ (o : Option PlacedRow). GoesOn old (Ok o) new) is goes in
+    let there = row_within end old.fed old.passed r stands in
+    record { stands = stands; fed = ap (λ (w : Window). w.fed) moved; passed = ap (λ (w : Window). w.passed) moved; low = there.2; further = there.0; within = there.1 }
+
+abbrev placed : Row → ℕ → ℕ → PlacedRow
+placed r at stop = record { row = r; at = at; end = stop }
+
+-- the rows come no further than the next one
+up_to_next : (end : TextEnd) (text : List ℕ) (rs : List PlacedRow) (passed stop : ℕ) (r : PlacedRow) → RowsStand end text 0 rs passed → RowsStand end text passed (r ∷ []) stop → AreUpTo rs r.at
+up_to_next end text rs passed stop r before there =
+    let gap = (rows_there end text text passed stop (r ∷ []) (now end text) there).0 in rows_up_to text 0 passed r.at rs (rows_there end text text 0 passed rs (now end text) before) gap.1
 
 -- the last row begins within the limit
 not_behind : (limit : ℕ) (rs : List PlacedRow) (r : PlacedRow) → AreUpTo (rs ++ r ∷ []) limit → nat_lt limit r.at ≡ false
 not_behind limit rs r up = let here = (front_up_to rs r limit up).1 in grind (arith, nat_tests)
 
-pub streamed_more : (whole : Bool) (text : List ℕ) (base from : ℕ) (bytes : List ℕ) (feeds : ℕ) (old new : Progress) (row : Next) (done : Option Link) → IsHeld text base bytes feeds
-    → IsNextIn whole bytes from row → HasStreamed whole text (base + from) old → HasTakenNext old.part row.role (base + row.at) done new.part
-    → ((ms : List Meaning) (changes : List Change) → IsReplay ms old.replay → HasEdits changes old.edits → IsReplay (ms ++ meanings_of done changes) new.replay)
-    → ((changes : List Change) → HasEdits changes old.edits → HoldsMore new.part (changes_left done changes) row.role (base + row.at) new.edits) → HasStreamed whole text (base + row.end) new
-streamed_more whole text base from bytes feeds old new row done held is h taken applied holds = let more_held = holds h.changes h.edits in record {
-  rs = h.rs ++ placed_at base is.0 row ∷ [];
-  ms = h.ms ++ meanings_of done h.changes;
-  changes = more_held.0;
-  reads = λ more none.
-      let before = h.reads more none in (
-        base + row.end,
-        rows_more (text ++ more) 0 before.0 h.rs (placed_at base is.0 row) before.1
-            (before.2 (base + row.at) (gap_later text more base from row.at bytes feeds held (is.2 more none).0))
-            (row_later text more base row.at row.end bytes feeds is.0 held (is.2 more none).1),
-        λ to gap. gap,
-      );
-  parts = with_changes _ _ _ more_held.0 new.part (λ up. sym (more_held.2 (not_behind (new.part.from + PATCH_LIMIT) h.rs (placed_at base is.0 row) up)))
-      (taken h.rs h.ms h.changes (placed_at base is.0 row) h.parts
-      (up_to_next (text ++ []) h.rs (base + from) (base + row.at) (h.reads [] (λ e. refl)) (gap_later text [] base from row.at bytes feeds held (is.2 [] (λ e. refl)).0))
-      is.1 refl);
-  edits = more_held.1;
-  replayed = applied h.ms h.changes h.replayed h.edits;
-}
+pub streamed_more : (end : TextEnd) (text : List ℕ) (at stop : ℕ) (old new : Progress) (says : Role) (done : Option Link) → AwaitsRow end text old says at stop → HasTakenNext old.part says at done new.part
+    → ((ms : List Meaning) (changes : List Change) → IsReplay ms old.replay → IsReplay (ms ++ meanings_of done changes) new.replay)
+    → ((ms : List Meaning) (changes : List Change) → HasEdits changes (replay ms) old.edits → HoldsMore new.part (changes_left done changes) (replay (ms ++ meanings_of done changes)) says at new.edits)
+    → HasStreamed end text stop new
+streamed_more end text at stop old new says done a taken applied holds =
+    let h = a.before in
+    let r : PlacedRow = placed a.row_ at stop in
+    let more_held = holds h.ms h.changes h.edits in
+    record {
+      rs = h.rs ++ r ∷ [];
+      ms = h.ms ++ meanings_of done h.changes;
+      changes = more_held.0;
+      reads = stand_joined end text 0 a.passed stop h.rs (r ∷ []) h.reads a.stands;
+      parts = with_changes _ _ _ more_held.0 new.part (λ up. sym (more_held.2 (not_behind (new.part.from + PATCH_LIMIT) h.rs r up)))
+          (taken h.rs h.ms h.changes r h.parts (up_to_next end text h.rs a.passed stop r h.reads a.stands) a.says_is refl);
+      edits = more_held.1;
+      replayed = applied h.ms h.changes h.replayed;
+    }
+
+-- one more row, with a quad
+pub streamed_quad : (end : TextEnd) (text : List ℕ) (at stop : ℕ) (old new : Progress) (adds : Bool) (quad : Statement) → AwaitsRow end text old (roles.Change (change_by adds quad)) at stop
+    → ((rs : List PlacedRow) (r : PlacedRow) (adds : Bool) (quad : Statement) → HasPart rs old.part → role r.row ≡ roles.Change (change_by adds quad) → HasPart (rs ++ r ∷ []) new.part) → new.part.from ≡ old.part.from
+    → new.replay ≡ old.replay
+    → ((changes : List Change) (d : Dataset) → HasEdits changes d old.edits → HoldsMore new.part changes d (roles.Change (change_by adds quad)) at new.edits) → HasStreamed end text stop new
+streamed_quad end text at stop old new adds quad a part same replayed holds =
+    streamed_more end text at stop old new (roles.Change (change_by adds quad)) None a
+    (taken_next old.part old.part new.part (roles.Change (change_by adds quad)) at None (λ rs has. refl) refl (λ rs r has says. part rs r adds quad has says) same)
+    (λ ms changes taken. subst (λ (r : Replay). IsReplay (ms ++ []) r) (sym replayed) (subst (λ (l : List Meaning). IsReplay l old.replay) (sym (append-nil ms)) taken))
+    (λ ms changes edits. subst (λ (l : List Meaning). HoldsMore new.part changes (replay l) (roles.Change (change_by adds quad)) at new.edits) (sym (append-nil ms)) (holds changes (replay ms) edits))
+
+pub front_there : (w : Window) (at : ℕ) → w.front ≡ Some at → row_front w ≡ drop at w.fed
+front_there w at is = rw is refl
+
+-- a row that is decided where the next one begins
+pub decided_there : (w : Window) (at size : ℕ) (r : Row) → RowBegins w at → IsDecidedRow (drop at w.fed) 0 r size → (end : TextEnd) → RowsStand end w.fed w.passed (placed r at (at + size) ∷ []) (at + size)
+unfolding IsRowAt
+decided_there w at size r begins is end = rows_stand end w.fed w.passed (at + size) (placed r at (at + size) ∷ []) (λ whole may. by end whole may)
+  where
+    longer : (more : List ℕ) → RowsUpTo (w.fed ++ more) w.passed (placed r at (at + size) ∷ []) (at + size)
+    longer more =
+        let there : drop at w.fed ++ more ≡ drop at (w.fed ++ more) = sym (drop-append-le at w.fed more (omega (arith, begins.2))) in
+        let row = subst (λ (t : List ℕ). IsRowAt t 0 r size) there (is more) in
+        let further : 0 < size = row.1 in
+        let within : size ≤ length (drop at (w.fed ++ more)) = row.2 in (
+          begins.0 more,
+          (
+            subst (ShortRowAt (drop at (w.fed ++ more)) r) (drop-drop size at (w.fed ++ more)) row.0,
+            omega (arith, further),
+            omega (arith, within, further, length-drop at (w.fed ++ more)),
+          ),
+          refl,
+        )
+
+    by : (end : TextEnd) (whole : List ℕ) → MayBe end w.fed whole → RowsUpTo whole w.passed (placed r at (at + size) ∷ []) (at + size)
+    by cuts.Open whole (more, is) = subst (λ (t : List ℕ). RowsUpTo t w.passed (placed r at (at + size) ∷ []) (at + size)) (sym is) (longer more)
+    by cuts.Known whole is = subst (λ (t : List ℕ). RowsUpTo t w.passed (placed r at (at + size) ∷ []) (at + size)) (append-nil w.fed ∙ sym is) (longer [])
+
+pub awaits_found : (w : Window) (p : Progress) (at size : ℕ) (r : Row) (says : Role) → RowBegins w at → IsDecidedRow (drop at w.fed) 0 r size → role r ≡ says → (end : TextEnd) → HasStreamed end w.fed w.passed p
+    → AwaitsRow end w.fed p says at (at + size)
+awaits_found w p at size r says begins is says_is end h =
+    record { passed = w.passed; before = h; row_ = r; stands = decided_there w at size r begins is end; says_is = says_is }
+
+-- ---- rows that were found
+
+id_role : (digits : List ℕ) (id : Id) → number_of digits ≡ Some id.0 → role (id_row (codes "id") digits) ≡ roles.Id (Some id)
+unfolding header_role value_id
+id_role digits id named = rw named refl
+
+prev_role : (digits : List ℕ) (id : Id) → number_of digits ≡ Some id.0 → role (id_row (codes "prev") digits) ≡ roles.Prev (Some id)
+unfolding header_role value_id
+prev_role digits id named = rw named refl
+
+pub row_found : (text : List ℕ) (at end : ℕ) (s : Says) (r : Role) → IsSaid text at end s → found_role s ≡ Some r → (x : Row) × IsDecidedRow text at x end × (role x ≡ r)
+row_found text at end (says.Quad adds line) r is e = absurd cc
+row_found text at end says.Begin r is e = (row.Change change.Begin, is.row, cc)
+row_found text at end says.Commit r is e = (row.Change change.Commit, is.row, cc)
+row_found text at end says.Abort r is e = (row.Change change.Abort, is.row, cc)
+row_found text at end (says.Id id) r is e = let named = id_role is.0 id is.1 in (id_row (codes "id") is.0, is.2.row, cc)
+row_found text at end (says.Prev id) r is e = let named = prev_role is.0 id is.1 in (id_row (codes "prev") is.0, is.2.row, cc)
+
+said_further : (text : List ℕ) (at end : ℕ) (s : Says) → IsSaid text at end s → at < end
+said_further text at end (says.Quad adds line) is = is.1.further
+said_further text at end says.Begin is = is.further
+said_further text at end says.Commit is = is.further
+said_further text at end says.Abort is = is.further
+said_further text at end (says.Id id) is = is.2.further
+said_further text at end (says.Prev id) is = is.2.further
+
+-- a row was found in front, and it ends further on
+pub found_further : (w : Window) (place : Option ℕ) (at : ℕ) (front : List ℕ) (found : ScannedRow) → place ≡ w.front → place ≡ Some at → RowBegins w at → front ≡ row_front w → HasRow front 0 found → (w.passed ≤ at) × (at < length w.fed) × (0 < found.end)
+found_further w place at front found value is begins there row =
+    let gap = begins.0 [] in
+    (gap.1, begins.2, said_further (drop at w.fed) 0 found.end found.says (subst (λ (t : List ℕ). IsSaid t 0 found.end found.says) (there ∙ front_there w at (sym value ∙ is)) row))
 
 -- ---- faults
 
 -- the next patch begins with a row, and the one before it has a fault; or the row is refused
-pub told_by : (whole : Bool) (text : List ℕ) (base from : ℕ) (bytes : List ℕ) (feeds : ℕ) (old : Progress) (row : Next) (fault : PatchFault) (told : ReplayFault) → IsHeld text base bytes feeds
-    → IsNextIn whole bytes from row → HasStreamed whole text (base + from) old → IsBrokenBy old.part row.role (base + row.at) fault → Tells text fault told → IsTold whole text told
-told_by whole text base from bytes feeds old row fault told held is h why tells = λ more none. ends_faulty text more fault told tells (there more none)
+pub refused_by : (end : TextEnd) (text : List ℕ) (at stop : ℕ) (old : Progress) (says : Role) (fault : PatchFault) → IsBrokenBy old.part says at fault → AwaitsRow end text old says at stop → IsRefused end text fault
+refused_by end text at stop old says fault why a = λ whole may. inr (there whole may)
   where
-    there : (more : List ℕ) → (whole ≡ true → more ≡ []) → IsStreamFault (text ++ more) fault
-    there more none = by (why h.rs h.ms h.changes (placed_at base is.0 row) h.parts is.1 refl)
+    h : HasStreamed end text a.passed old
+    h = a.before
+
+    r : PlacedRow
+    r = placed a.row_ at stop
+
+    there : (whole : List ℕ) → MayBe end text whole → IsStreamFault whole fault
+    there whole may = by (why h.rs h.ms h.changes r h.parts a.says_is refl)
       where
-        before : RowsBefore (text ++ more) h.rs (base + from)
-        before = h.reads more none
+        before : RowsUpTo whole 0 h.rs a.passed
+        before = rows_there end text whole 0 a.passed h.rs may h.reads
 
-        gap : Gap (text ++ more) before.0 (base + row.at)
-        gap = before.2 (base + row.at) (gap_later text more base from row.at bytes feeds held (is.2 more none).0)
+        row_there : RowsUpTo whole a.passed (r ∷ []) stop
+        row_there = rows_there end text whole a.passed stop (r ∷ []) may a.stands
 
-        row_there : IsRowAt (text ++ more) (base + row.at) is.0 (base + row.end)
-        row_there = row_later text more base row.at row.end bytes feeds is.0 held (is.2 more none).1
-
-        by : ((begins (said (cut h.rs).last.rows_) row.role ≡ true) × EndsWith h.rs (base + row.at) fault) ⊎ AreRefused (h.rs ++ placed_at base is.0 row ∷ []) fault → IsStreamFault (text ++ more) fault
-        by (inl ends_there) =
-            end_fault (text ++ more) h.rs (base + row.at) h.ms fault (before.0, before.1, gap) h.parts.before
-            (next is.0 (base + row.end) row_there (ap (begins (said (cut h.rs).last.rows_)) is.1 ∙ ends_there.0)) ends_there.1
+        by : ((begins (said (cut h.rs).last.rows_) says ≡ true) × EndsWith h.rs at fault) ⊎ AreRefused (h.rs ++ r ∷ []) fault → IsStreamFault whole fault
+        by (inl is) =
+            end_fault whole h.rs at h.ms fault (a.passed, before, row_there.0) h.parts.before
+            (next a.row_ stop row_there.1 (ap (begins (said (cut h.rs).last.rows_)) a.says_is ∙ is.0)) is.1
         by (inr bad) =
-            refused_fault (text ++ more) (h.rs ++ placed_at base is.0 row ∷ []) (base + row.end) fault
-            (rows_more (text ++ more) 0 before.0 h.rs (placed_at base is.0 row) before.1 gap row_there)
-            (row_within (text ++ more) (base + row.at) is.0 (base + row.end) row_there).1 bad
+            refused_fault whole (h.rs ++ r ∷ []) stop fault (rows_more whole 0 a.passed h.rs r before row_there.0 row_there.1) (row_ends whole at a.row_ stop row_there.1).1 bad
 
 -- no row stands there
-pub told_there : (whole : Bool) (text : List ℕ) (base from at : ℕ) (bytes : List ℕ) (feeds : ℕ) (old : Progress) (kind : RowKind) (fault : PatchFault) (told : ReplayFault) → IsHeld text base bytes feeds
-    → FindsFault whole bytes from kind at → HasStreamed whole text (base + from) old → IsBrokenAt old.part (base + at) kind fault → Tells text fault told → IsTold whole text told
-told_there whole text base from at bytes feeds old kind fault told held is h why tells =
-    λ more none.
-    let before = h.reads more none in
-    ends_faulty text more fault told tells
-    (no_row_fault (text ++ more) h.rs (base + is.1.0) h.ms (base + at) kind fault
-    (before.0, before.1, before.2 (base + is.1.0) (gap_later text more base from is.1.0 bytes feeds held (is.1.1 more none).0)) h.parts.before
-    (no_row_later text more base is.1.0 at kind bytes feeds held (is.1.1 more none).1) (why h.rs h.ms h.changes h.parts))
+pub refused_there : (end : TextEnd) (text : List ℕ) (passed at : ℕ) (p : Progress) (kind : RowKind) (fault : PatchFault) → Stops end text passed (Some (rows.At at kind)) → HasStreamed end text passed p → IsBrokenAt p.part at kind fault
+    → IsRefused end text fault
+refused_there end text passed at p kind fault stop h why = λ whole may.
+    let found = fault_there end text whole passed at kind may stop in
+    inr (no_row_fault whole h.rs found.0 h.ms at kind fault (passed, rows_there end text whole 0 passed h.rs may h.reads, found.1) h.parts.before found.2 (why h.rs h.ms h.changes h.parts))
 
 -- ---- the end
 
-reads_whole : (text : List ℕ) (at : ℕ) (p : Progress) (h : HasStreamed true text at p) → Gap text at (length text) → RowsTo text 0 h.rs (length text)
-reads_whole text at p h gap =
-    let before = subst (λ (t : List ℕ). RowsBefore t h.rs at) (append-nil text) (h.reads [] (λ e. refl)) in
-    (before.0, before.1, before.2 (length text) gap)
+reads_whole : (text : List ℕ) (at : ℕ) (p : Progress) (h : HasStreamed cuts.Known text at p) → Gap text at (length text) → RowsTo text 0 h.rs (length text)
+reads_whole text at p h gap = (at, h.reads, gap)
 
-up_to_end : (text : List ℕ) (at stop : ℕ) (p : Progress) → stop ≡ length text → (h : HasStreamed true text at p) → Gap text at (length text) → AreUpTo h.rs stop
-up_to_end text at stop p end h gap =
-    let all = reads_whole text at p h gap in
-    let low = all.2.1 in
-    rows_up_to text 0 all.0 stop h.rs all.1 (omega (arith, low, end))
+up_to_end : (text : List ℕ) (at : ℕ) (p : Progress) (h : HasStreamed cuts.Known text at p) → Gap text at (length text) → AreUpTo h.rs (length text)
+up_to_end text at p h gap = rows_up_to text 0 at (length text) h.rs h.reads gap.1
 
 -- the last patch has a fault
-pub told_at_end : (text : List ℕ) (at stop : ℕ) (p : Progress) (fault : PatchFault) (told : ReplayFault) → stop ≡ length text → HasStreamed true text at p → Gap text at (length text) → IsBrokenAtEnd p.part stop fault
-    → Tells text fault told → EndsText told text
-told_at_end text at stop p fault told end h gap why tells =
+pub refused_at_end : (text : List ℕ) (at : ℕ) (p : Progress) (fault : PatchFault) → IsBrokenAtEnd p.part (length text) fault → HasStreamed cuts.Known text at p → Gap text at (length text) → IsRefused cuts.Known text fault
+refused_at_end text at p fault why h gap = λ whole is.
     let last = why h.rs h.ms h.changes h.parts in
-    subst (EndsText told) (append-nil text)
-    (ends_faulty text [] fault told tells
-    (subst (λ (t : List ℕ). IsStreamFault t fault) (sym (append-nil text))
-    (end_fault text h.rs stop h.ms fault (subst (RowsTo text 0 h.rs) (sym end) (reads_whole text at p h gap)) h.parts.before (over end last.0) last.1)))
+    subst (λ (t : List ℕ). RefusesStream t fault) (sym is) (inr (end_fault text h.rs (length text) h.ms fault (reads_whole text at p h gap) h.parts.before (over refl last.0) last.1))
 
-pub stream_at_end : (text : List ℕ) (at stop : ℕ) (p : Progress) (done : Option Link) → stop ≡ length text → (h : HasStreamed true text at p) → Gap text at (length text) → EndsStream p.part stop done
+pub stream_at_end : (text : List ℕ) (at : ℕ) (p : Progress) (done : Option Link) (h : HasStreamed cuts.Known text at p) → Gap text at (length text) → EndsStream p.part (length text) done
     → IsStream text (h.ms ++ meanings_of done h.changes)
-stream_at_end text at stop p done end h gap ends = record {
+stream_at_end text at p done h gap ends = record {
   rows_ = h.rs;
   reads = reads_whole text at p h gap;
-  stream = subst (λ (n : ℕ). AreStream h.rs n (h.ms ++ meanings_of done h.changes)) end (ends h.rs h.ms h.changes h.parts (up_to_end text at stop p end h gap));
+  stream = ends h.rs h.ms h.changes h.parts (up_to_end text at p h gap);
 }
 
 -- ---- how a replay ends

@@ -3,18 +3,30 @@ use Rattle.std.proofs.Common.{◌≡◌, ℕ, ◌+◌, ◌<◌, ◌^◌, ◌-◌
 use Rattle.std.specs.Prelude.{is_some}
 use Rattle.std.proofs.lemmas.List.{map-append, length-map}
 use Rattle.delta_base.specs.declared.id.Id.{Id}
+use Rattle.delta_base.specs.declared.limits.TheConstants.{PATCH_LIMIT}
 use Rattle.chain_core.specs.declared.link.Link.{Link}
 use Rattle.chain_core.specs.declared.testing.ChainFault.{ChainFault}
 use Rattle.chain_core.specs.declared.testing.ChainTest.{ChainTest}
 use Rattle.chain_core.specs.Links.{IsChain}
 use Rattle.chain_core.specs.Breaks.{Breaks, last_or}
 use Rattle.chain_core.specs.Tested.{IsTested}
+use Rattle.rdf_terms.specs.declared.change.Change.{Change}
 use Rattle.rdf_terms.specs.Dataset.{Dataset, apply, empty}
+use Rattle.patch_meaning.specs.declared.part.Part.{Part}
+use Rattle.patch_meaning.specs.Cutting.{IsCutInto, IsLast, meanings_of}
+use Rattle.patch_meaning.specs.PartRead.{meaning_of}
 use Rattle.patch_meaning.specs.Patch.{Meaning}
 use Rattle.patch_meaning.specs.Replay.{link_of, links_of, replay, replay_from}
+use Rattle.patch_meaning.specs.Roles.{changes_of, said}
+use Rattle.patch_meaning.specs.Rows.{AreUpTo}
+use Rattle.patch_meaning.specs.Stream.{cut}
+use Rattle.patch_meaning.proofs.Cuts.{none_there}
+use Rattle.patch_reader.specs.declared.placed.PlacedRow.{PlacedRow}
+use Rattle.stream_replay.specs.declared.edits.Edits.{Edits}
 use Rattle.stream_replay.specs.declared.replay.Replay.{Replay}
-use Rattle.stream_replay.specs.Lines.{AreLinesOf}
+use Rattle.stream_replay.specs.Edits.{HasEdits, MakesLines}
 use Rattle.stream_replay.specs.Replaying.{IsWhole, HasTaken, IsReplay}
+use Rattle.stream_replay.proofs.Edited.{all_made}
 
 links-append : (ms ns : List Meaning) → links_of (ms ++ ns) ≡ links_of ms ++ links_of ns
 links-append ms ns = map-append link_of ms ns
@@ -71,13 +83,32 @@ no_end n few = omega arith
 pub goes_on : (ms : List Meaning) (m : Meaning) (old new : Replay) → IsWhole ms old → old.chain.version < 2 ^ 32 - 1
     → ((links : List Link) → IsTested links old.chain → IsChain (links ++ link_of m ∷ []))
     → ((links : List Link) → IsTested links old.chain → IsChain (links ++ link_of m ∷ []) → IsTested (links ++ link_of m ∷ []) new.chain)
-    → ((d : Dataset) → AreLinesOf old.lines.keys d → AreLinesOf new.lines.keys (apply m.changes d))
     → (old.patches < 2 ^ 32 → new.patches ≡ old.patches + 1) → new.head ≡ Some m.id → IsWhole (ms ++ m ∷ []) new
-goes_on ms m old new is room follows pushed step count head =
+goes_on ms m old new is room follows pushed count head =
     let few : old.patches < 2 ^ 32 = let v = is.tested.version_is in let n = is.patches_is in let l = length-map ms link_of in omega arith in
     record {
       tested = subst (λ (ls : List Link). IsTested ls new.chain) (sym (links-append ms (m ∷ []))) (pushed (links_of ms) is.tested (follows (links_of ms) is.tested));
-      lines_are = subst (AreLinesOf new.lines.keys) (sym (replay-push ms m empty)) (step (replay ms) is.lines_are);
       patches_is = count few ∙ ap (λ (n : ℕ). n + 1) is.patches_is ∙ sym (length-append ms (m ∷ []));
       head_is = head ∙ sym (ap (last_or None) (links-append ms (m ∷ [])) ∙ last-push None (links_of ms) (link_of m));
     }
+
+-- ---- the dataset
+
+-- the edits go on with a patch that is complete, if there is one
+pub edits_left : (ms : List Meaning) (changes : List Change) (e : Edits) (link : Link) → HasEdits [] (apply changes (replay ms)) e → HasEdits [] (replay (ms ++ meaning_of link changes ∷ [])) e
+edits_left ms changes e link has = subst (λ (d : Dataset). HasEdits [] d e) (sym (replay-push ms (meaning_of link changes) empty)) has
+
+-- the edits behind the last patch make the lines
+pub makes_last : (ms : List Meaning) (changes : List Change) (e : Edits) (done : Option Link) → (done ≡ None → changes ≡ []) → HasEdits changes (replay ms) e → MakesLines e.log (replay (ms ++ meanings_of done changes))
+makes_last ms changes e None nothing has =
+    subst (λ (l : List Meaning). MakesLines e.log (replay l)) (sym (append-nil ms))
+    (subst (λ (cs : List Change). MakesLines e.log (apply cs (replay ms))) (nothing refl) (all_made e.before_block changes (replay ms) e.log has))
+makes_last ms changes e (Some link) nothing has =
+    subst (MakesLines e.log) (sym (replay-push ms (meaning_of link changes) empty)) (all_made e.before_block changes (replay ms) e.log has)
+
+-- a part without rows has no change
+pub no_change : (p : Part) (stop : ℕ) (done : Option Link) (rs : List PlacedRow) (ms : List Meaning) (changes : List Change) → IsLast p stop done → IsCutInto rs ms changes p → done ≡ None → changes ≡ []
+no_change p stop (Some link) rs ms changes last h none = absurd cc
+no_change p stop None rs ms changes last h none =
+    let empty = none_there (cut rs).last.rows_ (last (cut rs).last.rows_ h.part) in
+    sym (h.changes_are (subst (λ (l : List PlacedRow). AreUpTo l (p.from + PATCH_LIMIT)) (sym (h.some empty)) tt)) ∙ ap (λ (l : List PlacedRow). changes_of (said l)) empty

@@ -1,35 +1,27 @@
--- What the changes of a patch do to the lines of a dataset.
-use Rattle.std.specs.Prelude.{◌≡◌, ℕ, ◌≤◌, Bool, true, false, List, [], ◌∷◌, ◌++◌, Option, Some, None, map, take, drop, length}
-use Rattle.std.specs.List.{flat_map}
+-- What changes do to the lines of a dataset.
+use Rattle.std.specs.Prelude.{◌≡◌, ℕ, ◌≤◌, Bool, List, ◌++◌, Option, Some, None, map, take, length}
+use Rattle.line_log.specs.Edits.{made}
 use Rattle.rdf_terms.specs.declared.change.Change.{Change}
-use Rattle.rdf_terms.specs.declared.change.Change.TheVariants.{Add, Delete, PrefixAdd, PrefixDelete, Begin, Commit, Abort}
+use Rattle.rdf_terms.specs.Dataset.{Dataset, apply, effects, kept_behind}
 use Rattle.rdf_terms.specs.Line.{line}
-use Rattle.rdf_terms.specs.Dataset.{kept, kept_behind}
 use Rattle.stream_replay.specs.declared.edits.Edits.{Edits}
-use Rattle.stream_replay.specs.declared.lines.LineEdit.{LineEdit}
-use Rattle.stream_replay.specs.Lines.{line_edit}
 
--- what one change does
-abbrev pub edits_of : Change → List (Bool × List ℕ)
-edits_of (Add q) = (true, line q) ∷ []
-edits_of (Delete q) = (false, line q) ∷ []
-edits_of (PrefixAdd prefix iri graph) = []
-edits_of (PrefixDelete prefix graph) = []
-edits_of Begin = []
-edits_of Commit = []
-edits_of Abort = []
+-- edits, one after another, make the lines of a dataset's quads
+abbrev pub MakesLines : List (Bool × List ℕ) → Dataset → Type 0
+MakesLines edits d = made edits ≡ map line d.quads
 
--- these are what the changes do, one after another
-abbrev pub AreEdits : List Change → List LineEdit → Type 0
-AreEdits changes edits = map line_edit edits ≡ flat_map edits_of changes
+-- What changes that may go on do to a dataset, without the blocks that TA ended: more changes go on
+-- from there. Where a block is open, so many edits stand before it.
+abbrev pub AreEditsBehind : Option ℕ → List Change → Dataset → List (Bool × List ℕ) → Type 0
+AreEditsBehind None changes d edits =
+    (after : Dataset) × ((more : List Change) → apply (changes ++ more) d ≡ apply more after)
+    × MakesLines edits after
+AreEditsBehind (Some count) changes d edits =
+    (after : Dataset) × (inside : List Change)
+    × ((more : List Change) → apply (changes ++ more) d ≡ effects (kept_behind inside more) after)
+    × MakesLines (take count edits) after × MakesLines edits (effects inside after)
+    × (count ≤ length edits)
 
--- These are what changes do that may go on, without the blocks that TA ended. Where a block is open, so many of them stand before it.
-abbrev pub AreEditsBehind : Option ℕ → List Change → List LineEdit → Type 0
-AreEditsBehind None changes edits =
-    (before : List Change) × ((more : List Change) → kept (changes ++ more) ≡ before ++ kept more) × AreEdits before edits
-AreEditsBehind (Some count) changes edits =
-    (before inside : List Change) × ((more : List Change) → kept (changes ++ more) ≡ before ++ kept_behind inside more)
-    × AreEdits before (take count edits) × AreEdits inside (drop count edits) × (count ≤ length edits)
-
-abbrev pub HasEdits : List Change → Edits → Type 0
-HasEdits changes e = AreEditsBehind e.before_block changes e.lines.items
+-- the log has what these changes do to this dataset
+abbrev pub HasEdits : List Change → Dataset → Edits → Type 0
+HasEdits changes d e = AreEditsBehind e.before_block changes d e.log

@@ -1,8 +1,6 @@
-pub mod Spaces
-pub mod Lines
+pub mod Found
 pub mod Replaying
 pub mod Places
 pub mod Edits
-pub mod Windows
 pub mod Source
 pub mod Streaming

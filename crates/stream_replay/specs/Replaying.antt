@@ -1,5 +1,6 @@
 -- Patches that are applied one after another.
 use Rattle.std.specs.Prelude.{◌≡◌, List, ◌++◌, length, Option, None, Some}
+use Rattle.std.specs.List.{flat_map}
 use Rattle.chain_core.specs.declared.testing.ChainFault.{ChainFault}
 use Rattle.chain_core.specs.Breaks.{Breaks, last_or}
 use Rattle.chain_core.specs.Links.{IsChain}
@@ -11,12 +12,10 @@ use Rattle.stream_replay.specs.declared.fault.ReplayFault.{ReplayFault}
 use Rattle.stream_replay.specs.declared.fault.ReplayFault.TheVariants as ends
 use Rattle.stream_replay.specs.declared.replay.Replay.{Replay}
 use Rattle.stream_replay.specs.declared.replay.Replayed.{Replayed}
-use Rattle.stream_replay.specs.Lines.{AreLinesOf, bytes_of}
 
--- a chain so far, and the lines of its dataset
+-- a chain so far
 pub record IsWhole (ms : List Meaning) (r : Replay) : Type 0 where
   pub tested : IsTested (links_of ms) r.chain
-  pub lines_are : AreLinesOf r.lines.keys (replay ms)
   pub patches_is : r.patches ≡ length ms
   pub head_is : r.head ≡ last_or None (links_of ms)
 
@@ -25,16 +24,15 @@ abbrev pub HasTaken : List Meaning → Option ChainFault → Replay → Type 0
 HasTaken ms None r = IsWhole ms r
 HasTaken ms (Some fault) r = (more : List Meaning) → Breaks (links_of (ms ++ more)) fault
 
--- the replay of these patches
+-- these patches were taken
 abbrev pub IsReplay : List Meaning → Replay → Type 0
 IsReplay ms r = HasTaken ms r.fault r
 
--- The patches are a chain. These are the lines of their replay's quads in the order of their bytes, how many patches and quads
--- there are, and the id of the last patch.
+-- The patches are a chain. These are the lines of their replay's quads in the order of their bytes,
+-- how many patches and quads there are, and the id of the last patch.
 pub record AreReplayed (ms : List Meaning) (r : Replayed) : Type 0 where
   pub chain : IsChain (links_of ms)
-  pub lines_are : AreLinesOf r.lines.keys (replay ms)
-  pub bytes_are : bytes_of r.lines.keys ≡ lines (replay ms).quads
+  pub lines_are : flat_map (λ l. l) r.lines ≡ lines (replay ms).quads
   pub patches_is : r.patches ≡ length ms
   pub quads_is : r.quads ≡ length (replay ms).quads
   pub head_is : r.head ≡ last_or None (links_of ms)

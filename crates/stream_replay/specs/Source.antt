@@ -47,8 +47,8 @@ EndsText ends.TooLong text = ⊥
 EndsText ends.Failed text = ⊥
 EndsText ends.OutOfMemory text = Unit {0}
 
--- Why an input has no replay, with what was told of it before and after: its bytes, and how often a call has failed. Want of
--- memory is free.
+-- Why an input has no replay, with what was told of it before and after: its bytes, and how often a
+-- call has failed. Want of memory is free.
 abbrev pub Ends : Option (List ℕ) → Option (List ℕ) → ℕ → ℕ → ReplayFault → Type 0
 Ends before after faults faults' (ends.Stream line at kind) =
     Reads before after (IsFaulty line at kind)

@@ -1,43 +1,55 @@
-//! What the changes of a patch do to the lines of a dataset, held while the patch may go on.
-ghost use Rattle.std.specs.Prelude.{◌≡◌, ◌++◌, ◌∷◌, [], List, OnOk};
+//! What the changes of patches do to the lines of a dataset.
+ghost use Rattle.std.specs.Prelude.{◌≡◌, ◌++◌, ◌∷◌, [], Bool, List, IfOk, OnOk, length};
+ghost use Rattle.std.specs.List.{flat_map};
 ghost use Rattle.rdf_terms.specs.declared.change.Change.{Change as Changed};
 ghost use Rattle.rdf_terms.specs.declared.change.Change.TheVariants as change;
-ghost use Rattle.rdf_terms.specs.Dataset.{Dataset, apply};
-ghost use Rattle.stream_replay.specs.Edits.{HasEdits};
-ghost use Rattle.stream_replay.specs.Lines.{AreLinesOf};
+ghost use Rattle.rdf_terms.specs.Dataset.{Dataset, apply, empty};
+ghost use Rattle.rdf_terms.specs.Line.{line, lines};
+ghost use Rattle.rdf_terms.specs.Quad.{Statement};
+ghost use Rattle.row_scan.specs.Found.{change_by};
+ghost use Rattle.stream_replay.specs.Edits.{HasEdits, MakesLines};
 
-use crate::lines::{LineEdit, Lines, make};
 use delta_base::OutOfMemory;
+use line_log::{LineLog, MadeLines};
 use nquads_documents::print_line;
-use rdf_terms::Change;
+use rdf_terms::{Change, Quad};
 use std::alloc::Global;
 
-/// What the changes of a patch do, as far as they were read. Of a block that TA ended nothing is left.
+/// How many edits a log may have beyond twice those that its lines need.
+const SPARE: usize = 65_536;
+
+/// What all changes so far do, also those of the patch that may go on. Of a block that TA ended
+/// nothing is left.
 #[derive(Drop)]
 pub struct Edits {
-    lines: Vec<LineEdit>,
+    log: LineLog,
     /// How many of them stand before the block that is open, if one is.
     before_block: Option<usize>,
+    /// With more of them the log is settled, so that it grows with the dataset and not
+    /// with the stream.
+    enough: usize,
 }
 
 impl Edits {
     /// No change so far.
     pub fn new(alloc: Global) -> Edits
-        ensures { HasEdits [] result }
+        ensures { HasEdits [] empty result }
     {
         Edits {
-            lines: Vec::new(alloc),
+            log: LineLog::new(alloc),
             before_block: None,
+            enough: SPARE,
         }
     }
 
     /// Holds what one more change does.
     pub fn take(&mut self, alloc: Global, change: &Change) -> Result<(), OutOfMemory>
-        ensures { OnOk result ((changes : List Changed) → HasEdits changes self.old → HasEdits (changes ++ change.now ∷ []) self.new) }
+        ensures { OnOk result ((changes : List Changed) (d : Dataset) → HasEdits changes d self.old
+            → HasEdits (changes ++ change.now ∷ []) d self.new) }
     {
         match change {
-            Change::Add(quad) => self.push(LineEdit::Insert(print_line(alloc, quad)?)),
-            Change::Delete(quad) => self.push(LineEdit::Remove(print_line(alloc, quad)?)),
+            Change::Add(quad) => self.print(alloc, true, quad),
+            Change::Delete(quad) => self.print(alloc, false, quad),
             Change::PrefixAdd { .. } | Change::PrefixDelete { .. } => Ok(()),
             Change::Begin => {
                 self.begin();
@@ -54,41 +66,67 @@ impl Edits {
         }
     }
 
-    fn push(&mut self, edit: LineEdit) -> Result<(), OutOfMemory>
-        ensures lines { OnOk result (self.new.lines.items ≡ self.old.lines.items ++ edit ∷ []) }
-        ensures block { self.new.before_block ≡ self.old.before_block }
+    // A quad is added or deleted.
+    fn print(&mut self, alloc: Global, adds: bool, quad: &Quad) -> Result<(), OutOfMemory>
+        ensures { OnOk result ((changes : List Changed) (d : Dataset) → HasEdits changes d self.old
+            → HasEdits (changes ++ change_by adds quad.now ∷ []) d self.new) }
     {
-        self.lines.push(edit)?;
-        Ok(())
+        let line = print_line(alloc, quad)?;
+        self.put(adds, line.as_bytes())
+    }
+
+    /// The quad of a line is added or deleted.
+    #[inline]
+    pub fn put(&mut self, adds: bool, bytes: &[u8]) -> Result<(), OutOfMemory>
+        ensures { OnOk result ((quad : Statement) → bytes.now ≡ line quad
+            → (changes : List Changed) (d : Dataset) → HasEdits changes d self.old
+            → HasEdits (changes ++ change_by adds quad ∷ []) d self.new) }
+    {
+        self.log.push(adds, bytes)
     }
 
     // A block begins here, if none is open.
     fn begin(&mut self)
-        ensures { (changes : List Changed) → HasEdits changes self.old → HasEdits (changes ++ change.Begin ∷ []) self.new }
+        ensures { (changes : List Changed) (d : Dataset) → HasEdits changes d self.old
+            → HasEdits (changes ++ change.Begin ∷ []) d self.new }
     {
         if self.before_block.is_some() {
             return;
         }
-        self.before_block = Some(self.lines.len());
+        self.before_block = Some(self.log.len());
     }
 
     // Lets go what the open block does, if one is.
     fn abort(&mut self)
-        ensures { (changes : List Changed) → HasEdits changes self.old → HasEdits (changes ++ change.Abort ∷ []) self.new }
+        ensures { (changes : List Changed) (d : Dataset) → HasEdits changes d self.old
+            → HasEdits (changes ++ change.Abort ∷ []) d self.new }
     {
         if let Some(count) = self.before_block {
-            self.lines.truncate(count);
+            self.log.truncate(count);
             self.before_block = None;
         }
     }
 
-    /// Makes the lines of a dataset those of the dataset after the patch.
-    pub fn apply(self, lines: &mut Lines) -> Result<(), OutOfMemory>
-        ensures { OnOk result ((changes : List Changed) (d : Dataset) → HasEdits changes self → AreLinesOf lines.old.keys d → AreLinesOf lines.new.keys (apply changes d)) }
+    /// The patch is complete, and the next one begins.
+    pub fn complete(&mut self) -> Result<(), OutOfMemory>
+        ensures { OnOk result ((changes : List Changed) (d : Dataset) → HasEdits changes d self.old
+            → HasEdits [] (apply changes d) self.new) }
     {
-        for edit in self.lines {
-            make(edit, lines)?;
+        self.before_block = None;
+        if self.log.len() > self.enough {
+            self.log.settle()?;
+            self.enough = self.log.len().saturating_mul(2).saturating_add(SPARE);
         }
         Ok(())
+    }
+
+    /// The lines of the dataset.
+    pub fn into_lines(self) -> Result<MadeLines, OutOfMemory>
+        ensures text { IfOk result (λ made. (d : Dataset) → MakesLines self.log d
+            → flat_map (λ l. l) made ≡ lines d.quads) }
+        ensures count { IfOk result (λ made. (d : Dataset) → MakesLines self.log d
+            → length made ≡ length d.quads) }
+    {
+        self.log.into_lines()
     }
 }

@@ -1,20 +1,21 @@
 //! The replay of a stream of patches that is read once, in pieces.
 //!
-//! `replay_source` reads an input to its end and answers the dataset that its patches make, or the first fault (`specs/Source.antt`).
-//! It holds one piece and the open row, the lines that the open patch changes, the ids of the chain, and the lines of the dataset.
+//! `replay_source` reads an input to its end and answers the dataset that its patches make, or the
+//! first fault (`specs/Source.antt`). It holds one piece and the open row, the ids of the chain,
+//! and the lines of the dataset as a log of edits that is settled now and then.
 #![tactic(auto)]
 
 mod edits;
 mod fault;
+mod found;
 mod lines;
 mod place;
 mod progress;
 mod replay;
 mod source;
 mod stream;
-mod window;
 
 pub use fault::ReplayFault;
-pub use lines::{Lines, write_lines};
+pub use lines::write_lines;
 pub use replay::Replayed;
 pub use source::{STREAM_LIMIT, replay_source};

@@ -1,49 +1,26 @@
-//! A dataset as the set of its lines, in the order of their bytes.
-ghost use Rattle.std.specs.Prelude.{◌≡◌, ◌≤◌, [], OnOk, IsErr};
+//! Lines that are written one after another.
+ghost use Rattle.std.specs.Prelude.{◌≡◌, ◌≤◌, [], IsErr, OnOk};
 ghost use Rattle.std.specs.Io.KnownBytes.{Appends};
+ghost use Rattle.std.specs.List.{flat_map};
 ghost use Rattle.delta_base.specs.Outside.{Rose};
 ghost use Rattle.sink_writing.specs.Writing.{AppendsFront};
-ghost use Rattle.stream_replay.specs.Lines.{bytes_of, edit_lines, line_edit};
 
-use delta_base::{Failed, OutOfMemory, Sink, Text};
+use delta_base::{Failed, Sink};
+use line_log::MadeLines;
 use sink_writing::Room;
-use std::collections::BTreeSet;
-
-/// The lines of a dataset. The order of texts is that of their bytes.
-pub type Lines = BTreeSet<Text>;
-
-/// What a change does to the lines of a dataset.
-#[derive(Drop)]
-pub enum LineEdit {
-    Insert(Text),
-    Remove(Text),
-}
-
-/// Does this to the lines of a dataset.
-pub fn make(edit: LineEdit, lines: &mut Lines) -> Result<(), OutOfMemory>
-    ensures { OnOk result (lines.new.keys ≡ edit_lines (line_edit edit) lines.old.keys) }
-{
-    match edit {
-        LineEdit::Insert(line) => {
-            lines.insert(line)?;
-        }
-        LineEdit::Remove(line) => {
-            lines.remove(&line);
-        }
-    }
-    Ok(())
-}
 
 /// Writes the lines one after another, a room of them at once.
-pub fn write_lines<K: Sink>(out: &mut K, lines: &Lines, mut room: Room) -> Result<(), Failed>
+pub fn write_lines<K: Sink>(out: &mut K, lines: &MadeLines, mut room: Room) -> Result<(), Failed>
     requires { room ≡ [] }
-    ensures whole { OnOk result (Appends (K.written out.old) (K.written out.new) (bytes_of lines.now.keys)) }
-    ensures front { AppendsFront (K.written out.old) (K.written out.new) (bytes_of lines.now.keys) }
+    ensures whole { OnOk result (Appends (K.written out.old) (K.written out.new)
+        (flat_map (λ l. l) lines.now)) }
+    ensures front { AppendsFront (K.written out.old) (K.written out.new)
+        (flat_map (λ l. l) lines.now) }
     ensures failed { IsErr result → Rose (K.faults out.old) (K.faults out.new) }
     ensures never_falls { K.faults out.old ≤ K.faults out.new }
 {
-    for line in lines {
-        room.put(out, line.as_bytes())?;
+    for at in 0..lines.len() {
+        room.put(out, lines.line(at))?;
     }
     room.write_out(out)
 }

@@ -1,18 +1,20 @@
 //! The lines of faults.
-ghost use Rattle.std.specs.Prelude.{◌+◌, ◌≤◌, ℕ, List, vec_len};
+ghost use Rattle.std.specs.Prelude.{◌≤◌, length};
 ghost use Rattle.patch_meaning.specs.PartRead.{IsToldAt};
-ghost use Rattle.stream_replay.specs.Windows.{IsWindow, Tells};
+ghost use Rattle.patch_rows.specs.declared.cut.TextEnd.{TextEnd};
+ghost use Rattle.stream_replay.specs.Streaming.{IsRefused, IsTold};
 
 use crate::fault::ReplayFault;
-use crate::window::Window;
 use patch_meaning::PatchFault;
+use patch_reader::RowWindow;
 
 /// The fault at this place of the window with its line; that a patch is too long has none.
-pub fn tell(window: &Window, fault: PatchFault, at: u64) -> ReplayFault
-    requires low { window.now.base ≤ at }
-    requires high { at ≤ window.now.base + vec_len window.now.bytes }
+pub fn tell(window: &RowWindow, fault: PatchFault, at: u64) -> ReplayFault
+    requires low { window.now.kept ≤ at }
+    requires high { at ≤ length window.now.fed }
     requires told { IsToldAt at fault }
-    ensures { (text : List ℕ) → IsWindow text window.now → Tells text fault result }
+    ensures { (end : TextEnd) → IsRefused end window.now.fed fault
+        → IsTold end window.now.fed result }
 {
     match fault {
         PatchFault::At { at, kind } => ReplayFault::Stream {

@@ -1,24 +1,24 @@
 //! The dataset that a chain of patches makes.
-ghost use Rattle.std.specs.Prelude.{◌≡◌, ◌+◌, ◌-◌, ◌<◌, ◌≤◌, ◌^◌, ◌++◌, ◌∷◌, List, [], OnOk, MatchResult};
-ghost use Rattle.chain_core.specs.Breaks.{Breaks};
+ghost use Rattle.std.specs.Prelude.{◌≡◌, ◌+◌, ◌-◌, ◌<◌, ◌≤◌, ◌^◌, ◌++◌};
+ghost use Rattle.std.specs.Prelude.{◌∷◌, List, [], IfOk, IfErr, OnOk};
 ghost use Rattle.rdf_terms.specs.declared.change.Change.{Change};
 ghost use Rattle.patch_meaning.specs.Patch.{Meaning};
 ghost use Rattle.patch_meaning.specs.PartRead.{meaning_of};
-ghost use Rattle.patch_meaning.specs.Replay.{links_of};
-ghost use Rattle.stream_replay.specs.Edits.{HasEdits};
+ghost use Rattle.patch_meaning.specs.Replay.{replay};
+ghost use Rattle.stream_replay.specs.Edits.{MakesLines};
 
 use crate::edits::Edits;
-use crate::lines::Lines;
+use crate::fault::ReplayFault;
 use chain_core::{ChainFault, ChainTest, Link};
 use delta_base::{Id, OutOfMemory};
+use line_log::MadeLines;
 use std::alloc::Global;
-use std::collections::BTreeSet;
 
 /// The dataset that a chain of patches makes from the empty one.
 #[derive(Drop)]
 pub struct Replayed {
     /// The canonical lines of its quads, in the order of their bytes.
-    pub lines: Lines,
+    pub lines: MadeLines,
     /// How many patches the chain has.
     pub patches: u64,
     /// How many quads the dataset has.
@@ -27,19 +27,18 @@ pub struct Replayed {
     pub head: Option<Id>,
 }
 
-/// Patches applied one after another, as long as they are a chain.
+/// The ids of patches, as long as they are a chain.
 #[derive(Drop)]
 pub struct Replay {
     chain: ChainTest,
-    lines: Lines,
     patches: u64,
     head: Option<Id>,
-    /// The first fault of the chain. Behind it no patch is applied.
+    /// The first fault of the chain. Behind it no id is taken.
     fault: Option<ChainFault>,
 }
 
 impl Replay {
-    ghost use Rattle.stream_replay.specs.Replaying.{AreReplayed, IsReplay};
+    ghost use Rattle.stream_replay.specs.Replaying.{AreReplayed, EndsChain, IsReplay};
 
     /// No patch so far.
     pub fn new(alloc: Global) -> Replay
@@ -48,19 +47,19 @@ impl Replay {
     {
         Replay {
             chain: ChainTest::new(alloc),
-            lines: BTreeSet::new(alloc),
             patches: 0,
             head: None,
             fault: None,
         }
     }
 
-    /// Tests a patch against the chain, and applies what its changes do. Most rows complete none, so this stays out of the
+    /// Tests a patch against the chain. Most rows complete none, so this stays out of the
     /// way of those.
     #[inline(never)]
-    pub fn take(&mut self, link: Link, edits: Edits) -> Result<(), OutOfMemory>
+    pub fn take(&mut self, link: Link) -> Result<(), OutOfMemory>
         requires room { self.old.chain.version < 2 ^ 32 - 1 }
-        ensures replay { OnOk result ((ms : List Meaning) (changes : List Change) → IsReplay ms self.old → HasEdits changes edits → IsReplay (ms ++ meaning_of link changes ∷ []) self.new) }
+        ensures replay { OnOk result ((ms : List Meaning) (changes : List Change)
+            → IsReplay ms self.old → IsReplay (ms ++ meaning_of link changes ∷ []) self.new) }
         ensures version { OnOk result (self.new.chain.version ≤ self.old.chain.version + 1) }
     {
         if self.fault.is_some() {
@@ -70,7 +69,6 @@ impl Replay {
             Some(fault) => self.fault = Some(fault),
             None => {
                 self.chain.push(link)?;
-                edits.apply(&mut self.lines)?;
                 self.patches = self.patches.saturating_add(1);
                 self.head = Some(link.id);
             }
@@ -78,18 +76,23 @@ impl Replay {
         Ok(())
     }
 
-    /// The dataset, where the patches are a chain.
-    pub fn finish(self) -> Result<Replayed, ChainFault>
-        ensures chain { (ms : List Meaning) → IsReplay ms self → MatchResult result (AreReplayed ms) (Breaks (links_of ms)) }
+    /// The dataset whose lines the edits make, where the patches are a chain.
+    pub fn finish(self, edits: Edits) -> Result<Replayed, ReplayFault>
+        ensures ok { IfOk result (λ replayed. (ms : List Meaning) → IsReplay ms self
+            → MakesLines edits.log (replay ms) → AreReplayed ms replayed) }
+        ensures fault { IfErr result (λ fault. (ms : List Meaning) → IsReplay ms self
+            → EndsChain ms fault) }
     {
-        match self.fault {
-            None => Ok(Replayed {
-                quads: self.lines.len(),
-                lines: self.lines,
-                patches: self.patches,
-                head: self.head,
-            }),
-            Some(fault) => Err(fault),
+        if let Some(fault) = self.fault {
+            return Err(ReplayFault::Chain(fault));
         }
+        let lines = edits.into_lines()?;
+        let quads = lines.len();
+        Ok(Replayed {
+            lines,
+            patches: self.patches,
+            quads,
+            head: self.head,
+        })
     }
 }

@@ -14,14 +14,17 @@ pub const STREAM_LIMIT: usize = 268_435_456;
 
 /// Reads a stream to its end, and answers the dataset that its patches make from the empty one.
 ///
-/// The first fault of the text comes before one of the chain. That the input has more than `STREAM_LIMIT` bytes comes before both, and
-/// then at most a piece more is read.
+/// The first fault of the text comes before one of the chain. That the input has more than
+/// `STREAM_LIMIT` bytes comes before both, and then at most a piece more is read.
 ///
-/// It reads the input once. Of the input it holds a piece and what stands behind the last row that was read, but for white space and the lines of comments; of the patches
-/// the lines that the open one changes up to the limit of a patch, the ids, and the lines of the dataset.
+/// It reads the input once. Of the input it holds a piece and what stands behind the last row that
+/// was read, but for white space and the lines of comments; of the patches the lines that the open
+/// one changes up to the limit of a patch, the ids, and the lines of the dataset.
 pub fn replay_source<S: Source>(alloc: Global, input: &mut S) -> Result<Replayed, ReplayFault>
-    ensures ok { IfOk result (λ replayed. Reads (S.left input.old) (S.left input.new) (IsReplayed replayed)) }
-    ensures fault { IfErr result (Ends (S.left input.old) (S.left input.new) (S.faults input.old) (S.faults input.new)) }
+    ensures ok { IfOk result (λ replayed.
+        Reads (S.left input.old) (S.left input.new) (IsReplayed replayed)) }
+    ensures fault { IfErr result
+        (Ends (S.left input.old) (S.left input.new) (S.faults input.old) (S.faults input.new)) }
     ensures never_falls { S.faults input.old ≤ S.faults input.new }
 {
     let mut stream = Streaming::new(alloc);

@@ -1,97 +1,79 @@
 //! A stream that is read in pieces.
-ghost use Rattle.std.specs.Prelude.{◌≡◌, ◌+◌, ◌-◌, ◌<◌, ◌≤◌, ◌^◌, ◌++◌, ◌∷◌, ℕ, List, [], Bool, true, false, None, Some, IfOk, IfErr, OnOk, length, vec_len};
-ghost use Rattle.patch_reader.specs.Rows.{Gap};
+ghost use Rattle.std.specs.Prelude.{◌≡◌, ◌+◌, ◌-◌, ◌<◌, ◌≤◌, ◌^◌, ◌++◌, ◌∷◌, ℕ, List, []};
+ghost use Rattle.std.specs.Prelude.{None, Some, Err, IfOk, IfErr, OnOk, drop, length};
+ghost use Rattle.patch_meaning.specs.Cutting.{EndsStream, IsLast};
+ghost use Rattle.patch_rows.specs.declared.cut.TextEnd.{TextEnd as End};
+ghost use Rattle.patch_rows.specs.declared.cut.TextEnd.TheVariants as ends;
+ghost use Rattle.patch_reader.specs.Places.{IsFrom};
+ghost use Rattle.patch_reader.specs.Rows.{Gap, RowsStand, Stops};
+ghost use Rattle.patch_reader.specs.Window.{RowBegins};
+ghost use Rattle.row_scan.specs.Rows.{HasRow};
 
 use crate::fault::ReplayFault;
+use crate::found::found_role;
+use crate::place::tell;
 use crate::progress::Progress;
 use crate::replay::Replayed;
-use crate::window::Window;
+use chain_core::Link;
 use delta_base::OutOfMemory;
-use patch_meaning::{Next, Role, next_row, role_of};
-use patch_reader::decided_row;
-use patch_rows::{RowFault, skip_space};
+use patch_meaning::{Role, role_of};
+use patch_reader::{PlacedRow, RowWindow};
+use patch_rows::{RowFault, TextEnd};
+use row_scan::{Says, ScannedRow, scan_row};
 use std::alloc::Global;
 
 /// A stream of which some pieces were read.
 #[derive(Drop)]
 pub struct Streaming {
-    window: Window,
+    window: RowWindow,
     progress: Progress,
-    /// How many bytes the window has before rows are read again: twice as many as were left, so that a long row is
-    /// read a few times and not once for each piece.
-    wanted: usize,
     /// The first fault. Behind it nothing is read.
     fault: Option<ReplayFault>,
 }
 
 impl Streaming {
     ghost use Rattle.stream_replay.specs.Source.{EndsText, IsReplayed};
-    ghost use Rattle.stream_replay.specs.Streaming.{FindsRow, HasFed, IsFew, IsNextIn, IsStreaming, IsTold};
+    ghost use Rattle.stream_replay.specs.Streaming.{AwaitsRow, HasFed, IsRead};
+    ghost use Rattle.stream_replay.specs.Streaming.{HasStreamed, IsFew, IsTold};
 
     /// No byte so far.
     pub fn new(alloc: Global) -> Streaming
         ensures fed { HasFed [] result }
-        ensures few { result.progress.replay.chain.version ≡ 0 }
-        ensures end { result.window.base + vec_len result.window.bytes ≡ 0 }
+        ensures few { IsFew result }
+        ensures end { result.window.fed ≡ [] }
     {
         Streaming {
-            window: Window::new(alloc),
+            window: RowWindow::new(alloc),
             progress: Progress::new(alloc),
-            wanted: 0,
             fault: None,
         }
     }
 
     /// The text goes on with a piece.
     pub fn feed(&mut self, alloc: Global, piece: &[u8]) -> Result<(), OutOfMemory>
-        requires room { self.old.window.base + vec_len self.old.window.bytes + length piece.now ≤ 2 ^ 31 }
+        requires room { length self.old.window.fed + length piece.now ≤ 2 ^ 31 }
         requires few { IsFew self.old }
-        ensures fed { OnOk result ((text : List ℕ) → HasFed text self.old → HasFed (text ++ piece.now) self.new) }
+        ensures fed { OnOk result ((text : List ℕ) → HasFed text self.old
+            → HasFed (text ++ piece.now) self.new) }
         ensures few { OnOk result (IsFew self.new) }
-        ensures end { OnOk result (self.new.window.base + vec_len self.new.window.bytes ≤ self.old.window.base + vec_len self.old.window.bytes + length piece.now) }
+        ensures end { OnOk result (length self.new.window.fed
+            ≤ length self.old.window.fed + length piece.now) }
     {
-        if self.fault.is_some() {
+        if let Some(_) = self.fault {
             return Ok(());
         }
         self.window.push(piece)?;
-        if self.window.bytes.len() < self.wanted {
-            return Ok(());
-        }
-        self.read_on(alloc)
-    }
-
-    // Takes the rows that the window decides.
-    fn read_on(&mut self, alloc: Global) -> Result<(), OutOfMemory>
-        requires none { self.old.fault ≡ None }
-        requires room { self.old.window.base + vec_len self.old.window.bytes ≤ 2 ^ 31 }
-        requires few { self.old.progress.replay.chain.version ≤ self.old.window.base + self.old.window.from }
-        ensures fed { OnOk result ((text : List ℕ) → IsStreaming false text self.old → HasFed text self.new) }
-        ensures few { OnOk result (IsFew self.new) }
-        ensures end { OnOk result (self.new.window.base + vec_len self.new.window.bytes ≡ self.old.window.base + vec_len self.old.window.bytes) }
-    {
-        match self.advance(alloc) {
-            Ok(()) => self.settle(alloc),
+        match self.advance(alloc, TextEnd::Open) {
+            Ok(()) => {
+                self.window.settle();
+                Ok(())
+            }
             Err(told) => self.stop(told),
         }
     }
 
-    // Lets go what was read.
-    fn settle(&mut self, alloc: Global) -> Result<(), OutOfMemory>
-        ensures window { OnOk result ((text : List ℕ) → IsStreaming false text self.old → IsStreaming false text self.new) }
-        ensures fault { self.new.fault ≡ self.old.fault }
-        ensures progress { self.new.progress ≡ self.old.progress }
-        ensures read { OnOk result (self.old.window.base + self.old.window.from ≤ self.new.window.base + self.new.window.from) }
-        ensures end { OnOk result (self.new.window.base + vec_len self.new.window.bytes ≡ self.old.window.base + vec_len self.old.window.bytes) }
-    {
-        self.window.pass_space();
-        self.window.settle(alloc)?;
-        self.wanted = self.window.bytes.len().saturating_mul(2);
-        Ok(())
-    }
-
     // Keeps the fault.
     fn stop(&mut self, told: ReplayFault) -> Result<(), OutOfMemory>
-        ensures fed { OnOk result ((text : List ℕ) → IsTold false text told → HasFed text self.new) }
         ensures window { self.new.window ≡ self.old.window }
         ensures fault { OnOk result (self.new.fault ≡ Some told) }
     {
@@ -102,111 +84,184 @@ impl Streaming {
         Ok(())
     }
 
-    // Takes all rows that the window decides.
-    fn advance(&mut self, alloc: Global) -> Result<(), ReplayFault>
-        requires room { self.old.window.base + vec_len self.old.window.bytes ≤ 2 ^ 31 }
-        requires few { self.old.progress.replay.chain.version ≤ self.old.window.base + self.old.window.from }
-        ensures ok { OnOk result ((text : List ℕ) → IsStreaming false text self.old → IsStreaming false text self.new) }
-        ensures fault { IfErr result (λ told. (text : List ℕ) → IsStreaming false text self.old → IsTold false text told) }
-        ensures few { OnOk result (self.new.progress.replay.chain.version ≤ self.new.window.base + self.new.window.from) }
-        ensures base { self.new.window.base ≡ self.old.window.base }
-        ensures len { vec_len self.new.window.bytes ≡ vec_len self.old.window.bytes }
+    // Takes all rows that are known. Each piece begins with the row that was unfinished, which the
+    // window follows; behind it canonical rows are found first.
+    fn advance(&mut self, alloc: Global, end: TextEnd) -> Result<(), ReplayFault>
+        requires room { length self.old.window.fed ≤ 2 ^ 31 }
+        requires few { self.old.progress.replay.chain.version ≤ self.old.window.passed }
+        ensures ok { OnOk result (IsRead end self.old → IsRead end self.new) }
+        ensures stops { OnOk result (Stops end self.new.window.fed self.new.window.passed None) }
+        ensures fault { IfErr result (λ told. IsRead end self.old
+            → IsTold end self.old.window.fed told) }
+        ensures few { OnOk result (self.new.progress.replay.chain.version
+            ≤ self.new.window.passed) }
+        ensures fed { self.new.window.fed ≡ self.old.window.fed }
         ensures same { self.new.fault ≡ self.old.fault }
     {
         'rows: loop {
-            let bytes = self.window.bytes.as_slice();
-            let at = skip_space(bytes, self.window.from);
-            match decided_row(alloc, bytes, at) {
-                Ok(Some((row, end))) => {
-                    let says = role_of(row);
-                    let taken = self.step(alloc, &says, at, end);
-                    drop(says);
-                    match taken {
-                        Ok(()) => {}
-                        Err(told) => return Err(told),
-                    }
-                }
+            match self.window.next(end) {
+                Ok(Some(row)) => self.take_row(alloc, row)?,
                 Ok(None) => return Ok(()),
-                Err(RowFault::At { at, kind }) => {
-                    return Err(self.progress.break_off(&self.window, at, kind));
-                }
-                Err(RowFault::OutOfMemory) => return Err(ReplayFault::OutOfMemory),
+                Err(fault) => return Err(self.break_off(fault)),
             }
+            self.take_found_rows(alloc)?;
         }
     }
 
-    // Takes all rows of a text that is whole.
-    fn advance_to_end(&mut self, alloc: Global) -> Result<(), ReplayFault>
-        requires room { self.old.window.base + vec_len self.old.window.bytes ≤ 2 ^ 31 }
-        requires few { self.old.progress.replay.chain.version ≤ self.old.window.base + self.old.window.from }
-        ensures ok { OnOk result ((text : List ℕ) → IsStreaming true text self.old → IsStreaming true text self.new) }
-        ensures end_of_text { OnOk result (Gap self.new.window.bytes.items self.new.window.from (length self.new.window.bytes.items)) }
-        ensures fault { IfErr result (λ told. (text : List ℕ) → IsStreaming true text self.old → IsTold true text told) }
-        ensures few { OnOk result (self.new.progress.replay.chain.version ≤ self.new.window.base + self.new.window.from) }
-        ensures base { self.new.window.base ≡ self.old.window.base }
-        ensures len { vec_len self.new.window.bytes ≡ vec_len self.old.window.bytes }
+    // Takes the canonical rows that come next.
+    fn take_found_rows(&mut self, alloc: Global) -> Result<(), ReplayFault>
+        requires room { length self.old.window.fed ≤ 2 ^ 31 }
+        requires few { self.old.progress.replay.chain.version ≤ self.old.window.passed }
+        ensures ok { OnOk result ((end : End) → IsRead end self.old → IsRead end self.new) }
+        ensures fault { IfErr result (λ told. (end : End) → IsRead end self.old
+            → IsTold end self.old.window.fed told) }
+        ensures few { OnOk result (self.new.progress.replay.chain.version
+            ≤ self.new.window.passed) }
+        ensures further { self.old.window.passed ≤ self.new.window.passed }
+        ensures fed { self.new.window.fed ≡ self.old.window.fed }
+        ensures same { self.new.fault ≡ self.old.fault }
     {
-        'rows: while let Some(next) = self.next(alloc)? {
-            let Next { role, at, end } = next;
-            let taken = self.step(alloc, &role, at, end);
-            drop(role);
-            taken?;
+        'rows: while let Some(place) = self.window.row_place() {
+            match scan_row(self.window.row_front(), 0) {
+                Some(found) => {
+                    self.take_found(alloc, found, place)?;
+                    self.window.pass_row(place + found.end as u64);
+                }
+                None => return Ok(()),
+            }
         }
         Ok(())
     }
 
-    // The next row of a text that is whole, or the fault.
-    fn next(&self, alloc: Global) -> Result<Option<Next>, ReplayFault>
-        ensures ok { IfOk result (FindsRow true self.now.window.bytes.items self.now.window.from) }
-        ensures fault { IfErr result (λ told. (text : List ℕ) → IsStreaming true text self.now → IsTold true text told) }
+    // Takes a canonical row that was found where the next one begins.
+    #[inline]
+    fn take_found(
+        &mut self,
+        alloc: Global,
+        found: ScannedRow,
+        place: u64,
+    ) -> Result<(), ReplayFault>
+        requires room { self.old.progress.replay.chain.version < 2 ^ 32 - 1 }
+        requires begins { RowBegins self.old.window place }
+        requires front { self.old.window.front ≡ Some place }
+        requires found { HasRow (drop place self.old.window.fed) 0 found }
+        ensures ok { OnOk result ((end : End) → IsRead end self.old
+            → HasStreamed end self.old.window.fed (place + found.end) self.new.progress) }
+        ensures fault { IfErr result (λ told. (end : End) → IsRead end self.old
+            → IsTold end self.old.window.fed told) }
+        ensures version { OnOk result (self.new.progress.replay.chain.version
+            ≤ self.old.progress.replay.chain.version + 1) }
+        ensures window { self.new.window ≡ self.old.window }
+        ensures same { self.new.fault ≡ self.old.fault }
     {
-        match next_row(alloc, self.window.bytes.as_slice(), self.window.from) {
-            Ok(next) => Ok(next),
-            Err(RowFault::At { at, kind }) => Err(self.progress.break_off(&self.window, at, kind)),
-            Err(RowFault::OutOfMemory) => Err(ReplayFault::OutOfMemory),
+        if let Says::Quad { adds, line } = found.says {
+            let bytes = &self.window.row_front()[line..found.end + 1];
+            self.progress.take_quad(adds, bytes, place)?;
+            return Ok(());
+        }
+        match found_role(found.says) {
+            Some(says) => {
+                let taken = self.take(alloc, &says, place);
+                drop(says);
+                taken
+            }
+            None => Ok(()),
         }
     }
 
-    // Takes what the row at a place says, which ends at another.
-    fn step(&mut self, alloc: Global, says: &Role, at: usize, end: usize) -> Result<(), ReplayFault>
+    // Takes the row that was passed last.
+    fn take_row(&mut self, alloc: Global, row: PlacedRow) -> Result<(), ReplayFault>
         requires room { self.old.progress.replay.chain.version < 2 ^ 32 - 1 }
-        requires low { at ≤ end }
-        requires within { end ≤ vec_len self.old.window.bytes }
-        ensures ok { OnOk result ((whole : Bool) (text : List ℕ) → IsNextIn whole self.old.window.bytes.items self.old.window.from (record { role = says.now; at = at; end = end })
-            → IsStreaming whole text self.old → IsStreaming whole text self.new) }
-        ensures fault { IfErr result (λ told. (whole : Bool) (text : List ℕ) → IsNextIn whole self.old.window.bytes.items self.old.window.from (record { role = says.now; at = at; end = end })
-            → IsStreaming whole text self.old → IsTold whole text told) }
-        ensures version { OnOk result (self.new.progress.replay.chain.version ≤ self.old.progress.replay.chain.version + 1) }
-        ensures from { OnOk result (self.new.window.from ≡ end) }
-        ensures base { self.new.window.base ≡ self.old.window.base }
-        ensures bytes { self.new.window.bytes ≡ self.old.window.bytes }
+        requires low { self.old.window.kept ≤ row.at }
+        requires high { row.at ≤ length self.old.window.fed }
+        ensures ok { OnOk result ((end : End) (passed : ℕ)
+            → RowsStand end self.old.window.fed passed (row ∷ []) row.end
+            → HasStreamed end self.old.window.fed passed self.old.progress
+            → HasStreamed end self.old.window.fed row.end self.new.progress) }
+        ensures fault { IfErr result (λ told. (end : End) (passed : ℕ)
+            → RowsStand end self.old.window.fed passed (row ∷ []) row.end
+            → HasStreamed end self.old.window.fed passed self.old.progress
+            → IsTold end self.old.window.fed told) }
+        ensures version { OnOk result (self.new.progress.replay.chain.version
+            ≤ self.old.progress.replay.chain.version + 1) }
+        ensures window { self.new.window ≡ self.old.window }
         ensures same { self.new.fault ≡ self.old.fault }
     {
-        match self.progress.take(alloc, &self.window, says, at) {
-            Ok(()) => {
-                self.window.from = end;
-                Ok(())
+        let PlacedRow { row, at, .. } = row;
+        let says = role_of(row);
+        let taken = self.take(alloc, &says, at);
+        drop(says);
+        taken
+    }
+
+    // Takes what the row at a place says.
+    fn take(&mut self, alloc: Global, says: &Role, at: u64) -> Result<(), ReplayFault>
+        requires room { self.old.progress.replay.chain.version < 2 ^ 32 - 1 }
+        requires low { self.old.window.kept ≤ at }
+        requires high { at ≤ length self.old.window.fed }
+        ensures ok { OnOk result ((end : End) (stop : ℕ)
+            → AwaitsRow end self.old.window.fed self.old.progress says.now at stop
+            → HasStreamed end self.old.window.fed stop self.new.progress) }
+        ensures fault { IfErr result (λ told. (end : End) (stop : ℕ)
+            → AwaitsRow end self.old.window.fed self.old.progress says.now at stop
+            → IsTold end self.old.window.fed told) }
+        ensures version { OnOk result (self.new.progress.replay.chain.version
+            ≤ self.old.progress.replay.chain.version + 1) }
+        ensures window { self.new.window ≡ self.old.window }
+        ensures same { self.new.fault ≡ self.old.fault }
+    {
+        match self.progress.take(alloc, says, at) {
+            Ok(()) => Ok(()),
+            Err(fault) => Err(tell(&self.window, fault, at)),
+        }
+    }
+
+    // The fault where no row stands.
+    fn break_off(&self, fault: RowFault) -> ReplayFault
+        requires there { (end : End) × (passed : ℕ)
+            × Stops end self.now.window.fed passed (Some fault) }
+        requires kept { IsFrom self.now.window.kept (Err fault) }
+        ensures { (end : End) → Stops end self.now.window.fed self.now.window.passed (Some fault)
+            → IsRead end self.now → IsTold end self.now.window.fed result }
+    {
+        match fault {
+            RowFault::At { at, kind } => {
+                tell(&self.window, self.progress.part.break_stream(at, kind), at)
             }
-            Err(told) => Err(told),
+            RowFault::OutOfMemory => ReplayFault::OutOfMemory,
+        }
+    }
+
+    // The ids of the last patch of a stream that ends with what was fed.
+    fn last_patch(&self) -> Result<Option<Link>, ReplayFault>
+        ensures ok { IfOk result (EndsStream self.now.progress.part (length self.now.window.fed)) }
+        ensures last { IfOk result (IsLast self.now.progress.part (length self.now.window.fed)) }
+        ensures fault { IfErr result (λ told. IsRead ends.Known self.now
+            → Gap self.now.window.fed self.now.window.passed (length self.now.window.fed)
+            → EndsText told self.now.window.fed) }
+    {
+        let stop = self.window.end();
+        match self.progress.part.finish_stream(stop) {
+            Ok(done) => Ok(done),
+            Err(fault) => Err(tell(&self.window, fault, stop)),
         }
     }
 
     /// The replay of the whole text.
     pub fn finish(mut self, alloc: Global) -> Result<Replayed, ReplayFault>
-        requires room { self.window.base + vec_len self.window.bytes ≤ 2 ^ 31 }
+        requires room { length self.window.fed ≤ 2 ^ 31 }
         requires few { IsFew self }
-        ensures ok { IfOk result (λ replayed. (text : List ℕ) → HasFed text self → IsReplayed replayed text) }
-        ensures fault { IfErr result (λ fault. (text : List ℕ) → HasFed text self → EndsText fault text) }
+        ensures ok { IfOk result (λ replayed. (text : List ℕ) → HasFed text self
+            → IsReplayed replayed text) }
+        ensures fault { IfErr result (λ fault. (text : List ℕ) → HasFed text self
+            → EndsText fault text) }
     {
         if let Some(told) = self.fault {
             return Err(told);
         }
-        self.advance_to_end(alloc)?;
-        let Streaming {
-            window,
-            progress,
-            ..
-        } = self;
-        progress.finish(&window)
+        self.advance(alloc, TextEnd::Known)?;
+        let done = self.last_patch()?;
+        let Streaming { progress, .. } = self;
+        progress.finish(done)
     }
 }

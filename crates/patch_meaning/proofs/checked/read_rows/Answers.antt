@@ -2,7 +2,8 @@ use Rattle.std.proofs.Common.{ℕ, Option, Ok, sym, subst, arith}
 use Rattle.std.proofs.lemmas.Result.{err_from_is_err_and}
 use Rattle.patch_meaning.specs.declared.rows.Next.{Next}
 use Rattle.patch_meaning.specs.Next.{IsNext}
-use Rattle.patch_meaning.proofs.Read.{HasTaken, kept, taken, stopped, broken, further}
+use Rattle.patch_meaning.specs.Checked.{HasTaken}
+use Rattle.patch_meaning.proofs.Read.{kept, taken, stopped, broken, further}
 use Rattle.patch_meaning.proofs.checked.read_rows.Goals as goal
 
 pub returns-in_err-next-clause-fault : goal.returns-in_err-next-clause-fault

@@ -1,5 +1,6 @@
 use Rattle.std.proofs.Common.{◌-◌, length}
-use Rattle.patch_meaning.proofs.Read.{HasTaken, kept}
+use Rattle.patch_meaning.specs.Checked.{HasTaken}
+use Rattle.patch_meaning.proofs.Read.{kept}
 use Rattle.patch_meaning.proofs.checked.read_rows.Given as goal
 
 -- the rows so far were taken

@@ -1,24 +1,18 @@
-use Rattle.std.proofs.Common.{ℕ, Option, Some, None, Ok, Err, sym, subst, ◌+◌, [], ◌∷◌, arith}
+use Rattle.std.proofs.Common.{ℕ, Option, Some, None, Ok, Err, sym, subst, ◌+◌, [], ◌∷◌}
 use Rattle.patch_rows.specs.declared.fault.RowFault.{RowFault}
 use Rattle.patch_rows.specs.declared.row.Row.{Row}
 use Rattle.patch_reader.specs.declared.placed.PlacedRow.{PlacedRow}
 use Rattle.patch_reader.specs.Decided.{GivesRow}
 use Rattle.patch_reader.specs.Rows.{RowsStand, Stops}
-use Rattle.patch_reader.proofs.Kept.{next_given, row_further}
+use Rattle.patch_reader.proofs.Kept.{next_given}
 use Rattle.patch_reader.proofs.next.next_row.Goals as goal
 
 pub returns-in-Ok-Some-clause-gives : goal.returns-in-Ok-Some-clause-gives
 returns-in-Ok-Some-clause-gives c = λ text k.
     let start = c.skip_space-start.result in
-    subst (λ (r : PlacedRow). RowsStand c.args.end text (c.args.base + c.args.at) (r ∷ []) (c.args.base + c.in-Ok-Some.behind)) (sym c.placed.ensures)
+    subst (λ (r : PlacedRow). RowsStand c.args.end text (c.args.base + c.args.at) (r ∷ []) r.end) (sym c.placed.ensures)
     (next_given c.args.end text c.args.kept.now c.args.base c.args.at start (Ok (Some (c.in-Ok-Some.row, c.in-Ok-Some.behind)))
     c.skip_space-start.ensures.low c.skip_space-start.ensures.high c.skip_space-start.ensures.space (subst (λ (o : Option (Row × ℕ)). GivesRow c.args.end c.args.kept.now start (Ok o)) c.in-Ok-Some.field-0-is c.in-Ok-Some.ensures) k)
-
-pub returns-in-Ok-Some-clause-further : goal.returns-in-Ok-Some-clause-further
-returns-in-Ok-Some-clause-further c =
-    let f = row_further c.args.end c.args.kept.now c.skip_space-start.result (c.in-Ok-Some.row, c.in-Ok-Some.behind)
-    (subst (λ (o : Option (Row × ℕ)). GivesRow c.args.end c.args.kept.now c.skip_space-start.result (Ok o)) c.in-Ok-Some.field-0-is c.in-Ok-Some.ensures) in
-    let low = c.skip_space-start.ensures.low in (omega (arith, f.0, low), f.1)
 
 pub returns-in-Ok-None-clause-gives : goal.returns-in-Ok-None-clause-gives
 returns-in-Ok-None-clause-gives c = λ text k.

@@ -1,22 +1,20 @@
-use Rattle.std.proofs.Common.{List, ℕ, [], ◌+◌, ◌++◌, subst, drop, arith}
-use Rattle.std.specs.Global.{Vec}
+use Rattle.std.proofs.Common.{List, ℕ, [], ◌++◌, subst, arith}
+use Rattle.std.specs.Borrow.{Bor}
 use Rattle.std.proofs.lemmas.List.{drop_all}
 use Rattle.sink_writing.specs.Writing.{joined}
-use Rattle.sink_writing.proofs.Pieces.{Written, drop_item, line_front, written_front, written_line}
+use Rattle.sink_writing.proofs.Pieces.{Written, line_front, written_front, written_line}
 use Rattle.sink_writing.proofs.texts.write_texts.Goals as goal
 
 pub returns-in_err-put-clause-front : goal.returns-in_err-put-clause-front
 returns-in_err-put-clause-front g c =
-    line_front (g.K.Sink.written c.args.out.now) (g.K.Sink.written c.loop-text.out) (g.K.Sink.written c.put.new.out) (joined c.args.texts.now) c.loop-text.room c.as_slice.result.now c.text-item.result
-    (drop c.loop-text.text-index c.args.texts.now) (drop (c.loop-text.text-index + 1) c.args.texts.now) (drop_item c.args.texts.now c.loop-text.text-index c.text-item.result c.loop-text-test.true c.text-item.is)
-    c.as_slice.ensures.value c.loop-text.invariant.written c.in_err-put.ensures.front
+    line_front (g.K.Sink.written c.args.out.now) (g.K.Sink.written c.loop-text.out) (g.K.Sink.written c.put.new.out) (joined c.args.texts.now) c.loop-text.room c.args.texts.now c.loop-text.text-index _
+    c.loop-text-test.true c.loop-text.invariant.written c.in_err-put.ensures.front
 
 pub loop-text-preserved : goal.loop-text-preserved
 loop-text-preserved g c = record {
   written =
-      written_line (g.K.Sink.written c.args.out.now) (g.K.Sink.written c.loop-text.out) (g.K.Sink.written c.put.new.out) (joined c.args.texts.now) c.loop-text.room c.put.new.self c.as_slice.result.now
-      c.text-item.result (drop c.loop-text.text-index c.args.texts.now) (drop (c.loop-text.text-index + 1) c.args.texts.now) (drop_item c.args.texts.now c.loop-text.text-index c.text-item.result c.loop-text-test.true c.text-item.is)
-      c.as_slice.ensures.value c.loop-text.invariant.written c.in_ok-put.ensures.put;
+      written_line (g.K.Sink.written c.args.out.now) (g.K.Sink.written c.loop-text.out) (g.K.Sink.written c.put.new.out) (joined c.args.texts.now) c.loop-text.room c.put.new.self c.args.texts.now
+      c.loop-text.text-index _ c.loop-text-test.true c.loop-text.invariant.written c.in_ok-put.ensures.put;
   faults = omega (arith, c.put.ensures.never_falls, c.loop-text.invariant.faults);
 }
 
@@ -25,5 +23,5 @@ pub returns-clause-front : goal.returns-clause-front
 returns-clause-front g c =
     let none = drop_all c.loop-text.text-index c.args.texts.now c.loop-text-test.false in
     let room = c.loop-text.room in
-    let left = subst (λ (l : List (Vec ℕ)). Written (g.K.Sink.written c.args.out.now) (g.K.Sink.written c.loop-text.out) (joined c.args.texts.now) (room ++ joined l)) none c.loop-text.invariant.written in
+    let left = subst (λ (l : List (Bor (List ℕ))). Written (g.K.Sink.written c.args.out.now) (g.K.Sink.written c.loop-text.out) (joined c.args.texts.now) (room ++ joined l)) none c.loop-text.invariant.written in
     written_front (g.K.Sink.written c.args.out.now) (g.K.Sink.written c.loop-text.out) (g.K.Sink.written c.write_out.new.out) (joined c.args.texts.now) room [] left c.write_out.ensures.front

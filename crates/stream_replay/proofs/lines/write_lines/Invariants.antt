@@ -1,13 +1,12 @@
-use Rattle.std.proofs.Common.{◌≤◌, ◌++◌}
+use Rattle.std.proofs.Common.{◌≤◌, ◌++◌, List, ℕ}
+use Rattle.std.specs.List.{flat_map}
 use Rattle.sink_writing.proofs.Pieces.{Written}
-use Rattle.stream_replay.specs.Lines.{bytes_of}
+use Rattle.stream_replay.proofs.WrittenLines.{bytes_from}
 use Rattle.stream_replay.proofs.lines.write_lines.Given as goal
 
 -- what isn't written stands in the room and in the lines that are left
-abbrev pub invariant-loop-line : goal.invariant-loop-line
-invariant-loop-line g l = record {
-  can : (goal.iterator-loop-line g).can_next l.line-iterator;
-  finite : (goal.iterator-loop-line g).is_finite l.line-iterator;
-  written : Written (g.K.Sink.written l.fn.out) (g.K.Sink.written l.out) (bytes_of l.fn.lines.keys) (l.room ++ bytes_of l.line-iterator);
+abbrev pub invariant-loop-at : goal.invariant-loop-at
+invariant-loop-at g l = record {
+  written : Written (g.K.Sink.written l.fn.out) (g.K.Sink.written l.out) (flat_map (λ (t : List ℕ). t) l.fn.lines) (l.room ++ bytes_from l.at l.fn.lines);
   faults : g.K.Sink.faults l.fn.out ≤ g.K.Sink.faults l.out;
 }

@@ -1,4 +1,4 @@
-use Rattle.std.proofs.Common.{◌≡◌, ◌+◌, ◌-◌, ◌≤◌, length, vec_len}
+use Rattle.std.proofs.Common.{◌≡◌, ◌-◌, ◌≤◌, length}
 use Rattle.stream_replay.specs.Streaming.{IsFew}
 use Rattle.stream_replay.proofs.Inputs.{HasRead}
 use Rattle.stream_replay.proofs.source.replay_source.Given as goal
@@ -8,7 +8,7 @@ abbrev pub invariant-reading : goal.invariant-reading
 invariant-reading g l = record {
   read : HasRead (g.S.Source.left l.fn.input) (g.S.Source.left l.input) l.stream l.length;
   few : IsFew l.stream;
-  within : l.stream.window.base + vec_len l.stream.window.bytes ≤ l.length;
+  within : length l.stream.window.fed ≤ l.length;
   short : l.length ≤ 268500992;
   faults : g.S.Source.faults l.fn.input ≤ g.S.Source.faults l.input;
   piece : length l.piece ≡ 65536;

@@ -1,14 +1,16 @@
-use Rattle.std.proofs.Common.{ap, ◌∙◌}
+use Rattle.std.proofs.Common.{ap, ◌∙◌, ◌++◌, sym}
 use Rattle.patch_reader.specs.Pieces.{Reader}
-use Rattle.patch_reader.proofs.Holding.{all_rows, holds_longer}
+use Rattle.patch_reader.proofs.ReadOn.{goes_longer, not_met, stays_longer}
 use Rattle.patch_reader.proofs.pieces.PatchReader.feed.Goals as goal
 
 pub invariant_of-self : goal.invariant_of-self
 invariant_of-self c =
     let r = c.self.inside in
-    let told = c.feed.new.self in
-    holds_longer r.end r.past.fed c.args.piece.now told.fed r.past.taken told.taken r.window c.feed-2.new.self (ap (λ (r : Reader). r.end) c.self.view_is ∙ c.requires) c.feed.ensures.0 c.feed.ensures.1
-    c.feed-2.ensures.stands c.self.invariant
+    stays_longer r.end r.fed.text c.args.piece.now c.feed.new.self.text (r.taken.rows ++ r.ready.items) r.fault r.window (ap (λ (r : Reader). r.end) c.self.view_is ∙ c.requires) c.feed.ensures (sym c.is_some.ensures ∙ c.if-is_some.true) c.self.invariant
 
-pub returns-clause-rows : goal.returns-clause-rows
-returns-clause-rows c = all_rows c.self.inside.end c.feed.new.self.fed c.feed.new.self.taken c.feed-2.new.self (invariant_of-self c)
+pub invariant_of-self-2 : goal.invariant_of-self-2
+invariant_of-self-2 c =
+    let r = c.self.inside in
+    let told = c.take_piece-told in
+    goes_longer r.end r.fed.text r.taken.rows r.ready.items told.new.ready.items r.fault c.err-self-inside.result told.result r.window told.new.window (ap (λ (r : Reader). r.end) c.self.view_is ∙ c.requires)
+    (not_met r.fault (sym c.is_some.ensures ∙ c.if-is_some.false)) c.err-self-inside.ensures.value c.self.invariant c.args.piece.now c.feed.new.self.text c.feed.ensures told.ensures.adds told.ensures.stops told.ensures.fed

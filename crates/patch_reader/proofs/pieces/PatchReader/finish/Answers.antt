@@ -1,16 +1,15 @@
-use Rattle.std.proofs.Common.{subst}
-use Rattle.patch_rows.specs.declared.cut.TextEnd.TheVariants as ends
-use Rattle.patch_reader.specs.Pieces.{Reader, HasAllRows}
-use Rattle.patch_reader.proofs.Holding.{all_rows, holds_whole}
+use Rattle.std.proofs.Common.{◌++◌, ◌∙◌, sym}
+use Rattle.patch_reader.proofs.ReadOn.{goes_known, not_met, stays_known}
 use Rattle.patch_reader.proofs.pieces.PatchReader.finish.Goals as goal
 
 pub invariant_of-self : goal.invariant_of-self
 invariant_of-self c =
-    let r = c.self.inside in holds_whole r.end r.past.fed r.past.taken r.window c.finish.new.self c.in_default.is c.finish.ensures.ended c.self.invariant
+    let r = c.self.inside in
+    stays_known r.end r.fed.text (r.taken.rows ++ r.ready.items) r.fault r.window c.in_default.is (sym c.is_some.ensures ∙ c.if-is_some.true) c.self.invariant
 
-pub returns-in-Known-clause-rows : goal.returns-in-Known-clause-rows
-returns-in-Known-clause-rows c =
-    let r = c.self.inside in subst (λ (r : Reader). HasAllRows r) c.self.view_is (all_rows r.end r.past.fed r.past.taken r.window c.self.invariant)
-
-pub returns-clause-rows : goal.returns-clause-rows
-returns-clause-rows c = all_rows ends.Known c.self.inside.past.fed c.self.inside.past.taken c.finish.new.self (invariant_of-self c)
+pub invariant_of-self-2 : goal.invariant_of-self-2
+invariant_of-self-2 c =
+    let r = c.self.inside in
+    let told = c.take_rows-told in
+    goes_known r.end r.fed.text r.taken.rows r.ready.items told.new.ready.items r.fault c.err-self-inside.result told.result r.window told.new.window c.in_default.is
+    (not_met r.fault (sym c.is_some.ensures ∙ c.if-is_some.false)) c.err-self-inside.ensures.value c.self.invariant told.ensures.adds told.ensures.stops told.ensures.fed

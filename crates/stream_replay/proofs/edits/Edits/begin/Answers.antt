@@ -3,4 +3,4 @@ use Rattle.stream_replay.proofs.Edited.{begun_again}
 use Rattle.stream_replay.proofs.edits.Edits.begin.Goals as goal
 
 pub returns-then-is_some : goal.returns-then-is_some
-returns-then-is_some c = λ changes has. begun_again c.args.self.now.before_block changes c.args.self.now.lines.items (sym c.is_some.ensures ∙ c.if-is_some.true) has
+returns-then-is_some c = λ changes d has. let e = c.args.self.now in begun_again e.before_block changes d e.log (sym c.is_some.ensures ∙ c.if-is_some.true) has

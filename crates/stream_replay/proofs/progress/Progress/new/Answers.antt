@@ -6,7 +6,7 @@ pub returns-clause-streamed : goal.returns-clause-streamed
 returns-clause-streamed c = record {
   rs = [];
   ms = [];
-  reads = λ more none. (0, refl, λ to gap. gap);
+  reads = λ more. refl;
   parts = nothing_cut c.new.result c.new.ensures.rows c.new.ensures.from;
   changes = [];
   edits = c.new-2.ensures;

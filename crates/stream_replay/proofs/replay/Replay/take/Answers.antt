@@ -1,19 +1,16 @@
 use Rattle.std.proofs.Common.{Some, sym, refl, ◌∙◌}
-use Rattle.rdf_terms.specs.Dataset.{Dataset, apply}
 use Rattle.patch_meaning.specs.PartRead.{meaning_of}
-use Rattle.stream_replay.specs.Lines.{AreLinesOf}
 use Rattle.stream_replay.proofs.Taken.{breaks, no_end, is_whole, make_whole, goes_on}
 use Rattle.stream_replay.proofs.replay.Replay.take.Goals as goal
 
-pub returns-in_ok-apply-in-None-clause-replay : goal.returns-in_ok-apply-in-None-clause-replay
-returns-in_ok-apply-in-None-clause-replay c = λ ms changes has edits.
+pub returns-in_ok-push-in-None-clause-replay : goal.returns-in_ok-push-in-None-clause-replay
+returns-in_ok-push-in-None-clause-replay c = λ ms changes has.
     let none = sym c.is_some.ensures ∙ c.if-is_some.false in
     let old = c.args.self.now in
-    let step : (d : Dataset) → AreLinesOf old.lines.keys d → AreLinesOf c.apply.new.lines.keys (apply changes d) = λ d are. c.in_ok-apply-in-None.ensures changes d edits are in
-    make_whole _ (record { chain = c.push.new.self; lines = c.apply.new.lines; patches = c.saturating_add-self.result; head = Some c.args.link.id; fault = old.fault }) none
-    (goes_on ms (meaning_of c.args.link changes) old _ (is_whole ms old none has) c.requires.room c.in-None.ensures.follows c.in_ok-push-in-None.ensures.ok step (λ few. c.saturating_add-self.ensures ∙ no_end old.patches few) refl)
+    make_whole _ (record { chain = c.push.new.self; patches = c.saturating_add-self.result; head = Some c.args.link.id; fault = old.fault }) none
+    (goes_on ms (meaning_of c.args.link changes) old _ (is_whole ms old none has) c.requires.room c.in-None.ensures.follows c.in_ok-push-in-None.ensures.ok (λ few. c.saturating_add-self.ensures ∙ no_end old.patches few) refl)
 
 pub returns-in-Some-clause-replay : goal.returns-in-Some-clause-replay
-returns-in-Some-clause-replay c = λ ms changes has edits more.
+returns-in-Some-clause-replay c = λ ms changes has more.
     let none = sym c.is_some.ensures ∙ c.if-is_some.false in
     breaks ms more (meaning_of c.args.link changes) c.args.self.now.chain c.in-Some.fault c.in-Some.ensures.breaks (is_whole ms c.args.self.now none has).tested

@@ -1,0 +1,6 @@
+pub mod AsciiLabels
+pub mod Lines
+pub mod LowerTags
+pub mod Pieces
+pub mod Places
+pub mod Terms

@@ -1,0 +1,18 @@
+//! What stands in a text in canonical form (RDF 1.1 N-Quads, section 4), found by one scan that
+//! makes no term.
+//!
+//! A place behind what was found is promised to be right. That nothing was found promises nothing:
+//! then the text is read.
+#![tactic(auto)]
+
+mod chars;
+mod iris;
+mod labels;
+mod line;
+mod literals;
+mod strings;
+mod tags;
+mod term;
+
+pub use line::line_end;
+pub use term::{iri_end, node_end, term_end};

@@ -1,0 +1,63 @@
+-- Lines of edits, sorted with the number of their edit.
+use Rattle.std.specs.Prelude.{◌≡◌, ℕ, ◌+◌, ◌<◌, Bool, true, false, cond, not, ◌&&◌}
+use Rattle.std.specs.Prelude.{List, [], ◌∷◌, length, map, slice_index_or}
+use Rattle.std.specs.List.{AllByRecursion}
+use Rattle.std.specs.Cmp.Lexicographic.{slice_cmp}
+use Rattle.std.specs.Ordering.{eq_by_cmp, nat_cmp}
+use Rattle.std.specs.Borrow.{Bor}
+use Rattle.line_order.specs.declared.presort.Keyed.{Keyed}
+
+-- the line of each edit, with its number
+abbrev pub numbered : ℕ → List (Bool × List ℕ) → List (List ℕ × ℕ)
+numbered n [] = []
+numbered n (e ∷ es) = (e.1, n) ∷ numbered (n + 1) es
+
+-- a line with a number, as it is held
+abbrev pub Row : Type 0
+Row = Keyed (Bor (List ℕ) × ℕ)
+
+-- rows as lines with numbers
+abbrev pub shown : List Row → List (List ℕ × ℕ)
+shown rows = map (λ r. (r.line.0.now, r.line.1)) rows
+
+-- whether the edit of a number adds its line
+abbrev pub adds_at : List (Bool × List ℕ) → ℕ → Bool
+adds_at es n = (slice_index_or es n (false, [])).0
+
+-- the line of the edit of a number
+abbrev pub line_at : List (Bool × List ℕ) → ℕ → List ℕ
+line_at es n = (slice_index_or es n (false, [])).1
+
+-- a row has the line of the edit of its number
+abbrev pub IsRow : List (Bool × List ℕ) → List ℕ × ℕ → Type 0
+IsRow es row = (row.1 < length es) × (line_at es row.1 ≡ row.0)
+
+-- the lines of the edits of these numbers
+abbrev pub lines_at : List (Bool × List ℕ) → List ℕ → List (List ℕ)
+lines_at es order = map (line_at es) order
+
+-- all are numbers of edits, and these are their lines
+abbrev pub HasLines : List (Bool × List ℕ) → List ℕ → List (List ℕ) → Type 0
+HasLines es order lines = AllByRecursion (λ n. n < length es) order × (lines_at es order ≡ lines)
+
+-- the edits that stand at the numbers of rows
+abbrev pub edits_at : List (Bool × List ℕ) → List (List ℕ × ℕ) → List (Bool × List ℕ)
+edits_at es rows = map (λ r. (adds_at es r.1, r.0)) rows
+
+-- whether a line isn't that of the next edit
+abbrev pub ends : List ℕ → List (Bool × List ℕ) → Bool
+ends line [] = true
+ends line (e ∷ es) = not (eq_by_cmp (slice_cmp nat_cmp) line e.1)
+
+-- whether the edit of a row is the last of its line, and adds it
+abbrev pub stands_at : List (Bool × List ℕ) → Row → List Row → Bool
+stands_at es row behind = adds_at es row.line.1 && ends row.line.0.now (edits_at es (shown behind))
+
+-- of edits that are sorted by their lines, the lines whose last edit adds them
+abbrev pub keep : List (Bool × List ℕ) → List (List ℕ)
+keep [] = []
+keep (e ∷ es) = cond (e.0 && ends e.1 es) (e.1 ∷ keep es) (keep es)
+
+-- edits that add these lines
+abbrev pub added : List (List ℕ) → List (Bool × List ℕ)
+added lines = map (λ l. (true, l)) lines

@@ -1,0 +1,203 @@
+//! A log of edits of lines.
+ghost use Rattle.std.specs.Prelude.{◌≡◌, ◌≤◌, ◌<◌, ◌++◌, ◌∷◌, ◌↔◌, []};
+ghost use Rattle.std.specs.Prelude.{length, take, IfOk, OnOk, OnErr, IsTrue};
+ghost use Rattle.std.specs.List.{AllByRecursion};
+ghost use Rattle.line_log.specs.Edits.{made};
+ghost use Rattle.line_log.specs.Sorting.{HasLines, IsRow, added, edits_at, keep, line_at};
+ghost use Rattle.line_log.specs.Sorting.{lines_at, numbered, shown, stands_at};
+
+use crate::edits::{Edit, start_of};
+use crate::lines::MadeLines;
+use crate::sorting::{Row, ends};
+use delta_base::OutOfMemory;
+use line_order::{Keyed, sort_keyed};
+use std::alloc::Global;
+use std::marker::Model;
+
+/// Edits in their order, which contracts see as a list: whether a line is put among the others or
+/// taken out, and the line. Their lines take at most 4 GiB together.
+#[derive(Drop)]
+pub struct LineLog {
+    text: Vec<u8>,
+    edits: Vec<Edit>,
+}
+
+impl Model for LineLog {
+    ghost use Rattle.std.specs.Prelude.{List, Bool, ℕ, length};
+    ghost use Rattle.line_log.specs.Held.{Fill, cut};
+
+    ghost Value = { List (Bool × List ℕ) };
+
+    ghost view = { λ l. cut 0 l.edits.items l.text.items };
+
+    ghost invariant = { λ l. Fill 0 l.edits.items (length l.text.items) };
+}
+
+impl LineLog {
+    /// No edit so far.
+    pub fn new(alloc: Global) -> LineLog
+        ensures { result ≡ [] }
+    {
+        LineLog {
+            text: Vec::new(alloc),
+            edits: Vec::new(alloc),
+        }
+    }
+
+    // No edit so far, with room for so many bytes of lines.
+    fn with_room(alloc: Global, bytes: usize) -> Result<LineLog, OutOfMemory>
+        ensures { IfOk result (λ log. log ≡ []) }
+    {
+        Ok(LineLog {
+            text: Vec::with_capacity(alloc, bytes)?,
+            edits: Vec::new(alloc),
+        })
+    }
+
+    /// How many edits there are.
+    pub fn len(&self) -> usize
+        ensures { result ≡ length self.now }
+    {
+        self.edits.len()
+    }
+
+    pub fn is_empty(&self) -> bool
+        ensures { IsTrue result ↔ (self.now ≡ []) }
+    {
+        self.edits.is_empty()
+    }
+
+    /// The line of an edit.
+    #[inline]
+    pub fn line(&self, number: usize) -> &[u8]
+        requires { number < length self.now }
+        ensures { result.now ≡ line_at self.now number }
+    {
+        let start = start_of(self.edits.as_slice(), number);
+        let end = self.edits[number].end as usize;
+        &self.text[start..end]
+    }
+
+    /// One more edit: the line comes among the others, or goes.
+    pub fn push(&mut self, adds: bool, line: &[u8]) -> Result<(), OutOfMemory>
+        ensures ok { OnOk result (self.new ≡ self.old ++ (adds, line.now) ∷ []) }
+        ensures err { OnErr result (self.new ≡ self.old) }
+    {
+        let before = self.text.len();
+        self.text.extend_from_slice(line)?;
+        if let Ok(end) = u32::try_from(self.text.len()) {
+            if let Ok(()) = self.edits.push(Edit { adds, end }) {
+                return Ok(());
+            }
+        }
+        self.text.truncate(before);
+        Err(OutOfMemory)
+    }
+
+    /// Lets go all edits but the first ones.
+    pub fn truncate(&mut self, count: usize)
+        ensures { self.new ≡ take count self.old }
+    {
+        if count < self.edits.len() {
+            self.text.truncate(start_of(self.edits.as_slice(), count));
+            self.edits.truncate(count);
+        }
+    }
+
+    /// Keeps of the edits only what the lines need. Where memory is wanting, all stays as it was.
+    pub fn settle(&mut self) -> Result<(), OutOfMemory>
+        ensures ok { OnOk result (made self.new ≡ made self.old) }
+        ensures fewer { length self.new ≤ length self.old }
+        ensures err { OnErr result (self.new ≡ self.old) }
+    {
+        let settled = self.settled()?;
+        *self = settled;
+        Ok(())
+    }
+
+    /// The lines that the edits make of none. No line is copied.
+    pub fn into_lines(self) -> Result<MadeLines, OutOfMemory>
+        ensures { IfOk result (λ lines. lines ≡ made self) }
+    {
+        let order = self.order()?;
+        Ok(MadeLines { log: self, order })
+    }
+
+    // Edits that add each of the lines, in the order of their bytes.
+    fn settled(&self) -> Result<LineLog, OutOfMemory>
+        ensures { IfOk result (λ log. log ≡ added (made self.now)) }
+    {
+        let order = self.order()?;
+        self.log_of(&order)
+    }
+
+    // Edits that add the lines of these edits.
+    fn log_of(&self, order: &[u32]) -> Result<LineLog, OutOfMemory>
+        requires { AllByRecursion (λ n. n < length self.now) order.now }
+        ensures { IfOk result (λ log. log ≡ added (lines_at self.now order.now)) }
+    {
+        let mut log = LineLog::with_room(*self.edits.allocator(), self.text.len())?;
+        for number in order {
+            log.push(true, self.line(*number as usize))?;
+        }
+        Ok(log)
+    }
+
+    // The numbers of the edits whose lines stay, in the order of the lines' bytes.
+    fn order(&self) -> Result<Vec<u32>, OutOfMemory>
+        ensures { IfOk result (λ order. HasLines self.now order.items (made self.now)) }
+    {
+        let mut rows = self.rows()?;
+        self.order_of(&mut rows)
+    }
+
+    // The line of each edit.
+    fn rows(&self) -> Result<Vec<Row<'_>>, OutOfMemory>
+        ensures { IfOk result (λ rows. shown rows.items ≡ numbered 0 self.now) }
+    {
+        let mut rows = Vec::with_capacity(*self.edits.allocator(), self.edits.len())?;
+        for number in 0..self.edits.len() {
+            rows.push(Keyed::new((self.line(number), number)))?;
+        }
+        Ok(rows)
+    }
+
+    // The same, where these are the edits' rows.
+    fn order_of(&self, rows: &mut [Row]) -> Result<Vec<u32>, OutOfMemory>
+        requires { shown rows.old ≡ numbered 0 self.now }
+        ensures { IfOk result (λ order. HasLines self.now order.items (made self.now)) }
+    {
+        sort_keyed(rows);
+        self.kept(rows)
+    }
+
+    // The numbers of the lines that stay.
+    fn kept(&self, rows: &[Row]) -> Result<Vec<u32>, OutOfMemory>
+        requires { AllByRecursion (IsRow self.now) (shown rows.now) }
+        ensures { IfOk result (λ order. HasLines self.now order.items
+            (keep (edits_at self.now (shown rows.now)))) }
+    {
+        let mut kept = Vec::new(*self.edits.allocator());
+        let mut rest = rows;
+        while let [row, behind @ ..] = rest {
+            if self.stays(row, behind) {
+                let Ok(number) = u32::try_from(row.line.1) else {
+                    return Err(OutOfMemory);
+                };
+                kept.push(number)?;
+            }
+            rest = behind;
+        }
+        Ok(kept)
+    }
+
+    // Whether a row's edit is the last of its line, and adds it.
+    #[inline]
+    fn stays(&self, row: &Row, behind: &[Row]) -> bool
+        requires { row.now.line.1 < length self.now }
+        ensures { result ≡ stands_at self.now row.now behind.now }
+    {
+        let (line, number) = row.line;
+        self.edits[number].adds && ends(line, behind)
+    }
+}

@@ -1,0 +1,13 @@
+use Rattle.std.proofs.Common.{◌-◌, ◌≤◌, length}
+use Rattle.line_order.specs.Moves.{AreMoved}
+use Rattle.line_order.proofs.presort.+presort.Given as goal
+
+-- how far down a run may still be told apart
+abbrev pub decreases-presort : goal.decreases-presort
+decreases-presort g l = 512 - l.depth
+
+abbrev pub invariant-loop-start : goal.invariant-loop-start
+invariant-loop-start g l = record { within : l.start ≤ length l.lines; moved : AreMoved l.fn.lines l.lines }
+
+abbrev pub decreases-loop-start : goal.decreases-loop-start
+decreases-loop-start g l = length l.initial.lines - l.start

@@ -1,0 +1,62 @@
+//! Rows in canonical form, found by one scan that makes no term (`specs/Found.antt`,
+//! `specs/Rows.antt`).
+//!
+//! A row that was found is promised to be right. That none was found promises nothing: then the row
+//! is read.
+#![tactic(auto)]
+
+ghost use Rattle.std.specs.Prelude.{◌≡◌, ◌≤◌, ◌+◌, ◌++◌, ◌∷◌, drop, length, IfSome};
+ghost use Rattle.patch_rows.specs.Grammar.{letters};
+ghost use Rattle.row_scan.specs.Found.{HasQuadRow, code_by};
+
+mod row;
+
+use canonical_scan::line_end;
+use patch_rows::ROW_LIMIT;
+pub use row::{Says, ScannedRow, scan_row};
+
+/// A row that adds or deletes a quad, in canonical form: its code, a space, and the quad's
+/// canonical line.
+#[derive(Clone, Copy)]
+pub struct QuadRow {
+    /// Whether the quad is added; else it is deleted.
+    pub adds: bool,
+    /// Where the quad's line begins.
+    pub line: usize,
+    /// The place behind the row's dot, where its line feed stands.
+    pub end: usize,
+}
+
+/// The canonical row of a quad that stands at a place, found by one scan; none where the scan finds
+/// none, and where it has more bytes than a row may have.
+#[inline]
+pub fn quad_row(text: &[u8], at: usize) -> Option<QuadRow>
+    requires { at ≤ length text.now }
+    ensures { IfSome result (HasQuadRow text.now at) }
+{
+    let adds = quad_code(text, at)?;
+    let line = at + 2;
+    let end = line_end(text, line)? - 1;
+    if end - at > ROW_LIMIT {
+        return None;
+    }
+    Some(QuadRow { adds, line, end })
+}
+
+// Whether a quad is added, where the code of such a row and a space stand there.
+#[inline(always)]
+fn quad_code(text: &[u8], at: usize) -> Option<bool>
+    requires { at ≤ length text.now }
+    ensures code { IfSome result (λ adds.
+        drop at text.now ≡ letters (code_by adds) ++ 32 ∷ drop (at + 2) text.now) }
+    ensures within { IfSome result (λ adds. at + 2 ≤ length text.now) }
+{
+    if text.len() - at < 2 || text[at + 1] != b' ' {
+        return None;
+    }
+    match text[at] {
+        b'A' => Some(true),
+        b'D' => Some(false),
+        _ => None,
+    }
+}

@@ -1,0 +1,8 @@
+use Rattle.std.proofs.Common.{ap}
+use Rattle.line_log.specs.Edits.{made}
+use Rattle.rdf_terms.specs.Dataset.{empty}
+use Rattle.stream_replay.proofs.Edited.{none_yet}
+use Rattle.stream_replay.proofs.edits.Edits.new.Goals as goal
+
+pub returns : goal.returns
+returns c = none_yet empty c.new.result (ap made c.new.ensures)
