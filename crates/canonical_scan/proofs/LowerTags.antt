@@ -9,7 +9,7 @@ use Rattle.std.proofs.lemmas.List.Concat.{flat_map-append}
 use Rattle.std.proofs.lemmas.List.Edits.{between_none, between_more}
 use Rattle.rdf_terms.specs.Tag.{IsWord, AreWords, IsTag, lower, is_tag_char}
 use Rattle.canonical_scan.specs.Parts.{Between, is_lower_tag_byte}
-use Rattle.canonical_scan.proofs.Pieces.{slices_joined}
+use Rattle.nquads_text.proofs.PlainRuns.{slices_joined}
 
 part_bytes : List ℕ → List ℕ
 part_bytes part = 45 ∷ part

@@ -15,15 +15,10 @@ use Rattle.std.proofs.lemmas.Str.Ascii.{IsAscii-nil, IsAscii-cons}
 use Rattle.rdf_terms.specs.Iri.{is_forbidden}
 use Rattle.rdf_terms.specs.Line.{escaped}
 use Rattle.nquads_text.specs.Reading.{char_at, is_plain_iri, is_plain_string}
+use Rattle.nquads_text.proofs.Escaping.{string_itself}
 use Rattle.nquads_text.proofs.Fronts.{char_spelled}
+use Rattle.nquads_text.proofs.PlainRuns.{slices_joined}
 use Rattle.canonical_scan.specs.Parts.{Between, AreLong, InIri, InString}
-
-pub slices_joined : (text : List ℕ) (at mid end : ℕ) → at ≤ mid → mid ≤ end → slice_range text at end ≡ slice_range text at mid ++ slice_range text mid end
-slices_joined text at mid end low high =
-    let sum : end - at ≡ (mid - at) + (end - mid) = omega arith in
-    let back : at + (mid - at) ≡ mid = omega arith in
-    let there : drop (mid - at) (drop at text) ≡ drop mid text = drop-drop (mid - at) at text ∙ ap (λ (k : ℕ). drop k text) back in
-    ap (λ (k : ℕ). take k (drop at text)) sum ∙ take-add (mid - at) (end - mid) (drop at text) ∙ ap (λ (t : List ℕ). take (mid - at) (drop at text) ++ take (end - mid) t) there
 
 -- a form that holds of nothing, and of two pieces joined
 module _ (Form : List ℕ → Type 0) (none : Form []) (joins : (a b : List ℕ) → Form a → Form b → Form (a ++ b)) where
@@ -76,9 +71,6 @@ iri_allowed b e = grind (arith, nat_tests)
 
 string_low : (b : ℕ) → is_plain_string b ≡ true → b < 128
 string_low b e = grind (arith, nat_tests)
-
-string_itself : (b : ℕ) → is_plain_string b ≡ true → escaped b ≡ b ∷ []
-string_itself b e = grind (arith, nat_tests)
 
 long_allowed : (b : ℕ) → nat_le 128 b ≡ true → not (is_forbidden b) ≡ true
 long_allowed b e = grind (arith, nat_tests)

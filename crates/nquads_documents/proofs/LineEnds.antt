@@ -4,7 +4,7 @@ use Rattle.std.specs.List.{list_all}
 use Rattle.std.specs.Str.{encode_utf8_all, IsUtf8}
 use Rattle.std.specs.Char.{encode_utf8, IsScalar}
 use Rattle.std.proofs.lemmas.Bool.{and_parts, false≢true, eqb-true, cases_lt, ne_eqb}
-use Rattle.std.proofs.lemmas.List.{append-nil, length-append, drop_at}
+use Rattle.std.proofs.lemmas.List.{append-nil, length-append, length-drop, drop_at}
 use Rattle.std.proofs.lemmas.List.Folds.{list_all-append}
 use Rattle.std.proofs.lemmas.Str.{encode_ascii, inside_one, length-encode, len_utf8_bounds, IsUtf8-append, IsUtf8-encode, IsUtf8-nil, byte_from_char}
 use lib.Utf8.{scalar, scalars}
@@ -19,7 +19,6 @@ use Rattle.nquads_documents.specs.Grammar.{IsEmptyLine}
 use Rattle.nquads_text.specs.Grammar.{is_line_end}
 use Rattle.nquads_documents.specs.Reading.{comment_at, no_end_at, end_by, line_end_at}
 use Rattle.nquads_documents.proofs.BlankLaws.{blanks_found, skip_again}
-use Rattle.nquads_documents.proofs.Comments.{comment_char}
 
 -- the text's end, or the line's
 abbrev pub Closes : List ℕ → Type 0
@@ -108,6 +107,23 @@ at_close : (tail : List ℕ) → Closes tail → comment_at 0 tail ≡ done tail
 unfolding comment_at
 at_close [] c = refl
 at_close (b ∷ rest) c = rw c refl
+
+comment_skip : (k : ℕ) (rest : List ℕ) → comment_at k rest ≡ comment_at 0 (drop k rest)
+unfolding comment_at
+comment_skip zero rest = refl
+comment_skip (suc k) [] = refl
+comment_skip (suc k) (b ∷ rest) = comment_skip k rest
+
+-- one character of n bytes
+comment_char : (rest : List ℕ) (c n : ℕ) (b : ℕ) → 0 < n → n ≤ length rest → get_or rest 0 0 ≡ b → is_line_end b ≡ false → char_at rest ≡ Ok (c, drop n rest) → comment_at 0 rest ≡ comment_at 0 (drop n rest)
+unfolding comment_at
+comment_char [] c n b pos le first is e = absurd (omega arith)
+comment_char (a ∷ rest) c zero b pos le first is e = absurd (omega arith)
+comment_char (a ∷ rest) c (suc n) b pos le first is e =
+    let left : length (drop n rest) ≡ length rest - n = length-drop n rest in
+    let k : length rest - length (drop n rest) ≡ n = omega arith in
+    let not_end : is_line_end a ≡ false = ap is_line_end first ∙ is in
+    rw (not_end, e, k) (comment_skip n rest)
 
 pub one_char : (c : ℕ) (more : List ℕ) → IsScalar c → list_all no_end (encode_utf8 c) ≡ true → comment_at 0 (encode_utf8 c ++ more) ≡ comment_at 0 more
 one_char c more s all =

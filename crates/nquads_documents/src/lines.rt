@@ -5,7 +5,7 @@ ghost use Rattle.nquads_text.specs.Fault.{Gives};
 ghost use Rattle.nquads_text.specs.Grammar.{is_line_end as ends_line};
 ghost use Rattle.nquads_documents.specs.Reading.{comment_at, line_end_at, no_end_at};
 
-use nquads_text::{ReadFault, TextKind, char_at, is_line_end, skip_blanks};
+use nquads_text::{ReadFault, TextKind, char_at, comment_body_end, is_line_end, skip_blanks};
 
 /// Whether the byte ends a line.
 pub fn is_end(b: u8) -> bool
@@ -21,15 +21,14 @@ pub fn comment_end(text: &[u8], from: usize) -> Result<((), usize), ReadFault>
     ensures gives { Gives text.now (λ _. tt) result (comment_at 0 (drop from text.now)) }
     ensures further { IfOk result (λ x. from ≤ x.1) }
 {
-    let mut at = from;
-    while at < text.len() {
-        if is_end(text[at]) {
-            return Ok(((), at));
-        }
-        let (_c, next) = char_at(text, at)?;
-        at = next;
+    let at = comment_body_end(text, from);
+    if at == text.len() || is_end(text[at]) {
+        return Ok(((), at));
     }
-    Ok(((), at))
+    Err(ReadFault::At {
+        at,
+        kind: TextKind::NotUtf8,
+    })
 }
 
 /// The place where a line ends behind a statement's dot.

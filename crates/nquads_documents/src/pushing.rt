@@ -1,9 +1,8 @@
 //! Statements whose canonical lines are written as they are read.
 //!
-//! The text of a term is copied where it is canonical; only where it isn't is the term made.
+//! The text of an IRI is copied where it is canonical; another term is made.
 
-ghost use Rattle.std.specs.Prelude.{◌≡◌, ◌≤◌, ◌<◌, ◌==◌, ◌||◌, length, drop, None, IfSome};
-ghost use Rattle.canonical_scan.specs.Found.{HasTerm};
+ghost use Rattle.std.specs.Prelude.{◌≡◌, ◌≤◌, ◌<◌, ◌==◌, ◌||◌, length, drop, None};
 ghost use Rattle.nquads_text.specs.Fault.{Gives};
 ghost use Rattle.nquads_text.specs.Statement.{node_at, predicate_at, dot_at};
 ghost use Rattle.nquads_text.specs.Statement.{graph_at, statement_at};
@@ -13,23 +12,13 @@ ghost use Rattle.nquads_documents.specs.Shown.{Pushes, PushesPart};
 ghost use Rattle.rdf_terms.specs.Line.{graph_text, line, term_text};
 
 use crate::lines::{comment_end, is_end, line_end};
-use canonical_scan::{iri_end, term_end};
+use canonical_scan::iri_end;
 use nquads_text::{ReadFault, TextKind, char_at, push_term, read_term, skip_blanks};
 use std::alloc::Global;
 
-// The place behind the term at a place, where its text is found to be canonical.
-fn canonical_end(text: &[u8], at: usize) -> Option<usize>
-    requires { at ≤ length text.now }
-    ensures { IfSome result (HasTerm text.now at) }
-{
-    // An IRI ends by itself, and other terms only before a space.
-    match iri_end(text, at) {
-        Some(end) => Some(end),
-        None => term_end(text, at),
-    }
-}
-
-// Appends the canonical text of the term at a place, and gives the place behind it.
+// Appends the canonical text of the term at a place, and gives the place behind it. A canonical IRI
+// is copied as it stands, and of another term it is made, since a line is read here because one of
+// its terms isn't canonical: that is seldom an IRI.
 fn push_next_term(
     alloc: Global,
     text: &[u8],
@@ -40,7 +29,7 @@ fn push_next_term(
     ensures { Pushes term_text text.now out.old.items out.new.items result
         (term_at (drop at text.now)) }
 {
-    if let Some(end) = canonical_end(text, at) {
+    if let Some(end) = iri_end(text, at) {
         out.extend_from_slice(&text[at..end])?;
         return Ok(end);
     }

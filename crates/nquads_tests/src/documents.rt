@@ -72,6 +72,7 @@ fn a_fault_is_placed_by_line_and_byte(rt: HostRuntime) {
             TextKind::NotUtf8,
         ),
         (b"# \xC3\xA9\n# \xC3\n", 2, 7, TextKind::NotUtf8),
+        (b"# a\xC3\xA9\r#\xC3\r", 1, 7, TextKind::NotUtf8),
         (b"\n\n.", 3, 2, TextKind::BadToken),
         (
             b"<a:s> <a:p> \"x\" .\n<a:s>\t<a:p> _:o .\n<a:s> _:p _:o .\n",

@@ -1,11 +1,16 @@
 -- Bytes that are written as themselves in a string.
-use Rattle.std.proofs.Common.{◌≡◌, ℕ, zero, suc, ◌+◌, ◌-◌, ◌<◌, ◌≤◌, List, [], ◌∷◌, ◌++◌, length, take, drop, get_or, sym, ap, ◌∙◌, arith, append_assoc}
+use Rattle.std.proofs.Common.{◌≡◌, ℕ, true, zero, suc, ◌+◌, ◌-◌, ◌<◌, ◌≤◌, List, [], ◌∷◌, ◌++◌, length, take, drop, get_or, sym, ap, ◌∙◌, arith, append_assoc}
 use Rattle.std.specs.List.{flat_map}
 use Rattle.std.proofs.lemmas.List.{drop_more}
+use Rattle.std.proofs.lemmas.Bool.Decides.{nat_tests}
 use Rattle.rdf_terms.specs.Line.{escaped}
+use Rattle.nquads_text.specs.Reading.{is_plain_string}
 
 abbrev IsSame : List ℕ → ℕ → ℕ → Type 0
 IsSame text at end = (k : ℕ) → at ≤ k → k < end → escaped (get_or text k 0) ≡ get_or text k 0 ∷ []
+
+pub string_itself : (b : ℕ) → is_plain_string b ≡ true → escaped b ≡ b ∷ []
+string_itself b e = grind (arith, nat_tests)
 
 plus_zero : (at : ℕ) → at ≡ at + 0
 plus_zero at = omega arith

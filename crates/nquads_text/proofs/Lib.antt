@@ -1,9 +1,10 @@
 pub mod Allowed
 pub mod BlankRuns
 pub mod Blanks
+pub mod CommentBodies
 pub mod Spelled
 pub mod EscapeFaults
-mod Escaping
+pub mod Escaping
 pub mod Fronts
 pub mod IriLaws
 pub mod InString

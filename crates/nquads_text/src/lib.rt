@@ -8,6 +8,7 @@
 
 mod bodies;
 mod chars;
+mod comments;
 mod fault;
 mod labels;
 mod laws;
@@ -20,6 +21,7 @@ mod terms;
 
 pub use bodies::iri_body;
 pub use chars::{char_at, is_line_end};
+pub use comments::comment_body_end;
 pub use fault::{ReadFault, TextKind};
 pub use labels::label;
 pub use laws::{

@@ -1,6 +1,6 @@
 //! Runs of bytes that stand for themselves.
 
-ghost use Rattle.std.specs.Prelude.{◌≡◌, ◌≤◌, length, IsTrue, slice_range};
+ghost use Rattle.std.specs.Prelude.{◌≡◌, ◌≤◌, ◌+◌, length, IsTrue, slice_range};
 ghost use Rattle.std.specs.List.{list_all};
 ghost use Rattle.nquads_text.specs.Reading.{is_at_home as at_home};
 ghost use Rattle.nquads_text.specs.Reading.{is_plain_iri as plain_in_iri};
@@ -37,20 +37,41 @@ fn is_at_home(table: &[u8; 256], b: u8) -> bool
     table[usize::from(b)] == b
 }
 
-/// Whether the byte stands for itself in an IRI.
+/// Whether the table has each of the eight bytes at a place at its own place.
 #[inline(always)]
-fn is_plain_iri(b: u8) -> bool
-    ensures { result ≡ plain_in_iri b }
+fn are_at_home(table: &[u8; 256], text: &[u8], at: usize) -> bool
+    requires { at + 8 ≤ length text.now }
+    ensures { IsTrue result
+        → IsTrue (list_all (at_home table.now) (slice_range text.now at (at + 8))) }
 {
-    is_at_home(&PLAIN_IN_IRI, b)
+    is_at_home(table, text[at])
+        & is_at_home(table, text[at + 1])
+        & is_at_home(table, text[at + 2])
+        & is_at_home(table, text[at + 3])
+        & is_at_home(table, text[at + 4])
+        & is_at_home(table, text[at + 5])
+        & is_at_home(table, text[at + 6])
+        & is_at_home(table, text[at + 7])
 }
 
-/// Whether the byte stands for itself in a string.
+/// The end of the bytes from `at` on that the table has at their own places.
 #[inline(always)]
-fn is_plain_string(b: u8) -> bool
-    ensures { result ≡ plain_in_string b }
+fn run_end(table: &[u8; 256], text: &[u8], at: usize) -> usize
+    requires { at ≤ length text.now }
+    ensures low { at ≤ result }
+    ensures high { result ≤ length text.now }
+    ensures home { IsTrue (list_all (at_home table.now) (slice_range text.now at result)) }
 {
-    is_at_home(&PLAIN_IN_STRING, b)
+    let mut run = at;
+    while text.len() - run >= 8 && are_at_home(table, text, run) {
+        run += 8;
+    }
+    for i in run..text.len() {
+        if !is_at_home(table, text[i]) {
+            return i;
+        }
+    }
+    text.len()
 }
 
 /// The end of the bytes from `at` on that stand for themselves in an IRI.
@@ -61,12 +82,7 @@ pub fn plain_iri_end(text: &[u8], at: usize) -> usize
     ensures high { result ≤ length text.now }
     ensures plain { IsTrue (list_all plain_in_iri (slice_range text.now at result)) }
 {
-    for i in at..text.len() {
-        if !is_plain_iri(text[i]) {
-            return i;
-        }
-    }
-    text.len()
+    run_end(&PLAIN_IN_IRI, text, at)
 }
 
 /// The end of the bytes from `at` on that stand for themselves in a string.
@@ -77,10 +93,5 @@ pub fn plain_string_end(text: &[u8], at: usize) -> usize
     ensures high { result ≤ length text.now }
     ensures plain { IsTrue (list_all plain_in_string (slice_range text.now at result)) }
 {
-    for i in at..text.len() {
-        if !is_plain_string(text[i]) {
-            return i;
-        }
-    }
-    text.len()
+    run_end(&PLAIN_IN_STRING, text, at)
 }

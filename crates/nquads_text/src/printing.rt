@@ -7,6 +7,7 @@ ghost use Rattle.nquads_text.specs.Grammar.{TermAt};
 ghost use Rattle.nquads_text.specs.Printing.{IsKind, IsGraphValue, IsTermValue, EndsTerm};
 ghost use Rattle.rdf_terms.specs.Line.{escaped, quoted, iri_text, kind_text, term_text, graph_text};
 
+use crate::plain_runs::plain_string_end;
 use delta_base::{OutOfMemory, Text};
 use rdf_terms::{LiteralKind, Term};
 use std::alloc::Global;
@@ -40,7 +41,8 @@ fn unescaped_end(text: &[u8], at: usize) -> usize
     ensures same { (k : ℕ) → at ≤ k → k < result
         → escaped (slice_index text.now k) ≡ slice_index text.now k ∷ [] }
 {
-    for i in at..text.len() {
+    let run = plain_string_end(text, at);
+    for i in run..text.len() {
         if !is_unescaped(text[i]) {
             return i;
         }

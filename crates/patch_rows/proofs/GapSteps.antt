@@ -1,15 +1,23 @@
--- White space and comments of a text that goes on, one character further.
-use Rattle.std.proofs.Common.{◌≡◌, ℕ, ◌+◌, ◌<◌, ◌≤◌, Bool, true, false, List, ◌++◌, [], length, drop, get_or, Ok, Err, not, inl, inr, refl, sym, ap, subst, ◌∙◌, arith, append_assoc, append-nil}
+-- White space and comments of a text that goes on, one step further.
+use Rattle.std.proofs.Common.{◌≡◌, ℕ, ◌+◌, ◌<◌, ◌≤◌, Bool, true, false, List, ◌++◌, [], length, drop, get_or, IsTrue, Ok, Err, not, inl, inr, refl, sym, ap, subst, ◌∙◌, arith, append_assoc, append-nil}
 use Rattle.std.specs.Char.{encode_utf8}
+use Rattle.std.specs.List.{list_all, slice_range}
+use Rattle.std.specs.Str.{IsUtf8}
 use Rattle.std.proofs.lemmas.Bool.{cases_lt}
 use Rattle.std.proofs.lemmas.List.{drop_all, length-append, drop-append-le, get_or_append_left}
+use Rattle.std.proofs.lemmas.List.Folds.{drop_split}
+use Rattle.nquads_text.specs.declared.fault.TextKind.TheVariants.{NotUtf8, Truncated}
 use Rattle.nquads_text.specs.Fault.{Fault}
+use Rattle.nquads_text.specs.Faults.{IsIllFormed, NoCharacter}
 use Rattle.nquads_text.specs.Reading.{char_at}
 use Rattle.nquads_text.specs.Grammar.{is_line_end}
 use Rattle.patch_rows.specs.Grammar.{is_space}
 use Rattle.patch_rows.specs.Reading.{skip_space, space_behind}
 use Rattle.patch_rows.proofs.SpaceSteps.{in_comment, no_char, at_hash as hash_there, past_blank as blank_there, at_other as other_there}
-use Rattle.nquads_text.proofs.Fronts.{char_spelled, char_again}
+use Rattle.nquads_text.proofs.CommentBodies.{line_end_low}
+use Rattle.nquads_text.proofs.Fronts.{char_spelled, char_again, char_ascii, char_ends}
+use Rattle.nquads_text.proofs.Needed.{no_character as char_fails}
+use Rattle.patch_rows.proofs.SpaceLaws.{behind_body}
 
 pub ok_char : (rest : List ℕ) (c : ℕ) (after more : List ℕ) → char_at rest ≡ Ok (c, after) → char_at (rest ++ more) ≡ Ok (c, after ++ more)
 ok_char rest c after more e =
@@ -26,10 +34,22 @@ module _ (comment : Bool) (from : ℕ) (text : List ℕ) where
   abbrev pub Passed : Bool → ℕ → Type 0
   Passed now at = (more : List ℕ) → space_behind comment 0 (drop from (text ++ more)) ≡ space_behind now 0 (drop at (text ++ more))
 
-  pub over_char : (at next c : ℕ) (ends : Bool) → Passed true at → at ≤ length text → next ≤ length text → char_at (drop at text) ≡ Ok (c, drop next text) → ends ≡ is_line_end c → Passed (not ends) next
-  over_char at next c ends so_far low high e is = λ more.
-      so_far more ∙ in_comment (drop at (text ++ more)) c (drop next (text ++ more)) (char_longer text more at next c low high e)
-      ∙ ap (λ (t : Bool). space_behind (not t) 0 (drop next (text ++ more))) (sym is)
+  pub over_body : (at next : ℕ) → Passed true at → at ≤ next → next ≤ length text → IsUtf8 (slice_range text at next) → IsTrue (list_all (λ b. not (is_line_end b)) (slice_range text at next)) → Passed true next
+  over_body at next so_far low high utf8 inside = λ more.
+      let body = slice_range text at next in
+      let parts : drop at (text ++ more) ≡ body ++ drop next (text ++ more) =
+      drop-append-le at text more (omega arith) ∙ ap (λ (t : List ℕ). t ++ more) (drop_split text at next low)
+      ∙ append_assoc body (drop next text) more ∙ ap (λ (t : List ℕ). body ++ t) (sym (drop-append-le next text more high)) in
+      so_far more ∙ ap (space_behind true 0) parts ∙ behind_body body (drop next (text ++ more)) utf8 inside
+
+  pub over_line_end : (at next : ℕ) → Passed true at → at ≤ next → next < length text → IsUtf8 (slice_range text at next) → IsTrue (list_all (λ b. not (is_line_end b)) (slice_range text at next))
+      → is_line_end (get_or text next 0) ≡ true → Passed false (next + 1)
+  over_line_end at next so_far low lt utf8 inside is = λ more.
+      let b = get_or text next 0 in
+      let after = drop (next + 1) (text ++ more) in
+      over_body at next so_far low (omega arith) utf8 inside more
+      ∙ in_comment (drop next (text ++ more)) b after (char_longer text more next (next + 1) b (omega arith) (omega arith) (char_ascii text next lt (line_end_low b is)))
+      ∙ ap (λ (ends : Bool). space_behind (not ends) 0 after) is
 
   pub over_hash : (at : ℕ) → Passed false at → at < length text → get_or text at 0 ≡ 35 → Passed true (at + 1)
   over_hash at so_far lt e = λ more.
@@ -44,7 +64,13 @@ stops_there text at lt ne e = λ more.
     let same = get_or_append_left text more 0 at lt in
     other_there (text ++ more) at (omega (arith, lt, length-append text more)) (λ is. ne (sym same ∙ is)) (ap is_space same ∙ e)
 
-pub ruleset gap_steps = (over_char, over_hash, over_blank, stops_there)
+pub no_more : (text : List ℕ) (at : ℕ) → at ≡ length text → (fault : Fault) × (char_at (drop at text) ≡ Err fault)
+no_more text at e = ((Truncated, drop at text), char_ends text at e)
+
+pub no_character : (text : List ℕ) (at : ℕ) → IsIllFormed (drop at text) → (fault : Fault) × (char_at (drop at text) ≡ Err fault)
+no_character text at bad = let fault : Fault = (NotUtf8, drop at text) in (fault, char_fails (drop at text) fault (NoCharacter.ill_formed bad refl))
+
+pub ruleset gap_steps = (over_body, over_line_end, over_hash, over_blank, no_more, no_character, stops_there)
 
 nothing_there : (rest : List ℕ) → rest ≡ [] → space_behind false 0 rest ≡ rest
 unfolding space_behind

@@ -2,12 +2,14 @@
 use Rattle.std.proofs.Common.{◌≡◌, ℕ, zero, suc, ◌-◌, ◌<◌, drop, Ok, Err, ◌≤◌, Bool, true, false, cond, ◌||◌, List, [], ◌∷◌, ◌++◌, length, nat_eq, not, Result, refl, sym, ap, subst, ◌∙◌, inl, inr, arith, append_assoc}
 use Rattle.std.specs.List.{list_all, flat_map}
 use Rattle.std.specs.Char.{IsScalar, encode_utf8}
-use Rattle.std.specs.Str.{encode_utf8_all}
+use Rattle.std.specs.Str.{encode_utf8_all, IsUtf8}
 use Rattle.std.proofs.lemmas.Bool.Decides.{nat_tests}
+use Rattle.std.proofs.lemmas.List.Folds.{list_all-append}
 use Rattle.std.proofs.lemmas.Str.{encode_ascii}
 use lib.Utf8.{scalar, scalars}
 use Rattle.nquads_text.specs.Fault.{Read as TextRead}
 use Rattle.nquads_text.specs.Reading.{char_at}
+use Rattle.nquads_text.proofs.CommentBodies.{line_end_low}
 use Rattle.nquads_text.proofs.Fronts.{char_spelled, char_again, char_at-ascii}
 use Rattle.nquads_text.proofs.Steps.{not_both as text_not_both}
 use Rattle.patch_rows.proofs.SpaceSteps.{behind_first, first_byte, in_comment}
@@ -51,9 +53,6 @@ line_end_is_space b e = by (nat_eq b 32) (nat_eq b 9) (is_line_end b) e
     by true y z e = refl
     by false true z e = refl
     by false false z e = e
-
-pub line_end_low : (b : ℕ) → is_line_end b ≡ true → b < 128
-line_end_low b e = grind (arith, nat_tests)
 
 -- a character of a comment, or its line's end
 char_before : (c : ℕ) (after left : List ℕ) (ends : Bool) → IsScalar c → is_line_end c ≡ ends → Parts (not ends) after left → Parts true (encode_utf8 c ++ after) left
@@ -127,6 +126,24 @@ behind_line (c ∷ cs) rest s all =
     ∙ in_comment (encode_utf8 c ++ more) c more (char_again c more p.0)
     ∙ ap (λ (b : Bool). space_behind (not b) 0 more) (not_true (is_line_end c) t.0)
     ∙ behind_line cs rest p.1 t.1
+
+char_in_line : (c : ℕ) → list_all in_line (encode_utf8 c) ≡ true → in_line c ≡ true
+char_in_line c all = by (is_line_end c) refl
+  where
+    by : (ends : Bool) → is_line_end c ≡ ends → not ends ≡ true
+    by false e = refl
+    by true e = ap not (sym e) ∙ (and_parts (in_line c) true (ap (list_all in_line) (sym (encode_ascii c (line_end_low c e))) ∙ all)).0
+
+chars_in_line : (cs : List ℕ) → list_all in_line (encode_utf8_all cs) ≡ true → list_all in_line cs ≡ true
+chars_in_line [] all = refl
+chars_in_line (c ∷ cs) all =
+    let p = and_parts (list_all in_line (encode_utf8 c)) (list_all in_line (encode_utf8_all cs)) (sym (list_all-append in_line (encode_utf8 c) (encode_utf8_all cs)) ∙ all) in
+    rw (char_in_line c p.0, chars_in_line cs p.1) refl
+
+-- the same by bytes
+pub behind_body : (body rest : List ℕ) → IsUtf8 body → list_all in_line body ≡ true → space_behind true 0 (body ++ rest) ≡ space_behind true 0 rest
+behind_body body rest u all =
+    ap (λ (b : List ℕ). space_behind true 0 (b ++ rest)) (sym u.1.1) ∙ behind_line u.0 rest u.1.0 (chars_in_line u.0 (ap (list_all in_line) u.1.1 ∙ all))
 
 space_low : (b : ℕ) → is_space b ≡ true → b < 128
 space_low b e = grind (arith, nat_tests)

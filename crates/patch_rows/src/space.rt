@@ -7,7 +7,7 @@ ghost use Rattle.nquads_text.specs.Reading.{char_at as char_of};
 ghost use Rattle.patch_rows.specs.Grammar.{Space, begins_space, is_space as is_blank};
 ghost use Rattle.patch_rows.specs.Reading.{space_behind, skip_space as behind_space};
 
-use nquads_text::{char_at, is_line_end};
+use nquads_text::{comment_body_end, is_line_end};
 
 /// Whether the byte is white space.
 pub fn is_space(b: u8) -> bool
@@ -35,13 +35,12 @@ pub fn pass_gap(text: &[u8], from: usize, in_comment: bool) -> (usize, bool)
     let mut comment = in_comment;
     while at < text.len() {
         if comment {
-            match char_at(text, at) {
-                Ok((c, next)) => {
-                    comment = !is_line_end(c);
-                    at = next;
-                }
-                Err(_) => return (at, true),
+            at = comment_body_end(text, at);
+            if at == text.len() || !is_line_end(char::from(text[at])) {
+                return (at, true);
             }
+            comment = false;
+            at += 1;
         } else if text[at] == b'#' {
             comment = true;
             at += 1;

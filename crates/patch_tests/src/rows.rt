@@ -42,6 +42,7 @@ fn an_ill_formed_byte_ends_a_comment(rt: HostRuntime) {
     let alloc = rt.alloc();
     assert_eq!(rt; skip_space(b"# \xC3\xA9\n\xFF", 0), 5);
     assert_eq!(rt; skip_space(b"# \xFF\n", 0), 2);
+    assert_eq!(rt; skip_space(b"# \xC3\xA9\r#\xC3\r", 0), 6);
     fails_as_text(&rt, alloc, b"TX # \xFF\n.", 5, TextKind::NotUtf8);
     fails_as_text(&rt, alloc, b"H \xFF", 2, TextKind::NotUtf8);
 }

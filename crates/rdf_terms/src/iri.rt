@@ -1,4 +1,4 @@
-ghost use Rattle.std.specs.Prelude.{◌≡◌, IfOk, MatchResult, MatchOption, IsUtf8};
+ghost use Rattle.std.specs.Prelude.{◌≡◌, true, IfOk, IsTrue, MatchResult, MatchOption, IsUtf8};
 ghost use Rattle.rdf_terms.specs.Iri.{has_scheme as spells_scheme, is_forbidden as forbids};
 ghost use Rattle.rdf_terms.specs.Iri.{is_scheme_byte as in_scheme, ends_scheme as spells_end};
 ghost use Rattle.rdf_terms.specs.Iri.{IsIri, AllowedAll, FirstForbidden};
@@ -67,11 +67,29 @@ impl Iri {
     }
 }
 
+/// Whether `http:` stands in front, as in most IRIs.
+#[inline(always)]
+fn begins_http(bytes: &[u8]) -> bool
+    ensures { IsTrue result → spells_scheme bytes.now ≡ true }
+{
+    if bytes.len() < 5 {
+        return false;
+    }
+    (bytes[0] == b'h')
+        & (bytes[1] == b't')
+        & (bytes[2] == b't')
+        & (bytes[3] == b'p')
+        & (bytes[4] == b':')
+}
+
 /// Whether a scheme stands in front: a letter, then letters, digits, `+`, `-`, `.`, then `:`.
 #[tactic(auto, unfolding(crate::specs::Iri::has_scheme))]
 pub fn has_scheme(bytes: &[u8]) -> bool
     ensures { result ≡ spells_scheme bytes.now }
 {
+    if begins_http(bytes) {
+        return true;
+    }
     match bytes {
         [] => false,
         [first, rest @ ..] => first.is_ascii_alphabetic() && ends_scheme(rest),

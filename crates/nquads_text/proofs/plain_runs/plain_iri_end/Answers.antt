@@ -1,8 +1,7 @@
-use Rattle.std.proofs.Common.{sym, ◌∙◌, arith}
+use Rattle.std.proofs.Common.{refl}
 use Rattle.nquads_text.specs.Reading.{is_plain_iri}
-use Rattle.nquads_text.proofs.PlainRuns.{run_more}
+use Rattle.nquads_text.proofs.PlainRuns.{home_passes}
 use Rattle.nquads_text.proofs.plain_runs.plain_iri_end.Goals as goal
 
-pub loop-i-preserved : goal.loop-i-preserved
-loop-i-preserved c =
-    run_more is_plain_iri c.args.text.now c.args.at c.loop-i.i (omega arith) (omega arith) c.loop-i.invariant (sym c.is_plain_iri.ensures ∙ c.if-not-is_plain_iri.false)
+pub returns-clause-plain : goal.returns-clause-plain
+returns-clause-plain c = home_passes _ is_plain_iri refl refl _ c.run_end.ensures.home
