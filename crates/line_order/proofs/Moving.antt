@@ -18,7 +18,7 @@ module _ {X : Type 0} where
   pub same_moved : (xs ys zs : List (Keyed X)) → lines_of ys ≡ lines_of xs → AreMoved ys zs → AreMoved xs zs
   same_moved xs ys zs same h = subst (λ (l : List X). IsPermutation l (lines_of zs)) same h
 
-  in_three : (us vs ws : List (Keyed X)) → lines_of (us ++ (vs ++ ws)) ≡ lines_of us ++ (lines_of vs ++ lines_of ws)
+  pub in_three : (us vs ws : List (Keyed X)) → lines_of (us ++ (vs ++ ws)) ≡ lines_of us ++ (lines_of vs ++ lines_of ws)
   in_three us vs ws = map-append (λ k. k.line) us (vs ++ ws) ∙ ap (λ (l : List X). lines_of us ++ l) (map-append (λ k. k.line) vs ws)
 
   -- where some lines in a row are moved among themselves, all are moved

@@ -1,10 +1,9 @@
-//! Lines moved near to where they belong, by eight bytes at a time, and then sorted.
-ghost use Rattle.std.specs.Prelude.{◌≡◌, ◌<◌, ◌≤◌, length};
+//! Lines sorted by eight bytes at a time.
+ghost use Rattle.std.specs.Prelude.{◌≡◌, ◌<◌, ◌≤◌, length, IsTrue};
 ghost use Rattle.std.specs.List.Sorted.{IsSorted};
-ghost use Rattle.line_order.specs.Moves.{AreMoved, lines_of};
+ghost use Rattle.line_order.specs.Moves.{AreMoved, GoesOn, lines_of};
 
 use crate::sort::Line;
-use std::cmp::Ordering;
 
 /// A line with room for eight of its bytes.
 #[derive(Clone, Copy)]
@@ -50,18 +49,6 @@ fn key_at(line: &[u8], depth: usize) -> u64 {
     u64::from_be_bytes(bytes)
 }
 
-// The order of lines that are alike before a place, by their keys first.
-#[inline]
-fn compare<T: Line>(a: &Keyed<T>, b: &Keyed<T>, depth: usize) -> Ordering {
-    if a.key != b.key {
-        return a.key.cmp(&b.key);
-    }
-    match tail(a.line.bytes(), depth).cmp(&tail(b.line.bytes(), depth)) {
-        Ordering::Equal => a.line.cmp(&b.line),
-        unequal => unequal,
-    }
-}
-
 // Holds beside each line its bytes from a place on.
 fn write_keys<T: Line>(lines: &mut [Keyed<T>], depth: usize)
     ensures { lines_of lines.new ≡ lines_of lines.old }
@@ -85,24 +72,64 @@ fn run_end<T: Line>(lines: &[Keyed<T>], start: usize) -> usize
     end
 }
 
-// Moves lines that are alike before this place near to where they belong.
-fn presort<T: Line>(lines: &mut [Keyed<T>], depth: usize)
-    ensures { AreMoved lines.old lines.new }
+// How many bytes of the one text stand in front of the other too.
+fn alike(a: &[u8], b: &[u8]) -> usize
+    ensures { result ≤ length a.now }
 {
-    write_keys(lines, depth);
-    if lines.len() < FEW || depth >= DEEPEST || lines[0].line.bytes().len() <= depth {
-        lines.sort_unstable_by(|a, b| compare(a, b, depth));
-        return;
+    if b.len() >= a.len() && a == &b[..a.len()] {
+        return a.len();
     }
+    for (at, (x, y)) in a.iter().zip(b).enumerate() {
+        if x != y {
+            return at;
+        }
+    }
+    a.len().min(b.len())
+}
+
+// The place up to which lines are alike that are alike before this one.
+fn alike_end<T: Line>(lines: &[Keyed<T>], depth: usize) -> usize
+    requires { 0 < length lines.now }
+    ensures { depth ≤ result }
+{
+    let first = tail(lines[0].line.bytes(), depth);
+    let mut size = first.len();
+    for keyed in lines {
+        size = alike(&first[..size], tail(keyed.line.bytes(), depth));
+    }
+    depth.saturating_add(size)
+}
+
+// Whether the line at a place is no less than the one before it, if there is one.
+fn goes_on<T: Line>(lines: &[Keyed<T>], at: usize) -> bool
+    requires { at < length lines.now }
+    ensures { IsTrue result → GoesOn T.cmp (lines_of lines.now) at }
+{
+    at == 0 || !lines[at].line.cmp(&lines[at - 1].line).is_lt()
+}
+
+// Sorts lines that are alike before this place. Few of them are compared with one another. Of more
+// each run is sorted by itself, and the answer is whether all were seen to go on with those before.
+fn presort<T: Line>(lines: &mut [Keyed<T>], depth: usize) -> bool
+    ensures moved { AreMoved lines.old lines.new }
+    ensures rise { IsTrue result → IsSorted T.cmp (lines_of lines.new) }
+{
+    if lines.len() < FEW || depth >= DEEPEST || lines[0].line.bytes().len() <= depth {
+        lines.sort_unstable_by_key(|keyed| keyed.line);
+        return true;
+    }
+    let depth = alike_end(lines, depth);
+    write_keys(lines, depth);
     lines.sort_unstable_by_key(|keyed| keyed.key);
+    let mut rises = true;
     let mut start = 0;
     while start < lines.len() {
         let end = run_end(lines, start);
-        if end - start > 1 {
-            presort(&mut lines[start..end], depth + 8);
-        }
+        let run_rises = presort(&mut lines[start..end], depth.saturating_add(8));
+        rises = rises & run_rises & goes_on(lines, start);
         start = end;
     }
+    rises
 }
 
 /// Sorts lines, without memory of its own.
@@ -110,6 +137,7 @@ pub fn sort_keyed<T: Line>(lines: &mut [Keyed<T>])
     ensures moved { AreMoved lines.old lines.new }
     ensures sorted { IsSorted T.cmp (lines_of lines.new) }
 {
-    presort(lines, 0);
-    lines.sort_unstable_by_key(|keyed| keyed.line);
+    if !presort(lines, 0) {
+        lines.sort_unstable_by_key(|keyed| keyed.line);
+    }
 }
