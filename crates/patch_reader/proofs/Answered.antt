@@ -1,52 +1,29 @@
 -- What is read, as what is decided.
-use Rattle.std.proofs.Common.{◌≡◌, ℕ, ◌+◌, ◌<◌, ◌≤◌, Bool, true, false, cond, List, [], ◌∷◌, ◌++◌, length, drop, Option, Some, Result, Ok, Err, nat_eq, refl, sym, ap, subst, ◌∙◌, arith, eqb-true, eq-eqb}
+use Rattle.std.proofs.Common.{◌≡◌, ℕ, ◌<◌, ◌≤◌, true, false, List, [], ◌∷◌, length, drop, Option, Some, Result, Ok, Err, refl, sym, ap, subst, ◌∙◌, arith}
 use Rattle.std.proofs.lemmas.Bool.{false≢true}
 use Rattle.std.proofs.lemmas.List.{length-drop}
 use Rattle.patch_rows.specs.declared.fault.RowFault.{RowFault as RowAnswer}
 use Rattle.patch_rows.specs.declared.fault.RowFault.TheVariants as faults
 use Rattle.patch_rows.specs.declared.fault.RowKind.{RowKind}
-use Rattle.patch_rows.specs.declared.fault.RowKind.TheVariants.{TooLong}
 use Rattle.patch_rows.specs.declared.row.Row.{Row}
-use Rattle.patch_rows.specs.Fault.{Fault, Read, Gives}
-use Rattle.patch_rows.specs.Grammar.{row_limit, row_front}
+use Rattle.patch_rows.specs.Fault.{Gives}
+use Rattle.patch_rows.specs.Grammar.{row_limit}
 use Rattle.patch_rows.proofs.Shorter.{row_shorter}
 use Rattle.patch_rows.specs.Cut.{AtEnd, is_cut, ends_row}
 use Rattle.patch_reader.specs.Decided.{ShortRowDecided, FirstFaultDecided, MoreDecides, Decides}
-use Rattle.patch_reader.specs.Limit.{of_front, front_row_at}
+use Rattle.patch_reader.specs.Limit.{front_row_at}
 use Rattle.patch_rows.specs.Rows.{live_row}
 use Rattle.patch_reader.proofs.RowEnds.{cut_row}
-use Rattle.patch_reader.proofs.Limits.{short_row, front_row, short_fault, front_fault, long_row, long_open, more_decides, row_now}
-
--- ---- in a longer text
-
-abbrev IsDecided : List ℕ → Read Row → Type 0
-IsDecided text (Ok x) = ShortRowDecided text x.0 x.1
-IsDecided text (Err f) = FirstFaultDecided text f
-
-module _ (text : List ℕ) (lt : row_limit < length text) where
-  by_size : (x : Row × List ℕ) (b : Bool) → live_row (row_front text) ≡ Ok x → nat_eq (length x.1) 0 ≡ b → IsDecided text (cond b (Err (TooLong, text)) (Ok (x.0, x.1 ++ drop (row_limit + 1) text)))
-  by_size x true e t = long_row text x.0 x.1 lt e (eqb-true (length x.1) 0 t)
-  by_size x false e t = front_row text x.0 x.1 lt e (λ is. false≢true (sym t ∙ eq-eqb (length x.1) 0 is))
-
-  by_end : (f : Fault) (b : Bool) → live_row (row_front text) ≡ Err f → ends_row f.0 f.1 ≡ b → IsDecided text (cond b (Err (TooLong, text)) (Err (f.0, f.1 ++ drop (row_limit + 1) text)))
-  by_end f true e o = long_open text f lt e o
-  by_end f false e o = front_fault text f lt e o
-
-  by_reading : (r : Read Row) → live_row (row_front text) ≡ r → IsDecided text (of_front text (drop (row_limit + 1) text) r)
-  by_reading (Ok x) e = by_size x (nat_eq (length x.1) 0) e refl
-  by_reading (Err f) e = by_end f (ends_row f.0 f.1) e refl
-
-  decided_front : IsDecided text (front_row_at text)
-  decided_front = by_reading (live_row (row_front text)) refl
+use Rattle.patch_reader.proofs.Limits.{IsDecided, decided_front, short_row, short_fault, more_decides, row_now}
 
 -- ---- by places
 
-further : (text : List ℕ) (at end : ℕ) (r : Row) → end ≤ length text → ShortRowDecided (drop at text) r (drop end text) → at < end
+pub further : (text : List ℕ) (at end : ℕ) (r : Row) → end ≤ length text → ShortRowDecided (drop at text) r (drop end text) → at < end
 further text at end r le d =
     let less = row_shorter (drop at text) r (drop end text) (row_now (drop at text) r (drop end text) d).0 in
     omega (arith, less, length-drop at text, length-drop end text)
 
-starts : (text : List ℕ) (at : ℕ) → (drop at text ≡ [] → ⊥) → at < length text
+pub starts : (text : List ℕ) (at : ℕ) → (drop at text ≡ [] → ⊥) → at < length text
 starts text at some = by (drop at text) refl some
   where
     by : (t : List ℕ) → drop at text ≡ t → (t ≡ [] → ⊥) → at < length text

@@ -1,12 +1,10 @@
 -- Tokens that the text's end cuts off, at the front of a row or of a part.
-use Rattle.std.proofs.Common.{◌≡◌, ℕ, suc, ◌+◌, ◌-◌, Bool, true, false, cond, List, [], ◌∷◌, length, take, drop, Ok, Err, nat_eq, ◌||◌, ◌⊎◌, inl, inr, refl, sym, ap, subst, ◌∙◌, arith}
+use Rattle.std.proofs.Common.{◌≡◌, ℕ, suc, ◌+◌, Bool, true, false, cond, List, [], ◌∷◌, take, drop, Ok, Err, nat_eq, ◌||◌, ◌⊎◌, inl, inr, ⊎_elim, refl, sym, ap, subst, ◌∙◌, arith}
 use Rattle.std.specs.Char.{is_ascii_alphabetic}
 use Rattle.std.specs.List.{list_all, prefix_len}
-use Rattle.std.proofs.lemmas.Bool.{false≢true, and_parts}
+use Rattle.std.proofs.lemmas.Bool.{false≢true, and_parts, cases_Bool}
 use Rattle.std.proofs.lemmas.Bool.Decides.{nat_tests}
-use Rattle.std.proofs.lemmas.List.{drop-drop}
 use Rattle.rdf_terms.specs.Names.{begins_name}
-use Rattle.rdf_terms.specs.Quad.{is_iri}
 use Rattle.rdf_terms.specs.declared.term.Literal.{Literal}
 use Rattle.rdf_terms.specs.declared.term.LiteralKind.{LiteralKind}
 use Rattle.rdf_terms.specs.declared.term.LiteralKind.TheVariants.{Plain, Tagged}
@@ -17,8 +15,8 @@ use Rattle.nquads_text.specs.Fault.{Read as TextRead, ◌>>=◌ as ◌and_then�
 use Rattle.nquads_text.specs.Faults.{begins_term}
 use Rattle.nquads_text.specs.Grammar.{is_blank}
 use Rattle.nquads_text.specs.Reading.{char_at, iri_body_at, string_body_at}
-use Rattle.nquads_text.specs.Terms.{name_len, name_at, label_at, tag_at, skip_blanks, typed_at, suffix_at, literal_at, term_at}
-use Rattle.nquads_text.proofs.Fronts.{char_at-ascii, char_spelled}
+use Rattle.nquads_text.specs.Terms.{name_at, label_at, tag_at, skip_blanks, typed_at, suffix_at, literal_at, term_at}
+use Rattle.nquads_text.proofs.Fronts.{char_at-ascii}
 use Rattle.patch_rows.specs.declared.fault.RowKind.TheVariants.{Common}
 use Rattle.patch_rows.specs.Fault.{Read, ◌>>=◌, in_row}
 use Rattle.patch_rows.specs.Faults.{is_dot}
@@ -34,7 +32,7 @@ use Rattle.patch_reader.specs.Progress.{graph_from, object_from, predicate_from,
 use Rattle.patch_reader.proofs.InsideSteps.{text_end_then}
 use Rattle.patch_reader.proofs.RowParts.{row_open}
 use Rattle.patch_reader.proofs.RowStays.{end_then, text_at_end}
-use Rattle.patch_reader.proofs.TokenStays.{OpenKind, kind_is_open, string_last, drop_back}
+use Rattle.patch_reader.proofs.TokenStays.{OpenKind, kind_is_open, string_last, label_size, label_rest}
 
 truncated : ends_row (Common Truncated) [] ≡ true
 unfolding ends_row ends_text
@@ -62,18 +60,14 @@ blanks_first start (b ∷ rest) all =
 typed_first : (start after : List ℕ) → ((start text : List ℕ) → TextAtEnd (typed_at start text (skip_blanks after))) → TextAtEnd (suffix_at start after)
 unfolding suffix_at typed_at skip_blanks
 typed_first start [] end = absurd (end start [])
-typed_first start (b ∷ rest) end = by (nat_eq b 64) refl
+typed_first start (b ∷ rest) end = ⊎_elim (λ tag. absurd (no_tag tag)) (λ tag. rw tag (end start (b ∷ rest))) (cases_Bool (nat_eq b 64))
   where
-    by : (at : Bool) → nat_eq b 64 ≡ at → TextAtEnd (suffix_at start (b ∷ rest))
-    by true e = absurd (no_tag e)
-      where
-        no_tag : nat_eq b 64 ≡ true → ⊥
-        no_tag e =
-            let no_blank : is_blank b ≡ false = grind (arith, nat_tests, e) in
-            let no_hat : nat_eq b 94 ≡ false = grind (arith, nat_tests, e) in
-            let here = end start (b ∷ rest) in
-            rw no_hat at (rw no_blank at here)
-    by false e = rw e (end start (b ∷ rest))
+    no_tag : nat_eq b 64 ≡ true → ⊥
+    no_tag e =
+        let no_blank : is_blank b ≡ false = grind (arith, nat_tests, e) in
+        let no_hat : nat_eq b 94 ≡ false = grind (arith, nat_tests, e) in
+        let here = end start (b ∷ rest) in
+        rw no_hat at (rw no_blank at here)
 
 tag_first : (start tag : List ℕ) → ((start : List ℕ) → IsTagOpen (tag_at true false start tag)) → CutKind (64 ∷ tag) (suffix_at start (64 ∷ tag))
 unfolding suffix_at
@@ -161,19 +155,12 @@ cut_prefix_iri : (rest : List ℕ) → IsCutTerm rest → AtEnd (prefix_iri_of O
 unfolding prefix_iri_of
 cut_prefix_iri rest o = end_then (open_term rest) _ (cut_term rest o)
 
+ruleset cut_terms = (end_then, cut_placed, cut_prefix, cut_prefix_iri, false≢true)
+
 term_opens : (p : Part) (rest : List ℕ) → takes_term p ≡ true → IsCutTerm rest → AtEnd (rest_from p rest)
 unfolding graph_from object_from predicate_from subject_from value_from iri_from added_from removed_from
-term_opens part.Key rest t o = absurd (false≢true t)
-term_opens part.Value rest t o = end_then (placed_of Open is_any rest) _ (cut_placed is_any rest o)
-term_opens part.Bare rest t o = absurd (false≢true t)
-term_opens part.Added rest t o = end_then (prefix_of Open rest) _ (cut_prefix rest o)
-term_opens part.Iri rest t o = end_then (prefix_iri_of Open rest) _ (cut_prefix_iri rest o)
-term_opens part.Removed rest t o = end_then (prefix_of Open rest) _ (cut_prefix rest o)
-term_opens part.Subject rest t o = end_then (placed_of Open is_node rest) _ (cut_placed is_node rest o)
-term_opens part.Predicate rest t o = end_then (placed_of Open is_iri rest) _ (cut_placed is_iri rest o)
-term_opens part.Object rest t o = end_then (placed_of Open is_any rest) _ (cut_placed is_any rest o)
 term_opens part.Graph rest t o = rw (term_there rest o) (end_then (placed_of Open is_node rest) _ (cut_placed is_node rest o))
-term_opens part.End rest t o = absurd (false≢true t)
+term_opens _ rest t o = search cut_terms
 
 pub string_opens : (p : Part) (rest body : List ℕ) → takes_term p ≡ true → rest ≡ 34 ∷ body → IsStringOpen (string_body_at body) → AtEnd (rest_from p rest)
 string_opens p rest body t is a = term_opens p rest t (IsCutTerm.string body is (subst (λ (r : List ℕ). AtEnd (open_term r)) (sym is) (string_term body a)))
@@ -188,11 +175,7 @@ label_read : (start rest : List ℕ) (c : ℕ) (after : List ℕ) → char_at re
     → (l : List ℕ × List ℕ) × (name_at start rest ≡ Ok l) × (label_open l.1 ≡ true)
 unfolding name_at
 label_read start rest c after e begins o =
-    let size : ℕ = (length rest - length after) + name_len 0 after in
-    let s = char_spelled rest c after e in
-    let behind : drop size rest ≡ drop (name_len 0 after) after =
-    sym (drop-drop (name_len 0 after) (length rest - length after) rest) ∙ ap (drop (name_len 0 after)) (drop_back rest _ after s.1) in
-    ((take size rest, drop size rest), rw (e, begins) refl, ap label_open behind ∙ o)
+    let size = label_size rest (c, after) in ((take size rest, drop size rest), rw (e, begins) refl, ap label_open (label_rest rest (c, after) e) ∙ o)
 
 line_first : (rest : List ℕ) → term_at (95 ∷ 58 ∷ rest) ≡ ◌and_then◌ (name_at (95 ∷ 58 ∷ rest) rest) (λ l. Ok (term.Blank l.0, l.1))
 unfolding term_at label_at
@@ -211,19 +194,12 @@ any_blank l = refl
 node_blank : (l : List ℕ) → is_node (term.Blank l) ≡ true
 node_blank l = refl
 
+ruleset cut_labels = (end_then, label_placed, any_blank, node_blank, false≢true)
+
 pub label_opens : (p : Part) (rest : List ℕ) (c : ℕ) (after : List ℕ) → takes_node p ≡ true → char_at rest ≡ Ok (c, after) → begins_name c ≡ true → IsLabelOpen after → AtEnd (rest_from p (95 ∷ 58 ∷ rest))
 unfolding graph_from object_from subject_from value_from
-label_opens part.Key rest c after t e begins o = absurd (false≢true t)
-label_opens part.Value rest c after t e begins o = end_then (placed_of Open is_any (95 ∷ 58 ∷ rest)) _ (label_placed is_any any_blank rest c after e begins o)
-label_opens part.Bare rest c after t e begins o = absurd (false≢true t)
-label_opens part.Added rest c after t e begins o = absurd (false≢true t)
-label_opens part.Iri rest c after t e begins o = absurd (false≢true t)
-label_opens part.Removed rest c after t e begins o = absurd (false≢true t)
-label_opens part.Subject rest c after t e begins o = end_then (placed_of Open is_node (95 ∷ 58 ∷ rest)) _ (label_placed is_node node_blank rest c after e begins o)
-label_opens part.Predicate rest c after t e begins o = absurd (false≢true t)
-label_opens part.Object rest c after t e begins o = end_then (placed_of Open is_any (95 ∷ 58 ∷ rest)) _ (label_placed is_any any_blank rest c after e begins o)
 label_opens part.Graph rest c after t e begins o = end_then (placed_of Open is_node (95 ∷ 58 ∷ rest)) _ (label_placed is_node node_blank rest c after e begins o)
-label_opens part.End rest c after t e begins o = absurd (false≢true t)
+label_opens _ rest c after t e begins o = search cut_labels
 
 -- ---- words
 
@@ -267,16 +243,9 @@ unfolding prefix_of open_word_prefix
 word_prefix_open b rest letter all =
     rw (letter_is_no_colon b letter) (rw letter (end_then (uncut (run_of is_word_byte (b ∷ rest))) _ (run_cut is_word_byte b rest (letter_in_word b letter) all)))
 
+ruleset cut_words = (end_then, key_open, word_prefix_open, false≢true)
+
 pub word_opens : (p : Part) (b : ℕ) (rest : List ℕ) → takes_word p ≡ true → is_ascii_alphabetic b ≡ true → list_all is_word_byte rest ≡ true → AtEnd (rest_from p (b ∷ rest))
 unfolding key_from added_from removed_from
 word_opens part.Key b rest t letter all = end_then (open_key (b ∷ rest)) _ (key_open b rest letter all)
-word_opens part.Value b rest t letter all = absurd (false≢true t)
-word_opens part.Bare b rest t letter all = absurd (false≢true t)
-word_opens part.Added b rest t letter all = end_then (prefix_of Open (b ∷ rest)) _ (word_prefix_open b rest letter all)
-word_opens part.Iri b rest t letter all = absurd (false≢true t)
-word_opens part.Removed b rest t letter all = end_then (prefix_of Open (b ∷ rest)) _ (word_prefix_open b rest letter all)
-word_opens part.Subject b rest t letter all = absurd (false≢true t)
-word_opens part.Predicate b rest t letter all = absurd (false≢true t)
-word_opens part.Object b rest t letter all = absurd (false≢true t)
-word_opens part.Graph b rest t letter all = absurd (false≢true t)
-word_opens part.End b rest t letter all = absurd (false≢true t)
+word_opens _ b rest t letter all = search cut_words

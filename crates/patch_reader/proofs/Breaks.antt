@@ -1,12 +1,12 @@
 -- What more text may change: behind an open literal or tag two bytes follow that no text has there, behind an open label a character and such a byte.
-use Rattle.std.proofs.Common.{◌≡◌, ℕ, zero, suc, ◌+◌, ◌-◌, ◌≤◌, Bool, true, false, cond, List, [], ◌∷◌, ◌++◌, length, Option, Some, None, Result, Ok, Err, nat_eq, nat_lt, refl, sym, ap, subst, ◌∙◌, ◌⊎◌, inl, inr, ⊎_elim, arith, append_assoc, slice_index, take, drop, ◌&&◌, not, is_none}
+use Rattle.std.proofs.Common.{◌≡◌, ℕ, zero, suc, ◌+◌, ◌-◌, ◌≤◌, Bool, true, false, cond, List, [], ◌∷◌, ◌++◌, length, Option, Some, None, Result, Ok, Err, nat_eq, nat_lt, refl, sym, ap, subst, ◌∙◌, ◌⊎◌, inl, inr, ⊎_elim, arith, append_assoc, slice_index, take, drop, ◌&&◌, not}
 use Rattle.std.specs.Char.{to_ascii_lowercase, encode_utf8}
 use Rattle.std.specs.Str.{bytes_eq}
 use Rattle.rdf_terms.specs.Datatype.{xsd_string, lang_string}
 use Rattle.std.specs.List.{list_all}
-use Rattle.std.proofs.lemmas.Bool.{and_parts, false≢true, eqb-true}
+use Rattle.std.proofs.lemmas.Bool.{and_parts, false≢true, eqb-true, cases_Bool}
 use Rattle.std.proofs.lemmas.Bool.Decides.{nat_tests}
-use Rattle.std.proofs.lemmas.List.{length-append, drop_at, drop-drop}
+use Rattle.std.proofs.lemmas.List.{nil_from_length, length-append, drop_at}
 use Rattle.bstr.specs.Utf8.{decoded}
 use Rattle.rdf_terms.specs.Names.{is_name_char, begins_name}
 use Rattle.rdf_terms.specs.declared.term.Literal.{Literal}
@@ -23,10 +23,10 @@ use Rattle.nquads_text.proofs.Fronts.{char_spelled, char_at-ascii}
 use Rattle.nquads_text.proofs.NameRuns.{name-char, name-none}
 use Rattle.nquads_text.proofs.BlankRuns.{blanks_parted, blanks_skipped}
 use Rattle.nquads_text.proofs.LiteralReads.{iri_found, string_found}
-use Rattle.patch_rows.specs.Cut.{TextAtEnd, ends_quoted, kind_open, literal_open, blank_open, label_open, leads, is_front, no_name_begins, begins_name_char}
+use Rattle.patch_rows.specs.Cut.{TextAtEnd, ends_quoted, kind_open, literal_open, blank_open, label_open, is_front, begins_name_char}
 use Rattle.patch_reader.proofs.Stays.{with_more, string_body_stays, ok_char, bad_char, good_char, rooms_same}
-use Rattle.patch_reader.proofs.TokenStays.{behind_char, dot_front, IsBlank, quote_front, drop_back, label_size, label_read}
-use Rattle.patch_reader.proofs.Completions.{stop, Completes, completed}
+use Rattle.patch_reader.proofs.TokenStays.{open_behind, dot_front, IsBlank, quote_front, label_rest, label_size, label_read}
+use Rattle.patch_reader.proofs.Completions.{stop, Completed, completed, front_parts}
 
 abbrev pub stopped : {X : Type 0} → Read X
 stopped = Err (NotUtf8, stop)
@@ -119,16 +119,10 @@ kind_gives : (start iri after : List ℕ) (x : LiteralKind × List ℕ) → kind
 unfolding kind_of
 kind_gives start iri after x e = by (bytes_eq iri lang_string) (bytes_eq iri xsd_string) e
   where
-    no_plain : (tag : List ℕ) → Plain ≡ Tagged tag → ⊥
-    no_plain tag e = absurd cc
-
-    no_typed : (tag : List ℕ) → Typed iri ≡ Tagged tag → ⊥
-    no_typed tag e = absurd cc
-
     by : (lang string : Bool) → kind_by start iri after lang string ≡ Ok x → (x.1 ≡ after) × ((tag : List ℕ) → x.0 ≡ Tagged tag → ⊥)
     by true string e = absurd (ok_no_fault x (LangStringWithoutTag, start) (sym e))
-    by false true e = let same = ok_is_text (Plain, after) x e in (sym (ap (λ (p : LiteralKind × List ℕ). p.1) same), λ tag is. no_plain tag (ap (λ (p : LiteralKind × List ℕ). p.0) same ∙ is))
-    by false false e = let same = ok_is_text (Typed iri, after) x e in (sym (ap (λ (p : LiteralKind × List ℕ). p.1) same), λ tag is. no_typed tag (ap (λ (p : LiteralKind × List ℕ). p.0) same ∙ is))
+    by false true e = let same = ok_is_text (Plain, after) x e in (cc, λ tag is. let both : Plain ≡ Tagged tag = cc in absurd cc)
+    by false false e = let same = ok_is_text (Typed iri, after) x e in (cc, λ tag is. let both : Typed iri ≡ Tagged tag = cc in absurd cc)
 
 datatype_gives : (start rest : List ℕ) (x : LiteralKind × List ℕ) → datatype_at start rest ≡ Ok x → Behind rest (62 ∷ x.1) × ((tag : List ℕ) → x.0 ≡ Tagged tag → ⊥)
 unfolding datatype_at
@@ -171,63 +165,47 @@ hat_breaks start (b ∷ rest) all =
     blank_no_at b e = grind (arith, nat_tests, e)
 
 -- no datatype: nothing but blanks stands there
+plain_open : (whole text : List ℕ) (x : LiteralKind × List ℕ) → got (Plain, text) ≡ Ok x → kind_open x.0 (ends_quoted whole x.1) x.1 ≡ true → list_all is_blank text ≡ true
+plain_open whole text x e is =
+    let t = subst (λ (y : LiteralKind × List ℕ). kind_open y.0 (ends_quoted whole y.1) y.1 ≡ true) (sym (ok_is_text (Plain, text) x e)) is in
+    (and_parts (ends_quoted whole text) (list_all is_blank text) t).1
+
 typed_open : (whole start text : List ℕ) (x : LiteralKind × List ℕ) → Behind whole text → (skipped : List ℕ) → skip_blanks text ≡ skipped → typed_at start text skipped ≡ Ok x
     → kind_open x.0 (ends_quoted whole x.1) x.1 ≡ true → list_all is_blank text ≡ true
 unfolding typed_at
-typed_open whole start text x front [] s e is =
-    let same = ok_is_text (Plain, text) x e in
-    let t = subst (λ (y : LiteralKind × List ℕ). kind_open y.0 (ends_quoted whole y.1) y.1 ≡ true) (sym same) is in
-    (and_parts (ends_quoted whole text) (list_all is_blank text) t).1
-typed_open whole start text x front (c ∷ more) s e is = by (nat_eq c 94) e
+typed_open whole start text x front [] s e is = plain_open whole text x e is
+typed_open whole start text x front (c ∷ more) s e is = ⊎_elim
+    (λ hat.
+    let d = datatype_gives start more x (rw hat at e) in
+    let blanks = blanks_parted text in
+    let behind_text = behind_twice whole text (skip_blanks text) front (blanks.0, blanks.1) in
+    let behind_hat : Behind (skip_blanks text) more = (c ∷ [], s) in
+    let far_behind = behind_twice whole (skip_blanks text) (62 ∷ x.1) behind_text (behind_twice (skip_blanks text) more (62 ∷ x.1) behind_hat d.0) in
+    absurd (closed x.0 x.1 d.1 (no_quote whole x.1 far_behind) is))
+    (λ hat. plain_open whole text x (rw hat at e) is)
+    (cases_Bool (nat_eq c 94))
   where
-    some : c ∷ more ≡ [] → ⊥
-    some e = absurd cc
-
-    plain : got (Plain, text) ≡ Ok x → list_all is_blank text ≡ true
-    plain e =
-        let same = ok_is_text (Plain, text) x e in
-        let t = subst (λ (y : LiteralKind × List ℕ). kind_open y.0 (ends_quoted whole y.1) y.1 ≡ true) (sym same) is in
-        (and_parts (ends_quoted whole text) (list_all is_blank text) t).1
-
     closed : (k : LiteralKind) (after : List ℕ) → ((tag : List ℕ) → k ≡ Tagged tag → ⊥) → ends_quoted whole after ≡ false → kind_open k (ends_quoted whole after) after ≡ true → ⊥
     closed Plain after no_tag no_end is = false≢true (sym (ap (λ (q : Bool). q && list_all is_blank after) no_end) ∙ is)
     closed (Typed iri) after no_tag no_end is = false≢true is
     closed (Tagged tag) after no_tag no_end is = no_tag tag refl
-
-    by : (hat : Bool) → cond hat (datatype_at start more) (Ok (Plain, text)) ≡ Ok x → list_all is_blank text ≡ true
-    by false e = plain e
-    by true e =
-        let d = datatype_gives start more x e in
-        let blanks = blanks_parted text in
-        let behind_text = behind_twice whole text (skip_blanks text) front (blanks.0, blanks.1) in
-        let behind_hat : Behind (skip_blanks text) more = (c ∷ [], s) in
-        let far_behind = behind_twice whole (skip_blanks text) (62 ∷ x.1) behind_text (behind_twice (skip_blanks text) more (62 ∷ x.1) behind_hat d.0) in
-        absurd (closed x.0 x.1 d.1 (no_quote whole x.1 far_behind) is)
 
 -- a suffix that more text may change: no datatype stands there, or a tag reaches the text's end
 suffix_breaks : (whole start : List ℕ) (longer : List ℕ → List ℕ) (text : List ℕ) (x : LiteralKind × List ℕ) → Behind whole text → suffix_at start text ≡ Ok x → kind_open x.0 (ends_quoted whole x.1) x.1 ≡ true
     → Broken (λ bytes. suffix_at (longer bytes) (text ++ bytes))
 unfolding suffix_at typed_at
 suffix_breaks whole start longer [] x front e is = (94 ∷ stop, omega arith, hat_breaks (longer (94 ∷ stop)) [] refl)
-suffix_breaks whole start longer (b ∷ rest) x front e is = by (nat_eq b 64) refl e
+suffix_breaks whole start longer (b ∷ rest) x front e is = ⊎_elim
+    (λ is_at. let t = tagged (rw is_at at e) in (45 ∷ stop, omega arith, rw is_at (rw (tag_breaks true false (b ∷ rest) (b ∷ (rest ++ (45 ∷ stop))) rest t.0 t.1) refl)))
+    (λ is_at. (94 ∷ stop, omega arith, hat_breaks (longer (94 ∷ stop)) (b ∷ rest) (typed_open whole start (b ∷ rest) x front (skip_blanks (b ∷ rest)) refl (rw is_at at e) is)))
+    (cases_Bool (nat_eq b 64))
   where
-    tagged : (x : LiteralKind × List ℕ) → (tag_at true false (b ∷ rest) rest >>= λ tag. Ok (Tagged tag.0, tag.1)) ≡ Ok x → kind_open x.0 (ends_quoted whole x.1) x.1 ≡ true → (t : List ℕ) × (tag_at true false (b ∷ rest) rest ≡ Ok (t, []))
-    tagged x e is =
+    tagged : (tag_at true false (b ∷ rest) rest >>= λ tag. Ok (Tagged tag.0, tag.1)) ≡ Ok x → (t : List ℕ) × (tag_at true false (b ∷ rest) rest ≡ Ok (t, []))
+    tagged e =
         let t = bind_ok (tag_at true false (b ∷ rest) rest) (λ tag. Ok (Tagged tag.0, tag.1)) x e in
         let same = ok_is_text (Tagged t.0.0, t.0.1) x t.2 in
         let none : nat_eq (length t.0.1) 0 ≡ true = subst (λ (y : LiteralKind × List ℕ). kind_open y.0 (ends_quoted whole y.1) y.1 ≡ true) (sym same) is in
-        (t.0.0, t.1 ∙ ap (λ (s : List ℕ). Ok (t.0.0, s)) (empty t.0.1 none))
-      where
-        empty : (s : List ℕ) → nat_eq (length s) 0 ≡ true → s ≡ []
-        empty [] e = refl
-        empty (x ∷ s) e = absurd (let no : suc (length s) ≡ 0 = eqb-true (suc (length s)) 0 e in omega (arith, no))
-
-    by : (at : Bool) → nat_eq b 64 ≡ at → cond at (tag_at true false (b ∷ rest) rest >>= λ tag. Ok (Tagged tag.0, tag.1)) (typed_at start (b ∷ rest) (skip_blanks (b ∷ rest))) ≡ Ok x
-        → Broken (λ bytes. suffix_at (longer bytes) ((b ∷ rest) ++ bytes))
-    by true at e =
-        let t = tagged x e is in
-        (45 ∷ stop, omega arith, rw at (rw (tag_breaks true false (b ∷ rest) (b ∷ (rest ++ (45 ∷ stop))) rest t.0 t.1) refl))
-    by false at e = (94 ∷ stop, omega arith, hat_breaks (longer (94 ∷ stop)) (b ∷ rest) (typed_open whole start (b ∷ rest) x front (skip_blanks (b ∷ rest)) refl e is))
+        (t.0.0, t.1 ∙ ap (λ (s : List ℕ). Ok (t.0.0, s)) (nil_from_length t.0.1 (eqb-true (length t.0.1) 0 none)))
 
 literal_breaks : (rest : List ℕ) (x : Literal × List ℕ) → literal_at (34 ∷ rest) rest ≡ Ok x → literal_open (34 ∷ rest) (term.Literal x.0) x.1 ≡ true
     → Broken (λ bytes. literal_at (34 ∷ (rest ++ bytes)) (rest ++ bytes))
@@ -248,62 +226,29 @@ literal_breaks rest x e is =
 
 open_front : (b : ℕ) (rest : List ℕ) → label_open (b ∷ rest) ≡ true → (nat_eq b 46 ≡ true) ⊎ (begins_name_char (b ∷ rest) ≡ true)
 unfolding label_open
-open_front b rest e = by (nat_eq b 46) e
-  where
-    by : (dot : Bool) → cond dot (label_open rest) (begins_name_char (b ∷ rest)) ≡ true → (dot ≡ true) ⊎ (begins_name_char (b ∷ rest) ≡ true)
-    by true e = inl refl
-    by false e = inr e
+open_front b rest e = ⊎_elim (λ dot. inl dot) (λ dot. inr (rw dot at e)) (cases_Bool (nat_eq b 46))
 
 dot_read : (b : ℕ) (rest : List ℕ) → nat_eq b 46 ≡ true → char_at (b ∷ rest) ≡ Ok (46, rest)
 dot_read b rest e = let is : b ≡ 46 = eqb-true b 46 e in ap (λ (x : ℕ). char_at (x ∷ rest)) is ∙ char_at-ascii 46 rest (omega arith)
 
 -- the steps on a character that was read, with these bytes behind the text
-module _ (b : ℕ) (rest : List ℕ) where
-  goes_by : (dot name : Bool) (k m longer size : ℕ) → k ≤ length rest → (dot ≡ true → (nat_eq b 46 ≡ true) × (k ≡ 0)) → 1 ≤ size → longer ≡ (length rest - k) + size
-      → (dot ≡ true) ⊎ (name ≡ true)
-      → cond dot (cond (nat_eq longer 0) 0 (suc k + longer)) (cond name (suc k + longer) 0) ≡ (length (b ∷ rest) - 0) + size
-  goes_by true name k m longer size le dots some is which =
-      let big : nat_eq longer 0 ≡ false = some_left longer (omega (arith, is, some)) in
-      rw big (omega (arith, is, le))
-    where
-      some_left : (n : ℕ) → 1 ≤ n → nat_eq n 0 ≡ false
-      some_left n le = grind (arith, nat_tests, le)
-  goes_by false true k m longer size le dots some is which = omega (arith, is, le)
-  goes_by false false k m longer size le dots some is which = ⊎_elim (λ e. absurd (false≢true e)) (λ e. absurd (false≢true e)) which
+goes_by : (rest : List ℕ) (dot name : Bool) (k longer size : ℕ) → k ≤ length rest → 1 ≤ size → longer ≡ (length rest - k) + size → (dot ≡ true) ⊎ (name ≡ true)
+    → cond dot (cond (nat_eq longer 0) 0 (suc k + longer)) (cond name (suc k + longer) 0) ≡ (suc (length rest) - 0) + size
+goes_by rest dot name k longer size le some is which = grind (arith, nat_tests, which)
 
-  -- the label is open behind its first character too
-  open_behind : (dot name : Bool) (k m : ℕ) → (dot ≡ true → (b ≡ 46) × (k ≡ 0)) → (dot ≡ false → name ≡ false → label_open (b ∷ rest) ≡ true → ⊥)
-      → label_open (drop (0 + cond dot (cond (nat_eq m 0) 0 (suc k + m)) (cond name (suc k + m) 0)) (b ∷ rest)) ≡ true
-      → (label_open (drop (k + m) rest) ≡ true) × ((dot ≡ true) ⊎ (name ≡ true))
-  unfolding label_open
-  open_behind false false k m dots shut e = absurd (shut refl refl e)
-  open_behind false true k m dots shut e = (ap label_open (sym (behind_char b rest k m)) ∙ e, inr refl)
-  open_behind true name k m dots shut e = (by (nat_eq m 0) refl e, inl refl)
-    where
-      by : (none : Bool) → nat_eq m 0 ≡ none → label_open (drop (0 + cond none 0 (suc k + m)) (b ∷ rest)) ≡ true → label_open (drop (k + m) rest) ≡ true
-      by false z e = ap label_open (sym (behind_char b rest k m)) ∙ e
-      by true z e =
-          let d = dots refl in
-          let b_is = d.0 in let k_is = d.1 in
-          let m_is : m ≡ 0 = eqb-true m 0 z in
-          let dot : nat_eq b 46 ≡ true = ap (λ (x : ℕ). nat_eq x 46) b_is in
-          let here : label_open rest ≡ true = subst (λ (t : Bool). cond t (label_open rest) (begins_name_char (b ∷ rest)) ≡ true) dot e in
-          let none_left : k + m ≡ 0 = omega arith in
-          ap (λ (n : ℕ). label_open (drop n rest)) none_left ∙ here
+still_open : (b : ℕ) (rest : List ℕ) (dot name : Bool) (k m : ℕ) → (dot ≡ true → (b ≡ 46) × (k ≡ 0)) → (dot ≡ false → name ≡ false → label_open (b ∷ rest) ≡ true → ⊥)
+    → label_open (drop (0 + cond dot (cond (nat_eq m 0) 0 (suc k + m)) (cond name (suc k + m) 0)) (b ∷ rest)) ≡ true
+    → (label_open (drop (k + m) rest) ≡ true) × ((dot ≡ true) ⊎ (name ≡ true))
+still_open b rest false false k m dots shut e = absurd (shut refl refl e)
+still_open b rest false true k m dots shut e = (sym (open_behind b rest false true k m dots (inr refl)) ∙ e, inr refl)
+still_open b rest true name k m dots shut e = (sym (open_behind b rest true name k m dots (inl refl)) ∙ e, inl refl)
 
 is_letter : is_name_char 97 ≡ true
 unfolding is_name_char
 is_letter = refl
 
 front_is_bad : (b : ℕ) (bs : List ℕ) → begins_name_char (b ∷ bs) ≡ true → (decoded (b ∷ bs)).char ≡ None
-front_is_bad b bs e =
-    let p = and_parts (is_front (b ∷ bs)) (not (no_name_begins (length (b ∷ bs)) b (slice_index (b ∷ bs) 1))) e in
-    let f = and_parts (leads b) (is_none (decoded (b ∷ bs)).char && nat_eq (decoded (b ∷ bs)).size (length (b ∷ bs))) p.0 in
-    none_of (decoded (b ∷ bs)).char (and_parts (is_none (decoded (b ∷ bs)).char) (nat_eq (decoded (b ∷ bs)).size (length (b ∷ bs))) f.1).0
-  where
-    none_of : (o : Option ℕ) → is_none o ≡ true → o ≡ None
-    none_of (Some c) e = absurd (false≢true e)
-    none_of None e = refl
+front_is_bad b bs e = (front_parts b bs (and_parts (is_front (b ∷ bs)) _ e).0).2
 
 no_stop : (b : ℕ) (rest : List ℕ) (c : ℕ) (after : List ℕ) → char_at (b ∷ rest) ≡ Ok (c, after) → nat_eq c 46 ≡ false → is_name_char c ≡ false → label_open (b ∷ rest) ≡ true → ⊥
 no_stop b rest c after is no_dot no_name e = ⊎_elim
@@ -335,19 +280,19 @@ name_goes_on zero (b ∷ rest) le e = by (λ k. name_goes_on k rest) (decoded (b
         let here : label_open (b ∷ rest) ≡ true = ap (λ (n : ℕ). label_open (drop n (b ∷ rest))) zero_is ∙ e in
         ⊎_elim
         (λ dot. absurd (ok_no_fault (46, rest) (NotUtf8, b ∷ rest) (sym (dot_read b rest dot) ∙ bad_char b rest d)))
-        (λ begins. finish (completed b rest begins))
+        (λ begins. finish begins (completed b rest (and_parts (is_front (b ∷ rest)) _ begins).0))
         (open_front b rest here)
       where
-        finish : ((bytes : List ℕ) × Completes (b ∷ rest) bytes × (1 ≤ length bytes)) → GoesOn zero (b ∷ rest)
-        finish c =
+        finish : begins_name_char (b ∷ rest) ≡ true → Completed (b ∷ rest) → GoesOn zero (b ∷ rest)
+        finish begins c =
             let size : ℕ = length (b ∷ rest) + length c.0 in
             let whole : (b ∷ rest) ++ (c.0 ++ stop) ≡ ((b ∷ rest) ++ c.0) ++ stop = sym (append_assoc (b ∷ rest) c.0 stop) in
             let sized : size ≡ length ((b ∷ rest) ++ c.0) = sym (length-append (b ∷ rest) c.0) in
             let behind : drop size ((b ∷ rest) ++ (c.0 ++ stop)) ≡ stop = ap (drop size) whole ∙ drop_at ((b ∷ rest) ++ c.0) stop size (sym sized) in
             let l = length-append (b ∷ rest) (c.0 ++ stop) in let m = length-append c.0 stop in (
               c.0,
-              c.2,
-              name-char ((b ∷ rest) ++ (c.0 ++ stop)) c.1.0 size (omega arith) (omega (arith, l, m)) (c.1.1 ∙ ap (λ (t : List ℕ). Ok (c.1.0, t)) (sym behind)) c.1.2
+              c.3,
+              name-char ((b ∷ rest) ++ (c.0 ++ stop)) c.1 size (omega arith) (omega (arith, l, m)) (c.2 ∙ ap (λ (t : List ℕ). Ok (c.1, t)) (sym behind)) (c.4 begins).0
                   ∙ ap (λ (n : ℕ). size + n) (ap (name_len 0) behind ∙ name-none stop (NotUtf8, stop) no_char) ∙ omega arith,
             )
     by others (Some c) d e = spelled c (drop (decoded (b ∷ rest)).size (b ∷ rest)) (good_char b rest c d)
@@ -357,7 +302,7 @@ name_goes_on zero (b ∷ rest) le e = by (λ k. name_goes_on k rest) (decoded (b
             let k : ℕ = length rest - length after in
             let one : name_len 0 (b ∷ rest) ≡ name_step (Ok (c, after)) (length rest) (λ k. name_len k rest) = ap (λ (r : Read ℕ). name_step r (length rest) (λ k. name_len k rest)) is in
             let dots : nat_eq c 46 ≡ true → (b ≡ 46) × (k ≡ 0) = λ dot. let f = dot_front b rest c after is dot in let same = ap length f.1 in (f.0, omega (arith, same)) in
-            let o = open_behind b rest (nat_eq c 46) (is_name_char c) k (name_len k rest) dots (no_stop b rest c after is) (ap (λ (n : ℕ). label_open (drop (0 + n) (b ∷ rest))) (sym one) ∙ e) in
+            let o = still_open b rest (nat_eq c 46) (is_name_char c) k (name_len k rest) dots (no_stop b rest c after is) (ap (λ (n : ℕ). label_open (drop (0 + n) (b ∷ rest))) (sym one) ∙ e) in
             let g = others k (omega arith) o.0 in
             let more : List ℕ = g.0 ++ stop in
             let longer : char_at ((b ∷ rest) ++ more) ≡ Ok (c, after ++ more) = ok_char (b ∷ rest) c after more is in
@@ -366,7 +311,7 @@ name_goes_on zero (b ∷ rest) le e = by (λ k. name_goes_on k rest) (decoded (b
               g.1,
               two
                   ∙ ap (λ (j : ℕ). cond (nat_eq c 46) (cond (nat_eq (name_len j (rest ++ more)) 0) 0 (suc j + name_len j (rest ++ more))) (cond (is_name_char c) (suc j + name_len j (rest ++ more)) 0)) (rooms_same rest after more)
-                  ∙ goes_by b rest (nat_eq c 46) (is_name_char c) k (name_len k rest) (name_len k (rest ++ more)) (length g.0) (omega arith) (λ dot. let f = dots dot in (ap (λ (x : ℕ). nat_eq x 46) f.0, f.1)) g.1 g.2 o.1,
+                  ∙ goes_by rest (nat_eq c 46) (is_name_char c) k (name_len k (rest ++ more)) (length g.0) (omega arith) g.1 g.2 o.1,
             )
 
 -- with these bytes behind it another label is read, up to a byte with which no character begins
@@ -388,12 +333,9 @@ name_breaks start longer rest x e is =
     by first c true b e =
         let same = ok_is_text (take (label_size rest first) rest, drop (label_size rest first) rest) x e in
         let s = char_spelled rest first.0 first.1 c in
-        let back = drop_back rest (encode_utf8 first.0) first.1 s.1 in
-        let twice : drop (label_size rest first) rest ≡ drop (name_len 0 first.1) first.1 =
-        sym (drop-drop (name_len 0 first.1) (length rest - length first.1) rest) ∙ ap (drop (name_len 0 first.1)) back in
         let none : 0 + name_len 0 first.1 ≡ name_len 0 first.1 = omega arith in
         let open_there : label_open (drop (0 + name_len 0 first.1) first.1) ≡ true =
-        ap (λ (n : ℕ). label_open (drop n first.1)) none ∙ ap label_open (sym twice) ∙ subst (λ (y : List ℕ × List ℕ). label_open y.1 ≡ true) (sym same) is in
+        ap (λ (n : ℕ). label_open (drop n first.1)) none ∙ ap label_open (sym (label_rest rest first c)) ∙ subst (λ (y : List ℕ × List ℕ). label_open y.1 ≡ true) (sym same) is in
         let g = name_goes_on 0 first.1 (omega arith) open_there in
         let bytes : List ℕ = g.0 ++ stop in
         let again : char_at (rest ++ bytes) ≡ Ok (first.0, first.1 ++ bytes) = ok_char rest first.0 first.1 bytes c in
@@ -415,23 +357,20 @@ name_breaks start longer rest x e is =
 label_breaks : (start : List ℕ) (longer : List ℕ → List ℕ) (rest : List ℕ) (x : List ℕ × List ℕ) → label_at start rest ≡ Ok x → label_open x.1 ≡ true → Longer (λ bytes. label_at (longer bytes) (rest ++ bytes))
 unfolding label_at
 label_breaks start longer rest x e is =
-    let colon = bind_ok (char_at rest) _ x e in
-    by colon.0 colon.1 (nat_eq colon.0.0 58) refl colon.2
-  where
-    by : (colon : ℕ × List ℕ) → char_at rest ≡ Ok colon → (b : Bool) → nat_eq colon.0 58 ≡ b → cond b (name_at start colon.1) (Err (BadLabel, start)) ≡ Ok x
-        → Longer (λ bytes. label_at (longer bytes) (rest ++ bytes))
-    by colon c false b e = absurd (ok_no_fault x (BadLabel, start) (sym e))
-    by colon c true b e =
-        let n = name_breaks start longer colon.1 x e is in
-        let again : char_at (rest ++ n.0) ≡ Ok (colon.0, colon.1 ++ n.0) = ok_char rest colon.0 colon.1 n.0 c in
-        (n.0, n.1, (n.2.0, rw (again, b) n.2.1))
+    let colon = bind_ok (char_at rest) _ x e in ⊎_elim
+    (λ there.
+    let n = name_breaks start longer colon.0.1 x (rw there at colon.2) is in
+    let again : char_at (rest ++ n.0) ≡ Ok (colon.0.0, colon.0.1 ++ n.0) = ok_char rest colon.0.0 colon.0.1 n.0 colon.1 in
+    (n.0, n.1, (n.2.0, rw (again, there) n.2.1)))
+    (λ there. absurd (ok_no_fault x (BadLabel, start) (sym (rw there at colon.2))))
+    (cases_Bool (nat_eq colon.0.0 58))
 
 -- ---- terms
 
 -- what more text does to a literal or a label that is open
-pub data TermBreaks (t : Term) (longer : List ℕ → Read Term) : Type 0 where
-  broken : (bytes : List ℕ) → 2 ≤ length bytes → longer bytes ≡ stopped → TermBreaks t longer
-  gone_on : (bytes : List ℕ) → 2 ≤ length bytes → (label : List ℕ) → longer bytes ≡ Ok (term.Blank label, stop) → IsBlank t → TermBreaks t longer
+pub data TermBreaks {F : Type 0} (stopped : F) (t : Term) (longer : List ℕ → Result (Term × List ℕ) F) : Type 0 where
+  broken : (bytes : List ℕ) → 2 ≤ length bytes → longer bytes ≡ Err stopped → TermBreaks stopped t longer
+  gone_on : (bytes : List ℕ) → 2 ≤ length bytes → (label : List ℕ) → longer bytes ≡ Ok (term.Blank label, stop) → IsBlank t → TermBreaks stopped t longer
 
 abbrev pub IsOpen : List ℕ → Term × List ℕ → Type 0
 IsOpen start x = (literal_open start x.0 x.1 ≡ true) ⊎ (blank_open start x.0 x.1 ≡ true)
@@ -449,7 +388,7 @@ blank_term r = r >>= λ label. Ok (term.Blank label.0, label.1)
 abbrev literal_term : Read Literal → Read Term
 literal_term r = r >>= λ literal. Ok (term.Literal literal.0, literal.1)
 
-pub term_breaks : (rest : List ℕ) (x : Term × List ℕ) → term_at rest ≡ Ok x → IsOpen rest x → TermBreaks x.0 (λ bytes. term_at (rest ++ bytes))
+pub term_breaks : (rest : List ℕ) (x : Term × List ℕ) → term_at rest ≡ Ok x → IsOpen rest x → TermBreaks (NotUtf8, stop) x.0 (λ bytes. term_at (rest ++ bytes))
 unfolding term_at char_at
 term_breaks [] x e is = absurd (ok_no_fault x (Truncated, []) (sym e))
 term_breaks (b ∷ bs) x e is =
@@ -461,7 +400,7 @@ term_breaks (b ∷ bs) x e is =
 
     by : (c : ℕ × List ℕ) → char_at (b ∷ bs) ≡ Ok c → (less line quote : Bool) → nat_eq c.0 60 ≡ less → nat_eq c.0 95 ≡ line → nat_eq c.0 34 ≡ quote
         → cond less (iri_term (iri_at (b ∷ bs) c.1)) (cond line (blank_term (label_at (b ∷ bs) c.1)) (cond quote (literal_term (literal_at (b ∷ bs) c.1)) (Err (BadToken, b ∷ bs)))) ≡ Ok x
-        → TermBreaks x.0 (λ bytes. term_at ((b ∷ bs) ++ bytes))
+        → TermBreaks (NotUtf8, stop) x.0 (λ bytes. term_at ((b ∷ bs) ++ bytes))
     by c read true line quote l n q e =
         let i = bind_ok (iri_at (b ∷ bs) c.1) (λ iri. Ok (term.Iri iri.0, iri.1)) x e in
         absurd (no_iri (b ∷ bs) i.0.0 i.0.1 (subst (IsOpen (b ∷ bs)) (sym (ok_is_text (term.Iri i.0.0, i.0.1) x i.2)) is))

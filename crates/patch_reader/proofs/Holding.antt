@@ -1,5 +1,5 @@
 -- What a window holds of its text, as the text goes on and its rows are read.
-use Rattle.std.proofs.Common.{◌≡◌, ℕ, ◌+◌, ◌-◌, ◌^◌, ◌<◌, ◌≤◌, false, List, [], ◌∷◌, ◌++◌, length, take, drop, Option, Some, Result, Ok, refl, sym, ap, subst, ◌∙◌, arith}
+use Rattle.std.proofs.Common.{◌≡◌, ℕ, ◌+◌, ◌-◌, ◌^◌, ◌<◌, ◌≤◌, false, List, [], ◌∷◌, ◌++◌, length, take, drop, Option, Some, None, Result, Ok, refl, sym, ap, subst, ◌∙◌, arith}
 use Rattle.std.specs.Prelude.{count_by, ◌==◌}
 use Rattle.std.proofs.lemmas.List.{length-append, length-drop, drop-append-le, drop-drop, take-append-le, take_rest}
 use Rattle.patch_rows.specs.declared.cut.TextEnd.{TextEnd}
@@ -12,12 +12,16 @@ use Rattle.patch_reader.specs.declared.front.Region.{Region}
 use Rattle.patch_reader.specs.declared.front.Region.TheVariants as regions
 use Rattle.patch_reader.specs.declared.placed.PlacedRow.{PlacedRow}
 use Rattle.patch_reader.specs.declared.progress.Progress.{Progress}
-use Rattle.patch_reader.specs.Held.{IsStuck, IsRest, HasAll, PassesGap, StaysThere, Holds}
+use Rattle.patch_reader.specs.Held.{row_place, IsStuck, IsRest, HasAll, PassesGap, StaysThere, Holds}
 use Rattle.patch_reader.specs.Places.{feeds_before}
 use Rattle.patch_reader.specs.Rows.{Gap, GivesNext, Keeps, RowsStand}
 use Rattle.patch_reader.specs.Window.{Window, RowBegins}
 use Rattle.patch_reader.proofs.LineFeeds.{feeds_more}
 use Rattle.patch_reader.proofs.WindowSteps.{rest_more, keeps_behind, gives_moved, stand_now}
+
+-- where none begins, or the row was read, there is no row that wasn't
+pub was_read : (at : ℕ) (region : Region) → row_place at region ≡ None → region ≡ regions.Row None → ⊥
+was_read at region none is = let some : Some at ≡ None = sym (ap (row_place at) is) ∙ none in absurd cc
 
 -- the rest of what is kept
 pub rest_is : (view kept : List ℕ) (at : ℕ) → view ≡ kept → take (length view - at) (drop at view) ≡ drop at kept

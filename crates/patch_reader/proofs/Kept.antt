@@ -33,58 +33,41 @@ fault_not_cut from f d cut =
 
 -- ---- places
 
-module _ (text kept : List ℕ) (base : ℕ) (k : Keeps text base kept) where
+-- a text that is kept from a place on: what stands in what is kept stands in the text
+module _ (text kept : List ℕ) (base : ℕ) (same : drop base text ≡ kept) (within : base ≤ length text) where
   size : length kept ≡ length text - base
-  size = sym (ap length k.0) ∙ length-drop base text
-
-  pub far : (at : ℕ) → at ≤ length kept → further_place base at ≡ base + at
-  far at le =
-      let s = size in let within = k.1 in let fits = k.2 in
-      let low : base + at ≤ 2 ^ 64 - 1 = omega (arith, s, within, fits, le) in grind (arith, low)
+  size = sym (ap length same) ∙ length-drop base text
 
   here : (at : ℕ) → drop (base + at) text ≡ drop at kept
-  here at = sym (drop-drop at base text) ∙ ap (drop at) k.0
+  here at = sym (drop-drop at base text) ∙ ap (drop at) same
 
-  behind : (at : ℕ) (more : List ℕ) → at ≤ length kept → drop (base + at) (text ++ more) ≡ drop at kept ++ more
-  behind at more le =
-      sym (drop-drop at base (text ++ more)) ∙ ap (drop at) (drop-append-le base text more k.1 ∙ ap (λ (t : List ℕ). t ++ more) k.0) ∙ drop-append-le at kept more le
+  gap_there : (at start : ℕ) → Gap kept at start → Gap text (base + at) (base + start)
+  gap_there at start gap = (rw (here at, here start) gap.0, omega (arith, gap.1), omega (arith, size, within, gap.2))
 
-  inside : (at : ℕ) (more : List ℕ) → at ≤ length kept → base + at ≤ length (text ++ more)
-  inside at more le = let s = size in let within = k.1 in omega (arith, s, within, le, length-append text more)
-
-  before : (at : ℕ) (more : List ℕ) → at < length kept → base + at < length (text ++ more)
-  before at more lt = let s = size in let within = k.1 in omega (arith, s, within, lt, length-append text more)
-
-  gap_open : (at start : ℕ) → at ≤ start → start ≤ length kept → ((more : List ℕ) → Space (drop at kept ++ more) (drop start kept ++ more)) → (more : List ℕ) → Gap (text ++ more) (base + at) (base + start)
-  gap_open at start low high space = λ more. (
-    subst (λ (t : List ℕ). Space t (drop (base + start) (text ++ more))) (sym (behind at more (omega (arith, low, high))))
-        (subst (λ (t : List ℕ). Space (drop at kept ++ more) t) (sym (behind start more high)) (space more)),
-    omega (arith, low),
-    inside start more high,
-  )
-
-  row_open : (start end : ℕ) (r : Row) → start < end → end ≤ length kept → ShortRowDecided (drop start kept) r (drop end kept) → (more : List ℕ) → IsRowAt (text ++ more) (base + start) r (base + end)
+  row_there : (start end : ℕ) (r : Row) → IsRowAt kept start r end → IsRowAt text (base + start) r (base + end)
   unfolding IsRowAt
-  row_open start end r lt high d = λ more. (
-    subst (λ (t : List ℕ). ShortRowAt t r (drop (base + end) (text ++ more))) (sym (behind start more (omega (arith, lt, high))))
-        (subst (λ (t : List ℕ). ShortRowAt (drop start kept ++ more) r t) (sym (behind end more high)) (d more)),
-    omega (arith, lt),
-    inside end more high,
-  )
+  row_there start end r is = (rw (here start, here end) is.0, omega (arith, is.1), omega (arith, size, within, is.2))
 
-  fault_open : (start place : ℕ) (kind : RowKind) → start < length kept → place ≤ length kept → FirstFaultDecided (drop start kept) (kind, drop place kept) → (more : List ℕ)
-      → NoRowAt (text ++ more) (base + start) kind (base + place)
-  fault_open start place kind lt high d = λ more. (
-    before start more lt,
-    subst (λ (t : List ℕ). FirstFault t (kind, drop (base + place) (text ++ more))) (sym (behind start more (omega (arith, lt))))
-        (subst (λ (t : List ℕ). FirstFault (drop start kept ++ more) (kind, t)) (sym (behind place more high)) (d more)),
-    inside place more high,
-  )
+  none_there : (start place : ℕ) (kind : RowKind) → NoRowAt kept start kind place → NoRowAt text (base + start) kind (base + place)
+  none_there start place kind bad = (omega (arith, size, within, bad.0), rw (here start, here place) bad.1, omega (arith, size, within, bad.2))
+
+module _ (text kept : List ℕ) (base : ℕ) (k : Keeps text base kept) where
+  pub far : (at : ℕ) → at ≤ length kept → further_place base at ≡ base + at
+  far at le =
+      let s = size text kept base k.0 k.1 in let within = k.1 in let fits = k.2 in
+      let low : base + at ≤ 2 ^ 64 - 1 = omega (arith, s, within, fits, le) in grind (arith, low)
 
   placed_is : (r : Row) (start end : ℕ) → start ≤ length kept → end ≤ length kept → placed_row base r start end ≡ record { row = r; at = base + start; end = base + end }
   placed_is r start end low high =
       let make = λ (a b : ℕ). let p : PlacedRow = record { row = r; at = a; end = b } in p in
       ap (λ (a : ℕ). make a (further_place base end)) (far start low) ∙ ap (make (base + start)) (far end high)
+
+  -- so it is with more text behind
+  kept_more : (more : List ℕ) → drop base (text ++ more) ≡ kept ++ more
+  kept_more more = drop-append-le base text more k.1 ∙ ap (λ (t : List ℕ). t ++ more) k.0
+
+  longer : (more : List ℕ) → base ≤ length (text ++ more)
+  longer more = omega (arith, k.1, length-append text more)
 
   -- ---- where the text may go on
 
@@ -92,17 +75,31 @@ module _ (text kept : List ℕ) (base : ℕ) (k : Keeps text base kept) where
     skipped : skip_space (drop at kept) ≡ drop start kept
     skipped = skips (drop at kept) (drop start kept) space
 
-    stays : (is_cut (drop start kept) ≡ true → ⊥) → (more : List ℕ) → Space (drop at kept ++ more) (drop start kept ++ more)
-    stays some = subst (λ (t : List ℕ). (more : List ℕ) → Space (drop at kept ++ more) (t ++ more)) skipped
-        (space_there (drop at kept) (λ cut. some (ap is_cut (sym skipped) ∙ cut)))
+    front : (place : ℕ) (more : List ℕ) → place ≤ length kept → drop place (kept ++ more) ≡ drop place kept ++ more
+    front place more le = drop-append-le place kept more le
+
+    gap_stays : (is_cut (drop start kept) ≡ true → ⊥) → (more : List ℕ) → Gap (text ++ more) (base + at) (base + start)
+    gap_stays some more = gap_there (text ++ more) (kept ++ more) base (kept_more more) (longer more) at start
+        (rw (front at more (omega (arith, low, high)), front start more high) (rw skipped at (space_there (drop at kept) (λ cut. some (ap is_cut (sym skipped) ∙ cut)) more)), low, omega (arith, high, length-append kept more))
 
     row_next : (end : ℕ) (r : Row) → start < end → end ≤ length kept → ShortRowDecided (drop start kept) r (drop end kept) → RowsDecided text (base + at) (placed_row base r start end ∷ []) (further_place base end)
-    row_next end r lt le d = subst (λ (p : PlacedRow). RowsDecided text (base + at) (p ∷ []) p.end) (sym (placed_is r start end high le))
-        (λ more. (gap_open at start low high (stays (row_not_cut (drop start kept) r (drop end kept) d)) more, row_open start end r lt le d more, refl))
+    unfolding IsRowAt
+    row_next end r lt le d = subst (λ (p : PlacedRow). RowsDecided text (base + at) (p ∷ []) p.end) (sym (placed_is r start end high le)) (λ more. (
+      gap_stays (row_not_cut (drop start kept) r (drop end kept) d) more,
+      row_there (text ++ more) (kept ++ more) base (kept_more more) (longer more) start end r
+          (rw (front start more high, front end more le) (d more), lt, omega (arith, le, length-append kept more)),
+      refl,
+    ))
 
     fault_next : (place : ℕ) (kind : RowKind) → start < length kept → place ≤ length kept → FirstFaultDecided (drop start kept) (kind, drop place kept) → NextFault text (base + at) kind (further_place base place)
-    fault_next place kind lt le d = subst (λ (n : ℕ). NextFault text (base + at) kind n) (sym (far place le))
-        (base + start, λ more. (gap_open at start low high (stays (fault_not_cut (drop start kept) (kind, drop place kept) d)) more, fault_open start place kind lt le d more))
+    fault_next place kind lt le d = subst (λ (n : ℕ). NextFault text (base + at) kind n) (sym (far place le)) (
+      base + start,
+      λ more. (
+        gap_stays (fault_not_cut (drop start kept) (kind, drop place kept) d) more,
+        none_there (text ++ more) (kept ++ more) base (kept_more more) (longer more) start place kind
+            (omega (arith, lt, length-append kept more), rw (front start more high, front place more le) (d more), omega (arith, le, length-append kept more)),
+      ),
+    )
 
     -- what is decided of the whole text is decided of what is kept
     begins_here : (to : ℕ) → ((more : List ℕ) → Gap (text ++ more) (base + at) to) → (drop to text ≡ drop start kept) × (to ≤ length text)
@@ -110,7 +107,7 @@ module _ (text kept : List ℕ) (base : ℕ) (k : Keeps text base kept) where
         let g = gap [] in
         let within : to ≤ length text = omega (arith, g.2, length-append text []) in
         let is = skips (drop at kept ++ []) (drop to text ++ []) (
-        subst (λ (t : List ℕ). Space t (drop to text ++ [])) (behind at [] (omega (arith, low, high)))
+        subst (λ (t : List ℕ). Space t (drop to text ++ [])) (here (text ++ []) (kept ++ []) base (kept_more []) (longer []) at ∙ front at [] (omega (arith, low, high)))
         (subst (λ (t : List ℕ). Space (drop (base + at) (text ++ [])) t) (drop-append-le to text [] within) g.0)) in
         (sym (append-nil (drop to text)) ∙ sym is ∙ ap skip_space (append-nil (drop at kept)) ∙ skipped, within)
 
@@ -139,41 +136,18 @@ module _ (text kept : List ℕ) (base : ℕ) (k : Keeps text base kept) where
     -- ---- where it is whole
 
     gap_known : Gap text (base + at) (base + start)
-    gap_known = let s = size in let within = k.1 in (
-      subst (λ (t : List ℕ). Space t (drop (base + start) text)) (sym (here at)) (subst (λ (t : List ℕ). Space (drop at kept) t) (sym (here start)) space),
-      omega (arith, low),
-      omega (arith, s, within, high),
-    )
+    gap_known = gap_there text kept base k.0 k.1 at start (space, low, high)
 
     row_known : (end : ℕ) (r : Row) → IsRowAt kept start r end → RowsUpTo text (base + at) (placed_row base r start end ∷ []) (further_place base end)
     unfolding IsRowAt
-    row_known end r is =
-        let s = size in let within = k.1 in let lt = is.1 in let le = is.2 in
-        subst (λ (p : PlacedRow). RowsUpTo text (base + at) (p ∷ []) p.end) (sym (placed_is r start end high le)) (
-          gap_known,
-          (
-            subst (λ (t : List ℕ). ShortRowAt t r (drop (base + end) text)) (sym (here start)) (subst (λ (t : List ℕ). ShortRowAt (drop start kept) r t) (sym (here end)) is.0),
-            omega (arith, lt),
-            omega (arith, s, within, le),
-          ),
-          refl,
-        )
+    row_known end r is = subst (λ (p : PlacedRow). RowsUpTo text (base + at) (p ∷ []) p.end) (sym (placed_is r start end high is.2)) (gap_known, row_there text kept base k.0 k.1 start end r is, refl)
 
-    fault_known : (place : ℕ) (kind : RowKind) → start < length kept → place ≤ length kept → FirstFault (drop start kept) (kind, drop place kept) → FaultBehind text (base + at) kind (further_place base place)
-    fault_known place kind lt le bad =
-        let s = size in let within = k.1 in
-        subst (λ (n : ℕ). FaultBehind text (base + at) kind n) (sym (far place le)) (
-          base + start,
-          gap_known,
-          (
-            omega (arith, s, within, lt),
-            subst (λ (t : List ℕ). FirstFault t (kind, drop (base + place) text)) (sym (here start)) (subst (λ (t : List ℕ). FirstFault (drop start kept) (kind, t)) (sym (here place)) bad),
-            omega (arith, s, within, le),
-          ),
-        )
+    fault_known : (place : ℕ) (kind : RowKind) → NoRowAt kept start kind place → FaultBehind text (base + at) kind (further_place base place)
+    fault_known place kind bad = subst (λ (n : ℕ). FaultBehind text (base + at) kind n) (sym (far place bad.2)) (base + start, gap_known, none_there text kept base k.0 k.1 start place kind bad)
 
     none_known : start ≡ length kept → Gap text (base + at) (length text)
-    none_known all = let s = size in let within = k.1 in
+    none_known all =
+        let s = size text kept base k.0 k.1 in let within = k.1 in
         let last : base + start ≡ length text = omega (arith, s, within, all) in
         subst (λ (n : ℕ). Gap text (base + at) n) last gap_known
 
@@ -192,7 +166,7 @@ next_given ends.Open text kept base at start (Err (faults.At place kind)) low hi
 next_given ends.Open text kept base at start (Err faults.OutOfMemory) low high space d k = tt
 next_given ends.Known text kept base at start (Ok (Some x)) low high space d k = row_known text kept base k at start low high space x.1 x.0 d
 next_given ends.Known text kept base at start (Ok None) low high space d k = none_known text kept base k at start low high space d
-next_given ends.Known text kept base at start (Err (faults.At place kind)) low high space d k = fault_known text kept base k at start low high space place kind d.1 d.2 d.0
+next_given ends.Known text kept base at start (Err (faults.At place kind)) low high space d k = fault_known text kept base k at start low high space place kind (d.1, d.0, d.2)
 next_given ends.Known text kept base at start (Err faults.OutOfMemory) low high space d k = tt
 
 pub whole_fault : (text : List ℕ) (at : ℕ) (fault : RowAnswer) → at ≤ length text → (at ≡ length text → ⊥) → FailsBy (FirstFault (drop at text)) text fault → Reads text at (Err fault)

@@ -15,6 +15,7 @@ pub mod LineFeeds
 pub mod Holding
 pub mod Adding
 pub mod WindowSteps
+pub mod Decided
 pub mod InsideSteps
 pub mod RowParts
 pub mod Begun
@@ -22,3 +23,4 @@ pub mod ProgressSteps
 pub mod Answered
 pub mod RowEnds
 pub mod ReadOn
+mod Walks

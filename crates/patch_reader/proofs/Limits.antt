@@ -1,8 +1,8 @@
 -- Rows within their limit: what is read of them is what is decided, and in a whole text what stands there.
-use Rattle.std.proofs.Common.{◌≡◌, ℕ, ◌+◌, ◌-◌, ◌<◌, ◌≤◌, Bool, true, false, cond, List, [], ◌∷◌, ◌++◌, length, take, drop, Ok, Err, nat_eq, nat_lt, refl, sym, ap, subst, ◌∙◌, ◌⊎◌, inl, inr, ⊎_elim, arith, append_assoc, append-nil, eqb-true, eq-eqb}
-use Rattle.std.proofs.lemmas.Bool.{false≢true, cases_lt}
+use Rattle.std.proofs.Common.{◌≡◌, ℕ, ◌+◌, ◌-◌, ◌<◌, ◌≤◌, true, false, List, [], ◌++◌, length, take, drop, Ok, Err, nat_eq, nat_lt, refl, sym, ap, subst, ◌∙◌, ◌⊎◌, inl, inr, ⊎_elim, arith, append_assoc, append-nil, eqb-true, eq-eqb}
+use Rattle.std.proofs.lemmas.Bool.{false≢true, cases_lt, cond_both}
 use Rattle.std.proofs.lemmas.Bool.Decides.{nat_tests}
-use Rattle.std.proofs.lemmas.List.{length-append, length-drop, length-take-le, take-append-le, take-append-drop, drop-append-le}
+use Rattle.std.proofs.lemmas.List.{nil_from_length, length-append, length-drop, take-append-le, take-append-drop, drop-append-le}
 use Rattle.std.proofs.Math.Seq.{take-append-add, drop-append-add}
 use Rattle.patch_rows.specs.declared.fault.RowKind.TheVariants.{TooLong}
 use Rattle.patch_rows.specs.declared.row.Row.{Row}
@@ -15,7 +15,7 @@ use Rattle.patch_rows.proofs.WholeRow.{exact_row}
 use Rattle.patch_rows.specs.Cut.{ends_row}
 use Rattle.patch_reader.specs.Decided.{ShortRowDecided, FirstFaultDecided, MoreDecides}
 use Rattle.patch_reader.specs.Limit.{of_front, front_row_at, limited_row_at}
-use Rattle.patch_reader.proofs.RowStays.{row_decided, fault_decided}
+use Rattle.patch_reader.proofs.Opens.{row_decided, fault_decided}
 use Rattle.patch_reader.proofs.Settled.{undecided, only_row, only_fault}
 use Rattle.patch_reader.proofs.RowShapes.{never_too_long}
 
@@ -53,16 +53,24 @@ front_whole : (text : List ℕ) → row_front text ++ drop (row_limit + 1) text 
 unfolding row_front
 front_whole text = take-append-drop (row_limit + 1) text
 
-front_length : (text : List ℕ) → row_limit < length text → length (row_front text) ≡ row_limit + 1
-unfolding row_front
-front_length text lt = length-take-le (row_limit + 1) text (omega (arith, lt))
-
 -- the front, its tail and more
 around : (text more : List ℕ) → row_front text ++ (drop (row_limit + 1) text ++ more) ≡ text ++ more
 around text more = sym (append_assoc (row_front text) (drop (row_limit + 1) text) more) ∙ ap (λ (t : List ℕ). t ++ more) (front_whole text)
 
 longer : (text more : List ℕ) → row_limit < length text → row_limit < length (text ++ more)
 longer text more lt = omega (arith, lt, length-append text more)
+
+-- by what is read of the front: a row up to its end, or one that ends within it; a fault of its end, or another one
+module _ (text : List ℕ) (P : Read Row → Type 0) (full : (x : Row × List ℕ) → live_row (row_front text) ≡ Ok x → length x.1 ≡ 0 → P (Err (TooLong, text)))
+    (within : (x : Row × List ℕ) → live_row (row_front text) ≡ Ok x → (length x.1 ≡ 0 → ⊥) → P (Ok (x.0, x.1 ++ drop (row_limit + 1) text)))
+    (cut : (f : Fault) → live_row (row_front text) ≡ Err f → ends_row f.0 f.1 ≡ true → P (Err (TooLong, text)))
+    (bad : (f : Fault) → live_row (row_front text) ≡ Err f → ends_row f.0 f.1 ≡ false → P (Err (f.0, f.1 ++ drop (row_limit + 1) text))) where
+  by_reading : (r : Read Row) → live_row (row_front text) ≡ r → P (of_front text (drop (row_limit + 1) text) r)
+  by_reading (Ok x) e = cond_both (nat_eq (length x.1) 0) _ _ P (λ t. full x e (eqb-true (length x.1) 0 t)) (λ t. within x e (λ is. false≢true (sym t ∙ eq-eqb (length x.1) 0 is)))
+  by_reading (Err f) e = cond_both (ends_row f.0 f.1) _ _ P (cut f e) (bad f e)
+
+  pub by_front : P (front_row_at text)
+  by_front = by_reading (live_row (row_front text)) refl
 
 -- ---- what is decided
 
@@ -73,7 +81,7 @@ short_row text r after le e = λ more.
     let settled : IsSettled (text ++ more) r = (after ++ tail, subst (λ (t : List ℕ). RowDecided t r (after ++ tail)) (sym (front_of_short text more le)) (row_longer text r after tail d)) in
     (d more, omega (arith, le, length-append text more, length-append after more), λ long. settled)
 
-pub front_row : (text : List ℕ) (r : Row) (rest : List ℕ) → row_limit < length text → live_row (row_front text) ≡ Ok (r, rest) → (length rest ≡ 0 → ⊥)
+front_row : (text : List ℕ) (r : Row) (rest : List ℕ) → row_limit < length text → live_row (row_front text) ≡ Ok (r, rest) → (length rest ≡ 0 → ⊥)
     → ShortRowDecided text r (rest ++ drop (row_limit + 1) text)
 front_row text r rest lt e some = λ more.
     let d = row_decided (row_front text) r rest e in
@@ -104,7 +112,7 @@ short_fault text f le e o = λ more. by more (cases_lt row_limit (length (text +
         FirstFault.front (f.0, f.1 ++ tail) lt bad (ap (λ (t : List ℕ). (f.0, t)) whole)
     by more (inr le2) = FirstFault.short le2 (d more)
 
-pub front_fault : (text : List ℕ) (f : Fault) → row_limit < length text → live_row (row_front text) ≡ Err f → ends_row f.0 f.1 ≡ false
+front_fault : (text : List ℕ) (f : Fault) → row_limit < length text → live_row (row_front text) ≡ Err f → ends_row f.0 f.1 ≡ false
     → FirstFaultDecided text (f.0, f.1 ++ drop (row_limit + 1) text)
 front_fault text f lt e o = λ more.
     let d = fault_decided (row_front text) f e o in
@@ -116,29 +124,29 @@ front_fault text f lt e o = λ more.
 abbrev IsLong : List ℕ → Type 0
 IsLong front = ((r : Row) (rest : List ℕ) → RowDecided front r rest → rest ≡ []) × ((g : Fault) → FaultDecided front g → ⊥)
 
-full : (rest : List ℕ) → length rest ≡ 0 → rest ≡ []
-full [] e = refl
-full (b ∷ rest) e = absurd (omega (arith, e))
-
 to_its_end : (front : List ℕ) (r : Row) (rest : List ℕ) → live_row front ≡ Ok (r, rest) → length rest ≡ 0 → IsLong front
 to_its_end front r rest e none = (
-  (λ s other d. let same = ok_is (s, other) (r, rest) (sym (only_row front s other d) ∙ e) in ap (λ (x : Row × List ℕ). x.1) same ∙ full rest none),
+  (λ s other d. let same = ok_is (s, other) (r, rest) (sym (only_row front s other d) ∙ e) in ap (λ (x : Row × List ℕ). x.1) same ∙ nil_from_length rest none),
   (λ g d. ok_no_err (r, rest) g (sym e ∙ (only_fault front g d).0)),
 )
 
 cut_off : (front : List ℕ) (f : Fault) → live_row front ≡ Err f → ends_row f.0 f.1 ≡ true → IsLong front
 cut_off front f e o = let none = undecided front f e o in ((λ r rest d. absurd (none.0 r rest d)), none.1)
 
-long : (text : List ℕ) → row_limit < length text → IsLong (row_front text) → FirstFaultDecided text (TooLong, text)
-long text lt is = λ more.
+too_long : (text : List ℕ) → row_limit < length text → IsLong (row_front text) → FirstFaultDecided text (TooLong, text)
+too_long text lt is = λ more.
     let here = subst IsLong (sym (front_of_long text more lt)) is in
     FirstFault.too_long (longer text more lt) here.0 here.1 refl
 
-pub long_row : (text : List ℕ) (r : Row) (rest : List ℕ) → row_limit < length text → live_row (row_front text) ≡ Ok (r, rest) → length rest ≡ 0 → FirstFaultDecided text (TooLong, text)
-long_row text r rest lt e none = long text lt (to_its_end (row_front text) r rest e none)
+-- what is read is decided
+abbrev pub IsDecided : List ℕ → Read Row → Type 0
+IsDecided text (Ok x) = ShortRowDecided text x.0 x.1
+IsDecided text (Err f) = FirstFaultDecided text f
 
-pub long_open : (text : List ℕ) (f : Fault) → row_limit < length text → live_row (row_front text) ≡ Err f → ends_row f.0 f.1 ≡ true → FirstFaultDecided text (TooLong, text)
-long_open text f lt e o = long text lt (cut_off (row_front text) f e o)
+pub decided_front : (text : List ℕ) → row_limit < length text → IsDecided text (front_row_at text)
+decided_front text lt =
+    by_front text (IsDecided text) (λ x e none. too_long text lt (to_its_end (row_front text) x.0 x.1 e none)) (λ x. front_row text x.0 x.1 lt)
+    (λ f e o. too_long text lt (cut_off (row_front text) f e o)) (λ f. front_fault text f lt)
 
 -- ---- and nothing else
 
@@ -179,9 +187,6 @@ ShortRow text y = ShortRowAt text y.0 y.1
 
 abbrev Limited : List ℕ → Read Row → Type 0
 Limited text r = Exact r (ShortRow text) (FirstFault text)
-
-no_fault : (text : List ℕ) (x : Row × List ℕ) → row_at text ≡ Ok x → (f : Fault) → RowFault text f → ⊥
-no_fault text x e f bad = ok_no_err x f (sym e ∙ (exact_row text).only f bad)
 
 -- a text that is no longer than a row may be
 module _ (text : List ℕ) (le : length text ≤ row_limit) where
@@ -241,25 +246,9 @@ module _ (text : List ℕ) (lt : row_limit < length text) where
       (λ l. absurd (l.0.1 f (fault_decided (row_front text) f e o)))
       (front_is g t))
 
-  by_size : (x : Row × List ℕ) (b : Bool) → live_row (row_front text) ≡ Ok x → nat_eq (length x.1) 0 ≡ b → Limited text (cond b (Err (TooLong, text)) (Ok (x.0, x.1 ++ drop (row_limit + 1) text)))
-  by_size x true e t = exact_too_long (to_its_end (row_front text) x.0 x.1 e (eqb-true (length x.1) 0 t))
-  by_size x false e t = exact_front_row x.0 x.1 e (λ is. false≢true (sym t ∙ eq-eqb (length x.1) 0 is))
-
-  by_end : (f : Fault) (b : Bool) → live_row (row_front text) ≡ Err f → ends_row f.0 f.1 ≡ b → Limited text (cond b (Err (TooLong, text)) (Err (f.0, f.1 ++ drop (row_limit + 1) text)))
-  by_end f true e o = exact_too_long (cut_off (row_front text) f e o)
-  by_end f false e o = exact_front_fault f e o
-
-  by_reading : (r : Read Row) → live_row (row_front text) ≡ r → Limited text (of_front text (drop (row_limit + 1) text) r)
-  by_reading (Ok x) e = by_size x (nat_eq (length x.1) 0) e refl
-  by_reading (Err f) e = by_end f (ends_row f.0 f.1) e refl
-
   exact_front : Limited text (front_row_at text)
-  exact_front = by_reading (live_row (row_front text)) refl
+  exact_front = by_front text (Limited text) (λ x e none. exact_too_long (to_its_end (row_front text) x.0 x.1 e none)) (λ x. exact_front_row x.0 x.1) (λ f e o. exact_too_long (cut_off (row_front text) f e o)) exact_front_fault
 
 pub exact_limited : (text : List ℕ) → Limited text (limited_row_at text)
 unfolding limited_row_at
-exact_limited text = by (nat_lt row_limit (length text)) refl
-  where
-    by : (b : Bool) → nat_lt row_limit (length text) ≡ b → Limited text (cond b (front_row_at text) (row_at text))
-    by true t = exact_front text (grind (arith, nat_tests, t))
-    by false t = exact_short text (grind (arith, nat_tests, t))
+exact_limited text = cond_both (nat_lt row_limit (length text)) _ _ (Limited text) (λ t. exact_front text (grind (arith, nat_tests, t))) (λ t. exact_short text (grind (arith, nat_tests, t)))

@@ -1,41 +1,34 @@
 -- The same of rows: what is read of a row whose text may go on is what is read of every longer text, unless reading met the end.
-use Rattle.std.proofs.Common.{◌≡◌, ℕ, zero, suc, ◌+◌, ◌-◌, ◌≤◌, Bool, true, false, cond, List, [], ◌∷◌, ◌++◌, length, Option, Some, None, Result, Ok, Err, nat_eq, refl, sym, ap, subst, ◌∙◌, ◌⊎◌, inl, inr, ⊎_elim, arith, take, drop, ◌||◌, not, is_none}
+use Rattle.std.proofs.Common.{◌≡◌, ℕ, zero, suc, ◌-◌, ◌≤◌, Bool, true, false, cond, List, [], ◌∷◌, ◌++◌, length, Option, Some, None, Result, Ok, Err, nat_eq, refl, sym, ap, subst, ◌∙◌, ◌⊎◌, inl, inr, ⊎_elim, arith, drop, ◌||◌, not, is_none}
 use Rattle.std.specs.Char.{is_ascii_alphabetic}
-use Rattle.std.specs.List.{list_all, prefix_len}
-use Rattle.std.proofs.lemmas.Bool.{and_parts, false≢true}
+use Rattle.std.specs.List.{prefix_len}
+use Rattle.std.proofs.lemmas.Bool.{and_parts, false≢true, cases_Bool, ne_eqb}
 use Rattle.std.proofs.lemmas.Bool.Decides.{nat_tests}
-use Rattle.std.proofs.lemmas.List.{length-append, take-append-le, drop-append-le}
+use Rattle.std.proofs.lemmas.List.{drop_all, take-append-le, drop-append-le}
+use Rattle.std.proofs.lemmas.List.Folds.{prefix_len-append}
+use Rattle.std.proofs.lemmas.List.Sums.{prefix_len-le-length}
 use Rattle.bstr.specs.Utf8.{decoded}
-use Rattle.rdf_terms.specs.Iri.{has_scheme, is_forbidden}
-use Rattle.rdf_terms.specs.Quad.{statement, is_iri}
-use Rattle.rdf_terms.specs.declared.change.Change.{Change}
-use Rattle.rdf_terms.specs.declared.change.Change.TheVariants as change
+use Rattle.rdf_terms.specs.Quad.{is_iri}
 use Rattle.rdf_terms.specs.declared.term.Term.{Term}
 use Rattle.rdf_terms.specs.declared.term.Term.TheVariants as term
 use Rattle.nquads_text.specs.declared.fault.TextKind.{TextKind}
-use Rattle.nquads_text.specs.declared.fault.TextKind.TheVariants.{NotUtf8, BadIri, RelativeIri, BadLabel, BadPosition, MissingDot, BadToken, Truncated}
+use Rattle.nquads_text.specs.declared.fault.TextKind.TheVariants.{NotUtf8, BadLabel, BadPosition, MissingDot, BadToken, Truncated}
 use Rattle.nquads_text.specs.Fault.{Read as TextRead}
 use Rattle.nquads_text.specs.Faults.{begins_term}
-use Rattle.nquads_text.specs.Reading.{char_at, iri_piece, pieces_at}
-use Rattle.nquads_text.specs.Terms.{label_at, term_at}
-use Rattle.patch_rows.specs.declared.codes.Code.{Code}
-use Rattle.patch_rows.specs.declared.codes.Code.TheVariants as code
+use Rattle.nquads_text.specs.Reading.{char_at}
+use Rattle.nquads_text.specs.Terms.{term_at}
 use Rattle.patch_rows.specs.declared.fault.RowKind.{RowKind}
-use Rattle.patch_rows.specs.declared.fault.RowKind.TheVariants.{Common, UnknownCode, WrongCount}
-use Rattle.patch_rows.specs.declared.row.Row.{Row}
-use Rattle.patch_rows.specs.declared.row.Row.TheVariants as row
+use Rattle.patch_rows.specs.declared.fault.RowKind.TheVariants.{Common, WrongCount}
 use Rattle.patch_rows.specs.Fault.{Fault, Read, ◌>>=◌, in_row}
 use Rattle.patch_rows.specs.Faults.{is_dot}
 use Rattle.nquads_text.specs.Grammar.{is_line_end}
 use Rattle.patch_rows.specs.Grammar.{is_space, is_word_byte, is_any, is_node}
-use Rattle.patch_rows.specs.Reading.{comment_step, space_behind, skip_space, stands, other, begins_blank, whole_label, bracketed, bracket_at, row_term_at, needed_term_at, run_of, key_at, past_colon, plain_of, plain_text, or_bad_position, iri_of_string, iri_of_term, dot_at, end_at, code_named, uncut, word_at}
+use Rattle.patch_rows.specs.Reading.{comment_step, space_behind, stands, other, whole_label, bracketed, bracket_at, row_term_at, needed_term_at, run_of, key_at, past_colon, plain_text, or_bad_position, iri_of_string, iri_of_term, dot_at, uncut, word_at}
+use Rattle.patch_rows.specs.declared.cut.TextEnd.{TextEnd}
 use Rattle.patch_rows.specs.declared.cut.TextEnd.TheVariants.{Open, Known}
-use Rattle.patch_rows.specs.Rows.{added_of, bare_at, by_code, graph_of, graph_or_dot_of, header_of, live_row, open_key, open_term, open_word_prefix, parts_of, placed_of, prefix_iri_of, prefix_of, quad_of, quoted_of, removed_of, row_at, row_of}
+use Rattle.patch_rows.specs.Rows.{graph_or_dot_of, key_of, open_key, open_term, open_word_prefix, placed_of, prefix_iri_of, prefix_of, quoted_of, term_of, word_prefix_of}
 use Rattle.patch_rows.specs.Cut.{leads, is_front, is_cut, ends_text, ends_row, TextAtEnd, AtEnd, literal_open, blank_open}
 use Rattle.patch_reader.proofs.Stays.{with_more as text_with_more, Stays, char_stays, bad_char, good_char, rooms_same, iri_body_stays}
-use Rattle.patch_rows.proofs.WholeRow.{exact_row}
-use Rattle.patch_rows.specs.Faults.{FaultDecided}
-use Rattle.patch_rows.specs.Grammar.{RowDecided}
 use Rattle.patch_reader.proofs.TokenStays.{Late, IsBlank, OpenTerm, term_late}
 
 -- ---- one reading behind another
@@ -47,37 +40,22 @@ with_more more (Err f) = Err (f.0, f.1 ++ more)
 abbrev pub Keeps : {X : Type 0} → List ℕ → Read X → Read X → Type 0
 Keeps more read longer = AtEnd read ⊎ (longer ≡ with_more more read)
 
-chained : {X Y : Type 0} (more : List ℕ) (r longer : Read X) (f g : X × List ℕ → Read Y)
+pub chained : {X Y : Type 0} (more : List ℕ) (r longer : Read X) (f g : X × List ℕ → Read Y)
     → Keeps more r longer → ((x : X × List ℕ) → r ≡ Ok x → Keeps more (f x) (g (x.0, x.1 ++ more))) → Keeps more (r >>= f) (longer >>= g)
 chained more (Ok x) longer f g (inl h) step = absurd h
 chained more (Ok x) longer f g (inr h) step = rw h (step x refl)
 chained more (Err e) longer f g (inl h) step = inl h
 chained more (Err e) longer f g (inr h) step = inr (rw h refl)
 
-choice : {X : Type 0} (more : List ℕ) (b : Bool) (x y f g : Read X) → Keeps more x f → Keeps more y g → Keeps more (cond b x y) (cond b f g)
+pub choice : {X : Type 0} (more : List ℕ) (b : Bool) (x y f g : Read X) → Keeps more x f → Keeps more y g → Keeps more (cond b x y) (cond b f g)
 choice more true x y f g h k = h
 choice more false x y f g h k = k
 
-value : {X : Type 0} (more : List ℕ) (x : X) (after : List ℕ) → Keeps more (Ok (x, after)) (Ok (x, after ++ more))
+pub value : {X : Type 0} (more : List ℕ) (x : X) (after : List ℕ) → Keeps more (Ok (x, after)) (Ok (x, after ++ more))
 value more x after = inr refl
 
 fault : {X : Type 0} (more : List ℕ) (kind : RowKind) (place : List ℕ) → Keeps {X = X} more (Err (kind, place)) (Err (kind, place ++ more))
 fault more kind place = inr refl
-
--- readings that give only the text behind
-abbrev text_more : List ℕ → Result (List ℕ) Fault → Result (List ℕ) Fault
-text_more more (Ok after) = Ok (after ++ more)
-text_more more (Err f) = Err (f.0, f.1 ++ more)
-
-abbrev KeepsEnd : List ℕ → Result (List ℕ) Fault → Result (List ℕ) Fault → Type 0
-KeepsEnd more read longer = AtEnd read ⊎ (longer ≡ text_more more read)
-
-chained_end : {Y : Type 0} (more : List ℕ) (r longer : Result (List ℕ) Fault) (f g : List ℕ → Read Y)
-    → KeepsEnd more r longer → ((after : List ℕ) → Keeps more (f after) (g (after ++ more))) → Keeps more (r >>= f) (longer >>= g)
-chained_end more (Ok x) longer f g (inl h) step = absurd h
-chained_end more (Ok x) longer f g (inr h) step = rw h (step x)
-chained_end more (Err e) longer f g (inl h) step = inl h
-chained_end more (Err e) longer f g (inr h) step = inr (rw h refl)
 
 -- what is at the end stays there
 pub end_then : {X Y : Type 0} (r : Result X Fault) (f : X → Result Y Fault) → AtEnd r → AtEnd (r >>= f)
@@ -150,35 +128,40 @@ pub cut_needed : (rest : List ℕ) → is_cut rest ≡ true → AtEnd (needed_te
 unfolding needed_term_at
 cut_needed rest e = rw (cut_stands is_dot rest no_dot e) (cut_term rest e)
 
-cut_live_term : (rest : List ℕ) → is_cut rest ≡ true → AtEnd (open_term rest)
+pub cut_term_of : (end : TextEnd) (rest : List ℕ) → is_cut rest ≡ true → AtEnd (term_of end rest)
 unfolding open_term
-cut_live_term rest e = end_then (needed_term_at rest) _ (cut_needed rest e)
+cut_term_of Known rest e = cut_needed rest e
+cut_term_of Open rest e = end_then (needed_term_at rest) _ (cut_needed rest e)
 
-pub cut_placed : (fits : Term → Bool) (rest : List ℕ) → is_cut rest ≡ true → AtEnd (placed_of Open fits rest)
+pub cut_placed : (end : TextEnd) (fits : Term → Bool) (rest : List ℕ) → is_cut rest ≡ true → AtEnd (placed_of end fits rest)
 unfolding placed_of
-cut_placed fits rest e = end_then (open_term rest) _ (cut_live_term rest e)
+cut_placed end fits rest e = end_then (term_of end rest) _ (cut_term_of end rest e)
 
-pub cut_key : (rest : List ℕ) → is_cut rest ≡ true → AtEnd (open_key rest)
+pub cut_key : (end : TextEnd) (rest : List ℕ) → is_cut rest ≡ true → AtEnd (key_of end rest)
 unfolding open_key key_at
-cut_key rest e = rw (cut_stands is_dot rest no_dot e, cut_stands is_ascii_alphabetic rest no_letter e) (cut_other (Common BadToken) rest e)
+cut_key end rest e = by end (rw (cut_stands is_dot rest no_dot e, cut_stands is_ascii_alphabetic rest no_letter e) (cut_other (Common BadToken) rest e))
+  where
+    by : (end : TextEnd) → AtEnd (key_at rest) → AtEnd (key_of end rest)
+    by Known a = a
+    by Open a = end_then (key_at rest) _ a
 
-pub cut_prefix : (rest : List ℕ) → is_cut rest ≡ true → AtEnd (prefix_of Open rest)
+pub cut_prefix : (end : TextEnd) (rest : List ℕ) → is_cut rest ≡ true → AtEnd (prefix_of end rest)
 unfolding prefix_of
-cut_prefix rest e =
+cut_prefix end rest e =
     rw (cut_stands (λ b. nat_eq b 58) rest no_colon e, cut_stands is_ascii_alphabetic rest no_letter e, cut_stands is_dot rest no_dot e, cut_stands begins_term rest no_term e)
     (cut_other (Common BadToken) rest e)
 
-pub cut_prefix_iri : (rest : List ℕ) → is_cut rest ≡ true → AtEnd (prefix_iri_of Open rest)
+pub cut_prefix_iri : (end : TextEnd) (rest : List ℕ) → is_cut rest ≡ true → AtEnd (prefix_iri_of end rest)
 unfolding prefix_iri_of
-cut_prefix_iri rest e = end_then (open_term rest) _ (cut_live_term rest e)
+cut_prefix_iri end rest e = end_then (term_of end rest) _ (cut_term_of end rest e)
 
 pub cut_dot : (missing : RowKind) (rest : List ℕ) → is_cut rest ≡ true → AtEnd (dot_at missing rest)
 unfolding dot_at
 cut_dot missing rest e = rw (cut_stands is_dot rest no_dot e, cut_stands begins_term rest no_term e) (cut_other missing rest e)
 
-pub cut_graph : (rest : List ℕ) → is_cut rest ≡ true → AtEnd (graph_or_dot_of Open rest)
+pub cut_graph : (end : TextEnd) (rest : List ℕ) → is_cut rest ≡ true → AtEnd (graph_or_dot_of end rest)
 unfolding graph_or_dot_of
-cut_graph rest e = rw (cut_stands begins_term rest no_term e) (end_then (dot_at (Common MissingDot) rest) _ (cut_dot (Common MissingDot) rest e))
+cut_graph end rest e = rw (cut_stands begins_term rest no_term e) (end_then (dot_at (Common MissingDot) rest) _ (cut_dot (Common MissingDot) rest e))
 
 -- ---- white space and comments
 
@@ -230,13 +213,6 @@ space_stays more true zero (b ∷ rest) = by (λ goes k. space_stays more goes k
         let longer = same ∙ ap (text_with_more more) e in
         rw (e, longer, rooms_same rest x.1 more) (others (not (is_line_end x.0)) (length rest - length x.1))
 
-pub spaced : {X : Type 0} (more : List ℕ) (live whole : List ℕ → Read X) → ((rest : List ℕ) → Keeps more (live rest) (whole (rest ++ more))) → ((rest : List ℕ) → is_cut rest ≡ true → AtEnd (live rest))
-    → (rest : List ℕ) → Keeps more (live (skip_space rest)) (whole (skip_space (rest ++ more)))
-spaced more live whole each cut rest = ⊎_elim
-    (λ ended. inl (cut (skip_space rest) ended))
-    (λ same. subst (λ (s : List ℕ). Keeps more (live (skip_space rest)) (whole s)) (sym same) (each (skip_space rest)))
-    (space_stays more false 0 rest)
-
 -- ---- terms
 
 -- reading stays, or it gives a label that more text may change, in whose place stands one chained too
@@ -249,14 +225,10 @@ is_blank_term start (term.Iri iri) after e = absurd (false≢true e)
 is_blank_term start (term.Blank label) after e = (label, refl)
 is_blank_term start (term.Literal literal) after e = absurd (false≢true e)
 
--- what is read of a term, and whether it is a literal that more text may change
-abbrev OpenRowTerm : List ℕ → Read Term → Term × List ℕ → Type 0
-OpenRowTerm start longer x = (literal_open start x.0 x.1 ≡ true) ⊎ ((blank_open start x.0 x.1 ≡ true) × ((y : Term × List ℕ) × (longer ≡ Ok y) × IsBlank y.0))
-
 abbrev LateRowTerm : List ℕ → List ℕ → Read Term → Read Term → Type 0
-LateRowTerm start more r longer = Keeps more r longer ⊎ ((x : Term × List ℕ) × (r ≡ Ok x) × OpenRowTerm start longer x)
+LateRowTerm start more r longer = Keeps more r longer ⊎ ((x : Term × List ℕ) × (r ≡ Ok x) × OpenTerm start x longer)
 
-in_row_late : (start more : List ℕ) (r longer : TextRead Term) → Late (OpenTerm start longer) more r longer → LateRowTerm start more (in_row r) (in_row longer)
+in_row_late : (start more : List ℕ) (r longer : TextRead Term) → Late (OpenTerm start) more r longer → LateRowTerm start more (in_row r) (in_row longer)
 in_row_late start more r longer (inl h) = inl (in_row_keeps more r longer h)
 in_row_late start more r longer (inr h) = inr (h.0, ap in_row h.1, ⊎_elim (λ l. inl l) (λ b. inr (b.0, (b.1.0, ap in_row b.1.1, b.1.2))) h.2)
 
@@ -266,32 +238,24 @@ whole_stays more start after (Err f) = fault more (Common BadLabel) start
 
 bracketed_stays : (more start bytes after : List ℕ) → Keeps more (bracketed start bytes after) (bracketed (start ++ more) bytes (after ++ more))
 unfolding bracketed
-bracketed_stays more start bytes after =
-    choice more (begins_blank bytes) _ _ _ _ (whole_stays more start after (label_at bytes (drop 1 bytes)))
-    (choice more (has_scheme bytes) _ _ _ _ (value more (term.Iri bytes) after) (fault more (Common RelativeIri) start))
+bracketed_stays more start bytes after = search (choice, whole_stays, value, fault)
 
 bracket_stays : (more start rest : List ℕ) → Keeps more (bracket_at start rest) (bracket_at (start ++ more) (rest ++ more))
 unfolding bracket_at
-bracket_stays more start rest =
-    chained more (in_row (pieces_at iri_piece 0 rest)) (in_row (pieces_at iri_piece 0 (rest ++ more))) _ _ (in_row_keeps more _ _ (iri_body_stays more rest)) (λ x e. bracketed_stays more start x.0 x.1)
+bracket_stays more start rest = search (chained, in_row_keeps, iri_body_stays, bracketed_stays)
 
 row_term_late : (more rest : List ℕ) → (rest ≡ [] → ⊥) → LateRowTerm rest more (row_term_at rest) (row_term_at (rest ++ more))
 unfolding row_term_at
 row_term_late more [] some = absurd (some refl)
-row_term_late more (b ∷ bs) some = by (nat_eq b 60) refl
-  where
-    by : (less : Bool) → nat_eq b 60 ≡ less → LateRowTerm (b ∷ bs) more (row_term_at (b ∷ bs)) (row_term_at ((b ∷ bs) ++ more))
-    by true e = rw e (inl (bracket_stays more (b ∷ bs) bs))
-    by false e = rw e (in_row_late (b ∷ bs) more (term_at (b ∷ bs)) (term_at (b ∷ (bs ++ more))) (term_late more (b ∷ bs)))
+row_term_late more (b ∷ bs) some = ⊎_elim
+    (λ less. rw less (inl (bracket_stays more (b ∷ bs) bs)))
+    (λ less. rw less (in_row_late (b ∷ bs) more (term_at (b ∷ bs)) (term_at (b ∷ (bs ++ more))) (term_late more (b ∷ bs))))
+    (cases_Bool (nat_eq b 60))
 
 needed_late : (more rest : List ℕ) → (rest ≡ [] → ⊥) → LateRowTerm rest more (needed_term_at rest) (needed_term_at (rest ++ more))
 unfolding needed_term_at
 needed_late more [] some = absurd (some refl)
-needed_late more (b ∷ bs) some = by (is_dot b) refl
-  where
-    by : (dot : Bool) → is_dot b ≡ dot → LateRowTerm (b ∷ bs) more (needed_term_at (b ∷ bs)) (needed_term_at ((b ∷ bs) ++ more))
-    by true e = rw e (inl (fault more WrongCount (b ∷ bs)))
-    by false e = rw e (row_term_late more (b ∷ bs) (λ none. absurd cc))
+needed_late more (b ∷ bs) some = ⊎_elim (λ dot. rw dot (inl (fault more WrongCount (b ∷ bs)))) (λ dot. rw dot (row_term_late more (b ∷ bs) some)) (cases_Bool (is_dot b))
 
 abbrev settled : List ℕ → Read Term → Read Term
 settled start r = r >>= λ t. cond (literal_open start t.0 t.1) (Err (Common Truncated, [])) (Ok t)
@@ -319,11 +283,8 @@ settled_late start more r longer (inr (x, e, inr (still_open, y))) =
 
 pub live_term_late : (more rest : List ℕ) → LateTerm rest more (open_term rest) (needed_term_at (rest ++ more))
 unfolding open_term
-live_term_late more [] = inl (inl (cut_live_term [] refl))
-live_term_late more (b ∷ bs) = by (needed_late more (b ∷ bs) (λ none. absurd cc))
-  where
-    by : LateRowTerm (b ∷ bs) more (needed_term_at (b ∷ bs)) (needed_term_at ((b ∷ bs) ++ more)) → LateTerm (b ∷ bs) more (open_term (b ∷ bs)) (needed_term_at ((b ∷ bs) ++ more))
-    by h = settled_late (b ∷ bs) more (needed_term_at (b ∷ bs)) (needed_term_at ((b ∷ bs) ++ more)) h
+live_term_late more [] = inl (inl (cut_term_of Open [] refl))
+live_term_late more (b ∷ bs) = settled_late (b ∷ bs) more (needed_term_at (b ∷ bs)) (needed_term_at ((b ∷ bs) ++ more)) (needed_late more (b ∷ bs) (λ none. absurd cc))
 
 -- what is made of a term, where all labels are treated alike
 late_then : {X : Type 0} (start more : List ℕ) (r longer : Read Term) (f g : Term × List ℕ → Read X) → LateTerm start more r longer
@@ -368,17 +329,12 @@ quoted_stays more rest =
 
 string_iri_stays : (more start string after : List ℕ) → Keeps more (iri_of_string start string after) (iri_of_string (start ++ more) string (after ++ more))
 unfolding iri_of_string
-string_iri_stays more start string after =
-    choice more (list_all (λ b. not (is_forbidden b)) string) _ _ _ _
-    (choice more (has_scheme string) _ _ _ _ (value more string after) (fault more (Common RelativeIri) start))
-    (fault more (Common BadIri) start)
+string_iri_stays more start string after = search (choice, value, fault)
 
 iri_of_term_stays : (more start : List ℕ) (t : Term) (after : List ℕ) → Keeps more (iri_of_term start t after) (iri_of_term (start ++ more) t (after ++ more))
 iri_of_term_stays more start (term.Iri iri) after = value more iri after
 iri_of_term_stays more start (term.Blank label) after = fault more (Common BadPosition) start
-iri_of_term_stays more start (term.Literal literal) after =
-    chained more (or_bad_position (plain_of literal.kind literal.lexical) start after) (or_bad_position (plain_of literal.kind literal.lexical) (start ++ more) (after ++ more)) _ _
-    (position_stays more (plain_of literal.kind literal.lexical) start after) (λ string e. string_iri_stays more start string.0 string.1)
+iri_of_term_stays more start (term.Literal literal) after = search (chained, position_stays, string_iri_stays)
 
 pub prefix_iri_stays : (more rest : List ℕ) → Keeps more (prefix_iri_of Open rest) (prefix_iri_of Known (rest ++ more))
 unfolding prefix_iri_of
@@ -400,121 +356,70 @@ other_stays X more kind rest = by (char_at rest) refl (char_stays more rest)
     by (Ok x) e (inr same) = let longer = same ∙ ap (text_with_more more) e in inr (rw (e, longer) refl)
 
 -- a run that doesn't reach the text's end
-prefix_stays_len : (test : ℕ → Bool) (rest more : List ℕ) → (length (drop (prefix_len test rest) rest) ≡ 0 → ⊥) → (prefix_len test (rest ++ more) ≡ prefix_len test rest) × (prefix_len test rest ≤ length rest)
-prefix_stays_len test [] more some = absurd (some refl)
-prefix_stays_len test (b ∷ rest) more some = by (λ some. prefix_stays_len test rest more some) (test b) refl
-  where
-    by : ((length (drop (prefix_len test rest) rest) ≡ 0 → ⊥) → (prefix_len test (rest ++ more) ≡ prefix_len test rest) × (prefix_len test rest ≤ length rest)) → (t : Bool) → test b ≡ t → (prefix_len test (b ∷ (rest ++ more)) ≡ prefix_len test (b ∷ rest)) × (prefix_len test (b ∷ rest) ≤ length (b ∷ rest))
-    by others true e =
-        let one : 1 + prefix_len test rest ≡ suc (prefix_len test rest) = omega arith in
-        let tail = others (λ none. some (rw e (ap (λ (n : ℕ). length (drop n (b ∷ rest))) one ∙ none))) in
-        rw e (ap (λ (n : ℕ). 1 + n) tail.0, omega (arith, tail.1))
-    by others false e = rw e (refl, omega arith)
+run_there : (test : ℕ → Bool) (rest more : List ℕ) → ((run_of test rest).1 ≡ [] → ⊥) → run_of test (rest ++ more) ≡ ((run_of test rest).0, (run_of test rest).1 ++ more)
+run_there test rest more some =
+    let le = prefix_len-le-length test rest in
+    let apart = ne_eqb (prefix_len test rest) (length rest) (λ all. some (drop_all (prefix_len test rest) rest (omega (arith, all)))) in
+    rw (prefix_len-append, apart, take-append-le (prefix_len test rest) rest more le, drop-append-le (prefix_len test rest) rest more le) refl
+
+-- a word that the text's end cuts, and one that it doesn't
+pub uncut_cases : (word : List ℕ × List ℕ) → (AtEnd (uncut word) × (word.1 ≡ [])) ⊎ ((uncut word ≡ Ok word) × (word.1 ≡ [] → ⊥))
+uncut_cases (word, []) = inl (cut_end, refl)
+uncut_cases (word, b ∷ after) = inr (rw (ne_eqb (suc (length after)) 0 (λ none. omega (arith, none))) refl, λ none. absurd cc)
 
 run_stays : (test : ℕ → Bool) (more rest : List ℕ) → Keeps more (uncut (run_of test rest)) (Ok (run_of test (rest ++ more)))
-run_stays test more rest = by (nat_eq (length (drop (prefix_len test rest) rest)) 0) refl
-  where
-    by : (none : Bool) → nat_eq (length (drop (prefix_len test rest) rest)) 0 ≡ none → Keeps more (cond none (Err (Common Truncated, [])) (Ok (run_of test rest))) (Ok (run_of test (rest ++ more)))
-    by true e = inl cut_end
-    by false e =
-        let some : (length (drop (prefix_len test rest) rest) ≡ 0) → ⊥ = grind (arith, nat_tests, e) in
-        let same = prefix_stays_len test rest more some in
-        inr (rw (same.0, take-append-le (prefix_len test rest) rest more same.1, drop-append-le (prefix_len test rest) rest more same.1) refl)
+run_stays test more rest = ⊎_elim (λ cut. inl cut.0) (λ apart. inr (rw apart.0 (ap (λ (word : List ℕ × List ℕ). Ok word) (run_there test rest more apart.1)))) (uncut_cases (run_of test rest))
+
+pub uncut_longer : (word after more : List ℕ) → (after ≡ [] → ⊥) → uncut (word, after ++ more) ≡ Ok (word, after ++ more)
+uncut_longer word [] more some = absurd (some refl)
+uncut_longer word (b ∷ after) more some = rw (ne_eqb (suc (length (after ++ more))) 0 (λ none. omega (arith, none))) refl
 
 pub word_run_stays : (test : ℕ → Bool) (more rest : List ℕ) → Keeps more (uncut (run_of test rest)) (uncut (run_of test (rest ++ more)))
-word_run_stays test more rest = by (nat_eq (length (drop (prefix_len test rest) rest)) 0) refl
-  where
-    longer_some : (n : ℕ) → (nat_eq n 0 ≡ false) → nat_eq (n + length more) 0 ≡ false
-    longer_some n e = grind (arith, nat_tests, e)
-
-    by : (none : Bool) → nat_eq (length (drop (prefix_len test rest) rest)) 0 ≡ none → Keeps more (cond none (Err (Common Truncated, [])) (Ok (run_of test rest))) (uncut (run_of test (rest ++ more)))
-    by true e = inl cut_end
-    by false e =
-        let some : (length (drop (prefix_len test rest) rest) ≡ 0) → ⊥ = grind (arith, nat_tests, e) in
-        let same = prefix_stays_len test rest more some in
-        let tail = drop-append-le (prefix_len test rest) rest more same.1 in
-        let left : nat_eq (length (drop (prefix_len test rest) rest ++ more)) 0 ≡ false = ap (λ (n : ℕ). nat_eq n 0) (length-append (drop (prefix_len test rest) rest) more) ∙ longer_some _ e in
-        inr (rw (same.0, take-append-le (prefix_len test rest) rest more same.1, tail, left) refl)
+word_run_stays test more rest = ⊎_elim (λ cut. inl cut.0) (λ apart. inr (rw apart.0 (ap uncut (run_there test rest more apart.1) ∙ uncut_longer (run_of test rest).0 (run_of test rest).1 more apart.1))) (uncut_cases (run_of test rest))
 
 pub word_stays : (more rest : List ℕ) → Keeps more (word_at rest) (word_at (rest ++ more))
 unfolding word_at
-word_stays more [] = inl (cut_word [] refl)
-  where
-    cut_word : (rest : List ℕ) → is_cut rest ≡ true → AtEnd (word_at rest)
-    cut_word rest e = rw (cut_stands is_ascii_alphabetic rest no_letter e) (cut_other (Common BadToken) rest e)
-word_stays more (b ∷ bs) = by
-  where
-    by : Keeps more (word_at (b ∷ bs)) (word_at ((b ∷ bs) ++ more))
-    by = choice more (is_ascii_alphabetic b) _ _ _ _ (word_run_stays is_ascii_alphabetic more (b ∷ bs)) (other_stays (List ℕ) more (Common BadToken) (b ∷ bs))
+word_stays more [] = inl (cut_other (Common BadToken) [] refl)
+word_stays more (b ∷ bs) = choice more (is_ascii_alphabetic b) _ _ _ _ (word_run_stays is_ascii_alphabetic more (b ∷ bs)) (other_stays (List ℕ) more (Common BadToken) (b ∷ bs))
 
 pub key_stays : (more rest : List ℕ) → Keeps more (open_key rest) (key_at (rest ++ more))
 unfolding open_key key_at
-key_stays more [] = inl (cut_key [] refl)
-key_stays more (b ∷ bs) = by (is_dot b) (is_ascii_alphabetic b) refl refl
-  where
-    by : (dot letter : Bool) → is_dot b ≡ dot → is_ascii_alphabetic b ≡ letter → Keeps more (open_key (b ∷ bs)) (key_at ((b ∷ bs) ++ more))
-    by true letter e f = rw e (fault more WrongCount (b ∷ bs))
-    by false true e f = rw (e, f) (run_stays is_word_byte more (b ∷ bs))
-    by false false e f = rw (e, f) (other_stays (List ℕ) more (Common BadToken) (b ∷ bs))
+key_stays more [] = inl (cut_key Open [] refl)
+key_stays more (b ∷ bs) = ⊎_elim
+    (λ dot. rw dot (fault more WrongCount (b ∷ bs)))
+    (λ dot. rw dot (⊎_elim (λ letter. rw letter (run_stays is_word_byte more (b ∷ bs))) (λ letter. rw letter (other_stays (List ℕ) more (Common BadToken) (b ∷ bs))) (cases_Bool (is_ascii_alphabetic b))))
+    (cases_Bool (is_dot b))
 
-colon_stays : (more word after : List ℕ) → (length after ≡ 0 → ⊥) → Keeps more (Ok (word, past_colon after)) (Ok (word, past_colon (after ++ more)))
-colon_stays more word [] some = absurd (some refl)
-colon_stays more word (b ∷ after) some = by (nat_eq b 58)
-  where
-    by : (colon : Bool) → Keeps more (Ok (word, cond colon after (b ∷ after))) (Ok (word, cond colon (after ++ more) (b ∷ (after ++ more))))
-    by true = value more word after
-    by false = value more word (b ∷ after)
+pub past_more : (after more : List ℕ) → (after ≡ [] → ⊥) → past_colon (after ++ more) ≡ past_colon after ++ more
+past_more [] more some = absurd (some refl)
+past_more (b ∷ after) more some = elim (nat_eq b 58) as (λ colon. cond colon (after ++ more) (b ∷ (after ++ more)) ≡ cond colon after (b ∷ after) ++ more) [ true ↦ refl | false ↦ refl ]
 
-word_prefix_stays : (more rest : List ℕ) → Keeps more (open_word_prefix rest) (Ok (take (prefix_len is_word_byte (rest ++ more)) (rest ++ more), past_colon (drop (prefix_len is_word_byte (rest ++ more)) (rest ++ more))))
+word_prefix_stays : (more rest : List ℕ) → Keeps more (open_word_prefix rest) (word_prefix_of Known (rest ++ more))
 unfolding open_word_prefix
-word_prefix_stays more rest = by (nat_eq (length (drop (prefix_len is_word_byte rest) rest)) 0) refl
-  where
-    by : (none : Bool) → nat_eq (length (drop (prefix_len is_word_byte rest) rest)) 0 ≡ none
-        → Keeps more (open_word_prefix rest) (Ok (take (prefix_len is_word_byte (rest ++ more)) (rest ++ more), past_colon (drop (prefix_len is_word_byte (rest ++ more)) (rest ++ more))))
-    by true e = rw e (inl cut_end)
-    by false e =
-        let some : (length (drop (prefix_len is_word_byte rest) rest) ≡ 0) → ⊥ = grind (arith, nat_tests, e) in
-        let same = prefix_stays_len is_word_byte rest more some in
-        rw (e, same.0, take-append-le (prefix_len is_word_byte rest) rest more same.1, drop-append-le (prefix_len is_word_byte rest) rest more same.1)
-        (colon_stays more (take (prefix_len is_word_byte rest) rest) (drop (prefix_len is_word_byte rest) rest) some)
+word_prefix_stays more rest = ⊎_elim
+    (λ cut. inl (end_then (uncut (run_of is_word_byte rest)) _ cut.0))
+    (λ apart. inr (rw apart.0
+    (ap (λ (word : List ℕ × List ℕ). Ok (word.0, past_colon word.1)) (run_there is_word_byte rest more apart.1) ∙ ap (λ (t : List ℕ). Ok ((run_of is_word_byte rest).0, t)) (past_more (run_of is_word_byte rest).1 more apart.1))))
+    (uncut_cases (run_of is_word_byte rest))
 
 pub prefix_stays : (more rest : List ℕ) → Keeps more (prefix_of Open rest) (prefix_of Known (rest ++ more))
 unfolding prefix_of
-prefix_stays more [] = inl (cut_prefix [] refl)
-prefix_stays more (b ∷ bs) = by
-  where
-    by : Keeps more (prefix_of Open (b ∷ bs)) (prefix_of Known ((b ∷ bs) ++ more))
-    by =
-        choice more (nat_eq b 58) _ _ _ _ (value more [] bs)
-        (choice more (is_ascii_alphabetic b) _ _ _ _ (word_prefix_stays more (b ∷ bs))
-        (choice more (is_dot b || begins_term b) _ _ _ _ (quoted_stays more (b ∷ bs)) (other_stays (List ℕ) more (Common BadToken) (b ∷ bs))))
+prefix_stays more [] = inl (cut_prefix Open [] refl)
+prefix_stays more (b ∷ bs) =
+    choice more (nat_eq b 58) _ _ _ _ (value more [] bs)
+    (choice more (is_ascii_alphabetic b) _ _ _ _ (word_prefix_stays more (b ∷ bs))
+    (choice more (is_dot b || begins_term b) _ _ _ _ (quoted_stays more (b ∷ bs)) (other_stays (List ℕ) more (Common BadToken) (b ∷ bs))))
 
 -- ---- the ends of rows
 
-end_choice : (more : List ℕ) (b : Bool) (x y f g : Result (List ℕ) Fault) → KeepsEnd more x f → KeepsEnd more y g → KeepsEnd more (cond b x y) (cond b f g)
-end_choice more true x y f g h k = h
-end_choice more false x y f g h k = k
-
-other_ends : (more : List ℕ) (kind : RowKind) (rest : List ℕ) → KeepsEnd more (Err (other kind rest)) (Err (other kind (rest ++ more)))
-other_ends more kind rest = ⊎_elim (λ end. inl end) (λ same. inr (ap to_end same)) (other_stays (Unit {0}) more kind rest)
-  where
-    to_end : Read (Unit {0}) → Result (List ℕ) Fault
-    to_end (Ok x) = Ok x.1
-    to_end (Err f) = Err f
-
-pub dot_stays : (more : List ℕ) (missing : RowKind) (rest : List ℕ) → KeepsEnd more (dot_at missing rest) (dot_at missing (rest ++ more))
+-- what stands behind the last part of a row
+pub dot_stays : {X : Type 0} (more : List ℕ) (missing : RowKind) (x : X) (rest : List ℕ) → Keeps more (dot_at missing rest >>= λ after. Ok (x, after)) (dot_at missing (rest ++ more) >>= λ after. Ok (x, after))
 unfolding dot_at
-dot_stays more missing [] = inl (cut_dot missing [] refl)
-dot_stays more missing (b ∷ bs) = by
-  where
-    by : KeepsEnd more (dot_at missing (b ∷ bs)) (dot_at missing ((b ∷ bs) ++ more))
-    by = end_choice more (is_dot b) _ _ _ _ (inr refl) (end_choice more (begins_term b) _ _ _ _ (inr refl) (other_ends more missing (b ∷ bs)))
-
-pub end_stays : (more : List ℕ) (missing : RowKind) (rest : List ℕ) → KeepsEnd more (end_at missing rest) (end_at missing (rest ++ more))
-end_stays more missing rest = ⊎_elim
-    (λ ended. inl (cut_dot missing (skip_space rest) ended))
-    (λ same. subst (λ (s : List ℕ). KeepsEnd more (dot_at missing (skip_space rest)) (dot_at missing s)) (sym same) (dot_stays more missing (skip_space rest)))
-    (space_stays more false 0 rest)
+dot_stays more missing x [] = inl (cut_other missing [] refl)
+dot_stays {X} more missing x (b ∷ bs) = ⊎_elim
+    (λ dot. rw dot (value more x bs))
+    (λ dot. rw dot (⊎_elim (λ term. rw term (fault more WrongCount (b ∷ bs))) (λ term. rw term (other_stays X more missing (b ∷ bs))) (cases_Bool (begins_term b))))
+    (cases_Bool (is_dot b))
 
 pub node_alike : (a b : List ℕ) → is_node (term.Blank a) ≡ is_node (term.Blank b)
 node_alike a b = refl
@@ -524,101 +429,3 @@ iri_alike a b = refl
 
 pub any_alike : (a b : List ℕ) → is_any (term.Blank a) ≡ is_any (term.Blank b)
 any_alike a b = refl
-
-abbrev no_graph : Result (List ℕ) Fault → Read (Option Term)
-no_graph r = r >>= λ after. Ok (None, after)
-
-no_graph_stays : (more rest : List ℕ) → Keeps more (no_graph (dot_at (Common MissingDot) rest)) (no_graph (dot_at (Common MissingDot) (rest ++ more)))
-no_graph_stays more rest = chained_end more (dot_at (Common MissingDot) rest) (dot_at (Common MissingDot) (rest ++ more)) _ _ (dot_stays more (Common MissingDot) rest) (λ after. value more None after)
-
-pub graph_or_dot_stays : (more rest : List ℕ) → Keeps more (graph_or_dot_of Open rest) (graph_or_dot_of Known (rest ++ more))
-unfolding graph_or_dot_of
-graph_or_dot_stays more [] = inl (cut_graph [] refl)
-graph_or_dot_stays more (b ∷ bs) = by
-  where
-    by : Keeps more (graph_or_dot_of Open (b ∷ bs)) (graph_or_dot_of Known ((b ∷ bs) ++ more))
-    by =
-        choice more (begins_term b) _ _ _ _
-        (chained more (placed_of Open is_node (b ∷ bs)) (placed_of Known is_node (b ∷ (bs ++ more))) _ _ (placed_stays is_node more (b ∷ bs) node_alike) (λ g e.
-        chained_end more (end_at (Common MissingDot) g.1) (end_at (Common MissingDot) (g.1 ++ more)) _ _ (end_stays more (Common MissingDot) g.1) (λ after. value more (Some g.0) after)))
-        (no_graph_stays more (b ∷ bs))
-
-pub graph_stays : (more rest : List ℕ) → Keeps more (graph_of Open rest) (graph_of Known (rest ++ more))
-graph_stays more rest = spaced more (graph_or_dot_of Open) (graph_or_dot_of Known) (graph_or_dot_stays more) cut_graph rest
-
-pub spaced_placed : (fits : Term → Bool) (more rest : List ℕ) → ((a b : List ℕ) → fits (term.Blank a) ≡ fits (term.Blank b)) → Keeps more (placed_of Open fits (skip_space rest)) (placed_of Known fits (skip_space (rest ++ more)))
-spaced_placed fits more rest alike = spaced more (placed_of Open fits) (placed_of Known fits) (λ r. placed_stays fits more r alike) (cut_placed fits) rest
-
--- ---- rows
-
-pub header_stays : (more rest : List ℕ) → Keeps more (header_of Open rest) (header_of Known (rest ++ more))
-unfolding header_of
-header_stays more rest =
-    chained more (open_key (skip_space rest)) (key_at (skip_space (rest ++ more))) _ _ (spaced more open_key key_at (key_stays more) cut_key rest) (λ key e.
-    chained more (placed_of Open is_any (skip_space key.1)) (placed_of Known is_any (skip_space (key.1 ++ more))) _ _ (spaced_placed is_any more key.1 any_alike) (λ v f.
-    chained_end more (end_at (Common MissingDot) v.1) (end_at (Common MissingDot) (v.1 ++ more)) _ _ (end_stays more (Common MissingDot) v.1) (λ after.
-    value more (row.Header key.0 v.0) after)))
-
-bare_stays : (more : List ℕ) (c : Change) (rest : List ℕ) → Keeps more (bare_at c rest) (bare_at c (rest ++ more))
-unfolding bare_at
-bare_stays more c rest =
-    chained_end more (end_at (Common BadToken) rest) (end_at (Common BadToken) (rest ++ more)) _ _ (end_stays more (Common BadToken) rest) (λ after. value more (row.Change c) after)
-
-pub quad_stays : (more rest : List ℕ) → Keeps more (quad_of Open rest) (quad_of Known (rest ++ more))
-unfolding quad_of
-quad_stays more rest =
-    chained more (placed_of Open is_node (skip_space rest)) (placed_of Known is_node (skip_space (rest ++ more))) _ _ (spaced_placed is_node more rest node_alike) (λ s e.
-    chained more (placed_of Open is_iri (skip_space s.1)) (placed_of Known is_iri (skip_space (s.1 ++ more))) _ _ (spaced_placed is_iri more s.1 iri_alike) (λ p f.
-    chained more (placed_of Open is_any (skip_space p.1)) (placed_of Known is_any (skip_space (p.1 ++ more))) _ _ (spaced_placed is_any more p.1 any_alike) (λ o g.
-    chained more (graph_of Open o.1) (graph_of Known (o.1 ++ more)) _ _ (graph_stays more o.1) (λ graph h.
-    value more (statement s.0 p.0 o.0 graph.0) graph.1))))
-
-added_stays : (more rest : List ℕ) → Keeps more (added_of Open rest) (added_of Known (rest ++ more))
-unfolding added_of
-added_stays more rest =
-    chained more (prefix_of Open (skip_space rest)) (prefix_of Known (skip_space (rest ++ more))) _ _ (spaced more (prefix_of Open) (prefix_of Known) (prefix_stays more) cut_prefix rest) (λ prefix e.
-    chained more (prefix_iri_of Open (skip_space prefix.1)) (prefix_iri_of Known (skip_space (prefix.1 ++ more))) _ _ (spaced more (prefix_iri_of Open) (prefix_iri_of Known) (prefix_iri_stays more) cut_prefix_iri prefix.1) (λ iri f.
-    chained more (graph_of Open iri.1) (graph_of Known (iri.1 ++ more)) _ _ (graph_stays more iri.1) (λ graph h.
-    value more (row.Change (change.PrefixAdd prefix.0 iri.0 graph.0)) graph.1)))
-
-removed_stays : (more rest : List ℕ) → Keeps more (removed_of Open rest) (removed_of Known (rest ++ more))
-unfolding removed_of
-removed_stays more rest =
-    chained more (prefix_of Open (skip_space rest)) (prefix_of Known (skip_space (rest ++ more))) _ _ (spaced more (prefix_of Open) (prefix_of Known) (prefix_stays more) cut_prefix rest) (λ prefix e.
-    chained more (graph_of Open prefix.1) (graph_of Known (prefix.1 ++ more)) _ _ (graph_stays more prefix.1) (λ graph h.
-    value more (row.Change (change.PrefixDelete prefix.0 graph.0)) graph.1))
-
-parts_stay : (more : List ℕ) (c : Code) (rest : List ℕ) → Keeps more (parts_of Open c rest) (parts_of Known c (rest ++ more))
-unfolding parts_of
-parts_stay more code.Header rest = header_stays more rest
-parts_stay more code.Begin rest = bare_stays more change.Begin rest
-parts_stay more code.Commit rest = bare_stays more change.Commit rest
-parts_stay more code.Abort rest = bare_stays more change.Abort rest
-parts_stay more code.PrefixAdd rest = added_stays more rest
-parts_stay more code.PrefixDelete rest = removed_stays more rest
-parts_stay more code.Add rest =
-    chained more (quad_of Open rest) (quad_of Known (rest ++ more)) _ _ (quad_stays more rest) (λ q e. value more (row.Change (change.Add q.0)) q.1)
-parts_stay more code.Delete rest =
-    chained more (quad_of Open rest) (quad_of Known (rest ++ more)) _ _ (quad_stays more rest) (λ q e. value more (row.Change (change.Delete q.0)) q.1)
-
-by_code_stays : (more : List ℕ) (o : Option Code) (start rest : List ℕ) → Keeps more (by_code Open o start rest) (by_code Known o (start ++ more) (rest ++ more))
-by_code_stays more (Some c) start rest = parts_stay more c rest
-by_code_stays more None start rest = fault more UnknownCode start
-
--- a row that is read while its text may go on is read of every longer text, and so is its fault
-pub row_stays : (more rest : List ℕ) → Keeps more (live_row rest) (row_at (rest ++ more))
-unfolding row_of
-row_stays more rest =
-    chained more (word_at rest) (word_at (rest ++ more)) _ _ (word_stays more rest) (λ word e. by_code_stays more (code_named word.0) rest word.1)
-
-pub row_again : (text more : List ℕ) (r : Row) (after : List ℕ) → live_row text ≡ Ok (r, after) → row_at (text ++ more) ≡ Ok (r, after ++ more)
-row_again text more r after e = ⊎_elim (λ end. absurd (subst AtEnd e end)) (λ same. same ∙ ap (with_more more) e) (row_stays more text)
-
-pub fault_again : (text more : List ℕ) (f : Fault) → live_row text ≡ Err f → ends_row f.0 f.1 ≡ false → row_at (text ++ more) ≡ Err (f.0, f.1 ++ more)
-fault_again text more f e still_open = ⊎_elim (λ end. absurd (false≢true (sym still_open ∙ subst AtEnd e end))) (λ same. same ∙ ap (with_more more) e) (row_stays more text)
-
-pub row_decided : (text : List ℕ) (r : Row) (after : List ℕ) → live_row text ≡ Ok (r, after) → RowDecided text r after
-row_decided text r after e = λ more. (exact_row (text ++ more)).found (r, after ++ more) (row_again text more r after e)
-
-pub fault_decided : (text : List ℕ) (f : Fault) → live_row text ≡ Err f → ends_row f.0 f.1 ≡ false → FaultDecided text f
-fault_decided text f e still_open = λ more. (exact_row (text ++ more)).fault (f.0, f.1 ++ more) (fault_again text more f e still_open)

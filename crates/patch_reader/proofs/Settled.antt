@@ -2,10 +2,10 @@
 use Rattle.std.proofs.Common.{◌≡◌, ℕ, ◌≤◌, Bool, true, false, List, [], ◌∷◌, ◌++◌, length, Ok, Err, refl, sym, ap, subst, ◌∙◌, ◌⊎◌, inl, inr, ⊎_elim, arith, append-nil}
 use Rattle.std.proofs.lemmas.Bool.{false≢true}
 use Rattle.std.proofs.lemmas.List.{length-append}
-use Rattle.nquads_text.specs.declared.fault.TextKind.TheVariants.{NotUtf8, BadIri, RelativeIri, BadEscape, BadLabel, BadLang, LangStringWithoutTag, BadPosition, MissingDot, BadToken, Truncated}
+use Rattle.nquads_text.specs.declared.fault.TextKind.TheVariants.{NotUtf8, Truncated}
 use Rattle.nquads_text.specs.Reading.{char_at}
 use Rattle.patch_rows.specs.declared.fault.RowKind.{RowKind}
-use Rattle.patch_rows.specs.declared.fault.RowKind.TheVariants.{Common, UnknownCode, WrongCount, TooLong}
+use Rattle.patch_rows.specs.declared.fault.RowKind.TheVariants.{Common}
 use Rattle.patch_rows.specs.declared.row.Row.{Row}
 use Rattle.patch_rows.specs.Fault.{Fault, Read}
 use Rattle.patch_rows.specs.Rows.{live_row, row_at}
@@ -14,10 +14,9 @@ use Rattle.patch_rows.specs.Cut.{AtEnd, is_front, ends_text, ends_row}
 use Rattle.patch_rows.specs.Faults.{FaultDecided}
 use Rattle.patch_rows.specs.Grammar.{RowDecided}
 use Rattle.patch_reader.specs.Decided.{Undecided}
-use Rattle.patch_reader.proofs.Completions.{stop, front_completed}
-use Rattle.patch_reader.proofs.Opens.{row_stop, Final, row_ends}
+use Rattle.patch_reader.proofs.Completions.{stop, completed}
+use Rattle.patch_reader.proofs.Opens.{row_stop, Outcome, row_ends, row_decided, fault_decided}
 use Rattle.patch_reader.proofs.RowShapes.{truncated_ends, ill_formed_stands}
-use Rattle.patch_reader.proofs.RowStays.{row_decided, fault_decided}
 
 abbrev given : Row × List ℕ → Read Row
 given x = Ok x
@@ -42,19 +41,8 @@ data EndKind (kind : RowKind) (rest : List ℕ) : Type 0 where
 end_kind : (kind : RowKind) (rest : List ℕ) → ends_row kind rest ≡ true → EndKind kind rest
 unfolding ends_row ends_text
 end_kind (Common NotUtf8) rest e = EndKind.front refl e
-end_kind (Common BadIri) rest e = absurd (false≢true e)
-end_kind (Common RelativeIri) rest e = absurd (false≢true e)
-end_kind (Common BadEscape) rest e = absurd (false≢true e)
-end_kind (Common BadLabel) rest e = absurd (false≢true e)
-end_kind (Common BadLang) rest e = absurd (false≢true e)
-end_kind (Common LangStringWithoutTag) rest e = absurd (false≢true e)
-end_kind (Common BadPosition) rest e = absurd (false≢true e)
-end_kind (Common MissingDot) rest e = absurd (false≢true e)
-end_kind (Common BadToken) rest e = absurd (false≢true e)
 end_kind (Common Truncated) rest e = EndKind.cut refl
-end_kind UnknownCode rest e = absurd (false≢true e)
-end_kind WrongCount rest e = absurd (false≢true e)
-end_kind TooLong rest e = absurd (false≢true e)
+end_kind _ rest e = absurd (false≢true e)
 
 -- a fault of the text's end is none of a longer text
 module _ (text : List ℕ) where
@@ -73,7 +61,7 @@ module _ (text : List ℕ) where
   no_front : (rest : List ℕ) → is_front rest ≡ true → FaultDecided text (Common NotUtf8, rest) → ⊥
   no_front [] e d = false≢true e
   no_front (b ∷ bs) e d =
-      let w = front_completed b bs e in
+      let w = completed b bs e in
       let ill = ill_formed_stands (text ++ (w.0 ++ stop)) ((b ∷ bs) ++ (w.0 ++ stop)) (decided_fault (Common NotUtf8, b ∷ bs) d (w.0 ++ stop)) in
       char_there w.1 stop ((b ∷ bs) ++ (w.0 ++ stop)) w.2 ill
     where
@@ -104,9 +92,10 @@ module _ (text : List ℕ) where
   pub undecided : (f : Fault) → live_row text ≡ Err f → ends_row f.0 f.1 ≡ true → Undecided text
   undecided f e open_end = by (row_ends text (subst AtEnd (sym e) open_end))
     where
-      by : Final (λ bytes. row_at (text ++ bytes)) → Undecided text
-      by (Final.ended a) = (ended_row a, ended_fault a)
-      by (Final.broken bytes two is) = ((λ r after d. ok_no_err (r, after ++ bytes) row_stop (sym (decided_row r after d bytes) ∙ is)), broken_fault bytes two is)
+      by : Outcome (λ bytes. row_at (text ++ bytes)) ⊥ → Undecided text
+      by (Outcome.ended a) = (ended_row a, ended_fault a)
+      by (Outcome.broken bytes two is) = ((λ r after d. ok_no_err (r, after ++ bytes) row_stop (sym (decided_row r after d bytes) ∙ is)), broken_fault bytes two is)
+      by (Outcome.otherwise none) = absurd none
 
 -- all that is decided is read
 module _ (text : List ℕ) where

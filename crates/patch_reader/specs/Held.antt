@@ -1,15 +1,14 @@
 -- What a window holds of its text.
-use Rattle.std.specs.Prelude.{◌≡◌, ℕ, ◌+◌, ◌-◌, ◌^◌, ◌<◌, ◌≤◌, true, false, List, []}
-use Rattle.std.specs.Prelude.{◌++◌, length, drop, Option, Some, None, Err, IfSome}
-use Rattle.nquads_text.specs.Fault.{Fault as TextFault}
-use Rattle.nquads_text.specs.Reading.{char_at}
+use Rattle.std.specs.Prelude.{◌≡◌, ℕ, ◌+◌, ◌-◌, ◌^◌, ◌<◌, ◌≤◌, true, List}
+use Rattle.std.specs.Prelude.{◌++◌, length, drop, Option, Some, None, IfSome}
+use Rattle.patch_rows.specs.Cut.{is_cut}
 use Rattle.patch_rows.specs.Reading.{space_behind, skip_space}
 use Rattle.patch_rows.specs.declared.cut.TextEnd.{TextEnd}
 use Rattle.patch_rows.specs.declared.cut.TextEnd.TheVariants as ends
 use Rattle.patch_reader.specs.declared.front.Region.{Region}
 use Rattle.patch_reader.specs.declared.front.Region.TheVariants as regions
 use Rattle.patch_reader.specs.Places.{feeds_before}
-use Rattle.patch_reader.specs.Progress.{Follows}
+use Rattle.patch_reader.specs.Progress.{Follows, IsWithin}
 use Rattle.patch_reader.specs.Rows.{NothingDecided, Keeps}
 
 -- from behind the last row on, white space and comments are passed up to this place, from which
@@ -22,12 +21,16 @@ IsRegion text passed at rest (regions.Row progress) =
     × ((more : List ℕ) → skip_space (drop at (text ++ more)) ≡ drop at (text ++ more))
     × (at < length text) × IfSome progress (Follows rest)
 
--- no more white space and comments can be passed: nothing stands there, or in a
--- comment no character
+-- what is known of a row lies within so many bytes
+abbrev pub IsKnownWithin : ℕ → Region → Type 0
+IsKnownWithin size (regions.Gap comment) = Unit {0}
+IsKnownWithin size (regions.Row progress) = IfSome progress (IsWithin size)
+
+-- no more white space and comments can be passed: nothing stands there, the front of a character,
+-- or a row with what is known of it
 abbrev pub IsStuck : List ℕ → Region → Type 0
-IsStuck rest (regions.Gap true) = (fault : TextFault) × (char_at rest ≡ Err fault)
-IsStuck rest (regions.Gap false) = rest ≡ []
-IsStuck rest (regions.Row progress) = Unit {0}
+IsStuck rest (regions.Gap comment) = is_cut rest ≡ true
+IsStuck rest (regions.Row progress) = IsKnownWithin (length rest) (regions.Row progress)
 
 -- behind the place up to which rows were read this is the rest of the text, and what stands
 -- at its front
@@ -61,8 +64,13 @@ IsSameGap ends.Known text passed at = skip_space (drop passed text) ≡ skip_spa
 
 -- whatever text it is the rest of, no row and no fault is decided in it
 abbrev pub IsQuiet : List ℕ → Region → Type 0
-IsQuiet rest region =
-    (text : List ℕ) (passed at : ℕ) → IsRest text passed at rest region → NothingDecided text passed
+IsQuiet rest region = (text : List ℕ) (passed at : ℕ) → IsRest text passed at rest region
+    → IsStuck rest region → NothingDecided text passed
+
+-- whatever text it is the rest of, a row or a fault is decided in it
+abbrev pub IsDecided : List ℕ → Region → Type 0
+IsDecided rest region = (text : List ℕ) (passed at : ℕ) → IsRest text passed at rest region
+    → NothingDecided text passed → ⊥
 
 -- it has all that stands behind the last row
 abbrev pub HasAll : TextEnd → List ℕ → Region → Type 0

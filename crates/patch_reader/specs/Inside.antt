@@ -50,18 +50,22 @@ OpenInside (inside.Tag mark first some) text =
 OpenInside (inside.Datatype mark) text = TextAtEnd (iri_needed (skip_blanks (drop mark text)))
 OpenInside (inside.Iri mark) text = TextAtEnd (iri_body_at (drop mark text))
 
--- the mark lies within the text
+-- where the mark stands
+abbrev pub mark_of : Inside → ℕ
+mark_of inside.Nothing = 0
+mark_of (inside.Letters mark) = mark
+mark_of (inside.Word mark) = mark
+mark_of (inside.Label mark) = mark
+mark_of (inside.String mark) = mark
+mark_of (inside.Suffix mark) = mark
+mark_of (inside.Blanks mark) = mark
+mark_of (inside.Tag mark first some) = mark
+mark_of (inside.Datatype mark) = mark
+mark_of (inside.Iri mark) = mark
+
+-- within the text
 abbrev pub IsInsideWithin : ℕ → Inside → Type 0
-IsInsideWithin size inside.Nothing = Unit {0}
-IsInsideWithin size (inside.Letters mark) = mark ≤ size
-IsInsideWithin size (inside.Word mark) = mark ≤ size
-IsInsideWithin size (inside.Label mark) = mark ≤ size
-IsInsideWithin size (inside.String mark) = mark ≤ size
-IsInsideWithin size (inside.Suffix mark) = mark ≤ size
-IsInsideWithin size (inside.Blanks mark) = mark ≤ size
-IsInsideWithin size (inside.Tag mark first some) = mark ≤ size
-IsInsideWithin size (inside.Datatype mark) = mark ≤ size
-IsInsideWithin size (inside.Iri mark) = mark ≤ size
+IsInsideWithin size i = mark_of i ≤ size
 
 -- however the text goes on, a token that is open from the one mark on is from the other
 abbrev pub IsFurther : List ℕ → Inside → Inside → Type 0

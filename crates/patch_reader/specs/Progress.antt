@@ -1,13 +1,13 @@
 -- What is left to read of a row from a part on, and how far the reading of an unfinished
 -- row is known.
-use Rattle.std.specs.Prelude.{◌⊎◌, ℕ, ◌≤◌, Bool, true, false, List, ◌++◌, length}
-use Rattle.std.specs.Prelude.{drop, Option, Some, None, Result, Ok, if◌then◌else◌}
+use Rattle.std.specs.Prelude.{◌⊎◌, ◌↔◌, ℕ, ◌+◌, ◌*◌, ◌<◌, ◌≤◌, Bool, true, false, List, ◌++◌}
+use Rattle.std.specs.Prelude.{length, drop, Option, Some, None, Result, Ok, if◌then◌else◌}
 use Rattle.rdf_terms.specs.Quad.{is_iri}
 use Rattle.nquads_text.specs.declared.fault.TextKind.TheVariants.{MissingDot, BadToken}
 use Rattle.nquads_text.specs.Faults.{begins_term}
 use Rattle.patch_rows.specs.declared.fault.RowKind.TheVariants.{Common}
 use Rattle.patch_rows.specs.Fault.{Fault, ◌>>=◌}
-use Rattle.patch_rows.specs.Grammar.{is_any, is_node}
+use Rattle.patch_rows.specs.Grammar.{is_any, is_node, row_limit}
 use Rattle.patch_rows.specs.Reading.{space_behind, skip_space, stands, dot_at}
 use Rattle.patch_rows.specs.declared.cut.TextEnd.TheVariants.{Open}
 use Rattle.patch_rows.specs.Rows.{live_row, open_key, placed_of, prefix_iri_of, prefix_of}
@@ -158,33 +158,42 @@ first_part code.PrefixDelete = part.Removed
 first_part code.Add = part.Subject
 first_part code.Delete = part.Subject
 
--- ---- how far an unfinished row is known
+-- what is left behind the part; behind the row's dot only the text
+abbrev pub rest_behind : Option Part → List ℕ → Rest
+rest_behind None after = Ok after
+rest_behind (Some next) after = rest_from next (skip_space after)
 
--- the row at the front is unfinished
-abbrev pub IsUnfinished : List ℕ → Type 0
-IsUnfinished text = AtEnd (live_row text)
+-- ---- how far an unfinished row is known
 
 -- what is read from a place on meets the text's end
 abbrev pub OpenAt : Place → List ℕ → Type 0
-OpenAt (place.Row start) text = AtEnd (live_row (drop start text))
+OpenAt place.Row text = AtEnd (live_row text)
 OpenAt (place.Gap p mark comment) text =
     AtEnd (rest_from p (space_behind comment 0 (drop mark text)))
 OpenAt (place.Token p start) text = AtEnd (rest_from p (drop start text))
 
--- where the one meets the end of a text that goes on, the other does
-abbrev pub Leads : List ℕ → Place → Place → Type 0
-Leads text old new = (more : List ℕ) → OpenAt new (text ++ more) → OpenAt old (text ++ more)
+-- the row at the front is unfinished: reading it meets the text's end, and within its limit
+abbrev pub IsUnfinished : List ℕ → Type 0
+IsUnfinished text = (length text ≤ row_limit) × OpenAt place.Row text
 
--- the row is unfinished as long as what is read from there on meets the end
+-- however the text goes on, reading meets its end from the one place where it does from the other
+abbrev pub SameOpen : List ℕ → Place → Place → Type 0
+SameOpen text old new = (more : List ℕ) → OpenAt old (text ++ more) ↔ OpenAt new (text ++ more)
+
+-- reading the row meets the end where it does from the place on, and also where the token is open
 abbrev pub Follows : List ℕ → Progress → Type 0
-Follows text p = ((more : List ℕ) → OpenAt p.place (text ++ more) → IsUnfinished (text ++ more))
-    × ((more : List ℕ) → OpenInside p.inside (text ++ more) → IsUnfinished (text ++ more))
+Follows text p = SameOpen text place.Row p.place
+    × ((more : List ℕ) → OpenInside p.inside (text ++ more) → OpenAt place.Row (text ++ more))
 
--- the places lie within the text
+-- how many bytes of the text are known there, with the first one of a part
+abbrev pub known_bytes : Place → ℕ
+known_bytes place.Row = 0
+known_bytes (place.Gap p mark comment) = mark
+known_bytes (place.Token p start) = start + 1
+
+-- they lie within the text
 abbrev pub IsPlaceWithin : ℕ → Place → Type 0
-IsPlaceWithin size (place.Row start) = start ≤ size
-IsPlaceWithin size (place.Gap p mark comment) = mark ≤ size
-IsPlaceWithin size (place.Token p start) = start ≤ size
+IsPlaceWithin size p = known_bytes p ≤ size
 
 abbrev pub IsWithin : ℕ → Progress → Type 0
 IsWithin size p = IsPlaceWithin size p.place × IsInsideWithin size p.inside
@@ -194,18 +203,41 @@ abbrev pub LeadsInside : List ℕ → Progress → Inside → Type 0
 LeadsInside text old new = (more : List ℕ) → OpenInside new (text ++ more)
     → OpenAt old.place (text ++ more) ⊎ OpenInside old.inside (text ++ more)
 
--- one step: it leads on, or reading meets the end there, or nothing is known
+-- how many parts a row has at most from there on
+abbrev pub parts_left : Part → ℕ
+parts_left part.Key = 3
+parts_left part.Value = 2
+parts_left part.Bare = 1
+parts_left part.Added = 4
+parts_left part.Iri = 3
+parts_left part.Removed = 3
+parts_left part.Subject = 5
+parts_left part.Predicate = 4
+parts_left part.Object = 3
+parts_left part.Graph = 2
+parts_left part.End = 1
+
+-- how many steps lead from there at most: over the code, up to each part and over it
+abbrev pub steps_left : Place → ℕ
+steps_left place.Row = 12
+steps_left (place.Gap p mark comment) = 2 * parts_left p + 1
+steps_left (place.Token p start) = 2 * parts_left p
+
+-- One step: it goes on nearer to the row's end, reading meets the text's end there, or a row or a
+-- fault is decided. Want of memory says nothing.
 abbrev pub IsStep : List ℕ → Progress → Step → Type 0
-IsStep text old (step.Goes new) = Leads text old.place new × IsPlaceWithin (length text) new
+IsStep text old (step.Goes new) = SameOpen text old.place new × IsPlaceWithin (length text) new
+    × (steps_left new < steps_left old.place)
 IsStep text old (step.Open new) =
-    Leads text old.place new × IsPlaceWithin (length text) new × OpenAt new text
+    SameOpen text old.place new × IsPlaceWithin (length text) new × OpenAt new text
 IsStep text old (step.Enters new) =
     LeadsInside text old new × IsInsideWithin (length text) new × OpenInside new text
-IsStep text old step.Unknown = Unit {0}
+IsStep text old step.Decided = OpenAt old.place text → ⊥
+IsStep text old step.OutOfMemory = Unit {0}
 
--- the row is unfinished, and it is followed from there on
+-- the row is unfinished, and it is followed from there on; none where it isn't
 abbrev pub IsFollowed : List ℕ → Progress → Option Progress → Type 0
-IsFollowed text old None = Unit {0}
+IsFollowed text old None = Follows text old → IsUnfinished text → ⊥
 IsFollowed text old (Some p) =
     IsWithin (length text) p × (Follows text old → Follows text p × IsUnfinished text)
 

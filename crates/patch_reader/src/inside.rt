@@ -16,29 +16,17 @@ use rdf_terms::is_name_char;
 pub enum Inside {
     Nothing,
     /// In the letters of a row's code.
-    Letters {
-        mark: usize,
-    },
+    Letters(usize),
     /// In a key, or in a prefix that is written as a word.
-    Word {
-        mark: usize,
-    },
+    Word(usize),
     /// Behind the first character of a label.
-    Label {
-        mark: usize,
-    },
+    Label(usize),
     /// In a string.
-    String {
-        mark: usize,
-    },
+    String(usize),
     /// Behind the closing quote of a string.
-    Suffix {
-        mark: usize,
-    },
+    Suffix(usize),
     /// Behind a string and blanks.
-    Blanks {
-        mark: usize,
-    },
+    Blanks(usize),
     /// In a language tag; no dash was before, and the present part has a byte.
     Tag {
         mark: usize,
@@ -46,13 +34,9 @@ pub enum Inside {
         some: bool,
     },
     /// Behind the `^^` of a datatype.
-    Datatype {
-        mark: usize,
-    },
+    Datatype(usize),
     /// In an IRIREF.
-    Iri {
-        mark: usize,
-    },
+    Iri(usize),
 }
 
 /// How many kinds of places a token goes through at most: a string, behind it, blanks, behind `^^`,
@@ -66,7 +50,7 @@ fn letters_run(text: &[u8], from: usize) -> Inside
     ensures leads { IsFurther text.now (inside.Letters from) result }
 {
     let end = letters_end(text, from);
-    Inside::Letters { mark: end }
+    Inside::Letters(end)
 }
 
 /// Over the bytes of a word.
@@ -76,7 +60,7 @@ fn word_run(text: &[u8], from: usize) -> Inside
     ensures leads { IsFurther text.now (inside.Word from) result }
 {
     let end = word_end(text, from);
-    Inside::Word { mark: end }
+    Inside::Word(end)
 }
 
 /// Whether a label may have the character behind its first one.
@@ -99,7 +83,7 @@ fn label_run(text: &[u8], from: usize) -> Inside
         }
         at = next;
     }
-    Inside::Label { mark: at }
+    Inside::Label(at)
 }
 
 /// Over characters of a string, and its closing quote.
@@ -112,8 +96,8 @@ fn string_run(text: &[u8], from: usize) -> Inside
     'run: loop {
         match string_piece(text, at) {
             Ok((Some(_), next)) => at = next,
-            Ok((None, next)) => return Inside::Suffix { mark: next },
-            Err(_) => return Inside::String { mark: at },
+            Ok((None, next)) => return Inside::Suffix(next),
+            Err(_) => return Inside::String(at),
         }
     }
 }
@@ -125,7 +109,7 @@ fn suffix_run(text: &[u8], from: usize) -> Inside
     ensures leads { IsFurther text.now (inside.Suffix from) result }
 {
     if from == text.len() {
-        return Inside::Suffix { mark: from };
+        return Inside::Suffix(from);
     }
     if text[from] == b'@' {
         return Inside::Tag {
@@ -134,7 +118,7 @@ fn suffix_run(text: &[u8], from: usize) -> Inside
             some: false,
         };
     }
-    Inside::Blanks { mark: from }
+    Inside::Blanks(from)
 }
 
 /// Over blanks, and the `^^` of a datatype.
@@ -145,9 +129,9 @@ fn blanks_run(text: &[u8], from: usize) -> Inside
 {
     let at = skip_blanks(text, from);
     if at + 1 < text.len() && text[at] == b'^' && text[at + 1] == b'^' {
-        return Inside::Datatype { mark: at + 2 };
+        return Inside::Datatype(at + 2);
     }
-    Inside::Blanks { mark: at }
+    Inside::Blanks(at)
 }
 
 /// Over the bytes of a tag.
@@ -189,9 +173,9 @@ fn datatype_run(text: &[u8], from: usize) -> Inside
 {
     let at = skip_blanks(text, from);
     if at < text.len() && text[at] == b'<' {
-        return Inside::Iri { mark: at + 1 };
+        return Inside::Iri(at + 1);
     }
-    Inside::Datatype { mark: at }
+    Inside::Datatype(at)
 }
 
 /// Over characters of an IRIREF.
@@ -204,7 +188,7 @@ fn iri_run(text: &[u8], from: usize) -> Inside
     'run: while let Ok((Some(_), next)) = iri_piece(text, at) {
         at = next;
     }
-    Inside::Iri { mark: at }
+    Inside::Iri(at)
 }
 
 /// One of these runs.
@@ -215,25 +199,25 @@ fn run(text: &[u8], inside: Inside) -> Inside
 {
     match inside {
         Inside::Nothing => Inside::Nothing,
-        Inside::Letters { mark } => letters_run(text, mark),
-        Inside::Word { mark } => word_run(text, mark),
-        Inside::Label { mark } => label_run(text, mark),
-        Inside::String { mark } => string_run(text, mark),
-        Inside::Suffix { mark } => suffix_run(text, mark),
-        Inside::Blanks { mark } => blanks_run(text, mark),
+        Inside::Letters(mark) => letters_run(text, mark),
+        Inside::Word(mark) => word_run(text, mark),
+        Inside::Label(mark) => label_run(text, mark),
+        Inside::String(mark) => string_run(text, mark),
+        Inside::Suffix(mark) => suffix_run(text, mark),
+        Inside::Blanks(mark) => blanks_run(text, mark),
         Inside::Tag { mark, first, some } => tag_run(text, mark, first, some),
-        Inside::Datatype { mark } => datatype_run(text, mark),
-        Inside::Iri { mark } => iri_run(text, mark),
+        Inside::Datatype(mark) => datatype_run(text, mark),
+        Inside::Iri(mark) => iri_run(text, mark),
     }
 }
 
 /// Whether the one place leads to another kind of place.
 fn is_next(from: Inside, to: Inside) -> bool {
     match from {
-        Inside::String { .. } => matches!(to, Inside::Suffix { .. }),
-        Inside::Suffix { .. } => matches!(to, Inside::Blanks { .. } | Inside::Tag { .. }),
-        Inside::Blanks { .. } => matches!(to, Inside::Datatype { .. }),
-        Inside::Datatype { .. } => matches!(to, Inside::Iri { .. }),
+        Inside::String(_) => matches!(to, Inside::Suffix(_)),
+        Inside::Suffix(_) => matches!(to, Inside::Blanks(_) | Inside::Tag { .. }),
+        Inside::Blanks(_) => matches!(to, Inside::Datatype(_)),
+        Inside::Datatype(_) => matches!(to, Inside::Iri(_)),
         _ => false,
     }
 }
@@ -300,32 +284,14 @@ pub fn is_open(text: &[u8], inside: Inside) -> bool
 {
     match inside {
         Inside::Nothing => false,
-        Inside::Letters { mark } => mark == text.len(),
-        Inside::Word { mark } => mark == text.len(),
-        Inside::Label { mark } => is_label_open(text, mark),
-        Inside::String { mark } => is_string_open(text, mark),
-        Inside::Suffix { mark } => mark == text.len(),
-        Inside::Blanks { mark } => are_blanks_open(text, mark),
+        Inside::Letters(mark) => mark == text.len(),
+        Inside::Word(mark) => mark == text.len(),
+        Inside::Label(mark) => is_label_open(text, mark),
+        Inside::String(mark) => is_string_open(text, mark),
+        Inside::Suffix(mark) => mark == text.len(),
+        Inside::Blanks(mark) => are_blanks_open(text, mark),
         Inside::Tag { mark, .. } => mark == text.len(),
-        Inside::Datatype { mark } => is_cut_at(text, mark),
-        Inside::Iri { mark } => is_iri_open(text, mark),
-    }
-}
-
-/// Whether the mark lies within a text of this size.
-pub fn is_inside_within(inside: Inside, size: usize) -> bool
-    ensures { result ≡ true → IsInsideWithin size inside }
-{
-    match inside {
-        Inside::Nothing => true,
-        Inside::Letters { mark } => mark <= size,
-        Inside::Word { mark } => mark <= size,
-        Inside::Label { mark } => mark <= size,
-        Inside::String { mark } => mark <= size,
-        Inside::Suffix { mark } => mark <= size,
-        Inside::Blanks { mark } => mark <= size,
-        Inside::Tag { mark, .. } => mark <= size,
-        Inside::Datatype { mark } => mark <= size,
-        Inside::Iri { mark } => mark <= size,
+        Inside::Datatype(mark) => is_cut_at(text, mark),
+        Inside::Iri(mark) => is_iri_open(text, mark),
     }
 }

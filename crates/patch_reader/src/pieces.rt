@@ -49,7 +49,8 @@ fn take_piece(
         (result_err result) }
 {
     window.push(piece)?;
-    if window.is_quiet() {
+    let is_quiet = window.is_quiet()?;
+    if is_quiet {
         window.settle();
         return Ok(());
     }

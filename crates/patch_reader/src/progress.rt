@@ -1,24 +1,24 @@
 //! How far the reading of an unfinished row is known, so that it isn't read again for each piece.
 
 ghost use Rattle.std.specs.Prelude.{◌≡◌, ◌≤◌, ◌<◌, ◌++◌, ℕ, List, true};
-ghost use Rattle.std.specs.Prelude.{false, length, drop, slice_index, Err};
-ghost use Rattle.nquads_text.specs.Fault.{Fault};
+ghost use Rattle.std.specs.Prelude.{false, length, drop, slice_index, IfOk};
 ghost use Rattle.nquads_text.specs.Faults.{begins_term};
-ghost use Rattle.nquads_text.specs.Reading.{char_at as char_of};
 ghost use Rattle.patch_rows.specs.Fault.{Ends};
-ghost use Rattle.patch_rows.specs.Reading.{space_behind, stands};
+ghost use Rattle.patch_rows.specs.Reading.{stands};
 ghost use Rattle.patch_reader.specs.Inside.{OpenInside, IsInsideWithin};
 ghost use Rattle.patch_reader.specs.Progress.{part_at, part_behind as part_behind_of};
 ghost use Rattle.patch_reader.specs.Progress.{takes_term as term_is_taken};
 ghost use Rattle.patch_reader.specs.Progress.{takes_node as node_is_taken};
 ghost use Rattle.patch_reader.specs.Progress.{takes_word as word_is_taken};
 ghost use Rattle.patch_reader.specs.Progress.{first_part as first_part_of, OpenAt};
-ghost use Rattle.patch_reader.specs.Progress.{LeadsInside, IsPlaceWithin, IsWithin};
+ghost use Rattle.patch_reader.specs.Progress.{LeadsInside, IsWithin};
 ghost use Rattle.patch_reader.specs.Progress.{IsStep, IsFollowed, progress_at};
 ghost use Rattle.patch_reader.specs.declared.progress.Part.TheVariants as parts;
 ghost use Rattle.patch_reader.specs.declared.progress.Place.TheVariants as place;
 
-use crate::inside::{Inside, is_inside_within, is_open, pass};
+use crate::inside::{Inside, is_open, pass};
+use crate::reading::is_long;
+use delta_base::OutOfMemory;
 use nquads_text::{TextKind, char_at};
 use patch_rows::parts::{
     Code, any, dot, ends, find_code, iri, is_at, is_cut_at, is_letter_at, is_term_at, key, node,
@@ -56,9 +56,7 @@ pub enum Part {
 #[derive(Clone, Copy)]
 pub enum Place {
     /// At the row's first byte.
-    Row {
-        start: usize,
-    },
+    Row,
     /// In white space and comments before a part.
     Gap {
         part: Part,
@@ -87,12 +85,10 @@ pub enum Step {
     Open(Place),
     /// The text ends inside the string or the IRIREF, and nothing is decided.
     Enters(Inside),
-    /// Something may be decided.
-    Unknown,
+    /// A row or a fault is decided.
+    Decided,
+    OutOfMemory,
 }
-
-/// The steps that a row has at most: two or three for each of its parts.
-const STEPS: usize = 32;
 
 /// At a place, with nothing known of what begins there.
 fn at_place(place: Place) -> Progress
@@ -106,9 +102,9 @@ fn at_place(place: Place) -> Progress
 
 /// At the front of a row of which nothing is known.
 pub fn at_row() -> Progress
-    ensures { result ≡ progress_at (place.Row 0) }
+    ensures { result ≡ progress_at place.Row }
 {
-    at_place(Place::Row { start: 0 })
+    at_place(Place::Row)
 }
 
 fn first_part(code: Code) -> Part
@@ -158,23 +154,12 @@ fn takes_word(part: Part) -> bool
     matches!(part, Part::Key | Part::Added | Part::Removed)
 }
 
-/// Whether something else than white space and comments stands there.
-pub fn is_past_gap(text: &[u8], at: usize, comment: bool) -> bool
-    ensures yes { result ≡ true → (comment ≡ false) × (at < length text.now) }
-    ensures none { result ≡ false → comment ≡ false → at < length text.now → ⊥ }
-{
-    !comment && at < text.len()
-}
-
 /// Through white space and comments before a part.
 fn step_gap(text: &[u8], part: Part, mark: usize, comment: bool) -> Step
     requires { mark ≤ length text.now }
     ensures { IsStep text.now (progress_at (place.Gap part mark comment)) result }
 {
     let (at, comment) = pass_gap(text, mark, comment);
-    if is_past_gap(text, at, comment) {
-        return Step::Goes(Place::Token { part, start: at });
-    }
     if is_cut_at(text, at) {
         return Step::Open(Place::Gap {
             part,
@@ -182,30 +167,29 @@ fn step_gap(text: &[u8], part: Part, mark: usize, comment: bool) -> Step
             comment,
         });
     }
-    Step::Unknown
+    Step::Goes(Place::Token { part, start: at })
 }
 
 /// Over a row's code, read as a whole.
-fn step_code(text: &[u8], start: usize) -> Step
-    requires { start ≤ length text.now }
-    ensures { IsStep text.now (progress_at (place.Row start)) result }
+fn step_code(text: &[u8]) -> Step
+    ensures { IsStep text.now (progress_at place.Row) result }
 {
-    match word(text, start) {
+    match word(text, 0) {
         Ok((letters, behind)) => match find_code(letters) {
             Some(code) => Step::Goes(Place::Gap {
                 part: first_part(code),
                 mark: behind,
                 comment: false,
             }),
-            None => Step::Unknown,
+            None => Step::Decided,
         },
         Err(RowFault::At { at, kind }) => {
             if ends(text, at as usize, kind) {
-                return Step::Open(Place::Row { start });
+                return Step::Open(Place::Row);
             }
-            Step::Unknown
+            Step::Decided
         }
-        Err(RowFault::OutOfMemory) => Step::Unknown,
+        Err(RowFault::OutOfMemory) => Step::OutOfMemory,
     }
 }
 
@@ -228,7 +212,7 @@ fn read_part(alloc: Global, text: &[u8], part: Part, start: usize) -> Result<usi
 
 /// Over a part, read as a whole.
 fn step_part(alloc: Global, text: &[u8], part: Part, start: usize) -> Step
-    requires within { start ≤ length text.now }
+    requires within { start < length text.now }
     requires graph { part ≡ parts.Graph → stands begins_term (drop start text.now) ≡ true }
     ensures { IsStep text.now (progress_at (place.Token part start)) result }
 {
@@ -239,27 +223,26 @@ fn step_part(alloc: Global, text: &[u8], part: Part, start: usize) -> Step
                 mark: behind,
                 comment: false,
             }),
-            None => Step::Unknown,
+            None => Step::Decided,
         },
         Err(RowFault::At { at, kind }) => {
             if ends(text, at as usize, kind) {
                 return Step::Open(Place::Token { part, start });
             }
-            Step::Unknown
+            Step::Decided
         }
-        Err(RowFault::OutOfMemory) => Step::Unknown,
+        Err(RowFault::OutOfMemory) => Step::OutOfMemory,
     }
 }
 
 /// In the letters of a row's code, where one stands.
-fn code_begins(text: &[u8], start: usize) -> Inside
-    requires { start ≤ length text.now }
+fn code_begins(text: &[u8]) -> Inside
     ensures within { IsInsideWithin (length text.now) result }
     ensures leads { (more : List ℕ) → OpenInside result (text.now ++ more)
-        → OpenAt (place.Row start) (text.now ++ more) }
+        → OpenAt place.Row (text.now ++ more) }
 {
-    if is_letter_at(text, start) {
-        return Inside::Letters { mark: start + 1 };
+    if is_letter_at(text, 0) {
+        return Inside::Letters(1);
     }
     Inside::Nothing
 }
@@ -279,7 +262,7 @@ fn label_begins(text: &[u8], part: Part, start: usize) -> Inside
     match char_at(text, start + 2) {
         Ok((c, next)) => {
             if begins_name(c) {
-                return Inside::Label { mark: next };
+                return Inside::Label(next);
             }
             Inside::Nothing
         }
@@ -295,16 +278,16 @@ fn part_begins(text: &[u8], part: Part, start: usize) -> Inside
         → OpenAt (place.Token part start) (text.now ++ more) }
 {
     if takes_term(part) && text[start] == b'"' {
-        return Inside::String { mark: start + 1 };
+        return Inside::String(start + 1);
     }
     if takes_term(part) && text[start] == b'<' {
-        return Inside::Iri { mark: start + 1 };
+        return Inside::Iri(start + 1);
     }
     if takes_node(part) && text[start] == b'_' {
         return label_begins(text, part, start);
     }
     if takes_word(part) && text[start].is_ascii_alphabetic() {
-        return Inside::Word { mark: start + 1 };
+        return Inside::Word(start + 1);
     }
     Inside::Nothing
 }
@@ -321,30 +304,28 @@ fn lacks_graph(text: &[u8], part: Part, start: usize) -> bool
 }
 
 /// What is known of a row's code, at least where its first letter stands.
-fn in_code(text: &[u8], start: usize, inside: Inside) -> Inside
-    requires begins { start ≤ length text.now }
-    requires within { IsInsideWithin (length text.now) inside }
+fn in_code(text: &[u8], inside: Inside) -> Inside
+    requires { IsInsideWithin (length text.now) inside }
     ensures within { IsInsideWithin (length text.now) result }
     ensures leads { LeadsInside text.now
-        (record { place = place.Row start; inside = inside }) result }
+        (record { place = place.Row; inside = inside }) result }
 {
     match inside {
-        Inside::Nothing => code_begins(text, start),
+        Inside::Nothing => code_begins(text),
         known => known,
     }
 }
 
 /// Over a row's code.
-fn step_row(text: &[u8], start: usize, inside: Inside) -> Step
-    requires begins { start ≤ length text.now }
-    requires within { IsInsideWithin (length text.now) inside }
-    ensures { IsStep text.now (record { place = place.Row start; inside = inside }) result }
+fn step_row(text: &[u8], inside: Inside) -> Step
+    requires { IsInsideWithin (length text.now) inside }
+    ensures { IsStep text.now (record { place = place.Row; inside = inside }) result }
 {
-    let inside = pass(text, in_code(text, start, inside));
+    let inside = pass(text, in_code(text, inside));
     if is_open(text, inside) {
         return Step::Enters(inside);
     }
-    step_code(text, start)
+    step_code(text)
 }
 
 /// What is known of a part, at least where its first bytes stand.
@@ -386,56 +367,42 @@ fn advance(alloc: Global, text: &[u8], progress: Progress) -> Step
     ensures { IsStep text.now progress result }
 {
     match progress.place {
-        Place::Row { start } => step_row(text, start, progress.inside),
+        Place::Row => step_row(text, progress.inside),
         Place::Gap {
             part,
             mark,
             comment,
         } => step_gap(text, part, mark, comment),
-        Place::Token { part, start } => {
-            if start < text.len() {
-                return step_token(alloc, text, part, start, progress.inside);
-            }
-            Step::Unknown
-        }
+        Place::Token { part, start } => step_token(alloc, text, part, start, progress.inside),
     }
 }
 
-/// Follows an unfinished row up to the text's end; none where something may be decided.
-pub fn follow(alloc: Global, text: &[u8], progress: Progress) -> Option<Progress>
+/// Follows an unfinished row up to the text's end. None where a row or a fault is decided, as where
+/// the row is too long.
+pub fn follow(
+    alloc: Global,
+    text: &[u8],
+    progress: Progress,
+) -> Result<Option<Progress>, OutOfMemory>
     requires { IsWithin (length text.now) progress }
-    ensures { IsFollowed text.now progress result }
+    ensures { IfOk result (IsFollowed text.now progress) }
 {
+    if is_long(text, 0) {
+        return Ok(None);
+    }
     let mut progress = progress;
-    for _ in 0..STEPS {
+    'steps: loop {
         match advance(alloc, text, progress) {
             Step::Goes(place) => progress = at_place(place),
-            Step::Open(place) => return Some(at_place(place)),
+            Step::Open(place) => return Ok(Some(at_place(place))),
             Step::Enters(inside) => {
-                return Some(Progress {
+                return Ok(Some(Progress {
                     place: progress.place,
                     inside,
-                });
+                }));
             }
-            Step::Unknown => return None,
+            Step::Decided => return Ok(None),
+            Step::OutOfMemory => return Err(OutOfMemory),
         }
     }
-    None
-}
-
-fn is_place_within(place: Place, size: usize) -> bool
-    ensures { result ≡ true → IsPlaceWithin size place }
-{
-    match place {
-        Place::Row { start } => start <= size,
-        Place::Gap { mark, .. } => mark <= size,
-        Place::Token { start, .. } => start <= size,
-    }
-}
-
-/// Whether its places lie within a text of this size.
-pub fn is_within(progress: Progress, size: usize) -> bool
-    ensures { result ≡ true → IsWithin size progress }
-{
-    is_inside_within(progress.inside, size) && is_place_within(progress.place, size)
 }

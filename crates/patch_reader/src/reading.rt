@@ -15,7 +15,7 @@ use patch_rows::{ROW_LIMIT, Row, RowFault, RowKind, TextEnd};
 use std::alloc::Global;
 
 /// Whether more bytes stand from a place on than a row may have.
-fn is_long(text: &[u8], at: usize) -> bool
+pub fn is_long(text: &[u8], at: usize) -> bool
     requires { at ≤ length text.now }
     ensures long { result ≡ true → row_limit < length (drop at text.now) }
     ensures short { result ≡ false → length (drop at text.now) ≤ row_limit }

@@ -1,12 +1,12 @@
 //! A text that comes in pieces, and its rows.
 
-ghost use Rattle.std.specs.Prelude.{◌≡◌, ◌+◌, ◌++◌, ◌≤◌, [], true, None};
-ghost use Rattle.std.specs.Prelude.{length, drop, IfSome, OnOk, OnErr};
+ghost use Rattle.std.specs.Prelude.{◌≡◌, ◌+◌, ◌++◌, ◌≤◌, [], true, false, None};
+ghost use Rattle.std.specs.Prelude.{length, drop, Ok, IfSome, OnOk, OnErr};
 ghost use Rattle.patch_rows.specs.declared.cut.TextEnd.TheVariants as ends;
 ghost use Rattle.patch_reader.specs.Places.{IsFrom, line_number};
 ghost use Rattle.patch_reader.specs.Rows.{GivesNext, Stops};
 
-use crate::front::{Region, follow_rest, is_new, note_unfinished, pass_front};
+use crate::front::{Region, follow_open, follow_rest, is_new, note_unfinished, pass_front};
 use crate::lines::feeds_in;
 use crate::next::next_row;
 use crate::past::Fed;
@@ -119,14 +119,16 @@ impl RowWindow {
         &[]
     }
 
-    /// Whether nothing more is decided, as far as that is known of an unfinished row. It costs less
-    /// than to ask for the next one.
-    pub fn is_quiet(&mut self) -> bool
-        ensures quiet { result ≡ true → Stops ends.Open self.old.fed self.old.passed None }
+    /// Whether nothing more is decided. Where a row begins that wasn't read yet, that isn't known,
+    /// and the answer is false. It costs less than to ask for the next row.
+    pub fn is_quiet(&mut self) -> Result<bool, OutOfMemory>
+        ensures quiet { result ≡ Ok true → Stops ends.Open self.old.fed self.old.passed None }
+        ensures decided { result ≡ Ok false → self.old.front ≡ None
+            → Stops ends.Open self.old.fed self.old.passed None → ⊥ }
         ensures same { self.new ≡ record self.old { front = self.new.front } }
     {
         let rest = &self.kept[self.at..];
-        follow_rest(self.alloc, rest, &mut self.region, TextEnd::Open)
+        follow_open(self.alloc, rest, &mut self.region)
     }
 
     /// The next row, with its places: of a text that may go on one that is decided. None where
@@ -137,7 +139,8 @@ impl RowWindow {
         ensures kept { IsFrom self.old.kept result }
         ensures goes_on { GoesOn self.old result self.new }
     {
-        if follow_rest(self.alloc, &self.kept[self.at..], &mut self.region, end) {
+        let is_quiet = follow_rest(self.alloc, &self.kept[self.at..], &mut self.region, end)?;
+        if is_quiet {
             return Ok(None);
         }
         match next_row(self.alloc, &self.kept, self.at, self.from, end) {

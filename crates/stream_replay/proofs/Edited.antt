@@ -47,20 +47,12 @@ map-remove_key f test (y ∷ ys) =
 abbrev edits_of : Change → List (Bool × List ℕ)
 edits_of (Add q) = (true, line q) ∷ []
 edits_of (Delete q) = (false, line q) ∷ []
-edits_of (PrefixAdd prefix iri graph) = []
-edits_of (PrefixDelete prefix graph) = []
-edits_of Begin = []
-edits_of Commit = []
-edits_of Abort = []
+edits_of _ = []
 
 effect_edited : (c : Change) (d : Dataset) → map line (effect c d).quads ≡ edited (edits_of c) (map line d.quads)
 effect_edited (Add q) d = map-insert_key line (slice_cmp nat_cmp) d.quads q
 effect_edited (Delete q) d = map-remove_key line (λ l. is_eq (slice_cmp nat_cmp (line q) l)) d.quads
-effect_edited (PrefixAdd prefix iri graph) d = refl
-effect_edited (PrefixDelete prefix graph) d = refl
-effect_edited Begin d = refl
-effect_edited Commit d = refl
-effect_edited Abort d = refl
+effect_edited _ d = refl
 
 makes_more : (c : Change) (d : Dataset) (edits : List (Bool × List ℕ)) → MakesLines edits d → MakesLines (edits ++ edits_of c) (effect c d)
 makes_more c d edits makes = made_append edits (edits_of c) ∙ ap (edited (edits_of c)) makes ∙ sym (effect_edited c d)

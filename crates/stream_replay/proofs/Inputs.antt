@@ -47,9 +47,8 @@ pub ends_input : (before mid after : Option (List ℕ)) (faults now : ℕ) (text
 ends_input before mid after faults now text piece (ends.Stream line at kind) consumed none empty end short is = at_end before mid after text piece (EndsText (ends.Stream line at kind)) consumed none empty end short is
 ends_input before mid after faults now text piece (ends.LongPatch size limit) consumed none empty end short is = at_end before mid after text piece (EndsText (ends.LongPatch size limit)) consumed none empty end short is
 ends_input before mid after faults now text piece (ends.Chain fault) consumed none empty end short is = at_end before mid after text piece (EndsText (ends.Chain fault)) consumed none empty end short is
-ends_input before mid after faults now text piece ends.TooLong consumed none empty end short is = absurd is
-ends_input before mid after faults now text piece ends.Failed consumed none empty end short is = absurd is
 ends_input before mid after faults now text piece ends.OutOfMemory consumed none empty end short is = tt
+ends_input before mid after faults now text piece _ consumed none empty end short is = absurd is
 
 pub too_long : (before now : Option (List ℕ)) (s : Streaming) (size : ℕ) → HasRead before now s size → stream_limit < size → IsTooLong before
 too_long before now s size h long = by before now h.text h.consumed (let a = h.size_is in omega arith)

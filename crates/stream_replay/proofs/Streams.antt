@@ -209,11 +209,9 @@ row_found text at end (says.Prev id) r is e = let named = prev_role is.0 id is.1
 
 said_further : (text : List ℕ) (at end : ℕ) (s : Says) → IsSaid text at end s → at < end
 said_further text at end (says.Quad adds line) is = is.1.further
-said_further text at end says.Begin is = is.further
-said_further text at end says.Commit is = is.further
-said_further text at end says.Abort is = is.further
 said_further text at end (says.Id id) is = is.2.further
 said_further text at end (says.Prev id) is = is.2.further
+said_further text at end _ is = is.further
 
 -- a row was found in front, and it ends further on
 pub found_further : (w : Window) (place : Option ℕ) (at : ℕ) (front : List ℕ) (found : ScannedRow) → place ≡ w.front → place ≡ Some at → RowBegins w at → front ≡ row_front w → HasRow front 0 found → (w.passed ≤ at) × (at < length w.fed) × (0 < found.end)
@@ -283,7 +281,4 @@ stream_at_end text at p done h gap ends = record {
 pub ends_chain : (ms : List Meaning) (fault : ReplayFault) (text : List ℕ) → IsStream text ms → EndsChain ms fault → EndsText fault text
 ends_chain ms (ends.Chain fault) text stream is = record { meanings = ms; stream = stream; breaks = is }
 ends_chain ms ends.OutOfMemory text stream is = tt
-ends_chain ms (ends.Stream line at kind) text stream is = absurd is
-ends_chain ms (ends.LongPatch size limit) text stream is = absurd is
-ends_chain ms ends.TooLong text stream is = absurd is
-ends_chain ms ends.Failed text stream is = absurd is
+ends_chain ms _ text stream is = absurd is

@@ -61,19 +61,15 @@ broken ms fault all = subst (λ (l : List Meaning). Breaks (links_of l) fault) (
 
 -- ---- a chain
 
-whole : (ms : List Meaning) (fault : Option ChainFault) (r : Replay) → is_some fault ≡ false → HasTaken ms fault r → IsWhole ms r
-whole ms None r none has = has
-whole ms (Some fault) r none has = absurd cc
+none_met : (fault : Option ChainFault) → is_some fault ≡ false → fault ≡ None
+none_met None none = refl
+none_met (Some fault) none = absurd cc
 
 pub is_whole : (ms : List Meaning) (r : Replay) → is_some r.fault ≡ false → IsReplay ms r → IsWhole ms r
-is_whole ms r none has = whole ms r.fault r none has
-
-make : (ms : List Meaning) (fault : Option ChainFault) (r : Replay) → is_some fault ≡ false → IsWhole ms r → HasTaken ms fault r
-make ms None r none is = is
-make ms (Some fault) r none is = absurd cc
+is_whole ms r none has = subst (λ (fault : Option ChainFault). HasTaken ms fault r) (none_met r.fault none) has
 
 pub make_whole : (ms : List Meaning) (r : Replay) → is_some r.fault ≡ false → IsWhole ms r → IsReplay ms r
-make_whole ms r none is = make ms r.fault r none is
+make_whole ms r none is = subst (λ (fault : Option ChainFault). HasTaken ms fault r) (sym (none_met r.fault none)) is
 
 -- so few can be counted
 pub no_end : (n : ℕ) → n < 2 ^ 32 → min (n + 1) (2 ^ 64 - 1) ≡ n + 1

@@ -7,9 +7,7 @@
 
 mod edits;
 mod fault;
-mod found;
 mod lines;
-mod place;
 mod progress;
 mod replay;
 mod source;

@@ -2,25 +2,41 @@
 ghost use Rattle.std.specs.Prelude.{◌≡◌, ◌+◌, ◌-◌, ◌<◌, ◌≤◌, ◌^◌, ◌++◌, ◌∷◌, ℕ, List, []};
 ghost use Rattle.std.specs.Prelude.{None, Some, Err, IfOk, IfErr, OnOk, drop, length};
 ghost use Rattle.patch_meaning.specs.Cutting.{EndsStream, IsLast};
+ghost use Rattle.patch_meaning.specs.PartRead.{IsToldAt};
 ghost use Rattle.patch_rows.specs.declared.cut.TextEnd.{TextEnd as End};
 ghost use Rattle.patch_rows.specs.declared.cut.TextEnd.TheVariants as ends;
 ghost use Rattle.patch_reader.specs.Places.{IsFrom};
 ghost use Rattle.patch_reader.specs.Rows.{Gap, RowsStand, Stops};
 ghost use Rattle.patch_reader.specs.Window.{RowBegins};
 ghost use Rattle.row_scan.specs.Rows.{HasRow};
+ghost use Rattle.stream_replay.specs.Found.{found_role};
 
 use crate::fault::ReplayFault;
-use crate::found::found_role;
-use crate::place::tell;
 use crate::progress::Progress;
 use crate::replay::Replayed;
 use chain_core::Link;
 use delta_base::OutOfMemory;
-use patch_meaning::{Role, role_of};
+use patch_meaning::{PatchFault, Role, role_of};
 use patch_reader::{PlacedRow, RowWindow};
 use patch_rows::{RowFault, TextEnd};
+use rdf_terms::Change;
 use row_scan::{Says, ScannedRow, scan_row};
 use std::alloc::Global;
+
+/// What a row says, unless it adds or deletes a quad, of which no term is made.
+#[inline(always)]
+fn found_role(says: Says) -> Option<Role>
+    ensures { result ≡ found_role says }
+{
+    match says {
+        Says::Quad { .. } => None,
+        Says::Begin => Some(Role::Change(Change::Begin)),
+        Says::Commit => Some(Role::Change(Change::Commit)),
+        Says::Abort => Some(Role::Change(Change::Abort)),
+        Says::Id(id) => Some(Role::Id(Some(id))),
+        Says::Prev(id) => Some(Role::Prev(Some(id))),
+    }
+}
 
 /// A stream of which some pieces were read.
 #[derive(Drop)]
@@ -34,7 +50,7 @@ pub struct Streaming {
 impl Streaming {
     ghost use Rattle.stream_replay.specs.Source.{EndsText, IsReplayed};
     ghost use Rattle.stream_replay.specs.Streaming.{AwaitsRow, HasFed, IsRead};
-    ghost use Rattle.stream_replay.specs.Streaming.{HasStreamed, IsFew, IsTold};
+    ghost use Rattle.stream_replay.specs.Streaming.{HasStreamed, IsFew, IsRefused, IsTold};
 
     /// No byte so far.
     pub fn new(alloc: Global) -> Streaming
@@ -212,7 +228,26 @@ impl Streaming {
     {
         match self.progress.take(alloc, says, at) {
             Ok(()) => Ok(()),
-            Err(fault) => Err(tell(&self.window, fault, at)),
+            Err(fault) => Err(Streaming::tell(&self.window, fault, at)),
+        }
+    }
+
+    // The fault at this place of the window with its line; that a patch is too long has none.
+    fn tell(window: &RowWindow, fault: PatchFault, at: u64) -> ReplayFault
+        requires low { window.now.kept ≤ at }
+        requires high { at ≤ length window.now.fed }
+        requires told { IsToldAt at fault }
+        ensures { (end : End) → IsRefused end window.now.fed fault
+            → IsTold end window.now.fed result }
+    {
+        match fault {
+            PatchFault::At { at, kind } => ReplayFault::Stream {
+                line: window.line_at(at),
+                at,
+                kind,
+            },
+            PatchFault::TooLong { length, limit } => ReplayFault::LongPatch { length, limit },
+            PatchFault::OutOfMemory => ReplayFault::OutOfMemory,
         }
     }
 
@@ -226,7 +261,7 @@ impl Streaming {
     {
         match fault {
             RowFault::At { at, kind } => {
-                tell(&self.window, self.progress.part.break_stream(at, kind), at)
+                Streaming::tell(&self.window, self.progress.part.break_stream(at, kind), at)
             }
             RowFault::OutOfMemory => ReplayFault::OutOfMemory,
         }
@@ -243,7 +278,7 @@ impl Streaming {
         let stop = self.window.end();
         match self.progress.part.finish_stream(stop) {
             Ok(done) => Ok(done),
-            Err(fault) => Err(tell(&self.window, fault, stop)),
+            Err(fault) => Err(Streaming::tell(&self.window, fault, stop)),
         }
     }
 

@@ -1,18 +1,24 @@
-use Rattle.std.proofs.Common.{sym, subst, ◌∙◌}
+use Rattle.std.proofs.Common.{Option, sym, ap, subst, ◌∙◌}
 use Rattle.patch_reader.specs.declared.front.Region.{Region}
-use Rattle.patch_reader.specs.Held.{IsQuiet}
-use Rattle.patch_reader.proofs.WindowSteps.{cut_none, row_none, all_open, is_comment}
+use Rattle.patch_reader.specs.declared.front.Region.TheVariants as regions
+use Rattle.patch_reader.specs.declared.progress.Progress.{Progress}
+use Rattle.patch_reader.specs.Held.{IsQuiet, IsDecided}
+use Rattle.patch_reader.specs.Progress.{IsFollowed}
+use Rattle.patch_reader.proofs.Decided.{row_decided}
+use Rattle.patch_reader.proofs.WindowSteps.{cut_none, row_none}
 use Rattle.patch_reader.proofs.front.follow_open.Goals as goal
 
 pub returns-in-Gap-clause-quiet : goal.returns-in-Gap-clause-quiet
-returns-in-Gap-clause-quiet c = λ yes.
-    let open_gap = c.is_gap_open.ensures.yes yes in
-    subst (λ (r : Region). IsQuiet c.args.rest.now r) (sym c.in-Gap.is) (cut_none c.args.rest.now c.in-Gap.comment open_gap.0 open_gap.1)
+returns-in-Gap-clause-quiet c = λ yes. subst (λ (r : Region). IsQuiet c.args.rest.now r) (sym c.in-Gap.is) (cut_none c.args.rest.now c.in-Gap.comment)
 
-pub returns-in-Gap-clause-all : goal.returns-in-Gap-clause-all
-returns-in-Gap-clause-all c = λ no.
-    all_open c.args.rest.now c.args.region.now (λ is. c.is_gap_open.ensures.none no (is_comment c.in-Gap.comment (sym c.in-Gap.is ∙ is)))
+pub returns-in-Some-2-clause-quiet : goal.returns-in-Some-2-clause-quiet
+returns-in-Some-2-clause-quiet c = λ yes.
+    let region = c.in-Row.is ∙ ap (λ (o : Option Progress). regions.Row o) c.in-Some.is in
+    let there = subst (IsFollowed c.args.rest.now c.in-Some.known) c.in-Some-2.is c.in_ok-further-in-Row.ensures in
+    subst (λ (r : Region). IsQuiet c.args.rest.now r) (sym region) (row_none c.args.rest.now c.in-Some.known (λ f. (there.1 f).1))
 
-pub returns-in-Some-clause-quiet : goal.returns-in-Some-clause-quiet
-returns-in-Some-clause-quiet c = λ yes.
-    subst (λ (r : Region). IsQuiet c.args.rest.now r) (sym c.in-Row.is) (row_none c.args.rest.now c.in-Row.progress c.in-Some.ensures.short c.in-Some.ensures.unfinished)
+pub returns-in-None-clause-decided : goal.returns-in-None-clause-decided
+returns-in-None-clause-decided c = λ quiet known.
+    let region = c.in-Row.is ∙ ap (λ (o : Option Progress). regions.Row o) c.in-Some.is in
+    let there = subst (IsFollowed c.args.rest.now c.in-Some.known) c.in-None.is c.in_ok-further-in-Row.ensures in
+    subst (λ (r : Region). IsDecided c.args.rest.now r) (sym region) (row_decided c.args.rest.now c.in-Some.known there)

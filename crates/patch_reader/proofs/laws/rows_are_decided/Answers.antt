@@ -1,4 +1,4 @@
-use Rattle.patch_reader.proofs.RowStays.{row_decided, fault_decided}
+use Rattle.patch_reader.proofs.Opens.{row_decided, fault_decided}
 use Rattle.patch_reader.proofs.Settled.{undecided, only_row, only_fault}
 use Rattle.patch_reader.proofs.laws.rows_are_decided.Goals as goal
 

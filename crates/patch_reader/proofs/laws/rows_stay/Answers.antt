@@ -1,4 +1,4 @@
-use Rattle.patch_reader.proofs.RowStays.{row_again, fault_again}
+use Rattle.patch_reader.proofs.Opens.{row_again, fault_again}
 use Rattle.patch_reader.proofs.laws.rows_stay.Goals as goal
 
 pub returns-clause-row : goal.returns-clause-row

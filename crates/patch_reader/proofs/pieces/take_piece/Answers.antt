@@ -1,4 +1,4 @@
-use Rattle.std.proofs.Common.{ℕ, List, None, sym, ap, subst, ◌∙◌}
+use Rattle.std.proofs.Common.{ℕ, List, None, Ok, sym, ap, subst, ◌∙◌}
 use Rattle.patch_rows.specs.declared.cut.TextEnd.TheVariants as ends
 use Rattle.patch_reader.specs.Rows.{Stops}
 use Rattle.patch_reader.specs.Window.{Window}
@@ -14,4 +14,4 @@ pub returns-then-is_quiet-clause-stops : goal.returns-then-is_quiet-clause-stops
 returns-then-is_quiet-clause-stops c =
     let passed = ap (λ (w : Window). w.passed) c.settle.ensures.0 ∙ ap (λ (w : Window). w.passed) c.is_quiet.ensures.same in
     subst (λ (t : List ℕ). Stops ends.Open t c.settle.new.self.passed None) (ap (λ (w : Window). w.fed) c.in_ok-push.ensures.ok)
-    (subst (λ (n : ℕ). Stops ends.Open c.push.new.self.fed n None) (sym passed) (c.is_quiet.ensures.quiet c.if-is_quiet.true))
+    (subst (λ (n : ℕ). Stops ends.Open c.push.new.self.fed n None) (sym passed) (c.is_quiet.ensures.quiet (c.in_ok-is_quiet.was ∙ ap Ok c.if-is_quiet.true)))

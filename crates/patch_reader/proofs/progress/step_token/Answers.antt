@@ -1,5 +1,5 @@
-use Rattle.std.proofs.Common.{sym, subst, arith}
-use Rattle.patch_reader.specs.Progress.{Leads}
+use Rattle.std.proofs.Common.{◌+◌, ◌*◌, ◌<◌, ◌≤◌, length, sym, subst, arith}
+use Rattle.patch_reader.specs.Progress.{SameOpen, parts_left}
 use Rattle.patch_reader.specs.declared.progress.Part.{Part}
 use Rattle.patch_reader.specs.declared.progress.Part.TheVariants as part
 use Rattle.patch_reader.specs.declared.progress.Place.TheVariants as place
@@ -10,7 +10,8 @@ pub returns-then-lacks_graph : goal.returns-then-lacks_graph
 returns-then-lacks_graph c =
     let is = c.lacks_graph.ensures.yes c.if-lacks_graph.true in
     let lt = c.requires.begins in
-    (subst (λ (p : Part). Leads c.args.text.now (place.Token p c.args.start) (place.Token part.End c.args.start)) (sym is.0) (graph_is_none c.args.text.now c.args.start lt is.1), omega (arith, lt))
+    subst (λ (p : Part). SameOpen c.args.text.now (place.Token p c.args.start) (place.Token part.End c.args.start) × (c.args.start + 1 ≤ length c.args.text.now) × (2 < 2 * parts_left p)) (sym is.0)
+    (graph_is_none c.args.text.now c.args.start lt is.1, omega (arith, lt), omega arith)
 
 pub returns-then-is_open : goal.returns-then-is_open
 returns-then-is_open c = enters c.args.text.now (record { place = place.Token c.args.part c.args.start; inside = c.args.inside }) c.in_part.result c.pass-inside.result c.in_part.ensures.leads c.pass-inside.ensures.leads c.pass-inside.ensures.within

@@ -1,4 +1,4 @@
-use Rattle.std.proofs.Common.{ℕ, List, [], ◌++◌, arith}
+use Rattle.std.proofs.Common.{ℕ, List, [], arith}
 use Rattle.std.specs.List.{flat_map}
 use Rattle.sink_writing.proofs.Pieces.{written_front}
 use Rattle.stream_replay.proofs.WrittenLines.{line_front, room_left, written_line}
