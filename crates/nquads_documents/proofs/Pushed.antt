@@ -8,17 +8,18 @@ use Rattle.rdf_terms.specs.Quad.{Statement, statement, is_iri, is_literal}
 use Rattle.rdf_terms.specs.Line.{graph_text, line, term_text}
 use Rattle.canonical_scan.specs.Found.{IsTermThere, HasTerm}
 use Rattle.nquads_text.specs.declared.fault.ReadFault.{ReadFault}
-use Rattle.nquads_text.specs.declared.fault.ReadFault.TheVariants.{At, OutOfMemory}
+use Rattle.nquads_text.specs.declared.fault.ReadFault.TheVariants.{At}
 use Rattle.nquads_text.specs.declared.fault.TextKind.TheVariants.{BadPosition}
-use Rattle.nquads_text.specs.Fault.{Fails, Read, ◌>>=◌}
+use Rattle.nquads_text.specs.Fault.{Fails, Pushes, Read, ◌>>=◌}
 use Rattle.nquads_text.specs.Grammar.{TermAt}
 use Rattle.nquads_text.specs.Reading.{char_at}
 use Rattle.nquads_text.specs.Statement.{node_at, predicate_at, dot_at, graph_at, statement_at}
 use Rattle.nquads_text.specs.Terms.{skip_blanks, term_at}
 use Rattle.nquads_text.proofs.Printed.{printed}
+use Rattle.nquads_text.proofs.Steps.{fails_then}
 use Rattle.nquads_text.specs.Grammar.{is_line_end}
 use Rattle.nquads_documents.specs.Reading.{comment_at, comment_part, line_end_at, part_at, statement_part}
-use Rattle.nquads_documents.specs.Shown.{Pushes, PushesPart}
+use Rattle.nquads_documents.specs.Shown.{PushesPart}
 use Rattle.nquads_documents.proofs.Parted.{line_parts}
 use Rattle.nquads_documents.proofs.Steps.{part_comment, part_statement}
 use Rattle.nquads_documents.proofs.StatementLaws.{begins_term}
@@ -78,12 +79,6 @@ term_there text old new at end has e = by has.0 has.1
           is.within,
           e ∙ ap (λ (b : List ℕ). old ++ b) taken,
         )
-
--- ---- readings one behind another
-
-pub fails_then : {X Y : Type 0} (text : List ℕ) (e : ReadFault) (r : Read X) (f : X × List ℕ → Read Y) → Fails text e r → Fails text e (r >>= f)
-fails_then text (At at kind) r f x = (rw x.0 refl, x.1)
-fails_then text OutOfMemory r f x = tt
 
 -- ---- nodes and predicates
 

@@ -18,13 +18,6 @@ use Rattle.nquads_documents.specs.Reading.{document_at, line_of}
 
 -- ---- what is read and written at once
 
--- the text of what is read is appended, and the result is the place behind it; or the first fault
-abbrev pub Pushes : {X : Type 0} → (X → List ℕ) → List ℕ → List ℕ → List ℕ → Result ℕ ReadFault
-    → Read X → Type 0
-Pushes {X} text_of text old new (Ok end) read = (x : X) × (read ≡ Ok (x, drop end text))
-    × (end ≤ length text) × (new ≡ old ++ text_of x)
-Pushes text_of text old new (Err e) read = Fails text e read
-
 -- the part is a statement
 abbrev pub is_statement : Option Statement → Bool
 is_statement None = false

@@ -1,24 +1,24 @@
 //! Statements whose canonical lines are written as they are read.
 //!
-//! The text of an IRI is copied where it is canonical; another term is made.
+//! An IRI is copied where it is canonical, and a literal is written as it is read.
 
 ghost use Rattle.std.specs.Prelude.{◌≡◌, ◌≤◌, ◌<◌, ◌==◌, ◌||◌, length, drop, None};
-ghost use Rattle.nquads_text.specs.Fault.{Gives};
+ghost use Rattle.nquads_text.specs.Fault.{Gives, Pushes};
 ghost use Rattle.nquads_text.specs.Statement.{node_at, predicate_at, dot_at};
 ghost use Rattle.nquads_text.specs.Statement.{graph_at, statement_at};
 ghost use Rattle.nquads_text.specs.Terms.{term_at};
 ghost use Rattle.nquads_documents.specs.Reading.{part_at};
-ghost use Rattle.nquads_documents.specs.Shown.{Pushes, PushesPart};
+ghost use Rattle.nquads_documents.specs.Shown.{PushesPart};
 ghost use Rattle.rdf_terms.specs.Line.{graph_text, line, term_text};
 
 use crate::lines::{comment_end, is_end, line_end};
 use canonical_scan::iri_end;
-use nquads_text::{ReadFault, TextKind, char_at, push_term, read_term, skip_blanks};
+use nquads_text::{ReadFault, TextKind, char_at, copy_term, skip_blanks};
 use std::alloc::Global;
 
 // Appends the canonical text of the term at a place, and gives the place behind it. A canonical IRI
-// is copied as it stands, and of another term it is made, since a line is read here because one of
-// its terms isn't canonical: that is seldom an IRI.
+// is copied as it stands. No other term is looked at for that, since a line is read here because
+// one of its terms isn't canonical, and that is seldom an IRI.
 fn push_next_term(
     alloc: Global,
     text: &[u8],
@@ -33,9 +33,7 @@ fn push_next_term(
         out.extend_from_slice(&text[at..end])?;
         return Ok(end);
     }
-    let (term, end) = read_term(alloc, text, at)?;
-    push_term(out, &term)?;
-    Ok(end)
+    copy_term(alloc, text, at, out)
 }
 
 // The same of an IRI or a blank node.

@@ -1,6 +1,6 @@
 //! Each fault of the table with its place, and terms that are read and printed.
 use delta_base::Text;
-use nquads_text::{ReadFault, TextKind, print_term, read_term};
+use nquads_text::{ReadFault, TextKind, copy_term, print_term, read_term};
 use rdf_terms::{LiteralKind, Term};
 use std::alloc::Global;
 use std::test::Fail;
@@ -203,6 +203,20 @@ fn a_tag_is_kept_in_lower_case(rt: HostRuntime) -> Result<(), Fail> {
     assert!(rt; matches!(&term, Term::Literal(l) if matches!(l.kind, LiteralKind::Tagged(_))));
     let printed = print_term(rt.alloc(), &term)?;
     assert_eq!(rt; printed.as_bytes(), b"\"x\"@en-latn".as_slice());
+    Ok(())
+}
+
+#[test]
+fn a_literal_is_copied_in_canonical_form(rt: HostRuntime) -> Result<(), Fail> {
+    let mut out = Vec::new(rt.alloc());
+    out.extend_from_slice(b"<h:p> ")?;
+    let text = b"\"\\u00E9 \xE6\xBC\xA2\\t\\n\\\\\\\"\"@EN-gb <h:g>";
+    let end = copy_term(rt.alloc(), text, 0, &mut out)
+        .ok()
+        .ok_or("a literal")?;
+    assert_eq!(rt; end, 26);
+    let copied = b"<h:p> \"\xC3\xA9 \xE6\xBC\xA2\t\\n\\\\\\\"\"@en-gb";
+    assert_eq!(rt; out.as_slice(), copied.as_slice());
     Ok(())
 }
 

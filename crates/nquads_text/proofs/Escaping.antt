@@ -1,6 +1,7 @@
 -- Bytes that are written as themselves in a string.
-use Rattle.std.proofs.Common.{◌≡◌, ℕ, true, zero, suc, ◌+◌, ◌-◌, ◌<◌, ◌≤◌, List, [], ◌∷◌, ◌++◌, length, take, drop, get_or, sym, ap, ◌∙◌, arith, append_assoc}
-use Rattle.std.specs.List.{flat_map}
+use Rattle.std.proofs.Common.{◌≡◌, ℕ, true, zero, suc, ◌+◌, ◌-◌, ◌<◌, ◌≤◌, List, [], ◌∷◌, ◌++◌, length, take, drop, get_or, IsTrue, refl, sym, ap, ◌∙◌, arith, append_assoc}
+use Rattle.std.specs.List.{flat_map, list_all}
+use Rattle.std.proofs.lemmas.Bool.{and_parts}
 use Rattle.std.proofs.lemmas.List.{drop_more}
 use Rattle.std.proofs.lemmas.Bool.Decides.{nat_tests}
 use Rattle.rdf_terms.specs.Line.{escaped}
@@ -11,6 +12,12 @@ IsSame text at end = (k : ℕ) → at ≤ k → k < end → escaped (get_or text
 
 pub string_itself : (b : ℕ) → is_plain_string b ≡ true → escaped b ≡ b ∷ []
 string_itself b e = grind (arith, nat_tests)
+
+pub plain_itself : (bytes : List ℕ) → IsTrue (list_all is_plain_string bytes) → flat_map escaped bytes ≡ bytes
+plain_itself [] all = refl
+plain_itself (b ∷ bytes) all =
+    let p = and_parts (is_plain_string b) (list_all is_plain_string bytes) all in
+    ap (λ (t : List ℕ). t ++ flat_map escaped bytes) (string_itself b p.0) ∙ ap (λ (t : List ℕ). b ∷ t) (plain_itself bytes p.1)
 
 plus_zero : (at : ℕ) → at ≡ at + 0
 plus_zero at = omega arith

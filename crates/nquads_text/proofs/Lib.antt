@@ -2,6 +2,7 @@ pub mod Allowed
 pub mod BlankRuns
 pub mod Blanks
 pub mod CommentBodies
+pub mod Copied
 pub mod Spelled
 pub mod EscapeFaults
 pub mod Escaping

@@ -1,6 +1,8 @@
 -- What a chain of readings tells of its parts.
-use Rattle.std.proofs.Common.{◌≡◌, Bool, true, false, cond, Result, Ok, Err, refl, ap, ◌⊎◌, inl, inr}
-use Rattle.nquads_text.specs.Fault.{Fault, ◌>>=◌}
+use Rattle.std.proofs.Common.{◌≡◌, ℕ, List, Bool, true, false, cond, Result, Ok, Err, refl, ap, ◌⊎◌, inl, inr}
+use Rattle.nquads_text.specs.declared.fault.ReadFault.{ReadFault}
+use Rattle.nquads_text.specs.declared.fault.ReadFault.TheVariants.{At, OutOfMemory}
+use Rattle.nquads_text.specs.Fault.{Fails, Fault, Read, ◌>>=◌}
 
 -- the value of a step that did not fail
 pub bind_ok : {A B : Type 0} (r : Result A Fault) (f : A → Result B Fault) (y : B) → (r >>= f) ≡ Ok y → (x : A) × (r ≡ Ok x) × (f x ≡ Ok y)
@@ -11,6 +13,11 @@ bind_ok (Err d) f y e = absurd cc
 pub bind_err : {A B : Type 0} (r : Result A Fault) (f : A → Result B Fault) (d : Fault) → (r >>= f) ≡ Err d → (r ≡ Err d) ⊎ ((x : A) × (r ≡ Ok x) × (f x ≡ Err d))
 bind_err (Ok x) f d e = inr (x, refl, e)
 bind_err (Err g) f d e = let same : g ≡ d = cc in inl (ap (λ (h : Fault). Err h) same)
+
+-- what fails, fails whatever comes behind it
+pub fails_then : {X Y : Type 0} (text : List ℕ) (e : ReadFault) (r : Read X) (f : X × List ℕ → Read Y) → Fails text e r → Fails text e (r >>= f)
+fails_then text (At at kind) r f x = (rw x.0 refl, x.1)
+fails_then text OutOfMemory r f x = tt
 
 -- which way a test went
 pub chosen : {A : Type 0} (b : Bool) (x y z : A) → cond b x y ≡ z → ((b ≡ true) × (x ≡ z)) ⊎ ((b ≡ false) × (y ≡ z))

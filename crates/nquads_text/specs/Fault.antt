@@ -1,5 +1,5 @@
 -- What a reader gives, and what a function of the code gives of it.
-use Rattle.std.specs.Prelude.{◌≡◌, ◌≤◌, ℕ, List, drop, length, Result, Ok, Err}
+use Rattle.std.specs.Prelude.{◌≡◌, ◌≤◌, ◌++◌, ℕ, List, drop, length, Result, Ok, Err}
 use Rattle.nquads_text.specs.declared.fault.TextKind.{TextKind}
 use Rattle.nquads_text.specs.declared.fault.ReadFault.{ReadFault}
 use Rattle.nquads_text.specs.declared.fault.ReadFault.TheVariants as faults
@@ -26,6 +26,13 @@ Fails text faults.OutOfMemory read = Unit {0}
 abbrev pub Gives : {X Y : Type 0} → List ℕ → (X → Y) → Result (X × ℕ) ReadFault → Read Y → Type 0
 Gives text view (Ok x) read = (read ≡ Ok (view x.0, drop x.1 text)) × (x.1 ≤ length text)
 Gives text view (Err e) read = Fails text e read
+
+-- the text of what is read is appended, and the result is the place behind it; or the first fault
+abbrev pub Pushes : {X : Type 0} → (X → List ℕ) → List ℕ → List ℕ → List ℕ → Result ℕ ReadFault
+    → Read X → Type 0
+Pushes {X} text_of text old new (Ok end) read = (x : X) × (read ≡ Ok (x, drop end text))
+    × (end ≤ length text) × (new ≡ old ++ text_of x)
+Pushes text_of text old new (Err e) read = Fails text e read
 
 -- not for want of memory
 abbrev pub IsFault : ReadFault → Type 0

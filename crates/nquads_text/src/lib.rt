@@ -9,6 +9,7 @@
 mod bodies;
 mod chars;
 mod comments;
+mod copying;
 mod fault;
 mod labels;
 mod laws;
@@ -22,6 +23,7 @@ mod terms;
 pub use bodies::iri_body;
 pub use chars::{char_at, is_line_end};
 pub use comments::comment_body_end;
+pub use copying::copy_term;
 pub use fault::{ReadFault, TextKind};
 pub use labels::label;
 pub use laws::{

@@ -67,15 +67,23 @@ fn push_run(out: &mut Vec<u8>, text: &[u8], at: usize) -> Result<usize, OutOfMem
     Ok(run + 1)
 }
 
+/// Appends what stands between the quotes of a string.
+pub fn push_escapes(out: &mut Vec<u8>, text: &[u8]) -> Result<(), OutOfMemory>
+    ensures { OnOk result (out.new.items ≡ out.old.items ++ flat_map escaped text.now) }
+{
+    let mut at = 0;
+    while at < text.len() {
+        at = push_run(out, text, at)?;
+    }
+    Ok(())
+}
+
 /// Appends a string in its quotes.
 pub fn push_quoted(out: &mut Vec<u8>, text: &[u8]) -> Result<(), OutOfMemory>
     ensures { OnOk result (out.new.items ≡ out.old.items ++ quoted text.now) }
 {
     out.push(b'"')?;
-    let mut at = 0;
-    while at < text.len() {
-        at = push_run(out, text, at)?;
-    }
+    push_escapes(out, text)?;
     out.push(b'"')?;
     Ok(())
 }
@@ -90,7 +98,8 @@ pub fn push_iri(out: &mut Vec<u8>, iri: &[u8]) -> Result<(), OutOfMemory>
     Ok(())
 }
 
-fn push_kind(out: &mut Vec<u8>, kind: &LiteralKind) -> Result<(), OutOfMemory>
+/// Appends what follows the closing quote of a literal.
+pub fn push_kind(out: &mut Vec<u8>, kind: &LiteralKind) -> Result<(), OutOfMemory>
     ensures text { OnOk result (out.new.items ≡ out.old.items ++ kind_text kind.now) }
     ensures value { OnOk result (IsKind kind.now) }
 {

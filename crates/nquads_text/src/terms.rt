@@ -119,7 +119,7 @@ fn datatype(
 ///
 /// What follows the closing quote of a literal.
 #[tactic(auto, using(crate::proofs::Blanks::suffixes))]
-fn suffix(
+pub fn suffix(
     alloc: Global,
     text: &[u8],
     start: usize,
