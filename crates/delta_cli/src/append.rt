@@ -16,7 +16,7 @@ use crate::input::{InputFault, read_all};
 use crate::refusal::Refusal;
 use delta_base::{Bytes, PATCH_LIMIT, Sink, Source, Text};
 use delta_client::Dial;
-use patch_meaning::{PatchFault, check_patch};
+use patch_meaning::{PatchFault, check_link};
 use rpc_calls::Call;
 use std::alloc::Global;
 
@@ -96,11 +96,8 @@ fn patch_of(alloc: Global, text: Vec<u8>) -> Result<Bytes, Refusal>
     ensures is_patch { OnOk result ((meaning : Meaning) × IsPatch text.items meaning) }
     ensures stopped { IfErr result (StopsText text.items) }
 {
-    match check_patch(alloc, text.as_slice()) {
-        Ok(patch) => {
-            drop(patch);
-            Ok(Bytes::from_vec(text))
-        }
+    match check_link(alloc, text.as_slice()) {
+        Ok(_) => Ok(Bytes::from_vec(text)),
         Err(fault) => Err(refusal_of(text.as_slice(), fault)),
     }
 }

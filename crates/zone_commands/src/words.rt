@@ -84,6 +84,56 @@ pub fn graph_of(alloc: Global, word: &str) -> Result<Option<GraphPart>, OutOfMem
     }
 }
 
+// The parts of a predicate and an object that two words stand for.
+fn last_parts(
+    alloc: Global,
+    predicate: &str,
+    object: &str,
+) -> Result<Option<(Option<Term>, Option<Term>)>, OutOfMemory>
+    ensures { IfOk result (Finds (λ parts. IsPartWord Position.Predicate predicate.now parts.0
+        × IsPartWord Position.Object object.now parts.1)) }
+{
+    let Some(predicate) = part_of(alloc, Position::Predicate, predicate)? else {
+        return Ok(None);
+    };
+    match part_of(alloc, Position::Object, object) {
+        Ok(Some(object)) => Ok(Some((predicate, object))),
+        Ok(None) => {
+            drop(predicate);
+            Ok(None)
+        }
+        Err(OutOfMemory) => {
+            drop(predicate);
+            Err(OutOfMemory)
+        }
+    }
+}
+
+// The parts of a graph and a subject that two words stand for.
+fn first_parts(
+    alloc: Global,
+    graph: &str,
+    subject: &str,
+) -> Result<Option<(GraphPart, Option<Term>)>, OutOfMemory>
+    ensures { IfOk result (Finds (λ parts. IsGraphWord graph.now parts.0
+        × IsPartWord Position.Subject subject.now parts.1)) }
+{
+    let Some(graph) = graph_of(alloc, graph)? else {
+        return Ok(None);
+    };
+    match part_of(alloc, Position::Subject, subject) {
+        Ok(Some(subject)) => Ok(Some((graph, subject))),
+        Ok(None) => {
+            drop(graph);
+            Ok(None)
+        }
+        Err(OutOfMemory) => {
+            drop(graph);
+            Err(OutOfMemory)
+        }
+    }
+}
+
 /// The pattern that four words stand for.
 pub fn read_pattern(
     alloc: Global,
@@ -94,22 +144,26 @@ pub fn read_pattern(
 ) -> Result<Option<Pattern>, OutOfMemory>
     ensures { IfOk result (Finds (IsPatternOf graph.now subject.now predicate.now object.now)) }
 {
-    let Some(graph) = graph_of(alloc, graph)? else {
+    let Some(first) = first_parts(alloc, graph, subject)? else {
         return Ok(None);
     };
-    let Some(subject) = part_of(alloc, Position::Subject, subject)? else {
-        return Ok(None);
-    };
-    let Some(predicate) = part_of(alloc, Position::Predicate, predicate)? else {
-        return Ok(None);
-    };
-    let Some(object) = part_of(alloc, Position::Object, object)? else {
-        return Ok(None);
-    };
-    Ok(Some(Pattern {
-        graph,
-        subject,
-        predicate,
-        object,
-    }))
+    match last_parts(alloc, predicate, object) {
+        Ok(Some((predicate, object))) => {
+            let (graph, subject) = first;
+            Ok(Some(Pattern {
+                graph,
+                subject,
+                predicate,
+                object,
+            }))
+        }
+        Ok(None) => {
+            drop(first);
+            Ok(None)
+        }
+        Err(OutOfMemory) => {
+            drop(first);
+            Err(OutOfMemory)
+        }
+    }
 }
