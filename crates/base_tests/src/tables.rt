@@ -37,16 +37,16 @@ static NO_NAMES: [&str; 0] = [];
 #[test]
 fn the_first_row_of_a_name_is_found(rt: HostRuntime) {
     let days = NameTable::<4>::new(&DAYS);
-    assert_eq!(rt; days.find(b"mon"), Some(0));
-    assert_eq!(rt; days.find(b"tue"), Some(1));
-    assert_eq!(rt; days.find(b""), Some(3));
+    assert!(rt; days.find(b"mon") == Some(0));
+    assert!(rt; days.find(b"tue") == Some(1));
+    assert!(rt; days.find(b"") == Some(3));
 }
 
 #[test]
 fn a_part_of_a_name_is_another_name(rt: HostRuntime) {
     let days = NameTable::<4>::new(&DAYS);
     for name in ["mo", "mond", "Mon", "wed"] {
-        assert_eq!(rt; days.find(name.as_bytes()), None, "at {name}");
+        assert!(rt; days.find(name.as_bytes()) == None, "at {name}");
     }
-    assert_eq!(rt; NameTable::<0>::new(&NO_NAMES).find(b""), None);
+    assert!(rt; NameTable::<0>::new(&NO_NAMES).find(b"") == None);
 }

@@ -8,6 +8,7 @@ use delta_client::{AskFault, Dial, Line, MemDial, ask_again};
 use rpc_answers::Answer;
 use rpc_calls::Call;
 use std::alloc::Global;
+use std::process::Abort;
 
 /// The request for the version of the log ABC.
 pub(crate) const ASKED: &[u8] =
@@ -24,6 +25,9 @@ pub(crate) const SECOND: &[u8] =
 /// The reply that it is 1, behind which the connection ends.
 pub(crate) const LAST: &[u8] =
     b"HTTP/1.1 200 OK\r\nConnection: close\r\nContent-Type: application/json\r\nContent-Length: 13\r\n\r\n{\"version\":1}";
+
+/// What is answered to two calls in short.
+pub(crate) type Both = [Result<u32, AskFault>; 2];
 
 /// The host of all requests but those over sockets.
 pub(crate) fn host(alloc: Global) -> Result<Text, OutOfMemory>
@@ -48,7 +52,7 @@ pub(crate) fn joined(alloc: Global, texts: &[&[u8]]) -> Result<Vec<u8>, OutOfMem
 }
 
 /// Numbers of calls.
-pub(crate) fn calls(alloc: Global, numbers: &[u64]) -> Result<Calls, OutOfMemory> {
+fn calls(alloc: Global, numbers: &[u64]) -> Result<Calls, OutOfMemory> {
     Ok(Listing::from_vec(Vec::from_slice(alloc, numbers)?))
 }
 
@@ -65,6 +69,21 @@ pub(crate) fn link_of(
     Ok(MemLink::new(alloc, content, piece, calls(alloc, failing)?))
 }
 
+/// Puts such a link behind others.
+pub(crate) fn add_link(
+    alloc: Global,
+    links: &mut Vec<MemLink>,
+    text: &[u8],
+    piece: usize,
+    failing: &[u64],
+) -> Result<(), OutOfMemory>
+    requires { 0 < piece }
+{
+    let link = link_of(alloc, text, piece, failing)?;
+    links.push(link)?;
+    Ok(())
+}
+
 /// A dial whose connections give these texts, and whose calls of these numbers fail.
 pub(crate) fn dial_of(
     alloc: Global,
@@ -73,7 +92,7 @@ pub(crate) fn dial_of(
 ) -> Result<MemDial<MemLink>, OutOfMemory> {
     let mut links = Vec::new(alloc);
     for text in texts {
-        links.push(link_of(alloc, text, 8_192, &[])?)?;
+        add_link(alloc, &mut links, text, 8_192, &[])?;
     }
     MemDial::new(alloc, links, calls(alloc, failing)?)
 }
@@ -101,44 +120,50 @@ pub(crate) fn version_told(
     }
 }
 
-/// Asks for the version of the log ABC.
+/// Asks a host for the version of the log ABC.
 fn asks<N: Dial>(
     alloc: Global,
     net: &mut N,
     line: &mut Line<N::L>,
+    host: &Text,
 ) -> Result<Result<u32, AskFault>, OutOfMemory>
-    requires { IsSome line.old.open → N.awaits net.old }
+    requires visible { list_all is_visible host.now ≡ true }
+    requires awaits { IsSome line.old.open → N.awaits net.old }
     ensures { IsSome line.new.open → N.awaits net.new }
 {
-    let host = host(alloc)?;
     let call = call(alloc)?;
-    let told = ask_again(alloc, net, line, &host, &call);
+    let told = ask_again(alloc, net, line, host, &call);
     drop(call);
     version_told(told)
 }
 
 /// Asks twice.
-fn asks_twice<N: Dial>(
+pub(crate) fn asks_twice<N: Dial>(
     alloc: Global,
     net: &mut N,
     line: &mut Line<N::L>,
-) -> Result<[Result<u32, AskFault>; 2], OutOfMemory>
-    requires { IsSome line.old.open → N.awaits net.old }
+    host: &Text,
+) -> Result<Both, OutOfMemory>
+    requires visible { list_all is_visible host.now ≡ true }
+    requires awaits { IsSome line.old.open → N.awaits net.old }
     ensures { IsSome line.new.open → N.awaits net.new }
 {
-    let first = asks(alloc, net, line)?;
-    let second = asks(alloc, net, line)?;
+    let first = asks(alloc, net, line, host)?;
+    let second = asks(alloc, net, line, host)?;
     Ok([first, second])
 }
 
 /// What is answered to two calls, one after the other. A connection that is open then is hung up.
-pub(crate) fn two_calls(
-    alloc: Global,
-    net: &mut MemDial<MemLink>,
-) -> Result<[Result<u32, AskFault>; 2], OutOfMemory> {
+pub(crate) fn two_calls(alloc: Global, net: &mut MemDial<MemLink>) -> Result<Both, OutOfMemory> {
+    let host = host(alloc)?;
     let mut line = Line::new();
-    let told = asks_twice(alloc, net, &mut line);
+    let told = asks_twice(alloc, net, &mut line, &host);
     line.hang_up(net);
     drop(line);
     told
+}
+
+/// Two calls are answered so.
+pub(crate) fn are_told(rt: &impl Abort, told: Both, wanted: Both) {
+    assert!(rt; told == wanted);
 }

@@ -1,15 +1,18 @@
 //! Two logs over disks in memory, and two passes.
-ghost use Rattle.std.specs.Prelude.{◌≡◌, IfOk, vec_len};
+ghost use Rattle.std.specs.Prelude.{◌≡◌, ◌<◌, length, IfOk, vec_len};
+ghost use Rattle.disk_model.specs.Memory.{memory_mark};
+ghost use Rattle.hall_logs.specs.Slots.{AreAllPasses};
 
 use crate::calls::{append_by, version_by};
 use crate::halls::{LIMITS, close, disk, open, two_disks};
 use chain_core::LogAnswer;
 use disk_model::MemDisk;
-use hall_logs::{HallLogs, LogsRefusal};
+use hall_logs::{HallLogs, LogsPass, LogsRefusal};
 use patch_log::LogFault;
-use patch_meaning::check_patch;
+use patch_meaning::{Checked, check_patch};
 use std::alloc::Global;
 use std::process::Abort;
+use std::sync::Wait;
 use std::test::Fail;
 
 pub(crate) const FIRST: &[u8] =
@@ -19,30 +22,72 @@ const SECOND: &[u8] =
     b"H id <uuid:00000000-0000-4000-8000-000000000002> .\nH prev <uuid:00000000-0000-4000-8000-000000000001> .\nTX .\nA <http://e/s> <http://e/p> <http://e/o2> .\nTC .\n";
 
 fn is(rt: &impl Abort, answer: LogAnswer, wanted: LogAnswer) {
-    assert_eq!(rt; answer, wanted);
+    assert!(rt; answer == wanted);
 }
 
-#[test]
-fn each_slot_has_its_log(rt: HostRuntime) -> Result<(), Fail> {
-    let alloc = rt.alloc();
+// The first log takes the first patch, and the second log both.
+fn both_take<R: Wait + Abort>(
+    rt: &R,
+    hall: &HallLogs<MemDisk>,
+    passes: &mut Vec<LogsPass<MemDisk>>,
+    first: &Checked,
+    second: &Checked,
+)
+    requires all { AreAllPasses memory_mark hall.now.logs 2 passes.old.items }
+    requires logs { length hall.now.logs ≡ 2 }
+    ensures { AreAllPasses memory_mark hall.now.logs 2 passes.new.items }
+{
+    let answer = append_by(rt, hall, passes, 0, 1, first);
+    is(rt, answer, LogAnswer::Accepted { version: 1 });
+    let answer = append_by(rt, hall, passes, 1, 2, first);
+    is(rt, answer, LogAnswer::Accepted { version: 1 });
+    let answer = append_by(rt, hall, passes, 1, 2, second);
+    is(rt, answer, LogAnswer::Accepted { version: 2 });
+}
+
+// The logs have one patch and two, as the pass of this place is told.
+fn have_one_and_two(
+    rt: &impl Abort,
+    hall: &HallLogs<MemDisk>,
+    passes: &mut Vec<LogsPass<MemDisk>>,
+    place: usize,
+)
+    requires all { AreAllPasses memory_mark hall.now.logs 2 passes.old.items }
+    requires logs { length hall.now.logs ≡ 2 }
+    requires place { place < 2 }
+    ensures { AreAllPasses memory_mark hall.now.logs 2 passes.new.items }
+{
+    assert!(rt; version_by(hall, passes, place, 1) == 1);
+    assert!(rt; version_by(hall, passes, place, 2) == 2);
+}
+
+// The disks of the two logs, once these have taken their patches.
+fn filled<R: Wait + Abort>(rt: &R, alloc: Global) -> Result<Vec<MemDisk>, Fail>
+    ensures { IfOk result (λ disks. vec_len disks ≡ 2) }
+{
     let first = check_patch(alloc, FIRST)?;
     let second = check_patch(alloc, SECOND)?;
     let Ok((hall, mut passes, rooms)) = open(alloc, two_disks(alloc, &[])?) else {
         return Err(Fail::from("not opened"));
     };
-    let answer = append_by(&rt, &hall, &mut passes, 0, 1, &first);
-    is(&rt, answer, LogAnswer::Accepted { version: 1 });
-    let answer = append_by(&rt, &hall, &mut passes, 1, 2, &first);
-    is(&rt, answer, LogAnswer::Accepted { version: 1 });
-    let answer = append_by(&rt, &hall, &mut passes, 1, 2, &second);
-    is(&rt, answer, LogAnswer::Accepted { version: 2 });
-    assert!(rt; version_by(&hall, &mut passes, 0, 1) == 1);
-    assert!(rt; version_by(&hall, &mut passes, 0, 2) == 2);
-    let Ok((hall, mut passes, _rooms)) = open(alloc, close((hall, passes, rooms))) else {
+    both_take(rt, &hall, &mut passes, &first, &second);
+    drop(second);
+    drop(first);
+    have_one_and_two(rt, &hall, &mut passes, 0);
+    Ok(close((hall, passes, rooms)))
+}
+
+#[test]
+fn each_slot_has_its_log(rt: HostRuntime) -> Result<(), Fail> {
+    let alloc = rt.alloc();
+    let disks = filled(&rt, alloc)?;
+    let Ok((hall, mut passes, rooms)) = open(alloc, disks) else {
         return Err(Fail::from("not opened again"));
     };
-    assert!(rt; version_by(&hall, &mut passes, 1, 1) == 1);
-    assert!(rt; version_by(&hall, &mut passes, 1, 2) == 2);
+    have_one_and_two(&rt, &hall, &mut passes, 1);
+    drop(rooms);
+    drop(passes);
+    drop(hall);
     Ok(())
 }
 
@@ -51,16 +96,20 @@ fn each_slot_has_its_log(rt: HostRuntime) -> Result<(), Fail> {
 fn a_pass_has_its_own_faults(rt: HostRuntime) -> Result<(), Fail> {
     let alloc = rt.alloc();
     let first = check_patch(alloc, FIRST)?;
-    let Ok((hall, mut passes, _rooms)) = open(alloc, two_disks(alloc, &[3])?) else {
+    let Ok((hall, mut passes, rooms)) = open(alloc, two_disks(alloc, &[3])?) else {
         return Err(Fail::from("not opened"));
     };
     let answer = append_by(&rt, &hall, &mut passes, 0, 2, &first);
     is(&rt, answer, LogAnswer::DiskFault);
     let answer = append_by(&rt, &hall, &mut passes, 0, 1, &first);
     is(&rt, answer, LogAnswer::Accepted { version: 1 });
+    drop(first);
     let mut faults = passes.iter().map(|pass| pass.own_faults());
     assert!(rt; faults.next() == Some(1));
     assert!(rt; faults.next() == Some(0));
+    drop(rooms);
+    drop(passes);
+    drop(hall);
     Ok(())
 }
 
@@ -75,16 +124,9 @@ fn three_disks(alloc: Global) -> Result<Vec<MemDisk>, Fail>
     Ok(disks)
 }
 
-#[test]
-fn a_refusal_hands_all_disks_back(rt: HostRuntime) -> Result<(), Fail> {
-    let alloc = rt.alloc();
-    let disks = three_disks(alloc)?;
-    let Err(LogsRefusal { disks, file, fault }) = HallLogs::open_on(alloc, disks, LIMITS, 2) else {
-        return Err(Fail::from("opened"));
-    };
-    assert_eq!(rt; file, 2);
-    assert_eq!(rt; fault, LogFault::Damaged { at: 0 });
-    assert_eq!(rt; disks.len(), 3);
+// The disks of the three files, which are as they were.
+fn are_as_they_were(rt: &impl Abort, disks: &[MemDisk]) -> Result<(), Fail> {
+    assert!(rt; disks.len() == 3);
     for (disk, bytes) in disks.iter().zip([
         b"RDJ1\0\0\0\x01\0".as_slice(),
         b"RDJ2".as_slice(),
@@ -93,4 +135,17 @@ fn a_refusal_hands_all_disks_back(rt: HostRuntime) -> Result<(), Fail> {
         assert!(rt; disk.image(1)?.as_slice() == bytes);
     }
     Ok(())
+}
+
+#[test]
+fn a_refusal_hands_all_disks_back(rt: HostRuntime) -> Result<(), Fail> {
+    let alloc = rt.alloc();
+    let disks = three_disks(alloc)?;
+    let Err(LogsRefusal { disks, file, fault }) = HallLogs::open_on(alloc, disks, LIMITS, 2) else {
+        return Err(Fail::from("opened"));
+    };
+    assert!(rt; file == 2 && fault == LogFault::Damaged { at: 0 });
+    let kept = are_as_they_were(&rt, &disks);
+    drop(disks);
+    kept
 }

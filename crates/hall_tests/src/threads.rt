@@ -69,10 +69,14 @@ fn threads_share_a_hall(rt: HostRuntime) -> Result<(), Fail> {
         return Err(Fail::from("not opened"));
     };
     append_all(&rt, &hall, &mut passes, &patch);
-    let Ok((hall, mut passes, _rooms)) = open(alloc, close((hall, passes, rooms))) else {
+    drop(patch);
+    let Ok((hall, mut passes, rooms)) = open(alloc, close((hall, passes, rooms))) else {
         return Err(Fail::from("not opened again"));
     };
     assert!(rt; version_by(&hall, &mut passes, 0, 1) == 1);
     assert!(rt; version_by(&hall, &mut passes, 0, 2) == 0);
+    drop(rooms);
+    drop(passes);
+    drop(hall);
     Ok(())
 }

@@ -1,4 +1,7 @@
 //! Calls on a registry over a disk in memory, with their answers in short.
+ghost use Rattle.std.specs.Prelude.{◌≡◌, IfOk};
+ghost use Rattle.std.specs.List.{AllByRecursion};
+
 use delta_base::{Bytes, FullKind, Id, Listing, Text};
 use disk_model::MemDisk;
 use log_registry::RegistryState;
@@ -12,7 +15,7 @@ pub(crate) const ONE_SLOT: &[u8] = b"RDJ1\0\0\0\0\x01\0\0\0\x03S 1\0";
 pub(crate) const TWO_SLOTS: &[u8] = b"RDJ1\0\0\0\0\x01\0\0\0\x03S 2\0";
 
 /// An answer, by the slot that it shows or by its place.
-#[derive(Clone, Copy, Debug, PartialEq, Eq)]
+#[derive(Clone, Copy, PartialEq, Eq)]
 pub(crate) enum Told {
     Made {
         slot: u32,
@@ -84,7 +87,9 @@ pub(crate) fn open_with(
     alloc: Global,
     file: &[u8],
     failing: &[u64],
-) -> Result<RegistryState<MemDisk>, Fail> {
+) -> Result<RegistryState<MemDisk>, Fail>
+    ensures { IfOk result (λ registry. AllByRecursion (λ entry. entry.by ≡ 0) registry.entries) }
+{
     let bytes = Bytes::from_slice(alloc, file)?;
     let failing = Listing::from_vec(Vec::from_slice(alloc, failing)?);
     let disk = MemDisk::from_image(alloc, bytes, failing)?;

@@ -11,36 +11,68 @@ fn is_made(told: Told) -> bool {
     matches!(told, Told::Made { .. })
 }
 
+// How many calls were acknowledged, with this one.
+fn counted(done: u64, told: Told) -> u64 {
+    if is_made(told) {
+        done.saturating_add(1)
+    } else {
+        done
+    }
+}
+
 // Makes ten calls, and answers how many were acknowledged.
 fn ten_calls(alloc: Global, registry: &mut RegistryState<MemDisk>) -> Result<u64, Fail> {
-    let mut told = Vec::new(alloc);
-    told.push(create(alloc, registry, "a", "http://e/a", 1)?)?;
-    told.push(create(alloc, registry, "b", "http://e/b", 2)?)?;
+    let mut done = counted(0, create(alloc, registry, "a", "http://e/a", 1)?);
+    done = counted(done, create(alloc, registry, "b", "http://e/b", 2)?);
     for _ in 0..4 {
-        told.push(rename(alloc, registry, "a", "c")?)?;
-        told.push(rename(alloc, registry, "c", "a")?)?;
+        done = counted(done, rename(alloc, registry, "a", "c")?);
+        done = counted(done, rename(alloc, registry, "c", "a")?);
     }
-    Ok(told.iter().filter(|told| is_made(**told)).count() as u64)
+    Ok(done)
+}
+
+// The same, and the registry has as many events.
+fn acknowledged(
+    rt: &impl Abort,
+    alloc: Global,
+    registry: &mut RegistryState<MemDisk>,
+) -> Result<u64, Fail> {
+    let done = ten_calls(alloc, registry)?;
+    assert!(rt; registry.count() == done);
+    Ok(done)
+}
+
+// How many events the registry of an image has.
+fn events_in(alloc: Global, image: &[u8]) -> Result<u64, Fail> {
+    let registry = open(alloc, image)?;
+    let count = registry.count();
+    drop(registry);
+    Ok(count)
 }
 
 // Each image reopens with what was acknowledged or one event more.
-fn reopens(rt: &impl Abort, alloc: Global, disk: &MemDisk, done: u64) -> Result<(), Fail> {
+fn reopens(rt: &impl Abort, alloc: Global, disk: &MemDisk, done: u64) -> Result<u64, Fail> {
     for choice in [0, 1, 7] {
         let image = disk.image(choice)?;
-        let again = open(alloc, image.as_slice())?;
-        assert!(rt; again.count() == done || again.count() == done.wrapping_add(1));
+        let count = events_in(alloc, image.as_slice());
+        drop(image);
+        let count = count?;
+        assert!(rt; count == done || count == done.wrapping_add(1));
     }
-    Ok(())
+    Ok(done)
 }
 
 // What ten calls leave, of which so many were acknowledged.
 fn survives(rt: &impl Abort, alloc: Global, registry: RegistryState<MemDisk>) -> Result<u64, Fail> {
     let mut registry = registry;
-    let done = ten_calls(alloc, &mut registry)?;
-    assert!(rt; registry.count() == done);
+    let done = acknowledged(rt, alloc, &mut registry);
     let disk = registry.close();
-    reopens(rt, alloc, &disk, done)?;
-    Ok(done)
+    let left = match done {
+        Ok(done) => reopens(rt, alloc, &disk, done),
+        Err(fail) => Err(fail),
+    };
+    drop(disk);
+    left
 }
 
 // The same on a disk of which only so many calls succeed.
@@ -75,17 +107,28 @@ fn what_was_acknowledged_survives_a_failing_call(rt: HostRuntime) -> Result<(), 
     Ok(())
 }
 
-// The disk fails at one call, and a creation that was refused is made again.
-fn made_again(rt: &impl Abort, alloc: Global, failing: u64) -> Result<u64, Fail> {
-    let mut registry = open_with(alloc, TWO_SLOTS, &[failing])?;
-    let mut told = create(alloc, &mut registry, "a", "http://e/a", 1)?;
+// Creates a source, and does so again where the disk failed.
+fn creates(
+    rt: &impl Abort,
+    alloc: Global,
+    registry: &mut RegistryState<MemDisk>,
+) -> Result<u64, Fail> {
+    let mut told = create(alloc, registry, "a", "http://e/a", 1)?;
     let faults = registry.faults();
     if faults == 1 {
         assert!(rt; told == Told::DiskFault && registry.count() == 0);
-        told = create(alloc, &mut registry, "a", "http://e/a", 1)?;
+        told = create(alloc, registry, "a", "http://e/a", 1)?;
     }
     assert!(rt; told == Told::Made { slot: 1 } && registry.count() == 1);
     Ok(faults)
+}
+
+// The disk fails at one call, and a creation that was refused is made again.
+fn made_again(rt: &impl Abort, alloc: Global, failing: u64) -> Result<u64, Fail> {
+    let mut registry = open_with(alloc, TWO_SLOTS, &[failing])?;
+    let made = creates(rt, alloc, &mut registry);
+    drop(registry);
+    made
 }
 
 #[test]

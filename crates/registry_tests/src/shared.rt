@@ -1,32 +1,19 @@
 //! A registry that two passes share.
 ghost use Rattle.std.specs.Prelude.{◌≡◌, ◌≤◌, [], IfOk, vec_capacity};
-ghost use Rattle.std.specs.List.{AllByRecursion};
 ghost use Rattle.disk_model.specs.Memory.{memory_mark};
 ghost use Rattle.shared_registry.specs.Passes.{IsPassOf};
 ghost use Rattle.turn_cell.specs.Knowing.{number_of};
 
-use crate::calls::{TWO_SLOTS, Told, changed, created, id_of};
-use delta_base::{Bytes, Listing, Text};
+use crate::calls::{TWO_SLOTS, Told, changed, created, id_of, is, open_with};
+use delta_base::Text;
 use disk_model::MemDisk;
 use log_registry::RegistryState;
 use shared_registry::{RegistryPass, RegistryValue, SharedRegistry};
 use std::alloc::Global;
+use std::process::Abort;
 use std::sync::Wait;
 use std::test::Fail;
 use turn_cell::Pass;
-
-// The registry of a file with two slots, whose disk fails at the calls of these numbers.
-fn open(alloc: Global, failing: &[u64]) -> Result<RegistryState<MemDisk>, Fail>
-    ensures { IfOk result (λ registry. AllByRecursion (λ entry. entry.by ≡ 0) registry.entries) }
-{
-    let bytes = Bytes::from_slice(alloc, TWO_SLOTS)?;
-    let failing = Listing::from_vec(Vec::from_slice(alloc, failing)?);
-    let disk = MemDisk::from_image(alloc, bytes, failing)?;
-    match RegistryState::open_on(alloc, disk) {
-        Ok(registry) => Ok(registry),
-        Err(_) => Err(Fail::from("not opened")),
-    }
-}
 
 // Two passes, and the room that they came in.
 #[derive(Drop)]
@@ -43,14 +30,18 @@ fn share(alloc: Global, failing: &[u64]) -> Result<(SharedRegistry<MemDisk>, Pas
     ensures room { IfOk result (λ r.
         (r.0.seats ≡ 2) × (r.1.room.items ≡ []) × (2 ≤ vec_capacity r.1.room)) }
 {
-    let Ok((registry, mut room)) = SharedRegistry::new(alloc, open(alloc, failing)?, 2) else {
+    let Ok((registry, mut room)) = SharedRegistry::new(
+        alloc,
+        open_with(alloc, TWO_SLOTS, failing)?,
+        2,
+    ) else {
         return Err(Fail::from("no memory"));
     };
     let Some(two) = room.pop() else {
-        return Err(Fail::from("no pass 2"));
+        unreachable!()
     };
     let Some(one) = room.pop() else {
-        return Err(Fail::from("no pass 1"));
+        unreachable!()
     };
     let one = RegistryPass::of(one);
     let two = RegistryPass::of(two);
@@ -106,34 +97,154 @@ fn slot_of<R: Wait>(
     Ok(found.map_or(0, |source| source.slot))
 }
 
+// Each pass makes a source.
+fn both_make<R: Wait + Abort>(
+    rt: &R,
+    alloc: Global,
+    registry: &SharedRegistry<MemDisk>,
+    one: &mut RegistryPass<MemDisk>,
+    two: &mut RegistryPass<MemDisk>,
+) -> Result<(), Fail>
+    requires one { IsPassOf memory_mark registry.now one.old }
+    requires two { IsPassOf memory_mark registry.now two.old }
+    ensures one { IsPassOf memory_mark registry.now one.new }
+    ensures two { IsPassOf memory_mark registry.now two.new }
+    ensures numbers { (number_of one.new ≡ number_of one.old)
+        × (number_of two.new ≡ number_of two.old) }
+{
+    let told = create(rt, alloc, registry, one, "b", 1)?;
+    is(rt, told, Told::Made { slot: 1 });
+    let told = create(rt, alloc, registry, two, "a", 2)?;
+    is(rt, told, Told::Made { slot: 2 });
+    Ok(())
+}
+
+// Each pass finds what the other made.
+fn each_finds<R: Wait + Abort>(
+    rt: &R,
+    alloc: Global,
+    registry: &SharedRegistry<MemDisk>,
+    one: &mut RegistryPass<MemDisk>,
+    two: &mut RegistryPass<MemDisk>,
+) -> Result<(), Fail>
+    requires one { IsPassOf memory_mark registry.now one.old }
+    requires two { IsPassOf memory_mark registry.now two.old }
+    ensures one { IsPassOf memory_mark registry.now one.new }
+    ensures two { IsPassOf memory_mark registry.now two.new }
+    ensures numbers { (number_of one.new ≡ number_of one.old)
+        × (number_of two.new ≡ number_of two.old) }
+{
+    both_make(rt, alloc, registry, one, two)?;
+    assert!(rt; slot_of(rt, alloc, registry, one, "a")? == 2);
+    assert!(rt; slot_of(rt, alloc, registry, two, "b")? == 1);
+    assert!(rt; registry.slots() == 2);
+    Ok(())
+}
+
 #[test]
 fn what_one_pass_makes_the_other_finds(rt: HostRuntime) -> Result<(), Fail> {
     let alloc = rt.alloc();
     let (registry, mut passes) = share(alloc, &[])?;
-    let told = create(&rt, alloc, &registry, &mut passes.one, "b", 1)?;
-    assert!(rt; told == Told::Made { slot: 1 });
-    let told = create(&rt, alloc, &registry, &mut passes.two, "a", 2)?;
-    assert!(rt; told == Told::Made { slot: 2 });
-    assert!(rt; slot_of(&rt, alloc, &registry, &mut passes.one, "a")? == 2);
-    assert!(rt; slot_of(&rt, alloc, &registry, &mut passes.two, "b")? == 1);
-    assert!(rt; registry.slots() == 2);
+    let found = each_finds(&rt, alloc, &registry, &mut passes.one, &mut passes.two);
     let state = close(registry, passes);
-    assert!(rt; state.count() == 2);
+    let count = state.count();
+    drop(state);
+    found?;
+    assert!(rt; count == 2);
     Ok(())
+}
+
+// The answer to a removal by this pass.
+fn remove<R: Wait>(
+    rt: &R,
+    alloc: Global,
+    registry: &SharedRegistry<MemDisk>,
+    pass: &mut RegistryPass<MemDisk>,
+    name: &str,
+) -> Result<Told, Fail>
+    requires { IsPassOf memory_mark registry.now pass.old }
+    ensures of { IsPassOf memory_mark registry.now pass.new }
+    ensures number { number_of pass.new ≡ number_of pass.old }
+{
+    let name = Text::from_str(alloc, name)?;
+    let answer = registry.remove(rt, pass, &name);
+    Ok(changed(answer))
+}
+
+// A pass lists no source.
+fn lists_none<R: Wait + Abort>(
+    rt: &R,
+    registry: &SharedRegistry<MemDisk>,
+    pass: &mut RegistryPass<MemDisk>,
+) -> Result<(), Fail>
+    requires { IsPassOf memory_mark registry.now pass.old }
+{
+    let listed = registry.list(rt, pass)?;
+    assert!(rt; listed.is_empty());
+    Ok(())
+}
+
+// One pass makes a source, and the other removes it.
+fn is_removed<R: Wait + Abort>(
+    rt: &R,
+    alloc: Global,
+    registry: &SharedRegistry<MemDisk>,
+    one: &mut RegistryPass<MemDisk>,
+    two: &mut RegistryPass<MemDisk>,
+) -> Result<(), Fail>
+    requires one { IsPassOf memory_mark registry.now one.old }
+    requires two { IsPassOf memory_mark registry.now two.old }
+    ensures { IsPassOf memory_mark registry.now one.new }
+{
+    create(rt, alloc, registry, one, "b", 1)?;
+    assert!(rt; slot_of(rt, alloc, registry, one, "b")? == 1);
+    let told = remove(rt, alloc, registry, two, "b")?;
+    is(rt, told, Told::Made { slot: 1 });
+    Ok(())
+}
+
+// The pass that made it neither finds nor lists it then.
+fn is_found_no_more<R: Wait + Abort>(
+    rt: &R,
+    alloc: Global,
+    registry: &SharedRegistry<MemDisk>,
+    one: &mut RegistryPass<MemDisk>,
+    two: &mut RegistryPass<MemDisk>,
+) -> Result<(), Fail>
+    requires one { IsPassOf memory_mark registry.now one.old }
+    requires two { IsPassOf memory_mark registry.now two.old }
+{
+    is_removed(rt, alloc, registry, one, two)?;
+    assert!(rt; slot_of(rt, alloc, registry, one, "b")? == 0);
+    lists_none(rt, registry, one)
 }
 
 #[test]
 fn a_removed_source_is_found_by_no_pass(rt: HostRuntime) -> Result<(), Fail> {
     let alloc = rt.alloc();
     let (registry, mut passes) = share(alloc, &[])?;
-    create(&rt, alloc, &registry, &mut passes.one, "b", 1)?;
-    assert!(rt; slot_of(&rt, alloc, &registry, &mut passes.one, "b")? == 1);
-    let name = Text::from_str(alloc, "b")?;
-    let told = changed(registry.remove(&rt, &mut passes.two, &name));
-    assert!(rt; told == Told::Made { slot: 1 });
-    assert!(rt; slot_of(&rt, alloc, &registry, &mut passes.one, "b")? == 0);
-    let listed = registry.list(&rt, &mut passes.one)?;
-    assert!(rt; listed.is_empty());
+    let found = is_found_no_more(&rt, alloc, &registry, &mut passes.one, &mut passes.two);
+    drop(passes);
+    drop(registry);
+    found
+}
+
+// A creation by one pass fails, and by the other it doesn't.
+fn one_fails<R: Wait + Abort>(
+    rt: &R,
+    alloc: Global,
+    registry: &SharedRegistry<MemDisk>,
+    one: &mut RegistryPass<MemDisk>,
+    two: &mut RegistryPass<MemDisk>,
+) -> Result<(), Fail>
+    requires one { IsPassOf memory_mark registry.now one.old }
+    requires two { IsPassOf memory_mark registry.now two.old }
+{
+    let told = create(rt, alloc, registry, one, "b", 1)?;
+    is(rt, told, Told::DiskFault);
+    assert!(rt; one.own_faults() == 1 && two.own_faults() == 0);
+    let told = create(rt, alloc, registry, two, "b", 1)?;
+    is(rt, told, Told::Made { slot: 1 });
     Ok(())
 }
 
@@ -142,10 +253,8 @@ fn a_removed_source_is_found_by_no_pass(rt: HostRuntime) -> Result<(), Fail> {
 fn a_fault_is_that_of_its_own_pass(rt: HostRuntime) -> Result<(), Fail> {
     let alloc = rt.alloc();
     let (registry, mut passes) = share(alloc, &[8])?;
-    let told = create(&rt, alloc, &registry, &mut passes.one, "b", 1)?;
-    assert!(rt; told == Told::DiskFault);
-    assert!(rt; passes.one.own_faults() == 1 && passes.two.own_faults() == 0);
-    let told = create(&rt, alloc, &registry, &mut passes.two, "b", 1)?;
-    assert!(rt; told == Told::Made { slot: 1 });
-    Ok(())
+    let failed = one_fails(&rt, alloc, &registry, &mut passes.one, &mut passes.two);
+    drop(passes);
+    drop(registry);
+    failed
 }

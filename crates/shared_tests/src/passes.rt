@@ -113,28 +113,47 @@ fn three_patches(alloc: Global) -> Result<Patches, Fail> {
 }
 
 fn is(rt: &impl Abort, answer: LogAnswer, wanted: LogAnswer) {
-    assert_eq!(rt; answer, wanted);
+    assert!(rt; answer == wanted);
 }
 
 fn has_first_and_third(rt: &impl Abort, log: &LogState<MemDisk>) {
-    assert_eq!(rt; log.chain().version(), 2);
-    assert_eq!(rt; entry_of(log, 1), Some((1, id_of(1))));
-    assert_eq!(rt; entry_of(log, 2), Some((2, id_of(3))));
+    assert!(rt; log.chain().version() == 2);
+    assert!(rt; entry_of(log, 1) == Some((1, id_of(1))));
+    assert!(rt; entry_of(log, 2) == Some((2, id_of(3))));
+}
+
+// Both append the first patch, and the other one the third.
+fn both_append<R: Wait + Abort>(
+    rt: &R,
+    log: &SharedLog<MemDisk>,
+    passes: &mut Passes,
+    patches: &Patches,
+)
+    requires one { IsPassOf memory_mark log.now passes.old.one }
+    requires two { IsPassOf memory_mark log.now passes.old.two }
+    ensures one { IsPassOf memory_mark log.now passes.new.one }
+    ensures two { IsPassOf memory_mark log.now passes.new.two }
+    ensures numbers { (number_of passes.new.one ≡ number_of passes.old.one)
+        × (number_of passes.new.two ≡ number_of passes.old.two) }
+    ensures room { passes.new.room ≡ passes.old.room }
+{
+    let answer = log.append(rt, &mut passes.one, &patches.first);
+    is(rt, answer, LogAnswer::Accepted { version: 1 });
+    assert!(rt; log.version(&mut passes.two) == 1);
+    let answer = log.append(rt, &mut passes.two, &patches.first);
+    let same = true;
+    is(rt, answer, LogAnswer::Known { version: 1, same });
+    let answer = log.append(rt, &mut passes.two, &patches.third);
+    is(rt, answer, LogAnswer::Accepted { version: 2 });
 }
 
 #[test]
 fn what_one_pass_brings_the_other_sees(rt: HostRuntime) -> Result<(), Fail> {
     let patches = three_patches(rt.alloc())?;
     let (log, mut passes) = share(rt.alloc(), &[])?;
-    let answer = log.append(&rt, &mut passes.one, &patches.first);
-    is(&rt, answer, LogAnswer::Accepted { version: 1 });
-    assert!(rt; log.version(&mut passes.two) == 1);
-    let answer = log.append(&rt, &mut passes.two, &patches.first);
-    let same = true;
-    is(&rt, answer, LogAnswer::Known { version: 1, same });
-    let answer = log.append(&rt, &mut passes.two, &patches.third);
-    is(&rt, answer, LogAnswer::Accepted { version: 2 });
+    both_append(&rt, &log, &mut passes, &patches);
     let answer = log.append(&rt, &mut passes.one, &patches.second);
+    drop(patches);
     let conflict = LogAnswer::Conflict {
         version: 2,
         head: Some(id_of(3)),
@@ -143,6 +162,7 @@ fn what_one_pass_brings_the_other_sees(rt: HostRuntime) -> Result<(), Fail> {
     is(&rt, answer, conflict);
     let state = close(log, passes);
     has_first_and_third(&rt, &state);
+    drop(state);
     Ok(())
 }
 
@@ -156,11 +176,13 @@ fn a_fault_is_that_of_its_own_pass(rt: HostRuntime) -> Result<(), Fail> {
     is(&rt, answer, LogAnswer::DiskFault);
     assert!(rt; log.version(&mut passes.two) == 0);
     assert!(rt; log.describe(&rt, &mut passes.two).version == 0);
-    assert!(rt; passes.one.own_faults() > 0);
-    assert!(rt; passes.two.own_faults() == 0);
+    assert!(rt; passes.one.own_faults() > 0 && passes.two.own_faults() == 0);
     let answer = log.append(&rt, &mut passes.two, &first);
     is(&rt, answer, LogAnswer::Accepted { version: 1 });
     assert!(rt; passes.two.own_faults() == 0);
+    drop(passes);
+    drop(log);
+    drop(first);
     Ok(())
 }
 
@@ -196,17 +218,30 @@ fn fetches_version<R: Wait + Abort>(
     ensures { IsPassOf memory_mark log.now pass.new }
 {
     let fetched = log.fetch_version(rt, pass, version)?;
-    assert_eq!(rt; text_of(&fetched), text);
+    assert!(rt; text_of(&fetched) == text);
     Ok(())
+}
+
+fn fetches_versions<R: Wait + Abort>(
+    rt: &R,
+    log: &SharedLog<MemDisk>,
+    pass: &mut LogPass<MemDisk>,
+) -> Result<(), Fail>
+    requires { IsPassOf memory_mark log.now pass.old }
+{
+    fetches_version(rt, log, pass, 0, Err(2))?;
+    fetches_version(rt, log, pass, 1, Ok(FIRST))?;
+    fetches_version(rt, log, pass, 2, Ok(SECOND))?;
+    fetches_version(rt, log, pass, 3, Err(2))
 }
 
 #[test]
 fn versions_are_fetched(rt: HostRuntime) -> Result<(), Fail> {
     let (log, mut passes) = share_two(&rt, rt.alloc())?;
-    fetches_version(&rt, &log, &mut passes.two, 0, Err(2))?;
-    fetches_version(&rt, &log, &mut passes.two, 1, Ok(FIRST))?;
-    fetches_version(&rt, &log, &mut passes.two, 2, Ok(SECOND))?;
-    fetches_version(&rt, &log, &mut passes.two, 3, Err(2))
+    let fetched = fetches_versions(&rt, &log, &mut passes.two);
+    drop(passes);
+    drop(log);
+    fetched
 }
 
 // The patch of this id has that text, or the log is that long.
@@ -221,26 +256,61 @@ fn fetches_id<R: Wait + Abort>(
     ensures { IsPassOf memory_mark log.now pass.new }
 {
     let fetched = log.fetch_id(rt, pass, id)?;
-    assert_eq!(rt; text_of(&fetched), text);
+    assert!(rt; text_of(&fetched) == text);
     Ok(())
+}
+
+fn fetches_ids<R: Wait + Abort>(
+    rt: &R,
+    log: &SharedLog<MemDisk>,
+    pass: &mut LogPass<MemDisk>,
+) -> Result<(), Fail>
+    requires { IsPassOf memory_mark log.now pass.old }
+{
+    fetches_id(rt, log, pass, id_of(2), Ok(SECOND))?;
+    fetches_id(rt, log, pass, id_of(9), Err(2))?;
+    fetches_id(rt, log, pass, id_of(1), Ok(FIRST))
 }
 
 #[test]
 fn ids_are_fetched(rt: HostRuntime) -> Result<(), Fail> {
     let (log, mut passes) = share_two(&rt, rt.alloc())?;
-    fetches_id(&rt, &log, &mut passes.two, id_of(2), Ok(SECOND))?;
-    fetches_id(&rt, &log, &mut passes.two, id_of(9), Err(2))?;
-    fetches_id(&rt, &log, &mut passes.two, id_of(1), Ok(FIRST))
+    let fetched = fetches_ids(&rt, &log, &mut passes.two);
+    drop(passes);
+    drop(log);
+    fetched
+}
+
+// The second pass is told this version and head.
+fn describes<R: Wait + Abort>(
+    rt: &R,
+    log: SharedLog<MemDisk>,
+    passes: Passes,
+    version: u32,
+    head: Option<Id>,
+)
+    requires { IsPassOf memory_mark log passes.two }
+{
+    let mut passes = passes;
+    let told = log.describe(rt, &mut passes.two);
+    assert!(rt; (told.version, told.head) == (version, head));
+    drop(passes);
+    drop(log);
 }
 
 #[test]
 fn a_log_is_described(rt: HostRuntime) -> Result<(), Fail> {
-    let (log, mut passes) = share(rt.alloc(), &[])?;
-    let none = log.describe(&rt, &mut passes.two);
-    assert_eq!(rt; (none.version, none.head), (0, None));
-    let (log, mut passes) = share_two(&rt, rt.alloc())?;
-    let two = log.describe(&rt, &mut passes.two);
-    assert_eq!(rt; (two.version, two.head), (2, Some(id_of(2))));
+    let (log, passes) = share(rt.alloc(), &[])?;
+    describes(&rt, log, passes, 0, None);
+    let (log, passes) = share_two(&rt, rt.alloc())?;
+    describes(&rt, log, passes, 2, Some(id_of(2)));
+    Ok(())
+}
+
+// The text of the first patch, by its id.
+fn finds_first(rt: &impl Abort, value: &LogValue<MemDisk>) -> Result<(), Fail> {
+    let fetched = value.fetch_id(id_of(1))?;
+    assert!(rt; text_of(&fetched) == Ok(FIRST));
     Ok(())
 }
 
@@ -253,10 +323,13 @@ fn a_value_of_a_turn_is_a_log(rt: HostRuntime) -> Result<(), Fail> {
     let answer = value.append(&first, Ready::of(alloc, &first, 3));
     is(&rt, answer, LogAnswer::Accepted { version: 1 });
     let answer = value.append(&first, Ready::of(alloc, &first, 4));
+    drop(first);
     let same = true;
     is(&rt, answer, LogAnswer::Known { version: 1, same });
     assert!(rt; value.version() == 1);
-    assert_eq!(rt; text_of(&value.fetch_id(id_of(1))?), Ok(FIRST));
-    assert_eq!(rt; entry_of(&value.into_log(), 1), Some((3, id_of(1))));
-    Ok(())
+    let found = finds_first(&rt, &value);
+    let log = value.into_log();
+    assert!(rt; entry_of(&log, 1) == Some((3, id_of(1))));
+    drop(log);
+    found
 }

@@ -3,6 +3,7 @@ use delta_base::{Bytes, Id, Listing, LogLimits};
 use disk_model::{Disk, MemDisk};
 use patch_meaning::check_patch;
 use std::alloc::Global;
+use std::process::Abort;
 use std::test::Fail;
 use zone_state::{TakeAnswer, Zone};
 
@@ -57,6 +58,11 @@ pub fn take<D: Disk>(alloc: Global, zone: &mut Zone<D>, text: &[u8]) -> Result<T
     Ok(answer)
 }
 
+/// A zone answers so.
+pub fn is(rt: &impl Abort, answer: TakeAnswer, wanted: TakeAnswer) {
+    assert!(rt; answer == wanted);
+}
+
 /// Whether a zone has these lines.
 pub fn has_lines<D: Disk>(zone: &Zone<D>, lines: &[&str]) -> Result<bool, Fail> {
     let found = zone.lines()?;
@@ -69,14 +75,20 @@ pub fn has_lines<D: Disk>(zone: &Zone<D>, lines: &[&str]) -> Result<bool, Fail> 
     Ok(same)
 }
 
+/// Puts a payload behind a journal's others.
+fn add(journal: &mut Vec<u8>, payload: &[u8]) -> Result<(), Fail> {
+    journal.push(1)?;
+    journal.extend_from_slice(&u32::try_from(payload.len())?.to_be_bytes())?;
+    journal.extend_from_slice(payload)?;
+    Ok(())
+}
+
 /// A journal with these payloads.
 pub fn journal_of(alloc: Global, payloads: &[&[u8]]) -> Result<Vec<u8>, Fail> {
-    let mut bytes = b"RDJ1\0\0\x03\xe8".to_vec(alloc)?;
+    let mut journal = b"RDJ1\0\0\x03\xe8".to_vec(alloc)?;
     for payload in payloads {
-        bytes.push(1)?;
-        bytes.extend_from_slice(&u32::try_from(payload.len())?.to_be_bytes())?;
-        bytes.extend_from_slice(payload)?;
+        add(&mut journal, payload)?;
     }
-    bytes.push(0)?;
-    Ok(bytes)
+    journal.push(0)?;
+    Ok(journal)
 }

@@ -3,6 +3,7 @@ use crate::fakes::{EMPTY, FIRST, ID3, LINE2, SECOND, THIRD, disk_of, has_lines, 
 use delta_base::{LOG_LIMITS, LogLimits};
 use disk_model::{Disk, MemDisk};
 use std::alloc::Global;
+use std::process::Abort;
 use std::test::Fail;
 use zone_state::{Zone, ZoneFault};
 
@@ -12,10 +13,42 @@ fn fault_of(alloc: Global, image: &[u8], failing: &[u64]) -> Result<ZoneFault, F
         patches: 2,
         bytes: 1000,
     };
-    match Zone::open_on(alloc, disk_of(alloc, image, failing)?, limits) {
-        Ok(_) => Err(Fail::from("opened")),
-        Err(refusal) => Ok(refusal.fault),
+    let opened = Zone::open_on(alloc, disk_of(alloc, image, failing)?, limits);
+    let fault = match &opened {
+        Ok(_) => None,
+        Err(refusal) => Some(refusal.fault),
+    };
+    drop(opened);
+    match fault {
+        Some(fault) => Ok(fault),
+        None => Err(Fail::from("opened")),
     }
+}
+
+// A file isn't opened for this fault.
+fn is_refused(
+    rt: &impl Abort,
+    alloc: Global,
+    image: &[u8],
+    failing: &[u64],
+    fault: ZoneFault,
+) -> Result<(), Fail> {
+    let found = fault_of(alloc, image, failing)?;
+    assert!(rt; found == fault);
+    Ok(())
+}
+
+// The file of these payloads isn't.
+fn is_no_chain(
+    rt: &impl Abort,
+    alloc: Global,
+    payloads: &[&[u8]],
+    fault: ZoneFault,
+) -> Result<(), Fail> {
+    let file = journal_of(alloc, payloads)?;
+    let refused = is_refused(rt, alloc, &file, &[], fault);
+    drop(file);
+    refused
 }
 
 /// Payloads with the fault of their chain.
@@ -41,12 +74,8 @@ static CHAINS: [(&[&[u8]], ZoneFault); 5] = [
 
 #[test]
 fn each_fault_of_a_chain_is_told(rt: HostRuntime) -> Result<(), Fail> {
-    let alloc = rt.alloc();
-    for (payloads, fault) in CHAINS {
-        let file = journal_of(alloc, payloads)?;
-        let found = fault_of(alloc, &file, &[]);
-        drop(file);
-        assert!(rt; found? == fault);
+    for (payloads, fault) in &CHAINS {
+        is_no_chain(&rt, rt.alloc(), payloads, *fault)?;
     }
     Ok(())
 }
@@ -65,13 +94,11 @@ static FILES: [(&[u8], ZoneFault); 3] = [
 #[test]
 fn each_fault_of_a_file_is_told(rt: HostRuntime) -> Result<(), Fail> {
     let alloc = rt.alloc();
-    for (file, fault) in FILES {
-        let found = fault_of(alloc, file, &[])?;
-        assert!(rt; found == fault);
+    for (file, fault) in &FILES {
+        is_refused(&rt, alloc, file, &[], *fault)?;
     }
     for call in 0..3u64 {
-        let found = fault_of(alloc, EMPTY, &[call])?;
-        assert!(rt; found == ZoneFault::Failed);
+        is_refused(&rt, alloc, EMPTY, &[call], ZoneFault::Failed)?;
     }
     Ok(())
 }
@@ -89,15 +116,24 @@ fn has_bytes(disk: &MemDisk, bytes: &[u8]) -> Result<bool, Fail> {
     Ok(true)
 }
 
+// Whether a zone has what its three patches make.
+fn has_three(zone: &Zone<MemDisk>) -> Result<bool, Fail> {
+    Ok(zone.version() == 3 && zone.head() == Some(ID3) && has_lines(zone, &[LINE2])?)
+}
+
 // Whether a zone is opened on this file, which stays as it is, and has what its three patches make.
 fn opens(alloc: Global, file: &[u8]) -> Result<bool, Fail> {
     let disk = disk_of(alloc, file, &[])?;
     let zone = open(alloc, disk, LOG_LIMITS)?;
-    let stands = zone.version() == 3 && zone.head() == Some(ID3) && has_lines(&zone, &[LINE2])?;
+    let stands = has_three(&zone);
     let disk = zone.close();
-    let kept = disk.faults() == 0 && has_bytes(&disk, file)?;
+    let kept = match stands {
+        Ok(true) => has_bytes(&disk, file),
+        other => other,
+    };
+    let faults = disk.faults();
     drop(disk);
-    Ok(stands && kept)
+    Ok(kept? && faults == 0)
 }
 
 #[test]

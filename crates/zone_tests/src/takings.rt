@@ -1,6 +1,7 @@
 //! What zones answer, and what they have then.
 use crate::fakes::{
-    EMPTY, FIRST, ID1, ID2, ID3, ID9, LINE1, LINE2, SECOND, THIRD, disk_of, has_lines, open, take,
+    EMPTY, FIRST, ID1, ID2, ID3, ID9, LINE1, LINE2, SECOND, THIRD, disk_of, has_lines, is, open,
+    take,
 };
 use delta_base::{FullKind, Id, LOG_LIMITS, LogLimits};
 use disk_model::MemDisk;
@@ -137,21 +138,28 @@ fn does(alloc: Global, zone: &mut Zone<MemDisk>, step: &Step) -> Result<bool, Fa
     )
 }
 
-// Whether a new zone does what all say.
-fn does_all(alloc: Global, steps: &[Step], limits: LogLimits) -> Result<bool, Fail> {
-    let disk = disk_of(alloc, EMPTY, &[])?;
-    let mut zone = open(alloc, disk, limits)?;
+// Whether a zone does what all say.
+fn does_all(alloc: Global, zone: &mut Zone<MemDisk>, steps: &[Step]) -> Result<bool, Fail> {
     for step in steps {
-        if !does(alloc, &mut zone, step)? {
+        if !does(alloc, zone, step)? {
             return Ok(false);
         }
     }
     Ok(true)
 }
 
+// Whether a new zone does.
+fn begins(alloc: Global, steps: &[Step], limits: LogLimits) -> Result<bool, Fail> {
+    let disk = disk_of(alloc, EMPTY, &[])?;
+    let mut zone = open(alloc, disk, limits)?;
+    let done = does_all(alloc, &mut zone, steps);
+    drop(zone);
+    done
+}
+
 #[test]
 fn a_zone_takes_the_next_patch_alone(rt: HostRuntime) -> Result<(), Fail> {
-    assert!(rt; does_all(rt.alloc(), &CHAIN, LOG_LIMITS)?);
+    assert!(rt; begins(rt.alloc(), &CHAIN, LOG_LIMITS)?);
     Ok(())
 }
 
@@ -161,34 +169,37 @@ fn refusals_come_in_their_order(rt: HostRuntime) -> Result<(), Fail> {
         patches: 2,
         bytes: 281,
     };
-    assert!(rt; does_all(rt.alloc(), &FULL, limits)?);
+    assert!(rt; begins(rt.alloc(), &FULL, limits)?);
     Ok(())
 }
 
-// What a zone of one patch within so many bytes answers to the second.
+// What a zone without patches answers to the second behind the first.
+fn take_two(alloc: Global, zone: &mut Zone<MemDisk>) -> Result<TakeAnswer, Fail> {
+    take(alloc, zone, FIRST)?;
+    take(alloc, zone, SECOND)
+}
+
+// What one within so many bytes answers.
 fn second_within(alloc: Global, bytes: u64) -> Result<TakeAnswer, Fail> {
     let limits = LogLimits { patches: 9, bytes };
     let disk = disk_of(alloc, EMPTY, &[])?;
     let mut zone = open(alloc, disk, limits)?;
-    take(alloc, &mut zone, FIRST)?;
-    let answer = take(alloc, &mut zone, SECOND)?;
+    let answer = take_two(alloc, &mut zone);
     drop(zone);
-    Ok(answer)
+    answer
 }
 
 #[test]
 fn a_zone_fills_its_file_to_the_limit(rt: HostRuntime) -> Result<(), Fail> {
     let alloc = rt.alloc();
     let fits = second_within(alloc, 281)?;
-    assert!(rt; fits == TakeAnswer::Applied { version: 2 });
-    let full = second_within(alloc, 280)?;
-    assert!(rt;
-        full == TakeAnswer::Full {
-            what: FullKind::Bytes,
-            have: 281,
-            limit: 280,
-        }
-    );
+    is(&rt, fits, TakeAnswer::Applied { version: 2 });
+    let full = TakeAnswer::Full {
+        what: FullKind::Bytes,
+        have: 281,
+        limit: 280,
+    };
+    is(&rt, second_within(alloc, 280)?, full);
     Ok(())
 }
 
@@ -203,16 +214,20 @@ fn dumps(alloc: Global, zone: &Zone<MemDisk>, document: &str) -> Result<bool, Fa
     Ok(same)
 }
 
+// Whether the dump of a zone with two patches is this document.
+fn two_dump(alloc: Global, zone: &mut Zone<MemDisk>, document: &str) -> Result<bool, Fail> {
+    take_two(alloc, zone)?;
+    dumps(alloc, zone, document)
+}
+
 #[test]
 fn a_dump_has_the_quads_in_the_order_of_their_lines(rt: HostRuntime) -> Result<(), Fail> {
     let alloc = rt.alloc();
     let disk = disk_of(alloc, EMPTY, &[])?;
     let mut zone = open(alloc, disk, LOG_LIMITS)?;
-    take(alloc, &mut zone, FIRST)?;
-    take(alloc, &mut zone, SECOND)?;
-    let same = dumps(
+    let same = two_dump(
         alloc,
-        &zone,
+        &mut zone,
         "<http://e/s> <http://e/p> <http://e/o2> .\n<http://e/s> <http://e/p> <http://e/o> .\n",
     );
     drop(zone);
