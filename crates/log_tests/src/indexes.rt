@@ -43,6 +43,7 @@ fn two_patches_are_found(rt: HostRuntime) -> Result<(), Fail> {
     assert!(rt; log.version_of(Id(2)) == Some(2));
     assert!(rt; log.version_of(Id(3)).is_none());
     assert!(rt; log.chain().head() == Some(Id(2)));
+    drop(log);
     Ok(())
 }
 
@@ -59,5 +60,6 @@ fn a_patch_behind_the_first_conflicts(rt: HostRuntime) -> Result<(), Fail> {
         prev_version: Some(1),
     };
     assert!(rt; decide(&log, &LIMITS, third, b"three") == conflict);
+    drop(log);
     Ok(())
 }

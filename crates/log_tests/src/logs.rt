@@ -6,6 +6,7 @@ use disk_model::MemDisk;
 use patch_log::{LogFault, LogState, append, append_all};
 use patch_meaning::{Checked, check_patch};
 use std::alloc::Global;
+use std::process::Abort;
 use std::test::Fail;
 
 const EMPTY: &[u8] = b"RDJ1\0\0\0\x01\0";
@@ -43,22 +44,46 @@ pub fn disk_of(alloc: Global, image: &[u8], failing: &[u64]) -> Result<MemDisk, 
 pub fn open(alloc: Global, disk: MemDisk, limits: LogLimits) -> Result<LogState<MemDisk>, Fail> {
     match LogState::open_on(alloc, disk, 1, limits) {
         Ok(log) => Ok(log),
-        Err(_) => Err(Fail::from("not opened")),
+        Err(refusal) => {
+            drop(refusal);
+            Err(Fail::from("not opened"))
+        }
     }
+}
+
+/// A new log, the calls of these numbers of whose disk fail. An opening makes three calls and an
+/// append four.
+pub fn new_log(alloc: Global, failing: &[u64]) -> Result<LogState<MemDisk>, Fail> {
+    open(alloc, disk_of(alloc, EMPTY, failing)?, LIMITS)
 }
 
 // Takes the memory first, and then appends.
 fn add(alloc: Global, log: &mut LogState<MemDisk>, text: &[u8]) -> Result<LogAnswer, Fail> {
     let patch = check_patch(alloc, text)?;
-    let ready = log.reserve(&patch, 7)?;
-    Ok(log.append_reserved(ready))
+    let ready = log.reserve(&patch, 7);
+    drop(patch);
+    Ok(log.append_reserved(ready?))
+}
+
+// Adds the first patch and then the second, which has this answer.
+fn add_two(alloc: Global, log: &mut LogState<MemDisk>) -> Result<LogAnswer, Fail> {
+    add(alloc, log, FIRST)?;
+    add(alloc, log, SECOND)
+}
+
+// The log that a crash leaves.
+fn log_left(alloc: Global, disk: &MemDisk, choice: u64) -> Result<LogState<MemDisk>, Fail> {
+    let image = disk.image(choice)?;
+    let left = MemDisk::from_image(alloc, image, no_calls(alloc))?;
+    open(alloc, left, LIMITS)
 }
 
 // The version and the head of the log that a crash leaves.
 fn found_in(alloc: Global, disk: &MemDisk, choice: u64) -> Result<(u32, Option<Id>), Fail> {
-    let left = MemDisk::from_image(alloc, disk.image(choice)?, no_calls(alloc))?;
-    let log = open(alloc, left, LIMITS)?;
-    Ok((log.chain().version(), log.chain().head()))
+    let log = log_left(alloc, disk, choice)?;
+    let found = (log.chain().version(), log.chain().head());
+    drop(log);
+    Ok(found)
 }
 
 /// Texts that are sent to a new log one after another, and its answers.
@@ -113,15 +138,21 @@ static ANSWERS: [(&[u8], LogAnswer); 8] = [
     ),
 ];
 
+fn takes_the_next(rt: &impl Abort, alloc: Global, log: &mut LogState<MemDisk>) -> Result<(), Fail> {
+    for (text, answer) in ANSWERS {
+        let found = add(alloc, log, text)?;
+        assert!(rt; found == answer);
+    }
+    Ok(())
+}
+
 #[test]
 fn a_log_takes_the_next_patch_alone(rt: HostRuntime) -> Result<(), Fail> {
     let alloc = rt.alloc();
-    let mut log = open(alloc, disk_of(alloc, EMPTY, &[])?, LIMITS)?;
-    for (text, answer) in ANSWERS {
-        let found = add(alloc, &mut log, text)?;
-        assert_eq!(rt; found, answer);
-    }
-    Ok(())
+    let mut log = new_log(alloc, &[])?;
+    let taken = takes_the_next(&rt, alloc, &mut log);
+    drop(log);
+    taken
 }
 
 // Which pass brought the first patch of a log.
@@ -129,22 +160,32 @@ fn brought_by(log: &LogState<MemDisk>) -> Option<u32> {
     log.chain().entry(1).map(|entry| entry.by)
 }
 
+// The same of the log that a crash leaves.
+fn brought_again_by(alloc: Global, disk: &MemDisk) -> Result<Option<u32>, Fail> {
+    let log = log_left(alloc, disk, 1)?;
+    let by = brought_by(&log);
+    drop(log);
+    Ok(by)
+}
+
 #[test]
 fn who_brought_a_patch_is_kept(rt: HostRuntime) -> Result<(), Fail> {
     let alloc = rt.alloc();
-    let mut log = open(alloc, disk_of(alloc, EMPTY, &[])?, LIMITS)?;
-    add(alloc, &mut log, FIRST)?;
-    assert!(rt; brought_by(&log) == Some(7));
+    let mut log = new_log(alloc, &[])?;
+    let added = add(alloc, &mut log, FIRST);
+    let by = brought_by(&log);
     let disk = log.close();
-    let left = MemDisk::from_image(alloc, disk.image(1)?, no_calls(alloc))?;
+    assert!(rt; by == Some(7));
+    let again = added.and_then(|_| brought_again_by(alloc, &disk));
     drop(disk);
-    let again = open(alloc, left, LIMITS)?;
-    assert!(rt; brought_by(&again) == Some(0));
+    assert!(rt; again? == Some(0));
     Ok(())
 }
 
-fn decided_of(alloc: Global, log: &LogState<MemDisk>, text: &[u8]) -> Result<Decision, Fail> {
-    let patch = check_patch(alloc, text)?;
+// What is decided of a third patch behind the first two.
+fn decided_of_third(alloc: Global, log: &mut LogState<MemDisk>) -> Result<Decision, Fail> {
+    add_two(alloc, log)?;
+    let patch = check_patch(alloc, BEHIND_SECOND)?;
     let found = log.decide_here(&patch);
     drop(patch);
     Ok(found)
@@ -152,11 +193,11 @@ fn decided_of(alloc: Global, log: &LogState<MemDisk>, text: &[u8]) -> Result<Dec
 
 // What a log of two patches within these limits decides of a third.
 fn decided(alloc: Global, patches: u32, bytes: u64) -> Result<Decision, Fail> {
-    let limits = LogLimits { patches, bytes };
-    let mut log = open(alloc, disk_of(alloc, EMPTY, &[])?, limits)?;
-    add(alloc, &mut log, FIRST)?;
-    add(alloc, &mut log, SECOND)?;
-    decided_of(alloc, &log, BEHIND_SECOND)
+    let disk = disk_of(alloc, EMPTY, &[])?;
+    let mut log = open(alloc, disk, LogLimits { patches, bytes })?;
+    let found = decided_of_third(alloc, &mut log);
+    drop(log);
+    found
 }
 
 #[test]
@@ -183,31 +224,63 @@ fn a_full_log_shows_its_numbers(rt: HostRuntime) -> Result<(), Fail> {
         ),
         (100, 390, Decision::Accept { version: 3 }),
     ] {
-        assert_eq!(rt; decided(alloc, patches, bytes)?, decision);
+        assert!(rt; decided(alloc, patches, bytes)? == decision);
     }
     Ok(())
 }
 
-// A log of one patch whose second append failed at the gate's sync: an opening makes three calls
-// and an append four.
-fn in_doubt(alloc: Global) -> Result<(LogState<MemDisk>, LogAnswer), Fail> {
-    let mut log = open(alloc, disk_of(alloc, EMPTY, &[10])?, LIMITS)?;
-    add(alloc, &mut log, FIRST)?;
-    let answer = add(alloc, &mut log, SECOND)?;
-    Ok((log, answer))
+// The call of a new log's second append that is the gate's sync.
+const SECOND_GATE: u64 = 10;
+
+// The second append fails at the gate's sync.
+fn comes_in_doubt(rt: &impl Abort, alloc: Global, log: &mut LogState<MemDisk>) -> Result<(), Fail> {
+    let answer = add_two(alloc, log)?;
+    assert!(rt; answer == LogAnswer::DiskFault);
+    assert!(rt; log.faults() == 1);
+    assert!(rt; log.chain().version() == 1);
+    Ok(())
+}
+
+// A crash leaves a log of this version with this head.
+fn leaves(
+    rt: &impl Abort,
+    alloc: Global,
+    disk: &MemDisk,
+    choice: u64,
+    wanted: (u32, Option<Id>),
+) -> Result<(), Fail> {
+    let found = found_in(alloc, disk, choice)?;
+    assert!(rt; found == wanted);
+    Ok(())
+}
+
+fn leaves_either(rt: &impl Abort, alloc: Global, disk: &MemDisk) -> Result<(), Fail> {
+    leaves(rt, alloc, disk, 1, (2, Some(ID2)))?;
+    leaves(rt, alloc, disk, 0, (1, Some(ID1)))
 }
 
 #[test]
 fn a_gate_left_in_doubt_may_stand_open(rt: HostRuntime) -> Result<(), Fail> {
     let alloc = rt.alloc();
-    let (log, answer) = in_doubt(alloc)?;
-    assert!(rt; answer == LogAnswer::DiskFault);
-    assert!(rt; log.faults() == 1);
-    assert!(rt; log.chain().version() == 1);
+    let mut log = new_log(alloc, &[SECOND_GATE])?;
+    let doubt = comes_in_doubt(&rt, alloc, &mut log);
     let disk = log.close();
-    for (choice, version, head) in [(1, 2, ID2), (0, 1, ID1)] {
-        let found = found_in(alloc, &disk, choice)?;
-        assert!(rt; found == (version, Some(head)));
+    let left = doubt.and_then(|()| leaves_either(&rt, alloc, &disk));
+    drop(disk);
+    left
+}
+
+// The third patch is accepted in the place of the second, which is in doubt.
+fn makes_way(rt: &impl Abort, alloc: Global, log: &mut LogState<MemDisk>) -> Result<(), Fail> {
+    add_two(alloc, log)?;
+    let answer = add(alloc, log, THIRD)?;
+    assert!(rt; answer == LogAnswer::Accepted { version: 2 });
+    Ok(())
+}
+
+fn leaves_third(rt: &impl Abort, alloc: Global, disk: &MemDisk) -> Result<(), Fail> {
+    for choice in [0, 1, 7] {
+        leaves(rt, alloc, disk, choice, (2, Some(ID3)))?;
     }
     Ok(())
 }
@@ -215,14 +288,18 @@ fn a_gate_left_in_doubt_may_stand_open(rt: HostRuntime) -> Result<(), Fail> {
 #[test]
 fn what_is_settled_makes_way(rt: HostRuntime) -> Result<(), Fail> {
     let alloc = rt.alloc();
-    let (mut log, _) = in_doubt(alloc)?;
-    let answer = add(alloc, &mut log, THIRD)?;
-    assert!(rt; answer == LogAnswer::Accepted { version: 2 });
+    let mut log = new_log(alloc, &[SECOND_GATE])?;
+    let made = makes_way(&rt, alloc, &mut log);
     let disk = log.close();
-    for choice in [0, 1, 7] {
-        let found = found_in(alloc, &disk, choice)?;
-        assert!(rt; found == (2, Some(ID3)));
-    }
+    let left = made.and_then(|()| leaves_third(&rt, alloc, &disk));
+    drop(disk);
+    left
+}
+
+fn push_payload(bytes: &mut Vec<u8>, payload: &[u8]) -> Result<(), Fail> {
+    bytes.push(1)?;
+    bytes.extend_from_slice(&u32::try_from(payload.len())?.to_be_bytes())?;
+    bytes.extend_from_slice(payload)?;
     Ok(())
 }
 
@@ -230,24 +307,55 @@ fn what_is_settled_makes_way(rt: HostRuntime) -> Result<(), Fail> {
 pub fn journal_of(alloc: Global, payloads: &[&[u8]]) -> Result<Vec<u8>, Fail> {
     let mut bytes = b"RDJ1\0\0\0\x01".to_vec(alloc)?;
     for payload in payloads {
-        bytes.push(1)?;
-        bytes.extend_from_slice(&u32::try_from(payload.len())?.to_be_bytes())?;
-        bytes.extend_from_slice(payload)?;
+        push_payload(&mut bytes, payload)?;
     }
     bytes.push(0)?;
     Ok(bytes)
 }
 
-// Why a file isn't opened as number 1 with at most two patches, if the call of this number fails.
-fn fault_of(alloc: Global, image: &[u8], failing: &[u64]) -> Result<LogFault, Fail> {
+// Why a disk isn't opened as number 1 with at most two patches.
+fn fault_of(alloc: Global, disk: MemDisk) -> Result<LogFault, Fail> {
     let limits = LogLimits {
         patches: 2,
         bytes: 1000,
     };
-    match LogState::open_on(alloc, disk_of(alloc, image, failing)?, 1, limits) {
-        Ok(_) => Err(Fail::from("opened")),
-        Err(refusal) => Ok(refusal.fault),
+    match LogState::open_on(alloc, disk, 1, limits) {
+        Ok(log) => {
+            drop(log);
+            Err(Fail::from("opened"))
+        }
+        Err(refusal) => {
+            let fault = refusal.fault;
+            drop(refusal);
+            Ok(fault)
+        }
     }
+}
+
+// A file isn't opened for this cause, if the calls of these numbers fail.
+fn fails(
+    rt: &impl Abort,
+    alloc: Global,
+    image: &[u8],
+    failing: &[u64],
+    wanted: LogFault,
+) -> Result<(), Fail> {
+    let fault = fault_of(alloc, disk_of(alloc, image, failing)?)?;
+    assert!(rt; fault == wanted);
+    Ok(())
+}
+
+// A journal with these payloads isn't opened for this cause.
+fn payloads_fail(
+    rt: &impl Abort,
+    alloc: Global,
+    payloads: &[&[u8]],
+    wanted: LogFault,
+) -> Result<(), Fail> {
+    let image = journal_of(alloc, payloads)?;
+    let failed = fails(rt, alloc, &image, &[], wanted);
+    drop(image);
+    failed
 }
 
 #[test]
@@ -269,7 +377,7 @@ fn each_fault_of_payloads_is_told(rt: HostRuntime) -> Result<(), Fail> {
             },
         ),
     ] {
-        assert_eq!(rt; fault_of(alloc, &journal_of(alloc, payloads)?, &[])?, fault);
+        payloads_fail(&rt, alloc, payloads, fault)?;
     }
     Ok(())
 }
@@ -284,10 +392,10 @@ fn each_fault_of_a_file_is_told(rt: HostRuntime) -> Result<(), Fail> {
         ),
         (b"RDJ1", LogFault::Damaged { at: 0 }),
     ] {
-        assert_eq!(rt; fault_of(alloc, image, &[])?, fault);
+        fails(&rt, alloc, image, &[], fault)?;
     }
     for call in 0..3u64 {
-        assert_eq!(rt; fault_of(alloc, EMPTY, &[call])?, LogFault::Failed);
+        fails(&rt, alloc, EMPTY, &[call], LogFault::Failed)?;
     }
     Ok(())
 }
@@ -306,21 +414,30 @@ fn numbered(alloc: Global, number: u32) -> Result<Checked, Fail> {
     Ok(check_patch(alloc, text.as_bytes())?)
 }
 
+// The version of the last of these patches that is acknowledged.
+fn append_each(log: &mut LogState<MemDisk>, patches: &[Checked]) -> u32 {
+    let mut acknowledged = 0u32;
+    for patch in patches {
+        if let LogAnswer::Accepted { version } = append(log, patch, 1) {
+            acknowledged = version;
+        }
+    }
+    acknowledged
+}
+
 // How many of ten chained appends are acknowledged over a disk whose calls all fail after so many,
 // and the disk.
 fn run_ten(alloc: Global, patches: &[Checked], fuse: u64) -> Result<Option<(u32, MemDisk)>, Fail> {
     let disk = MemDisk::with_fuse(alloc, Bytes::from_slice(alloc, EMPTY)?, fuse)?;
     match LogState::open_on(alloc, disk, 1, LIMITS) {
         Ok(mut log) => {
-            let mut acknowledged = 0u32;
-            for patch in patches {
-                if let LogAnswer::Accepted { version } = append(&mut log, patch, 1) {
-                    acknowledged = version;
-                }
-            }
+            let acknowledged = append_each(&mut log, patches);
             Ok(Some((acknowledged, log.close())))
         }
-        Err(_) => Ok(None),
+        Err(refusal) => {
+            drop(refusal);
+            Ok(None)
+        }
     }
 }
 
@@ -345,40 +462,97 @@ fn holds_acknowledged(
     patches: &[Checked],
     acknowledged: u32,
 ) -> Result<bool, Fail> {
-    let left = MemDisk::from_image(alloc, disk.image(choice)?, no_calls(alloc))?;
-    let log = open(alloc, left, LIMITS)?;
+    let log = log_left(alloc, disk, choice)?;
     let more = log.chain().version().wrapping_sub(acknowledged);
-    Ok(more <= 1 && is_front(&log, patches))
+    let holds = more <= 1 && is_front(&log, patches);
+    drop(log);
+    Ok(holds)
+}
+
+// The same of each crash, after so many calls.
+fn keeps_acknowledged(
+    rt: &impl Abort,
+    alloc: Global,
+    fuse: u64,
+    patches: &[Checked],
+    (acknowledged, disk): (u32, &MemDisk),
+) -> Result<(), Fail> {
+    for choice in [0, 1, 7] {
+        let holds = holds_acknowledged(alloc, disk, choice, patches, acknowledged)?;
+        assert!(rt; holds, "after {fuse} calls");
+    }
+    Ok(())
+}
+
+// What was acknowledged before all calls failed is found again.
+fn is_found_again(
+    rt: &impl Abort,
+    alloc: Global,
+    fuse: u64,
+    patches: &[Checked],
+) -> Result<(), Fail> {
+    match run_ten(alloc, patches, fuse)? {
+        None => {
+            assert!(rt; fuse < 3);
+            Ok(())
+        }
+        Some((acknowledged, disk)) => {
+            let kept = keeps_acknowledged(rt, alloc, fuse, patches, (acknowledged, &disk));
+            drop(disk);
+            kept
+        }
+    }
+}
+
+// The same of each number of calls.
+fn are_found_again(rt: &impl Abort, alloc: Global, patches: &[Checked]) -> Result<(), Fail> {
+    for fuse in 0..46u64 {
+        is_found_again(rt, alloc, fuse, patches)?;
+    }
+    Ok(())
+}
+
+// Ten patches, each behind the one before it.
+fn ten(alloc: Global) -> Result<Vec<Checked>, Fail> {
+    let mut patches = Vec::new(alloc);
+    for number in 11..21u32 {
+        patches.push(numbered(alloc, number)?)?;
+    }
+    Ok(patches)
 }
 
 #[test]
 fn what_was_acknowledged_is_found_again(rt: HostRuntime) -> Result<(), Fail> {
     let alloc = rt.alloc();
-    let mut patches = Vec::new(alloc);
-    for number in 11..21u32 {
-        patches.push(numbered(alloc, number)?)?;
-    }
-    for fuse in 0..46u64 {
-        match run_ten(alloc, &patches, fuse)? {
-            None => assert!(rt; fuse < 3),
-            Some((acknowledged, disk)) => {
-                for choice in [0, 1, 7] {
-                    let holds = holds_acknowledged(alloc, &disk, choice, &patches, acknowledged)?;
-                    assert!(rt; holds, "after {fuse} calls");
-                }
-            }
-        }
-    }
-    Ok(())
+    let patches = ten(alloc)?;
+    let found = are_found_again(&rt, alloc, &patches);
+    drop(patches);
+    found
 }
 
 /// The patches that these texts are.
-pub fn patches_of(alloc: Global, texts: &[&[u8]]) -> Result<Vec<Checked>, Fail> {
+fn patches_of(alloc: Global, texts: &[&[u8]]) -> Result<Vec<Checked>, Fail> {
     let mut patches = Vec::new(alloc);
     for text in texts {
         patches.push(check_patch(alloc, text)?)?;
     }
     Ok(patches)
+}
+
+/// These texts have these answers of a log, one after another.
+pub fn answers_in_order(
+    rt: &impl Abort,
+    alloc: Global,
+    log: &mut LogState<MemDisk>,
+    texts: &[&[u8]],
+    wanted: &[LogAnswer],
+) -> Result<(), Fail> {
+    let patches = patches_of(alloc, texts)?;
+    let answers = append_all(alloc, log, &patches, 3);
+    drop(patches);
+    let answers = answers?;
+    assert!(rt; answers.as_slice() == wanted);
+    Ok(())
 }
 
 /// What a log answers to the first patch, the second and the first again.
@@ -394,9 +568,9 @@ static THREE: [LogAnswer; 3] = [
 #[test]
 fn many_appends_are_answered_in_order(rt: HostRuntime) -> Result<(), Fail> {
     let alloc = rt.alloc();
-    let patches = patches_of(alloc, &[FIRST, SECOND, FIRST])?;
-    let mut log = open(alloc, disk_of(alloc, EMPTY, &[])?, LIMITS)?;
-    let answers = append_all(alloc, &mut log, &patches, 3)?;
-    assert!(rt; answers.as_slice() == THREE.as_slice());
-    Ok(())
+    let mut log = new_log(alloc, &[])?;
+    let texts = [FIRST, SECOND, FIRST];
+    let answered = answers_in_order(&rt, alloc, &mut log, &texts, &THREE);
+    drop(log);
+    answered
 }

@@ -1,7 +1,9 @@
 //! Patches and their faults, with values from the format's description.
 use chain_core::Link;
 use delta_base::{Id, read_id};
-use patch_meaning::{Part, PatchFault, PatchKind, Role, check_link, check_patch, split_stream};
+use patch_meaning::{
+    Checked, Part, PatchFault, PatchKind, Role, check_link, check_patch, split_stream,
+};
 use patch_rows::RowKind;
 use rdf_terms::Change;
 use std::alloc::Global;
@@ -86,7 +88,7 @@ fn the_first_fault_of_the_rows_is_met(rt: HostRuntime) {
             fault_at(0, PatchKind::Row(RowKind::UnknownCode)),
         ),
     ] {
-        assert_eq!(rt; fault_of(rt.alloc(), text), Some(fault), "{text}");
+        assert!(rt; fault_of(rt.alloc(), text) == Some(fault), "{text}");
     }
 }
 
@@ -111,7 +113,7 @@ fn a_row_may_not_stand_behind_others(rt: HostRuntime) {
             fault_at(104, PatchKind::TwoPrevs),
         ),
     ] {
-        assert_eq!(rt; behind_id(rt.alloc(), rows), Some(fault), "{rows}");
+        assert!(rt; behind_id(rt.alloc(), rows) == Some(fault), "{rows}");
     }
 }
 
@@ -123,9 +125,9 @@ fn a_text_of_one_byte_too_many_is_too_long(rt: HostRuntime) -> Result<(), Fail> 
         limit: 4_194_304,
     };
     let all = check_patch(rt.alloc(), text.as_slice()).err();
-    assert_eq!(rt; all, Some(wanted));
+    assert!(rt; all == Some(wanted));
     let fewer = check_patch(rt.alloc(), &text[1..]).err();
-    assert_eq!(rt; fewer, Some(fault_at(4_194_304, PatchKind::NoId)));
+    assert!(rt; fewer == Some(fault_at(4_194_304, PatchKind::NoId)));
     Ok(())
 }
 
@@ -169,14 +171,12 @@ fn a_stream_is_cut_at_its_headers(rt: HostRuntime) {
     }
 }
 
-#[test]
-fn each_patch_of_a_stream_has_its_own_text(rt: HostRuntime) -> Result<(), Fail> {
-    let first =
-        "# one\nH id <uuid:00000000-0000-4000-8000-000000000001> .\nTX .\nA <http://e/s> <http://e/p> _:a.# two\n\nTC .\n\n";
-    let second =
-        "H id <uuid:00000000-0000-4000-8000-000000000002> .\nH prev <uuid:00000000-0000-4000-8000-000000000001> .\nTX .\nD <http://e/s> <http://e/p> _:a .TA.\t";
-    let text = format!(in rt.alloc(); "{first}{second}")?;
-    let patches = split_stream(rt.alloc(), text.as_bytes())?;
+fn have_own_texts(
+    rt: &impl Abort,
+    patches: &[Checked],
+    first: &str,
+    second: &str,
+) -> Result<(), Fail> {
     let one = patches.get(0).ok_or("no patch")?;
     let two = patches.get(1).ok_or("no second patch")?;
     assert!(rt; patches.len() == 2);
@@ -185,6 +185,21 @@ fn each_patch_of_a_stream_has_its_own_text(rt: HostRuntime) -> Result<(), Fail> 
     assert!(rt; two.prev() == Some(one.id()));
     assert!(rt; two.changes().len() == 3);
     Ok(())
+}
+
+#[test]
+fn each_patch_of_a_stream_has_its_own_text(rt: HostRuntime) -> Result<(), Fail> {
+    let first =
+        "# one\nH id <uuid:00000000-0000-4000-8000-000000000001> .\nTX .\nA <http://e/s> <http://e/p> _:a.# two\n\nTC .\n\n";
+    let second =
+        "H id <uuid:00000000-0000-4000-8000-000000000002> .\nH prev <uuid:00000000-0000-4000-8000-000000000001> .\nTX .\nD <http://e/s> <http://e/p> _:a .TA.\t";
+    let text = format!(in rt.alloc(); "{first}{second}")?;
+    let patches = split_stream(rt.alloc(), text.as_bytes());
+    drop(text);
+    let patches = patches?;
+    let own = have_own_texts(&rt, patches.as_slice(), first, second);
+    drop(patches);
+    own
 }
 
 #[test]
@@ -212,7 +227,7 @@ fn the_first_patch_with_a_fault_is_told(rt: HostRuntime) {
             fault_at(51, PatchKind::NotInBlock),
         ),
     ] {
-        assert_eq!(rt; stream_fault(rt.alloc(), text), Some(fault), "{text}");
+        assert!(rt; stream_fault(rt.alloc(), text) == Some(fault), "{text}");
     }
 }
 
@@ -220,45 +235,54 @@ fn the_first_patch_with_a_fault_is_told(rt: HostRuntime) {
 fn takes(rt: &impl Abort, part: &mut Part, says: Role, at: u64, wanted: Option<Link>) {
     let complete = part.take_next(&says, at);
     drop(says);
-    assert_eq!(rt; complete, Ok(wanted));
+    assert!(rt; complete == Ok(wanted));
+}
+
+/// The rows of two patches, the second of which names the first.
+fn takes_two(rt: &impl Abort, part: &mut Part, one: Id, two: Id) {
+    let first = Link {
+        id: one,
+        prev: None,
+    };
+    takes(rt, part, Role::Id(Some(one)), 0, None);
+    takes(rt, part, Role::Change(Change::Begin), 51, None);
+    takes(rt, part, Role::Change(Change::Commit), 56, None);
+    takes(rt, part, Role::Id(Some(two)), 61, Some(first));
+    takes(rt, part, Role::Prev(Some(one)), 112, None);
+}
+
+/// A row that may not stand there is refused, and changes nothing.
+fn refuses(rt: &impl Abort, part: &mut Part) {
+    let says = Role::Change(Change::Commit);
+    let refused = part.take_next(&says, 165);
+    drop(says);
+    assert!(rt; refused == Err(fault_at(165, PatchKind::NotInBlock)));
+    takes(rt, part, Role::Change(Change::Begin), 165, None);
+    let unknown = fault_at(170, PatchKind::Row(RowKind::UnknownCode));
+    assert!(rt; part.break_stream(170, RowKind::UnknownCode) == unknown);
+    assert!(rt; part.finish_stream(170) == Err(fault_at(170, PatchKind::OpenBlock)));
 }
 
 #[test]
 fn rows_that_come_one_at_a_time_are_cut(rt: HostRuntime) -> Result<(), Fail> {
     let one = read_id(b"00000000000040008000000000000001").ok_or("no id")?;
     let two = read_id(b"00000000000040008000000000000002").ok_or("no id")?;
-    let first = Link {
-        id: one,
-        prev: None,
-    };
     let last = Link {
         id: two,
         prev: Some(one),
     };
     let mut part = Part::new(0);
     assert!(rt; !part.has_rows());
-    takes(&rt, &mut part, Role::Id(Some(one)), 0, None);
-    takes(&rt, &mut part, Role::Change(Change::Begin), 51, None);
-    takes(&rt, &mut part, Role::Change(Change::Commit), 56, None);
-    takes(&rt, &mut part, Role::Id(Some(two)), 61, Some(first));
-    takes(&rt, &mut part, Role::Prev(Some(one)), 112, None);
+    takes_two(&rt, &mut part, one, two);
     assert!(rt; part.finish_stream(165) == Ok(Some(last)));
-    let says = Role::Change(Change::Commit);
-    let fault = fault_at(165, PatchKind::NotInBlock);
-    let refused = part.take_next(&says, 165);
-    drop(says);
-    assert_eq!(rt; refused, Err(fault));
-    takes(&rt, &mut part, Role::Change(Change::Begin), 165, None);
-    let unknown = fault_at(170, PatchKind::Row(RowKind::UnknownCode));
-    assert!(rt; part.break_stream(170, RowKind::UnknownCode) == unknown);
-    assert!(rt; part.finish_stream(170) == Err(fault_at(170, PatchKind::OpenBlock)));
+    refuses(&rt, &mut part);
     assert!(rt; !part.is_behind_limit(61 + 4_194_304));
     assert!(rt; part.is_behind_limit(61 + 4_194_305));
     Ok(())
 }
 
 /// Rows, a line of 4,200,002 bytes that is a comment, and more rows.
-fn with_comment(alloc: Global, rows: &str, more: &str) -> Result<String, Fail> {
+pub fn with_comment(alloc: Global, rows: &str, more: &str) -> Result<String, Fail> {
     let mut text = String::new(alloc);
     text.push_str(rows)?;
     text.push('#')?;
@@ -268,6 +292,17 @@ fn with_comment(alloc: Global, rows: &str, more: &str) -> Result<String, Fail> {
     text.push('\n')?;
     text.push_str(more)?;
     Ok(text)
+}
+
+/// In front of a long comment, a stream has this fault, and a patch is too long.
+fn is_decided(rt: &impl Abort, alloc: Global, rows: &str, fault: PatchFault) -> Result<(), Fail> {
+    let text = with_comment(alloc, rows, "")?;
+    let found = stream_fault(alloc, text.as_str());
+    let whole = fault_of(alloc, text.as_str());
+    drop(text);
+    assert!(rt; found == Some(fault), "{rows}");
+    assert!(rt; matches!(whole, Some(PatchFault::TooLong { .. })), "{rows}");
+    Ok(())
 }
 
 #[test]
@@ -283,15 +318,21 @@ fn a_fault_is_decided_at_its_row(rt: HostRuntime) -> Result<(), Fail> {
             fault_at(51, PatchKind::Row(RowKind::UnknownCode)),
         ),
     ] {
-        let text = with_comment(rt.alloc(), rows, "")?;
-        assert_eq!(rt;
-            stream_fault(rt.alloc(), text.as_str()),
-            Some(fault),
-            "{rows}"
-        );
-        let whole = fault_of(rt.alloc(), text.as_str());
-        assert!(rt; matches!(whole, Some(PatchFault::TooLong { .. })), "{rows}");
+        is_decided(&rt, rt.alloc(), rows, fault)?;
     }
+    Ok(())
+}
+
+/// Behind a long comment, a stream has a patch of this length.
+fn is_too_long(rt: &impl Abort, alloc: Global, more: &str, length: u64) -> Result<(), Fail> {
+    let text = with_comment(alloc, "", more)?;
+    let found = stream_fault(alloc, text.as_str());
+    drop(text);
+    let fault = PatchFault::TooLong {
+        length,
+        limit: 4_194_304,
+    };
+    assert!(rt; found == Some(fault), "{more}");
     Ok(())
 }
 
@@ -305,16 +346,7 @@ fn up_to_a_fault_a_patch_is_too_long(rt: HostRuntime) -> Result<(), Fail> {
         ("H id <uuid:x> .\n", 4_200_002),
         ("X .\n", 4_200_002),
     ] {
-        let text = with_comment(rt.alloc(), "", more)?;
-        let fault = PatchFault::TooLong {
-            length,
-            limit: 4_194_304,
-        };
-        assert_eq!(rt;
-            stream_fault(rt.alloc(), text.as_str()),
-            Some(fault),
-            "{more}"
-        );
+        is_too_long(&rt, rt.alloc(), more, length)?;
     }
     let text = with_comment(rt.alloc(), "", "")?;
     assert!(rt; stream_ids(rt.alloc(), text.as_str()).is_some_and(|found| found.0.is_empty()));

@@ -1,4 +1,5 @@
 //! Streams with values from the format's description, read in pieces of several sizes.
+use crate::meaning::with_comment;
 use chain_core::ChainFault;
 use delta_base::{Bytes, Calls, Id, MemSink, MemSource, read_id};
 use line_log::MadeLines;
@@ -8,7 +9,7 @@ use sink_writing::Room;
 use std::alloc::Global;
 use std::process::Abort;
 use std::test::Fail;
-use stream_replay::{ReplayFault, replay_source, write_lines};
+use stream_replay::{ReplayFault, Replayed, replay_source, write_lines};
 
 const ID: &str = "H id <uuid:00000000-0000-4000-8000-000000000001> .\n";
 
@@ -28,23 +29,65 @@ fn calls(alloc: Global, number: Option<u64>) -> Result<Calls, Fail> {
     Ok(calls)
 }
 
+/// A text in reads of at most so many bytes, of which the one of this number fails.
+fn source_of(
+    alloc: Global,
+    text: &str,
+    piece: usize,
+    failing: Option<u64>,
+) -> Result<MemSource, Fail> {
+    let failing = calls(alloc, failing)?;
+    let content = Bytes::from_slice(alloc, text.as_bytes())?;
+    Ok(MemSource::new(content, piece.max(1), failing))
+}
+
 /// The parts, one behind another, in reads of at most so many bytes.
 fn source(alloc: Global, parts: &[&str], piece: usize) -> Result<MemSource, Fail> {
     let mut text = String::new(alloc);
     for part in parts {
         text.push_str(part)?;
     }
-    let content = Bytes::from_slice(alloc, text.as_bytes())?;
-    Ok(MemSource::new(content, piece.max(1), calls(alloc, None)?))
+    let made = source_of(alloc, text.as_str(), piece, None);
+    drop(text);
+    made
+}
+
+/// What a stream makes in pieces of this size.
+fn replayed(alloc: Global, parts: &[&str], piece: usize) -> Result<Replayed, Fail> {
+    let mut input = source(alloc, parts, piece)?;
+    let replayed = replay_source(alloc, &mut input);
+    drop(input);
+    Ok(replayed.ok().ok_or("refused")?)
+}
+
+/// The fault of a stream.
+fn fault_of(alloc: Global, mut input: MemSource) -> Option<ReplayFault> {
+    let replayed = replay_source(alloc, &mut input);
+    drop(input);
+    match replayed {
+        Ok(replayed) => {
+            drop(replayed);
+            None
+        }
+        Err(fault) => Some(fault),
+    }
 }
 
 /// Writes the lines, and looks at them.
 fn writes(rt: &impl Abort, alloc: Global, lines: &MadeLines, wanted: &str) -> Result<(), Fail> {
-    let mut out = MemSink::new(alloc, calls(alloc, None)?);
+    let failing = calls(alloc, None)?;
     let room = Room::new(alloc)?;
+    let mut out = MemSink::new(alloc, failing);
     assert!(rt; write_lines(&mut out, lines, room).is_ok());
-    assert_eq!(rt; out.written(), wanted.as_bytes());
+    assert!(rt; out.written() == wanted.as_bytes());
+    drop(out);
     Ok(())
+}
+
+fn has_counts(rt: &impl Abort, replayed: &Replayed, patches: u64, quads: usize) {
+    assert!(rt; replayed.patches == patches);
+    assert!(rt; replayed.quads == quads);
+    assert!(rt; replayed.head.is_some() == (patches > 0));
 }
 
 /// Replays a stream in pieces of each size, and looks at what it makes.
@@ -57,12 +100,11 @@ fn replays(
     quads: usize,
 ) -> Result<(), Fail> {
     for piece in PIECES {
-        let mut input = source(alloc, parts, piece)?;
-        let replayed = replay_source(alloc, &mut input).ok().ok_or("refused")?;
-        assert_eq!(rt; replayed.patches, patches);
-        assert_eq!(rt; replayed.quads, quads);
-        assert!(rt; replayed.head.is_some() == (patches > 0));
-        writes(rt, alloc, &replayed.lines, lines)?;
+        let replayed = replayed(alloc, parts, piece)?;
+        has_counts(rt, &replayed, patches, quads);
+        let written = writes(rt, alloc, &replayed.lines, lines);
+        drop(replayed);
+        written?;
     }
     Ok(())
 }
@@ -70,9 +112,8 @@ fn replays(
 /// Replays a stream in pieces of each size, and looks at its fault.
 fn ends(rt: &impl Abort, alloc: Global, parts: &[&str], wanted: ReplayFault) -> Result<(), Fail> {
     for piece in PIECES {
-        let mut input = source(alloc, parts, piece)?;
-        let fault = replay_source(alloc, &mut input).err();
-        assert_eq!(rt; fault, Some(wanted));
+        let fault = fault_of(alloc, source(alloc, parts, piece)?);
+        assert!(rt; fault == Some(wanted));
     }
     Ok(())
 }
@@ -174,26 +215,44 @@ fn the_grammar_comes_before_the_chain(rt: HostRuntime) -> Result<(), Fail> {
     stops(&rt, rt.alloc(), &[P1, P1, "TA .\n"], 9, fault)
 }
 
+/// Replays a text, and looks whether it has a fault.
+fn text_ends(
+    rt: &impl Abort,
+    alloc: Global,
+    text: &str,
+    wanted: Option<ReplayFault>,
+) -> Result<(), Fail> {
+    let fault = fault_of(alloc, source_of(alloc, text, 65_536, None)?);
+    assert!(rt; fault == wanted);
+    Ok(())
+}
+
+/// The same of a row and line ends behind it, so many bytes in all.
+fn padded_ends(
+    rt: &impl Abort,
+    alloc: Global,
+    length: usize,
+    wanted: Option<ReplayFault>,
+) -> Result<(), Fail> {
+    let mut text = String::new(alloc);
+    text.push_str(ID)?;
+    for _ in ID.len()..length {
+        text.push('\n')?;
+    }
+    let ended = text_ends(rt, alloc, text.as_str(), wanted);
+    drop(text);
+    ended
+}
+
 #[test]
 fn a_patch_of_one_byte_too_many_is_too_long(rt: HostRuntime) -> Result<(), Fail> {
     let alloc = rt.alloc();
-    let mut text = String::new(alloc);
-    text.push_str(ID)?;
-    for _ in 0..4_194_304 - 51 {
-        text.push('\n')?;
-    }
-    let content = Bytes::from_slice(alloc, text.as_bytes())?;
-    let mut input = MemSource::new(content, 65_536, calls(alloc, None)?);
-    assert!(rt; replay_source(alloc, &mut input).is_ok());
-    text.push('\n')?;
-    let content = Bytes::from_slice(alloc, text.as_bytes())?;
-    let mut input = MemSource::new(content, 65_536, calls(alloc, None)?);
-    let wanted = ReplayFault::LongPatch {
+    padded_ends(&rt, alloc, 4_194_304, None)?;
+    let fault = ReplayFault::LongPatch {
         length: 4_194_305,
         limit: 4_194_304,
     };
-    assert_eq!(rt; replay_source(alloc, &mut input).err(), Some(wanted));
-    Ok(())
+    padded_ends(&rt, alloc, 4_194_305, Some(fault))
 }
 
 /// Replays rows, a line of 4,200,002 bytes that is a comment, and more rows, and looks
@@ -205,18 +264,10 @@ fn long_ends(
     more: &str,
     wanted: ReplayFault,
 ) -> Result<(), Fail> {
-    let mut text = String::new(alloc);
-    text.push_str(rows)?;
-    text.push('#')?;
-    for _ in 0..4_200_000 {
-        text.push('x')?;
-    }
-    text.push('\n')?;
-    text.push_str(more)?;
-    let content = Bytes::from_slice(alloc, text.as_bytes())?;
-    let mut input = MemSource::new(content, 65_536, calls(alloc, None)?);
-    assert_eq!(rt; replay_source(alloc, &mut input).err(), Some(wanted));
-    Ok(())
+    let text = with_comment(alloc, rows, more)?;
+    let ended = text_ends(rt, alloc, text.as_str(), Some(wanted));
+    drop(text);
+    ended
 }
 
 #[test]
@@ -273,30 +324,28 @@ fn the_first_fault_of_the_chain_is_told(rt: HostRuntime) -> Result<(), Fail> {
 
 #[test]
 fn a_source_fails_in_mid_stream(rt: HostRuntime) -> Result<(), Fail> {
-    let alloc = rt.alloc();
-    let content = Bytes::from_slice(alloc, P1.as_bytes())?;
-    let mut input = MemSource::new(content, 60, calls(alloc, Some(1))?);
-    assert_eq!(rt;
-        replay_source(alloc, &mut input).err(),
-        Some(ReplayFault::Failed)
-    );
-    let content = Bytes::from_slice(alloc, P1.as_bytes())?;
-    let mut input = MemSource::new(content, 60, calls(alloc, Some(2))?);
-    assert_eq!(rt;
-        replay_source(alloc, &mut input).err(),
-        Some(ReplayFault::Failed)
-    );
+    for call in [1, 2] {
+        let fault = fault_of(rt.alloc(), source_of(rt.alloc(), P1, 60, Some(call))?);
+        assert!(rt; fault == Some(ReplayFault::Failed));
+    }
+    Ok(())
+}
+
+/// The first write of the lines fails.
+fn fails_to_write(rt: &impl Abort, alloc: Global, lines: &MadeLines) -> Result<(), Fail> {
+    let failing = calls(alloc, Some(0))?;
+    let room = Room::new(alloc)?;
+    let mut out = MemSink::new(alloc, failing);
+    assert!(rt; write_lines(&mut out, lines, room).is_err());
+    assert!(rt; out.written() == b"".as_slice());
+    drop(out);
     Ok(())
 }
 
 #[test]
 fn a_sink_fails(rt: HostRuntime) -> Result<(), Fail> {
-    let alloc = rt.alloc();
-    let mut input = source(alloc, &[P1], 60)?;
-    let replayed = replay_source(alloc, &mut input).ok().ok_or("refused")?;
-    let mut out = MemSink::new(alloc, calls(alloc, Some(0))?);
-    let room = Room::new(alloc)?;
-    assert!(rt; write_lines(&mut out, &replayed.lines, room).is_err());
-    assert_eq!(rt; out.written(), b"".as_slice());
-    Ok(())
+    let replayed = replayed(rt.alloc(), &[P1], 60)?;
+    let failed = fails_to_write(&rt, rt.alloc(), &replayed.lines);
+    drop(replayed);
+    failed
 }
