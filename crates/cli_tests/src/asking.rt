@@ -1,9 +1,8 @@
 //! Runs of the commands that ask a server, over links in memory.
 ghost use Rattle.std.specs.Prelude.{◌<◌};
 
-use crate::runs::{P1, calls, words_of};
-use delta_base::{Bytes, Calls, MemLink, MemSink, MemSource, Sink};
-use delta_cli::run_tool;
+use crate::runs::{P1, Run, calls, expect_over};
+use delta_base::{Bytes, Calls, MemLink};
 use delta_client::MemDial;
 use disk_model::MemShelf;
 use std::alloc::Global;
@@ -74,12 +73,24 @@ pub(crate) fn dial_of(
     texts: &[&str],
     failing: Option<u64>,
 ) -> Result<MemDial<MemLink>, Fail> {
+    let failing = calls(alloc, failing)?;
     let mut links = Vec::new(alloc);
+    match add_links(alloc, &mut links, texts) {
+        Ok(()) => Ok(MemDial::new(alloc, links, failing)?),
+        Err(fault) => {
+            drop(links);
+            Err(fault)
+        }
+    }
+}
+
+/// Adds links that give these texts.
+fn add_links(alloc: Global, links: &mut Vec<MemLink>, texts: &[&str]) -> Result<(), Fail> {
     for text in texts {
         let content = Bytes::from_slice(alloc, text.as_bytes())?;
         links.push(MemLink::new(alloc, content, 60, Calls::new(alloc)))?;
     }
-    Ok(MemDial::new(alloc, links, calls(alloc, failing)?)?)
+    Ok(())
 }
 
 /// Each connection was hung up, and these were sent on them.
@@ -92,31 +103,32 @@ pub(crate) fn expect_sent(rt: &impl Abort, net: &MemDial<MemLink>, sent: &[&str]
 }
 
 /// Runs the tool over a dial, and looks at the status, at what was written, and at what was sent.
-fn expect_over(
+fn expect_sending(
     rt: &impl Abort,
     alloc: Global,
     net: &mut MemDial<MemLink>,
     run: &Asking<'_>,
 ) -> Result<(), Fail> {
-    let content = Bytes::from_slice(alloc, run.text.as_bytes())?;
-    let mut input = MemSource::new(content, 60, Calls::new(alloc));
-    let mut out = MemSink::new(alloc, Calls::new(alloc));
-    let mut err = MemSink::new(alloc, Calls::new(alloc));
+    let printed = Run {
+        words: run.words,
+        text: run.text,
+        status: run.status,
+        out: run.out,
+        err: run.err,
+    };
     let mut shelf = MemShelf::new(alloc, Calls::new(alloc));
-    let words = words_of(alloc, run.words)?;
-    let status = run_tool(
-        alloc, &words, &mut input, &mut out, &mut err, &mut shelf, net, 0,
-    );
-    assert!(rt; status == run.status);
-    assert!(rt; out.written() == run.out.as_bytes());
-    assert!(rt; err.written() == run.err.as_bytes());
+    let ran = expect_over(rt, alloc, &mut shelf, net, &printed);
+    drop(shelf);
+    ran?;
     expect_sent(rt, net, run.sent);
     Ok(())
 }
 
 fn expect(rt: &impl Abort, alloc: Global, run: &Asking<'_>) -> Result<(), Fail> {
     let mut net = dial_of(alloc, run.replies, None)?;
-    expect_over(rt, alloc, &mut net, run)
+    let ran = expect_sending(rt, alloc, &mut net, run);
+    drop(net);
+    ran
 }
 
 /// A run for the version of a log, over one link that gives this text.
@@ -154,17 +166,14 @@ fn what_is_no_answer_is_told(rt: HostRuntime) -> Result<(), Fail> {
 #[test]
 fn a_connect_that_fails_is_told(rt: HostRuntime) -> Result<(), Fail> {
     let alloc = rt.alloc();
+    let run = Asking {
+        sent: &[],
+        ..version_run(&[], 6, "", "rdfdelta: link failed\n")
+    };
     let mut net = dial_of(alloc, &[VERSION], Some(0))?;
-    let failed = version_run(&[], 6, "", "rdfdelta: link failed\n");
-    expect_over(
-        &rt,
-        alloc,
-        &mut net,
-        &Asking {
-            sent: &[],
-            ..failed
-        },
-    )
+    let ran = expect_sending(&rt, alloc, &mut net, &run);
+    drop(net);
+    ran
 }
 
 #[test]
@@ -199,7 +208,6 @@ fn a_refused_patch_is_told(rt: HostRuntime) -> Result<(), Fail> {
 #[test]
 fn what_is_no_patch_is_sent_to_nobody(rt: HostRuntime) -> Result<(), Fail> {
     let alloc = rt.alloc();
-    let mut net = dial_of(alloc, &[VERSION], None)?;
     let run = Asking {
         words: &["append", ADDRESS, "ABC"],
         text: "TX .\nTC .\n",
@@ -209,8 +217,12 @@ fn what_is_no_patch_is_sent_to_nobody(rt: HostRuntime) -> Result<(), Fail> {
         err: "rdfdelta: input: line 3 byte 10: NoId\n",
         sent: &[],
     };
-    expect_over(&rt, alloc, &mut net, &run)?;
-    assert!(&rt; net.tries() == 0);
+    let mut net = dial_of(alloc, &[VERSION], None)?;
+    let ran = expect_sending(&rt, alloc, &mut net, &run);
+    let tries = net.tries();
+    drop(net);
+    ran?;
+    assert!(&rt; tries == 0);
     Ok(())
 }
 

@@ -1,9 +1,8 @@
 //! Runs of `sync`: a zone that catches up with a log over links in memory.
 use crate::asking::{ADDRESS, dial_of, expect_sent};
-use crate::runs::{P1, P2, words_of};
+use crate::runs::{P1, P2, Run, expect_over};
 use crate::zones::{BOTH, dumps, shelf_with, zone_of};
-use delta_base::{Bytes, Calls, MemLink, MemSink, MemSource, OutOfMemory};
-use delta_cli::run_tool;
+use delta_base::{Calls, MemLink, OutOfMemory};
 use delta_client::MemDial;
 use disk_model::MemShelf;
 use std::alloc::Global;
@@ -66,14 +65,26 @@ fn syncs(
     net: &mut MemDial<MemLink>,
     end: End<'_>,
 ) -> Result<(), Fail> {
-    let mut input = MemSource::new(Bytes::from_slice(alloc, b"")?, 60, Calls::new(alloc));
-    let mut out = MemSink::new(alloc, Calls::new(alloc));
-    let mut err = MemSink::new(alloc, Calls::new(alloc));
-    let words = words_of(alloc, &["sync", "z", ADDRESS, "ABC"])?;
-    let status = run_tool(alloc, &words, &mut input, &mut out, &mut err, shelf, net, 0);
-    assert!(rt; status == end.status);
-    assert!(rt; out.written() == end.out.as_bytes());
-    assert!(rt; err.written() == end.err.as_bytes());
+    let run = Run {
+        words: &["sync", "z", ADDRESS, "ABC"],
+        text: "",
+        status: end.status,
+        out: end.out,
+        err: end.err,
+    };
+    expect_over(rt, alloc, shelf, net, &run)
+}
+
+/// Runs `sync` over a dial, which hangs up where this was sent.
+fn syncs_sending(
+    rt: &impl Abort,
+    alloc: Global,
+    shelf: &mut MemShelf,
+    net: &mut MemDial<MemLink>,
+    end: End<'_>,
+) -> Result<(), Fail> {
+    syncs(rt, alloc, shelf, net, end)?;
+    expect_sent(rt, net, &[end.sent]);
     Ok(())
 }
 
@@ -86,9 +97,9 @@ fn syncs_over(
     end: End<'_>,
 ) -> Result<(), Fail> {
     let mut net = dial_of(alloc, &[replies], None)?;
-    syncs(rt, alloc, shelf, &mut net, end)?;
-    expect_sent(rt, &net, &[end.sent]);
-    Ok(())
+    let ran = syncs_sending(rt, alloc, shelf, &mut net, end);
+    drop(net);
+    ran
 }
 
 /// A zone of a directory that took these patches.
@@ -97,27 +108,45 @@ fn zone_at(alloc: Global, patches: &[&str]) -> Result<MemShelf, Fail> {
     shelf_with(alloc, bytes.as_slice())
 }
 
+/// A zone has caught up at version 2 when this was sent.
+fn caught_up(sent: &str) -> End<'_> {
+    End {
+        status: 0,
+        out: "caught up at version 2\n",
+        err: "",
+        sent,
+    }
+}
+
+/// The replies with the log and with both patches.
+fn log_and_both(alloc: Global) -> Result<String, OutOfMemory> {
+    let mut replies = log_and(alloc, LOG, "200 OK", "rdf-patch", P1)?;
+    let second = reply(alloc, "200 OK", "rdf-patch", P2)?;
+    replies.push_str(second.as_str())?;
+    Ok(replies)
+}
+
+/// Both patches come at a `sync`.
+fn takes_both(rt: &impl Abort, alloc: Global, shelf: &mut MemShelf) -> Result<(), Fail> {
+    let replies = log_and_both(alloc)?;
+    syncs_over(rt, alloc, shelf, replies.as_str(), caught_up(ASKED_ALL))?;
+    dumps(rt, alloc, shelf, BOTH)
+}
+
+/// Both patches come at the first `sync`, and none at the next one.
+fn catches_up(rt: &impl Abort, alloc: Global, shelf: &mut MemShelf) -> Result<(), Fail> {
+    takes_both(rt, alloc, shelf)?;
+    let log = reply(alloc, "200 OK", "json", LOG)?;
+    syncs_over(rt, alloc, shelf, log.as_str(), caught_up(ASKED_LOG))
+}
+
 #[test]
 fn a_zone_catches_up(rt: HostRuntime) -> Result<(), Fail> {
     let alloc = rt.alloc();
     let mut shelf = zone_at(alloc, &[])?;
-    let mut replies = log_and(alloc, LOG, "200 OK", "rdf-patch", P1)?;
-    let second = reply(alloc, "200 OK", "rdf-patch", P2)?;
-    replies.push_str(second.as_str())?;
-    let end = End {
-        status: 0,
-        out: "caught up at version 2\n",
-        err: "",
-        sent: ASKED_ALL,
-    };
-    syncs_over(&rt, alloc, &mut shelf, replies.as_str(), end)?;
-    dumps(&rt, alloc, &mut shelf, BOTH)?;
-    let log = reply(alloc, "200 OK", "json", LOG)?;
-    let again = End {
-        sent: ASKED_LOG,
-        ..end
-    };
-    syncs_over(&rt, alloc, &mut shelf, log.as_str(), again)
+    let ran = catches_up(&rt, alloc, &mut shelf);
+    drop(shelf);
+    ran
 }
 
 /// Runs `sync` on a zone that took nothing, whose fetch of the first patch has this reply.
@@ -129,15 +158,28 @@ fn first_fetch(
     err: &str,
 ) -> Result<(), Fail> {
     let replies = replies?;
-    let mut shelf = zone_at(alloc, &[])?;
     let end = End {
         status,
         out: "",
         err,
         sent: ASKED_ONE,
     };
-    syncs_over(rt, alloc, &mut shelf, replies.as_str(), end)?;
-    dumps(rt, alloc, &mut shelf, "")
+    let mut shelf = zone_at(alloc, &[])?;
+    let ran = takes_nothing(rt, alloc, &mut shelf, replies.as_str(), end);
+    drop(shelf);
+    ran
+}
+
+/// Runs `sync` on a zone that has taken nothing, also behind that.
+fn takes_nothing(
+    rt: &impl Abort,
+    alloc: Global,
+    shelf: &mut MemShelf,
+    replies: &str,
+    end: End<'_>,
+) -> Result<(), Fail> {
+    syncs_over(rt, alloc, shelf, replies, end)?;
+    dumps(rt, alloc, shelf, "")
 }
 
 #[test]
@@ -177,14 +219,16 @@ fn first_call(
     err: &str,
 ) -> Result<(), Fail> {
     let reply = reply?;
-    let mut shelf = zone_at(alloc, taken)?;
     let end = End {
         status,
         out: "",
         err,
         sent: ASKED_LOG,
     };
-    syncs_over(rt, alloc, &mut shelf, reply.as_str(), end)
+    let mut shelf = zone_at(alloc, taken)?;
+    let ran = syncs_over(rt, alloc, &mut shelf, reply.as_str(), end);
+    drop(shelf);
+    ran
 }
 
 #[test]
@@ -211,15 +255,19 @@ fn a_log_that_is_not_there_is_told(rt: HostRuntime) -> Result<(), Fail> {
 #[test]
 fn a_file_that_is_no_zone_connects_to_nobody(rt: HostRuntime) -> Result<(), Fail> {
     let alloc = rt.alloc();
-    let mut shelf = MemShelf::new(alloc, Calls::new(alloc));
-    let mut net = dial_of(alloc, &[""], None)?;
     let end = End {
         status: 9,
         out: "",
         err: "rdfdelta: file 1000: byte 0: damaged\n",
         sent: "",
     };
-    syncs(&rt, alloc, &mut shelf, &mut net, end)?;
-    assert!(&rt; net.tries() == 0);
+    let mut net = dial_of(alloc, &[""], None)?;
+    let mut shelf = MemShelf::new(alloc, Calls::new(alloc));
+    let ran = syncs(&rt, alloc, &mut shelf, &mut net, end);
+    drop(shelf);
+    let tries = net.tries();
+    drop(net);
+    ran?;
+    assert!(&rt; tries == 0);
     Ok(())
 }

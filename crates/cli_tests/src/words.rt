@@ -1,20 +1,12 @@
 //! Words as a shell gives them.
+use crate::runs::words_of;
 use command_words::{WordsFault, read_words};
-use std::alloc::{AllocError, Global};
 use std::test::Fail;
-
-fn words_of(alloc: Global, words: &[&str]) -> Result<Vec<String>, AllocError> {
-    let mut made = Vec::new(alloc);
-    for word in words {
-        made.push(String::from_str(alloc, word)?)?;
-    }
-    Ok(made)
-}
 
 #[test]
 fn positions_are_read(rt: HostRuntime) -> Result<(), Fail> {
     let words = words_of(rt.alloc(), &["sync", "d", "127.0.0.1:1066", ""])?;
-    assert_eq!(rt; words.len(), 4);
+    assert!(rt; words.len() == 4);
     let values = read_words(rt.alloc(), &["DIR", "ADDR", "NAME"], &words)?;
     assert!(rt; values.as_slice() == ["d", "127.0.0.1:1066", ""].as_slice());
     Ok(())
@@ -23,7 +15,7 @@ fn positions_are_read(rt: HostRuntime) -> Result<(), Fail> {
 #[test]
 fn a_command_may_have_no_position(rt: HostRuntime) -> Result<(), Fail> {
     let words = words_of(rt.alloc(), &["replay"])?;
-    assert_eq!(rt; words.len(), 1);
+    assert!(rt; words.len() == 1);
     assert!(rt; read_words(rt.alloc(), &[], &words)?.is_empty());
     Ok(())
 }

@@ -1,5 +1,7 @@
 //! Runs of the commands on a zone.
-use crate::runs::{P1, P2, Run, expect_on};
+ghost use Rattle.std.specs.Prelude.{◌<◌};
+
+use crate::runs::{P1, P2, Run, expect_each, expect_on, expect_on_new, fails_on_disk};
 use delta_base::{Calls, OutOfMemory, Text};
 use disk_model::{Disk, MemShelf, Shelf};
 use std::alloc::Global;
@@ -8,7 +10,8 @@ use std::process::Abort;
 use std::test::Fail;
 use stream_generator::push_patch;
 
-const PREFIXES: &str =
+/// A patch that sets prefixes and deletes some.
+const PREFIX_PATCH: &str =
     "H id <uuid:00000000-0000-4000-8000-000000000001> .\nPA \"ex\" \"http://e/\" .\nPA \"b\" <http://b/> .\nPD \"b\" .\nPA \"a\" <http://a/2> _:g .\nPA \"a\" <http://a/1> _:h .\n";
 
 /// The rows that set the prefixes which are left.
@@ -17,6 +20,15 @@ const ROWS: &str =
 
 pub(crate) const BOTH: &str =
     "<http://e/s> <http://e/p> <http://e/o2> .\n<http://e/s> <http://e/p> <http://e/o> .\n";
+
+const DUMP: &[&str] = &["dump", "z"];
+
+const PREFIXES: &[&str] = &["prefixes", "z"];
+
+/// Asks for the quads of predicate 3.
+const MATCH_THIRD: &[&str] = &["match", "z", "default", "*", "<http://g/p3>", "*"];
+
+const MATCH_ALL: &[&str] = &["match", "z", "*", "*", "*", "*"];
 
 const USAGE: &str = "rdfdelta: usage: match DIR G S P O\n";
 
@@ -53,46 +65,51 @@ pub(crate) fn zone_of(alloc: Global, patches: &[&str]) -> Result<Vec<u8>, OutOfM
 fn generated(alloc: Global, patches: u32) -> Result<Vec<u8>, OutOfMemory> {
     let mut bytes = header(alloc, 1000)?;
     for made in 0..patches {
-        let mut text = Vec::new(alloc);
-        push_patch(&mut text, made + 1)?;
-        put(&mut bytes, text.as_slice())?;
+        put_generated(alloc, &mut bytes, made + 1)?;
     }
     Ok(bytes)
+}
+
+/// Adds the patch of the generator of this number to a journal.
+fn put_generated(alloc: Global, bytes: &mut Vec<u8>, number: u32) -> Result<(), OutOfMemory>
+    requires { 0 < number }
+{
+    let mut text = Vec::new(alloc);
+    push_patch(&mut text, number)?;
+    put(bytes, text.as_slice())
 }
 
 /// A shelf whose directory `z` has a zone's file with these bytes.
 pub(crate) fn shelf_with(alloc: Global, bytes: &[u8]) -> Result<MemShelf, Fail> {
     let dir = Text::from_str(alloc, "z")?;
     let mut shelf = MemShelf::new(alloc, Calls::new(alloc));
-    let mut disk = shelf.disk(&dir, 1000)?;
+    match write(&mut shelf, &dir, bytes) {
+        Ok(()) => Ok(shelf),
+        Err(fault) => {
+            drop(shelf);
+            Err(fault)
+        }
+    }
+}
+
+/// Writes these bytes to a zone's file.
+fn write(shelf: &mut MemShelf, dir: &Text, bytes: &[u8]) -> Result<(), Fail> {
+    let mut disk = shelf.disk(dir, 1000)?;
     let wrote = disk.write_at(0, bytes);
     shelf.put_back(disk);
     wrote?;
-    Ok(shelf)
+    Ok(())
 }
 
-/// Runs a command on a shelf.
-fn runs(
-    rt: &impl Abort,
-    alloc: Global,
-    shelf: &mut MemShelf,
-    words: &[&str],
-    status: u8,
-    out: &str,
-    err: &str,
-) -> Result<(), Fail> {
-    expect_on(
-        rt,
-        alloc,
-        shelf,
-        &Run {
-            words,
-            text: "",
-            status,
-            out,
-            err,
-        },
-    )
+/// A run without input.
+const fn run<'a>(words: &'a [&'a str], status: u8, out: &'a str, err: &'a str) -> Run<'a> {
+    Run {
+        words,
+        text: "",
+        status,
+        out,
+        err,
+    }
 }
 
 /// Dumps the zone of a shelf.
@@ -102,28 +119,39 @@ pub(crate) fn dumps(
     shelf: &mut MemShelf,
     out: &str,
 ) -> Result<(), Fail> {
-    runs(rt, alloc, shelf, &["dump", "z"], 0, out, "")
+    expect_on(rt, alloc, shelf, &run(DUMP, 0, out, ""))
+}
+
+/// Runs the tool again and again on a shelf whose zone's file has these bytes.
+fn expect_behind(
+    rt: &impl Abort,
+    alloc: Global,
+    bytes: &[u8],
+    runs: &[Run<'_>],
+) -> Result<(), Fail> {
+    let mut shelf = shelf_with(alloc, bytes)?;
+    let ran = expect_each(rt, alloc, &mut shelf, runs);
+    drop(shelf);
+    ran
 }
 
 #[test]
 fn a_zone_is_made_once(rt: HostRuntime) -> Result<(), Fail> {
-    let alloc = rt.alloc();
-    let mut shelf = MemShelf::new(alloc, Calls::new(alloc));
     let full = "rdfdelta: refused: file 1000 not empty: 9\n";
-    runs(&rt, alloc, &mut shelf, &["zone", "z"], 0, "", "")?;
-    runs(&rt, alloc, &mut shelf, &["zone", "z"], 1, "", full)?;
-    runs(&rt, alloc, &mut shelf, &["dump", "z"], 0, "", "")?;
-    runs(&rt, alloc, &mut shelf, &["prefixes", "z"], 0, "", "")?;
-    let all = ["match", "z", "*", "*", "*", "*"];
-    runs(&rt, alloc, &mut shelf, &all, 0, "", "")
+    let runs = [
+        run(&["zone", "z"], 0, "", ""),
+        run(&["zone", "z"], 1, "", full),
+        run(DUMP, 0, "", ""),
+        run(PREFIXES, 0, "", ""),
+        run(MATCH_ALL, 0, "", ""),
+    ];
+    expect_on_new(&rt, rt.alloc(), &runs)
 }
 
 /// Dumps a zone's file with these bytes, which is refused.
 fn refuses(rt: &impl Abort, alloc: Global, bytes: &[u8], err: &str) -> Result<(), Fail> {
-    let mut shelf = shelf_with(alloc, bytes)?;
-    runs(rt, alloc, &mut shelf, &["dump", "z"], 9, "", err)?;
-    let all = ["match", "z", "*", "*", "*", "*"];
-    runs(rt, alloc, &mut shelf, &all, 9, "", err)
+    let runs = [run(DUMP, 9, "", err), run(MATCH_ALL, 9, "", err)];
+    expect_behind(rt, alloc, bytes, &runs)
 }
 
 #[test]
@@ -144,41 +172,35 @@ fn a_file_that_is_no_zone_is_told(rt: HostRuntime) -> Result<(), Fail> {
 fn a_zone_is_dumped(rt: HostRuntime) -> Result<(), Fail> {
     let alloc = rt.alloc();
     let bytes = zone_of(alloc, &[P1, P2])?;
-    let mut shelf = shelf_with(alloc, bytes.as_slice())?;
-    runs(&rt, alloc, &mut shelf, &["dump", "z"], 0, BOTH, "")?;
-    runs(&rt, alloc, &mut shelf, &["prefixes", "z"], 0, "", "")
+    let runs = [run(DUMP, 0, BOTH, ""), run(PREFIXES, 0, "", "")];
+    expect_behind(&rt, alloc, bytes.as_slice(), &runs)
 }
 
 #[test]
 fn the_rows_of_prefixes_are_in_order(rt: HostRuntime) -> Result<(), Fail> {
     let alloc = rt.alloc();
-    let bytes = zone_of(alloc, &[PREFIXES])?;
-    let mut shelf = shelf_with(alloc, bytes.as_slice())?;
-    runs(&rt, alloc, &mut shelf, &["prefixes", "z"], 0, ROWS, "")?;
-    runs(&rt, alloc, &mut shelf, &["dump", "z"], 0, "", "")
+    let bytes = zone_of(alloc, &[PREFIX_PATCH])?;
+    let runs = [run(PREFIXES, 0, ROWS, ""), run(DUMP, 0, "", "")];
+    expect_behind(&rt, alloc, bytes.as_slice(), &runs)
 }
 
 #[test]
 fn quads_that_match_are_printed(rt: HostRuntime) -> Result<(), Fail> {
     let alloc = rt.alloc();
     let bytes = generated(alloc, 10)?;
-    let mut shelf = shelf_with(alloc, bytes.as_slice())?;
     let tenth = "<http://g/s10> <http://g/p3> \"10\" .\n";
-    for (words, out) in [
-        (["match", "z", "default", "*", "<http://g/p3>", "*"], tenth),
-        (["match", "z", "<http://g/x>", "*", "*", "*"], ""),
-        (["match", "z", "*", "*", "*", "\"10\""], tenth),
-        (["match", "z", "*", "_:s10", "*", "*"], ""),
-    ] {
-        runs(&rt, alloc, &mut shelf, &words, 0, out, "")?;
-    }
-    Ok(())
+    let runs = [
+        run(MATCH_THIRD, 0, tenth, ""),
+        run(&["match", "z", "<http://g/x>", "*", "*", "*"], 0, "", ""),
+        run(&["match", "z", "*", "*", "*", "\"10\""], 0, tenth, ""),
+        run(&["match", "z", "*", "_:s10", "*", "*"], 0, "", ""),
+    ];
+    expect_behind(&rt, alloc, bytes.as_slice(), &runs)
 }
 
-/// The lines of the quads of predicate 3 that so many patches of the generator leave: a third of
-/// them delete the quads of the first third.
-fn lines_left(alloc: Global, patches: u32) -> Result<String, Fail> {
-    let mut lines = BTreeSet::new(alloc);
+/// Inserts the lines of the quads of predicate 3 that so many patches of the generator leave: a
+/// third of them delete the quads of the first third.
+fn insert_left(alloc: Global, lines: &mut BTreeSet<String>, patches: u32) -> Result<(), Fail> {
     for made in patches / 3..patches {
         if made % 7 == 2 {
             let quad = made + 1;
@@ -186,48 +208,58 @@ fn lines_left(alloc: Global, patches: u32) -> Result<String, Fail> {
             lines.insert(format!(in alloc; "<http://g/s{subject}> <http://g/p3> \"{quad}\" .\n")?)?;
         }
     }
+    Ok(())
+}
+
+/// Lines one behind another.
+fn joined(alloc: Global, lines: &BTreeSet<String>) -> Result<String, Fail> {
     let mut text = String::new(alloc);
-    for line in &lines {
+    for line in lines {
         text.push_str(line.as_str())?;
     }
     Ok(text)
+}
+
+/// Those lines in their order.
+fn lines_left(alloc: Global, patches: u32) -> Result<String, Fail> {
+    let mut lines = BTreeSet::new(alloc);
+    let text = match insert_left(alloc, &mut lines, patches) {
+        Ok(()) => joined(alloc, &lines),
+        Err(fault) => Err(fault),
+    };
+    drop(lines);
+    text
 }
 
 #[test]
 fn many_quads_match(rt: HostRuntime) -> Result<(), Fail> {
     let alloc = rt.alloc();
     let bytes = generated(alloc, 1_500)?;
-    let mut shelf = shelf_with(alloc, bytes.as_slice())?;
     let lines = lines_left(alloc, 1_500)?;
-    let words = ["match", "z", "default", "*", "<http://g/p3>", "*"];
-    runs(&rt, alloc, &mut shelf, &words, 0, lines.as_str(), "")
+    let runs = [run(MATCH_THIRD, 0, lines.as_str(), "")];
+    expect_behind(&rt, alloc, bytes.as_slice(), &runs)
 }
+
+/// Words that are no pattern.
+const NO_PATTERNS: &[&[&str]] = &[
+    &["match", "z", "*", "a", "*", "*"],
+    &["match", "z", "\"g\"", "*", "*", "*"],
+    &["match", "z", "*", "default", "*", "*"],
+    &["match", "z", "*", "*", "_:p", "*"],
+    &["match", "z", "*", "*", "*", "<http://g/o> "],
+    &["match", "z", "*"],
+];
 
 #[test]
 fn words_that_are_no_pattern_are_refused(rt: HostRuntime) -> Result<(), Fail> {
-    let alloc = rt.alloc();
-    let mut shelf = MemShelf::new(alloc, Calls::new(alloc));
-    for words in [
-        ["match", "z", "*", "a", "*", "*"],
-        ["match", "z", "\"g\"", "*", "*", "*"],
-        ["match", "z", "*", "default", "*", "*"],
-        ["match", "z", "*", "*", "_:p", "*"],
-        ["match", "z", "*", "*", "*", "<http://g/o> "],
-    ] {
-        runs(&rt, alloc, &mut shelf, &words, 2, "", USAGE)?;
+    for words in NO_PATTERNS {
+        expect_on_new(&rt, rt.alloc(), &[run(words, 2, "", USAGE)])?;
     }
-    runs(&rt, alloc, &mut shelf, &["match", "z", "*"], 2, "", USAGE)
+    Ok(())
 }
 
 #[test]
 fn what_fails_on_a_zone_is_told(rt: HostRuntime) -> Result<(), Fail> {
-    let alloc = rt.alloc();
-    for words in [["zone", "z"].as_slice(), &["dump", "z"]] {
-        let mut failing = Calls::new(alloc);
-        failing.push(0)?;
-        let mut shelf = MemShelf::new(alloc, failing);
-        let failed = "rdfdelta: disk failed\n";
-        runs(&rt, alloc, &mut shelf, words, 5, "", failed)?;
-    }
-    Ok(())
+    fails_on_disk(&rt, rt.alloc(), &["zone", "z"])?;
+    fails_on_disk(&rt, rt.alloc(), DUMP)
 }

@@ -52,43 +52,40 @@ pub(crate) fn joined(alloc: Global, texts: &[&[u8]]) -> Result<Vec<u8>, OutOfMem
     Ok(all)
 }
 
-/// A reply with this first line, fields and body.
+/// A reply with this status, fields and body.
 pub(crate) fn reply(
     alloc: Global,
-    line: &[u8],
-    fields: &[u8],
+    status: &str,
+    fields: &str,
     body: &[u8],
 ) -> Result<Vec<u8>, OutOfMemory> {
-    let length = format!(in alloc; "{}", body.len())?;
-    let mut text = Vec::from_slice(alloc, b"HTTP/1.1 ")?;
-    text.extend_from_slice(line)?;
-    text.extend_from_slice(b"\r\n")?;
-    text.extend_from_slice(fields)?;
-    text.extend_from_slice(b"Content-Length: ")?;
-    text.extend_from_slice(length.as_bytes())?;
-    text.extend_from_slice(b"\r\n\r\n")?;
+    let head = format!(in alloc;
+        "HTTP/1.1 {status}\r\n{fields}Content-Length: {}\r\n\r\n",
+        body.len()
+    )?;
+    let mut text = head.into_bytes();
     text.extend_from_slice(body)?;
     Ok(text)
 }
 
 /// The answer with this JSON.
-pub(crate) fn json(alloc: Global, line: &[u8], body: &[u8]) -> Result<Vec<u8>, OutOfMemory> {
-    reply(alloc, line, b"Content-Type: application/json\r\n", body)
+pub(crate) fn json(alloc: Global, status: &str, body: &[u8]) -> Result<Vec<u8>, OutOfMemory> {
+    reply(alloc, status, "Content-Type: application/json\r\n", body)
 }
 
 /// The answer with a patch.
 pub(crate) fn patch(alloc: Global, text: &[u8]) -> Result<Vec<u8>, OutOfMemory> {
     reply(
         alloc,
-        b"200 OK",
-        b"Content-Type: application/rdf-patch\r\n",
+        "200 OK",
+        "Content-Type: application/rdf-patch\r\n",
         text,
     )
 }
 
 /// The answer to the log's call, and then these patches.
 pub(crate) fn log_and(alloc: Global, info: &[u8], texts: &[&[u8]]) -> Result<Vec<u8>, OutOfMemory> {
-    let mut all = json(alloc, b"200 OK", info)?;
+    let mut all = json(alloc, "200 OK", info)?;
     for text in texts {
         let next = patch(alloc, text)?;
         all.extend_from_slice(&next)?;
@@ -108,12 +105,24 @@ pub(crate) fn dial_of(
     texts: &[&[u8]],
     failing: &[u64],
 ) -> Result<MemDial<MemLink>, OutOfMemory> {
+    let failing = calls(alloc, failing)?;
     let mut links = Vec::new(alloc);
+    match add_links(alloc, &mut links, texts) {
+        Ok(()) => MemDial::new(alloc, links, failing),
+        Err(fault) => {
+            drop(links);
+            Err(fault)
+        }
+    }
+}
+
+/// Adds links that give these texts.
+fn add_links(alloc: Global, links: &mut Vec<MemLink>, texts: &[&[u8]]) -> Result<(), OutOfMemory> {
     for text in texts {
         let content = Bytes::from_slice(alloc, text)?;
-        links.push(MemLink::new(alloc, content, 8_192, calls(alloc, &[])?))?;
+        links.push(MemLink::new(alloc, content, 8_192, Calls::new(alloc)))?;
     }
-    MemDial::new(alloc, links, calls(alloc, failing)?)
+    Ok(())
 }
 
 /// A zone that took nothing, on a disk whose calls of these numbers fail; none where one of them is
@@ -130,17 +139,28 @@ pub(crate) fn new_zone(
     }
 }
 
+/// A zone takes these patches.
+fn takes(alloc: Global, zone: &mut Zone<MemDisk>, patches: &[&[u8]]) -> Result<(), Fail> {
+    for text in patches {
+        let next = check_patch(alloc, text)?;
+        zone.take_next(&next);
+        drop(next);
+    }
+    Ok(())
+}
+
 /// A zone that took the first so many of the five.
 pub(crate) fn zone_at(alloc: Global, version: usize) -> Result<Zone<MemDisk>, Fail> {
     let Some(mut zone) = new_zone(alloc, &[])? else {
         return Err(Fail::from("not opened"));
     };
-    for text in &PATCHES[..version.min(5)] {
-        let next = check_patch(alloc, text)?;
-        zone.take_next(&next);
-        drop(next);
+    match takes(alloc, &mut zone, &PATCHES[..version.min(5)]) {
+        Ok(()) => Ok(zone),
+        Err(fault) => {
+            drop(zone);
+            Err(fault)
+        }
     }
-    Ok(zone)
 }
 
 /// The host of all requests.
@@ -151,7 +171,7 @@ fn host(alloc: Global) -> Result<Text, OutOfMemory>
 }
 
 /// Catches up with the log ABC.
-pub(crate) fn synced(
+fn synced(
     alloc: Global,
     net: &mut MemDial<MemLink>,
     zone: &mut Zone<MemDisk>,
@@ -161,6 +181,18 @@ pub(crate) fn synced(
     Ok(sync(alloc, net, &host, &name, zone))
 }
 
+/// How catching up with the log ABC ends, in short.
+pub(crate) fn synced_in_short(
+    alloc: Global,
+    net: &mut MemDial<MemLink>,
+    zone: &mut Zone<MemDisk>,
+) -> Result<(&'static str, u64, u64), OutOfMemory> {
+    let end = synced(alloc, net, zone)?;
+    let told = short(&end);
+    drop(end);
+    Ok(told)
+}
+
 /// How a zone of this version ends catching up with the log ABC, and its version then.
 pub(crate) fn caught_up(
     alloc: Global,
@@ -168,16 +200,14 @@ pub(crate) fn caught_up(
     net: &mut MemDial<MemLink>,
 ) -> Result<((&'static str, u64, u64), u32), Fail> {
     let mut zone = zone_at(alloc, mine)?;
-    let end = synced(alloc, net, &mut zone)?;
-    let told = short(&end);
-    drop(end);
+    let end = synced_in_short(alloc, net, &mut zone);
     let after = zone.version();
     drop(zone);
-    Ok((told, after))
+    Ok((end?, after))
 }
 
 /// An end by its name, with its numbers.
-pub(crate) fn short(end: &SyncEnd) -> (&'static str, u64, u64) {
+fn short(end: &SyncEnd) -> (&'static str, u64, u64) {
     match end {
         SyncEnd::CaughtUp { version } => ("CaughtUp", u64::from(*version), 0),
         SyncEnd::NoSuchName => ("NoSuchName", 0, 0),

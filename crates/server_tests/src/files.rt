@@ -1,8 +1,12 @@
 //! What connections are sent, and what stands in the files behind a server.
 use crate::runs::{TWO, add_gate, fill, link_of, run, shelf};
-use delta_base::{MemLink, Text};
+use delta_base::{MemLink, OutOfMemory, Text};
+use disk_model::MemShelf;
 use std::alloc::Global;
+use std::process::Abort;
+use std::sync::Wait;
 use std::test::Fail;
+use std::thread::Threads;
 use worker_pool::MemGate;
 
 const CREATE: &str =
@@ -19,20 +23,35 @@ fn request(alloc: Global, line: &str, body: &str) -> Result<String, Fail> {
     )?)
 }
 
-// A gate of one connection with these requests.
-fn gate_of(
-    alloc: Global,
-    gates: &mut Vec<MemGate<MemLink>>,
-    requests: &[&str],
-) -> Result<(), Fail> {
-    let mut text = String::new(alloc);
-    for request in requests {
-        text.push_str(request)?;
-    }
+// Adds a gate of one connection with this text.
+fn add(alloc: Global, gates: &mut Vec<MemGate<MemLink>>, text: &str) -> Result<(), OutOfMemory> {
     let mut links = Vec::new(alloc);
     links.push(link_of(alloc, text.as_bytes())?)?;
-    add_gate(alloc, gates, links, &[])?;
-    Ok(())
+    add_gate(alloc, gates, links, &[])
+}
+
+// Adds such gates, and others up to sixteen.
+fn add_all(
+    alloc: Global,
+    gates: &mut Vec<MemGate<MemLink>>,
+    texts: &[&str],
+) -> Result<(), OutOfMemory> {
+    for text in texts {
+        add(alloc, gates, text)?;
+    }
+    fill(alloc, gates)
+}
+
+// Sixteen gates, of which the first ones have one connection each, with these texts.
+fn gates_of(alloc: Global, texts: &[&str]) -> Result<Vec<MemGate<MemLink>>, OutOfMemory> {
+    let mut gates = Vec::new(alloc);
+    match add_all(alloc, &mut gates, texts) {
+        Ok(()) => Ok(gates),
+        Err(OutOfMemory) => {
+            drop(gates);
+            Err(OutOfMemory)
+        }
+    }
 }
 
 // Whether the one connection of a gate was sent this last.
@@ -43,50 +62,71 @@ fn was_sent(gate: &MemGate<MemLink>, end: &str) -> bool {
     }
 }
 
+// A server of these texts sends this last at the gate of this place.
+fn sends<R: Abort + Threads + Wait + Sync>(
+    rt: &R,
+    alloc: Global,
+    shelf: &mut MemShelf,
+    texts: &[&str],
+    place: usize,
+    end: &str,
+) -> Result<(), Fail> {
+    let gates = gates_of(alloc, texts)?;
+    let gates = run(rt, alloc, TWO, shelf, gates, 0, "")?;
+    let is_sent = match gates.get(place) {
+        Some(gate) => was_sent(gate, end),
+        None => false,
+    };
+    drop(gates);
+    assert!(rt; is_sent);
+    Ok(())
+}
+
+// A source is made, and the first patch of its log.
+fn appends<R: Abort + Threads + Wait + Sync>(
+    rt: &R,
+    alloc: Global,
+    shelf: &mut MemShelf,
+) -> Result<(), Fail> {
+    let mut text = request(alloc, "POST /$/rpc", CREATE)?;
+    let append = request(alloc, "POST /ABC", FIRST)?;
+    text.push_str(append.as_str())?;
+    sends(rt, alloc, shelf, &[text.as_str()], 0, "{\"version\":1}")
+}
+
+// The file of the first log holds the patch.
+fn holds<R: Abort>(rt: &R, alloc: Global, shelf: &MemShelf) -> Result<(), Fail> {
+    let dir = Text::from_str(alloc, "d")?;
+    let bytes = shelf.file(&dir, 1).unwrap_or(b"");
+    assert!(rt; bytes.starts_with(b"RDJ1\0\0\0\x01\x01\0\0\0\x68H id"));
+    assert!(rt; bytes.ends_with(b"TC .\n\0"));
+    Ok(())
+}
+
+// The patch is made, stands in its file, and is fetched from another server.
+fn keeps<R: Abort + Threads + Wait + Sync>(
+    rt: &R,
+    alloc: Global,
+    shelf: &mut MemShelf,
+) -> Result<(), Fail> {
+    appends(rt, alloc, shelf)?;
+    holds(rt, alloc, shelf)?;
+    let fetch = request(alloc, "GET /ABC/1", "")?;
+    sends(rt, alloc, shelf, &["", fetch.as_str()], 1, FIRST)
+}
+
 #[test]
 fn the_files_hold_what_was_said(rt: HostRuntime) -> Result<(), Fail> {
     let alloc = rt.alloc();
     let mut shelf = shelf(alloc, &[])?;
-    let create = request(alloc, "POST /$/rpc", CREATE)?;
-    let append = request(alloc, "POST /ABC", FIRST)?;
-    let fetch = request(alloc, "GET /ABC/1", "")?;
-
-    let mut gates = Vec::new(alloc);
-    gate_of(alloc, &mut gates, &[create.as_str(), append.as_str()])?;
-    let gates = run(&rt, alloc, TWO, &mut shelf, fill(alloc, gates)?, 0, "")?;
-    let [first, ..] = gates.as_slice() else {
-        return Err(Fail::from("a gate"));
-    };
-    assert!(rt; was_sent(first, "{\"version\":1}"));
-    drop(gates);
-
-    let bytes = shelf.file(&Text::from_str(alloc, "d")?, 1).unwrap_or(b"");
-    assert!(rt; bytes.starts_with(b"RDJ1\0\0\0\x01\x01\0\0\0\x68H id"));
-    assert!(rt; bytes.ends_with(b"TC .\n\0"));
-
-    let mut gates = Vec::new(alloc);
-    gate_of(alloc, &mut gates, &[])?;
-    gate_of(alloc, &mut gates, &[fetch.as_str()])?;
-    let gates = run(&rt, alloc, TWO, &mut shelf, fill(alloc, gates)?, 0, "")?;
-    let [_, second, ..] = gates.as_slice() else {
-        return Err(Fail::from("two gates"));
-    };
-    assert!(rt; was_sent(second, FIRST));
-    drop(gates);
-    Ok(())
+    let ran = keeps(&rt, alloc, &mut shelf);
+    drop(shelf);
+    ran
 }
 
-#[test]
-fn gates_come_back_in_their_order(rt: HostRuntime) -> Result<(), Fail> {
-    let alloc = rt.alloc();
-    let ping = request(alloc, "GET /$/ping", "")?;
-    let mut gates = Vec::new(alloc);
-    gate_of(alloc, &mut gates, &[ping.as_str()])?;
-    gate_of(alloc, &mut gates, &[])?;
-    gate_of(alloc, &mut gates, &[ping.as_str()])?;
-    let mut shelf = shelf(alloc, &[])?;
-    let gates = run(&rt, alloc, TWO, &mut shelf, fill(alloc, gates)?, 0, "")?;
-    let [first, second, third, rest @ ..] = gates.as_slice() else {
+// The first two of these gates have a worker, and the first three a connection.
+fn are_in_order<R: Abort>(rt: &R, gates: &[MemGate<MemLink>]) -> Result<(), Fail> {
+    let [first, second, third, rest @ ..] = gates else {
         return Err(Fail::from("three gates"));
     };
     assert!(rt; was_sent(first, "{\"ping\":\"ok\"}"));
@@ -94,6 +134,28 @@ fn gates_come_back_in_their_order(rt: HostRuntime) -> Result<(), Fail> {
     // The connection of a gate that has no worker isn't served.
     assert!(rt; third.back().is_empty());
     assert!(rt; rest.len() == 13);
-    drop(gates);
     Ok(())
+}
+
+// Three connections come to a server over this shelf.
+fn comes_back<R: Abort + Threads + Wait + Sync>(
+    rt: &R,
+    alloc: Global,
+    shelf: &mut MemShelf,
+) -> Result<(), Fail> {
+    let ping = request(alloc, "GET /$/ping", "")?;
+    let gates = gates_of(alloc, &[ping.as_str(), "", ping.as_str()])?;
+    let gates = run(rt, alloc, TWO, shelf, gates, 0, "")?;
+    let ran = are_in_order(rt, &gates);
+    drop(gates);
+    ran
+}
+
+#[test]
+fn gates_come_back_in_their_order(rt: HostRuntime) -> Result<(), Fail> {
+    let alloc = rt.alloc();
+    let mut shelf = shelf(alloc, &[])?;
+    let ran = comes_back(&rt, alloc, &mut shelf);
+    drop(shelf);
+    ran
 }

@@ -24,15 +24,19 @@ pub(crate) fn words_of(alloc: Global, words: &[&str]) -> Result<Vec<String>, Out
 /// A shelf with the files of two slots in the directory `d`. The calls of these numbers
 /// behind that fail.
 pub(crate) fn shelf(alloc: Global, failing: &[u64]) -> Result<MemShelf, Fail> {
+    let dir = Text::from_str(alloc, "d")?;
     let mut calls = Calls::new(alloc);
     for number in failing {
         // Three calls make the files.
         calls.push(number.saturating_add(3))?;
     }
     let mut shelf = MemShelf::new(alloc, calls);
-    match init_slots(alloc, &mut shelf, &Text::from_str(alloc, "d")?, 2) {
+    match init_slots(alloc, &mut shelf, &dir, 2) {
         Ok(()) => Ok(shelf),
-        Err(_) => Err(Fail::from("no files")),
+        Err(_) => {
+            drop(shelf);
+            Err(Fail::from("no files"))
+        }
     }
 }
 
@@ -55,15 +59,23 @@ pub(crate) fn add_gate<L: Drop>(
 }
 
 /// Adds gates without links, up to sixteen.
-pub(crate) fn fill<L: Drop>(
-    alloc: Global,
-    gates: Vec<MemGate<L>>,
-) -> Result<Vec<MemGate<L>>, OutOfMemory> {
-    let mut gates = gates;
+pub(crate) fn fill<L: Drop>(alloc: Global, gates: &mut Vec<MemGate<L>>) -> Result<(), OutOfMemory> {
     for _ in gates.len()..16 {
         gates.push(MemGate::new(alloc, Vec::new(alloc), Calls::new(alloc))?)?;
     }
-    Ok(gates)
+    Ok(())
+}
+
+/// Sixteen gates without links.
+pub(crate) fn no_links(alloc: Global) -> Result<Vec<MemGate<MemLink>>, OutOfMemory> {
+    let mut gates = Vec::new(alloc);
+    match fill(alloc, &mut gates) {
+        Ok(()) => Ok(gates),
+        Err(OutOfMemory) => {
+            drop(gates);
+            Err(OutOfMemory)
+        }
+    }
 }
 
 /// Runs the server with sixteen gates, and looks at its status and its line.
@@ -88,8 +100,31 @@ where
         status: found,
         gates,
     } = run_server(rt, alloc, &words, shelf, gates, &mut err);
-    let said = str::from_utf8(err.written()).unwrap_or("no text");
+    is_told(rt, found, err.written(), status, line);
+    Ok(gates)
+}
+
+/// A server that ended with a status and wrote this ended with that status and that line.
+fn is_told<R: Abort>(rt: &R, found: u8, written: &[u8], status: u8, line: &str) {
+    let said = str::from_utf8(written).unwrap_or("no text");
     assert!(rt; found == status, "status {found}, {said}");
     assert!(rt; said == line, "said {said}");
-    Ok(gates)
+}
+
+/// Runs the server likewise, and lets its gates go.
+pub(crate) fn ends<R: Abort + Threads + Wait + Sync, G: Drop + Gate + Send>(
+    rt: &R,
+    alloc: Global,
+    words: &[&str],
+    shelf: &mut MemShelf,
+    gates: Vec<G>,
+    status: u8,
+    line: &str,
+) -> Result<(), Fail>
+where
+    G::L: Link + Send,
+{
+    let gates = run(rt, alloc, words, shelf, gates, status, line)?;
+    drop(gates);
+    Ok(())
 }

@@ -3,10 +3,14 @@
 ghost use Rattle.std.specs.Prelude.{None};
 
 use crate::runs::{TWO, add_gate, fill, run, shelf};
-use delta_base::{Failed, Link};
+use delta_base::{Failed, Link, OutOfMemory};
+use disk_model::MemShelf;
 use std::alloc::Global;
+use std::process::Abort;
+use std::sync::Wait;
 use std::sync::atomic::{AtomicU64, Ordering};
 use std::test::Fail;
+use std::thread::Threads;
 use worker_pool::MemGate;
 
 /// How often the first connection looks.
@@ -90,10 +94,62 @@ fn add<'a>(
     gates: &mut Vec<MemGate<Asking<'a>>>,
     answered: &'a AtomicU64,
     waits: bool,
-) -> Result<(), Fail> {
+) -> Result<(), OutOfMemory> {
     let mut links = Vec::new(alloc);
     links.push(Asking::new(answered, waits))?;
-    add_gate(alloc, gates, links, &[])?;
+    add_gate(alloc, gates, links, &[])
+}
+
+// Adds a gate of one that waits and a gate of the other, and further ones up to sixteen.
+fn add_all<'a>(
+    alloc: Global,
+    gates: &mut Vec<MemGate<Asking<'a>>>,
+    answered: &'a AtomicU64,
+) -> Result<(), OutOfMemory> {
+    add(alloc, gates, answered, true)?;
+    add(alloc, gates, answered, false)?;
+    fill(alloc, gates)
+}
+
+// Those gates.
+fn gates_of<'a>(
+    alloc: Global,
+    answered: &'a AtomicU64,
+) -> Result<Vec<MemGate<Asking<'a>>>, OutOfMemory> {
+    let mut gates = Vec::new(alloc);
+    match add_all(alloc, &mut gates, answered) {
+        Ok(()) => Ok(gates),
+        Err(OutOfMemory) => {
+            drop(gates);
+            Err(OutOfMemory)
+        }
+    }
+}
+
+// How many connections were answered; there are no others.
+fn count_answered<R: Abort>(rt: &R, gates: &[MemGate<Asking<'_>>]) -> u32 {
+    let mut answers = 0u32;
+    for gate in gates {
+        for link in gate.back() {
+            assert!(rt; link.sent > 0 && link.faults == 0);
+            answers = answers.saturating_add(1);
+        }
+    }
+    answers
+}
+
+// A server over this shelf answers both.
+fn answers_both<R: Abort + Threads + Wait + Sync>(
+    rt: &R,
+    alloc: Global,
+    shelf: &mut MemShelf,
+    answered: &AtomicU64,
+) -> Result<(), Fail> {
+    let gates = gates_of(alloc, answered)?;
+    let gates = run(rt, alloc, TWO, shelf, gates, 0, "")?;
+    let answers = count_answered(rt, &gates);
+    drop(gates);
+    assert!(rt; answers == 2);
     Ok(())
 }
 
@@ -101,19 +157,8 @@ fn add<'a>(
 fn both_connections_are_answered(rt: HostRuntime) -> Result<(), Fail> {
     let alloc = rt.alloc();
     let answered = AtomicU64::new(0);
-    let mut gates = Vec::new(alloc);
-    add(alloc, &mut gates, &answered, true)?;
-    add(alloc, &mut gates, &answered, false)?;
     let mut shelf = shelf(alloc, &[])?;
-    let gates = run(&rt, alloc, TWO, &mut shelf, fill(alloc, gates)?, 0, "")?;
-    let mut answers = 0u32;
-    for gate in &gates {
-        for link in gate.back() {
-            assert!(rt; link.sent > 0 && link.faults == 0);
-            answers = answers.saturating_add(1);
-        }
-    }
-    assert!(rt; answers == 2);
-    drop(gates);
-    Ok(())
+    let ran = answers_both(&rt, alloc, &mut shelf, &answered);
+    drop(shelf);
+    ran
 }

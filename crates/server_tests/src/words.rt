@@ -1,6 +1,6 @@
 //! Words that ask for no server, and files that can't be opened.
-use crate::runs::{TWO, add_gate, fill, run, shelf};
-use delta_base::{Calls, MemLink, Text};
+use crate::runs::{TWO, add_gate, ends, fill, no_links, run, shelf};
+use delta_base::{Calls, MemLink, OutOfMemory, Text};
 use disk_model::{MemShelf, Shelf};
 use std::alloc::Global;
 use std::process::Abort;
@@ -18,84 +18,145 @@ fn refuses<R: Abort + Threads + Wait + Sync>(
     words: &[&str],
     line: &str,
 ) -> Result<(), Fail> {
+    let gates = no_links(alloc)?;
     let mut shelf = MemShelf::new(alloc, Calls::new(alloc));
-    let gates: Vec<MemGate<MemLink>> = fill(alloc, Vec::new(alloc))?;
-    let gates = run(rt, alloc, words, &mut shelf, gates, 2, line)?;
-    assert!(rt; gates.len() == 16);
-    assert!(rt; shelf.file(&Text::from_str(alloc, "d")?, 0).is_none());
+    let ran = leaves(rt, alloc, words, &mut shelf, gates, line);
+    drop(shelf);
+    ran
+}
+
+// All gates come back, and the shelf has no files.
+fn leaves<R: Abort + Threads + Wait + Sync>(
+    rt: &R,
+    alloc: Global,
+    words: &[&str],
+    shelf: &mut MemShelf,
+    gates: Vec<MemGate<MemLink>>,
+    line: &str,
+) -> Result<(), Fail> {
+    let gates = run(rt, alloc, words, shelf, gates, 2, line)?;
+    let count = gates.len();
     drop(gates);
+    assert!(rt; count == 16);
+    let dir = Text::from_str(alloc, "d")?;
+    assert!(rt; shelf.file(&dir, 0).is_none());
     Ok(())
 }
 
+const UNKNOWN: &str = "rdfdelta: unknown command\n";
+
+/// Words that ask for no server, and what is told of them.
+const REFUSED: &[(&[&str], &str)] = &[
+    (&[], UNKNOWN),
+    (&["replay"], UNKNOWN),
+    (&["serve"], USAGE),
+    (&["serve", "d", "a:1", "2", "x"], USAGE),
+    (&["serve", "d", "a:1", "0"], USAGE),
+    (&["serve", "d", "a:1", "17"], USAGE),
+    (&["serve", "d", "a:1", "02"], USAGE),
+    (&["serve", "-d", "a:1", "2"], USAGE),
+    (&["serve", "d", "a", "2"], USAGE),
+    (&["serve", "d", "a:", "2"], USAGE),
+    (&["serve", "d", "a:123456", "2"], USAGE),
+    (&["serve", "d", "a:1x", "2"], USAGE),
+    (&["serve", "d", "a b:1", "2"], USAGE),
+];
+
 #[test]
 fn other_words_are_refused(rt: HostRuntime) -> Result<(), Fail> {
-    let alloc = rt.alloc();
-    refuses(&rt, alloc, &[], "rdfdelta: unknown command\n")?;
-    refuses(&rt, alloc, &["replay"], "rdfdelta: unknown command\n")?;
-    refuses(&rt, alloc, &["serve"], USAGE)?;
-    refuses(&rt, alloc, &["serve", "d", "a:1", "2", "x"], USAGE)?;
-    refuses(&rt, alloc, &["serve", "d", "a:1", "0"], USAGE)?;
-    refuses(&rt, alloc, &["serve", "d", "a:1", "17"], USAGE)?;
-    refuses(&rt, alloc, &["serve", "d", "a:1", "02"], USAGE)?;
-    refuses(&rt, alloc, &["serve", "-d", "a:1", "2"], USAGE)?;
-    refuses(&rt, alloc, &["serve", "d", "a", "2"], USAGE)?;
-    refuses(&rt, alloc, &["serve", "d", "a:", "2"], USAGE)?;
-    refuses(&rt, alloc, &["serve", "d", "a:123456", "2"], USAGE)?;
-    refuses(&rt, alloc, &["serve", "d", "a:1x", "2"], USAGE)?;
-    refuses(&rt, alloc, &["serve", "d", "a b:1", "2"], USAGE)?;
+    for (words, line) in REFUSED {
+        refuses(&rt, rt.alloc(), words, line)?;
+    }
     Ok(())
 }
 
 #[test]
 fn an_address_may_have_colons(rt: HostRuntime) -> Result<(), Fail> {
     let alloc = rt.alloc();
-    let gates: Vec<MemGate<MemLink>> = fill(alloc, Vec::new(alloc))?;
+    let mut shelf = shelf(alloc, &[])?;
     let words = ["serve", "d", "[::1]:10660", "16"];
-    let gates = run(&rt, alloc, &words, &mut shelf(alloc, &[])?, gates, 0, "")?;
-    drop(gates);
-    Ok(())
+    let ran = ends_without_links(&rt, alloc, &words, &mut shelf, 0, "");
+    drop(shelf);
+    ran
+}
+
+const FAILED: &str = "rdfdelta: link failed\n";
+
+// Sixteen gates behind one that has no port.
+fn tcp_gates(alloc: Global) -> Result<Vec<TcpGate<'static>>, Fail> {
+    let mut gates = Vec::new(alloc);
+    for place in 0..16 {
+        gates.push(TcpGate::new(None, 0, place))?;
+    }
+    Ok(gates)
 }
 
 #[test]
 fn a_port_in_use_is_a_failed_link(rt: HostRuntime) -> Result<(), Fail> {
     let alloc = rt.alloc();
+    let gates = tcp_gates(alloc)?;
+    let mut shelf = shelf(alloc, &[])?;
+    let ran = ends(&rt, alloc, TWO, &mut shelf, gates, 6, FAILED);
+    drop(shelf);
+    ran
+}
+
+// Adds sixteen gates, of which the second and the third fail.
+fn add_failing(alloc: Global, gates: &mut Vec<MemGate<MemLink>>) -> Result<(), OutOfMemory> {
+    add_gate(alloc, gates, Vec::new(alloc), &[])?;
+    add_gate(alloc, gates, Vec::new(alloc), &[0])?;
+    // The gate of no worker isn't asked.
+    add_gate(alloc, gates, Vec::new(alloc), &[0])?;
+    fill(alloc, gates)
+}
+
+// Those gates.
+fn failing_gates(alloc: Global) -> Result<Vec<MemGate<MemLink>>, OutOfMemory> {
     let mut gates = Vec::new(alloc);
-    for place in 0..16 {
-        gates.push(TcpGate::new(None, 0, place))?;
+    match add_failing(alloc, &mut gates) {
+        Ok(()) => Ok(gates),
+        Err(OutOfMemory) => {
+            drop(gates);
+            Err(OutOfMemory)
+        }
     }
-    let line = "rdfdelta: link failed\n";
-    let gates = run(&rt, alloc, TWO, &mut shelf(alloc, &[])?, gates, 6, line)?;
-    drop(gates);
-    Ok(())
 }
 
 #[test]
 fn a_gate_that_fails_is_a_failed_link(rt: HostRuntime) -> Result<(), Fail> {
     let alloc = rt.alloc();
-    let mut gates: Vec<MemGate<MemLink>> = Vec::new(alloc);
-    add_gate(alloc, &mut gates, Vec::new(alloc), &[])?;
-    add_gate(alloc, &mut gates, Vec::new(alloc), &[0])?;
-    // The gate of no worker isn't asked.
-    add_gate(alloc, &mut gates, Vec::new(alloc), &[0])?;
-    let gates = fill(alloc, gates)?;
-    let line = "rdfdelta: link failed\n";
-    let gates = run(&rt, alloc, TWO, &mut shelf(alloc, &[])?, gates, 6, line)?;
-    drop(gates);
-    Ok(())
+    let gates = failing_gates(alloc)?;
+    let mut shelf = shelf(alloc, &[])?;
+    let ran = ends(&rt, alloc, TWO, &mut shelf, gates, 6, FAILED);
+    drop(shelf);
+    ran
 }
 
-// A server over this shelf ends with this status and line.
-fn ends<R: Abort + Threads + Wait + Sync>(
+// A server over this shelf, to which nobody connects, ends with this status and line.
+fn ends_without_links<R: Abort + Threads + Wait + Sync>(
     rt: &R,
     alloc: Global,
+    words: &[&str],
     shelf: &mut MemShelf,
     status: u8,
     line: &str,
 ) -> Result<(), Fail> {
-    let gates: Vec<MemGate<MemLink>> = fill(alloc, Vec::new(alloc))?;
-    let gates = run(rt, alloc, TWO, shelf, gates, status, line)?;
-    drop(gates);
-    Ok(())
+    let gates = no_links(alloc)?;
+    ends(rt, alloc, words, shelf, gates, status, line)
+}
+
+// A server whose shelf fails at this call ends with this status and line.
+fn ends_failing<R: Abort + Threads + Wait + Sync>(
+    rt: &R,
+    alloc: Global,
+    number: u64,
+    status: u8,
+    line: &str,
+) -> Result<(), Fail> {
+    let mut shelf = shelf(alloc, &[number])?;
+    let ran = ends_without_links(rt, alloc, TWO, &mut shelf, status, line);
+    drop(shelf);
+    ran
 }
 
 #[test]
@@ -103,9 +164,9 @@ fn a_shelf_that_fails_is_a_failed_disk(rt: HostRuntime) -> Result<(), Fail> {
     let alloc = rt.alloc();
     let line = "rdfdelta: disk failed\n";
     for number in 0..3u64 {
-        ends(&rt, alloc, &mut shelf(alloc, &[number])?, 5, line)?;
+        ends_failing(&rt, alloc, number, 5, line)?;
     }
-    ends(&rt, alloc, &mut shelf(alloc, &[3])?, 0, "")
+    ends_failing(&rt, alloc, 3, 0, "")
 }
 
 // A file is made this.
@@ -125,42 +186,52 @@ fn write(alloc: Global, shelf: &mut MemShelf, number: u32, bytes: &[u8]) -> Resu
     }
 }
 
+// A server over a shelf without files tells so.
+fn tells_of_none<R: Abort + Threads + Wait + Sync>(rt: &R, alloc: Global) -> Result<(), Fail> {
+    let mut none = MemShelf::new(alloc, Calls::new(alloc));
+    let line = "rdfdelta: file 0: byte 0: damaged\n";
+    let ran = ends_without_links(rt, alloc, TWO, &mut none, 9, line);
+    drop(none);
+    ran
+}
+
+// A server over this shelf, once the file of this number has these bytes, tells this line.
+fn tells_of<R: Abort + Threads + Wait + Sync>(
+    rt: &R,
+    alloc: Global,
+    shelf: &mut MemShelf,
+    number: u32,
+    bytes: &[u8],
+    line: &str,
+) -> Result<(), Fail> {
+    write(alloc, shelf, number, bytes)?;
+    ends_without_links(rt, alloc, TWO, shelf, 9, line)
+}
+
+/// Bytes that files of these numbers have, and what is told of them.
+const BROKEN: &[(u32, &[u8], &str)] = &[
+    (2, b"RDJ1\0\0\0\x03\0", "rdfdelta: file 2: wrong number 3\n"),
+    (
+        1,
+        b"RDJ1\0\0\0\x01\x01",
+        "rdfdelta: file 1: byte 9: damaged\n",
+    ),
+    (
+        0,
+        b"RDJ1\0\0\0\0\x01\0\0\0\x03S 0\0",
+        "rdfdelta: file 0: broken event at 0\n",
+    ),
+];
+
 #[test]
 fn broken_files_are_told(rt: HostRuntime) -> Result<(), Fail> {
     let alloc = rt.alloc();
-    let mut none = MemShelf::new(alloc, Calls::new(alloc));
-    ends(
-        &rt,
-        alloc,
-        &mut none,
-        9,
-        "rdfdelta: file 0: byte 0: damaged\n",
-    )?;
-    let mut third = shelf(alloc, &[])?;
-    write(alloc, &mut third, 2, b"RDJ1\0\0\0\x03\0")?;
-    ends(
-        &rt,
-        alloc,
-        &mut third,
-        9,
-        "rdfdelta: file 2: wrong number 3\n",
-    )?;
-    let mut first = shelf(alloc, &[])?;
-    write(alloc, &mut first, 1, b"RDJ1\0\0\0\x01\x01")?;
-    ends(
-        &rt,
-        alloc,
-        &mut first,
-        9,
-        "rdfdelta: file 1: byte 9: damaged\n",
-    )?;
-    let mut registry = shelf(alloc, &[])?;
-    write(alloc, &mut registry, 0, b"RDJ1\0\0\0\0\x01\0\0\0\x03S 0\0")?;
-    ends(
-        &rt,
-        alloc,
-        &mut registry,
-        9,
-        "rdfdelta: file 0: broken event at 0\n",
-    )
+    tells_of_none(&rt, alloc)?;
+    for (number, bytes, line) in BROKEN {
+        let mut shelf = shelf(alloc, &[])?;
+        let ran = tells_of(&rt, alloc, &mut shelf, *number, bytes, line);
+        drop(shelf);
+        ran?;
+    }
+    Ok(())
 }

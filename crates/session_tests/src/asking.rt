@@ -16,20 +16,60 @@ pub(crate) fn disk(alloc: Global, bytes: &[u8], failing: &[u64]) -> Result<MemDi
     MemDisk::from_image(alloc, Bytes::from_slice(alloc, bytes)?, failing)
 }
 
-/// The disks of a hall of two slots, of which the calls of these numbers fail on that of the
-/// registry, and on that of the first log.
-pub(crate) fn disks(
+/// Adds a disk with these bytes, whose calls of these numbers fail.
+pub(crate) fn add_disk(
     alloc: Global,
-    registry: &[u64],
-    log: &[u64],
-) -> Result<Vec<MemDisk>, OutOfMemory>
-    ensures { IfOk result (λ disks. 0 < vec_len disks) }
+    disks: &mut Vec<MemDisk>,
+    bytes: &[u8],
+    failing: &[u64],
+) -> Result<(), OutOfMemory>
+    ensures { IfOk result (λ _. 0 < vec_len disks.new) }
 {
+    let disk = disk(alloc, bytes, failing)?;
+    disks.push(disk)?;
+    Ok(())
+}
+
+/// Adds the disks of a hall of two slots, of which the calls of these numbers fail on that of the
+/// first log.
+fn add_three(alloc: Global, disks: &mut Vec<MemDisk>, failing: &[u64]) -> Result<(), OutOfMemory>
+    ensures { IfOk result (λ _. 0 < vec_len disks.new) }
+{
+    add_disk(alloc, disks, b"RDJ1\0\0\0\0\x01\0\0\0\x03S 2\0", &[])?;
+    add_disk(alloc, disks, b"RDJ1\0\0\0\x01\0", failing)?;
+    add_disk(alloc, disks, b"RDJ1\0\0\0\x02\0", &[])
+}
+
+/// A hall of two slots, of which the calls of these numbers fail on the disk of the first log.
+pub(crate) fn open_failing(alloc: Global, failing: &[u64]) -> Result<Opened<MemDisk>, Fail> {
     let mut disks = Vec::new(alloc);
-    disks.push(disk(alloc, b"RDJ1\0\0\0\0\x01\0\0\0\x03S 2\0", registry)?)?;
-    disks.push(disk(alloc, b"RDJ1\0\0\0\x01\0", log)?)?;
-    disks.push(disk(alloc, b"RDJ1\0\0\0\x02\0", &[])?)?;
-    Ok(disks)
+    match add_three(alloc, &mut disks, failing) {
+        Ok(()) => over(alloc, disks),
+        Err(fault) => {
+            drop(disks);
+            Err(Fail::from(fault))
+        }
+    }
+}
+
+/// Adds the disks of a hall of one slot, of which this is the log's file.
+fn add_two(alloc: Global, disks: &mut Vec<MemDisk>, log: &[u8]) -> Result<(), OutOfMemory>
+    ensures { IfOk result (λ _. 0 < vec_len disks.new) }
+{
+    add_disk(alloc, disks, b"RDJ1\0\0\0\0\x01\0\0\0\x03S 1\0", &[])?;
+    add_disk(alloc, disks, log, &[])
+}
+
+/// A hall of one slot, of which this is the log's file.
+pub(crate) fn open_one(alloc: Global, log: &[u8]) -> Result<Opened<MemDisk>, Fail> {
+    let mut disks = Vec::new(alloc);
+    match add_two(alloc, &mut disks, log) {
+        Ok(()) => over(alloc, disks),
+        Err(fault) => {
+            drop(disks);
+            Err(Fail::from(fault))
+        }
+    }
 }
 
 /// A hall over these disks.
@@ -44,7 +84,7 @@ pub(crate) fn over(alloc: Global, disks: Vec<MemDisk>) -> Result<Opened<MemDisk>
 
 /// A hall of two slots over disks that don't fail.
 pub(crate) fn open(alloc: Global) -> Result<Opened<MemDisk>, Fail> {
-    over(alloc, disks(alloc, &[], &[])?)
+    open_failing(alloc, &[])
 }
 
 /// A link that gives a text in pieces, and whose calls of these numbers fail.
@@ -76,11 +116,16 @@ pub(crate) fn talks<R: Abort + Wait>(
     let mut link = link_of(alloc, text, 8_192, &[])?;
     let found = hall.serve(rt, place, &mut link);
     assert!(rt; found == end);
-    if link.sent() != sent {
-        let said = str::from_utf8(link.sent()).unwrap_or("no text");
+    is_sent(rt, link.sent(), sent);
+    Ok(())
+}
+
+/// What was sent is this.
+fn is_sent<R: Abort>(rt: &R, sent: &[u8], wanted: &[u8]) {
+    if sent != wanted {
+        let said = str::from_utf8(sent).unwrap_or("no text");
         assert!(rt; false, "sent {said}");
     }
-    Ok(())
 }
 
 /// The text of a request with this first line and body.
@@ -127,16 +172,8 @@ pub(crate) fn answers_each<R: Abort + Wait>(
     exchanges: &[Exchange],
 ) -> Result<(), OutOfMemory> {
     for it in exchanges {
-        answers(
-            rt,
-            alloc,
-            hall,
-            it.place % 2,
-            it.line,
-            it.body,
-            it.status,
-            it.told,
-        )?;
+        let place = it.place % 2;
+        answers(rt, alloc, hall, place, it.line, it.body, it.status, it.told)?;
     }
     Ok(())
 }

@@ -1,6 +1,6 @@
 //! What faults of links and disks leave.
-use crate::asking::{answers, disks, link_of, open, over};
-use crate::framing::two_requests;
+use crate::asking::{answers, link_of, open, open_failing};
+use crate::framing::{two_replies, two_requests};
 use crate::logs::{CREATE, FIRST, SOURCE};
 use crate::opened::Opened;
 use delta_base::Link;
@@ -22,16 +22,8 @@ fn refuse_once<R: Abort + Wait>(
     append_in_vain(rt, alloc, hall)?;
     assert!(rt; hall.own_faults(0) == 1);
     assert!(rt; hall.own_faults(1) == 0);
-    answers(
-        rt,
-        alloc,
-        hall,
-        1,
-        "POST /ABC",
-        FIRST,
-        "200 OK",
-        b"{\"version\":1}",
-    )?;
+    let told = b"{\"version\":1}";
+    answers(rt, alloc, hall, 1, "POST /ABC", FIRST, "200 OK", told)?;
     Ok(())
 }
 
@@ -52,7 +44,7 @@ fn append_in_vain<R: Abort + Wait>(
 fn each_call_of_a_disk_fails(rt: HostRuntime) -> Result<(), Fail> {
     let alloc = rt.alloc();
     for call in 3..7u64 {
-        let mut hall = over(alloc, disks(alloc, &[], &[call])?)?;
+        let mut hall = open_failing(alloc, &[call])?;
         let ran = refuse_once(&rt, alloc, &mut hall);
         drop(hall);
         ran?;
@@ -60,20 +52,57 @@ fn each_call_of_a_disk_fails(rt: HostRuntime) -> Result<(), Fail> {
     Ok(())
 }
 
+/// The file of the first log begins with a gate that a crash leaves shut, or open.
+fn may_be_open<R: Abort>(rt: &R, files: &[MemDisk]) -> Result<(), Fail> {
+    let Some(log) = files.get(1) else {
+        return Err(Fail::from("three disks"));
+    };
+    begins(rt, log, 0, b"RDJ1\0\0\0\x01\0")?;
+    begins(rt, log, 1, b"RDJ1\0\0\0\x01\x01")
+}
+
+/// What a crash of this kind leaves of a disk begins so.
+fn begins<R: Abort>(rt: &R, disk: &MemDisk, crash: u64, front: &[u8]) -> Result<(), Fail> {
+    let image = disk.image(crash)?;
+    assert!(rt; image.as_slice().starts_with(front));
+    Ok(())
+}
+
 // The patch stands behind a gate that a crash may leave shut or open.
 #[test]
 fn a_gate_that_failed_may_be_open(rt: HostRuntime) -> Result<(), Fail> {
     let alloc = rt.alloc();
-    let mut hall = over(alloc, disks(alloc, &[], &[6])?)?;
+    let mut hall = open_failing(alloc, &[6])?;
     let ran = append_in_vain(&rt, alloc, &mut hall);
     let files = hall.close();
-    ran?;
-    let Some(log) = files.get(1) else {
-        return Err(Fail::from("three disks"));
+    let shown = match ran {
+        Ok(()) => may_be_open(&rt, &files),
+        Err(fault) => Err(fault),
     };
-    assert!(rt; log.image(0)?.as_slice().starts_with(b"RDJ1\0\0\0\x01\0"));
-    assert!(rt; log.image(1)?.as_slice().starts_with(b"RDJ1\0\0\0\x01\x01"));
+    drop(files);
+    shown
+}
+
+/// The session ends where this call of its link fails, and a front of the replies was sent.
+fn breaks_off<R: Abort + Wait>(
+    rt: &R,
+    alloc: Global,
+    hall: &mut Opened<MemDisk>,
+    call: u64,
+    text: &[u8],
+    sent: &[u8],
+) -> Result<(), Fail> {
+    let mut link = link_of(alloc, text, 8_192, &[call])?;
+    let end = hall.serve(rt, 0, &mut link);
+    is_so(rt, end == SessionEnd::LinkFault, call);
+    is_so(rt, link.faults() == 1, call);
+    is_so(rt, sent.starts_with(link.sent()), call);
     Ok(())
+}
+
+/// Something holds where this call of a link fails.
+fn is_so<R: Abort>(rt: &R, holds: bool, call: u64) {
+    assert!(rt; holds, "call {call}");
 }
 
 /// The first read has both requests. Where this call of the link fails, a front of the replies was
@@ -86,12 +115,7 @@ fn fails_at<R: Abort + Wait>(
     text: &[u8],
     sent: &[u8],
 ) -> Result<(), Fail> {
-    let mut link = link_of(alloc, text, 8_192, &[call])?;
-    let end = hall.serve(rt, 0, &mut link);
-    assert!(rt; end == SessionEnd::LinkFault, "call {call}");
-    assert!(rt; link.faults() == 1, "call {call}");
-    assert!(rt; sent.starts_with(link.sent()), "call {call}");
-    drop(link);
+    breaks_off(rt, alloc, hall, call, text, sent)?;
     let told: &[u8] = match call {
         0 => return Ok(()),
         1 => b"{\"head\":null,\"version\":0}",
@@ -104,7 +128,8 @@ fn fails_at<R: Abort + Wait>(
 #[test]
 fn each_call_of_a_link_fails(rt: HostRuntime) -> Result<(), Fail> {
     let alloc = rt.alloc();
-    let (text, sent) = two_requests(alloc)?;
+    let text = two_requests(alloc)?;
+    let sent = two_replies(alloc)?;
     for call in 0..4u64 {
         let mut hall = open(alloc)?;
         let ran = fails_at(&rt, alloc, &mut hall, call, &text, &sent);
@@ -124,15 +149,9 @@ fn acknowledge_or_want<R: Abort + Wait>(
 ) -> Result<(), Fail> {
     let mut link = link_of(alloc, text, 8_192, &[])?;
     let end = hall.serve(rt, 0, &mut link);
-    let usual = end == SessionEnd::Closed && link.sent() == sent;
-    let wanting = b"HTTP/1.1 503 Service Unavailable\r\n".as_slice();
-    let says_so = link
-        .sent()
-        .windows(wanting.len())
-        .any(|part| part == wanting);
     // A link or disk in memory that finds none counts it as a failed call.
     let failed = link.faults() > 0 || hall.own_faults(0) > 0;
-    assert!(rt; usual || says_so || failed || end == SessionEnd::OutOfMemory);
+    ends_or_wants(rt, end, link.sent(), sent, failed);
     let acknowledged = link.sent().ends_with(b"{\"version\":1}");
     drop(link);
     if acknowledged {
@@ -141,10 +160,28 @@ fn acknowledge_or_want<R: Abort + Wait>(
     Ok(())
 }
 
+/// A session that sent this ended as usual, or in want of memory.
+fn ends_or_wants<R: Abort>(rt: &R, end: SessionEnd, sent: &[u8], usual: &[u8], failed: bool) {
+    if failed || says_so(sent) {
+        return;
+    }
+    match end {
+        SessionEnd::Closed => assert!(rt; sent == usual),
+        _ => assert!(rt; end == SessionEnd::OutOfMemory),
+    }
+}
+
+/// Whether one of the replies tells want of memory.
+fn says_so(sent: &[u8]) -> bool {
+    let wanting = b"HTTP/1.1 503 Service Unavailable\r\n".as_slice();
+    sent.windows(wanting.len()).any(|part| part == wanting)
+}
+
 #[test]
 fn want_of_memory_loses_nothing(rt: HostRuntime) -> Result<(), Fail> {
     let alloc = rt.alloc();
-    let (text, sent) = two_requests(alloc)?;
+    let text = two_requests(alloc)?;
+    let sent = two_replies(alloc)?;
     let mut hall = open(alloc)?;
     let ran = acknowledge_or_want(&rt, alloc, &mut hall, &text, &sent);
     drop(hall);

@@ -4,7 +4,7 @@ ghost use Rattle.std.specs.Prelude.{◌<◌};
 use crate::asking::{Exchange, answers, answers_each, link_of, open, reply, request, talks};
 use crate::logs::{CREATE, FIRST, SOURCE};
 use crate::opened::Opened;
-use delta_base::OutOfMemory;
+use delta_base::{MemLink, OutOfMemory};
 use disk_model::MemDisk;
 use http_text::SessionEnd;
 use std::alloc::Global;
@@ -73,13 +73,26 @@ fn requests_are_refused(rt: HostRuntime) -> Result<(), Fail> {
     Ok(ran?)
 }
 
-/// The texts of two requests, of which the first makes a source, and of their replies.
-pub(crate) fn two_requests(alloc: Global) -> Result<(Vec<u8>, Vec<u8>), OutOfMemory> {
+/// The text of two requests, of which the first makes a source.
+pub(crate) fn two_requests(alloc: Global) -> Result<Vec<u8>, OutOfMemory> {
     let mut text = request(alloc, "POST /$/rpc", CREATE)?;
     text.extend_from_slice(&request(alloc, "POST /ABC", FIRST)?)?;
+    Ok(text)
+}
+
+/// The text of their replies.
+pub(crate) fn two_replies(alloc: Global) -> Result<Vec<u8>, OutOfMemory> {
     let mut sent = reply(alloc, "200 OK", SOURCE)?;
     sent.extend_from_slice(&reply(alloc, "200 OK", b"{\"version\":1}")?)?;
-    Ok((text, sent))
+    Ok(sent)
+}
+
+/// The text of the first one, with which that begins.
+fn first_reply<R: Abort>(rt: &R, alloc: Global) -> Result<Vec<u8>, OutOfMemory> {
+    let one = reply(alloc, "200 OK", SOURCE)?;
+    let sent = two_replies(alloc)?;
+    assert!(rt; sent.starts_with(&one));
+    Ok(one)
 }
 
 /// A new hall that reads this in pieces of that size ends so, having written this.
@@ -93,24 +106,57 @@ fn ends<R: Abort + Wait>(
 ) -> Result<(), Fail>
     requires { 0 < piece }
 {
-    let mut hall = open(alloc)?;
     let mut link = link_of(alloc, text, piece, &[])?;
-    let found = hall.serve(rt, 0, &mut link);
-    assert!(rt; found == end, "{} bytes in pieces of {piece}", text.len());
-    assert!(rt;
-        link.sent() == sent,
-        "{} bytes in pieces of {piece}",
-        text.len()
-    );
+    let found = serve_anew(rt, alloc, &mut link)?;
+    is_so(rt, found == end, text.len(), piece);
+    is_so(rt, link.sent() == sent, text.len(), piece);
     Ok(())
+}
+
+/// A new hall serves this link.
+fn serve_anew<R: Wait>(rt: &R, alloc: Global, link: &mut MemLink) -> Result<SessionEnd, Fail> {
+    let mut hall = open(alloc)?;
+    let end = hall.serve(rt, 0, link);
+    drop(hall);
+    Ok(end)
+}
+
+/// Something holds of so many bytes that come in pieces of that size.
+fn is_so<R: Abort>(rt: &R, holds: bool, size: usize, piece: usize) {
+    assert!(rt; holds, "{size} bytes in pieces of {piece}");
 }
 
 #[test]
 fn pieces_of_any_size_are_answered_alike(rt: HostRuntime) -> Result<(), Fail> {
     let alloc = rt.alloc();
-    let (text, sent) = two_requests(alloc)?;
+    let text = two_requests(alloc)?;
+    let sent = two_replies(alloc)?;
     for size in 0..text.len() {
         ends(&rt, alloc, &text, size + 1, SessionEnd::Closed, &sent)?;
+    }
+    Ok(())
+}
+
+/// How a session ends whose requests are cut here, where the first one has so many bytes.
+fn end_at(cut: usize, first: usize) -> SessionEnd {
+    if cut == 0 || cut == first {
+        SessionEnd::Closed
+    } else {
+        SessionEnd::CutShort
+    }
+}
+
+/// Two requests are cut at each place, where the first one has so many bytes and this reply.
+fn are_cut<R: Abort + Wait>(
+    rt: &R,
+    alloc: Global,
+    text: &[u8],
+    first: usize,
+    one: &[u8],
+) -> Result<(), Fail> {
+    for cut in 0..text.len() {
+        let front: &[u8] = if cut < first { b"" } else { one };
+        ends(rt, alloc, &text[..cut], 8_192, end_at(cut, first), front)?;
     }
     Ok(())
 }
@@ -118,20 +164,28 @@ fn pieces_of_any_size_are_answered_alike(rt: HostRuntime) -> Result<(), Fail> {
 #[test]
 fn what_is_cut_short_is_answered_as_far_as_it_came(rt: HostRuntime) -> Result<(), Fail> {
     let alloc = rt.alloc();
-    let (text, sent) = two_requests(alloc)?;
-    let first = request(alloc, "POST /$/rpc", CREATE)?;
-    let one = reply(alloc, "200 OK", SOURCE)?;
-    for cut in 0..text.len() {
-        let end = if cut == 0 || cut == first.len() {
-            SessionEnd::Closed
-        } else {
-            SessionEnd::CutShort
-        };
-        let front: &[u8] = if cut < first.len() { b"" } else { &one };
-        assert!(rt; sent.starts_with(front));
-        ends(&rt, alloc, &text[..cut], 8_192, end, front)?;
-    }
-    Ok(())
+    let first = request(alloc, "POST /$/rpc", CREATE)?.len();
+    let text = two_requests(alloc)?;
+    let one = first_reply(&rt, alloc)?;
+    are_cut(&rt, alloc, &text, first, &one)
+}
+
+/// A request that waits to be told to go on.
+fn request_asking_first(alloc: Global) -> Result<Vec<u8>, OutOfMemory> {
+    let mut text = format!(in alloc;
+        "POST /ABC HTTP/1.1\r\nHost: localhost:8080\r\nUser-Agent: curl/8.5.0\r\nAccept: */*\r\nContent-Type: application/rdf-patch\r\nContent-Length: {}\r\nExpect: 100-continue\r\n\r\n",
+        FIRST.len()
+    )?
+    .into_bytes();
+    text.extend_from_slice(FIRST)?;
+    Ok(text)
+}
+
+/// What is sent to that request.
+fn told_to_go_on(alloc: Global) -> Result<Vec<u8>, OutOfMemory> {
+    let mut sent = Vec::from_slice(alloc, b"HTTP/1.1 100 Continue\r\n\r\n")?;
+    sent.extend_from_slice(&reply(alloc, "200 OK", b"{\"version\":1}")?)?;
+    Ok(sent)
 }
 
 fn tell_to_go_on<R: Abort + Wait>(
@@ -140,14 +194,8 @@ fn tell_to_go_on<R: Abort + Wait>(
     hall: &mut Opened<MemDisk>,
 ) -> Result<(), Fail> {
     answers(rt, alloc, hall, 0, "POST /$/rpc", CREATE, "200 OK", SOURCE)?;
-    let mut text = format!(in alloc;
-        "POST /ABC HTTP/1.1\r\nHost: localhost:8080\r\nUser-Agent: curl/8.5.0\r\nAccept: */*\r\nContent-Type: application/rdf-patch\r\nContent-Length: {}\r\nExpect: 100-continue\r\n\r\n",
-        FIRST.len()
-    )?
-    .into_bytes();
-    text.extend_from_slice(FIRST)?;
-    let mut sent = Vec::from_slice(alloc, b"HTTP/1.1 100 Continue\r\n\r\n")?;
-    sent.extend_from_slice(&reply(alloc, "200 OK", b"{\"version\":1}")?)?;
+    let text = request_asking_first(alloc)?;
+    let sent = told_to_go_on(alloc)?;
     talks(rt, alloc, hall, 0, &text, SessionEnd::Closed, &sent)?;
     Ok(())
 }
@@ -161,23 +209,35 @@ fn a_client_that_asks_first_is_told_to_go_on(rt: HostRuntime) -> Result<(), Fail
     ran
 }
 
+/// Adds a chunk of a body.
+fn add_chunk(alloc: Global, text: &mut Vec<u8>, chunk: &[u8]) -> Result<(), OutOfMemory> {
+    let line = format!(in alloc; "{:x}\r\n", chunk.len())?;
+    text.extend_from_slice(line.as_bytes())?;
+    text.extend_from_slice(chunk)?;
+    text.extend_from_slice(b"\r\n")?;
+    Ok(())
+}
+
+/// A request whose body comes in chunks.
+fn request_in_chunks(alloc: Global) -> Result<Vec<u8>, OutOfMemory> {
+    let mut text = Vec::from_slice(
+        alloc,
+        b"POST /ABC HTTP/1.1\r\nHost: a\r\nTransfer-Encoding: chunked\r\n\r\n",
+    )?;
+    for chunk in FIRST.chunks(40) {
+        add_chunk(alloc, &mut text, chunk)?;
+    }
+    text.extend_from_slice(b"0\r\n\r\n")?;
+    Ok(text)
+}
+
 fn send_in_chunks<R: Abort + Wait>(
     rt: &R,
     alloc: Global,
     hall: &mut Opened<MemDisk>,
 ) -> Result<(), Fail> {
     answers(rt, alloc, hall, 0, "POST /$/rpc", CREATE, "200 OK", SOURCE)?;
-    let mut text = Vec::from_slice(
-        alloc,
-        b"POST /ABC HTTP/1.1\r\nHost: a\r\nTransfer-Encoding: chunked\r\n\r\n",
-    )?;
-    for chunk in FIRST.chunks(40) {
-        let line = format!(in alloc; "{:x}\r\n", chunk.len())?;
-        text.extend_from_slice(line.as_bytes())?;
-        text.extend_from_slice(chunk)?;
-        text.extend_from_slice(b"\r\n")?;
-    }
-    text.extend_from_slice(b"0\r\n\r\n")?;
+    let text = request_in_chunks(alloc)?;
     let sent = reply(alloc, "200 OK", b"{\"version\":1}")?;
     talks(rt, alloc, hall, 0, &text, SessionEnd::Closed, &sent)?;
     Ok(())
@@ -208,19 +268,19 @@ fn send_the_most<R: Abort + Wait>(
     alloc: Global,
     hall: &mut Opened<MemDisk>,
 ) -> Result<(), Fail> {
-    answers(rt, alloc, hall, 0, "POST /$/rpc", CREATE, "200 OK", SOURCE)?;
     let patch = patch_of(alloc, 4_194_304)?;
-    answers(
-        rt,
-        alloc,
-        hall,
-        0,
-        "POST /ABC",
-        &patch,
-        "200 OK",
-        b"{\"version\":1}",
-    )?;
+    let told = b"{\"version\":1}";
+    answers(rt, alloc, hall, 0, "POST /$/rpc", CREATE, "200 OK", SOURCE)?;
+    answers(rt, alloc, hall, 0, "POST /ABC", &patch, "200 OK", told)?;
     answers(rt, alloc, hall, 0, "GET /ABC/1", b"", "200 OK", &patch)?;
+    Ok(())
+}
+
+fn send_too_much<R: Abort + Wait>(
+    rt: &R,
+    alloc: Global,
+    hall: &mut Opened<MemDisk>,
+) -> Result<(), Fail> {
     let text = request(alloc, "POST /ABC", &patch_of(alloc, 4_194_305)?)?;
     talks(
         rt,
@@ -234,30 +294,42 @@ fn send_the_most<R: Abort + Wait>(
     Ok(())
 }
 
+fn send_the_most_and_more<R: Abort + Wait>(
+    rt: &R,
+    alloc: Global,
+    hall: &mut Opened<MemDisk>,
+) -> Result<(), Fail> {
+    send_the_most(rt, alloc, hall)?;
+    send_too_much(rt, alloc, hall)
+}
+
 #[test]
 fn a_body_has_at_most_so_many_bytes(rt: HostRuntime) -> Result<(), Fail> {
     let alloc = rt.alloc();
     let mut hall = open(alloc)?;
-    let ran = send_the_most(&rt, alloc, &mut hall);
+    let ran = send_the_most_and_more(&rt, alloc, &mut hall);
     drop(hall);
     ran
 }
 
+/// A text so many times.
+fn repeated(alloc: Global, text: &[u8], times: u32) -> Result<Vec<u8>, OutOfMemory> {
+    let mut all = Vec::new(alloc);
+    for _ in 0..times {
+        all.extend_from_slice(text)?;
+    }
+    Ok(all)
+}
+
+// There is one request more than are answered.
 fn ask_ten_thousand_times<R: Abort + Wait>(
     rt: &R,
     alloc: Global,
     hall: &mut Opened<MemDisk>,
 ) -> Result<(), Fail> {
-    let ping = request(alloc, "GET /$/ping", b"")?;
+    let text = repeated(alloc, &request(alloc, "GET /$/ping", b"")?, 10_001)?;
     let pong = reply(alloc, "200 OK", b"{\"ping\":\"ok\"}")?;
-    let mut text = Vec::new(alloc);
-    let mut sent = Vec::new(alloc);
-    for _ in 0..9_999 {
-        text.extend_from_slice(&ping)?;
-        sent.extend_from_slice(&pong)?;
-    }
-    text.extend_from_slice(&ping)?;
-    text.extend_from_slice(&ping)?;
+    let mut sent = repeated(alloc, &pong, 9_999)?;
     sent.extend_from_slice(
         b"HTTP/1.1 200 OK\r\nConnection: close\r\nContent-Type: application/json\r\nContent-Length: 13\r\n\r\n{\"ping\":\"ok\"}",
     )?;

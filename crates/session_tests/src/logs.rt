@@ -1,5 +1,7 @@
 //! What logs say.
-use crate::asking::{Exchange, answers, answers_each, disk, open, over};
+ghost use Rattle.std.specs.Prelude.{◌<◌, vec_len};
+
+use crate::asking::{Exchange, answers, answers_each, open, open_one, over};
 use crate::opened::Opened;
 use delta_base::OutOfMemory;
 use disk_model::MemDisk;
@@ -102,26 +104,29 @@ fn append_and_fetch<R: Abort + Wait>(
     Ok(())
 }
 
+/// A hall that is opened anew over these files gives the second patch.
+fn fetch_again<R: Abort + Wait>(rt: &R, alloc: Global, files: Vec<MemDisk>) -> Result<(), Fail>
+    requires { 0 < vec_len files }
+{
+    let mut hall = over(alloc, files)?;
+    let ran = answers(rt, alloc, &mut hall, 0, "GET /ABC/2", b"", "200 OK", SECOND);
+    drop(hall);
+    Ok(ran?)
+}
+
 #[test]
 fn patches_are_appended_and_fetched(rt: HostRuntime) -> Result<(), Fail> {
     let alloc = rt.alloc();
     let mut hall = open(alloc)?;
     let ran = append_and_fetch(&rt, alloc, &mut hall);
     let files = hall.close();
-    ran?;
-    let mut hall = over(alloc, files)?;
-    let ran = answers(
-        &rt,
-        alloc,
-        &mut hall,
-        0,
-        "GET /ABC/2",
-        b"",
-        "200 OK",
-        SECOND,
-    );
-    drop(hall);
-    Ok(ran?)
+    match ran {
+        Ok(()) => fetch_again(&rt, alloc, files),
+        Err(fault) => {
+            drop(files);
+            Err(fault)
+        }
+    }
 }
 
 const REFUSED: &[Exchange] = &[
@@ -201,20 +206,24 @@ fn patches_are_refused(rt: HostRuntime) -> Result<(), Fail> {
 
 /// The file of the first log with as many patches as a log may have.
 fn full_log(alloc: Global) -> Result<Vec<u8>, OutOfMemory> {
-    let mut file = Vec::from_slice(alloc, b"RDJ1\0\0\0\x01")?;
-    let first = b"H id <uuid:00000000-0000-4000-8000-000000000001> .\n";
-    file.extend_from_slice(b"\x01\0\0\0\x33")?;
-    file.extend_from_slice(first)?;
-    for number in 2..=65_536u32 {
-        let prev = number - 1;
-        let row = format!(in alloc;
-            "H id <uuid:00000000-0000-4000-8000-{number:012x}> .\nH prev <uuid:00000000-0000-4000-8000-{prev:012x}> .\n"
-        )?;
-        file.extend_from_slice(b"\x01\0\0\0\x68")?;
-        file.extend_from_slice(row.as_bytes())?;
+    let front = b"RDJ1\0\0\0\x01\x01\0\0\0\x33H id <uuid:00000000-0000-4000-8000-000000000001> .\n";
+    let mut file = Vec::from_slice(alloc, front)?;
+    for prev in 1..65_536u32 {
+        add_patch(alloc, &mut file, prev)?;
     }
-    file.extend_from_slice(b"\0")?;
+    file.push(0)?;
     Ok(file)
+}
+
+/// Adds the patch behind that of this number.
+fn add_patch(alloc: Global, file: &mut Vec<u8>, prev: u32) -> Result<(), OutOfMemory> {
+    let number = prev.saturating_add(1);
+    let row = format!(in alloc;
+        "H id <uuid:00000000-0000-4000-8000-{number:012x}> .\nH prev <uuid:00000000-0000-4000-8000-{prev:012x}> .\n"
+    )?;
+    file.extend_from_slice(b"\x01\0\0\0\x68")?;
+    file.extend_from_slice(row.as_bytes())?;
+    Ok(())
 }
 
 const LAST: &[u8] =
@@ -242,10 +251,8 @@ fn append_to_a_full_log<R: Abort + Wait>(
 #[test]
 fn a_log_is_full(rt: HostRuntime) -> Result<(), Fail> {
     let alloc = rt.alloc();
-    let mut files = Vec::new(alloc);
-    files.push(disk(alloc, b"RDJ1\0\0\0\0\x01\0\0\0\x03S 1\0", &[])?)?;
-    files.push(disk(alloc, &full_log(alloc)?, &[])?)?;
-    let mut hall = over(alloc, files)?;
+    let file = full_log(alloc)?;
+    let mut hall = open_one(alloc, &file)?;
     let ran = append_to_a_full_log(&rt, alloc, &mut hall);
     drop(hall);
     ran

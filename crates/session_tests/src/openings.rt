@@ -1,5 +1,7 @@
 //! What is wrong with files.
-use crate::asking::{disk, disks};
+ghost use Rattle.std.specs.Prelude.{◌<◌, IfOk, vec_len};
+
+use crate::asking::add_disk;
 use crate::opened::Opened;
 use delta_base::OutOfMemory;
 use delta_session::{HallFault, HallRefusal};
@@ -16,34 +18,79 @@ fn refuses<R: Abort>(
     failing: &[u64],
     fault: HallFault,
 ) -> Result<(), Fail> {
-    let mut disks = Vec::new(alloc);
+    match Opened::new(alloc, disks_of(alloc, files, failing)?) {
+        Ok(hall) => {
+            drop(hall);
+            Err(Fail::from("opened"))
+        }
+        Err(refusal) => {
+            let ran = is_refusal(rt, &refusal, files, fault);
+            drop(refusal);
+            ran
+        }
+    }
+}
+
+/// These files were refused so, and are as they were.
+fn is_refusal<R: Abort>(
+    rt: &R,
+    refusal: &HallRefusal<MemDisk>,
+    files: &[&[u8]],
+    fault: HallFault,
+) -> Result<(), Fail> {
+    is_fault(rt, refusal.fault, fault);
+    are_back(rt, &refusal.disks, files)
+}
+
+fn is_fault<R: Abort>(rt: &R, found: HallFault, fault: HallFault) {
+    assert!(rt; found == fault);
+}
+
+fn are_back<R: Abort>(rt: &R, disks: &[MemDisk], files: &[&[u8]]) -> Result<(), Fail> {
+    assert!(rt; disks.len() == files.len());
+    for (disk, bytes) in disks.iter().zip(files) {
+        reads(rt, disk, bytes)?;
+    }
+    Ok(())
+}
+
+/// A disk has these bytes.
+fn reads<R: Abort>(rt: &R, disk: &MemDisk, bytes: &[u8]) -> Result<(), Fail> {
+    let image = disk.image(1)?;
+    assert!(rt; image.as_slice() == bytes);
+    Ok(())
+}
+
+/// Adds disks with these bytes, of which the calls of these numbers fail on the last one.
+fn add_disks(
+    alloc: Global,
+    disks: &mut Vec<MemDisk>,
+    files: &[&[u8]],
+    failing: &[u64],
+) -> Result<(), OutOfMemory> {
     for (place, bytes) in files.iter().enumerate() {
         let calls = if place + 1 == files.len() {
             failing
         } else {
             &[]
         };
-        disks.push(disk(alloc, bytes, calls)?)?;
-    }
-    if disks.is_empty() {
-        return Err(Fail::from("no file"));
-    }
-    match Opened::new(alloc, disks) {
-        Ok(_) => return Err(Fail::from("opened")),
-        Err(
-            HallRefusal {
-                disks,
-                fault: found,
-            },
-        ) => {
-            assert!(rt; found == fault);
-            assert!(rt; disks.len() == files.len());
-            for (disk, bytes) in disks.iter().zip(files) {
-                assert!(rt; disk.image(1)?.as_slice() == *bytes);
-            }
-        }
+        add_disk(alloc, disks, bytes, calls)?;
     }
     Ok(())
+}
+
+/// Those disks, of which there is one.
+fn disks_of(alloc: Global, files: &[&[u8]], failing: &[u64]) -> Result<Vec<MemDisk>, Fail>
+    ensures { IfOk result (λ disks. 0 < vec_len disks) }
+{
+    let mut disks = Vec::new(alloc);
+    let added = add_disks(alloc, &mut disks, files, failing);
+    if added.is_ok() && !disks.is_empty() {
+        return Ok(disks);
+    }
+    drop(disks);
+    added?;
+    Err(Fail::from("no file"))
 }
 
 const REGISTRY: &[u8] = b"RDJ1\0\0\0\0\x01\0\0\0\x03S 2\0";

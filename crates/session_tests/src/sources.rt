@@ -1,5 +1,5 @@
 //! What the registry says.
-use crate::asking::{Exchange, answers_each, disk, open, over};
+use crate::asking::{Exchange, answers_each, open, open_one};
 use crate::logs::{CREATE, SOURCE};
 use std::test::Fail;
 
@@ -65,10 +65,7 @@ const ALL_SLOTS: &[Exchange] = &[
 #[test]
 fn a_name_is_taken_and_slots_are_full(rt: HostRuntime) -> Result<(), Fail> {
     let alloc = rt.alloc();
-    let mut files = Vec::new(alloc);
-    files.push(disk(alloc, b"RDJ1\0\0\0\0\x01\0\0\0\x03S 1\0", &[])?)?;
-    files.push(disk(alloc, b"RDJ1\0\0\0\x01\0", &[])?)?;
-    let mut hall = over(alloc, files)?;
+    let mut hall = open_one(alloc, b"RDJ1\0\0\0\x01\0")?;
     let ran = answers_each(&rt, alloc, &mut hall, ALL_SLOTS);
     drop(hall);
     Ok(ran?)
