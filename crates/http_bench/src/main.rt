@@ -6,6 +6,7 @@
 
 use http_text::{FrameFault, RequestReader};
 use std::alloc::Global;
+use std::env::Args;
 use std::io::Read;
 use std::process::ExitCode;
 use std::{env, io};
@@ -46,23 +47,32 @@ fn count_requests(alloc: Global, text: &[u8], size: u32) -> Result<Tally, FrameF
     Ok(tally)
 }
 
-fn main(rt: HostRuntime) -> io::Result<ExitCode> {
-    let alloc = rt.alloc();
-    let mut words = Vec::new(alloc);
-    for word in env::args(&rt)?.skip(1) {
-        words.push(word)?;
+/// The word behind the program's name, if it is the only one.
+fn only_word(args: Args) -> Option<String> {
+    let mut words = args.skip(1);
+    let word = words.next()?;
+    if words.next().is_some() {
+        None
+    } else {
+        Some(word)
     }
-    let [size] = words.as_slice() else {
+}
+
+fn main(rt: HostRuntime) -> io::Result<ExitCode> {
+    let Some(word) = only_word(env::args(&rt)?) else {
         eprintln!(rt; "usage: http_bench SIZE")?;
         return Ok(ExitCode::from(2));
     };
-    let Ok(size) = size.parse::<u32>() else {
-        eprintln!(rt; "http_bench: not a number: {size}")?;
+    let Ok(size) = word.parse::<u32>() else {
+        eprintln!(rt; "http_bench: not a number: {word}")?;
         return Ok(ExitCode::from(2));
     };
-    let mut text = Vec::new(alloc);
+    drop(word);
+    let mut text = Vec::new(rt.alloc());
     rt.stdin().read_to_end(&mut text)?;
-    match count_requests(alloc, &text, size) {
+    let counted = count_requests(rt.alloc(), &text, size);
+    drop(text);
+    match counted {
         Ok(tally) => {
             println!(rt; "requests {} bytes {}", tally.requests, tally.bytes)?;
             Ok(ExitCode::SUCCESS)

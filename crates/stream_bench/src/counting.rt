@@ -15,7 +15,10 @@ fn take_one(reader: &mut PatchReader) -> bool
     ensures rows { HasAllRows reader.new }
 {
     match reader.take_row() {
-        Some(_row) => true,
+        Some(row) => {
+            drop(row);
+            true
+        }
         None => false,
     }
 }

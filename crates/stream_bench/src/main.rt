@@ -7,27 +7,37 @@
 mod counting;
 
 use counting::count_rows;
+use std::env::Args;
 use std::io::Read;
 use std::process::ExitCode;
 use std::{env, io};
 
-fn main(rt: HostRuntime) -> io::Result<ExitCode> {
-    let alloc = rt.alloc();
-    let mut words = Vec::new(alloc);
-    for word in env::args(&rt)?.skip(1) {
-        words.push(word)?;
+/// The word behind the program's name, if it is the only one.
+fn only_word(args: Args) -> Option<String> {
+    let mut words = args.skip(1);
+    let word = words.next()?;
+    if words.next().is_some() {
+        None
+    } else {
+        Some(word)
     }
-    let [size] = words.as_slice() else {
+}
+
+fn main(rt: HostRuntime) -> io::Result<ExitCode> {
+    let Some(word) = only_word(env::args(&rt)?) else {
         eprintln!(rt; "usage: stream_bench SIZE")?;
         return Ok(ExitCode::from(2));
     };
-    let Ok(size) = size.parse::<u32>() else {
-        eprintln!(rt; "stream_bench: not a number: {size}")?;
+    let Ok(size) = word.parse::<u32>() else {
+        eprintln!(rt; "stream_bench: not a number: {word}")?;
         return Ok(ExitCode::from(2));
     };
-    let mut text = Vec::new(alloc);
+    drop(word);
+    let mut text = Vec::new(rt.alloc());
     rt.stdin().read_to_end(&mut text)?;
-    match count_rows(alloc, &text, size) {
+    let counted = count_rows(rt.alloc(), &text, size);
+    drop(text);
+    match counted {
         Ok(rows) => {
             println!(rt; "rows {rows}")?;
             Ok(ExitCode::SUCCESS)
