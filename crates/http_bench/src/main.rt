@@ -4,6 +4,8 @@
 //! `http_bench SIZE` prints how many requests it took, and how many bytes their bodies have.
 #![tactic(auto)]
 
+ghost use Rattle.std.specs.Prelude.{◌<◌};
+
 use http_text::{FrameFault, RequestReader};
 use std::alloc::Global;
 use std::env::Args;
@@ -21,30 +23,40 @@ struct Tally {
 /// Takes a request that is ready, and counts it.
 fn take_one(reader: &mut RequestReader, tally: Tally) -> Option<Tally> {
     let request = reader.take()?;
+    let length = request.body.len();
+    drop(request);
     Some(Tally {
         requests: tally.requests.saturating_add(1),
-        bytes: tally.bytes.saturating_add(request.body.len()),
+        bytes: tally.bytes.saturating_add(length),
     })
 }
 
-/// Feeds a text in pieces of `size` bytes, or of one byte where that is 0, and takes at most as
-/// many requests as it has bytes.
-fn count_requests(alloc: Global, text: &[u8], size: u32) -> Result<Tally, FrameFault> {
-    let mut reader = RequestReader::new(alloc);
+/// Feeds a text in pieces, and takes at most as many requests as it has bytes.
+fn feed_all(reader: &mut RequestReader, text: &[u8], size: usize) -> Result<Tally, FrameFault>
+    requires { 0 < size }
+{
     let mut tally = Tally {
         requests: 0,
         bytes: 0,
     };
-    for piece in text.chunks(size.max(1) as usize) {
+    for piece in text.chunks(size) {
         reader.feed(piece)?;
         for _ in 0..piece.len() {
-            match take_one(&mut reader, tally) {
+            match take_one(reader, tally) {
                 Some(next) => tally = next,
                 None => break,
             }
         }
     }
     Ok(tally)
+}
+
+/// What a text has that is fed in pieces of `size` bytes, or of one byte where that is 0.
+fn count_requests(alloc: Global, text: &[u8], size: u32) -> Result<Tally, FrameFault> {
+    let mut reader = RequestReader::new(alloc);
+    let counted = feed_all(&mut reader, text, size.max(1) as usize);
+    drop(reader);
+    counted
 }
 
 /// The word behind the program's name, if it is the only one.
