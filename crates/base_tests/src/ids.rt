@@ -1,5 +1,5 @@
 //! Ids of RFC 9562.
-use delta_base::{Id, id_text, read_id};
+use delta_base::{Id, id_text, random_id, read_id};
 
 const OTHER_FORMS: [&str; 4] = [
     "f81d4fae7dec11d0a76500a0c91e6bf6",
@@ -28,4 +28,11 @@ fn a_text_of_another_length_is_no_id(rt: HostRuntime) {
     ] {
         assert!(rt; read_id(text.as_bytes()) == None, "{text}");
     }
+}
+
+// RFC 9562, appendix A.3.
+#[test]
+fn a_random_number_makes_an_id_of_version_4(rt: HostRuntime) {
+    let id = random_id(0x9191_08f7_52d1_f320_5bac_f847_db41_48a8);
+    assert!(rt; id_text(id).as_slice() == b"919108f7-52d1-4320-9bac-f847db4148a8".as_slice());
 }

@@ -20,7 +20,7 @@ mod text;
 
 pub use count::CallCount;
 pub use fault::{Failed, OutOfMemory};
-pub use id::{Id, exact_id, id_string, id_text, read_id};
+pub use id::{Id, exact_id, id_string, id_text, random_id, read_id};
 pub use limits::{
     EMPTY_JOURNAL, FullKind, LOG_BYTES, LOG_LIMITS, LOG_PATCHES, LogLimits, MOST_SLOTS,
     PATCH_LIMIT, PAYLOAD_FRAME, REGISTRY_LIMIT,

@@ -3,7 +3,7 @@ use Rattle.std.specs.Prelude.{◌≡◌, ℕ, ◌≤◌, Bool, true, false, List
 use Rattle.std.specs.Prelude.{[], ◌∷◌, Option, None, Some, codes}
 use Rattle.std.specs.Fmt.{decimal}
 use Rattle.command_words.specs.Positions.{ArePlain, FitPositions, IsPlainWord}
-use Rattle.delta_base.specs.Ids.{number_of}
+use Rattle.delta_base.specs.Ids.{number_of, random_id}
 use Rattle.delta_base.specs.declared.id.Id.{Id}
 use Rattle.rpc_calls.specs.Routes.{version_of}
 use Rattle.rpc_calls.specs.declared.call.Call.{Call}
@@ -12,7 +12,6 @@ use Rattle.zone_commands.specs.Words.{IsPatternOf}
 use Rattle.zone_commands.specs.declared.reading.Reading.{Reading}
 use Rattle.zone_commands.specs.declared.reading.Reading.TheVariants as readings
 use Rattle.delta_cli.specs.Addresses.{IsAddress}
-use Rattle.delta_cli.specs.Dice.{id_of}
 use Rattle.delta_cli.specs.declared.command.Command.{Command}
 use Rattle.delta_cli.specs.declared.command.Command.TheVariants as commands
 use Rattle.delta_cli.specs.declared.name.Name.{Name}
@@ -35,7 +34,7 @@ abbrev pub AsksFor : List (List ℕ) → ℕ → List ℕ → Call → Type 0
 AsksFor words dice address calls.Ping = AreWords words (codes "ping") (address ∷ [])
 AsksFor words dice address calls.List = AreWords words (codes "list") (address ∷ [])
 AsksFor words dice address (calls.Create name uri id) =
-    AreWords words (codes "create") (address ∷ name ∷ uri ∷ []) × (id ≡ Some (id_of dice))
+    AreWords words (codes "create") (address ∷ name ∷ uri ∷ []) × (id ≡ Some (random_id dice))
 AsksFor words dice address (calls.Rename name new_name) =
     AreWords words (codes "rename") (address ∷ name ∷ new_name ∷ [])
 AsksFor words dice address (calls.Remove name) =

@@ -2,7 +2,6 @@ pub mod Addresses
 pub mod Channels
 pub mod Asked
 pub mod Commands
-pub mod Dice
 pub mod Document
 pub mod Lines
 pub mod Refusals

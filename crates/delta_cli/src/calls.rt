@@ -8,10 +8,9 @@ ghost use Rattle.delta_cli.specs.declared.name.Name.TheVariants as names;
 
 use crate::address::is_address;
 use crate::command::Command;
-use crate::dice::id_of;
 use crate::name::Name;
 use crate::refusal::Refusal;
-use delta_base::{OutOfMemory, Text, read_id};
+use delta_base::{OutOfMemory, Text, random_id, read_id};
 use http_text::{are_digits, digits_value};
 use rpc_calls::Call;
 use std::alloc::Global;
@@ -71,7 +70,7 @@ fn make_call(alloc: Global, name: Name, words: &[String], dice: u128) -> Result<
         Name::Create => Ok(Call::Create {
             name: text_at(alloc, words, 2)?,
             uri: text_at(alloc, words, 3)?,
-            id: Some(id_of(dice)),
+            id: Some(random_id(dice)),
         }),
         Name::Rename => Ok(Call::Rename {
             name: text_at(alloc, words, 2)?,

@@ -7,7 +7,6 @@ mod ask;
 mod calls;
 mod check;
 mod command;
-mod dice;
 mod generate;
 mod help;
 mod init;

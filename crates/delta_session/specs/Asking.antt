@@ -1,10 +1,6 @@
 -- What each call asks of a hall.
 use Rattle.std.specs.Prelude.{ℕ, ◌+◌, ◌%◌, ◌^◌, List, None, nat_lt, unwrap_or, if◌then◌else◌}
-use Rattle.std.specs.Int.{w128, from_be_bytes, to_be_bytes}
-use Rattle.uuid.specs.Parts.{with_variant, with_version}
-use Rattle.uuid.specs.declared.Variant.TheVariants.{RFC4122}
-use Rattle.uuid.specs.declared.Version.TheVariants.{Random}
-use Rattle.delta_base.specs.declared.id.Id.{Id}
+use Rattle.delta_base.specs.Ids.{random_id}
 use Rattle.chain_core.specs.Replies as log
 use Rattle.registry_core.specs.Replies as registry
 use Rattle.rpc_answers.specs.declared.answer.Answer.{Answer}
@@ -24,14 +20,6 @@ pub data Asking : Type 0 where
 abbrev pub version_within : ℕ → ℕ
 version_within version = if nat_lt version (2 ^ 32) then version else 0
 
--- The id that is made of a number: its bytes with the bits of version 4 and of the variant.
--- RFC 9562, section 5.4.
-abbrev pub id_of : ℕ → Id
-id_of dice = record {
-  0 = from_be_bytes w128
-      (with_version (with_variant (to_be_bytes w128 dice) RFC4122) Random);
-}
-
 -- the number behind it; behind the last one of 128 bits comes 0
 abbrev pub next_dice : ℕ → ℕ
 next_dice dice = (dice + 1) % 2 ^ 128
@@ -44,7 +32,7 @@ asking_of dice (call.Source name) = asks_registry (registry.resolve name)
 asking_of dice (call.SourceById id) = asks_registry (registry.resolve_id id)
 asking_of dice (call.SourceByUri uri) = asks_registry (registry.resolve_uri uri)
 asking_of dice (call.Create name uri id) =
-    asks_registry (registry.create name uri (unwrap_or id (id_of dice)))
+    asks_registry (registry.create name uri (unwrap_or id (random_id dice)))
 asking_of dice (call.Rename name new_name) = asks_registry (registry.rename name new_name)
 asking_of dice (call.Remove name) = asks_registry (registry.remove name)
 asking_of dice (call.Log name) = asks_log name log.describe

@@ -6,7 +6,7 @@ use Rattle.std.proofs.lemmas.List.{drop_all, drop_more}
 use Rattle.std.proofs.lemmas.List.Folds.{drop_split}
 use Rattle.nquads_text.specs.declared.fault.TextKind.TheVariants.{NotUtf8}
 use Rattle.nquads_text.specs.Grammar.{is_line_end}
-use Rattle.nquads_documents.specs.Faults.{IsIllFormed}
+use Rattle.nquads_text.specs.Faults.{IsIllFormed}
 use Rattle.nquads_documents.specs.Reading.{comment_at}
 use Rattle.nquads_documents.proofs.LineEnds.{Closes, body_again}
 use Rattle.nquads_documents.proofs.LineFaults.{comment_fails}

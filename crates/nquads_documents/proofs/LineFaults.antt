@@ -15,7 +15,8 @@ use Rattle.nquads_text.specs.Terms.{skip_blanks}
 use Rattle.nquads_text.proofs.Fronts.{char_spelled, char_again}
 use Rattle.nquads_text.proofs.Steps.{bind_err, chosen, not_both}
 use Rattle.nquads_text.specs.Grammar.{Blanks, is_line_end}
-use Rattle.nquads_documents.specs.Faults.{IsIllFormed, OtherFault, CommentFault, LineEndFault}
+use Rattle.nquads_text.specs.Faults.{IsIllFormed}
+use Rattle.nquads_documents.specs.Faults.{OtherFault, CommentFault, LineEndFault}
 use Rattle.nquads_documents.specs.Reading.{comment_at, no_end_at, end_by, line_end_at}
 use Rattle.nquads_documents.proofs.BlankLaws.{blanks_found, blanks_again}
 use Rattle.nquads_documents.proofs.LineEnds.{no_end, char_ends_none, first_byte, some_bytes, one_char}
@@ -27,7 +28,7 @@ fails f = Err f
 -- ---- ASCII bytes are characters
 
 ill_none : (b c : ℕ) (rest : List ℕ) → IsIllFormed (b ∷ rest) → b ≡ c → c < 128 → IsScalar c → ⊥
-ill_none b c rest i same low s = i.1 c rest s (ap (λ (k : ℕ). k ∷ rest) same ∙ ap (λ (t : List ℕ). t ++ rest) (sym (encode_ascii c low)))
+ill_none b c rest i same low s = i.1 c rest (s, ap (λ (k : ℕ). k ∷ rest) same ∙ ap (λ (t : List ℕ). t ++ rest) (sym (encode_ascii c low)))
 
 ill_no_end : (b : ℕ) (rest : List ℕ) → IsIllFormed (b ∷ rest) → is_line_end b ≡ false
 ill_no_end b rest i = by (nat_eq b 10) refl (nat_eq b 13) refl

@@ -17,7 +17,8 @@ use Rattle.nquads_text.proofs.Fronts.{char_spelled, char_again, char_at-ascii}
 use Rattle.nquads_text.proofs.Steps.{bind_err, chosen, ok_is, not_both}
 use Rattle.nquads_text.specs.Grammar.{StartsWith}
 use Rattle.nquads_text.specs.Faults.{begins_term}
-use Rattle.nquads_documents.specs.Faults.{IsIllFormed, MissingFault, DotFault, NodeFault, PredicateFault, GraphFault, SubjectAt, PredicateAt, ObjectAt, StatementFault}
+use Rattle.nquads_text.specs.Faults.{IsIllFormed}
+use Rattle.nquads_documents.specs.Faults.{MissingFault, DotFault, NodeFault, PredicateFault, GraphFault, SubjectAt, PredicateAt, ObjectAt, StatementFault}
 use Rattle.nquads_documents.specs.Laws.{TermsFound, TermsAgain, TermFaultsFound, TermFaultsAgain}
 use Rattle.nquads_documents.proofs.BlankLaws.{blanks_found, blanks_again}
 use Rattle.nquads_documents.proofs.StatementLaws.{term_begun, node_found, node_again, predicate_found, predicate_again}
@@ -36,7 +37,7 @@ CharFails text f = ((text ≡ []) × (f ≡ (Truncated, []))) ⊎ (IsIllFormed t
 pub char_failed : (text : List ℕ) (f : Fault) → char_at text ≡ Err f → CharFails text f
 unfolding char_at
 char_failed [] f e = inl (refl, sym (err_is (Truncated, []) f e))
-char_failed (b ∷ bytes) f e = inr ((λ same. absurd cc, λ c after s parts. absurd (no_char c after s parts)), by (decoded (b ∷ bytes)).char e)
+char_failed (b ∷ bytes) f e = inr ((λ same. absurd cc, λ c after there. absurd (no_char c after there.0 there.1)), by (decoded (b ∷ bytes)).char e)
   where
     by : (o : Option ℕ) → char_or_fault o (decoded (b ∷ bytes)).size (b ∷ bytes) ≡ Err f → f ≡ (NotUtf8, b ∷ bytes)
     by None e = sym (err_is (NotUtf8, b ∷ bytes) f e)
@@ -54,7 +55,7 @@ ill_formed (b ∷ bytes) i = by (decoded (b ∷ bytes)).char refl
     by None e = refl
     by (Some c) e =
         let read : char_at (b ∷ bytes) ≡ Ok (c, _) = ap (λ (o : Option ℕ). char_or_fault o (decoded (b ∷ bytes)).size (b ∷ bytes)) e in
-        let s = char_spelled (b ∷ bytes) c _ read in absurd (i.1 c _ s.0 s.1)
+        let s = char_spelled (b ∷ bytes) c _ read in absurd (i.1 c _ s)
 
 -- a token that one character tells
 module _ {X : Type 0} (kind : TextKind) (test : ℕ → Bool) (text : List ℕ) (value : ℕ × List ℕ → X × List ℕ) where

@@ -11,14 +11,9 @@ use Rattle.nquads_text.specs.declared.fault.TextKind.{TextKind}
 use Rattle.nquads_text.specs.declared.fault.TextKind.TheVariants.{NotUtf8, BadPosition}
 use Rattle.nquads_text.specs.declared.fault.TextKind.TheVariants.{MissingDot, BadToken, Truncated}
 use Rattle.nquads_text.specs.Fault.{Fault}
-use Rattle.nquads_text.specs.Faults.{begins_term}
+use Rattle.nquads_text.specs.Faults.{IsIllFormed, begins_term}
 use Rattle.nquads_text.specs.Grammar.{StartsWith, Blanks, TermAt, is_line_end}
 use Rattle.nquads_documents.specs.Grammar.{StatementAt, IsLine}
-
--- bytes that begin with no character
-abbrev pub IsIllFormed : List ℕ → Type 0
-IsIllFormed text =
-    (text ≡ [] → ⊥) × ((c : ℕ) (after : List ℕ) → IsScalar c → text ≡ encode_utf8 c ++ after → ⊥)
 
 -- something else stands there than a character that passes the test
 abbrev pub OtherFault : TextKind → (ℕ → Bool) → List ℕ → Fault → Type 0

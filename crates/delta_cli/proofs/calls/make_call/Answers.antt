@@ -11,7 +11,7 @@ returns-in_ok-text_at-in-Create-2-clause-call c =
     let words = words_of c.args.words.now in
     let first = c.in_ok-text_at-in-Create in
     let second = c.in_ok-text_at-in-Create-2 in
-    (three_are words names.Create (subst (FitsName words) c.in-Create.is c.requires.fits) refl first.field-0 second.field-0 first.ensures second.ensures, ap (λ (id : Id). Some id) c.id_of.ensures)
+    (three_are words names.Create (subst (FitsName words) c.in-Create.is c.requires.fits) refl first.field-0 second.field-0 first.ensures second.ensures, ap (λ (id : Id). Some id) c.random_id.ensures)
 
 pub returns-in_ok-text_at-in-Rename-2-clause-call : goal.returns-in_ok-text_at-in-Rename-2-clause-call
 returns-in_ok-text_at-in-Rename-2-clause-call c =
