@@ -8,7 +8,7 @@ use Rattle.chain_core.specs.declared.chain.Patch.{Patch}
 use Rattle.chain_core.specs.declared.chain.Entry.{Entry}
 use Rattle.chain_core.specs.declared.link.Link.{Link}
 use Rattle.chain_core.specs.Links.{Follow, AllDiffer, IsChain, last_or}
-use Rattle.chain_core.specs.Chain.{IsKept}
+use Rattle.chain_core.specs.Chain.{IsBoundedChain}
 use Rattle.chain_core.specs.Patches.{patches_of, links_of, version_of, last_id}
 use Rattle.chain_core.proofs.Versions.{link_to, ids, new_behind, links_of-entries}
 
@@ -68,5 +68,5 @@ short_entries [] short = tt
 short_entries (entry ∷ entries) short = (short.0, short_entries entries short.1)
 
 -- entries whose patches are a chain
-pub entries_kept : (entries : List Entry) → IsChain (links_of (patches_of entries)) → length entries < 2 ^ 32 → AllByRecursion (λ (patch : Patch). length patch.text ≤ PATCH_LIMIT) (patches_of entries) → IsKept entries
+pub entries_kept : (entries : List Entry) → IsChain (links_of (patches_of entries)) → length entries < 2 ^ 32 → AllByRecursion (λ (patch : Patch). length patch.text ≤ PATCH_LIMIT) (patches_of entries) → IsBoundedChain entries
 entries_kept entries chain few short = record { chain = subst IsChain (links_of-entries entries) chain; few = few; short = short_entries entries short }

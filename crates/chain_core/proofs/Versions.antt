@@ -11,7 +11,7 @@ use Rattle.chain_core.specs.declared.chain.Patch.{Patch}
 use Rattle.chain_core.specs.declared.chain.Entry.{Entry}
 use Rattle.chain_core.specs.declared.link.Link.{Link}
 use Rattle.chain_core.specs.Links.{AllDiffer, version_in}
-use Rattle.chain_core.specs.Chain.{link_of}
+use Rattle.chain_core.specs.Chain.{entry_link}
 use Rattle.chain_core.specs.Patches.{patches_of, links_of, version_of}
 
 abbrev pub link_to : Patch → Link
@@ -103,11 +103,11 @@ new_behind (first ∷ ls) l differ =
 
 -- ---- entries
 
-pub links_of-entries : (entries : List Entry) → links_of (patches_of entries) ≡ map link_of entries
+pub links_of-entries : (entries : List Entry) → links_of (patches_of entries) ≡ map entry_link entries
 links_of-entries [] = refl
-links_of-entries (entry ∷ entries) = ap (λ (ls : List Link). link_of entry ∷ ls) (links_of-entries entries)
+links_of-entries (entry ∷ entries) = ap (λ (ls : List Link). entry_link entry ∷ ls) (links_of-entries entries)
 
-pub new_entry : (entries : List Entry) (entry : Entry) → AllDiffer (ids (map link_of (entries ++ entry ∷ []))) → version_of (patches_of entries) entry.patch.id ≡ None
+pub new_entry : (entries : List Entry) (entry : Entry) → AllDiffer (ids (map entry_link (entries ++ entry ∷ []))) → version_of (patches_of entries) entry.patch.id ≡ None
 new_entry entries entry differ =
     ap (λ (ls : List Link). version_in ls entry.patch.id) (links_of-entries entries)
-    ∙ new_behind (map link_of entries) (link_of entry) (subst (λ (ls : List Link). AllDiffer (ids ls)) (map-append link_of entries (entry ∷ [])) differ)
+    ∙ new_behind (map entry_link entries) (entry_link entry) (subst (λ (ls : List Link). AllDiffer (ids ls)) (map-append entry_link entries (entry ∷ [])) differ)

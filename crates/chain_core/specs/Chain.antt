@@ -6,11 +6,11 @@ use Rattle.chain_core.specs.declared.chain.Entry.{Entry}
 use Rattle.chain_core.specs.declared.link.Link.{Link}
 use Rattle.chain_core.specs.Links.{IsChain}
 
-abbrev pub link_of : Entry → Link
-link_of e = record { id = e.patch.id; prev = e.patch.prev }
+abbrev pub entry_link : Entry → Link
+entry_link e = record { id = e.patch.id; prev = e.patch.prev }
 
 -- the entries are a chain of fewer than 2 ^ 32 patches, each within the limit of a patch
-pub record IsKept (es : List Entry) : Type 0 where
-  pub chain : IsChain (map link_of es)
+pub record IsBoundedChain (es : List Entry) : Type 0 where
+  pub chain : IsChain (map entry_link es)
   pub few : length es < 2 ^ 32
   pub short : AllByRecursion (λ e. length e.patch.text ≤ PATCH_LIMIT) es

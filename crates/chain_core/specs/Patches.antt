@@ -1,7 +1,7 @@
 -- The patches of a chain, without who brought them.
 use Rattle.std.specs.Prelude.{ℕ, zero, suc, List, map, slice_get, Option, Some, None}
 use Rattle.delta_base.specs.declared.id.Id.{Id}
-use Rattle.delta_base.specs.Journals.{journal_length as payloads_length}
+use Rattle.delta_base.specs.Journals.{payloads_length}
 use Rattle.chain_core.specs.declared.chain.Patch.{Patch}
 use Rattle.chain_core.specs.declared.chain.Entry.{Entry}
 use Rattle.chain_core.specs.declared.link.Link.{Link}

@@ -27,10 +27,10 @@ abbrev pub fetched : Option Patch → ℕ → LogReply
 fetched (Some patch) count = found patch
 fetched None count = missing count
 
-abbrev pub reply_of : LogLimits → LogCall → List Patch → LogReply
-reply_of limits (append patch) chain = answered (answer_of (decision chain patch limits))
-reply_of limits (fetch_version place) chain = fetched (patch_at chain place) (length chain)
-reply_of limits (fetch_id id) chain =
+abbrev pub log_reply : LogLimits → LogCall → List Patch → LogReply
+log_reply limits (append patch) chain = answered (answer_of (decision chain patch limits))
+log_reply limits (fetch_version place) chain = fetched (patch_at chain place) (length chain)
+log_reply limits (fetch_id id) chain =
     fetched (patch_named chain (version_of chain id)) (length chain)
-reply_of limits describe chain = described (length chain) (last_id chain)
-reply_of limits version chain = counted (length chain)
+log_reply limits describe chain = described (length chain) (last_id chain)
+log_reply limits version chain = counted (length chain)

@@ -12,20 +12,20 @@ use Rattle.client_commands.specs.declared.fault.ClientFault.{ClientFault}
 use Rattle.client_commands.specs.declared.fault.ClientFault.TheVariants as faults
 
 -- JSON and a line feed, or the patch's text
-abbrev pub shown : Body → List ℕ
-shown (json value) = compact_text value ++ 10 ∷ []
-shown (patch text) = text
+abbrev pub printed_body : Body → List ℕ
+printed_body (json value) = compact_text value ++ 10 ∷ []
+printed_body (patch text) = text
 
 -- what is printed of an answer
 abbrev pub printed : Answer → List ℕ
-printed a = shown (body_of a)
+printed a = printed_body (body_of a)
 
 -- a call that has no answer, as the end of its command
-abbrev pub of_ask : AskFault → ClientFault
-of_ask asks.LinkFault = faults.LinkFailed
-of_ask asks.CutShort = faults.CutShort
-of_ask (asks.NotUnderstood at) = faults.NotUnderstood at
-of_ask asks.OutOfMemory = faults.OutOfMemory
+abbrev pub client_fault : AskFault → ClientFault
+client_fault asks.LinkFault = faults.LinkFailed
+client_fault asks.CutShort = faults.CutShort
+client_fault (asks.NotUnderstood at) = faults.NotUnderstood at
+client_fault asks.OutOfMemory = faults.OutOfMemory
 
 -- the end of a call that was answered: what is printed, the refusal that the answer is, or an
 -- answer of another kind. Want of memory is free
@@ -39,6 +39,6 @@ EndsAnswered call a (Err faults.OutOfMemory) = Unit {0}
 EndsAnswered call a (Err other) = ⊥
 
 -- the end of a call, by what was said to it; a fault of asking is handed on
-abbrev pub Ends : Call → Result Answer AskFault → Result (List ℕ) ClientFault → Type 0
-Ends call (Ok a) result = EndsAnswered call a result
-Ends call (Err fault) result = result ≡ Err (of_ask fault)
+abbrev pub EndsCall : Call → Result Answer AskFault → Result (List ℕ) ClientFault → Type 0
+EndsCall call (Ok a) result = EndsAnswered call a result
+EndsCall call (Err fault) result = result ≡ Err (client_fault fault)

@@ -1,6 +1,6 @@
 //! Why a command that asks a server has no result.
 ghost use Rattle.std.specs.Prelude.{◌≡◌};
-ghost use Rattle.client_commands.specs.Answers.{of_ask};
+ghost use Rattle.client_commands.specs.Answers.{client_fault};
 
 use delta_base::{Bytes, OutOfMemory};
 use delta_client::AskFault;
@@ -23,7 +23,7 @@ pub enum ClientFault {
 impl ClientFault {
     // A call that has no answer, as the end of its command.
     pub(crate) fn of_ask(fault: AskFault) -> ClientFault
-        ensures { result ≡ of_ask fault }
+        ensures { result ≡ client_fault fault }
     {
         match fault {
             AskFault::LinkFault => ClientFault::LinkFailed,

@@ -17,7 +17,7 @@ use Rattle.clap.specs.Takes.{is_given}
 use Rattle.clap.specs.Kinds.{HasKind, IsAmong}
 use Rattle.clap.specs.Faults.{default_fault, given_default_fault, defaults_fault, fault_of, is_simple_and_free}
 use Rattle.clap.specs.declared.error.kind.ErrorKind.TheVariants as kind
-use Rattle.command_words.specs.Positions.{IsPlainWord, ArePlain, FitPositions, are_apart, position_rule, positions_app}
+use Rattle.command_words.specs.Positions.{IsPlainWord, ArePlain, FitPositions, all_differ, position_rule, positions_app}
 use Rattle.command_words.proofs.WalkOfPositions.{placed, placed_from, next_of, Lacks, Pair, names_in, words_in, row_for, waiting, pending_for, IsPositional, EachPlain, Walked, walk_on, walk_past, settled_any, settle_fault_at, apart_lacks, same_text}
 
 -- ---- the command is simple
@@ -109,13 +109,13 @@ no_defaults_fault i (n ∷ names) rows =
 abbrev pub is_missing : List Row → Rule → Bool
 is_missing rows a = a.required && not (is_given a.id rows)
 
-none_missing : (i : ℕ) (before after : List Pair) → are_apart (names_in (before ++ after)) ≡ true
+none_missing : (i : ℕ) (before after : List Pair) → all_differ (names_in (before ++ after)) ≡ true
     → list_any (is_missing (map row_for (before ++ after))) (placed_from i (names_in after)) ≡ false
 none_missing i before [] apart = refl
 none_missing i before (p ∷ after) apart =
-    let lacks = apart_lacks (names_in before) (names_in after) p.0 (ap are_apart (sym (map-append (λ q. q.0) before (p ∷ after))) ∙ apart) in
+    let lacks = apart_lacks (names_in before) (names_in after) p.0 (ap all_differ (sym (map-append (λ q. q.0) before (p ∷ after))) ∙ apart) in
     let shift : (before ++ p ∷ []) ++ after ≡ before ++ p ∷ after = append_assoc before (p ∷ []) after in
-    let more = none_missing (next_of i) (before ++ p ∷ []) after (ap (λ ps. are_apart (names_in ps)) shift ∙ apart) in
+    let more = none_missing (next_of i) (before ++ p ∷ []) after (ap (λ ps. all_differ (names_in ps)) shift ∙ apart) in
     rw (row_found before after p lacks) (ap (λ ps. list_any (is_missing (map row_for ps)) (placed_from (next_of i) (names_in after))) (sym shift) ∙ more)
 
 one_missing : (i : ℕ) (before after : List Text) (name : Text) (pairs : List Pair) → Lacks name (names_in pairs)
@@ -130,7 +130,7 @@ one_missing i (b ∷ before) after name pairs lacks =
 
 -- ---- the whole parse
 
-module _ (command : Text) (names : List Text) (apart : are_apart names ≡ true) (few : length names + 1 < usize_max)
+module _ (command : Text) (names : List Text) (apart : all_differ names ≡ true) (few : length names + 1 < usize_max)
     (first : Text) (words : List Text) (plain : EachPlain words) where
   is_positional : IsPositional (built_top command names)
   is_positional = record { once = refl; leaf = refl }
@@ -151,8 +151,8 @@ module _ (command : Text) (names : List Text) (apart : are_apart names ≡ true)
     unfolding all_pairs
     words_are = walked_all.taken
 
-    pairs_apart : are_apart (names_in all_pairs ++ walked_all.left) ≡ true
-    pairs_apart = ap are_apart (sym names_are) ∙ apart
+    pairs_apart : all_differ (names_in all_pairs ++ walked_all.left) ≡ true
+    pairs_apart = ap all_differ (sym names_are) ∙ apart
 
     -- the rows of the matches are the pairs
     pub rows_are : matches_of (positions_app command names) (first ∷ words) ≡ map row_for all_pairs
@@ -198,7 +198,7 @@ module _ (command : Text) (names : List Text) (apart : are_apart names ≡ true)
     pub no_fault : length words ≡ length names → fault_of (positions_app command names) (first ∷ words) ≡ []
     no_fault same =
         let named = names_are_pairs same in
-        let none = none_missing 1 [] all_pairs (ap are_apart named ∙ apart) in
+        let none = none_missing 1 [] all_pairs (ap all_differ named ∙ apart) in
         let none_named : list_any (is_missing (map row_for all_pairs)) (placed_from 1 names) ≡ false =
         ap (λ ns. list_any (is_missing (map row_for all_pairs)) (placed_from 1 ns)) (sym named) ∙ none in
         fault_is ∙ ap (λ b. if b then kind.MissingRequiredArgument ∷ [] else []) none_named
@@ -211,7 +211,7 @@ module _ (command : Text) (names : List Text) (apart : are_apart names ≡ true)
             → fault_of (positions_app command names) (first ∷ words) ≡ kind.MissingRequiredArgument ∷ []
         by_left [] is some = absurd (omega arith)
         by_left (name ∷ left) is some =
-            let lacks = apart_lacks (names_in all_pairs) left name (ap are_apart (sym is) ∙ apart) in
+            let lacks = apart_lacks (names_in all_pairs) left name (ap all_differ (sym is) ∙ apart) in
             let missing : list_any (is_missing (map row_for all_pairs)) (placed_from 1 names) ≡ true =
             ap (λ ns. list_any (is_missing (map row_for all_pairs)) (placed_from 1 ns)) is
             ∙ one_missing 1 (names_in all_pairs) left name all_pairs lacks in
@@ -234,13 +234,13 @@ module _ (command : Text) (names : List Text) (apart : are_apart names ≡ true)
 -- ---- values
 
 -- the value of each name is its word
-pub values_are : (before after : List Pair) → are_apart (names_in (before ++ after)) ≡ true
+pub values_are : (before after : List Pair) → all_differ (names_in (before ++ after)) ≡ true
     → map (λ name. first_of name (map row_for (before ++ after))) (names_in after) ≡ map (λ word. Some word) (words_in after)
 values_are before [] apart = refl
 values_are before (p ∷ after) apart =
-    let lacks = apart_lacks (names_in before) (names_in after) p.0 (ap are_apart (sym (map-append (λ q. q.0) before (p ∷ after))) ∙ apart) in
+    let lacks = apart_lacks (names_in before) (names_in after) p.0 (ap all_differ (sym (map-append (λ q. q.0) before (p ∷ after))) ∙ apart) in
     let shift : (before ++ p ∷ []) ++ after ≡ before ++ p ∷ after = append_assoc before (p ∷ []) after in
-    let more = values_are (before ++ p ∷ []) after (ap (λ ps. are_apart (names_in ps)) shift ∙ apart) in
+    let more = values_are (before ++ p ∷ []) after (ap (λ ps. all_differ (names_in ps)) shift ∙ apart) in
     ap₂ ◌∷◌ (rw (row_found before after p lacks) refl)
     (ap (λ ps. map (λ name. first_of name (map row_for ps)) (names_in after)) (sym shift) ∙ more)
 
@@ -258,7 +258,7 @@ each_plain : (words : List Text) → ArePlain words → EachPlain words
 each_plain [] all = tt
 each_plain (word ∷ words) all = (All-head IsPlainWord word words all, each_plain words (All-tail IsPlainWord word words all))
 
-module _ (command : Text) (names : List Text) (apart : are_apart names ≡ true) (few : length names < 1000) where
+module _ (command : Text) (names : List Text) (apart : all_differ names ≡ true) (few : length names < 1000) where
   pub whole_tells : (words : List Text) → 0 < length words → ArePlain (drop 1 words)
       → fault_of (positions_app command names) words ≡ [] → length words ≡ length names + 1
   whole_tells [] some plain clean = absurd (omega arith)
@@ -285,7 +285,7 @@ module _ (command : Text) (names : List Text) (apart : are_apart names ≡ true)
       let worded : words_in pairs ≡ words = words_are command names apart small first words (each_plain words plain) room in
       let rows : matches_of (positions_app command names) (first ∷ words) ≡ map row_for pairs = rows_are command names apart small first words (each_plain words plain) room in
       ap₂ (λ r ns. map (λ name. first_of name r) ns) rows (sym named)
-      ∙ values_are [] pairs (ap are_apart named ∙ apart) ∙ ap (map (λ word. Some word)) worded
+      ∙ values_are [] pairs (ap all_differ named ∙ apart) ∙ ap (map (λ word. Some word)) worded
 
 -- each name has a value where the values are those
 pub each_some : {X : Type 0} (f : X → Option Text) (xs : List X) (words : List Text) → map f xs ≡ map (λ word. Some word) words
@@ -300,7 +300,7 @@ each_some f (x ∷ xs) (word ∷ words) same =
 -- ---- what a parse tells
 
 module _ {W : Type 0} (text_of : W → Text) (a : App) (command : Text) (names : List (Bor Text)) (words : List W) (is : a ≡ positions_app command (map (λ s. s.now) names))
-    (apart : are_apart (map (λ s. s.now) names) ≡ true) (few : length names < 1000) (some : 0 < length words)
+    (apart : all_differ (map (λ s. s.now) names) ≡ true) (few : length names < 1000) (some : 0 < length words)
     (plain : ArePlain (drop 1 (map text_of words))) where
   few_texts : length (map (λ s. s.now) names) < 1000
   few_texts = rw (length-map names (λ s. s.now)) few

@@ -14,7 +14,7 @@ use Rattle.clap.specs.Faults.{settle_fault, turn_fault, word_fault, walk_fault}
 use Rattle.clap.specs.declared.error.kind.ErrorKind.TheVariants as kind
 use Rattle.clap.specs.Simple.{Shape, new_shape, with_rule, filled_from, with_index, filled}
 use Rattle.clap.specs.declared.parser.matches.ValueSource.TheVariants.{CommandLine}
-use Rattle.command_words.specs.Positions.{IsPlainWord, are_apart, position_rule, positions_app}
+use Rattle.command_words.specs.Positions.{IsPlainWord, all_differ, position_rule, positions_app}
 
 -- what building makes of the name at a place
 abbrev pub placed : ℕ → Text → Rule
@@ -251,13 +251,13 @@ list_all_at test [] after text all = (both _ _ all).0
 list_all_at test (b ∷ before) after text all = list_all_at test before after text (both (test b) _ all).1
 
 -- names that are apart
-pub apart_lacks : (before after : List Text) (name : Text) → are_apart (before ++ name ∷ after) ≡ true → Lacks name before
+pub apart_lacks : (before after : List Text) (name : Text) → all_differ (before ++ name ∷ after) ≡ true → Lacks name before
 apart_lacks [] after name apart = tt
 apart_lacks (b ∷ before) after name apart =
-    let parts = both _ (are_apart (before ++ name ∷ after)) apart in
+    let parts = both _ (all_differ (before ++ name ∷ after)) apart in
     (is_false _ (list_all_at (λ other. not (bytes_eq b other)) before after name parts.0), apart_lacks before after name parts.1)
 
-module _ (names : List Text) (apart : are_apart names ≡ true) (few : length names + 1 < usize_max) (s : Shape)
+module _ (names : List Text) (apart : all_differ names ≡ true) (few : length names + 1 < usize_max) (s : Shape)
     (is_positional : IsPositional s) (rules : s.rules ≡ placed_from 1 names) where
   -- where the walk stands: the names of the words met, and those that are left
   abbrev pub Stands : List Pair → Option Pair → List Text → Type 0
@@ -282,7 +282,7 @@ module _ (names : List Text) (apart : are_apart names ≡ true) (few : length na
   next_known pairs last name word left stands =
       let place : 1 + length (pairs ++ waiting last) ≡ 1 + length (names_in (pairs ++ waiting last)) = ap (λ n. 1 + n) (sym (length-map (pairs ++ waiting last) (λ p. p.0))) in
       let count = count_is pairs last (name ∷ left) stands in
-      let lacks = apart_lacks (names_in (pairs ++ waiting last)) left name (ap are_apart (sym stands) ∙ apart) in (
+      let lacks = apart_lacks (names_in (pairs ++ waiting last)) left name (ap all_differ (sym stands) ∙ apart) in (
         1 + length (pairs ++ waiting last),
         ap (λ c. arg_by_id c name) (rules ∙ ap (placed_from 1) stands)
             ∙ by_name 1 _ (names_in (pairs ++ waiting last)) left name lacks place (omega arith),

@@ -6,7 +6,7 @@ ghost use Rattle.std.specs.Prelude.{◌≡◌, ◌≢◌, ◌↔◌, IsTrue, ◌
 ghost use Rattle.std.specs.Prelude.{IfOk, OnOk, map, drop, length, All, string_bytes};
 ghost use Rattle.clap.specs.Words.{app_of, found_of, first_value};
 ghost use Rattle.command_words.specs.Positions.{ArePlain, FitPositions, IsPlainWord};
-ghost use Rattle.command_words.specs.Positions.{are_apart, positions_app};
+ghost use Rattle.command_words.specs.Positions.{all_differ, positions_app};
 
 use clap::error::ErrorKind;
 use clap::{Arg, ArgMatches, Command, Error};
@@ -62,7 +62,7 @@ fn parse_positions<'a>(
     names: &'a [&'a str],
     words: &'a [String],
 ) -> Result<ArgMatches<'a>, WordsFault>
-    requires apart { are_apart (map (λ s. s.now) names.now) ≡ true }
+    requires apart { all_differ (map (λ s. s.now) names.now) ≡ true }
     requires few { length names.now < 1000 }
     requires command { 0 < length words.now }
     requires plain { ArePlain (drop 1 (map string_bytes words.now)) }
@@ -91,7 +91,7 @@ pub fn read_positions<'a>(
     names: &'a [&'a str],
     words: &'a [String],
 ) -> Result<Vec<&'a str>, WordsFault>
-    requires apart { are_apart (map (λ s. s.now) names.now) ≡ true }
+    requires apart { all_differ (map (λ s. s.now) names.now) ≡ true }
     requires few { length names.now < 1000 }
     requires command { 0 < length words.now }
     requires plain { ArePlain (drop 1 (map string_bytes words.now)) }
@@ -128,7 +128,7 @@ pub fn read_words<'a>(
     names: &'a [&'a str],
     words: &'a [String],
 ) -> Result<Vec<&'a str>, WordsFault>
-    requires apart { are_apart (map (λ s. s.now) names.now) ≡ true }
+    requires apart { all_differ (map (λ s. s.now) names.now) ≡ true }
     requires few { length names.now < 1000 }
     requires command { 0 < length words.now }
     ensures words { IfOk result (λ v.

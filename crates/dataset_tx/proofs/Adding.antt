@@ -12,11 +12,11 @@ use Rattle.quad_index.specs.declared.key.QuadKey.{QuadKey}
 use Rattle.quad_index.specs.Key.{key_cmp}
 use Rattle.quad_index.proofs.Members.{sorted_inserted}
 use Rattle.quad_index.proofs.Six.{key_total}
-use Rattle.quad_keys.specs.Keys.{quad_of, quads_of, IsKnown, AreKnown}
+use Rattle.quad_keys.specs.Keys.{quad_of_key, quads_of, IsNumbered, AreKnown}
 use Rattle.quad_keys.proofs.Quads.{quads_inserted, quads_grow, all_grow}
 use Rattle.dataset_tx.specs.Numbering.{Grows}
 
-known_in : (terms : List Term) (k : QuadKey) (keys : List QuadKey) → IsKnown terms k → AreKnown terms keys → AreKnown terms (insert_key key_cmp keys k)
+known_in : (terms : List Term) (k : QuadKey) (keys : List QuadKey) → IsNumbered terms k → AreKnown terms keys → AreKnown terms (insert_key key_cmp keys k)
 known_in terms k [] p ps = (p, tt)
 known_in terms k (x ∷ xs) p ps = by (key_cmp k x) (known_in terms k xs p ps.1)
   where
@@ -41,10 +41,10 @@ quads_grown f a b keys keys' h e ks =
     ap (quads_of b) e ∙ ap (λ (t : List Term). quads_of t keys) h.new_is ∙ quads_grow a h.more keys ks
 
 -- a key comes among them
-pub known_come : (f a b : List Term) (k : QuadKey) (keys keys' : List QuadKey) → Grows f a b → IsKnown b k → AreKnown a keys → keys' ≡ insert_key key_cmp keys k → AreKnown b keys'
+pub known_come : (f a b : List Term) (k : QuadKey) (keys keys' : List QuadKey) → Grows f a b → IsNumbered b k → AreKnown a keys → keys' ≡ insert_key key_cmp keys k → AreKnown b keys'
 known_come f a b k keys keys' h p ks e = subst (AreKnown b) (sym e) (known_in b k keys p (known_grown f a b keys keys h refl ks))
 
-pub quads_come : (f a b : List Term) (k : QuadKey) (q : Statement) (keys keys' : List QuadKey) → Grows f a b → IsKnown b k → quad_of b k ≡ q → AreKnown a keys → keys' ≡ insert_key key_cmp keys k
+pub quads_come : (f a b : List Term) (k : QuadKey) (q : Statement) (keys keys' : List QuadKey) → Grows f a b → IsNumbered b k → quad_of_key b k ≡ q → AreKnown a keys → keys' ≡ insert_key key_cmp keys k
     → quads_of b keys' ≡ insert_key line_cmp (quads_of a keys) q
 quads_come f a b k q keys keys' h p is ks e =
     ap (quads_of b) e

@@ -9,7 +9,7 @@ use Rattle.rdf_terms.specs.Quad.{Statement}
 use Rattle.rdf_terms.specs.Line.{line_cmp}
 use Rattle.quad_index.specs.declared.key.QuadKey.{QuadKey}
 use Rattle.quad_index.specs.Key.{key_cmp}
-use Rattle.quad_keys.specs.Keys.{quad_of, quads_of, IsKnown, AreKnown}
+use Rattle.quad_keys.specs.Keys.{quad_of_key, quads_of, IsNumbered, AreKnown}
 use Rattle.quad_keys.proofs.Quads.{quads_removed}
 use Rattle.dataset_tx.proofs.Sets.{sorted_out}
 use Rattle.term_table.specs.Table.{same}
@@ -28,7 +28,7 @@ known_left terms k keys keys' ks e = subst (AreKnown terms) (sym e) (known_out t
 pub sorted_left : (k : QuadKey) (keys keys' : List QuadKey) → IsStrictlySortedBy key_cmp keys → keys' ≡ remove_key (is_at (key_cmp k)) keys → IsStrictlySortedBy key_cmp keys'
 sorted_left k keys keys' s e = subst (IsStrictlySortedBy key_cmp) (sym e) (sorted_out keys k s)
 
-pub quads_left : (terms : List Term) (k : QuadKey) (q : Statement) (keys keys' : List QuadKey) → IsDistinct same terms → IsKnown terms k → quad_of terms k ≡ q → AreKnown terms keys → IsStrictlySortedBy key_cmp keys → keys' ≡ remove_key (is_at (key_cmp k)) keys
+pub quads_left : (terms : List Term) (k : QuadKey) (q : Statement) (keys keys' : List QuadKey) → IsDistinct same terms → IsNumbered terms k → quad_of_key terms k ≡ q → AreKnown terms keys → IsStrictlySortedBy key_cmp keys → keys' ≡ remove_key (is_at (key_cmp k)) keys
     → quads_of terms keys' ≡ remove_key (is_at (line_cmp q)) (quads_of terms keys)
 quads_left terms k q keys keys' d known is ks s e =
     ap (quads_of terms) e ∙ quads_removed terms d k keys known ks s ∙ ap (λ (x : Statement). remove_key (is_at (line_cmp x)) (quads_of terms keys)) is

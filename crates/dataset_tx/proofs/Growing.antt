@@ -4,9 +4,9 @@ use Rattle.std.specs.List.{Contains, IsDistinct, list_any}
 use Rattle.std.specs.Option.{IsSome, is_some}
 use Rattle.std.proofs.lemmas.List.Elements.{Contains-append_cases, Contains-append_left, Contains-append_right}
 use Rattle.rdf_terms.specs.declared.term.Term.{Term}
-use Rattle.term_table.specs.Table.{same, number_of, interned, term_at}
+use Rattle.term_table.specs.Table.{same, number_in, interned, term_numbered}
 use Rattle.term_table.proofs.Numbers.{is_new, with_new, stays}
-use Rattle.quad_keys.specs.Keys.{term_of}
+use Rattle.quad_keys.specs.Keys.{term_of_number}
 use Rattle.dataset_tx.proofs.Numbered.{the_term}
 use Rattle.rdf_terms.specs.Quad.{Statement}
 use Rattle.rdf_terms.specs.declared.change.Change.TheVariants.{Add}
@@ -26,7 +26,7 @@ interned_grows old new t d e = by (list_any (same t) old) refl e
     by true h e = stays_same (t ∷ []) old new d e
     by false h e = record { more = t ∷ []; new_is = e; each_once = subst (IsDistinct same) (sym e) (with_new old t d h); came = λ x c. c }
 
-pub one_too_many : (most : ℕ) (old new : List Term) (t : Term) → IsDistinct same old → number_of old t ≡ None → length old ≡ most → new ≡ old → AreMoreThan most (t ∷ []) new
+pub one_too_many : (most : ℕ) (old new : List Term) (t : Term) → IsDistinct same old → number_in old t ≡ None → length old ≡ most → new ≡ old → AreMoreThan most (t ∷ []) new
 one_too_many most old new t d e full same_terms =
     subst (AreMoreThan most (t ∷ [])) (sym same_terms) (record {
       all = old ++ t ∷ [];
@@ -48,15 +48,15 @@ then_grows f a b d h k = record {
   came = λ t c. ⊎_elim (h.came t) (k.came t) (Contains-append_cases h.more k.more t c);
 }
 
-pub keeps_number : (f a b : List Term) (n : ℕ) (t : Term) → Grows f a b → term_at a n ≡ Some t → term_at b n ≡ Some t
-keeps_number f a b n t h e = ap (λ (l : List Term). term_at l n) h.new_is ∙ stays a h.more n t e
+pub keeps_number : (f a b : List Term) (n : ℕ) (t : Term) → Grows f a b → term_numbered a n ≡ Some t → term_numbered b n ≡ Some t
+keeps_number f a b n t h e = ap (λ (l : List Term). term_numbered l n) h.new_is ∙ stays a h.more n t e
 
 pub keeps_graph : (f a b : List Term) (graph : Option Term) (n : ℕ) → Grows f a b → IsGraphNumber a graph n → IsGraphNumber b graph n
 keeps_graph f a b graph n h e = by e.1
   where
-    by : (n ≡ 0) ⊎ IsSome (term_at a n) → IsGraphNumber b graph n
-    by (inl z) = (ap (term_at b) z ∙ sym (ap (term_at a) z) ∙ e.0, inl z)
-    by (inr s) = let at = keeps_number f a b n (term_of a n) h (the_term a n s) in (at ∙ sym (the_term a n s) ∙ e.0, inr (ap is_some at))
+    by : (n ≡ 0) ⊎ IsSome (term_numbered a n) → IsGraphNumber b graph n
+    by (inl z) = (ap (term_numbered b) z ∙ sym (ap (term_numbered a) z) ∙ e.0, inl z)
+    by (inr s) = let at = keeps_number f a b n (term_of_number a n) h (the_term a n s) in (at ∙ sym (the_term a n s) ∙ e.0, inr (ap is_some at))
 
 pub wider_than : (most : ℕ) (f g terms : List Term) → ((t : Term) → Contains f t → Contains g t) → AreMoreThan most f terms → AreMoreThan most g terms
 wider_than most f g terms sub h = record {
@@ -77,7 +77,7 @@ behind x xs ys sub t h = Contains-append_right (x ∷ []) xs t (sub t h)
 pub named_grows : (graph : Option Term) (name : Term) (old new : List Term) → graph ≡ Some name → Grows (name ∷ []) old new → Grows (graph_terms graph) old new
 named_grows graph name old new e h = subst (λ (g : Option Term). Grows (graph_terms g) old new) (sym e) h
 
-pub named_number : (graph : Option Term) (name : Term) (terms : List Term) (n : ℕ) → graph ≡ Some name → term_at terms n ≡ Some name → IsGraphNumber terms graph n
+pub named_number : (graph : Option Term) (name : Term) (terms : List Term) (n : ℕ) → graph ≡ Some name → term_numbered terms n ≡ Some name → IsGraphNumber terms graph n
 named_number graph name terms n e h = (h ∙ sym e, inr (ap is_some h))
 
 pub named_more : (most : ℕ) (graph : Option Term) (name : Term) (terms : List Term) → graph ≡ Some name → AreMoreThan most (name ∷ []) terms → AreMoreThan most (graph_terms graph) terms

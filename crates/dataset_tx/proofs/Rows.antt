@@ -14,21 +14,21 @@ use Rattle.std.proofs.lemmas.Map.Keys.{sorted_head, sorted_tail}
 use Rattle.std.proofs.lemmas.Map.Lookups.{exact_bytes}
 use Rattle.rdf_terms.specs.Dataset.{PrefixKey, prefix_cmp}
 use Rattle.dataset_tx.specs.declared.prefixes.PrefixEntry.{PrefixEntry}
-use Rattle.dataset_tx.specs.Prefixes.{Row, RowBytes, bytes_cmp, row_cmp, at_bytes, has_row, row_bytes, StandsAt, setting, shown, settings_by, settings, set_to}
+use Rattle.dataset_tx.specs.Prefixes.{PrefixRow, RowBytes, bytes_cmp, row_cmp, at_bytes, has_row, row_bytes, StandsAt, setting, with_entry, settings_by, settings, set_to}
 
 pub nothing_left : {X : Type 0} (l : List X) → length l ≡ 0 → l ≡ []
 nothing_left [] e = refl
 nothing_left (x ∷ l) e = cc
 
 -- what is read at each row has its bytes
-abbrev pub Stand : (Row → Option PrefixEntry) → List Row → Type 0
+abbrev pub Stand : (PrefixRow → Option PrefixEntry) → List PrefixRow → Type 0
 Stand read rows = AllByRecursion (λ row. StandsAt row.0.items (read row)) rows
 
 abbrev AreAbove : PrefixKey → List (PrefixKey × List ℕ) → Type 0
 AreAbove key settings = AllByRecursion (λ s. prefix_cmp key s.0 ≡ Less) settings
 
 -- no row has bytes that are below the first
-pub none_above : (bytes : List ℕ) (row : RowBytes) (rows : List Row) → bytes_cmp bytes row ≡ Less → AllByRecursion (λ x. row_cmp row x ≡ Less) (keys_of rows) → has_row rows bytes ≡ false
+pub none_above : (bytes : List ℕ) (row : RowBytes) (rows : List PrefixRow) → bytes_cmp bytes row ≡ Less → AllByRecursion (λ x. row_cmp row x ≡ Less) (keys_of rows) → has_row rows bytes ≡ false
 none_above bytes row [] e h = refl
 none_above bytes row (x ∷ rows) e h =
     ap (λ (o : Ordering). is_some (cond (is_eq o) (Some x.1) (at_bytes bytes rows))) (nat_list_cmp_total.trans bytes row.items x.0.items e h.0) ∙ none_above bytes row rows e h.1
@@ -36,14 +36,14 @@ none_above bytes row (x ∷ rows) e h =
 -- ---- one prefix and its row
 
 module _ (bytes : List ℕ) (key : PrefixKey) (is : bytes ≡ row_bytes key) where
-  cmp_is : (row : Row) (entry : PrefixEntry) → StandsAt row.0.items (Some entry) → prefix_cmp key (setting entry).0 ≡ bytes_cmp bytes row.0
+  cmp_is : (row : PrefixRow) (entry : PrefixEntry) → StandsAt row.0.items (Some entry) → prefix_cmp key (setting entry).0 ≡ bytes_cmp bytes row.0
   cmp_is row entry at = ap (λ (b : List ℕ). slice_cmp nat_cmp b (row_bytes (setting entry).0)) (sym is) ∙ ap (slice_cmp nat_cmp bytes) (sym at)
 
-  above : (read : Row → Option PrefixEntry) (rows : List Row) → Stand read rows → AllByRecursion (λ row. bytes_cmp bytes row ≡ Less) (keys_of rows) → AreAbove key (settings_by read rows)
+  above : (read : PrefixRow → Option PrefixEntry) (rows : List PrefixRow) → Stand read rows → AllByRecursion (λ row. bytes_cmp bytes row ≡ Less) (keys_of rows) → AreAbove key (settings_by read rows)
   above read [] st h = tt
   above read (row ∷ rows) st h = by (read row) st.0 (above read rows st.1 h.1)
     where
-      by : (o : Option PrefixEntry) → StandsAt row.0.items o → AreAbove key (settings_by read rows) → AreAbove key (shown o (settings_by read rows))
+      by : (o : Option PrefixEntry) → StandsAt row.0.items o → AreAbove key (settings_by read rows) → AreAbove key (with_entry o (settings_by read rows))
       by None at r = r
       by (Some entry) at r = (cmp_is row entry at ∙ h.0, r)
 
@@ -57,83 +57,83 @@ module _ (bytes : List ℕ) (key : PrefixKey) (is : bytes ≡ row_bytes key) whe
       ap (λ (o : Ordering). cond (is_eq o) l (s ∷ remove_entry (is_at (prefix_cmp key)) l)) h.0 ∙ ap (λ (k : List (PrefixKey × List ℕ)). s ∷ k) (not_there l h.1)
 
   -- a prefix without a row isn't set
-  pub no_row : (read : Row → Option PrefixEntry) (rows : List Row) → Stand read rows → has_row rows bytes ≡ false → settings_by read rows ≡ remove_entry (is_at (prefix_cmp key)) (settings_by read rows)
+  pub no_row : (read : PrefixRow → Option PrefixEntry) (rows : List PrefixRow) → Stand read rows → has_row rows bytes ≡ false → settings_by read rows ≡ remove_entry (is_at (prefix_cmp key)) (settings_by read rows)
   no_row read [] st h = refl
   no_row read (row ∷ rows) st h = by (bytes_cmp bytes row.0) refl h (no_row read rows st.1)
     where
       past : (o : Option PrefixEntry) (r : Ordering) → bytes_cmp bytes row.0 ≡ r → is_eq r ≡ false → StandsAt row.0.items o → settings_by read rows ≡ remove_entry (is_at (prefix_cmp key)) (settings_by read rows)
-          → shown o (settings_by read rows) ≡ remove_entry (is_at (prefix_cmp key)) (shown o (settings_by read rows))
+          → with_entry o (settings_by read rows) ≡ remove_entry (is_at (prefix_cmp key)) (with_entry o (settings_by read rows))
       past None r e ne at same = same
       past (Some entry) r e ne at same =
           ap (λ (l : List (PrefixKey × List ℕ)). setting entry ∷ l) same
           ∙ sym (ap (λ (b : Bool). cond b (settings_by read rows) (setting entry ∷ remove_entry (is_at (prefix_cmp key)) (settings_by read rows))) (ap is_eq (cmp_is row entry at ∙ e) ∙ ne))
 
       by : (r : Ordering) → bytes_cmp bytes row.0 ≡ r → is_some (cond (is_eq r) (Some row.1) (at_bytes bytes rows)) ≡ false → (has_row rows bytes ≡ false → settings_by read rows ≡ remove_entry (is_at (prefix_cmp key)) (settings_by read rows))
-          → shown (read row) (settings_by read rows) ≡ remove_entry (is_at (prefix_cmp key)) (shown (read row) (settings_by read rows))
+          → with_entry (read row) (settings_by read rows) ≡ remove_entry (is_at (prefix_cmp key)) (with_entry (read row) (settings_by read rows))
       by Less e n same = past (read row) Less e refl st.0 (same n)
       by Equal e n same = absurd (true≢false n)
       by Greater e n same = past (read row) Greater e refl st.0 (same n)
 
 -- ---- two readings that differ at one row
 
-module _ (bytes : List ℕ) (read read' : Row → Option PrefixEntry) (agree : (row : Row) → is_at (bytes_cmp bytes) row.0 ≡ false → read' row ≡ read row) where
-  pub same_above : (rows : List Row) → AllByRecursion (λ row. bytes_cmp bytes row ≡ Less) (keys_of rows) → settings_by read' rows ≡ settings_by read rows
+module _ (bytes : List ℕ) (read read' : PrefixRow → Option PrefixEntry) (agree : (row : PrefixRow) → is_at (bytes_cmp bytes) row.0 ≡ false → read' row ≡ read row) where
+  pub same_above : (rows : List PrefixRow) → AllByRecursion (λ row. bytes_cmp bytes row ≡ Less) (keys_of rows) → settings_by read' rows ≡ settings_by read rows
   same_above [] h = refl
   same_above (row ∷ rows) h =
-      ap (λ (o : Option PrefixEntry). shown o (settings_by read' rows)) (agree row (ap is_eq h.0)) ∙ ap (shown (read row)) (same_above rows h.1)
+      ap (λ (o : Option PrefixEntry). with_entry o (settings_by read' rows)) (agree row (ap is_eq h.0)) ∙ ap (with_entry (read row)) (same_above rows h.1)
 
-  pub above_equal : (row : Row) (rows : List Row) → IsStrictlySortedBy row_cmp (keys_of (row ∷ rows)) → bytes_cmp bytes row.0 ≡ Equal → AllByRecursion (λ x. bytes_cmp bytes x ≡ Less) (keys_of rows)
+  pub above_equal : (row : PrefixRow) (rows : List PrefixRow) → IsStrictlySortedBy row_cmp (keys_of (row ∷ rows)) → bytes_cmp bytes row.0 ≡ Equal → AllByRecursion (λ x. bytes_cmp bytes x ≡ Less) (keys_of rows)
   above_equal row rows s e =
       subst (λ (b : List ℕ). AllByRecursion (λ x. bytes_cmp b x ≡ Less) (keys_of rows)) (sym (exact_bytes bytes row.0.items e)) (sorted_head row_cmp row.0 (keys_of rows) s)
 
   module _ (key : PrefixKey) (is : bytes ≡ row_bytes key) where
-    pub row_set : (iri : List ℕ) (was : Option PrefixEntry) (rows : List Row) → IsStrictlySortedBy row_cmp (keys_of rows) → Stand read rows → at_bytes bytes rows ≡ Some was
-        → ((row : Row) → bytes_cmp bytes row.0 ≡ Equal → row.1 ≡ was → read' row ≡ Some (set_to key iri (read row)))
+    pub row_set : (iri : List ℕ) (was : Option PrefixEntry) (rows : List PrefixRow) → IsStrictlySortedBy row_cmp (keys_of rows) → Stand read rows → at_bytes bytes rows ≡ Some was
+        → ((row : PrefixRow) → bytes_cmp bytes row.0 ≡ Equal → row.1 ≡ was → read' row ≡ Some (set_to key iri (read row)))
         → settings_by read' rows ≡ insert_entry prefix_cmp (settings_by read rows) key iri
     row_set iri was [] s st h here = cc
     row_set iri was (row ∷ rows) s st h here = by (bytes_cmp bytes row.0) refl h (λ k. row_set iri was rows (sorted_tail row_cmp row.0 (keys_of rows) s) st.1 k here)
       where
-        set_here : (o : Option PrefixEntry) → bytes_cmp bytes row.0 ≡ Equal → StandsAt row.0.items o → setting (set_to key iri o) ∷ settings_by read rows ≡ insert_entry prefix_cmp (shown o (settings_by read rows)) key iri
+        set_here : (o : Option PrefixEntry) → bytes_cmp bytes row.0 ≡ Equal → StandsAt row.0.items o → setting (set_to key iri o) ∷ settings_by read rows ≡ insert_entry prefix_cmp (with_entry o (settings_by read rows)) key iri
         set_here None e at = sym (put_first bytes key is iri (settings_by read rows) (above bytes key is read rows st.1 (above_equal row rows s e)))
         set_here (Some entry) e at =
             sym (ap (λ (o : Ordering). match_ordering o ((key, iri) ∷ setting entry ∷ settings_by read rows) (((setting entry).0, iri) ∷ settings_by read rows) (setting entry ∷ insert_entry prefix_cmp (settings_by read rows) key iri)) (cmp_is bytes key is row entry at ∙ e))
 
-        set_later : (o : Option PrefixEntry) → bytes_cmp bytes row.0 ≡ Greater → StandsAt row.0.items o → shown o (insert_entry prefix_cmp (settings_by read rows) key iri) ≡ insert_entry prefix_cmp (shown o (settings_by read rows)) key iri
+        set_later : (o : Option PrefixEntry) → bytes_cmp bytes row.0 ≡ Greater → StandsAt row.0.items o → with_entry o (insert_entry prefix_cmp (settings_by read rows) key iri) ≡ insert_entry prefix_cmp (with_entry o (settings_by read rows)) key iri
         set_later None e at = refl
         set_later (Some entry) e at =
             sym (ap (λ (o : Ordering). match_ordering o ((key, iri) ∷ setting entry ∷ settings_by read rows) (((setting entry).0, iri) ∷ settings_by read rows) (setting entry ∷ insert_entry prefix_cmp (settings_by read rows) key iri)) (cmp_is bytes key is row entry at ∙ e))
 
         by : (r : Ordering) → bytes_cmp bytes row.0 ≡ r → cond (is_eq r) (Some row.1) (at_bytes bytes rows) ≡ Some was → (at_bytes bytes rows ≡ Some was → settings_by read' rows ≡ insert_entry prefix_cmp (settings_by read rows) key iri)
-            → shown (read' row) (settings_by read' rows) ≡ insert_entry prefix_cmp (shown (read row) (settings_by read rows)) key iri
+            → with_entry (read' row) (settings_by read' rows) ≡ insert_entry prefix_cmp (with_entry (read row) (settings_by read rows)) key iri
         by Less e f r = absurd (true≢false (sym (ap is_some f) ∙ none_above bytes row.0 rows e (sorted_head row_cmp row.0 (keys_of rows) s)))
         by Equal e f r =
             let is_was : row.1 ≡ was = cc in
-            ap (λ (o : Option PrefixEntry). shown o (settings_by read' rows)) (here row e is_was)
+            ap (λ (o : Option PrefixEntry). with_entry o (settings_by read' rows)) (here row e is_was)
             ∙ ap (λ (l : List (PrefixKey × List ℕ)). setting (set_to key iri (read row)) ∷ l) (same_above rows (above_equal row rows s e))
             ∙ set_here (read row) e st.0
         by Greater e f r =
-            ap (λ (o : Option PrefixEntry). shown o (settings_by read' rows)) (agree row (ap is_eq e)) ∙ ap (shown (read row)) (r f) ∙ set_later (read row) e st.0
+            ap (λ (o : Option PrefixEntry). with_entry o (settings_by read' rows)) (agree row (ap is_eq e)) ∙ ap (with_entry (read row)) (r f) ∙ set_later (read row) e st.0
 
-    pub row_gone : (rows : List Row) → IsStrictlySortedBy row_cmp (keys_of rows) → Stand read rows → ((row : Row) → bytes_cmp bytes row.0 ≡ Equal → read' row ≡ None)
+    pub row_gone : (rows : List PrefixRow) → IsStrictlySortedBy row_cmp (keys_of rows) → Stand read rows → ((row : PrefixRow) → bytes_cmp bytes row.0 ≡ Equal → read' row ≡ None)
         → settings_by read' rows ≡ remove_entry (is_at (prefix_cmp key)) (settings_by read rows)
     row_gone [] s st here = refl
     row_gone (row ∷ rows) s st here = by (bytes_cmp bytes row.0) refl (row_gone rows (sorted_tail row_cmp row.0 (keys_of rows) s) st.1 here)
       where
-        gone_here : (o : Option PrefixEntry) → bytes_cmp bytes row.0 ≡ Equal → StandsAt row.0.items o → settings_by read rows ≡ remove_entry (is_at (prefix_cmp key)) (shown o (settings_by read rows))
+        gone_here : (o : Option PrefixEntry) → bytes_cmp bytes row.0 ≡ Equal → StandsAt row.0.items o → settings_by read rows ≡ remove_entry (is_at (prefix_cmp key)) (with_entry o (settings_by read rows))
         gone_here None e at = sym (not_there bytes key is (settings_by read rows) (above bytes key is read rows st.1 (above_equal row rows s e)))
         gone_here (Some entry) e at =
             sym (ap (λ (o : Ordering). cond (is_eq o) (settings_by read rows) (setting entry ∷ remove_entry (is_at (prefix_cmp key)) (settings_by read rows))) (cmp_is bytes key is row entry at ∙ e))
 
-        gone_later : (o : Option PrefixEntry) (r : Ordering) → bytes_cmp bytes row.0 ≡ r → is_eq r ≡ false → StandsAt row.0.items o → shown o (remove_entry (is_at (prefix_cmp key)) (settings_by read rows)) ≡ remove_entry (is_at (prefix_cmp key)) (shown o (settings_by read rows))
+        gone_later : (o : Option PrefixEntry) (r : Ordering) → bytes_cmp bytes row.0 ≡ r → is_eq r ≡ false → StandsAt row.0.items o → with_entry o (remove_entry (is_at (prefix_cmp key)) (settings_by read rows)) ≡ remove_entry (is_at (prefix_cmp key)) (with_entry o (settings_by read rows))
         gone_later None r e ne at = refl
         gone_later (Some entry) r e ne at =
             sym (ap (λ (b : Bool). cond b (settings_by read rows) (setting entry ∷ remove_entry (is_at (prefix_cmp key)) (settings_by read rows))) (ap is_eq (cmp_is bytes key is row entry at ∙ e) ∙ ne))
 
-        later : (r : Ordering) → bytes_cmp bytes row.0 ≡ r → is_eq r ≡ false → settings_by read' rows ≡ remove_entry (is_at (prefix_cmp key)) (settings_by read rows) → shown (read' row) (settings_by read' rows) ≡ remove_entry (is_at (prefix_cmp key)) (shown (read row) (settings_by read rows))
-        later r e ne same = ap (λ (o : Option PrefixEntry). shown o (settings_by read' rows)) (agree row (ap is_eq e ∙ ne)) ∙ ap (shown (read row)) same ∙ gone_later (read row) r e ne st.0
+        later : (r : Ordering) → bytes_cmp bytes row.0 ≡ r → is_eq r ≡ false → settings_by read' rows ≡ remove_entry (is_at (prefix_cmp key)) (settings_by read rows) → with_entry (read' row) (settings_by read' rows) ≡ remove_entry (is_at (prefix_cmp key)) (with_entry (read row) (settings_by read rows))
+        later r e ne same = ap (λ (o : Option PrefixEntry). with_entry o (settings_by read' rows)) (agree row (ap is_eq e ∙ ne)) ∙ ap (with_entry (read row)) same ∙ gone_later (read row) r e ne st.0
 
-        by : (r : Ordering) → bytes_cmp bytes row.0 ≡ r → settings_by read' rows ≡ remove_entry (is_at (prefix_cmp key)) (settings_by read rows) → shown (read' row) (settings_by read' rows) ≡ remove_entry (is_at (prefix_cmp key)) (shown (read row) (settings_by read rows))
+        by : (r : Ordering) → bytes_cmp bytes row.0 ≡ r → settings_by read' rows ≡ remove_entry (is_at (prefix_cmp key)) (settings_by read rows) → with_entry (read' row) (settings_by read' rows) ≡ remove_entry (is_at (prefix_cmp key)) (with_entry (read row) (settings_by read rows))
         by Less e same = later Less e refl same
         by Equal e same =
-            ap (λ (o : Option PrefixEntry). shown o (settings_by read' rows)) (here row e) ∙ same_above rows (above_equal row rows s e) ∙ gone_here (read row) e st.0
+            ap (λ (o : Option PrefixEntry). with_entry o (settings_by read' rows)) (here row e) ∙ same_above rows (above_equal row rows s e) ∙ gone_here (read row) e st.0
         by Greater e same = later Greater e refl same

@@ -4,7 +4,7 @@ use Rattle.rdf_terms.specs.declared.term.Term.{Term}
 use Rattle.rdf_terms.specs.Quad.{Statement}
 use Rattle.quad_index.specs.declared.key.QuadKey.{QuadKey}
 use Rattle.quad_index.specs.declared.key.KeyPattern.{KeyPattern}
-use Rattle.quad_index.specs.Key.{fits as fits_bound, matches as matches_keys}
+use Rattle.quad_index.specs.Key.{fits_bound, matches_key}
 use Rattle.term_table.specs.Table.{same}
 use Rattle.dataset_tx.specs.declared.pattern.GraphPart.{GraphPart}
 use Rattle.dataset_tx.specs.declared.pattern.GraphPart.TheVariants.{Any, Default, Named}
@@ -38,4 +38,4 @@ fits_number (Some wanted) number = fits_bound wanted number
 -- a pattern by its numbers, where each bound term has one
 abbrev pub fits_key : Option KeyPattern → QuadKey → Bool
 fits_key None key = false
-fits_key (Some pattern) key = matches_keys pattern key
+fits_key (Some pattern) key = matches_key pattern key

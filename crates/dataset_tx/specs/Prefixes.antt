@@ -30,8 +30,8 @@ prefix_change s = PrefixAdd s.0.1 s.1 s.0.0
 abbrev pub RowBytes : Type 0
 RowBytes = Vec ℕ Global
 
-abbrev pub Row : Type 0
-Row = RowBytes × Option PrefixEntry
+abbrev pub PrefixRow : Type 0
+PrefixRow = RowBytes × Option PrefixEntry
 
 abbrev pub bytes_cmp : List ℕ → RowBytes → Ordering
 bytes_cmp bytes row = slice_cmp nat_cmp bytes row.items
@@ -40,10 +40,10 @@ abbrev pub row_cmp : RowBytes → RowBytes → Ordering
 row_cmp a b = bytes_cmp a.items b
 
 -- what rows have at some bytes
-abbrev pub at_bytes : List ℕ → List Row → Option (Option PrefixEntry)
+abbrev pub at_bytes : List ℕ → List PrefixRow → Option (Option PrefixEntry)
 at_bytes bytes rows = lookup (is_at (bytes_cmp bytes)) rows
 
-abbrev pub has_row : List Row → List ℕ → Bool
+abbrev pub has_row : List PrefixRow → List ℕ → Bool
 has_row rows bytes = is_some (at_bytes bytes rows)
 
 -- the bytes of a prefix with its graph
@@ -55,11 +55,11 @@ abbrev pub StandsAt : List ℕ → Option PrefixEntry → Type 0
 StandsAt bytes None = Unit {0}
 StandsAt bytes (Some entry) = bytes ≡ row_bytes (entry.graph, entry.prefix)
 
-abbrev pub AreRows : List Row → Type 0
+abbrev pub AreRows : List PrefixRow → Type 0
 AreRows rows = AllByRecursion (λ row. StandsAt row.0.items row.1) rows
 
 -- both are in the order of their bytes, and what is staged has its row
-pub record AreStagedRows (rows staged : List Row) : Type 0 where
+pub record AreStagedRows (rows staged : List PrefixRow) : Type 0 where
   pub stand : AreRows rows
   pub sorted : IsStrictlySortedBy row_cmp (keys_of rows)
   pub staged_stand : AreRows staged
@@ -73,27 +73,28 @@ abbrev pub setting : PrefixEntry → PrefixKey × List ℕ
 setting entry = ((entry.graph, entry.prefix), entry.iri)
 
 -- with what stands at a row, if anything does
-abbrev pub shown : Option PrefixEntry → List (PrefixKey × List ℕ) → List (PrefixKey × List ℕ)
-shown None settings = settings
-shown (Some entry) settings = setting entry ∷ settings
+abbrev pub with_entry : Option PrefixEntry → List (PrefixKey × List ℕ) → List (PrefixKey × List ℕ)
+with_entry None settings = settings
+with_entry (Some entry) settings = setting entry ∷ settings
 
 -- what rows have by a reading of each
-abbrev pub settings_by : (Row → Option PrefixEntry) → List Row → List (PrefixKey × List ℕ)
+abbrev pub settings_by : (PrefixRow → Option PrefixEntry) → List PrefixRow
+    → List (PrefixKey × List ℕ)
 settings_by read [] = []
-settings_by read (row ∷ rows) = shown (read row) (settings_by read rows)
+settings_by read (row ∷ rows) = with_entry (read row) (settings_by read rows)
 
-abbrev pub settings : List Row → List (PrefixKey × List ℕ)
+abbrev pub settings : List PrefixRow → List (PrefixKey × List ℕ)
 settings rows = settings_by (λ row. row.1) rows
 
 -- what a row becomes: what is staged for it, or what stands there
-abbrev pub becomes : List Row → Row → Option PrefixEntry
+abbrev pub becomes : List PrefixRow → PrefixRow → Option PrefixEntry
 becomes staged row = unwrap_or (at_bytes row.0.items staged) row.1
 
-abbrev pub next_settings : List Row → List Row → List (PrefixKey × List ℕ)
+abbrev pub next_settings : List PrefixRow → List PrefixRow → List (PrefixKey × List ℕ)
 next_settings staged rows = settings_by (becomes staged) rows
 
 -- what is to stand at some bytes
-abbrev pub standing : List Row → List Row → List ℕ → Option PrefixEntry
+abbrev pub standing : List PrefixRow → List PrefixRow → List ℕ → Option PrefixEntry
 standing staged rows bytes =
     unwrap_or (at_bytes bytes staged) (unwrap_or (at_bytes bytes rows) None)
 
@@ -105,6 +106,6 @@ set_to key iri None = record { prefix = key.1; iri = iri; graph = key.0 }
 set_to key iri (Some entry) = record { prefix = entry.prefix; iri = iri; graph = entry.graph }
 
 -- the rows, with something or nothing at one of them
-abbrev pub settled : List Row → RowBytes → Option PrefixEntry → List Row
+abbrev pub settled : List PrefixRow → RowBytes → Option PrefixEntry → List PrefixRow
 settled rows row None = remove_entry (is_at (row_cmp row)) rows
 settled rows row (Some entry) = insert_entry row_cmp rows row (Some entry)

@@ -36,6 +36,6 @@ held s staged = record {
   terms = s.terms;
 }
 
-abbrev pub IsWhole : Store → Bool → Type 0
-IsWhole s true = IsStore s
-IsWhole s false = IsStore s × IsSettled s
+abbrev pub IsStoreAfter : Store → Bool → Type 0
+IsStoreAfter s true = IsStore s
+IsStoreAfter s false = IsStore s × IsSettled s

@@ -47,13 +47,13 @@ pub struct Dataset {
 
 impl Model for Dataset {
     ghost use Rattle.dataset_tx.specs.Held.{Held};
-    ghost use Rattle.dataset_tx.specs.Stores.{held, IsWhole};
+    ghost use Rattle.dataset_tx.specs.Stores.{held, IsStoreAfter};
 
     ghost Value = { Held };
 
     ghost view = { λ d. held d.store d.is_staged };
 
-    ghost invariant = { λ d. IsWhole d.store d.is_staged };
+    ghost invariant = { λ d. IsStoreAfter d.store d.is_staged };
 }
 
 impl Dataset {

@@ -2,8 +2,8 @@
 ghost use Rattle.std.specs.Prelude.{◌≡◌, ◌⊎◌, ℕ, IsSome};
 ghost use Rattle.std.specs.List.{IsDistinct};
 ghost use Rattle.quad_index.specs.declared.key.QuadKey.{QuadKey as QuadKeyValue};
-ghost use Rattle.quad_keys.specs.Keys.{term_of, quad_of, IsKnown};
-ghost use Rattle.term_table.specs.Table.{same, term_at};
+ghost use Rattle.quad_keys.specs.Keys.{term_of_number, quad_of_key, IsNumbered};
+ghost use Rattle.term_table.specs.Table.{same, term_numbered};
 ghost use Rattle.dataset_tx.specs.Pattern.{fits, fits_graph, fits_number, fits_key, matches};
 
 use quad_index::KeyPattern;
@@ -30,7 +30,8 @@ pub struct Pattern {
 // The number of a part that is bound, if its term has one.
 fn part_number(terms: &TermTable, part: &Option<Term>) -> Option<Option<u32>>
     requires { IsDistinct same terms.now }
-    ensures { (n : ℕ) → IsSome (term_at terms.now n) → fits part.now (term_of terms.now n)
+    ensures { (n : ℕ) → IsSome (term_numbered terms.now n)
+        → fits part.now (term_of_number terms.now n)
         ≡ fits_number result n }
 {
     match part {
@@ -42,8 +43,8 @@ fn part_number(terms: &TermTable, part: &Option<Term>) -> Option<Option<u32>>
 // The number of a graph that is bound, if its name has one.
 fn graph_number(terms: &TermTable, graph: &GraphPart) -> Option<Option<u32>>
     requires { IsDistinct same terms.now }
-    ensures { (n : ℕ) → (n ≡ 0) ⊎ IsSome (term_at terms.now n)
-        → fits_graph graph.now (term_at terms.now n) ≡ fits_number result n }
+    ensures { (n : ℕ) → (n ≡ 0) ⊎ IsSome (term_numbered terms.now n)
+        → fits_graph graph.now (term_numbered terms.now n) ≡ fits_number result n }
 {
     match graph {
         GraphPart::Any => Some(None),
@@ -55,8 +56,8 @@ fn graph_number(terms: &TermTable, graph: &GraphPart) -> Option<Option<u32>>
 /// The keys of the quads that match, where each term of a pattern has a number.
 pub fn key_pattern(terms: &TermTable, pattern: &Pattern) -> Option<KeyPattern>
     requires { IsDistinct same terms.now }
-    ensures { (key : QuadKeyValue) → IsKnown terms.now key
-        → matches pattern.now (quad_of terms.now key) ≡ fits_key result key }
+    ensures { (key : QuadKeyValue) → IsNumbered terms.now key
+        → matches pattern.now (quad_of_key terms.now key) ≡ fits_key result key }
 {
     let g = graph_number(terms, &pattern.graph)?;
     let s = part_number(terms, &pattern.subject)?;

@@ -5,9 +5,9 @@ ghost use Rattle.std.specs.BTreeMap.{is_at, insert_entry};
 ghost use Rattle.std.specs.Map.{keys_of, remove_entry};
 ghost use Rattle.std.specs.List.Sorted.{IsStrictlySortedBy};
 ghost use Rattle.rdf_terms.specs.Dataset.{prefix_cmp};
-ghost use Rattle.dataset_tx.specs.Prefixes.{Row, RowBytes, prefix_change, row_bytes};
+ghost use Rattle.dataset_tx.specs.Prefixes.{PrefixRow, RowBytes, prefix_change, row_bytes};
 ghost use Rattle.dataset_tx.specs.Prefixes.{row_cmp, has_row, at_bytes, AreRows};
-ghost use Rattle.dataset_tx.specs.Prefixes.{AreStagedRows, setting, shown, settings};
+ghost use Rattle.dataset_tx.specs.Prefixes.{AreStagedRows, setting, with_entry, settings};
 ghost use Rattle.dataset_tx.specs.Prefixes.{next_settings, standing, set_to, settled};
 
 use delta_base::{Listing, OutOfMemory, Text};
@@ -182,10 +182,10 @@ fn copy_row(row: &Vec<u8>) -> Result<Vec<u8>, OutOfMemory>
 
 // Has a row among them, at which nothing stands if it is new.
 fn make_place(rows: &mut Rows, row: &Vec<u8>) -> Result<(), OutOfMemory>
-    ensures rows { (staged : List Row) → AreStagedRows rows.old.entries staged
+    ensures rows { (staged : List PrefixRow) → AreStagedRows rows.old.entries staged
         → AreStagedRows rows.new.entries staged }
     ensures contents { settings rows.new.entries ≡ settings rows.old.entries }
-    ensures next { (staged : List Row) → AreStagedRows rows.old.entries staged
+    ensures next { (staged : List PrefixRow) → AreStagedRows rows.old.entries staged
         → next_settings staged rows.new.entries ≡ next_settings staged rows.old.entries }
     ensures ok { OnOk result (has_row rows.new.entries row.now.items ≡ true) }
 {
@@ -297,7 +297,7 @@ fn give_back(rows: &mut Rows, row: &[u8])
 // Adds the change that sets what stands at a row, if anything does.
 fn push_change(changes: &mut Vec<Change>, entry: &Option<PrefixEntry>) -> Result<(), OutOfMemory>
     ensures { OnOk result
-        (changes.new.items ≡ changes.old.items ++ map prefix_change (shown entry.now [])) }
+        (changes.new.items ≡ changes.old.items ++ map prefix_change (with_entry entry.now [])) }
 {
     if let Some(entry) = entry {
         changes.push(change_of(entry)?)?;

@@ -3,7 +3,7 @@ use Rattle.std.proofs.Common.{◌≡◌, ◌+◌, ℕ, List, length, Result, Err
 use Rattle.std.proofs.KnownBytes.{Keeps-refl}
 use Rattle.delta_base.specs.Outside.{Rose}
 use Rattle.slot_files.specs.Files.{Files}
-use Rattle.slot_checks.specs.Checks.{Stops}
+use Rattle.slot_checks.specs.Checks.{CheckStops}
 use Rattle.slot_checks.specs.Lines.{lines_text}
 use Rattle.slot_checks.specs.declared.fault.CheckFault.{CheckFault}
 use Rattle.slot_checks.specs.declared.fault.CheckFault.TheVariants as checks
@@ -15,12 +15,12 @@ use Rattle.delta_cli.specs.declared.refusal.Refusal.{Refusal}
 use Rattle.delta_cli.specs.declared.refusal.Refusal.TheVariants as refusals
 
 module _ (dir : List ℕ) (tells : Type 0) (files files' : Files) (faults faults' : ℕ) where
-  some : (fault : CheckFault) → (tells → Stops dir files files' fault) → KeepsSome dir tells files files'
+  some : (fault : CheckFault) → (tells → CheckStops dir files files' fault) → KeepsSome dir tells files files'
   some fault stops told = let s = stops told in (s.file + 1, s.kept)
 
   -- an output to which nothing was written
   pub check_stops : {T : Type 0} (out : Channel) (result : Result T CheckFault) (fault : CheckFault) → result ≡ Err fault
-      → (tells → Stops dir files files' fault) → (result ≡ Err checks.Failed → Rose faults faults')
+      → (tells → CheckStops dir files files' fault) → (result ≡ Err checks.Failed → Rose faults faults')
       → StopsCheck dir tells files files' faults faults' out out (check_refusal fault)
   check_stops out result checks.Failed is stops cause = (cause is, some checks.Failed stops, Keeps-refl out.bytes)
   check_stops out result checks.OutOfMemory is stops cause = (some checks.OutOfMemory stops, Keeps-refl out.bytes)

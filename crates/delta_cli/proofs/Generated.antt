@@ -3,16 +3,16 @@ use Rattle.std.proofs.Common.{◌≡◌, ◌⊎◌, ℕ, ◌≤◌, List, Option
 use Rattle.chain_core.specs.Links.{IsChain}
 use Rattle.chain_core.proofs.Only.{no_fault}
 use Rattle.patch_meaning.specs.Patch.{Meaning}
-use Rattle.patch_meaning.specs.Replay.{links_of}
+use Rattle.patch_meaning.specs.Replay.{links_said}
 use Rattle.patch_meaning.specs.Stream.{IsStream}
 use Rattle.patch_meaning.proofs.OneStream.{same_stream, stream_or_fault}
 use Rattle.stream_replay.specs.Replaying.{AreReplayed}
-use Rattle.stream_replay.specs.Source.{Ends, IsReplayed}
+use Rattle.stream_replay.specs.Source.{EndsReplay, IsReplayed}
 use Rattle.stream_replay.specs.declared.fault.ReplayFault.{ReplayFault}
 use Rattle.stream_replay.specs.declared.fault.ReplayFault.TheVariants as ends
 use Rattle.stream_replay.specs.declared.replay.Replayed.{Replayed}
 use Rattle.stream_generator.specs.Generator.{stream_text}
-use Rattle.generated_replay.specs.Meanings.{meanings}
+use Rattle.generated_replay.specs.Meanings.{meanings_to}
 use Rattle.generated_replay.proofs.Chained.{chained, counted, last_is}
 use Rattle.generated_replay.proofs.Counted.{quads_left}
 use Rattle.generated_replay.proofs.Cutting.{stream_is}
@@ -20,12 +20,12 @@ use Rattle.generated_replay.proofs.Rows.{stream_short}
 use Rattle.delta_cli.specs.Results.{counts_line, generated_line}
 
 -- the text is the stream of no other patches
-one_stream : (n : ℕ) → n ≤ 65536 → (ms : List Meaning) → IsStream (stream_text n) ms → ms ≡ meanings n
-one_stream n small ms is = same_stream (stream_text n) ms (meanings n) is (stream_is n small)
+one_stream : (n : ℕ) → n ≤ 65536 → (ms : List Meaning) → IsStream (stream_text n) ms → ms ≡ meanings_to n
+one_stream n small ms is = same_stream (stream_text n) ms (meanings_to n) is (stream_is n small)
 
 pub counts_are : (n : ℕ) → n ≤ 65536 → (r : Replayed) → IsReplayed r (stream_text n) → counts_line r.patches r.quads r.head ≡ generated_line n
 counts_are n small r is =
-    let a : AreReplayed (meanings n) r = subst (λ (ms : List Meaning). AreReplayed ms r) (one_stream n small is.meanings is.stream) is.replayed in
+    let a : AreReplayed (meanings_to n) r = subst (λ (ms : List Meaning). AreReplayed ms r) (one_stream n small is.meanings is.stream) is.replayed in
     let patches = a.patches_is ∙ counted n in
     let quads = a.quads_is ∙ quads_left n small in
     let last = a.head_is ∙ last_is n in
@@ -33,14 +33,14 @@ counts_are n small r is =
 
 -- only the source's own failure and want of memory are left
 pub only_memory : (n : ℕ) → n ≤ 65536 → (left : Option (List ℕ)) (faults faults' : ℕ) (fault : ReplayFault)
-    → Ends (Some (stream_text n)) left faults faults' fault → (fault ≡ ends.Failed) ⊎ (fault ≡ ends.OutOfMemory)
+    → EndsReplay (Some (stream_text n)) left faults faults' fault → (fault ≡ ends.Failed) ⊎ (fault ≡ ends.OutOfMemory)
 only_memory n small left faults faults' (ends.Stream line at kind) why =
-    absurd (stream_or_fault (stream_text n) (meanings n) _ (stream_is n small) why.2.fault_is)
+    absurd (stream_or_fault (stream_text n) (meanings_to n) _ (stream_is n small) why.2.fault_is)
 only_memory n small left faults faults' (ends.LongPatch size limit) why =
-    absurd (stream_or_fault (stream_text n) (meanings n) _ (stream_is n small) why.2)
+    absurd (stream_or_fault (stream_text n) (meanings_to n) _ (stream_is n small) why.2)
 only_memory n small left faults faults' (ends.Chain fault) why =
     let is = one_stream n small why.2.meanings why.2.stream in
-    absurd (no_fault (links_of why.2.meanings) fault why.2.breaks (subst (λ (ms : List Meaning). IsChain (links_of ms)) (sym is) (chained n)))
+    absurd (no_fault (links_said why.2.meanings) fault why.2.breaks (subst (λ (ms : List Meaning). IsChain (links_said ms)) (sym is) (chained n)))
 only_memory n small left faults faults' ends.TooLong why = absurd (omega (arith, why, stream_short n small))
 only_memory n small left faults faults' ends.Failed why = inl refl
 only_memory n small left faults faults' ends.OutOfMemory why = inr refl

@@ -4,11 +4,11 @@ use Rattle.delta_base.specs.Outside.{Rose}
 use Rattle.delta_cli.specs.Zones.{bytes_of}
 use Rattle.stream_generator.specs.Generator.{patch_text, patches_from}
 use Rattle.stream_replay.specs.declared.replay.Replayed.{Replayed}
-use Rattle.stream_replay.specs.Source.{Reads as ReadsBytes, IsReplayed}
+use Rattle.stream_replay.specs.Source.{ReadsBytes, IsReplayed}
 use Rattle.delta_cli.specs.declared.refusal.Refusal.{Refusal}
 use Rattle.delta_cli.specs.declared.refusal.Refusal.TheVariants as refusals
 use Rattle.delta_cli.specs.Channels.{Channel}
-use Rattle.delta_cli.specs.Results.{Reads, PrintsFront, HasLines, StopsPrinting, StopsReplay}
+use Rattle.delta_cli.specs.Results.{ReadsInput, PrintsFront, HasReplayLines, StopsPrinting, StopsReplay}
 
 pub reads_weaker : (before after : Option (List ℕ)) (P Q : List ℕ → Type 0) → ((text : List ℕ) → P text → Q text) → ReadsBytes before after P → ReadsBytes before after Q
 reads_weaker None after P Q f reads = tt
@@ -18,14 +18,14 @@ pub err_weaker : {T E : Type 0} (r : Result T E) (P Q : E → Type 0) → ((e : 
 err_weaker (Ok x) P Q f h = tt
 err_weaker (Err e) P Q f h = f e h
 
-pub has_lines : (r : Replayed) (text : List ℕ) → IsReplayed r text → HasLines text (bytes_of r.lines)
+pub has_lines : (r : Replayed) (text : List ℕ) → IsReplayed r text → HasReplayLines text (bytes_of r.lines)
 has_lines r text is = record { patches = is.meanings; stream = is.stream; chain = is.replayed.chain; lines_are = is.replayed.lines_are }
 
-module _ (input input' out out' : Channel) (r : Replayed) (reads : Reads input input' (IsReplayed r)) where
+module _ (input input' out out' : Channel) (r : Replayed) (reads : ReadsInput input input' (IsReplayed r)) where
   pub stops_printing : (refusal : Refusal) → StopsPrinting (bytes_of r.lines) out out' refusal → StopsReplay refusal input input' out out'
   stops_printing refusals.OutputFailed stops = (
     stops.0,
-    reads_weaker input.bytes input'.bytes (IsReplayed r) (PrintsFront HasLines out out') (λ text is. record { result = bytes_of r.lines; has = has_lines r text is; written = stops.1 }) reads,
+    reads_weaker input.bytes input'.bytes (IsReplayed r) (PrintsFront HasReplayLines out out') (λ text is. record { result = bytes_of r.lines; has = has_lines r text is; written = stops.1 }) reads,
   )
   stops_printing refusals.OutOfMemory stops = stops
   stops_printing refusals.UnknownCommand stops = absurd stops

@@ -4,7 +4,7 @@ use Rattle.std.specs.List.{All, list_all}
 use Rattle.std.proofs.lemmas.List.Sums.{list_all-from_AllPass}
 use Rattle.http_text.specs.Print.{is_visible}
 use Rattle.delta_cli.specs.Addresses.{IsVisible}
-use Rattle.delta_cli.specs.Asked.{Ended, StopsAsking}
+use Rattle.delta_cli.specs.Asked.{AskedEnd, StopsAsking}
 use Rattle.delta_cli.specs.Channels.{Channel}
 use Rattle.delta_cli.specs.declared.refusal.Refusal.{Refusal}
 use Rattle.delta_cli.specs.declared.refusal.Refusal.TheVariants as refusals
@@ -15,8 +15,8 @@ visible_is b is = search (rules, tests)
 pub all_visible : (bytes : List ℕ) → All IsVisible bytes → list_all is_visible bytes ≡ true
 all_visible bytes all = list_all-from_AllPass is_visible bytes (λ k d low. visible_is _ (all k d low))
 
-module _ (Ends : Ended → Type 0) (ended : Ended) (has : Ends ended) (out out' : Channel) where
-  has_end : (e : Ended) → e ≡ ended → Ends e
+module _ (Ends : AskedEnd → Type 0) (ended : AskedEnd) (has : Ends ended) (out out' : Channel) where
+  has_end : (e : AskedEnd) → e ≡ ended → Ends e
   has_end e is = subst Ends (sym is) has
 
   pub stops_asking : (r : Refusal) → StopsAsking (λ e. e ≡ ended) out out' r → StopsAsking Ends out out' r

@@ -14,7 +14,7 @@ use Rattle.follower.specs.declared.ends.SyncEnd.TheVariants as ends
 use Rattle.zone_commands.specs.Following.{Followed}
 use Rattle.delta_cli.specs.Channels.{Channel}
 use Rattle.delta_cli.specs.Syncs.{StopsOpening, StopsSync, Synced, dialled, unopened}
-use Rattle.delta_cli.specs.Told.{Net}
+use Rattle.delta_cli.specs.Told.{Network}
 use Rattle.delta_cli.specs.Zones.{KeepsZone, zone_refusal}
 use Rattle.delta_cli.specs.declared.refusal.Refusal.{Refusal}
 
@@ -29,7 +29,7 @@ opening_stops dir tells files faults faults' result (zones.WrongNumber found) is
 opening_stops dir tells files faults faults' result (zones.OverLimit size limit) is has cause = λ told. (refl, has told)
 opening_stops dir tells files faults faults' result (zones.BrokenChain version) is has cause = λ told. (refl, has told)
 
-module _ {L : Type 0} (left sent : L → Option (List ℕ)) (tells net_tells : Type 0) (dir address name : List ℕ) (files files' : Files) (faults faults' : ℕ) (net net' : Net L) (result : Result SyncEnd ZoneFault) where
+module _ {L : Type 0} (left sent : L → Option (List ℕ)) (tells net_tells : Type 0) (dir address name : List ℕ) (files files' : Files) (faults faults' : ℕ) (net net' : Network L) (result : Result SyncEnd ZoneFault) where
   -- a zone that followed a log
   pub synced : (end : SyncEnd) → result ≡ Ok end
       → Followed left sent tells net_tells address name (bytes_at files dir zone_number) (bytes_at files' dir zone_number) (dialled net) (dialled net') end

@@ -19,7 +19,7 @@ use Rattle.delta_cli.specs.declared.name.Name.{Name}
 use Rattle.delta_cli.specs.declared.name.Name.TheVariants as names
 use Rattle.delta_cli.specs.Channels.{words_of}
 use Rattle.delta_cli.specs.Addresses.{IsAddress}
-use Rattle.delta_cli.specs.Commands.{AreWords, Asks, AsksFor, AsksNothing, AsksToRead, BeginsWith, FitsName, IsNamed, IsOfTool, asks_server, positions_of}
+use Rattle.delta_cli.specs.Commands.{AreCommandWords, Asks, AsksFor, AsksNothing, AsksToRead, BeginsWith, FitsName, IsNamed, IsOfTool, asks_server, positions_of}
 use Rattle.delta_cli.specs.Lines.{name_text}
 
 -- ---- numbers
@@ -113,7 +113,7 @@ one_plain a x = All-cons IsPlainWord a [] x none_plain
 alone : (words : List (List ℕ)) (name : Name) → positions_of name ≡ [] → words ≡ name_text name ∷ [] → FitsName words name
 alone words name none is = subst (λ (ws : List (List ℕ)). FitsName ws name) (sym is) (([], refl), (none_plain, ap (λ (ps : List (List ℕ)). length ps + 1) (sym none)))
 
-fits_words : (words : List (List ℕ)) (name : Name) (rest : List (List ℕ)) → AreWords words (name_text name) rest → length rest ≡ length (positions_of name) → FitsName words name
+fits_words : (words : List (List ℕ)) (name : Name) (rest : List (List ℕ)) → AreCommandWords words (name_text name) rest → length rest ≡ length (positions_of name) → FitsName words name
 fits_words words name rest are same = subst (λ (ws : List (List ℕ)). FitsName ws name) (sym are.0) ((rest, refl), (are.1, omega (arith, same)))
 
 call_fits : (words : List (List ℕ)) (dice : ℕ) (address : List ℕ) (call : Call) → AsksFor words dice address call → FitsName words (name_of_call call)
@@ -228,35 +228,35 @@ first_of_words (x ∷ xs) w some is = (words_of xs, ap (λ (y : String Global). 
 
 -- ---- words that ask a server
 
-cut_three : (words rest : List (List ℕ)) (x : List ℕ) → words ≡ x ∷ rest → length words ≡ 4 → ArePlain (drop 1 words) → AreWords words x (get_or words 1 [] ∷ get_or words 2 [] ∷ get_or words 3 [] ∷ [])
+cut_three : (words rest : List (List ℕ)) (x : List ℕ) → words ≡ x ∷ rest → length words ≡ 4 → ArePlain (drop 1 words) → AreCommandWords words x (get_or words 1 [] ∷ get_or words 2 [] ∷ get_or words 3 [] ∷ [])
 cut_three words [] x is long plain = absurd (omega (arith, long, ap length is))
 cut_three words (a ∷ []) x is long plain = absurd (omega (arith, long, ap length is))
 cut_three words (a ∷ (b ∷ [])) x is long plain = absurd (omega (arith, long, ap length is))
 cut_three words (a ∷ (b ∷ (d ∷ []))) x is long plain =
-    subst (λ (ws : List (List ℕ)). ArePlain (drop 1 ws) → AreWords ws x (get_or ws 1 [] ∷ get_or ws 2 [] ∷ get_or ws 3 [] ∷ [])) (sym is) (λ p. (refl, p)) plain
+    subst (λ (ws : List (List ℕ)). ArePlain (drop 1 ws) → AreCommandWords ws x (get_or ws 1 [] ∷ get_or ws 2 [] ∷ get_or ws 3 [] ∷ [])) (sym is) (λ p. (refl, p)) plain
 cut_three words (a ∷ (b ∷ (d ∷ (e ∷ rest)))) x is long plain = absurd (omega (arith, long, ap length is))
 
 module _ (words : List (List ℕ)) (name : Name) (fits : FitsName words name) where
-  three_words : length (positions_of name) ≡ 3 → AreWords words (name_text name) (get_or words 1 [] ∷ get_or words 2 [] ∷ get_or words 3 [] ∷ [])
+  three_words : length (positions_of name) ≡ 3 → AreCommandWords words (name_text name) (get_or words 1 [] ∷ get_or words 2 [] ∷ get_or words 3 [] ∷ [])
   three_words count = cut_three words fits.0.0 (name_text name) fits.0.1 (omega (arith, fits.1.1, count)) fits.1.0
 
   -- the words behind the name, of which two were taken
-  pub three_are : length (positions_of name) ≡ 3 → (b d : List ℕ) → b ≡ get_or words 2 [] → d ≡ get_or words 3 [] → AreWords words (name_text name) (get_or words 1 [] ∷ b ∷ d ∷ [])
+  pub three_are : length (positions_of name) ≡ 3 → (b d : List ℕ) → b ≡ get_or words 2 [] → d ≡ get_or words 3 [] → AreCommandWords words (name_text name) (get_or words 1 [] ∷ b ∷ d ∷ [])
   three_are count b d is_b is_d =
-      subst (λ (t : List ℕ). AreWords words (name_text name) (get_or words 1 [] ∷ b ∷ t ∷ [])) (sym is_d)
-      (subst (λ (t : List ℕ). AreWords words (name_text name) (get_or words 1 [] ∷ t ∷ get_or words 3 [] ∷ [])) (sym is_b) (three_words count))
+      subst (λ (t : List ℕ). AreCommandWords words (name_text name) (get_or words 1 [] ∷ b ∷ t ∷ [])) (sym is_d)
+      (subst (λ (t : List ℕ). AreCommandWords words (name_text name) (get_or words 1 [] ∷ t ∷ get_or words 3 [] ∷ [])) (sym is_b) (three_words count))
 
 -- ---- words that ask for the quads of a zone that match
 
 cut_five : (words rest : List (List ℕ)) (x : List ℕ) → words ≡ x ∷ rest → length words ≡ 6 → ArePlain (drop 1 words)
-    → AreWords words x (get_or words 1 [] ∷ get_or words 2 [] ∷ get_or words 3 [] ∷ get_or words 4 [] ∷ get_or words 5 [] ∷ [])
+    → AreCommandWords words x (get_or words 1 [] ∷ get_or words 2 [] ∷ get_or words 3 [] ∷ get_or words 4 [] ∷ get_or words 5 [] ∷ [])
 cut_five words [] x is long plain = absurd (omega (arith, long, ap length is))
 cut_five words (a ∷ []) x is long plain = absurd (omega (arith, long, ap length is))
 cut_five words (a ∷ (b ∷ [])) x is long plain = absurd (omega (arith, long, ap length is))
 cut_five words (a ∷ (b ∷ (d ∷ []))) x is long plain = absurd (omega (arith, long, ap length is))
 cut_five words (a ∷ (b ∷ (d ∷ (e ∷ [])))) x is long plain = absurd (omega (arith, long, ap length is))
 cut_five words (a ∷ (b ∷ (d ∷ (e ∷ (f ∷ []))))) x is long plain =
-    subst (λ (ws : List (List ℕ)). ArePlain (drop 1 ws) → AreWords ws x (get_or ws 1 [] ∷ get_or ws 2 [] ∷ get_or ws 3 [] ∷ get_or ws 4 [] ∷ get_or ws 5 [] ∷ [])) (sym is) (λ p. (refl, p)) plain
+    subst (λ (ws : List (List ℕ)). ArePlain (drop 1 ws) → AreCommandWords ws x (get_or ws 1 [] ∷ get_or ws 2 [] ∷ get_or ws 3 [] ∷ get_or ws 4 [] ∷ get_or ws 5 [] ∷ [])) (sym is) (λ p. (refl, p)) plain
 cut_five words (a ∷ (b ∷ (d ∷ (e ∷ (f ∷ (g ∷ rest)))))) x is long plain = absurd (omega (arith, long, ap length is))
 
 call_asks : (call : Call) → asks_server (name_of_call call) ≡ true
@@ -280,9 +280,9 @@ no_call call name alone is = true≢false (sym (call_asks call) ∙ ap asks_serv
 module _ (words : List (List ℕ)) (fits : FitsName words names.Match) where
   -- the words behind the name, of which the first was taken
   pub five_are : (dir : List ℕ) → dir ≡ get_or words 1 []
-      → AreWords words (codes "match") (dir ∷ get_or words 2 [] ∷ get_or words 3 [] ∷ get_or words 4 [] ∷ get_or words 5 [] ∷ [])
+      → AreCommandWords words (codes "match") (dir ∷ get_or words 2 [] ∷ get_or words 3 [] ∷ get_or words 4 [] ∷ get_or words 5 [] ∷ [])
   five_are dir is =
-      subst (λ (t : List ℕ). AreWords words (codes "match") (t ∷ get_or words 2 [] ∷ get_or words 3 [] ∷ get_or words 4 [] ∷ get_or words 5 [] ∷ [])) (sym is)
+      subst (λ (t : List ℕ). AreCommandWords words (codes "match") (t ∷ get_or words 2 [] ∷ get_or words 3 [] ∷ get_or words 4 [] ∷ get_or words 5 [] ∷ [])) (sym is)
       (cut_five words fits.0.0 (codes "match") fits.0.1 (omega (arith, fits.1.1)) fits.1.0)
 
   -- words that stand for no pattern ask for nothing
@@ -313,9 +313,9 @@ module _ (words : List (List ℕ)) (fits : FitsName words names.Match) where
 module _ (words : List (List ℕ)) (fits : FitsName words names.Sync) where
   -- the words behind the name, each of which was taken
   pub sync_are : (dir address name : List ℕ) → dir ≡ get_or words 1 [] → address ≡ get_or words 2 [] → name ≡ get_or words 3 []
-      → AreWords words (codes "sync") (dir ∷ address ∷ name ∷ [])
+      → AreCommandWords words (codes "sync") (dir ∷ address ∷ name ∷ [])
   sync_are dir address name is_dir is_address is_name =
-      subst (λ (t : List ℕ). AreWords words (codes "sync") (t ∷ address ∷ name ∷ [])) (sym is_dir) (three_are words names.Sync fits refl address name is_address is_name)
+      subst (λ (t : List ℕ). AreCommandWords words (codes "sync") (t ∷ address ∷ name ∷ [])) (sym is_dir) (three_are words names.Sync fits refl address name is_address is_name)
 
   -- words with no address in its place ask for nothing
   pub unaddressed : (IsAddress (get_or words 2 []) → ⊥) → AsksNothing words

@@ -12,38 +12,39 @@ use Rattle.rpc_calls.specs.declared.call.Call.{Call}
 use Rattle.client_commands.specs.Asks.{AsksBoth, AsksOnce}
 use Rattle.client_commands.specs.declared.fault.ClientFault.{ClientFault}
 use Rattle.client_commands.specs.declared.fault.ClientFault.TheVariants as clients
-use Rattle.delta_cli.specs.Channels.{Channel, HasFailed, IsLonger, IsSilent, Writes, WritesFront}
-use Rattle.delta_cli.specs.Told.{Net}
+use Rattle.delta_cli.specs.Channels.{Channel, ChannelFailed, IsLonger, IsSilent, WritesText}
+use Rattle.delta_cli.specs.Channels.{WritesFront}
+use Rattle.delta_cli.specs.Told.{Network}
 use Rattle.delta_cli.specs.declared.refusal.Refusal.{Refusal}
 use Rattle.delta_cli.specs.declared.refusal.Refusal.TheVariants as refusals
 
 -- how asking ends: with what is printed, or with a fault
-abbrev pub Ended : Type 0
-Ended = Result (List ℕ) ClientFault
+abbrev pub AskedEnd : Type 0
+AskedEnd = Result (List ℕ) ClientFault
 
 -- ---- what was asked
 
 module _ {L : Type 0} (left sent : L → Option (List ℕ)) (tells : Type 0) (address : List ℕ) where
   -- One connection was tried for. Where the dial tells, the call was asked over it, and ended so. A
   -- failed link has raised the dial's count.
-  pub record Asked (call : Call) (net net' : Net L) (ended : Ended) : Type 0 where
+  pub record Asked (call : Call) (net net' : Network L) (ended : AskedEnd) : Type 0 where
     pub tries : CountsCall net.tries net'.tries
     pub asks : tells → AsksOnce left sent address call net.links net'.links ended
     pub cause : ended ≡ Err clients.LinkFailed → Rose net.faults net'.faults
 
   -- the same of a source and its log, over as many connections as it took
-  pub record Described (name : List ℕ) (net net' : Net L) (ended : Ended) : Type 0 where
+  pub record Described (name : List ℕ) (net net' : Network L) (ended : AskedEnd) : Type 0 where
     pub asks : tells → AsksBoth left sent address name net.links net'.links ended
     pub cause : ended ≡ Err clients.LinkFailed → Rose net.faults net'.faults
 
 -- ---- what was printed
 
 -- asking ended with a text, which was written
-abbrev pub PrintsEnd : (Ended → Type 0) → Channel → Channel → Type 0
-PrintsEnd Ends out out' = (text : List ℕ) × Ends (Ok text) × Writes out out' text
+abbrev pub PrintsEnd : (AskedEnd → Type 0) → Channel → Channel → Type 0
+PrintsEnd Ends out out' = (text : List ℕ) × Ends (Ok text) × WritesText out out' text
 
 -- why no text was printed
-abbrev pub StopsAsking : (Ended → Type 0) → Channel → Channel → Refusal → Type 0
+abbrev pub StopsAsking : (AskedEnd → Type 0) → Channel → Channel → Refusal → Type 0
 StopsAsking Ends out out' (refusals.Refused status body) =
     Ends (Err (clients.Refused status body)) × IsSilent out out'
 StopsAsking Ends out out' refusals.LinkFailed = Ends (Err clients.LinkFailed) × IsSilent out out'
@@ -53,7 +54,7 @@ StopsAsking Ends out out' (refusals.NotUnderstood at) =
 StopsAsking Ends out out' refusals.OutOfMemory =
     Ends (Err clients.OutOfMemory) × IsSilent out out'
 StopsAsking Ends out out' refusals.OutputFailed =
-    HasFailed out out' × ((text : List ℕ) × Ends (Ok text) × WritesFront out out' text)
+    ChannelFailed out out' × ((text : List ℕ) × Ends (Ok text) × WritesFront out out' text)
 StopsAsking Ends out out' other = ⊥
 
 -- ---- patches of the input
@@ -87,7 +88,7 @@ StopsPatch input input' (refusals.Stream line at kind) =
     (text : List ℕ) × IsReadAs input input' text × IsFaultyPatch line at kind text
 StopsPatch input input' (refusals.TooLong limit) =
     IsLonger input.bytes PATCH_LIMIT × (limit ≡ PATCH_LIMIT)
-StopsPatch input input' refusals.InputFailed = HasFailed input input'
+StopsPatch input input' refusals.InputFailed = ChannelFailed input input'
 StopsPatch input input' refusals.OutOfMemory = Unit {0}
 StopsPatch input input' other = ⊥
 

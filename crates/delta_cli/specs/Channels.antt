@@ -14,24 +14,24 @@ pub record Channel : Type 0 where
 abbrev pub channel : Option (List ℕ) → ℕ → Channel
 channel bytes faults = record { bytes = bytes; faults = faults }
 
-abbrev pub HasFailed : Channel → Channel → Type 0
-HasFailed before after = Rose before.faults after.faults
+abbrev pub ChannelFailed : Channel → Channel → Type 0
+ChannelFailed before after = Rose before.faults after.faults
 
 -- nothing was written
 abbrev pub IsSilent : Channel → Channel → Type 0
 IsSilent before after = Keeps before.bytes after.bytes
 
 -- the text was written
-abbrev pub Writes : Channel → Channel → List ℕ → Type 0
-Writes before after text = Appends before.bytes after.bytes text
+abbrev pub WritesText : Channel → Channel → List ℕ → Type 0
+WritesText before after text = Appends before.bytes after.bytes text
 
 -- a front of the text was written
 abbrev pub WritesFront : Channel → Channel → List ℕ → Type 0
 WritesFront before after text = AppendsFront before.bytes after.bytes text
 
 -- the line was written, unless the object failed
-abbrev pub Tells : Channel → Channel → List ℕ → Type 0
-Tells before after line = HasFailed before after ⊎ Writes before after line
+abbrev pub TellsLine : Channel → Channel → List ℕ → Type 0
+TellsLine before after line = ChannelFailed before after ⊎ WritesText before after line
 
 -- what was left is longer, where it is told
 abbrev pub IsLonger : Option (List ℕ) → ℕ → Type 0

@@ -5,7 +5,7 @@ use Rattle.std.specs.Fmt.{decimal}
 use Rattle.command_words.specs.Positions.{ArePlain, FitPositions, IsPlainWord}
 use Rattle.delta_base.specs.Ids.{number_of, random_id}
 use Rattle.delta_base.specs.declared.id.Id.{Id}
-use Rattle.rpc_calls.specs.Routes.{version_of}
+use Rattle.rpc_calls.specs.Routes.{version_asked}
 use Rattle.rpc_calls.specs.declared.call.Call.{Call}
 use Rattle.rpc_calls.specs.declared.call.Call.TheVariants as calls
 use Rattle.zone_commands.specs.Words.{IsPatternOf}
@@ -21,8 +21,8 @@ use Rattle.delta_cli.specs.declared.refusal.Refusal.TheVariants as refusals
 use Rattle.delta_cli.specs.Lines.{name_text}
 
 -- the words are a command's and these, none of which begins with `-`
-abbrev pub AreWords : List (List ℕ) → List ℕ → List (List ℕ) → Type 0
-AreWords words command rest = (words ≡ command ∷ rest) × ArePlain rest
+abbrev pub AreCommandWords : List (List ℕ) → List ℕ → List (List ℕ) → Type 0
+AreCommandWords words command rest = (words ≡ command ∷ rest) × ArePlain rest
 
 -- the id that a text names, in one of the four forms
 abbrev pub NamesId : List ℕ → Id → Type 0
@@ -31,30 +31,31 @@ NamesId text id = number_of text ≡ Some id.0
 -- The words ask a server at the address for this. A source is created with an id made of the dice.
 -- A patch is fetched by a version of 1 to 10 digits, or by an id.
 abbrev pub AsksFor : List (List ℕ) → ℕ → List ℕ → Call → Type 0
-AsksFor words dice address calls.Ping = AreWords words (codes "ping") (address ∷ [])
-AsksFor words dice address calls.List = AreWords words (codes "list") (address ∷ [])
+AsksFor words dice address calls.Ping = AreCommandWords words (codes "ping") (address ∷ [])
+AsksFor words dice address calls.List = AreCommandWords words (codes "list") (address ∷ [])
 AsksFor words dice address (calls.Create name uri id) =
-    AreWords words (codes "create") (address ∷ name ∷ uri ∷ []) × (id ≡ Some (random_id dice))
+    AreCommandWords words (codes "create") (address ∷ name ∷ uri ∷ [])
+    × (id ≡ Some (random_id dice))
 AsksFor words dice address (calls.Rename name new_name) =
-    AreWords words (codes "rename") (address ∷ name ∷ new_name ∷ [])
+    AreCommandWords words (codes "rename") (address ∷ name ∷ new_name ∷ [])
 AsksFor words dice address (calls.Remove name) =
-    AreWords words (codes "remove") (address ∷ name ∷ [])
+    AreCommandWords words (codes "remove") (address ∷ name ∷ [])
 AsksFor words dice address (calls.Version name) =
-    AreWords words (codes "version") (address ∷ name ∷ [])
+    AreCommandWords words (codes "version") (address ∷ name ∷ [])
 AsksFor words dice address (calls.FetchVersion name version) =
-    (which : List ℕ) × AreWords words (codes "fetch") (address ∷ name ∷ which ∷ [])
-    × (version_of which ≡ Some version)
+    (which : List ℕ) × AreCommandWords words (codes "fetch") (address ∷ name ∷ which ∷ [])
+    × (version_asked which ≡ Some version)
 AsksFor words dice address (calls.FetchId name id) =
-    (which : List ℕ) × AreWords words (codes "fetch") (address ∷ name ∷ which ∷ [])
-    × (version_of which ≡ None) × NamesId which id
+    (which : List ℕ) × AreCommandWords words (codes "fetch") (address ∷ name ∷ which ∷ [])
+    × (version_asked which ≡ None) × NamesId which id
 AsksFor words dice address other = ⊥
 
 -- the words ask for what is read of the zone of a directory
 abbrev pub AsksToRead : List (List ℕ) → List ℕ → Reading → Type 0
-AsksToRead words dir readings.Dump = AreWords words (codes "dump") (dir ∷ [])
-AsksToRead words dir readings.Prefixes = AreWords words (codes "prefixes") (dir ∷ [])
+AsksToRead words dir readings.Dump = AreCommandWords words (codes "dump") (dir ∷ [])
+AsksToRead words dir readings.Prefixes = AreCommandWords words (codes "prefixes") (dir ∷ [])
 AsksToRead words dir (readings.Match pattern) =
-    (g s p o : List ℕ) × AreWords words (codes "match") (dir ∷ g ∷ s ∷ p ∷ o ∷ [])
+    (g s p o : List ℕ) × AreCommandWords words (codes "match") (dir ∷ g ∷ s ∷ p ∷ o ∷ [])
     × IsPatternOf g s p o pattern
 
 -- The words ask for this command, with these dice. Numbers are decimal, without sign and leading
@@ -69,15 +70,15 @@ Asks words dice (commands.Emit patches) =
 Asks words dice (commands.Init dir slots) =
     (words ≡ codes "init" ∷ dir ∷ decimal slots ∷ []) × IsPlainWord dir × (1 ≤ slots) × (slots ≤ 16)
 Asks words dice (commands.Check dir) = (words ≡ codes "check" ∷ dir ∷ []) × IsPlainWord dir
-Asks words dice (commands.Zone dir) = AreWords words (codes "zone") (dir ∷ [])
+Asks words dice (commands.Zone dir) = AreCommandWords words (codes "zone") (dir ∷ [])
 Asks words dice (commands.Read dir reading) = AsksToRead words dir reading
 Asks words dice (commands.Sync dir address name) =
-    AreWords words (codes "sync") (dir ∷ address ∷ name ∷ []) × IsAddress address
+    AreCommandWords words (codes "sync") (dir ∷ address ∷ name ∷ []) × IsAddress address
 Asks words dice (commands.Ask address call) = AsksFor words dice address call × IsAddress address
 Asks words dice (commands.Describe address name) =
-    AreWords words (codes "describe") (address ∷ name ∷ []) × IsAddress address
+    AreCommandWords words (codes "describe") (address ∷ name ∷ []) × IsAddress address
 Asks words dice (commands.Append address name) =
-    AreWords words (codes "append") (address ∷ name ∷ []) × IsAddress address
+    AreCommandWords words (codes "append") (address ∷ name ∷ []) × IsAddress address
 Asks words dice commands.Help = words ≡ codes "--help" ∷ []
 Asks words dice commands.Version = words ≡ codes "--version" ∷ []
 

@@ -1,7 +1,7 @@
 -- What the command `nquads` says of a text.
 use Rattle.std.specs.Prelude.{◌≡◌, ℕ, ◌≤◌, List, length, drop}
 use Rattle.rdf_terms.specs.Quad.{Statement}
-use Rattle.nquads_text.specs.Faults.{TermFault}
+use Rattle.nquads_text.specs.Faults.{AnyTermFault}
 use Rattle.nquads_text.specs.declared.fault.TextKind.{TextKind}
 use Rattle.nquads_documents.specs.Canonical.{IsCanonical}
 use Rattle.nquads_documents.specs.Faults.{DocumentFault}
@@ -15,7 +15,7 @@ pub record IsShown (text result : List ℕ) : Type 0 where
   pub canonical : IsCanonical quads result
 
 -- the first fault of the text as a document has this kind, this place, and the line of this place
-pub record IsFaulty (line at : ℕ) (kind : TextKind) (text : List ℕ) : Type 0 where
-  pub fault : DocumentFault TermFault text (kind, drop at text)
+pub record IsFaultyDocument (line at : ℕ) (kind : TextKind) (text : List ℕ) : Type 0 where
+  pub fault : DocumentFault AnyTermFault text (kind, drop at text)
   pub within : at ≤ length text
   pub line_is : line ≡ line_of text at

@@ -130,57 +130,57 @@ chain_line (chains.Repeated id version) = codes "rdfdelta: repeated id "
     ++ (text_of id.0 ++ (codes " at version " ++ (decimal version ++ 10 ∷ [])))
 
 -- the line on err
-unfoldable pub line_of : Refusal → List ℕ
-line_of refusals.UnknownCommand = codes "rdfdelta: unknown command\n"
-line_of (refusals.Usage name) = codes "rdfdelta: usage: " ++ (usage_text name ++ 10 ∷ [])
-line_of (refusals.Stream line at kind) = place_line line at (patch_kind_name kind)
-line_of (refusals.LongPatch size limit) = limit_line limit
-line_of (refusals.Document line at kind) = place_line line at (text_kind_name kind)
-line_of (refusals.TooLong limit) = limit_line limit
-line_of refusals.InputFailed = codes "rdfdelta: input failed\n"
-line_of refusals.OutputFailed = codes "rdfdelta: output failed\n"
-line_of (refusals.NotEmpty file length) = codes "rdfdelta: refused: file "
+unfoldable pub refusal_line : Refusal → List ℕ
+refusal_line refusals.UnknownCommand = codes "rdfdelta: unknown command\n"
+refusal_line (refusals.Usage name) = codes "rdfdelta: usage: " ++ (usage_text name ++ 10 ∷ [])
+refusal_line (refusals.Stream line at kind) = place_line line at (patch_kind_name kind)
+refusal_line (refusals.LongPatch size limit) = limit_line limit
+refusal_line (refusals.Document line at kind) = place_line line at (text_kind_name kind)
+refusal_line (refusals.TooLong limit) = limit_line limit
+refusal_line refusals.InputFailed = codes "rdfdelta: input failed\n"
+refusal_line refusals.OutputFailed = codes "rdfdelta: output failed\n"
+refusal_line (refusals.NotEmpty file length) = codes "rdfdelta: refused: file "
     ++ (decimal file ++ (codes " not empty: " ++ (decimal length ++ 10 ∷ [])))
-line_of refusals.ZoneTermsFull = codes "rdfdelta: refused: zone terms full\n"
-line_of (refusals.ZoneFull have limit) = zone_full_line have limit
-line_of (refusals.File fault) = fault_line fault
-line_of (refusals.WrongCount disks slots) =
+refusal_line refusals.ZoneTermsFull = codes "rdfdelta: refused: zone terms full\n"
+refusal_line (refusals.ZoneFull have limit) = zone_full_line have limit
+refusal_line (refusals.File fault) = fault_line fault
+refusal_line (refusals.WrongCount disks slots) =
     codes "rdfdelta: file 0: wrong count: disks "
     ++ (decimal disks ++ (codes ", slots " ++ (decimal slots ++ 10 ∷ [])))
-line_of refusals.DiskFailed = codes "rdfdelta: disk failed\n"
-line_of refusals.LinkFailed = codes "rdfdelta: link failed\n"
-line_of (refusals.Refused status body) = refused_line status body
-line_of (refusals.NotUnderstood at) = not_understood_line at
-line_of refusals.CutShort = codes "rdfdelta: answer cut short\n"
-line_of (refusals.BadPatch version fault) =
+refusal_line refusals.DiskFailed = codes "rdfdelta: disk failed\n"
+refusal_line refusals.LinkFailed = codes "rdfdelta: link failed\n"
+refusal_line (refusals.Refused status body) = refused_line status body
+refusal_line (refusals.NotUnderstood at) = not_understood_line at
+refusal_line refusals.CutShort = codes "rdfdelta: answer cut short\n"
+refusal_line (refusals.BadPatch version fault) =
     bad_patch_line version (fault_at fault) (fault_name fault)
-line_of (refusals.PeerBehind mine theirs) = peer_behind_line mine theirs
-line_of (refusals.NoPatch version) = no_patch_line version
-line_of (refusals.Chain fault) = chain_line fault
-line_of refusals.OutOfMemory = out_of_memory_line
+refusal_line (refusals.PeerBehind mine theirs) = peer_behind_line mine theirs
+refusal_line (refusals.NoPatch version) = no_patch_line version
+refusal_line (refusals.Chain fault) = chain_line fault
+refusal_line refusals.OutOfMemory = out_of_memory_line
 
 -- the status
-abbrev pub status_of : Refusal → ℕ
-status_of refusals.UnknownCommand = 2
-status_of (refusals.Usage name) = 2
-status_of (refusals.Stream line at kind) = 3
-status_of (refusals.LongPatch size limit) = 3
-status_of (refusals.Document line at kind) = 3
-status_of (refusals.TooLong limit) = 3
-status_of refusals.InputFailed = 4
-status_of refusals.OutputFailed = 4
-status_of (refusals.NotEmpty file length) = 1
-status_of refusals.ZoneTermsFull = 1
-status_of (refusals.ZoneFull have limit) = 1
-status_of refusals.DiskFailed = 5
-status_of refusals.LinkFailed = 6
-status_of (refusals.Refused status body) = 1
-status_of (refusals.NotUnderstood at) = 7
-status_of refusals.CutShort = 7
-status_of (refusals.BadPatch version fault) = 7
-status_of (refusals.PeerBehind mine theirs) = 10
-status_of (refusals.NoPatch version) = 10
-status_of (refusals.File fault) = 9
-status_of (refusals.WrongCount disks slots) = 9
-status_of (refusals.Chain fault) = 10
-status_of refusals.OutOfMemory = 8
+abbrev pub exit_status : Refusal → ℕ
+exit_status refusals.UnknownCommand = 2
+exit_status (refusals.Usage name) = 2
+exit_status (refusals.Stream line at kind) = 3
+exit_status (refusals.LongPatch size limit) = 3
+exit_status (refusals.Document line at kind) = 3
+exit_status (refusals.TooLong limit) = 3
+exit_status refusals.InputFailed = 4
+exit_status refusals.OutputFailed = 4
+exit_status (refusals.NotEmpty file length) = 1
+exit_status refusals.ZoneTermsFull = 1
+exit_status (refusals.ZoneFull have limit) = 1
+exit_status refusals.DiskFailed = 5
+exit_status refusals.LinkFailed = 6
+exit_status (refusals.Refused status body) = 1
+exit_status (refusals.NotUnderstood at) = 7
+exit_status refusals.CutShort = 7
+exit_status (refusals.BadPatch version fault) = 7
+exit_status (refusals.PeerBehind mine theirs) = 10
+exit_status (refusals.NoPatch version) = 10
+exit_status (refusals.File fault) = 9
+exit_status (refusals.WrongCount disks slots) = 9
+exit_status (refusals.Chain fault) = 10
+exit_status refusals.OutOfMemory = 8

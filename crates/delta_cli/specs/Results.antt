@@ -5,32 +5,32 @@ use Rattle.delta_base.specs.declared.id.Id.{Id}
 use Rattle.rdf_terms.specs.Line.{lines}
 use Rattle.chain_core.specs.Links.{IsChain}
 use Rattle.patch_meaning.specs.Patch.{Meaning}
-use Rattle.patch_meaning.specs.Replay.{links_of, replay}
+use Rattle.patch_meaning.specs.Replay.{links_said, replay}
 use Rattle.patch_meaning.specs.Stream.{IsStream}
-use Rattle.stream_replay.specs.Places.{IsFaulty, IsLong}
-use Rattle.stream_replay.specs.Source.{Reads as ReadsBytes, IsTooLong, IsUnchained, stream_limit}
+use Rattle.stream_replay.specs.Places.{IsFaultyStream, IsLong}
+use Rattle.stream_replay.specs.Source.{ReadsBytes, IsTooLong, IsUnchained, stream_limit}
 use Rattle.std.specs.Borrow.{Bor}
 use Rattle.sink_writing.specs.Writing.{joined}
 use Rattle.stream_replay.specs.declared.fault.ReplayFault.{ReplayFault}
 use Rattle.stream_replay.specs.declared.fault.ReplayFault.TheVariants as replays
 use Rattle.generated_replay.specs.Meanings.{head}
-use Rattle.delta_cli.specs.Channels.{Channel, HasFailed, IsSilent, Writes, WritesFront}
-use Rattle.delta_cli.specs.Document.{IsShown, IsFaulty as IsFaultyDocument}
+use Rattle.delta_cli.specs.Channels.{Channel, ChannelFailed, IsSilent, WritesText, WritesFront}
+use Rattle.delta_cli.specs.Document.{IsShown, IsFaultyDocument}
 use Rattle.delta_cli.specs.Lines.{id_or_none}
 use Rattle.delta_cli.specs.declared.refusal.Refusal.{Refusal}
 use Rattle.delta_cli.specs.declared.refusal.Refusal.TheVariants as refusals
 
 -- where the input tells its bytes, it was read to its end, has at most 268,435,456 bytes, and
 -- they are such
-abbrev pub Reads : Channel → Channel → (List ℕ → Type 0) → Type 0
-Reads before after IsSuch = ReadsBytes before.bytes after.bytes IsSuch
+abbrev pub ReadsInput : Channel → Channel → (List ℕ → Type 0) → Type 0
+ReadsInput before after IsSuch = ReadsBytes before.bytes after.bytes IsSuch
 
 -- what the text has as its result was written
 pub record Prints (Has : List ℕ → List ℕ → Type 0) (out out' : Channel)
     (text : List ℕ) : Type 0 where
   pub result : List ℕ
   pub has : Has text result
-  pub written : Writes out out' result
+  pub written : WritesText out out' result
 
 -- out failed, and a front of it was written
 pub record PrintsFront (Has : List ℕ → List ℕ → Type 0) (out out' : Channel)
@@ -41,10 +41,10 @@ pub record PrintsFront (Has : List ℕ → List ℕ → Type 0) (out out' : Chan
 
 -- the text is a stream whose patches are a chain, and these are the canonical lines of the dataset
 -- that they make
-pub record HasLines (text result : List ℕ) : Type 0 where
+pub record HasReplayLines (text result : List ℕ) : Type 0 where
   pub patches : List Meaning
   pub stream : IsStream text patches
-  pub chain : IsChain (links_of patches)
+  pub chain : IsChain (links_said patches)
   pub lines_are : result ≡ lines (replay patches).quads
 
 -- so many patches and quads, and the last patch's id
@@ -71,7 +71,8 @@ refusal_of replays.OutOfMemory = refusals.OutOfMemory
 
 -- why a text that was made is not printed
 abbrev pub StopsPrinting : List ℕ → Channel → Channel → Refusal → Type 0
-StopsPrinting text out out' refusals.OutputFailed = HasFailed out out' × WritesFront out out' text
+StopsPrinting text out out' refusals.OutputFailed =
+    ChannelFailed out out' × WritesFront out out' text
 StopsPrinting text out out' refusals.OutOfMemory = IsSilent out out'
 StopsPrinting text out out' other = ⊥
 
@@ -84,41 +85,44 @@ StopsDocument text other = ⊥
 -- why an input is not read to its end
 abbrev pub StopsReading : Channel → Channel → Refusal → Type 0
 StopsReading input input' (refusals.TooLong limit) = IsTooLong input.bytes × (limit ≡ stream_limit)
-StopsReading input input' refusals.InputFailed = HasFailed input input'
+StopsReading input input' refusals.InputFailed = ChannelFailed input input'
 StopsReading input input' refusals.OutOfMemory = Unit {0}
 StopsReading input input' other = ⊥
 
 -- why `replay` prints no lines of its input
 abbrev pub StopsReplay : Refusal → Channel → Channel → Channel → Channel → Type 0
 StopsReplay (refusals.Stream line at kind) input input' out out' =
-    Reads input input' (IsFaulty line at kind) × IsSilent out out'
+    ReadsInput input input' (IsFaultyStream line at kind) × IsSilent out out'
 StopsReplay (refusals.LongPatch size limit) input input' out out' =
-    Reads input input' (IsLong size limit) × IsSilent out out'
+    ReadsInput input input' (IsLong size limit) × IsSilent out out'
 StopsReplay (refusals.Chain fault) input input' out out' =
-    Reads input input' (IsUnchained fault) × IsSilent out out'
+    ReadsInput input input' (IsUnchained fault) × IsSilent out out'
 StopsReplay (refusals.TooLong limit) input input' out out' =
     IsTooLong input.bytes × (limit ≡ stream_limit) × IsSilent out out'
-StopsReplay refusals.InputFailed input input' out out' = HasFailed input input' × IsSilent out out'
+StopsReplay refusals.InputFailed input input' out out' =
+    ChannelFailed input input' × IsSilent out out'
 StopsReplay refusals.OutputFailed input input' out out' =
-    HasFailed out out' × Reads input input' (PrintsFront HasLines out out')
+    ChannelFailed out out' × ReadsInput input input' (PrintsFront HasReplayLines out out')
 StopsReplay refusals.OutOfMemory input input' out out' = IsSilent out out'
 StopsReplay other input input' out out' = ⊥
 
 -- why `nquads` prints no lines of its input
 abbrev pub StopsNquads : Refusal → Channel → Channel → Channel → Channel → Type 0
 StopsNquads (refusals.Document line at kind) input input' out out' =
-    Reads input input' (IsFaultyDocument line at kind) × IsSilent out out'
+    ReadsInput input input' (IsFaultyDocument line at kind) × IsSilent out out'
 StopsNquads (refusals.TooLong limit) input input' out out' =
     IsTooLong input.bytes × (limit ≡ stream_limit) × IsSilent out out'
-StopsNquads refusals.InputFailed input input' out out' = HasFailed input input' × IsSilent out out'
+StopsNquads refusals.InputFailed input input' out out' =
+    ChannelFailed input input' × IsSilent out out'
 StopsNquads refusals.OutputFailed input input' out out' =
-    HasFailed out out' × Reads input input' (PrintsFront IsShown out out')
+    ChannelFailed out out' × ReadsInput input input' (PrintsFront IsShown out out')
 StopsNquads refusals.OutOfMemory input input' out out' = IsSilent out out'
 StopsNquads other input input' out out' = ⊥
 
 -- why a known text is not written
 abbrev pub StopsWriting : List ℕ → Refusal → Channel → Channel → Type 0
-StopsWriting text refusals.OutputFailed out out' = HasFailed out out' × WritesFront out out' text
+StopsWriting text refusals.OutputFailed out out' =
+    ChannelFailed out out' × WritesFront out out' text
 StopsWriting text other out out' = ⊥
 
 -- why a text is not written whose parts are made on the way; all memory is taken before

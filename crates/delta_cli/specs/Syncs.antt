@@ -13,14 +13,14 @@ use Rattle.rpc_answers.specs.declared.answer.Answer.TheVariants.{NoSource}
 use Rattle.zone_state.specs.Fault.{HasZoneFault}
 use Rattle.zone_state.specs.Zone.{zone_number}
 use Rattle.zone_state.specs.declared.fault.ZoneFault.TheVariants as zones
-use Rattle.follower.specs.Exchanges.{Net as Dialled}
+use Rattle.follower.specs.Exchanges.{Net}
 use Rattle.follower.specs.declared.ends.SyncEnd.{SyncEnd}
 use Rattle.follower.specs.declared.ends.SyncEnd.TheVariants as ends
 use Rattle.zone_commands.specs.Following.{Followed}
-use Rattle.delta_cli.specs.Channels.{Channel, IsSilent, Writes}
+use Rattle.delta_cli.specs.Channels.{Channel, IsSilent, WritesText}
 use Rattle.delta_cli.specs.Results.{StopsPrinting}
-use Rattle.delta_cli.specs.Told.{Net}
-use Rattle.delta_cli.specs.Zones.{HasFileFault, KeepsZone}
+use Rattle.delta_cli.specs.Told.{Network}
+use Rattle.delta_cli.specs.Zones.{HasZoneFileFault, KeepsZone}
 use Rattle.delta_cli.specs.declared.refusal.Refusal.{Refusal}
 use Rattle.delta_cli.specs.declared.refusal.Refusal.TheVariants as refusals
 
@@ -29,7 +29,7 @@ abbrev pub caught_up_line : ℕ → List ℕ
 caught_up_line version = codes "caught up at version " ++ (decimal version ++ 10 ∷ [])
 
 -- what is told of a dial, without the count of its faults
-abbrev pub dialled : {L : Type 0} → Net L → Dialled L
+abbrev pub dialled : {L : Type 0} → Network L → Net L
 dialled net = record { told = net.links; tries = net.tries }
 
 -- which refusal tells this end
@@ -55,7 +55,7 @@ TellsEnd end other = ⊥
 -- why the zone of a directory can't be opened
 abbrev pub StopsOpening : List ℕ → Type 0 → Files → ℕ → ℕ → Refusal → Type 0
 StopsOpening dir tells files faults faults' (refusals.File fault) =
-    tells → HasFileFault (bytes_at files dir zone_number) fault
+    tells → HasZoneFileFault (bytes_at files dir zone_number) fault
 StopsOpening dir tells files faults faults' refusals.ZoneTermsFull =
     tells → HasZoneFault (bytes_at files dir zone_number) LOG_LIMITS zones.TermsFull
 StopsOpening dir tells files faults faults' refusals.DiskFailed = Rose faults faults'
@@ -66,7 +66,7 @@ module _ {L : Type 0} (left sent : L → Option (List ℕ)) (tells net_tells : T
     (dir address name : List ℕ) where
   -- The zone of the directory followed the log, and that ended so; every other file is as it was. A
   -- failed disk or link has raised its count.
-  pub record Synced (files files' : Files) (faults faults' : ℕ) (net net' : Net L)
+  pub record Synced (files files' : Files) (faults faults' : ℕ) (net net' : Network L)
       (end : SyncEnd) : Type 0 where
     pub followed : Followed left sent tells net_tells address name
         (bytes_at files dir zone_number) (bytes_at files' dir zone_number)
@@ -76,15 +76,15 @@ module _ {L : Type 0} (left sent : L → Option (List ℕ)) (tells net_tells : T
     pub link : end ≡ ends.LinkFault → Rose net.faults net'.faults
 
   -- the zone caught up, and the version is written
-  abbrev pub CatchesUp : Files → Files → ℕ → ℕ → Net L → Net L → Channel → Channel
+  abbrev pub CatchesUp : Files → Files → ℕ → ℕ → Network L → Network L → Channel → Channel
       → Type 0
   CatchesUp files files' faults faults' net net' out out' =
       (version : ℕ) × Synced files files' faults faults' net net' (ends.CaughtUp version)
-      × Writes out out' (caught_up_line version)
+      × WritesText out out' (caught_up_line version)
 
   -- Why no version was written: the zone could not be opened, and then nobody was connected to; or
   -- catching up ended otherwise; or it caught up, and that isn't printed.
-  pub data StopsSync (files files' : Files) (faults faults' : ℕ) (net net' : Net L)
+  pub data StopsSync (files files' : Files) (faults faults' : ℕ) (net net' : Network L)
       (out out' : Channel) (refusal : Refusal) : Type 0 where
     unopened : StopsOpening dir tells files faults faults' refusal
         → KeepsZone dir tells files files' → net' ≡ net → IsSilent out out'

@@ -1,17 +1,17 @@
 -- What is told of the outside before and after a run of the tool.
 use Rattle.std.specs.Prelude.{◌≡◌, ℕ}
 use Rattle.slot_files.specs.Files.{Files}
-use Rattle.delta_client.specs.Lines.{Told as Links}
+use Rattle.delta_client.specs.Lines.{Links}
 use Rattle.delta_cli.specs.Channels.{Channel}
 
 -- the connections of a dial, how often one was tried for, and how often a call has failed
-pub record Net (L : Type 0) : Type 0 where
+pub record Network (L : Type 0) : Type 0 where
   pub links : Links L
   pub tries : ℕ
   pub faults : ℕ
 
-abbrev pub net_of : {L : Type 0} → Links L → ℕ → ℕ → Net L
-net_of links tries faults = record { links = links; tries = tries; faults = faults }
+abbrev pub network_of : {L : Type 0} → Links L → ℕ → ℕ → Network L
+network_of links tries faults = record { links = links; tries = tries; faults = faults }
 
 -- the input, the output, the files that the shelf has, how often a call of the shelf has failed,
 -- and the dial
@@ -20,9 +20,9 @@ pub record Told (L : Type 0) : Type 0 where
   pub out : Channel
   pub files : Files
   pub shelf_faults : ℕ
-  pub net : Net L
+  pub net : Network L
 
-abbrev pub told : {L : Type 0} → Channel → Channel → Files → ℕ → Net L → Told L
+abbrev pub told : {L : Type 0} → Channel → Channel → Files → ℕ → Network L → Told L
 told input out files shelf_faults net =
     record { input = input; out = out; files = files; shelf_faults = shelf_faults; net = net }
 

@@ -5,7 +5,7 @@ use Rattle.slot_files.specs.Files.{Files, IsInitial, StopsAt, SameBut, KeepsFull
 use Rattle.slot_files.specs.declared.fault.InitFault.{InitFault}
 use Rattle.slot_files.specs.declared.fault.InitFault.TheVariants as inits
 use Rattle.stream_generator.specs.Generator.{stream_text}
-use Rattle.slot_checks.specs.Checks.{AreKept, IsReport, Stops as CheckStops}
+use Rattle.slot_checks.specs.Checks.{AreKept, IsReport, CheckStops}
 use Rattle.slot_checks.specs.Lines.{lines_text}
 use Rattle.slot_checks.specs.declared.fault.CheckFault.{CheckFault}
 use Rattle.slot_checks.specs.declared.fault.CheckFault.TheVariants as checks
@@ -13,11 +13,12 @@ use Rattle.slot_checks.specs.declared.lines.FileLine.{FileLine}
 use Rattle.rpc_calls.specs.declared.call.Call.TheVariants as calls
 use Rattle.delta_cli.specs.Asked.{Asked, Described, IsPatchWith}
 use Rattle.delta_cli.specs.Asked.{PrintsEnd, StopsAppend, StopsAsking}
-use Rattle.delta_cli.specs.Channels.{Channel, HasFailed, IsSilent, Tells, Writes, WritesFront}
+use Rattle.delta_cli.specs.Channels.{Channel, ChannelFailed, IsSilent, TellsLine, WritesText}
+use Rattle.delta_cli.specs.Channels.{WritesFront}
 use Rattle.delta_cli.specs.Commands.{Asks, RefusesWords}
 use Rattle.delta_cli.specs.Document.{IsShown}
-use Rattle.delta_cli.specs.Lines.{line_of, status_of, out_of_memory_line}
-use Rattle.delta_cli.specs.Results.{Reads, Prints, HasLines, generated_line, StopsReplay}
+use Rattle.delta_cli.specs.Lines.{refusal_line, exit_status, out_of_memory_line}
+use Rattle.delta_cli.specs.Results.{ReadsInput, Prints, HasReplayLines, generated_line, StopsReplay}
 use Rattle.delta_cli.specs.Results.{StopsNquads, StopsPrinting, StopsEmitting, StopsWriting}
 use Rattle.delta_cli.specs.Told.{Told, LeavesInput, LeavesFiles, LeavesNet, LeavesAll}
 use Rattle.delta_cli.specs.Syncs.{CatchesUp, StopsSync}
@@ -72,7 +73,7 @@ StopsCheck dir tells files files' faults faults' out out' (refusals.File fault) 
 StopsCheck dir tells files files' faults faults' out out' refusals.DiskFailed =
     Rose faults faults' × KeepsSome dir tells files files' × IsSilent out out'
 StopsCheck dir tells files files' faults faults' out out' refusals.OutputFailed =
-    HasFailed out out' × ((report : List FileLine) × Reported dir tells files files' report
+    ChannelFailed out out' × ((report : List FileLine) × Reported dir tells files files' report
     × WritesFront out out' (lines_text report))
 StopsCheck dir tells files files' faults faults' out out' refusals.OutOfMemory =
     KeepsSome dir tells files files' × IsSilent out out'
@@ -83,26 +84,27 @@ StopsCheck dir tells files files' faults faults' out out' other = ⊥
 module _ {L : Type 0} (left sent : L → Option (List ℕ)) (tells net_tells : Type 0) where
   -- what a command has done that ends with its result
   abbrev pub Does : Command → Told L → Told L → Type 0
-  Does commands.Replay old new = Reads old.input new.input (Prints HasLines old.out new.out)
+  Does commands.Replay old new =
+      ReadsInput old.input new.input (Prints HasReplayLines old.out new.out)
       × LeavesFiles old new × LeavesNet old new
-  Does commands.Nquads old new = Reads old.input new.input (Prints IsShown old.out new.out)
+  Does commands.Nquads old new = ReadsInput old.input new.input (Prints IsShown old.out new.out)
       × LeavesFiles old new × LeavesNet old new
-  Does (commands.Gen patches) old new = Writes old.out new.out (generated_line patches)
+  Does (commands.Gen patches) old new = WritesText old.out new.out (generated_line patches)
       × LeavesInput old new × LeavesFiles old new × LeavesNet old new
-  Does (commands.Emit patches) old new = Writes old.out new.out (stream_text patches)
+  Does (commands.Emit patches) old new = WritesText old.out new.out (stream_text patches)
       × LeavesInput old new × LeavesFiles old new × LeavesNet old new
   Does (commands.Init dir slots) old new =
       (tells → IsInitial dir slots old.files new.files) × Spares dir slots tells old.files new.files
       × LeavesInput old new × (new.out ≡ old.out) × LeavesNet old new
   Does (commands.Check dir) old new =
       ((report : List FileLine) × Reported dir tells old.files new.files report
-      × Writes old.out new.out (lines_text report)) × LeavesInput old new × LeavesNet old new
+      × WritesText old.out new.out (lines_text report)) × LeavesInput old new × LeavesNet old new
   Does (commands.Zone dir) old new =
       (tells → IsNewZone dir old.files new.files) × SparesZone dir tells old.files new.files
       × LeavesInput old new × (new.out ≡ old.out) × LeavesNet old new
   Does (commands.Read dir reading) old new =
       ((lines : List (List ℕ)) × ReadsZone dir reading tells old.files lines
-      × Writes old.out new.out (bytes_of lines)) × KeepsZone dir tells old.files new.files
+      × WritesText old.out new.out (bytes_of lines)) × KeepsZone dir tells old.files new.files
       × LeavesInput old new × LeavesNet old new
   Does (commands.Sync dir address name) old new =
       CatchesUp left sent tells net_tells dir address name old.files new.files
@@ -119,9 +121,9 @@ module _ {L : Type 0} (left sent : L → Option (List ℕ)) (tells net_tells : T
       (λ text. PrintsEnd
       (Asked left sent net_tells address (calls.Append name text) old.net new.net) old.out new.out)
       × LeavesFiles old new
-  Does commands.Help old new = Writes old.out new.out HELP.now × LeavesInput old new
+  Does commands.Help old new = WritesText old.out new.out HELP.now × LeavesInput old new
       × LeavesFiles old new × LeavesNet old new
-  Does commands.Version old new = Writes old.out new.out VERSION.now
+  Does commands.Version old new = WritesText old.out new.out VERSION.now
       × LeavesInput old new × LeavesFiles old new × LeavesNet old new
 
   -- why a command ends without its result, and what it has done by then
@@ -182,10 +184,11 @@ module _ {L : Type 0} (left sent : L → Option (List ℕ)) (tells net_tells : T
     done : (c : Command) → Asks words dice c → Does c old new → IsSilent err err'
         → Answers words dice old new err err' 0
     stopped : (c : Command) (r : Refusal) → Asks words dice c → Stops c r old new
-        → Tells err err' (line_of r) → Answers words dice old new err err' (status_of r)
+        → TellsLine err err' (refusal_line r) → Answers words dice old new err err' (exit_status r)
     untold : (c : Command) (r : Refusal) → Asks words dice c → Stops c r old new
-        → Tells err err' out_of_memory_line → Answers words dice old new err err' 8
-    refused : (r : Refusal) → RefusesWords words r → LeavesAll old new → Tells err err' (line_of r)
-        → Answers words dice old new err err' (status_of r)
+        → TellsLine err err' out_of_memory_line → Answers words dice old new err err' 8
+    refused : (r : Refusal) → RefusesWords words r → LeavesAll old new
+        → TellsLine err err' (refusal_line r)
+        → Answers words dice old new err err' (exit_status r)
     unread : (r : Refusal) → RefusesWords words r → LeavesAll old new
-        → Tells err err' out_of_memory_line → Answers words dice old new err err' 8
+        → TellsLine err err' out_of_memory_line → Answers words dice old new err err' 8

@@ -12,9 +12,9 @@ use Rattle.zone_state.specs.Fault.{HasZoneFault}
 use Rattle.zone_state.specs.Zone.{zone_number}
 use Rattle.zone_state.specs.declared.fault.ZoneFault.{ZoneFault}
 use Rattle.zone_state.specs.declared.fault.ZoneFault.TheVariants as zones
-use Rattle.zone_commands.specs.Files.{HasLines}
+use Rattle.zone_commands.specs.Files.{HasZoneLines}
 use Rattle.zone_commands.specs.declared.reading.Reading.{Reading}
-use Rattle.delta_cli.specs.Channels.{Channel, HasFailed, IsSilent, WritesFront}
+use Rattle.delta_cli.specs.Channels.{Channel, ChannelFailed, IsSilent, WritesFront}
 use Rattle.delta_cli.specs.declared.refusal.Refusal.{Refusal}
 use Rattle.delta_cli.specs.declared.refusal.Refusal.TheVariants as refusals
 
@@ -51,7 +51,7 @@ StopsMaking dir tells files faults faults' other = ⊥
 -- where the shelf tells its files, these lines are read of the zone's file of a directory
 abbrev pub ReadsZone : List ℕ → Reading → Type 0 → Files → List (List ℕ) → Type 0
 ReadsZone dir reading tells files lines =
-    tells → HasLines (bytes_at files dir zone_number) reading lines
+    tells → HasZoneLines (bytes_at files dir zone_number) reading lines
 
 -- where the shelf tells its files, the zone's file was kept, and every other file is as it was
 abbrev pub KeepsZone : List ℕ → Type 0 → Files → Files → Type 0
@@ -70,16 +70,16 @@ zone_refusal (zones.OverLimit size limit) = refusals.File (checks.OverLimit zone
 zone_refusal (zones.BrokenChain version) = refusals.File (checks.BrokenChain zone_number version)
 
 -- a zone's file has this fault, and none that comes before it
-abbrev pub HasFileFault : List ℕ → CheckFault → Type 0
-HasFileFault file (checks.Damaged number at) =
+abbrev pub HasZoneFileFault : List ℕ → CheckFault → Type 0
+HasZoneFileFault file (checks.Damaged number at) =
     (number ≡ zone_number) × HasZoneFault file LOG_LIMITS (zones.Damaged at)
-HasFileFault file (checks.WrongNumber number found) =
+HasZoneFileFault file (checks.WrongNumber number found) =
     (number ≡ zone_number) × HasZoneFault file LOG_LIMITS (zones.WrongNumber found)
-HasFileFault file (checks.OverLimit number size limit) =
+HasZoneFileFault file (checks.OverLimit number size limit) =
     (number ≡ zone_number) × HasZoneFault file LOG_LIMITS (zones.OverLimit size limit)
-HasFileFault file (checks.BrokenChain number version) =
+HasZoneFileFault file (checks.BrokenChain number version) =
     (number ≡ zone_number) × HasZoneFault file LOG_LIMITS (zones.BrokenChain version)
-HasFileFault file other = ⊥
+HasZoneFileFault file other = ⊥
 
 -- the bytes of lines, one after another
 abbrev pub bytes_of : List (List ℕ) → List ℕ
@@ -89,14 +89,14 @@ bytes_of lines = flat_map (λ line. line) lines
 abbrev pub StopsZone : List ℕ → Reading → Type 0 → Files → ℕ → ℕ
     → Channel → Channel → Refusal → Type 0
 StopsZone dir reading tells files faults faults' out out' (refusals.File fault) =
-    (tells → HasFileFault (bytes_at files dir zone_number) fault) × IsSilent out out'
+    (tells → HasZoneFileFault (bytes_at files dir zone_number) fault) × IsSilent out out'
 StopsZone dir reading tells files faults faults' out out' refusals.ZoneTermsFull =
     (tells → HasZoneFault (bytes_at files dir zone_number) LOG_LIMITS zones.TermsFull)
     × IsSilent out out'
 StopsZone dir reading tells files faults faults' out out' refusals.DiskFailed =
     Rose faults faults' × IsSilent out out'
 StopsZone dir reading tells files faults faults' out out' refusals.OutputFailed =
-    HasFailed out out' × ((lines : List (List ℕ)) × ReadsZone dir reading tells files lines
+    ChannelFailed out out' × ((lines : List (List ℕ)) × ReadsZone dir reading tells files lines
     × WritesFront out out' (bytes_of lines))
 StopsZone dir reading tells files faults faults' out out' refusals.OutOfMemory = IsSilent out out'
 StopsZone dir reading tells files faults faults' out out' other = ⊥

@@ -9,7 +9,7 @@ ghost use Rattle.delta_cli.specs.Addresses.{IsAddress};
 ghost use Rattle.delta_cli.specs.Asked.{Asked, IsPatchWith, IsReadAs, PrintsEnd};
 ghost use Rattle.delta_cli.specs.Asked.{StopsAppend, StopsAsking, StopsPatch, StopsText};
 ghost use Rattle.delta_cli.specs.Channels.{channel};
-ghost use Rattle.delta_cli.specs.Told.{net_of};
+ghost use Rattle.delta_cli.specs.Told.{network_of};
 
 use crate::ask::ask;
 use crate::input::{InputFault, read_all};
@@ -35,9 +35,9 @@ pub fn append<S: Source, K: Sink, N: Dial>(
         (channel (S.left input.old) (S.faults input.old))
         (channel (S.left input.new) (S.faults input.new))
         (λ text. PrintsEnd (Asked N.L.left N.L.sent N.tells address.now (Call.Append name.now text)
-        (net_of (told_of (N.to_come net.old) (N.addresses net.old) (N.back net.old))
+        (network_of (told_of (N.to_come net.old) (N.addresses net.old) (N.back net.old))
         (N.tries net.old) (N.faults net.old))
-        (net_of (told_of (N.to_come net.new) (N.addresses net.new) (N.back net.new))
+        (network_of (told_of (N.to_come net.new) (N.addresses net.new) (N.back net.new))
         (N.tries net.new) (N.faults net.new)))
         (channel (K.written out.old) (K.faults out.old))
         (channel (K.written out.new) (K.faults out.new)))) }
@@ -46,15 +46,15 @@ pub fn append<S: Source, K: Sink, N: Dial>(
         (channel (S.left input.new) (S.faults input.new))
         (channel (K.written out.old) (K.faults out.old))
         (channel (K.written out.new) (K.faults out.new))
-        (net_of (told_of (N.to_come net.new) (N.addresses net.new) (N.back net.new))
+        (network_of (told_of (N.to_come net.new) (N.addresses net.new) (N.back net.new))
         (N.tries net.new) (N.faults net.new)
-        ≡ net_of (told_of (N.to_come net.old) (N.addresses net.old) (N.back net.old))
+        ≡ network_of (told_of (N.to_come net.old) (N.addresses net.old) (N.back net.old))
         (N.tries net.old) (N.faults net.old))
         (λ text. StopsAsking
         (Asked N.L.left N.L.sent N.tells address.now (Call.Append name.now text)
-        (net_of (told_of (N.to_come net.old) (N.addresses net.old) (N.back net.old))
+        (network_of (told_of (N.to_come net.old) (N.addresses net.old) (N.back net.old))
         (N.tries net.old) (N.faults net.old))
-        (net_of (told_of (N.to_come net.new) (N.addresses net.new) (N.back net.new))
+        (network_of (told_of (N.to_come net.new) (N.addresses net.new) (N.back net.new))
         (N.tries net.new) (N.faults net.new)))
         (channel (K.written out.old) (K.faults out.old))
         (channel (K.written out.new) (K.faults out.new)))) }

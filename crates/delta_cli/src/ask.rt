@@ -4,7 +4,7 @@ ghost use Rattle.delta_client.specs.Lines.{told_of};
 ghost use Rattle.delta_cli.specs.Addresses.{IsAddress};
 ghost use Rattle.delta_cli.specs.Asked.{Asked, Described, PrintsEnd, StopsAsking};
 ghost use Rattle.delta_cli.specs.Channels.{channel};
-ghost use Rattle.delta_cli.specs.Told.{net_of};
+ghost use Rattle.delta_cli.specs.Told.{network_of};
 
 use crate::refusal::Refusal;
 use client_commands::{ClientFault, ask_once};
@@ -24,17 +24,17 @@ pub fn ask<N: Dial, K: Sink>(
 ) -> Result<(), Refusal>
     requires { IsAddress address.now }
     ensures done { OnOk result (PrintsEnd (Asked N.L.left N.L.sent N.tells address.now call.now
-        (net_of (told_of (N.to_come net.old) (N.addresses net.old) (N.back net.old))
+        (network_of (told_of (N.to_come net.old) (N.addresses net.old) (N.back net.old))
         (N.tries net.old) (N.faults net.old))
-        (net_of (told_of (N.to_come net.new) (N.addresses net.new) (N.back net.new))
+        (network_of (told_of (N.to_come net.new) (N.addresses net.new) (N.back net.new))
         (N.tries net.new) (N.faults net.new)))
         (channel (K.written out.old) (K.faults out.old))
         (channel (K.written out.new) (K.faults out.new))) }
     ensures stopped { IfErr result (StopsAsking
         (Asked N.L.left N.L.sent N.tells address.now call.now
-        (net_of (told_of (N.to_come net.old) (N.addresses net.old) (N.back net.old))
+        (network_of (told_of (N.to_come net.old) (N.addresses net.old) (N.back net.old))
         (N.tries net.old) (N.faults net.old))
-        (net_of (told_of (N.to_come net.new) (N.addresses net.new) (N.back net.new))
+        (network_of (told_of (N.to_come net.new) (N.addresses net.new) (N.back net.new))
         (N.tries net.new) (N.faults net.new)))
         (channel (K.written out.old) (K.faults out.old))
         (channel (K.written out.new) (K.faults out.new))) }
@@ -53,17 +53,17 @@ pub fn describe<N: Dial, K: Sink>(
 ) -> Result<(), Refusal>
     requires { IsAddress address.now }
     ensures done { OnOk result (PrintsEnd (Described N.L.left N.L.sent N.tells address.now name.now
-        (net_of (told_of (N.to_come net.old) (N.addresses net.old) (N.back net.old))
+        (network_of (told_of (N.to_come net.old) (N.addresses net.old) (N.back net.old))
         (N.tries net.old) (N.faults net.old))
-        (net_of (told_of (N.to_come net.new) (N.addresses net.new) (N.back net.new))
+        (network_of (told_of (N.to_come net.new) (N.addresses net.new) (N.back net.new))
         (N.tries net.new) (N.faults net.new)))
         (channel (K.written out.old) (K.faults out.old))
         (channel (K.written out.new) (K.faults out.new))) }
     ensures stopped { IfErr result (StopsAsking
         (Described N.L.left N.L.sent N.tells address.now name.now
-        (net_of (told_of (N.to_come net.old) (N.addresses net.old) (N.back net.old))
+        (network_of (told_of (N.to_come net.old) (N.addresses net.old) (N.back net.old))
         (N.tries net.old) (N.faults net.old))
-        (net_of (told_of (N.to_come net.new) (N.addresses net.new) (N.back net.new))
+        (network_of (told_of (N.to_come net.new) (N.addresses net.new) (N.back net.new))
         (N.tries net.new) (N.faults net.new)))
         (channel (K.written out.old) (K.faults out.old))
         (channel (K.written out.new) (K.faults out.new))) }

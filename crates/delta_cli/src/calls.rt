@@ -1,6 +1,6 @@
 //! What the words ask of a server.
 ghost use Rattle.std.specs.Prelude.{◌≡◌, ◌<◌, [], ℕ, get_or, length, true, IfOk, IfErr};
-ghost use Rattle.rpc_calls.specs.Routes.{version_of};
+ghost use Rattle.rpc_calls.specs.Routes.{version_asked};
 ghost use Rattle.delta_cli.specs.Channels.{words_of};
 ghost use Rattle.delta_cli.specs.Commands.{Asks, AsksFor, FitsName, IsOfCall};
 ghost use Rattle.delta_cli.specs.Commands.{RefusesWords, asks_server};
@@ -107,7 +107,7 @@ fn make_fetch(alloc: Global, words: &[String]) -> Result<Call, Refusal>
 
 // The number that 1 to 10 digits have.
 fn version_of(text: &[u8]) -> Option<u64>
-    ensures { result ≡ version_of text.now }
+    ensures { result ≡ version_asked text.now }
 {
     if text.is_empty() || text.len() > 10 || !are_digits(text) {
         return None;

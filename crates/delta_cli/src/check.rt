@@ -2,7 +2,7 @@
 ghost use Rattle.std.specs.Prelude.{◌≡◌, List, IfErr, OnOk};
 ghost use Rattle.slot_checks.specs.Lines.{lines_text};
 ghost use Rattle.slot_checks.specs.declared.lines.FileLine.{FileLine};
-ghost use Rattle.delta_cli.specs.Channels.{Writes, channel};
+ghost use Rattle.delta_cli.specs.Channels.{WritesText, channel};
 ghost use Rattle.delta_cli.specs.Results.{StopsPrinting};
 ghost use Rattle.delta_cli.specs.Tool.{Reported, StopsCheck};
 
@@ -23,7 +23,7 @@ pub fn check<H: Shelf, K: Sink>(
 ) -> Result<(), Refusal>
     ensures done { OnOk result ((report : List FileLine)
         × Reported dir.now H.tells (H.files shelf.old) (H.files shelf.new) report
-        × Writes (channel (K.written out.old) (K.faults out.old))
+        × WritesText (channel (K.written out.old) (K.faults out.old))
         (channel (K.written out.new) (K.faults out.new)) (lines_text report)) }
     ensures stopped { IfErr result
         (StopsCheck dir.now H.tells (H.files shelf.old) (H.files shelf.new)
@@ -39,7 +39,7 @@ pub fn check<H: Shelf, K: Sink>(
 
 // Writes the lines of a report.
 fn print_report<K: Sink>(alloc: Global, report: &Report, out: &mut K) -> Result<(), Refusal>
-    ensures done { OnOk result (Writes (channel (K.written out.old) (K.faults out.old))
+    ensures done { OnOk result (WritesText (channel (K.written out.old) (K.faults out.old))
         (channel (K.written out.new) (K.faults out.new)) (lines_text report.now.items)) }
     ensures stopped { IfErr result (StopsPrinting (lines_text report.now.items)
         (channel (K.written out.old) (K.faults out.old))

@@ -1,7 +1,7 @@
 //! The commands `gen` and `emit`: the stream of the generator, replayed to its counts, or written.
 ghost use Rattle.std.specs.Prelude.{◌≡◌, ◌≤◌, IfOk, IfErr, OnOk};
 ghost use Rattle.stream_generator.specs.Generator.{stream_text};
-ghost use Rattle.delta_cli.specs.Channels.{Writes, channel};
+ghost use Rattle.delta_cli.specs.Channels.{WritesText, channel};
 ghost use Rattle.delta_cli.specs.Results.{StopsEmitting, StopsPrinting};
 ghost use Rattle.delta_cli.specs.Results.{counts_line, generated_line};
 
@@ -17,7 +17,7 @@ use stream_replay::{ReplayFault, replay_source};
 /// last patch's id.
 pub fn generate<K: Sink>(alloc: Global, patches: u32, out: &mut K) -> Result<(), Refusal>
     requires { patches ≤ 65536 }
-    ensures done { OnOk result (Writes (channel (K.written out.old) (K.faults out.old))
+    ensures done { OnOk result (WritesText (channel (K.written out.old) (K.faults out.old))
         (channel (K.written out.new) (K.faults out.new)) (generated_line patches)) }
     ensures stopped { IfErr result (StopsPrinting (generated_line patches)
         (channel (K.written out.old) (K.faults out.old))
@@ -62,7 +62,7 @@ fn counts_line(
 /// first byte is written.
 pub fn emit<K: Sink>(alloc: Global, patches: u32, out: &mut K) -> Result<(), Refusal>
     requires { patches ≤ 65536 }
-    ensures done { OnOk result (Writes (channel (K.written out.old) (K.faults out.old))
+    ensures done { OnOk result (WritesText (channel (K.written out.old) (K.faults out.old))
         (channel (K.written out.new) (K.faults out.new)) (stream_text patches)) }
     ensures stopped { IfErr result (λ refusal.
         StopsEmitting (stream_text patches) refusal (channel (K.written out.old) (K.faults out.old))

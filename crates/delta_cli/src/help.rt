@@ -1,6 +1,6 @@
 //! The commands `--help` and `--version`.
 ghost use Rattle.std.specs.Prelude.{IfErr, OnOk};
-ghost use Rattle.delta_cli.specs.Channels.{Writes, channel};
+ghost use Rattle.delta_cli.specs.Channels.{WritesText, channel};
 ghost use Rattle.delta_cli.specs.Results.{StopsWriting};
 
 use crate::refusal::Refusal;
@@ -48,7 +48,7 @@ pub const VERSION: &str = "rdfdelta 0.1.0\n";
 
 /// Writes a text that is known.
 pub fn print<K: Sink>(text: &str, out: &mut K) -> Result<(), Refusal>
-    ensures done { OnOk result (Writes (channel (K.written out.old) (K.faults out.old))
+    ensures done { OnOk result (WritesText (channel (K.written out.old) (K.faults out.old))
         (channel (K.written out.new) (K.faults out.new)) text.now) }
     ensures stopped { IfErr result (λ refusal.
         StopsWriting text.now refusal (channel (K.written out.old) (K.faults out.old))

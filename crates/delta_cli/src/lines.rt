@@ -3,7 +3,7 @@ ghost use Rattle.std.specs.Prelude.{◌≡◌, ◌++◌, ◌∷◌, [], IfOk, On
 ghost use Rattle.std.specs.Fmt.{decimal};
 ghost use Rattle.patch_meaning.specs.Names.{fault_name};
 ghost use Rattle.delta_cli.specs.Lines.{bad_patch_line, chain_line, fault_at, id_or_none};
-ghost use Rattle.delta_cli.specs.Lines.{limit_line, line_of, no_patch_line};
+ghost use Rattle.delta_cli.specs.Lines.{limit_line, refusal_line, no_patch_line};
 ghost use Rattle.delta_cli.specs.Lines.{not_understood_line, peer_behind_line, place_line};
 ghost use Rattle.delta_cli.specs.Lines.{refused_line, usage_text, zone_full_line};
 
@@ -16,9 +16,9 @@ use slot_checks::fault_text;
 use std::alloc::Global;
 
 /// The line of a refusal.
-#[tactic(auto, unfolding(crate::specs::Lines::line_of))]
+#[tactic(auto, unfolding(crate::specs::Lines::refusal_line))]
 pub fn line_of(alloc: Global, refusal: &Refusal) -> Result<Vec<u8>, OutOfMemory>
-    ensures { IfOk result (λ text. text.items ≡ line_of refusal.now) }
+    ensures { IfOk result (λ text. text.items ≡ refusal_line refusal.now) }
 {
     match refusal {
         Refusal::UnknownCommand => line(alloc, b"rdfdelta: unknown command\n"),

@@ -1,9 +1,9 @@
 //! The command `nquads`: a document in canonical form.
 ghost use Rattle.std.specs.Prelude.{◌≡◌, ◌<◌, ◌^◌, length, IfOk, IfErr, OnOk};
 ghost use Rattle.sink_writing.specs.Writing.{joined};
-ghost use Rattle.delta_cli.specs.Channels.{Writes, channel};
+ghost use Rattle.delta_cli.specs.Channels.{WritesText, channel};
 ghost use Rattle.delta_cli.specs.Document.{IsShown};
-ghost use Rattle.delta_cli.specs.Results.{AreShown, Prints, Reads, StopsDocument};
+ghost use Rattle.delta_cli.specs.Results.{AreShown, Prints, ReadsInput, StopsDocument};
 ghost use Rattle.delta_cli.specs.Results.{StopsNquads, StopsPrinting, StopsReading};
 
 use crate::input::{InputFault, read_all};
@@ -16,7 +16,7 @@ use stream_replay::STREAM_LIMIT;
 
 /// Reads a document to its end, and writes its canonical form.
 pub fn nquads<S: Source, K: Sink>(alloc: Global, input: &mut S, out: &mut K) -> Result<(), Refusal>
-    ensures done { OnOk result (Reads
+    ensures done { OnOk result (ReadsInput
         (channel (S.left input.old) (S.faults input.old))
         (channel (S.left input.new) (S.faults input.new))
         (Prints IsShown (channel (K.written out.old) (K.faults out.old))
@@ -40,7 +40,7 @@ pub fn nquads<S: Source, K: Sink>(alloc: Global, input: &mut S, out: &mut K) -> 
 
 // Writes the texts.
 fn print_texts<K: Sink>(alloc: Global, texts: &[&[u8]], out: &mut K) -> Result<(), Refusal>
-    ensures done { OnOk result (Writes (channel (K.written out.old) (K.faults out.old))
+    ensures done { OnOk result (WritesText (channel (K.written out.old) (K.faults out.old))
         (channel (K.written out.new) (K.faults out.new)) (joined texts.now)) }
     ensures stopped { IfErr result
         (StopsPrinting (joined texts.now) (channel (K.written out.old) (K.faults out.old))
@@ -52,7 +52,7 @@ fn print_texts<K: Sink>(alloc: Global, texts: &[&[u8]], out: &mut K) -> Result<(
 
 // The input to its end.
 fn read_text<S: Source>(alloc: Global, input: &mut S) -> Result<Vec<u8>, Refusal>
-    ensures ok { IfOk result (λ text. Reads (channel (S.left input.old) (S.faults input.old))
+    ensures ok { IfOk result (λ text. ReadsInput (channel (S.left input.old) (S.faults input.old))
         (channel (S.left input.new) (S.faults input.new)) (λ bytes. bytes ≡ text.items)) }
     ensures stopped { IfErr result (StopsReading (channel (S.left input.old) (S.faults input.old))
         (channel (S.left input.new) (S.faults input.new))) }

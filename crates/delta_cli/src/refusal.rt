@@ -1,8 +1,8 @@
 //! How a command ends without its result, and the line that tells it.
 ghost use Rattle.std.specs.Prelude.{◌≡◌};
 ghost use Rattle.delta_cli.specs.Channels.{channel};
-ghost use Rattle.delta_cli.specs.Lines.{status_of};
-ghost use Rattle.delta_cli.specs.Refusals.{Reports};
+ghost use Rattle.delta_cli.specs.Lines.{exit_status};
+ghost use Rattle.delta_cli.specs.Refusals.{ReportsRefusal};
 
 use crate::lines::line_of;
 use crate::name::Name;
@@ -165,7 +165,7 @@ impl From<OutOfMemory> for Refusal {
 
 /// Writes the line of a refusal on `err`, and gives its status.
 pub fn report<E: Sink>(alloc: Global, refusal: Refusal, err: &mut E) -> u8
-    ensures { Reports refusal (channel (E.written err.old) (E.faults err.old))
+    ensures { ReportsRefusal refusal (channel (E.written err.old) (E.faults err.old))
         (channel (E.written err.new) (E.faults err.new)) result }
 {
     let status = status_of(&refusal);
@@ -184,7 +184,7 @@ pub fn report<E: Sink>(alloc: Global, refusal: Refusal, err: &mut E) -> u8
 }
 
 fn status_of(refusal: &Refusal) -> u8
-    ensures { result ≡ status_of refusal.now }
+    ensures { result ≡ exit_status refusal.now }
 {
     match refusal {
         Refusal::NotEmpty { .. } | Refusal::ZoneTermsFull | Refusal::ZoneFull { .. } => 1,

@@ -1,7 +1,7 @@
 //! The command `replay`: the canonical lines of the dataset that a stream of patches makes.
 ghost use Rattle.std.specs.Prelude.{◌≡◌, IfErr, OnOk};
-ghost use Rattle.delta_cli.specs.Channels.{Writes, channel};
-ghost use Rattle.delta_cli.specs.Results.{HasLines, Prints, Reads, StopsPrinting};
+ghost use Rattle.delta_cli.specs.Channels.{WritesText, channel};
+ghost use Rattle.delta_cli.specs.Results.{HasReplayLines, Prints, ReadsInput, StopsPrinting};
 ghost use Rattle.delta_cli.specs.Results.{StopsReplay, refusal_of};
 ghost use Rattle.delta_cli.specs.Zones.{bytes_of};
 
@@ -14,10 +14,10 @@ use stream_replay::{ReplayFault, STREAM_LIMIT, replay_source, write_lines};
 
 /// Reads a stream to its end, and writes the lines of its replay.
 pub fn replay<S: Source, K: Sink>(alloc: Global, input: &mut S, out: &mut K) -> Result<(), Refusal>
-    ensures done { OnOk result (Reads
+    ensures done { OnOk result (ReadsInput
         (channel (S.left input.old) (S.faults input.old))
         (channel (S.left input.new) (S.faults input.new))
-        (Prints HasLines (channel (K.written out.old) (K.faults out.old))
+        (Prints HasReplayLines (channel (K.written out.old) (K.faults out.old))
         (channel (K.written out.new) (K.faults out.new)))) }
     ensures stopped { IfErr result (λ refusal. StopsReplay refusal
         (channel (S.left input.old) (S.faults input.old))
@@ -33,7 +33,7 @@ pub fn replay<S: Source, K: Sink>(alloc: Global, input: &mut S, out: &mut K) -> 
 
 // Writes the lines, where there is memory for a room of them.
 fn print_made<K: Sink>(alloc: Global, lines: &MadeLines, out: &mut K) -> Result<(), Refusal>
-    ensures done { OnOk result (Writes (channel (K.written out.old) (K.faults out.old))
+    ensures done { OnOk result (WritesText (channel (K.written out.old) (K.faults out.old))
         (channel (K.written out.new) (K.faults out.new)) (bytes_of lines.now)) }
     ensures stopped { IfErr result (StopsPrinting (bytes_of lines.now)
         (channel (K.written out.old) (K.faults out.old))

@@ -3,10 +3,10 @@ ghost use Rattle.std.specs.Prelude.{◌≡◌, ◌≢◌, ℕ, IfErr, IfOk, OnOk
 ghost use Rattle.delta_client.specs.Lines.{told_of};
 ghost use Rattle.follower.specs.declared.ends.SyncEnd.TheVariants as ends;
 ghost use Rattle.delta_cli.specs.Addresses.{IsAddress};
-ghost use Rattle.delta_cli.specs.Channels.{Writes, channel};
+ghost use Rattle.delta_cli.specs.Channels.{WritesText, channel};
 ghost use Rattle.delta_cli.specs.Results.{StopsPrinting};
 ghost use Rattle.delta_cli.specs.Syncs.{CatchesUp, StopsSync, TellsEnd, caught_up_line};
-ghost use Rattle.delta_cli.specs.Told.{net_of};
+ghost use Rattle.delta_cli.specs.Told.{network_of};
 
 use crate::refusal::Refusal;
 use chain_core::ChainFault;
@@ -34,18 +34,18 @@ pub fn sync_zone<H: Shelf, N: Dial, K: Sink>(
     ensures done { OnOk result (CatchesUp N.L.left N.L.sent H.tells N.tells
         dir.now address.now name.now
         (H.files shelf.old) (H.files shelf.new) (H.faults shelf.old) (H.faults shelf.new)
-        (net_of (told_of (N.to_come net.old) (N.addresses net.old) (N.back net.old))
+        (network_of (told_of (N.to_come net.old) (N.addresses net.old) (N.back net.old))
         (N.tries net.old) (N.faults net.old))
-        (net_of (told_of (N.to_come net.new) (N.addresses net.new) (N.back net.new))
+        (network_of (told_of (N.to_come net.new) (N.addresses net.new) (N.back net.new))
         (N.tries net.new) (N.faults net.new))
         (channel (K.written out.old) (K.faults out.old))
         (channel (K.written out.new) (K.faults out.new))) }
     ensures stopped { IfErr result (StopsSync N.L.left N.L.sent H.tells N.tells
         dir.now address.now name.now
         (H.files shelf.old) (H.files shelf.new) (H.faults shelf.old) (H.faults shelf.new)
-        (net_of (told_of (N.to_come net.old) (N.addresses net.old) (N.back net.old))
+        (network_of (told_of (N.to_come net.old) (N.addresses net.old) (N.back net.old))
         (N.tries net.old) (N.faults net.old))
-        (net_of (told_of (N.to_come net.new) (N.addresses net.new) (N.back net.new))
+        (network_of (told_of (N.to_come net.new) (N.addresses net.new) (N.back net.new))
         (N.tries net.new) (N.faults net.new))
         (channel (K.written out.old) (K.faults out.old))
         (channel (K.written out.new) (K.faults out.new))) }
@@ -59,7 +59,7 @@ pub fn sync_zone<H: Shelf, N: Dial, K: Sink>(
 
 // Writes the version at which a zone caught up.
 fn print_version<K: Sink>(alloc: Global, version: u32, out: &mut K) -> Result<(), Refusal>
-    ensures done { OnOk result (Writes (channel (K.written out.old) (K.faults out.old))
+    ensures done { OnOk result (WritesText (channel (K.written out.old) (K.faults out.old))
         (channel (K.written out.new) (K.faults out.new)) (caught_up_line version)) }
     ensures stopped { IfErr result (StopsPrinting (caught_up_line version)
         (channel (K.written out.old) (K.faults out.old))

@@ -3,7 +3,7 @@ ghost use Rattle.std.specs.Prelude.{IfErr, OnOk};
 ghost use Rattle.delta_client.specs.Lines.{told_of};
 ghost use Rattle.delta_cli.specs.Channels.{channel, words_of};
 ghost use Rattle.delta_cli.specs.Commands.{Asks, Fits};
-ghost use Rattle.delta_cli.specs.Told.{net_of, told};
+ghost use Rattle.delta_cli.specs.Told.{network_of, told};
 ghost use Rattle.delta_cli.specs.Tool.{Answers, Does, Stops};
 
 use crate::append::append;
@@ -38,11 +38,11 @@ pub fn run_tool<S: Source, K: Sink, E: Sink, H: Shelf, N: Dial>(
     ensures { Answers N.L.left N.L.sent H.tells N.tells (words_of words.now) dice
         (told (channel (S.left input.old) (S.faults input.old))
         (channel (K.written out.old) (K.faults out.old)) (H.files shelf.old) (H.faults shelf.old)
-        (net_of (told_of (N.to_come net.old) (N.addresses net.old) (N.back net.old))
+        (network_of (told_of (N.to_come net.old) (N.addresses net.old) (N.back net.old))
         (N.tries net.old) (N.faults net.old)))
         (told (channel (S.left input.new) (S.faults input.new))
         (channel (K.written out.new) (K.faults out.new)) (H.files shelf.new) (H.faults shelf.new)
-        (net_of (told_of (N.to_come net.new) (N.addresses net.new) (N.back net.new))
+        (network_of (told_of (N.to_come net.new) (N.addresses net.new) (N.back net.new))
         (N.tries net.new) (N.faults net.new)))
         (channel (E.written err.old) (E.faults err.old))
         (channel (E.written err.new) (E.faults err.new)) result }
@@ -73,21 +73,21 @@ fn run_command<S: Source, K: Sink, H: Shelf, N: Dial>(
     ensures does { OnOk result (Does N.L.left N.L.sent H.tells N.tells command.now
         (told (channel (S.left input.old) (S.faults input.old))
         (channel (K.written out.old) (K.faults out.old)) (H.files shelf.old) (H.faults shelf.old)
-        (net_of (told_of (N.to_come net.old) (N.addresses net.old) (N.back net.old))
+        (network_of (told_of (N.to_come net.old) (N.addresses net.old) (N.back net.old))
         (N.tries net.old) (N.faults net.old)))
         (told (channel (S.left input.new) (S.faults input.new))
         (channel (K.written out.new) (K.faults out.new)) (H.files shelf.new) (H.faults shelf.new)
-        (net_of (told_of (N.to_come net.new) (N.addresses net.new) (N.back net.new))
+        (network_of (told_of (N.to_come net.new) (N.addresses net.new) (N.back net.new))
         (N.tries net.new) (N.faults net.new)))) }
     ensures stops { IfErr result (λ refusal.
         Stops N.L.left N.L.sent H.tells N.tells command.now refusal
         (told (channel (S.left input.old) (S.faults input.old))
         (channel (K.written out.old) (K.faults out.old)) (H.files shelf.old) (H.faults shelf.old)
-        (net_of (told_of (N.to_come net.old) (N.addresses net.old) (N.back net.old))
+        (network_of (told_of (N.to_come net.old) (N.addresses net.old) (N.back net.old))
         (N.tries net.old) (N.faults net.old)))
         (told (channel (S.left input.new) (S.faults input.new))
         (channel (K.written out.new) (K.faults out.new)) (H.files shelf.new) (H.faults shelf.new)
-        (net_of (told_of (N.to_come net.new) (N.addresses net.new) (N.back net.new))
+        (network_of (told_of (N.to_come net.new) (N.addresses net.new) (N.back net.new))
         (N.tries net.new) (N.faults net.new)))) }
 {
     match command {

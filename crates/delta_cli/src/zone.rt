@@ -4,7 +4,7 @@ ghost use Rattle.std.specs.Io.KnownBytes.{Appends};
 ghost use Rattle.delta_base.specs.Outside.{Rose};
 ghost use Rattle.sink_writing.specs.Writing.{AppendsFront};
 ghost use Rattle.slot_files.specs.Files.{bytes_at};
-ghost use Rattle.delta_cli.specs.Channels.{Writes, channel};
+ghost use Rattle.delta_cli.specs.Channels.{WritesText, channel};
 ghost use Rattle.delta_cli.specs.Results.{StopsPrinting};
 ghost use Rattle.delta_cli.specs.Zones.{IsNewZone, KeepsZone, ReadsZone, SparesZone, StopsMaking};
 ghost use Rattle.delta_cli.specs.Zones.{StopsZone, bytes_of};
@@ -42,7 +42,7 @@ pub fn print_zone<H: Shelf, K: Sink>(
 ) -> Result<(), Refusal>
     ensures done { OnOk result ((lines : List (List ℕ))
         × ReadsZone dir.now reading.now H.tells (H.files shelf.old) lines
-        × Writes (channel (K.written out.old) (K.faults out.old))
+        × WritesText (channel (K.written out.old) (K.faults out.old))
         (channel (K.written out.new) (K.faults out.new)) (bytes_of lines)) }
     ensures stopped { IfErr result (StopsZone dir.now reading.now H.tells (H.files shelf.old)
         (H.faults shelf.old) (H.faults shelf.new)
@@ -58,7 +58,7 @@ pub fn print_zone<H: Shelf, K: Sink>(
 
 // Writes the lines, where there is memory for a room of them.
 fn print_lines<K: Sink>(alloc: Global, lines: &Lines, out: &mut K) -> Result<(), Refusal>
-    ensures done { OnOk result (Writes (channel (K.written out.old) (K.faults out.old))
+    ensures done { OnOk result (WritesText (channel (K.written out.old) (K.faults out.old))
         (channel (K.written out.new) (K.faults out.new)) (bytes_of lines.now.keys)) }
     ensures stopped { IfErr result (StopsPrinting (bytes_of lines.now.keys)
         (channel (K.written out.old) (K.faults out.old))

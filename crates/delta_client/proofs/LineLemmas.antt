@@ -12,7 +12,7 @@ use Rattle.delta_client.specs.declared.asking.Asked.{Asked}
 use Rattle.delta_client.specs.declared.fault.AskFault.{AskFault}
 use Rattle.delta_client.specs.declared.line.Open.{Open}
 use Rattle.delta_client.specs.Asking.{AnswerIs}
-use Rattle.delta_client.specs.Lines.{Connection, Told, told_of, fresh, behind, IsHungUp, Stands, IsOpen, IsBegun, IsSettled, AnswersOver, Over}
+use Rattle.delta_client.specs.Lines.{Connection, Links, told_of, fresh, behind_reply, IsHungUp, ConnectionStands, IsOpen, IsBegun, IsBehindReply, AnswersOver, Over}
 
 -- what asking says of the bytes of a connection
 abbrev pub Asks : Option (List ℕ) → Option (List ℕ) → MessageReader → MessageReader → Result Asked AskFault → Type 0
@@ -29,11 +29,11 @@ same_told to_come to_come' addresses addresses' back back' a b c = cc
 
 module _ {L : Type 0} (left : L → Option (List ℕ)) where
   -- the connection just made is open, and nothing was read of it
-  pub begun : (address : List ℕ) (before made : Told L) (link : L) (rest : List L) (reader : MessageReader) → before.to_come ≡ link ∷ rest
+  pub begun : (address : List ℕ) (before made : Links L) (link : L) (rest : List L) (reader : MessageReader) → before.to_come ≡ link ∷ rest
       → made ≡ told_of rest (before.addresses ++ address ∷ []) before.back → GaveReplies [] [] reader → IsBegun left address before made (Some (record { link = link; reader = reader }))
   begun address before made link rest reader first is gave = (fresh link, (link, rest, first, refl, is), (refl, ([], Consumes-nil (left link), gave)))
 
-module _ {L : Type 0} (left sent : L → Option (List ℕ)) (text : List ℕ) (over : Connection L) (talk : Open L) (link : L) (reader : MessageReader) (made after : Told L) (line : Option (Open L)) (stands : Stands left over talk) where
+module _ {L : Type 0} (left sent : L → Option (List ℕ)) (text : List ℕ) (over : Connection L) (talk : Open L) (link : L) (reader : MessageReader) (made after : Links L) (line : Option (Open L)) (stands : ConnectionStands left over talk) where
   consumed : (read : List ℕ) → Consumes (left talk.link) (left link) read → Consumes (left over.came) (left link) (stands.1.0 ++ read)
   consumed read is = Consumes-trans (left over.came) (left over.now) (left link) stands.1.0 read stands.1.1 (subst (λ (l : L). Consumes (left l) (left link) read) stands.0 is)
 
@@ -50,8 +50,8 @@ module _ {L : Type 0} (left sent : L → Option (List ℕ)) (text : List ℕ) (o
   closed_over asked asks whole closes hung =
       let heard = asks stands.1.0 over.replies stands.1.2 in
       let is = heard.2 in
-      let settled : IsSettled left over link is.0 made after line =
-      subst (λ (b : Bool). MatchBool b (IsHungUp link made after line) ((after ≡ made) × IsOpen left (Some (behind over link is.0)) line)) (sym closes ∙ is.4) hung in
+      let settled : IsBehindReply left over link is.0 made after line =
+      subst (λ (b : Bool). MatchBool b (IsHungUp link made after line) ((after ≡ made) × IsOpen left (Some (behind_reply over link is.0)) line)) (sym closes ∙ is.4) hung in
       (stands.1.0 ++ heard.0, is.0, consumed heard.0 heard.1, is.1, is.3, subst (λ (l : L). Appends (sent l) (sent link) text) stands.0 whole, settled)
 
   -- there is one, and the connection stays open
@@ -60,25 +60,25 @@ module _ {L : Type 0} (left sent : L → Option (List ℕ)) (text : List ℕ) (o
   kept_over asked asks whole stays same is_line =
       let heard = asks stands.1.0 over.replies stands.1.2 in
       let is = heard.2 in
-      let standing : Stands left (behind over link is.0) (record { link = link; reader = reader }) = (refl, (stands.1.0 ++ heard.0, consumed heard.0 heard.1, is.2)) in
-      let opened : IsOpen left (Some (behind over link is.0)) line = subst (λ (o : Option (Open L)). IsOpen left (Some (behind over link is.0)) o) (sym is_line) standing in
-      let settled : IsSettled left over link is.0 made after line =
-      subst (λ (b : Bool). MatchBool b (IsHungUp link made after line) ((after ≡ made) × IsOpen left (Some (behind over link is.0)) line)) (sym stays ∙ is.4) (same, opened) in
+      let standing : ConnectionStands left (behind_reply over link is.0) (record { link = link; reader = reader }) = (refl, (stands.1.0 ++ heard.0, consumed heard.0 heard.1, is.2)) in
+      let opened : IsOpen left (Some (behind_reply over link is.0)) line = subst (λ (o : Option (Open L)). IsOpen left (Some (behind_reply over link is.0)) o) (sym is_line) standing in
+      let settled : IsBehindReply left over link is.0 made after line =
+      subst (λ (b : Bool). MatchBool b (IsHungUp link made after line) ((after ≡ made) × IsOpen left (Some (behind_reply over link is.0)) line)) (sym stays ∙ is.4) (same, opened) in
       (stands.1.0 ++ heard.0, is.0, consumed heard.0 heard.1, is.1, is.3, subst (λ (l : L). Appends (sent l) (sent link) text) stands.0 whole, settled)
 
-module _ {L : Type 0} (left sent : L → Option (List ℕ)) (address text : List ℕ) (after : Told L) (line : Option (Open L)) (result : Result Answer AskFault) where
+module _ {L : Type 0} (left sent : L → Option (List ℕ)) (address text : List ℕ) (after : Links L) (line : Option (Open L)) (result : Result Answer AskFault) where
   -- what asking over an open connection says
-  abbrev pub AsksOpen : Told L → Option (Open L) → Type 0
+  abbrev pub AsksOpen : Links L → Option (Open L) → Type 0
   AsksOpen made talk = (over : Connection L) → IsOpen left (Some over) talk → (link : L) × AnswersOver left sent text over link made after line result
 
-  pub over_standing : (before : Told L) (standing : Option (Connection L)) (talk : Option (Open L)) → IsSome talk → IsOpen left standing talk → AsksOpen before talk
+  pub over_standing : (before : Links L) (standing : Option (Connection L)) (talk : Option (Open L)) → IsSome talk → IsOpen left standing talk → AsksOpen before talk
       → Over left sent address text standing before after line result
   over_standing before None None some is asks = absurd (not_some some)
   over_standing before (Some over) None some is asks = absurd (not_some some)
   over_standing before None (Some talk) some is asks = absurd is
   over_standing before (Some over) (Some talk) some is asks = let it = asks over is in inl (over, before, it.0, (refl, refl), it.1)
 
-  pub over_new : (before made : Told L) (standing : Option (Connection L)) (talk begun : Option (Open L)) → talk ≡ None → IsOpen left standing talk → IsBegun left address before made begun → AsksOpen made begun
+  pub over_new : (before made : Links L) (standing : Option (Connection L)) (talk begun : Option (Open L)) → talk ≡ None → IsOpen left standing talk → IsBegun left address before made begun → AsksOpen made begun
       → Over left sent address text standing before after line result
   over_new before made None talk begun none is begins asks = let it = asks begins.0 begins.2 in inl (begins.0, made, it.0, begins.1, it.1)
   over_new before made (Some over) talk begun none is begins asks = absurd (subst (λ (o : Option (Open L)). IsOpen left (Some over) o) none is)

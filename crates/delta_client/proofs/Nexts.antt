@@ -16,8 +16,8 @@ use Rattle.delta_client.specs.declared.fault.AskFault.{AskFault}
 use Rattle.delta_client.specs.declared.fault.AskFault.TheVariants as ask
 use Rattle.rpc_answers.specs.declared.fault.AnswerFault.{AnswerFault}
 use Rattle.rpc_answers.specs.declared.fault.AnswerFault.TheVariants as answers
-use Rattle.rpc_answers.specs.Prints.{IsRefused}
-use Rattle.delta_client.specs.Asking.{BeginWith, EndShort, NextIs, NoAnswer, of_answer, of_frame}
+use Rattle.rpc_answers.specs.Prints.{IsRefusedReply}
+use Rattle.delta_client.specs.Asking.{BeginWith, EndShort, NextReplyIs, NoAnswer, of_answer, of_frame}
 
 front_of : (xs ys : List Message) (bytes rest : List ℕ) → AreMessages Replies bytes (xs ++ ys) rest → (mid : List ℕ) × AreMessages Replies bytes xs mid
 front_of [] ys bytes rest are = (bytes, refl)
@@ -59,11 +59,11 @@ is_cut bytes taken reader fed left none well decides ends =
     let here : Decides {T = Unit} Replies bytes (reply_messages taken) (Ok tt) = subst (λ (r : Result Unit FrameFault). Decides Replies bytes (reply_messages taken) r) well (subst (λ (ms : List Message). Decides Replies bytes ms fed) (none_wait taken reader none) decides) in
     (here, ends)
 
-pub is_faulty : (bytes : List ℕ) (taken : List RawReply) (left : Option (List ℕ)) (reader new : MessageReader) (fault : FrameFault) → waiting reader ≡ [] → Decides {T = Unit} Replies bytes (reply_messages taken ++ waiting reader) (Err fault) → NextIs bytes taken left new (Err (of_frame fault))
+pub is_faulty : (bytes : List ℕ) (taken : List RawReply) (left : Option (List ℕ)) (reader new : MessageReader) (fault : FrameFault) → waiting reader ≡ [] → Decides {T = Unit} Replies bytes (reply_messages taken ++ waiting reader) (Err fault) → NextReplyIs bytes taken left new (Err (of_frame fault))
 is_faulty bytes taken left reader new fault none decides =
     by_kind fault (subst (λ (ms : List Message). Decides {T = Unit} Replies bytes ms (Err fault)) (none_wait taken reader none) decides)
   where
-    by_kind : (fault : FrameFault) → Decides {T = Unit} Replies bytes (reply_messages taken) (Err fault) → NextIs bytes taken left new (Err (of_frame fault))
+    by_kind : (fault : FrameFault) → Decides {T = Unit} Replies bytes (reply_messages taken) (Err fault) → NextReplyIs bytes taken left new (Err (of_frame fault))
     by_kind frame.OutOfMemory decides = tt
     by_kind frame.BadHead decides = ((frame.BadHead, decides), refl)
     by_kind frame.TooManyFields decides = ((frame.TooManyFields, decides), refl)
@@ -82,13 +82,13 @@ consumed_none a b c read piece count one other none =
 
 -- ---- the answers of replies
 
-pub no_answer : (bytes : List ℕ) (taken : List RawReply) (left : Option (List ℕ)) (reader : MessageReader) (fault : AskFault) → NextIs bytes taken left reader (Err fault) → NoAnswer bytes taken left fault
+pub no_answer : (bytes : List ℕ) (taken : List RawReply) (left : Option (List ℕ)) (reader : MessageReader) (fault : AskFault) → NextReplyIs bytes taken left reader (Err fault) → NoAnswer bytes taken left fault
 no_answer bytes taken left reader ask.LinkFault is = tt
 no_answer bytes taken left reader ask.CutShort is = is
 no_answer bytes taken left reader (ask.NotUnderstood at) is = inl is
 no_answer bytes taken left reader ask.OutOfMemory is = tt
 
-pub refused : (bytes : List ℕ) (taken : List RawReply) (left : Option (List ℕ)) (reply : RawReply) (fault : AnswerFault) → BeginWith bytes (taken ++ reply ∷ []) → IsRefused reply fault
+pub refused : (bytes : List ℕ) (taken : List RawReply) (left : Option (List ℕ)) (reply : RawReply) (fault : AnswerFault) → BeginWith bytes (taken ++ reply ∷ []) → IsRefusedReply reply fault
     → NoAnswer bytes taken left (of_answer fault)
 refused bytes taken left reply (answers.NotUnderstood at) begin is = inr (reply, begin, is)
 refused bytes taken left reply answers.OutOfMemory begin is = tt

@@ -1,7 +1,7 @@
 -- What one call says of the bytes of its connection.
 use Rattle.std.specs.Prelude.{◌≡◌, ◌⊎◌, ℕ, List, [], ◌∷◌, ◌++◌, Option, Result, Ok, Err}
 use Rattle.std.specs.Io.KnownBytes.{IsAtEnd}
-use Rattle.http_text.specs.Messages.{Reads, AreMessages, between, inside, faulty}
+use Rattle.http_text.specs.Messages.{ReadsMessages, AreMessages, between, inside, faulty}
 use Rattle.http_text.specs.Print.{request_text}
 use Rattle.http_text.specs.Taken.{GaveReplies, reply_messages}
 use Rattle.http_text.specs.declared.framing.FrameFault.{FrameFault}
@@ -43,24 +43,24 @@ BeginWith bytes replies = (rest : List ℕ) × AreMessages Replies bytes (reply_
 -- no byte left
 abbrev pub EndShort : List ℕ → List RawReply → Option (List ℕ) → Type 0
 EndShort bytes taken left =
-    (Reads Replies bytes (reply_messages taken) between
-    ⊎ Reads Replies bytes (reply_messages taken) inside) × IsAtEnd left
+    (ReadsMessages Replies bytes (reply_messages taken) between
+    ⊎ ReadsMessages Replies bytes (reply_messages taken) inside) × IsAtEnd left
 
 -- behind the replies taken the bytes begin no reply
 abbrev pub BeginNone : List ℕ → List RawReply → Type 0
 BeginNone bytes taken =
-    (fault : FrameFault) × Reads Replies bytes (reply_messages taken) (faulty fault)
+    (fault : FrameFault) × ReadsMessages Replies bytes (reply_messages taken) (faulty fault)
 
 -- The next reply of the bytes behind those taken, or why there is none. A failing link and want of
 -- memory are free.
-abbrev pub NextIs : List ℕ → List RawReply → Option (List ℕ) → MessageReader
+abbrev pub NextReplyIs : List ℕ → List RawReply → Option (List ℕ) → MessageReader
     → Result RawReply AskFault → Type 0
-NextIs bytes taken left reader (Ok reply) =
+NextReplyIs bytes taken left reader (Ok reply) =
     BeginWith bytes (taken ++ reply ∷ []) × GaveReplies bytes (taken ++ reply ∷ []) reader
-NextIs bytes taken left reader (Err CutShort) = EndShort bytes taken left
-NextIs bytes taken left reader (Err (NotUnderstood at)) = BeginNone bytes taken × (at ≡ 0)
-NextIs bytes taken left reader (Err LinkFault) = Unit {0}
-NextIs bytes taken left reader (Err OutOfMemory) = Unit {0}
+NextReplyIs bytes taken left reader (Err CutShort) = EndShort bytes taken left
+NextReplyIs bytes taken left reader (Err (NotUnderstood at)) = BeginNone bytes taken × (at ≡ 0)
+NextReplyIs bytes taken left reader (Err LinkFault) = Unit {0}
+NextReplyIs bytes taken left reader (Err OutOfMemory) = Unit {0}
 
 -- ---- the answer
 

@@ -4,7 +4,7 @@ ghost use Rattle.std.specs.Io.KnownBytes.{Consumes};
 ghost use Rattle.delta_base.specs.Outside.{Rose};
 ghost use Rattle.http_text.specs.declared.message.RawReply.{RawReply as Reply};
 ghost use Rattle.http_text.specs.Taken.{GaveReplies};
-ghost use Rattle.delta_client.specs.Asking.{NextIs};
+ghost use Rattle.delta_client.specs.Asking.{NextReplyIs};
 
 use crate::fault::AskFault;
 use delta_base::Link;
@@ -20,7 +20,7 @@ pub(crate) fn next_reply<L: Link>(
 ) -> Result<RawReply, AskFault>
     ensures next { (given : List ℕ) (taken : List Reply) → GaveReplies given taken reader.old
         → (read : List ℕ) × Consumes (L.left link.old) (L.left link.new) read
-        × NextIs (given ++ read) taken (L.left link.new) reader.new result }
+        × NextReplyIs (given ++ read) taken (L.left link.new) reader.new result }
     ensures sent { L.sent link.new ≡ L.sent link.old }
     ensures cause { IsErrOf result AskFault.LinkFault
         → Rose (L.faults link.old) (L.faults link.new) }

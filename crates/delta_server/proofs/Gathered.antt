@@ -5,10 +5,10 @@ use Rattle.std.proofs.lemmas.List.{drop_at, length-map, length-reverse, length-t
 use Rattle.worker_pool.specs.declared.pool.Post.{Post}
 use Rattle.delta_session.specs.Sessions.{WorkerView}
 use Rattle.delta_session.specs.Steps.{HallView, HallSight}
-use Rattle.delta_session.specs.Working.{posted}
+use Rattle.delta_session.specs.Working.{posts_of}
 
 posted_length : {D G : Type 0} (hall : HallView D) (passes : List HallSight) (gates : List G) → length passes ≡ length gates
-    → length (posted hall passes gates) ≡ length gates
+    → length (posts_of hall passes gates) ≡ length gates
 posted_length hall [] [] same = refl
 posted_length hall [] (gate ∷ gates) same = absurd (omega (arith, same))
 posted_length hall (pass ∷ passes) [] same = absurd (omega (arith, same))
@@ -16,7 +16,7 @@ posted_length hall (pass ∷ passes) (gate ∷ gates) same = ap (λ (n : ℕ). s
 
 -- as many gates come back as were posted
 pub came_back : {D G : Type 0} (hall : HallView D) (passes : List HallSight) (gates after : List G) (posts : List (Post G (WorkerView D)))
-    → length passes ≡ length gates → length posts ≡ length (posted hall passes gates) → after ≡ map (λ post. post.gate) posts
+    → length passes ≡ length gates → length posts ≡ length (posts_of hall passes gates) → after ≡ map (λ post. post.gate) posts
     → length after ≡ length gates
 came_back hall passes gates after posts same served are =
     ap length are ∙ length-map posts (λ post. post.gate) ∙ served ∙ posted_length hall passes gates same

@@ -5,7 +5,7 @@ use Rattle.delta_base.specs.declared.limits.LogLimits.{LogLimits}
 use Rattle.delta_base.specs.declared.limits.TheConstants.{LOG_LIMITS}
 use Rattle.disk_model.specs.declared.disk.Disk.{Ghosts}
 use Rattle.hall_logs.specs.Ends.{AreEnded}
-use Rattle.hall_logs.specs.Files.{AreLeft, AreOpened, AreRefused}
+use Rattle.hall_logs.specs.Files.{AreLeft, AreOpened, AreRefusedAt}
 use Rattle.log_registry.specs.declared.fault.RegistryFault.{RegistryFault}
 use Rattle.log_registry.specs.declared.fault.RegistryFault.TheVariants as registry
 use Rattle.patch_log.specs.State.{LogView}
@@ -17,7 +17,7 @@ use Rattle.shared_registry.specs.declared.value.RegistryFixed.{RegistryFixed}
 use Rattle.turn_cell.specs.Sights.{Made}
 use Rattle.turn_cell.specs.Turns.{IsIn}
 use Rattle.delta_session.specs.Ends.{IsEnded}
-use Rattle.delta_session.specs.Opening.{IsOpenedHall, IsRefusedHall, IsRefused, registry_refused, miscounted, log_refused, wanting, of_log, of_registry}
+use Rattle.delta_session.specs.Opening.{IsOpenedHall, IsRefusedHall, IsHallRefused, registry_refused, miscounted, log_refused, wanting, hall_fault_of_log, hall_fault_of_registry}
 use Rattle.delta_session.specs.Steps.{HallView, HallSight}
 use Rattle.delta_session.specs.declared.fault.HallFault.{HallFault}
 use Rattle.delta_session.specs.declared.fault.HallFault.TheVariants as halls
@@ -27,7 +27,7 @@ module _ {D : Type 0} (disks : Ghosts D) where
   -- ---- marks
 
   logs_refused_marked : (limits : LogLimits) (dir : List ℕ) (number file : ℕ) (fault : LogFault) (asked left : List D)
-      → AreRefused disks limits number asked file fault left → AreMarked disks dir number asked → AreMarked disks dir number left
+      → AreRefusedAt disks limits number asked file fault left → AreMarked disks dir number asked → AreMarked disks dir number left
   logs_refused_marked limits dir number file fault [] left refused are = absurd refused
   logs_refused_marked limits dir number file fault (disk ∷ before) [] refused are = absurd refused
   logs_refused_marked limits dir number file fault (disk ∷ before) (after ∷ left) refused are = ⊎_elim
@@ -56,7 +56,7 @@ module _ {D : Type 0} (disks : Ghosts D) where
   )
 
   refused_one : (dir : List ℕ) (disk : D) (more : List D) (fault : HallFault) (after : D) (left : List D)
-      → IsRefused disks disk more fault after left → AreMarked disks dir 0 (disk ∷ more) → AreMarked disks dir 0 (after ∷ left)
+      → IsHallRefused disks disk more fault after left → AreMarked disks dir 0 (disk ∷ more) → AreMarked disks dir 0 (after ∷ left)
   refused_one dir disk more fault after left (registry_refused why is refused same) are =
       (refused.kept.mark ∙ are.0, subst (AreMarked disks dir 1) (sym same) are.1)
   refused_one dir disk more fault after left (miscounted slots is opened count same) are =
@@ -99,7 +99,7 @@ module _ {D : Type 0} (disks : Ghosts D) where
   -- ---- lengths
 
   logs_refused_length : (limits : LogLimits) (number file : ℕ) (fault : LogFault) (asked left : List D)
-      → AreRefused disks limits number asked file fault left → length left ≡ length asked
+      → AreRefusedAt disks limits number asked file fault left → length left ≡ length asked
   logs_refused_length limits number file fault [] left refused = absurd refused
   logs_refused_length limits number file fault (disk ∷ before) [] refused = absurd refused
   logs_refused_length limits number file fault (disk ∷ before) (after ∷ left) refused = ⊎_elim
@@ -115,7 +115,7 @@ module _ {D : Type 0} (disks : Ghosts D) where
       let same = logs_left_length limits (number + 1) before left are_left.1 in omega (arith, same)
 
   refused_length_one : (disk : D) (more : List D) (fault : HallFault) (after : D) (left : List D)
-      → IsRefused disks disk more fault after left → length left ≡ length more
+      → IsHallRefused disks disk more fault after left → length left ≡ length more
   refused_length_one disk more fault after left (registry_refused why is refused same) = ap length same
   refused_length_one disk more fault after left (miscounted slots is opened count same) = ap length same
   refused_length_one disk more fault after left (log_refused file why is other opened refused) = logs_refused_length LOG_LIMITS 1 file why more left refused
@@ -160,7 +160,7 @@ module _ {D : Type 0} (disks : Ghosts D) where
   behind : (first : D) (left : List D) → HasFailing left → HasFailing (first ∷ left)
   behind first left failing = record { disk = failing.disk; stands = inr failing.stands; failed = failing.failed }
 
-  registry_failed : (why : RegistryFault) → halls.DiskFault ≡ of_registry why → why ≡ registry.Failed
+  registry_failed : (why : RegistryFault) → halls.DiskFault ≡ hall_fault_of_registry why → why ≡ registry.Failed
   registry_failed registry.Failed same = refl
   registry_failed (registry.Damaged at) same = absurd (cc)
   registry_failed (registry.WrongNumber found) same = absurd (cc)
@@ -168,7 +168,7 @@ module _ {D : Type 0} (disks : Ghosts D) where
   registry_failed (registry.BrokenEvent place) same = absurd (cc)
   registry_failed registry.OutOfMemory same = absurd (cc)
 
-  log_failed : (file : ℕ) (why : LogFault) → halls.DiskFault ≡ of_log file why → why ≡ log.Failed
+  log_failed : (file : ℕ) (why : LogFault) → halls.DiskFault ≡ hall_fault_of_log file why → why ≡ log.Failed
   log_failed file log.Failed same = refl
   log_failed file (log.Damaged at) same = absurd (cc)
   log_failed file (log.WrongNumber found) same = absurd (cc)
@@ -177,7 +177,7 @@ module _ {D : Type 0} (disks : Ghosts D) where
   log_failed file log.OutOfMemory same = absurd (cc)
 
   logs_failing : (limits : LogLimits) (number file : ℕ) (fault : LogFault) (asked left : List D)
-      → AreRefused disks limits number asked file fault left → fault ≡ log.Failed → HasFailing left
+      → AreRefusedAt disks limits number asked file fault left → fault ≡ log.Failed → HasFailing left
   logs_failing limits number file fault [] left refused failed = absurd refused
   logs_failing limits number file fault (disk ∷ before) [] refused failed = absurd refused
   logs_failing limits number file fault (disk ∷ before) (after ∷ left) refused failed = ⊎_elim
@@ -186,7 +186,7 @@ module _ {D : Type 0} (disks : Ghosts D) where
       refused
 
   failing_one : (disk : D) (more : List D) (fault : HallFault) (after : D) (left : List D)
-      → IsRefused disks disk more fault after left → halls.DiskFault ≡ fault → HasFailing (after ∷ left)
+      → IsHallRefused disks disk more fault after left → halls.DiskFault ≡ fault → HasFailing (after ∷ left)
   failing_one disk more fault after left (registry_refused why is refused same) failed = record {
     disk = after;
     stands = inl refl;

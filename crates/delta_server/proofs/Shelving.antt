@@ -10,7 +10,7 @@ use Rattle.slot_checks.proofs.Steps.{all_kept, opened_kept, visit_kept}
 use Rattle.slot_checks.specs.Checks.{AreKept}
 use Rattle.slot_files.proofs.Steps.{at_or_not, other_dir, other_number, visited}
 use Rattle.slot_files.specs.Files.{Files, IsKept, SameBut, bytes_at}
-use Rattle.delta_server.specs.Files.{AreMarked, AreRead, ArePutBack, HaveRead}
+use Rattle.delta_server.specs.Files.{AreMarked, AreFilesRead, ArePutBack, HaveRead}
 
 module _ {D : Type 0} (disks : Ghosts D) where
   -- ---- one disk more
@@ -21,8 +21,8 @@ module _ {D : Type 0} (disks : Ghosts D) where
   marked_more dir number (first ∷ taken) disk are is =
       (are.0, marked_more dir (number + 1) taken disk are.1 (subst (λ (n : ℕ). disks.mark disk ≡ Some (dir, n)) (omega arith) is))
 
-  pub read_more : (files : Files) (dir : List ℕ) (number : ℕ) (taken : List D) (disk : D) → AreRead disks files dir number taken
-      → reads (disks.past disk) ≡ bytes_at files dir (number + length taken) → AreRead disks files dir number (taken ++ disk ∷ [])
+  pub read_more : (files : Files) (dir : List ℕ) (number : ℕ) (taken : List D) (disk : D) → AreFilesRead disks files dir number taken
+      → reads (disks.past disk) ≡ bytes_at files dir (number + length taken) → AreFilesRead disks files dir number (taken ++ disk ∷ [])
   read_more files dir number [] disk are is = (subst (λ (n : ℕ). reads (disks.past disk) ≡ bytes_at files dir n) (omega arith) is, tt)
   read_more files dir number (first ∷ taken) disk are is =
       (are.0, read_more files dir (number + 1) taken disk are.1 (subst (λ (n : ℕ). reads (disks.past disk) ≡ bytes_at files dir n) (omega arith) is))
@@ -83,7 +83,7 @@ module _ {D : Type 0} (disks : Ghosts D) where
     };
   }
 
-  kept_at : (dir : List ℕ) (from : ℕ) (left : List D) (old new : Files) → AreRead disks old dir from left → HaveRead disks new dir from left
+  kept_at : (dir : List ℕ) (from : ℕ) (left : List D) (old new : Files) → AreFilesRead disks old dir from left → HaveRead disks new dir from left
       → (n : ℕ) → from ≤ n → n < from + length left → IsKept (old dir n) (new dir n)
   kept_at dir from [] old new read have n low high = absurd (omega (arith, low, high))
   kept_at dir from (disk ∷ left) old new read have n low high =
@@ -93,7 +93,7 @@ module _ {D : Type 0} (disks : Ghosts D) where
       n low high
 
   -- disks that read what the files had leave them
-  pub kept_over : (dir : List ℕ) (left : List D) (old mid new : Files) → AreKept dir (length left) old mid → AreRead disks old dir 0 left
+  pub kept_over : (dir : List ℕ) (left : List D) (old mid new : Files) → AreKept dir (length left) old mid → AreFilesRead disks old dir 0 left
       → ArePutBack disks dir left mid new → AreKept dir (length left) old new
   kept_over dir left old mid new kept read back = record {
     elsewhere = λ d n apart. back.others.elsewhere d n apart ∙ kept.elsewhere d n apart;
@@ -118,7 +118,7 @@ rose_behind a b c low rose high = ⊎_elim
 -- ---- the same bytes
 
 pub read_same : {D : Type 0} (disks : Ghosts D) (files other : Files) (dir : List ℕ) (number : ℕ) (taken : List D)
-    → ((n : ℕ) → bytes_at files dir n ≡ bytes_at other dir n) → AreRead disks files dir number taken → AreRead disks other dir number taken
+    → ((n : ℕ) → bytes_at files dir n ≡ bytes_at other dir n) → AreFilesRead disks files dir number taken → AreFilesRead disks other dir number taken
 read_same disks files other dir number [] same are = tt
 read_same disks files other dir number (disk ∷ taken) same are = (are.0 ∙ same number, read_same disks files other dir (number + 1) taken same are.1)
 

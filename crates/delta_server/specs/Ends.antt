@@ -5,12 +5,12 @@ use Rattle.delta_base.specs.declared.link.Link.{Ghosts as LinkGhosts}
 use Rattle.disk_model.specs.declared.disk.Disk.{Ghosts}
 use Rattle.slot_files.specs.Files.{Files, bytes_at}
 use Rattle.slot_checks.specs.Checks.{AreKept}
-use Rattle.slot_checks.specs.Faults.{HasRegistryFault}
+use Rattle.slot_checks.specs.Faults.{HasRegistryFileFault}
 use Rattle.slot_checks.specs.declared.fault.CheckFault.{CheckFault}
 use Rattle.slot_checks.specs.declared.fault.CheckFault.TheVariants as checks
 use Rattle.worker_pool.specs.declared.gate.Arrival.{Arrival}
 use Rattle.delta_cli.specs.Channels.{Channel, IsSilent}
-use Rattle.delta_cli.specs.Refusals.{Reports}
+use Rattle.delta_cli.specs.Refusals.{ReportsRefusal}
 use Rattle.delta_cli.specs.Tool.{check_refusal}
 use Rattle.delta_cli.specs.declared.refusal.Refusal.{Refusal}
 use Rattle.delta_cli.specs.declared.refusal.Refusal.TheVariants as refusals
@@ -21,7 +21,7 @@ use Rattle.delta_session.specs.declared.fault.HallFault.{HallFault}
 use Rattle.delta_session.specs.declared.fault.HallFault.TheVariants as halls
 use Rattle.delta_server.specs.Files.{ArePutBack}
 use Rattle.delta_server.specs.Gates.{HaveFailed}
-use Rattle.delta_server.specs.Serving.{AreAsked, IsHallOver, HasServed}
+use Rattle.delta_server.specs.Serving.{AreDisksAsked, IsHallOver, HasServed}
 use Rattle.delta_server.specs.Words.{AsksToServe, RefusesToServe}
 
 -- the end of a server whose hall has this fault
@@ -49,7 +49,7 @@ module _ {D : Type 0} (disks : Ghosts D) (tells : Type 0) where
   pub data HasNoDisks (dir : List ℕ) (old new : ShelfView) : Refusal → Type 0 where
     -- file 0 isn't that of a registry, or its disk failed; no other was asked for
     at_registry : (fault : CheckFault)
-        → (tells → HasRegistryFault (bytes_at old.files dir 0) fault)
+        → (tells → HasRegistryFileFault (bytes_at old.files dir 0) fault)
         → (fault ≡ checks.Failed → Rose old.faults new.faults)
         → (tells → AreKept dir 1 old.files new.files)
         → HasNoDisks dir old new (check_refusal fault)
@@ -61,39 +61,39 @@ module _ {D : Type 0} (disks : Ghosts D) (tells : Type 0) where
         → HasNoDisks dir old new refusal
 
   -- why no connection was served, and what is left of the files
-  pub data Stops (dir : List ℕ) (workers : ℕ) (old new : ShelfView) : Refusal → Type 0 where
+  pub data StopsServe (dir : List ℕ) (workers : ℕ) (old new : ShelfView) : Refusal → Type 0 where
     at_files : (refusal : Refusal) → HasNoDisks dir old new refusal
-        → Stops dir workers old new refusal
+        → StopsServe dir workers old new refusal
     -- The hall couldn't be opened over its files. That their count is wrong is told only where two
     -- readings of file 0 differ.
     at_hall : (fault : HallFault) (asked left : List D)
-        → AreAsked disks tells dir old.files asked
+        → AreDisksAsked disks tells dir old.files asked
         → IsRefusedHall disks asked fault left
         → (fault ≡ halls.DiskFault → Rose old.faults new.faults)
         → (tells → (count slots : ℕ) → fault ≡ halls.WrongCount count slots → ⊥)
         → (tells → ArePutBack disks dir left old.files new.files)
-        → Stops dir workers old new (hall_refusal fault)
+        → StopsServe dir workers old new (hall_refusal fault)
     -- memory for the workers ran out, and the hall was closed as it was opened
     at_workers : (hall : HallView D) (passes : List HallSight) (left : List D)
         → IsHallOver disks tells dir old.files workers hall passes
         → IsEnded disks hall passes left
         → (tells → ArePutBack disks dir left old.files new.files)
-        → Stops dir workers old new refusals.OutOfMemory
+        → StopsServe dir workers old new refusals.OutOfMemory
 
 module _ {D G L : Type 0} (disks : Ghosts D) (links : LinkGhosts L) (tells told : Type 0)
     (arrivals : G → List (Arrival L)) (back : G → List L) (faults : G → ℕ) where
   -- The files were opened and connections served, and a gate of a worker has failed; or none was
   -- served, and no gate was asked.
-  abbrev pub Fails : List ℕ → ℕ → ShelfView → ShelfView → List G → List G → Refusal → Type 0
-  Fails dir workers old new gates after refusal =
+  abbrev pub FailsServe : List ℕ → ℕ → ShelfView → ShelfView → List G → List G → Refusal → Type 0
+  FailsServe dir workers old new gates after refusal =
       ((refusal ≡ refusals.LinkFailed)
       × HasServed disks links tells told arrivals back faults dir workers old.files new.files
       gates after
       × HaveFailed faults (take workers gates) (take workers after))
-      ⊎ (Stops disks tells dir workers old new refusal × (after ≡ gates))
+      ⊎ (StopsServe disks tells dir workers old new refusal × (after ≡ gates))
 
   -- The status for these words, with the shelf, the gates and err before and after.
-  pub data Answers (words : List (List ℕ)) (old new : ShelfView) (gates after : List G)
+  pub data AnswersServe (words : List (List ℕ)) (old new : ShelfView) (gates after : List G)
       (err err' : Channel) : ℕ → Type 0 where
     -- no gate of a worker has failed
     served : (dir address : List ℕ) (workers : ℕ) → AsksToServe words dir address workers
@@ -101,13 +101,13 @@ module _ {D G L : Type 0} (disks : Ghosts D) (links : LinkGhosts L) (tells told 
         gates after
         → (HaveFailed faults (take workers gates) (take workers after) → ⊥)
         → IsSilent err err'
-        → Answers words old new gates after err err' 0
+        → AnswersServe words old new gates after err err' 0
     -- the gate of a worker has failed, or no connection was served
     failed : (dir address : List ℕ) (workers : ℕ) (refusal : Refusal) (status : ℕ)
-        → AsksToServe words dir address workers → Fails dir workers old new gates after refusal
-        → Reports refusal err err' status
-        → Answers words old new gates after err err' status
+        → AsksToServe words dir address workers → FailsServe dir workers old new gates after refusal
+        → ReportsRefusal refusal err err' status
+        → AnswersServe words old new gates after err err' status
     -- nothing was asked
     refused : (refusal : Refusal) (status : ℕ) → RefusesToServe words refusal → new ≡ old
-        → after ≡ gates → Reports refusal err err' status
-        → Answers words old new gates after err err' status
+        → after ≡ gates → ReportsRefusal refusal err err' status
+        → AnswersServe words old new gates after err err' status

@@ -12,10 +12,11 @@ module _ {D : Type 0} (disks : Ghosts D) where
       (disks.mark disk ≡ Some (dir, number)) × AreMarked dir (number + 1) more
 
   -- each disk reads what the file of its number has, from this number on
-  abbrev pub AreRead : Files → List ℕ → ℕ → List D → Type 0
-  AreRead files dir number [] = Unit {0}
-  AreRead files dir number (disk ∷ more) =
-      (reads (disks.past disk) ≡ bytes_at files dir number) × AreRead files dir (number + 1) more
+  abbrev pub AreFilesRead : Files → List ℕ → ℕ → List D → Type 0
+  AreFilesRead files dir number [] = Unit {0}
+  AreFilesRead files dir number (disk ∷ more) =
+      (reads (disks.past disk) ≡ bytes_at files dir number)
+      × AreFilesRead files dir (number + 1) more
 
   -- each file has what its disk reads, from this number on
   abbrev pub HaveRead : Files → List ℕ → ℕ → List D → Type 0

@@ -9,16 +9,16 @@ use Rattle.delta_session.specs.Halls.{AreHallPasses, AreNewPasses}
 use Rattle.delta_session.specs.Opening.{IsOpenedHall}
 use Rattle.delta_session.specs.Steps.{HallView, HallSight}
 use Rattle.delta_session.specs.Working.{HasWorked}
-use Rattle.delta_server.specs.Files.{AreMarked, AreRead, ArePutBack}
+use Rattle.delta_server.specs.Files.{AreMarked, AreFilesRead, ArePutBack}
 
 module _ {D : Type 0} (disks : Ghosts D) (tells : Type 0) where
   -- As many disks as file 0 says, and its own: those of the directory's files, which read what the
   -- files have.
-  pub record AreAsked (dir : List ℕ) (files : Files) (asked : List D) : Type 0 where
+  pub record AreDisksAsked (dir : List ℕ) (files : Files) (asked : List D) : Type 0 where
     pub slots : ℕ
     pub count : length asked ≡ slots + 1
     pub marked : tells → AreMarked disks dir 0 asked
-    pub read : tells → AreRead disks files dir 0 asked
+    pub read : tells → AreFilesRead disks files dir 0 asked
     pub said :
         tells → (records : ℕ) × HoldsRegistry (bytes_at files dir 0) slots records
 
@@ -26,7 +26,7 @@ module _ {D : Type 0} (disks : Ghosts D) (tells : Type 0) where
   pub record IsHallOver (dir : List ℕ) (files : Files) (workers : ℕ) (hall : HallView D)
       (passes : List HallSight) : Type 0 where
     pub disks_are : List D
-    pub asked : AreAsked dir files disks_are
+    pub asked : AreDisksAsked dir files disks_are
     pub opened : IsOpenedHall disks disks_are hall
     pub seats : hall.logs.seats ≡ workers
     pub all : AreHallPasses disks.mark hall passes

@@ -7,9 +7,9 @@ ghost use Rattle.slot_files.specs.Files.{bytes_at};
 ghost use Rattle.slot_checks.specs.Checks.{AreKept};
 ghost use Rattle.slot_checks.specs.Sound.{HoldsRegistry};
 ghost use Rattle.delta_session.specs.Ends.{HasHallRoom};
-ghost use Rattle.delta_server.specs.Ends.{HasNoDisks, Stops, hall_refusal, shelf_view};
-ghost use Rattle.delta_server.specs.Files.{AreMarked, AreRead};
-ghost use Rattle.delta_server.specs.Serving.{AreAsked, IsHallOver};
+ghost use Rattle.delta_server.specs.Ends.{HasNoDisks, StopsServe, hall_refusal, shelf_view};
+ghost use Rattle.delta_server.specs.Files.{AreMarked, AreFilesRead};
+ghost use Rattle.delta_server.specs.Serving.{AreDisksAsked, IsHallOver};
 
 use crate::files::put_back;
 use delta_base::{MOST_SLOTS, Text};
@@ -61,7 +61,7 @@ fn take_registry<H: Shelf>(
     ensures count { OnOk result (length disks.new.items ≡ 1) }
     ensures marked { H.tells → OnOk result (AreMarked H.D.Disk dir.now 0 disks.new.items) }
     ensures read { H.tells
-        → OnOk result (AreRead H.D.Disk (H.files shelf.old) dir.now 0 disks.new.items) }
+        → OnOk result (AreFilesRead H.D.Disk (H.files shelf.old) dir.now 0 disks.new.items) }
     ensures said { H.tells → IfOk result (λ slots. (records : ℕ)
         × HoldsRegistry (bytes_at (H.files shelf.old) dir.now 0) slots records) }
     ensures kept { H.tells → OnOk result
@@ -105,8 +105,8 @@ fn take_logs<H: Shelf>(
     ensures marked { H.tells → AreMarked H.D.Disk dir.now 0 disks.old.items
         → AreMarked H.D.Disk dir.now 0 disks.new.items }
     ensures read { H.tells
-        → AreRead H.D.Disk (H.files shelf.old) dir.now 0 disks.old.items
-        → AreRead H.D.Disk (H.files shelf.old) dir.now 0 disks.new.items }
+        → AreFilesRead H.D.Disk (H.files shelf.old) dir.now 0 disks.old.items
+        → AreFilesRead H.D.Disk (H.files shelf.old) dir.now 0 disks.new.items }
     ensures kept { H.tells → AreKept dir.now (length disks.new.items)
         (H.files shelf.old) (H.files shelf.new) }
     ensures grown { 1 ≤ length disks.new.items }
@@ -128,7 +128,7 @@ fn take_logs<H: Shelf>(
 // The disks of a directory's files, as many as the registry's file says.
 fn take_disks<H: Shelf>(alloc: Global, shelf: &mut H, dir: &Text) -> Result<Vec<H::D>, Refusal>
     ensures asked { IfOk result (λ disks.
-        AreAsked H.D.Disk H.tells dir.now (H.files shelf.old) disks.items) }
+        AreDisksAsked H.D.Disk H.tells dir.now (H.files shelf.old) disks.items) }
     ensures kept { H.tells → IfOk result (λ disks.
         AreKept dir.now (length disks.items) (H.files shelf.old) (H.files shelf.new)) }
     ensures stopped { IfErr result (HasNoDisks H.D.Disk H.tells dir.now
@@ -169,7 +169,7 @@ pub fn open<H: Shelf>(
         × (H.tells → AreKept dir.now (length over.disks_are)
         (H.files shelf.old) (H.files shelf.new))) }
     ensures room { IfOk result (λ r. HasHallRoom r.0 r.1.room) }
-    ensures stopped { IfErr result (Stops H.D.Disk H.tells dir.now workers
+    ensures stopped { IfErr result (StopsServe H.D.Disk H.tells dir.now workers
         (shelf_view (H.files shelf.old) (H.faults shelf.old))
         (shelf_view (H.files shelf.new) (H.faults shelf.new))) }
     ensures never_falls { H.faults shelf.old ≤ H.faults shelf.new }

@@ -1,7 +1,7 @@
 //! The top call of the server.
 ghost use Rattle.std.specs.Prelude.{◌≡◌, ◌≤◌, IfErr, IsErr, OnOk, length, take};
 ghost use Rattle.delta_cli.specs.Channels.{channel, words_of};
-ghost use Rattle.delta_server.specs.Ends.{Answers, Fails, Stops, shelf_view};
+ghost use Rattle.delta_server.specs.Ends.{AnswersServe, FailsServe, StopsServe, shelf_view};
 ghost use Rattle.delta_server.specs.Gates.{HaveFailed};
 ghost use Rattle.delta_server.specs.Serving.{HasServed};
 
@@ -40,7 +40,7 @@ where
     H::D: Send,
     G::L: Link + Send,
     requires gates { length gates.items ≡ 16 }
-    ensures { Answers H.D.Disk G.L.Link H.tells G.tells G.arrivals G.back G.faults
+    ensures { AnswersServe H.D.Disk G.L.Link H.tells G.tells G.arrivals G.back G.faults
         (words_of words.now)
         (shelf_view (H.files shelf.old) (H.faults shelf.old))
         (shelf_view (H.files shelf.new) (H.faults shelf.new)) gates.items result.gates.items
@@ -80,7 +80,7 @@ where
         gates.items result.0.items) }
     ensures well { OnOk result.1 (HaveFailed G.faults (take serve.now.workers gates.items)
         (take serve.now.workers result.0.items) → ⊥) }
-    ensures failed { IfErr result.1 (Fails H.D.Disk G.L.Link H.tells G.tells G.arrivals G.back
+    ensures failed { IfErr result.1 (FailsServe H.D.Disk G.L.Link H.tells G.tells G.arrivals G.back
         G.faults serve.now.dir serve.now.workers
         (shelf_view (H.files shelf.old) (H.faults shelf.old))
         (shelf_view (H.files shelf.new) (H.faults shelf.new)) gates.items result.0.items) }
@@ -118,7 +118,7 @@ where
     ensures served { OnOk result.1 (HasServed H.D.Disk G.L.Link H.tells G.tells G.arrivals G.back
         G.faults serve.now.dir serve.now.workers (H.files shelf.old) (H.files shelf.new)
         gates.items result.0.items) }
-    ensures stopped { IfErr result.1 (Stops H.D.Disk H.tells serve.now.dir serve.now.workers
+    ensures stopped { IfErr result.1 (StopsServe H.D.Disk H.tells serve.now.dir serve.now.workers
         (shelf_view (H.files shelf.old) (H.faults shelf.old))
         (shelf_view (H.files shelf.new) (H.faults shelf.new))) }
     ensures same { IsErr result.1 → result.0.items ≡ gates.items }

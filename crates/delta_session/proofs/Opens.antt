@@ -15,16 +15,16 @@ use Rattle.patch_log.specs.declared.fault.LogFault.{LogFault}
 use Rattle.patch_log.specs.declared.fault.LogFault.TheVariants as log
 use Rattle.turn_cell.specs.Turns.{AllOf, IsIn}
 use Rattle.turn_cell.specs.Sights.{Made}
-use Rattle.turn_cell.specs.Knowing.{number_of}
+use Rattle.turn_cell.specs.Knowing.{pass_number}
 use Rattle.shared_log.specs.Passes.{LogSight, IsPassOf as IsPartOf, IsNewPassOf as IsNewPart}
-use Rattle.shared_registry.specs.History.{StandsInTurn}
-use Rattle.shared_registry.specs.Passes.{RegistrySight, IsPassOf, IsNewPassOf, AreAllPassesOf, IsClosedOf}
+use Rattle.shared_registry.specs.History.{RegistryStandsInTurn}
+use Rattle.shared_registry.specs.Passes.{RegistrySight, IsRegistryPassOf, IsNewRegistryPassOf, AreAllRegistryPassesOf, IsClosedRegistryOf}
 use Rattle.hall_logs.proofs.Opens.{as_many, left_refused}
-use Rattle.hall_logs.specs.Files.{AreOpened, AreRefused, AreLeft}
-use Rattle.hall_logs.specs.Slots.{ArePartsOf, AreNew, AreAllPasses}
+use Rattle.hall_logs.specs.Files.{AreOpened, AreRefusedAt, AreLeft}
+use Rattle.hall_logs.specs.Slots.{ArePartsOf, AreNew, AreAllHallPasses}
 use Rattle.delta_session.specs.Ends.{EndsRegistry}
-use Rattle.delta_session.specs.Halls.{IsHallPass, AreHallPasses, AreNewPasses, joined}
-use Rattle.delta_session.specs.Opening.{WasOpened, IsRefused, IsRefusedHall, log_refused, wanting, of_log}
+use Rattle.delta_session.specs.Halls.{IsHallPass, AreHallPasses, AreNewPasses, paired_sights}
+use Rattle.delta_session.specs.Opening.{WasOpened, IsHallRefused, IsRefusedHall, log_refused, wanting, hall_fault_of_log}
 use Rattle.delta_session.specs.declared.fault.HallFault.{HallFault}
 use Rattle.delta_session.specs.Steps.{HallView, HallSight}
 
@@ -42,7 +42,7 @@ abbrev pub pair : RegistrySight → List LogSight → HallSight
 pair sight part = record { lists = record { registry = sight; logs = part }; dice = 0 }
 
 joined_more : (sights : List RegistrySight) (parts : List (List LogSight)) (sight : RegistrySight) (part : List LogSight) → length sights ≡ length parts
-    → joined (sights ++ sight ∷ []) (parts ++ part ∷ []) ≡ joined sights parts ++ pair sight part ∷ []
+    → paired_sights (sights ++ sight ∷ []) (parts ++ part ∷ []) ≡ paired_sights sights parts ++ pair sight part ∷ []
 joined_more [] [] sight part same = refl
 joined_more [] (y ∷ parts) sight part same = absurd (omega (arith, same))
 joined_more (x ∷ sights) [] sight part same = absurd (omega (arith, same))
@@ -50,13 +50,13 @@ joined_more (x ∷ sights) (y ∷ parts) sight part same = ap (λ (l : List Hall
 
 -- the last of both lists are joined, and stand behind the others in reverse
 pub joins_one : (all : List HallSight) (sights rest : List RegistrySight) (parts others : List (List LogSight)) (passes : List HallSight) (sight : RegistrySight) (part : List LogSight)
-    → all ≡ joined sights parts ++ reverse passes → sights ≡ rest ++ sight ∷ [] → parts ≡ others ++ part ∷ [] → length rest ≡ length others
-    → all ≡ joined rest others ++ reverse (passes ++ pair sight part ∷ [])
+    → all ≡ paired_sights sights parts ++ reverse passes → sights ≡ rest ++ sight ∷ [] → parts ≡ others ++ part ∷ [] → length rest ≡ length others
+    → all ≡ paired_sights rest others ++ reverse (passes ++ pair sight part ∷ [])
 joins_one all sights rest parts others passes sight part is popped taken same =
-    is ∙ (λ i. joined (popped i) (taken i) ++ reverse passes) ∙ ap (λ (l : List HallSight). l ++ reverse passes) (joined_more rest others sight part same)
-    ∙ append_assoc (joined rest others) (pair sight part ∷ []) (reverse passes) ∙ ap (λ (l : List HallSight). joined rest others ++ l) (sym (reverse-append passes (pair sight part ∷ [])))
+    is ∙ (λ i. paired_sights (popped i) (taken i) ++ reverse passes) ∙ ap (λ (l : List HallSight). l ++ reverse passes) (joined_more rest others sight part same)
+    ∙ append_assoc (paired_sights rest others) (pair sight part ∷ []) (reverse passes) ∙ ap (λ (l : List HallSight). paired_sights rest others ++ l) (sym (reverse-append passes (pair sight part ∷ [])))
 
-pub joined_length : (sights : List RegistrySight) (parts : List (List LogSight)) → length sights ≡ length parts → length (joined sights parts) ≡ length parts
+pub joined_length : (sights : List RegistrySight) (parts : List (List LogSight)) → length sights ≡ length parts → length (paired_sights sights parts) ≡ length parts
 joined_length [] [] same = refl
 joined_length [] (y ∷ parts) same = absurd (omega (arith, same))
 joined_length (x ∷ sights) [] same = absurd (omega (arith, same))
@@ -83,30 +83,30 @@ module _ {D : Type 0} (mark : D → Option (List ℕ × ℕ)) (hall : HallView D
   -- ---- new passes
 
   pub joined_new : (number : ℕ) (sights : List RegistrySight) (parts : List (List LogSight)) → length sights ≡ length parts
-      → ((k : ℕ) (p : RegistrySight) → slice_get sights k ≡ Some p → IsNewPassOf mark hall.registry (k + number) p) → AreNew mark hall.logs.logs number parts → AreNewPasses mark hall number (joined sights parts)
+      → ((k : ℕ) (p : RegistrySight) → slice_get sights k ≡ Some p → IsNewRegistryPassOf mark hall.registry (k + number) p) → AreNew mark hall.logs.logs number parts → AreNewPasses mark hall number (paired_sights sights parts)
   joined_new number [] [] same each new = tt
   joined_new number [] (y ∷ parts) same each new = tt
   joined_new number (x ∷ sights) [] same each new = absurd (omega (arith, same))
   joined_new number (x ∷ sights) (y ∷ parts) same each new = (
-    subst (λ (n : ℕ). IsNewPassOf mark hall.registry n x) (omega arith) (each 0 x refl),
+    subst (λ (n : ℕ). IsNewRegistryPassOf mark hall.registry n x) (omega arith) (each 0 x refl),
     new.0,
-    joined_new (number + 1) sights parts (omega (arith, same)) (λ k p at. subst (λ (n : ℕ). IsNewPassOf mark hall.registry n p) (omega arith) (each (suc k) p at)) new.1,
+    joined_new (number + 1) sights parts (omega (arith, same)) (λ k p at. subst (λ (n : ℕ). IsNewRegistryPassOf mark hall.registry n p) (omega arith) (each (suc k) p at)) new.1,
   )
 
   new_parts : (number : ℕ) (logs : List (Made (LogView D))) (parts : List LogSight) → AllZip (λ log part. IsNewPart mark log number part) logs parts
-      → AllZip (IsPartOf mark) logs parts × AllOf (λ (part : LogSight). number_of part ≡ number) parts
+      → AllZip (IsPartOf mark) logs parts × AllOf (λ (part : LogSight). pass_number part ≡ number) parts
   new_parts number [] [] all = (tt, tt)
   new_parts number [] (y ∷ parts) all = absurd all
   new_parts number (x ∷ logs) [] all = absurd all
   new_parts number (x ∷ logs) (y ∷ parts) all = let rest = new_parts number logs parts all.1 in ((all.0.0, rest.0), (all.0.1, rest.1))
 
-  one_new : (number : ℕ) (pass : HallSight) → IsNewPassOf mark hall.registry number pass.lists.registry → AllZip (λ log part. IsNewPart mark log number part) hall.logs.logs pass.lists.logs
+  one_new : (number : ℕ) (pass : HallSight) → IsNewRegistryPassOf mark hall.registry number pass.lists.registry → AllZip (λ log part. IsNewPart mark log number part) hall.logs.logs pass.lists.logs
       → IsHallPass mark hall pass.lists
   one_new number pass registry logs =
       let parts = new_parts number hall.logs.logs pass.lists.logs logs in record {
         registry = registry.0;
         logs = parts.0;
-        one = subst (λ (n : ℕ). AllOf (λ (part : LogSight). number_of part ≡ n) pass.lists.logs) (sym registry.1) parts.1;
+        one = subst (λ (n : ℕ). AllOf (λ (part : LogSight). pass_number part ≡ n) pass.lists.logs) (sym registry.1) parts.1;
       }
 
   new_passes : (number : ℕ) (passes : List HallSight) → AreNewPasses mark hall number passes → AllOf (λ (pass : HallSight). IsHallPass mark hall pass.lists) passes
@@ -114,7 +114,7 @@ module _ {D : Type 0} (mark : D → Option (List ℕ × ℕ)) (hall : HallView D
   new_passes number (pass ∷ passes) new = (one_new number pass new.0 new.1, new_passes (number + 1) passes new.2)
 
   find_new : (number : ℕ) (passes : List HallSight) → AreNewPasses mark hall number passes → (n : ℕ) → number ≤ n → n < number + length passes
-      → (pass : HallSight) × IsIn pass passes × (number_of pass.lists.registry ≡ n)
+      → (pass : HallSight) × IsIn pass passes × (pass_number pass.lists.registry ≡ n)
   find_new number [] new n low high = absurd (omega (arith, low, high))
   find_new number (pass ∷ passes) new n low high = dite (ℕ_discrete number n)
       (λ e. (pass, inl refl, new.0.1 ∙ e))
@@ -130,15 +130,15 @@ module _ {D : Type 0} (mark : D → Option (List ℕ × ℕ)) (hall : HallView D
   -- ---- the passes of each list
 
   module _ (passes : List HallSight) (are : AreHallPasses mark hall passes) where
-    pub registry_passes : hall.registry.seats ≡ hall.logs.seats → AreAllPassesOf mark hall.registry (map (λ (pass : HallSight). pass.lists.registry) passes)
+    pub registry_passes : hall.registry.seats ≡ hall.logs.seats → AreAllRegistryPassesOf mark hall.registry (map (λ (pass : HallSight). pass.lists.registry) passes)
     registry_passes same = (
-      all_map (λ (pass : HallSight). pass.lists.registry) (λ pass. IsHallPass mark hall pass.lists) (IsPassOf mark hall.registry) (λ pass is. is.registry) passes are.of,
+      all_map (λ (pass : HallSight). pass.lists.registry) (λ pass. IsHallPass mark hall pass.lists) (IsRegistryPassOf mark hall.registry) (λ pass is. is.registry) passes are.of,
       λ n positive high.
           let one = are.all n positive (omega (arith, high, same)) in
           (one.0.lists.registry, in_map (λ (pass : HallSight). pass.lists.registry) one.0 passes one.1, one.2),
     )
 
-    pub logs_passes : AreAllPasses mark hall.logs.logs hall.logs.seats (map (λ (pass : HallSight). pass.lists.logs) passes)
+    pub logs_passes : AreAllHallPasses mark hall.logs.logs hall.logs.seats (map (λ (pass : HallSight). pass.lists.logs) passes)
     logs_passes = record {
       of = all_map (λ (pass : HallSight). pass.lists.logs) (λ pass. IsHallPass mark hall pass.lists) (ArePartsOf mark hall.logs.logs) (λ pass is. is.logs) passes are.of;
       count = length_map (λ (pass : HallSight). pass.lists.logs) passes ∙ are.count;
@@ -147,7 +147,7 @@ module _ {D : Type 0} (mark : D → Option (List ℕ × ℕ)) (hall : HallView D
           let is : IsHallPass mark hall one.0.lists = in_all (λ (pass : HallSight). IsHallPass mark hall pass.lists) passes one.0 are.of one.1 in (
             one.0.lists.logs,
             in_map (λ (pass : HallSight). pass.lists.logs) one.0 passes one.1,
-            subst (λ (m : ℕ). AllOf (λ (part : LogSight). number_of part ≡ m) one.0.lists.logs) one.2 is.one,
+            subst (λ (m : ℕ). AllOf (λ (part : LogSight). pass_number part ≡ m) one.0.lists.logs) one.2 is.one,
           );
     }
 
@@ -155,8 +155,8 @@ module _ {D : Type 0} (disks : Ghosts D) where
   -- ---- refusals
 
   pub logs_refused : (disk after : D) (more left : List D) (file : ℕ) (why : LogFault) → WasOpened disks (length more) disk after
-      → (why ≢ log.OutOfMemory → AreRefused disks LOG_LIMITS 1 more file why left) → (why ≡ log.OutOfMemory → AreLeft disks LOG_LIMITS 1 more left)
-      → IsRefused disks disk more (of_log file why) after left
+      → (why ≢ log.OutOfMemory → AreRefusedAt disks LOG_LIMITS 1 more file why left) → (why ≡ log.OutOfMemory → AreLeft disks LOG_LIMITS 1 more left)
+      → IsHallRefused disks disk more (hall_fault_of_log file why) after left
   logs_refused disk after more left file log.OutOfMemory opened refused kept = wanting refl opened (kept refl)
   logs_refused disk after more left file log.Failed opened refused kept = log_refused file log.Failed refl (λ e. cc) opened (refused (λ e. cc))
   logs_refused disk after more left file (log.Damaged at) opened refused kept = log_refused file (log.Damaged at) refl (λ e. cc) opened (refused (λ e. cc))
@@ -172,7 +172,7 @@ module _ {D : Type 0} (disks : Ghosts D) where
   left_count limits number (b ∷ before) (a ∷ after) are = ap (λ (n : ℕ). suc n) (left_count limits (number + 1) before after are.1)
 
   pub refused_count : (limits : LogLimits) (more left : List D) (file : ℕ) (why : LogFault)
-      → (why ≢ log.OutOfMemory → AreRefused disks limits 1 more file why left) → (why ≡ log.OutOfMemory → AreLeft disks limits 1 more left) → length left ≡ length more
+      → (why ≢ log.OutOfMemory → AreRefusedAt disks limits 1 more file why left) → (why ≡ log.OutOfMemory → AreLeft disks limits 1 more left) → length left ≡ length more
   refused_count limits more left file log.OutOfMemory refused kept = left_count limits 1 more left (kept refl)
   refused_count limits more left file log.Failed refused kept = left_count limits 1 more left (left_refused disks limits 1 file log.Failed more left (refused (λ e. cc)))
   refused_count limits more left file (log.Damaged at) refused kept = left_count limits 1 more left (left_refused disks limits 1 file (log.Damaged at) more left (refused (λ e. cc)))
@@ -191,13 +191,13 @@ module _ {D : Type 0} (disks : Ghosts D) where
   opened_settled limits number (d ∷ more) (l ∷ logs) are = (are.0.settled.0, opened_settled limits (number + 1) more logs are.1)
 
   -- the disks of a refusal, in their places
-  pub refused_hall : (disk after : D) (more left given : List D) (fault told : HallFault) → given ≡ after ∷ left → told ≡ fault → IsRefused disks disk more fault after left → IsRefusedHall disks (disk ∷ more) told given
+  pub refused_hall : (disk after : D) (more left given : List D) (fault told : HallFault) → given ≡ after ∷ left → told ≡ fault → IsHallRefused disks disk more fault after left → IsRefusedHall disks (disk ∷ more) told given
   refused_hall disk after more left given fault told given_is told_is refused =
       subst (λ (z : HallFault × List D). IsRefusedHall disks (disk ∷ more) z.0 z.1) (λ i. (sym told_is i, sym given_is i)) refused
 
   -- ---- the end of a registry
 
-  pub registry_ended : (made : Made (StateView D)) (passes : List RegistrySight) (registry : StateView D) (disk : D) → disk ≡ registry.disk → IsClosedOf disks made passes registry → StandsInTurn disks registry
+  pub registry_ended : (made : Made (StateView D)) (passes : List RegistrySight) (registry : StateView D) (disk : D) → disk ≡ registry.disk → IsClosedRegistryOf disks made passes registry → RegistryStandsInTurn disks registry
       → (disks.tells → MayLeave (disks.past disk) (reads (disks.past disk))) → EndsRegistry disks made passes disk
   registry_ended made passes registry disk is closed stands left = record {
     registry = registry;

@@ -3,10 +3,10 @@ use Rattle.std.proofs.Common.{◌≡◌, ℕ, suc, refl, sym, ap, ◌∙◌, sub
 use Rattle.std.specs.List.{AllZip}
 use Rattle.registry_core.specs.Replies.{RegistryCall, RegistryReply}
 use Rattle.turn_cell.specs.Turns.{AllOf, IsIn}
-use Rattle.turn_cell.specs.Knowing.{SeesOn, number_of}
+use Rattle.turn_cell.specs.Knowing.{SeesOn, pass_number}
 use Rattle.shared_log.specs.Passes.{LogSight}
-use Rattle.shared_registry.specs.Lookups.{Lookup, IsReplied, IsAsked}
-use Rattle.shared_registry.specs.Passes.{RegistrySight, IsPassOf}
+use Rattle.shared_registry.specs.Lookups.{RegistryLookup, IsLookupReply, IsLookup}
+use Rattle.shared_registry.specs.Passes.{RegistrySight, IsRegistryPassOf}
 use Rattle.hall_logs.specs.Slots.{ArePartsOf}
 use Rattle.hall_logs.specs.Visits.{Visit, IsVisit, AreVisits}
 use Rattle.hall_logs.proofs.Visiting.{parts_stay, numbers_stay}
@@ -15,36 +15,36 @@ use Rattle.delta_session.specs.Sessions.{HasAsked}
 use Rattle.delta_session.specs.Steps.{HallView, HallSight, Lists, Step, of_registry, of_log, IsStep, AreSteps}
 
 -- whether it found memory or not, the pass sees on
-sees : (slots : ℕ) (p q : RegistrySight) (call : RegistryCall) (reply : Option RegistryReply) → IsReplied slots p call reply q → SeesOn p q
+sees : (slots : ℕ) (p q : RegistrySight) (call : RegistryCall) (reply : Option RegistryReply) → IsLookupReply slots p call reply q → SeesOn p q
 sees slots p q call (Some reply) is = is.0
 sees slots p q call None is = is.0
 
 module _ {D : Type 0} (mark : D → Option (List ℕ × ℕ)) (hall : HallView D) where
   -- the pass is one of the hall still, by its number
   abbrev Stays : Lists → Lists → Type 0
-  Stays p q = IsHallPass mark hall q × (number_of q.registry ≡ number_of p.registry)
+  Stays p q = IsHallPass mark hall q × (pass_number q.registry ≡ pass_number p.registry)
 
-  by_lookup : (p q : Lists) (asked : Lookup) → IsHallPass mark hall p → IsAsked hall.registry.origin.slots p.registry asked q.registry → q.logs ≡ p.logs → Stays p q
+  by_lookup : (p q : Lists) (asked : RegistryLookup) → IsHallPass mark hall p → IsLookup hall.registry.origin.slots p.registry asked q.registry → q.logs ≡ p.logs → Stays p q
   by_lookup p q asked is legal same =
       let on = sees hall.registry.origin.slots p.registry q.registry asked.call asked.reply legal in
-      let number : number_of q.registry ≡ number_of p.registry = on.0.2 in (
+      let number : pass_number q.registry ≡ pass_number p.registry = on.0.2 in (
         record {
           registry = (on.0.0 ∙ is.registry.0, on.1, on.0.3 ∙ is.registry.2);
           logs = subst (ArePartsOf mark hall.logs.logs) (sym same) is.logs;
-          one = subst (λ (z : List LogSight × ℕ). AllOf (λ (part : LogSight). number_of part ≡ z.1) z.0) (λ i. (sym same i, sym number i)) is.one;
+          one = subst (λ (z : List LogSight × ℕ). AllOf (λ (part : LogSight). pass_number part ≡ z.1) z.0) (λ i. (sym same i, sym number i)) is.one;
         },
         number,
       )
 
   by_visit : (p q : Lists) (asked : Visit) → IsHallPass mark hall p → IsVisit hall.logs.logs p.logs asked q.logs → q.registry ≡ p.registry → Stays p q
   by_visit p q asked is visit same =
-      let number : number_of q.registry ≡ number_of p.registry = ap (λ (r : RegistrySight). number_of r) same in
+      let number : pass_number q.registry ≡ pass_number p.registry = ap (λ (r : RegistrySight). pass_number r) same in
       let visits : AreVisits hall.logs.logs p.logs (asked ∷ []) q.logs = (q.logs, visit, refl) in (
         record {
-          registry = subst (IsPassOf mark hall.registry) (sym same) is.registry;
+          registry = subst (IsRegistryPassOf mark hall.registry) (sym same) is.registry;
           logs = parts_stay mark hall.logs.logs p.logs q.logs (asked ∷ []) visits is.logs;
-          one = subst (λ (n : ℕ). AllOf (λ (part : LogSight). number_of part ≡ n) q.logs) (sym number)
-              (numbers_stay mark hall.logs.logs (number_of p.registry) p.logs q.logs (asked ∷ []) visits is.one);
+          one = subst (λ (n : ℕ). AllOf (λ (part : LogSight). pass_number part ≡ n) q.logs) (sym number)
+              (numbers_stay mark hall.logs.logs (pass_number p.registry) p.logs q.logs (asked ∷ []) visits is.one);
         },
         number,
       )
@@ -54,7 +54,7 @@ module _ {D : Type 0} (mark : D → Option (List ℕ × ℕ)) (hall : HallView D
   one_stays p q (of_log asked) is step = by_visit p q asked is step.0 step.1
 
   pub stays : (p q : Lists) (steps : List Step) → IsHallPass mark hall p → AreSteps hall p steps q → Stays p q
-  stays p q [] is same = (subst (IsHallPass mark hall) (sym same) is, ap (λ (s : Lists). number_of s.registry) same)
+  stays p q [] is same = (subst (IsHallPass mark hall) (sym same) is, ap (λ (s : Lists). pass_number s.registry) same)
   stays p q (step ∷ more) is are =
       let first = one_stays p are.0 step is are.1 in
       let rest = stays are.0 q more first.0 are.2 in
@@ -79,11 +79,11 @@ module _ {D : Type 0} (mark : D → Option (List ℕ × ℕ)) (hall : HallView D
   as_many (x ∷ before) (y ∷ after) asked = ap (λ (n : ℕ). suc n) (as_many before after asked.1)
 
   one_left : (n : ℕ) (before after : List HallSight) → AllZip (HasAsked hall) before after → AllOf (λ (pass : HallSight). IsHallPass mark hall pass.lists) before
-      → (pass : HallSight) → IsIn pass before → number_of pass.lists.registry ≡ n → (left : HallSight) × IsIn left after × (number_of left.lists.registry ≡ n)
+      → (pass : HallSight) → IsIn pass before → pass_number pass.lists.registry ≡ n → (left : HallSight) × IsIn left after × (pass_number left.lists.registry ≡ n)
   one_left n [] after asked all pass there is = absurd there
   one_left n (x ∷ before) [] asked all pass there is = absurd asked
   one_left n (x ∷ before) (y ∷ after) asked all pass there is =
-      ⊎_elim (λ (e : pass ≡ x). (y, inl refl, (has_stayed x y asked.0 all.0).1 ∙ sym (ap (λ (s : HallSight). number_of s.lists.registry) e) ∙ is))
+      ⊎_elim (λ (e : pass ≡ x). (y, inl refl, (has_stayed x y asked.0 all.0).1 ∙ sym (ap (λ (s : HallSight). pass_number s.lists.registry) e) ∙ is))
       (λ (i : IsIn pass before). let more = one_left n before after asked.1 all.1 pass i is in (more.0, inr more.1, more.2)) there
 
   pub passes_stay : (before after : List HallSight) → AllZip (HasAsked hall) before after → AreHallPasses mark hall before → AreHallPasses mark hall after

@@ -8,9 +8,9 @@ use Rattle.turn_cell.specs.Turns.{AllOf}
 use Rattle.worker_pool.specs.Works.{AllServed, Served, Works as AreWorked}
 use Rattle.worker_pool.specs.declared.gate.Arrival.{Arrival}
 use Rattle.worker_pool.specs.declared.pool.Post.{Post}
-use Rattle.delta_session.specs.Sessions.{HasAsked, WorkerView, Works, all_of}
+use Rattle.delta_session.specs.Sessions.{HasAsked, WorkerView, WorksSession, all_of}
 use Rattle.delta_session.specs.Steps.{HallView, HallSight, AreSteps}
-use Rattle.delta_session.specs.Working.{posted}
+use Rattle.delta_session.specs.Working.{posts_of}
 use Rattle.delta_session.proofs.Said.{steps_said}
 use Rattle.delta_session.proofs.Stepping.{compose_steps}
 
@@ -24,7 +24,7 @@ module _ {D G : Type 0} (hall : HallView D) where
   at_gate pass gate = record { gate = gate; worker = record { hall = hall; pass = pass } }
 
   posted_more : (passes : List HallSight) (gates : List G) (pass : HallSight) (gate : G) → length passes ≡ length gates
-      → posted hall (passes ++ pass ∷ []) (gates ++ gate ∷ []) ≡ posted hall passes gates ++ at_gate pass gate ∷ []
+      → posts_of hall (passes ++ pass ∷ []) (gates ++ gate ∷ []) ≡ posts_of hall passes gates ++ at_gate pass gate ∷ []
   posted_more [] [] pass gate same = refl
   posted_more [] (y ∷ gates) pass gate same = absurd (omega (arith, same))
   posted_more (x ∷ passes) [] pass gate same = absurd (omega (arith, same))
@@ -32,13 +32,13 @@ module _ {D G : Type 0} (hall : HallView D) where
 
   -- the last pass stands at the last gate, behind the others in reverse
   pub posts_one : (all : List (Post G (WorkerView D))) (passes rest : List HallSight) (gates others : List G) (posts : List (Post G (WorkerView D))) (pass : HallSight) (gate : G)
-      → all ≡ posted hall passes gates ++ reverse posts → passes ≡ rest ++ pass ∷ [] → gates ≡ others ++ gate ∷ [] → length rest ≡ length others
-      → all ≡ posted hall rest others ++ reverse (posts ++ at_gate pass gate ∷ [])
+      → all ≡ posts_of hall passes gates ++ reverse posts → passes ≡ rest ++ pass ∷ [] → gates ≡ others ++ gate ∷ [] → length rest ≡ length others
+      → all ≡ posts_of hall rest others ++ reverse (posts ++ at_gate pass gate ∷ [])
   posts_one all passes rest gates others posts pass gate is popped taken same =
-      is ∙ (λ i. posted hall (popped i) (taken i) ++ reverse posts) ∙ ap (λ (l : List (Post G (WorkerView D))). l ++ reverse posts) (posted_more rest others pass gate same)
-      ∙ append_assoc (posted hall rest others) (at_gate pass gate ∷ []) (reverse posts) ∙ ap (λ (l : List (Post G (WorkerView D))). posted hall rest others ++ l) (sym (reverse-append posts (at_gate pass gate ∷ [])))
+      is ∙ (λ i. posts_of hall (popped i) (taken i) ++ reverse posts) ∙ ap (λ (l : List (Post G (WorkerView D))). l ++ reverse posts) (posted_more rest others pass gate same)
+      ∙ append_assoc (posts_of hall rest others) (at_gate pass gate ∷ []) (reverse posts) ∙ ap (λ (l : List (Post G (WorkerView D))). posts_of hall rest others ++ l) (sym (reverse-append posts (at_gate pass gate ∷ [])))
 
-  pub posted_length : (passes : List HallSight) (gates : List G) → length passes ≡ length gates → length (posted hall passes gates) ≡ length passes
+  pub posted_length : (passes : List HallSight) (gates : List G) → length passes ≡ length gates → length (posts_of hall passes gates) ≡ length passes
   posted_length [] [] same = refl
   posted_length [] (y ∷ gates) same = absurd (omega (arith, same))
   posted_length (x ∷ passes) [] same = absurd (omega (arith, same))
@@ -46,7 +46,7 @@ module _ {D G : Type 0} (hall : HallView D) where
 
 module _ {D L : Type 0} (links : LinkGhosts L) (hall : HallView D) where
   -- works one after another are steps of one pass of that hall
-  works_ask : (first last : WorkerView D) (arrivals : List (Arrival L)) (left : List L) → first.hall ≡ hall → AreWorked (Works links) first arrivals last left
+  works_ask : (first last : WorkerView D) (arrivals : List (Arrival L)) (left : List L) → first.hall ≡ hall → AreWorked (WorksSession links) first arrivals last left
       → HasAsked hall first.pass last.pass
   works_ask first last [] [] is same = ([], ap (λ (w : WorkerView D). w.pass.lists) same)
   works_ask first last [] (link ∷ left) is worked = absurd worked
@@ -61,8 +61,8 @@ module _ {D L : Type 0} (links : LinkGhosts L) (hall : HallView D) where
       (all_of said.0 ++ rest.0, compose_steps hall first.pass.lists next.pass.lists last.pass.lists (all_of said.0) rest.0 steps rest.1)
 
   module _ {G : Type 0} (tells : Type 0) (arrivals : G → List (Arrival L)) (back : G → List L) (faults : G → ℕ) where
-    all_asked : (passes : List HallSight) (gates : List G) (posts : List (Post G (WorkerView D))) → length passes ≡ length gates → length posts ≡ length (posted hall passes gates)
-        → ((k : ℕ) (d : Post G (WorkerView D)) → k < length (posted hall passes gates) → Served tells arrivals back faults (Works links) (slice_index_or (posted hall passes gates) k d) (slice_index_or posts k d))
+    all_asked : (passes : List HallSight) (gates : List G) (posts : List (Post G (WorkerView D))) → length passes ≡ length gates → length posts ≡ length (posts_of hall passes gates)
+        → ((k : ℕ) (d : Post G (WorkerView D)) → k < length (posts_of hall passes gates) → Served tells arrivals back faults (WorksSession links) (slice_index_or (posts_of hall passes gates) k d) (slice_index_or posts k d))
         → AllZip (HasAsked hall) passes (map (λ (post : Post G (WorkerView D)). post.worker.pass) posts)
     all_asked [] [] [] same count each = tt
     all_asked [] [] (z ∷ posts) same count each = absurd (omega (arith, count))
@@ -75,6 +75,6 @@ module _ {D L : Type 0} (links : LinkGhosts L) (hall : HallView D) where
           all_asked passes gates posts (omega (arith, same)) (omega (arith, count)) (λ k d low. each (suc k) d (omega (arith, low))),
         )
 
-    pub gates_asked : (passes : List HallSight) (gates : List G) (posts : List (Post G (WorkerView D))) → length passes ≡ length gates → AllServed tells arrivals back faults (Works links) (posted hall passes gates) posts
+    pub gates_asked : (passes : List HallSight) (gates : List G) (posts : List (Post G (WorkerView D))) → length passes ≡ length gates → AllServed tells arrivals back faults (WorksSession links) (posts_of hall passes gates) posts
         → AllZip (HasAsked hall) passes (map (λ (post : Post G (WorkerView D)). post.worker.pass) posts)
     gates_asked passes gates posts same served = all_asked passes gates posts same served.0 served.1

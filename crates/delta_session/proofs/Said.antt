@@ -1,25 +1,25 @@
 -- Answers one after another are calls of one pass.
 use Rattle.std.proofs.Common.{ℕ, ◌+◌, sym, ap, List, [], ◌∷◌}
-use Rattle.http_session.specs.Output.{Exchange, Chain}
+use Rattle.http_session.specs.Output.{Exchange, AnswerChain}
 use Rattle.hall_logs.specs.Laws.{CallsAddUp, VisitsAreCalls}
 use Rattle.hall_logs.specs.Visits.{asked_at}
-use Rattle.shared_registry.specs.Lookups.{Lookup, AreAsked, RegistryAddsUp}
+use Rattle.shared_registry.specs.Lookups.{RegistryLookup, AreLookups, RegistryAddsUp}
 use Rattle.shared_registry.specs.Passes.{RegistrySight}
 use Rattle.delta_session.specs.Answered.{Answered}
-use Rattle.delta_session.specs.Sessions.{AreSaid, Served, all_of}
+use Rattle.delta_session.specs.Sessions.{AreSaid, ServedSession, all_of}
 use Rattle.delta_session.specs.Steps.{HallView, HallSight, Step, AreSteps, visits_of, lookups_of}
 use Rattle.delta_session.proofs.Stepping.{compose_steps, visits_taken, lookups_taken}
 
 module _ {D : Type 0} (hall : HallView D) where
-  pub steps_said : (before after : HallSight) (exchanges : List Exchange) → Chain (Answered hall) before exchanges after
+  pub steps_said : (before after : HallSight) (exchanges : List Exchange) → AnswerChain (Answered hall) before exchanges after
       → (steps : List (List Step)) × AreSaid before.dice exchanges steps after.dice × AreSteps hall before.lists (all_of steps) after.lists
   steps_said before after [] same = ([], sym (ap (λ (s : HallSight). s.dice) same), sym (ap (λ (s : HallSight). s.lists) same))
   steps_said before after (e ∷ exchanges) a =
       let others = steps_said a.0 after exchanges a.2 in
       (a.1.0 ∷ others.0, (a.0.dice, a.1.2, others.1), compose_steps hall before.lists a.0.lists after.lists a.1.0 (all_of others.0) a.1.1 others.2)
 
-  pub served : CallsAddUp → VisitsAreCalls D → ((slots : ℕ) (p q : RegistrySight) (asked : List Lookup) → AreAsked slots p asked q → RegistryAddsUp p asked q)
-      → (before after : HallSight) (exchanges : List Exchange) → Chain (Answered hall) before exchanges after → Served hall before exchanges after
+  pub served : CallsAddUp → VisitsAreCalls D → ((slots : ℕ) (p q : RegistrySight) (asked : List RegistryLookup) → AreLookups slots p asked q → RegistryAddsUp p asked q)
+      → (before after : HallSight) (exchanges : List Exchange) → AnswerChain (Answered hall) before exchanges after → ServedSession hall before exchanges after
   served calls visits lookups before after exchanges chain =
       let said = steps_said before after exchanges chain in
       let all = all_of said.0 in record {

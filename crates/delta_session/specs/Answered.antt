@@ -16,7 +16,7 @@ use Rattle.rpc_answers.specs.Prints.{IsCompactPrintOf}
 use Rattle.rpc_answers.specs.declared.answer.Answer.{Answer}
 use Rattle.rpc_answers.specs.declared.answer.Answer.TheVariants.{NoSource}
 use Rattle.rpc_calls.specs.Calls.{call_of}
-use Rattle.rpc_calls.specs.Outcomes.{Outcome}
+use Rattle.rpc_calls.specs.Outcomes.{CallOutcome}
 use Rattle.rpc_calls.specs.declared.call.Call.{Call}
 use Rattle.delta_session.specs.Asking.{Asking, asks_nobody, asks_registry, asks_log, asks_append}
 use Rattle.delta_session.specs.Asking.{asking_of, dice_behind}
@@ -96,7 +96,7 @@ ComesTo (asks_append name text) steps said = BySource name (ByPatch text) steps 
 -- ---- requests
 
 -- A request that is no call is refused without a step. Memory may run out before it is read.
-abbrev pub IsSaidTo : ℕ → Outcome → List Step → Said → ℕ → Type 0
+abbrev pub IsSaidTo : ℕ → CallOutcome → List Step → Said → ℕ → Type 0
 IsSaidTo dice (Err refusal) steps said next =
     (steps ≡ []) × Says (refusal_answer refusal) (methods_told refusal) said × (next ≡ dice)
 IsSaidTo dice (Ok call) steps said next =
@@ -125,8 +125,8 @@ IsLookedUp reply (Err said) = SaysNone reply said
 
 module _ {D : Type 0} (hall : HallView D) where
   -- a call is answered, and a creation takes its number
-  abbrev pub Serves : Call → HallSight → Said → HallSight → Type 0
-  Serves call before said after =
+  abbrev pub ServesCall : Call → HallSight → Said → HallSight → Type 0
+  ServesCall call before said after =
       (steps : List Step) × AreSteps hall before.lists steps after.lists
       × ComesTo (asking_of before.dice call) steps said
       × (after.dice ≡ dice_behind call before.dice)
@@ -139,7 +139,7 @@ module _ {D : Type 0} (hall : HallView D) where
       × (after.dice ≡ before.dice) × IsLookedUp reply result
 
   -- steps that come to this, of a part that takes no number
-  abbrev pub Takes : (List Step → Said → Type 0) → HallSight → Said → HallSight → Type 0
-  Takes P before said after =
+  abbrev pub TakesNoNumber : (List Step → Said → Type 0) → HallSight → Said → HallSight → Type 0
+  TakesNoNumber P before said after =
       (steps : List Step) × AreSteps hall before.lists steps after.lists × P steps said
       × (after.dice ≡ before.dice)

@@ -2,11 +2,11 @@
 use Rattle.std.specs.Prelude.{◌≡◌, ℕ, ◌<◌, ◌≤◌, List, [], ◌∷◌, length, map}
 use Rattle.disk_model.specs.Past.{reads}
 use Rattle.disk_model.specs.declared.disk.Disk.{Ghosts}
-use Rattle.log_registry.specs.Stands.{MayHold}
+use Rattle.log_registry.specs.Stands.{MayHoldEvents}
 use Rattle.log_registry.specs.State.{StateView, events_in}
 use Rattle.turn_cell.specs.Sights.{Made}
-use Rattle.shared_registry.specs.History.{StandsInTurn}
-use Rattle.shared_registry.specs.Passes.{RegistrySight, IsClosedOf}
+use Rattle.shared_registry.specs.History.{RegistryStandsInTurn}
+use Rattle.shared_registry.specs.Passes.{RegistrySight, IsClosedRegistryOf}
 use Rattle.hall_logs.specs.Ends.{AreEnded}
 use Rattle.hall_logs.specs.Rooms.{HasRoom, Room}
 use Rattle.delta_session.specs.Steps.{HallView, HallSight}
@@ -17,12 +17,12 @@ module _ {D : Type 0} (disks : Ghosts D) where
   pub record EndsRegistry (made : Made (StateView D)) (passes : List RegistrySight)
       (disk : D) : Type 0 where
     pub registry : StateView D
-    pub closed : IsClosedOf disks made passes registry
-    pub stands : StandsInTurn disks registry
+    pub closed : IsClosedRegistryOf disks made passes registry
+    pub stands : RegistryStandsInTurn disks registry
     pub disk_is : disk ≡ registry.disk
     pub file :
         disks.tells
-        → MayHold registry.slots (events_in registry) registry.doubt (reads (disks.past disk))
+        → MayHoldEvents registry.slots (events_in registry) registry.doubt (reads (disks.past disk))
 
   -- the first disk is that of the registry, and each other one that of the log of its slot
   abbrev pub IsEnded : HallView D → List HallSight → List D → Type 0

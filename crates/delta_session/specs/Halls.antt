@@ -2,25 +2,25 @@
 use Rattle.std.specs.Prelude.{◌≡◌, ℕ, ◌+◌, ◌<◌, ◌≤◌, List, [], ◌∷◌, Option, length, min}
 use Rattle.std.specs.List.{AllZip, sum_by}
 use Rattle.turn_cell.specs.Turns.{AllOf, IsIn, last_count}
-use Rattle.turn_cell.specs.Knowing.{number_of, own_faults_of}
+use Rattle.turn_cell.specs.Knowing.{pass_number, own_faults_of}
 use Rattle.shared_log.specs.Passes.{LogSight, IsNewPassOf as IsNewPart}
-use Rattle.shared_registry.specs.Passes.{RegistrySight, IsPassOf, IsNewPassOf}
+use Rattle.shared_registry.specs.Passes.{RegistrySight, IsRegistryPassOf, IsNewRegistryPassOf}
 use Rattle.hall_logs.specs.Slots.{ArePartsOf}
 use Rattle.delta_session.specs.Steps.{HallView, HallSight, Lists}
 
 -- the own faults on all lists together, or the last value of u64 where the sum passes that
-abbrev pub all_faults : Lists → ℕ
-all_faults p =
+abbrev pub all_hall_faults : Lists → ℕ
+all_hall_faults p =
     min (own_faults_of p.registry + sum_by (λ part. own_faults_of part) p.logs) last_count
 
 -- its parts of the logs have the number of its part of the registry
 abbrev pub HasOneNumber : Lists → Type 0
-HasOneNumber p = AllOf (λ part. number_of part ≡ number_of p.registry) p.logs
+HasOneNumber p = AllOf (λ part. pass_number part ≡ pass_number p.registry) p.logs
 
 module _ {D : Type 0} (mark : D → Option (List ℕ × ℕ)) (hall : HallView D) where
   -- a pass of the hall, of its registry and of each of its logs by one number, without a turn
   pub record IsHallPass (p : Lists) : Type 0 where
-    pub registry : IsPassOf mark hall.registry p.registry
+    pub registry : IsRegistryPassOf mark hall.registry p.registry
     pub logs : ArePartsOf mark hall.logs.logs p.logs
     pub one : HasOneNumber p
 
@@ -30,19 +30,20 @@ module _ {D : Type 0} (mark : D → Option (List ℕ × ℕ)) (hall : HallView D
     pub count : length passes ≡ hall.logs.seats
     pub all :
         (n : ℕ) → 0 < n → n ≤ hall.logs.seats
-        → (pass : HallSight) × IsIn pass passes × (number_of pass.lists.registry ≡ n)
+        → (pass : HallSight) × IsIn pass passes × (pass_number pass.lists.registry ≡ n)
 
   -- new passes, whose numbers go up from this one
   abbrev pub AreNewPasses : ℕ → List HallSight → Type 0
   AreNewPasses number [] = Unit {0}
   AreNewPasses number (pass ∷ passes) =
-      IsNewPassOf mark hall.registry number pass.lists.registry
+      IsNewRegistryPassOf mark hall.registry number pass.lists.registry
       × AllZip (λ log part. IsNewPart mark log number part) hall.logs.logs pass.lists.logs
       × AreNewPasses (number + 1) passes
 
 -- what passes know of a registry and what they know of its logs, each joined with the other
-abbrev pub joined : List RegistrySight → List (List LogSight) → List HallSight
-joined [] parts = []
-joined (sight ∷ sights) [] = []
-joined (sight ∷ sights) (part ∷ parts) =
-    record { lists = record { registry = sight; logs = part }; dice = 0 } ∷ joined sights parts
+abbrev pub paired_sights : List RegistrySight → List (List LogSight) → List HallSight
+paired_sights [] parts = []
+paired_sights (sight ∷ sights) [] = []
+paired_sights (sight ∷ sights) (part ∷ parts) =
+    record { lists = record { registry = sight; logs = part }; dice = 0 }
+    ∷ paired_sights sights parts

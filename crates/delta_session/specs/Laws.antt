@@ -1,10 +1,10 @@
 -- What is true of all answers of passes.
 use Rattle.std.specs.Prelude.{ℕ, List, Option}
 use Rattle.std.specs.List.{AllZip}
-use Rattle.http_session.specs.Output.{Exchange, Chain}
+use Rattle.http_session.specs.Output.{Exchange, AnswerChain}
 use Rattle.delta_session.specs.Answered.{Answered}
 use Rattle.delta_session.specs.Halls.{AreHallPasses}
-use Rattle.delta_session.specs.Sessions.{Served, HasAsked}
+use Rattle.delta_session.specs.Sessions.{ServedSession, HasAsked}
 use Rattle.delta_session.specs.Steps.{HallView, HallSight}
 
 module _ (D : Type 0) where
@@ -12,7 +12,8 @@ module _ (D : Type 0) where
   abbrev pub SessionsAreServed : Type 0
   SessionsAreServed =
       (hall : HallView D) (before after : HallSight) (exchanges : List Exchange)
-      → Chain (Answered hall) before exchanges after → Served hall before exchanges after
+      → AnswerChain (Answered hall) before exchanges after
+      → ServedSession hall before exchanges after
 
   -- where all passes were there, all are there after any legal calls of each
   abbrev pub PassesStay : Type 0

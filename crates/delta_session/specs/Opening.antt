@@ -13,29 +13,29 @@ use Rattle.log_registry.specs.declared.fault.RegistryFault.TheVariants as regist
 use Rattle.patch_log.specs.declared.fault.LogFault.{LogFault}
 use Rattle.patch_log.specs.declared.fault.LogFault.TheVariants as log
 use Rattle.registry_core.specs.Events.{IsRegistry}
-use Rattle.registry_core.specs.Texts.{payloads_of, registry_length}
-use Rattle.hall_logs.specs.Files.{IsKept, AreOpened, AreRefused, AreLeft}
+use Rattle.registry_core.specs.Texts.{registry_payloads, registry_length}
+use Rattle.hall_logs.specs.Files.{IsSameDisk, AreOpened, AreRefusedAt, AreLeft}
 use Rattle.delta_session.specs.Steps.{HallView}
 use Rattle.delta_session.specs.declared.fault.HallFault.{HallFault}
 use Rattle.delta_session.specs.declared.fault.HallFault.TheVariants as hall
 
 -- a fault of file 0, as one of the hall
-abbrev pub of_registry : RegistryFault → HallFault
-of_registry registry.Failed = hall.DiskFault
-of_registry (registry.Damaged at) = hall.Damaged 0 at
-of_registry (registry.WrongNumber found) = hall.WrongNumber 0 found
-of_registry (registry.OverLimit length limit) = hall.OverLimit 0 length limit
-of_registry (registry.BrokenEvent place) = hall.BrokenEvent place
-of_registry registry.OutOfMemory = hall.OutOfMemory
+abbrev pub hall_fault_of_registry : RegistryFault → HallFault
+hall_fault_of_registry registry.Failed = hall.DiskFault
+hall_fault_of_registry (registry.Damaged at) = hall.Damaged 0 at
+hall_fault_of_registry (registry.WrongNumber found) = hall.WrongNumber 0 found
+hall_fault_of_registry (registry.OverLimit length limit) = hall.OverLimit 0 length limit
+hall_fault_of_registry (registry.BrokenEvent place) = hall.BrokenEvent place
+hall_fault_of_registry registry.OutOfMemory = hall.OutOfMemory
 
 -- a fault of a file behind it
-abbrev pub of_log : ℕ → LogFault → HallFault
-of_log file log.Failed = hall.DiskFault
-of_log file (log.Damaged at) = hall.Damaged file at
-of_log file (log.WrongNumber found) = hall.WrongNumber file found
-of_log file (log.OverLimit length limit) = hall.OverLimit file length limit
-of_log file (log.BrokenChain version) = hall.BrokenChain file version
-of_log file log.OutOfMemory = hall.OutOfMemory
+abbrev pub hall_fault_of_log : ℕ → LogFault → HallFault
+hall_fault_of_log file log.Failed = hall.DiskFault
+hall_fault_of_log file (log.Damaged at) = hall.Damaged file at
+hall_fault_of_log file (log.WrongNumber found) = hall.WrongNumber file found
+hall_fault_of_log file (log.OverLimit length limit) = hall.OverLimit file length limit
+hall_fault_of_log file (log.BrokenChain version) = hall.BrokenChain file version
+hall_fault_of_log file log.OutOfMemory = hall.OutOfMemory
 
 module _ {D : Type 0} (disks : Ghosts D) where
   -- The registry of a file as it was opened: no pass brought its events, and none is in doubt. Its
@@ -43,11 +43,11 @@ module _ {D : Type 0} (disks : Ghosts D) where
   pub record IsOpenedRegistry (disk : D) (opened : StateView D) : Type 0 where
     pub file :
         disks.tells
-        → Holds (reads (disks.past disk)) 0 (payloads_of opened.slots (events_in opened))
+        → Holds (reads (disks.past disk)) 0 (registry_payloads opened.slots (events_in opened))
     pub sound : IsRegistry opened.slots (events_in opened)
     pub by_nobody : AllByRecursion (λ entry. entry.by ≡ 0) opened.entries
     pub settled : opened.doubt ≡ None
-    pub kept : IsKept disks disk opened.disk
+    pub kept : IsSameDisk disks disk opened.disk
     pub faults : disks.faults opened.disk ≡ disks.faults disk
     pub few :
         disks.tells
@@ -59,7 +59,7 @@ module _ {D : Type 0} (disks : Ghosts D) where
   -- planned it failed for want of memory.
   pub record IsRefusedRegistry (disk : D) (fault : RegistryFault) (after : D) : Type 0 where
     pub has : disks.tells → HasRegistryFault (reads (disks.past disk)) fault
-    pub kept : IsKept disks disk after
+    pub kept : IsSameDisk disks disk after
     pub cause : fault ≡ registry.Failed → Rose (disks.faults disk) (disks.faults after)
     pub never_falls : disks.faults disk ≤ disks.faults after
     pub well : fault ≢ registry.Failed → disks.faults after ≡ disks.faults disk
@@ -83,27 +83,28 @@ module _ {D : Type 0} (disks : Ghosts D) where
 
   -- The first fault, with the disk of file 0 and the others before and behind the try. What stands
   -- behind the file at fault wasn't asked.
-  pub data IsRefused (disk : D) (more : List D) (fault : HallFault) (after : D)
+  pub data IsHallRefused (disk : D) (more : List D) (fault : HallFault) (after : D)
       (left : List D) : Type 0 where
     -- file 0 has a fault
-    registry_refused : (why : RegistryFault) → fault ≡ of_registry why
+    registry_refused : (why : RegistryFault) → fault ≡ hall_fault_of_registry why
         → IsRefusedRegistry disk why after → left ≡ more
-        → IsRefused disk more fault after left
+        → IsHallRefused disk more fault after left
     -- there are not as many other files as the registry has slots
     miscounted : (slots : ℕ) → fault ≡ hall.WrongCount (length more + 1) slots
         → WasOpened slots disk after → length more ≢ slots → left ≡ more
-        → IsRefused disk more fault after left
+        → IsHallRefused disk more fault after left
     -- one of the others has a fault
-    log_refused : (file : ℕ) (why : LogFault) → fault ≡ of_log file why → why ≢ log.OutOfMemory
-        → WasOpened (length more) disk after → AreRefused disks LOG_LIMITS 1 more file why left
-        → IsRefused disk more fault after left
+    log_refused : (file : ℕ) (why : LogFault) → fault ≡ hall_fault_of_log file why
+        → why ≢ log.OutOfMemory
+        → WasOpened (length more) disk after → AreRefusedAt disks LOG_LIMITS 1 more file why left
+        → IsHallRefused disk more fault after left
     -- memory ran out behind the opening of file 0
     wanting : fault ≡ hall.OutOfMemory → WasOpened (length more) disk after
         → AreLeft disks LOG_LIMITS 1 more left
-        → IsRefused disk more fault after left
+        → IsHallRefused disk more fault after left
 
   -- a hall was refused, and each disk is in its place
   abbrev pub IsRefusedHall : List D → HallFault → List D → Type 0
-  IsRefusedHall (disk ∷ more) fault (after ∷ left) = IsRefused disk more fault after left
+  IsRefusedHall (disk ∷ more) fault (after ∷ left) = IsHallRefused disk more fault after left
   IsRefusedHall [] fault after = ⊥
   IsRefusedHall (disk ∷ more) fault [] = ⊥

@@ -32,7 +32,7 @@ AreSaid dice (e ∷ exchanges) [] last = ⊥
 
 -- What the answers of a session come to: the steps of all requests, in their order, are the calls
 -- of this pass and no others. What they add up to is told for the registry, and for each log.
-pub record Served {D : Type 0} (hall : HallView D) (before : HallSight)
+pub record ServedSession {D : Type 0} (hall : HallView D) (before : HallSight)
     (exchanges : List Exchange) (after : HallSight) : Type 0 where
   pub steps : List (List Step)
   pub said : AreSaid before.dice exchanges steps after.dice
@@ -66,8 +66,8 @@ pub record WorkerView (D : Type 0) : Type 0 where
 module _ {D L : Type 0} (links : LinkGhosts L) where
   -- It served the connection as a session of its hall whose next ids are made of the numbers from
   -- these dice on.
-  abbrev pub Works : WorkerView D → L → ℕ → WorkerView D → L → Type 0
-  Works before link dice after left =
+  abbrev pub WorksSession : WorkerView D → L → ℕ → WorkerView D → L → Type 0
+  WorksSession before link dice after left =
       (end : SessionEnd) × (after.hall ≡ before.hall)
       × IsSession before.hall
       (moment_of (record before.pass { dice = dice }) (links.left link) (links.sent link)

@@ -7,8 +7,8 @@ use Rattle.registry_core.specs.Replies.{RegistryCall, RegistryReply}
 use Rattle.turn_cell.specs.Sights.{Made}
 use Rattle.shared_log.specs.Passes.{LogSight}
 use Rattle.shared_registry.specs.Passes.{RegistrySight}
-use Rattle.shared_registry.specs.Lookups.{Lookup, IsAsked}
-use Rattle.hall_logs.specs.Slots.{Hall as LogsOfHall}
+use Rattle.shared_registry.specs.Lookups.{RegistryLookup, IsLookup}
+use Rattle.hall_logs.specs.Slots.{LogsOfHall}
 use Rattle.hall_logs.specs.Visits.{Visit, IsVisit}
 
 -- a registry, and the log of each of its slots
@@ -28,7 +28,7 @@ pub record HallSight : Type 0 where
 
 -- a list is asked: the registry's, or that of a log
 pub data Step : Type 0 where
-  of_registry : Lookup → Step
+  of_registry : RegistryLookup → Step
   of_log : Visit → Step
 
 -- a step on the registry; its reply is none where memory ran out
@@ -41,7 +41,7 @@ visit slot call reply =
     of_log (record { slot = slot; asked = record { call = call; reply = reply } })
 
 -- those that ask the registry, in their order
-abbrev pub lookups_of : List Step → List Lookup
+abbrev pub lookups_of : List Step → List RegistryLookup
 lookups_of [] = []
 lookups_of (of_registry asked ∷ more) = asked ∷ lookups_of more
 lookups_of (of_log asked ∷ more) = lookups_of more
@@ -56,7 +56,7 @@ module _ {D : Type 0} (hall : HallView D) where
   -- one list is asked by a legal call, and what the pass knows of the others stays
   abbrev pub IsStep : Lists → Step → Lists → Type 0
   IsStep p (of_registry asked) q =
-      IsAsked hall.registry.origin.slots p.registry asked q.registry × (q.logs ≡ p.logs)
+      IsLookup hall.registry.origin.slots p.registry asked q.registry × (q.logs ≡ p.logs)
   IsStep p (of_log asked) q =
       IsVisit hall.logs.logs p.logs asked q.logs × (q.registry ≡ p.registry)
 

@@ -13,7 +13,7 @@ use Rattle.patch_meaning.specs.declared.fault.PatchFault.{PatchFault}
 use Rattle.patch_meaning.specs.declared.fault.PatchFault.TheVariants as fault
 use Rattle.rpc_answers.specs.declared.answer.Answer.{Answer}
 use Rattle.rpc_answers.specs.declared.answer.Answer.TheVariants as answer
-use Rattle.rpc_calls.specs.Outcomes.{Refusal, no_route, media, bad_json, bad_method, bad_call}
+use Rattle.rpc_calls.specs.Outcomes.{CallRefusal, no_route, media, bad_json, bad_method, bad_call}
 
 abbrev pub create_answer : CreateAnswer → Answer
 create_answer (created.Made source) = answer.Source source
@@ -64,7 +64,7 @@ patch_answer (fault.TooLong length limit) =
     answer.BadPatch length (fault_name (fault.TooLong length limit))
 patch_answer fault.OutOfMemory = answer.OutOfMemory
 
-abbrev pub refusal_answer : Refusal → Answer
+abbrev pub refusal_answer : CallRefusal → Answer
 refusal_answer no_route = answer.NoRoute
 refusal_answer media = answer.Media
 refusal_answer bad_json = answer.BadJson
@@ -72,7 +72,7 @@ refusal_answer (bad_method methods) = answer.BadMethod
 refusal_answer (bad_call member) = answer.BadCall member
 
 -- the methods that are told beside a refusal
-abbrev pub methods_told : Refusal → Option (List ℕ)
+abbrev pub methods_told : CallRefusal → Option (List ℕ)
 methods_told (bad_method methods) = Some methods
 methods_told no_route = None
 methods_told media = None

@@ -1,6 +1,6 @@
 //! A hall answers requests.
 ghost use Rattle.http_session.specs.Said.{IsPrintableSaid};
-ghost use Rattle.delta_session.specs.Answered.{Serves};
+ghost use Rattle.delta_session.specs.Answered.{ServesCall};
 ghost use Rattle.delta_session.specs.Halls.{IsHallPass};
 
 use crate::hall::Hall;
@@ -28,7 +28,7 @@ impl<D: Disk> Hall<D> {
         id: Option<Id>,
     ) -> Said
         requires ready { IsHallPass D.mark self.now pass.old.lists }
-        ensures serves { Serves self.now (Call.Create name uri id) pass.old result pass.new }
+        ensures serves { ServesCall self.now (Call.Create name uri id) pass.old result pass.new }
         ensures printable { IsPrintableSaid result }
         ensures ready { IsHallPass D.mark self.now pass.new.lists }
     {
@@ -42,7 +42,7 @@ impl<D: Disk> Hall<D> {
     // What is said to a call.
     fn serve<R: Wait>(&self, rt: &R, alloc: Global, pass: &mut HallPass<D>, call: Call) -> Said
         requires ready { IsHallPass D.mark self.now pass.old.lists }
-        ensures serves { Serves self.now call pass.old result pass.new }
+        ensures serves { ServesCall self.now call pass.old result pass.new }
         ensures printable { IsPrintableSaid result }
         ensures ready { IsHallPass D.mark self.now pass.new.lists }
     {

@@ -1,6 +1,6 @@
 //! Why a hall can't be opened.
 ghost use Rattle.std.specs.Prelude.{◌≡◌};
-ghost use Rattle.delta_session.specs.Opening.{of_registry, of_log};
+ghost use Rattle.delta_session.specs.Opening.{hall_fault_of_registry, hall_fault_of_log};
 
 use disk_model::Disk;
 use log_registry::RegistryFault;
@@ -30,7 +30,7 @@ pub struct HallRefusal<D: Disk> {
 impl HallFault {
     // A fault of file 0.
     pub(crate) fn of_registry(fault: RegistryFault) -> HallFault
-        ensures { result ≡ of_registry fault }
+        ensures { result ≡ hall_fault_of_registry fault }
     {
         match fault {
             RegistryFault::Failed => HallFault::DiskFault,
@@ -48,7 +48,7 @@ impl HallFault {
 
     // A fault of a file behind it.
     pub(crate) fn of_log(file: u32, fault: LogFault) -> HallFault
-        ensures { result ≡ of_log file fault }
+        ensures { result ≡ hall_fault_of_log file fault }
     {
         match fault {
             LogFault::Failed => HallFault::DiskFault,

@@ -2,7 +2,7 @@
 ghost use Rattle.std.specs.Prelude.{◌≡◌, ◌<◌, ◌≤◌, length};
 ghost use Rattle.chain_core.specs.Replies as log;
 ghost use Rattle.http_session.specs.Said.{IsPrintableSaid};
-ghost use Rattle.delta_session.specs.Answered.{ByLog, ByPatch, BySource, Takes};
+ghost use Rattle.delta_session.specs.Answered.{ByLog, ByPatch, BySource, TakesNoNumber};
 ghost use Rattle.delta_session.specs.Asking.{version_within};
 ghost use Rattle.delta_session.specs.Halls.{IsHallPass};
 
@@ -31,7 +31,7 @@ impl<D: Disk> Hall<D> {
     fn log_at<R: Wait>(&self, rt: &R, alloc: Global, pass: &mut HallPass<D>, slot: u32) -> Said
         requires ready { IsHallPass D.mark self.now pass.old.lists }
         requires slot { (0 < slot) × (slot ≤ length self.now.logs.logs) }
-        ensures takes { Takes self.now (ByLog slot log.describe) pass.old result pass.new }
+        ensures takes { TakesNoNumber self.now (ByLog slot log.describe) pass.old result pass.new }
         ensures printable { IsPrintableSaid result }
         ensures ready { IsHallPass D.mark self.now pass.new.lists }
     {
@@ -47,7 +47,7 @@ impl<D: Disk> Hall<D> {
         name: Text,
     ) -> Said
         requires ready { IsHallPass D.mark self.now pass.old.lists }
-        ensures takes { Takes self.now (BySource name (λ slot. ByLog slot log.describe))
+        ensures takes { TakesNoNumber self.now (BySource name (λ slot. ByLog slot log.describe))
             pass.old result pass.new }
         ensures printable { IsPrintableSaid result }
         ensures ready { IsHallPass D.mark self.now pass.new.lists }
@@ -62,7 +62,7 @@ impl<D: Disk> Hall<D> {
     fn version_at(&self, alloc: Global, pass: &mut HallPass<D>, slot: u32) -> Said
         requires ready { IsHallPass D.mark self.now pass.old.lists }
         requires slot { (0 < slot) × (slot ≤ length self.now.logs.logs) }
-        ensures takes { Takes self.now (ByLog slot log.version) pass.old result pass.new }
+        ensures takes { TakesNoNumber self.now (ByLog slot log.version) pass.old result pass.new }
         ensures printable { IsPrintableSaid result }
         ensures ready { IsHallPass D.mark self.now pass.new.lists }
     {
@@ -78,7 +78,7 @@ impl<D: Disk> Hall<D> {
         name: Text,
     ) -> Said
         requires ready { IsHallPass D.mark self.now pass.old.lists }
-        ensures takes { Takes self.now (BySource name (λ slot. ByLog slot log.version))
+        ensures takes { TakesNoNumber self.now (BySource name (λ slot. ByLog slot log.version))
             pass.old result pass.new }
         ensures printable { IsPrintableSaid result }
         ensures ready { IsHallPass D.mark self.now pass.new.lists }
@@ -100,7 +100,8 @@ impl<D: Disk> Hall<D> {
     ) -> Said
         requires ready { IsHallPass D.mark self.now pass.old.lists }
         requires slot { (0 < slot) × (slot ≤ length self.now.logs.logs) }
-        ensures takes { Takes self.now (ByLog slot (log.fetch_version (version_within version)))
+        ensures takes { TakesNoNumber self.now
+            (ByLog slot (log.fetch_version (version_within version)))
             pass.old result pass.new }
         ensures printable { IsPrintableSaid result }
         ensures ready { IsHallPass D.mark self.now pass.new.lists }
@@ -119,7 +120,7 @@ impl<D: Disk> Hall<D> {
         version: u64,
     ) -> Said
         requires ready { IsHallPass D.mark self.now pass.old.lists }
-        ensures takes { Takes self.now (BySource name (λ slot. ByLog slot
+        ensures takes { TakesNoNumber self.now (BySource name (λ slot. ByLog slot
             (log.fetch_version (version_within version)))) pass.old result pass.new }
         ensures printable { IsPrintableSaid result }
         ensures ready { IsHallPass D.mark self.now pass.new.lists }
@@ -141,7 +142,8 @@ impl<D: Disk> Hall<D> {
     ) -> Said
         requires ready { IsHallPass D.mark self.now pass.old.lists }
         requires slot { (0 < slot) × (slot ≤ length self.now.logs.logs) }
-        ensures takes { Takes self.now (ByLog slot (log.fetch_id id)) pass.old result pass.new }
+        ensures takes { TakesNoNumber self.now
+            (ByLog slot (log.fetch_id id)) pass.old result pass.new }
         ensures printable { IsPrintableSaid result }
         ensures ready { IsHallPass D.mark self.now pass.new.lists }
     {
@@ -158,7 +160,8 @@ impl<D: Disk> Hall<D> {
         id: Id,
     ) -> Said
         requires ready { IsHallPass D.mark self.now pass.old.lists }
-        ensures takes { Takes self.now (BySource name (λ slot. ByLog slot (log.fetch_id id)))
+        ensures takes { TakesNoNumber self.now
+            (BySource name (λ slot. ByLog slot (log.fetch_id id)))
             pass.old result pass.new }
         ensures printable { IsPrintableSaid result }
         ensures ready { IsHallPass D.mark self.now pass.new.lists }
@@ -180,7 +183,7 @@ impl<D: Disk> Hall<D> {
     ) -> Said
         requires ready { IsHallPass D.mark self.now pass.old.lists }
         requires slot { (0 < slot) × (slot ≤ length self.now.logs.logs) }
-        ensures takes { Takes self.now (ByPatch text.now slot) pass.old result pass.new }
+        ensures takes { TakesNoNumber self.now (ByPatch text.now slot) pass.old result pass.new }
         ensures printable { IsPrintableSaid result }
         ensures ready { IsHallPass D.mark self.now pass.new.lists }
     {
@@ -203,7 +206,8 @@ impl<D: Disk> Hall<D> {
         text: Bytes,
     ) -> Said
         requires ready { IsHallPass D.mark self.now pass.old.lists }
-        ensures takes { Takes self.now (BySource name (ByPatch text)) pass.old result pass.new }
+        ensures takes { TakesNoNumber self.now
+            (BySource name (ByPatch text)) pass.old result pass.new }
         ensures printable { IsPrintableSaid result }
         ensures ready { IsHallPass D.mark self.now pass.new.lists }
     {

@@ -1,7 +1,7 @@
 //! What a worker knows of a hall.
 ghost use Rattle.std.specs.Prelude.{◌≡◌};
-ghost use Rattle.turn_cell.specs.Knowing.{number_of};
-ghost use Rattle.delta_session.specs.Halls.{all_faults};
+ghost use Rattle.turn_cell.specs.Knowing.{pass_number};
+ghost use Rattle.delta_session.specs.Halls.{all_hall_faults};
 
 use disk_model::Disk;
 use hall_logs::{LogsPass, Rooms};
@@ -42,14 +42,14 @@ impl<D: Disk> Drop for HallPass<D> {
 impl<D: Disk> HallPass<D> {
     /// Its number among the passes of its hall, counted from 1.
     pub fn number(&self) -> u32
-        ensures { result ≡ number_of self.now.lists.registry }
+        ensures { result ≡ pass_number self.now.lists.registry }
     {
         self.registry.number()
     }
 
     /// How often a disk has failed in its own calls, or the last value of u64 where that passes it.
     pub fn own_faults(&self) -> u64
-        ensures { result ≡ all_faults self.now.lists }
+        ensures { result ≡ all_hall_faults self.now.lists }
     {
         self.registry
             .own_faults()

@@ -3,7 +3,7 @@ ghost use Rattle.std.specs.Prelude.{◌≡◌, ℕ, List, [], None, Some};
 ghost use Rattle.http_session.specs.Said.{IsPrintableSaid};
 ghost use Rattle.http_text.specs.Print.{IsAllow};
 ghost use Rattle.patch_meaning.specs.Checked.{Refuses};
-ghost use Rattle.rpc_calls.specs.Outcomes.{IsFaultOf, Outcome, TellsMethods};
+ghost use Rattle.rpc_calls.specs.Outcomes.{IsFaultOf, CallOutcome, TellsMethods};
 ghost use Rattle.delta_session.specs.Answered.{ByPatch, IsSaidTo, Says};
 
 use crate::telling::say;
@@ -66,7 +66,7 @@ fn say_member(alloc: Global, member: &'static str) -> Said
 /// Says why a request is no call.
 pub(crate) fn refuse(alloc: Global, fault: CallFault) -> Said
     requires { TellsMethods fault }
-    ensures says { (outcome : Outcome) (dice : ℕ) → IsFaultOf fault outcome
+    ensures says { (outcome : CallOutcome) (dice : ℕ) → IsFaultOf fault outcome
         → IsSaidTo dice outcome [] result dice }
     ensures printable { IsPrintableSaid result }
 {

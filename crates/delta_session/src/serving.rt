@@ -2,7 +2,7 @@
 ghost use Rattle.std.specs.Prelude.{◌≡◌, ◌≤◌, [], map, length, IfOk, IfErr, vec_len, vec_capacity};
 ghost use Rattle.delta_session.specs.Ends.{HasHallRoom, IsEnded};
 ghost use Rattle.delta_session.specs.Halls.{AreHallPasses};
-ghost use Rattle.delta_session.specs.Working.{HasWorked, posted};
+ghost use Rattle.delta_session.specs.Working.{HasWorked, posts_of};
 
 use crate::hall::Hall;
 use crate::pass::{HallPass, HallPasses};
@@ -33,7 +33,7 @@ fn post<'a, D: Disk, G>(
     requires of { AreHallPasses D.mark hall.now passes.old.items }
     requires count { vec_len passes.old ≡ vec_len gates.old }
     requires room { (posts.old.items ≡ []) × (vec_len passes.old ≤ vec_capacity posts.old) }
-    ensures posts { posts.new.items ≡ posted hall.now passes.old.items gates.old.items }
+    ensures posts { posts.new.items ≡ posts_of hall.now passes.old.items gates.old.items }
     ensures none { (passes.new.items ≡ []) × (gates.new.items ≡ []) }
     ensures room { (vec_capacity passes.new ≡ vec_capacity passes.old)
         × (vec_capacity gates.new ≡ vec_capacity gates.old) }

@@ -1,11 +1,11 @@
 //! One connection of a server.
 ghost use Rattle.std.specs.Prelude.{◌≡◌, List};
-ghost use Rattle.http_session.specs.Output.{Chain, Exchange};
+ghost use Rattle.http_session.specs.Output.{AnswerChain, Exchange};
 ghost use Rattle.http_session.specs.Talks.{moment_of};
-ghost use Rattle.turn_cell.specs.Knowing.{number_of};
+ghost use Rattle.turn_cell.specs.Knowing.{pass_number};
 ghost use Rattle.delta_session.specs.Answered.{Answered};
 ghost use Rattle.delta_session.specs.Halls.{IsHallPass};
-ghost use Rattle.delta_session.specs.Sessions.{IsSession, Served};
+ghost use Rattle.delta_session.specs.Sessions.{IsSession, ServedSession};
 
 use crate::hall::Hall;
 use crate::laws::sessions_are_served;
@@ -38,9 +38,9 @@ pub fn serve_session<R: Wait, L: Link, D: Disk>(
     // The pass knows all that it knew, has looked for each call, and what is its own grew by these
     // calls alone.
     ensures served { (exchanges : List Exchange)
-        → Chain (Answered hall.now) (record pass.old { dice = dice }) exchanges pass.new
-        → Served hall.now (record pass.old { dice = dice }) exchanges pass.new }
-    ensures number { number_of pass.new.lists.registry ≡ number_of pass.old.lists.registry }
+        → AnswerChain (Answered hall.now) (record pass.old { dice = dice }) exchanges pass.new
+        → ServedSession hall.now (record pass.old { dice = dice }) exchanges pass.new }
+    ensures number { pass_number pass.new.lists.registry ≡ pass_number pass.old.lists.registry }
     ensures ready { IsHallPass D.mark hall.now pass.new.lists }
 {
     sessions_are_served::<D>();

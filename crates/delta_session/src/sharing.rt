@@ -5,9 +5,9 @@ ghost use Rattle.std.specs.List.{AllByRecursion, AllZip};
 ghost use Rattle.turn_cell.specs.Turns.{AllOf};
 ghost use Rattle.hall_logs.specs.Files.{IsStill};
 ghost use Rattle.hall_logs.specs.Rooms.{HasRoom};
-ghost use Rattle.hall_logs.specs.Slots.{AreAllPasses, AreNew};
+ghost use Rattle.hall_logs.specs.Slots.{AreAllHallPasses, AreNew};
 ghost use Rattle.delta_session.specs.Ends.{HasHallRoom};
-ghost use Rattle.delta_session.specs.Halls.{AreHallPasses, AreNewPasses, joined};
+ghost use Rattle.delta_session.specs.Halls.{AreHallPasses, AreNewPasses, paired_sights};
 
 use crate::fault::{HallFault, HallRefusal};
 use crate::hall::Hall;
@@ -29,7 +29,7 @@ fn join<D: Disk>(
 )
     requires count { vec_len sights.old ≡ vec_len parts.old }
     requires room { (passes.old.items ≡ []) × (vec_len sights.old ≤ vec_capacity passes.old) }
-    ensures joined { passes.new.items ≡ joined sights.old.items parts.old.items }
+    ensures joined { passes.new.items ≡ paired_sights sights.old.items parts.old.items }
     ensures none { (sights.new.items ≡ []) × (parts.new.items ≡ []) }
     ensures room { (vec_capacity sights.new ≡ vec_capacity sights.old)
         × (vec_capacity parts.new ≡ vec_capacity parts.old) }
@@ -61,7 +61,7 @@ pub(crate) fn share<D: Disk>(
     requires by_nobody { AllByRecursion (λ entry. entry.by ≡ 0) registry.entries }
     requires settled { AllOf (λ log. log.origin.doubt ≡ None) logs.logs }
     requires count { length logs.logs ≡ registry.slots }
-    requires parts { AreAllPasses D.mark logs.logs logs.seats parts.items
+    requires parts { AreAllHallPasses D.mark logs.logs logs.seats parts.items
         × AreNew D.mark logs.logs 1 parts.items }
     requires rooms { HasRoom logs rooms × (length logs.logs < rooms.disks) }
     requires passes { (passes.items ≡ []) × (logs.seats ≤ vec_capacity passes) }

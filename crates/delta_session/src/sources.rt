@@ -3,7 +3,7 @@ ghost use Rattle.std.specs.Prelude.{◌<◌, ◌≤◌, ℕ, length, IfErr, IfOk
 ghost use Rattle.http_session.specs.Said.{IsPrintableSaid};
 ghost use Rattle.registry_core.specs.Replies as registry;
 ghost use Rattle.registry_core.specs.Sources.{HasSlot};
-ghost use Rattle.delta_session.specs.Answered.{ByRegistry, IsLookedUp, LooksUp, Takes};
+ghost use Rattle.delta_session.specs.Answered.{ByRegistry, IsLookedUp, LooksUp, TakesNoNumber};
 ghost use Rattle.delta_session.specs.Answered.{reply_found};
 ghost use Rattle.delta_session.specs.Halls.{IsHallPass};
 
@@ -34,7 +34,7 @@ fn slot_in(alloc: Global, found: Result<Option<SourceInfo>, OutOfMemory>) -> Res
 impl<D: Disk> Hall<D> {
     pub(crate) fn list<R: Wait>(&self, rt: &R, alloc: Global, pass: &mut HallPass<D>) -> Said
         requires ready { IsHallPass D.mark self.now pass.old.lists }
-        ensures takes { Takes self.now (ByRegistry registry.list) pass.old result pass.new }
+        ensures takes { TakesNoNumber self.now (ByRegistry registry.list) pass.old result pass.new }
         ensures printable { IsPrintableSaid result }
         ensures ready { IsHallPass D.mark self.now pass.new.lists }
     {
@@ -50,7 +50,7 @@ impl<D: Disk> Hall<D> {
         name: Text,
     ) -> Said
         requires ready { IsHallPass D.mark self.now pass.old.lists }
-        ensures takes { Takes self.now (ByRegistry (registry.resolve name))
+        ensures takes { TakesNoNumber self.now (ByRegistry (registry.resolve name))
             pass.old result pass.new }
         ensures printable { IsPrintableSaid result }
         ensures ready { IsHallPass D.mark self.now pass.new.lists }
@@ -68,7 +68,7 @@ impl<D: Disk> Hall<D> {
         id: Id,
     ) -> Said
         requires ready { IsHallPass D.mark self.now pass.old.lists }
-        ensures takes { Takes self.now (ByRegistry (registry.resolve_id id))
+        ensures takes { TakesNoNumber self.now (ByRegistry (registry.resolve_id id))
             pass.old result pass.new }
         ensures printable { IsPrintableSaid result }
         ensures ready { IsHallPass D.mark self.now pass.new.lists }
@@ -85,7 +85,7 @@ impl<D: Disk> Hall<D> {
         uri: Text,
     ) -> Said
         requires ready { IsHallPass D.mark self.now pass.old.lists }
-        ensures takes { Takes self.now (ByRegistry (registry.resolve_uri uri))
+        ensures takes { TakesNoNumber self.now (ByRegistry (registry.resolve_uri uri))
             pass.old result pass.new }
         ensures printable { IsPrintableSaid result }
         ensures ready { IsHallPass D.mark self.now pass.new.lists }
@@ -105,7 +105,7 @@ impl<D: Disk> Hall<D> {
         id: Id,
     ) -> Said
         requires ready { IsHallPass D.mark self.now pass.old.lists }
-        ensures takes { Takes self.now (ByRegistry (registry.create name uri id))
+        ensures takes { TakesNoNumber self.now (ByRegistry (registry.create name uri id))
             pass.old result pass.new }
         ensures printable { IsPrintableSaid result }
         ensures ready { IsHallPass D.mark self.now pass.new.lists }
@@ -127,7 +127,7 @@ impl<D: Disk> Hall<D> {
         new_name: Text,
     ) -> Said
         requires ready { IsHallPass D.mark self.now pass.old.lists }
-        ensures takes { Takes self.now (ByRegistry (registry.rename name new_name))
+        ensures takes { TakesNoNumber self.now (ByRegistry (registry.rename name new_name))
             pass.old result pass.new }
         ensures printable { IsPrintableSaid result }
         ensures ready { IsHallPass D.mark self.now pass.new.lists }
@@ -148,7 +148,7 @@ impl<D: Disk> Hall<D> {
         name: Text,
     ) -> Said
         requires ready { IsHallPass D.mark self.now pass.old.lists }
-        ensures takes { Takes self.now (ByRegistry (registry.remove name))
+        ensures takes { TakesNoNumber self.now (ByRegistry (registry.remove name))
             pass.old result pass.new }
         ensures printable { IsPrintableSaid result }
         ensures ready { IsHallPass D.mark self.now pass.new.lists }

@@ -51,9 +51,10 @@ impl<'a, D: Disk> HallWorker<'a, D> {
 }
 
 impl<'a, D: Disk, L: Link> Worker<L> for HallWorker<'a, D> {
-    ghost use Rattle.delta_session.specs.Sessions.{Works};
+    ghost use Rattle.delta_session.specs.Sessions.{WorksSession};
 
-    ghost works = { λ before link dice after left. Works L.Link before link dice after left };
+    ghost works = { λ before link dice after left. WorksSession L.Link before link
+        dice after left };
 
     fn work<R: Wait>(&mut self, rt: &R, link: &mut L, dice: u128) {
         serve_session(rt, self.alloc, self.hall, &mut self.pass, link, dice);

@@ -8,14 +8,14 @@ use Rattle.disk_model.proofs.Moments.{starts, weaker, then_other}
 use Rattle.log_journal.specs.File.{Holds}
 use Rattle.log_journal.specs.Journal.{HoldsWithOrWithout}
 use Rattle.log_journal.proofs.Steps.{either}
-use Rattle.patch_meaning.specs.Checked.{CheckedPatch, texts}
-use Rattle.patch_log.specs.Log.{bare, MayHoldDuring}
+use Rattle.patch_meaning.specs.Checked.{CheckedPatch, checked_texts}
+use Rattle.patch_log.specs.Log.{bare, MayHoldChainDuring}
 use Rattle.zone_state.specs.Brief.{file_length}
 use Rattle.zone_state.specs.Zone.{ZoneView, zone_number, doubt_of}
 use Rattle.zone_state.proofs.Growing.{bare_texts}
 use Rattle.rpc_answers.specs.declared.answer.Answer.TheVariants as answer
-use Rattle.follower.specs.Exchanges.{Said}
-use Rattle.follower.specs.Grown.{Stands, TookMore, HoldsAmid, LeavesAmid, WasTried, untried, was_last, GrewBy, Stayed}
+use Rattle.follower.specs.Exchanges.{WasSaid}
+use Rattle.follower.specs.Grown.{ZoneStands, TookMore, HoldsAmid, LeavesAmid, WasTried, untried, was_last, GrewBy, Stayed}
 use Rattle.follower.proofs.Taken.{took_none, met_none}
 
 -- ---- images
@@ -24,25 +24,25 @@ module _ (taken : List CheckedPatch) (image : List ℕ) where
   abbrev HoldsTexts : List (List ℕ) → Type 0
   HoldsTexts payloads = Holds image zone_number payloads
 
-  texts_more : (one : CheckedPatch) → texts taken ++ one.text ∷ [] ≡ texts (taken ++ one ∷ [])
+  texts_more : (one : CheckedPatch) → checked_texts taken ++ one.text ∷ [] ≡ checked_texts (taken ++ one ∷ [])
   texts_more one = sym (map-append (λ (patch : CheckedPatch). patch.text) taken (one ∷ []))
 
   -- those before, and none of these
-  before_them : (doubt : Option CheckedPatch) (more : List CheckedPatch) → HoldsTexts (texts taken) → HoldsAmid taken doubt more image
-  before_them doubt more holds = inl ([], more, refl, subst (λ (ps : List CheckedPatch). HoldsTexts (texts ps)) (sym (append-nil taken)) holds)
+  before_them : (doubt : Option CheckedPatch) (more : List CheckedPatch) → HoldsTexts (checked_texts taken) → HoldsAmid taken doubt more image
+  before_them doubt more holds = inl ([], more, refl, subst (λ (ps : List CheckedPatch). HoldsTexts (checked_texts ps)) (sym (append-nil taken)) holds)
 
-  with_one : (one : CheckedPatch) → HoldsTexts (texts taken ++ one.text ∷ []) → HoldsTexts (texts (taken ++ one ∷ []))
+  with_one : (one : CheckedPatch) → HoldsTexts (checked_texts taken ++ one.text ∷ []) → HoldsTexts (checked_texts (taken ++ one ∷ []))
   with_one one holds = subst HoldsTexts (texts_more one) holds
 
-  doubted : (one : CheckedPatch) (more : List CheckedPatch) → HoldsWithOrWithout zone_number (texts taken) one.text image → HoldsAmid taken (Some one) more image
+  doubted : (one : CheckedPatch) (more : List CheckedPatch) → HoldsWithOrWithout zone_number (checked_texts taken) one.text image → HoldsAmid taken (Some one) more image
   doubted one more (inl without) = before_them (Some one) more without
   doubted one more (inr holds) = inr (one, refl, with_one one holds)
 
-  next_one : (doubt : Option CheckedPatch) (next : CheckedPatch) → HoldsWithOrWithout zone_number (texts taken) next.text image → HoldsAmid taken doubt (next ∷ []) image
+  next_one : (doubt : Option CheckedPatch) (next : CheckedPatch) → HoldsWithOrWithout zone_number (checked_texts taken) next.text image → HoldsAmid taken doubt (next ∷ []) image
   next_one doubt next (inl without) = before_them doubt (next ∷ []) without
   next_one doubt next (inr holds) = inl (next ∷ [], [], refl, with_one next holds)
 
-  during : (doubt : Option CheckedPatch) (next : CheckedPatch) → MayHoldDuring zone_number (map bare taken) (doubt_of doubt) (bare next) image → HoldsAmid taken doubt (next ∷ []) image
+  during : (doubt : Option CheckedPatch) (next : CheckedPatch) → MayHoldChainDuring zone_number (map bare taken) (doubt_of doubt) (bare next) image → HoldsAmid taken doubt (next ∷ []) image
   during None next holds =
       next_one None next (subst (λ (ts : List (List ℕ)). HoldsWithOrWithout zone_number ts next.text image) (bare_texts taken) holds)
   during (Some one) next (inl holds) =
@@ -58,7 +58,7 @@ module _ (taken : List CheckedPatch) (image : List ℕ) where
   -- these were taken before, and nothing was left in doubt
   amid_behind : (doubt left : Option CheckedPatch) (more tried : List CheckedPatch) → left ≡ None → HoldsAmid (taken ++ more) left tried image → HoldsAmid taken doubt (more ++ tried) image
   amid_behind doubt left more tried none (inl is) =
-      inl (more ++ is.0, is.1, ap (λ (ps : List CheckedPatch). more ++ ps) is.2 ∙ sym (append_assoc more is.0 is.1), subst (λ (ps : List CheckedPatch). HoldsTexts (texts ps)) (append_assoc taken more is.0) is.3)
+      inl (more ++ is.0, is.1, ap (λ (ps : List CheckedPatch). more ++ ps) is.2 ∙ sym (append_assoc more is.0 is.1), subst (λ (ps : List CheckedPatch). HoldsTexts (checked_texts ps)) (append_assoc taken more is.0) is.3)
   amid_behind doubt left more tried none (inr is) = absurd (no_one left is.0 none is.1)
     where
       no_one : (left : Option CheckedPatch) (one : CheckedPatch) → left ≡ None → left ≡ Some one → ⊥
@@ -82,7 +82,7 @@ module _ {D : Type 0} (disks : Ghosts D) where
   amid_none zone told taken (Some one) stands =
       let all = stands.on_disk told in
       starts (HoldsAmid taken (Some one) []) (disks.past zone.disk) (λ image left.
-      doubted taken image one [] (either (file_length zone.brief.ids zone.brief.bytes) zone_number (texts taken) one.text all.doubt_sized image all.sized (all.each image left)))
+      doubted taken image one [] (either (file_length zone.brief.ids zone.brief.bytes) zone_number (checked_texts taken) one.text all.doubt_sized image all.sized (all.each image left)))
 
   -- the disk wasn't asked
   pub amid_same : (old new : ZoneView D) → new ≡ record old { terms = new.terms } → LeavesAmid disks old new []
@@ -90,11 +90,11 @@ module _ {D : Type 0} (disks : Ghosts D) where
       subst (λ (zone : ZoneView D). LeavesOnly (HoldsAmid taken doubt []) (disks.past old.disk) (disks.past zone.disk)) (sym is) (amid_none old told taken doubt stands)
 
   pub amid_one : (old new : ZoneView D) (next : CheckedPatch)
-      → (disks.tells → (taken : List CheckedPatch) (doubt : Option CheckedPatch) → Stands disks old taken doubt
-      → LeavesOnly (MayHoldDuring zone_number (map bare taken) (doubt_of doubt) (bare next)) (disks.past old.disk) (disks.past new.disk))
+      → (disks.tells → (taken : List CheckedPatch) (doubt : Option CheckedPatch) → ZoneStands disks old taken doubt
+      → LeavesOnly (MayHoldChainDuring zone_number (map bare taken) (doubt_of doubt) (bare next)) (disks.past old.disk) (disks.past new.disk))
       → LeavesAmid disks old new (next ∷ [])
   amid_one old new next leaves told taken doubt stands =
-      weaker (MayHoldDuring zone_number (map bare taken) (doubt_of doubt) (bare next)) (HoldsAmid taken doubt (next ∷ []))
+      weaker (MayHoldChainDuring zone_number (map bare taken) (doubt_of doubt) (bare next)) (HoldsAmid taken doubt (next ∷ []))
       (λ image holds. during taken image doubt next holds) (disks.past old.disk) (disks.past new.disk) (leaves told taken doubt stands)
 
   pub amid_both : (old mid new : ZoneView D) (more tried : List CheckedPatch) → TookMore disks old mid more → IsClear old mid more → LeavesAmid disks old mid more
@@ -112,19 +112,19 @@ module _ {D : Type 0} (disks : Ghosts D) where
   -- ---- what a zone grew by
 
   -- nothing happened
-  pub grew_none : (zone : ZoneView D) (said : List Said) → GrewBy disks zone zone [] said
+  pub grew_none : (zone : ZoneView D) (said : List WasSaid) → GrewBy disks zone zone [] said
   grew_none zone said = record { took = took_none disks zone; amid = ([], untried refl, amid_none zone); met = ([], untried refl, met_none zone.terms) }
 
-  pub stayed_none : (zone : ZoneView D) (said : List Said) → Stayed disks zone zone said
+  pub stayed_none : (zone : ZoneView D) (said : List WasSaid) → Stayed disks zone zone said
   stayed_none zone said = record { brief = refl; grew = grew_none zone said }
 
   -- something was said before
-  was_behind : (front said : List Said) (tried : List CheckedPatch) → WasTried said tried → WasTried (front ++ said) tried
+  was_behind : (front said : List WasSaid) (tried : List CheckedPatch) → WasTried said tried → WasTried (front ++ said) tried
   was_behind front said tried (untried is) = untried is
   was_behind front said tried (was_last before next is_said is checked) =
-      was_last (front ++ before) next (ap (λ (ss : List Said). front ++ ss) is_said ∙ sym (append_assoc front before (Ok (answer.Patch next.text) ∷ []))) is checked
+      was_last (front ++ before) next (ap (λ (ss : List WasSaid). front ++ ss) is_said ∙ sym (append_assoc front before (Ok (answer.Patch next.text) ∷ []))) is checked
 
-  pub grew_behind : (front said : List Said) (old new : ZoneView D) (more : List CheckedPatch) → GrewBy disks old new more said → GrewBy disks old new more (front ++ said)
+  pub grew_behind : (front said : List WasSaid) (old new : ZoneView D) (more : List CheckedPatch) → GrewBy disks old new more said → GrewBy disks old new more (front ++ said)
   grew_behind front said old new more grew = record {
     took = grew.took;
     amid = (grew.amid.0, was_behind front said grew.amid.0 grew.amid.1, grew.amid.2);

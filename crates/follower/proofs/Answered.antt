@@ -25,15 +25,15 @@ use Rattle.patch_log.specs.Log.{bare}
 use Rattle.rpc_answers.specs.declared.answer.Answer.TheVariants as answers
 use Rattle.zone_state.specs.declared.answer.TakeAnswer.{TakeAnswer}
 use Rattle.zone_state.specs.declared.answer.TakeAnswer.TheVariants as take
-use Rattle.zone_state.specs.Brief.{Brief, last_of, version_in, file_length, with_patch, changes_of}
-use Rattle.zone_state.specs.Taking.{taking, unless_repeated, taken_then, IsDecidedBy, IsWant, TakeStay}
+use Rattle.zone_state.specs.Brief.{Brief, last_of, version_among, file_length, with_patch, changes_taken}
+use Rattle.zone_state.specs.Taking.{taking, unless_repeated, taken_then, IsDecidedBy, WantsForTaking, TakeStay}
 use Rattle.zone_state.specs.Stay.{decided, TookOne}
-use Rattle.zone_state.specs.Zone.{ZoneView, doubt_of, point_of}
+use Rattle.zone_state.specs.Zone.{ZoneView, doubt_of, zone_point}
 use Rattle.follower.specs.declared.ends.SyncEnd.{SyncEnd}
 use Rattle.follower.specs.declared.ends.SyncEnd.TheVariants.{BadPatch, LinkFault, DiskFault}
-use Rattle.follower.specs.Exchanges.{Said}
-use Rattle.follower.specs.Grown.{Stands, Took, Stayed, LeavesAmid, WasTried, untried, was_last}
-use Rattle.follower.specs.Syncing.{IsNextOf, IsText, TextEnds, end_of, of_patch}
+use Rattle.follower.specs.Exchanges.{WasSaid}
+use Rattle.follower.specs.Grown.{ZoneStands, Took, Stayed, LeavesAmid, WasTried, untried, was_last}
+use Rattle.follower.specs.Syncing.{IsNextForZone, IsText, TextEnds, end_of, of_patch}
 use Rattle.follower.proofs.Amid.{amid_same}
 use Rattle.follower.proofs.Taken.{took_same, took_want}
 
@@ -81,8 +81,8 @@ module _ (ids : List Id) (bytes : ℕ) (patch : Patch) (limits : LogLimits) wher
   true_not_false : true ≡ false → ⊥
   true_not_false same = cc
 
-  made_prev : (follows : Bool) → same_id patch.prev (last_of ids) ≡ follows → IsMade ids patch (cond (not follows) (take.Diverged (last_of ids) patch.prev) (unless_repeated (version_in ids patch.id) ids bytes patch limits))
-  made_prev true follows = made_id (version_in ids patch.id)
+  made_prev : (follows : Bool) → same_id patch.prev (last_of ids) ≡ follows → IsMade ids patch (cond (not follows) (take.Diverged (last_of ids) patch.prev) (unless_repeated (version_among ids patch.id) ids bytes patch limits))
+  made_prev true follows = made_id (version_among ids patch.id)
   made_prev false other = (tt, (refl, refl, λ same. true_not_false (sym (ap (λ (id : Option Id). same_id id (last_of ids)) same ∙ same_id-refl (last_of ids)) ∙ other)))
 
   made : IsMade ids patch (taking ids bytes patch limits)
@@ -94,9 +94,9 @@ module _ (ids : List Id) (bytes : ℕ) (patch : Patch) (limits : LogLimits) wher
 -- what taking a patch comes to, by its answer
 pub record Answers {D : Type 0} (disks : Ghosts D) (old new : ZoneView D) (next : CheckedPatch) (answer : TakeAnswer) : Type 0 where
   pub by : IsDecidedBy (decided old next) answer
-  pub stay : (taken : List CheckedPatch) (doubt : Option CheckedPatch) → Stands disks old taken doubt → answer ≢ take.TermsFull → answer ≢ take.OutOfMemory
-      → (left : Option CheckedPatch) × Stands disks new (taken_then answer taken next) left
-  pub want : (answer ≡ take.TermsFull) ⊎ (answer ≡ take.OutOfMemory) → IsWant (decided old next) answer
+  pub stay : (taken : List CheckedPatch) (doubt : Option CheckedPatch) → ZoneStands disks old taken doubt → answer ≢ take.TermsFull → answer ≢ take.OutOfMemory
+      → (left : Option CheckedPatch) × ZoneStands disks new (taken_then answer taken next) left
+  pub want : (answer ≡ take.TermsFull) ⊎ (answer ≡ take.OutOfMemory) → WantsForTaking (decided old next) answer
   pub untouched : answer ≢ take.DiskFault → ((version : ℕ) → answer ≢ take.Applied version) → new ≡ record old { terms = new.terms }
   pub terms_full : answer ≡ take.TermsFull → AreMore most next.meaning.changes old.terms
   pub terms : AreMet next.meaning.changes old.terms new.terms
@@ -130,11 +130,11 @@ module _ {D : Type 0} (disks : Ghosts D) (old new : ZoneView D) (next : CheckedP
   took_ok take.OutOfMemory id mine so = tt
   took_ok take.DiskFault id mine so = tt
 
-  module _ (said : List Said) (checked : IsPatch next.text next.meaning) (is_said : said ≡ Ok (answers.Patch next.text) ∷ []) where
+  module _ (said : List WasSaid) (checked : IsPatch next.text next.meaning) (is_said : said ≡ Ok (answers.Patch next.text) ∷ []) where
     tried : WasTried said (next ∷ [])
     tried = was_last [] next is_said refl checked
 
-    met : AreMet next.meaning.changes old.terms new.terms → (ps : List CheckedPatch) × WasTried said ps × AreMet (changes_of ([] ++ ps)) old.terms new.terms
+    met : AreMet next.meaning.changes old.terms new.terms → (ps : List CheckedPatch) × WasTried said ps × AreMet (changes_taken ([] ++ ps)) old.terms new.terms
     met are = (next ∷ [], tried, subst (λ (cs : List Change). AreMet cs old.terms new.terms) changes_one are)
 
     -- its disk wasn't asked
@@ -171,7 +171,7 @@ module _ {D : Type 0} (disks : Ghosts D) (old new : ZoneView D) (next : CheckedP
   no_decision : take.DiskFault ≡ decided old next → ⊥
   no_decision is = subst (λ (answer : TakeAnswer). IsDecision answer) (sym is) (made old.brief.ids old.brief.bytes (bare next) old.limits).0
 
-  is_next : (version : ℕ) × (decided old next ≡ take.Applied version) → new.brief ≡ old.brief → new.limits ≡ old.limits → IsNextOf new next
+  is_next : (version : ℕ) × (decided old next ≡ take.Applied version) → new.brief ≡ old.brief → new.limits ≡ old.limits → IsNextForZone new next
   is_next one brief limits = (one.0, same_decision brief limits ∙ one.1)
 
   module _ (text : List ℕ) (is_text : IsText text next) (id : Id) (id_is : id ≡ next.meaning.id) (mine : ℕ) (mine_is : mine ≡ length old.brief.ids) where
@@ -231,8 +231,8 @@ pub taken_settles : {D : Type 0} (disks : Ghosts D) (old new : ZoneView D) (take
     → IsDecidedBy (decided old next) answer → TookOne disks old new taken doubt next answer → (version : ℕ) → answer ≡ take.Applied version → new.settled ≡ true
 taken_settles disks old new taken doubt next answer by took version is =
     let made_so : take.Applied version ≡ decided old next = ⊎_elim (λ same. sym is ∙ same) (λ other. absurd (⊎_elim (λ same. cc) (λ rest. ⊎_elim (λ same. cc) (λ same. cc) rest) other.1)) by in
-    let stay = subst (λ (a : TakeAnswer). TakeStay (decided old next) (map bare taken) (doubt_of doubt) (bare next) took.fate (point_of (taken_then a taken next) took.left) a) is took.stay in
-    let stays = subst (λ (d : TakeAnswer). TakeStay d (map bare taken) (doubt_of doubt) (bare next) took.fate (point_of (taken ++ next ∷ []) took.left) (take.Applied version)) (sym made_so) stay in
+    let stay = subst (λ (a : TakeAnswer). TakeStay (decided old next) (map bare taken) (doubt_of doubt) (bare next) took.fate (zone_point (taken_then a taken next) took.left) a) is took.stay in
+    let stays = subst (λ (d : TakeAnswer). TakeStay d (map bare taken) (doubt_of doubt) (bare next) took.fate (zone_point (taken ++ next ∷ []) took.left) (take.Applied version)) (sym made_so) stay in
     took.stands.settled_is ∙ is_settled took.left (none_left (map bare taken) (map bare (taken ++ next ∷ [])) (bare next) (doubt_of took.left) version took.fate (doubt_of doubt) stays)
 
 -- ---- a text that is no patch

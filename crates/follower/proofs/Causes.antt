@@ -11,18 +11,18 @@ use Rattle.zone_state.specs.Brief.{last_of}
 use Rattle.zone_state.specs.Zone.{ZoneView}
 use Rattle.follower.specs.declared.ends.SyncEnd.{SyncEnd}
 use Rattle.follower.specs.declared.ends.SyncEnd.TheVariants.{CaughtUp, NoSuchName, PeerBehind, NoPatch, PeerRefused, Diverged, Repeated, BadPatch, LinkFault, CutShort, NotUnderstood, Full, TermsFull, DiskFault, OutOfMemory}
-use Rattle.follower.specs.Exchanges.{Said}
-use Rattle.follower.specs.Ends.{of_ask, IsRefusal, LogEnds}
+use Rattle.follower.specs.Exchanges.{WasSaid}
+use Rattle.follower.specs.Ends.{sync_end, IsRefusal, LogEnds}
 use Rattle.follower.specs.Ends as log
 use Rattle.follower.specs.Syncing.{IsText, TextEnds, FetchEnds, told, no_source, no_patch, refused, answered, faulty, not_asked, texts_said, came, Compares, stopped, caught_up, EndIs, unanswered, compared, followed}
 use Rattle.follower.specs.Causes.{FetchedText, Fetched, Cause}
 
-module _ {D : Type 0} (old new : ZoneView D) (said : List Said) (more : List CheckedPatch) where
+module _ {D : Type 0} (old new : ZoneView D) (said : List WasSaid) (more : List CheckedPatch) where
   abbrev Has : SyncEnd → Type 0
   Has end = Cause old new said more end
 
   -- an answer that says nothing of the log
-  refusal : (a : Answer) (before : List Said) → said ≡ before ++ Ok a ∷ [] → (end : SyncEnd) → IsRefusal a end → Has end
+  refusal : (a : Answer) (before : List WasSaid) → said ≡ before ++ Ok a ∷ [] → (end : SyncEnd) → IsRefusal a end → Has end
   refusal a before is (CaughtUp version) by = absurd by
   refusal a before is NoSuchName by = absurd by
   refusal a before is (PeerBehind mine theirs) by = absurd by
@@ -40,7 +40,7 @@ module _ {D : Type 0} (old new : ZoneView D) (said : List Said) (more : List Che
   refusal a before is OutOfMemory by = tt
 
   -- no answer
-  fault : (why : AskFault) (before : List Said) → said ≡ before ++ Err why ∷ [] → Has (of_ask why)
+  fault : (why : AskFault) (before : List WasSaid) → said ≡ before ++ Err why ∷ [] → Has (sync_end why)
   fault ask.LinkFault before is = (before, is)
   fault ask.CutShort before is = (before, is)
   fault (ask.NotUnderstood at) before is = inl (before, is)
@@ -74,13 +74,13 @@ module _ {D : Type 0} (old new : ZoneView D) (said : List Said) (more : List Che
   of_heads found head is same DiskFault by = absurd by
   of_heads found head is same OutOfMemory by = absurd by
 
-  module _ (theirs : ℕ) (head : Option Id) (last : List Said) (is : said ≡ came theirs head more last) (within : length new.brief.ids < theirs) where
+  module _ (theirs : ℕ) (head : Option Id) (last : List WasSaid) (is : said ≡ came theirs head more last) (within : length new.brief.ids < theirs) where
     -- all that was said before
-    abbrev front : List Said
+    abbrev front : List WasSaid
     front = Ok (answer.Info theirs head) ∷ texts_said more
 
-    ends_by : (one : Said) → last ≡ one ∷ [] → said ≡ front ++ one ∷ []
-    ends_by one same = is ∙ ap (λ (l : List Said). front ++ l) same
+    ends_by : (one : WasSaid) → last ≡ one ∷ [] → said ≡ front ++ one ∷ []
+    ends_by one same = is ∙ ap (λ (l : List WasSaid). front ++ l) same
 
     module _ (text : List ℕ) (fetched_text : FetchedText old new said more text) where
       fetched : (next : CheckedPatch) → IsText text next → Fetched old new said more next
@@ -107,7 +107,7 @@ module _ {D : Type 0} (old new : ZoneView D) (said : List Said) (more : List Che
     of_fetch : (end : SyncEnd) → FetchEnds old.terms more new last end → Has end
     of_fetch end (answered a same (told text a_is ends)) =
         let last_is : last ≡ Ok (answer.Patch text) ∷ [] = same ∙ ap (λ (it : Answer). Ok it ∷ []) a_is in
-        of_text text (theirs, head, is ∙ ap (λ (l : List Said). came theirs head more l) last_is, within) end ends
+        of_text text (theirs, head, is ∙ ap (λ (l : List WasSaid). came theirs head more l) last_is, within) end ends
     of_fetch end (answered a same (no_source a_is ends)) = subst Has (sym ends) (front, ends_by (Ok answer.NoSource) (same ∙ ap (λ (it : Answer). Ok it ∷ []) a_is))
     of_fetch end (answered a same (no_patch has a_is ends)) = subst Has (sym ends) (refl, (has, (front, ends_by (Ok (answer.NoPatch has)) (same ∙ ap (λ (it : Answer). Ok it ∷ []) a_is))))
     of_fetch end (answered a same (refused none by)) = refusal a front (ends_by (Ok a) same) end by
@@ -118,4 +118,4 @@ module _ {D : Type 0} (old new : ZoneView D) (said : List Said) (more : List Che
   has_cause end (unanswered none same ends) = of_log end ends
   has_cause end (compared theirs head is none same by) = of_heads theirs head is same end by
   has_cause end (followed theirs head last is before (stopped within ends)) = of_fetch theirs head last is within end ends
-  has_cause end (followed theirs head last is before (caught_up all none ends)) = subst Has (sym ends) (all, (head, is ∙ ap (λ (l : List Said). came theirs head more l) none))
+  has_cause end (followed theirs head last is before (caught_up all none ends)) = subst Has (sym ends) (all, (head, is ∙ ap (λ (l : List WasSaid). came theirs head more l) none))

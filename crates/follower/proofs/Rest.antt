@@ -10,11 +10,11 @@ use Rattle.rpc_answers.specs.declared.answer.Answer.{Answer}
 use Rattle.rpc_answers.specs.declared.answer.Answer.TheVariants as answer
 use Rattle.rpc_calls.specs.declared.call.Call.{Call}
 use Rattle.delta_client.specs.declared.line.Open.{Open}
-use Rattle.zone_state.specs.Brief.{Brief, changes_of}
+use Rattle.zone_state.specs.Brief.{Brief, changes_taken}
 use Rattle.zone_state.specs.Zone.{ZoneView}
 use Rattle.follower.specs.declared.ends.SyncEnd.{SyncEnd}
 use Rattle.follower.specs.declared.ends.SyncEnd.TheVariants.{CaughtUp, NoSuchName, PeerBehind, NoPatch, PeerRefused, Diverged, Repeated, BadPatch, LinkFault, CutShort, NotUnderstood, Full, TermsFull, DiskFault, OutOfMemory}
-use Rattle.follower.specs.Exchanges.{Said, Net, fetches, Asks}
+use Rattle.follower.specs.Exchanges.{WasSaid, Net, fetches, AsksAll}
 use Rattle.follower.specs.Grown.{TookMore, LeavesAmid, untried, GrewBy, Took, Stayed}
 use Rattle.follower.specs.Syncing.{TextEnds, FetchRefuses, told, no_source, no_patch, refused, FetchEnds, answered, faulty, not_asked, texts_said, RestIs, stopped, caught_up}
 use Rattle.follower.proofs.Chains.{fetches_append, asks_none, asks_both}
@@ -23,7 +23,7 @@ use Rattle.follower.proofs.Taken.{took_none, took_both, took_still, met_none, me
 
 -- ---- an end behind patches that were taken
 
-module _ {D : Type 0} (before mid : List Term) (more : List CheckedPatch) (learnt : AreMet (changes_of more) before mid) (zone : ZoneView D) where
+module _ {D : Type 0} (before mid : List Term) (more : List CheckedPatch) (learnt : AreMet (changes_taken more) before mid) (zone : ZoneView D) where
   text_behind : (text : List ℕ) (end : SyncEnd) → TextEnds mid [] zone text end → TextEnds before more zone text end
   text_behind text (BadPatch version fault) is = is
   text_behind text (Diverged version have theirs) is = is
@@ -47,14 +47,14 @@ module _ {D : Type 0} (before mid : List Term) (more : List CheckedPatch) (learn
   refuses_behind a end (no_patch has is ends) = no_patch has is ends
   refuses_behind a end (refused none ends) = refused none ends
 
-  pub ends_behind : (said : List Said) (end : SyncEnd) → FetchEnds mid [] zone said end → FetchEnds before more zone said end
+  pub ends_behind : (said : List WasSaid) (end : SyncEnd) → FetchEnds mid [] zone said end → FetchEnds before more zone said end
   ends_behind said end (answered a is ends) = answered a is (refuses_behind a end ends)
   ends_behind said end (faulty fault is ends) = faulty fault is ends
   ends_behind said end (not_asked is ends) = not_asked is ends
 
 -- ---- fetches
 
-abbrev text_said : CheckedPatch → Said
+abbrev text_said : CheckedPatch → WasSaid
 text_said patch = Ok (answer.Patch patch.text)
 
 -- these patches were fetched and taken, one after another
@@ -63,24 +63,24 @@ pub record Gone {D L : Type 0} (disks : Ghosts D) (net_tells : Type 0) (left sen
   pub took : TookMore disks old now more
   pub clear : IsClear old now more
   pub amid : LeavesAmid disks old now more
-  pub learnt : AreMet (changes_of more) old.terms now.terms
+  pub learnt : AreMet (changes_taken more) old.terms now.terms
   pub count : length now.brief.ids ≡ length old.brief.ids + length more
-  pub asks : net_tells → Asks left sent address (fetches name (length old.brief.ids + 1) (texts_said more)) (texts_said more) talk before after line
+  pub asks : net_tells → AsksAll left sent address (fetches name (length old.brief.ids + 1) (texts_said more)) (texts_said more) talk before after line
 
 module _ {D L : Type 0} (disks : Ghosts D) (net_tells : Type 0) (left sent : L → Option (List ℕ)) (address name : List ℕ) (old : ZoneView D) (talk : Option (Open L)) (before : Net L) where
   abbrev pub GoneTo : ZoneView D → Option (Open L) → Net L → List CheckedPatch → Type 0
   GoneTo now line after more = Gone disks net_tells left sent address name old now talk line before after more
 
   -- what was asked, with one list more
-  asks_more : (more : List CheckedPatch) (said : List Said) (version : ℕ) (next line : Option (Open L)) (between after : Net L) → version ≡ length old.brief.ids + length more + 1
-      → Asks left sent address (fetches name (length old.brief.ids + 1) (texts_said more)) (texts_said more) talk before between next → Asks left sent address (fetches name version said) said next between after line
-      → Asks left sent address (fetches name (length old.brief.ids + 1) (texts_said more ++ said)) (texts_said more ++ said) talk before after line
+  asks_more : (more : List CheckedPatch) (said : List WasSaid) (version : ℕ) (next line : Option (Open L)) (between after : Net L) → version ≡ length old.brief.ids + length more + 1
+      → AsksAll left sent address (fetches name (length old.brief.ids + 1) (texts_said more)) (texts_said more) talk before between next → AsksAll left sent address (fetches name version said) said next between after line
+      → AsksAll left sent address (fetches name (length old.brief.ids + 1) (texts_said more ++ said)) (texts_said more ++ said) talk before after line
   asks_more more said version next line between after is first second =
       let from : version ≡ length old.brief.ids + 1 + length (texts_said more) = omega (arith, is, length-map more text_said) in
-      subst (λ (cs : List Call). Asks left sent address cs (texts_said more ++ said) talk before after line)
+      subst (λ (cs : List Call). AsksAll left sent address cs (texts_said more ++ said) talk before after line)
       (sym (fetches_append name (length old.brief.ids + 1) (texts_said more) said))
       (asks_both left sent address (fetches name (length old.brief.ids + 1) (texts_said more)) (fetches name (length old.brief.ids + 1 + length (texts_said more)) said) (texts_said more) said talk next line before between after first
-      (subst (λ (n : ℕ). Asks left sent address (fetches name n said) said next between after line) from second))
+      (subst (λ (n : ℕ). AsksAll left sent address (fetches name n said) said next between after line) from second))
 
   pub gone_none : GoneTo old talk before []
   gone_none = record {
@@ -94,7 +94,7 @@ module _ {D L : Type 0} (disks : Ghosts D) (net_tells : Type 0) (left sent : L �
 
   -- one patch more
   pub gone_on : (now new : ZoneView D) (next line : Option (Open L)) (between after : Net L) (more : List CheckedPatch) (one : CheckedPatch) (version : ℕ) → version ≡ length now.brief.ids + 1
-      → GoneTo now next between more → Took disks now new one → (net_tells → Asks left sent address (fetches name version (texts_said (one ∷ []))) (texts_said (one ∷ [])) next between after line)
+      → GoneTo now next between more → Took disks now new one → (net_tells → AsksAll left sent address (fetches name version (texts_said (one ∷ []))) (texts_said (one ∷ [])) next between after line)
       → GoneTo new line after (more ++ one ∷ [])
   gone_on now new next line between after more one version is so took asks =
       let grown : length new.brief.ids ≡ length now.brief.ids + 1 = ap (λ (b : Brief). length b.ids) took.brief ∙ length_push now.brief.ids one.meaning.id in
@@ -104,20 +104,20 @@ module _ {D L : Type 0} (disks : Ghosts D) (net_tells : Type 0) (left sent : L �
         amid = amid_both disks old now new more (one ∷ []) so.took so.clear so.amid took.amid;
         learnt = met_both more (one ∷ []) old.terms now.terms new.terms so.learnt took.met;
         count = omega (arith, grown, so.count, length_push more one);
-        asks = λ tells. subst (λ (said : List Said). Asks left sent address (fetches name (length old.brief.ids + 1) said) said talk before after line)
+        asks = λ tells. subst (λ (said : List WasSaid). AsksAll left sent address (fetches name (length old.brief.ids + 1) said) said talk before after line)
             (sym (map-append text_said more (one ∷ [])))
             (asks_more more (texts_said (one ∷ [])) version next line between after (omega (arith, is, so.count)) (so.asks tells) (asks tells));
       }
 
   -- what the fetches come to: what was said last, and the patches taken
-  abbrev pub Ended : ZoneView D → Option (Open L) → Net L → ℕ → List Said → List CheckedPatch → SyncEnd → Type 0
+  abbrev pub Ended : ZoneView D → Option (Open L) → Net L → ℕ → List WasSaid → List CheckedPatch → SyncEnd → Type 0
   Ended new line after theirs last more end = GrewBy disks old new more last × RestIs old new theirs last more end
-      × (net_tells → Asks left sent address (fetches name (length old.brief.ids + 1) (texts_said more ++ last)) (texts_said more ++ last) talk before after line)
+      × (net_tells → AsksAll left sent address (fetches name (length old.brief.ids + 1) (texts_said more ++ last)) (texts_said more ++ last) talk before after line)
 
   -- a fetch that ends it
-  pub gone_stopped : (now new : ZoneView D) (next line : Option (Open L)) (between after : Net L) (more : List CheckedPatch) (said : List Said) (version theirs : ℕ) (end : SyncEnd)
+  pub gone_stopped : (now new : ZoneView D) (next line : Option (Open L)) (between after : Net L) (more : List CheckedPatch) (said : List WasSaid) (version theirs : ℕ) (end : SyncEnd)
       → version ≡ length now.brief.ids + 1 → version ≤ theirs → GoneTo now next between more → FetchEnds now.terms [] new said end → Stayed disks now new said
-      → (net_tells → Asks left sent address (fetches name version said) said next between after line) → Ended new line after theirs said more end
+      → (net_tells → AsksAll left sent address (fetches name version said) said next between after line) → Ended new line after theirs said more end
   gone_stopped now new next line between after more said version theirs end is within so ends stays asks =
       let same : length new.brief.ids ≡ length now.brief.ids = ap (λ (b : Brief). length b.ids) stays.brief in
       let tried = stays.grew.amid in
@@ -134,8 +134,8 @@ module _ {D L : Type 0} (disks : Ghosts D) (net_tells : Type 0) (left sent : L �
     record {
       took = so.took;
       amid = ([], untried refl, subst (λ (ps : List CheckedPatch). LeavesAmid disks old now ps) (sym (append-nil more)) so.amid);
-      met = ([], untried refl, subst (λ (ps : List CheckedPatch). AreMet (changes_of ps) old.terms now.terms) (sym (append-nil more)) so.learnt);
+      met = ([], untried refl, subst (λ (ps : List CheckedPatch). AreMet (changes_taken ps) old.terms now.terms) (sym (append-nil more)) so.learnt);
     },
     caught_up is refl refl,
-    λ tells. subst (λ (said : List Said). Asks left sent address (fetches name (length old.brief.ids + 1) said) said talk before after line) (sym (append-nil (texts_said more))) (so.asks tells),
+    λ tells. subst (λ (said : List WasSaid). AsksAll left sent address (fetches name (length old.brief.ids + 1) said) said talk before after line) (sym (append-nil (texts_said more))) (so.asks tells),
   )

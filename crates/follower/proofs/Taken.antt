@@ -9,16 +9,16 @@ use Rattle.rdf_terms.specs.declared.term.Term.{Term}
 use Rattle.rdf_terms.specs.declared.change.Change.{Change}
 use Rattle.dataset_tx.specs.Held.{terms_of, AreMet, AreMore}
 use Rattle.patch_meaning.specs.Checked.{CheckedPatch}
-use Rattle.zone_state.specs.Brief.{changes_of}
+use Rattle.zone_state.specs.Brief.{changes_taken}
 use Rattle.zone_state.specs.Zone.{ZoneView}
-use Rattle.follower.specs.Grown.{Stands, TookMore}
+use Rattle.follower.specs.Grown.{ZoneStands, TookMore}
 
 module _ {D : Type 0} (disks : Ghosts D) where
-  pub took_same : (old new : ZoneView D) → ((taken : List CheckedPatch) (doubt : Option CheckedPatch) → Stands disks old taken doubt
-      → (left : Option CheckedPatch) × Stands disks new taken left) → TookMore disks old new []
+  pub took_same : (old new : ZoneView D) → ((taken : List CheckedPatch) (doubt : Option CheckedPatch) → ZoneStands disks old taken doubt
+      → (left : Option CheckedPatch) × ZoneStands disks new taken left) → TookMore disks old new []
   took_same old new same taken doubt stands =
       let here = same taken doubt stands in
-      (here.0, subst (λ (ps : List CheckedPatch). Stands disks new ps here.0) (sym (append-nil taken)) here.1)
+      (here.0, subst (λ (ps : List CheckedPatch). ZoneStands disks new ps here.0) (sym (append-nil taken)) here.1)
 
   pub took_none : (zone : ZoneView D) → TookMore disks zone zone []
   took_none zone = took_same zone zone (λ taken doubt stands. (doubt, stands))
@@ -27,7 +27,7 @@ module _ {D : Type 0} (disks : Ghosts D) where
   took_both old mid new more next first second taken doubt stands =
       let there = first taken doubt stands in
       let here = second (taken ++ more) there.0 there.1 in
-      (here.0, subst (λ (ps : List CheckedPatch). Stands disks new ps here.0) (append_assoc taken more next) here.1)
+      (here.0, subst (λ (ps : List CheckedPatch). ZoneStands disks new ps here.0) (append_assoc taken more next) here.1)
 
   -- a zone that stays
   pub took_still : (old mid new : ZoneView D) (more : List CheckedPatch) → TookMore disks old mid more → TookMore disks mid new [] → TookMore disks old new more
@@ -37,9 +37,9 @@ module _ {D : Type 0} (disks : Ghosts D) where
   -- where what it needs isn't there, a zone learns of terms alone
   pub took_want : (old new : ZoneView D) → new ≡ record old { terms = new.terms } → TookMore disks old new []
   took_want old new is = took_same old new (λ taken doubt stands.
-      let here : Stands disks (record old { terms = new.terms }) taken doubt =
+      let here : ZoneStands disks (record old { terms = new.terms }) taken doubt =
       record { brief_is = stands.brief_is; settled_is = stands.settled_is; without = stands.without; having = stands.having; on_disk = stands.on_disk } in
-      (doubt, subst (λ (zone : ZoneView D). Stands disks zone taken doubt) (sym is) here))
+      (doubt, subst (λ (zone : ZoneView D). ZoneStands disks zone taken doubt) (sym is) here))
 
 -- ---- terms
 
@@ -56,12 +56,12 @@ met_behind first second before mid one t (inl was) =
 met_behind first second before mid one t (inr new) =
     inr (subst (λ (ts : List Term). Contains ts t) (sym (flat_map-append terms_of first second)) (Contains-append_right (flat_map terms_of first) (flat_map terms_of second) t new))
 
-pub met_both : (first second : List CheckedPatch) (before mid after : List Term) → AreMet (changes_of first) before mid → AreMet (changes_of second) mid after → AreMet (changes_of (first ++ second)) before after
+pub met_both : (first second : List CheckedPatch) (before mid after : List Term) → AreMet (changes_taken first) before mid → AreMet (changes_taken second) mid after → AreMet (changes_taken (first ++ second)) before after
 met_both first second before mid after one two =
     subst (λ (cs : List Change). AreMet cs before after) (sym (flat_map-append (λ (patch : CheckedPatch). patch.meaning.changes) first second))
-    (λ t is. met_behind (changes_of first) (changes_of second) before mid one t (two t is))
+    (λ t is. met_behind (changes_taken first) (changes_taken second) before mid one t (two t is))
 
-pub more_both : (most : ℕ) (first second : List CheckedPatch) (before mid : List Term) → AreMet (changes_of first) before mid → AreMore most (changes_of second) mid → AreMore most (changes_of (first ++ second)) before
+pub more_both : (most : ℕ) (first second : List CheckedPatch) (before mid : List Term) → AreMet (changes_taken first) before mid → AreMore most (changes_taken second) mid → AreMore most (changes_taken (first ++ second)) before
 more_both most first second before mid one are = record {
   terms = are.terms;
   met = met_both first second before mid are.terms one are.met;

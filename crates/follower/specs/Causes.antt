@@ -12,7 +12,7 @@ use Rattle.rpc_answers.specs.declared.answer.Answer.TheVariants as answer
 use Rattle.rpc_answers.specs.Answers.{status_of, body_of}
 use Rattle.rpc_answers.specs.Prints.{compact}
 use Rattle.zone_state.specs.declared.answer.TakeAnswer.TheVariants as take
-use Rattle.zone_state.specs.Brief.{last_of, changes_of}
+use Rattle.zone_state.specs.Brief.{last_of, changes_taken}
 use Rattle.zone_state.specs.Stay.{decided}
 use Rattle.zone_state.specs.Zone.{ZoneView}
 use Rattle.follower.specs.declared.ends.SyncEnd.{SyncEnd}
@@ -21,14 +21,14 @@ use Rattle.follower.specs.declared.ends.SyncEnd.TheVariants.{NoPatch, PeerRefuse
 use Rattle.follower.specs.declared.ends.SyncEnd.TheVariants.{Repeated, BadPatch, LinkFault}
 use Rattle.follower.specs.declared.ends.SyncEnd.TheVariants.{CutShort, NotUnderstood, Full}
 use Rattle.follower.specs.declared.ends.SyncEnd.TheVariants.{TermsFull, DiskFault, OutOfMemory}
-use Rattle.follower.specs.Exchanges.{Said}
-use Rattle.follower.specs.Syncing.{IsNextOf, came}
+use Rattle.follower.specs.Exchanges.{WasSaid}
+use Rattle.follower.specs.Syncing.{IsNextForZone, came}
 
 -- this was said last
-abbrev pub IsLast : List Said → Said → Type 0
-IsLast said last = (before : List Said) × (said ≡ before ++ last ∷ [])
+abbrev pub WasSaidLast : List WasSaid → WasSaid → Type 0
+WasSaidLast said last = (before : List WasSaid) × (said ≡ before ++ last ∷ [])
 
-module _ {D : Type 0} (old new : ZoneView D) (said : List Said) (more : List CheckedPatch) where
+module _ {D : Type 0} (old new : ZoneView D) (said : List WasSaid) (more : List CheckedPatch) where
   -- behind the patches taken the fetch of the zone's next version was answered with this text
   abbrev pub FetchedText : List ℕ → Type 0
   FetchedText text =
@@ -45,15 +45,15 @@ module _ {D : Type 0} (old new : ZoneView D) (said : List Said) (more : List Che
   Cause (CaughtUp version) =
       (version ≡ length new.brief.ids)
       × ((head : Option Id) × (said ≡ came version head more []))
-  Cause NoSuchName = IsLast said (Ok answer.NoSource)
+  Cause NoSuchName = WasSaidLast said (Ok answer.NoSource)
   Cause (PeerBehind mine theirs) =
       (new ≡ old) × (mine ≡ length old.brief.ids) × (theirs < mine)
       × ((head : Option Id) × (said ≡ Ok (answer.Info theirs head) ∷ []))
   Cause (NoPatch version) =
       (version ≡ length new.brief.ids + 1)
-      × ((has : ℕ) × IsLast said (Ok (answer.NoPatch has)))
+      × ((has : ℕ) × WasSaidLast said (Ok (answer.NoPatch has)))
   Cause (PeerRefused status body) =
-      (a : Answer) × IsLast said (Ok a) × (status_of a ≢ 200) × (status ≡ status_of a)
+      (a : Answer) × WasSaidLast said (Ok a) × (status_of a ≢ 200) × (status ≡ status_of a)
       × (body ≡ compact (body_of a))
   Cause (Diverged version have theirs) =
       (version ≡ length new.brief.ids) × (have ≡ last_of new.brief.ids) × (theirs ≢ have)
@@ -65,15 +65,15 @@ module _ {D : Type 0} (old new : ZoneView D) (said : List Said) (more : List Che
   Cause (BadPatch version fault) =
       (version ≡ length new.brief.ids + 1)
       × ((text : List ℕ) × FetchedText text × IsPatchFault text fault)
-  Cause LinkFault = IsLast said (Err ask.LinkFault)
-  Cause CutShort = IsLast said (Err ask.CutShort)
+  Cause LinkFault = WasSaidLast said (Err ask.LinkFault)
+  Cause CutShort = WasSaidLast said (Err ask.CutShort)
   Cause (NotUnderstood at) =
-      IsLast said (Err (ask.NotUnderstood at))
-      ⊎ ((a : Answer) × IsLast said (Ok a) × (status_of a ≡ 200) × (at ≡ 0))
+      WasSaidLast said (Err (ask.NotUnderstood at))
+      ⊎ ((a : Answer) × WasSaidLast said (Ok a) × (status_of a ≡ 200) × (at ≡ 0))
   Cause (Full what have limit) =
       (next : CheckedPatch) × Fetched next × (decided new next ≡ take.Full what have limit)
   Cause TermsFull =
-      (next : CheckedPatch) × Fetched next × IsNextOf new next
-      × AreMore most (changes_of (more ++ next ∷ [])) old.terms
-  Cause DiskFault = (next : CheckedPatch) × Fetched next × IsNextOf new next
+      (next : CheckedPatch) × Fetched next × IsNextForZone new next
+      × AreMore most (changes_taken (more ++ next ∷ [])) old.terms
+  Cause DiskFault = (next : CheckedPatch) × Fetched next × IsNextForZone new next
   Cause OutOfMemory = Unit {0}

@@ -10,14 +10,14 @@ use Rattle.rpc_answers.specs.Prints.{compact}
 use Rattle.follower.specs.declared.ends.SyncEnd.{SyncEnd}
 use Rattle.follower.specs.declared.ends.SyncEnd.TheVariants.{NoSuchName, NotUnderstood, PeerRefused}
 use Rattle.follower.specs.declared.ends.SyncEnd.TheVariants.{LinkFault, CutShort, OutOfMemory}
-use Rattle.follower.specs.Exchanges.{Said}
+use Rattle.follower.specs.Exchanges.{WasSaid}
 
 -- a call without an answer, as an end
-abbrev pub of_ask : AskFault → SyncEnd
-of_ask ask.LinkFault = LinkFault
-of_ask ask.CutShort = CutShort
-of_ask (ask.NotUnderstood at) = NotUnderstood at
-of_ask ask.OutOfMemory = OutOfMemory
+abbrev pub sync_end : AskFault → SyncEnd
+sync_end ask.LinkFault = LinkFault
+sync_end ask.CutShort = CutShort
+sync_end (ask.NotUnderstood at) = NotUnderstood at
+sync_end ask.OutOfMemory = OutOfMemory
 
 -- how an answer ends it that says nothing of the log; want of memory is free
 abbrev pub IsRefusal : Answer → SyncEnd → Type 0
@@ -38,9 +38,9 @@ pub data LogRefuses (a : Answer) (end : SyncEnd) : Type 0 where
   refused : TellsNoLog a → IsRefusal a end → LogRefuses a end
 
 -- how what was said to the log's call ends it, or that no memory was found for the call
-pub data LogEnds (said : List Said) (end : SyncEnd) : Type 0 where
+pub data LogEnds (said : List WasSaid) (end : SyncEnd) : Type 0 where
   answered : (a : Answer) → said ≡ Ok a ∷ [] → LogRefuses a end → LogEnds said end
-  faulty : (fault : AskFault) → said ≡ Err fault ∷ [] → end ≡ of_ask fault → LogEnds said end
+  faulty : (fault : AskFault) → said ≡ Err fault ∷ [] → end ≡ sync_end fault → LogEnds said end
   not_asked : said ≡ [] → end ≡ OutOfMemory → LogEnds said end
 
 -- what an answer to the log's call says: the log's version and head, or how it ends
@@ -49,6 +49,6 @@ LogTold a (Ok told) = a ≡ answer.Info told.0 told.1
 LogTold a (Err end) = LogRefuses a end
 
 -- what was said to the log's call
-abbrev pub LogSays : List Said → Result (ℕ × Option Id) SyncEnd → Type 0
+abbrev pub LogSays : List WasSaid → Result (ℕ × Option Id) SyncEnd → Type 0
 LogSays said (Ok told) = said ≡ Ok (answer.Info told.0 told.1) ∷ []
 LogSays said (Err end) = LogEnds said end

@@ -9,14 +9,15 @@ use Rattle.rpc_answers.specs.Prints.{IsPrintOf}
 use Rattle.rpc_calls.specs.declared.call.Call.{Call}
 use Rattle.rpc_calls.specs.declared.call.Call.TheVariants as calls
 use Rattle.delta_client.specs.Asking.{BeginWith, call_text}
-use Rattle.delta_client.specs.Lines.{Connection, GoesOver, IsOpen, Over, Told, behind, told_of}
+use Rattle.delta_client.specs.Lines.{Connection, GoesOver, IsOpen, Over, Links, behind_reply}
+use Rattle.delta_client.specs.Lines.{told_of}
 use Rattle.delta_client.specs.declared.dial.Dial.{Ghosts}
 use Rattle.delta_client.specs.declared.fault.AskFault.{AskFault}
 use Rattle.delta_client.specs.declared.line.Open.{Open}
 
 -- what is said to a call: an answer, or why there is none
-abbrev pub Said : Type 0
-Said = Result Answer AskFault
+abbrev pub WasSaid : Type 0
+WasSaid = Result Answer AskFault
 
 -- a fetch for each of these, from this version on
 abbrev pub fetches : {A : Type 0} → List ℕ → ℕ → List A → List Call
@@ -30,7 +31,7 @@ calls_of name mine (one ∷ more) = calls.Log name ∷ fetches name (mine + 1) m
 
 -- what is told of a dial, and how often a connection was tried for
 pub record Net (L : Type 0) : Type 0 where
-  pub told : Told L
+  pub told : Links L
   pub tries : ℕ
 
 abbrev pub net_of : {N L : Type 0} → Ghosts N L → N → Net L
@@ -40,14 +41,14 @@ net_of dial net = record {
 }
 
 -- the link of what stands, where something does
-abbrev pub links_of : {L : Type 0} → Option (Connection L) → List L
-links_of None = []
-links_of (Some standing) = standing.now ∷ []
+abbrev pub standing_links : {L : Type 0} → Option (Connection L) → List L
+standing_links None = []
+standing_links (Some standing) = standing.now ∷ []
 
 -- what stands is hung up
 abbrev pub IsHungUpThen : {L : Type 0} → Option (Connection L) → Net L → Net L → Type 0
 IsHungUpThen standing before after =
-    (after.told ≡ record before.told { back = before.told.back ++ links_of standing })
+    (after.told ≡ record before.told { back = before.told.back ++ standing_links standing })
     × (after.tries ≡ before.tries)
 
 -- a connection is tried for exactly where none stands
@@ -60,7 +61,7 @@ abbrev pub stands_then : {L : Type 0} → Bool → Connection L → Option (Conn
 stands_then closes connection = if closes then None else Some connection
 
 -- where the reply closes, the connection is hung up
-abbrev pub told_then : {L : Type 0} → Bool → L → Told L → Told L
+abbrev pub told_then : {L : Type 0} → Bool → L → Links L → Links L
 told_then closes link made =
     if closes then (record made { back = made.back ++ link ∷ [] }) else made
 
@@ -78,14 +79,14 @@ module _ {L : Type 0} (left sent : L → Option (List ℕ)) (address : List ℕ)
   -- Calls one after another. Each goes over the connection that stands, or over the next one to
   -- come, and that stands behind it unless its reply closes. Behind a call without an answer none
   -- stands, and what stands at the end is hung up.
-  abbrev pub Exchanged : List Call → List Said → Option (Connection L) → Net L → Net L → Type 0
+  abbrev pub Exchanged : List Call → List WasSaid → Option (Connection L) → Net L → Net L → Type 0
   Exchanged [] [] standing before after = IsHungUpThen standing before after
   Exchanged (call ∷ calls) (Ok a ∷ said) standing before after =
-      (over : Connection L) × (made : Told L) × (link : L) × (reply : RawReply) × (between : Net L)
+      (over : Connection L) × (made : Links L) × (link : L) × (reply : RawReply) × (between : Net L)
       × GoesOver address standing before.told over made
       × TriesFor standing before.tries between.tries
       × IsAnswered call a over link reply × (between.told ≡ told_then reply.close link made)
-      × Exchanged calls said (stands_then reply.close (behind over link reply)) between after
+      × Exchanged calls said (stands_then reply.close (behind_reply over link reply)) between after
   Exchanged (call ∷ calls) (Err fault ∷ said) standing before after =
       (between : Net L)
       × Over left sent address (call_text address call) standing before.told between.told None
@@ -95,7 +96,7 @@ module _ {L : Type 0} (left sent : L → Option (List ℕ)) (address : List ℕ)
   Exchanged (call ∷ calls) [] standing before after = ⊥
 
   -- a call goes over what is open, or over a new connection
-  pub record AsksOne (call : Call) (said : Said) (talk : Option (Open L)) (before after : Net L)
+  pub record AsksOne (call : Call) (said : WasSaid) (talk : Option (Open L)) (before after : Net L)
       (line : Option (Open L)) : Type 0 where
     pub over : (standing : Option (Connection L)) → IsOpen left standing talk
         → Over left sent address (call_text address call) standing before.told after.told line said
@@ -103,11 +104,11 @@ module _ {L : Type 0} (left sent : L → Option (List ℕ)) (address : List ℕ)
     pub tried : IsNone talk → CountsCall before.tries after.tries
 
   -- each call goes over what the one before it left open, or over a new connection
-  abbrev pub Asks : List Call → List Said → Option (Open L) → Net L → Net L → Option (Open L)
+  abbrev pub AsksAll : List Call → List WasSaid → Option (Open L) → Net L → Net L → Option (Open L)
       → Type 0
-  Asks [] [] talk before after line = (after ≡ before) × (line ≡ talk)
-  Asks (call ∷ calls) (one ∷ said) talk before after line =
+  AsksAll [] [] talk before after line = (after ≡ before) × (line ≡ talk)
+  AsksAll (call ∷ calls) (one ∷ said) talk before after line =
       (between : Net L) × (next : Option (Open L)) × AsksOne call one talk before between next
-      × Asks calls said next between after line
-  Asks [] (one ∷ said) talk before after line = ⊥
-  Asks (call ∷ calls) [] talk before after line = ⊥
+      × AsksAll calls said next between after line
+  AsksAll [] (one ∷ said) talk before after line = ⊥
+  AsksAll (call ∷ calls) [] talk before after line = ⊥

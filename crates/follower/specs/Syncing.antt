@@ -14,7 +14,7 @@ use Rattle.rpc_answers.specs.declared.answer.Answer.{Answer}
 use Rattle.rpc_answers.specs.declared.answer.Answer.TheVariants as answer
 use Rattle.zone_state.specs.declared.answer.TakeAnswer.{TakeAnswer}
 use Rattle.zone_state.specs.declared.answer.TakeAnswer.TheVariants as take
-use Rattle.zone_state.specs.Brief.{last_of, changes_of}
+use Rattle.zone_state.specs.Brief.{last_of, changes_taken}
 use Rattle.zone_state.specs.Stay.{decided}
 use Rattle.zone_state.specs.Zone.{ZoneView}
 use Rattle.follower.specs.declared.ends.SyncEnd.{SyncEnd}
@@ -22,14 +22,14 @@ use Rattle.follower.specs.declared.ends.SyncEnd.TheVariants.{CaughtUp, NoSuchNam
 use Rattle.follower.specs.declared.ends.SyncEnd.TheVariants.{NoPatch, Diverged, Repeated}
 use Rattle.follower.specs.declared.ends.SyncEnd.TheVariants.{BadPatch, Full, TermsFull}
 use Rattle.follower.specs.declared.ends.SyncEnd.TheVariants.{DiskFault, OutOfMemory}
-use Rattle.follower.specs.Ends.{IsRefusal, LogEnds, of_ask}
-use Rattle.follower.specs.Exchanges.{Said}
+use Rattle.follower.specs.Ends.{IsRefusal, LogEnds, sync_end}
+use Rattle.follower.specs.Exchanges.{WasSaid}
 
 -- ---- a fetch
 
 -- the patch is the next one
-abbrev pub IsNextOf : {D : Type 0} → ZoneView D → CheckedPatch → Type 0
-IsNextOf zone next = (version : ℕ) × (decided zone next ≡ take.Applied version)
+abbrev pub IsNextForZone : {D : Type 0} → ZoneView D → CheckedPatch → Type 0
+IsNextForZone zone next = (version : ℕ) × (decided zone next ≡ take.Applied version)
 
 -- the text is that of this patch
 abbrev pub IsText : List ℕ → CheckedPatch → Type 0
@@ -72,9 +72,9 @@ module _ {D : Type 0} (known : List Term) (more : List CheckedPatch) (zone : Zon
   TextEnds text (Full what have limit) =
       (next : CheckedPatch) × IsText text next × (decided zone next ≡ take.Full what have limit)
   TextEnds text TermsFull =
-      (next : CheckedPatch) × IsText text next × IsNextOf zone next
-      × AreMore most (changes_of (more ++ next ∷ [])) known
-  TextEnds text DiskFault = (next : CheckedPatch) × IsText text next × IsNextOf zone next
+      (next : CheckedPatch) × IsText text next × IsNextForZone zone next
+      × AreMore most (changes_taken (more ++ next ∷ [])) known
+  TextEnds text DiskFault = (next : CheckedPatch) × IsText text next × IsNextForZone zone next
   TextEnds text OutOfMemory = Unit {0}
   TextEnds text other = ⊥
 
@@ -87,21 +87,21 @@ module _ {D : Type 0} (known : List Term) (more : List CheckedPatch) (zone : Zon
     refused : TellsNoPatch a → IsRefusal a end → FetchRefuses a end
 
   -- how what was said to that fetch ends it, or that no memory was found for the call
-  pub data FetchEnds (said : List Said) (end : SyncEnd) : Type 0 where
+  pub data FetchEnds (said : List WasSaid) (end : SyncEnd) : Type 0 where
     answered : (a : Answer) → said ≡ Ok a ∷ [] → FetchRefuses a end → FetchEnds said end
-    faulty : (fault : AskFault) → said ≡ Err fault ∷ [] → end ≡ of_ask fault
+    faulty : (fault : AskFault) → said ≡ Err fault ∷ [] → end ≡ sync_end fault
         → FetchEnds said end
     not_asked : said ≡ [] → end ≡ OutOfMemory → FetchEnds said end
 
 -- ---- a whole run
 
 -- the texts of patches, as answers
-abbrev pub texts_said : List CheckedPatch → List Said
+abbrev pub texts_said : List CheckedPatch → List WasSaid
 texts_said more = map (λ patch. Ok (answer.Patch patch.text)) more
 
 -- the log has this version and head, then the text of each of these patches came, and then this was
 -- said
-abbrev pub came : ℕ → Option Id → List CheckedPatch → List Said → List Said
+abbrev pub came : ℕ → Option Id → List CheckedPatch → List WasSaid → List WasSaid
 came theirs head more last = Ok (answer.Info theirs head) ∷ (texts_said more ++ last)
 
 -- a copy of this version and head goes before a log: it is no longer, and at the log's version has
@@ -120,7 +120,7 @@ Compares mine have theirs head other = ⊥
 module _ {D : Type 0} (old new : ZoneView D) where
   -- how it ends to fetch the versions behind the zone's up to that of the peer's log: a fetch ended
   -- it, or none was left
-  pub data RestIs (theirs : ℕ) (last : List Said) (more : List CheckedPatch) (end : SyncEnd)
+  pub data RestIs (theirs : ℕ) (last : List WasSaid) (more : List CheckedPatch) (end : SyncEnd)
       : Type 0 where
     stopped : length new.brief.ids < theirs → FetchEnds old.terms more new last end
         → RestIs theirs last more end
@@ -129,12 +129,12 @@ module _ {D : Type 0} (old new : ZoneView D) where
 
   -- Why catching up ended, by what was said and the patches taken of it: the log's call told no
   -- log; or one that the zone doesn't go before; or the zone goes before it, and followed.
-  pub data EndIs (said : List Said) (more : List CheckedPatch) (end : SyncEnd) : Type 0 where
+  pub data EndIs (said : List WasSaid) (more : List CheckedPatch) (end : SyncEnd) : Type 0 where
     unanswered : more ≡ [] → new ≡ old → LogEnds said end → EndIs said more end
     compared : (theirs : ℕ) (head : Option Id) → said ≡ came theirs head [] [] → more ≡ []
         → new ≡ old → Compares (length old.brief.ids) (last_of old.brief.ids) theirs head end
         → EndIs said more end
-    followed : (theirs : ℕ) (head : Option Id) (last : List Said)
+    followed : (theirs : ℕ) (head : Option Id) (last : List WasSaid)
         → said ≡ came theirs head more last
         → GoesBefore (length old.brief.ids) (last_of old.brief.ids) theirs head
         → RestIs theirs last more end → EndIs said more end

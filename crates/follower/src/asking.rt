@@ -6,7 +6,7 @@ ghost use Rattle.http_text.specs.Print.{is_visible};
 ghost use Rattle.rpc_answers.specs.Answers.{NamesItsFault};
 ghost use Rattle.delta_client.specs.Lines.{links_in};
 ghost use Rattle.follower.specs.Ends.{IsRefusal, LogSays, LogTold};
-ghost use Rattle.follower.specs.Exchanges.{Asks, Said as WasSaid, calls_of, net_of};
+ghost use Rattle.follower.specs.Exchanges.{AsksAll, WasSaid, calls_of, net_of};
 
 use crate::ends::SyncEnd;
 use delta_base::{Id, OutOfMemory, Text};
@@ -61,7 +61,7 @@ pub(crate) fn ask_log<N: Dial>(
     requires visible { list_all is_visible address.now ≡ true }
     requires awaits { IsSome line.old.open → N.awaits net.old }
     ensures asked { (said : List WasSaid) × LogSays said result
-        × ((mine : ℕ) → N.tells → Asks N.L.left N.L.sent address.now
+        × ((mine : ℕ) → N.tells → AsksAll N.L.left N.L.sent address.now
         (calls_of name.now mine said) said
         line.old.open (net_of N.Dial net.old) (net_of N.Dial net.new) line.new.open) }
     ensures awaits { IsSome line.new.open → N.awaits net.new }

@@ -56,9 +56,9 @@ pub enum SyncEnd {
 
 impl From<AskFault> for SyncEnd {
     ghost use Rattle.std.specs.Prelude.{◌≡◌};
-    ghost use Rattle.follower.specs.Ends.{of_ask};
+    ghost use Rattle.follower.specs.Ends.{sync_end};
 
-    ghost from_gives = { λ fault e. e ≡ of_ask fault };
+    ghost from_gives = { λ fault e. e ≡ sync_end fault };
 
     fn from(fault: AskFault) -> SyncEnd {
         match fault {

@@ -7,7 +7,7 @@ ghost use Rattle.delta_base.specs.Outside.{Rose};
 ghost use Rattle.http_text.specs.Print.{is_visible};
 ghost use Rattle.patch_meaning.specs.Checked.{CheckedPatch};
 ghost use Rattle.rpc_answers.specs.declared.answer.Answer.TheVariants as given;
-ghost use Rattle.follower.specs.Exchanges.{Asks, Exchanged, Said as WasSaid};
+ghost use Rattle.follower.specs.Exchanges.{AsksAll, Exchanged, WasSaid};
 ghost use Rattle.follower.specs.Exchanges.{calls_of, fetches, net_of};
 ghost use Rattle.follower.specs.Grown.{GrewBy, Stayed, Took};
 ghost use Rattle.follower.specs.Syncing.{Compares, EndIs, FetchEnds, GoesBefore};
@@ -48,12 +48,12 @@ fn take_one<N: Dial, D: Disk>(
     requires awaits { IsSome line.old.open → N.awaits net.old }
     requires next { version ≡ length zone.old.brief.ids + 1 }
     ensures ok { OnOk result ((next : CheckedPatch) × IsText next.text next
-        × Took D.Disk zone.old zone.new next × (N.tells → Asks N.L.left N.L.sent address.now
+        × Took D.Disk zone.old zone.new next × (N.tells → AsksAll N.L.left N.L.sent address.now
         (fetches name.now version (texts_said (next ∷ []))) (texts_said (next ∷ []))
         line.old.open (net_of N.Dial net.old) (net_of N.Dial net.new) line.new.open)) }
     ensures err { IfErr result (λ end. (said : List WasSaid)
         × FetchEnds zone.old.terms [] zone.new said end × Stayed D.Disk zone.old zone.new said
-        × (N.tells → Asks N.L.left N.L.sent address.now (fetches name.now version said) said
+        × (N.tells → AsksAll N.L.left N.L.sent address.now (fetches name.now version said) said
         line.old.open (net_of N.Dial net.old) (net_of N.Dial net.new) line.new.open)) }
     ensures untouched { IfErr result (λ end. end ≢ SyncEnd.DiskFault
         → zone.new ≡ record zone.old { terms = zone.new.terms }) }
@@ -98,7 +98,7 @@ fn take_rest<N: Dial, D: Disk>(
     ensures follows { (last : List WasSaid) × (more : List CheckedPatch)
         × GrewBy D.Disk zone.old zone.new more last
         × RestIs zone.old zone.new theirs last more result
-        × (N.tells → Asks N.L.left N.L.sent address.now
+        × (N.tells → AsksAll N.L.left N.L.sent address.now
         (fetches name.now (length zone.old.brief.ids + 1) (texts_said more ++ last))
         (texts_said more ++ last)
         line.old.open (net_of N.Dial net.old) (net_of N.Dial net.new) line.new.open) }
@@ -160,7 +160,7 @@ fn catch_up<N: Dial, D: Disk>(
     ensures follows { (rest : List WasSaid) × (more : List CheckedPatch)
         × GrewBy D.Disk zone.old zone.new more (Ok (given.Info theirs head) ∷ rest)
         × EndIs zone.old zone.new (Ok (given.Info theirs head) ∷ rest) more result
-        × (N.tells → Asks N.L.left N.L.sent address.now
+        × (N.tells → AsksAll N.L.left N.L.sent address.now
         (fetches name.now (length zone.old.brief.ids + 1) rest) rest
         line.old.open (net_of N.Dial net.old) (net_of N.Dial net.new) line.new.open) }
     ensures awaits { IsSome line.new.open → N.awaits net.new }
@@ -197,7 +197,7 @@ fn sync_over<N: Dial, D: Disk>(
     ensures follows { (said : List WasSaid) × (more : List CheckedPatch)
         × GrewBy D.Disk zone.old zone.new more said
         × EndIs zone.old zone.new said more result
-        × (N.tells → Asks N.L.left N.L.sent address.now
+        × (N.tells → AsksAll N.L.left N.L.sent address.now
         (calls_of name.now (length zone.old.brief.ids) said) said
         line.old.open (net_of N.Dial net.old) (net_of N.Dial net.new) line.new.open) }
     ensures awaits { IsSome line.new.open → N.awaits net.new }

@@ -27,7 +27,7 @@ use Rattle.rdf_terms.specs.declared.term.Term.TheVariants as term
 use Rattle.nquads_documents.proofs.LineLaws.{lines_apart}
 use Rattle.patch_meaning.specs.Patch.{Meaning}
 use Rattle.patch_meaning.specs.Replay.{replay, replay_from}
-use Rattle.generated_replay.specs.Meanings.{quad, meaning, meanings_from, meanings}
+use Rattle.generated_replay.specs.Meanings.{quad, meaning, meanings_from, meanings_to}
 use Rattle.generated_replay.proofs.Values.{quad_value}
 
 -- ---- a set of keys of which one comes or goes
@@ -255,9 +255,9 @@ none_yet : Stand ((1 - 1) / 3) (1 - 1) []
 none_yet = record { each = All-nil _; once = λ k above within. absurd (omega arith); size = refl }
 
 -- a third of the quads, rounded down, were deleted
-pub quads_left : (n : ℕ) → n ≤ 65536 → length (replay (meanings n)).quads ≡ n - n / 3
+pub quads_left : (n : ℕ) → n ≤ 65536 → length (replay (meanings_to n)).quads ≡ n - n / 3
 quads_left n small =
     let s = replayed_from n 1 empty (omega arith) (omega arith) none_yet in
     let last : 1 + n - 1 ≡ n = omega arith in
-    let there : Stand (n / 3) n (replay (meanings n)).quads = subst (λ (k : ℕ). Stand (k / 3) k (replay (meanings n)).quads) last s in
+    let there : Stand (n / 3) n (replay (meanings_to n)).quads = subst (λ (k : ℕ). Stand (k / 3) k (replay (meanings_to n)).quads) last s in
     omega (arith, there.size)

@@ -20,59 +20,59 @@ use Rattle.patch_meaning.specs.declared.role.Role.TheVariants as roles
 use Rattle.patch_meaning.specs.Patch.{Meaning, IsWell, has_some}
 use Rattle.patch_meaning.specs.Roles.{as_id, header_role, value_id, ids_of, changes_of, role, said}
 use Rattle.patch_meaning.specs.Rows.{RowsTo}
-use Rattle.patch_meaning.specs.Stream.{Part, Cut, begins, cut_with, cut, stop_of, ArePatches, AreStream, IsStream}
-use Rattle.stream_generator.specs.Generator.{id_of, stream_text}
-use Rattle.generated_replay.specs.Meanings.{quad, id, meaning, meanings_from, meanings}
+use Rattle.patch_meaning.specs.Stream.{StreamPart, Cut, begins, cut_with, cut, stop_of, ArePatches, AreStream, IsStream}
+use Rattle.stream_generator.specs.Generator.{patch_number, stream_text}
+use Rattle.generated_replay.specs.Meanings.{quad, patch_id, meaning, meanings_from, meanings_to}
 use Rattle.generated_replay.proofs.Rows.{line_of, lines_of, named, rows_behind, rows, rows_with, rows_from, patch_size, stream_lines, stream_printed, stream_within}
 use Rattle.generated_replay.proofs.Lines.{placed, placed-append, lines_read}
 
 -- ---- the ids of headers
 
-id_fits : (k : ℕ) → k < 2 ^ 32 → id_of k < 2 ^ 128
+id_fits : (k : ℕ) → k < 2 ^ 32 → patch_number k < 2 ^ 128
 id_fits k small = omega (arith, lit)
   where
     lit : 2 ^ 78 + 2 ^ 63 + 2 ^ 32 < 2 ^ 128
     lit = lit< tt
 
-id_named : (k : ℕ) → k < 2 ^ 32 → value_id (term.Iri (codes "uuid:" ++ text_of (id_of k))) ≡ Some (id k)
+id_named : (k : ℕ) → k < 2 ^ 32 → value_id (term.Iri (codes "uuid:" ++ text_of (patch_number k))) ≡ Some (patch_id k)
 unfolding value_id
-id_named k small = rw (number_of-text_of (id_of k) (id_fits k small)) refl
+id_named k small = rw (number_of-text_of (patch_number k) (id_fits k small)) refl
 
 -- ---- one patch
 
 -- what a patch says, whether it is the first one, and whether it deletes a quad
 abbrev meaning_with : Bool → Bool → ℕ → Meaning
 meaning_with first third k = record {
-  id = id k;
-  prev = cond first None (Some (id (pred k)));
+  id = patch_id k;
+  prev = cond first None (Some (patch_id (pred k)));
   changes = change.Begin ∷ change.Add (quad k) ∷ (cond third (change.Delete (quad (k / 3)) ∷ []) [] ++ change.Commit ∷ []);
 }
 
 well_with : (first third : Bool) (k at : ℕ) → k < 2 ^ 32 → IsWell (said (placed at (rows_with first third k))) (meaning_with first third k)
 unfolding header_role
 well_with true true k at small = record {
-  parted = record { headers = roles.Id (value_id (term.Iri (codes "uuid:" ++ text_of (id_of k)))) ∷ []; changes = (meaning_with true true k).changes; parts = refl; no_change = refl };
+  parted = record { headers = roles.Id (value_id (term.Iri (codes "uuid:" ++ text_of (patch_number k)))) ∷ []; changes = (meaning_with true true k).changes; parts = refl; no_change = refl };
   one_id = ap (λ (i : Option Id). i ∷ []) (id_named k small);
   prev_is = refl;
   changes_are = refl;
   blocks = tt;
 }
 well_with true false k at small = record {
-  parted = record { headers = roles.Id (value_id (term.Iri (codes "uuid:" ++ text_of (id_of k)))) ∷ []; changes = (meaning_with true false k).changes; parts = refl; no_change = refl };
+  parted = record { headers = roles.Id (value_id (term.Iri (codes "uuid:" ++ text_of (patch_number k)))) ∷ []; changes = (meaning_with true false k).changes; parts = refl; no_change = refl };
   one_id = ap (λ (i : Option Id). i ∷ []) (id_named k small);
   prev_is = refl;
   changes_are = refl;
   blocks = tt;
 }
 well_with false true k at small = record {
-  parted = record { headers = roles.Id (value_id (term.Iri (codes "uuid:" ++ text_of (id_of k)))) ∷ roles.Prev (value_id (term.Iri (codes "uuid:" ++ text_of (id_of (pred k))))) ∷ []; changes = (meaning_with false true k).changes; parts = refl; no_change = refl };
+  parted = record { headers = roles.Id (value_id (term.Iri (codes "uuid:" ++ text_of (patch_number k)))) ∷ roles.Prev (value_id (term.Iri (codes "uuid:" ++ text_of (patch_number (pred k))))) ∷ []; changes = (meaning_with false true k).changes; parts = refl; no_change = refl };
   one_id = ap (λ (i : Option Id). i ∷ []) (id_named k small);
   prev_is = ap (λ (i : Option Id). i ∷ []) (id_named (pred k) (omega arith));
   changes_are = refl;
   blocks = tt;
 }
 well_with false false k at small = record {
-  parted = record { headers = roles.Id (value_id (term.Iri (codes "uuid:" ++ text_of (id_of k)))) ∷ roles.Prev (value_id (term.Iri (codes "uuid:" ++ text_of (id_of (pred k))))) ∷ []; changes = (meaning_with false false k).changes; parts = refl; no_change = refl };
+  parted = record { headers = roles.Id (value_id (term.Iri (codes "uuid:" ++ text_of (patch_number k)))) ∷ roles.Prev (value_id (term.Iri (codes "uuid:" ++ text_of (patch_number (pred k))))) ∷ []; changes = (meaning_with false false k).changes; parts = refl; no_change = refl };
   one_id = ap (λ (i : Option Id). i ∷ []) (id_named k small);
   prev_is = ap (λ (i : Option Id). i ∷ []) (id_named (pred k) (omega arith));
   changes_are = refl;
@@ -83,10 +83,10 @@ well_with false false k at small = record {
 abbrev HasId : Cut → Type 0
 HasId c = has_some (ids_of (said c.last.rows_)) ≡ true
 
-abbrev part_at : ℕ → List Row → Part
+abbrev part_at : ℕ → List Row → StreamPart
 part_at at rs = record { from = at; rows_ = placed at rs }
 
-abbrev with_part : Cut → Part → Cut
+abbrev with_part : Cut → StreamPart → Cut
 with_part c p = record { done = c.done ++ c.last ∷ []; last = p }
 
 begun_with : (c : Cut) (r : PlacedRow) → begins (said c.last.rows_) (role r.row) ≡ true
@@ -124,11 +124,11 @@ has_id first third k at = refl
 
 -- ---- all patches
 
-abbrev parts_of : Cut → List Part
+abbrev parts_of : Cut → List StreamPart
 parts_of c = c.done ++ c.last ∷ []
 
 -- so many patches, the first one at a place
-abbrev parts_from : ℕ → ℕ → ℕ → List Part
+abbrev parts_from : ℕ → ℕ → ℕ → List StreamPart
 parts_from at k zero = []
 parts_from at k (suc count) = part_at at (rows k) ∷ parts_from (at + length (lines_of (rows k))) (k + 1) count
 
@@ -185,16 +185,16 @@ stream_read n small =
     subst (λ (t : List ℕ). RowsTo t 0 (placed 0 (rows_from 1 n)) (length t)) text
     (lines_read (rows_from 1 n) (stream_printed n 1 (omega arith)) (stream_within row_limit n 1 (omega arith) (omega arith)))
 
-stream_cut : (n : ℕ) → n ≤ 65536 → AreStream (placed 0 (rows_from 1 n)) (length (lines_of (rows_from 1 n))) (meanings n)
+stream_cut : (n : ℕ) → n ≤ 65536 → AreStream (placed 0 (rows_from 1 n)) (length (lines_of (rows_from 1 n))) (meanings_to n)
 stream_cut zero small = refl
 stream_cut (suc count) small =
     let stop : 0 + length (lines_of (rows_from 1 (suc count))) ≡ length (lines_of (rows_from 1 (suc count))) = omega arith in
-    subst (λ (ps : List Part). ArePatches ps (length (lines_of (rows_from 1 (suc count)))) (meanings (suc count))) (sym (cut_first count))
-    (subst (λ (n : ℕ). ArePatches (parts_from 0 1 (suc count)) n (meanings (suc count))) stop (patches_are (suc count) 1 0 (omega arith)))
+    subst (λ (ps : List StreamPart). ArePatches ps (length (lines_of (rows_from 1 (suc count)))) (meanings_to (suc count))) (sym (cut_first count))
+    (subst (λ (n : ℕ). ArePatches (parts_from 0 1 (suc count)) n (meanings_to (suc count))) stop (patches_are (suc count) 1 0 (omega arith)))
 
-pub stream_is : (n : ℕ) → n ≤ 65536 → IsStream (stream_text n) (meanings n)
+pub stream_is : (n : ℕ) → n ≤ 65536 → IsStream (stream_text n) (meanings_to n)
 stream_is n small = record {
   rows_ = placed 0 (rows_from 1 n);
   reads = stream_read n small;
-  stream = subst (λ (k : ℕ). AreStream (placed 0 (rows_from 1 n)) k (meanings n)) (ap length (stream_lines n 1 (omega arith))) (stream_cut n small);
+  stream = subst (λ (k : ℕ). AreStream (placed 0 (rows_from 1 n)) k (meanings_to n)) (ap length (stream_lines n 1 (omega arith))) (stream_cut n small);
 }

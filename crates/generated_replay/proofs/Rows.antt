@@ -12,7 +12,7 @@ use Rattle.patch_rows.specs.declared.row.Row.{Row}
 use Rattle.patch_rows.specs.declared.row.Row.TheVariants as row
 use Rattle.patch_rows.specs.Grammar.{IsKey}
 use Rattle.patch_rows.specs.Printing.{row_text, quad_text as terms_text, IsRowValue, IsWritable}
-use Rattle.stream_generator.specs.Generator.{id_of, id_row, prev_row, quad_text, quad_row, delete_row, block_rows, patch_text, patches_from, stream_text}
+use Rattle.stream_generator.specs.Generator.{patch_number, id_line, prev_row, quad_line, quad_row, delete_row, block_rows, patch_text, patches_from, stream_text}
 use Rattle.stream_generator.proofs.Appending.{patch_short}
 use Rattle.generated_replay.specs.Meanings.{quad}
 use Rattle.generated_replay.proofs.Values.{ascii_text, decimal_plain, id_value, quad_values}
@@ -38,10 +38,10 @@ ArePrinted (r ∷ rs) = IsPrinted r × ArePrinted rs
 -- ---- the rows of a patch
 
 abbrev pub named : ℕ → Row
-named k = row.Header (codes "id") (term.Iri (codes "uuid:" ++ text_of (id_of k)))
+named k = row.Header (codes "id") (term.Iri (codes "uuid:" ++ text_of (patch_number k)))
 
 abbrev pub behind : ℕ → Row
-behind k = row.Header (codes "prev") (term.Iri (codes "uuid:" ++ text_of (id_of (pred k))))
+behind k = row.Header (codes "prev") (term.Iri (codes "uuid:" ++ text_of (patch_number (pred k))))
 
 abbrev pub added : ℕ → Row
 added k = row.Change (change.Add (quad k))
@@ -79,15 +79,15 @@ header_line key front text is =
     ap (λ (t : List ℕ). t ++ (text ++ codes "> .\n")) is
     ∙ ap (λ (t : List ℕ). 72 ∷ 32 ∷ t) (simp append_assoc)
 
-named_line : (k : ℕ) → line_of (named k) ≡ id_row k
-named_line k = sym (header_line (codes "id") (codes "H id <uuid:") (text_of (id_of k)) refl)
+named_line : (k : ℕ) → line_of (named k) ≡ id_line k
+named_line k = sym (header_line (codes "id") (codes "H id <uuid:") (text_of (patch_number k)) refl)
 
 -- the row that names the patch before
 abbrev behind_row : ℕ → List ℕ
-behind_row k = codes "H prev <uuid:" ++ (text_of (id_of (pred k)) ++ codes "> .\n")
+behind_row k = codes "H prev <uuid:" ++ (text_of (patch_number (pred k)) ++ codes "> .\n")
 
 behind_line : (k : ℕ) → line_of (behind k) ≡ behind_row k
-behind_line k = sym (header_line (codes "prev") (codes "H prev <uuid:") (text_of (id_of (pred k))) refl)
+behind_line k = sym (header_line (codes "prev") (codes "H prev <uuid:") (text_of (patch_number (pred k))) refl)
 
 -- the texts of three terms, each behind a space, and the row's end
 terms_end : (s p a b c : List ℕ)
@@ -95,7 +95,7 @@ terms_end : (s p a b c : List ℕ)
     ≡ 32 ∷ 60 ∷ (s ++ (a ++ 62 ∷ 32 ∷ 60 ∷ (p ++ (b ++ 62 ∷ 32 ∷ 34 ∷ (c ++ 34 ∷ 32 ∷ 46 ∷ 10 ∷ [])))))
 terms_end s p a b c = simp append-nil (simp append_assoc)
 
-quad_end : (k : ℕ) → k < 2 ^ 64 → (terms_text (quad k) ++ 32 ∷ 46 ∷ []) ++ 10 ∷ [] ≡ quad_text k
+quad_end : (k : ℕ) → k < 2 ^ 64 → (terms_text (quad k) ++ 32 ∷ 46 ∷ []) ++ 10 ∷ [] ≡ quad_line k
 quad_end k small =
     rw (decimal_plain k small) (terms_end (codes "http://g/s") (codes "http://g/p") (decimal (k % 100)) (decimal (k % 7)) (decimal k))
 
@@ -127,7 +127,7 @@ block_with false k small =
 
 lines_with : (first third : Bool) (k : ℕ) → k < 2 ^ 64
     → lines_of (rows_with first third k)
-    ≡ id_row k ++ (cond first [] (behind_row k) ++ (codes "TX .\n" ++ (quad_row (codes "A") k ++ (cond third (quad_row (codes "D") (k / 3)) [] ++ codes "TC .\n"))))
+    ≡ id_line k ++ (cond first [] (behind_row k) ++ (codes "TX .\n" ++ (quad_row (codes "A") k ++ (cond third (quad_row (codes "D") (k / 3)) [] ++ codes "TC .\n"))))
 lines_with true third k small = ap₂ (λ (a b : List ℕ). a ++ b) (named_line k) (block_with third k small)
 lines_with false third k small =
     ap₂ (λ (a b : List ℕ). a ++ b) (named_line k) (ap₂ (λ (a b : List ℕ). a ++ b) (behind_line k) (block_with third k small))
@@ -163,9 +163,9 @@ block_printed true k small =
 block_printed false k small = (plain begun tt tt, (plain (added k) (quad_values k small) refl, (plain committed tt tt, tt)))
 
 printed_with : (first third : Bool) (k : ℕ) → k < 2 ^ 64 → ArePrinted (rows_with first third k)
-printed_with true third k small = (id_printed (codes "id") (id_of k) (ascii_text (codes "id") refl) (refl, refl), block_printed third k small)
+printed_with true third k small = (id_printed (codes "id") (patch_number k) (ascii_text (codes "id") refl) (refl, refl), block_printed third k small)
 printed_with false third k small =
-    (id_printed (codes "id") (id_of k) (ascii_text (codes "id") refl) (refl, refl), (id_printed (codes "prev") (id_of (pred k)) (ascii_text (codes "prev") refl) (refl, refl), block_printed third k small))
+    (id_printed (codes "id") (patch_number k) (ascii_text (codes "id") refl) (refl, refl), (id_printed (codes "prev") (patch_number (pred k)) (ascii_text (codes "prev") refl) (refl, refl), block_printed third k small))
 
 printed-append : (rs ss : List Row) → ArePrinted rs → ArePrinted ss → ArePrinted (rs ++ ss)
 printed-append [] ss first second = second

@@ -22,7 +22,7 @@ use Rattle.rdf_terms.specs.Line.{escaped}
 use Rattle.rdf_terms.specs.declared.term.Term.TheVariants as term
 use Rattle.nquads_text.specs.Printing.{IsTermValue, HasTermValues}
 use Rattle.nquads_documents.specs.Laws.{IsQuadValue}
-use Rattle.stream_generator.specs.Generator.{id_of}
+use Rattle.stream_generator.specs.Generator.{patch_number}
 use Rattle.generated_replay.specs.Meanings.{quad}
 
 abbrev is_allowed : ℕ → Bool

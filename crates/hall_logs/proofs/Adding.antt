@@ -6,14 +6,14 @@ use Rattle.delta_base.specs.declared.limits.LogLimits.{LogLimits}
 use Rattle.chain_core.specs.declared.chain.Patch.{Patch}
 use Rattle.chain_core.specs.declared.answer.LogAnswer.{LogAnswer}
 use Rattle.chain_core.specs.declared.answer.LogAnswer.TheVariants.{Accepted, Known, Conflict, Full, DiskFault, OutOfMemory}
-use Rattle.chain_core.specs.Replies.{LogCall, append, fetch_version, fetch_id, describe, version, LogReply, answered, fetched, reply_of}
+use Rattle.chain_core.specs.Replies.{LogCall, append, fetch_version, fetch_id, describe, version, LogReply, answered, fetched, log_reply}
 use Rattle.turn_cell.specs.Knowing.{IsQuiet, SeesOn, seen_of, mine_of, failed_of, own_faults_of}
 use Rattle.turn_cell.proofs.Knowing.{same_on, quiet_on}
 use Rattle.turn_cell.proofs.Views.{prefix_trans, prefix_refl}
-use Rattle.shared_log.specs.History.{chain_of}
+use Rattle.shared_log.specs.History.{patches_known}
 use Rattle.shared_log.specs.Passes.{LogSight}
-use Rattle.shared_log.specs.Legal.{IsReply, IsAnswer, IsTold}
-use Rattle.hall_logs.specs.Calls.{Asked, IsReplied, AreAsked}
+use Rattle.shared_log.specs.Legal.{IsReply, IsAppendAnswer, IsLogTold}
+use Rattle.hall_logs.specs.Calls.{AskedOfLog, IsReplied, AreAsked}
 use Rattle.hall_logs.specs.Sums.{place_told, places_told, patch_faulted, patches_faulted, AreSomeOf, AddsUp}
 
 -- what one call adds
@@ -38,7 +38,7 @@ module _ (p q : LogSight) (sees : SeesOn p q) where
   rose : Rose (own_faults_of p) (own_faults_of q) → RoseBy 1 (own_faults_of p) (own_faults_of q)
   rose more = ⊎_elim (λ (l : own_faults_of p < own_faults_of q). omega (arith, l)) (λ (e : own_faults_of q ≡ 2 ^ 64 - 1). omega (arith, e)) more
 
-  answers : (limits : LogLimits) (patch : Patch) (answer : LogAnswer) → IsAnswer limits patch answer p q → Adds p (append patch) (Some (answered answer)) q
+  answers : (limits : LogLimits) (patch : Patch) (answer : LogAnswer) → IsAppendAnswer limits patch answer p q → Adds p (append patch) (Some (answered answer)) q
   answers limits patch (Accepted place) told = record {
     sees = sees;
     mine = told.0.mine;
@@ -64,10 +64,10 @@ module _ (p q : LogSight) (sees : SeesOn p q) where
   fetched_none None count = refl
   fetched_none (Some patch) count = refl
 
-  asks : (limits : LogLimits) (call : LogCall) (reply : LogReply) → place_told (Some (reply_of limits call (chain_of (seen_of q)))) ≡ [] → ((r : LogReply) → patch_faulted call (Some r) ≡ []) → IsReply limits call reply p q → Adds p call (Some reply) q
+  asks : (limits : LogLimits) (call : LogCall) (reply : LogReply) → place_told (Some (log_reply limits call (patches_known (seen_of q)))) ≡ [] → ((r : LogReply) → patch_faulted call (Some r) ≡ []) → IsReply limits call reply p q → Adds p call (Some reply) q
   asks limits call reply none no_fault told = silent call (Some reply) (ap (λ r. place_told (Some r)) told.0 ∙ none) (no_fault reply) told.1
 
-  tells : (limits : LogLimits) (call : LogCall) (reply : LogReply) → IsTold limits call reply p q → Adds p call (Some reply) q
+  tells : (limits : LogLimits) (call : LogCall) (reply : LogReply) → IsLogTold limits call reply p q → Adds p call (Some reply) q
   tells limits (append patch) reply told = subst (λ r. Adds p (append patch) (Some r) q) (sym told.1) (answers limits patch told.0 told.2)
   tells limits (fetch_version place) reply told = asks limits (fetch_version place) reply (fetched_none _ _) (λ r. refl) told
   tells limits (fetch_id id) reply told = asks limits (fetch_id id) reply (fetched_none _ _) (λ r. refl) told
@@ -112,7 +112,7 @@ none_yet p = record {
   quiet = λ none no. (refl, refl, refl);
 }
 
-one_before : (p m q : LogSight) (asked : Asked) (more : List Asked) → Adds p asked.call asked.reply m → AddsUp m more q → AddsUp p (asked ∷ more) q
+one_before : (p m q : LogSight) (asked : AskedOfLog) (more : List AskedOfLog) → Adds p asked.call asked.reply m → AddsUp m more q → AddsUp p (asked ∷ more) q
 one_before p m q asked more one rest =
     let here = patch_faulted asked.call asked.reply in
     let then = patches_faulted more in
@@ -132,6 +132,6 @@ one_before p m q asked more one rest =
           quiet_on p m q (one.quiet places.0 patches.0) (rest.quiet places.1 patches.1);
     }
 
-pub add_up : (limits : LogLimits) (p q : LogSight) (asked : List Asked) → AreAsked limits p asked q → AddsUp p asked q
+pub add_up : (limits : LogLimits) (p q : LogSight) (asked : List AskedOfLog) → AreAsked limits p asked q → AddsUp p asked q
 add_up limits p q [] same = subst (λ (s : LogSight). AddsUp p [] s) (sym same) (none_yet p)
 add_up limits p q (asked ∷ more) calls = one_before p calls.0 q asked more (one_call limits p calls.0 asked.call asked.reply calls.1) (add_up limits calls.0 q more calls.2)

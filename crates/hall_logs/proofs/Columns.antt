@@ -4,12 +4,12 @@ use Rattle.std.specs.List.{filter_map, cons_option}
 use Rattle.patch_log.specs.State.{LogView}
 use Rattle.turn_cell.specs.Turns.{IsIn, AllOf}
 use Rattle.turn_cell.specs.Sights.{Made, AreAll}
-use Rattle.turn_cell.specs.Knowing.{number_of}
+use Rattle.turn_cell.specs.Knowing.{pass_number}
 use Rattle.turn_cell.proofs.Views.{all_map}
 use Rattle.shared_log.specs.Passes.{LogSight, IsPassOf, AreAllPassesOf}
-use Rattle.hall_logs.specs.Dealt.{joined}
+use Rattle.hall_logs.specs.Dealt.{with_items}
 use Rattle.hall_logs.specs.Ends.{parts_at}
-use Rattle.hall_logs.specs.Slots.{ArePartsOf, AreAllPasses}
+use Rattle.hall_logs.specs.Slots.{ArePartsOf, AreAllHallPasses}
 use Rattle.hall_logs.proofs.Parts.{zip_at, zip_length}
 
 module _ {A : Type 0} where
@@ -28,7 +28,7 @@ module _ {A : Type 0} where
       ((λ i. sym head i ∷ more.0 i), more.1)
 
   -- the last items of fronts
-  pub take_lasts : (lists fronts : List (List A)) (items : List A) (n : ℕ) → AllOf (λ (list : List A). n < length list) lists → length fronts ≡ length lists → length items ≡ length lists → map (take (n + 1)) lists ≡ joined fronts items
+  pub take_lasts : (lists fronts : List (List A)) (items : List A) (n : ℕ) → AllOf (λ (list : List A). n < length list) lists → length fronts ≡ length lists → length items ≡ length lists → map (take (n + 1)) lists ≡ with_items fronts items
       → (fronts ≡ map (take n) lists) × (items ≡ filter_map (λ (list : List A). slice_get list n) lists)
   take_lasts [] [] [] n long count many is = (refl, refl)
   take_lasts [] [] (item ∷ items) n long count many is = absurd (omega (arith, many))
@@ -37,7 +37,7 @@ module _ {A : Type 0} where
   take_lasts (list ∷ lists) (front ∷ fronts) [] n long count many is = absurd (omega (arith, many))
   take_lasts (list ∷ lists) (front ∷ fronts) (item ∷ items) n long count many is =
       let head : take (n + 1) list ≡ front ++ item ∷ [] = cc in
-      let rest : map (take (n + 1)) lists ≡ joined fronts items = cc in
+      let rest : map (take (n + 1)) lists ≡ with_items fronts items = cc in
       let one = take_last list front item n long.0 (ap (λ k. take k list) (sym (add-one n)) ∙ head) in
       let more = take_lasts lists fronts items n long.1 (omega (arith, count)) (omega (arith, many)) rest in
       ((λ i. one.0 i ∷ more.0 i), (λ i. item ∷ more.1 i) ∙ ap (λ o. cons_option o (filter_map (λ (list : List A). slice_get list n) lists)) (sym one.1))
@@ -89,14 +89,14 @@ module _ {D : Type 0} (mark : D → Option (List ℕ × ℕ)) (logs : List (Made
         let of : IsPassOf mark log some.0 = zip_at (IsPassOf mark) logs parts place log some.0 all.0 at some.1 in
         subst (λ o. AllOf (IsPassOf mark log) (cons_option o (parts_at place passes))) (sym some.1) (of, column_of passes all.1)
 
-    column_all : (seats : ℕ) (passes : List (List LogSight)) → AreAllPasses mark logs seats passes → AreAll seats (parts_at place passes)
+    column_all : (seats : ℕ) (passes : List (List LogSight)) → AreAllHallPasses mark logs seats passes → AreAll seats (parts_at place passes)
     column_all seats passes are n positive high =
         let one = are.all n positive high in
         let of : ArePartsOf mark logs one.0 = in_all (ArePartsOf mark logs) passes one.0 are.of one.1 in
         let some = some_part one.0 place (omega (arith, low, zip_length (IsPassOf mark) logs one.0 of)) in
-        (some.0, in_column passes one.0 some.0 place one.1 some.1, all_at (λ (part : LogSight). number_of part ≡ n) one.0 place some.0 one.2 some.1)
+        (some.0, in_column passes one.0 some.0 place one.1 some.1, all_at (λ (part : LogSight). pass_number part ≡ n) one.0 place some.0 one.2 some.1)
 
     -- all passes have all parts of it
-    pub column : (seats : ℕ) (passes : List (List LogSight)) → AllOf (λ (log : Made (LogView D)). log.seats ≡ seats) logs → AreAllPasses mark logs seats passes → AreAllPassesOf mark log (parts_at place passes)
+    pub column : (seats : ℕ) (passes : List (List LogSight)) → AllOf (λ (log : Made (LogView D)). log.seats ≡ seats) logs → AreAllHallPasses mark logs seats passes → AreAllPassesOf mark log (parts_at place passes)
     column seats passes alike are =
         (column_of passes are.of, subst (λ n. AreAll n (parts_at place passes)) (sym (at_place (λ (log : Made (LogView D)). log.seats ≡ seats) place log alike at)) (column_all seats passes are))

@@ -9,9 +9,9 @@ use Rattle.turn_cell.specs.Turns.{AllOf}
 use Rattle.turn_cell.specs.Sights.{Made}
 use Rattle.shared_log.specs.History.{StandsInTurn}
 use Rattle.shared_log.specs.Passes.{LogSight, AreAllPassesOf, IsClosedOf}
-use Rattle.hall_logs.specs.Dealt.{joined}
+use Rattle.hall_logs.specs.Dealt.{with_items}
 use Rattle.hall_logs.specs.Ends.{parts_at, Ends, AreEnded}
-use Rattle.hall_logs.specs.Slots.{AreAllPasses}
+use Rattle.hall_logs.specs.Slots.{AreAllHallPasses}
 use Rattle.hall_logs.proofs.Columns.{take_lasts, lengths, column}
 
 module _ {D : Type 0} (disks : Ghosts D) where
@@ -27,7 +27,7 @@ module _ {D : Type 0} (disks : Ghosts D) where
 
   -- some logs are closed, and the passes have their parts of the others still
   pub record Closing (all : List (Made (LogView D))) (seats : ℕ) (whole : List (List LogSight)) (logs : List (Made (LogView D))) (passes : List (List LogSight)) (given : List D) : Type 0 where
-    pub are : AreAllPasses disks.mark all seats whole
+    pub are : AreAllHallPasses disks.mark all seats whole
     pub alike : AllOf (λ (log : Made (LogView D)). log.seats ≡ seats) all
     pub closed : List (Made (LogView D))
     pub all_is : all ≡ logs ++ closed
@@ -39,7 +39,7 @@ module _ {D : Type 0} (disks : Ghosts D) where
   all_left n [] all = refl
   all_left n (parts ∷ whole) all = λ i. sym (take_all n parts (omega (arith, all.0))) i ∷ all_left n whole all.1 i
 
-  pub begins : (all : List (Made (LogView D))) (seats : ℕ) (whole : List (List LogSight)) → AreAllPasses disks.mark all seats whole → AllOf (λ (log : Made (LogView D)). log.seats ≡ seats) all → Closing all seats whole all whole []
+  pub begins : (all : List (Made (LogView D))) (seats : ℕ) (whole : List (List LogSight)) → AreAllHallPasses disks.mark all seats whole → AllOf (λ (log : Made (LogView D)). log.seats ≡ seats) all → Closing all seats whole all whole []
   begins all seats whole are alike = record { are = are; alike = alike; closed = []; all_is = sym (append-nil all); ends = tt; left = all_left (length all) whole (lengths disks.mark all whole are.of); many = omega arith }
 
   same_length : (n : ℕ) (whole : List (List LogSight)) → length (map (take n) whole) ≡ length whole
@@ -76,7 +76,7 @@ module _ {D : Type 0} (disks : Ghosts D) where
         each (parts ∷ l) a = (omega (arith, a.0, within, one_less, length-take (length (rest ++ log ∷ [])) parts), each l a.1)
 
     -- and behind it
-    module _ (after : List (List LogSight)) (parts : List LogSight) (gathered : passes ≡ joined after parts) (count : length after ≡ length passes) (many : length parts ≡ length passes) where
+    module _ (after : List (List LogSight)) (parts : List LogSight) (gathered : passes ≡ with_items after parts) (count : length after ≡ length passes) (many : length parts ≡ length passes) where
       lasts : (after ≡ map (take (length rest)) whole) × (parts ≡ parts_at (length rest) whole)
       lasts =
           let same = ap length before.left ∙ same_length (length (rest ++ log ∷ [])) whole in

@@ -10,7 +10,7 @@ use Rattle.patch_log.specs.declared.fault.LogFault.{LogFault}
 use Rattle.patch_log.specs.State.{LogView}
 use Rattle.turn_cell.specs.Turns.{AllOf}
 use Rattle.turn_cell.proofs.Views.{all_append}
-use Rattle.hall_logs.specs.Files.{IsKept, IsOpened, AreOpened, IsRefused, WasOpened, AreRefused, IsFresh, IsStill, AreLeft}
+use Rattle.hall_logs.specs.Files.{IsSameDisk, IsOpened, AreOpened, IsRefusedLog, WasLogOpened, AreRefusedAt, IsFresh, IsStill, AreLeft}
 
 module _ {D : Type 0} (disks : Ghosts D) (limits : LogLimits) where
   opened_one : (number file : ℕ) (firsts : List D) (logs : List (LogView D)) (disk : D) (log : LogView D) → file ≡ number + length firsts → AreOpened disks limits number firsts logs → IsOpened disks limits file disk log
@@ -20,9 +20,9 @@ module _ {D : Type 0} (disks : Ghosts D) (limits : LogLimits) where
   opened_one number file (d ∷ firsts) [] disk log is are one = absurd are
   opened_one number file (d ∷ firsts) (l ∷ logs) disk log is are one = (are.0, opened_one (number + 1) file firsts logs disk log (omega (arith, is)) are.1 one)
 
-  refused_at : (number file : ℕ) (firsts : List D) (logs : List (LogView D)) (disk after : D) (rest : List D) (fault : LogFault) → file ≡ number + length firsts → AreOpened disks limits number firsts logs → IsRefused disks limits file disk fault after
-      → AreRefused disks limits number (firsts ++ (disk ∷ rest)) file fault (map (λ (log : LogView D). log.disk) logs ++ (after ∷ rest))
-  refused_at number file [] [] disk after rest fault is are one = let same : file ≡ number = omega (arith, is) in inl (same, subst (λ n. IsRefused disks limits n disk fault after) same one, refl)
+  refused_at : (number file : ℕ) (firsts : List D) (logs : List (LogView D)) (disk after : D) (rest : List D) (fault : LogFault) → file ≡ number + length firsts → AreOpened disks limits number firsts logs → IsRefusedLog disks limits file disk fault after
+      → AreRefusedAt disks limits number (firsts ++ (disk ∷ rest)) file fault (map (λ (log : LogView D). log.disk) logs ++ (after ∷ rest))
+  refused_at number file [] [] disk after rest fault is are one = let same : file ≡ number = omega (arith, is) in inl (same, subst (λ n. IsRefusedLog disks limits n disk fault after) same one, refl)
   refused_at number file [] (l ∷ logs) disk after rest fault is are one = absurd are
   refused_at number file (d ∷ firsts) [] disk after rest fault is are one = absurd are
   refused_at number file (d ∷ firsts) (l ∷ logs) disk after rest fault is are one = inr ((l, are.0, refl), refused_at (number + 1) file firsts logs disk after rest fault (omega (arith, is)) are.1 one)
@@ -48,7 +48,7 @@ module _ {D : Type 0} (disks : Ghosts D) (limits : LogLimits) where
   left_still number (d ∷ before) (l ∷ logs) [] are still = absurd still
   left_still number (d ∷ before) (l ∷ logs) (a ∷ after) are still = (inr (l, are.0, still.0), left_still (number + 1) before logs after are.1 still.1)
 
-  is_kept : (disk : D) → IsKept disks disk disk
+  is_kept : (disk : D) → IsSameDisk disks disk disk
   is_kept disk = record { mark = refl; kept = λ told. kept (disks.past disk) }
 
   pub left_same : (number : ℕ) (before : List D) → AreLeft disks limits number before before
@@ -56,13 +56,13 @@ module _ {D : Type 0} (disks : Ghosts D) (limits : LogLimits) where
   left_same number (d ∷ before) = (inl (is_kept d), left_same (number + 1) before)
 
   -- where a file was refused for want of memory
-  pub left_refused : (number file : ℕ) (fault : LogFault) (before after : List D) → AreRefused disks limits number before file fault after → AreLeft disks limits number before after
+  pub left_refused : (number file : ℕ) (fault : LogFault) (before after : List D) → AreRefusedAt disks limits number before file fault after → AreLeft disks limits number before after
   left_refused number file fault [] [] are = absurd are
   left_refused number file fault [] (a ∷ after) are = absurd are
   left_refused number file fault (d ∷ before) [] are = absurd are
   left_refused number file fault (d ∷ before) (a ∷ after) are =
-      ⊎_elim (λ (z : (file ≡ number) × IsRefused disks limits number d fault a × (after ≡ before)). (inl z.1.kept, subst (AreLeft disks limits (number + 1) before) (sym z.2) (left_same (number + 1) before)))
-      (λ (z : WasOpened disks limits number d a × AreRefused disks limits (number + 1) before file fault after). (inr (z.0.0, z.0.1, inl z.0.2), left_refused (number + 1) file fault before after z.1)) are
+      ⊎_elim (λ (z : (file ≡ number) × IsRefusedLog disks limits number d fault a × (after ≡ before)). (inl z.1.kept, subst (AreLeft disks limits (number + 1) before) (sym z.2) (left_same (number + 1) before)))
+      (λ (z : WasLogOpened disks limits number d a × AreRefusedAt disks limits (number + 1) before file fault after). (inr (z.0.0, z.0.1, inl z.0.2), left_refused (number + 1) file fault before after z.1)) are
 
   -- some files are opened; the disks of the others stand in reverse
   pub record Opening (all : List D) (opened : List (LogView D)) (others : List D) (file : ℕ) : Type 0 where
@@ -92,10 +92,10 @@ module _ {D : Type 0} (disks : Ghosts D) (limits : LogLimits) where
       count = omega (arith, o.count, length-append o.firsts (disk ∷ []));
     }
 
-    pub refused_here : (fault : LogFault) (after : D) (left : List D) → IsRefused disks limits (file + 1) disk fault after → left ≡ map (λ (log : LogView D). log.disk) opened ++ reverse (rest ++ after ∷ []) → AreRefused disks limits 1 all (file + 1) fault left
+    pub refused_here : (fault : LogFault) (after : D) (left : List D) → IsRefusedLog disks limits (file + 1) disk fault after → left ≡ map (λ (log : LogView D). log.disk) opened ++ reverse (rest ++ after ∷ []) → AreRefusedAt disks limits 1 all (file + 1) fault left
     refused_here fault after left one left_is =
         let again = left_is ∙ ap (λ l. map (λ (log : LogView D). log.disk) opened ++ l) (reverse-append rest (after ∷ [])) in
-        subst (λ (z : List D × List D). AreRefused disks limits 1 z.0 (file + 1) fault z.1) (λ i. (sym all_are i, sym again i)) (refused_at 1 (file + 1) o.firsts opened disk after (reverse rest) fault number_is o.are one)
+        subst (λ (z : List D × List D). AreRefusedAt disks limits 1 z.0 (file + 1) fault z.1) (λ i. (sym all_are i, sym again i)) (refused_at 1 (file + 1) o.firsts opened disk after (reverse rest) fault number_is o.are one)
 
 pub all_reverse : {A : Type 0} (P : A → Type 0) (xs : List A) → AllOf P xs → AllOf P (reverse xs)
 all_reverse P [] all = tt

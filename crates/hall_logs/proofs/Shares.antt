@@ -8,10 +8,10 @@ use native.Mathlib.Decide.{ℕ_discrete}
 use Rattle.patch_log.specs.State.{LogView}
 use Rattle.turn_cell.specs.Turns.{IsIn, AllOf}
 use Rattle.turn_cell.specs.Sights.{Made}
-use Rattle.turn_cell.specs.Knowing.{number_of}
+use Rattle.turn_cell.specs.Knowing.{pass_number}
 use Rattle.shared_log.specs.Passes.{LogSight, IsPassOf, IsNewPassOf}
-use Rattle.hall_logs.specs.Dealt.{joined}
-use Rattle.hall_logs.specs.Slots.{Hall, ArePartsOf, AreNew, IsShared, AreAllPasses}
+use Rattle.hall_logs.specs.Dealt.{with_items}
+use Rattle.hall_logs.specs.Slots.{LogsOfHall, ArePartsOf, AreNew, IsShared, AreAllHallPasses}
 use Rattle.hall_logs.proofs.Parts.{zip_length}
 
 module _ {A B : Type 0} (R : A → B → Type 0) where
@@ -32,7 +32,7 @@ module _ {D : Type 0} (mark : D → Option (List ℕ × ℕ)) where
   IsNewAt number log part = IsNewPassOf mark log number part
 
   new_one : (logs : List (Made (LogView D))) (log : Made (LogView D)) (number : ℕ) (passes : List (List LogSight)) (parts : List LogSight) → AreNew mark logs number passes → length parts ≡ length passes
-      → ((k : ℕ) (part : LogSight) → slice_get parts k ≡ Some part → IsNewPassOf mark log (number + k) part) → AreNew mark (logs ++ log ∷ []) number (joined passes parts)
+      → ((k : ℕ) (part : LogSight) → slice_get parts k ≡ Some part → IsNewPassOf mark log (number + k) part) → AreNew mark (logs ++ log ∷ []) number (with_items passes parts)
   new_one logs log number [] parts are many new = tt
   new_one logs log number (pass ∷ passes) [] are many new = absurd (omega (arith, many))
   new_one logs log number (pass ∷ passes) (part ∷ parts) are many new =
@@ -41,7 +41,7 @@ module _ {D : Type 0} (mark : D → Option (List ℕ × ℕ)) where
         new_one logs log (number + 1) passes parts are.1 (omega (arith, many)) (λ k p at. subst (λ n. IsNewPassOf mark log n p) (omega arith) (new (suc k) p at)),
       )
 
-  joined_length : (passes : List (List LogSight)) (parts : List LogSight) → length (joined passes parts) ≡ length passes
+  joined_length : (passes : List (List LogSight)) (parts : List LogSight) → length (with_items passes parts) ≡ length passes
   joined_length [] parts = refl
   joined_length (pass ∷ passes) [] = refl
   joined_length (pass ∷ passes) (part ∷ parts) = ap (λ (n : ℕ). suc n) (joined_length passes parts)
@@ -55,24 +55,24 @@ module _ {D : Type 0} (mark : D → Option (List ℕ × ℕ)) where
   parts_new logs number (pass ∷ passes) are =
       (zip_implies (IsNewAt number) (IsPassOf mark) (λ log part new. new.0) logs pass are.0, parts_new logs (number + 1) passes are.1)
 
-  numbers_new : (logs : List (Made (LogView D))) (number : ℕ) (pass : List LogSight) → AllZip (IsNewAt number) logs pass → AllOf (λ (part : LogSight). number_of part ≡ number) pass
+  numbers_new : (logs : List (Made (LogView D))) (number : ℕ) (pass : List LogSight) → AllZip (IsNewAt number) logs pass → AllOf (λ (part : LogSight). pass_number part ≡ number) pass
   numbers_new [] number [] all = tt
   numbers_new [] number (p ∷ pass) all = absurd all
   numbers_new (l ∷ logs) number [] all = absurd all
   numbers_new (l ∷ logs) number (p ∷ pass) all = (all.0.1, numbers_new logs number pass all.1)
 
   find_new : (logs : List (Made (LogView D))) (number : ℕ) (passes : List (List LogSight)) → AreNew mark logs number passes → (n : ℕ) → number ≤ n → n < number + length passes
-      → (parts : List LogSight) × IsIn parts passes × AllOf (λ (part : LogSight). number_of part ≡ n) parts
+      → (parts : List LogSight) × IsIn parts passes × AllOf (λ (part : LogSight). pass_number part ≡ n) parts
   find_new logs number [] are n low high = absurd (omega (arith, low, high))
   find_new logs number (pass ∷ passes) are n low high = dite (ℕ_discrete n number)
-      (λ e. (pass, inl refl, subst (λ k. AllOf (λ (part : LogSight). number_of part ≡ k) pass) (sym e) (numbers_new logs number pass are.0)))
+      (λ e. (pass, inl refl, subst (λ k. AllOf (λ (part : LogSight). pass_number part ≡ k) pass) (sym e) (numbers_new logs number pass are.0)))
       (λ ne. let more = find_new logs (number + 1) passes are.1 n (omega (arith, low, ne)) (omega (arith, high)) in (more.0, inr more.1, more.2))
 
-  pub all_new : (logs : List (Made (LogView D))) (seats : ℕ) (passes : List (List LogSight)) → AreNew mark logs 1 passes → length passes ≡ seats → AreAllPasses mark logs seats passes
+  pub all_new : (logs : List (Made (LogView D))) (seats : ℕ) (passes : List (List LogSight)) → AreNew mark logs 1 passes → length passes ≡ seats → AreAllHallPasses mark logs seats passes
   all_new logs seats passes are count = record { of = parts_new logs 1 passes are; count = count; all = λ n positive high. find_new logs 1 passes are n positive (omega (arith, high, count)) }
 
   -- some logs are shared; the others stand in reverse
-  pub record Sharing (all : List (LogView D)) (hall : Hall D) (opened : List (LogView D)) (passes : List (List LogSight)) : Type 0 where
+  pub record Sharing (all : List (LogView D)) (hall : LogsOfHall D) (opened : List (LogView D)) (passes : List (List LogSight)) : Type 0 where
     pub order : map (λ (log : Made (LogView D)). log.origin) hall.logs ++ reverse opened ≡ all
     pub new : AreNew mark hall.logs 1 passes
     pub count : length passes ≡ hall.seats
@@ -81,14 +81,14 @@ module _ {D : Type 0} (mark : D → Option (List ℕ × ℕ)) where
   none_new number [] all = tt
   none_new number (pass ∷ passes) all = (subst (AllZip (IsNewAt number) []) (sym all.0) tt, none_new (number + 1) passes all.1)
 
-  pub shares_none : (hall : Hall D) (opened : List (LogView D)) (passes : List (List LogSight)) → hall.logs ≡ [] → AllOf (λ (parts : List LogSight). parts ≡ []) passes → length passes ≡ hall.seats → Sharing (reverse opened) hall opened passes
+  pub shares_none : (hall : LogsOfHall D) (opened : List (LogView D)) (passes : List (List LogSight)) → hall.logs ≡ [] → AllOf (λ (parts : List LogSight). parts ≡ []) passes → length passes ≡ hall.seats → Sharing (reverse opened) hall opened passes
   shares_none hall opened passes none empty count = record {
     order = ap (λ (logs : List (Made (LogView D))). map (λ (log : Made (LogView D)). log.origin) logs ++ reverse opened) none;
     new = subst (λ (logs : List (Made (LogView D))). AreNew mark logs 1 passes) (sym none) (none_new 1 passes empty);
     count = count;
   }
 
-  pub shares_one : (all : List (LogView D)) (hall next : Hall D) (opened rest : List (LogView D)) (log : LogView D) (passes after : List (List LogSight)) → opened ≡ rest ++ log ∷ [] → Sharing all hall opened passes → IsShared mark log hall passes next after
+  pub shares_one : (all : List (LogView D)) (hall next : LogsOfHall D) (opened rest : List (LogView D)) (log : LogView D) (passes after : List (List LogSight)) → opened ≡ rest ++ log ∷ [] → Sharing all hall opened passes → IsShared mark log hall passes next after
       → Sharing all next rest after
   shares_one all hall next opened rest log passes after popped s one =
       let origin = λ (log : Made (LogView D)). log.origin in
@@ -100,7 +100,7 @@ module _ {D : Type 0} (mark : D → Option (List ℕ × ℕ)) where
         count = ap length one.dealt ∙ joined_length passes one.parts ∙ s.count ∙ sym one.seats_are;
       }
 
-  pub shares_all : (all : List (LogView D)) (hall : Hall D) (passes : List (List LogSight)) → Sharing all hall [] passes → map (λ (log : Made (LogView D)). log.origin) hall.logs ≡ all
+  pub shares_all : (all : List (LogView D)) (hall : LogsOfHall D) (passes : List (List LogSight)) → Sharing all hall [] passes → map (λ (log : Made (LogView D)). log.origin) hall.logs ≡ all
   shares_all all hall passes s = sym (append-nil (map (λ (log : Made (LogView D)). log.origin) hall.logs)) ∙ s.order
 
   -- none of the logs that are shared had a patch in doubt

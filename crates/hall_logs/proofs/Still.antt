@@ -6,15 +6,15 @@ use Rattle.std.proofs.lemmas.List.{reverse-append}
 use Rattle.disk_model.specs.declared.disk.Disk.{Ghosts}
 use Rattle.disk_model.specs.Past.{EveryImage}
 use Rattle.chain_core.specs.declared.chain.Patch.{Patch}
-use Rattle.patch_log.specs.Log.{MayHold}
+use Rattle.patch_log.specs.Log.{MayHoldChain}
 use Rattle.patch_log.specs.State.{LogView, chain_of}
-use Rattle.turn_cell.specs.declared.view.Entry.{Entry}
+use Rattle.turn_cell.specs.declared.view.Known.{Known}
 use Rattle.turn_cell.specs.Turns.{IsIn, AllOf, places_from, places_by, Continues}
 use Rattle.turn_cell.specs.Sights.{Made, AreAll, ComesFrom}
 use Rattle.turn_cell.specs.Knowing.{mine_of, failed_of}
 use Rattle.turn_cell.proofs.Views.{places_append}
 use Rattle.shared_log.specs.declared.value.LogFixed.{LogFixed}
-use Rattle.shared_log.specs.History.{history_of, chain_of as patches_in}
+use Rattle.shared_log.specs.History.{history_of, patches_known}
 use Rattle.shared_log.specs.Passes.{LogSight, IsNewPassOf, HasSeen}
 use Rattle.shared_log.proofs.Histories.{known_chain}
 use Rattle.hall_logs.specs.Slots.{AreNew}
@@ -32,11 +32,11 @@ no_more [] ys y e = let c = e in cc
 no_more (x ∷ xs) ys y e = let c = e in cc
 
 module _ {C : Type 0} where
-  its_own : (e : Entry C) (later : List (Entry C)) (place : ℕ) → places_from place e.by (e ∷ later) ≡ place ∷ places_from (place + 1) e.by later
+  its_own : (e : Known C) (later : List (Known C)) (place : ℕ) → places_from place e.by (e ∷ later) ≡ place ∷ places_from (place + 1) e.by later
   its_own e later place = rw (eq-eqb e.by e.by refl) refl
 
   -- entries of passes that brought none
-  none_later : (first later : List (Entry C)) (seats : ℕ) → AllOf (λ (e : Entry C). (0 < e.by) × (e.by ≤ seats)) later → ((n : ℕ) → 0 < n → n ≤ seats → places_by n (first ++ later) ≡ []) → later ≡ []
+  none_later : (first later : List (Known C)) (seats : ℕ) → AllOf (λ (e : Known C). (0 < e.by) × (e.by ≤ seats)) later → ((n : ℕ) → 0 < n → n ≤ seats → places_by n (first ++ later) ≡ []) → later ≡ []
   none_later first [] seats by none = refl
   none_later first (e ∷ later) seats by none =
       let n = e.by in
@@ -50,7 +50,7 @@ module _ {D : Type 0} (disks : Ghosts D) (made : Made (LogView D)) (parts : List
       let one = all n positive high in
       let knew : HasSeen log one.0 = in_all (HasSeen log) parts one.0 seen one.1 in
       let quiet : IsIdle one.0 = in_all IsIdle parts one.0 idle one.1 in
-      subst (λ (z : ℕ × List (Entry Patch)). places_by z.0 z.1 ≡ []) (λ i. (one.2 i, goes.1 i)) (knew.1 ∙ quiet.0) in
+      subst (λ (z : ℕ × List (Known Patch)). places_by z.0 z.1 ≡ []) (λ i. (one.2 i, goes.1 i)) (knew.1 ∙ quiet.0) in
       goes.1 ∙ ap (λ l. history_of made.origin.entries ++ l) (none_later (history_of made.origin.entries) goes.0 made.seats goes.2 none) ∙ append-nil (history_of made.origin.entries)
 
   no_doubt : (doubt : Option Patch) → made.origin.doubt ≡ None → ComesFrom made.origin.doubt parts doubt → doubt ≡ None
@@ -61,12 +61,12 @@ module _ {D : Type 0} (disks : Ghosts D) (made : Made (LogView D)) (parts : List
   is_still : (disk : D) → made.origin.doubt ≡ None → Ends disks made parts disk → IsStill disks made.origin disk
   is_still disk settled ends =
       let log = ends.log in
-      let same : chain_of log ≡ chain_of made.origin = sym (known_chain log.entries) ∙ ap patches_in (same_history log ends.closed.history ends.closed.seen) ∙ known_chain made.origin.entries in
+      let same : chain_of log ≡ chain_of made.origin = sym (known_chain log.entries) ∙ ap patches_known (same_history log ends.closed.history ends.closed.seen) ∙ known_chain made.origin.entries in
       let none : log.doubt ≡ None = no_doubt log.doubt settled ends.closed.doubt in
       let number : log.number ≡ made.origin.number = ap (λ (f : LogFixed). f.number) ends.closed.fixed in
       inr (
         ap disks.mark ends.disk_is ∙ ap (λ (f : LogFixed). f.mark) ends.closed.fixed,
-        λ told. subst (λ (z : D × ℕ × List Patch × Option Patch). EveryImage (disks.past z.0) (MayHold z.1 z.2 z.3)) (λ i. (sym ends.disk_is i, number i, same i, none i)) (ends.stands.stands told).each,
+        λ told. subst (λ (z : D × ℕ × List Patch × Option Patch). EveryImage (disks.past z.0) (MayHoldChain z.1 z.2 z.3)) (λ i. (sym ends.disk_is i, number i, same i, none i)) (ends.stands.stands told).each,
       )
 
 module _ {D : Type 0} (disks : Ghosts D) (logs : List (Made (LogView D))) where

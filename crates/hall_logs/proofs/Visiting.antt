@@ -7,12 +7,12 @@ use native.Mathlib.Decide.{ℕ_discrete}
 use Rattle.patch_log.specs.State.{LogView}
 use Rattle.turn_cell.specs.Turns.{IsIn, AllOf}
 use Rattle.turn_cell.specs.Sights.{Made}
-use Rattle.turn_cell.specs.Knowing.{SeesOn, number_of}
+use Rattle.turn_cell.specs.Knowing.{SeesOn, pass_number}
 use Rattle.shared_log.specs.Passes.{LogSight, IsPassOf}
 use Rattle.delta_base.specs.declared.limits.LogLimits.{LogLimits}
 use Rattle.chain_core.specs.Replies.{LogCall, LogReply}
 use Rattle.hall_logs.specs.Calls.{IsReplied, IsAsked, AreAsked}
-use Rattle.hall_logs.specs.Slots.{ArePartsOf, AreAllPasses}
+use Rattle.hall_logs.specs.Slots.{ArePartsOf, AreAllHallPasses}
 use Rattle.hall_logs.specs.Visits.{Visit, asked_at, IsVisit, AreVisits, HasVisited}
 use Rattle.hall_logs.proofs.Parts.{zip_at, zip_set, still_pass}
 
@@ -78,16 +78,16 @@ module _ {D : Type 0} (mark : D → Option (List ℕ × ℕ)) (logs : List (Made
     one_parts of = subst (ArePartsOf mark logs) (sym v.others) (zip_set (IsPassOf mark) logs before v.place v.log v.new of v.log_is
         (still_pass mark v.log v.old v.new (zip_at (IsPassOf mark) logs before v.place v.log v.old of v.log_is v.old_is) sees))
 
-    one_number : (n : ℕ) → AllOf (λ (part : LogSight). number_of part ≡ n) before → AllOf (λ (part : LogSight). number_of part ≡ n) after
-    one_number n all = subst (AllOf (λ (part : LogSight). number_of part ≡ n)) (sym v.others)
-        (all_set (λ (part : LogSight). number_of part ≡ n) before v.place v.old v.new all v.old_is (λ e. sees.0.2 ∙ e))
+    one_number : (n : ℕ) → AllOf (λ (part : LogSight). pass_number part ≡ n) before → AllOf (λ (part : LogSight). pass_number part ≡ n) after
+    one_number n all = subst (AllOf (λ (part : LogSight). pass_number part ≡ n)) (sym v.others)
+        (all_set (λ (part : LogSight). pass_number part ≡ n) before v.place v.old v.new all v.old_is (λ e. sees.0.2 ∙ e))
 
   pub parts_stay : (before after : List LogSight) (visits : List Visit) → AreVisits logs before visits after → ArePartsOf mark logs before → ArePartsOf mark logs after
   parts_stay before after [] same of = subst (ArePartsOf mark logs) (sym same) of
   parts_stay before after (visit ∷ more) vs of = parts_stay vs.0 after more vs.2 (one_parts before vs.0 visit vs.1 of)
 
-  pub numbers_stay : (n : ℕ) (before after : List LogSight) (visits : List Visit) → AreVisits logs before visits after → AllOf (λ (part : LogSight). number_of part ≡ n) before → AllOf (λ (part : LogSight). number_of part ≡ n) after
-  numbers_stay n before after [] same all = subst (AllOf (λ (part : LogSight). number_of part ≡ n)) (sym same) all
+  pub numbers_stay : (n : ℕ) (before after : List LogSight) (visits : List Visit) → AreVisits logs before visits after → AllOf (λ (part : LogSight). pass_number part ≡ n) before → AllOf (λ (part : LogSight). pass_number part ≡ n) after
+  numbers_stay n before after [] same all = subst (AllOf (λ (part : LogSight). pass_number part ≡ n)) (sym same) all
   numbers_stay n before after (visit ∷ more) vs all = numbers_stay n vs.0 after more vs.2 (one_number before vs.0 visit vs.1 n all)
 
   all_stay : (before after : List (List LogSight)) → AllZip (HasVisited logs) before after → AllOf (ArePartsOf mark logs) before → AllOf (ArePartsOf mark logs) after
@@ -102,15 +102,15 @@ module _ {D : Type 0} (mark : D → Option (List ℕ × ℕ)) (logs : List (Made
   as_many (x ∷ before) [] visited = absurd visited
   as_many (x ∷ before) (y ∷ after) visited = ap (λ (n : ℕ). suc n) (as_many before after visited.1)
 
-  one_stays : (n : ℕ) (before after : List (List LogSight)) → AllZip (HasVisited logs) before after → (parts : List LogSight) → IsIn parts before → AllOf (λ (part : LogSight). number_of part ≡ n) parts
-      → (left : List LogSight) × IsIn left after × AllOf (λ (part : LogSight). number_of part ≡ n) left
+  one_stays : (n : ℕ) (before after : List (List LogSight)) → AllZip (HasVisited logs) before after → (parts : List LogSight) → IsIn parts before → AllOf (λ (part : LogSight). pass_number part ≡ n) parts
+      → (left : List LogSight) × IsIn left after × AllOf (λ (part : LogSight). pass_number part ≡ n) left
   one_stays n [] after visited parts there all = absurd there
   one_stays n (x ∷ before) [] visited parts there all = absurd visited
   one_stays n (x ∷ before) (y ∷ after) visited parts there all =
-      ⊎_elim (λ (e : parts ≡ x). (y, inl refl, numbers_stay n x y visited.0.0 visited.0.1 (subst (AllOf (λ (part : LogSight). number_of part ≡ n)) e all)))
+      ⊎_elim (λ (e : parts ≡ x). (y, inl refl, numbers_stay n x y visited.0.0 visited.0.1 (subst (AllOf (λ (part : LogSight). pass_number part ≡ n)) e all)))
       (λ (i : IsIn parts before). let more = one_stays n before after visited.1 parts i all in (more.0, inr more.1, more.2)) there
 
-  pub passes_stay : (seats : ℕ) (before after : List (List LogSight)) → AllZip (HasVisited logs) before after → AreAllPasses mark logs seats before → AreAllPasses mark logs seats after
+  pub passes_stay : (seats : ℕ) (before after : List (List LogSight)) → AllZip (HasVisited logs) before after → AreAllHallPasses mark logs seats before → AreAllHallPasses mark logs seats after
   passes_stay seats before after visited are = record {
     of = all_stay before after visited are.of;
     count = as_many before after visited ∙ are.count;

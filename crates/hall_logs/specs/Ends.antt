@@ -3,7 +3,7 @@ use Rattle.std.specs.Prelude.{◌≡◌, ℕ, ◌+◌, List, [], ◌∷◌, slic
 use Rattle.std.specs.List.{filter_map}
 use Rattle.disk_model.specs.declared.disk.Disk.{Ghosts}
 use Rattle.disk_model.specs.Past.{reads}
-use Rattle.patch_log.specs.Log.{MayHold}
+use Rattle.patch_log.specs.Log.{MayHoldChain}
 use Rattle.patch_log.specs.State.{LogView, chain_of}
 use Rattle.turn_cell.specs.Sights.{Made}
 use Rattle.shared_log.specs.History.{StandsInTurn}
@@ -22,7 +22,7 @@ module _ {D : Type 0} (disks : Ghosts D) where
     pub stands : StandsInTurn disks log
     pub disk_is : disk ≡ log.disk
     pub file :
-        disks.tells → MayHold log.number (chain_of log) log.doubt (reads (disks.past disk))
+        disks.tells → MayHoldChain log.number (chain_of log) log.doubt (reads (disks.past disk))
 
   -- the logs from this place on, with their disks
   abbrev pub AreEnded :

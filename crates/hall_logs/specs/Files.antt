@@ -16,7 +16,7 @@ use Rattle.patch_log.specs.State.{LogView, chain_of}
 module _ {D : Type 0} (disks : Ghosts D) where
   -- It is the disk of the same file. A crash leaves what it might have left before, and a read
   -- gives what it gave.
-  pub record IsKept (before after : D) : Type 0 where
+  pub record IsSameDisk (before after : D) : Type 0 where
     pub mark : disks.mark after ≡ disks.mark before
     pub kept : disks.tells → Keeps (disks.past before) (disks.past after)
 
@@ -27,7 +27,7 @@ module _ {D : Type 0} (disks : Ghosts D) where
     pub sound : IsSoundLog limits (chain_of log)
     pub by_nobody : AllByRecursion (λ entry. entry.by ≡ 0) log.entries
     pub settled : (log.doubt ≡ None) × (log.number ≡ number) × (log.limits ≡ limits)
-    pub kept : IsKept disk log.disk
+    pub kept : IsSameDisk disk log.disk
     pub faults : disks.faults log.disk ≡ disks.faults disk
     pub few :
         disks.tells
@@ -44,10 +44,10 @@ module _ {D : Type 0} (disks : Ghosts D) where
 
   -- The file has this fault. That its disk failed is told where it did, and where no failure is
   -- planned it failed for want of memory.
-  pub record IsRefused (limits : LogLimits) (number : ℕ) (disk : D) (fault : LogFault)
+  pub record IsRefusedLog (limits : LogLimits) (number : ℕ) (disk : D) (fault : LogFault)
       (after : D) : Type 0 where
     pub has : disks.tells → HasLogFault (reads (disks.past disk)) number limits fault
-    pub kept : IsKept disk after
+    pub kept : IsSameDisk disk after
     pub cause : fault ≡ Failed → Rose (disks.faults disk) (disks.faults after)
     pub never_falls : disks.faults disk ≤ disks.faults after
     pub well : fault ≢ Failed → disks.faults after ≡ disks.faults disk
@@ -56,18 +56,18 @@ module _ {D : Type 0} (disks : Ghosts D) where
         → IsTrue (disks.short after)
 
   -- the log of the file was opened, and let go
-  abbrev pub WasOpened : LogLimits → ℕ → D → D → Type 0
-  WasOpened limits number disk after =
+  abbrev pub WasLogOpened : LogLimits → ℕ → D → D → Type 0
+  WasLogOpened limits number disk after =
       (log : LogView D) × IsOpened limits number disk log × (after ≡ log.disk)
 
   -- Of files whose numbers go up from this one, those before the one at fault are logs, and those
   -- behind it weren't asked.
-  abbrev pub AreRefused : LogLimits → ℕ → List D → ℕ → LogFault → List D → Type 0
-  AreRefused limits number (disk ∷ before) file fault (left ∷ after) =
-      ((file ≡ number) × IsRefused limits number disk fault left × (after ≡ before))
-      ⊎ (WasOpened limits number disk left
-      × AreRefused limits (number + 1) before file fault after)
-  AreRefused limits number _ file fault _ = ⊥
+  abbrev pub AreRefusedAt : LogLimits → ℕ → List D → ℕ → LogFault → List D → Type 0
+  AreRefusedAt limits number (disk ∷ before) file fault (left ∷ after) =
+      ((file ≡ number) × IsRefusedLog limits number disk fault left × (after ≡ before))
+      ⊎ (WasLogOpened limits number disk left
+      × AreRefusedAt limits (number + 1) before file fault after)
+  AreRefusedAt limits number _ file fault _ = ⊥
 
   -- a log that no pass has come to
   abbrev pub IsFresh : LogView D → Type 0
@@ -84,7 +84,8 @@ module _ {D : Type 0} (disks : Ghosts D) where
   -- memory ran out: the file wasn't asked, or was opened as a log and is one still
   abbrev pub IsLeft : LogLimits → ℕ → D → D → Type 0
   IsLeft limits number disk left =
-      IsKept disk left ⊎ ((log : LogView D) × IsOpened limits number disk log × IsStill log left)
+      IsSameDisk disk left ⊎ ((log : LogView D) × IsOpened limits number disk log
+      × IsStill log left)
 
   abbrev pub AreLeft : LogLimits → ℕ → List D → List D → Type 0
   AreLeft limits number [] [] = Unit {0}

@@ -5,21 +5,21 @@ use Rattle.delta_base.specs.declared.limits.LogLimits.{LogLimits}
 use Rattle.patch_log.specs.State.{LogView}
 use Rattle.turn_cell.specs.Sights.{Made}
 use Rattle.shared_log.specs.Passes.{LogSight}
-use Rattle.hall_logs.specs.Calls.{Asked, AreAsked}
+use Rattle.hall_logs.specs.Calls.{AskedOfLog, AreAsked}
 use Rattle.hall_logs.specs.Sums.{AddsUp}
-use Rattle.hall_logs.specs.Slots.{AreAllPasses}
+use Rattle.hall_logs.specs.Slots.{AreAllHallPasses}
 use Rattle.hall_logs.specs.Visits.{Visit, asked_at, AreVisits, HasVisited}
 
 -- calls one after another and then others are all of them one after another
 abbrev pub CallsCompose : Type 0
 CallsCompose =
-    (limits : LogLimits) (p mid q : LogSight) (first others : List Asked)
+    (limits : LogLimits) (p mid q : LogSight) (first others : List AskedOfLog)
     → AreAsked limits p first mid → AreAsked limits mid others q
     → AreAsked limits p (first ++ others) q
 
 abbrev pub CallsAddUp : Type 0
 CallsAddUp =
-    (limits : LogLimits) (p q : LogSight) (asked : List Asked)
+    (limits : LogLimits) (p q : LogSight) (asked : List AskedOfLog)
     → AreAsked limits p asked q → AddsUp p asked q
 
 module _ (D : Type 0) where
@@ -41,9 +41,9 @@ module _ (D : Type 0) where
       × AreAsked log.origin.limits p (asked_at (place + 1) visits) q
 
   -- where all passes were there, all are there after any legal calls of each
-  abbrev pub PassesStay : Type 0
-  PassesStay =
+  abbrev pub LogPassesStay : Type 0
+  LogPassesStay =
       (mark : D → Option (List ℕ × ℕ)) (logs : List (Made (LogView D))) (seats : ℕ)
       (before after : List (List LogSight))
       → AllZip (HasVisited logs) before after
-      → AreAllPasses mark logs seats before → AreAllPasses mark logs seats after
+      → AreAllHallPasses mark logs seats before → AreAllHallPasses mark logs seats after

@@ -5,12 +5,12 @@ use Rattle.std.specs.List.{AllZip, sum_by}
 use Rattle.patch_log.specs.State.{LogView}
 use Rattle.turn_cell.specs.Turns.{IsIn, AllOf, last_count}
 use Rattle.turn_cell.specs.Sights.{Made}
-use Rattle.turn_cell.specs.Knowing.{number_of, own_faults_of}
+use Rattle.turn_cell.specs.Knowing.{pass_number, own_faults_of}
 use Rattle.shared_log.specs.Passes.{LogSight, IsPassOf, IsNewPassOf}
-use Rattle.hall_logs.specs.Dealt.{joined}
+use Rattle.hall_logs.specs.Dealt.{with_items}
 
 -- logs in the order of their slots, which are counted from 1, and how many passes share them
-pub record Hall (D : Type 0) : Type 0 where
+pub record LogsOfHall (D : Type 0) : Type 0 where
   pub logs : List (Made (LogView D))
   pub seats : ℕ
 
@@ -45,23 +45,23 @@ module _ {D : Type 0} (mark : D → Option (List ℕ × ℕ)) where
       × AreNew logs (number + 1) passes
 
   -- each is a pass of these logs, and none is missing: each number up to that of the seats has one
-  pub record AreAllPasses (logs : List (Made (LogView D))) (seats : ℕ)
+  pub record AreAllHallPasses (logs : List (Made (LogView D))) (seats : ℕ)
       (passes : List (List LogSight)) : Type 0 where
     pub of : AllOf (ArePartsOf logs) passes
     pub count : length passes ≡ seats
     pub all :
         (n : ℕ) → 0 < n → n ≤ seats
-        → (parts : List LogSight) × IsIn parts passes × AllOf (λ part. number_of part ≡ n) parts
+        → (parts : List LogSight) × IsIn parts passes × AllOf (λ part. pass_number part ≡ n) parts
 
   -- one log more is shared, of which each pass got a new part
-  pub record IsShared (opened : LogView D) (old : Hall D) (before : List (List LogSight))
-      (new : Hall D) (after : List (List LogSight)) : Type 0 where
+  pub record IsShared (opened : LogView D) (old : LogsOfHall D) (before : List (List LogSight))
+      (new : LogsOfHall D) (after : List (List LogSight)) : Type 0 where
     pub log : Made (LogView D)
     pub parts : List LogSight
     pub logs_are : new.logs ≡ old.logs ++ log ∷ []
     pub origin_is : log.origin ≡ opened
     pub seats_are : new.seats ≡ old.seats
-    pub dealt : after ≡ joined before parts
+    pub dealt : after ≡ with_items before parts
     pub count : length parts ≡ length before
     pub new_parts :
         (k : ℕ) (part : LogSight) → slice_get parts k ≡ Some part

@@ -8,7 +8,7 @@ use Rattle.delta_base.specs.Outside.{RoseBy}
 use Rattle.turn_cell.specs.Knowing.{IsSame, IsQuiet, seen_of, mine_of, failed_of, own_faults_of}
 use Rattle.turn_cell.specs.Knowing.{looks_of}
 use Rattle.shared_log.specs.Passes.{LogSight}
-use Rattle.hall_logs.specs.Calls.{Asked}
+use Rattle.hall_logs.specs.Calls.{AskedOfLog}
 
 -- the place that a reply tells as accepted
 abbrev pub place_told : Option LogReply → List ℕ
@@ -16,7 +16,7 @@ place_told (Some (answered (Accepted place))) = place ∷ []
 place_told _ = []
 
 -- the places that were told as accepted, in their order
-abbrev pub places_told : List Asked → List ℕ
+abbrev pub places_told : List AskedOfLog → List ℕ
 places_told [] = []
 places_told (asked ∷ more) = place_told asked.reply ++ places_told more
 
@@ -26,7 +26,7 @@ patch_faulted (append patch) (Some (answered DiskFault)) = patch ∷ []
 patch_faulted _ _ = []
 
 -- the patches whose appends met a fault of the disk, in their order
-abbrev pub patches_faulted : List Asked → List Patch
+abbrev pub patches_faulted : List AskedOfLog → List Patch
 patches_faulted [] = []
 patches_faulted (asked ∷ more) = patch_faulted asked.call asked.reply ++ patches_faulted more
 
@@ -40,7 +40,7 @@ module _ {A : Type 0} where
 -- It is the same pass, and knows all that it knew. It looked at least once in each call. Its own
 -- places grew by just those that were told as accepted. What came as failed are some of the patches
 -- whose appends met a fault of the disk, and its own faults rose by at least as many.
-pub record AddsUp (p : LogSight) (asked : List Asked) (q : LogSight) : Type 0 where
+pub record AddsUp (p : LogSight) (asked : List AskedOfLog) (q : LogSight) : Type 0 where
   pub same : IsSame p q
   pub seen : IsPrefix (seen_of p) (seen_of q)
   pub looks : looks_of p + length asked ≤ looks_of q

@@ -3,16 +3,16 @@ use Rattle.std.specs.Prelude.{◌≡◌, ℕ, List, [], ◌∷◌, if◌then◌e
 use Rattle.patch_log.specs.State.{LogView}
 use Rattle.turn_cell.specs.Sights.{Made}
 use Rattle.shared_log.specs.Passes.{LogSight}
-use Rattle.hall_logs.specs.Calls.{Asked, IsAsked}
+use Rattle.hall_logs.specs.Calls.{AskedOfLog, IsAsked}
 use Rattle.hall_logs.specs.Slots.{OnSlot}
 
 -- a call on the log of a slot
 pub record Visit : Type 0 where
   pub slot : ℕ
-  pub asked : Asked
+  pub asked : AskedOfLog
 
 -- those on the log of one slot, in their order
-abbrev pub asked_at : ℕ → List Visit → List Asked
+abbrev pub asked_at : ℕ → List Visit → List AskedOfLog
 asked_at slot [] = []
 asked_at slot (visit ∷ more) =
     if visit.slot == slot then visit.asked ∷ asked_at slot more else asked_at slot more

@@ -3,7 +3,7 @@ ghost use Rattle.std.specs.Prelude.{◌≡◌, None, map, vec_capacity};
 ghost use Rattle.std.specs.List.{AllZip};
 ghost use Rattle.turn_cell.specs.Turns.{AllOf};
 ghost use Rattle.hall_logs.specs.Files.{IsStill};
-ghost use Rattle.hall_logs.specs.Slots.{AreAllPasses, AreNew};
+ghost use Rattle.hall_logs.specs.Slots.{AreAllHallPasses, AreNew};
 ghost use Rattle.hall_logs.specs.Rooms.{HasRoom};
 ghost use Rattle.hall_logs.specs.Ends.{AreEnded};
 
@@ -16,7 +16,7 @@ use disk_model::Disk;
 impl<D: Disk> HallLogs<D> {
     /// The disks in the order of the slots, once all passes are back. It takes no memory.
     pub fn close(self, passes: Vec<LogsPass<D>>, rooms: Rooms<D>) -> Vec<D>
-        requires passes { AreAllPasses D.mark self.logs self.seats passes.items }
+        requires passes { AreAllHallPasses D.mark self.logs self.seats passes.items }
         requires rooms { HasRoom self rooms }
         ensures ends { AreEnded D.Disk 0 self.logs passes.items result.items }
         ensures room { vec_capacity result ≡ rooms.disks }

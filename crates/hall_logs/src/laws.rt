@@ -1,6 +1,6 @@
 //! Laws of calls. These functions do nothing: their contracts are theorems.
 ghost use Rattle.hall_logs.specs.Laws.{CallsCompose, CallsAddUp};
-ghost use Rattle.hall_logs.specs.Laws.{VisitsCompose, VisitsAreCalls, PassesStay};
+ghost use Rattle.hall_logs.specs.Laws.{VisitsCompose, VisitsAreCalls, LogPassesStay};
 
 use disk_model::Disk;
 
@@ -26,5 +26,5 @@ pub fn visits_are_calls<D: Disk>()
 
 /// Whatever legal calls the passes made, all are there and each has its number.
 pub fn passes_stay<D: Disk>()
-    ensures { PassesStay D }
+    ensures { LogPassesStay D }
 {}

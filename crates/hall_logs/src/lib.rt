@@ -1,8 +1,8 @@
 //! The logs of a hall, which up to sixteen passes share.
 //!
-//! A pass has a part of each log. A call goes to the log of a slot, is `Legal` there, and leaves
-//! the other parts of its pass as they were. What many calls of a pass come to together is told by
-//! `AddsUp` in `specs/`.
+//! A pass has a part of each log. A call goes to the log of a slot, is `LegalOnLog` there, and
+//! leaves the other parts of its pass as they were. What many calls of a pass come to together is
+//! told by `AddsUp` in `specs/`.
 #![tactic(auto)]
 
 mod closing;

@@ -4,7 +4,7 @@ ghost use Rattle.chain_core.specs.Replies as asked;
 ghost use Rattle.patch_log.specs.Log.{bare};
 ghost use Rattle.turn_cell.specs.Knowing.{Wants};
 ghost use Rattle.shared_log.specs.Appending.{AppendsInTurn};
-ghost use Rattle.shared_log.specs.Legal.{Legal};
+ghost use Rattle.shared_log.specs.Legal.{LegalOnLog};
 ghost use Rattle.shared_log.specs.Replies.{reply_fetched, reply_described};
 ghost use Rattle.hall_logs.specs.Slots.{ArePartsOf, OnSlot};
 
@@ -27,9 +27,9 @@ pub struct HallLogs<D: Disk> {
 impl<D: Disk> Model for HallLogs<D> {
     ghost use Rattle.std.specs.Prelude.{◌≡◌, ◌<◌, ◌≤◌, vec_capacity};
     ghost use Rattle.turn_cell.specs.Turns.{AllOf};
-    ghost use Rattle.hall_logs.specs.Slots.{Hall};
+    ghost use Rattle.hall_logs.specs.Slots.{LogsOfHall};
 
-    ghost Value = { Hall D };
+    ghost Value = { LogsOfHall D };
 
     ghost view = { λ h. record { logs = h.logs.items; seats = h.seats } };
 
@@ -58,7 +58,7 @@ impl<D: Disk> HallLogs<D> {
         requires of { ArePartsOf D.mark self.now.logs pass.old }
         requires slot { (0 < slot) × (slot ≤ length self.now.logs) }
         ensures of { ArePartsOf D.mark self.now.logs pass.new }
-        ensures legal { OnSlot slot (λ log p q. Legal log.origin.limits p
+        ensures legal { OnSlot slot (λ log p q. LegalOnLog log.origin.limits p
             (asked.append (bare patch.now)) (asked.answered result) q)
             self.now.logs pass.old pass.new }
         ensures stay { OnSlot slot (λ log p q. AppendsInTurn D.Disk log.origin
@@ -79,7 +79,8 @@ impl<D: Disk> HallLogs<D> {
         requires of { ArePartsOf D.mark self.now.logs pass.old }
         requires slot { (0 < slot) × (slot ≤ length self.now.logs) }
         ensures of { ArePartsOf D.mark self.now.logs pass.new }
-        ensures legal { IfOk result (λ fetched. OnSlot slot (λ log p q. Legal log.origin.limits p
+        ensures legal { IfOk result
+            (λ fetched. OnSlot slot (λ log p q. LegalOnLog log.origin.limits p
             (asked.fetch_version version) (reply_fetched fetched) q)
             self.now.logs pass.old pass.new) }
         ensures want { OnErr result (OnSlot slot (λ log p q. Wants p q)
@@ -100,7 +101,8 @@ impl<D: Disk> HallLogs<D> {
         requires of { ArePartsOf D.mark self.now.logs pass.old }
         requires slot { (0 < slot) × (slot ≤ length self.now.logs) }
         ensures of { ArePartsOf D.mark self.now.logs pass.new }
-        ensures legal { IfOk result (λ fetched. OnSlot slot (λ log p q. Legal log.origin.limits p
+        ensures legal { IfOk result
+            (λ fetched. OnSlot slot (λ log p q. LegalOnLog log.origin.limits p
             (asked.fetch_id id) (reply_fetched fetched) q)
             self.now.logs pass.old pass.new) }
         ensures want { OnErr result (OnSlot slot (λ log p q. Wants p q)
@@ -115,7 +117,7 @@ impl<D: Disk> HallLogs<D> {
         requires of { ArePartsOf D.mark self.now.logs pass.old }
         requires slot { (0 < slot) × (slot ≤ length self.now.logs) }
         ensures of { ArePartsOf D.mark self.now.logs pass.new }
-        ensures legal { OnSlot slot (λ log p q. Legal log.origin.limits p
+        ensures legal { OnSlot slot (λ log p q. LegalOnLog log.origin.limits p
             asked.describe (reply_described result) q) self.now.logs pass.old pass.new }
     {
         let log = self.log_of(slot);
@@ -127,7 +129,7 @@ impl<D: Disk> HallLogs<D> {
         requires of { ArePartsOf D.mark self.now.logs pass.old }
         requires slot { (0 < slot) × (slot ≤ length self.now.logs) }
         ensures of { ArePartsOf D.mark self.now.logs pass.new }
-        ensures legal { OnSlot slot (λ log p q. Legal log.origin.limits p
+        ensures legal { OnSlot slot (λ log p q. LegalOnLog log.origin.limits p
             asked.version (asked.counted result) q) self.now.logs pass.old pass.new }
     {
         let log = self.log_of(slot);

@@ -18,9 +18,9 @@ ghost use Rattle.std.specs.Prelude.{
   vec_capacity,
 };
 ghost use Rattle.turn_cell.specs.Turns.{AllOf};
-ghost use Rattle.hall_logs.specs.Files.{AreOpened, AreRefused, AreLeft};
+ghost use Rattle.hall_logs.specs.Files.{AreOpened, AreRefusedAt, AreLeft};
 ghost use Rattle.hall_logs.specs.Rooms.{HasRoom};
-ghost use Rattle.hall_logs.specs.Slots.{AreAllPasses, AreNew};
+ghost use Rattle.hall_logs.specs.Slots.{AreAllHallPasses, AreNew};
 
 use crate::logs::HallLogs;
 use crate::pass::{LogsPass, MOST_LOGS};
@@ -64,7 +64,7 @@ fn open_files<D: Disk>(
     requires few { vec_len disks.old ≤ 16 }
     ensures ok { OnOk result (AreOpened D.Disk limits 1 disks.old.items opened.new.items
         × (disks.new.items ≡ [])) }
-    ensures refused { IfErr result (λ stop. AreRefused D.Disk limits 1
+    ensures refused { IfErr result (λ stop. AreRefusedAt D.Disk limits 1
         disks.old.items stop.file stop.fault disks.new.items) }
     ensures none { OnErr result (opened.new.items ≡ []) }
     ensures room { vec_capacity disks.new ≡ vec_capacity disks.old }
@@ -145,13 +145,13 @@ impl<D: Disk> HallLogs<D> {
         ensures logs { IfOk result (λ r. AreOpened D.Disk limits 1 disks.items
             (map (λ log. log.origin) r.0.logs)) }
         ensures seats { IfOk result (λ r. r.0.seats ≡ seats) }
-        ensures passes { IfOk result (λ r. AreAllPasses D.mark r.0.logs seats r.1.items) }
+        ensures passes { IfOk result (λ r. AreAllHallPasses D.mark r.0.logs seats r.1.items) }
         ensures new { IfOk result (λ r. AreNew D.mark r.0.logs 1 r.1.items) }
         ensures rooms { IfOk result (λ r. HasRoom r.0 r.2 × (r.2.disks ≡ vec_capacity disks)) }
 
         // The disks come back in their order, in the same list.
         ensures refused { IfErr result (λ refusal. refusal.fault ≢ LogFault.OutOfMemory
-            → AreRefused D.Disk limits 1 disks.items
+            → AreRefusedAt D.Disk limits 1 disks.items
             refusal.file refusal.fault refusal.disks.items) }
         ensures want { IfErr result (λ refusal. refusal.fault ≡ LogFault.OutOfMemory
             → AreLeft D.Disk limits 1 disks.items refusal.disks.items) }

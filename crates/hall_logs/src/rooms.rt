@@ -18,9 +18,9 @@ pub(crate) struct Lists<D: Disk> {
 impl<D: Disk> Model for Lists<D> {
     ghost use Rattle.std.specs.Prelude.{◌≡◌, ◌≤◌, [], length, vec_capacity};
     ghost use Rattle.turn_cell.specs.Turns.{AllOf};
-    ghost use Rattle.hall_logs.specs.Rooms.{Lists};
+    ghost use Rattle.hall_logs.specs.Rooms.{ListRooms};
 
-    ghost Value = { Lists };
+    ghost Value = { ListRooms };
 
     ghost view = { λ r. record { count = length r.lists.items; width = r.width } };
 

@@ -7,7 +7,7 @@ use Rattle.patch_log.specs.State.{LogView}
 use Rattle.turn_cell.specs.Turns.{AllOf}
 use Rattle.turn_cell.specs.Sights.{Made}
 use Rattle.shared_log.specs.Passes.{LogSight}
-use Rattle.hall_logs.specs.Slots.{AreAllPasses}
+use Rattle.hall_logs.specs.Slots.{AreAllHallPasses}
 use Rattle.hall_logs.specs.Visits.{Visit, AreVisits, HasVisited}
 use Rattle.hall_logs.proofs.Visiting.{passes_stay}
 
@@ -26,7 +26,7 @@ module _ {D : Type 0} (mark : D → Option (List ℕ × ℕ)) (logs : List (Made
   set_one (x ∷ passes) zero pass after low is visited = (subst (λ (p : List LogSight). HasVisited logs p after) is visited, same passes)
   set_one (x ∷ passes) (suc k) pass after low is visited = (([], refl), set_one passes k pass after (omega (arith, low)) is visited)
 
-  pub one_visits : (seats : ℕ) (passes : List (List LogSight)) (k : ℕ) (pass after : List LogSight) → AreAllPasses mark logs seats passes → k < seats → pass ≡ slice_index_or passes k pass → HasVisited logs pass after → AreAllPasses mark logs seats (slice_set passes k after)
+  pub one_visits : (seats : ℕ) (passes : List (List LogSight)) (k : ℕ) (pass after : List LogSight) → AreAllHallPasses mark logs seats passes → k < seats → pass ≡ slice_index_or passes k pass → HasVisited logs pass after → AreAllHallPasses mark logs seats (slice_set passes k after)
   one_visits seats passes k pass after all low is visited =
       passes_stay mark logs seats passes (slice_set passes k after) (set_one passes k pass after (omega (arith, low, all.count)) is visited) all
 

@@ -1,6 +1,6 @@
 //! Calls of one of many passes, behind which all passes are there.
 ghost use Rattle.std.specs.Prelude.{◌≡◌, ◌<◌, ◌≤◌, length};
-ghost use Rattle.hall_logs.specs.Slots.{AreAllPasses};
+ghost use Rattle.hall_logs.specs.Slots.{AreAllHallPasses};
 
 use chain_core::LogAnswer;
 use delta_base::{Id, OutOfMemory};
@@ -18,10 +18,10 @@ pub(crate) fn append_by<R: Wait, D: Disk>(
     slot: u32,
     patch: &Checked,
 ) -> LogAnswer
-    requires all { AreAllPasses D.mark hall.now.logs 2 passes.old.items }
+    requires all { AreAllHallPasses D.mark hall.now.logs 2 passes.old.items }
     requires place { place < 2 }
     requires slot { (0 < slot) × (slot ≤ length hall.now.logs) }
-    ensures { AreAllPasses D.mark hall.now.logs 2 passes.new.items }
+    ensures { AreAllHallPasses D.mark hall.now.logs 2 passes.new.items }
 {
     hall.append(rt, &mut passes[place], slot, patch)
 }
@@ -32,10 +32,10 @@ pub(crate) fn version_by<D: Disk>(
     place: usize,
     slot: u32,
 ) -> u32
-    requires all { AreAllPasses D.mark hall.now.logs 2 passes.old.items }
+    requires all { AreAllHallPasses D.mark hall.now.logs 2 passes.old.items }
     requires place { place < 2 }
     requires slot { (0 < slot) × (slot ≤ length hall.now.logs) }
-    ensures { AreAllPasses D.mark hall.now.logs 2 passes.new.items }
+    ensures { AreAllHallPasses D.mark hall.now.logs 2 passes.new.items }
 {
     hall.version(&mut passes[place], slot)
 }

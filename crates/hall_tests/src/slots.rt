@@ -1,7 +1,7 @@
 //! Two logs over disks in memory, and two passes.
 ghost use Rattle.std.specs.Prelude.{◌≡◌, ◌<◌, length, IfOk, vec_len};
 ghost use Rattle.disk_model.specs.Memory.{memory_mark};
-ghost use Rattle.hall_logs.specs.Slots.{AreAllPasses};
+ghost use Rattle.hall_logs.specs.Slots.{AreAllHallPasses};
 
 use crate::calls::{append_by, version_by};
 use crate::halls::{LIMITS, close, disk, open, two_disks};
@@ -33,9 +33,9 @@ fn both_take<R: Wait + Abort>(
     first: &Checked,
     second: &Checked,
 )
-    requires all { AreAllPasses memory_mark hall.now.logs 2 passes.old.items }
+    requires all { AreAllHallPasses memory_mark hall.now.logs 2 passes.old.items }
     requires logs { length hall.now.logs ≡ 2 }
-    ensures { AreAllPasses memory_mark hall.now.logs 2 passes.new.items }
+    ensures { AreAllHallPasses memory_mark hall.now.logs 2 passes.new.items }
 {
     let answer = append_by(rt, hall, passes, 0, 1, first);
     is(rt, answer, LogAnswer::Accepted { version: 1 });
@@ -52,10 +52,10 @@ fn have_one_and_two(
     passes: &mut Vec<LogsPass<MemDisk>>,
     place: usize,
 )
-    requires all { AreAllPasses memory_mark hall.now.logs 2 passes.old.items }
+    requires all { AreAllHallPasses memory_mark hall.now.logs 2 passes.old.items }
     requires logs { length hall.now.logs ≡ 2 }
     requires place { place < 2 }
-    ensures { AreAllPasses memory_mark hall.now.logs 2 passes.new.items }
+    ensures { AreAllHallPasses memory_mark hall.now.logs 2 passes.new.items }
 {
     assert!(rt; version_by(hall, passes, place, 1) == 1);
     assert!(rt; version_by(hall, passes, place, 2) == 2);

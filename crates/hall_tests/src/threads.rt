@@ -1,6 +1,6 @@
 //! Threads that append to the logs of one hall, each with a pass of its own.
 ghost use Rattle.std.specs.Prelude.{◌≡◌, ◌<◌, ℕ, All, length, slice_index_or};
-ghost use Rattle.hall_logs.specs.Slots.{ArePartsOf, AreAllPasses};
+ghost use Rattle.hall_logs.specs.Slots.{ArePartsOf, AreAllHallPasses};
 ghost use Rattle.hall_logs.specs.Visits.{HasVisited};
 
 use crate::calls::version_by;
@@ -54,9 +54,9 @@ fn append_all<R: Threads + Wait + Sync, D: Disk + Send>(
     passes: &mut Vec<LogsPass<D>>,
     patch: &Checked,
 )
-    requires all { AreAllPasses D.mark hall.now.logs 2 passes.old.items }
+    requires all { AreAllHallPasses D.mark hall.now.logs 2 passes.old.items }
     requires some { 0 < length hall.now.logs }
-    ensures { AreAllPasses D.mark hall.now.logs 2 passes.new.items }
+    ensures { AreAllHallPasses D.mark hall.now.logs 2 passes.new.items }
 {
     append_each(rt, hall, passes, patch);
 }

@@ -19,7 +19,7 @@ use Rattle.http_text.specs.Faults.{frame_status}
 use Rattle.http_session.specs.Texts.{continue_text, continue_line, refusal_text}
 use Rattle.http_session.specs.Said.{said_text}
 use Rattle.http_session.specs.Output.{Exchange, requests_of, most_requests}
-use Rattle.http_session.specs.Output.{ends_behind, output, Chain}
+use Rattle.http_session.specs.Output.{ends_behind, output, AnswerChain}
 use Rattle.http_session.specs.Talks.{GoOn, Moment, TalksOn, IsDrained}
 
 -- ---- a step
@@ -80,10 +80,11 @@ RefusesAs fault sent sent' end = ⊥
 -- Since a moment these bytes were read, which are these messages and a rest. The first of them are
 -- requests that were answered and let the session go on; the others wait. What was sent is the
 -- replies, and the continue line, where the head behind them asks for it and that was told.
-pub record Stands {S : Type 0} (answers : S → RawRequest → Said → S → Type 0) (from to : Moment S)
+pub record SessionStands {S : Type 0} (answers : S → RawRequest → Said → S → Type 0)
+    (from to : Moment S)
     (read : List ℕ) (messages : List Message) (reader : MessageReader) (count : ℕ) : Type 0 where
   pub exchanges : List Exchange
-  pub answered : Chain answers from.state exchanges to.state
+  pub answered : AnswerChain answers from.state exchanges to.state
   pub consumed : Consumes from.left to.left read
   pub gave : GaveRequests read (requests_of exchanges) reader
   pub messages_are : messages ≡ request_messages (requests_of exchanges) ++ waiting reader
@@ -97,7 +98,7 @@ pub record Stands {S : Type 0} (answers : S → RawRequest → Said → S → Ty
 pub record StandsStill {S : Type 0} (answers : S → RawRequest → Said → S → Type 0)
     (from to : Moment S) (read : List ℕ) (messages : List Message)
     (reader : MessageReader) (count : ℕ) : Type 0 where
-  pub stands : Stands answers from to read messages reader count
+  pub stands : SessionStands answers from to read messages reader count
   pub none_waits : waiting reader ≡ []
   pub quiet : was_told reader ≡ false → (fault_of reader ≡ Some faults.OutOfMemory)
       ⊎ ¬ (AsksAtFront read (requests_of stands.exchanges))

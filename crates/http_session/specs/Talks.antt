@@ -16,7 +16,7 @@ use Rattle.http_text.specs.declared.session.SessionEnd.TheVariants.{LinkFault, O
 use Rattle.http_session.specs.declared.answerer.Said.{Said}
 use Rattle.http_text.specs.Faults.{frame_status}
 use Rattle.http_session.specs.Texts.{continue_text, continue_line, refusal_text}
-use Rattle.http_session.specs.Output.{Exchange, requests_of, most_requests, output, Chain}
+use Rattle.http_session.specs.Output.{Exchange, requests_of, most_requests, output, AnswerChain}
 
 -- ---- why it ends
 
@@ -51,8 +51,8 @@ IsContinue rest line = ((line ≡ continue_text) × BeginsWithGoodHead Requests 
 
 -- what follows the replies where no request ended the session: the continue line of the rest, and
 -- the refusal of its fault
-abbrev pub Follows : List ℕ → List ℕ → Type 0
-Follows rest text =
+abbrev pub FollowsReplies : List ℕ → List ℕ → Type 0
+FollowsReplies rest text =
     IsContinue rest text
     ⊎ ((line : List ℕ) × (fault : FrameFault) × IsContinue rest line
     × IsFrameFault Requests rest fault × (text ≡ line ++ refusal_text fault))
@@ -71,7 +71,7 @@ Writes exchanges rest written (Refused status) =
 Writes exchanges rest written LinkFault =
     IsPrefix written (output exchanges)
     ⊎ (GoOn (requests_of exchanges)
-    × ((text : List ℕ) × Follows rest text × IsPrefix written (output exchanges ++ text)))
+    × ((text : List ℕ) × FollowsReplies rest text × IsPrefix written (output exchanges ++ text)))
 -- All replies, and the continue line of the rest may follow; or all but the last reply.
 Writes exchanges rest written OutOfMemory =
     (written ≡ output exchanges)
@@ -87,7 +87,7 @@ Writes exchanges rest written OutOfMemory =
 pub record Talks {S : Type 0} (answers : S → RawRequest → Said → S → Type 0)
     (before after : S) (read written : List ℕ) (end : SessionEnd) : Type 0 where
   pub exchanges : List Exchange
-  pub answered : Chain answers before exchanges after
+  pub answered : AnswerChain answers before exchanges after
   pub rest : List ℕ
   pub requests : AreMessages Requests read (request_messages (requests_of exchanges)) rest
   pub ends : EndsBehind (requests_of exchanges) rest end

@@ -10,7 +10,7 @@ ghost use Rattle.http_session.specs.Said.{IsPrintableSaid, said_text};
 ghost use Rattle.http_session.specs.Output.{most_requests};
 ghost use Rattle.http_session.specs.Talks.{Moment, TalksOn, IsDrained, moment_of};
 ghost use Rattle.http_session.specs.Stands.{AnsweredAll, AnswersAs, Ended, RefusesAs};
-ghost use Rattle.http_session.specs.Stands.{Stands, StopsSending, TellsAs, TookExpect};
+ghost use Rattle.http_session.specs.Stands.{SessionStands, StopsSending, TellsAs, TookExpect};
 
 use crate::answerer::{Answerer, Said};
 use crate::texts::{continue_text, memory_text, refusal_text};
@@ -136,7 +136,7 @@ fn answer_waiting<R: Wait, A: Answerer, L: Link>(
     requires ready { A.ready answerer.now state.old }
     requires few { answered.old < most_requests }
     ensures all { (from : Moment A.State) (read : List ℕ) (messages : List Message)
-        → Stands (A.answers answerer.now) from
+        → SessionStands (A.answers answerer.now) from
         (moment_of state.old (L.left link.old) (L.sent link.old) (L.faults link.old))
         read messages reader.old answered.old
         → AnsweredAll (A.answers answerer.now) from

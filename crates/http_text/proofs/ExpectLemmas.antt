@@ -6,7 +6,7 @@ use Rattle.http_text.specs.Messages.{head_expects, framing_behind, BeginsWithHea
 use Rattle.http_text.specs.Front.{TellsFaultAt}
 use Rattle.http_text.specs.Readers.{HoldsHead, HoldsStage, HasHeadFault, KnowsAsk, stage_fault, stage_expects, asks_first}
 use Rattle.http_text.specs.Taken.{AsksBehind}
-use Rattle.http_text.specs.declared.follow.Progress.{Progress}
+use Rattle.http_text.specs.declared.follow.HeadProgress.{HeadProgress}
 use Rattle.http_text.specs.declared.framing.FrameFault.{FrameFault}
 use Rattle.http_text.specs.declared.framing.FrameFault.TheVariants as faults
 use Rattle.http_text.specs.declared.framing.Framing.{Framing}
@@ -31,7 +31,7 @@ asks_once kind rest a b one two =
     sym one.asks_is ∙ ap head_expects heads.0 ∙ two.asks_is
 
 -- a head that hasn't ended asks for nothing
-open_asks_nothing : (kind : Kind) (rest : List ℕ) (room : ℕ) (progress : Progress) (pending : List ℕ) (asks : Bool) → HoldsHead kind rest room progress pending
+open_asks_nothing : (kind : Kind) (rest : List ℕ) (room : ℕ) (progress : HeadProgress) (pending : List ℕ) (asks : Bool) → HoldsHead kind rest room progress pending
     → BeginsWithGoodHead kind rest asks → ⊥
 open_asks_nothing kind rest room progress pending asks held good =
     let place = same_passed kind rest held.passed good.passed pending good.from held.passes good.passes

@@ -10,14 +10,14 @@ use Rattle.http_text.specs.Chunks.{Chunk, IsChunk, AreChunks, print_chunk, data_
 use Rattle.http_text.specs.Framing.{most_body}
 use Rattle.http_text.specs.Messages.{BeginsWithHead, framing_behind, IsFaultAt, IsFrameFault, IsBodyFault, IsBody, BeginsNoMessage}
 use Rattle.http_text.specs.Stages.{IsOpenHead, IsOpenLine, AreOpenTrailers, IsInChunk, HoldsPart}
-use Rattle.http_text.specs.Readers.{Holds}
+use Rattle.http_text.specs.Readers.{HoldsRest}
 use Rattle.http_text.specs.declared.message.Kind.{Kind}
 use Rattle.http_text.specs.declared.framing.FrameFault.{FrameFault}
 use Rattle.http_text.specs.declared.framing.FrameFault.TheVariants as faults
 use Rattle.http_text.specs.declared.framing.Framing.{Framing}
 use Rattle.http_text.specs.declared.framing.Framing.TheVariants.{Sized, Chunked}
-use Rattle.http_text.specs.declared.stage.Part.{Part}
-use Rattle.http_text.specs.declared.stage.Part.TheVariants as parts
+use Rattle.http_text.specs.declared.stage.BodyPart.{BodyPart}
+use Rattle.http_text.specs.declared.stage.BodyPart.TheVariants as parts
 use Rattle.http_text.specs.declared.reader.Stage.{Stage}
 use Rattle.http_text.specs.declared.reader.Stage.TheVariants as stages
 use Rattle.http_text.proofs.HeadLaws.{head_unique, head_grows}
@@ -154,7 +154,7 @@ chunk_good body behind content kept left fault at short place bad =
     regroup : (a b c d : List ℕ) → (a ++ (b ++ c)) ++ d ≡ a ++ (b ++ (c ++ d))
     regroup a b c d = simp append_assoc
 
-part_no_fault : (part : Part) (body pending behind : List ℕ) (framing : Framing) (fault : FrameFault) → HoldsPart part body pending framing behind
+part_no_fault : (part : BodyPart) (body pending behind : List ℕ) (framing : Framing) (fault : FrameFault) → HoldsPart part body pending framing behind
     → IsBodyFault framing behind fault → ⊥
 part_no_fault (parts.Sized left) body pending behind framing fault (some, sized, is, none) bad = subst (λ (f : Framing). IsBodyFault f behind fault) sized bad
 part_no_fault (parts.Line place) body pending behind framing fault ((chunked, at), still, follows) bad =
@@ -222,7 +222,7 @@ module _ (kind : Kind) (room : ℕ) (text behind : List ℕ) (head : Head) (fram
   body_open (faults.BodyTooLong size limit) bad = body_own bad.0 bad.1 (faults.BodyTooLong size limit) bad.2 bad.3
   body_open faults.BadChunk bad = body_own bad.0 bad.1 faults.BadChunk bad.2 bad.3
 
-pub open_no_fault : (kind : Kind) (stage : Stage) (pending rest : List ℕ) → Holds kind stage pending rest → (fault : FrameFault) → ¬ (IsFrameFault kind rest fault)
+pub open_no_fault : (kind : Kind) (stage : Stage) (pending rest : List ℕ) → HoldsRest kind stage pending rest → (fault : FrameFault) → ¬ (IsFrameFault kind rest fault)
 open_no_fault kind (stages.Head room progress) pending rest held fault bad =
     head_open kind (room_behind held.passed) pending fault (subst (λ (n : ℕ). IsOpenHead kind n pending) held.room_is held.still)
     (fault_behind kind rest held.passed pending fault held.passes (no_interim_none kind (room_behind held.passed) pending held.still.none) bad)

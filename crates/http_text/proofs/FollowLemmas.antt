@@ -9,7 +9,7 @@ use Rattle.http_text.specs.Heads.{ReadsHead, EndsInTarget, goes_on}
 use Rattle.http_text.specs.Follow.{Follows, TakesFields, IsInValue}
 use Rattle.http_text.specs.declared.message.Kind.{Kind}
 use Rattle.http_text.specs.declared.message.Kind.TheVariants.{Requests, Replies}
-use Rattle.http_text.specs.declared.follow.Progress.TheVariants as at
+use Rattle.http_text.specs.declared.follow.HeadProgress.TheVariants as at
 
 -- a byte of a token
 pub token_byte : (byte : ℕ) → is_token (byte ∷ []) ≡ is_token_byte byte

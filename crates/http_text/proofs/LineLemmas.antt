@@ -16,7 +16,7 @@ use Rattle.http_text.specs.Stages.{HoldsLine, PartStepIs}
 use Rattle.http_text.specs.declared.framing.Framing.{Framing}
 use Rattle.http_text.specs.declared.line.LineAt.{LineAt}
 use Rattle.http_text.specs.declared.line.LineAt.TheVariants.{Size, Extension, Unknown}
-use Rattle.http_text.specs.declared.stage.Part.TheVariants as parts
+use Rattle.http_text.specs.declared.stage.BodyPart.TheVariants as parts
 use Rattle.http_text.proofs.ChunkLemmas.{at_line_more}
 
 -- ---- more bytes

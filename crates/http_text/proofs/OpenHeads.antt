@@ -12,8 +12,8 @@ use Rattle.http_text.specs.Heads.{Head, request, reply, ReadsHead, HasNoHead, Is
 use Rattle.http_text.specs.Follow.{Follows, TakesFields, IsInName, is_known}
 use Rattle.http_text.specs.declared.message.Kind.{Kind}
 use Rattle.http_text.specs.declared.message.Kind.TheVariants.{Requests, Replies}
-use Rattle.http_text.specs.declared.follow.Progress.{Progress}
-use Rattle.http_text.specs.declared.follow.Progress.TheVariants as at
+use Rattle.http_text.specs.declared.follow.HeadProgress.{HeadProgress}
+use Rattle.http_text.specs.declared.follow.HeadProgress.TheVariants as at
 use Rattle.http_text.proofs.HeadLaws.{head_prefix_free, ending, head_to_target, method_begins, reply_tail, some_reply, reply_reads}
 use Rattle.http_text.proofs.HeadLemmas.{target_no_head}
 use Rattle.http_text.proofs.PlaceLemmas.{same_parts}
@@ -92,7 +92,7 @@ reason_opens kind text (same, (blank, line, (minor, digits, phrase, version, thr
     regroup a b c d e = simp (append_assoc, cons-append)
 
 -- what is followed is open
-pub follows_open : (kind : Kind) (text : List ℕ) (progress : Progress) → is_known progress ≡ true → Follows kind text progress → IsOpen kind text
+pub follows_open : (kind : Kind) (text : List ℕ) (progress : HeadProgress) → is_known progress ≡ true → Follows kind text progress → IsOpen kind text
 follows_open kind text at.Blank known follows = blank_opens kind text follows
 follows_open kind text at.BlankEnd known follows = blank_end_opens kind text follows
 follows_open kind text at.Method known follows = method_opens kind text follows

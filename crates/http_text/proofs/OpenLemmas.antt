@@ -10,11 +10,11 @@ use Rattle.http_text.specs.Chunks.{Chunk, AreChunks, print_chunk, data_of, Chunk
 use Rattle.http_text.specs.Messages.{BeginsNoMessage, framing_behind, IsBody}
 use Rattle.http_text.specs.declared.message.Kind.{Kind}
 use Rattle.http_text.specs.Stages.{IsInChunk, HoldsPart}
-use Rattle.http_text.specs.Readers.{Holds}
+use Rattle.http_text.specs.Readers.{HoldsRest}
 use Rattle.http_text.specs.declared.framing.Framing.{Framing}
 use Rattle.http_text.specs.declared.framing.Framing.TheVariants.{Chunked}
-use Rattle.http_text.specs.declared.stage.Part.{Part}
-use Rattle.http_text.specs.declared.stage.Part.TheVariants as parts
+use Rattle.http_text.specs.declared.stage.BodyPart.{BodyPart}
+use Rattle.http_text.specs.declared.stage.BodyPart.TheVariants as parts
 use Rattle.http_text.specs.declared.reader.Stage.{Stage}
 use Rattle.http_text.specs.declared.reader.Stage.TheVariants as stages
 use Rattle.http_text.proofs.HeadLaws.{head_unique}
@@ -82,7 +82,7 @@ in_chunk_not_whole body behind content kept front more b left at short whole is 
     regroup : (a b c d : List ℕ) → (a ++ (b ++ c)) ++ d ≡ a ++ (b ++ (c ++ d))
     regroup a b c d = simp append_assoc
 
-part_not_whole : (part : Part) (body pending behind front more b : List ℕ) (framing : Framing) → HoldsPart part body pending framing behind
+part_not_whole : (part : BodyPart) (body pending behind front more b : List ℕ) (framing : Framing) → HoldsPart part body pending framing behind
     → IsBody framing front b → front ++ more ≡ behind → ⊥
 part_not_whole (parts.Sized left) body pending behind front more b framing (some, sized, behind_is, none) whole is =
     let it = subst (λ (f : Framing). IsBody f front b) sized whole in
@@ -111,7 +111,7 @@ part_not_whole (parts.Trailers progress) body pending behind front more b framin
 
 -- ---- an open rest begins with no message
 
-pub open_no_message : (kind : Kind) (stage : Stage) (pending rest : List ℕ) → Holds kind stage pending rest → BeginsNoMessage kind rest
+pub open_no_message : (kind : Kind) (stage : Stage) (pending rest : List ℕ) → HoldsRest kind stage pending rest → BeginsNoMessage kind rest
 open_no_message kind (stages.Head room progress) pending rest held text more message one is =
     let begins = begins_grows kind (room_behind one.passed) one.from one.behind more one.head one.begins in
     let passes = subst (λ (t : List ℕ). PassesOver kind t one.passed (one.from ++ more)) (sym is) (passes_grow kind text more one.passed one.from one.passes) in

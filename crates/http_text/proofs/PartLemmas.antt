@@ -6,7 +6,7 @@ use Rattle.http_text.specs.Stages.{HoldsPart, PartStepIs, TellsBodyFault}
 use Rattle.http_text.specs.declared.framing.FrameFault.{FrameFault}
 use Rattle.http_text.specs.declared.framing.FrameFault.TheVariants as faults
 use Rattle.http_text.specs.declared.framing.Framing.{Framing}
-use Rattle.http_text.specs.declared.stage.Part.{Part}
+use Rattle.http_text.specs.declared.stage.BodyPart.{BodyPart}
 use Rattle.http_text.proofs.GrowLemmas.{body_fault_grows}
 
 tells_grows : (framing : Framing) (behind more : List ℕ) (fault : FrameFault) → TellsBodyFault framing behind fault → TellsBodyFault framing (behind ++ more) fault
@@ -27,7 +27,7 @@ module _ (framing : Framing) (behind piece body pending : List ℕ) (end : ℕ) 
   front_fits : (used : ℕ) → used ≤ length (take end piece) → used ≤ length piece
   front_fits used fits = let long = length-take-le end piece within in omega arith
 
-  pub part_lifts : (r : Result (ℕ × Option Part) FrameFault) → PartStepIs framing behind (take end piece) body pending r → PartStepIs framing behind piece body pending r
+  pub part_lifts : (r : Result (ℕ × Option BodyPart) FrameFault) → PartStepIs framing behind (take end piece) body pending r → PartStepIs framing behind piece body pending r
   part_lifts (Ok (used, None)) (some, is, empty) =
       ((some.0, front_fits used some.1), subst (λ (t : List ℕ). IsBody framing (behind ++ t) body) (front_used used some.1) is, empty)
   part_lifts (Ok (used, Some part)) (some, holds) =

@@ -17,7 +17,7 @@ use Rattle.std.specs.List.{flat_map}
 use Rattle.httparse.specs.Ascii.{crlf_bytes}
 use Rattle.httparse.proofs.GrammarLemmas.{print_request-append}
 use Rattle.httparse.proofs.TrimLemmas.{AllPass-reverse, trim_ows_space}
-use Rattle.http_text.specs.Framing.{most_body, sized, length_of, is_length}
+use Rattle.http_text.specs.Framing.{most_body, sized, length_value, is_length}
 use Rattle.http_text.specs.Heads.{request as request_head}
 use Rattle.http_text.specs.Messages.{before_query, from_slash, path_of, IsMessage}
 use Rattle.http_text.proofs.PassLemmas.{passes_none}
@@ -72,11 +72,11 @@ module _ (n : ℕ) (small : n ≤ most_body) where
       let short = length-decimal-le 18 n (omega arith) (omega arith) (omega arith) in
       ap₂ ◌&&◌ (le-leb 1 (length (decimal n)) numeral_is.0) (ap₂ ◌&&◌ (le-leb (length (decimal n)) 18 short) (digits_visible (decimal n) numeral_is.1).1)
 
-  length_again : length_of (decimal n) ≡ Some n
+  length_again : length_value (decimal n) ≡ Some n
   length_again = ap (λ t. cond t (Some (digits_value 10 (decimal n))) None) is_decimal ∙ ap Some numeral_is.2
 
-  pub size_again : sized (length_of (trim_ows (32 ∷ decimal n))) ≡ Ok (Sized n)
-  size_again = ap (λ (v : List ℕ). sized (length_of v)) (trim_word (decimal n) decimal_word) ∙ ap sized length_again
+  pub size_again : sized (length_value (trim_ows (32 ∷ decimal n))) ≡ Ok (Sized n)
+  size_again = ap (λ (v : List ℕ). sized (length_value v)) (trim_word (decimal n) decimal_word) ∙ ap sized length_again
       ∙ ap (λ t. cond t (Ok (Sized n)) (Err (BodyTooLong n most_body))) (le-leb n most_body small)
 
 -- a path has no query

@@ -9,7 +9,7 @@ use Rattle.http_text.specs.Messages.{message_of, request_of, reply_of, message_e
 use Rattle.http_text.specs.Front.{TellsFaultAt}
 use Rattle.http_text.specs.Stages.{IsOpenHead, HoldsPart, TellsBodyFault, HeadStepIs, UsesSome}
 use Rattle.http_text.specs.declared.stage.HeadEnd.{HeadEnd}
-use Rattle.http_text.specs.Readers.{HoldsHead, HoldsBody, Holds, IsHeadOf, NextIs, BeginsBody, EndsHead, TellsFault, HasHeadFault, KnowsAsk, BreaksAs}
+use Rattle.http_text.specs.Readers.{HoldsHead, HoldsBody, HoldsRest, IsHeadOfMessage, NextMessageIs, BeginsBody, EndsHead, TellsFault, HasHeadFault, KnowsAsk, BreaksAs}
 use Rattle.http_text.specs.declared.framing.FrameFault.{FrameFault}
 use Rattle.http_text.specs.declared.framing.FrameFault.TheVariants as faults
 use Rattle.http_text.specs.declared.framing.Framing.{Framing}
@@ -20,12 +20,12 @@ use Rattle.http_text.specs.declared.message.Message.TheVariants as forms
 use Rattle.http_text.specs.declared.message.RawRequest.{RawRequest}
 use Rattle.http_text.specs.declared.message.RawReply.{RawReply}
 use Rattle.http_text.specs.declared.line.LineAt.TheVariants as lines
-use Rattle.http_text.specs.declared.stage.Part.{Part}
-use Rattle.http_text.specs.declared.stage.Part.TheVariants as parts
+use Rattle.http_text.specs.declared.stage.BodyPart.{BodyPart}
+use Rattle.http_text.specs.declared.stage.BodyPart.TheVariants as parts
 use Rattle.http_text.specs.declared.stage.HeadEnd.TheVariants as ends
 use Rattle.http_text.specs.Follow.{Follows}
-use Rattle.http_text.specs.declared.follow.Progress.{Progress}
-use Rattle.http_text.specs.declared.follow.Progress.TheVariants as at
+use Rattle.http_text.specs.declared.follow.HeadProgress.{HeadProgress}
+use Rattle.http_text.specs.declared.follow.HeadProgress.TheVariants as at
 use Rattle.http_text.specs.declared.reader.Stage.{Stage}
 use Rattle.http_text.specs.declared.reader.Stage.TheVariants as stages
 use Rattle.http_text.proofs.HeadLaws.{nothing_read, some_head}
@@ -41,11 +41,11 @@ open_head kind room some = record { short = some; none = nothing_read kind; good
 pub start : (kind : Kind) → HoldsHead kind [] 16384 at.Blank []
 start kind = record { passed = []; passes = passes_none kind []; room_is = refl; still = open_head kind 16384 (omega arith); follows = ([], refl) }
 
-pub start_with : (kind : Kind) (stage : Stage) (pending : List ℕ) → Holds kind stage [] [] → pending ≡ [] → Holds kind stage pending []
-start_with kind stage pending held empty = subst (λ (p : List ℕ). Holds kind stage p []) (sym empty) held
+pub start_with : (kind : Kind) (stage : Stage) (pending : List ℕ) → HoldsRest kind stage [] [] → pending ≡ [] → HoldsRest kind stage pending []
+start_with kind stage pending held empty = subst (λ (p : List ℕ). HoldsRest kind stage p []) (sym empty) held
 
 -- a head without a body is a message
-pub empty_message : (kind : Kind) (text : List ℕ) (message : Message) (framing : Framing) (size : ℕ) → IsHeadOf kind text message framing → framing ≡ Sized size → size ≡ 0
+pub empty_message : (kind : Kind) (text : List ℕ) (message : Message) (framing : Framing) (size : ℕ) → IsHeadOfMessage kind text message framing → framing ≡ Sized size → size ≡ 0
     → IsMessage kind text message
 empty_message kind text message framing size whole is zero = record {
   passed = whole.passed;
@@ -62,8 +62,8 @@ empty_message kind text message framing size whole is zero = record {
 }
 
 -- a body of a known length begins
-pub sized_begins : (kind : Kind) (text : List ℕ) (message : Message) (framing : Framing) (size : ℕ) (body : Vec ℕ) → IsHeadOf kind text message framing → framing ≡ Sized size
-    → 0 < size → body.items ≡ [] → Holds kind (stages.Body message body (parts.Sized size)) [] text
+pub sized_begins : (kind : Kind) (text : List ℕ) (message : Message) (framing : Framing) (size : ℕ) (body : Vec ℕ) → IsHeadOfMessage kind text message framing → framing ≡ Sized size
+    → 0 < size → body.items ≡ [] → HoldsRest kind (stages.Body message body (parts.Sized size)) [] text
 sized_begins kind text message framing size body whole is some empty = record {
   passed = whole.passed;
   from = whole.from;
@@ -78,8 +78,8 @@ sized_begins kind text message framing size body whole is some empty = record {
 }
 
 -- a chunked body begins with a chunk line
-pub chunked_begins : (kind : Kind) (text : List ℕ) (message : Message) (framing : Framing) (body : Vec ℕ) → IsHeadOf kind text message framing → framing ≡ Chunked → body.items ≡ []
-    → Holds kind (stages.Body message body (parts.Line lines.Unknown)) [] text
+pub chunked_begins : (kind : Kind) (text : List ℕ) (message : Message) (framing : Framing) (body : Vec ℕ) → IsHeadOfMessage kind text message framing → framing ≡ Chunked → body.items ≡ []
+    → HoldsRest kind (stages.Body message body (parts.Line lines.Unknown)) [] text
 chunked_begins kind text message framing body whole is empty = record {
   passed = whole.passed;
   from = whole.from;
@@ -98,7 +98,7 @@ chunked_begins kind text message framing body whole is empty = record {
 }
 
 -- the body goes on behind the same head
-pub body_goes_on : (kind : Kind) (rest more : List ℕ) (message : Message) (part next : Part) (old new kept body : List ℕ) (held : HoldsBody kind rest message kept part old)
+pub body_goes_on : (kind : Kind) (rest more : List ℕ) (message : Message) (part next : BodyPart) (old new kept body : List ℕ) (held : HoldsBody kind rest message kept part old)
     → HoldsPart next body new held.framing (held.behind ++ more) → HoldsBody kind (rest ++ more) message body next new
 body_goes_on kind rest more message part next old new kept body held goes = record {
   passed = held.passed;
@@ -123,7 +123,7 @@ whole_is message whole body (request h) has is = has.request (request_of h []) i
 whole_is message whole body (reply h) has is = has.reply (reply_of h []) is
 
 -- the body is whole
-pub body_is_whole : (kind : Kind) (rest more : List ℕ) (message whole : Message) (part : Part) (old kept body : List ℕ) (held : HoldsBody kind rest message kept part old)
+pub body_is_whole : (kind : Kind) (rest more : List ℕ) (message whole : Message) (part : BodyPart) (old kept body : List ℕ) (held : HoldsBody kind rest message kept part old)
     → HasBody message whole body → IsBody held.framing (held.behind ++ more) body → IsMessage kind (rest ++ more) whole
 body_is_whole kind rest more message whole part old kept body held has is_body = record {
   passed = held.passed;
@@ -161,7 +161,7 @@ made_expects message (request h) body is = sym (ap message_expects is)
 made_expects message (reply h) body is = sym (ap message_expects is)
 
 -- a message was read from a head that asks as it does
-pub good_head : (kind : Kind) (rest : List ℕ) (message : Message) (part : Part) (kept body : List ℕ) → HoldsBody kind rest message body part kept
+pub good_head : (kind : Kind) (rest : List ℕ) (message : Message) (part : BodyPart) (kept body : List ℕ) → HoldsBody kind rest message body part kept
     → BeginsWithGoodHead kind rest (message_expects message)
 good_head kind rest message part kept body held = record {
   passed = held.passed;
@@ -193,7 +193,7 @@ knows_ask kind rest fault true good = good
 knows_ask kind rest fault false good = inr good
 
 -- a fault in a body is that of the rest
-pub body_breaks : (kind : Kind) (rest more : List ℕ) (message : Message) (part : Part) (old kept : List ℕ) (fault : FrameFault) (held : HoldsBody kind rest message kept part old)
+pub body_breaks : (kind : Kind) (rest more : List ℕ) (message : Message) (part : BodyPart) (old kept : List ℕ) (fault : FrameFault) (held : HoldsBody kind rest message kept part old)
     → TellsBodyFault held.framing (held.behind ++ more) fault → BreaksAs kind (rest ++ more) (record { fault = fault; expects = message_expects message })
 body_breaks kind rest more message part old kept fault held bad = (
   body_fault_is_frames kind (rest ++ more) (held.from ++ more) (held.behind ++ more) held.passed held.head (passes_grow kind rest more held.passed held.from held.passes)
@@ -203,7 +203,7 @@ body_breaks kind rest more message part old kept fault held bad = (
 )
 
 -- and so is want of memory
-pub memory_breaks : (kind : Kind) (rest more : List ℕ) (message : Message) (part : Part) (old kept : List ℕ) (fault : FrameFault) → fault ≡ faults.OutOfMemory
+pub memory_breaks : (kind : Kind) (rest more : List ℕ) (message : Message) (part : BodyPart) (old kept : List ℕ) (fault : FrameFault) → fault ≡ faults.OutOfMemory
     → HoldsBody kind rest message kept part old → BreaksAs kind (rest ++ more) (record { fault = fault; expects = message_expects message })
 memory_breaks kind rest more message part old kept fault is held = (
   subst (λ (f : FrameFault). TellsFault kind (rest ++ more) f) (sym is) tt,
@@ -217,12 +217,12 @@ head_breaks kind rest fault bad = (tells_behind kind rest bad.0 bad.1 fault bad.
 
 -- ---- behind a step in a head
 
-module _ (kind : Kind) (rest old new piece : List ℕ) (room used : ℕ) (progress : Progress) (held : HoldsHead kind rest room progress old) where
+module _ (kind : Kind) (rest old new piece : List ℕ) (room used : ℕ) (progress : HeadProgress) (held : HoldsHead kind rest room progress old) where
   abbrev grown : PassesOver kind (rest ++ take used piece) held.passed (old ++ take used piece)
   grown = passes_grow kind rest (take used piece) held.passed old held.passes
 
   -- the head goes on
-  pub head_goes_on : (next : Progress) → new ≡ old ++ take used piece → IsOpenHead kind room new → Follows kind new next → HoldsHead kind (rest ++ take used piece) room next new
+  pub head_goes_on : (next : HeadProgress) → new ≡ old ++ take used piece → IsOpenHead kind room new → Follows kind new next → HoldsHead kind (rest ++ take used piece) room next new
   head_goes_on next is still follows = record {
     passed = held.passed;
     passes = subst (λ (t : List ℕ). PassesOver kind (rest ++ take used piece) held.passed t) (sym is) grown;
@@ -264,7 +264,7 @@ module _ (kind : Kind) (rest old new piece : List ℕ) (room used : ℕ) (progre
 
   -- the head is whole
   pub head_is_whole : (message : Message) (framing : Framing) (head : Head) → BeginsWithHead kind room (old ++ take used piece) head [] → framing_behind head ≡ Ok framing
-      → message ≡ message_of head [] → IsHeadOf kind (rest ++ take used piece) message framing
+      → message ≡ message_of head [] → IsHeadOfMessage kind (rest ++ take used piece) message framing
   head_is_whole message framing head begins faultless is = record {
     passed = held.passed;
     from = old ++ take used piece;
@@ -277,11 +277,11 @@ module _ (kind : Kind) (rest old new piece : List ℕ) (room used : ℕ) (progre
 
 -- where nothing is kept
 pub next_again : (kind : Kind) (text pending : List ℕ) (old new : List Message) (stage : Stage) → pending ≡ []
-    → NextIs kind text old new stage [] → NextIs kind text old new stage pending
-next_again kind text pending old new stage empty next = subst (λ (p : List ℕ). NextIs kind text old new stage p) (sym empty) next
+    → NextMessageIs kind text old new stage [] → NextMessageIs kind text old new stage pending
+next_again kind text pending old new stage empty next = subst (λ (p : List ℕ). NextMessageIs kind text old new stage p) (sym empty) next
 
 -- the fault of what is kept is that of the rest
-pub head_fault_tells : (kind : Kind) (rest old piece : List ℕ) (room : ℕ) (progress : Progress) (fault : FrameFault) (held : HoldsHead kind rest room progress old)
+pub head_fault_tells : (kind : Kind) (rest old piece : List ℕ) (room : ℕ) (progress : HeadProgress) (fault : FrameFault) (held : HoldsHead kind rest room progress old)
     → TellsFaultAt kind room (old ++ piece) fault → HasHeadFault kind (rest ++ piece) fault
 head_fault_tells kind rest old piece room progress fault held tells =
     (held.passed, old ++ piece, passes_grow kind rest piece held.passed old held.passes, subst (λ (n : ℕ). TellsFaultAt kind n (old ++ piece) fault) held.room_is tells)
@@ -299,5 +299,5 @@ ends_body kind text pending old new (Ok stage) empty began = next_again kind tex
 ends_body kind text pending old new (Err fault) empty (same, is) = (same, subst (λ (f : FrameFault). HasHeadFault kind text f) (sym is) ([], text, passes_none kind text, tt))
 
 -- in a head the limit is at most the whole one
-pub room_fits : (kind : Kind) (rest pending : List ℕ) (room : ℕ) (progress : Progress) → HoldsHead kind rest room progress pending → room ≤ 16384
+pub room_fits : (kind : Kind) (rest pending : List ℕ) (room : ℕ) (progress : HeadProgress) → HoldsHead kind rest room progress pending → room ≤ 16384
 room_fits kind rest pending room progress held = let is = held.room_is in omega arith

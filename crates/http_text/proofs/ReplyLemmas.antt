@@ -14,7 +14,7 @@ use Rattle.httparse.specs.Grammar.{AllPass, is_token_byte, is_value_byte, trim_o
 use Rattle.httparse.proofs.GrammarLemmas.{print_response-append}
 use Rattle.http_text.specs.Heads.{reply}
 use Rattle.http_text.specs.Messages.{reply_of, IsMessage, framing_behind}
-use Rattle.http_text.specs.Print.{field, is_visible, body_fields, phrase_of, statuses, status_line, allow_fields, close_fields, reply_fields, reply_head, reply_text, HasKind, IsAllow, IsPrintableReply, FitsReader}
+use Rattle.http_text.specs.Print.{field, is_visible, body_fields, phrase_of, statuses, status_line, allow_fields, close_fields, reply_fields, reply_head, reply_text, HasContentType, IsAllow, IsPrintableReply, FitsReader}
 use Rattle.http_text.specs.declared.framing.Framing.TheVariants.{Sized}
 use Rattle.http_text.specs.declared.message.Kind.TheVariants.{Replies}
 use Rattle.http_text.specs.declared.message.Message.TheVariants as forms
@@ -157,7 +157,7 @@ again status close kind body allow p fits =
 -- what is printed is that reply
 printed : (status : ℕ) (close : Bool) (given : Option (List ℕ)) (body : List ℕ) (allow : Option (List ℕ)) (r : RawReply)
     → r ≡ record { status = status; close = close; content_type = given; body = body } → IsPrintableReply r allow → FitsReader (print_response (reply_head r allow)) r.body
-    → HasKind given → IsMessage Replies (reply_text r allow) (forms.Reply r)
+    → HasContentType given → IsMessage Replies (reply_text r allow) (forms.Reply r)
 unfolding reply_with
 printed status close None body allow r is p fits has = absurd has
 printed status close (Some kind) body allow r is p fits has =

@@ -4,17 +4,17 @@ use Rattle.std.specs.Prelude.{IfNone, IfSome}
 use Rattle.std.proofs.lemmas.List.{append-nil, take_rest, take-append-drop}
 use Rattle.http_text.specs.Heads.{print_head, print_heads}
 use Rattle.http_text.proofs.HeadLaws.{head_not_empty}
-use Rattle.http_text.specs.Messages.{IsMessage, AreMessages, Reads, between, inside}
+use Rattle.http_text.specs.Messages.{IsMessage, AreMessages, ReadsMessages, between, inside}
 use Rattle.http_text.proofs.FaultLemmas.{open_no_fault}
 use Rattle.http_text.proofs.GrowLemmas.{lt_or_le}
 use Rattle.http_text.proofs.OpenLemmas.{open_no_message}
 use Rattle.http_text.proofs.StayLemmas.{broken_stays}
-use Rattle.http_text.specs.Readers.{TellsFault, BreaksAs, HoldsHead, Holds, CanGoOn, NextIs, AdvanceIs, HoldsAll, HoldsFaulty, HoldsStage, stage_fault, Decides}
+use Rattle.http_text.specs.Readers.{TellsFault, BreaksAs, HoldsHead, HoldsRest, CanGoOn, NextMessageIs, AdvanceIs, HoldsMessages, HoldsFaulty, HoldsStage, stage_fault, Decides}
 use Rattle.http_text.specs.declared.framing.FrameFault.{FrameFault}
 use Rattle.http_text.specs.declared.framing.FrameFault.TheVariants as faults
 use Rattle.http_text.specs.declared.message.Message.{Message}
 use Rattle.http_text.specs.declared.message.Kind.{Kind}
-use Rattle.http_text.specs.declared.follow.Progress.{Progress}
+use Rattle.http_text.specs.declared.follow.HeadProgress.{HeadProgress}
 use Rattle.http_text.specs.declared.reader.Broken.{Broken}
 use Rattle.http_text.specs.declared.reader.Stage.{Stage}
 use Rattle.http_text.specs.declared.reader.Stage.TheVariants as stages
@@ -45,7 +45,7 @@ goes_on kind asks rest piece old new pending used stage (some, inr next) = ([], 
 
 -- a step leads from all the bytes before to those with what it used
 pub next_all : (kind : Kind) (bytes rest : List ℕ) (taken : List Message) (old new : List Message) (stage : Stage) (pending : List ℕ)
-    → AreMessages kind bytes (taken ++ old) rest → NextIs kind rest old new stage pending → HoldsAll kind bytes taken new stage pending
+    → AreMessages kind bytes (taken ++ old) rest → NextMessageIs kind rest old new stage pending → HoldsMessages kind bytes taken new stage pending
 next_all kind bytes rest taken old new stage pending are (inl (same, held)) =
     (rest, subst (λ (q : List Message). AreMessages kind bytes (taken ++ q) rest) (sym same) are, held)
 next_all kind bytes rest taken old new stage pending are (inr (message, more, is, held)) =
@@ -62,18 +62,18 @@ rest_of_piece piece front left used is =
 
 -- one step more
 pub step_all : (kind : Kind) (asks : Bool) (bytes front left : List ℕ) (taken : List Message) (old new : List Message) (before after : Stage) (kept pending : List ℕ) (used : ℕ)
-    → HoldsAll kind (bytes ++ front) taken old before kept
-    → ((rest : List ℕ) → Holds kind before kept rest → AdvanceIs kind asks rest left old new pending (Ok (used, after)))
-    → HoldsAll kind (bytes ++ (front ++ take used left)) taken new after pending
+    → HoldsMessages kind (bytes ++ front) taken old before kept
+    → ((rest : List ℕ) → HoldsRest kind before kept rest → AdvanceIs kind asks rest left old new pending (Ok (used, after)))
+    → HoldsMessages kind (bytes ++ (front ++ take used left)) taken new after pending
 step_all kind asks bytes front left taken old new before after kept pending used (rest, are, held) step =
-    subst (λ (b : List ℕ). HoldsAll kind b taken new after pending) (append_assoc bytes front (take used left))
+    subst (λ (b : List ℕ). HoldsMessages kind b taken new after pending) (append_assoc bytes front (take used left))
     (next_all kind ((bytes ++ front) ++ take used left) (rest ++ take used left) taken old new after pending
     (messages_grow kind (taken ++ old) (bytes ++ front) rest (take used left) are) (step rest held).1)
 
 -- a step meets a fault
 pub fault_all : (kind : Kind) (asks : Bool) (bytes piece front left : List ℕ) (taken : List Message) (old new : List Message) (before : Stage) (kept pending : List ℕ) (fault : FrameFault)
-    → piece ≡ front ++ left → HoldsAll kind (bytes ++ front) taken old before kept
-    → ((rest : List ℕ) → Holds kind before kept rest → AdvanceIs kind asks rest left old new pending (Err fault))
+    → piece ≡ front ++ left → HoldsMessages kind (bytes ++ front) taken old before kept
+    → ((rest : List ℕ) → HoldsRest kind before kept rest → AdvanceIs kind asks rest left old new pending (Err fault))
     → HoldsFaulty kind (bytes ++ piece) taken new (record { fault = fault; expects = asks })
 fault_all kind asks bytes piece front left taken old new before kept pending fault is (rest, are, held) step =
     let failed = step rest held in
@@ -87,24 +87,24 @@ fault_all kind asks bytes piece front left taken old new before kept pending fau
 
 -- nothing of the piece is left
 pub all_read : (kind : Kind) (bytes piece front left : List ℕ) (taken : List Message) (queue : List Message) (stage : Stage) (pending : List ℕ)
-    → piece ≡ front ++ left → length left ≡ 0 → HoldsAll kind (bytes ++ front) taken queue stage pending → HoldsAll kind (bytes ++ piece) taken queue stage pending
+    → piece ≡ front ++ left → length left ≡ 0 → HoldsMessages kind (bytes ++ front) taken queue stage pending → HoldsMessages kind (bytes ++ piece) taken queue stage pending
 all_read kind bytes piece front [] taken queue stage pending is none all =
-    subst (λ (t : List ℕ). HoldsAll kind (bytes ++ t) taken queue stage pending) (sym (is ∙ append-nil front)) all
+    subst (λ (t : List ℕ). HoldsMessages kind (bytes ++ t) taken queue stage pending) (sym (is ∙ append-nil front)) all
 all_read kind bytes piece front (b ∷ left) taken queue stage pending is none all = absurd (omega arith)
 
 -- ---- the fault
 
-pub not_faulty : (kind : Kind) (stage : Stage) (pending rest : List ℕ) → ((broken : Broken) → stage ≡ stages.Faulty broken → ⊥) → HoldsStage kind stage pending rest → Holds kind stage pending rest
+pub not_faulty : (kind : Kind) (stage : Stage) (pending rest : List ℕ) → ((broken : Broken) → stage ≡ stages.Faulty broken → ⊥) → HoldsStage kind stage pending rest → HoldsRest kind stage pending rest
 not_faulty kind (stages.Head room progress) pending rest good held = held
 not_faulty kind (stages.Body message body part) pending rest good held = held
 not_faulty kind (stages.Faulty fault) pending rest good held = absurd (good fault refl)
 
-pub still_held : (kind : Kind) (stage : Stage) (pending rest : List ℕ) → Holds kind stage pending rest → HoldsStage kind stage pending rest
+pub still_held : (kind : Kind) (stage : Stage) (pending rest : List ℕ) → HoldsRest kind stage pending rest → HoldsStage kind stage pending rest
 still_held kind (stages.Head room progress) pending rest held = held
 still_held kind (stages.Body message body part) pending rest held = held
 still_held kind (stages.Faulty fault) pending rest held = absurd held
 
-pub no_fault : (kind : Kind) (stage : Stage) (pending rest : List ℕ) → Holds kind stage pending rest → stage_fault stage ≡ None
+pub no_fault : (kind : Kind) (stage : Stage) (pending rest : List ℕ) → HoldsRest kind stage pending rest → stage_fault stage ≡ None
 no_fault kind (stages.Head room progress) pending rest held = refl
 no_fault kind (stages.Body message body part) pending rest held = refl
 no_fault kind (stages.Faulty fault) pending rest held = absurd held
@@ -125,7 +125,7 @@ fault_again kind bytes piece rest messages broken are breaks = (rest ++ piece, m
 
 -- ---- the end
 
-held_unless_fault : (kind : Kind) (stage : Stage) (pending rest : List ℕ) → stage_fault stage ≡ None → HoldsStage kind stage pending rest → Holds kind stage pending rest
+held_unless_fault : (kind : Kind) (stage : Stage) (pending rest : List ℕ) → stage_fault stage ≡ None → HoldsStage kind stage pending rest → HoldsRest kind stage pending rest
 held_unless_fault kind (stages.Head room progress) pending rest none held = held
 held_unless_fault kind (stages.Body message body part) pending rest none held = held
 held_unless_fault kind (stages.Faulty fault) pending rest none held = cc
@@ -135,7 +135,7 @@ not_empty rest some is = let none = ap length is in omega arith
 
 -- bytes of a message that hasn't ended are inside it
 pub ends_inside : (kind : Kind) (bytes rest pending : List ℕ) (messages : List Message) (stage : Stage) → AreMessages kind bytes messages rest → stage_fault stage ≡ None
-    → HoldsStage kind stage pending rest → (Holds kind stage pending rest → 0 < length rest) → Reads kind bytes messages inside
+    → HoldsStage kind stage pending rest → (HoldsRest kind stage pending rest → 0 < length rest) → ReadsMessages kind bytes messages inside
 ends_inside kind bytes rest pending messages stage are none stands some =
     let held = held_unless_fault kind stage pending rest none stands in
     (rest, are, (not_empty rest (some held), open_no_message kind stage pending rest held, open_no_fault kind stage pending rest held))
@@ -144,7 +144,7 @@ nothing_kept : (rest : List ℕ) → length rest ≡ 0 → rest ≡ []
 nothing_kept [] none = refl
 nothing_kept (b ∷ rest) none = absurd (omega arith)
 
-module _ (kind : Kind) (rest : List ℕ) (room : ℕ) (progress : Progress) (pending : List ℕ) (held : HoldsHead kind rest room progress pending) where
+module _ (kind : Kind) (rest : List ℕ) (room : ℕ) (progress : HeadProgress) (pending : List ℕ) (held : HoldsHead kind rest room progress pending) where
   rest_length : length rest ≡ length (print_heads held.passed) + length pending
   rest_length = ap length held.passes.text_is ∙ length-append (print_heads held.passed) pending
 
@@ -170,7 +170,7 @@ module _ (kind : Kind) (rest : List ℕ) (room : ℕ) (progress : Progress) (pen
           absurd (other (omega (arith, held.passes.short)))
 
 -- the rest in a body isn't empty
-pub body_not_empty : (kind : Kind) (rest pending : List ℕ) (stage : Stage) → Holds kind stage pending rest → ((room : ℕ) (progress : Progress) → stage ≡ stages.Head room progress → ⊥) → 0 < length rest
+pub body_not_empty : (kind : Kind) (rest pending : List ℕ) (stage : Stage) → HoldsRest kind stage pending rest → ((room : ℕ) (progress : HeadProgress) → stage ≡ stages.Head room progress → ⊥) → 0 < length rest
 body_not_empty kind rest pending (stages.Head room progress) held other = absurd (other room progress refl)
 body_not_empty kind rest pending (stages.Faulty fault) held other = absurd held
 body_not_empty kind rest pending (stages.Body message body part) held other =
@@ -179,19 +179,19 @@ body_not_empty kind rest pending (stages.Body message body part) held other =
     let some = head_not_empty held.head in
     omega arith
 
-module _ (kind : Kind) (pending rest : List ℕ) (stage : Stage) (room : ℕ) (progress : Progress) (is : stage ≡ stages.Head room progress) where
-  in_head : Holds kind stage pending rest → HoldsHead kind rest room progress pending
-  in_head held = subst (λ (s : Stage). Holds kind s pending rest) is held
+module _ (kind : Kind) (pending rest : List ℕ) (stage : Stage) (room : ℕ) (progress : HeadProgress) (is : stage ≡ stages.Head room progress) where
+  in_head : HoldsRest kind stage pending rest → HoldsHead kind rest room progress pending
+  in_head held = subst (λ (s : Stage). HoldsRest kind s pending rest) is held
 
-  pub head_kept : 0 < length pending → Holds kind stage pending rest → 0 < length rest
+  pub head_kept : 0 < length pending → HoldsRest kind stage pending rest → 0 < length rest
   head_kept some held = kept_is_rest kind rest room progress pending (in_head held) some
 
-  pub head_passed : (room ≡ 16384 → ⊥) → Holds kind stage pending rest → 0 < length rest
+  pub head_passed : (room ≡ 16384 → ⊥) → HoldsRest kind stage pending rest → 0 < length rest
   head_passed other held = room_is_rest kind rest room progress pending (in_head held) other
 
   -- nothing has come of the next message
   pub ends_between : (bytes : List ℕ) (messages : List Message) → AreMessages kind bytes messages rest → HoldsStage kind stage pending rest → room ≡ 16384 → length pending ≡ 0
-      → Reads kind bytes messages between
+      → ReadsMessages kind bytes messages between
   ends_between bytes messages are stands whole none =
       let head = subst (λ (s : Stage). HoldsStage kind s pending rest) is stands in
       (rest, are, nothing_came kind rest room progress pending head whole none)
@@ -208,11 +208,11 @@ still_reader kind bytes rest pending taken old new stage (Some message) are stan
 )
 
 -- where no fault was met, the bytes end between two messages or inside one
-pub decided_open : (kind : Kind) (bytes rest pending : List ℕ) (messages : List Message) (stage : Stage) → AreMessages kind bytes messages rest → Holds kind stage pending rest
-    → Reads kind bytes messages between ⊎ Reads kind bytes messages inside
+pub decided_open : (kind : Kind) (bytes rest pending : List ℕ) (messages : List Message) (stage : Stage) → AreMessages kind bytes messages rest → HoldsRest kind stage pending rest
+    → ReadsMessages kind bytes messages between ⊎ ReadsMessages kind bytes messages inside
 decided_open kind bytes rest pending messages stage are held = by_length (lt_or_le 0 (length rest))
   where
-    by_length : (0 < length rest) ⊎ (length rest ≤ 0) → Reads kind bytes messages between ⊎ Reads kind bytes messages inside
+    by_length : (0 < length rest) ⊎ (length rest ≤ 0) → ReadsMessages kind bytes messages between ⊎ ReadsMessages kind bytes messages inside
     by_length (inl some) = inr (rest, are, (not_empty rest some, open_no_message kind stage pending rest held, open_no_fault kind stage pending rest held))
     by_length (inr none) = inl (rest, are, nothing_kept rest (omega arith))
 

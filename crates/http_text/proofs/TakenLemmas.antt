@@ -4,7 +4,7 @@ use Rattle.std.specs.Prelude.{OnOk, OnErr, IfNone, IfSome}
 use Rattle.std.proofs.lemmas.List.{map-append}
 use Rattle.http_text.specs.Heads.{Head, request, reply, IsHeadOf}
 use Rattle.http_text.specs.Messages.{message_of, IsMessage, AreMessages}
-use Rattle.http_text.specs.Readers.{StandsFor, IsReader, waiting}
+use Rattle.http_text.specs.Readers.{ReaderStandsFor, IsReader, waiting}
 use Rattle.http_text.specs.Taken.{taken_after}
 use Rattle.http_text.specs.declared.message.Kind.{Kind}
 use Rattle.http_text.specs.declared.message.Kind.TheVariants.{Requests, Replies}
@@ -13,9 +13,9 @@ use Rattle.http_text.specs.declared.message.Message.TheVariants as forms
 use Rattle.http_text.specs.declared.reader.MessageReader.{MessageReader}
 
 -- a reader whose kind is known
-pub at_kind : (kind k : Kind) (old now : MessageReader) (bytes : List ℕ) (taken : List Message) → kind ≡ k → old ≡ now → StandsFor k bytes taken now → StandsFor kind bytes taken old
+pub at_kind : (kind k : Kind) (old now : MessageReader) (bytes : List ℕ) (taken : List Message) → kind ≡ k → old ≡ now → ReaderStandsFor k bytes taken now → ReaderStandsFor kind bytes taken old
 at_kind kind k old now bytes taken is same stands =
-    subst (λ (r : MessageReader). StandsFor kind bytes taken r) (sym same) (subst (λ (j : Kind). StandsFor j bytes taken now) (sym is) stands)
+    subst (λ (r : MessageReader). ReaderStandsFor kind bytes taken r) (sym same) (subst (λ (j : Kind). ReaderStandsFor j bytes taken now) (sym is) stands)
 
 pub on_ok : {T E : Type 0} (r : Result T E) (P Q : Type 0) → (P → Q) → OnOk r P → OnOk r Q
 on_ok (Ok v) P Q step holds = step holds

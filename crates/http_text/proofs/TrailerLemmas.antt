@@ -9,10 +9,10 @@ use Rattle.http_text.specs.Heads.{Head, request, reply, ReadsHead}
 use Rattle.http_text.specs.Chunks.{most_trailers, AreBadTrailers}
 use Rattle.http_text.specs.Follow.{Follows, is_known, TakesFields}
 use Rattle.http_text.specs.Stages.{AreOpenTrailers, HoldsTrailers, FollowsTrailers, some_status_line, PartStepIs}
-use Rattle.http_text.specs.declared.follow.Progress.{Progress}
+use Rattle.http_text.specs.declared.follow.HeadProgress.{HeadProgress}
 use Rattle.http_text.specs.declared.framing.Framing.{Framing}
 use Rattle.http_text.specs.declared.message.Kind.TheVariants.{Replies}
-use Rattle.http_text.specs.declared.stage.Part.TheVariants as parts
+use Rattle.http_text.specs.declared.stage.BodyPart.TheVariants as parts
 use Rattle.http_text.proofs.ChunkLemmas.{trailers_more}
 use Rattle.http_text.proofs.HeadLaws.{some_reply, reply_reads}
 use Rattle.http_text.proofs.OpenHeads.{follows_open}
@@ -60,12 +60,12 @@ section_behind text more rest h is reads =
 
 -- ---- trailers that are followed are open
 
-pub trailers_none : (text : List ℕ) (progress : Progress) → is_known progress ≡ true → FollowsTrailers text progress → HasNoSection text
+pub trailers_none : (text : List ℕ) (progress : HeadProgress) → is_known progress ≡ true → FollowsTrailers text progress → HasNoSection text
 trailers_none text progress known follows = λ fields last rest reads.
     (follows_open Replies (some_status_line ++ text) progress known follows).0 (reply (with_fields fields last)) rest
     (subst (λ (t : List ℕ). ReadsHead Replies (some_status_line ++ t) (reply (with_fields fields last)) rest) (sym reads.1) (status_reads fields last rest reads.0))
 
-pub trailers_good : (text : List ℕ) (progress : Progress) → is_known progress ≡ true → FollowsTrailers text progress → NeverHasSection text → ⊥
+pub trailers_good : (text : List ℕ) (progress : HeadProgress) → is_known progress ≡ true → FollowsTrailers text progress → NeverHasSection text → ⊥
 trailers_good text progress known follows never =
     (follows_open Replies (some_status_line ++ text) progress known follows).1 (λ ends. ends, no_reply)
   where
@@ -73,7 +73,7 @@ trailers_good text progress known follows never =
     no_reply more (reply h) rest reads = never more h.fields h.last rest (section_behind text more rest h reads.0 reads.1)
     no_reply more (request h) rest reads = reads.0
 
-pub trailers_open : (text : List ℕ) (progress : Progress) → is_known progress ≡ true → length text < most_trailers → FollowsTrailers text progress → AreOpenTrailers text
+pub trailers_open : (text : List ℕ) (progress : HeadProgress) → is_known progress ≡ true → length text < most_trailers → FollowsTrailers text progress → AreOpenTrailers text
 trailers_open text progress known short follows =
     record { short = short; none = trailers_none text progress known follows; good = trailers_good text progress known follows }
 
@@ -82,7 +82,7 @@ pub full_trailers : (text : List ℕ) → length text ≡ 16384 → HasNoSection
 full_trailers text full none = inr (omega arith, subst HasNoSection (sym (take_all 16384 text (omega arith))) none)
 
 -- bytes that were followed are kept
-pub kept_trailers : (framing : Framing) (body behind old new bytes : List ℕ) (used : ℕ) (progress : Progress) → HoldsTrailers framing body behind old → new ≡ old ++ bytes
+pub kept_trailers : (framing : Framing) (body behind old new bytes : List ℕ) (used : ℕ) (progress : HeadProgress) → HoldsTrailers framing body behind old → new ≡ old ++ bytes
     → used ≡ length bytes → 0 < length bytes → length new < 16384 → is_known progress ≡ true → FollowsTrailers (old ++ bytes) progress
     → PartStepIs framing behind bytes body new (Ok (used, Some (parts.Trailers progress)))
 kept_trailers framing body behind old new bytes used progress (chunked, at) is used_is some fits known follows =
@@ -102,7 +102,7 @@ module _ (kept : ℕ) (text : List ℕ) (within : kept < length text) (fits : le
   text_here = all_used Replies kept text within
 
 -- the status line stands before what was kept
-pub follows_piece : (old front : List ℕ) (passed : ℕ) (progress : Progress) → passed ≡ length front → Follows Replies ((some_status_line ++ old) ++ take passed front) progress
+pub follows_piece : (old front : List ℕ) (passed : ℕ) (progress : HeadProgress) → passed ≡ length front → Follows Replies ((some_status_line ++ old) ++ take passed front) progress
     → FollowsTrailers (old ++ front) progress
 follows_piece old front passed progress all follows =
     subst (λ (t : List ℕ). Follows Replies t progress)

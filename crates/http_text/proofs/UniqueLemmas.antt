@@ -7,7 +7,7 @@ use Rattle.httparse.proofs.ChunkLemmas.{chunk_line_unique}
 use Rattle.httparse.proofs.GrammarLemmas.{section_unique}
 use Rattle.http_text.specs.Heads.{print_head, print_heads, ReadsHead, PassesOver, room_behind}
 use Rattle.http_text.specs.Chunks.{print_chunk, data_of}
-use Rattle.http_text.specs.Messages.{message_of, IsMessage, AreMessages, framing_behind, IsBody, BeginsNoMessage, End, between, inside, faulty, EndsAs, Reads, IsFrameFault}
+use Rattle.http_text.specs.Messages.{message_of, IsMessage, AreMessages, framing_behind, IsBody, BeginsNoMessage, End, between, inside, faulty, EndsAs, ReadsMessages, IsFrameFault}
 use Rattle.http_text.specs.declared.framing.FrameFault.{FrameFault}
 use Rattle.http_text.specs.declared.framing.Framing.{Framing}
 use Rattle.http_text.specs.declared.framing.Framing.TheVariants.{Sized, Chunked}
@@ -22,7 +22,7 @@ use Rattle.http_text.proofs.PlaceLemmas.{same_place, same_parts}
 use Rattle.http_text.proofs.OpenLemmas.{last_place, whole_text}
 use Rattle.http_text.proofs.ReaderLemmas.{start}
 use Rattle.http_text.specs.declared.reader.Stage.TheVariants as stages
-use Rattle.http_text.specs.declared.follow.Progress.TheVariants as at
+use Rattle.http_text.specs.declared.follow.HeadProgress.TheVariants as at
 
 -- no fault stands where nothing does
 nothing_good : (kind : Kind) (fault : FrameFault) → IsFrameFault kind [] fault → ⊥
@@ -121,7 +121,7 @@ ends_once kind rest between (faulty g) a b = absurd (nothing_good kind g (subst 
 ends_once kind rest (faulty f) between a b = absurd (nothing_good kind f (subst (λ (t : List ℕ). IsFrameFault kind t f) b a))
 
 -- the requests of a stream and its end are determined
-pub all_same : (kind : Kind) (xs ys : List Message) (bytes : List ℕ) (end other : End) → Reads kind bytes xs end → Reads kind bytes ys other → (xs ≡ ys) × (end ≡ other)
+pub all_same : (kind : Kind) (xs ys : List Message) (bytes : List ℕ) (end other : End) → ReadsMessages kind bytes xs end → ReadsMessages kind bytes ys other → (xs ≡ ys) × (end ≡ other)
 all_same kind xs ys bytes end other (rest, one, ends) (last, two, stops) =
     let same = reading_same kind xs ys bytes rest last end other one ends two stops in
     (same.0, ends_once kind rest end other ends (subst (λ (t : List ℕ). EndsAs kind t other) (sym same.1) stops))

@@ -6,10 +6,10 @@ use Rattle.httparse.specs.Grammar.{is_value_byte, Field, IsField, print_section}
 use Rattle.http_text.specs.Heads.{Head, ReadsHead, EndsInTarget}
 use Rattle.http_text.specs.declared.message.Kind.{Kind}
 use Rattle.http_text.specs.declared.message.Kind.TheVariants.{Requests, Replies}
-use Rattle.http_text.specs.declared.follow.Progress.{Progress}
-use Rattle.http_text.specs.declared.follow.Progress.TheVariants.{Blank, BlankEnd, Method}
-use Rattle.http_text.specs.declared.follow.Progress.TheVariants.{Target, Reason, Line, Name}
-use Rattle.http_text.specs.declared.follow.Progress.TheVariants.{Value, ValueEnd, Unknown}
+use Rattle.http_text.specs.declared.follow.HeadProgress.{HeadProgress}
+use Rattle.http_text.specs.declared.follow.HeadProgress.TheVariants.{Blank, BlankEnd, Method}
+use Rattle.http_text.specs.declared.follow.HeadProgress.TheVariants.{Target, Reason, Line, Name}
+use Rattle.http_text.specs.declared.follow.HeadProgress.TheVariants.{Value, ValueEnd, Unknown}
 
 -- whatever fields follow, and the empty line behind them, the text becomes a head
 abbrev pub TakesFields : Kind → List ℕ → Type 0
@@ -40,7 +40,7 @@ EndsInReason text =
     (blank : List LineEnd) × (line : List ℕ) × IsToReason line × (text ≡ print_blank blank ++ line)
 
 -- what the text is
-abbrev pub Follows : Kind → List ℕ → Progress → Type 0
+abbrev pub Follows : Kind → List ℕ → HeadProgress → Type 0
 Follows kind text Blank = (blank : List LineEnd) × (text ≡ print_blank blank)
 Follows kind text BlankEnd = (blank : List LineEnd) × (text ≡ print_blank blank ++ 13 ∷ [])
 Follows kind text Method = (kind ≡ Requests) × ((blank : List LineEnd) × (method : List ℕ)
@@ -54,7 +54,7 @@ Follows kind text ValueEnd = (value : List ℕ) × IsInValue kind value × (text
 Follows kind text Unknown = Unit {0}
 
 -- whether the text was followed up to its end
-abbrev pub is_known : Progress → Bool
+abbrev pub is_known : HeadProgress → Bool
 is_known Unknown = false
 is_known Blank = true
 is_known BlankEnd = true

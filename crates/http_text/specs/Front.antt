@@ -4,7 +4,7 @@ use Rattle.httparse.specs.Spans.{span_bytes}
 use Rattle.httparse.specs.declared.spans.RequestSpans.{RequestSpans}
 use Rattle.httparse.specs.declared.spans.ResponseSpans.{ResponseSpans}
 use Rattle.http_text.specs.Heads.{Head, print_head, ReadsHead, HasNoHead, IsBadHead, IsInterim}
-use Rattle.http_text.specs.Fields.{Row, values_of, first_of, closes}
+use Rattle.http_text.specs.Fields.{FieldRow, values_of, first_of, closes}
 use Rattle.http_text.specs.Framing.{expects}
 use Rattle.http_text.specs.Messages.{message_of, path_of, BeginsWithHead, framing_behind, IsFaultAt}
 use Rattle.http_text.specs.declared.message.Kind.{Kind}
@@ -17,7 +17,7 @@ use Rattle.http_text.specs.declared.front.Front.{Front}
 use Rattle.http_text.specs.declared.front.Front.TheVariants.{Whole, Interim, Open}
 
 -- the request of a head with these parts and fields, still without a body
-abbrev pub request_at : List ℕ → RequestSpans → List Row → RawRequest
+abbrev pub request_at : List ℕ → RequestSpans → List FieldRow → RawRequest
 request_at text head rows = record {
   method = span_bytes text head.method;
   path = path_of (span_bytes text head.path);
@@ -30,7 +30,7 @@ request_at text head rows = record {
 }
 
 -- and the reply
-abbrev pub reply_at : ResponseSpans → List Row → RawReply
+abbrev pub reply_at : ResponseSpans → List FieldRow → RawReply
 reply_at head rows = record {
   status = head.code;
   close = closes head.version rows;

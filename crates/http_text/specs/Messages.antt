@@ -76,13 +76,13 @@ message_expects (forms.Request asked) = asked.expects
 message_expects (forms.Reply given) = false
 
 -- the kind of a head
-abbrev pub kind_of : Head → Kind
-kind_of (request head) = Requests
-kind_of (reply head) = Replies
+abbrev pub kind_of_head : Head → Kind
+kind_of_head (request head) = Requests
+kind_of_head (reply head) = Replies
 
 -- the framing of the body behind a head, or the head's first fault
 abbrev pub framing_behind : Head → Result Framing FrameFault
-framing_behind head = framing_of (kind_of head) (minor_of head) (rows_of (fields_of head))
+framing_behind head = framing_of (kind_of_head head) (minor_of head) (rows_of (fields_of head))
 
 -- the text begins with a head within the limits, of which so many bytes are left
 pub record BeginsWithHead (kind : Kind) (room : ℕ) (text : List ℕ)
@@ -180,6 +180,6 @@ EndsAs kind rest inside = (rest ≢ []) × BeginsNoMessage kind rest
     × ((fault : FrameFault) → ¬ (IsFrameFault kind rest fault))
 
 -- the bytes are these messages, and what is behind them ends so
-abbrev pub Reads : Kind → List ℕ → List Message → End → Type 0
-Reads kind bytes messages end =
+abbrev pub ReadsMessages : Kind → List ℕ → List Message → End → Type 0
+ReadsMessages kind bytes messages end =
     (rest : List ℕ) × AreMessages kind bytes messages rest × EndsAs kind rest end

@@ -110,9 +110,9 @@ abbrev pub reply_text : RawReply → Option (List ℕ) → List ℕ
 reply_text reply allow = print_response (reply_head reply allow) ++ reply.body
 
 -- the type of the body is given
-abbrev pub HasKind : Option (List ℕ) → Type 0
-HasKind None = ⊥
-HasKind (Some kind) = list_all is_visible kind ≡ true
+abbrev pub HasContentType : Option (List ℕ) → Type 0
+HasContentType None = ⊥
+HasContentType (Some kind) = list_all is_visible kind ≡ true
 
 abbrev pub IsAllow : Option (List ℕ) → Type 0
 IsAllow None = Unit {0}
@@ -121,5 +121,5 @@ IsAllow (Some methods) = list_all is_value_byte methods ≡ true
 -- what a server may write
 pub record IsPrintableReply (reply : RawReply) (allow : Option (List ℕ)) : Type 0 where
   pub status : list_any (λ status. status == reply.status) statuses ≡ true
-  pub kind : HasKind reply.content_type
+  pub kind : HasContentType reply.content_type
   pub allow_bytes : IsAllow allow

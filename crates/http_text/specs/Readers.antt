@@ -4,24 +4,25 @@ use Rattle.std.specs.Prelude.{◌++◌, take, Option, Some, None, Result, Ok, Er
 use Rattle.http_text.specs.Heads.{Head, PassesOver, room_behind}
 use Rattle.http_text.specs.Messages.{message_of, message_expects, BeginsWithHead}
 use Rattle.http_text.specs.Messages.{BeginsWithGoodHead, framing_behind, IsMessage}
-use Rattle.http_text.specs.Messages.{IsFrameFault, AreMessages, Reads, between, inside, faulty}
+use Rattle.http_text.specs.Messages.{IsFrameFault, AreMessages, ReadsMessages, between, inside}
+use Rattle.http_text.specs.Messages.{faulty}
 use Rattle.http_text.specs.Follow.{Follows}
 use Rattle.http_text.specs.Front.{TellsFaultAt}
-use Rattle.http_text.specs.declared.follow.Progress.{Progress}
+use Rattle.http_text.specs.declared.follow.HeadProgress.{HeadProgress}
 use Rattle.http_text.specs.Stages.{IsOpenHead, HoldsPart, UsesSome}
 use Rattle.http_text.specs.declared.framing.FrameFault.{FrameFault}
 use Rattle.http_text.specs.declared.framing.FrameFault.TheVariants.{OutOfMemory}
 use Rattle.http_text.specs.declared.framing.Framing.{Framing}
 use Rattle.http_text.specs.declared.message.Kind.{Kind}
 use Rattle.http_text.specs.declared.message.Message.{Message}
-use Rattle.http_text.specs.declared.stage.Part.{Part}
+use Rattle.http_text.specs.declared.stage.BodyPart.{BodyPart}
 use Rattle.http_text.specs.declared.reader.Broken.{Broken}
 use Rattle.http_text.specs.declared.reader.Stage.{Stage}
 use Rattle.http_text.specs.declared.reader.Stage.TheVariants.{Head as InHead, Body, Faulty}
 use Rattle.http_text.specs.declared.reader.MessageReader.{MessageReader}
 
 -- the rest is what was passed over, and the front of a head
-pub record HoldsHead (kind : Kind) (rest : List ℕ) (room : ℕ) (progress : Progress)
+pub record HoldsHead (kind : Kind) (rest : List ℕ) (room : ℕ) (progress : HeadProgress)
     (pending : List ℕ) : Type 0 where
   pub passed : List Head
   pub passes : PassesOver kind rest passed pending
@@ -31,7 +32,7 @@ pub record HoldsHead (kind : Kind) (rest : List ℕ) (room : ℕ) (progress : Pr
 
 -- the rest is a whole head without a fault, and what has come of its body
 pub record HoldsBody (kind : Kind) (rest : List ℕ) (message : Message) (body : List ℕ)
-    (part : Part) (pending : List ℕ) : Type 0 where
+    (part : BodyPart) (pending : List ℕ) : Type 0 where
   pub passed : List Head
   pub from : List ℕ
   pub passes : PassesOver kind rest passed from
@@ -44,11 +45,11 @@ pub record HoldsBody (kind : Kind) (rest : List ℕ) (message : Message) (body :
   pub part_is : HoldsPart part body pending framing behind
 
 -- the rest has no fault yet, and has come so far
-abbrev pub Holds : Kind → Stage → List ℕ → List ℕ → Type 0
-Holds kind (InHead room progress) pending rest = HoldsHead kind rest room progress pending
-Holds kind (Body message body part) pending rest =
+abbrev pub HoldsRest : Kind → Stage → List ℕ → List ℕ → Type 0
+HoldsRest kind (InHead room progress) pending rest = HoldsHead kind rest room progress pending
+HoldsRest kind (Body message body part) pending rest =
     HoldsBody kind rest message body.items part pending
-Holds kind (Faulty broken) pending rest = ⊥
+HoldsRest kind (Faulty broken) pending rest = ⊥
 
 -- the fault is that of the rest, unless memory ran out
 abbrev pub TellsFault : Kind → List ℕ → FrameFault → Type 0
@@ -73,31 +74,32 @@ BreaksAs kind rest broken =
 -- and else it has this fault, unless memory ran out
 abbrev pub HoldsStage : Kind → Stage → List ℕ → List ℕ → Type 0
 HoldsStage kind (Faulty broken) pending rest = BreaksAs kind rest broken
-HoldsStage kind (InHead room progress) pending rest = Holds kind (InHead room progress) pending rest
+HoldsStage kind (InHead room progress) pending rest =
+    HoldsRest kind (InHead room progress) pending rest
 HoldsStage kind (Body message body part) pending rest =
-    Holds kind (Body message body part) pending rest
+    HoldsRest kind (Body message body part) pending rest
 
 -- the stage and the bytes that are kept go together
 abbrev pub CanGoOn : Kind → Stage → List ℕ → Type 0
-CanGoOn kind stage pending = (rest : List ℕ) × Holds kind stage pending rest
+CanGoOn kind stage pending = (rest : List ℕ) × HoldsRest kind stage pending rest
 
 -- the text is still no whole message, or it is one, which joins the others
-abbrev pub NextIs : Kind → List ℕ → List Message → List Message → Stage → List ℕ → Type 0
-NextIs kind text old new stage pending =
-    ((new ≡ old) × Holds kind stage pending text)
+abbrev pub NextMessageIs : Kind → List ℕ → List Message → List Message → Stage → List ℕ → Type 0
+NextMessageIs kind text old new stage pending =
+    ((new ≡ old) × HoldsRest kind stage pending text)
     ⊎ ((message : Message) × (new ≡ old ++ message ∷ []) × IsMessage kind text message
-    × Holds kind stage pending [])
+    × HoldsRest kind stage pending [])
 
 -- a step used some of a piece, or met a fault
 abbrev pub AdvanceIs : Kind → Bool → List ℕ → List ℕ → List Message → List Message
     → List ℕ → Result (ℕ × Stage) FrameFault → Type 0
 AdvanceIs kind asks rest piece old new pending (Ok (used, stage)) =
-    UsesSome piece used × NextIs kind (rest ++ take used piece) old new stage pending
+    UsesSome piece used × NextMessageIs kind (rest ++ take used piece) old new stage pending
 AdvanceIs kind asks rest piece old new pending (Err fault) =
     (new ≡ old) × BreaksAs kind (rest ++ piece) (record { fault = fault; expects = asks })
 
 -- the text is what is passed over and a whole head without a fault, of this message
-pub record IsHeadOf (kind : Kind) (text : List ℕ) (message : Message)
+pub record IsHeadOfMessage (kind : Kind) (text : List ℕ) (message : Message)
     (framing : Framing) : Type 0 where
   pub passed : List Head
   pub from : List ℕ
@@ -110,19 +112,20 @@ pub record IsHeadOf (kind : Kind) (text : List ℕ) (message : Message)
 -- what a body begins as behind a whole head
 abbrev pub BeginsBody : Kind → List ℕ → List Message → List Message
     → Result Stage FrameFault → Type 0
-BeginsBody kind text old new (Ok stage) = NextIs kind text old new stage []
+BeginsBody kind text old new (Ok stage) = NextMessageIs kind text old new stage []
 BeginsBody kind text old new (Err fault) = (new ≡ old) × (fault ≡ OutOfMemory)
 
 -- where a reader is behind a step in a head, or the fault of the text
 abbrev pub EndsHead : Kind → List ℕ → List ℕ → List Message → List Message
     → Result Stage FrameFault → Type 0
-EndsHead kind text pending old new (Ok stage) = NextIs kind text old new stage pending
+EndsHead kind text pending old new (Ok stage) = NextMessageIs kind text old new stage pending
 EndsHead kind text pending old new (Err fault) = (new ≡ old) × HasHeadFault kind text fault
 
 -- the bytes are the messages taken and those that wait, and then a rest of which this much is kept
-abbrev pub HoldsAll : Kind → List ℕ → List Message → List Message → Stage → List ℕ → Type 0
-HoldsAll kind bytes taken queue stage pending =
-    (rest : List ℕ) × AreMessages kind bytes (taken ++ queue) rest × Holds kind stage pending rest
+abbrev pub HoldsMessages : Kind → List ℕ → List Message → List Message → Stage → List ℕ → Type 0
+HoldsMessages kind bytes taken queue stage pending =
+    (rest : List ℕ) × AreMessages kind bytes (taken ++ queue) rest
+    × HoldsRest kind stage pending rest
 
 -- the bytes are the messages taken and those that wait, and then a rest with this fault
 abbrev pub HoldsFaulty : Kind → List ℕ → List Message → List Message → Broken → Type 0
@@ -132,7 +135,8 @@ HoldsFaulty kind bytes taken queue broken =
 -- a piece was read
 abbrev pub ReadsPiece : Kind → List ℕ → List Message → List Message
     → List ℕ → Result Stage Broken → Type 0
-ReadsPiece kind bytes taken queue pending (Ok stage) = HoldsAll kind bytes taken queue stage pending
+ReadsPiece kind bytes taken queue pending (Ok stage) =
+    HoldsMessages kind bytes taken queue stage pending
 ReadsPiece kind bytes taken queue pending (Err broken) = HoldsFaulty kind bytes taken queue broken
 
 -- the messages that wait to be taken
@@ -164,20 +168,20 @@ asks_first [] stage = stage_expects stage
 asks_first (message ∷ messages) stage = message_expects message
 
 -- the reader was given these bytes, and of their messages these were taken
-abbrev pub StandsFor : Kind → List ℕ → List Message → MessageReader → Type 0
-StandsFor kind bytes taken reader =
+abbrev pub ReaderStandsFor : Kind → List ℕ → List Message → MessageReader → Type 0
+ReaderStandsFor kind bytes taken reader =
     (rest : List ℕ) × AreMessages kind bytes (taken ++ waiting reader) rest
     × HoldsStage kind reader.stage reader.pending.items rest
 
 -- a reader that was given some bytes
 abbrev pub IsReader : MessageReader → Type 0
 IsReader reader =
-    (bytes : List ℕ) × (taken : List Message) × StandsFor reader.kind bytes taken reader
+    (bytes : List ℕ) × (taken : List Message) × ReaderStandsFor reader.kind bytes taken reader
 
 -- the messages so far are those of the bytes, and the fault, where there is one, is theirs
 abbrev pub Decides : {T : Type 0} → Kind → List ℕ → List Message → Result T FrameFault → Type 0
 Decides kind bytes messages (Ok done) =
-    Reads kind bytes messages between ⊎ Reads kind bytes messages inside
+    ReadsMessages kind bytes messages between ⊎ ReadsMessages kind bytes messages inside
 Decides kind bytes messages (Err OutOfMemory) =
     (rest : List ℕ) × AreMessages kind bytes messages rest
-Decides kind bytes messages (Err fault) = Reads kind bytes messages (faulty fault)
+Decides kind bytes messages (Err fault) = ReadsMessages kind bytes messages (faulty fault)

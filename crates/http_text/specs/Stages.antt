@@ -13,7 +13,7 @@ use Rattle.http_text.specs.Messages.{framing_behind, IsBody, IsBodyFault}
 use Rattle.http_text.specs.Follow.{Follows}
 use Rattle.http_text.specs.Line.{FollowsLine}
 use Rattle.http_text.specs.Front.{TellsFaultAt}
-use Rattle.http_text.specs.declared.follow.Progress.{Progress}
+use Rattle.http_text.specs.declared.follow.HeadProgress.{HeadProgress}
 use Rattle.http_text.specs.declared.message.Kind.{Kind}
 use Rattle.http_text.specs.declared.message.Kind.TheVariants.{Replies}
 use Rattle.http_text.specs.declared.framing.FrameFault.{FrameFault}
@@ -22,9 +22,9 @@ use Rattle.http_text.specs.declared.framing.Framing.{Framing}
 use Rattle.http_text.specs.declared.framing.Framing.TheVariants as framings
 use Rattle.http_text.specs.declared.stage.HeadEnd.{HeadEnd}
 use Rattle.http_text.specs.declared.stage.HeadEnd.TheVariants.{Open, Interim, Whole}
-use Rattle.http_text.specs.declared.stage.Part.{Part}
-use Rattle.http_text.specs.declared.stage.Part.TheVariants.{Sized, Line, Content}
-use Rattle.http_text.specs.declared.stage.Part.TheVariants.{ContentEnd, Trailers}
+use Rattle.http_text.specs.declared.stage.BodyPart.{BodyPart}
+use Rattle.http_text.specs.declared.stage.BodyPart.TheVariants.{Sized, Line, Content}
+use Rattle.http_text.specs.declared.stage.BodyPart.TheVariants.{ContentEnd, Trailers}
 
 -- a head that hasn't ended, and has no fault
 pub record IsOpenHead (kind : Kind) (room : ℕ) (text : List ℕ) : Type 0 where
@@ -87,11 +87,11 @@ HoldsTrailers framing body behind text =
 abbrev pub some_status_line : List ℕ
 some_status_line = print_version 1 ++ 32 ∷ (codes "200" ++ 10 ∷ [])
 
-abbrev pub FollowsTrailers : List ℕ → Progress → Type 0
+abbrev pub FollowsTrailers : List ℕ → HeadProgress → Type 0
 FollowsTrailers text progress = Follows Replies (some_status_line ++ text) progress
 
 -- of what stands behind a head, the body has come so far, and pending is the start of this part
-abbrev pub HoldsPart : Part → List ℕ → List ℕ → Framing → List ℕ → Type 0
+abbrev pub HoldsPart : BodyPart → List ℕ → List ℕ → Framing → List ℕ → Type 0
 HoldsPart (Sized left) body pending framing behind =
     (0 < left) × (framing ≡ framings.Sized (length body + left)) × (behind ≡ body) × (pending ≡ [])
 HoldsPart (Line at) body pending framing behind =
@@ -108,7 +108,7 @@ HoldsPart (Trailers progress) body pending framing behind =
     × FollowsTrailers pending progress
 
 -- some bytes behind some head are a body that has come so far
-abbrev pub IsSomePart : Part → List ℕ → List ℕ → Type 0
+abbrev pub IsSomePart : BodyPart → List ℕ → List ℕ → Type 0
 IsSomePart part body pending =
     (framing : Framing) × (behind : List ℕ) × HoldsPart part body pending framing behind
 
@@ -138,7 +138,7 @@ HeadStepIs kind room old new piece (Err fault) = TellsFaultAt kind room (old ++ 
 
 -- a body goes on, or is whole, or has a fault
 abbrev pub PartStepIs : Framing → List ℕ → List ℕ → List ℕ → List ℕ
-    → Result (ℕ × Option Part) FrameFault → Type 0
+    → Result (ℕ × Option BodyPart) FrameFault → Type 0
 PartStepIs framing behind piece body pending (Ok (used, None)) =
     UsesSome piece used × IsBody framing (behind ++ take used piece) body × (pending ≡ [])
 PartStepIs framing behind piece body pending (Ok (used, Some part)) =

@@ -1,7 +1,7 @@
 -- What callers have taken of a reader.
 use Rattle.std.specs.Prelude.{ℕ, true, List, [], ◌∷◌, ◌++◌, map, Option, Some, None}
 use Rattle.http_text.specs.Messages.{AreMessages, BeginsWithGoodHead}
-use Rattle.http_text.specs.Readers.{StandsFor}
+use Rattle.http_text.specs.Readers.{ReaderStandsFor}
 use Rattle.http_text.specs.declared.message.Kind.{Kind}
 use Rattle.http_text.specs.declared.message.Kind.TheVariants.{Requests, Replies}
 use Rattle.http_text.specs.declared.message.Message.{Message}
@@ -19,11 +19,11 @@ reply_messages replies = map forms.Reply replies
 
 -- the reader was given these bytes, and of their requests these were taken
 abbrev pub GaveRequests : List ℕ → List RawRequest → MessageReader → Type 0
-GaveRequests bytes taken reader = StandsFor Requests bytes (request_messages taken) reader
+GaveRequests bytes taken reader = ReaderStandsFor Requests bytes (request_messages taken) reader
 
 -- and the same of replies
 abbrev pub GaveReplies : List ℕ → List RawReply → MessageReader → Type 0
-GaveReplies bytes taken reader = StandsFor Replies bytes (reply_messages taken) reader
+GaveReplies bytes taken reader = ReaderStandsFor Replies bytes (reply_messages taken) reader
 
 -- behind the messages taken stand what is passed over and a whole head without a fault, which asks
 -- for 100 Continue

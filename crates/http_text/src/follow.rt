@@ -7,7 +7,7 @@ ghost use Rattle.std.specs.Prelude.{◌≡◌, ◌≤◌, ◌<◌, ◌++◌, ◌
 ghost use Rattle.httparse.specs.Grammar.{is_token_byte};
 ghost use Rattle.http_text.specs.Follow.{Follows, is_known};
 ghost use Rattle.http_text.specs.Heads.{goes_on};
-ghost use Rattle.http_text.specs.declared.follow.Progress.TheVariants as at;
+ghost use Rattle.http_text.specs.declared.follow.HeadProgress.TheVariants as at;
 
 use crate::heads::{goes_on, is_value_byte};
 use crate::message::Kind;
@@ -15,7 +15,7 @@ use httparse::is_token;
 
 /// Where a head that hasn't ended ends so far.
 #[derive(Clone, Copy, Debug, PartialEq, Eq)]
-pub enum Progress {
+pub enum HeadProgress {
     /// In the empty lines before it.
     Blank,
     /// In one of these, behind its carriage return.
@@ -41,148 +41,148 @@ fn is_token_byte(byte: u8) -> bool
     is_token(&[byte])
 }
 
-fn after_blank(kind: Kind, byte: u8) -> Progress
+fn after_blank(kind: Kind, byte: u8) -> HeadProgress
     ensures { (text : List ℕ) → Follows kind text at.Blank
         → Follows kind (text ++ byte ∷ []) result }
 {
     if byte == b'\n' {
-        return Progress::Blank;
+        return HeadProgress::Blank;
     }
     if byte == b'\r' {
-        return Progress::BlankEnd;
+        return HeadProgress::BlankEnd;
     }
     match kind {
         Kind::Requests => {
             if is_token_byte(byte) {
-                return Progress::Method;
+                return HeadProgress::Method;
             }
-            Progress::Unknown
+            HeadProgress::Unknown
         }
-        Kind::Replies => Progress::Unknown,
+        Kind::Replies => HeadProgress::Unknown,
     }
 }
 
-fn after_blank_end(kind: Kind, byte: u8) -> Progress
+fn after_blank_end(kind: Kind, byte: u8) -> HeadProgress
     ensures { (text : List ℕ) → Follows kind text at.BlankEnd
         → Follows kind (text ++ byte ∷ []) result }
 {
     if byte == b'\n' {
-        return Progress::Blank;
+        return HeadProgress::Blank;
     }
-    Progress::Unknown
+    HeadProgress::Unknown
 }
 
-fn after_method(kind: Kind, byte: u8) -> Progress
+fn after_method(kind: Kind, byte: u8) -> HeadProgress
     ensures { (text : List ℕ) → Follows kind text at.Method
         → Follows kind (text ++ byte ∷ []) result }
 {
     if byte == b' ' {
-        return Progress::Target;
+        return HeadProgress::Target;
     }
     if is_token_byte(byte) {
-        return Progress::Method;
+        return HeadProgress::Method;
     }
-    Progress::Unknown
+    HeadProgress::Unknown
 }
 
-fn after_target(kind: Kind, byte: u8) -> Progress
+fn after_target(kind: Kind, byte: u8) -> HeadProgress
     ensures { (text : List ℕ) → Follows kind text at.Target
         → Follows kind (text ++ byte ∷ []) result }
 {
     if goes_on(byte) {
-        return Progress::Target;
+        return HeadProgress::Target;
     }
-    Progress::Unknown
+    HeadProgress::Unknown
 }
 
-fn after_reason(kind: Kind, byte: u8) -> Progress
+fn after_reason(kind: Kind, byte: u8) -> HeadProgress
     ensures { (text : List ℕ) → Follows kind text at.Reason
         → Follows kind (text ++ byte ∷ []) result }
 {
     if is_value_byte(byte) {
-        return Progress::Reason;
+        return HeadProgress::Reason;
     }
-    Progress::Unknown
+    HeadProgress::Unknown
 }
 
-fn after_line(kind: Kind, byte: u8) -> Progress
+fn after_line(kind: Kind, byte: u8) -> HeadProgress
     ensures { (text : List ℕ) → Follows kind text at.Line
         → Follows kind (text ++ byte ∷ []) result }
 {
     if is_token_byte(byte) {
-        return Progress::Name;
+        return HeadProgress::Name;
     }
-    Progress::Unknown
+    HeadProgress::Unknown
 }
 
-fn after_name(kind: Kind, byte: u8) -> Progress
+fn after_name(kind: Kind, byte: u8) -> HeadProgress
     ensures { (text : List ℕ) → Follows kind text at.Name
         → Follows kind (text ++ byte ∷ []) result }
 {
     if byte == b':' {
-        return Progress::Value;
+        return HeadProgress::Value;
     }
     if is_token_byte(byte) {
-        return Progress::Name;
+        return HeadProgress::Name;
     }
-    Progress::Unknown
+    HeadProgress::Unknown
 }
 
-fn after_value(kind: Kind, byte: u8) -> Progress
+fn after_value(kind: Kind, byte: u8) -> HeadProgress
     ensures { (text : List ℕ) → Follows kind text at.Value
         → Follows kind (text ++ byte ∷ []) result }
 {
     if byte == b'\n' {
-        return Progress::Line;
+        return HeadProgress::Line;
     }
     if byte == b'\r' {
-        return Progress::ValueEnd;
+        return HeadProgress::ValueEnd;
     }
     if is_value_byte(byte) {
-        return Progress::Value;
+        return HeadProgress::Value;
     }
-    Progress::Unknown
+    HeadProgress::Unknown
 }
 
-fn after_value_end(kind: Kind, byte: u8) -> Progress
+fn after_value_end(kind: Kind, byte: u8) -> HeadProgress
     ensures { (text : List ℕ) → Follows kind text at.ValueEnd
         → Follows kind (text ++ byte ∷ []) result }
 {
     if byte == b'\n' {
-        return Progress::Line;
+        return HeadProgress::Line;
     }
-    Progress::Unknown
+    HeadProgress::Unknown
 }
 
-fn after_byte(kind: Kind, progress: Progress, byte: u8) -> Progress
+fn after_byte(kind: Kind, progress: HeadProgress, byte: u8) -> HeadProgress
     ensures { (text : List ℕ) → Follows kind text progress
         → Follows kind (text ++ byte ∷ []) result }
 {
     match progress {
-        Progress::Blank => after_blank(kind, byte),
-        Progress::BlankEnd => after_blank_end(kind, byte),
-        Progress::Method => after_method(kind, byte),
-        Progress::Target => after_target(kind, byte),
-        Progress::Reason => after_reason(kind, byte),
-        Progress::Line => after_line(kind, byte),
-        Progress::Name => after_name(kind, byte),
-        Progress::Value => after_value(kind, byte),
-        Progress::ValueEnd => after_value_end(kind, byte),
-        Progress::Unknown => Progress::Unknown,
+        HeadProgress::Blank => after_blank(kind, byte),
+        HeadProgress::BlankEnd => after_blank_end(kind, byte),
+        HeadProgress::Method => after_method(kind, byte),
+        HeadProgress::Target => after_target(kind, byte),
+        HeadProgress::Reason => after_reason(kind, byte),
+        HeadProgress::Line => after_line(kind, byte),
+        HeadProgress::Name => after_name(kind, byte),
+        HeadProgress::Value => after_value(kind, byte),
+        HeadProgress::ValueEnd => after_value_end(kind, byte),
+        HeadProgress::Unknown => HeadProgress::Unknown,
     }
 }
 
-fn is_known(progress: Progress) -> bool
+fn is_known(progress: HeadProgress) -> bool
     ensures { result ≡ is_known progress }
 {
     match progress {
-        Progress::Unknown => false,
+        HeadProgress::Unknown => false,
         _ => true,
     }
 }
 
 /// Follows a head as far as it goes: how many bytes that is, and where it then is.
-pub fn follow(kind: Kind, progress: Progress, bytes: &[u8]) -> (usize, Progress)
+pub fn follow(kind: Kind, progress: HeadProgress, bytes: &[u8]) -> (usize, HeadProgress)
     ensures within { result.0 ≤ length bytes.now }
     ensures follows { (text : List ℕ) → Follows kind text progress
         → Follows kind (text ++ take result.0 bytes.now) result.1 }

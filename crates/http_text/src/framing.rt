@@ -6,7 +6,7 @@ ghost use Rattle.std.specs.Char.{is_ascii_digit};
 ghost use Rattle.std.specs.Str.Parse.{digits_value};
 ghost use Rattle.httparse.specs.Spans.{IsHeaderWithin, header_bytes};
 ghost use Rattle.http_text.specs.Framing.{expects, framing_by_length, framing_of};
-ghost use Rattle.http_text.specs.Framing.{has_body, is_continue, lacks_host, length_of};
+ghost use Rattle.http_text.specs.Framing.{has_body, is_continue, lacks_host, length_value};
 ghost use Rattle.http_text.specs.Fields.{first_of};
 ghost use Rattle.http_text.specs.declared.message.Kind.TheVariants as kinds;
 ghost use Rattle.std.specs.Option.{option_copied};
@@ -100,7 +100,7 @@ pub enum Framing {
 
 // The number that the value of Content-Length has, where it is 1 to 18 digits.
 fn parse_length(value: &[u8]) -> Option<u64>
-    ensures { result ≡ length_of value.now }
+    ensures { result ≡ length_value value.now }
 {
     if value.is_empty() || value.len() > 18 || !are_digits(value) {
         return None;

@@ -3,12 +3,14 @@ ghost use Rattle.std.specs.Prelude.{◌≡◌, ◌⊎◌, ◌||◌, ◌+◌, ◌
 ghost use Rattle.std.specs.Prelude.{take, false, List, ℕ, [], IfErr, IfNone, IfOk, IfSome};
 ghost use Rattle.std.specs.Prelude.{IsTrue, MatchOption, OnErr, OnOk, Some, None, Err};
 ghost use Rattle.http_text.specs.Readers.{AdvanceIs, BeginsBody, CanGoOn, Decides, EndsHead};
-ghost use Rattle.http_text.specs.Readers.{Holds, HoldsAll, HoldsHead, HoldsStage, IsHeadOf};
-ghost use Rattle.http_text.specs.Readers.{IsReader, ReadsPiece, StandsFor, asks_first, fault_of};
+ghost use Rattle.http_text.specs.Readers.{HoldsRest, HoldsMessages, HoldsHead, HoldsStage};
+ghost use Rattle.http_text.specs.Readers.{IsHeadOfMessage};
+ghost use Rattle.http_text.specs.Readers.{IsReader, ReadsPiece, ReaderStandsFor, asks_first};
+ghost use Rattle.http_text.specs.Readers.{fault_of};
 ghost use Rattle.http_text.specs.Readers.{stage_expects, stage_fault, waiting, was_told};
-ghost use Rattle.http_text.specs.Messages.{End, Reads, between, inside};
+ghost use Rattle.http_text.specs.Messages.{End, ReadsMessages, between, inside};
 ghost use Rattle.http_text.specs.Taken.{AsksBehind, taken_after};
-ghost use Rattle.http_text.specs.declared.follow.Progress.{Progress as At};
+ghost use Rattle.http_text.specs.declared.follow.HeadProgress.{HeadProgress as At};
 ghost use Rattle.http_text.specs.declared.framing.FrameFault.{FrameFault as Fault};
 ghost use Rattle.http_text.specs.declared.framing.FrameFault.TheVariants.{OutOfMemory};
 ghost use Rattle.http_text.specs.declared.message.Kind.{Kind};
@@ -18,11 +20,11 @@ ghost use Rattle.http_text.specs.Stages.{HeadStepIs, HoldsPart, IsSomePart, Part
 ghost use Rattle.http_text.specs.declared.framing.Framing as framings;
 
 use crate::chunk::{step_content, step_content_end, step_line, step_trailers};
-use crate::follow::Progress;
+use crate::follow::HeadProgress;
 use crate::framing::{FrameFault, Framing};
 use crate::line::LineAt;
 use crate::message::{Kind, Message, RawReply, RawRequest};
-use crate::stage::{HeadEnd, MOST_HEAD, Part, step_head, step_sized};
+use crate::stage::{BodyPart, HeadEnd, MOST_HEAD, step_head, step_sized};
 use delta_base::Bytes;
 use httparse::spans::HeaderSpan;
 use std::alloc::Global;
@@ -43,12 +45,12 @@ pub enum Stage {
     /// A head, which may have so many bytes.
     Head {
         room: usize,
-        progress: Progress,
+        progress: HeadProgress,
     },
     Body {
         message: Message,
         body: Vec<u8>,
-        part: Part,
+        part: BodyPart,
     },
     Faulty(Broken),
 }
@@ -84,12 +86,12 @@ impl Stage {
         ensures good { IsTrue result → stage_fault self.old ≡ None }
         ensures held { IsTrue result
             → (kind : Kind) (pending rest : List ℕ) → HoldsStage kind self.old pending rest
-            → Holds kind self.new pending (rest ++ piece.now) }
+            → HoldsRest kind self.new pending (rest ++ piece.now) }
     {
         match self {
             Stage::Body { body, part, .. } => match part {
-                Part::Sized { left } => add_within(body, left, piece),
-                Part::Content { left } => add_within(body, left, piece),
+                BodyPart::Sized { left } => add_within(body, left, piece),
+                BodyPart::Content { left } => add_within(body, left, piece),
                 _ => false,
             },
             _ => false,
@@ -117,12 +119,12 @@ fn add_within(bytes: &mut Vec<u8>, left: &mut usize, piece: &[u8]) -> bool
 
 // Where no byte of a message has come.
 fn at_start() -> Stage
-    ensures held { (kind : Kind) → Holds kind result [] [] }
+    ensures held { (kind : Kind) → HoldsRest kind result [] [] }
     ensures fault { stage_fault result ≡ None }
 {
     Stage::Head {
         room: MOST_HEAD,
-        progress: Progress::Blank,
+        progress: HeadProgress::Blank,
     }
 }
 
@@ -133,14 +135,14 @@ fn begin_body(
     message: Message,
     framing: Framing,
 ) -> Result<Stage, FrameFault>
-    ensures { (kind : Kind) (text : List ℕ) → IsHeadOf kind text message framing
+    ensures { (kind : Kind) (text : List ℕ) → IsHeadOfMessage kind text message framing
         → BeginsBody kind text queue.old.items queue.new.items result }
 {
     match framing {
         Framing::Chunked => Ok(Stage::Body {
             message,
             body: Vec::new(alloc),
-            part: Part::Line {
+            part: BodyPart::Line {
                 at: LineAt::Unknown,
             },
         }),
@@ -153,7 +155,7 @@ fn begin_body(
             Ok(Stage::Body {
                 message,
                 body: Vec::new(alloc),
-                part: Part::Sized { left },
+                part: BodyPart::Sized { left },
             })
         }
     }
@@ -162,12 +164,12 @@ fn begin_body(
 // Reads on in a body.
 fn step_part(
     alloc: Global,
-    part: Part,
+    part: BodyPart,
     body: &mut Vec<u8>,
     pending: &mut Vec<u8>,
     headers: &mut Vec<HeaderSpan>,
     piece: &[u8],
-) -> Result<(usize, Option<Part>), FrameFault>
+) -> Result<(usize, Option<BodyPart>), FrameFault>
     requires piece { 0 < length piece.now }
     requires held { IsSomePart part body.old.items pending.old.items }
     ensures { (framing : framings.Framing) (behind : List ℕ)
@@ -175,11 +177,11 @@ fn step_part(
         → PartStepIs framing behind piece.now body.new.items pending.new.items result }
 {
     match part {
-        Part::Sized { left } => step_sized(body, left, piece),
-        Part::Line { at } => step_line(body.len(), at, pending, piece),
-        Part::Content { left } => step_content(body, left, piece),
-        Part::ContentEnd => step_content_end(pending, piece),
-        Part::Trailers { progress } => step_trailers(alloc, progress, pending, headers, piece),
+        BodyPart::Sized { left } => step_sized(body, left, piece),
+        BodyPart::Line { at } => step_line(body.len(), at, pending, piece),
+        BodyPart::Content { left } => step_content(body, left, piece),
+        BodyPart::ContentEnd => step_content_end(pending, piece),
+        BodyPart::Trailers { progress } => step_trailers(alloc, progress, pending, headers, piece),
     }
 }
 
@@ -217,7 +219,7 @@ fn after_head(
             }
             Ok(Stage::Head {
                 room: left,
-                progress: Progress::Blank,
+                progress: HeadProgress::Blank,
             })
         }
         HeadEnd::Whole { message, framing } => begin_body(alloc, queue, message, framing),
@@ -236,7 +238,7 @@ fn advance(
 ) -> Result<(usize, Stage), FrameFault>
     requires piece { 0 < length piece.now }
     requires held { CanGoOn kind stage pending.old.items }
-    ensures { (rest : List ℕ) → Holds kind stage pending.old.items rest
+    ensures { (rest : List ℕ) → HoldsRest kind stage pending.old.items rest
         → AdvanceIs kind (stage_expects stage) rest piece.now queue.old.items
         queue.new.items pending.new.items result }
 {
@@ -284,7 +286,7 @@ fn read_piece(
     requires held { CanGoOn kind stage pending.old.items }
     ensures held { IfOk result (λ next. CanGoOn kind next pending.new.items) }
     ensures read { (bytes : List ℕ) (taken : List Message)
-        → HoldsAll kind bytes taken queue.old.items stage pending.old.items
+        → HoldsMessages kind bytes taken queue.old.items stage pending.old.items
         → ReadsPiece kind (bytes ++ piece.now) taken queue.new.items pending.new.items result }
 {
     let mut stage = stage;
@@ -310,7 +312,7 @@ impl MessageReader {
     /// A reader that was given no bytes.
     pub fn new(alloc: Global, kind: Kind) -> MessageReader
         ensures kind { result.kind ≡ kind }
-        ensures stands { StandsFor kind [] [] result }
+        ensures stands { ReaderStandsFor kind [] [] result }
         ensures fault { fault_of result ≡ None }
         ensures told { was_told result ≡ false }
     {
@@ -332,12 +334,12 @@ impl MessageReader {
         ensures reader { IsReader self.new }
         // The reader then stands for the bytes so far and this piece.
         ensures stands { (bytes : List ℕ) (taken : List Message)
-            → StandsFor self.old.kind bytes taken self.old
-            → StandsFor self.old.kind (bytes ++ piece.now) taken self.new }
+            → ReaderStandsFor self.old.kind bytes taken self.old
+            → ReaderStandsFor self.old.kind (bytes ++ piece.now) taken self.new }
         // The messages are then those of all the bytes, and the fault is theirs, however
         // they were cut.
         ensures decides { (bytes : List ℕ) (taken : List Message)
-            → StandsFor self.old.kind bytes taken self.old
+            → ReaderStandsFor self.old.kind bytes taken self.old
             → Decides self.old.kind (bytes ++ piece.now) (taken ++ waiting self.new) result }
         ensures ok { OnOk result (fault_of self.new ≡ None) }
         ensures fault { IfErr result (λ fault. fault_of self.new ≡ Some fault) }
@@ -388,8 +390,8 @@ impl MessageReader {
         ensures empty { IfNone result (waiting self.new ≡ []) }
         ensures first { IfSome result (λ message. waiting self.old ≡ message ∷ waiting self.new) }
         ensures rest { (bytes : List ℕ) (taken : List Message)
-            → StandsFor self.old.kind bytes taken self.old
-            → StandsFor self.old.kind bytes (taken_after taken result) self.new }
+            → ReaderStandsFor self.old.kind bytes taken self.old
+            → ReaderStandsFor self.old.kind bytes (taken_after taken result) self.new }
         ensures fault { fault_of self.new ≡ fault_of self.old }
         ensures reader { IsReader self.new }
         ensures told { MatchOption result (was_told self.new ≡ was_told self.old)
@@ -419,15 +421,17 @@ impl MessageReader {
         ensures kind { self.new.kind ≡ self.old.kind }
         ensures reader { IsReader self.new }
         ensures stands { (bytes : List ℕ) (taken : List Message)
-            → StandsFor self.old.kind bytes taken self.old
-            → StandsFor self.old.kind bytes taken self.new }
+            → ReaderStandsFor self.old.kind bytes taken self.old
+            → ReaderStandsFor self.old.kind bytes taken self.new }
         ensures told { was_told self.new ≡ (was_told self.old || result) }
         ensures once { IsTrue result → was_told self.old ≡ false }
         ensures asks { IsTrue result
-            → (bytes : List ℕ) (taken : List Message) → StandsFor self.old.kind bytes taken self.old
+            → (bytes : List ℕ) (taken : List Message)
+            → ReaderStandsFor self.old.kind bytes taken self.old
             → AsksBehind self.old.kind bytes taken }
         ensures quiet { result ≡ false → was_told self.old ≡ false
-            → (bytes : List ℕ) (taken : List Message) → StandsFor self.old.kind bytes taken self.old
+            → (bytes : List ℕ) (taken : List Message)
+            → ReaderStandsFor self.old.kind bytes taken self.old
             → ((waiting self.old ≡ []) × (fault_of self.old ≡ Some OutOfMemory))
             ⊎ ¬ (AsksBehind self.old.kind bytes taken) }
         ensures waiting { waiting self.new ≡ waiting self.old }
@@ -444,11 +448,11 @@ impl MessageReader {
     pub fn finish(&self) -> Result<(), CutShort>
         requires { fault_of self.now ≡ None }
         ensures between { OnOk result ((bytes : List ℕ) (taken : List Message)
-            → StandsFor self.now.kind bytes taken self.now
-            → Reads self.now.kind bytes (taken ++ waiting self.now) between) }
+            → ReaderStandsFor self.now.kind bytes taken self.now
+            → ReadsMessages self.now.kind bytes (taken ++ waiting self.now) between) }
         ensures inside { OnErr result ((bytes : List ℕ) (taken : List Message)
-            → StandsFor self.now.kind bytes taken self.now
-            → Reads self.now.kind bytes (taken ++ waiting self.now) inside) }
+            → ReaderStandsFor self.now.kind bytes taken self.now
+            → ReadsMessages self.now.kind bytes (taken ++ waiting self.now) inside) }
     {
         match self.stage {
             Stage::Head { room, .. } => {
@@ -469,6 +473,6 @@ impl MessageReader {
 /// A stream has one reading: its messages and its end are determined by its bytes.
 pub fn one_reading()
     ensures { (kind : Kind) (bytes : List ℕ) (xs ys : List Message) (end other : End)
-        → Reads kind bytes xs end
-        → Reads kind bytes ys other → (xs ≡ ys) × (end ≡ other) }
+        → ReadsMessages kind bytes xs end
+        → ReadsMessages kind bytes ys other → (xs ≡ ys) × (end ≡ other) }
 {}

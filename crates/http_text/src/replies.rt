@@ -28,7 +28,7 @@ impl Model for ReplyReader {
 impl ReplyReader {
     ghost use Rattle.std.specs.Prelude.{◌≡◌, ◌++◌, ◌∷◌, ℕ, List, [], map, None};
     ghost use Rattle.std.specs.Prelude.{Some, IfErr, IfNone, IfSome, OnErr, OnOk};
-    ghost use Rattle.http_text.specs.Messages.{Reads, between, inside};
+    ghost use Rattle.http_text.specs.Messages.{ReadsMessages, between, inside};
     ghost use Rattle.http_text.specs.Readers.{Decides, fault_of, waiting};
     ghost use Rattle.http_text.specs.Taken.{GaveReplies, reply_messages, taken_after};
     ghost use Rattle.http_text.specs.declared.framing.FrameFault.{FrameFault as Fault};
@@ -87,10 +87,11 @@ impl ReplyReader {
         requires { fault_of self.now ≡ None }
         ensures between { OnOk result ((bytes : List ℕ) (taken : List Taken)
             → GaveReplies bytes taken self.now
-            → Reads kinds.Replies bytes (reply_messages taken ++ waiting self.now) between) }
+            → ReadsMessages kinds.Replies bytes
+            (reply_messages taken ++ waiting self.now) between) }
         ensures inside { OnErr result ((bytes : List ℕ) (taken : List Taken)
             → GaveReplies bytes taken self.now
-            → Reads kinds.Replies bytes (reply_messages taken ++ waiting self.now) inside) }
+            → ReadsMessages kinds.Replies bytes (reply_messages taken ++ waiting self.now) inside) }
     {
         self.reader.finish()
     }

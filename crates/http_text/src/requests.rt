@@ -29,7 +29,7 @@ impl RequestReader {
     ghost use Rattle.std.specs.Prelude.{◌≡◌, ◌⊎◌, ◌||◌, ◌++◌, ◌∷◌, ℕ, false};
     ghost use Rattle.std.specs.Prelude.{List, [], map, None, Some, IfErr, IfNone};
     ghost use Rattle.std.specs.Prelude.{IfSome, IsTrue, MatchOption, OnErr, OnOk};
-    ghost use Rattle.http_text.specs.Messages.{Reads, between, inside};
+    ghost use Rattle.http_text.specs.Messages.{ReadsMessages, between, inside};
     ghost use Rattle.http_text.specs.Readers.{Decides, fault_of, waiting, was_told};
     ghost use Rattle.http_text.specs.Taken.{AsksAtFront, GaveRequests};
     ghost use Rattle.http_text.specs.Taken.{request_messages, taken_after};
@@ -116,10 +116,12 @@ impl RequestReader {
         requires { fault_of self.now ≡ None }
         ensures between { OnOk result ((bytes : List ℕ) (taken : List Taken)
             → GaveRequests bytes taken self.now
-            → Reads kinds.Requests bytes (request_messages taken ++ waiting self.now) between) }
+            → ReadsMessages kinds.Requests bytes
+            (request_messages taken ++ waiting self.now) between) }
         ensures inside { OnErr result ((bytes : List ℕ) (taken : List Taken)
             → GaveRequests bytes taken self.now
-            → Reads kinds.Requests bytes (request_messages taken ++ waiting self.now) inside) }
+            → ReadsMessages kinds.Requests bytes
+            (request_messages taken ++ waiting self.now) inside) }
     {
         self.reader.finish()
     }

@@ -4,14 +4,14 @@ use Rattle.std.proofs.Math.Seq.{take-length}
 use Rattle.std.specs.Prelude.{IsTrue}
 use Rattle.std.proofs.lemmas.List.{take-append-le, drop-append-le, take-take, drop-take, take_all, length-take-le}
 use Rattle.line_log.specs.declared.edits.Edit.{Edit}
-use Rattle.line_log.specs.Held.{Fill, cut, start_of}
+use Rattle.line_log.specs.Held.{Fill, cut_edits, start_of}
 use Rattle.line_log.specs.Sorting.{adds_at, line_at}
 
-pub length-cut : (s : ℕ) (es : List Edit) (text : List ℕ) → length (cut s es text) ≡ length es
+pub length-cut : (s : ℕ) (es : List Edit) (text : List ℕ) → length (cut_edits s es text) ≡ length es
 length-cut s [] text = refl
 length-cut s (e ∷ es) text = ap suc (length-cut e.end es text)
 
-pub no_edits : (es : List Edit) (text : List ℕ) → (IsTrue (length es == 0) → cut 0 es text ≡ []) × (cut 0 es text ≡ [] → IsTrue (length es == 0))
+pub no_edits : (es : List Edit) (text : List ℕ) → (IsTrue (length es == 0) → cut_edits 0 es text ≡ []) × (cut_edits 0 es text ≡ [] → IsTrue (length es == 0))
 no_edits [] text = (λ h. refl, λ e. refl)
 no_edits (e ∷ es) text = (λ h. grind arith, λ h. absurd cc)
 
@@ -37,13 +37,13 @@ line_inside s t (e ∷ es) zero d f h = (f.0, fill_to e.end t es f.1)
 line_inside s t (e ∷ es) (suc n) d f h = line_inside e.end t es n d f.1 (omega arith)
 
 -- the edit of a number
-pub adds-cut : (s : ℕ) (es : List Edit) (text : List ℕ) (n : ℕ) (d : Edit) → n < length es → adds_at (cut s es text) n ≡ (get_or es n d).adds
+pub adds-cut : (s : ℕ) (es : List Edit) (text : List ℕ) (n : ℕ) (d : Edit) → n < length es → adds_at (cut_edits s es text) n ≡ (get_or es n d).adds
 adds-cut s [] text n d h = absurd (omega arith)
 adds-cut s (e ∷ es) text zero d h = refl
 adds-cut s (e ∷ es) text (suc n) d h = adds-cut e.end es text n d (omega arith)
 
 pub line-cut : (s : ℕ) (es : List Edit) (text : List ℕ) (n : ℕ) (d : Edit) → n < length es
-    → line_at (cut s es text) n ≡ take ((get_or es n d).end - start_of s es n) (drop (start_of s es n) text)
+    → line_at (cut_edits s es text) n ≡ take ((get_or es n d).end - start_of s es n) (drop (start_of s es n) text)
 line-cut s [] text n d h = absurd (omega arith)
 line-cut s (e ∷ es) text zero d h = refl
 line-cut s (e ∷ es) text (suc n) d h = line-cut e.end es text n d (omega arith)
@@ -57,14 +57,14 @@ piece_front s e m text low high =
     ap (λ (n : ℕ). take (e - s) (drop s (take n text))) whole ∙ ap (take (e - s)) (drop-take s (m - s) text) ∙ take-take (e - s) (m - s) (drop s text) (omega (arith, low, high))
 
 -- edits stand in the front of a text that their lines fill
-cut-front : (s t m : ℕ) (es : List Edit) (text : List ℕ) → Fill s es t → t ≤ m → cut s es (take m text) ≡ cut s es text
+cut-front : (s t m : ℕ) (es : List Edit) (text : List ℕ) → Fill s es t → t ≤ m → cut_edits s es (take m text) ≡ cut_edits s es text
 cut-front s t m [] text f high = refl
 cut-front s t m (e ∷ es) text f high =
-    ap (λ (l : List ℕ). (e.adds, l) ∷ cut e.end es (take m text)) (piece_front s e.end m text f.0 (omega (arith, high, fill_to e.end t es f.1)))
+    ap (λ (l : List ℕ). (e.adds, l) ∷ cut_edits e.end es (take m text)) (piece_front s e.end m text f.0 (omega (arith, high, fill_to e.end t es f.1)))
     ∙ ap (λ (l : List (Bool × List ℕ)). (e.adds, take (e.end - s) (drop s text)) ∷ l) (cut-front e.end t m es text f.1 high)
 
-cut-append : (s t : ℕ) (es fs : List Edit) (text : List ℕ) → Fill s es t → cut s (es ++ fs) text ≡ cut s es text ++ cut t fs text
-cut-append s t [] fs text f = ap (λ (n : ℕ). cut n fs text) f
+cut-append : (s t : ℕ) (es fs : List Edit) (text : List ℕ) → Fill s es t → cut_edits s (es ++ fs) text ≡ cut_edits s es text ++ cut_edits t fs text
+cut-append s t [] fs text f = ap (λ (n : ℕ). cut_edits n fs text) f
 cut-append s t (e ∷ es) fs text f = ap (λ (l : List (Bool × List ℕ)). (e.adds, take (e.end - s) (drop s text)) ∷ l) (cut-append e.end t es fs text f.1)
 
 fill-append : (s t u : ℕ) (es fs : List Edit) → Fill s es t → Fill t fs u → Fill s (es ++ fs) u
@@ -73,17 +73,17 @@ fill-append s t u (e ∷ es) fs f g = (f.0, fill-append e.end t u es fs f.1 g)
 
 -- one more edit, whose line stands behind the text
 pub pushed : (es fs : List Edit) (adds : Bool) (end : ℕ) (text more line : List ℕ) → fs ≡ es ++ record { adds = adds; end = end } ∷ [] → more ≡ text ++ line → end ≡ length more
-    → Fill 0 es (length text) → cut 0 fs more ≡ cut 0 es text ++ (adds, line) ∷ []
+    → Fill 0 es (length text) → cut_edits 0 fs more ≡ cut_edits 0 es text ++ (adds, line) ∷ []
 pushed es fs adds end text more line e f h fill =
     let last : Edit = record { adds = adds; end = end } in
     let n = length text in
     let same : take n (text ++ line) ≡ text = take-append-le n text line (omega arith) ∙ take-length text in
     let behind : drop n (text ++ line) ≡ line = drop-append-le n text line (omega arith) ∙ ap (λ (l : List ℕ). l ++ line) (drop_whole text) in
     let long : end - n ≡ length line = omega (arith, h, ap length f, length-append text line) in
-    let before : cut 0 es (text ++ line) ≡ cut 0 es text = sym (cut-front 0 n n es (text ++ line) fill (omega arith)) ∙ ap (cut 0 es) same in
+    let before : cut_edits 0 es (text ++ line) ≡ cut_edits 0 es text = sym (cut-front 0 n n es (text ++ line) fill (omega arith)) ∙ ap (cut_edits 0 es) same in
     let new : take (end - n) (drop n (text ++ line)) ≡ line = ap (take (end - n)) behind ∙ take_all (end - n) line (omega (arith, long)) in
-    ap (λ (l : List Edit). cut 0 l more) e ∙ ap (cut 0 (es ++ last ∷ [])) f ∙ cut-append 0 n es (last ∷ []) (text ++ line) fill
-    ∙ ap (λ (l : List (Bool × List ℕ)). l ++ (adds, take (end - n) (drop n (text ++ line))) ∷ []) before ∙ ap (λ (l : List ℕ). cut 0 es text ++ (adds, l) ∷ []) new
+    ap (λ (l : List Edit). cut_edits 0 l more) e ∙ ap (cut_edits 0 (es ++ last ∷ [])) f ∙ cut-append 0 n es (last ∷ []) (text ++ line) fill
+    ∙ ap (λ (l : List (Bool × List ℕ)). l ++ (adds, take (end - n) (drop n (text ++ line))) ∷ []) before ∙ ap (λ (l : List ℕ). cut_edits 0 es text ++ (adds, l) ∷ []) new
   where
     drop_whole : (l : List ℕ) → drop (length l) l ≡ []
     drop_whole [] = refl
@@ -102,7 +102,7 @@ fill-take s t zero (e ∷ es) f h = refl
 fill-take s t (suc n) [] f h = absurd (omega arith)
 fill-take s t (suc n) (e ∷ es) f h = (f.0, fill-take e.end t n es f.1 (omega arith))
 
-cut-take : (s n : ℕ) (es : List Edit) (text : List ℕ) → cut s (take n es) text ≡ take n (cut s es text)
+cut-take : (s n : ℕ) (es : List Edit) (text : List ℕ) → cut_edits s (take n es) text ≡ take n (cut_edits s es text)
 cut-take s zero es text = refl
 cut-take s (suc n) [] text = refl
 cut-take s (suc n) (e ∷ es) text = ap (λ (l : List (Bool × List ℕ)). (e.adds, take (e.end - s) (drop s text)) ∷ l) (cut-take e.end n es text)
@@ -117,8 +117,8 @@ module _ (es fs : List Edit) (text front : List ℕ) (count left : ℕ) (few : c
   filled : Fill 0 (take count es) left
   filled = subst (Fill 0 (take count es)) (sym h) (fill-take 0 (length text) count es fill (omega (arith, few)))
 
-  pub truncated : cut 0 fs front ≡ take count (cut 0 es text)
-  truncated = ap (λ (l : List Edit). cut 0 l front) e ∙ ap (cut 0 (take count es)) f ∙ cut-front 0 left left (take count es) text filled (omega arith) ∙ cut-take 0 count es text
+  pub truncated : cut_edits 0 fs front ≡ take count (cut_edits 0 es text)
+  truncated = ap (λ (l : List Edit). cut_edits 0 l front) e ∙ ap (cut_edits 0 (take count es)) f ∙ cut-front 0 left left (take count es) text filled (omega arith) ∙ cut-take 0 count es text
 
   pub fill_truncated : Fill 0 fs (length front)
   fill_truncated =

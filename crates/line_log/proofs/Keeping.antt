@@ -14,7 +14,7 @@ use Rattle.std.proofs.lemmas.Cmp.{tied_itself}
 use Rattle.std.proofs.lemmas.List.{length-map}
 use Rattle.std.proofs.lemmas.Map.Lookups.{exact_bytes}
 use Rattle.line_log.specs.Edits.{edit_lines, edited, made}
-use Rattle.line_log.specs.Sorting.{added, edits_at, keep}
+use Rattle.line_log.specs.Sorting.{additions, edits_at, keep}
 use Rattle.line_log.proofs.Rows.{row_cmp}
 use Rattle.line_log.proofs.Sets.{all_more, equal}
 use Rattle.line_log.proofs.Standing.{AreRising, same}
@@ -141,25 +141,25 @@ rows_rise es (x ∷ rows) s = (all_up rows s.0, rows_rise es rows s.1)
 apart : (l m : List ℕ) → cmp l m ≡ Less → same l m ≡ false
 apart l m less = ap is_eq less
 
-pub keep_added : (lines : List (List ℕ)) → AreRising lines → keep (added lines) ≡ lines
+pub keep_added : (lines : List (List ℕ)) → AreRising lines → keep (additions lines) ≡ lines
 unfolding IsStrictlySortedBy
 keep_added [] s = refl
 keep_added (l ∷ []) s = refl
 keep_added (l ∷ m ∷ lines) s =
-    ap (λ (t : Bool). cond (true && not t) (l ∷ keep (added (m ∷ lines))) (keep (added (m ∷ lines)))) (apart l m s.0.0) ∙ ap (λ (ls : List (List ℕ)). l ∷ ls) (keep_added (m ∷ lines) s.1)
+    ap (λ (t : Bool). cond (true && not t) (l ∷ keep (additions (m ∷ lines))) (keep (additions (m ∷ lines)))) (apart l m s.0.0) ∙ ap (λ (ls : List (List ℕ)). l ∷ ls) (keep_added (m ∷ lines) s.1)
 
-pub added_rise : (lines : List (List ℕ)) → AreRising lines → Rises (added lines)
+pub added_rise : (lines : List (List ℕ)) → AreRising lines → Rises (additions lines)
 unfolding IsStrictlySortedBy
 added_rise [] s = tt
 added_rise (l ∷ lines) s = (all_up lines s.0, added_rise lines s.1)
   where
-    all_up : (ks : List (List ℕ)) → AllByRecursion (λ k. cmp l k ≡ Less) ks → AllByRecursion (λ f. cmp l f.1 ≡ Greater → ⊥) (added ks)
+    all_up : (ks : List (List ℕ)) → AllByRecursion (λ k. cmp l k ≡ Less) ks → AllByRecursion (λ f. cmp l f.1 ≡ Greater → ⊥) (additions ks)
     all_up [] a = tt
     all_up (k ∷ ks) a = ((λ g. absurd cc), all_up ks a.1)
 
 -- lines in order are made by adding each
-pub made_added : (lines : List (List ℕ)) → AreRising lines → made (added lines) ≡ lines
-made_added lines s = made_keep (added lines) (added_rise lines s) ∙ keep_added lines s
+pub made_added : (lines : List (List ℕ)) → AreRising lines → made (additions lines) ≡ lines
+made_added lines s = made_keep (additions lines) (added_rise lines s) ∙ keep_added lines s
 
 -- ---- there are no more lines than edits
 
@@ -188,5 +188,5 @@ edited-length : (es : List (Bool × List ℕ)) (lines : List (List ℕ)) → len
 edited-length [] lines = omega arith
 edited-length (e ∷ es) lines = omega (arith, edited-length es (edit_lines e lines), edit-length e lines)
 
-pub fewer : (es : List (Bool × List ℕ)) → length (added (made es)) ≤ length es
+pub fewer : (es : List (Bool × List ℕ)) → length (additions (made es)) ≤ length es
 fewer es = let add : List ℕ → Bool × List ℕ = λ l. (true, l) in omega (arith, edited-length es [], length-map (made es) add)

@@ -9,7 +9,7 @@ use Rattle.std.proofs.lemmas.List.Elements.{All-from_recursion, recursion_from_A
 use Rattle.std.proofs.lemmas.List.Sorted.{IsPermutation-map}
 use Rattle.std.proofs.lemmas.Map.Views.{All-map-IsPermutation}
 use Rattle.line_order.specs.Moves.{AreMoved, lines_of}
-use Rattle.line_log.specs.Sorting.{IsRow, Row, line_at, numbered, shown}
+use Rattle.line_log.specs.Sorting.{IsRow, NumberedLine, line_at, numbered, lines_numbered}
 use Rattle.line_log.proofs.Rows.{row_cmp}
 
 -- ---- rows that were sorted
@@ -17,16 +17,16 @@ use Rattle.line_log.proofs.Rows.{row_cmp}
 abbrev plain : Bor (List ℕ) × ℕ → List ℕ × ℕ
 plain p = (p.0.now, p.1)
 
-shown-plain : (rows : List Row) → map plain (lines_of rows) ≡ shown rows
+shown-plain : (rows : List NumberedLine) → map plain (lines_of rows) ≡ lines_numbered rows
 shown-plain [] = refl
 shown-plain (row ∷ rows) = ap (λ (l : List (List ℕ × ℕ)). plain row.line ∷ l) (shown-plain rows)
 
-pub shown_moved : (xs ys : List Row) → AreMoved xs ys → IsPermutation (shown xs) (shown ys)
+pub shown_moved : (xs ys : List NumberedLine) → AreMoved xs ys → IsPermutation (lines_numbered xs) (lines_numbered ys)
 shown_moved xs ys h =
-    subst (IsPermutation (shown xs)) (shown-plain ys)
+    subst (IsPermutation (lines_numbered xs)) (shown-plain ys)
     (subst (λ (l : List (List ℕ × ℕ)). IsPermutation l (map plain (lines_of ys))) (shown-plain xs) (IsPermutation-map plain (lines_of xs) (lines_of ys) h))
 
-pub shown_sorted : (rows : List Row) → IsSorted (λ x y. row_cmp (plain x) (plain y)) (lines_of rows) → IsSorted row_cmp (shown rows)
+pub shown_sorted : (rows : List NumberedLine) → IsSorted (λ x y. row_cmp (plain x) (plain y)) (lines_of rows) → IsSorted row_cmp (lines_numbered rows)
 shown_sorted rows s = subst (IsSorted row_cmp) (shown-plain rows) (λ k d low below.
     let any : Bor (List ℕ) × ℕ = (record { ref_ptr = (0, 0); now = d.0 }, d.1) in
     let lines = lines_of rows in
@@ -61,12 +61,12 @@ next_row es n rows whole line within is h =
     append_assoc rows ((line, n) ∷ []) _ ∙ ap (λ (l : List ℕ). rows ++ (l, n) ∷ numbered (n + 1) (drop (n + 1) es)) is
     ∙ ap (λ (l : List (Bool × List ℕ)). rows ++ numbered n l) (sym (drop_more es n (false, []) within)) ∙ h
 
-pub more_rows : (es : List (Bool × List ℕ)) (n : ℕ) (rows more : List Row) (row : Row) (line : Bor (List ℕ)) (whole : List (List ℕ × ℕ)) → n < length es → more ≡ rows ++ row ∷ [] → row.line ≡ (line, n)
-    → line.now ≡ line_at es n → shown rows ++ numbered n (drop n es) ≡ whole → shown more ++ numbered (n + 1) (drop (n + 1) es) ≡ whole
+pub more_rows : (es : List (Bool × List ℕ)) (n : ℕ) (rows more : List NumberedLine) (row : NumberedLine) (line : Bor (List ℕ)) (whole : List (List ℕ × ℕ)) → n < length es → more ≡ rows ++ row ∷ [] → row.line ≡ (line, n)
+    → line.now ≡ line_at es n → lines_numbered rows ++ numbered n (drop n es) ≡ whole → lines_numbered more ++ numbered (n + 1) (drop (n + 1) es) ≡ whole
 more_rows es n rows more row line whole within e is same h =
     let left = numbered (n + 1) (drop (n + 1) es) in
-    ap (λ (l : List Row). shown l ++ left) e ∙ ap (λ (l : List (List ℕ × ℕ)). l ++ left) (map-append _ rows (row ∷ []))
-    ∙ ap (λ (p : Bor (List ℕ) × ℕ). (shown rows ++ (p.0.now, p.1) ∷ []) ++ left) is ∙ next_row es n (shown rows) whole line.now within same h
+    ap (λ (l : List NumberedLine). lines_numbered l ++ left) e ∙ ap (λ (l : List (List ℕ × ℕ)). l ++ left) (map-append _ rows (row ∷ []))
+    ∙ ap (λ (p : Bor (List ℕ) × ℕ). (lines_numbered rows ++ (p.0.now, p.1) ∷ []) ++ left) is ∙ next_row es n (lines_numbered rows) whole line.now within same h
 
 pub all_rows : (es : List (Bool × List ℕ)) (n : ℕ) (rows whole : List (List ℕ × ℕ)) → length es ≤ n → rows ++ numbered n (drop n es) ≡ whole → rows ≡ whole
 all_rows es n rows whole h all = sym (append-nil rows) ∙ ap (λ (l : List (Bool × List ℕ)). rows ++ numbered n l) (sym (drop_all n es h)) ∙ all

@@ -3,9 +3,10 @@ use Rattle.std.specs.Prelude.{◌≡◌, ℕ, suc, zero, ◌-◌, ◌≤◌, Boo
 use Rattle.line_log.specs.declared.edits.Edit.{Edit}
 
 -- the edits with their lines, of which the first begins at a place of the text
-abbrev pub cut : ℕ → List Edit → List ℕ → List (Bool × List ℕ)
-cut start [] text = []
-cut start (e ∷ es) text = (e.adds, take (e.end - start) (drop start text)) ∷ cut e.end es text
+abbrev pub cut_edits : ℕ → List Edit → List ℕ → List (Bool × List ℕ)
+cut_edits start [] text = []
+cut_edits start (e ∷ es) text =
+    (e.adds, take (e.end - start) (drop start text)) ∷ cut_edits e.end es text
 
 -- the lines of edits fill a text from one place to another
 abbrev pub Fill : ℕ → List Edit → ℕ → Type 0

@@ -13,12 +13,12 @@ numbered n [] = []
 numbered n (e ∷ es) = (e.1, n) ∷ numbered (n + 1) es
 
 -- a line with a number, as it is held
-abbrev pub Row : Type 0
-Row = Keyed (Bor (List ℕ) × ℕ)
+abbrev pub NumberedLine : Type 0
+NumberedLine = Keyed (Bor (List ℕ) × ℕ)
 
 -- rows as lines with numbers
-abbrev pub shown : List Row → List (List ℕ × ℕ)
-shown rows = map (λ r. (r.line.0.now, r.line.1)) rows
+abbrev pub lines_numbered : List NumberedLine → List (List ℕ × ℕ)
+lines_numbered rows = map (λ r. (r.line.0.now, r.line.1)) rows
 
 -- whether the edit of a number adds its line
 abbrev pub adds_at : List (Bool × List ℕ) → ℕ → Bool
@@ -37,8 +37,8 @@ abbrev pub lines_at : List (Bool × List ℕ) → List ℕ → List (List ℕ)
 lines_at es order = map (line_at es) order
 
 -- all are numbers of edits, and these are their lines
-abbrev pub HasLines : List (Bool × List ℕ) → List ℕ → List (List ℕ) → Type 0
-HasLines es order lines = AllByRecursion (λ n. n < length es) order × (lines_at es order ≡ lines)
+abbrev pub HasLinesOf : List (Bool × List ℕ) → List ℕ → List (List ℕ) → Type 0
+HasLinesOf es order lines = AllByRecursion (λ n. n < length es) order × (lines_at es order ≡ lines)
 
 -- the edits that stand at the numbers of rows
 abbrev pub edits_at : List (Bool × List ℕ) → List (List ℕ × ℕ) → List (Bool × List ℕ)
@@ -50,8 +50,9 @@ ends line [] = true
 ends line (e ∷ es) = not (eq_by_cmp (slice_cmp nat_cmp) line e.1)
 
 -- whether the edit of a row is the last of its line, and adds it
-abbrev pub stands_at : List (Bool × List ℕ) → Row → List Row → Bool
-stands_at es row behind = adds_at es row.line.1 && ends row.line.0.now (edits_at es (shown behind))
+abbrev pub stands_at : List (Bool × List ℕ) → NumberedLine → List NumberedLine → Bool
+stands_at es row behind =
+    adds_at es row.line.1 && ends row.line.0.now (edits_at es (lines_numbered behind))
 
 -- of edits that are sorted by their lines, the lines whose last edit adds them
 abbrev pub keep : List (Bool × List ℕ) → List (List ℕ)
@@ -59,5 +60,5 @@ keep [] = []
 keep (e ∷ es) = cond (e.0 && ends e.1 es) (e.1 ∷ keep es) (keep es)
 
 -- edits that add these lines
-abbrev pub added : List (List ℕ) → List (Bool × List ℕ)
-added lines = map (λ l. (true, l)) lines
+abbrev pub additions : List (List ℕ) → List (Bool × List ℕ)
+additions lines = map (λ l. (true, l)) lines

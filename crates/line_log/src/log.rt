@@ -3,8 +3,8 @@ ghost use Rattle.std.specs.Prelude.{◌≡◌, ◌≤◌, ◌<◌, ◌++◌, ◌
 ghost use Rattle.std.specs.Prelude.{length, take, IfOk, OnOk, OnErr, IsTrue};
 ghost use Rattle.std.specs.List.{AllByRecursion};
 ghost use Rattle.line_log.specs.Edits.{made};
-ghost use Rattle.line_log.specs.Sorting.{HasLines, IsRow, added, edits_at, keep, line_at};
-ghost use Rattle.line_log.specs.Sorting.{lines_at, numbered, shown, stands_at};
+ghost use Rattle.line_log.specs.Sorting.{HasLinesOf, IsRow, additions, edits_at, keep, line_at};
+ghost use Rattle.line_log.specs.Sorting.{lines_at, numbered, lines_numbered, stands_at};
 
 use crate::edits::{Edit, start_of};
 use crate::lines::MadeLines;
@@ -24,11 +24,11 @@ pub struct LineLog {
 
 impl Model for LineLog {
     ghost use Rattle.std.specs.Prelude.{List, Bool, ℕ, length};
-    ghost use Rattle.line_log.specs.Held.{Fill, cut};
+    ghost use Rattle.line_log.specs.Held.{Fill, cut_edits};
 
     ghost Value = { List (Bool × List ℕ) };
 
-    ghost view = { λ l. cut 0 l.edits.items l.text.items };
+    ghost view = { λ l. cut_edits 0 l.edits.items l.text.items };
 
     ghost invariant = { λ l. Fill 0 l.edits.items (length l.text.items) };
 }
@@ -125,7 +125,7 @@ impl LineLog {
 
     // Edits that add each of the lines, in the order of their bytes.
     fn settled(&self) -> Result<LineLog, OutOfMemory>
-        ensures { IfOk result (λ log. log ≡ added (made self.now)) }
+        ensures { IfOk result (λ log. log ≡ additions (made self.now)) }
     {
         let order = self.order()?;
         self.log_of(&order)
@@ -134,7 +134,7 @@ impl LineLog {
     // Edits that add the lines of these edits.
     fn log_of(&self, order: &[u32]) -> Result<LineLog, OutOfMemory>
         requires { AllByRecursion (λ n. n < length self.now) order.now }
-        ensures { IfOk result (λ log. log ≡ added (lines_at self.now order.now)) }
+        ensures { IfOk result (λ log. log ≡ additions (lines_at self.now order.now)) }
     {
         let mut log = LineLog::with_room(*self.edits.allocator(), self.text.len())?;
         for number in order {
@@ -145,7 +145,7 @@ impl LineLog {
 
     // The numbers of the edits whose lines stay, in the order of the lines' bytes.
     fn order(&self) -> Result<Vec<u32>, OutOfMemory>
-        ensures { IfOk result (λ order. HasLines self.now order.items (made self.now)) }
+        ensures { IfOk result (λ order. HasLinesOf self.now order.items (made self.now)) }
     {
         let mut rows = self.rows()?;
         self.order_of(&mut rows)
@@ -153,7 +153,7 @@ impl LineLog {
 
     // The line of each edit.
     fn rows(&self) -> Result<Vec<Row<'_>>, OutOfMemory>
-        ensures { IfOk result (λ rows. shown rows.items ≡ numbered 0 self.now) }
+        ensures { IfOk result (λ rows. lines_numbered rows.items ≡ numbered 0 self.now) }
     {
         let mut rows = Vec::with_capacity(*self.edits.allocator(), self.edits.len())?;
         for number in 0..self.edits.len() {
@@ -164,8 +164,8 @@ impl LineLog {
 
     // The same, where these are the edits' rows.
     fn order_of(&self, rows: &mut [Row]) -> Result<Vec<u32>, OutOfMemory>
-        requires { shown rows.old ≡ numbered 0 self.now }
-        ensures { IfOk result (λ order. HasLines self.now order.items (made self.now)) }
+        requires { lines_numbered rows.old ≡ numbered 0 self.now }
+        ensures { IfOk result (λ order. HasLinesOf self.now order.items (made self.now)) }
     {
         sort_keyed(rows);
         self.kept(rows)
@@ -173,9 +173,9 @@ impl LineLog {
 
     // The numbers of the lines that stay.
     fn kept(&self, rows: &[Row]) -> Result<Vec<u32>, OutOfMemory>
-        requires { AllByRecursion (IsRow self.now) (shown rows.now) }
-        ensures { IfOk result (λ order. HasLines self.now order.items
-            (keep (edits_at self.now (shown rows.now)))) }
+        requires { AllByRecursion (IsRow self.now) (lines_numbered rows.now) }
+        ensures { IfOk result (λ order. HasLinesOf self.now order.items
+            (keep (edits_at self.now (lines_numbered rows.now)))) }
     {
         let mut kept = Vec::new(*self.edits.allocator());
         let mut rest = rows;

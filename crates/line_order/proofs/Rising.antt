@@ -9,7 +9,7 @@ use Rattle.std.proofs.lemmas.List.{length-map, length-take-le, map-append}
 use Rattle.std.proofs.Math.ListN.{take-append-drop}
 use borrow.Rule.Slice.PartMut.{post_of, put_mid}
 use Rattle.line_order.specs.declared.presort.Keyed.{Keyed}
-use Rattle.line_order.specs.Moves.{GoesOn, lines_of}
+use Rattle.line_order.specs.Moves.{RisesAt, lines_of}
 use Rattle.line_order.proofs.Moving.{in_three}
 
 module _ {X : Type 0} (cmp : X → X → Ordering) where
@@ -17,7 +17,7 @@ module _ {X : Type 0} (cmp : X → X → Ordering) where
   below x y = is_lt (cmp x y)
 
   -- up to a place, and one more
-  pub one_more : (xs : List X) (at : ℕ) → IsSortedWithin below xs 0 at → GoesOn cmp xs at → IsSortedWithin below xs 0 (at + 1)
+  pub one_more : (xs : List X) (at : ℕ) → IsSortedWithin below xs 0 at → RisesAt cmp xs at → IsSortedWithin below xs 0 (at + 1)
   one_more xs at rise goes k d low within = ⊎_elim (λ before. rise k d low before) (λ behind. here behind) (cases_lt (k + 1) at)
     where
       here : at ≤ k + 1 → below (get_or xs (k + 1) d) (get_or xs k d) ≡ false
@@ -28,7 +28,7 @@ module _ {X : Type 0} (cmp : X → X → Ordering) where
           (subst (λ (i : ℕ). below (get_or xs i d) (get_or xs (at - 1) d) ≡ false) is (goes d (omega arith)))
 
   -- the first lines rise, and those of a run behind them, from the first ones on
-  pub run_rises : (us vs ws old : List X) (end : ℕ) → IsSortedWithin below (us ++ old) 0 (length us) → IsSorted cmp vs → GoesOn cmp (us ++ (vs ++ ws)) (length us)
+  pub run_rises : (us vs ws old : List X) (end : ℕ) → IsSortedWithin below (us ++ old) 0 (length us) → IsSorted cmp vs → RisesAt cmp (us ++ (vs ++ ws)) (length us)
       → end ≡ length us + length vs → IsSortedWithin below (us ++ (vs ++ ws)) 0 end
   run_rises us vs ws old end first run goes is k d low within = ⊎_elim (λ before. front before) (λ behind. ⊎_elim (λ at. seam at behind) (λ k_behind. back k_behind) (cases_lt k (length us))) (cases_lt (k + 1) (length us))
     where
@@ -59,7 +59,7 @@ module _ {X : Type 0} (cmp : X → X → Ordering) where
 
   -- where a run behind lines that rise is sorted, all rise up to its end
   pub run_joined : (a end : ℕ) (xs ys : List (Keyed X)) → a ≤ end → end ≤ length xs → length ys ≡ end - a → IsSortedWithin below (lines_of xs) 0 a → IsSorted cmp (lines_of ys)
-      → GoesOn cmp (lines_of (put_mid a (end - a) xs ys)) a → IsSortedWithin below (lines_of (put_mid a (end - a) xs ys)) 0 end
+      → RisesAt cmp (lines_of (put_mid a (end - a) xs ys)) a → IsSortedWithin below (lines_of (put_mid a (end - a) xs ys)) 0 end
   run_joined a end xs ys low high size first run goes =
       let us = lines_of (take a xs) in
       let vs = lines_of ys in
@@ -70,4 +70,4 @@ module _ {X : Type 0} (cmp : X → X → Ordering) where
       let many : length vs ≡ end - a = length-map ys (λ k. k.line) ∙ size in
       subst (λ (l : List X). IsSortedWithin below l 0 end) (sym new)
       (run_rises us vs ws (lines_of (drop a xs)) end (subst (λ (n : ℕ). IsSortedWithin below (us ++ lines_of (drop a xs)) 0 n) (sym start) (subst (λ (l : List X). IsSortedWithin below l 0 a) old first)) run
-      (subst (λ (n : ℕ). GoesOn cmp (us ++ (vs ++ ws)) n) (sym start) (subst (λ (l : List X). GoesOn cmp l a) new goes)) (omega (arith, start, many)))
+      (subst (λ (n : ℕ). RisesAt cmp (us ++ (vs ++ ws)) n) (sym start) (subst (λ (l : List X). RisesAt cmp l a) new goes)) (omega (arith, start, many)))

@@ -14,6 +14,6 @@ abbrev pub AreMoved : {X : Type 0} → List (Keyed X) → List (Keyed X) → Typ
 AreMoved before after = IsPermutation (lines_of before) (lines_of after)
 
 -- the element at a place is no less than the one before it, if there is one
-abbrev pub GoesOn : {X : Type 0} → (X → X → Ordering) → List X → ℕ → Type 0
-GoesOn {X} cmp xs at = (d : X) → 0 < at
+abbrev pub RisesAt : {X : Type 0} → (X → X → Ordering) → List X → ℕ → Type 0
+RisesAt {X} cmp xs at = (d : X) → 0 < at
     → is_lt (cmp (slice_index_or xs at d) (slice_index_or xs (at - 1) d)) ≡ false

@@ -1,7 +1,7 @@
 //! Lines sorted by eight bytes at a time.
 ghost use Rattle.std.specs.Prelude.{◌≡◌, ◌<◌, ◌≤◌, length, IsTrue};
 ghost use Rattle.std.specs.List.Sorted.{IsSorted};
-ghost use Rattle.line_order.specs.Moves.{AreMoved, GoesOn, lines_of};
+ghost use Rattle.line_order.specs.Moves.{AreMoved, RisesAt, lines_of};
 
 use crate::sort::Line;
 
@@ -103,7 +103,7 @@ fn alike_end<T: Line>(lines: &[Keyed<T>], depth: usize) -> usize
 // Whether the line at a place is no less than the one before it, if there is one.
 fn goes_on<T: Line>(lines: &[Keyed<T>], at: usize) -> bool
     requires { at < length lines.now }
-    ensures { IsTrue result → GoesOn T.cmp (lines_of lines.now) at }
+    ensures { IsTrue result → RisesAt T.cmp (lines_of lines.now) at }
 {
     at == 0 || !lines[at].line.cmp(&lines[at - 1].line).is_lt()
 }

@@ -1,6 +1,6 @@
 -- Reading goes on from block to block.
 use Rattle.std.proofs.Common.{◌≡◌, inl, inr, Err, ℕ, ◌+◌, ◌^◌, ◌<◌, ◌≤◌, List, [], ◌∷◌, ◌++◌, length, take, drop, refl, sym, ◌∙◌, ap, subst, arith, length-append, length-take, take-append-drop}
-use Rattle.delta_base.specs.Journals.{journal_length}
+use Rattle.delta_base.specs.Journals.{payloads_length}
 use Rattle.log_journal.specs.File.{front, header, block, Holds, Damage}
 use Rattle.std.specs.List.{flat_map}
 use Rattle.std.proofs.lemmas.List.{drop_all}
@@ -40,14 +40,14 @@ length-flat_map-block : (payloads : List (List ℕ)) → length (flat_map block 
 length-flat_map-block [] = refl
 length-flat_map-block (p ∷ payloads) = omega (arith, length-append (block p) (flat_map block payloads), length-flat_map-block payloads, sum_by-cons (λ (payload : List ℕ). 5 + length payload) p payloads)
 
-pub length-front : (number : ℕ) (payloads : List (List ℕ)) → length (front number payloads) + 1 ≡ journal_length payloads
+pub length-front : (number : ℕ) (payloads : List (List ℕ)) → length (front number payloads) + 1 ≡ payloads_length payloads
 unfolding front
 length-front number payloads = omega (arith, length-append (header number) (flat_map block payloads), length-flat_map-block payloads)
 
 -- the length of a journal with one payload more
-pub length_more : (gate size : ℕ) (old new : List (List ℕ)) (payload : List ℕ) → gate + 1 ≡ journal_length old → new ≡ old ++ payload ∷ [] → size ≡ length payload → gate + (5 + size) + 1 ≡ journal_length new
+pub length_more : (gate size : ℕ) (old new : List (List ℕ)) (payload : List ℕ) → gate + 1 ≡ payloads_length old → new ≡ old ++ payload ∷ [] → size ≡ length payload → gate + (5 + size) + 1 ≡ payloads_length new
 length_more gate size old new payload so_far pushed sized =
-    omega (arith, so_far, sized, ap journal_length pushed, sum_by-append (λ (payload : List ℕ). 5 + length payload) old (payload ∷ []))
+    omega (arith, so_far, sized, ap payloads_length pushed, sum_by-append (λ (payload : List ℕ). 5 + length payload) old (payload ∷ []))
 
 -- the gate of a file that holds payloads stands in it
 pub gate_within : (image : List ℕ) (number : ℕ) (payloads : List (List ℕ)) → Holds image number payloads → length (front number payloads) + 1 ≤ length image

@@ -2,7 +2,7 @@
 use Rattle.std.specs.Prelude.{◌≡◌, ◌≢◌, ◌⊎◌, ℕ, ◌+◌, ◌^◌, ◌<◌, Bool, IsTrue, Result}
 use Rattle.std.specs.Prelude.{Ok, Err, List, ◌∷◌, ◌++◌, [], length, drop, Vec}
 use Rattle.std.specs.declared.alloc.Global.{Global}
-use Rattle.delta_base.specs.Journals.{journal_length}
+use Rattle.delta_base.specs.Journals.{payloads_length}
 use Rattle.delta_base.specs.Outside.{Rose}
 use Rattle.log_journal.specs.File.{front, header, block, Holds, AreSized}
 use Rattle.log_journal.specs.File.{BreaksOff, HasNoHeader, HasHeader, Damage}
@@ -40,8 +40,8 @@ pub record HasPayload (file : List ℕ) (at : ℕ) (payload : List ℕ) : Type 0
 
 -- what stands at a gate's place breaks off in the field that begins here, or is whole and
 -- ends the file
-abbrev pub EndsAt : List ℕ → ℕ → ℕ → Type 0
-EndsAt file at place =
+abbrev pub EndsFileAt : List ℕ → ℕ → ℕ → Type 0
+EndsFileAt file at place =
     ((offset : ℕ) × BreaksOff (drop at file) offset × (place ≡ at + offset))
     ⊎ ((payload : List ℕ) × HasPayload file at payload
     × (drop (at + 5 + length payload) file ≡ []) × (place ≡ at + 5 + length payload))
@@ -50,7 +50,7 @@ EndsAt file at place =
 abbrev pub ReadsPayload : List ℕ → ℕ → Result (Vec ℕ Global × ℕ) JournalFault → Type 0
 ReadsPayload file at (Ok found) =
     HasPayload file at found.0.items × HasByte file (at + 5 + length found.0.items) found.1
-ReadsPayload file at (Err (Damaged place)) = EndsAt file at place
+ReadsPayload file at (Err (Damaged place)) = EndsFileAt file at place
 ReadsPayload file at (Err (WrongNumber found)) = ⊥
 ReadsPayload file at (Err (OverLimit length limit)) = ⊥
 ReadsPayload file at (Err Failed) = Unit {0}
@@ -71,7 +71,7 @@ HasFault file number limit (Damaged at) = Damage file number at
 HasFault file number limit (WrongNumber found) = HasHeader file found × (found ≢ number)
 HasFault file number limit (OverLimit length shown) =
     (payloads : List (List ℕ)) × Holds file number payloads
-    × (length ≡ journal_length payloads) × (limit < length) × (shown ≡ limit)
+    × (length ≡ payloads_length payloads) × (limit < length) × (shown ≡ limit)
 HasFault file number limit Failed = Unit {0}
 HasFault file number limit OutOfMemory = Unit {0}
 

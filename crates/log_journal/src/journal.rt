@@ -4,7 +4,7 @@ ghost use Rattle.std.specs.Prelude.{◌≡◌, ◌≢◌, None, false, ◌⊎◌
 ghost use Rattle.std.specs.Prelude.{◌++◌, [], ◌∷◌, List, length, IsTrue, not, OnOk, OnErr};
 ghost use Rattle.std.specs.Prelude.{IsErrOf, IfOk, IfErr, IsOk, is_ok, if◌then◌else◌};
 ghost use Rattle.delta_base.specs.declared.limits.TheConstants.{EMPTY_JOURNAL, PAYLOAD_FRAME};
-ghost use Rattle.delta_base.specs.Journals.{journal_length};
+ghost use Rattle.delta_base.specs.Journals.{payloads_length};
 ghost use Rattle.delta_base.specs.Outside.{Rose, HasCause};
 ghost use Rattle.disk_model.specs.Past.{reads, synced, ok_syncs, synced_bytes, filled, Keeps};
 ghost use Rattle.disk_model.specs.Calls.{WroteSome};
@@ -74,7 +74,7 @@ fn read_journal<D: Disk, R: Receiver>(
 ) -> Result<u64, JournalFault>
     requires { R.received receiver.old [] receiver.old }
     ensures received { IfOk result (λ length. (payloads : List (List ℕ))
-        × R.received receiver.old payloads receiver.new × (length ≡ journal_length payloads)
+        × R.received receiver.old payloads receiver.new × (length ≡ payloads_length payloads)
         × (D.tells → Holds (reads (D.past disk.old)) number payloads)) }
     ensures fault { D.tells → IfErr result (HasFault (reads (D.past disk.old)) number limit) }
     ensures few { D.tells
@@ -131,7 +131,7 @@ impl<D: Disk> Journal<D> {
         ensures few { IfOk result (λ opened. D.tells
             → D.read_bytes (disk_of opened.0) ≤ D.read_bytes disk + (length_of opened.0)) }
         ensures length { IfOk result
-            (λ opened. (length_of opened.0) ≡ journal_length opened.1.items) }
+            (λ opened. (length_of opened.0) ≡ payloads_length opened.1.items) }
         ensures limit { IfOk result (λ opened. (limit_of opened.0) ≡ limit) }
         ensures within { IfOk result (λ opened. (length_of opened.0) ≤ limit) }
         ensures cause { IfErr result (λ refusal. refusal.fault ≡ JournalFault.Failed
@@ -171,7 +171,7 @@ impl<D: Disk> Journal<D> {
         // The payloads received are those of all the bytes that the disk reads.
         ensures received { IfOk result (λ journal. (payloads : List (List ℕ))
             × R.received receiver.old payloads receiver.new × StandsFor journal number payloads
-            × ((length_of journal) ≡ journal_length payloads)
+            × ((length_of journal) ≡ payloads_length payloads)
             × (D.tells → Holds (reads (D.past disk)) number payloads)) }
         ensures fault { IfErr result (λ refusal. D.tells
             → HasFault (reads (D.past disk)) number limit refusal.fault) }

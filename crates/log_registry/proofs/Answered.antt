@@ -11,7 +11,7 @@ use Rattle.registry_core.specs.declared.answer.ChangeAnswer.{ChangeAnswer}
 use Rattle.registry_core.specs.declared.answer.ChangeAnswer.TheVariants.{Done, OutOfMemory as WantsMemory, NoSuchName, BadName, NameTaken, Full, DiskFault}
 use Rattle.registry_core.specs.Answers.{Ending, told, wanting, event_in, end_of_create, end_of_change}
 use Rattle.registry_core.specs.Checks.{StopsCreate, StopsChange}
-use Rattle.registry_core.specs.Replies.{RegistryCall, RegistryReply, create, answered, changed, create_reply, removal, reply_of, event_by, ending, MayEnd}
+use Rattle.registry_core.specs.Replies.{RegistryCall, RegistryReply, create, answered, changed, create_reply, removal, registry_reply, event_by, ending, MayEnd}
 use Rattle.log_registry.specs.Stands.{StandsForRegistry}
 use Rattle.log_registry.specs.State.{StateView, events_in}
 use Rattle.log_registry.specs.Changes.{Changed, Called}
@@ -29,7 +29,7 @@ told_too event DiskFault is = absurd (cc)
 
 module _ {D : Type 0} (disks : Ghosts D) (registry : StateView D) (by : ℕ) (stands : disks.tells → StandsForRegistry (disks.past registry.disk) registry.slots (events_in registry) registry.doubt) where
   -- the reply that is due is told
-  tells_due : (call : RegistryCall) (reply : RegistryReply) → ending call reply ≡ told → reply ≡ reply_of registry.slots call (events_in registry) → Called disks registry registry call by reply
+  tells_due : (call : RegistryCall) (reply : RegistryReply) → ending call reply ≡ told → reply ≡ registry_reply registry.slots call (events_in registry) → Called disks registry registry call by reply
   tells_due call reply ends is = record {
     replies = subst (λ (e : Ending). MayEnd e registry.slots call (events_in registry) reply) (sym ends) is;
     changed = unchanged disks registry (event_by registry.slots call (events_in registry)) by (ending call reply) stands
@@ -66,7 +66,7 @@ module _ {D : Type 0} (disks : Ghosts D) (registry : StateView D) (by : ℕ) (st
         stops
 
   -- the calls that find a source by its name, with the reply that is due
-  module _ (call : RegistryCall) (event : SourceInfo → Event) (due : ChangeAnswer) (reply_is : reply_of registry.slots call (events_in registry) ≡ changed due)
+  module _ (call : RegistryCall) (event : SourceInfo → Event) (due : ChangeAnswer) (reply_is : registry_reply registry.slots call (events_in registry) ≡ changed due)
       (ending_is : (answer : ChangeAnswer) → ending call (changed answer) ≡ end_of_change event answer) where
     pub change_event : (source : SourceInfo) → due ≡ Done source → event_by registry.slots call (events_in registry) ≡ Some (event source)
     change_event source is = ap (λ (reply : RegistryReply). event_in (ending call reply)) reply_is ∙ ap event_in (ending_is due) ∙ ap (λ (answer : ChangeAnswer). event_in (end_of_change event answer)) is

@@ -11,52 +11,52 @@ use Rattle.log_journal.specs.Writing.{StandsWith, HoldsDuring}
 use Rattle.log_journal.proofs.Steps.{either}
 use Rattle.slot_files.specs.Files.{slots_payload}
 use Rattle.registry_core.specs.declared.event.Event.{Event}
-use Rattle.registry_core.specs.Events.{IsNext, IsRegistry}
+use Rattle.registry_core.specs.Events.{IsNextEvent, IsRegistry}
 use Rattle.delta_base.specs.declared.limits.TheConstants.{REGISTRY_LIMIT}
-use Rattle.registry_core.specs.Texts.{text_of, payloads_of, registry_length, longer_by}
+use Rattle.registry_core.specs.Texts.{event_text, registry_payloads, registry_length, length_with}
 use Rattle.registry_core.proofs.Tables.{length-push, registry-push, has_room}
-use Rattle.log_registry.specs.Stands.{MayHold, MayHoldDuring, StandsForRegistry, payload_in}
-use Rattle.log_registry.specs.State.{IsKept}
+use Rattle.log_registry.specs.Stands.{MayHoldEvents, MayHoldEventsDuring, StandsForRegistry, event_payload}
+use Rattle.log_registry.specs.State.{JournalKeepsEvents}
 
-pub payloads-push : (slots : ℕ) (events : List Event) (event : Event) → payloads_of slots (events ++ event ∷ []) ≡ payloads_of slots events ++ text_of event ∷ []
-payloads-push slots events event = ap (λ (ts : List (List ℕ)). slots_payload slots ∷ ts) (map-append text_of events (event ∷ []))
+pub payloads-push : (slots : ℕ) (events : List Event) (event : Event) → registry_payloads slots (events ++ event ∷ []) ≡ registry_payloads slots events ++ event_text event ∷ []
+payloads-push slots events event = ap (λ (ts : List (List ℕ)). slots_payload slots ∷ ts) (map-append event_text events (event ∷ []))
 
-pub short_text : (slots : ℕ) (events : List Event) (event : Event) → IsNext slots events event → length (text_of event) < 2 ^ 32
-unfolding longer_by
+pub short_text : (slots : ℕ) (events : List Event) (event : Event) → IsNextEvent slots events event → length (event_text event) < 2 ^ 32
+unfolding length_with
 short_text slots events event next = let fits = has_room slots events event next.1 in omega (arith, fits)
 
 -- ---- images
 
-pub still_during : (slots : ℕ) (events : List Event) (doubt event : Option Event) (image : List ℕ) → MayHold slots events doubt image → MayHoldDuring slots events doubt event image
+pub still_during : (slots : ℕ) (events : List Event) (doubt event : Option Event) (image : List ℕ) → MayHoldEvents slots events doubt image → MayHoldEventsDuring slots events doubt event image
 still_during slots events doubt None image holds = holds
 still_during slots events None (Some event) image holds = inl holds
 still_during slots events (Some doubt) (Some event) image holds = inl holds
 
 module _ {D : Type 0} {disks : Ghosts D} where
-  pub during : (old new : Journal D disks) (slots : ℕ) (events : List Event) (doubt : Option Event) (event : Event) (payload : List ℕ) → payload ≡ text_of event
-      → Leaves (HoldsDuring 0 (payloads_of slots events) (payload_in doubt) payload) old new → disks.tells → LeavesOnly (MayHoldDuring slots events doubt (Some event)) (disks.past (disk_of old)) (disks.past (disk_of new))
-  during old new slots events None event payload is leaves told = subst (λ (text : List ℕ). LeavesOnly (HoldsWithOrWithout 0 (payloads_of slots events) text) (disks.past (disk_of old)) (disks.past (disk_of new))) is (leaves told)
+  pub during : (old new : Journal D disks) (slots : ℕ) (events : List Event) (doubt : Option Event) (event : Event) (payload : List ℕ) → payload ≡ event_text event
+      → Leaves (HoldsDuring 0 (registry_payloads slots events) (event_payload doubt) payload) old new → disks.tells → LeavesOnly (MayHoldEventsDuring slots events doubt (Some event)) (disks.past (disk_of old)) (disks.past (disk_of new))
+  during old new slots events None event payload is leaves told = subst (λ (text : List ℕ). LeavesOnly (HoldsWithOrWithout 0 (registry_payloads slots events) text) (disks.past (disk_of old)) (disks.past (disk_of new))) is (leaves told)
   during old new slots events (Some doubt) event payload is leaves told =
-      subst (λ (text : List ℕ). LeavesOnly (λ image. HoldsWithOrWithout 0 (payloads_of slots events) (text_of doubt) image ⊎ HoldsWithOrWithout 0 (payloads_of slots events) text image) (disks.past (disk_of old)) (disks.past (disk_of new))) is (leaves told)
+      subst (λ (text : List ℕ). LeavesOnly (λ image. HoldsWithOrWithout 0 (registry_payloads slots events) (event_text doubt) image ⊎ HoldsWithOrWithout 0 (registry_payloads slots events) text image) (disks.past (disk_of old)) (disks.past (disk_of new))) is (leaves told)
 
-  pub each_holds : (journal : Journal D disks) (slots : ℕ) (events : List Event) (doubt : Option Event) → StandsWith journal 0 (payloads_of slots events) (payload_in doubt) → disks.tells → EveryImage (disks.past (disk_of journal)) (MayHold slots events doubt)
+  pub each_holds : (journal : Journal D disks) (slots : ℕ) (events : List Event) (doubt : Option Event) → StandsWith journal 0 (registry_payloads slots events) (event_payload doubt) → disks.tells → EveryImage (disks.past (disk_of journal)) (MayHoldEvents slots events doubt)
   each_holds journal slots events None stands told = (stands.1 told).each
   each_holds journal slots events (Some doubt) stands told = λ image left.
       let all = stands.1 told in
-      either (length_of journal) 0 (payloads_of slots events) (text_of doubt) all.doubt_sized image all.sized (all.each image left)
+      either (length_of journal) 0 (registry_payloads slots events) (event_text doubt) all.doubt_sized image all.sized (all.each image left)
 
   -- before any call
-  pub no_call_yet : (journal : Journal D disks) (slots : ℕ) (events : List Event) (doubt event : Option Event) → IsKept journal slots events doubt → disks.tells → LeavesOnly (MayHoldDuring slots events doubt event) (disks.past (disk_of journal)) (disks.past (disk_of journal))
+  pub no_call_yet : (journal : Journal D disks) (slots : ℕ) (events : List Event) (doubt event : Option Event) → JournalKeepsEvents journal slots events doubt → disks.tells → LeavesOnly (MayHoldEventsDuring slots events doubt event) (disks.past (disk_of journal)) (disks.past (disk_of journal))
   no_call_yet journal slots events doubt event kept told =
-      starts (MayHoldDuring slots events doubt event) (disks.past (disk_of journal)) (λ image left. still_during slots events doubt event image (each_holds journal slots events doubt kept.stands told image left))
+      starts (MayHoldEventsDuring slots events doubt event) (disks.past (disk_of journal)) (λ image left. still_during slots events doubt event image (each_holds journal slots events doubt kept.stands told image left))
 
-  pub stands_for_registry : (journal : Journal D disks) (slots : ℕ) (events : List Event) (doubt : Option Event) → IsKept journal slots events doubt → disks.tells → StandsForRegistry (disks.past (disk_of journal)) slots events doubt
+  pub stands_for_registry : (journal : Journal D disks) (slots : ℕ) (events : List Event) (doubt : Option Event) → JournalKeepsEvents journal slots events doubt → disks.tells → StandsForRegistry (disks.past (disk_of journal)) slots events doubt
   stands_for_registry journal slots events doubt kept told = record { each = each_holds journal slots events doubt kept.stands told; without = kept.without; having = kept.having }
 
   -- ---- opening
 
-  pub opened_kept : (journal : Journal D disks) (slots : ℕ) (events : List Event) (payloads : List (List ℕ)) → StandsFor journal 0 payloads → payloads_of slots events ≡ payloads → IsRegistry slots events
-      → length_of journal ≡ registry_length slots events → limit_of journal ≡ REGISTRY_LIMIT → IsKept journal slots events None
+  pub opened_kept : (journal : Journal D disks) (slots : ℕ) (events : List Event) (payloads : List (List ℕ)) → StandsFor journal 0 payloads → registry_payloads slots events ≡ payloads → IsRegistry slots events
+      → length_of journal ≡ registry_length slots events → limit_of journal ≡ REGISTRY_LIMIT → JournalKeepsEvents journal slots events None
   opened_kept journal slots events payloads stands are is length_is limit_is = record {
     stands = subst (λ (ps : List (List ℕ)). StandsFor journal 0 ps) (sym are) stands;
     without = is;
@@ -67,20 +67,20 @@ module _ {D : Type 0} {disks : Ghosts D} where
 
   -- ---- events
 
-  module _ (journal new : Journal D disks) (slots : ℕ) (events : List Event) (doubt : Option Event) (kept : IsKept journal slots events doubt) where
-    module _ (event : Event) (next : IsNext slots events event) (payload : List ℕ) (payload_is : payload ≡ text_of event) where
+  module _ (journal new : Journal D disks) (slots : ℕ) (events : List Event) (doubt : Option Event) (kept : JournalKeepsEvents journal slots events doubt) where
+    module _ (event : Event) (next : IsNextEvent slots events event) (payload : List ℕ) (payload_is : payload ≡ event_text event) where
       pub room : length_of journal + 5 + length payload ≤ limit_of journal
-      unfolding longer_by
+      unfolding length_with
       room = let fits = has_room slots events event next.1 in omega (arith, fits, kept.length_is, kept.limit_is, ap length payload_is)
 
       -- it was added
-      pub kept_done : StandsWith new 0 (payloads_of slots events ++ payload ∷ []) None → length_of new ≡ length_of journal + (5 + length payload) → limit_of new ≡ limit_of journal → IsKept new slots (events ++ event ∷ []) None
-      unfolding longer_by
+      pub kept_done : StandsWith new 0 (registry_payloads slots events ++ payload ∷ []) None → length_of new ≡ length_of journal + (5 + length payload) → limit_of new ≡ limit_of journal → JournalKeepsEvents new slots (events ++ event ∷ []) None
+      unfolding length_with
       kept_done stands length_is limit_is =
           let more = registry-push slots events event kept.without next in
           let length_more = length-push slots events event in
           record {
-            stands = subst (λ (ps : List (List ℕ)). StandsFor new 0 ps) (ap (λ (text : List ℕ). payloads_of slots events ++ text ∷ []) payload_is ∙ sym (payloads-push slots events event)) stands;
+            stands = subst (λ (ps : List (List ℕ)). StandsFor new 0 ps) (ap (λ (text : List ℕ). registry_payloads slots events ++ text ∷ []) payload_is ∙ sym (payloads-push slots events event)) stands;
             without = more;
             having = more;
             length_is = omega (arith, length_is, kept.length_is, length_more, ap length payload_is);
@@ -88,9 +88,9 @@ module _ {D : Type 0} {disks : Ghosts D} where
           }
 
       -- the gate was left in doubt
-      pub kept_in_doubt : StandsInDoubt new 0 (payloads_of slots events) payload → length_of new ≡ length_of journal + 0 → limit_of new ≡ limit_of journal → IsKept new slots events (Some event)
+      pub kept_in_doubt : StandsInDoubt new 0 (registry_payloads slots events) payload → length_of new ≡ length_of journal + 0 → limit_of new ≡ limit_of journal → JournalKeepsEvents new slots events (Some event)
       kept_in_doubt stands length_is limit_is = record {
-        stands = subst (λ (text : List ℕ). StandsInDoubt new 0 (payloads_of slots events) text) payload_is stands;
+        stands = subst (λ (text : List ℕ). StandsInDoubt new 0 (registry_payloads slots events) text) payload_is stands;
         without = kept.without;
         having = registry-push slots events event kept.without next;
         length_is = omega (arith, length_is, kept.length_is);
@@ -98,8 +98,8 @@ module _ {D : Type 0} {disks : Ghosts D} where
       }
 
     -- as it was, but for the doubt
-    pub kept_settled : StandsFor new 0 (payloads_of slots events) → length_of new ≡ length_of journal + 0 → limit_of new ≡ limit_of journal → IsKept new slots events None
+    pub kept_settled : StandsFor new 0 (registry_payloads slots events) → length_of new ≡ length_of journal + 0 → limit_of new ≡ limit_of journal → JournalKeepsEvents new slots events None
     kept_settled stands length_is limit_is = record { stands = stands; without = kept.without; having = kept.without; length_is = omega (arith, length_is, kept.length_is); limit_is = limit_is ∙ kept.limit_is }
 
-    pub kept_same : StandsWith new 0 (payloads_of slots events) (payload_in doubt) → length_of new ≡ length_of journal + 0 → limit_of new ≡ limit_of journal → IsKept new slots events doubt
+    pub kept_same : StandsWith new 0 (registry_payloads slots events) (event_payload doubt) → length_of new ≡ length_of journal + 0 → limit_of new ≡ limit_of journal → JournalKeepsEvents new slots events doubt
     kept_same stands length_is limit_is = record { stands = stands; without = kept.without; having = kept.having; length_is = omega (arith, length_is, kept.length_is); limit_is = limit_is ∙ kept.limit_is }

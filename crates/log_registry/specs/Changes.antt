@@ -10,27 +10,27 @@ use Rattle.log_journal.specs.File.{Holds}
 use Rattle.registry_core.specs.declared.event.Event.{Event}
 use Rattle.registry_core.specs.Answers.{Ending, made, told, failed, wanting}
 use Rattle.registry_core.specs.Replies.{RegistryCall, RegistryReply, event_by, ending, MayReply}
-use Rattle.registry_core.specs.Texts.{payloads_of}
-use Rattle.log_registry.specs.Stands.{MayHoldDuring, LeavesEither}
+use Rattle.registry_core.specs.Texts.{registry_payloads}
+use Rattle.log_registry.specs.Stands.{MayHoldEventsDuring, LeavesEitherEvents}
 use Rattle.log_registry.specs.State.{StateView, events_in}
 
 -- how a call ends whose event is written, by the phase that failed, if one did
-abbrev pub end_by : Option Phase → Event → Ending
-end_by None event = made event
-end_by (Some phase) event = failed
+abbrev pub ending_by : Option Phase → Event → Ending
+ending_by None event = made event
+ending_by (Some phase) event = failed
 
 -- the event in doubt that is left then
-abbrev pub doubt_left : Option Phase → Option Event → Event → Option Event
-doubt_left None doubt event = None
-doubt_left (Some Settling) doubt event = doubt
-doubt_left (Some Body) doubt event = None
-doubt_left (Some Gate) doubt event = Some event
+abbrev pub event_left : Option Phase → Option Event → Event → Option Event
+event_left None doubt event = None
+event_left (Some Settling) doubt event = doubt
+event_left (Some Body) doubt event = None
+event_left (Some Gate) doubt event = Some event
 
 module _ {D : Type 0} where
   -- the event was written, and this phase failed, or none
   abbrev pub IsWritten : Option Phase → Event → StateView D → StateView D → Ending → Type 0
   IsWritten phase event before after ending =
-      (ending ≡ end_by phase event) × (after.doubt ≡ doubt_left phase before.doubt event)
+      (ending ≡ ending_by phase event) × (after.doubt ≡ event_left phase before.doubt event)
 
   -- neither the events nor the disk changed
   abbrev pub IsUntouched : StateView D → StateView D → Type 0
@@ -45,7 +45,7 @@ module _ {D : Type 0} where
   Stays told due by before after = (due ≡ None) × IsUntouched before after
   Stays failed due by before after =
       (event : Event) × (due ≡ Some event) × (after.entries ≡ before.entries)
-      × ((phase : Phase) × (after.doubt ≡ doubt_left (Some phase) before.doubt event))
+      × ((phase : Phase) × (after.doubt ≡ event_left (Some phase) before.doubt event))
   Stays wanting due by before after = IsUntouched before after
 
 -- One call, in which an event is due or none, of the pass with this number.
@@ -63,16 +63,16 @@ pub record Changed {D : Type 0} (disks : Ghosts D) (before after : StateView D)
       (disks.next_failure before.disk)) event before after ending
   -- a crash at any moment leaves the events, or these with the one in doubt or with the one due
   pub any_moment : disks.tells
-      → LeavesOnly (MayHoldDuring before.slots (events_in before) before.doubt due)
+      → LeavesOnly (MayHoldEventsDuring before.slots (events_in before) before.doubt due)
       (disks.past before.disk) (disks.past after.disk)
   -- what is made is in every image
   pub kept : (event : Event) → ending ≡ made event → disks.tells
       → EveryImage (disks.past after.disk)
-      (λ image. Holds image 0 (payloads_of after.slots (events_in after)))
+      (λ image. Holds image 0 (registry_payloads after.slots (events_in after)))
   -- as planned, an event in doubt stands where what wasn't synced is 1, and not in what was synced
   pub images : disks.plans → disks.tells → IsTrue (not (disks.short after.disk))
-      → LeavesEither (disks.past before.disk) before.slots (events_in before) before.doubt
-      → LeavesEither (disks.past after.disk) after.slots (events_in after) after.doubt
+      → LeavesEitherEvents (disks.past before.disk) before.slots (events_in before) before.doubt
+      → LeavesEitherEvents (disks.past after.disk) after.slots (events_in after) after.doubt
   -- a fault is told where the disk's count of faults rose, and else none was counted
   pub cause : ending ≡ failed → Rose (disks.faults before.disk) (disks.faults after.disk)
   pub faults : disks.faults before.disk ≤ disks.faults after.disk

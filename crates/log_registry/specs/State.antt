@@ -8,8 +8,8 @@ use Rattle.delta_base.specs.declared.limits.TheConstants.{REGISTRY_LIMIT}
 use Rattle.registry_core.specs.declared.event.Event.{Event}
 use Rattle.registry_core.specs.declared.event.Entry.{Entry}
 use Rattle.registry_core.specs.Events.{events_of, IsRegistry}
-use Rattle.registry_core.specs.Texts.{payloads_of, registry_length}
-use Rattle.log_registry.specs.Stands.{with_doubt, payload_in}
+use Rattle.registry_core.specs.Texts.{registry_payloads, registry_length}
+use Rattle.log_registry.specs.Stands.{with_event_in_doubt, event_payload}
 
 -- the slots, which never change; the entries and the event in doubt; and the disk
 pub record StateView (D : Type 0) : Type 0 where
@@ -23,10 +23,11 @@ abbrev pub events_in : {D : Type 0} → StateView D → List Event
 events_in registry = events_of registry.entries
 
 -- the journal stands for the slots, the events and the event in doubt
-pub record IsKept {D : Type 0} {disks : Ghosts D} (journal : Journal D disks) (slots : ℕ)
+pub record JournalKeepsEvents {D : Type 0} {disks : Ghosts D} (journal : Journal D disks)
+    (slots : ℕ)
     (events : List Event) (doubt : Option Event) : Type 0 where
-  pub stands : StandsWith journal 0 (payloads_of slots events) (payload_in doubt)
+  pub stands : StandsWith journal 0 (registry_payloads slots events) (event_payload doubt)
   pub without : IsRegistry slots events
-  pub having : IsRegistry slots (with_doubt events doubt)
+  pub having : IsRegistry slots (with_event_in_doubt events doubt)
   pub length_is : length_of journal ≡ registry_length slots events
   pub limit_is : limit_of journal ≡ REGISTRY_LIMIT

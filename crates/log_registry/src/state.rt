@@ -6,11 +6,11 @@ ghost use Rattle.delta_base.specs.Outside.{Rose};
 ghost use Rattle.disk_model.specs.Past.{reads, Keeps};
 ghost use Rattle.log_journal.specs.File.{Holds};
 ghost use Rattle.log_journal.specs.Payload.{payload_of};
-ghost use Rattle.registry_core.specs.Events.{events_of, IsNext, IsRegistry};
+ghost use Rattle.registry_core.specs.Events.{events_of, IsNextEvent, IsRegistry};
 ghost use Rattle.registry_core.specs.Replies as asked;
 ghost use Rattle.registry_core.specs.Sources.{sources, HasSlot};
 ghost use Rattle.registry_core.specs.Tables.{IsReadyFor};
-ghost use Rattle.registry_core.specs.Texts.{text_of, payloads_of, registry_length};
+ghost use Rattle.registry_core.specs.Texts.{event_text, registry_payloads, registry_length};
 ghost use Rattle.log_registry.specs.Changes.{Changed, Called};
 ghost use Rattle.log_registry.specs.Fault.{HasRegistryFault};
 ghost use Rattle.log_registry.specs.Making.{end_of_making};
@@ -41,7 +41,7 @@ pub struct RegistryState<D: Disk> {
 impl<D: Disk> Model for RegistryState<D> {
     ghost use Rattle.log_journal.specs.StandsFor.{disk_of};
     ghost use Rattle.registry_core.specs.Events.{events_of};
-    ghost use Rattle.log_registry.specs.State.{StateView, IsKept};
+    ghost use Rattle.log_registry.specs.State.{StateView, JournalKeepsEvents};
 
     ghost Value = { StateView D };
 
@@ -52,7 +52,7 @@ impl<D: Disk> Model for RegistryState<D> {
       disk = disk_of s.journal;
     } };
 
-    ghost invariant = { λ s. IsKept s.journal s.registry.slots
+    ghost invariant = { λ s. JournalKeepsEvents s.journal s.registry.slots
         (events_of s.registry.entries) s.doubt };
 }
 
@@ -69,8 +69,8 @@ fn reserve(
     registry: &mut Registry,
     event: Event,
 ) -> Result<(Block, Ready), OutOfMemory>
-    requires next { IsNext registry.old.slots (events_of registry.old.entries) event }
-    ensures block { IfOk result (λ ready. payload_of ready.0 ≡ text_of event) }
+    requires next { IsNextEvent registry.old.slots (events_of registry.old.entries) event }
+    ensures block { IfOk result (λ ready. payload_of ready.0 ≡ event_text event) }
     ensures ready { IfOk result (λ ready.
         IsReadyFor registry.old.slots (events_of registry.old.entries) event ready.1) }
     ensures spare { OnOk result (0 < registry.new.spare) }
@@ -88,7 +88,7 @@ impl<D: Disk> RegistryState<D> {
         // The slots and the events are those of the journal's payloads, brought by no pass, and no
         // event is in doubt.
         ensures payloads { D.tells → IfOk result (λ registry.
-            Holds (reads (D.past disk)) 0 (payloads_of registry.slots (events_in registry))) }
+            Holds (reads (D.past disk)) 0 (registry_payloads registry.slots (events_in registry))) }
         ensures registry { IfOk result (λ registry.
             IsRegistry registry.slots (events_in registry)) }
         ensures by_nobody { IfOk result (λ registry.
@@ -181,7 +181,7 @@ impl<D: Disk> RegistryState<D> {
 
     // Writes an event and adds it. All its memory is taken before the first call of the disk.
     fn make(&mut self, event: Event, by: u32) -> Result<(), NotMade>
-        requires next { IsNext self.old.slots (events_in self.old) event }
+        requires next { IsNextEvent self.old.slots (events_in self.old) event }
         ensures { Changed D.Disk self.old self.new (Some event) by (end_of_making event result) }
     {
         let Ok((block, ready)) = reserve(self.alloc, &mut self.registry, event) else {
@@ -267,7 +267,7 @@ impl<D: Disk> RegistryState<D> {
     /// The source with a name.
     pub fn resolve(&self, name: &Text) -> Result<Option<SourceInfo>, OutOfMemory>
         ensures reply { IfOk result (λ found. asked.found found
-            ≡ asked.reply_of self.now.slots (asked.resolve name.now) (events_in self.now)) }
+            ≡ asked.registry_reply self.now.slots (asked.resolve name.now) (events_in self.now)) }
         ensures slot { IfOk result (λ found. IfSome found (HasSlot self.now.slots)) }
     {
         find_named(self.living(), name.as_bytes())
@@ -276,7 +276,7 @@ impl<D: Disk> RegistryState<D> {
     /// The source with an id.
     pub fn resolve_id(&self, id: Id) -> Result<Option<SourceInfo>, OutOfMemory>
         ensures reply { IfOk result (λ found. asked.found found
-            ≡ asked.reply_of self.now.slots (asked.resolve_id id) (events_in self.now)) }
+            ≡ asked.registry_reply self.now.slots (asked.resolve_id id) (events_in self.now)) }
         ensures slot { IfOk result (λ found. IfSome found (HasSlot self.now.slots)) }
     {
         find_with_id(self.living(), id)
@@ -285,7 +285,8 @@ impl<D: Disk> RegistryState<D> {
     /// The source with a URI; of several the one in the least slot.
     pub fn resolve_uri(&self, uri: &Text) -> Result<Option<SourceInfo>, OutOfMemory>
         ensures reply { IfOk result (λ found. asked.found found
-            ≡ asked.reply_of self.now.slots (asked.resolve_uri uri.now) (events_in self.now)) }
+            ≡ asked.registry_reply self.now.slots (asked.resolve_uri uri.now)
+            (events_in self.now)) }
         ensures slot { IfOk result (λ found. IfSome found (HasSlot self.now.slots)) }
     {
         find_with_uri(self.living(), uri.as_bytes())
@@ -294,7 +295,7 @@ impl<D: Disk> RegistryState<D> {
     /// The sources that live, in the order of their names.
     pub fn list(&self) -> Result<Sources, OutOfMemory>
         ensures reply { IfOk result (λ listed. asked.listed listed.items
-            ≡ asked.reply_of self.now.slots asked.list (events_in self.now)) }
+            ≡ asked.registry_reply self.now.slots asked.list (events_in self.now)) }
         ensures slots { IfOk result (λ listed.
             AllByRecursion (HasSlot self.now.slots) listed.items) }
     {

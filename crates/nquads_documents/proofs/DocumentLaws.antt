@@ -4,12 +4,12 @@ use Rattle.std.specs.List.{list_all}
 use Rattle.std.proofs.lemmas.Bool.{false≢true, eqb-true}
 use Rattle.std.proofs.lemmas.List.{append-nil, length-append}
 use Rattle.rdf_terms.specs.Quad.{Statement}
-use Rattle.nquads_text.specs.Fault.{Read, ◌>>=◌}
+use Rattle.nquads_text.specs.Fault.{TextRead, ◌>>=◌}
 use Rattle.nquads_text.specs.Terms.{skip_blanks}
 use Rattle.nquads_text.specs.Statement.{statement_at}
 use Rattle.nquads_text.proofs.Inside.{low_char}
 use Rattle.nquads_text.proofs.Steps.{bind_ok, chosen, ok_is}
-use Rattle.nquads_documents.specs.Reading.{comment_at, comment_part, statement_part, part_by, part_at, with_part, line_end_at, document_at}
+use Rattle.nquads_documents.specs.Reading.{comment_at, comment_part, statement_part, part_by, document_part_at, with_part, line_end_at, document_at}
 use Rattle.nquads_text.specs.Grammar.{is_blank, StartsWith, Blanks, is_line_end}
 use Rattle.nquads_documents.specs.Grammar.{StatementAt, IsEmptyLine, IsLine, of_line, AreLines, IsDocument}
 use Rattle.nquads_documents.specs.Laws.{TermsFound, TermsAgain, DocumentsFound, DocumentsAgain, DocumentsOnce, LinesAgain}
@@ -22,12 +22,12 @@ use Rattle.nquads_documents.proofs.StatementLaws.{Begun, statement_found, statem
 use Rattle.nquads_documents.proofs.Tails.{cut_statement, add_statement}
 
 -- what the text behind a line's end is read as
-abbrev pub behind_end : List ℕ → Read (List Statement)
+abbrev pub behind_end : List ℕ → TextRead (List Statement)
 behind_end [] = Ok ([], [])
 behind_end (b ∷ rest) = document_at 0 rest
 
-end_part : (b : ℕ) (rest : List ℕ) → is_line_end b ≡ true → part_at (b ∷ rest) ≡ Ok (None, rest)
-unfolding part_at
+end_part : (b : ℕ) (rest : List ℕ) → is_line_end b ≡ true → document_part_at (b ∷ rest) ≡ Ok (None, rest)
+unfolding document_part_at
 end_part b rest e = ap part_by (skip_again [] (b ∷ rest) refl (no_blank (nat_eq b 10) refl e)) ∙ rw e refl
   where
     no_blank : (t : Bool) → nat_eq b 10 ≡ t → (t || nat_eq b 13) ≡ true → is_blank b ≡ true → ⊥
@@ -98,11 +98,11 @@ module _ (found : TermsFound) (again : TermsAgain) where
       (chosen (nat_eq c 35) (comment_part rest) (statement_part (c ∷ rest)) (Ok x) other.1))
       (chosen (is_line_end c) (Ok (None, rest)) (cond (nat_eq c 35) (comment_part rest) (statement_part (c ∷ rest))) (Ok x) e)
 
-  part_there : (text : List ℕ) (x : Option Statement × List ℕ) → part_at text ≡ Ok x → PartThere text x.0 x.1
-  unfolding part_at
+  part_there : (text : List ℕ) (x : Option Statement × List ℕ) → document_part_at text ≡ Ok x → PartThere text x.0 x.1
+  unfolding document_part_at
   part_there text x e = part_found text (skip_blanks text) x (blanks_found text) e
 
-  pub line_there : (text : List ℕ) (x : Option Statement × List ℕ) → 0 < length text → part_at text ≡ Ok x → LineThere text
+  pub line_there : (text : List ℕ) (x : Option Statement × List ℕ) → 0 < length text → document_part_at text ≡ Ok x → LineThere text
   line_there text x pos e =
       let p = part_there text x e in
       let less : length x.1 ≤ length text - 1 = upto_part text (length text - 1) (omega arith) x e in
@@ -129,7 +129,7 @@ module _ (found : TermsFound) (again : TermsAgain) where
   empty_document quads e = (None ∷ [], (([], [], refl, refl, inl refl), e))
 
   -- the statements of a line, and of those behind it
-  split_quads : (x : Option Statement) (read : Read (List Statement)) (quads : List Statement) → with_part x read ≡ Ok (quads, []) → (others : List Statement) × (read ≡ Ok (others, [])) × (quads ≡ of_line x ++ others)
+  split_quads : (x : Option Statement) (read : TextRead (List Statement)) (quads : List Statement) → with_part x read ≡ Ok (quads, []) → (others : List Statement) × (read ≡ Ok (others, [])) × (quads ≡ of_line x ++ others)
   split_quads None read quads e = (quads, e, refl)
   split_quads (Some q) read quads e =
       let y = bind_ok read (λ (y : List Statement × List ℕ). Ok (q ∷ y.0, y.1)) (quads, []) e in
@@ -149,7 +149,7 @@ module _ (found : TermsFound) (again : TermsAgain) where
   upto n [] quads le e = empty_document quads (ap (λ (x : List Statement × List ℕ). x.0) (ok_is (quads, []) ([], []) (sym e)))
   upto zero (b ∷ rest) quads le e = absurd (omega arith)
   upto (suc n) (b ∷ rest) quads le e =
-      let x = bind_ok (part_at (b ∷ rest)) (λ (x : Option Statement × List ℕ). with_part x.0 (document_at (length rest - length x.1) rest)) (quads, []) e in
+      let x = bind_ok (document_part_at (b ∷ rest)) (λ (x : Option Statement × List ℕ). with_part x.0 (document_at (length rest - length x.1) rest)) (quads, []) e in
       let l = line_there (b ∷ rest) x.0 (omega arith) x.1 in
       let s = split_quads l.item (behind_end l.tail) quads (sym l.read ∙ e) in
       subst (λ (t : List ℕ). IsDocument t quads) (sym l.parts)
@@ -168,8 +168,8 @@ module _ (found : TermsFound) (again : TermsAgain) where
 
   -- ---- what is there is read
 
-  pub past_blanks : (blanks rest : List ℕ) → list_all is_blank blanks ≡ true → (StartsWith is_blank rest → ⊥) → part_at (blanks ++ rest) ≡ part_by rest
-  unfolding part_at
+  pub past_blanks : (blanks rest : List ℕ) → list_all is_blank blanks ≡ true → (StartsWith is_blank rest → ⊥) → document_part_at (blanks ++ rest) ≡ part_by rest
+  unfolding document_part_at
   past_blanks blanks rest all none = ap part_by (skip_again blanks rest all none)
 
   blank_line : (blanks tail : List ℕ) → list_all is_blank blanks ≡ true → Closes tail → document_at 0 (blanks ++ tail) ≡ behind_end tail
@@ -186,7 +186,7 @@ module _ (found : TermsFound) (again : TermsAgain) where
       let split : (blanks ++ 35 ∷ body) ++ tail ≡ blanks ++ 35 ∷ (body ++ tail) = append_assoc blanks (35 ∷ body) tail in
       let some : 0 < length (blanks ++ 35 ∷ body) = omega (arith, length-append blanks (35 ∷ body)) in
       document_behind ((blanks ++ 35 ∷ body) ++ tail) (blanks ++ 35 ∷ body) tail None refl some
-      (ap part_at split ∙ past_blanks blanks (35 ∷ (body ++ tail)) all (λ s. false≢true s) ∙ rw e refl)
+      (ap document_part_at split ∙ past_blanks blanks (35 ∷ (body ++ tail)) all (λ s. false≢true s) ∙ rw e refl)
       ∙ at_end tail c
 
   empty_line : (bytes tail : List ℕ) → IsEmptyLine bytes → Closes tail → document_at 0 (bytes ++ tail) ≡ behind_end tail
@@ -238,7 +238,7 @@ module _ (found : TermsFound) (again : TermsAgain) where
       let k : length text ≡ suc (length alone.rest) = ap length alone.parts in omega arith in
       let none : StartsWith is_blank (text ++ tail) → ⊥ = λ st. false≢true (sym first.no_blank ∙ subst (StartsWith is_blank) first.parts st) in
       document_behind (bytes ++ tail) bytes tail (Some q) refl some
-      (ap part_at split ∙ past_blanks b.0 (text ++ tail) b.2 none ∙ to_statement (text ++ tail) first ∙ rw (read, ends) refl)
+      (ap document_part_at split ∙ past_blanks b.0 (text ++ tail) b.2 none ∙ to_statement (text ++ tail) first ∙ rw (read, ends) refl)
       ∙ ap (with_part (Some q)) (at_end tail c)
 
   pub line_again : (bytes tail : List ℕ) (x : Option Statement) → IsLine bytes x → Closes tail → document_at 0 (bytes ++ tail) ≡ with_part x (behind_end tail)

@@ -9,7 +9,7 @@ use Rattle.std.proofs.lemmas.List.Folds.{list_all-append}
 use Rattle.std.proofs.lemmas.Str.{encode_ascii, inside_one, length-encode, len_utf8_bounds, IsUtf8-append, IsUtf8-encode, IsUtf8-nil, byte_from_char}
 use lib.Utf8.{scalar, scalars}
 use Rattle.nquads_text.specs.declared.fault.TextKind.TheVariants.{BadToken}
-use Rattle.nquads_text.specs.Fault.{Read, ◌>>=◌}
+use Rattle.nquads_text.specs.Fault.{TextRead, ◌>>=◌}
 use Rattle.nquads_text.specs.Reading.{char_at}
 use Rattle.nquads_text.specs.Terms.{skip_blanks}
 use Rattle.nquads_text.proofs.Fronts.{char_spelled, char_again}
@@ -72,7 +72,7 @@ pub record Commented (rest tail : List ℕ) : Type 0 where
 nothing : (tail : List ℕ) → Closes tail → Commented tail tail
 nothing tail c = record { body = []; parts = refl; utf8 = IsUtf8-nil; inside = refl; closes = c }
 
-abbrev done : List ℕ → Read (Unit {0})
+abbrev done : List ℕ → TextRead (Unit {0})
 done tail = Ok (tt, tail)
 
 ended : (xs tail : List ℕ) → done xs ≡ done tail → xs ≡ tail

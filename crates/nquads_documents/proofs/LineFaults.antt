@@ -9,7 +9,7 @@ use Rattle.std.proofs.lemmas.List.Folds.{list_all-append}
 use Rattle.std.proofs.lemmas.Str.{encode_ascii, IsUtf8-append, IsUtf8-encode, IsUtf8-nil, byte_from_char, char_from_byte}
 use lib.Utf8.{scalar, scalars}
 use Rattle.nquads_text.specs.declared.fault.TextKind.TheVariants.{NotUtf8, BadToken, Truncated}
-use Rattle.nquads_text.specs.Fault.{Read, Fault, ◌>>=◌}
+use Rattle.nquads_text.specs.Fault.{TextRead, TextFault, ◌>>=◌}
 use Rattle.nquads_text.specs.Reading.{char_at}
 use Rattle.nquads_text.specs.Terms.{skip_blanks}
 use Rattle.nquads_text.proofs.Fronts.{char_spelled, char_again}
@@ -22,7 +22,7 @@ use Rattle.nquads_documents.proofs.BlankLaws.{blanks_found, blanks_again}
 use Rattle.nquads_documents.proofs.LineEnds.{no_end, char_ends_none, first_byte, some_bytes, one_char}
 use Rattle.nquads_documents.proofs.StatementFaults.{err_is, char_failed, ill_formed}
 
-abbrev fails : {X : Type 0} → Fault → Read X
+abbrev fails : {X : Type 0} → TextFault → TextRead X
 fails f = Err f
 
 -- ---- ASCII bytes are characters
@@ -42,7 +42,7 @@ ill_no_hash : (b : ℕ) (rest : List ℕ) → IsIllFormed (b ∷ rest) → nat_e
 ill_no_hash b rest i = ne_eqb b 35 (λ same. ill_none b 35 rest i same (omega arith) refl)
 
 -- where some byte stands
-ill_front : (b : ℕ) (rest : List ℕ) (f : Fault) → char_at (b ∷ rest) ≡ Err f → IsIllFormed (b ∷ rest) × (f ≡ (NotUtf8, b ∷ rest))
+ill_front : (b : ℕ) (rest : List ℕ) (f : TextFault) → char_at (b ∷ rest) ≡ Err f → IsIllFormed (b ∷ rest) × (f ≡ (NotUtf8, b ∷ rest))
 ill_front b rest f e = by (char_failed (b ∷ rest) f e)
   where
     by : ((b ∷ rest ≡ []) × (f ≡ (Truncated, []))) ⊎ (IsIllFormed (b ∷ rest) × (f ≡ (NotUtf8, b ∷ rest))) → IsIllFormed (b ∷ rest) × (f ≡ (NotUtf8, b ∷ rest))
@@ -51,10 +51,10 @@ ill_front b rest f e = by (char_failed (b ∷ rest) f e)
 
 -- ---- comments
 
-here : (text : List ℕ) (f : Fault) → IsIllFormed text → f ≡ (NotUtf8, text) → CommentFault text f
+here : (text : List ℕ) (f : TextFault) → IsIllFormed text → f ≡ (NotUtf8, text) → CommentFault text f
 here text f i e = ([], text, refl, IsUtf8-nil, refl, i, e)
 
-pub comment_failed : (skip : ℕ) (rest : List ℕ) (f : Fault) → comment_at skip rest ≡ Err f → CommentFault (drop skip rest) f
+pub comment_failed : (skip : ℕ) (rest : List ℕ) (f : TextFault) → comment_at skip rest ≡ Err f → CommentFault (drop skip rest) f
 unfolding comment_at
 comment_failed zero [] f e = absurd (not_both (tt, []) f e)
 comment_failed (suc skip) [] f e = absurd (not_both (tt, []) f e)
@@ -95,7 +95,7 @@ chars_fail (x ∷ cs) rest s all i =
     let p = and_parts (list_all no_end (encode_utf8 x)) (list_all no_end (encode_utf8_all cs)) (sym (list_all-append no_end (encode_utf8 x) (encode_utf8_all cs)) ∙ all) in
     ap (comment_at 0) (append_assoc (encode_utf8 x) (encode_utf8_all cs) rest) ∙ one_char x (encode_utf8_all cs ++ rest) t.0 p.0 ∙ chars_fail cs rest t.1 p.1 i
 
-pub comment_fails : (text : List ℕ) (f : Fault) → CommentFault text f → comment_at 0 text ≡ Err f
+pub comment_fails : (text : List ℕ) (f : TextFault) → CommentFault text f → comment_at 0 text ≡ Err f
 comment_fails text f c =
     ap (comment_at 0) (c.2 ∙ ap (λ (b : List ℕ). b ++ c.1) (sym c.3.1.1)) ∙ chars_fail c.3.0 c.1 c.3.1.0 (ap (list_all no_end) c.3.1.1 ∙ c.4) c.5 ∙ ap fails (sym c.6)
 
@@ -110,7 +110,7 @@ hash_byte c b rest after parts e = ne_eqb c 35 (λ same.
     let first : b ≡ c = byte_from_char (b ∷ rest) after c parts low in
     false≢true (sym e ∙ eq-eqb b 35 (first ∙ same)))
 
-no_end_failed : (b : ℕ) (rest : List ℕ) (f : Fault) → is_line_end b ≡ false → nat_eq b 35 ≡ false → no_end_at (b ∷ rest) ≡ Err f → OtherFault BadToken may_end_line (b ∷ rest) f
+no_end_failed : (b : ℕ) (rest : List ℕ) (f : TextFault) → is_line_end b ≡ false → nat_eq b 35 ≡ false → no_end_at (b ∷ rest) ≡ Err f → OtherFault BadToken may_end_line (b ∷ rest) f
 unfolding no_end_at
 no_end_failed b rest f end hash e =
     ⊎_elim
@@ -121,7 +121,7 @@ no_end_failed b rest f end hash e =
     inr (c.0.0, c.0.1, s.0, s.1, other, sym (err_is {X = Unit {0}} (BadToken, b ∷ rest) f c.2)))
     (bind_err (char_at (b ∷ rest)) (λ (c : ℕ × List ℕ). Err (BadToken, b ∷ rest)) f e)
 
-end_failed_by : (text skipped : List ℕ) (f : Fault) → Blanks text skipped → end_by skipped ≡ Err f → LineEndFault text f
+end_failed_by : (text skipped : List ℕ) (f : TextFault) → Blanks text skipped → end_by skipped ≡ Err f → LineEndFault text f
 end_failed_by text [] f b e = absurd (not_both (tt, []) f e)
 end_failed_by text (x ∷ more) f b e =
     ⊎_elim
@@ -133,7 +133,7 @@ end_failed_by text (x ∷ more) f b e =
     (chosen (nat_eq x 35) (comment_at 0 more) (no_end_at (x ∷ more)) (Err f) other.1))
     (chosen (is_line_end x) (Ok (tt, x ∷ more)) (cond (nat_eq x 35) (comment_at 0 more) (no_end_at (x ∷ more))) (Err f) e)
 
-pub line_end_failed : (text : List ℕ) (f : Fault) → line_end_at text ≡ Err f → LineEndFault text f
+pub line_end_failed : (text : List ℕ) (f : TextFault) → line_end_at text ≡ Err f → LineEndFault text f
 unfolding line_end_at
 line_end_failed text f e = end_failed_by text (skip_blanks text) f (blanks_found text) e
 
@@ -152,7 +152,7 @@ end_of_char c b rest after parts e = by (nat_eq b 10) refl (nat_eq b 13) refl (n
     by false p false q true r = absurd (same 35 (eqb-true b 35 r) (omega arith) refl)
     by false p false q false r = (refl, refl)
 
-other_fails : (rest : List ℕ) (f : Fault) → (rest ≡ [] → ⊥) → OtherFault BadToken may_end_line rest f → end_by rest ≡ Err f
+other_fails : (rest : List ℕ) (f : TextFault) → (rest ≡ [] → ⊥) → OtherFault BadToken may_end_line rest f → end_by rest ≡ Err f
 unfolding no_end_at
 other_fails [] f some o = absurd (some refl)
 other_fails (b ∷ rest) f some (inl ill) = rw (ill_no_end b rest ill.0, ill_no_hash b rest ill.0, ill_formed (b ∷ rest) ill.0) (ap fails (sym ill.1))
@@ -161,7 +161,7 @@ other_fails (b ∷ rest) f some (inr other) =
     let read : char_at (b ∷ rest) ≡ Ok (other.0, other.1) = ap char_at other.3 ∙ char_again other.0 other.1 other.2 in
     rw (e.0, e.1, read) (ap fails (sym other.5))
 
-pub line_end_fails : (text : List ℕ) (f : Fault) → LineEndFault text f → line_end_at text ≡ Err f
+pub line_end_fails : (text : List ℕ) (f : TextFault) → LineEndFault text f → line_end_at text ≡ Err f
 unfolding line_end_at
 line_end_fails text f l =
     ap end_by (blanks_again text l.0 l.1)

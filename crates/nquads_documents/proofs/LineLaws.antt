@@ -8,7 +8,7 @@ use Rattle.rdf_terms.specs.declared.term.Term.{Term}
 use Rattle.rdf_terms.specs.declared.term.Term.TheVariants as term
 use Rattle.rdf_terms.specs.Quad.{Statement, is_iri, is_literal, may_be_graph}
 use Rattle.nquads_text.specs.Terms.{skip_blanks, term_at}
-use Rattle.nquads_text.specs.Statement.{node_at, predicate_at, dot_at, graph_at, statement_at}
+use Rattle.nquads_text.specs.Statement.{node_at, predicate_at, final_dot_at, graph_at, statement_at}
 use Rattle.nquads_text.specs.Grammar.{is_blank}
 use Rattle.nquads_text.specs.Printing.{IsTermValue, IsGraphValue, EndsTerm}
 use Rattle.rdf_terms.specs.Line.{term_text}
@@ -18,7 +18,7 @@ use Rattle.nquads_text.proofs.Fronts.{char_at-ascii}
 use Rattle.nquads_text.proofs.Steps.{ok_is}
 use Rattle.rdf_terms.specs.Line.{line, graph_text}
 use Rattle.nquads_documents.specs.Laws.{IsQuadValue, LinesRead, LinesApart}
-use Rattle.nquads_documents.specs.Reading.{line_end_at, statement_part, part_by, part_at, with_part, document_at}
+use Rattle.nquads_documents.specs.Reading.{line_end_at, statement_part, part_by, document_part_at, with_part, document_at}
 use Rattle.nquads_documents.proofs.Documents.{document_part}
 
 -- ---- a space before a term, and behind it
@@ -67,8 +67,8 @@ predicate_here : (t : Term) (rest : List ℕ) → IsTermValue t → is_iri t ≡
 unfolding predicate_at
 predicate_here t rest v e n = rw (term_here t rest v n, e) refl
 
-pub dot_here : (rest : List ℕ) → dot_at (46 ∷ rest) ≡ Ok (None, rest)
-unfolding dot_at
+pub dot_here : (rest : List ℕ) → final_dot_at (46 ∷ rest) ≡ Ok (None, rest)
+unfolding final_dot_at
 dot_here rest = rw (char_at-ascii 46 rest (omega arith)) refl
 
 pub graph_none : (rest : List ℕ) → graph_at (46 ∷ rest) ≡ Ok (None, rest)
@@ -146,25 +146,25 @@ end_here : (more : List ℕ) → line_end_at (10 ∷ more) ≡ Ok (tt, 10 ∷ mo
 unfolding line_end_at skip_blanks
 end_here more = refl
 
-to_statement : (t : Term) (rest : List ℕ) → part_at (term_text t ++ rest) ≡ statement_part (term_text t ++ rest)
-unfolding part_at
+to_statement : (t : Term) (rest : List ℕ) → document_part_at (term_text t ++ rest) ≡ statement_part (term_text t ++ rest)
+unfolding document_part_at
 to_statement (term.Iri iri) rest = ap part_by (skip_term (term.Iri iri) rest)
 to_statement (term.Blank label) rest = ap part_by (skip_term (term.Blank label) rest)
 to_statement (term.Literal literal) rest = ap part_by (skip_term (term.Literal literal) rest)
 
-part_here : (q : Statement) (more : List ℕ) → IsQuadValue q → part_at (line q ++ more) ≡ Ok (Some q, 10 ∷ more)
+part_here : (q : Statement) (more : List ℕ) → IsQuadValue q → document_part_at (line q ++ more) ≡ Ok (Some q, 10 ∷ more)
 unfolding statement_part
 part_here q more v =
-    ap part_at (line_is q more)
+    ap document_part_at (line_is q more)
     ∙ to_statement q.subject (32 ∷ (term_text q.predicate ++ 32 ∷ (term_text q.object ++ 32 ∷ graph_tail q.graph (10 ∷ more))))
     ∙ rw (statement_here q (10 ∷ more) v, end_here more) refl
 
-feed_part : (more : List ℕ) → part_at (10 ∷ more) ≡ Ok (None, more)
-unfolding part_at skip_blanks
+feed_part : (more : List ℕ) → document_part_at (10 ∷ more) ≡ Ok (None, more)
+unfolding document_part_at skip_blanks
 feed_part more = refl
 
 -- a part that takes a front off
-pub document_behind : (text front after : List ℕ) (x : Option Statement) → text ≡ front ++ after → 0 < length front → part_at text ≡ Ok (x, after) → document_at 0 text ≡ with_part x (document_at 0 after)
+pub document_behind : (text front after : List ℕ) (x : Option Statement) → text ≡ front ++ after → 0 < length front → document_part_at text ≡ Ok (x, after) → document_at 0 text ≡ with_part x (document_at 0 after)
 document_behind text front after x parts pos e =
     let there : drop (length front) text ≡ after = ap (drop (length front)) parts ∙ drop_at front after (length front) refl in
     let within : length front ≤ length text = let l = ap length parts ∙ length-append front after in omega arith in
@@ -198,6 +198,6 @@ lines_read (q ∷ quads) all =
 
 pub lines_apart : LinesApart
 lines_apart p q more v w e =
-    let one = ok_is (Some p, 10 ∷ more) (Some q, 10 ∷ []) (sym (part_here p more v) ∙ ap part_at (e ∙ sym (append-nil (line q))) ∙ part_here q [] w) in
+    let one = ok_is (Some p, 10 ∷ more) (Some q, 10 ∷ []) (sym (part_here p more v) ∙ ap document_part_at (e ∙ sym (append-nil (line q))) ∙ part_here q [] w) in
     let same : Some p ≡ Some q = ap (λ (x : Option Statement × List ℕ). x.0) one in
     cc

@@ -10,15 +10,15 @@ use Rattle.canonical_scan.specs.Found.{IsTermThere, HasTerm}
 use Rattle.nquads_text.specs.declared.fault.ReadFault.{ReadFault}
 use Rattle.nquads_text.specs.declared.fault.ReadFault.TheVariants.{At}
 use Rattle.nquads_text.specs.declared.fault.TextKind.TheVariants.{BadPosition}
-use Rattle.nquads_text.specs.Fault.{Fails, Pushes, Read, ◌>>=◌}
+use Rattle.nquads_text.specs.Fault.{Fails, Pushes, TextRead, ◌>>=◌}
 use Rattle.nquads_text.specs.Grammar.{TermAt}
 use Rattle.nquads_text.specs.Reading.{char_at}
-use Rattle.nquads_text.specs.Statement.{node_at, predicate_at, dot_at, graph_at, statement_at}
+use Rattle.nquads_text.specs.Statement.{node_at, predicate_at, final_dot_at, graph_at, statement_at}
 use Rattle.nquads_text.specs.Terms.{skip_blanks, term_at}
 use Rattle.nquads_text.proofs.Printed.{printed}
 use Rattle.nquads_text.proofs.Steps.{fails_then}
 use Rattle.nquads_text.specs.Grammar.{is_line_end}
-use Rattle.nquads_documents.specs.Reading.{comment_at, comment_part, line_end_at, part_at, statement_part}
+use Rattle.nquads_documents.specs.Reading.{comment_at, comment_part, line_end_at, document_part_at, statement_part}
 use Rattle.nquads_documents.specs.Shown.{PushesPart}
 use Rattle.nquads_documents.proofs.Parted.{line_parts}
 use Rattle.nquads_documents.proofs.Steps.{part_comment, part_statement}
@@ -128,20 +128,20 @@ module _ (text rest after : List ℕ) (c : ℕ) (first : char_at rest ≡ Ok (c,
   graph_node_fails e begun f = rw (first, begun) (fails_then text e (node_at rest) _ f)
 
   pub graph_dot_fails : (e : ReadFault) (old new dot : List ℕ) (end : ℕ) → begins_term c ≡ true → Pushes term_text text old new (Ok end) (node_at rest) → dot ≡ skip_blanks (drop end text)
-      → Fails text e (dot_at dot) → Fails text e (graph_at rest)
+      → Fails text e (final_dot_at dot) → Fails text e (graph_at rest)
   unfolding graph_at
-  graph_dot_fails e old new dot end begun p skipped f = rw (first, begun, p.1, sym skipped) (fails_then text e (dot_at dot) _ f)
+  graph_dot_fails e old new dot end begun p skipped f = rw (first, begun, p.1, sym skipped) (fails_then text e (final_dot_at dot) _ f)
 
   pub graph_pushed : (old new dot : List ℕ) (end next : ℕ) → begins_term c ≡ true → Pushes term_text text (old ++ 32 ∷ []) new (Ok end) (node_at rest) → dot ≡ skip_blanks (drop end text)
-      → dot_at dot ≡ Ok (None, drop next text) → next ≤ length text → Pushes graph_text text old new (Ok next) (graph_at rest)
+      → final_dot_at dot ≡ Ok (None, drop next text) → next ≤ length text → Pushes graph_text text old new (Ok next) (graph_at rest)
   unfolding graph_at
   graph_pushed old new dot end next begun p skipped e within = (Some p.0, rw (first, begun, p.1, sym skipped, e) refl, within, p.3 ∙ append_assoc old (32 ∷ []) (term_text p.0))
 
-  pub graph_none_fails : (e : ReadFault) → begins_term c ≡ false → Fails text e (dot_at rest) → Fails text e (graph_at rest)
+  pub graph_none_fails : (e : ReadFault) → begins_term c ≡ false → Fails text e (final_dot_at rest) → Fails text e (graph_at rest)
   unfolding graph_at
   graph_none_fails e none f = rw (first, none) f
 
-  pub graph_none_pushed : (old : List ℕ) (next : ℕ) → begins_term c ≡ false → dot_at rest ≡ Ok (None, drop next text) → next ≤ length text → Pushes graph_text text old old (Ok next) (graph_at rest)
+  pub graph_none_pushed : (old : List ℕ) (next : ℕ) → begins_term c ≡ false → final_dot_at rest ≡ Ok (None, drop next text) → next ≤ length text → Pushes graph_text text old old (Ok next) (graph_at rest)
   unfolding graph_at
   graph_none_pushed old next none e within = (None, rw (first, none) e, within, sym (append-nil old))
 
@@ -192,29 +192,29 @@ line_pushed old s s_space p p_space o g all q subject space_s predicate space_p 
 
 -- ---- parts
 
-pub no_line : (text old : List ℕ) (next : ℕ) (read : Read (Option Statement)) → read ≡ Ok (None, drop next text) → next ≤ length text → PushesPart text old old (Ok (false, next)) read
+pub no_line : (text old : List ℕ) (next : ℕ) (read : TextRead (Option Statement)) → read ≡ Ok (None, drop next text) → next ≤ length text → PushesPart text old old (Ok (false, next)) read
 no_line text old next read e within = (None, e, within, refl, sym (append-nil old))
 
 module _ (text rest : List ℕ) (at : ℕ) (behind : drop at text ≡ skip_blanks rest) (inside : at < length text) (no_end : is_line_end (get_or text at 0) ≡ false) where
-  pub comment_fails : (e : ReadFault) → get_or text at 0 ≡ 35 → Fails text e (comment_at 0 (drop (at + 1) text)) → Fails text e (part_at rest)
+  pub comment_fails : (e : ReadFault) → get_or text at 0 ≡ 35 → Fails text e (comment_at 0 (drop (at + 1) text)) → Fails text e (document_part_at rest)
   unfolding comment_part
   comment_fails e hash f = rw (part_comment text rest at behind inside no_end hash) (fails_then text e (comment_at 0 (drop (at + 1) text)) _ f)
 
-  pub comment_there : (old : List ℕ) (end : ℕ) → get_or text at 0 ≡ 35 → comment_at 0 (drop (at + 1) text) ≡ Ok (tt, drop end text) → end ≤ length text → PushesPart text old old (Ok (false, end)) (part_at rest)
+  pub comment_there : (old : List ℕ) (end : ℕ) → get_or text at 0 ≡ 35 → comment_at 0 (drop (at + 1) text) ≡ Ok (tt, drop end text) → end ≤ length text → PushesPart text old old (Ok (false, end)) (document_part_at rest)
   unfolding comment_part
-  comment_there old end hash e within = no_line text old end (part_at rest) (part_comment text rest at behind inside no_end hash ∙ rw e refl) within
+  comment_there old end hash e within = no_line text old end (document_part_at rest) (part_comment text rest at behind inside no_end hash ∙ rw e refl) within
 
-  pub part_fails_there : (e : ReadFault) → (get_or text at 0 ≡ 35 → ⊥) → Fails text e (statement_at (drop at text)) → Fails text e (part_at rest)
+  pub part_fails_there : (e : ReadFault) → (get_or text at 0 ≡ 35 → ⊥) → Fails text e (statement_at (drop at text)) → Fails text e (document_part_at rest)
   unfolding statement_part
   part_fails_there e other f = rw (part_statement text rest at behind inside no_end other) (fails_then text e (statement_at (drop at text)) _ f)
 
   pub end_fails : (e : ReadFault) (old new : List ℕ) (dot : ℕ) → (get_or text at 0 ≡ 35 → ⊥) → Pushes line text old new (Ok dot) (statement_at (drop at text)) → Fails text e (line_end_at (drop dot text))
-      → Fails text e (part_at rest)
+      → Fails text e (document_part_at rest)
   unfolding statement_part
   end_fails e old new dot other p f = rw (part_statement text rest at behind inside no_end other, p.1) (fails_then text e (line_end_at (drop dot text)) _ f)
 
   pub line_there : (old new : List ℕ) (dot end : ℕ) → (get_or text at 0 ≡ 35 → ⊥) → Pushes line text old new (Ok dot) (statement_at (drop at text)) → line_end_at (drop dot text) ≡ Ok (tt, drop end text) → end ≤ length text
-      → PushesPart text old new (Ok (true, end)) (part_at rest)
+      → PushesPart text old new (Ok (true, end)) (document_part_at rest)
   unfolding statement_part
   line_there old new dot end other p e within =
       (Some p.0, part_statement text rest at behind inside no_end other ∙ rw (p.1, e) refl, within, refl, p.3 ∙ ap (λ (b : List ℕ). old ++ b) (sym (append-nil (line p.0))))

@@ -5,31 +5,31 @@ use Rattle.std.proofs.lemmas.List.{length-append, length-drop}
 use Rattle.std.proofs.lemmas.Str.{length-encode, len_utf8_bounds}
 use Rattle.rdf_terms.specs.Iri.{has_scheme}
 use Rattle.rdf_terms.specs.Quad.{Statement}
-use Rattle.nquads_text.specs.Fault.{Fault, Read, ◌>>=◌}
+use Rattle.nquads_text.specs.Fault.{TextFault, TextRead, ◌>>=◌}
 use Rattle.nquads_text.specs.Grammar.{IriPiece, StringPiece, is_line_end}
 use Rattle.nquads_text.specs.Reading.{char_at, iri_piece, string_piece, iri_body_at, string_body_at}
-use Rattle.nquads_text.specs.Terms.{name_len, name_at, label_at, tag_at, iri_at, iri_needed, skip_blanks, kind_of, datatype_at, typed_at, suffix_at, literal_at, term_at}
-use Rattle.nquads_text.specs.Statement.{node_at, predicate_at, dot_at, graph_at, statement_at}
+use Rattle.nquads_text.specs.Terms.{name_len, name_at, label_at, tag_at, iri_at, iri_needed, skip_blanks, kind_given, datatype_at, typed_at, suffix_at, literal_at, term_at}
+use Rattle.nquads_text.specs.Statement.{node_at, predicate_at, final_dot_at, graph_at, statement_at}
 use Rattle.nquads_text.proofs.Steps.{bind_ok, ok_is, not_ok}
 use Rattle.nquads_text.proofs.Inside.{char_taken}
 use Rattle.nquads_text.proofs.Spelled.{body_taken}
 use Rattle.nquads_text.proofs.InString.{reads_iri, reads_string}
 use Rattle.nquads_text.proofs.TagLaws.{tag_found}
-use Rattle.nquads_documents.specs.Reading.{comment_at, no_end_at, end_by, line_end_at, comment_part, statement_part, part_by, part_at}
+use Rattle.nquads_documents.specs.Reading.{comment_at, no_end_at, end_by, line_end_at, comment_part, statement_part, part_by, document_part_at}
 
-abbrev pub Upto : {X : Type 0} → Read X → ℕ → Type 0
+abbrev pub Upto : {X : Type 0} → TextRead X → ℕ → Type 0
 Upto {X} r n = (x : X × List ℕ) → r ≡ Ok x → length x.1 ≤ n
 
 upto_ok : {X : Type 0} (y : X × List ℕ) (n : ℕ) → length y.1 ≤ n → Upto (Ok y) n
 upto_ok y n le x e = subst (λ (v : List ℕ). length v ≤ n) (ap (λ (z : _ × List ℕ). z.1) (ok_is y x e)) le
 
-upto_err : {X : Type 0} (f : Fault) (n : ℕ) → Upto {X = X} (Err f) n
+upto_err : {X : Type 0} (f : TextFault) (n : ℕ) → Upto {X = X} (Err f) n
 upto_err f n x e = absurd (not_ok x f e)
 
-upto_then : {X Y : Type 0} (r : Read X) (f : X × List ℕ → Read Y) (n : ℕ) → Upto r n → ((x : X × List ℕ) → length x.1 ≤ n → Upto (f x) n) → Upto (r >>= f) n
+upto_then : {X Y : Type 0} (r : TextRead X) (f : X × List ℕ → TextRead Y) (n : ℕ) → Upto r n → ((x : X × List ℕ) → length x.1 ≤ n → Upto (f x) n) → Upto (r >>= f) n
 upto_then r f n first others y e = let p = bind_ok r f y e in others p.0 (first p.0 p.1) y p.2
 
-upto_if : {X : Type 0} (b : Bool) (r s : Read X) (n : ℕ) → Upto r n → Upto s n → Upto (cond b r s) n
+upto_if : {X : Type 0} (b : Bool) (r s : TextRead X) (n : ℕ) → Upto r n → Upto s n → Upto (cond b r s) n
 upto_if true r s n a b = a
 upto_if false r s n a b = b
 
@@ -83,8 +83,8 @@ upto_iri_needed : (rest : List ℕ) (n : ℕ) → length rest ≤ n → Upto (ir
 unfolding iri_needed
 upto_iri_needed rest n le = upto_then (char_at rest) _ n (upto_char rest n (omega arith)) (λ c a. upto_if (nat_eq c.0 60) _ _ n (upto_iri rest c.1 n a) (upto_err _ n))
 
-upto_kind : (start iri after : List ℕ) (n : ℕ) → length after ≤ n → Upto (kind_of start iri after) n
-unfolding kind_of
+upto_kind : (start iri after : List ℕ) (n : ℕ) → length after ≤ n → Upto (kind_given start iri after) n
+unfolding kind_given
 upto_kind start iri after n le = upto_if _ _ _ n (upto_err _ n) (upto_if _ _ _ n (upto_ok _ n le) (upto_ok _ n le))
 
 upto_datatype : (start rest : List ℕ) (n : ℕ) → length rest ≤ n → Upto (datatype_at start rest) n
@@ -125,15 +125,15 @@ upto_predicate : (rest : List ℕ) (n : ℕ) → length rest ≤ suc n → Upto 
 unfolding predicate_at
 upto_predicate rest n le = upto_then (term_at rest) _ n (upto_term rest n le) (λ t a. upto_if _ _ _ n (upto_ok t n a) (upto_err _ n))
 
-upto_dot : (rest : List ℕ) (n : ℕ) → length rest ≤ n → Upto (dot_at rest) n
-unfolding dot_at
+upto_dot : (rest : List ℕ) (n : ℕ) → length rest ≤ n → Upto (final_dot_at rest) n
+unfolding final_dot_at
 upto_dot rest n le = upto_then (char_at rest) _ n (upto_char rest n (omega arith)) (λ c a. upto_if _ _ _ n (upto_ok _ n a) (upto_err _ n))
 
 upto_graph : (rest : List ℕ) (n : ℕ) → length rest ≤ n → Upto (graph_at rest) n
 unfolding graph_at
 upto_graph rest n le = upto_then (char_at rest) _ n (upto_char rest n (omega arith)) (λ c a.
     upto_if _ _ _ n
-    (upto_then (node_at rest) _ n (upto_node rest n (omega arith)) (λ g b. upto_then (dot_at (skip_blanks g.1)) _ n (upto_dot (skip_blanks g.1) n (upto_blanks g.1 n b)) (λ dot d. upto_ok _ n d)))
+    (upto_then (node_at rest) _ n (upto_node rest n (omega arith)) (λ g b. upto_then (final_dot_at (skip_blanks g.1)) _ n (upto_dot (skip_blanks g.1) n (upto_blanks g.1 n b)) (λ dot d. upto_ok _ n d)))
     (upto_dot rest n le))
 
 pub upto_statement : (rest : List ℕ) (n : ℕ) → length rest ≤ suc n → Upto (statement_at rest) n
@@ -177,12 +177,12 @@ upto_part_by (b ∷ rest) n le = upto_if (is_line_end b) _ _ n (upto_ok _ n (ome
     (upto_then (comment_at 0 rest) _ n (upto_comment 0 rest n (omega arith)) (λ end a. upto_ok _ n a))
     (upto_then (statement_at (b ∷ rest)) _ n (upto_statement (b ∷ rest) n le) (λ q a. upto_then (line_end_at q.1) _ n (upto_line_end q.1 n a) (λ end d. upto_ok _ n d))))
 
-pub upto_part : (rest : List ℕ) (n : ℕ) → length rest ≤ suc n → Upto (part_at rest) n
-unfolding part_at
+pub upto_part : (rest : List ℕ) (n : ℕ) → length rest ≤ suc n → Upto (document_part_at rest) n
+unfolding document_part_at
 upto_part rest n le = upto_part_by (skip_blanks rest) n (let l = blanks rest in omega arith)
 
 -- a part ends behind its place
-pub part_further : (text : List ℕ) (at next : ℕ) (x : Option Statement) → at < length text → next ≤ length text → part_at (drop at text) ≡ Ok (x, drop next text) → at < next
+pub part_further : (text : List ℕ) (at next : ℕ) (x : Option Statement) → at < length text → next ≤ length text → document_part_at (drop at text) ≡ Ok (x, drop next text) → at < next
 part_further text at next x lt le e =
     let a = length-drop at text in let b = length-drop next text in
     let n : ℕ = length text - at - 1 in

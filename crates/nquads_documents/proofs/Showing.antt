@@ -6,10 +6,10 @@ use Rattle.std.proofs.lemmas.List.Elements.{Contains-append_cases, Contains-appe
 use Rattle.rdf_terms.specs.Quad.{Statement}
 use Rattle.rdf_terms.specs.Line.{line, lines as lines_of}
 use Rattle.canonical_scan.specs.Found.{HasLine, IsLineThere}
-use Rattle.nquads_text.specs.Fault.{Read}
+use Rattle.nquads_text.specs.Fault.{TextRead}
 use Rattle.nquads_documents.specs.Grammar.{of_line}
-use Rattle.nquads_documents.specs.Reading.{part_at, document_at}
-use Rattle.nquads_documents.specs.Shown.{AreCuts, AreLinesOf, PushesPart, cut, is_statement}
+use Rattle.nquads_documents.specs.Reading.{document_part_at, document_at}
+use Rattle.nquads_documents.specs.Shown.{AreCuts, AreLinesOf, PushesPart, cut_lines, is_statement}
 use Rattle.nquads_documents.proofs.Cuts.{cut_more, cuts_more}
 use Rattle.nquads_documents.proofs.Documents.{after_part, after_quads, part_read}
 use Rattle.nquads_documents.proofs.LineLaws.{line_read}
@@ -19,14 +19,14 @@ use Rattle.nquads_documents.proofs.Shorter.{part_further}
 pub record AreShown (text printed : List ℕ) (lent : List (List ℕ)) (ends : List ℕ) (at : ℕ) : Type 0 where
   pub quads : List Statement
   pub cuts : AreCuts printed 0 ends
-  pub lines : AreLinesOf quads (lent ++ cut printed 0 ends)
+  pub lines : AreLinesOf quads (lent ++ cut_lines printed 0 ends)
   pub so_far : after_quads quads (document_at 0 (drop at text)) ≡ document_at 0 text
   pub within : at ≤ length text
 
 read_all : (text : List ℕ) → after_quads [] (document_at 0 text) ≡ document_at 0 text
 read_all text = by (document_at 0 text)
   where
-    by : (read : Read (List Statement)) → after_quads [] read ≡ read
+    by : (read : TextRead (List Statement)) → after_quads [] read ≡ read
     by (Ok x) = refl
     by (Err f) = refl
 
@@ -101,7 +101,7 @@ lent_more text printed lent ends at end has are = by has.0 has.1
     by q is = record {
       quads = are.quads ++ q ∷ [];
       cuts = are.cuts;
-      lines = rw is.bytes (one_more are.quads (lent ++ cut printed 0 ends) ((lent ++ line q ∷ []) ++ cut printed 0 ends) q (between lent (cut printed 0 ends) (line q)) are.lines);
+      lines = rw is.bytes (one_more are.quads (lent ++ cut_lines printed 0 ends) ((lent ++ line q ∷ []) ++ cut_lines printed 0 ends) q (between lent (cut_lines printed 0 ends) (line q)) are.lines);
       so_far =
           sym (after_part are.quads (Some q) (document_at 0 (drop end text)))
           ∙ ap (after_quads are.quads) (sym (ap (document_at 0) is.stands ∙ line_read q (drop end text) (is.quads, is.values)))
@@ -115,33 +115,33 @@ line_further text at end has = by has.0 has.1
     by : (q : Statement) → IsLineThere text at end q → at < end
     by q is = is.further
 
-pub goes_further : (text old new : List ℕ) (at : ℕ) (x : Bool × ℕ) → at < length text → PushesPart text old new (Ok x) (part_at (drop at text)) → at < x.1
+pub goes_further : (text old new : List ℕ) (at : ℕ) (x : Bool × ℕ) → at < length text → PushesPart text old new (Ok x) (document_part_at (drop at text)) → at < x.1
 goes_further text old new at x lt p = part_further text at x.1 p.0 lt p.2 p.1
 
 -- a part with a line
-pub printed_more : (text printed new : List ℕ) (lent : List (List ℕ)) (ends : List ℕ) (at next : ℕ) → at < length text → PushesPart text printed new (Ok (true, next)) (part_at (drop at text))
+pub printed_more : (text printed new : List ℕ) (lent : List (List ℕ)) (ends : List ℕ) (at next : ℕ) → at < length text → PushesPart text printed new (Ok (true, next)) (document_part_at (drop at text))
     → AreShown text printed lent ends at → AreShown text new lent (ends ++ length new ∷ []) next
 printed_more text printed new lent ends at next lt p are = by p.0 p.1 p.3 p.4
   where
-    by : (q : Option Statement) → part_at (drop at text) ≡ Ok (q, drop next text) → true ≡ is_statement q → new ≡ printed ++ lines_of (of_line q) → AreShown text new lent (ends ++ length new ∷ []) next
+    by : (q : Option Statement) → document_part_at (drop at text) ≡ Ok (q, drop next text) → true ≡ is_statement q → new ≡ printed ++ lines_of (of_line q) → AreShown text new lent (ends ++ length new ∷ []) next
     by None e is grown = absurd cc
     by (Some q) e is grown =
         let whole : new ≡ printed ++ line q = grown ∙ ap (λ (b : List ℕ). printed ++ b) (append-nil (line q)) in
-        let with_it = one_more are.quads (lent ++ cut printed 0 ends) ((lent ++ cut printed 0 ends) ++ line q ∷ []) q (behind_all (lent ++ cut printed 0 ends) (line q)) are.lines in
+        let with_it = one_more are.quads (lent ++ cut_lines printed 0 ends) ((lent ++ cut_lines printed 0 ends) ++ line q ∷ []) q (behind_all (lent ++ cut_lines printed 0 ends) (line q)) are.lines in
         rw whole (record {
           quads = are.quads ++ q ∷ [];
           cuts = cuts_more printed (line q) ends 0 are.cuts;
-          lines = subst (AreLinesOf (are.quads ++ q ∷ [])) (append_assoc lent (cut printed 0 ends) (line q ∷ []) ∙ ap (λ (ls : List (List ℕ)). lent ++ ls) (sym (cut_more printed (line q) ends 0 are.cuts))) with_it;
+          lines = subst (AreLinesOf (are.quads ++ q ∷ [])) (append_assoc lent (cut_lines printed 0 ends) (line q ∷ []) ∙ ap (λ (ls : List (List ℕ)). lent ++ ls) (sym (cut_more printed (line q) ends 0 are.cuts))) with_it;
           so_far = part_read text are.quads at next (Some q) (document_at 0 text) (goes_further text printed new at (true, next) lt p) p.2 e are.so_far;
           within = p.2;
         })
 
 -- a part with none
-pub none_more : (text printed new : List ℕ) (lent : List (List ℕ)) (ends : List ℕ) (at next : ℕ) → at < length text → PushesPart text printed new (Ok (false, next)) (part_at (drop at text))
+pub none_more : (text printed new : List ℕ) (lent : List (List ℕ)) (ends : List ℕ) (at next : ℕ) → at < length text → PushesPart text printed new (Ok (false, next)) (document_part_at (drop at text))
     → AreShown text printed lent ends at → AreShown text new lent ends next
 none_more text printed new lent ends at next lt p are = by p.0 p.1 p.3 p.4
   where
-    by : (q : Option Statement) → part_at (drop at text) ≡ Ok (q, drop next text) → false ≡ is_statement q → new ≡ printed ++ lines_of (of_line q) → AreShown text new lent ends next
+    by : (q : Option Statement) → document_part_at (drop at text) ≡ Ok (q, drop next text) → false ≡ is_statement q → new ≡ printed ++ lines_of (of_line q) → AreShown text new lent ends next
     by (Some q) e is grown = absurd cc
     by None e is grown =
         let whole : new ≡ printed = grown ∙ append-nil printed in

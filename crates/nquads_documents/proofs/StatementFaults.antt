@@ -9,32 +9,32 @@ use Rattle.rdf_terms.specs.declared.term.Term.{Term}
 use Rattle.rdf_terms.specs.Quad.{Statement, statement, is_iri, is_literal}
 use Rattle.nquads_text.specs.declared.fault.TextKind.{TextKind}
 use Rattle.nquads_text.specs.declared.fault.TextKind.TheVariants.{NotUtf8, BadPosition, MissingDot, Truncated}
-use Rattle.nquads_text.specs.Fault.{Read, Fault, ◌>>=◌}
+use Rattle.nquads_text.specs.Fault.{TextRead, TextFault, ◌>>=◌}
 use Rattle.nquads_text.specs.Reading.{char_at, char_or_fault}
 use Rattle.nquads_text.specs.Terms.{skip_blanks, term_at}
-use Rattle.nquads_text.specs.Statement.{node_at, predicate_at, dot_at, graph_at, statement_at}
+use Rattle.nquads_text.specs.Statement.{node_at, predicate_at, final_dot_at, graph_at, statement_at}
 use Rattle.nquads_text.proofs.Fronts.{char_spelled, char_again, char_at-ascii}
 use Rattle.nquads_text.proofs.Steps.{bind_err, chosen, ok_is, not_both}
 use Rattle.nquads_text.specs.Grammar.{StartsWith}
 use Rattle.nquads_text.specs.Faults.{begins_term}
 use Rattle.nquads_text.specs.Faults.{IsIllFormed}
-use Rattle.nquads_documents.specs.Faults.{MissingFault, DotFault, NodeFault, PredicateFault, GraphFault, SubjectAt, PredicateAt, ObjectAt, StatementFault}
+use Rattle.nquads_documents.specs.Faults.{MissingFault, NoDotFault, NodeFault, PredicateFault, StatementGraphFault, SubjectAt, PredicateAt, ObjectAt, StatementFault}
 use Rattle.nquads_documents.specs.Laws.{TermsFound, TermsAgain, TermFaultsFound, TermFaultsAgain}
 use Rattle.nquads_documents.proofs.BlankLaws.{blanks_found, blanks_again}
 use Rattle.nquads_documents.proofs.StatementLaws.{term_begun, node_found, node_again, predicate_found, predicate_again}
 
-abbrev fails : {X : Type 0} → Fault → Read X
+abbrev fails : {X : Type 0} → TextFault → TextRead X
 fails f = Err f
 
-pub err_is : {X : Type 0} (f g : Fault) → fails {X = X} f ≡ fails g → f ≡ g
+pub err_is : {X : Type 0} (f g : TextFault) → fails {X = X} f ≡ fails g → f ≡ g
 err_is f g e = cc
 
 -- ---- a character
 
-abbrev CharFails : List ℕ → Fault → Type 0
+abbrev CharFails : List ℕ → TextFault → Type 0
 CharFails text f = ((text ≡ []) × (f ≡ (Truncated, []))) ⊎ (IsIllFormed text × (f ≡ (NotUtf8, text)))
 
-pub char_failed : (text : List ℕ) (f : Fault) → char_at text ≡ Err f → CharFails text f
+pub char_failed : (text : List ℕ) (f : TextFault) → char_at text ≡ Err f → CharFails text f
 unfolding char_at
 char_failed [] f e = inl (refl, sym (err_is (Truncated, []) f e))
 char_failed (b ∷ bytes) f e = inr ((λ same. absurd cc, λ c after there. absurd (no_char c after there.0 there.1)), by (decoded (b ∷ bytes)).char e)
@@ -59,10 +59,10 @@ ill_formed (b ∷ bytes) i = by (decoded (b ∷ bytes)).char refl
 
 -- a token that one character tells
 module _ {X : Type 0} (kind : TextKind) (test : ℕ → Bool) (text : List ℕ) (value : ℕ × List ℕ → X × List ℕ) where
-  abbrev token : Read X
+  abbrev token : TextRead X
   token = char_at text >>= λ (c : ℕ × List ℕ). cond (test c.0) (Ok (value c)) (Err (kind, text))
 
-  pub token_failed : (f : Fault) → token ≡ Err f → MissingFault kind test text f
+  pub token_failed : (f : TextFault) → token ≡ Err f → MissingFault kind test text f
   token_failed f e =
       ⊎_elim
       (λ none. ⊎_elim (λ cut. inl cut) (λ bad. inr (inl bad)) (char_failed text f none))
@@ -74,7 +74,7 @@ module _ {X : Type 0} (kind : TextKind) (test : ℕ → Bool) (text : List ℕ) 
       (chosen (test some.0.0) (Ok (value some.0)) (Err (kind, text)) (Err f) some.2))
       (bind_err (char_at text) (λ (c : ℕ × List ℕ). cond (test c.0) (Ok (value c)) (Err (kind, text))) f e)
 
-  pub token_fails : (f : Fault) → MissingFault kind test text f → token ≡ Err f
+  pub token_fails : (f : TextFault) → MissingFault kind test text f → token ≡ Err f
   unfolding char_at
   token_fails f (inl cut) = ap (λ (t : List ℕ). char_at t >>= λ (c : ℕ × List ℕ). cond (test c.0) (Ok (value c)) (Err (kind, text))) cut.0 ∙ ap fails (sym cut.1)
   token_fails f (inr (inl bad)) = rw (ill_formed text bad.0) (ap fails (sym bad.1))
@@ -84,12 +84,12 @@ module _ {X : Type 0} (kind : TextKind) (test : ℕ → Bool) (text : List ℕ) 
 
 -- ---- the parts of a statement
 
-dot_failed : (text : List ℕ) (f : Fault) → dot_at text ≡ Err f → DotFault text f
-unfolding dot_at
+dot_failed : (text : List ℕ) (f : TextFault) → final_dot_at text ≡ Err f → NoDotFault text f
+unfolding final_dot_at
 dot_failed text f e = token_failed {X = Option Term} MissingDot (λ c. nat_eq c 46) text (λ c. (None, c.1)) f e
 
-dot_fails : (text : List ℕ) (f : Fault) → DotFault text f → dot_at text ≡ Err f
-unfolding dot_at
+dot_fails : (text : List ℕ) (f : TextFault) → NoDotFault text f → final_dot_at text ≡ Err f
+unfolding final_dot_at
 dot_fails text f d = token_fails {X = Option Term} MissingDot (λ c. nat_eq c 46) text (λ c. (None, c.1)) f d
 
 abbrev first_begins : ℕ × List ℕ → Bool
@@ -120,8 +120,8 @@ char_starts : (text : List ℕ) → StartsWith begins_term text → (c : ℕ × 
 char_starts [] s = absurd s
 char_starts (b ∷ rest) s = ((b, rest), char_at-ascii b rest (begins_low b s), s)
 
-module _ (TermFault : List ℕ → Fault → Type 0) (found : TermsFound) (again : TermsAgain) (failed : TermFaultsFound TermFault) (fails_again : TermFaultsAgain TermFault) where
-  node_failed : (text : List ℕ) (f : Fault) → node_at text ≡ Err f → NodeFault TermFault text f
+module _ (TermFault : List ℕ → TextFault → Type 0) (found : TermsFound) (again : TermsAgain) (failed : TermFaultsFound TermFault) (fails_again : TermFaultsAgain TermFault) where
+  node_failed : (text : List ℕ) (f : TextFault) → node_at text ≡ Err f → NodeFault TermFault text f
   unfolding node_at
   node_failed text f e =
       ⊎_elim
@@ -133,12 +133,12 @@ module _ (TermFault : List ℕ → Fault → Type 0) (found : TermsFound) (again
       (chosen (is_literal t.0.0) (Err (BadPosition, text)) (Ok t.0) (Err f) t.2))
       (bind_err (term_at text) (λ (t : Term × List ℕ). cond (is_literal t.0) (Err (BadPosition, text)) (Ok t)) f e)
 
-  node_fails : (text : List ℕ) (f : Fault) → NodeFault TermFault text f → node_at text ≡ Err f
+  node_fails : (text : List ℕ) (f : TextFault) → NodeFault TermFault text f → node_at text ≡ Err f
   unfolding node_at
   node_fails text f (inl none) = rw (fails_again text f none) refl
   node_fails text f (inr bad) = rw (again text bad.1 bad.0 bad.2, bad.3) (ap fails (sym bad.4))
 
-  predicate_failed : (text : List ℕ) (f : Fault) → predicate_at text ≡ Err f → PredicateFault TermFault text f
+  predicate_failed : (text : List ℕ) (f : TextFault) → predicate_at text ≡ Err f → PredicateFault TermFault text f
   unfolding predicate_at
   predicate_failed text f e =
       ⊎_elim
@@ -150,29 +150,29 @@ module _ (TermFault : List ℕ → Fault → Type 0) (found : TermsFound) (again
       (chosen (is_iri t.0.0) (Ok t.0) (Err (BadPosition, text)) (Err f) t.2))
       (bind_err (term_at text) (λ (t : Term × List ℕ). cond (is_iri t.0) (Ok t) (Err (BadPosition, text))) f e)
 
-  predicate_fails : (text : List ℕ) (f : Fault) → PredicateFault TermFault text f → predicate_at text ≡ Err f
+  predicate_fails : (text : List ℕ) (f : TextFault) → PredicateFault TermFault text f → predicate_at text ≡ Err f
   unfolding predicate_at
   predicate_fails text f (inl none) = rw (fails_again text f none) refl
   predicate_fails text f (inr bad) = rw (again text bad.1 bad.0 bad.2, bad.3) (ap fails (sym bad.4))
 
-  abbrev with_dot : Term × List ℕ → Read (Option Term)
-  with_dot g = dot_at (skip_blanks g.1) >>= λ (dot : Option Term × List ℕ). Ok (Some g.0, dot.1)
+  abbrev with_dot : Term × List ℕ → TextRead (Option Term)
+  with_dot g = final_dot_at (skip_blanks g.1) >>= λ (dot : Option Term × List ℕ). Ok (Some g.0, dot.1)
 
-  with_dot_failed : (g : Term × List ℕ) (f : Fault) → with_dot g ≡ Err f → dot_at (skip_blanks g.1) ≡ Err f
+  with_dot_failed : (g : Term × List ℕ) (f : TextFault) → with_dot g ≡ Err f → final_dot_at (skip_blanks g.1) ≡ Err f
   with_dot_failed g f e =
       ⊎_elim
       (λ none. none)
       (λ dot. absurd (not_both (Some g.0, dot.0.1) f dot.2))
-      (bind_err (dot_at (skip_blanks g.1)) (λ (dot : Option Term × List ℕ). Ok (Some g.0, dot.1)) f e)
+      (bind_err (final_dot_at (skip_blanks g.1)) (λ (dot : Option Term × List ℕ). Ok (Some g.0, dot.1)) f e)
 
   -- a character that can't be read begins no term
-  no_start : (text : List ℕ) (f : Fault) → char_at text ≡ Err f → StartsWith begins_term text → ⊥
+  no_start : (text : List ℕ) (f : TextFault) → char_at text ≡ Err f → StartsWith begins_term text → ⊥
   no_start text f e s = let c = char_starts text s in not_both c.0 f (sym c.1 ∙ e)
 
-  char_is_dot_fault : (text : List ℕ) (f : Fault) → char_at text ≡ Err f → DotFault text f
+  char_is_dot_fault : (text : List ℕ) (f : TextFault) → char_at text ≡ Err f → NoDotFault text f
   char_is_dot_fault text f e = ⊎_elim (λ cut. inl cut) (λ bad. inr (inl bad)) (char_failed text f e)
 
-  graph_failed : (text : List ℕ) (f : Fault) → graph_at text ≡ Err f → GraphFault TermFault text f
+  graph_failed : (text : List ℕ) (f : TextFault) → graph_at text ≡ Err f → StatementGraphFault TermFault text f
   unfolding graph_at
   graph_failed text f e =
       ⊎_elim
@@ -192,25 +192,25 @@ module _ (TermFault : List ℕ → Fault → Type 0) (found : TermsFound) (again
         λ starts. let d = char_starts text starts in false≢true (sym other.0 ∙ ap first_begins (ok_is c.0 d.0 (sym c.1 ∙ d.1)) ∙ d.2),
         dot_failed text f other.1,
       )))
-      (chosen (begins_term c.0.0) (node_at text >>= with_dot) (dot_at text) (Err f) c.2))
-      (bind_err (char_at text) (λ (c : ℕ × List ℕ). cond (begins_term c.0) (node_at text >>= with_dot) (dot_at text)) f e)
+      (chosen (begins_term c.0.0) (node_at text >>= with_dot) (final_dot_at text) (Err f) c.2))
+      (bind_err (char_at text) (λ (c : ℕ × List ℕ). cond (begins_term c.0) (node_at text >>= with_dot) (final_dot_at text)) f e)
 
   -- the dot's fault, where no term begins
-  graph_by_dot : (text : List ℕ) (f : Fault) → (StartsWith begins_term text → ⊥) → (r : Read ℕ) → char_at text ≡ r → dot_at text ≡ Err f → graph_at text ≡ Err f
-  unfolding graph_at dot_at
+  graph_by_dot : (text : List ℕ) (f : TextFault) → (StartsWith begins_term text → ⊥) → (r : TextRead ℕ) → char_at text ≡ r → final_dot_at text ≡ Err f → graph_at text ≡ Err f
+  unfolding graph_at final_dot_at
   graph_by_dot text f none (Err g) e d =
-      let same : g ≡ f = err_is {X = Option Term} g f (sym (ap (λ (r : Read ℕ). r >>= λ (c : ℕ × List ℕ). cond (nat_eq c.0 46) (Ok (None, c.1)) (Err (MissingDot, text))) e) ∙ d) in
+      let same : g ≡ f = err_is {X = Option Term} g f (sym (ap (λ (r : TextRead ℕ). r >>= λ (c : ℕ × List ℕ). cond (nat_eq c.0 46) (Ok (None, c.1)) (Err (MissingDot, text))) e) ∙ d) in
       rw e (ap fails same)
   graph_by_dot text f none (Ok c) e d =
       let s = char_spelled text c.0 c.1 e in
       let other : begins_term c.0 ≡ false = by (begins_term c.0) refl s.1 in
-      rw (e, other) (sym (ap (λ (r : Read ℕ). r >>= λ (c : ℕ × List ℕ). cond (nat_eq c.0 46) (Ok (None, c.1)) (Err (MissingDot, text))) e) ∙ d)
+      rw (e, other) (sym (ap (λ (r : TextRead ℕ). r >>= λ (c : ℕ × List ℕ). cond (nat_eq c.0 46) (Ok (None, c.1)) (Err (MissingDot, text))) e) ∙ d)
     where
       by : (b : Bool) → begins_term c.0 ≡ b → text ≡ encode_utf8 c.0 ++ c.1 → b ≡ false
       by true is parts = absurd (none (starts_char text c.0 c.1 parts is))
       by false is parts = refl
 
-  graph_fails : (text : List ℕ) (f : Fault) → GraphFault TermFault text f → graph_at text ≡ Err f
+  graph_fails : (text : List ℕ) (f : TextFault) → StatementGraphFault TermFault text f → graph_at text ≡ Err f
   unfolding graph_at
   graph_fails text f (inl node) =
       let c = char_starts text node.0 in
@@ -224,16 +224,16 @@ module _ (TermFault : List ℕ → Fault → Type 0) (found : TermsFound) (again
 
   -- ---- the statement
 
-  abbrev rest_3 : Term → Term → Term × List ℕ → Read Statement
+  abbrev rest_3 : Term → Term → Term × List ℕ → TextRead Statement
   rest_3 s p o = graph_at (skip_blanks o.1) >>= λ (g : Option Term × List ℕ). Ok (statement s p o.0 g.0, g.1)
 
-  abbrev rest_2 : Term → Term × List ℕ → Read Statement
+  abbrev rest_2 : Term → Term × List ℕ → TextRead Statement
   rest_2 s p = term_at (skip_blanks p.1) >>= rest_3 s p.0
 
-  abbrev rest_1 : Term × List ℕ → Read Statement
+  abbrev rest_1 : Term × List ℕ → TextRead Statement
   rest_1 s = predicate_at (skip_blanks s.1) >>= rest_2 s.0
 
-  pub statement_failed : (text : List ℕ) (f : Fault) → statement_at text ≡ Err f → StatementFault TermFault text f
+  pub statement_failed : (text : List ℕ) (f : TextFault) → statement_at text ≡ Err f → StatementFault TermFault text f
   unfolding statement_at
   statement_failed text f e =
       ⊎_elim
@@ -262,7 +262,7 @@ module _ (TermFault : List ℕ → Fault → Type 0) (found : TermsFound) (again
   predicate_there : (text b : List ℕ) (p : PredicateAt text b) → (predicate_at text ≡ Ok (p.0, p.1)) × (skip_blanks p.1 ≡ b)
   predicate_there text b p = (predicate_again found again text p.1 p.0 p.2 p.3, blanks_again p.1 b p.4)
 
-  pub statement_fails : (text : List ℕ) (f : Fault) → StatementFault TermFault text f → statement_at text ≡ Err f
+  pub statement_fails : (text : List ℕ) (f : TextFault) → StatementFault TermFault text f → statement_at text ≡ Err f
   unfolding statement_at
   statement_fails text f (inl bad) = rw (node_fails text f bad) refl
   statement_fails text f (inr (inl bad)) =

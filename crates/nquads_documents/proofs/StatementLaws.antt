@@ -5,14 +5,14 @@ use Rattle.rdf_terms.specs.declared.term.Term.{Term}
 use Rattle.rdf_terms.specs.declared.term.Term.TheVariants as term
 use Rattle.rdf_terms.specs.Quad.{Statement, statement, is_iri, is_literal}
 use Rattle.nquads_text.specs.declared.fault.TextKind.TheVariants.{BadPosition, MissingDot, BadToken}
-use Rattle.nquads_text.specs.Fault.{Read, ◌>>=◌}
+use Rattle.nquads_text.specs.Fault.{TextRead, ◌>>=◌}
 use Rattle.nquads_text.specs.Reading.{char_at}
 use Rattle.nquads_text.specs.Terms.{skip_blanks, iri_at, label_at, literal_at, term_at}
-use Rattle.nquads_text.specs.Statement.{node_at, predicate_at, dot_at, graph_at, statement_at}
+use Rattle.nquads_text.specs.Statement.{node_at, predicate_at, final_dot_at, graph_at, statement_at}
 use Rattle.nquads_text.proofs.Inside.{low_char}
 use Rattle.nquads_text.proofs.Steps.{bind_ok, chosen, ok_is, not_ok}
 use Rattle.nquads_text.specs.Grammar.{Blanks, TermAt}
-use Rattle.nquads_documents.specs.Grammar.{GraphAt, StatementAt}
+use Rattle.nquads_documents.specs.Grammar.{GraphAndDotAt, StatementAt}
 use Rattle.nquads_documents.specs.Laws.{TermsFound, TermsAgain}
 use Rattle.nquads_documents.proofs.BlankLaws.{blanks_found, blanks_again}
 use Rattle.nquads_documents.proofs.LineLaws.{graph_none, dot_here}
@@ -36,14 +36,14 @@ term_begun text x e =
     (Err (BadToken, text))))) x e in
     record { first = c.0; read = c.1; begins = by (nat_eq c.0.0 60) (nat_eq c.0.0 95) (nat_eq c.0.0 34) _ _ _ c.2 }
   where
-    by : (a b d : Bool) (r s t : Read Term) → cond a r (cond b s (cond d t (Err (BadToken, text)))) ≡ Ok x → (a || b || d) ≡ true
+    by : (a b d : Bool) (r s t : TextRead Term) → cond a r (cond b s (cond d t (Err (BadToken, text)))) ≡ Ok x → (a || b || d) ≡ true
     by true b d r s t e = refl
     by false true d r s t e = refl
     by false false true r s t e = refl
     by false false false r s t e = absurd (not_ok x (BadToken, text) e)
 
-pub dot_found : (text : List ℕ) (x : Option Term × List ℕ) → dot_at text ≡ Ok x → (x.0 ≡ None) × (text ≡ 46 ∷ x.1)
-unfolding dot_at
+pub dot_found : (text : List ℕ) (x : Option Term × List ℕ) → final_dot_at text ≡ Ok x → (x.0 ≡ None) × (text ≡ 46 ∷ x.1)
+unfolding final_dot_at
 dot_found text x e =
     let c = bind_ok (char_at text) (λ (c : ℕ × List ℕ). cond (nat_eq c.0 46) (Ok (None, c.1)) (Err (MissingDot, text))) x e in
     ⊎_elim
@@ -80,25 +80,25 @@ module _ (found : TermsFound) (again : TermsAgain) where
   unfolding predicate_at
   predicate_again text after t is e = rw (again text after t is, e) refl
 
-  pub graph_found : (text : List ℕ) (x : Option Term × List ℕ) → graph_at text ≡ Ok x → GraphAt text x.0 x.1
+  pub graph_found : (text : List ℕ) (x : Option Term × List ℕ) → graph_at text ≡ Ok x → GraphAndDotAt text x.0 x.1
   unfolding graph_at
   graph_found text x e =
       let c = bind_ok (char_at text) (λ (c : ℕ × List ℕ).
-      cond (begins_term c.0) (node_at text >>= λ (g : Term × List ℕ). dot_at (skip_blanks g.1) >>= λ (dot : Option Term × List ℕ). Ok (Some g.0, dot.1)) (dot_at text)) x e in
+      cond (begins_term c.0) (node_at text >>= λ (g : Term × List ℕ). final_dot_at (skip_blanks g.1) >>= λ (dot : Option Term × List ℕ). Ok (Some g.0, dot.1)) (final_dot_at text)) x e in
       ⊎_elim
       (λ node.
-      let g = bind_ok (node_at text) (λ (g : Term × List ℕ). dot_at (skip_blanks g.1) >>= λ (dot : Option Term × List ℕ). Ok (Some g.0, dot.1)) x node.1 in
-      let dot = bind_ok (dot_at (skip_blanks g.0.1)) (λ (dot : Option Term × List ℕ). Ok (Some g.0.0, dot.1)) x g.2 in
+      let g = bind_ok (node_at text) (λ (g : Term × List ℕ). final_dot_at (skip_blanks g.1) >>= λ (dot : Option Term × List ℕ). Ok (Some g.0, dot.1)) x node.1 in
+      let dot = bind_ok (final_dot_at (skip_blanks g.0.1)) (λ (dot : Option Term × List ℕ). Ok (Some g.0.0, dot.1)) x g.2 in
       let t = node_found text g.0 g.1 in
       let d = dot_found (skip_blanks g.0.1) dot.0 dot.1 in
-      subst (λ (y : Option Term × List ℕ). GraphAt text y.0 y.1) (ok_is (Some g.0.0, dot.0.1) x dot.2)
+      subst (λ (y : Option Term × List ℕ). GraphAndDotAt text y.0 y.1) (ok_is (Some g.0.0, dot.0.1) x dot.2)
       (g.0.1, t.0, t.1, subst (Blanks g.0.1) d.1 (blanks_found g.0.1)))
       (λ none.
       let d = dot_found text x none.1 in
-      subst (λ (g : Option Term). GraphAt text g x.1) (sym d.0) d.1)
-      (chosen (begins_term c.0.0) (node_at text >>= λ (g : Term × List ℕ). dot_at (skip_blanks g.1) >>= λ (dot : Option Term × List ℕ). Ok (Some g.0, dot.1)) (dot_at text) (Ok x) c.2)
+      subst (λ (g : Option Term). GraphAndDotAt text g x.1) (sym d.0) d.1)
+      (chosen (begins_term c.0.0) (node_at text >>= λ (g : Term × List ℕ). final_dot_at (skip_blanks g.1) >>= λ (dot : Option Term × List ℕ). Ok (Some g.0, dot.1)) (final_dot_at text) (Ok x) c.2)
 
-  pub graph_again : (text after : List ℕ) (g : Option Term) → GraphAt text g after → graph_at text ≡ Ok (g, after)
+  pub graph_again : (text after : List ℕ) (g : Option Term) → GraphAndDotAt text g after → graph_at text ≡ Ok (g, after)
   unfolding graph_at
   graph_again text after None e = ap graph_at e ∙ graph_none after
   graph_again text after (Some g) p =

@@ -16,7 +16,7 @@ use Rattle.rdf_terms.specs.Tag.{TagForm, AreWords}
 use Rattle.nquads_text.specs.Terms.{skip_blanks}
 use Rattle.nquads_text.specs.Grammar.{is_blank, StartsWith, Longest, Blanks, IriRef, BlankNode, HatFollows, Suffix, LiteralAt, TermAt, is_line_end}
 use Rattle.nquads_text.proofs.BlankRuns.{hat_behind}
-use Rattle.nquads_documents.specs.Grammar.{GraphAt, StatementAt}
+use Rattle.nquads_documents.specs.Grammar.{GraphAndDotAt, StatementAt}
 use Rattle.nquads_documents.proofs.BlankLaws.{blanks_found, blanks_again, starts_more}
 use Rattle.nquads_documents.proofs.LineEnds.{Closes, no_end, char_ends_none}
 
@@ -94,7 +94,7 @@ cut_term text (term.Iri iri) after tail is = cut_iri text iri after tail is
 cut_term text (term.Blank label) after tail is = cut_blank_node text label after tail is
 cut_term text (term.Literal literal) after tail is = cut_literal text literal after tail is
 
-cut_graph : (text : List ℕ) (g : Option Term) (after tail : List ℕ) → GraphAt text g (after ++ tail) → Cut (λ short. GraphAt short g after) text tail
+cut_graph : (text : List ℕ) (g : Option Term) (after tail : List ℕ) → GraphAndDotAt text g (after ++ tail) → Cut (λ short. GraphAndDotAt short g after) text tail
 cut_graph text None after tail e = record { short = 46 ∷ after; parts = e; is = refl }
 cut_graph text (Some g) after tail p =
     let b = cut_blanks p.0 (46 ∷ after) tail p.3 in
@@ -271,7 +271,7 @@ add_term text (term.Iri iri) after tail c is = add_iri text iri after tail is
 add_term text (term.Blank label) after tail c is = add_blank_node text label after tail c is
 add_term text (term.Literal literal) after tail c is = add_literal text literal after tail c is
 
-add_graph : (text : List ℕ) (g : Option Term) (after tail : List ℕ) → Closes tail → GraphAt text g after → GraphAt (text ++ tail) g (after ++ tail)
+add_graph : (text : List ℕ) (g : Option Term) (after tail : List ℕ) → Closes tail → GraphAndDotAt text g after → GraphAndDotAt (text ++ tail) g (after ++ tail)
 add_graph text None after tail c e = ap (λ (t : List ℕ). t ++ tail) e
 add_graph text (Some g) after tail c p = (p.0 ++ tail, add_term text g p.0 tail c p.1, p.2, add_blanks p.0 (46 ∷ after) tail c p.3)
 

@@ -7,11 +7,12 @@ use Rattle.nquads_documents.specs.declared.fault.DocFault.TheVariants as fault
 use Rattle.nquads_documents.specs.Faults.{DocumentFault}
 use Rattle.nquads_documents.specs.Grammar.{IsDocument}
 use Rattle.nquads_documents.specs.Reading.{line_of}
-use Rattle.nquads_text.specs.Faults.{TermFault}
+use Rattle.nquads_text.specs.Faults.{AnyTermFault}
 
 -- the statements of the document, or its first fault with its line and place
-abbrev pub Answered : List ℕ → Result (Listed Statement) DocFault → Type 0
-Answered text (Ok quads) = IsDocument text quads.items
-Answered text (Err (fault.At line at kind)) = DocumentFault TermFault text (kind, drop at text)
+abbrev pub ReadsDocument : List ℕ → Result (Listed Statement) DocFault → Type 0
+ReadsDocument text (Ok quads) = IsDocument text quads.items
+ReadsDocument text (Err (fault.At line at kind)) =
+    DocumentFault AnyTermFault text (kind, drop at text)
     × (at ≤ length text) × (line ≡ line_of text at)
-Answered text (Err fault.OutOfMemory) = Unit {0}
+ReadsDocument text (Err fault.OutOfMemory) = Unit {0}

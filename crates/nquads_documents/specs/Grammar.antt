@@ -11,9 +11,9 @@ use Rattle.nquads_text.specs.Grammar.{is_blank, is_line_end, Blanks, TermAt}
 -- ---- statements
 
 -- a graph and a dot, or the dot alone
-abbrev pub GraphAt : List ℕ → Option Term → List ℕ → Type 0
-GraphAt text None after = text ≡ 46 ∷ after
-GraphAt text (Some g) after =
+abbrev pub GraphAndDotAt : List ℕ → Option Term → List ℕ → Type 0
+GraphAndDotAt text None after = text ≡ 46 ∷ after
+GraphAndDotAt text (Some g) after =
     (behind : List ℕ) × TermAt text g behind × (is_literal g ≡ false) × Blanks behind (46 ∷ after)
 
 -- subject, predicate, object, and a graph or none, up to the dot
@@ -21,7 +21,7 @@ abbrev pub StatementAt : List ℕ → Statement → List ℕ → Type 0
 StatementAt text q after =
     (a b c d e f : List ℕ) × TermAt text q.subject a × (is_literal q.subject ≡ false) × Blanks a b
     × TermAt b q.predicate c × (is_iri q.predicate ≡ true) × Blanks c d
-    × TermAt d q.object e × Blanks e f × GraphAt f q.graph after
+    × TermAt d q.object e × Blanks e f × GraphAndDotAt f q.graph after
 
 -- ---- documents
 

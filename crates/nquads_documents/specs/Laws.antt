@@ -3,7 +3,7 @@ use Rattle.std.specs.Prelude.{◌≡◌, ◌↔◌, ◌⊎◌, ℕ, List, [], �
 use Rattle.std.specs.List.{All, Contains, flat_map}
 use Rattle.rdf_terms.specs.declared.term.Term.{Term}
 use Rattle.rdf_terms.specs.Quad.{Statement, is_quad}
-use Rattle.nquads_text.specs.Fault.{Fault}
+use Rattle.nquads_text.specs.Fault.{TextFault}
 use Rattle.nquads_text.specs.Printing.{HasTermValues}
 use Rattle.nquads_text.specs.Terms.{term_at}
 use Rattle.nquads_documents.specs.Canonical.{IsCanonical}
@@ -67,31 +67,34 @@ DocumentsAgain = (text : List ℕ) (quads : List Statement) → IsDocument text 
     → document_at 0 text ≡ Ok (quads, [])
 
 -- the fault that is met where a term is needed is its first
-abbrev pub TermFaultsFound : (List ℕ → Fault → Type 0) → Type 0
-TermFaultsFound TermFault = (text : List ℕ) (f : Fault) → term_at text ≡ Err f → TermFault text f
+abbrev pub TermFaultsFound : (List ℕ → TextFault → Type 0) → Type 0
+TermFaultsFound TermFault =
+    (text : List ℕ) (f : TextFault) → term_at text ≡ Err f → TermFault text f
 
 -- and the first is met
-abbrev pub TermFaultsAgain : (List ℕ → Fault → Type 0) → Type 0
-TermFaultsAgain TermFault = (text : List ℕ) (f : Fault) → TermFault text f → term_at text ≡ Err f
+abbrev pub TermFaultsAgain : (List ℕ → TextFault → Type 0) → Type 0
+TermFaultsAgain TermFault =
+    (text : List ℕ) (f : TextFault) → TermFault text f → term_at text ≡ Err f
 
 -- the fault that is met in a document is its first
-abbrev pub DocumentFaultsFound : (List ℕ → Fault → Type 0) → Type 0
+abbrev pub DocumentFaultsFound : (List ℕ → TextFault → Type 0) → Type 0
 DocumentFaultsFound TermFault =
-    (text : List ℕ) (f : Fault) → document_at 0 text ≡ Err f → DocumentFault TermFault text f
+    (text : List ℕ) (f : TextFault) → document_at 0 text ≡ Err f → DocumentFault TermFault text f
 
 -- and the first is met
-abbrev pub DocumentFaultsAgain : (List ℕ → Fault → Type 0) → Type 0
+abbrev pub DocumentFaultsAgain : (List ℕ → TextFault → Type 0) → Type 0
 DocumentFaultsAgain TermFault =
-    (text : List ℕ) (f : Fault) → DocumentFault TermFault text f → document_at 0 text ≡ Err f
+    (text : List ℕ) (f : TextFault) → DocumentFault TermFault text f → document_at 0 text ≡ Err f
 
 -- a text is a document, or it has a first fault
-abbrev pub DocumentOrFault : (List ℕ → Fault → Type 0) → Type 0
+abbrev pub DocumentOrFault : (List ℕ → TextFault → Type 0) → Type 0
 DocumentOrFault TermFault = (text : List ℕ) → ((quads : List Statement) × IsDocument text quads)
-    ⊎ ((f : Fault) × DocumentFault TermFault text f)
+    ⊎ ((f : TextFault) × DocumentFault TermFault text f)
 
 -- and never both
-abbrev pub NeverBoth : (List ℕ → Fault → Type 0) → Type 0
-NeverBoth TermFault = (text : List ℕ) (quads : List Statement) (f : Fault) → IsDocument text quads
+abbrev pub NeverBoth : (List ℕ → TextFault → Type 0) → Type 0
+NeverBoth TermFault = (text : List ℕ) (quads : List Statement) (f : TextFault)
+    → IsDocument text quads
     → DocumentFault TermFault text f → ⊥
 
 -- a text is a document of one list of statements only
@@ -100,6 +103,6 @@ DocumentsOnce = (text : List ℕ) (quads others : List Statement) → IsDocument
     → IsDocument text others → quads ≡ others
 
 -- and it has one first fault only
-abbrev pub FaultsOnce : (List ℕ → Fault → Type 0) → Type 0
-FaultsOnce TermFault = (text : List ℕ) (f g : Fault) → DocumentFault TermFault text f
+abbrev pub FaultsOnce : (List ℕ → TextFault → Type 0) → Type 0
+FaultsOnce TermFault = (text : List ℕ) (f g : TextFault) → DocumentFault TermFault text f
     → DocumentFault TermFault text g → f ≡ g

@@ -6,8 +6,8 @@ use Rattle.std.specs.declared.alloc.Global.{Global}
 use Rattle.std.specs.List.{Contains, flat_map}
 use Rattle.rdf_terms.specs.Quad.{Statement}
 use Rattle.rdf_terms.specs.Line.{line, lines}
-use Rattle.nquads_text.specs.Fault.{Fails, Read}
-use Rattle.nquads_text.specs.Faults.{TermFault}
+use Rattle.nquads_text.specs.Fault.{Fails, TextRead}
+use Rattle.nquads_text.specs.Faults.{AnyTermFault}
 use Rattle.nquads_text.specs.declared.fault.ReadFault.{ReadFault}
 use Rattle.nquads_documents.specs.declared.fault.DocFault.{DocFault}
 use Rattle.nquads_documents.specs.declared.fault.DocFault.TheVariants as fault
@@ -26,7 +26,7 @@ is_statement (Some q) = true
 -- the line of a part is appended, if it has one, and the result tells that and the place behind it;
 -- or the first fault
 abbrev pub PushesPart : List ℕ → List ℕ → List ℕ → Result (Bool × ℕ) ReadFault
-    → Read (Option Statement) → Type 0
+    → TextRead (Option Statement) → Type 0
 PushesPart text old new (Ok x) read = (q : Option Statement) × (read ≡ Ok (q, drop x.1 text))
     × (x.1 ≤ length text) × (x.0 ≡ is_statement q) × (new ≡ old ++ lines (of_line q))
 PushesPart text old new (Err e) read = Fails text e read
@@ -38,9 +38,9 @@ abbrev pub shown : Bor (List ℕ) → List ℕ
 shown l = l.now
 
 -- the lines in some bytes from a place on, of which each begins where the one before ends
-abbrev pub cut : List ℕ → ℕ → List ℕ → List (List ℕ)
-cut bytes from [] = []
-cut bytes from (end ∷ ends) = slice_range bytes from end ∷ cut bytes end ends
+abbrev pub cut_lines : List ℕ → ℕ → List ℕ → List (List ℕ)
+cut_lines bytes from [] = []
+cut_lines bytes from (end ∷ ends) = slice_range bytes from end ∷ cut_lines bytes end ends
 
 -- the ends rise from that place up to the end of the bytes
 abbrev pub AreCuts : List ℕ → ℕ → List ℕ → Type 0
@@ -56,20 +56,21 @@ abbrev pub HasShown : List ℕ → List ℕ
     → Result (Vec (Bor (List ℕ)) Global × Vec ℕ Global) ReadFault → Type 0
 HasShown text printed (Ok x) = (quads : List Statement) × (document_at 0 text ≡ Ok (quads, []))
     × AreCuts printed 0 x.1.items
-    × AreLinesOf quads (map shown x.0.items ++ cut printed 0 x.1.items)
+    × AreLinesOf quads (map shown x.0.items ++ cut_lines printed 0 x.1.items)
 HasShown text printed (Err e) = Fails text e (document_at 0 text)
 
 -- the lines are those of the statements that are read; or the first fault
-abbrev pub HoldsAll : List ℕ → Result (Vec (Bor (List ℕ)) Global) ReadFault → Type 0
-HoldsAll text (Ok lines) = (quads : List Statement) × (document_at 0 text ≡ Ok (quads, []))
+abbrev pub HoldsLines : List ℕ → Result (Vec (Bor (List ℕ)) Global) ReadFault → Type 0
+HoldsLines text (Ok lines) = (quads : List Statement) × (document_at 0 text ≡ Ok (quads, []))
     × AreLinesOf quads (map shown lines.items)
-HoldsAll text (Err e) = Fails text e (document_at 0 text)
+HoldsLines text (Err e) = Fails text e (document_at 0 text)
 
 -- the lines are the canonical ones of the document, and one after another its canonical form;
 -- or its first fault with its line and place
 abbrev pub IsCanonicalOf : List ℕ → Result (Vec (Bor (List ℕ)) Global) DocFault → Type 0
 IsCanonicalOf text (Ok lines) = (quads : List Statement) × IsDocument text quads
     × IsCanonical quads (flat_map shown lines.items) × AreCanonical quads (map shown lines.items)
-IsCanonicalOf text (Err (fault.At line at kind)) = DocumentFault TermFault text (kind, drop at text)
+IsCanonicalOf text (Err (fault.At line at kind)) =
+    DocumentFault AnyTermFault text (kind, drop at text)
     × (at ≤ length text) × (line ≡ line_of text at)
 IsCanonicalOf text (Err fault.OutOfMemory) = Unit {0}

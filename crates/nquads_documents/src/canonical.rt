@@ -1,6 +1,6 @@
 //! The canonical lines of a document, of which no quad is kept.
-ghost use Rattle.nquads_documents.specs.Shown.{AreCuts, HasShown, HoldsAll};
-ghost use Rattle.nquads_documents.specs.Shown.{IsCanonicalOf, cut, shown};
+ghost use Rattle.nquads_documents.specs.Shown.{AreCuts, HasShown, HoldsLines};
+ghost use Rattle.nquads_documents.specs.Shown.{IsCanonicalOf, cut_lines, shown};
 ghost use Rattle.std.specs.Prelude.{◌≡◌, ◌++◌, [], OnOk, map};
 
 use crate::fault::DocFault;
@@ -51,7 +51,7 @@ fn add_printed<'t>(
 ) -> Result<(), OutOfMemory>
     requires { AreCuts printed.now 0 ends.now }
     ensures { OnOk result (map shown lines.new.items
-        ≡ map shown lines.old.items ++ cut printed.now 0 ends.now) }
+        ≡ map shown lines.old.items ++ cut_lines printed.now 0 ends.now) }
 {
     let mut from = 0;
     for end in ends {
@@ -67,7 +67,7 @@ fn all_lines<'t>(
     text: &'t [u8],
     printed: &'t mut Vec<u8>,
 ) -> Result<Vec<&'t [u8]>, ReadFault>
-    ensures { HoldsAll text.now result }
+    ensures { HoldsLines text.now result }
 {
     printed.clear();
     let (mut lines, ends) = shown_lines(alloc, text, printed)?;

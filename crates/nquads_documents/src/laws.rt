@@ -6,7 +6,7 @@ ghost use Rattle.nquads_documents.specs.Laws.{CanonicalOnce, LinesAgain, Documen
 ghost use Rattle.nquads_documents.specs.Laws.{DocumentsAgain, DocumentsOnce};
 ghost use Rattle.nquads_documents.specs.Laws.{DocumentFaultsFound, DocumentFaultsAgain};
 ghost use Rattle.nquads_documents.specs.Laws.{DocumentOrFault, NeverBoth, FaultsOnce};
-ghost use Rattle.nquads_text.specs.Faults.{TermFault};
+ghost use Rattle.nquads_text.specs.Faults.{AnyTermFault};
 
 /// Printed lines are read as their statements, no line is the front of another, and a printed
 /// document is read as its statements.
@@ -29,9 +29,9 @@ pub fn documents_are_read()
 /// The fault that is met in a document is its first, and its first is met. A text has one exactly
 /// where it is no document.
 pub fn document_faults_are_met()
-    ensures found { DocumentFaultsFound TermFault }
-    ensures again { DocumentFaultsAgain TermFault }
-    ensures once { FaultsOnce TermFault }
-    ensures some { DocumentOrFault TermFault }
-    ensures never_both { NeverBoth TermFault }
+    ensures found { DocumentFaultsFound AnyTermFault }
+    ensures again { DocumentFaultsAgain AnyTermFault }
+    ensures once { FaultsOnce AnyTermFault }
+    ensures some { DocumentOrFault AnyTermFault }
+    ensures never_both { NeverBoth AnyTermFault }
 {}

@@ -2,9 +2,9 @@
 
 ghost use Rattle.std.specs.Prelude.{◌≡◌, ◌≤◌, ◌<◌, length, drop, take, count_by, ◌+◌, ◌==◌, IfOk};
 ghost use Rattle.nquads_text.specs.Fault.{Gives};
-ghost use Rattle.nquads_documents.specs.Reading.{part_at, comment_part, statement_part};
-ghost use Rattle.nquads_documents.specs.Reading.{document_at, line_of, Reads, ReadsAll};
-ghost use Rattle.nquads_documents.specs.Answered.{Answered};
+ghost use Rattle.nquads_documents.specs.Reading.{document_part_at, comment_part, statement_part};
+ghost use Rattle.nquads_documents.specs.Reading.{document_at, line_of, ReadsAtLine, ReadsAll};
+ghost use Rattle.nquads_documents.specs.Answered.{ReadsDocument};
 
 use crate::fault::DocFault;
 use crate::lines::{comment_end, is_end, line_end};
@@ -18,7 +18,7 @@ use std::alloc::Global;
 #[tactic(auto, using(crate::proofs::Steps::part_steps))]
 fn part(alloc: Global, text: &[u8], from: usize) -> Result<(Option<Quad>, usize), ReadFault>
     requires { from < length text.now }
-    ensures { Gives text.now (λ q. q) result (part_at (drop from text.now)) }
+    ensures { Gives text.now (λ q. q) result (document_part_at (drop from text.now)) }
 {
     let at = skip_blanks(text, from);
     if at == text.len() {
@@ -79,7 +79,7 @@ pub fn line_at(text: &[u8], at: usize) -> usize
 
 // The quads of a document in the text's order, or its first fault, with its line.
 fn read_lines(alloc: Global, text: &[u8]) -> Result<Quads, DocFault>
-    ensures { Reads text.now result }
+    ensures { ReadsAtLine text.now result }
 {
     match read_quads(alloc, text) {
         Ok(quads) => Ok(quads),
@@ -94,8 +94,8 @@ fn read_lines(alloc: Global, text: &[u8]) -> Result<Quads, DocFault>
 
 /// The quads of a document in the text's order, or its first fault.
 pub fn read_document(alloc: Global, text: &[u8]) -> Result<Quads, DocFault>
-    ensures answers { Answered text.now result }
-    ensures reads { Reads text.now result }
+    ensures answers { ReadsDocument text.now result }
+    ensures reads { ReadsAtLine text.now result }
 {
     read_lines(alloc, text)
 }

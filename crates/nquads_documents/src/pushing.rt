@@ -4,10 +4,10 @@
 
 ghost use Rattle.std.specs.Prelude.{◌≡◌, ◌≤◌, ◌<◌, ◌==◌, ◌||◌, length, drop, None};
 ghost use Rattle.nquads_text.specs.Fault.{Gives, Pushes};
-ghost use Rattle.nquads_text.specs.Statement.{node_at, predicate_at, dot_at};
+ghost use Rattle.nquads_text.specs.Statement.{node_at, predicate_at, final_dot_at};
 ghost use Rattle.nquads_text.specs.Statement.{graph_at, statement_at};
 ghost use Rattle.nquads_text.specs.Terms.{term_at};
-ghost use Rattle.nquads_documents.specs.Reading.{part_at};
+ghost use Rattle.nquads_documents.specs.Reading.{document_part_at};
 ghost use Rattle.nquads_documents.specs.Shown.{PushesPart};
 ghost use Rattle.rdf_terms.specs.Line.{graph_text, line, term_text};
 
@@ -74,10 +74,10 @@ fn push_predicate(
 }
 
 // The place behind the dot.
-#[tactic(auto, unfolding(nquads_text::specs::Statement::dot_at))]
+#[tactic(auto, unfolding(nquads_text::specs::Statement::final_dot_at))]
 fn dot_end(text: &[u8], at: usize) -> Result<((), usize), ReadFault>
     requires { at ≤ length text.now }
-    ensures { Gives text.now (λ _. None) result (dot_at (drop at text.now)) }
+    ensures { Gives text.now (λ _. None) result (final_dot_at (drop at text.now)) }
 {
     let (c, next) = char_at(text, at)?;
     if c != '.' {
@@ -144,7 +144,7 @@ pub fn push_part(
 ) -> Result<(bool, usize), ReadFault>
     requires { from < length text.now }
     ensures { PushesPart text.now out.old.items out.new.items result
-        (part_at (drop from text.now)) }
+        (document_part_at (drop from text.now)) }
 {
     let at = skip_blanks(text, from);
     if at == text.len() {

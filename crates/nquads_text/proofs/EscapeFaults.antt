@@ -7,7 +7,7 @@ use Rattle.std.proofs.lemmas.List.{length-append}
 use Rattle.std.proofs.lemmas.List.Folds.{list_all-append}
 use lib.Utf8.{scalar}
 use Rattle.nquads_text.specs.declared.fault.TextKind.TheVariants.{BadEscape}
-use Rattle.nquads_text.specs.Fault.{Fault, Read, ◌>>=◌}
+use Rattle.nquads_text.specs.Fault.{TextFault, TextRead, ◌>>=◌}
 use Rattle.nquads_text.specs.Reading.{char_at, digit_at, four_digits_at, eight_digits_at, code_at, uchar_at}
 use Rattle.nquads_text.specs.Grammar.{is_hex, FourDigits, EightDigits, UcharForm, echar}
 use Rattle.nquads_text.specs.Faults.{Lacks, EscapeFault, is_uchar_letter, is_escape_letter, digits_of}
@@ -19,10 +19,10 @@ use Rattle.nquads_text.proofs.Needed.{char_fault, no_character, char_stands, nee
 -- ---- digits
 
 -- less than n digits, and then none; start is the text from the backslash on
-abbrev pub Short : List ℕ → ℕ → List ℕ → Fault → Type 0
+abbrev pub Short : List ℕ → ℕ → List ℕ → TextFault → Type 0
 Short start n rest f = (digits behind : List ℕ) × IsTrue (list_all is_hex digits) × (length digits < n) × (rest ≡ digits ++ behind) × Lacks is_hex behind (BadEscape, start) f
 
-digit_fault : (start rest : List ℕ) (f : Fault) → digit_at start rest ≡ Err f → Lacks is_hex rest (BadEscape, start) f
+digit_fault : (start rest : List ℕ) (f : TextFault) → digit_at start rest ≡ Err f → Lacks is_hex rest (BadEscape, start) f
 unfolding digit_at
 digit_fault start rest f e =
     ⊎_elim
@@ -30,14 +30,14 @@ digit_fault start rest f e =
     (λ there. absurd (not_both (digit_value there.0.0, there.0.1) f there.3))
     (needed_fault is_hex rest (BadEscape, start) f (λ (c : ℕ × List ℕ). Ok (digit_value c.0, c.1)) e)
 
-digit_lacks : (start rest : List ℕ) (f : Fault) → Lacks is_hex rest (BadEscape, start) f → digit_at start rest ≡ Err f
+digit_lacks : (start rest : List ℕ) (f : TextFault) → Lacks is_hex rest (BadEscape, start) f → digit_at start rest ≡ Err f
 unfolding digit_at
 digit_lacks start rest f l = needed_lacks is_hex rest (BadEscape, start) f (λ (c : ℕ × List ℕ). Ok (digit_value c.0, c.1)) l
 
 one_more : (c : ℕ) (digits : List ℕ) → is_digit c 16 ≡ true → IsTrue (list_all is_hex digits) → IsTrue (list_all is_hex (c ∷ digits))
 one_more c digits e others = rw (e, others) refl
 
-digit_step : {X : Type 0} (n : ℕ) (start rest : List ℕ) (f : Fault) (next : ℕ × List ℕ → Read X)
+digit_step : {X : Type 0} (n : ℕ) (start rest : List ℕ) (f : TextFault) (next : ℕ × List ℕ → TextRead X)
     → ((a : ℕ × List ℕ) → next a ≡ Err f → Short start n a.1 f) → (digit_at start rest >>= next) ≡ Err f → Short start (suc n) rest f
 digit_step n start rest f next others e =
     ⊎_elim
@@ -51,27 +51,27 @@ digit_step n start rest f next others e =
     (t.is.0 ∷ s.0, s.1, one_more t.is.0 s.0 t.is.1 s.2, omega arith, parts, s.5))
     (bind_err (digit_at start rest) next f e)
 
-digit_back : {X : Type 0} (n : ℕ) (start rest : List ℕ) (f : Fault) (next : ℕ × List ℕ → Read X)
+digit_back : {X : Type 0} (n : ℕ) (start rest : List ℕ) (f : TextFault) (next : ℕ × List ℕ → TextRead X)
     → ((a : ℕ × List ℕ) → Short start n a.1 f → next a ≡ Err f) → Short start (suc n) rest f → (digit_at start rest >>= next) ≡ Err f
 digit_back n start rest f next others s = by s.0 s.1 s.2 s.3 s.4 s.5
   where
     by : (digits behind : List ℕ) → IsTrue (list_all is_hex digits) → length digits < suc n → rest ≡ digits ++ behind → Lacks is_hex behind (BadEscape, start) f
         → (digit_at start rest >>= next) ≡ Err f
-    by [] behind hex lt parts l = ap (λ (r : Read ℕ). r >>= next) (ap (digit_at start) parts ∙ digit_lacks start behind f l)
+    by [] behind hex lt parts l = ap (λ (r : TextRead ℕ). r >>= next) (ap (digit_at start) parts ∙ digit_lacks start behind f l)
     by (w ∷ digits) behind hex lt parts l =
         let h = and_parts (is_hex w) (list_all is_hex digits) hex in
-        ap (λ (r : Read ℕ). r >>= next) (ap (digit_at start) parts ∙ digit_again start w (digits ++ behind) h.0)
+        ap (λ (r : TextRead ℕ). r >>= next) (ap (digit_at start) parts ∙ digit_again start w (digits ++ behind) h.0)
         ∙ others (digit_value w, digits ++ behind) (digits, behind, h.1, omega arith, refl, l)
 
-none_short : (start rest : List ℕ) (f : Fault) → Short start 0 rest f → ⊥
+none_short : (start rest : List ℕ) (f : TextFault) → Short start 0 rest f → ⊥
 none_short start rest f s = let lt : length s.0 < 0 = s.3 in omega arith
 
-pub four_fault : (start rest : List ℕ) (f : Fault) → four_digits_at start rest ≡ Err f → Short start 4 rest f
+pub four_fault : (start rest : List ℕ) (f : TextFault) → four_digits_at start rest ≡ Err f → Short start 4 rest f
 unfolding four_digits_at
 four_fault start rest f e =
     digit_step 3 start rest f _ (λ a. digit_step 2 start a.1 f _ (λ b. digit_step 1 start b.1 f _ (λ c. digit_step 0 start c.1 f _ (λ d ok. absurd (not_both _ f ok))))) e
 
-pub four_short : (start rest : List ℕ) (f : Fault) → Short start 4 rest f → four_digits_at start rest ≡ Err f
+pub four_short : (start rest : List ℕ) (f : TextFault) → Short start 4 rest f → four_digits_at start rest ≡ Err f
 unfolding four_digits_at
 four_short start rest f s =
     digit_back 3 start rest f _ (λ a. digit_back 2 start a.1 f _ (λ b. digit_back 1 start b.1 f _ (λ c. digit_back 0 start c.1 f _ (λ d none. absurd (none_short start d.1 f none))))) s
@@ -82,7 +82,7 @@ four_hex bytes n d = (ap (list_all is_hex) d.5 ∙ d.4, ap length d.5)
 both_hex : (a b : List ℕ) → IsTrue (list_all is_hex a) → IsTrue (list_all is_hex b) → IsTrue (list_all is_hex (a ++ b))
 both_hex a b e f = list_all-append is_hex a b ∙ rw (e, f) refl
 
-pub eight_fault : (start rest : List ℕ) (f : Fault) → eight_digits_at start rest ≡ Err f → Short start 8 rest f
+pub eight_fault : (start rest : List ℕ) (f : TextFault) → eight_digits_at start rest ≡ Err f → Short start 8 rest f
 unfolding eight_digits_at
 eight_fault start rest f e =
     ⊎_elim
@@ -104,10 +104,10 @@ eight_fault start rest f e =
     (bind_err (four_digits_at start h.1) (λ (l : ℕ × List ℕ). Ok (65536 * h.0 + l.0, l.1)) f there.2))
     (bind_err (four_digits_at start rest) (λ (h : ℕ × List ℕ). four_digits_at start h.1 >>= λ (l : ℕ × List ℕ). Ok (65536 * h.0 + l.0, l.1)) f e)
 
-abbrev eight : List ℕ → List ℕ → Read ℕ
+abbrev eight : List ℕ → List ℕ → TextRead ℕ
 eight start rest = four_digits_at start rest >>= λ (h : ℕ × List ℕ). four_digits_at start h.1 >>= λ (l : ℕ × List ℕ). Ok (65536 * h.0 + l.0, l.1)
 
-pub eight_short : (start rest : List ℕ) (f : Fault) → Short start 8 rest f → eight_digits_at start rest ≡ Err f
+pub eight_short : (start rest : List ℕ) (f : TextFault) → Short start 8 rest f → eight_digits_at start rest ≡ Err f
 unfolding eight_digits_at
 eight_short start rest f s = by s.0 s.1 s.2 s.3 s.4 s.5
   where
@@ -146,7 +146,7 @@ code_low letter digits n code = ⊎_elim (λ small. let e : letter ≡ 117 = sma
 not_scalar : (n : ℕ) → scalar n ≡ false → IsScalar n → ⊥
 not_scalar n no_char is = false≢true (sym no_char ∙ is)
 
-module _ (fits : ℕ → Bool) (rest : List ℕ) (f : Fault) where
+module _ (fits : ℕ → Bool) (rest : List ℕ) (f : TextFault) where
   abbrev start : List ℕ
   start = 92 ∷ rest
 
@@ -213,7 +213,7 @@ neither c e = by (nat_eq c 117) (nat_eq c 85) e
     by true b e = absurd (false≢true (sym e))
     by false b e = (refl, e)
 
-pub uchar_lacks : (rest : List ℕ) (f : Fault) → EscapeFault is_uchar_letter (92 ∷ rest) f → uchar_at (92 ∷ rest) rest ≡ Err f
+pub uchar_lacks : (rest : List ℕ) (f : TextFault) → EscapeFault is_uchar_letter (92 ∷ rest) f → uchar_at (92 ∷ rest) rest ≡ Err f
 unfolding uchar_at code_at
 uchar_lacks rest f (EscapeFault.letter there e l) = by l
   where
@@ -224,7 +224,7 @@ uchar_lacks rest f (EscapeFault.letter there e l) = by l
     by (Lacks.nothing n) = rw (ap char_at (sym same) ∙ no_character there f n) refl
     by (Lacks.another c after at misfit is) =
         let n = neither c misfit in
-        rw (ap char_at (sym same) ∙ char_stands there c after at, n.0, n.1) (ap (λ (g : Fault). Err g) (sym is))
+        rw (ap char_at (sym same) ∙ char_stands there c after at, n.0, n.1) (ap (λ (g : TextFault). Err g) (sym is))
 uchar_lacks rest f (EscapeFault.digit u digits there e hex lt l) = ⊎_elim small big (letter_of u (length digits) lt)
   where
     shape : rest ≡ u ∷ (digits ++ there)
@@ -247,16 +247,16 @@ uchar_lacks rest f (EscapeFault.number bytes there n e form bad is) = ⊎_elim s
     small d =
         let whole : 92 ∷ rest ≡ 92 ∷ 117 ∷ (d.0 ++ there) = e ∙ ap (λ (t : List ℕ). t ++ there) d.2 in
         let front : rest ≡ 117 ∷ (d.0 ++ there) = cc in
-        rw (ap char_at front ∙ char_at-ascii 117 (d.0 ++ there) (omega arith), four_digits_again (92 ∷ rest) d.0 n there d.1, scalar_false n bad) (ap (λ (g : Fault). Err g) (sym is))
+        rw (ap char_at front ∙ char_at-ascii 117 (d.0 ++ there) (omega arith), four_digits_again (92 ∷ rest) d.0 n there d.1, scalar_false n bad) (ap (λ (g : TextFault). Err g) (sym is))
 
     big : (digits : List ℕ) × EightDigits digits n × (bytes ≡ 92 ∷ 85 ∷ digits) → uchar_at (92 ∷ rest) rest ≡ Err f
     big d =
         let whole : 92 ∷ rest ≡ 92 ∷ 85 ∷ (d.0 ++ there) = e ∙ ap (λ (t : List ℕ). t ++ there) d.2 in
         let front : rest ≡ 85 ∷ (d.0 ++ there) = cc in
-        rw (ap char_at front ∙ char_at-ascii 85 (d.0 ++ there) (omega arith), eight_digits_again (92 ∷ rest) d.0 n there d.1, scalar_false n bad) (ap (λ (g : Fault). Err g) (sym is))
+        rw (ap char_at front ∙ char_at-ascii 85 (d.0 ++ there) (omega arith), eight_digits_again (92 ∷ rest) d.0 n there d.1, scalar_false n bad) (ap (λ (g : TextFault). Err g) (sym is))
 
 -- a fault of an escape begins with a backslash
-pub escape_opens : (fits : ℕ → Bool) (text : List ℕ) (f : Fault) → EscapeFault fits text f → (rest : List ℕ) × (text ≡ 92 ∷ rest)
+pub escape_opens : (fits : ℕ → Bool) (text : List ℕ) (f : TextFault) → EscapeFault fits text f → (rest : List ℕ) × (text ≡ 92 ∷ rest)
 escape_opens fits text f (EscapeFault.letter rest e l) = (rest, e)
 escape_opens fits text f (EscapeFault.digit u digits rest e hex lt l) = (u ∷ (digits ++ rest), e)
 escape_opens fits text f (EscapeFault.number bytes rest n e form bad is) =
@@ -271,7 +271,7 @@ some_or : (o : Option ℕ) (letter : Bool) → (is_some o || letter) ≡ false �
 some_or None letter e = (refl, e)
 some_or (Some c) letter e = absurd (false≢true (sym e))
 
-abbrev Named : List ℕ → Fault → Type 0
+abbrev Named : List ℕ → TextFault → Type 0
 Named rest f = (char_at rest ≡ Err f) ⊎ ((letter : ℕ × List ℕ) × (char_at rest ≡ Ok letter) × (echar letter.0 ≡ None) × EscapeFault is_uchar_letter (92 ∷ rest) f)
 
 no_short : (u : ℕ) → (u ≡ 117) ⊎ (u ≡ 85) → (u < 128) × (echar u ≡ None)
@@ -281,7 +281,7 @@ no_short u is =
     (λ big. let e : u ≡ 85 = big in (omega arith, ap echar big))
     is
 
-pub escape_by : (rest : List ℕ) (f : Fault) → EscapeFault is_escape_letter (92 ∷ rest) f → Named rest f
+pub escape_by : (rest : List ℕ) (f : TextFault) → EscapeFault is_escape_letter (92 ∷ rest) f → Named rest f
 escape_by rest f (EscapeFault.letter there e l) = by l
   where
     same : there ≡ rest

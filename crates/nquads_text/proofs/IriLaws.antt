@@ -3,7 +3,7 @@ use Rattle.std.proofs.Common.{◌≡◌, ℕ, true, cond, List, [], ◌∷◌, �
 use Rattle.std.specs.Str.{encode_utf8_all}
 use Rattle.rdf_terms.specs.Iri.{has_scheme}
 use Rattle.nquads_text.specs.declared.fault.TextKind.TheVariants.{RelativeIri}
-use Rattle.nquads_text.specs.Fault.{Fault}
+use Rattle.nquads_text.specs.Fault.{TextFault}
 use Rattle.nquads_text.specs.Grammar.{IriPiece, IsIriRef}
 use Rattle.nquads_text.specs.Reading.{iri_piece, iri_body_at}
 use Rattle.nquads_text.specs.Terms.{iri_at, iri_needed}
@@ -47,7 +47,7 @@ iri_is_read bytes iri after g =
     ap iri_needed shape ∙ behind_open (body ++ 62 ∷ after) ∙ rw (read, scheme) (ap (λ (i : List ℕ). Ok (i, after)) (sym g.4))
 
 -- the fault that is met is the first one
-pub iri_fault_met : (rest : List ℕ) (f : Fault) → iri_needed (60 ∷ rest) ≡ Err f → IriFault (60 ∷ rest) f
+pub iri_fault_met : (rest : List ℕ) (f : TextFault) → iri_needed (60 ∷ rest) ≡ Err f → IriFault (60 ∷ rest) f
 unfolding iri_at
 iri_fault_met rest f e =
     ⊎_elim
@@ -63,10 +63,10 @@ iri_fault_met rest f e =
     (bind_err (iri_body_at rest) (λ (x : List ℕ × List ℕ). cond (has_scheme x.0) (Ok x) (Err (RelativeIri, 60 ∷ rest))) f (sym (behind_open rest) ∙ e))
 
 -- and the first fault is met
-pub iri_fault_is_met : (text : List ℕ) (f : Fault) → IriFault text f → iri_needed text ≡ Err f
+pub iri_fault_is_met : (text : List ℕ) (f : TextFault) → IriFault text f → iri_needed text ≡ Err f
 unfolding iri_at
 iri_fault_is_met text f (IriFault.inside s) =
     ap iri_needed s.3 ∙ behind_open (s.0 ++ s.2) ∙ rw (iri_body_stops s.0 s.1 s.2 f s.4 s.5) refl
 iri_fault_is_met text f (IriFault.relative body cs after shape spelled no_scheme is) =
     let read = body_again iri_piece IriPiece 62 reads_iri body cs after spelled in
-    ap iri_needed shape ∙ behind_open (body ++ 62 ∷ after) ∙ rw (read, no_scheme) (ap (λ (t : List ℕ). Err (RelativeIri, t)) (sym shape)) ∙ ap (λ (g : Fault). Err g) (sym is)
+    ap iri_needed shape ∙ behind_open (body ++ 62 ∷ after) ∙ rw (read, no_scheme) (ap (λ (t : List ℕ). Err (RelativeIri, t)) (sym shape)) ∙ ap (λ (g : TextFault). Err g) (sym is)

@@ -8,7 +8,7 @@ use lib.Utf8.{scalar, scalars}
 use Rattle.rdf_terms.specs.Names.{begins_name}
 use Rattle.rdf_terms.specs.Label.{IsLabel, LabelChars}
 use Rattle.nquads_text.specs.declared.fault.TextKind.TheVariants.{BadLabel}
-use Rattle.nquads_text.specs.Fault.{Fault}
+use Rattle.nquads_text.specs.Fault.{TextFault}
 use Rattle.nquads_text.specs.Reading.{char_at}
 use Rattle.nquads_text.specs.Terms.{name_len, name_at, label_at}
 use Rattle.nquads_text.specs.Grammar.{Longest, BlankNode}
@@ -91,7 +91,7 @@ blank_is_read rest label after b =
     let same : rest ≡ 58 ∷ b.0 = cc in
     ap (label_at (95 ∷ rest)) same ∙ label_is_read (95 ∷ rest) b.0 label after b.2
 
-pub label_fault : (rest : List ℕ) (f : Fault) → label_at (95 ∷ rest) rest ≡ Err f → LabelFault (95 ∷ rest) f
+pub label_fault : (rest : List ℕ) (f : TextFault) → label_at (95 ∷ rest) rest ≡ Err f → LabelFault (95 ∷ rest) f
 unfolding label_at name_at
 label_fault rest f e =
     ⊎_elim
@@ -105,11 +105,11 @@ label_fault rest f e =
     (needed_fault begins_name behind (BadLabel, 95 ∷ rest) f (λ (first : ℕ × List ℕ). Ok (take (size_of behind first) behind, drop (size_of behind first) behind)) there.3))
     (needed_fault (λ (c : ℕ). nat_eq c 58) rest (BadLabel, 95 ∷ rest) f (λ (colon : ℕ × List ℕ). name_at (95 ∷ rest) colon.1) e)
 
-name_lacks : (start behind : List ℕ) (f : Fault) → Lacks begins_name behind (BadLabel, start) f → name_at start behind ≡ Err f
+name_lacks : (start behind : List ℕ) (f : TextFault) → Lacks begins_name behind (BadLabel, start) f → name_at start behind ≡ Err f
 unfolding name_at
 name_lacks start behind f l = needed_lacks begins_name behind (BadLabel, start) f (λ (first : ℕ × List ℕ). Ok (take (size_of behind first) behind, drop (size_of behind first) behind)) l
 
-pub label_lacks : (rest : List ℕ) (f : Fault) → LabelFault (95 ∷ rest) f → label_at (95 ∷ rest) rest ≡ Err f
+pub label_lacks : (rest : List ℕ) (f : TextFault) → LabelFault (95 ∷ rest) f → label_at (95 ∷ rest) rest ≡ Err f
 unfolding label_at
 label_lacks rest f (LabelFault.colon there shape l) =
     let same : there ≡ rest = cc in

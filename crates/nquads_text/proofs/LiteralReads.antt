@@ -10,9 +10,9 @@ use Rattle.rdf_terms.specs.declared.term.LiteralKind.{LiteralKind}
 use Rattle.rdf_terms.specs.declared.term.LiteralKind.TheVariants.{Plain, Typed, Tagged}
 use Rattle.rdf_terms.specs.declared.term.Literal.{Literal}
 use Rattle.nquads_text.specs.declared.fault.TextKind.TheVariants.{LangStringWithoutTag, BadToken}
-use Rattle.nquads_text.specs.Fault.{Fault, Read, ◌>>=◌}
+use Rattle.nquads_text.specs.Fault.{TextFault, TextRead, ◌>>=◌}
 use Rattle.nquads_text.specs.Reading.{char_at, string_piece, string_body_at}
-use Rattle.nquads_text.specs.Terms.{iri_at, iri_needed, skip_blanks, kind_of, datatype_at, typed_at, suffix_at, literal_at, tag_at}
+use Rattle.nquads_text.specs.Terms.{iri_at, iri_needed, skip_blanks, kind_given, datatype_at, typed_at, suffix_at, literal_at, tag_at}
 use Rattle.nquads_text.specs.Grammar.{AreBlanks, StartsWith, is_blank, StringPiece, IsString, IriRef, DatatypeAt, HatFollows, kind_with, Suffix, LangTag, LiteralAt}
 use Rattle.nquads_text.specs.Faults.{Lacks, IriFault, StringFault, TagFault, DatatypeFault, LiteralFault}
 use Rattle.nquads_text.proofs.Fronts.{char_at-ascii}
@@ -43,7 +43,7 @@ iri_found text iri after e =
 pub iri_again : (text iri after : List ℕ) → IriRef text iri after → iri_needed text ≡ Ok (iri, after)
 iri_again text iri after r = ap iri_needed r.2 ∙ iri_is_read r.0 iri after r.1
 
-pub iri_needed_fault : (text : List ℕ) (f : Fault) → iri_needed text ≡ Err f → Lacks (λ c. nat_eq c 60) text (BadToken, text) f ⊎ IriFault text f
+pub iri_needed_fault : (text : List ℕ) (f : TextFault) → iri_needed text ≡ Err f → Lacks (λ c. nat_eq c 60) text (BadToken, text) f ⊎ IriFault text f
 unfolding iri_needed
 iri_needed_fault text f e =
     ⊎_elim
@@ -54,14 +54,14 @@ iri_needed_fault text f e =
     inr (subst (λ (t : List ℕ). IriFault t f) (sym shape) (iri_fault_met c.1 f (ap iri_needed (sym shape) ∙ e))))
     (needed_fault (λ (c : ℕ). nat_eq c 60) text (BadToken, text) f (λ (c : ℕ × List ℕ). iri_at text c.1) e)
 
-iri_needed_lacks : (text : List ℕ) (f : Fault) → Lacks (λ c. nat_eq c 60) text (BadToken, text) f → iri_needed text ≡ Err f
+iri_needed_lacks : (text : List ℕ) (f : TextFault) → Lacks (λ c. nat_eq c 60) text (BadToken, text) f → iri_needed text ≡ Err f
 unfolding iri_needed
 iri_needed_lacks text f l = needed_lacks (λ (c : ℕ). nat_eq c 60) text (BadToken, text) f (λ (c : ℕ × List ℕ). iri_at text c.1) l
 
 -- ---- a datatype, from behind its first hat on
 
-kind_found : (start iri end : List ℕ) (kind : LiteralKind) (after : List ℕ) → kind_of start iri end ≡ Ok (kind, after) → (bytes_eq iri lang_string ≡ false) × (kind ≡ kind_with iri) × (end ≡ after)
-unfolding kind_of
+kind_found : (start iri end : List ℕ) (kind : LiteralKind) (after : List ℕ) → kind_given start iri end ≡ Ok (kind, after) → (bytes_eq iri lang_string ≡ false) × (kind ≡ kind_with iri) × (end ≡ after)
+unfolding kind_given
 kind_found start iri end kind after e =
     ⊎_elim
     (λ bad. absurd (not_ok (kind, after) (LangStringWithoutTag, start) bad.1))
@@ -76,11 +76,11 @@ kind_found start iri end kind after e =
     (chosen (bytes_eq iri xsd_string) (Ok (Plain, end)) (Ok (Typed iri, end)) (Ok (kind, after)) fine.1))
     (chosen (bytes_eq iri lang_string) (Err (LangStringWithoutTag, start)) (cond (bytes_eq iri xsd_string) (Ok (Plain, end)) (Ok (Typed iri, end))) (Ok (kind, after)) e)
 
-abbrev kind_read : LiteralKind → List ℕ → Read LiteralKind
+abbrev kind_read : LiteralKind → List ℕ → TextRead LiteralKind
 kind_read kind after = Ok (kind, after)
 
-kind_is : (start iri after : List ℕ) → bytes_eq iri lang_string ≡ false → kind_of start iri after ≡ Ok (kind_with iri, after)
-unfolding kind_of
+kind_is : (start iri after : List ℕ) → bytes_eq iri lang_string ≡ false → kind_given start iri after ≡ Ok (kind_with iri, after)
+unfolding kind_given
 kind_is start iri after no_lang = rw no_lang (by (bytes_eq iri xsd_string))
   where
     by : (plain : Bool) → cond plain (kind_read Plain after) (kind_read (Typed iri) after) ≡ kind_read (cond plain Plain (Typed iri)) after
@@ -95,18 +95,18 @@ datatype_found : (start rest : List ℕ) (kind : LiteralKind) (after : List ℕ)
     → (iri : List ℕ) × HatIri rest iri after × (bytes_eq iri lang_string ≡ false) × (kind ≡ kind_with iri)
 unfolding datatype_at
 datatype_found start rest kind after e =
-    let p = bind_ok (char_at rest) (λ (hat : ℕ × List ℕ). cond (nat_eq hat.0 94) (iri_needed (skip_blanks hat.1) >>= λ (iri : List ℕ × List ℕ). kind_of start iri.0 iri.1) (Err (BadToken, rest))) (kind, after) e in
+    let p = bind_ok (char_at rest) (λ (hat : ℕ × List ℕ). cond (nat_eq hat.0 94) (iri_needed (skip_blanks hat.1) >>= λ (iri : List ℕ × List ℕ). kind_given start iri.0 iri.1) (Err (BadToken, rest))) (kind, after) e in
     let hat = p.0 in
     ⊎_elim
     (λ yes.
-    let q = bind_ok (iri_needed (skip_blanks hat.1)) (λ (iri : List ℕ × List ℕ). kind_of start iri.0 iri.1) (kind, after) yes.1 in
+    let q = bind_ok (iri_needed (skip_blanks hat.1)) (λ (iri : List ℕ × List ℕ). kind_given start iri.0 iri.1) (kind, after) yes.1 in
     let k = kind_found start q.0.0 q.0.1 kind after q.2 in
     let b = blanks_parted hat.1 in
     let shape : rest ≡ 94 ∷ (b.0 ++ skip_blanks hat.1) = low_char rest hat 94 p.1 (eqb-true hat.0 94 yes.0) (omega arith) ∙ ap (λ (t : List ℕ). 94 ∷ t) b.1 in
     let read : iri_needed (skip_blanks hat.1) ≡ Ok (q.0.0, after) = q.1 ∙ ap (λ (t : List ℕ). Ok (q.0.0, t)) k.2 in
     (q.0.0, (b.0, skip_blanks hat.1, b.2, shape, iri_found (skip_blanks hat.1) q.0.0 after read), k.0, k.1))
     (λ other. absurd (not_ok (kind, after) (BadToken, rest) other.1))
-    (chosen (nat_eq hat.0 94) (iri_needed (skip_blanks hat.1) >>= λ (iri : List ℕ × List ℕ). kind_of start iri.0 iri.1) (Err (BadToken, rest)) (Ok (kind, after)) p.2)
+    (chosen (nat_eq hat.0 94) (iri_needed (skip_blanks hat.1) >>= λ (iri : List ℕ × List ℕ). kind_given start iri.0 iri.1) (Err (BadToken, rest)) (Ok (kind, after)) p.2)
 
 -- an IRIREF begins with no blank
 iri_no_blank : (behind iri after : List ℕ) → IriRef behind iri after → StartsWith is_blank behind → ⊥
@@ -114,7 +114,7 @@ iri_no_blank behind iri after r =
     let front : behind ≡ 60 ∷ ((r.1.0 ++ 62 ∷ []) ++ after) = r.2 ∙ ap (λ (t : List ℕ). t ++ after) r.1.2 in
     rw front (λ e. false≢true e)
 
-datatype_iri : (start rest iri after : List ℕ) → HatIri rest iri after → datatype_at start rest ≡ kind_of start iri after
+datatype_iri : (start rest iri after : List ℕ) → HatIri rest iri after → datatype_at start rest ≡ kind_given start iri after
 unfolding datatype_at
 datatype_iri start rest iri after h =
     let skipped : skip_blanks (h.0 ++ h.1) ≡ h.1 = blanks_skipped h.0 h.1 h.2 (iri_no_blank h.1 iri after h.4) in
@@ -199,19 +199,19 @@ suffix_again start text kind after (Suffix.typed iri d no_lang is) =
     ∙ ap (λ (k : LiteralKind). Ok (k, after)) (sym is)
 suffix_again start text kind after (Suffix.tagged tag t is) =
     ap (suffix_at start) t.1 ∙ at_suffix start t.0
-    ∙ ap (λ (r : Read (List ℕ)). r >>= λ (tag : List ℕ × List ℕ). Ok (Tagged tag.0, tag.1)) (tag_is_read (64 ∷ t.0) t.0 tag after t.2 t.3)
+    ∙ ap (λ (r : TextRead (List ℕ)). r >>= λ (tag : List ℕ × List ℕ). Ok (Tagged tag.0, tag.1)) (tag_is_read (64 ∷ t.0) t.0 tag after t.2 t.3)
     ∙ ap (λ (k : LiteralKind). Ok (k, after)) (sym is)
 
 -- ---- its faults
 
 -- of what follows the quote: of a tag, of a datatype, or that it is rdf:langString
-data SuffixFault (start text : List ℕ) (f : Fault) : Type 0 where
+data SuffixFault (start text : List ℕ) (f : TextFault) : Type 0 where
   in_tag : TagFault text f → SuffixFault start text f
   in_datatype : DatatypeFault text f → SuffixFault start text f
   no_tag : (after : List ℕ) → DatatypeAt text lang_string after → f ≡ (LangStringWithoutTag, start) → SuffixFault start text f
 
-kind_fault : (start iri after : List ℕ) (f : Fault) → kind_of start iri after ≡ Err f → (iri ≡ lang_string) × (f ≡ (LangStringWithoutTag, start))
-unfolding kind_of
+kind_fault : (start iri after : List ℕ) (f : TextFault) → kind_given start iri after ≡ Err f → (iri ≡ lang_string) × (f ≡ (LangStringWithoutTag, start))
+unfolding kind_given
 kind_fault start iri after f e =
     ⊎_elim
     (λ bad. ((bytes_eq-Decides iri lang_string).0 bad.0, sym (err_is (LangStringWithoutTag, start) f bad.1)))
@@ -222,11 +222,11 @@ kind_fault start iri after f e =
     by true e = not_both (Plain, after) f e
     by false e = not_both (Typed iri, after) f e
 
-kind_lacks : (start after : List ℕ) → kind_of start lang_string after ≡ Err (LangStringWithoutTag, start)
-unfolding kind_of
+kind_lacks : (start after : List ℕ) → kind_given start lang_string after ≡ Err (LangStringWithoutTag, start)
+unfolding kind_given
 kind_lacks start after = refl
 
-datatype_fault : (start text blanks rest : List ℕ) (f : Fault) → AreBlanks blanks → text ≡ blanks ++ 94 ∷ rest → datatype_at start rest ≡ Err f → SuffixFault start text f
+datatype_fault : (start text blanks rest : List ℕ) (f : TextFault) → AreBlanks blanks → text ≡ blanks ++ 94 ∷ rest → datatype_at start rest ≡ Err f → SuffixFault start text f
 unfolding datatype_at
 datatype_fault start text blanks rest f all shape e =
     ⊎_elim
@@ -246,33 +246,33 @@ datatype_fault start text blanks rest f all shape e =
     let k = kind_fault start x.0 x.1 f read.2 in
     let is : IriRef (skip_blanks c.1) lang_string x.1 = subst (λ (i : List ℕ). IriRef (skip_blanks c.1) i x.1) k.0 (iri_found (skip_blanks c.1) x.0 x.1 read.1) in
     SuffixFault.no_tag x.1 (blanks, parted.0, skip_blanks c.1, all, parted.2, whole, is) k.1)
-    (bind_err (iri_needed (skip_blanks c.1)) (λ (iri : List ℕ × List ℕ). kind_of start iri.0 iri.1) f there.3))
-    (needed_fault (λ (c : ℕ). nat_eq c 94) rest (BadToken, rest) f (λ (hat : ℕ × List ℕ). iri_needed (skip_blanks hat.1) >>= λ (iri : List ℕ × List ℕ). kind_of start iri.0 iri.1) e)
+    (bind_err (iri_needed (skip_blanks c.1)) (λ (iri : List ℕ × List ℕ). kind_given start iri.0 iri.1) f there.3))
+    (needed_fault (λ (c : ℕ). nat_eq c 94) rest (BadToken, rest) f (λ (hat : ℕ × List ℕ). iri_needed (skip_blanks hat.1) >>= λ (iri : List ℕ × List ℕ). kind_given start iri.0 iri.1) e)
 
-hat_lacks : (start rest : List ℕ) (f : Fault) → Lacks (λ c. nat_eq c 94) rest (BadToken, rest) f → datatype_at start rest ≡ Err f
+hat_lacks : (start rest : List ℕ) (f : TextFault) → Lacks (λ c. nat_eq c 94) rest (BadToken, rest) f → datatype_at start rest ≡ Err f
 unfolding datatype_at
-hat_lacks start rest f l = needed_lacks (λ (c : ℕ). nat_eq c 94) rest (BadToken, rest) f (λ (hat : ℕ × List ℕ). iri_needed (skip_blanks hat.1) >>= λ (iri : List ℕ × List ℕ). kind_of start iri.0 iri.1) l
+hat_lacks start rest f l = needed_lacks (λ (c : ℕ). nat_eq c 94) rest (BadToken, rest) f (λ (hat : ℕ × List ℕ). iri_needed (skip_blanks hat.1) >>= λ (iri : List ℕ × List ℕ). kind_given start iri.0 iri.1) l
 
 -- behind both hats
-hats_lack : (start between rest : List ℕ) (f : Fault) → AreBlanks between → (StartsWith is_blank rest → ⊥) → iri_needed rest ≡ Err f → datatype_at start (94 ∷ (between ++ rest)) ≡ Err f
+hats_lack : (start between rest : List ℕ) (f : TextFault) → AreBlanks between → (StartsWith is_blank rest → ⊥) → iri_needed rest ≡ Err f → datatype_at start (94 ∷ (between ++ rest)) ≡ Err f
 unfolding datatype_at
 hats_lack start between rest f all none e = rw (char_at-ascii 94 (between ++ rest) (omega arith), blanks_skipped between rest all none, e) refl
 
-inside_no_blank : (text : List ℕ) (f : Fault) → IriFault text f → StartsWith is_blank text → ⊥
+inside_no_blank : (text : List ℕ) (f : TextFault) → IriFault text f → StartsWith is_blank text → ⊥
 inside_no_blank text f (IriFault.inside s) = rw s.3 (λ e. false≢true e)
 inside_no_blank text f (IriFault.relative body cs after shape spelled none is) = rw shape (λ e. false≢true e)
 
-datatype_lacks : (start text : List ℕ) (f : Fault) → DatatypeFault text f → suffix_at start text ≡ Err f
+datatype_lacks : (start text : List ℕ) (f : TextFault) → DatatypeFault text f → suffix_at start text ≡ Err f
 datatype_lacks start text f (DatatypeFault.hat blanks rest all shape l) = hat_suffix start text blanks rest all shape ∙ hat_lacks start rest f l
 datatype_lacks start text f (DatatypeFault.less blanks between rest all more shape none l) =
     hat_suffix start text blanks (94 ∷ (between ++ rest)) all shape ∙ hats_lack start between rest f more none (iri_needed_lacks rest f l)
 datatype_lacks start text f (DatatypeFault.iri blanks between rest all more shape i) =
     hat_suffix start text blanks (94 ∷ (between ++ rest)) all shape ∙ hats_lack start between rest f more (inside_no_blank rest f i) (iri_fault_is_met rest f i)
 
-no_suffix : (kind : LiteralKind) (after : List ℕ) (f : Fault) → kind_read kind after ≡ Err f → ⊥
+no_suffix : (kind : LiteralKind) (after : List ℕ) (f : TextFault) → kind_read kind after ≡ Err f → ⊥
 no_suffix kind after f e = not_both (kind, after) f e
 
-suffix_fault : (start text : List ℕ) (f : Fault) → suffix_at start text ≡ Err f → SuffixFault start text f
+suffix_fault : (start text : List ℕ) (f : TextFault) → suffix_at start text ≡ Err f → SuffixFault start text f
 suffix_fault start text f e = by (goes start text)
   where
     by : Goes start text → SuffixFault start text f
@@ -284,21 +284,21 @@ suffix_fault start text f e = by (goes start text)
     by (Goes.to_datatype blanks rest all shape) = datatype_fault start text blanks rest f all shape (sym (hat_suffix start text blanks rest all shape) ∙ e)
     by (Goes.no_further no_at no_hat read) = absurd (no_suffix Plain text f (sym read ∙ e))
 
-tag_opens : (text : List ℕ) (f : Fault) → TagFault text f → (rest : List ℕ) × (text ≡ 64 ∷ rest)
+tag_opens : (text : List ℕ) (f : TextFault) → TagFault text f → (rest : List ℕ) × (text ≡ 64 ∷ rest)
 tag_opens text f (TagFault.first rest shape l) = (rest, shape)
 tag_opens text f (TagFault.part tag rest shape form l) = (tag ++ 45 ∷ rest, shape)
 
-suffix_lacks : (start text : List ℕ) (f : Fault) → SuffixFault start text f → suffix_at start text ≡ Err f
+suffix_lacks : (start text : List ℕ) (f : TextFault) → SuffixFault start text f → suffix_at start text ≡ Err f
 suffix_lacks start text f (SuffixFault.in_tag t) =
     let o = tag_opens text f t in
     ap (suffix_at start) o.1 ∙ at_suffix start o.0
-    ∙ ap (λ (r : Read (List ℕ)). r >>= λ (tag : List ℕ × List ℕ). kind_read (Tagged tag.0) tag.1) (tag_lacks o.0 f (subst (λ (s : List ℕ). TagFault s f) o.1 t))
+    ∙ ap (λ (r : TextRead (List ℕ)). r >>= λ (tag : List ℕ × List ℕ). kind_read (Tagged tag.0) tag.1) (tag_lacks o.0 f (subst (λ (s : List ℕ). TagFault s f) o.1 t))
 suffix_lacks start text f (SuffixFault.in_datatype d) = datatype_lacks start text f d
 suffix_lacks start text f (SuffixFault.no_tag after d is) =
     hat_suffix start text d.0 (94 ∷ (d.1 ++ d.2)) d.3 d.5
     ∙ datatype_iri start (94 ∷ (d.1 ++ d.2)) lang_string after (d.1, d.2, d.4, refl, d.6)
     ∙ kind_lacks start after
-    ∙ ap (λ (g : Fault). Err g) (sym is)
+    ∙ ap (λ (g : TextFault). Err g) (sym is)
 
 -- ---- the literal
 
@@ -322,13 +322,13 @@ string_is_read rest lexical behind bytes s shape =
     let same : rest ≡ r.0 = cc in
     ap string_body_at same ∙ r.2
 
-pub string_fault_is_met : (rest : List ℕ) (f : Fault) → StringFault (34 ∷ rest) f → string_body_at rest ≡ Err f
+pub string_fault_is_met : (rest : List ℕ) (f : TextFault) → StringFault (34 ∷ rest) f → string_body_at rest ≡ Err f
 string_fault_is_met rest f s =
     let opened = s.3 in
     let same : rest ≡ s.0 ++ s.2 = cc in
     ap string_body_at same ∙ string_body_stops s.0 s.1 s.2 f s.4 s.5
 
-abbrev literal_of : List ℕ → LiteralKind × List ℕ → Read Literal
+abbrev literal_of : List ℕ → LiteralKind × List ℕ → TextRead Literal
 literal_of lexical kind = Ok (record { lexical = lexical; kind = kind.0 }, kind.1)
 
 pub literal_found : (rest : List ℕ) (literal : Literal) (after : List ℕ) → literal_at (34 ∷ rest) rest ≡ Ok (literal, after) → LiteralAt (34 ∷ rest) literal after
@@ -350,7 +350,7 @@ literal_again text literal after l =
     let s = string_again text l.0 literal.lexical l.1 l.2 l.3 in
     (s.0, s.1, rw (s.2, suffix_again (34 ∷ s.0) l.1 literal.kind after l.4) refl)
 
-pub literal_fault : (rest : List ℕ) (f : Fault) → literal_at (34 ∷ rest) rest ≡ Err f → LiteralFault (34 ∷ rest) f
+pub literal_fault : (rest : List ℕ) (f : TextFault) → literal_at (34 ∷ rest) rest ≡ Err f → LiteralFault (34 ∷ rest) f
 unfolding literal_at
 literal_fault rest f e =
     ⊎_elim
@@ -369,14 +369,14 @@ literal_fault rest f e =
     whole bytes lexical behind is shape (SuffixFault.in_datatype d) = LiteralFault.datatype bytes lexical behind is shape d
     whole bytes lexical behind is shape (SuffixFault.no_tag after d e) = LiteralFault.without_tag bytes lexical behind after is shape d e
 
-suffix_bad : (text bytes lexical behind : List ℕ) (f : Fault) → IsString bytes lexical → text ≡ bytes ++ behind → SuffixFault text behind f → (rest : List ℕ) × (text ≡ 34 ∷ rest) × (literal_at (34 ∷ rest) rest ≡ Err f)
+suffix_bad : (text bytes lexical behind : List ℕ) (f : TextFault) → IsString bytes lexical → text ≡ bytes ++ behind → SuffixFault text behind f → (rest : List ℕ) × (text ≡ 34 ∷ rest) × (literal_at (34 ∷ rest) rest ≡ Err f)
 unfolding literal_at
 suffix_bad text bytes lexical behind f is shape s =
     let r = string_again text bytes lexical behind is shape in
     let bad : suffix_at (34 ∷ r.0) behind ≡ Err f = ap (λ (t : List ℕ). suffix_at t behind) (sym r.1) ∙ suffix_lacks text behind f s in
     (r.0, r.1, rw (r.2, bad) refl)
 
-pub literal_lacks : (text : List ℕ) (f : Fault) → LiteralFault text f → (rest : List ℕ) × (text ≡ 34 ∷ rest) × (literal_at (34 ∷ rest) rest ≡ Err f)
+pub literal_lacks : (text : List ℕ) (f : TextFault) → LiteralFault text f → (rest : List ℕ) × (text ≡ 34 ∷ rest) × (literal_at (34 ∷ rest) rest ≡ Err f)
 unfolding literal_at
 literal_lacks text f (LiteralFault.string s) = (s.0 ++ s.2, s.3, rw (string_body_stops s.0 s.1 s.2 f s.4 s.5) refl)
 literal_lacks text f (LiteralFault.tag bytes lexical behind is shape t) = suffix_bad text bytes lexical behind f is shape (SuffixFault.in_tag t)

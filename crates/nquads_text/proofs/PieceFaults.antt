@@ -4,7 +4,7 @@ use Rattle.std.proofs.lemmas.Bool.{eqb-true}
 use Rattle.std.proofs.lemmas.Bool.Decides.{nat_tests}
 use Rattle.rdf_terms.specs.Iri.{is_forbidden}
 use Rattle.nquads_text.specs.declared.fault.TextKind.TheVariants.{BadIri, BadToken}
-use Rattle.nquads_text.specs.Fault.{Fault, ◌>>=◌}
+use Rattle.nquads_text.specs.Fault.{TextFault, ◌>>=◌}
 use Rattle.nquads_text.specs.Reading.{char_at, uchar_at, iri_piece, short_or_uchar, string_piece, iri_body_at, string_body_at}
 use Rattle.nquads_text.specs.Grammar.{echar, IriPiece, StringPiece, Spells}
 use Rattle.nquads_text.specs.Faults.{Lacks, EscapeFault, is_uchar_letter, is_escape_letter, StopsInside, IriStop, StringStop, StringFault}
@@ -19,7 +19,7 @@ use Rattle.nquads_text.proofs.Spelled.{body_stops, stops_again}
 
 -- ---- an IRI
 
-iri_piece_fault : (rest : List ℕ) (f : Fault) → iri_piece rest ≡ Err f → IriStop rest f
+iri_piece_fault : (rest : List ℕ) (f : TextFault) → iri_piece rest ≡ Err f → IriStop rest f
 unfolding iri_piece
 iri_piece_fault rest f e =
     ⊎_elim
@@ -51,23 +51,23 @@ iri_piece_fault rest f e =
     (cond (nat_eq d.0 92) (uchar_at rest d.1 >>= λ (u : ℕ × List ℕ). cond (is_forbidden u.0) (Err (BadIri, rest)) (Ok (Some u.0, u.1)))
     (cond (is_forbidden d.0) (Err (BadIri, rest)) (Ok (Some d.0, d.1))))) f e)
 
-iri_escape : (rest : List ℕ) (f : Fault) → EscapeFault is_uchar_letter (92 ∷ rest) f → iri_piece (92 ∷ rest) ≡ Err f
+iri_escape : (rest : List ℕ) (f : TextFault) → EscapeFault is_uchar_letter (92 ∷ rest) f → iri_piece (92 ∷ rest) ≡ Err f
 unfolding iri_piece
 iri_escape rest f e = rw (char_at-ascii 92 rest (omega arith), uchar_lacks rest f e) refl
 
-iri_piece_stops : (rest : List ℕ) (f : Fault) → IriStop rest f → iri_piece rest ≡ Err f
+iri_piece_stops : (rest : List ℕ) (f : TextFault) → IriStop rest f → iri_piece rest ≡ Err f
 unfolding iri_piece
 iri_piece_stops rest f (IriStop.nothing n) = rw (no_character rest f n) refl
-iri_piece_stops rest f (IriStop.forbidden c after at bad no_end no_escape is) = rw (char_stands rest c after at, bad, no_end, no_escape) (ap (λ (g : Fault). Err g) (sym is))
+iri_piece_stops rest f (IriStop.forbidden c after at bad no_end no_escape is) = rw (char_stands rest c after at, bad, no_end, no_escape) (ap (λ (g : TextFault). Err g) (sym is))
 iri_piece_stops rest f (IriStop.escape e) = let o = escape_opens is_uchar_letter rest f e in rw o.1 (iri_escape o.0 f (rw o.1 at e))
 iri_piece_stops rest f (IriStop.named bytes after c parts uchar bad is) =
     let s = uchar_shape bytes c uchar in
     let opens : rest ≡ 92 ∷ (s.0 ++ after) = parts ∙ ap (λ (t : List ℕ). t ++ after) s.1 in
-    rw (ap char_at opens ∙ char_at-ascii 92 (s.0 ++ after) (omega arith), uchar_again rest s.0 c after s.2, bad) (ap (λ (g : Fault). Err g) (sym is))
+    rw (ap char_at opens ∙ char_at-ascii 92 (s.0 ++ after) (omega arith), uchar_again rest s.0 c after s.2, bad) (ap (λ (g : TextFault). Err g) (sym is))
 
 -- ---- a string
 
-short_fault : (o : Option ℕ) (start rest after : List ℕ) (f : Fault) → short_or_uchar o start rest after ≡ Err f → (o ≡ None) × (uchar_at start rest ≡ Err f)
+short_fault : (o : Option ℕ) (start rest after : List ℕ) (f : TextFault) → short_or_uchar o start rest after ≡ Err f → (o ≡ None) × (uchar_at start rest ≡ Err f)
 short_fault (Some c) start rest after f e = absurd (not_both (Some c, after) f e)
 short_fault None start rest after f e =
     ⊎_elim (λ bad. (refl, bad)) (λ fine. absurd (not_both (Some fine.0.0, fine.0.1) f fine.2))
@@ -79,7 +79,7 @@ line_small c e = grind (arith, nat_tests)
 no_letter : (o : Option ℕ) (letter : Bool) → o ≡ None → letter ≡ false → (is_some o || letter) ≡ false
 no_letter o letter none no_uchar = rw (none, no_uchar) refl
 
-escape_in_string : (rest : List ℕ) (f : Fault) → (char_at rest >>= λ (letter : ℕ × List ℕ). short_or_uchar (echar letter.0) (92 ∷ rest) rest letter.1) ≡ Err f
+escape_in_string : (rest : List ℕ) (f : TextFault) → (char_at rest >>= λ (letter : ℕ × List ℕ). short_or_uchar (echar letter.0) (92 ∷ rest) rest letter.1) ≡ Err f
     → EscapeFault is_escape_letter (92 ∷ rest) f
 escape_in_string rest f e =
     ⊎_elim
@@ -94,7 +94,7 @@ escape_in_string rest f e =
     s.1)
     (bind_err (char_at rest) (λ (letter : ℕ × List ℕ). short_or_uchar (echar letter.0) (92 ∷ rest) rest letter.1) f e)
 
-string_piece_fault : (rest : List ℕ) (f : Fault) → string_piece rest ≡ Err f → StringStop rest f
+string_piece_fault : (rest : List ℕ) (f : TextFault) → string_piece rest ≡ Err f → StringStop rest f
 unfolding string_piece
 string_piece_fault rest f e =
     ⊎_elim
@@ -117,7 +117,7 @@ string_piece_fault rest f e =
     (cond (nat_eq c.0 92) (char_at c.1 >>= λ (letter : ℕ × List ℕ). short_or_uchar (echar letter.0) rest c.1 letter.1)
     (cond (nat_eq c.0 10 || nat_eq c.0 13) (Err (BadToken, rest)) (Ok (Some c.0, c.1))))) f e)
 
-string_escape : (rest : List ℕ) (f : Fault) → EscapeFault is_escape_letter (92 ∷ rest) f → string_piece (92 ∷ rest) ≡ Err f
+string_escape : (rest : List ℕ) (f : TextFault) → EscapeFault is_escape_letter (92 ∷ rest) f → string_piece (92 ∷ rest) ≡ Err f
 unfolding string_piece
 string_escape rest f e =
     ⊎_elim
@@ -128,28 +128,28 @@ string_escape rest f e =
 line_tests : (c : ℕ) → (nat_eq c 10 || nat_eq c 13) ≡ true → (nat_eq c 34 ≡ false) × (nat_eq c 92 ≡ false)
 line_tests c e = (grind (arith, nat_tests), grind (arith, nat_tests))
 
-string_piece_stops : (rest : List ℕ) (f : Fault) → StringStop rest f → string_piece rest ≡ Err f
+string_piece_stops : (rest : List ℕ) (f : TextFault) → StringStop rest f → string_piece rest ≡ Err f
 unfolding string_piece
 string_piece_stops rest f (StringStop.nothing n) = rw (no_character rest f n) refl
 string_piece_stops rest f (StringStop.line_end c after line parts is) =
     let t = line_tests c line in
-    rw (ap char_at parts ∙ char_at-ascii c after (line_small c line), t.0, t.1, line) (ap (λ (g : Fault). Err g) (sym is))
+    rw (ap char_at parts ∙ char_at-ascii c after (line_small c line), t.0, t.1, line) (ap (λ (g : TextFault). Err g) (sym is))
 string_piece_stops rest f (StringStop.escape e) = let o = escape_opens is_escape_letter rest f e in rw o.1 (string_escape o.0 f (rw o.1 at e))
 
 -- ---- what is behind the opening byte
 
-pub iri_body_fault : (rest : List ℕ) (f : Fault) → iri_body_at rest ≡ Err f → StopsInside IriPiece IriStop 60 (60 ∷ rest) f
+pub iri_body_fault : (rest : List ℕ) (f : TextFault) → iri_body_at rest ≡ Err f → StopsInside IriPiece IriStop 60 (60 ∷ rest) f
 iri_body_fault rest f e =
     let s = body_stops iri_piece IriPiece 62 reads_iri iri_piece-nil 0 rest f e in
     (s.body, s.chars, s.after, ap (λ (t : List ℕ). 60 ∷ t) s.parts, s.spelled, iri_piece_fault s.after f s.fault)
 
-pub iri_body_stops : (body cs rest : List ℕ) (f : Fault) → Spells IriPiece body cs → IriStop rest f → iri_body_at (body ++ rest) ≡ Err f
+pub iri_body_stops : (body cs rest : List ℕ) (f : TextFault) → Spells IriPiece body cs → IriStop rest f → iri_body_at (body ++ rest) ≡ Err f
 iri_body_stops body cs rest f spelled stop = stops_again iri_piece IriPiece 62 reads_iri iri_piece-nil body cs rest f spelled (iri_piece_stops rest f stop)
 
-pub string_body_fault : (rest : List ℕ) (f : Fault) → string_body_at rest ≡ Err f → StringFault (34 ∷ rest) f
+pub string_body_fault : (rest : List ℕ) (f : TextFault) → string_body_at rest ≡ Err f → StringFault (34 ∷ rest) f
 string_body_fault rest f e =
     let s = body_stops string_piece StringPiece 34 reads_string string_piece-nil 0 rest f e in
     (s.body, s.chars, s.after, ap (λ (t : List ℕ). 34 ∷ t) s.parts, s.spelled, string_piece_fault s.after f s.fault)
 
-pub string_body_stops : (body cs rest : List ℕ) (f : Fault) → Spells StringPiece body cs → StringStop rest f → string_body_at (body ++ rest) ≡ Err f
+pub string_body_stops : (body cs rest : List ℕ) (f : TextFault) → Spells StringPiece body cs → StringStop rest f → string_body_at (body ++ rest) ≡ Err f
 string_body_stops body cs rest f spelled stop = stops_again string_piece StringPiece 34 reads_string string_piece-nil body cs rest f spelled (string_piece_stops rest f stop)

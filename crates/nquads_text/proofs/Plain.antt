@@ -7,12 +7,12 @@ use Rattle.rdf_terms.specs.Iri.{is_forbidden}
 use Rattle.std.proofs.lemmas.Bool.{cases_lt}
 use Rattle.std.proofs.lemmas.Bool.Decides.{nat_tests}
 use Rattle.nquads_text.specs.declared.fault.TextKind.TheVariants.{Truncated}
-use Rattle.nquads_text.specs.Fault.{Read}
+use Rattle.nquads_text.specs.Fault.{TextRead}
 use Rattle.nquads_text.specs.Reading.{char_at, iri_piece, string_piece, is_plain_iri, is_plain_string, with_front, pieces_at}
 use Rattle.nquads_text.proofs.Fronts.{char_at-ascii}
 use Rattle.nquads_text.proofs.Runs.{pieces-step, with_front-twice}
 
-pub with_nothing : (read : Read (List ℕ)) → read ≡ with_front [] read
+pub with_nothing : (read : TextRead (List ℕ)) → read ≡ with_front [] read
 with_nothing (Ok x) = refl
 with_nothing (Err e) = refl
 
@@ -23,12 +23,12 @@ plus_one : (at n : ℕ) → (at + 1) + n ≡ at + suc n
 plus_one at n = omega arith
 
 -- a byte that stands for itself as a piece of a token
-pub record StandsForItself (piece : List ℕ → Read (Option ℕ)) (b : ℕ) : Type 0 where
+pub record StandsForItself (piece : List ℕ → TextRead (Option ℕ)) (b : ℕ) : Type 0 where
   pub low : b < 128
   pub is : (rest : List ℕ) → piece (b ∷ rest) ≡ Ok (Some b, rest)
 
 -- runs of such bytes, for any kind of token
-module _ (piece : List ℕ → Read (Option ℕ)) (plain : ℕ → Bool) (stands : (b : ℕ) → IsTrue (plain b) → StandsForItself piece b) where
+module _ (piece : List ℕ → TextRead (Option ℕ)) (plain : ℕ → Bool) (stands : (b : ℕ) → IsTrue (plain b) → StandsForItself piece b) where
   plain_step : (b : ℕ) (rest : List ℕ) → StandsForItself piece b → pieces_at piece 0 (b ∷ rest) ≡ with_front (b ∷ []) (pieces_at piece 0 rest)
   plain_step b rest p =
       pieces-step piece (b ∷ rest) (Some b) 1 (omega arith) (omega arith) (p.is rest)
@@ -63,7 +63,7 @@ module _ (piece : List ℕ → Read (Option ℕ)) (plain : ℕ → Bool) (stands
       IsUtf8-from_ascii (take n (drop at text)) (λ i. ascii_at text n at i (λ k low high. all k low (omega arith)))
 
   -- what was read before, and then such bytes
-  pub plain_more : (text out : List ℕ) (at run : ℕ) (total : Read (List ℕ)) → at ≤ run → run ≤ length text → ((k : ℕ) → at ≤ k → k < run → IsTrue (plain (get_or text k 0)))
+  pub plain_more : (text out : List ℕ) (at run : ℕ) (total : TextRead (List ℕ)) → at ≤ run → run ≤ length text → ((k : ℕ) → at ≤ k → k < run → IsTrue (plain (get_or text k 0)))
       → with_front out (pieces_at piece 0 (drop at text)) ≡ total → with_front (out ++ take (run - at) (drop at text)) (pieces_at piece 0 (drop run text)) ≡ total
   plain_more text out at run total low high all so_far =
       let n : ℕ = run - at in

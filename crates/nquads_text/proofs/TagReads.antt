@@ -8,7 +8,7 @@ use Rattle.std.proofs.lemmas.List.{map-append, length-map, length-append, append
 use Rattle.std.proofs.lemmas.List.Folds.{list_all-append}
 use Rattle.rdf_terms.specs.Tag.{IsWord, AreWords, TagForm, lower}
 use Rattle.nquads_text.specs.declared.fault.TextKind.TheVariants.{Truncated, BadLang}
-use Rattle.nquads_text.specs.Fault.{Fault, Read, ◌>>=◌}
+use Rattle.nquads_text.specs.Fault.{TextFault, TextRead, ◌>>=◌}
 use Rattle.nquads_text.specs.Reading.{char_at, with_front}
 use Rattle.nquads_text.specs.Terms.{tag_at, is_tag_byte}
 use Rattle.nquads_text.specs.Grammar.{CharAt, StartsWith, Longest, LangTag}
@@ -63,7 +63,7 @@ parts_read : (first : Bool) (start : List ℕ) (parts : List (List ℕ)) (more :
 parts_read first start [] more w = with_nothing (tag_at first true start more)
 parts_read first start (part ∷ parts) more w =
     let left : List ℕ = dashed parts ++ more in
-    let end : Read (List ℕ) = tag_at false true start more in
+    let end : TextRead (List ℕ) = tag_at false true start more in
     dash_read first start ((part ++ dashed parts) ++ more)
     ∙ ap (λ (t : List ℕ). with_front (45 ∷ []) (tag_at false false start t)) (append_assoc part (dashed parts) more)
     ∙ ap (with_front (45 ∷ [])) (word_read false false start part left w.0 ∙ ap (with_front (lower part)) (parts_read false start parts more w.1 ∙ ap (λ (k : Bool). with_front (lower (dashed parts)) (tag_at k true start more)) (alone_false parts)) ∙ with_front-twice (lower part) (lower (dashed parts)) end)
@@ -73,7 +73,7 @@ parts_read first start (part ∷ parts) more w =
 pub tag_front : (start tag more : List ℕ) (t : TagForm tag) → tag_at true false start (tag ++ more) ≡ with_front (lower tag) (tag_at (alone true t.1) true start more)
 tag_front start tag more t =
     let first = t.0 in let parts = t.1 in
-    let end : Read (List ℕ) = tag_at (alone true parts) true start more in
+    let end : TextRead (List ℕ) = tag_at (alone true parts) true start more in
     ap (λ (s : List ℕ). tag_at true false start (s ++ more)) t.4
     ∙ ap (tag_at true false start) (append_assoc first (dashed parts) more)
     ∙ word_read true false start first (dashed parts ++ more) t.2
@@ -133,7 +133,7 @@ lang_tag_is_read rest tag after t =
 
 -- ---- what is read is the longest tag
 
-front_short : (front : List ℕ) (read : Read (List ℕ)) (y : List ℕ × List ℕ) → with_front front read ≡ Ok y → length front ≤ length y.0
+front_short : (front : List ℕ) (read : TextRead (List ℕ)) (y : List ℕ × List ℕ) → with_front front read ≡ Ok y → length front ≤ length y.0
 front_short front read y e =
     let p = bind_ok read (λ (x : List ℕ × List ℕ). Ok (front ++ x.0, x.1)) y e in
     let l : length (front ++ p.0.0) ≡ length y.0 = ap (λ (v : List ℕ × List ℕ). length v.0) (ok_is (front ++ p.0.0, p.0.1) y p.2) in
@@ -221,7 +221,7 @@ low_sign c e = grind (arith, nat_tests)
 long_sign : (c : ℕ) → 128 ≤ c → is_ascii_alphanumeric c ≡ false
 long_sign c le = grind (arith, nat_tests)
 
-abbrev failure : Fault → Read (List ℕ)
+abbrev failure : TextFault → TextRead (List ℕ)
 failure g = Err g
 
 -- whether a byte or a character of a word stands there is the same
@@ -240,42 +240,42 @@ char_fits first b rest x read no_byte =
     long_none false c le = long_sign c le
 
 -- where the rest of a tag stops
-data TagStops (first some : Bool) (start rest : List ℕ) (f : Fault) : Type 0 where
+data TagStops (first some : Bool) (start rest : List ℕ) (f : TextFault) : Type 0 where
   at_once : some ≡ false → Lacks (is_tag_byte first) rest (BadLang, start) f → TagStops first some start rest f
   behind_dash : (word after : List ℕ) (parts : List (List ℕ)) → rest ≡ (word ++ dashed parts) ++ 45 ∷ after → list_all (is_tag_byte first) word ≡ true → (some ≡ false → 0 < length word)
       → AreWords is_ascii_alphanumeric parts → Lacks is_ascii_alphanumeric after (BadLang, start) f → TagStops first some start rest f
 
-fine_end : (start : List ℕ) (f : Fault) (first : Bool) → tag_at first true start [] ≡ Err f → ⊥
+fine_end : (start : List ℕ) (f : TextFault) (first : Bool) → tag_at first true start [] ≡ Err f → ⊥
 unfolding tag_at
 fine_end start f first e = not_both ([], []) f e
 
-inner_fault : (front : List ℕ) (read : Read (List ℕ)) (f : Fault) → with_front front read ≡ Err f → read ≡ Err f
+inner_fault : (front : List ℕ) (read : TextRead (List ℕ)) (f : TextFault) → with_front front read ≡ Err f → read ≡ Err f
 inner_fault front (Ok x) f e = absurd (not_both (front ++ x.0, x.1) f e)
 inner_fault front (Err g) f e = ap failure (err_is g f (same g f e))
   where
-    same : (g f : Fault) → with_front front (Err g) ≡ Err f → failure g ≡ Err f
+    same : (g f : TextFault) → with_front front (Err g) ≡ Err f → failure g ≡ Err f
     same g f e = e
 
-with_letter : (first some : Bool) (start : List ℕ) (b : ℕ) (rest : List ℕ) (f : Fault) → is_tag_byte first b ≡ true → TagStops first true start rest f → TagStops first some start (b ∷ rest) f
+with_letter : (first some : Bool) (start : List ℕ) (b : ℕ) (rest : List ℕ) (f : TextFault) → is_tag_byte first b ≡ true → TagStops first true start rest f → TagStops first some start (b ∷ rest) f
 with_letter first some start b rest f fits (TagStops.at_once bad l) = absurd (false≢true (sym bad))
 with_letter first some start b rest f fits (TagStops.behind_dash word after parts shape letters enough others l) =
     TagStops.behind_dash (b ∷ word) after parts (ap (λ (t : List ℕ). b ∷ t) shape) (rw (fits, letters) refl) (λ _. omega arith) others l
 
-with_dash : (first some : Bool) (start : List ℕ) (b : ℕ) (rest : List ℕ) (f : Fault) → some ≡ true → b ≡ 45 → TagStops false false start rest f → TagStops first some start (b ∷ rest) f
+with_dash : (first some : Bool) (start : List ℕ) (b : ℕ) (rest : List ℕ) (f : TextFault) → some ≡ true → b ≡ 45 → TagStops false false start rest f → TagStops first some start (b ∷ rest) f
 with_dash first some start b rest f is_some dash (TagStops.at_once none l) =
     TagStops.behind_dash [] rest [] (ap (λ (d : ℕ). d ∷ rest) dash) refl (λ none. absurd (false≢true (sym none ∙ is_some))) tt l
 with_dash first some start b rest f is_some dash (TagStops.behind_dash word after parts shape letters enough others l) =
     TagStops.behind_dash [] after (word ∷ parts) (ap (λ (t : List ℕ). b ∷ t) shape ∙ ap (λ (d : ℕ). d ∷ ((word ++ dashed parts) ++ 45 ∷ after)) dash) refl
     (λ none. absurd (false≢true (sym none ∙ is_some))) ((enough refl, letters), others) l
 
-no_letter_there : (first : Bool) (start : List ℕ) (b : ℕ) (rest : List ℕ) (f : Fault) → is_tag_byte first b ≡ false → (char_at (b ∷ rest) >>= λ (c : ℕ × List ℕ). failure (BadLang, start)) ≡ Err f → TagStops first false start (b ∷ rest) f
+no_letter_there : (first : Bool) (start : List ℕ) (b : ℕ) (rest : List ℕ) (f : TextFault) → is_tag_byte first b ≡ false → (char_at (b ∷ rest) >>= λ (c : ℕ × List ℕ). failure (BadLang, start)) ≡ Err f → TagStops first false start (b ∷ rest) f
 no_letter_there first start b rest f no_byte e =
     TagStops.at_once refl (⊎_elim
     (λ none. Lacks.nothing (char_fault (b ∷ rest) f none))
     (λ there. Lacks.another there.0.0 there.0.1 (char_spelled (b ∷ rest) there.0.0 there.0.1 there.1) (char_fits first b rest there.0 there.1 no_byte) (sym (err_is (BadLang, start) f there.2)))
     (bind_err (char_at (b ∷ rest)) (λ (c : ℕ × List ℕ). Err (BadLang, start)) f e))
 
-tag_fault_by : (first some : Bool) (start rest : List ℕ) (f : Fault) → tag_at first some start rest ≡ Err f → TagStops first some start rest f
+tag_fault_by : (first some : Bool) (start rest : List ℕ) (f : TextFault) → tag_at first some start rest ≡ Err f → TagStops first some start rest f
 unfolding tag_at
 tag_fault_by first true start [] f e = absurd (fine_end start f first e)
 tag_fault_by first false start [] f e = TagStops.at_once refl (Lacks.nothing (NoCharacter.ends refl (sym (err_is (Truncated, []) f e))))
@@ -293,7 +293,7 @@ tag_fault_by first false start (b ∷ rest) f e =
     (λ other. no_letter_there first start b rest f other.0 other.1)
     (chosen (is_tag_byte first b) (with_front (to_ascii_lowercase b ∷ []) (tag_at first true start rest)) (char_at (b ∷ rest) >>= λ (c : ℕ × List ℕ). Err (BadLang, start)) (Err f) e)
 
-pub tag_fault : (rest : List ℕ) (f : Fault) → tag_at true false (64 ∷ rest) rest ≡ Err f → TagFault (64 ∷ rest) f
+pub tag_fault : (rest : List ℕ) (f : TextFault) → tag_at true false (64 ∷ rest) rest ≡ Err f → TagFault (64 ∷ rest) f
 tag_fault rest f e = by (tag_fault_by true false (64 ∷ rest) rest f e)
   where
     by : TagStops true false (64 ∷ rest) rest f → TagFault (64 ∷ rest) f
@@ -310,7 +310,7 @@ low_fits : (first : Bool) (b : ℕ) → is_tag_byte first b ≡ true → b < 128
 low_fits true b e = low_letter b e
 low_fits false b e = low_sign b e
 
-tag_lacks_by : (first : Bool) (start rest : List ℕ) (f : Fault) → Lacks (is_tag_byte first) rest (BadLang, start) f → tag_at first false start rest ≡ Err f
+tag_lacks_by : (first : Bool) (start rest : List ℕ) (f : TextFault) → Lacks (is_tag_byte first) rest (BadLang, start) f → tag_at first false start rest ≡ Err f
 unfolding tag_at
 tag_lacks_by first start [] f (Lacks.nothing n) = ap failure (err_is (Truncated, []) f (sym (no_character [] (Truncated, []) (NoCharacter.ends refl refl)) ∙ no_character [] f n))
 tag_lacks_by first start [] f (Lacks.another c after at misfit is) = absurd (no_text c after at)
@@ -325,9 +325,9 @@ tag_lacks_by first start (b ∷ rest) f (Lacks.another c after at misfit is) = b
     by true e =
         let same : (b, rest) ≡ (c, after) = ok_is (b, rest) (c, after) (sym (char_at-ascii b rest (low_fits first b e)) ∙ char_stands (b ∷ rest) c after at) in
         absurd (false≢true (sym misfit ∙ ap (λ (x : ℕ × List ℕ). is_tag_byte first x.0) (sym same) ∙ e))
-    by false e = rw (e, char_stands (b ∷ rest) c after at) (ap (λ (g : Fault). Err g) (sym is))
+    by false e = rw (e, char_stands (b ∷ rest) c after at) (ap (λ (g : TextFault). Err g) (sym is))
 
-pub tag_lacks : (rest : List ℕ) (f : Fault) → TagFault (64 ∷ rest) f → tag_at true false (64 ∷ rest) rest ≡ Err f
+pub tag_lacks : (rest : List ℕ) (f : TextFault) → TagFault (64 ∷ rest) f → tag_at true false (64 ∷ rest) rest ≡ Err f
 tag_lacks rest f (TagFault.first there shape l) =
     let same : there ≡ rest = cc in
     tag_lacks_by true (64 ∷ rest) rest f (subst (λ (t : List ℕ). Lacks is_ascii_alphabetic t (BadLang, 64 ∷ rest) f) same l)

@@ -6,8 +6,8 @@ use Rattle.rdf_terms.specs.declared.term.Term.{Term}
 use Rattle.rdf_terms.specs.declared.term.Term.TheVariants as term
 use Rattle.nquads_text.specs.declared.fault.ReadFault.{ReadFault}
 use Rattle.nquads_text.specs.declared.fault.ReadFault.TheVariants as faults
-use Rattle.nquads_text.specs.Fault.{Fault, Gives, FailsBy, IsAnswer, IsFaultAnswer}
-use Rattle.nquads_text.specs.Faults.{TermFault}
+use Rattle.nquads_text.specs.Fault.{TextFault, Gives, FailsBy, IsAnswer, IsFaultAnswer}
+use Rattle.nquads_text.specs.Faults.{AnyTermFault}
 use Rattle.nquads_text.specs.Grammar.{IriRef, Suffix, TermAt}
 use Rattle.nquads_text.specs.Terms.{term_at}
 use Rattle.nquads_text.proofs.Steps.{not_both, ok_is}
@@ -67,13 +67,13 @@ answer_only text at (Ok r) g t after is =
 answer_only text at (Err (faults.At place kind)) g t after is = absurd (not_both (t, after) (kind, drop place text) (sym (term_is_read (drop at text) t after is) ∙ g.0))
 answer_only text at (Err faults.OutOfMemory) g t after is = refl
 
-pub answer_fault : (text : List ℕ) (at : ℕ) (result : Result (Term × ℕ) ReadFault) → TermGiven text at result → IfErr result (FailsBy (TermFault (drop at text)) text)
+pub answer_fault : (text : List ℕ) (at : ℕ) (result : Result (Term × ℕ) ReadFault) → TermGiven text at result → IfErr result (FailsBy (AnyTermFault (drop at text)) text)
 answer_fault text at (Ok r) g = tt
 answer_fault text at (Err (faults.At place kind)) g = (term_fault (drop at text) (kind, drop place text) g.0, g.1)
 answer_fault text at (Err faults.OutOfMemory) g = tt
 
 pub answer_only_fault : (text : List ℕ) (at : ℕ) (result : Result (Term × ℕ) ReadFault) → TermGiven text at result
-    → (f : Fault) → TermFault (drop at text) f → IsFaultAnswer text result f
+    → (f : TextFault) → AnyTermFault (drop at text) f → IsFaultAnswer text result f
 answer_only_fault text at (Ok r) g f is = not_both (r.0, drop r.1 text) f (sym g.0 ∙ term_fault_is_met (drop at text) f is)
 answer_only_fault text at (Err (faults.At place kind)) g f is = same_fault (kind, drop place text) f (sym g.0 ∙ term_fault_is_met (drop at text) f is)
 answer_only_fault text at (Err faults.OutOfMemory) g f is = tt

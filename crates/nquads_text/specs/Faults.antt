@@ -12,7 +12,7 @@ use Rattle.nquads_text.specs.declared.fault.TextKind.TheVariants.{NotUtf8, BadIr
 use Rattle.nquads_text.specs.declared.fault.TextKind.TheVariants.{BadEscape, BadLabel, BadLang}
 use Rattle.nquads_text.specs.declared.fault.TextKind.TheVariants.{LangStringWithoutTag}
 use Rattle.nquads_text.specs.declared.fault.TextKind.TheVariants.{BadToken, Truncated}
-use Rattle.nquads_text.specs.Fault.{Fault}
+use Rattle.nquads_text.specs.Fault.{TextFault}
 use Rattle.nquads_text.specs.Grammar.{CharAt, StartsWith, is_blank, AreBlanks}
 use Rattle.nquads_text.specs.Grammar.{is_hex, UcharForm, IsUchar, echar, IriPiece}
 use Rattle.nquads_text.specs.Grammar.{StringPiece, Spells, IsString, DatatypeAt}
@@ -24,12 +24,12 @@ abbrev pub IsIllFormed : List ℕ → Type 0
 IsIllFormed text = (text ≡ [] → ⊥) × ((c : ℕ) (after : List ℕ) → CharAt text c after → ⊥)
 
 -- there is none: the text ends, or a sequence stands there that is no UTF-8
-pub data NoCharacter (rest : List ℕ) (f : Fault) : Type 0 where
+pub data NoCharacter (rest : List ℕ) (f : TextFault) : Type 0 where
   ends : rest ≡ [] → f ≡ (Truncated, []) → NoCharacter rest f
   ill_formed : IsIllFormed rest → f ≡ (NotUtf8, rest) → NoCharacter rest f
 
 -- one of this kind is needed: there is none, or another one, whose fault is `other`
-pub data Lacks (fits : ℕ → Bool) (rest : List ℕ) (other f : Fault) : Type 0 where
+pub data Lacks (fits : ℕ → Bool) (rest : List ℕ) (other f : TextFault) : Type 0 where
   nothing : NoCharacter rest f → Lacks fits rest other f
   another : (c : ℕ) (after : List ℕ) → CharAt rest c after → fits c ≡ false
       → f ≡ other → Lacks fits rest other f
@@ -50,7 +50,7 @@ is_escape_letter c = is_some (echar c) || is_uchar_letter c
 
 -- the fault of an escape, whose backslash is the text's first byte and whose letter has to be
 -- one that fits
-pub data EscapeFault (fits : ℕ → Bool) (text : List ℕ) (f : Fault) : Type 0 where
+pub data EscapeFault (fits : ℕ → Bool) (text : List ℕ) (f : TextFault) : Type 0 where
   -- no letter of an escape
   letter : (rest : List ℕ) → text ≡ 92 ∷ rest → Lacks fits rest (BadEscape, text) f
       → EscapeFault fits text f
@@ -65,13 +65,13 @@ pub data EscapeFault (fits : ℕ → Bool) (text : List ℕ) (f : Fault) : Type 
 -- ---- IRIREF and strings
 
 -- behind an opening byte and whole pieces something stands that is none
-abbrev pub StopsInside : (List ℕ → ℕ → Type 0) → (List ℕ → Fault → Type 0)
-    → ℕ → List ℕ → Fault → Type 0
+abbrev pub StopsInside : (List ℕ → ℕ → Type 0) → (List ℕ → TextFault → Type 0)
+    → ℕ → List ℕ → TextFault → Type 0
 StopsInside Piece Stop open_byte text f = (body cs rest : List ℕ)
     × (text ≡ open_byte ∷ (body ++ rest)) × Spells Piece body cs × Stop rest f
 
 -- what stops an IRIREF
-pub data IriStop (rest : List ℕ) (f : Fault) : Type 0 where
+pub data IriStop (rest : List ℕ) (f : TextFault) : Type 0 where
   nothing : NoCharacter rest f → IriStop rest f
   -- a forbidden character, but for the closing `>` and a backslash
   forbidden : (c : ℕ) (after : List ℕ) → CharAt rest c after → IsTrue (is_forbidden c)
@@ -82,7 +82,7 @@ pub data IriStop (rest : List ℕ) (f : Fault) : Type 0 where
       → IsTrue (is_forbidden c) → f ≡ (BadIri, rest) → IriStop rest f
 
 -- the fault of an IRIREF, whose `<` is the text's first byte
-pub data IriFault (text : List ℕ) (f : Fault) : Type 0 where
+pub data IriFault (text : List ℕ) (f : TextFault) : Type 0 where
   inside : StopsInside IriPiece IriStop 60 text f → IriFault text f
   -- a whole one without a scheme
   relative : (body cs after : List ℕ) → text ≡ 60 ∷ (body ++ 62 ∷ after)
@@ -90,7 +90,7 @@ pub data IriFault (text : List ℕ) (f : Fault) : Type 0 where
       → f ≡ (RelativeIri, text) → IriFault text f
 
 -- what stops a string
-pub data StringStop (rest : List ℕ) (f : Fault) : Type 0 where
+pub data StringStop (rest : List ℕ) (f : TextFault) : Type 0 where
   nothing : NoCharacter rest f → StringStop rest f
   -- a raw line feed or carriage return
   line_end : (c : ℕ) (after : List ℕ) → IsTrue (c == 10 || c == 13) → rest ≡ c ∷ after
@@ -98,13 +98,13 @@ pub data StringStop (rest : List ℕ) (f : Fault) : Type 0 where
   escape : EscapeFault is_escape_letter rest f → StringStop rest f
 
 -- the fault of a string, whose opening quote is the text's first byte
-abbrev pub StringFault : List ℕ → Fault → Type 0
+abbrev pub StringFault : List ℕ → TextFault → Type 0
 StringFault text f = StopsInside StringPiece StringStop 34 text f
 
 -- ---- blank nodes and literals
 
 -- the fault of a blank node, whose `_` is the text's first byte
-pub data LabelFault (text : List ℕ) (f : Fault) : Type 0 where
+pub data LabelFault (text : List ℕ) (f : TextFault) : Type 0 where
   -- no `:` behind the `_`
   colon : (rest : List ℕ) → text ≡ 95 ∷ rest → Lacks (λ c. c == 58) rest (BadLabel, text) f
       → LabelFault text f
@@ -113,7 +113,7 @@ pub data LabelFault (text : List ℕ) (f : Fault) : Type 0 where
       → LabelFault text f
 
 -- the fault of a language tag, whose `@` is the text's first byte
-pub data TagFault (text : List ℕ) (f : Fault) : Type 0 where
+pub data TagFault (text : List ℕ) (f : TextFault) : Type 0 where
   -- no letter behind the `@`
   first : (rest : List ℕ) → text ≡ 64 ∷ rest
       → Lacks is_ascii_alphabetic rest (BadLang, text) f → TagFault text f
@@ -122,7 +122,7 @@ pub data TagFault (text : List ℕ) (f : Fault) : Type 0 where
       → Lacks is_ascii_alphanumeric rest (BadLang, text) f → TagFault text f
 
 -- the fault of a datatype, whose first `^` stands behind any blanks
-pub data DatatypeFault (text : List ℕ) (f : Fault) : Type 0 where
+pub data DatatypeFault (text : List ℕ) (f : TextFault) : Type 0 where
   -- no second `^`
   hat : (blanks rest : List ℕ) → AreBlanks blanks → text ≡ blanks ++ 94 ∷ rest
       → Lacks (λ c. c == 94) rest (BadToken, rest) f → DatatypeFault text f
@@ -135,7 +135,7 @@ pub data DatatypeFault (text : List ℕ) (f : Fault) : Type 0 where
       → text ≡ blanks ++ 94 ∷ 94 ∷ (between ++ rest) → IriFault rest f → DatatypeFault text f
 
 -- the fault of a literal, whose opening quote is the text's first byte
-pub data LiteralFault (text : List ℕ) (f : Fault) : Type 0 where
+pub data LiteralFault (text : List ℕ) (f : TextFault) : Type 0 where
   string : StringFault text f → LiteralFault text f
   tag : (bytes lexical behind : List ℕ) → IsString bytes lexical → text ≡ bytes ++ behind
       → TagFault behind f → LiteralFault text f
@@ -153,8 +153,8 @@ abbrev pub begins_term : ℕ → Bool
 begins_term c = c == 60 || c == 95 || c == 34
 
 -- the first fault of a text where a term is needed
-pub data TermFault (text : List ℕ) (f : Fault) : Type 0 where
-  no_term : Lacks begins_term text (BadToken, text) f → TermFault text f
-  iri : IriFault text f → TermFault text f
-  blank : LabelFault text f → TermFault text f
-  literal : LiteralFault text f → TermFault text f
+pub data AnyTermFault (text : List ℕ) (f : TextFault) : Type 0 where
+  no_term : Lacks begins_term text (BadToken, text) f → AnyTermFault text f
+  iri : IriFault text f → AnyTermFault text f
+  blank : LabelFault text f → AnyTermFault text f
+  literal : LiteralFault text f → AnyTermFault text f

@@ -1,11 +1,11 @@
 //! Terms: IRIs, literals and blank nodes.
 
 ghost use Rattle.std.specs.Prelude.{◌≡◌, ◌<◌, ◌≤◌, ℕ, List, length, drop, IfOk, IfErr};
-ghost use Rattle.nquads_text.specs.Fault.{Fault, Gives, FailsBy, IsAnswer, IsFaultAnswer};
-ghost use Rattle.nquads_text.specs.Faults.{TermFault};
+ghost use Rattle.nquads_text.specs.Fault.{TextFault, Gives, FailsBy, IsAnswer, IsFaultAnswer};
+ghost use Rattle.nquads_text.specs.Faults.{AnyTermFault};
 ghost use Rattle.nquads_text.specs.Grammar.{TermAt};
 ghost use Rattle.nquads_text.specs.Terms.{iri_at, iri_needed as iri_needed_at};
-ghost use Rattle.nquads_text.specs.Terms.{skip_blanks as behind_blanks, kind_of as kind_for};
+ghost use Rattle.nquads_text.specs.Terms.{skip_blanks as behind_blanks, kind_given};
 ghost use Rattle.nquads_text.specs.Terms.{datatype_at, suffix_at, typed_at, literal_at, term_at};
 ghost use Rattle.rdf_terms.specs.declared.term.Term.{Term};
 
@@ -80,7 +80,7 @@ fn kind_of(
     requires begins { start ≤ length text.now }
     requires within { end ≤ length text.now }
     ensures { Gives text.now (λ k. k) result
-        (kind_for (drop start text.now) iri (drop end text.now)) }
+        (kind_given (drop start text.now) iri (drop end text.now)) }
 {
     match LiteralKind::of_datatype(iri) {
         Ok(kind) => Ok((kind, end)),
@@ -204,8 +204,8 @@ pub fn read_term(alloc: Global, text: &[u8], at: usize) -> Result<(Term, usize),
         × (at < r.1) × (r.1 ≤ length text.now)) }
     ensures only { (t : Term) (after : List ℕ) → TermAt (drop at text.now) t after
         → IsAnswer text.now result t after }
-    ensures fault { IfErr result (FailsBy (TermFault (drop at text.now)) text.now) }
-    ensures only_fault { (f : Fault) → TermFault (drop at text.now) f
+    ensures fault { IfErr result (FailsBy (AnyTermFault (drop at text.now)) text.now) }
+    ensures only_fault { (f : TextFault) → AnyTermFault (drop at text.now) f
         → IsFaultAnswer text.now result f }
     ensures gives { Gives text.now (λ t. t) result (term_at (drop at text.now)) }
 {

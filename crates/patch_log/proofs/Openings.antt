@@ -7,17 +7,17 @@ use Rattle.delta_base.specs.declared.limits.TheConstants.{PATCH_LIMIT}
 use Rattle.chain_core.specs.declared.chain.Patch.{Patch}
 use Rattle.chain_core.specs.declared.chain.Entry.{Entry}
 use Rattle.chain_core.specs.declared.link.Link.{Link}
-use Rattle.chain_core.specs.Chain.{IsKept}
+use Rattle.chain_core.specs.Chain.{IsBoundedChain}
 use Rattle.chain_core.specs.Links.{IsChain}
 use Rattle.chain_core.specs.Patches.{patch_of, patches_of, links_of, texts_of, version_of, last_id}
 use Rattle.chain_core.proofs.Fronts.{links-front}
 use Rattle.chain_core.proofs.Versions.{links_of-entries}
 use Rattle.chain_core.proofs.Patches.{patches_of-push}
 use Rattle.chain_core.proofs.Stays.{links-push}
-use Rattle.delta_base.specs.Journals.{journal_length as payloads_length}
+use Rattle.delta_base.specs.Journals.{payloads_length}
 use Rattle.patch_log.specs.Log.{IsSound, IsSoundLog, AreChained}
 use Rattle.chain_core.specs.Breaks.{BreaksAt}
-use Rattle.patch_log.specs.Opening.{GoesOn, IsNextOf, AreFound}
+use Rattle.patch_log.specs.Opening.{MayJoin, IsNextInLog, AreFoundEntries}
 use Rattle.patch_log.proofs.Sound.{heads, one_sound, one_list, texts_of-push, sound-push, sound-front, sound_short, chained-take}
 
 abbrev brought : Patch → Entry
@@ -25,18 +25,18 @@ brought patch = record { patch = patch; by = 0 }
 
 -- a text is that of one patch
 one_next : (patches : List Patch) (text : List ℕ) (most : ℕ) (link : Link) → IsSound (record { id = link.id; prev = link.prev; text = text })
-    → (patch : Patch) → GoesOn patches text most patch → patch ≡ record { id = link.id; prev = link.prev; text = text }
+    → (patch : Patch) → MayJoin patches text most patch → patch ≡ record { id = link.id; prev = link.prev; text = text }
 one_next patches text most link sound patch next = one_sound patch (record { id = link.id; prev = link.prev; text = text }) next.text_is next.sound sound
 
 -- a text that is a patch which doesn't name the last of the others
 pub not_next : (patches : List Patch) (text : List ℕ) (most : ℕ) (link : Link) → IsSound (record { id = link.id; prev = link.prev; text = text }) → (link.prev ≡ last_id patches → ⊥)
-    → (patch : Patch) → IsNextOf patches text most patch → ⊥
+    → (patch : Patch) → IsNextInLog patches text most patch → ⊥
 not_next patches text most link sound none patch next =
     none (ap (λ (p : Patch). p.prev) (sym (one_next patches text most link sound patch next.goes_on)) ∙ next.goes_on.follows)
 
 -- a text that is a patch whose id one of the others has
 pub not_new : (patches : List Patch) (text : List ℕ) (most : ℕ) (link : Link) → IsSound (record { id = link.id; prev = link.prev; text = text }) → (version_of patches link.id ≡ None → ⊥)
-    → (patch : Patch) → IsNextOf patches text most patch → ⊥
+    → (patch : Patch) → IsNextInLog patches text most patch → ⊥
 not_new patches text most link sound none patch next =
     none (ap (λ (p : Patch). version_of patches p.id) (sym (one_next patches text most link sound patch next.goes_on)) ∙ next.new)
 
@@ -59,8 +59,8 @@ has_last (patch ∷ patches) (t ∷ texts) text same =
     record { front = patch ∷ rest.front; last = rest.last; parts = ap (λ (ps : List Patch). patch ∷ ps) rest.parts; front_texts = ap (λ (t : List ℕ). t ∷ texts_of rest.front) parts.0 ∙ ap (λ (ts : List (List ℕ)). t ∷ ts) rest.front_texts; last_text = rest.last_text }
 
 -- where no patch is next, the texts are no chain
-no_chain : (texts : List (List ℕ)) (text : List ℕ) (most : ℕ) (entries : List Entry) → AreFound texts most entries
-    → ((patch : Patch) → IsNextOf (patches_of entries) text most patch → ⊥) → AreChained most (texts ++ text ∷ []) → ⊥
+no_chain : (texts : List (List ℕ)) (text : List ℕ) (most : ℕ) (entries : List Entry) → AreFoundEntries texts most entries
+    → ((patch : Patch) → IsNextInLog (patches_of entries) text most patch → ⊥) → AreChained most (texts ++ text ∷ []) → ⊥
 no_chain texts text most entries found none are =
     let last = has_last are.patches texts text are.texts_are in
     let sound = sound-front last.front last.last (subst (λ (ps : List Patch). AllByRecursion IsSound ps) last.parts are.sound) in
@@ -77,11 +77,11 @@ no_chain texts text most entries found none are =
       new = ap (λ (ps : List Patch). version_of ps last.last.id) (sym same) ∙ next.new;
     })
 
-count_of : (texts : List (List ℕ)) (most : ℕ) (entries : List Entry) → AreFound texts most entries → length texts ≡ length entries
+count_of : (texts : List (List ℕ)) (most : ℕ) (entries : List Entry) → AreFoundEntries texts most entries → length texts ≡ length entries
 count_of texts most entries found = ap length (sym found.texts_are) ∙ length-map (patches_of entries) (λ (patch : Patch). patch.text) ∙ length-map entries patch_of
 
 -- what is found is a chain
-chained : (texts : List (List ℕ)) (most : ℕ) (entries : List Entry) → AreFound texts most entries → AreChained most texts
+chained : (texts : List (List ℕ)) (most : ℕ) (entries : List Entry) → AreFoundEntries texts most entries → AreChained most texts
 chained texts most entries found = record {
   patches = patches_of entries;
   texts_are = found.texts_are;
@@ -95,8 +95,8 @@ by_nobody-push [] entry all is = (is, tt)
 by_nobody-push (first ∷ entries) entry all is = (all.0, by_nobody-push entries entry all.1 is)
 
 -- one payload more
-pub found_more : (texts : List (List ℕ)) (text : List ℕ) (most : ℕ) (entries new : List Entry) (patch : Patch) → AreFound texts most entries → IsNextOf (patches_of entries) text most patch
-    → new ≡ entries ++ record { patch = patch; by = 0 } ∷ [] → AreFound (texts ++ text ∷ []) most new
+pub found_more : (texts : List (List ℕ)) (text : List ℕ) (most : ℕ) (entries new : List Entry) (patch : Patch) → AreFoundEntries texts most entries → IsNextInLog (patches_of entries) text most patch
+    → new ≡ entries ++ record { patch = patch; by = 0 } ∷ [] → AreFoundEntries (texts ++ text ∷ []) most new
 found_more texts text most entries new patch found next pushed =
     let patches : patches_of new ≡ patches_of entries ++ patch ∷ [] = ap patches_of pushed ∙ patches_of-push entries (brought patch) in
     record {
@@ -108,7 +108,7 @@ found_more texts text most entries new patch found next pushed =
     }
 
 -- the chain can take the next patch
-pub next_kept : (entries : List Entry) (text : List ℕ) (most : ℕ) (patch : Patch) → IsKept entries → IsNextOf (patches_of entries) text most patch → most < 2 ^ 32 → IsKept (entries ++ record { patch = patch; by = 0 } ∷ [])
+pub next_kept : (entries : List Entry) (text : List ℕ) (most : ℕ) (patch : Patch) → IsBoundedChain entries → IsNextInLog (patches_of entries) text most patch → most < 2 ^ 32 → IsBoundedChain (entries ++ record { patch = patch; by = 0 } ∷ [])
 next_kept entries text most patch kept next fits =
     let chain : IsChain (links_of (patches_of entries)) = subst IsChain (sym (links_of-entries entries)) kept.chain in
     let more : IsChain (links_of (patches_of (entries ++ brought patch ∷ []))) = subst (λ (ps : List Patch). IsChain (links_of ps)) (sym (patches_of-push entries (brought patch))) (links-push (patches_of entries) patch chain next.goes_on.follows next.new) in
@@ -122,8 +122,8 @@ next_kept entries text most patch kept next fits =
     short_more [] short = (subst (λ (t : List ℕ). length t ≤ PATCH_LIMIT) refl next.goes_on.sound.1.short, tt)
     short_more (e ∷ es) short = (short.0, short_more es short.1)
 
-pub found_none : (most : ℕ) (entries : List Entry) → entries ≡ [] → AreFound [] most entries
-found_none most entries none = subst (λ (es : List Entry). AreFound [] most es) (sym none) (record {
+pub found_none : (most : ℕ) (entries : List Entry) → entries ≡ [] → AreFoundEntries [] most entries
+found_none most entries none = subst (λ (es : List Entry). AreFoundEntries [] most es) (sym none) (record {
   texts_are = refl;
   sound = tt;
   chain = record { follow = tt; differ = tt };
@@ -132,8 +132,8 @@ found_none most entries none = subst (λ (es : List Entry). AreFound [] most es)
 })
 
 -- no patch is the next one
-pub breaks_at : (texts : List (List ℕ)) (text : List ℕ) (rest : List (List ℕ)) (most : ℕ) (entries : List Entry) → AreFound texts most entries
-    → ((patch : Patch) → IsNextOf (patches_of entries) text most patch → ⊥) → BreaksAt (AreChained most) (texts ++ text ∷ rest) (length entries + 1)
+pub breaks_at : (texts : List (List ℕ)) (text : List ℕ) (rest : List (List ℕ)) (most : ℕ) (entries : List Entry) → AreFoundEntries texts most entries
+    → ((patch : Patch) → IsNextInLog (patches_of entries) text most patch → ⊥) → BreaksAt (AreChained most) (texts ++ text ∷ rest) (length entries + 1)
 breaks_at texts text rest most entries found none =
     let count = count_of texts most entries found in
     let here : take (length entries + 1) (texts ++ text ∷ rest) ≡ texts ++ text ∷ [] =
@@ -151,7 +151,7 @@ breaks_at texts text rest most entries found none =
     front (t ∷ texts) more (suc n) fits = ap (λ (ts : List (List ℕ)). t ∷ ts) (front texts more n (omega (arith, fits)))
 
 -- what was found of a journal within its limit is a log
-pub found_log : (texts : List (List ℕ)) (limits : LogLimits) (entries : List Entry) → AreFound texts limits.patches entries → payloads_length texts ≤ limits.bytes → IsSoundLog limits (patches_of entries)
+pub found_log : (texts : List (List ℕ)) (limits : LogLimits) (entries : List Entry) → AreFoundEntries texts limits.patches entries → payloads_length texts ≤ limits.bytes → IsSoundLog limits (patches_of entries)
 found_log texts limits entries found fits = record {
   log = record {
     chain = found.chain;

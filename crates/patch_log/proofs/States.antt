@@ -4,7 +4,7 @@ use Rattle.std.proofs.lemmas.List.{length-map}
 use Rattle.disk_model.specs.declared.disk.Disk.{Ghosts}
 use Rattle.disk_model.specs.Past.{Past, EveryImage, LeavesOnly}
 use Rattle.disk_model.proofs.Moments.{starts}
-use Rattle.delta_base.specs.Journals.{journal_length as payloads_length}
+use Rattle.delta_base.specs.Journals.{payloads_length}
 use Rattle.log_journal.specs.Journal.{HoldsWithOrWithout}
 use Rattle.log_journal.specs.declared.journal.Journal.{Journal}
 use Rattle.log_journal.specs.StandsFor.{StandsFor, StandsInDoubt, Leaves, length_of, limit_of, is_settled, disk_of}
@@ -21,7 +21,7 @@ use Rattle.chain_core.specs.declared.answer.Decision.{Decision}
 use Rattle.chain_core.specs.declared.answer.Decision.TheVariants.{Accept, Known, Conflict, Full}
 use Rattle.chain_core.specs.declared.answer.LogAnswer.{LogAnswer}
 use Rattle.chain_core.specs.declared.answer.LogAnswer.TheVariants.{Accepted, DiskFault, OutOfMemory}
-use Rattle.chain_core.specs.Chain.{IsKept as IsKeptChain}
+use Rattle.chain_core.specs.Chain.{IsBoundedChain}
 use Rattle.chain_core.specs.Decision.{decision}
 use Rattle.chain_core.specs.Log.{up}
 use Rattle.chain_core.specs.Patches.{patch_of, patches_of, texts_of}
@@ -29,9 +29,9 @@ use Rattle.chain_core.specs.Stay.{answer_of, decided_by, accepted_by, fate_of, f
 use Rattle.chain_core.proofs.Decided.{IsAcceptable, accepted}
 use Rattle.chain_core.proofs.Fronts.{entries_kept}
 use Rattle.chain_core.proofs.Patches.{length-push, patches_of-push}
-use Rattle.patch_log.specs.Log.{payload_in, IsSound, IsSoundLog, MayHold, MayHoldDuring, StandsForLog}
-use Rattle.patch_log.specs.Opening.{AreFound}
-use Rattle.patch_log.specs.State.{IsKept}
+use Rattle.patch_log.specs.Log.{patch_payload, IsSound, IsSoundLog, MayHoldChain, MayHoldChainDuring, StandsForLog}
+use Rattle.patch_log.specs.Opening.{AreFoundEntries}
+use Rattle.patch_log.specs.State.{JournalKeepsChain}
 use Rattle.patch_log.proofs.Openings.{found_log}
 use Rattle.patch_log.proofs.Sound.{texts_of-push, log-push}
 
@@ -61,7 +61,7 @@ told_is (Conflict version head prev_version) other = record { not_accepted = λ 
 told_is (Full what have limit) other = record { not_accepted = λ v is. cc; no_fault = λ is. cc; no_want = λ is. cc }
 
 -- the text in doubt tells as much as the patch
-pub same_fate : (doubt : Option Patch) (syncs : ℕ) → fate_of (phase_by_syncs (payload_in doubt) syncs) ≡ fate_by_syncs doubt syncs
+pub same_fate : (doubt : Option Patch) (syncs : ℕ) → fate_of (phase_by_syncs (patch_payload doubt) syncs) ≡ fate_by_syncs doubt syncs
 same_fate None zero = refl
 same_fate None (suc zero) = refl
 same_fate None (suc (suc n)) = refl
@@ -70,13 +70,13 @@ same_fate (Some patch) (suc zero) = refl
 same_fate (Some patch) (suc (suc zero)) = refl
 same_fate (Some patch) (suc (suc (suc n))) = refl
 
-pub same_plan : (doubt : Option Patch) (plan : Option ℕ) → fate_of (phase_by_plan (payload_in doubt) plan) ≡ fate_by_plan doubt plan
+pub same_plan : (doubt : Option Patch) (plan : Option ℕ) → fate_of (phase_by_plan (patch_payload doubt) plan) ≡ fate_by_plan doubt plan
 same_plan doubt None = refl
 same_plan doubt (Some syncs) = same_fate doubt syncs
 
 -- ---- images
 
-pub still_during : (number : ℕ) (chain : List Patch) (doubt : Option Patch) (patch : Patch) (image : List ℕ) → MayHold number chain doubt image → MayHoldDuring number chain doubt patch image
+pub still_during : (number : ℕ) (chain : List Patch) (doubt : Option Patch) (patch : Patch) (image : List ℕ) → MayHoldChain number chain doubt image → MayHoldChainDuring number chain doubt patch image
 still_during number chain None patch image holds = inl holds
 still_during number chain (Some doubt) patch image holds = inl holds
 
@@ -85,30 +85,30 @@ true_or_false same = cc
 
 module _ {D : Type 0} {disks : Ghosts D} (number : ℕ) where
   pub during : (old new : Journal D disks) (chain : List Patch) (doubt : Option Patch) (patch : Patch) (payload : List ℕ) → payload ≡ patch.text
-      → Leaves (HoldsDuring number (texts_of chain) (payload_in doubt) payload) old new → disks.tells → LeavesOnly (MayHoldDuring number chain doubt patch) (disks.past (disk_of old)) (disks.past (disk_of new))
+      → Leaves (HoldsDuring number (texts_of chain) (patch_payload doubt) payload) old new → disks.tells → LeavesOnly (MayHoldChainDuring number chain doubt patch) (disks.past (disk_of old)) (disks.past (disk_of new))
   during old new chain None patch payload is leaves told = subst (λ (text : List ℕ). LeavesOnly (HoldsWithOrWithout number (texts_of chain) text) (disks.past (disk_of old)) (disks.past (disk_of new))) is (leaves told)
   during old new chain (Some doubt) patch payload is leaves told =
       subst (λ (text : List ℕ). LeavesOnly (λ image. HoldsWithOrWithout number (texts_of chain) doubt.text image ⊎ HoldsWithOrWithout number (texts_of chain) text image) (disks.past (disk_of old)) (disks.past (disk_of new))) is (leaves told)
 
-  pub each_holds : (journal : Journal D disks) (chain : List Patch) (doubt : Option Patch) → StandsWith journal number (texts_of chain) (payload_in doubt) → disks.tells → EveryImage (disks.past (disk_of journal)) (MayHold number chain doubt)
+  pub each_holds : (journal : Journal D disks) (chain : List Patch) (doubt : Option Patch) → StandsWith journal number (texts_of chain) (patch_payload doubt) → disks.tells → EveryImage (disks.past (disk_of journal)) (MayHoldChain number chain doubt)
   each_holds journal chain None stands told = (stands.1 told).each
   each_holds journal chain (Some doubt) stands told = λ image left.
       let all = stands.1 told in
       either (length_of journal) number (texts_of chain) doubt.text all.doubt_sized image all.sized (all.each image left)
 
   -- a settling that failed had a doubt
-  pub settling_fails : (journal : Journal D disks) (chain : List Patch) (doubt : Option Patch) (patch : Patch) → StandsWith journal number (texts_of chain) (payload_in doubt) → is_settled journal ≡ false → accepted_by (Fails Settling) chain doubt patch ≡ (up chain doubt, Some DiskFault)
+  pub settling_fails : (journal : Journal D disks) (chain : List Patch) (doubt : Option Patch) (patch : Patch) → StandsWith journal number (texts_of chain) (patch_payload doubt) → is_settled journal ≡ false → accepted_by (Fails Settling) chain doubt patch ≡ (up chain doubt, Some DiskFault)
   settling_fails journal chain None patch stands open_gate = absurd (true_or_false (sym stands.0 ∙ open_gate))
   settling_fails journal chain (Some doubt) patch stands open_gate = refl
 
 -- before any call
-pub no_call_yet : (past : Past) (number : ℕ) (limits : LogLimits) (chain : List Patch) (doubt : Option Patch) (patch : Patch) → StandsForLog past number limits chain doubt → LeavesOnly (MayHoldDuring number chain doubt patch) past past
-no_call_yet past number limits chain doubt patch stands = starts (MayHoldDuring number chain doubt patch) past (λ image left. still_during number chain doubt patch image (stands.each image left))
+pub no_call_yet : (past : Past) (number : ℕ) (limits : LogLimits) (chain : List Patch) (doubt : Option Patch) (patch : Patch) → StandsForLog past number limits chain doubt → LeavesOnly (MayHoldChainDuring number chain doubt patch) past past
+no_call_yet past number limits chain doubt patch stands = starts (MayHoldChainDuring number chain doubt patch) past (λ image left. still_during number chain doubt patch image (stands.each image left))
 
 -- ---- opening
 
 pub opened_kept : {D : Type 0} {disks : Ghosts D} (journal : Journal D disks) (number : ℕ) (limits : LogLimits) (payloads : List (List ℕ)) (entries : List Entry) → StandsFor journal number payloads → length_of journal ≡ payloads_length payloads → length_of journal ≤ limits.bytes
-    → limit_of journal ≡ limits.bytes → limits.patches < 2 ^ 32 → AreFound payloads limits.patches entries → IsKept journal (patches_of entries) None number limits
+    → limit_of journal ≡ limits.bytes → limits.patches < 2 ^ 32 → AreFoundEntries payloads limits.patches entries → JournalKeepsChain journal (patches_of entries) None number limits
 opened_kept journal number limits payloads entries stands length_is within limit_is countable found =
     let log = found_log payloads limits entries found (omega (arith, length_is, within)) in
     record {
@@ -122,7 +122,7 @@ opened_kept journal number limits payloads entries stands length_is within limit
 
 -- ---- appends
 
-module _ {D : Type 0} {disks : Ghosts D} (journal new : Journal D disks) (entries : List Entry) (doubt : Option Patch) (number : ℕ) (limits : LogLimits) (kept : IsKept journal (patches_of entries) doubt number limits) where
+module _ {D : Type 0} {disks : Ghosts D} (journal new : Journal D disks) (entries : List Entry) (doubt : Option Patch) (number : ℕ) (limits : LogLimits) (kept : JournalKeepsChain journal (patches_of entries) doubt number limits) where
   abbrev chain : List Patch
   chain = patches_of entries
 
@@ -143,7 +143,7 @@ module _ {D : Type 0} {disks : Ghosts D} (journal new : Journal D disks) (entrie
     version_is = (accepted chain patch limits version (sym is)).1
 
     -- the chain can take the patch
-    pub chain_kept : (by : ℕ) → IsKeptChain (entries ++ record { patch = patch; by = by } ∷ [])
+    pub chain_kept : (by : ℕ) → IsBoundedChain (entries ++ record { patch = patch; by = by } ∷ [])
     chain_kept by =
         let entry : Entry = record { patch = patch; by = by } in
         let log : IsSoundLog limits (patches_of (entries ++ entry ∷ [])) = subst (λ (ps : List Patch). IsSoundLog limits ps) (sym (patches_of-push entries entry)) more in
@@ -154,10 +154,10 @@ module _ {D : Type 0} {disks : Ghosts D} (journal new : Journal D disks) (entrie
 
     -- it was added
     pub kept_done : (by : ℕ) → StandsWith new number (texts_of chain ++ payload ∷ []) None → length_of new ≡ length_of journal + (5 + length payload) → limit_of new ≡ limit_of journal
-        → IsKept new (patches_of (entries ++ record { patch = patch; by = by } ∷ [])) None number limits
+        → JournalKeepsChain new (patches_of (entries ++ record { patch = patch; by = by } ∷ [])) None number limits
     kept_done by stands length_is limit_is =
         let entry : Entry = record { patch = patch; by = by } in
-        subst (λ (ps : List Patch). IsKept new ps None number limits) (sym (patches_of-push entries entry)) (record {
+        subst (λ (ps : List Patch). JournalKeepsChain new ps None number limits) (sym (patches_of-push entries entry)) (record {
           stands = subst (λ (texts : List (List ℕ)). StandsFor new number texts) (ap (λ (text : List ℕ). texts_of chain ++ text ∷ []) payload_is ∙ sym (texts_of-push chain patch)) stands;
           without = more;
           having = more;
@@ -167,7 +167,7 @@ module _ {D : Type 0} {disks : Ghosts D} (journal new : Journal D disks) (entrie
         })
 
     -- the gate was left in doubt
-    pub kept_in_doubt : StandsInDoubt new number (texts_of chain) payload → length_of new ≡ length_of journal + 0 → limit_of new ≡ limit_of journal → IsKept new chain (Some patch) number limits
+    pub kept_in_doubt : StandsInDoubt new number (texts_of chain) payload → length_of new ≡ length_of journal + 0 → limit_of new ≡ limit_of journal → JournalKeepsChain new chain (Some patch) number limits
     kept_in_doubt stands length_is limit_is = record {
       stands = subst (λ (text : List ℕ). StandsInDoubt new number (texts_of chain) text) payload_is stands;
       without = kept.without;
@@ -178,8 +178,8 @@ module _ {D : Type 0} {disks : Ghosts D} (journal new : Journal D disks) (entrie
     }
 
   -- as it was, but for the doubt
-  pub kept_settled : StandsFor new number (texts_of chain) → length_of new ≡ length_of journal + 0 → limit_of new ≡ limit_of journal → IsKept new chain None number limits
+  pub kept_settled : StandsFor new number (texts_of chain) → length_of new ≡ length_of journal + 0 → limit_of new ≡ limit_of journal → JournalKeepsChain new chain None number limits
   kept_settled stands length_is limit_is = record { stands = stands; without = kept.without; having = kept.without; length_is = omega (arith, length_is, kept.length_is); limit_is = limit_is ∙ kept.limit_is; countable = kept.countable }
 
-  pub kept_same : StandsWith new number (texts_of chain) (payload_in doubt) → length_of new ≡ length_of journal + 0 → limit_of new ≡ limit_of journal → IsKept new chain doubt number limits
+  pub kept_same : StandsWith new number (texts_of chain) (patch_payload doubt) → length_of new ≡ length_of journal + 0 → limit_of new ≡ limit_of journal → JournalKeepsChain new chain doubt number limits
   kept_same stands length_is limit_is = record { stands = stands; without = kept.without; having = kept.having; length_is = omega (arith, length_is, kept.length_is); limit_is = limit_is ∙ kept.limit_is; countable = kept.countable }

@@ -14,7 +14,7 @@ use Rattle.chain_core.specs.declared.fate.Fate.{Fate}
 use Rattle.chain_core.specs.declared.fate.Fate.TheVariants.{Done}
 use Rattle.chain_core.specs.Decision.{decision}
 use Rattle.chain_core.specs.Stay.{answer_of, decided_by, stay, Stay, fate_by_syncs, fate_by_plan}
-use Rattle.patch_log.specs.Log.{StandsForLog, payloads_of, MayHoldDuring, LeavesEither}
+use Rattle.patch_log.specs.Log.{StandsForLog, payloads_of, MayHoldChainDuring, LeavesEitherChain}
 use Rattle.patch_log.specs.State.{LogView, chain_of, point_of}
 use Rattle.patch_log.specs.Run.{Appended}
 use Rattle.patch_log.proofs.States.{outcome_told, told_is, no_call_yet}
@@ -101,10 +101,10 @@ pub appended_written : {D : Type 0} (disks : Ghosts D) (before after : LogView D
     → Stay before.limits (point_of before) patch (fate_by_plan before.doubt (disks.next_failure before.disk)) (point_of after) answer)
     → (answer ≡ Accepted version → after.entries ≡ before.entries ++ record { patch = patch; by = by } ∷ [])
     → (answer ≡ DiskFault → after.entries ≡ before.entries)
-    → (disks.tells → LeavesOnly (MayHoldDuring before.number (chain_of before) before.doubt patch) (disks.past before.disk) (disks.past after.disk))
+    → (disks.tells → LeavesOnly (MayHoldChainDuring before.number (chain_of before) before.doubt patch) (disks.past before.disk) (disks.past after.disk))
     → (answer ≡ Accepted version → disks.tells → EveryImage (disks.past after.disk) (λ image. Holds image after.number (payloads_of (chain_of after))))
-    → (disks.plans → disks.tells → IsTrue (not (disks.short after.disk)) → LeavesEither (disks.past before.disk) before.number (chain_of before) before.doubt
-    → LeavesEither (disks.past after.disk) after.number (chain_of after) after.doubt)
+    → (disks.plans → disks.tells → IsTrue (not (disks.short after.disk)) → LeavesEitherChain (disks.past before.disk) before.number (chain_of before) before.doubt
+    → LeavesEitherChain (disks.past after.disk) after.number (chain_of after) after.doubt)
     → (answer ≡ DiskFault → Rose (disks.faults before.disk) (disks.faults after.disk))
     → disks.faults before.disk ≤ disks.faults after.disk
     → (answer ≡ Accepted version → disks.faults after.disk ≡ disks.faults before.disk)

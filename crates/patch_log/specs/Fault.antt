@@ -1,6 +1,6 @@
 -- Why a log can't be opened.
 use Rattle.std.specs.Prelude.{◌≤◌, ℕ, List}
-use Rattle.delta_base.specs.Journals.{journal_length}
+use Rattle.delta_base.specs.Journals.{payloads_length}
 use Rattle.log_journal.specs.File.{Holds}
 use Rattle.log_journal.specs.Reading.{HasFault}
 use Rattle.log_journal.specs.declared.fault.JournalFault.{JournalFault}
@@ -12,12 +12,12 @@ use Rattle.chain_core.specs.Breaks.{BreaksAt}
 use Rattle.patch_log.specs.Log.{AreChained}
 
 -- a fault of the journal, as one of the log
-abbrev pub of_journal : JournalFault → LogFault
-of_journal journal.Failed = log.Failed
-of_journal (journal.Damaged at) = log.Damaged at
-of_journal (journal.WrongNumber found) = log.WrongNumber found
-of_journal (journal.OverLimit length limit) = log.OverLimit length limit
-of_journal journal.OutOfMemory = log.OutOfMemory
+abbrev pub log_fault : JournalFault → LogFault
+log_fault journal.Failed = log.Failed
+log_fault (journal.Damaged at) = log.Damaged at
+log_fault (journal.WrongNumber found) = log.WrongNumber found
+log_fault (journal.OverLimit length limit) = log.OverLimit length limit
+log_fault journal.OutOfMemory = log.OutOfMemory
 
 -- The file of this number has this fault, and none that comes before it. What a file can't tell is
 -- free: that its disk failed, and want of memory.
@@ -30,7 +30,7 @@ HasLogFault file number limits (log.OverLimit length limit) =
     HasFault file number limits.bytes (journal.OverLimit length limit)
 HasLogFault file number limits (log.BrokenChain version) =
     (payloads : List (List ℕ)) × Holds file number payloads
-    × (journal_length payloads ≤ limits.bytes)
+    × (payloads_length payloads ≤ limits.bytes)
     × BreaksAt (AreChained limits.patches) payloads version
 HasLogFault file number limits log.Failed = Unit {0}
 HasLogFault file number limits log.OutOfMemory = Unit {0}

@@ -6,7 +6,7 @@ use Rattle.rdf_terms.specs.declared.change.Change.{Change}
 use Rattle.disk_model.specs.Past.{Past, EveryImage}
 use Rattle.log_journal.specs.File.{Holds}
 use Rattle.log_journal.specs.Journal.{HoldsWithOrWithout}
-use Rattle.log_journal.specs.Writing.{LeavesEither as JournalLeaves}
+use Rattle.log_journal.specs.Writing.{LeavesEither}
 use Rattle.patch_meaning.specs.Checked.{CheckedPatch}
 use Rattle.patch_meaning.specs.Patch.{IsPatch}
 use Rattle.delta_base.specs.declared.limits.LogLimits.{LogLimits}
@@ -24,8 +24,8 @@ abbrev pub payloads_of : List Patch → List (List ℕ)
 payloads_of chain = texts_of chain
 
 -- the payload of a patch in doubt
-abbrev pub payload_in : Option Patch → Option (List ℕ)
-payload_in doubt = option_map (λ patch. patch.text) doubt
+abbrev pub patch_payload : Option Patch → Option (List ℕ)
+patch_payload doubt = option_map (λ patch. patch.text) doubt
 
 -- a patch's id and previous id are those that its text names
 abbrev pub IsSound : Patch → Type 0
@@ -38,32 +38,32 @@ pub record IsSoundLog (limits : LogLimits) (patches : List Patch) : Type 0 where
   pub sound : AllByRecursion IsSound patches
 
 -- an image holds the chain, or the chain with the patch in doubt
-abbrev pub MayHold : ℕ → List Patch → Option Patch → List ℕ → Type 0
-MayHold number chain None image = Holds image number (payloads_of chain)
-MayHold number chain (Some doubt) image =
+abbrev pub MayHoldChain : ℕ → List Patch → Option Patch → List ℕ → Type 0
+MayHoldChain number chain None image = Holds image number (payloads_of chain)
+MayHoldChain number chain (Some doubt) image =
     HoldsWithOrWithout number (payloads_of chain) doubt.text image
 
 -- a disk stands for a log that runs, with its chain and the patch in doubt
 pub record StandsForLog (past : Past) (number : ℕ) (limits : LogLimits) (chain : List Patch)
     (doubt : Option Patch) : Type 0 where
-  pub each : EveryImage past (MayHold number chain doubt)
+  pub each : EveryImage past (MayHoldChain number chain doubt)
   pub without : IsSoundLog limits chain
   pub having : IsSoundLog limits (with_doubt chain doubt)
 
 -- while a patch is added, an image holds the chain, or the chain with the patch in doubt or with
 -- the new one
-abbrev pub MayHoldDuring : ℕ → List Patch → Option Patch → Patch → List ℕ → Type 0
-MayHoldDuring number chain None patch image =
+abbrev pub MayHoldChainDuring : ℕ → List Patch → Option Patch → Patch → List ℕ → Type 0
+MayHoldChainDuring number chain None patch image =
     HoldsWithOrWithout number (payloads_of chain) patch.text image
-MayHoldDuring number chain (Some doubt) patch image =
+MayHoldChainDuring number chain (Some doubt) patch image =
     HoldsWithOrWithout number (payloads_of chain) doubt.text image
     ⊎ HoldsWithOrWithout number (payloads_of chain) patch.text image
 
 -- what was synced is without the patch in doubt, and with 1 for each byte that wasn't synced the
 -- file has it
-abbrev pub LeavesEither : Past → ℕ → List Patch → Option Patch → Type 0
-LeavesEither past number chain doubt =
-    JournalLeaves past number (payloads_of chain) (payload_in doubt)
+abbrev pub LeavesEitherChain : Past → ℕ → List Patch → Option Patch → Type 0
+LeavesEitherChain past number chain doubt =
+    LeavesEither past number (payloads_of chain) (patch_payload doubt)
 
 -- texts are those of a chain of patches, of which there are no more than there may be
 pub record AreChained (most : ℕ) (texts : List (List ℕ)) : Type 0 where

@@ -8,19 +8,20 @@ use Rattle.chain_core.specs.Patches.{patches_of, links_of, texts_of, version_of,
 use Rattle.patch_log.specs.Log.{IsSound}
 
 -- the patch of this text goes behind the others, if its id is new
-pub record GoesOn (patches : List Patch) (text : List ℕ) (most : ℕ) (patch : Patch) : Type 0 where
+pub record MayJoin (patches : List Patch) (text : List ℕ) (most : ℕ) (patch : Patch) : Type 0 where
   pub text_is : patch.text ≡ text
   pub sound : IsSound patch
   pub follows : patch.prev ≡ last_id patches
   pub few : length patches + 1 ≤ most
 
 -- the patch of this text goes behind the others
-pub record IsNextOf (patches : List Patch) (text : List ℕ) (most : ℕ) (patch : Patch) : Type 0 where
-  pub goes_on : GoesOn patches text most patch
+pub record IsNextInLog (patches : List Patch) (text : List ℕ) (most : ℕ)
+    (patch : Patch) : Type 0 where
+  pub goes_on : MayJoin patches text most patch
   pub new : version_of patches patch.id ≡ None
 
 -- entries brought by no pass, whose patches are those of these texts
-pub record AreFound (texts : List (List ℕ)) (most : ℕ) (entries : List Entry) : Type 0 where
+pub record AreFoundEntries (texts : List (List ℕ)) (most : ℕ) (entries : List Entry) : Type 0 where
   pub texts_are : texts_of (patches_of entries) ≡ texts
   pub sound : AllByRecursion IsSound (patches_of entries)
   pub chain : IsChain (links_of (patches_of entries))

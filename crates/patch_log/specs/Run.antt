@@ -17,26 +17,29 @@ use Rattle.chain_core.specs.declared.answer.LogAnswer.TheVariants.{Full, DiskFau
 use Rattle.chain_core.specs.Decision.{decision}
 use Rattle.chain_core.specs.Log.{LogPoint, up}
 use Rattle.chain_core.specs.Stay.{Stay, fate_by_syncs, fate_by_plan}
-use Rattle.patch_log.specs.Log.{payloads_of, MayHoldDuring, LeavesEither}
+use Rattle.patch_log.specs.Log.{payloads_of, MayHoldChainDuring, LeavesEitherChain}
 use Rattle.patch_log.specs.State.{LogView, chain_of, point_of}
 
 -- memory ran out before the disk was asked: nothing changed, and the patch could have been accepted
-pub record IsWant (limits : LogLimits) (chain : List Patch) (doubt : Option Patch) (patch : Patch)
+pub record WantsForAppend (limits : LogLimits) (chain : List Patch) (doubt : Option Patch)
+    (patch : Patch)
     (after : LogPoint) (answer : LogAnswer) : Type 0 where
   pub told : answer ≡ OutOfMemory
   pub same : after ≡ up chain doubt
   pub could : (version : ℕ) × (decision chain patch limits ≡ Accept version)
 
 -- one append to a log that runs: a stay with some fate, or want of memory
-abbrev pub Appends : LogLimits → List Patch → Option Patch → Patch → LogPoint → LogAnswer → Type 0
-Appends limits chain doubt patch after answer =
+abbrev pub AppendsPatch : LogLimits → List Patch → Option Patch → Patch → LogPoint
+    → LogAnswer → Type 0
+AppendsPatch limits chain doubt patch after answer =
     ((fate : Fate) × Stay limits (up chain doubt) patch fate after answer)
-    ⊎ IsWant limits chain doubt patch after answer
+    ⊎ WantsForAppend limits chain doubt patch after answer
 
 -- One append of a patch that this pass brings.
 pub record Appended {D : Type 0} (disks : Ghosts D) (before after : LogView D) (patch : Patch)
     (by : ℕ) (answer : LogAnswer) : Type 0 where
-  pub appends : Appends before.limits (chain_of before) before.doubt patch (point_of after) answer
+  pub appends : AppendsPatch before.limits (chain_of before) before.doubt patch
+      (point_of after) answer
   -- the fate of a patch that can be accepted is that of the syncs which were done
   pub by_syncs : disks.tells → (version : ℕ)
       → decision (chain_of before) patch before.limits ≡ Accept version → answer ≢ OutOfMemory
@@ -54,7 +57,7 @@ pub record Appended {D : Type 0} (disks : Ghosts D) (before after : LogView D) (
   -- a crash at any moment leaves the chain, or the chain with the patch in doubt or with
   -- the new one
   pub any_moment : disks.tells
-      → LeavesOnly (MayHoldDuring before.number (chain_of before) before.doubt patch)
+      → LeavesOnly (MayHoldChainDuring before.number (chain_of before) before.doubt patch)
       (disks.past before.disk) (disks.past after.disk)
   -- what is accepted is in every image
   pub kept : (version : ℕ) → answer ≡ Accepted version → disks.tells
@@ -62,8 +65,8 @@ pub record Appended {D : Type 0} (disks : Ghosts D) (before after : LogView D) (
       (λ image. Holds image after.number (payloads_of (chain_of after)))
   -- as planned, a patch in doubt stands where what wasn't synced is 1, and not in what was synced
   pub images : disks.plans → disks.tells → IsTrue (not (disks.short after.disk))
-      → LeavesEither (disks.past before.disk) before.number (chain_of before) before.doubt
-      → LeavesEither (disks.past after.disk) after.number (chain_of after) after.doubt
+      → LeavesEitherChain (disks.past before.disk) before.number (chain_of before) before.doubt
+      → LeavesEitherChain (disks.past after.disk) after.number (chain_of after) after.doubt
   -- the disk is asked for a patch that can be accepted, and is told of where its count
   -- of faults rose
   pub cause : answer ≡ DiskFault → Rose (disks.faults before.disk) (disks.faults after.disk)
@@ -99,7 +102,7 @@ HoldsInRun {D} disks by before patches image =
     ⊎ ((done : List Patch) × (patch : Patch) × (behind : List Patch)
     × (patches ≡ done ++ patch ∷ behind) × (answers : List LogAnswer) × (mid : LogView D)
     × Run disks by before done answers mid
-    × MayHoldDuring before.number (chain_of mid) mid.doubt patch image)
+    × MayHoldChainDuring before.number (chain_of mid) mid.doubt patch image)
 
 -- whether it is a fault of the disk
 abbrev pub is_disk_fault : LogAnswer → Bool

@@ -9,7 +9,7 @@ use Rattle.chain_core.specs.declared.chain.Patch.{Patch}
 use Rattle.chain_core.specs.declared.chain.Entry.{Entry}
 use Rattle.chain_core.specs.Patches.{patches_of, journal_length}
 use Rattle.chain_core.specs.Log.{LogPoint, up, with_doubt}
-use Rattle.patch_log.specs.Log.{IsSoundLog, payloads_of, payload_in}
+use Rattle.patch_log.specs.Log.{IsSoundLog, payloads_of, patch_payload}
 
 -- the entries and the patch in doubt; what never changes; the places that are ready; and the disk
 pub record LogView (D : Type 0) : Type 0 where
@@ -29,9 +29,10 @@ abbrev pub point_of : {D : Type 0} → LogView D → LogPoint
 point_of log = up (chain_of log) log.doubt
 
 -- the journal stands for the chain and the patch in doubt
-pub record IsKept {D : Type 0} {disks : Ghosts D} (journal : Journal D disks) (chain : List Patch)
+pub record JournalKeepsChain {D : Type 0} {disks : Ghosts D} (journal : Journal D disks)
+    (chain : List Patch)
     (doubt : Option Patch) (number : ℕ) (limits : LogLimits) : Type 0 where
-  pub stands : StandsWith journal number (payloads_of chain) (payload_in doubt)
+  pub stands : StandsWith journal number (payloads_of chain) (patch_payload doubt)
   pub without : IsSoundLog limits chain
   pub having : IsSoundLog limits (with_doubt chain doubt)
   pub length_is : length_of journal ≡ journal_length chain

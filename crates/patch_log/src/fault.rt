@@ -24,9 +24,9 @@ pub struct LogRefusal<D: Disk> {
 
 impl From<JournalFault> for LogFault {
     ghost use Rattle.std.specs.Prelude.{◌≡◌};
-    ghost use Rattle.patch_log.specs.Fault.{of_journal};
+    ghost use Rattle.patch_log.specs.Fault.{log_fault};
 
-    ghost from_gives = { λ fault e. e ≡ of_journal fault };
+    ghost from_gives = { λ fault e. e ≡ log_fault fault };
 
     fn from(fault: JournalFault) -> LogFault {
         match fault {

@@ -1,7 +1,7 @@
 //! A chain whose patches are found by id without a walk along it.
 ghost use Rattle.std.specs.Prelude.{◌≡◌, ◌≢◌, ◌+◌, ◌^◌, ◌<◌, ◌≤◌, [], ◌∷◌, ◌++◌};
 ghost use Rattle.std.specs.Prelude.{None, length, IfOk, OnOk, OnErr, IsErrOf};
-ghost use Rattle.chain_core.specs.Chain.{IsKept};
+ghost use Rattle.chain_core.specs.Chain.{IsBoundedChain};
 ghost use Rattle.chain_core.specs.Patches.{patches_of, version_of};
 
 use crate::next_fault::NextFault;
@@ -53,7 +53,7 @@ impl IndexedChain {
     pub(crate) fn with(self, patch: Patch, by: u32) -> Result<IndexedChain, NextFault>
         requires few { length self.items + 1 < 2 ^ 32 }
         requires goes_on { version_of (patches_of self.items) patch.id ≡ None
-            → IsKept (self.items ++ record { patch = patch; by = by } ∷ []) }
+            → IsBoundedChain (self.items ++ record { patch = patch; by = by } ∷ []) }
         ensures new { IfOk result (λ _. version_of (patches_of self.items) patch.id ≡ None) }
         ensures added { IfOk result (λ chain.
             chain.items ≡ self.items ++ record { patch = patch; by = by } ∷ []) }
@@ -96,7 +96,7 @@ impl IndexedChain {
     /// Adds a patch, in places that are ready.
     pub fn push(&mut self, patch: Patch, by: u32)
         requires ready { 1 ≤ self.old.spare }
-        requires kept { IsKept (self.old.items ++ record { patch = patch; by = by } ∷ []) }
+        requires kept { IsBoundedChain (self.old.items ++ record { patch = patch; by = by } ∷ []) }
         ensures items { self.new.items ≡ self.old.items ++ record { patch = patch; by = by } ∷ [] }
         ensures spare { self.new.spare + 1 ≡ self.old.spare }
     {

@@ -2,11 +2,11 @@
 ghost use Rattle.std.specs.Prelude.{◌≡◌, ◌⊎◌, ℕ, ◌+◌, ◌^◌, ◌<◌, ◌≤◌, ◌++◌, [], ◌∷◌};
 ghost use Rattle.std.specs.Prelude.{length, IfOk, IfErr, IsErrOf, IsTrue, ◌↔◌};
 ghost use Rattle.chain_core.specs.declared.chain.Patch.{Patch as PatchRead};
-ghost use Rattle.chain_core.specs.Chain.{IsKept};
+ghost use Rattle.chain_core.specs.Chain.{IsBoundedChain};
 ghost use Rattle.chain_core.specs.Patches.{patches_of, last_id};
 ghost use Rattle.chain_core.specs.Breaks.{BreaksAt};
 ghost use Rattle.patch_log.specs.Log.{IsSound, AreChained};
-ghost use Rattle.patch_log.specs.Opening.{GoesOn, IsNextOf, AreFound};
+ghost use Rattle.patch_log.specs.Opening.{MayJoin, IsNextInLog, AreFoundEntries};
 
 use crate::fault::LogFault;
 use crate::indexed::IndexedChain;
@@ -43,11 +43,11 @@ fn follows(chain: &Chain, link: Link) -> bool
 // The id and the previous id of the patch that a text is, if it goes behind the chain where its
 // id is new.
 fn next_link(alloc: Global, chain: &Chain, text: &[u8], most: u32) -> Result<Link, NextFault>
-    ensures ok { IfOk result (λ link. GoesOn (patches_of chain.now.items) text.now most
+    ensures ok { IfOk result (λ link. MayJoin (patches_of chain.now.items) text.now most
         (record { id = link.id; prev = link.prev; text = text.now })) }
     ensures broken { IsErrOf result NextFault.Broken → (patch : PatchRead)
-        → IsNextOf (patches_of chain.now.items) text.now most patch → ⊥ }
-    ensures kept { IsKept chain.now.items }
+        → IsNextInLog (patches_of chain.now.items) text.now most patch → ⊥ }
+    ensures kept { IsBoundedChain chain.now.items }
 {
     if chain.version() >= most {
         return Err(NextFault::Broken);
@@ -67,10 +67,10 @@ fn with_next(
     most: u32,
 ) -> Result<IndexedChain, NextFault>
     ensures ok { IfOk result (λ longer. (patch : PatchRead)
-        × IsNextOf (patches_of chain.items) text most patch
+        × IsNextInLog (patches_of chain.items) text most patch
         × (longer.items ≡ chain.items ++ record { patch = patch; by = 0 } ∷ [])) }
     ensures broken { IsErrOf result NextFault.Broken → (patch : PatchRead)
-        → IsNextOf (patches_of chain.items) text most patch → ⊥ }
+        → IsNextInLog (patches_of chain.items) text most patch → ⊥ }
 {
     let Link { id, prev } = next_link(alloc, chain.chain(), text.as_slice(), most)?;
     chain.with(Patch { id, prev, text }, 0)
@@ -78,7 +78,7 @@ fn with_next(
 
 /// The chain of the patches that the payloads are.
 pub fn read_log(alloc: Global, payloads: Payloads, most: u32) -> Result<IndexedChain, LogFault>
-    ensures ok { IfOk result (λ chain. AreFound payloads.items most chain.items) }
+    ensures ok { IfOk result (λ chain. AreFoundEntries payloads.items most chain.items) }
     ensures broken { (version : ℕ) → IsErrOf result (LogFault.BrokenChain version)
         → BreaksAt (AreChained most) payloads.items version }
     ensures countable { most < 2 ^ 32 }

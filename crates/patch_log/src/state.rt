@@ -31,8 +31,8 @@ ghost use Rattle.patch_log.specs.Log.{
   payloads_of,
   IsSoundLog,
   StandsForLog,
-  MayHoldDuring,
-  LeavesEither,
+  MayHoldChainDuring,
+  LeavesEitherChain,
 };
 ghost use Rattle.patch_log.specs.Fault.{HasLogFault};
 ghost use Rattle.patch_log.specs.Ready.{IsMadeOf};
@@ -66,7 +66,7 @@ pub struct LogState<D: Disk> {
 impl<D: Disk> Model for LogState<D> {
     ghost use Rattle.chain_core.specs.Patches.{patches_of};
     ghost use Rattle.log_journal.specs.StandsFor.{disk_of};
-    ghost use Rattle.patch_log.specs.State.{LogView, IsKept};
+    ghost use Rattle.patch_log.specs.State.{LogView, JournalKeepsChain};
 
     ghost Value = { LogView D };
 
@@ -80,7 +80,7 @@ impl<D: Disk> Model for LogState<D> {
     } };
 
     ghost invariant = { λ s.
-        IsKept s.journal (patches_of s.chain.items) s.doubt s.number s.limits };
+        JournalKeepsChain s.journal (patches_of s.chain.items) s.doubt s.number s.limits };
 }
 
 impl<D: Disk> LogState<D> {
@@ -257,15 +257,15 @@ impl<D: Disk> LogState<D> {
             ++ record { patch = ready.patch; by = ready.by } ∷ [] }
         ensures refused { result ≡ LogAnswer.DiskFault → self.new.entries ≡ self.old.entries }
         ensures any_moment { D.tells → LeavesOnly
-            (MayHoldDuring self.old.number (chain_of self.old) self.old.doubt ready.patch)
+            (MayHoldChainDuring self.old.number (chain_of self.old) self.old.doubt ready.patch)
             (D.past self.old.disk) (D.past self.new.disk) }
         ensures kept { result ≡ LogAnswer.Accepted version → D.tells
             → EveryImage (D.past self.new.disk)
             (λ image. Holds image self.new.number (payloads_of (chain_of self.new))) }
         ensures images { D.plans → D.tells → IsTrue (not (D.short self.new.disk))
-            → LeavesEither (D.past self.old.disk) self.old.number (chain_of self.old)
+            → LeavesEitherChain (D.past self.old.disk) self.old.number (chain_of self.old)
             self.old.doubt
-            → LeavesEither (D.past self.new.disk) self.new.number (chain_of self.new)
+            → LeavesEitherChain (D.past self.new.disk) self.new.number (chain_of self.new)
             self.new.doubt }
         ensures cause { result ≡ LogAnswer.DiskFault
             → Rose (D.faults self.old.disk) (D.faults self.new.disk) }

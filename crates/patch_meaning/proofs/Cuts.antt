@@ -13,13 +13,13 @@ use Rattle.patch_meaning.specs.declared.fault.PatchKind.{PatchKind}
 use Rattle.patch_meaning.specs.declared.fault.PatchKind.TheVariants as kinds
 use Rattle.patch_meaning.specs.declared.part.Part.{Part as PartRead}
 use Rattle.patch_meaning.specs.declared.role.Role.{Role}
-use Rattle.patch_meaning.specs.Cutting.{IsCutInto, Begins, GoesOn, IsCutAt, IsLeft, HasTakenNext, AreRefused, EndsWith, IsBrokenAt, IsBrokenBy, IsLast, EndsStream, IsBrokenAtEnd, changes_behind}
-use Rattle.patch_meaning.specs.PartRead.{HasPart, IsComplete, IsIncomplete, IsRefused, meaning_of}
+use Rattle.patch_meaning.specs.Cutting.{IsCutInto, BeginsPatch, GoesOnInPatch, IsCutAt, IsLeftPart, HasTakenNext, AreRefused, EndsWith, IsBrokenAt, IsBrokenBy, IsLastPatch, EndsStream, IsBrokenAtEnd, changes_behind}
+use Rattle.patch_meaning.specs.PartRead.{HasPart, IsComplete, IsIncomplete, IsRefusedRow, meaning_of}
 use Rattle.delta_base.specs.declared.limits.TheConstants.{PATCH_LIMIT}
 use Rattle.patch_meaning.specs.Patch.{Meaning, IsWell, AreTaken, refusal, has_some}
 use Rattle.patch_meaning.specs.Roles.{role, said, change_of, changes_of}
 use Rattle.patch_meaning.specs.Rows.{AreUpTo}
-use Rattle.patch_meaning.specs.Stream.{Part, Cut, ArePatches, AreStream, IsEndFault, begins, cut, cut_with, stop_of, within}
+use Rattle.patch_meaning.specs.Stream.{StreamPart, Cut, ArePatches, AreStream, IsEndFault, begins, cut, cut_with, stop_of, within}
 use Rattle.patch_meaning.proofs.Rowed.{front_up_to, up_further}
 
 -- ---- cutting
@@ -39,11 +39,11 @@ cut_begun rs r e = cut_more rs r ∙ ap (λ (b : Bool). cond b (begun (cut rs) r
 pub cut_longer : (rs : List PlacedRow) (r : PlacedRow) → begins (said (cut rs).last.rows_) (role r.row) ≡ false → cut (rs ++ r ∷ []) ≡ longer (cut rs) r
 cut_longer rs r e = cut_more rs r ∙ ap (λ (b : Bool). cond b (begun (cut rs) r) (longer (cut rs) r)) e
 
-pub stop_more : (parts : List Part) (last : Part) (stop : ℕ) → stop_of (parts ++ last ∷ []) stop ≡ stop_of parts last.from
+pub stop_more : (parts : List StreamPart) (last : StreamPart) (stop : ℕ) → stop_of (parts ++ last ∷ []) stop ≡ stop_of parts last.from
 stop_more [] last stop = refl
 stop_more (part ∷ parts) last stop = refl
 
-pub patches_more : (done : List Part) (last : Part) (ms : List Meaning) (m : Meaning) (stop : ℕ) → ArePatches done last.from ms → IsWell (said last.rows_) m → stop ≤ last.from + PATCH_LIMIT
+pub patches_more : (done : List StreamPart) (last : StreamPart) (ms : List Meaning) (m : Meaning) (stop : ℕ) → ArePatches done last.from ms → IsWell (said last.rows_) m → stop ≤ last.from + PATCH_LIMIT
     → ArePatches (done ++ last ∷ []) stop (ms ++ m ∷ [])
 patches_more [] last [] m stop are well short = (well, short, tt)
 patches_more [] last (n ∷ ms) m stop are well short = absurd are
@@ -88,7 +88,7 @@ with_changes rs ms changes other p same h = record {
 abbrev pub Adds : PartRead → Role → PartRead → Type 0
 Adds old says new = (rs : List PlacedRow) (r : PlacedRow) → HasPart rs old → role r.row ≡ says → HasPart (rs ++ r ∷ []) new
 
-added : (old new : PartRead) (says : Role) (at : ℕ) → GoesOn says old → Adds old says new → new.from ≡ old.from → HasTakenNext old says at None new
+added : (old new : PartRead) (says : Role) (at : ℕ) → GoesOnInPatch says old → Adds old says new → new.from ≡ old.from → HasTakenNext old says at None new
 added old new says at same step from rs ms changes r h up is place =
     cut_is rs (ms ++ []) (changes_behind None changes says) r new (longer (cut rs) r)
     (cut_longer rs r (ap (begins (said (cut rs).last.rows_)) is ∙ same (cut rs).last.rows_ h.part))
@@ -107,7 +107,7 @@ well_with rs link changes are well = subst (λ (cs : List Change). IsWell rs (me
 pub changes_within : (rs : List PlacedRow) (ms : List Meaning) (changes : List Change) (p : PartRead) (stop : ℕ) → IsCutInto rs ms changes p → AreUpTo rs stop → stop ≤ p.from + PATCH_LIMIT → changes_of (said (cut rs).last.rows_) ≡ changes
 changes_within rs ms changes p stop h up short = h.changes_are (up_further rs stop (p.from + PATCH_LIMIT) short up)
 
-begun_with : (old mid new : PartRead) (says : Role) (at : ℕ) (link : Link) → Begins says old → IsComplete old at link → HasPart [] mid → mid.from ≡ at → Adds mid says new → new.from ≡ mid.from
+begun_with : (old mid new : PartRead) (says : Role) (at : ℕ) (link : Link) → BeginsPatch says old → IsComplete old at link → HasPart [] mid → mid.from ≡ at → Adds mid says new → new.from ≡ mid.from
     → HasTakenNext old says at (Some link) new
 begun_with old mid new says at link first done none starts step from rs ms changes r h up is place =
     let last = done (cut rs).last.rows_ h.part in
@@ -119,7 +119,7 @@ begun_with old mid new says at link first done none starts step from rs ms chang
     (patches_more (cut rs).done (cut rs).last ms (meaning_of link changes) at h.before well (subst (λ (n : ℕ). at ≤ n + PATCH_LIMIT) (sym h.from_is) last.1)))
     (λ now. changes_more [] r ∙ ap change_of is)
 
-pub taken_next : (old mid new : PartRead) (says : Role) (at : ℕ) (done : Option Link) → IsCutAt old says at done → IsLeft old at done mid → Adds mid says new → new.from ≡ mid.from → HasTakenNext old says at done new
+pub taken_next : (old mid new : PartRead) (says : Role) (at : ℕ) (done : Option Link) → IsCutAt old says at done → IsLeftPart old at done mid → Adds mid says new → new.from ≡ mid.from → HasTakenNext old says at done new
 taken_next old mid new says at None is left step from = added old new says at is (λ rs r h. step rs r (subst (HasPart rs) (sym left) h)) (from ∙ ap (λ (p : PartRead). p.from) left)
 taken_next old mid new says at (Some link) is left step from = begun_with old mid new says at link is.0 is.1 left.0 left.1 step from
 
@@ -145,11 +145,11 @@ refused_with rs r c ms front kind fault e before parts taken refuses is = record
 }
 
 -- the next patch begins with the row, and the one before it is incomplete
-pub broken_before : (p : PartRead) (says : Role) (at : ℕ) (fault : PatchFault) → Begins says p → IsIncomplete p at fault → IsBrokenBy p says at fault
+pub broken_before : (p : PartRead) (says : Role) (at : ℕ) (fault : PatchFault) → BeginsPatch says p → IsIncomplete p at fault → IsBrokenBy p says at fault
 broken_before p says at fault first why rs ms changes r h is place = inl (first (cut rs).last.rows_ h.part, ends_with p rs ms changes at fault why h)
 
 -- the row is refused
-pub broken_row : (old mid : PartRead) (says : Role) (at : ℕ) (done : Option Link) (fault : PatchFault) → IsCutAt old says at done → IsLeft old at done mid → IsRefused mid says at fault → IsBrokenBy old says at fault
+pub broken_row : (old mid : PartRead) (says : Role) (at : ℕ) (done : Option Link) (fault : PatchFault) → IsCutAt old says at done → IsLeftPart old at done mid → IsRefusedRow mid says at fault → IsBrokenBy old says at fault
 broken_row old mid says at None fault same left why rs ms changes r h is place =
     let last = (cut rs).last in
     let no = why last.rows_ (subst (HasPart last.rows_) (sym left) h.part) in
@@ -208,7 +208,7 @@ no_rows : (p : PartRead) (stop : ℕ) → ((rs : List PlacedRow) → HasPart rs 
 no_rows p stop none rs ms changes h up =
     subst (AreStream rs stop) (sym (append-nil ms)) (empty_by rs stop ms (h.some (none_there (cut rs).last.rows_ (none (cut rs).last.rows_ h.part))) h.before)
 
-pub ends_stream : (p : PartRead) (stop : ℕ) (done : Option Link) → IsLast p stop done → EndsStream p stop done
+pub ends_stream : (p : PartRead) (stop : ℕ) (done : Option Link) → IsLastPatch p stop done → EndsStream p stop done
 ends_stream p stop None last = no_rows p stop last
 ends_stream p stop (Some link) last = stream_ends p stop link last.0 last.1
 

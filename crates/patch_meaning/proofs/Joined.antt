@@ -5,10 +5,10 @@ use Rattle.std.proofs.lemmas.List.{drop-drop}
 use Rattle.std.proofs.lemmas.List.Concat.{flat_map-cons}
 use Rattle.std.proofs.Math.Seq.{take-add, take-length}
 use Rattle.patch_reader.specs.declared.placed.PlacedRow.{PlacedRow}
-use Rattle.patch_meaning.specs.Checked.{CheckedPatch, AreChecked, meanings, texts}
+use Rattle.patch_meaning.specs.Checked.{CheckedPatch, AreChecked, meanings, checked_texts}
 use Rattle.patch_meaning.specs.Patch.{IsPatch}
 use Rattle.patch_meaning.specs.Rows.{RowsTo}
-use Rattle.patch_meaning.specs.Stream.{Part, ArePatches, AreStream, IsSplit, cut, cut_texts, stop_of, texts_of}
+use Rattle.patch_meaning.specs.Stream.{StreamPart, ArePatches, AreStream, IsSplit, cut, cut_texts, stop_of, part_texts}
 use Rattle.patch_meaning.proofs.OneStream.{first_from}
 use Rattle.patch_meaning.proofs.Pieces.{AreRead, all_read, piece_patch}
 use Rattle.patch_meaning.proofs.Rowed.{rows_order}
@@ -32,20 +32,20 @@ rows_within : (text : List ℕ) (from stop : ℕ) (rs : List PlacedRow) → Rows
 rows_within text from stop rs (behind, up, gap) = let low = gap.1 in omega (arith, low, rows_order text from behind rs up)
 
 -- the parts come one behind another up to the place
-parts_order : (text : List ℕ) (parts : List Part) (stop : ℕ) → AreRead text parts stop → stop_of parts stop ≤ stop
+parts_order : (text : List ℕ) (parts : List StreamPart) (stop : ℕ) → AreRead text parts stop → stop_of parts stop ≤ stop
 parts_order text [] stop are = omega arith
 parts_order text (part ∷ parts) stop are = omega (arith, parts_order text parts stop are.1, rows_within text part.from (stop_of parts stop) part.rows_ are.0)
 
-joined_parts : (text : List ℕ) (parts : List Part) (stop : ℕ) → AreRead text parts stop → flat_map (λ (t : List ℕ). t) (texts_of text parts stop) ≡ slice_range text (stop_of parts stop) stop
+joined_parts : (text : List ℕ) (parts : List StreamPart) (stop : ℕ) → AreRead text parts stop → flat_map (λ (t : List ℕ). t) (part_texts text parts stop) ≡ slice_range text (stop_of parts stop) stop
 joined_parts text [] stop are = sym (none_there text stop)
 joined_parts text (part ∷ parts) stop are =
-    flat_map-cons (λ (t : List ℕ). t) (slice_range text part.from (stop_of parts stop)) (texts_of text parts stop)
+    flat_map-cons (λ (t : List ℕ). t) (slice_range text part.from (stop_of parts stop)) (part_texts text parts stop)
     ∙ ap (λ (t : List ℕ). slice_range text part.from (stop_of parts stop) ++ t) (joined_parts text parts stop are.1)
     ∙ slice_on text part.from (stop_of parts stop) stop (rows_within text part.from (stop_of parts stop) part.rows_ are.0) (parts_order text parts stop are.1)
 
-flat_texts : (ps : List CheckedPatch) → flat_map (λ (p : CheckedPatch). p.text) ps ≡ flat_map (λ (t : List ℕ). t) (texts ps)
+flat_texts : (ps : List CheckedPatch) → flat_map (λ (p : CheckedPatch). p.text) ps ≡ flat_map (λ (t : List ℕ). t) (checked_texts ps)
 flat_texts [] = refl
-flat_texts (p ∷ ps) = flat_map-cons (λ (q : CheckedPatch). q.text) p ps ∙ ap (λ (t : List ℕ). p.text ++ t) (flat_texts ps) ∙ sym (flat_map-cons (λ (t : List ℕ). t) p.text (texts ps))
+flat_texts (p ∷ ps) = flat_map-cons (λ (q : CheckedPatch). q.text) p ps ∙ ap (λ (t : List ℕ). p.text ++ t) (flat_texts ps) ∙ sym (flat_map-cons (λ (t : List ℕ). t) p.text (checked_texts ps))
 
 none_said : (ps : List CheckedPatch) → meanings ps ≡ [] → ps ≡ []
 none_said [] e = refl
@@ -54,7 +54,7 @@ none_said (p ∷ ps) e = absurd cc
 pub joined : (text : List ℕ) (ps : List CheckedPatch) → IsSplit text ps → (ps ≡ [] → ⊥) → flat_map (λ (p : CheckedPatch). p.text) ps ≡ text
 joined text ps s some = by s.rows_ s.reads s.stream s.texts_are
   where
-    by : (rs : List PlacedRow) → RowsTo text 0 rs (length text) → AreStream rs (length text) (meanings ps) → texts ps ≡ cut_texts text rs → flat_map (λ (p : CheckedPatch). p.text) ps ≡ text
+    by : (rs : List PlacedRow) → RowsTo text 0 rs (length text) → AreStream rs (length text) (meanings ps) → checked_texts ps ≡ cut_texts text rs → flat_map (λ (p : CheckedPatch). p.text) ps ≡ text
     by [] reads are same = absurd (some (none_said ps are))
     by (r ∷ rs) reads are same =
         let c = cut (r ∷ rs) in
@@ -70,19 +70,19 @@ first_is t u ts us e = cc
 rest_is : (t u : List ℕ) (ts us : List (List ℕ)) → t ∷ ts ≡ u ∷ us → ts ≡ us
 rest_is t u ts us e = cc
 
-checked_parts : (text : List ℕ) (parts : List Part) (stop : ℕ) (ps : List CheckedPatch) → AreRead text parts stop → ArePatches parts stop (meanings ps) → texts ps ≡ texts_of text parts stop → AreChecked ps
+checked_parts : (text : List ℕ) (parts : List StreamPart) (stop : ℕ) (ps : List CheckedPatch) → AreRead text parts stop → ArePatches parts stop (meanings ps) → checked_texts ps ≡ part_texts text parts stop → AreChecked ps
 checked_parts text [] stop [] read are same = tt
 checked_parts text [] stop (p ∷ ps) read are same = absurd are
 checked_parts text (part ∷ parts) stop [] read are same = absurd are
 checked_parts text (part ∷ parts) stop (p ∷ ps) read are same =
     let to : ℕ = stop_of parts stop in (
-      subst (λ (t : List ℕ). IsPatch t p.meaning) (sym (first_is p.text (slice_range text part.from to) (texts ps) (texts_of text parts stop) same)) (piece_patch text part.from to part.rows_ p.meaning read.0 are.1 are.0),
-      checked_parts text parts stop ps read.1 are.2 (rest_is p.text (slice_range text part.from to) (texts ps) (texts_of text parts stop) same),
+      subst (λ (t : List ℕ). IsPatch t p.meaning) (sym (first_is p.text (slice_range text part.from to) (checked_texts ps) (part_texts text parts stop) same)) (piece_patch text part.from to part.rows_ p.meaning read.0 are.1 are.0),
+      checked_parts text parts stop ps read.1 are.2 (rest_is p.text (slice_range text part.from to) (checked_texts ps) (part_texts text parts stop) same),
     )
 
 pub checked_by_itself : (text : List ℕ) (ps : List CheckedPatch) → IsSplit text ps → AreChecked ps
 checked_by_itself text ps s = by s.rows_ s.reads s.stream s.texts_are
   where
-    by : (rs : List PlacedRow) → RowsTo text 0 rs (length text) → AreStream rs (length text) (meanings ps) → texts ps ≡ cut_texts text rs → AreChecked ps
+    by : (rs : List PlacedRow) → RowsTo text 0 rs (length text) → AreStream rs (length text) (meanings ps) → checked_texts ps ≡ cut_texts text rs → AreChecked ps
     by [] reads are same = subst AreChecked (sym (none_said ps are)) tt
     by (r ∷ rs) reads are same = checked_parts text ((cut (r ∷ rs)).done ++ (cut (r ∷ rs)).last ∷ []) (length text) ps (all_read text (r ∷ rs) (length text) reads) are same

@@ -13,7 +13,7 @@ use Rattle.patch_meaning.specs.declared.fault.PatchKind.TheVariants as kinds
 use Rattle.delta_base.specs.declared.limits.TheConstants.{PATCH_LIMIT}
 use Rattle.patch_meaning.specs.Patch.{Meaning, AreTaken, refusal}
 use Rattle.patch_meaning.specs.Roles.{role, said, is_open}
-use Rattle.patch_meaning.specs.Stream.{Part, Cut, ArePatches, EndsAt, IsPartFault, IsEndFault, IsStreamFault, begins, cut, cut_with, within, refused, too_long, open_block, no_id, next, over}
+use Rattle.patch_meaning.specs.Stream.{StreamPart, Cut, ArePatches, EndsAt, IsPartFault, IsEndFault, IsStreamFault, begins, cut, cut_with, within, refused, too_long, open_block, no_id, next, over}
 use Rattle.patch_meaning.specs.Stream as stream
 use Rattle.patch_meaning.proofs.OneStream.{IsGood, Later, grew, good_end, good_at, not_all, rows_taken, part_taken, stays, later, cut_on, begun, grown}
 use Rattle.patch_meaning.proofs.OneStream as one
@@ -45,7 +45,7 @@ some_same o a b e f = cc
 open_closed : {X : Type 0} (b : Bool) → b ≡ true → b ≡ false → X
 open_closed b e f = absurd cc
 
-long_short : {X : Type 0} (part : Part) (stop : ℕ) → part.from + PATCH_LIMIT < stop → stop ≤ part.from + PATCH_LIMIT → X
+long_short : {X : Type 0} (part : StreamPart) (stop : ℕ) → part.from + PATCH_LIMIT < stop → stop ≤ part.from + PATCH_LIMIT → X
 long_short part stop long short = absurd (omega (arith, long, short))
 
 at_end : {X : Type 0} (text : List ℕ) (to : ℕ) → to ≡ length text → to < length text → X
@@ -55,11 +55,11 @@ row_or_none : {X : Type 0} (text : List ℕ) (to : ℕ) (r : Row) (end : ℕ) (k
 row_or_none text to r end kind place there none = absurd (no_fault_there text to r end kind place there none)
 
 -- a row or no row, where the patch ends
-row_or_end : {X : Type 0} (text : List ℕ) (part : Part) (to at : ℕ) (kind : RowKind) → NoRowAt text to kind at → EndsAt text part to → X
+row_or_end : {X : Type 0} (text : List ℕ) (part : StreamPart) (to at : ℕ) (kind : RowKind) → NoRowAt text to kind at → EndsAt text part to → X
 row_or_end text part to at kind none (next r end there first) = row_or_none text to r end kind at there none
 row_or_end text part to at kind none (over last some) = at_end text to last none.0
 
-module _ (part : Part) (to : ℕ) (f g : PatchFault) where
+module _ (part : StreamPart) (to : ℕ) (f g : PatchFault) where
   same_end : IsEndFault part to f → IsEndFault part to g → f ≡ g
   same_end (too_long long is) (too_long long2 is2) = is ∙ sym is2
   same_end (too_long long is) (open_block short inside is2) = long_short part to long short
@@ -71,14 +71,14 @@ module _ (part : Part) (to : ℕ) (f g : PatchFault) where
   same_end (no_id short outside ids is) (open_block short2 inside is2) = open_closed (is_open (said part.rows_)) inside outside
   same_end (no_id short outside ids is) (no_id short2 outside2 ids2 is2) = is ∙ sym is2
 
-same_refused : (part : Part) (front ends : List PlacedRow) (r s : PlacedRow) (kind other : PatchKind) → front ≡ ends → r ≡ s → refusal (said front) (role r.row) ≡ Some kind → refusal (said ends) (role s.row) ≡ Some other
+same_refused : (part : StreamPart) (front ends : List PlacedRow) (r s : PlacedRow) (kind other : PatchKind) → front ≡ ends → r ≡ s → refusal (said front) (role r.row) ≡ Some kind → refusal (said ends) (role s.row) ≡ Some other
     → within part.from r.at kind ≡ within part.from s.at other
 same_refused part front ends r s kind other fronts rows_ refuses refuses2 =
     ap (λ (q : PlacedRow). within part.from q.at kind) rows_
     ∙ ap (within part.from s.at)
     (some_same (refusal (said ends) (role s.row)) kind other (ap (λ (l : List PlacedRow). refusal (said l) (role s.row)) (sym fronts) ∙ ap (λ (q : PlacedRow). refusal (said front) (role q.row)) (sym rows_) ∙ refuses) refuses2)
 
-module _ (text : List ℕ) (part : Part) (to : ℕ) (f g : PatchFault) where
+module _ (text : List ℕ) (part : StreamPart) (to : ℕ) (f g : PatchFault) where
   same_fault : IsPartFault text part to f → IsPartFault text part to g → f ≡ g
   same_fault (refused front r kind rows_ taken refuses is) (refused ends s other rows2 taken2 refuses2 is2) =
       let one = init_is front ends r s (sym rows_ ∙ rows2) in is ∙ same_refused part front ends r s kind other one.0 one.1 refuses refuses2 ∙ sym is2
@@ -104,7 +104,7 @@ good_done rs more r ms first are =
     let on = stays (begun (cut rs) r) more in
     subst (IsGood (cut rs).last) on.2
     (good_at (cut rs).done (cut rs).last on.0 d.last.from ms
-    (subst (λ (parts : List Part). ArePatches parts d.last.from ms) (on.1 ∙ append_assoc (cut rs).done ((cut rs).last ∷ []) on.0) (subst (λ (c : Cut). ArePatches c.done c.last.from ms) whole are)))
+    (subst (λ (parts : List StreamPart). ArePatches parts d.last.from ms) (on.1 ∙ append_assoc (cut rs).done ((cut rs).last ∷ []) on.0) (subst (λ (c : Cut). ArePatches c.done c.last.from ms) whole are)))
 
 -- the rows of the last patch but its last one may stand
 abbrev AreTakenBefore : List PlacedRow → Type 0
@@ -113,7 +113,7 @@ AreTakenBefore rs = (front : List PlacedRow) (q : PlacedRow) → rs ≡ front ++
 all_before : (rs : List PlacedRow) → AreTaken (said rs) → AreTakenBefore rs
 all_before rs all front q e = rows_taken front (q ∷ []) (subst (λ (l : List PlacedRow). AreTaken (said l)) e all)
 
-taken_before : (text : List ℕ) (part : Part) (to : ℕ) (fault : PatchFault) → IsPartFault text part to fault → AreTakenBefore part.rows_
+taken_before : (text : List ℕ) (part : StreamPart) (to : ℕ) (fault : PatchFault) → IsPartFault text part to fault → AreTakenBefore part.rows_
 taken_before text part to fault (refused front r kind rows_ taken refuses is) =
     λ init q e. subst (λ (l : List PlacedRow). AreTaken (said l)) (init_is front init r q (sym rows_ ∙ e)).0 taken
 taken_before text part to fault (stream.no_row at kind all none is) = all_before part.rows_ all
@@ -135,13 +135,13 @@ earlier_taken rs more r ms are before = by (later (cut rs) (r ∷ more))
         (ap (λ (c : Cut). c.last.rows_) (cut_on rs (r ∷ more)) ∙ rows_ ∙ ap (λ (l : List PlacedRow). (cut rs).last.rows_ ++ l) last.2 ∙ sym (append_assoc (cut rs).last.rows_ last.0 (last.1 ∷ []))))
     by (one.ended front ps q qs done rows_) =
         part_taken ps q qs d.last.from ms (cut rs).last.rows_ front
-        (subst (λ (l : List Part). ArePatches l d.last.from ms) done (subst (λ (c : Cut). ArePatches c.done c.last.from ms) (cut_on rs (r ∷ more)) are)) rows_
+        (subst (λ (l : List StreamPart). ArePatches l d.last.from ms) done (subst (λ (c : Cut). ArePatches c.done c.last.from ms) (cut_on rs (r ∷ more)) are)) rows_
 
 -- no more rows were read behind a fault
 no_more : (text : List ℕ) (f g : PatchFault) (p : IsStreamFault text f) (q : IsStreamFault text g) (more : List PlacedRow) (r : PlacedRow) → q.rows_ ≡ p.rows_ ++ r ∷ more → r.at ≡ p.to → IsRowAt text p.to r.row r.end → ⊥
 no_more text f g p q more r all at there = by p.fault_is
   where
-    last : Part
+    last : StreamPart
     last = (cut p.rows_).last
 
     well : ArePatches (cut (p.rows_ ++ r ∷ more)).done (cut (p.rows_ ++ r ∷ more)).last.from q.before

@@ -11,7 +11,7 @@ use Rattle.delta_base.specs.declared.limits.TheConstants.{PATCH_LIMIT}
 use Rattle.patch_meaning.specs.Patch.{Meaning, IsWell, AreTaken, AreTakenFrom, refusal}
 use Rattle.patch_meaning.specs.Roles.{role, said, is_open}
 use Rattle.patch_reader.specs.declared.placed.PlacedRow.{PlacedRow}
-use Rattle.patch_meaning.specs.Stream.{Part, Cut, ArePatches, AreStream, IsStream, IsPartFault, IsEndFault, IsStreamFault, begins, cut, cut_with, stop_of, refused, too_long, open_block, no_id, next, over}
+use Rattle.patch_meaning.specs.Stream.{StreamPart, Cut, ArePatches, AreStream, IsStream, IsPartFault, IsEndFault, IsStreamFault, begins, cut, cut_with, stop_of, refused, too_long, open_block, no_id, next, over}
 use Rattle.patch_meaning.specs.Stream as stream
 use Rattle.patch_meaning.specs.declared.role.Role.{Role}
 use Rattle.patch_meaning.proofs.Cuts.{not_empty}
@@ -20,7 +20,7 @@ use Rattle.patch_meaning.proofs.WellTaken.{well_closed, well_taken, next_taken, 
 
 -- ---- one list of patches
 
-same_patches : (parts : List Part) (stop : ℕ) (ms ns : List Meaning) → ArePatches parts stop ms → ArePatches parts stop ns → ms ≡ ns
+same_patches : (parts : List StreamPart) (stop : ℕ) (ms ns : List Meaning) → ArePatches parts stop ms → ArePatches parts stop ns → ms ≡ ns
 same_patches [] stop [] [] are other = refl
 same_patches [] stop [] (n ∷ ns) are other = absurd other
 same_patches [] stop (m ∷ ms) ns are other = absurd are
@@ -44,7 +44,7 @@ same_stream text ms ns p q = by (compared text 0 p.rows_ (length text) q.rows_ (
 -- ---- a part that is a patch has no fault
 
 -- the part is a patch that stops there
-abbrev pub IsGood : Part → ℕ → Type 0
+abbrev pub IsGood : StreamPart → ℕ → Type 0
 IsGood part stop = (m : Meaning) × IsWell (said part.rows_) m × (stop ≤ part.from + PATCH_LIMIT)
 
 some_none : {X : Type 0} (o : Option PatchKind) (why : PatchKind) → o ≡ None → o ≡ Some why → X
@@ -53,7 +53,7 @@ some_none o why e f = absurd cc
 open_closed : {X : Type 0} (b : Bool) → b ≡ true → b ≡ false → X
 open_closed b e f = absurd cc
 
-pub good_end : (part : Part) (stop : ℕ) (fault : PatchFault) → IsGood part stop → IsEndFault part stop fault → ⊥
+pub good_end : (part : StreamPart) (stop : ℕ) (fault : PatchFault) → IsGood part stop → IsEndFault part stop fault → ⊥
 good_end part stop fault good (too_long long is) = absurd (let short = good.2 in omega arith)
 good_end part stop fault good (open_block short inside is) = open_closed (is_open (said part.rows_)) inside (well_closed (said part.rows_) good.0 good.1)
 good_end part stop fault good (no_id short outside ids is) = absurd (let one = good.1.one_id in cc)
@@ -73,17 +73,17 @@ front_taken before (r ∷ rs) more taken = (taken.0, front_taken (before ++ r �
 pub rows_taken : (rs more : List PlacedRow) → AreTaken (said (rs ++ more)) → AreTaken (said rs)
 rows_taken rs more taken = front_taken [] (said rs) (said more) (subst AreTaken (map-append (λ (q : PlacedRow). role q.row) rs more) taken)
 
-good_taken : (part : Part) (stop : ℕ) → IsGood part stop → AreTaken (said part.rows_)
+good_taken : (part : StreamPart) (stop : ℕ) → IsGood part stop → AreTaken (said part.rows_)
 good_taken part stop good = well_taken (said part.rows_) good.0 good.1
 
 -- a part among patches stops where the next one begins
-good_before : (xs : List Part) (p q : Part) (ys : List Part) (stop : ℕ) (ms : List Meaning) → ArePatches (xs ++ p ∷ q ∷ ys) stop ms → IsGood p q.from
+good_before : (xs : List StreamPart) (p q : StreamPart) (ys : List StreamPart) (stop : ℕ) (ms : List Meaning) → ArePatches (xs ++ p ∷ q ∷ ys) stop ms → IsGood p q.from
 good_before [] p q ys stop [] are = absurd are
 good_before [] p q ys stop (m ∷ ms) are = (m, are.0, are.1)
 good_before (x ∷ xs) p q ys stop [] are = absurd are
 good_before (x ∷ xs) p q ys stop (m ∷ ms) are = good_before xs p q ys stop ms are.2
 
-good_last : (xs : List Part) (p : Part) (stop : ℕ) (ms : List Meaning) → ArePatches (xs ++ p ∷ []) stop ms → IsGood p stop
+good_last : (xs : List StreamPart) (p : StreamPart) (stop : ℕ) (ms : List Meaning) → ArePatches (xs ++ p ∷ []) stop ms → IsGood p stop
 good_last [] p stop [] are = absurd are
 good_last [] p stop (m ∷ ms) are = (m, are.0, are.1)
 good_last (x ∷ xs) p stop [] are = absurd are
@@ -91,7 +91,7 @@ good_last (x ∷ xs) p stop (m ∷ ms) are = good_last xs p stop ms are.2
 
 -- ---- what more rows add
 
-abbrev parts_of : Cut → List Part
+abbrev parts_of : Cut → List StreamPart
 parts_of c = c.done ++ c.last ∷ []
 
 abbrev pub begun : Cut → PlacedRow → Cut
@@ -102,7 +102,7 @@ grown c r = record { done = c.done; last = record { from = c.last.from; rows_ = 
 
 -- the parts behind those that are complete begin where the last one does
 abbrev GoOn : Cut → Cut → Type 0
-GoOn c d = (q : Part) × (qs : List Part) × (parts_of d ≡ c.done ++ q ∷ qs) × (q.from ≡ c.last.from)
+GoOn c d = (q : StreamPart) × (qs : List StreamPart) × (parts_of d ≡ c.done ++ q ∷ qs) × (q.from ≡ c.last.from)
 
 step_on : (c d : Cut) (r : PlacedRow) (b : Bool) → GoOn (cond b (begun c r) (grown c r)) d → GoOn c d
 step_on c d r true (q, qs, parts, from) = (c.last, q ∷ qs, parts ∙ append_assoc c.done (c.last ∷ []) (q ∷ qs), refl)
@@ -114,7 +114,7 @@ goes_on c (r ∷ rs) = step_on c (fold cut_with c (r ∷ rs)) r (begins (said c.
 
 -- the patches that are complete stay, and those behind them begin where the last one does
 abbrev pub Stay : Cut → Cut → Type 0
-Stay c d = (qs : List Part) × (d.done ≡ c.done ++ qs) × (stop_of qs d.last.from ≡ c.last.from)
+Stay c d = (qs : List StreamPart) × (d.done ≡ c.done ++ qs) × (stop_of qs d.last.from ≡ c.last.from)
 
 step_stays : (c d : Cut) (r : PlacedRow) (b : Bool) → Stay (cond b (begun c r) (grown c r)) d → Stay c d
 step_stays c d r true (qs, done, from) = (c.last ∷ qs, done ∙ append_assoc c.done (c.last ∷ []) qs, refl)
@@ -127,7 +127,7 @@ stays c (r ∷ rs) = step_stays c (fold cut_with c (r ∷ rs)) r (begins (said c
 -- with more rows the last part grows by all of them, or by the first of them and is complete
 pub data Later (c d : Cut) (more : List PlacedRow) : Type 0 where
   grew : d.last.rows_ ≡ c.last.rows_ ++ more → Later c d more
-  ended : (front : List PlacedRow) (ps : List Part) (q : Part) (qs : List Part) → d.done ≡ ps ++ q ∷ qs → q.rows_ ≡ c.last.rows_ ++ front → Later c d more
+  ended : (front : List PlacedRow) (ps : List StreamPart) (q : StreamPart) (qs : List StreamPart) → d.done ≡ ps ++ q ∷ qs → q.rows_ ≡ c.last.rows_ ++ front → Later c d more
 
 by_grown : (c d : Cut) (r : PlacedRow) (more : List PlacedRow) → Later (grown c r) d more → Later c d (r ∷ more)
 by_grown c d r more (grew rows_) = grew (rows_ ∙ append_assoc c.last.rows_ (r ∷ []) more)
@@ -148,20 +148,20 @@ pub cut_on : (rs more : List PlacedRow) → cut (rs ++ more) ≡ fold cut_with (
 cut_on rs more = fold-append cut_with (record { done = []; last = record { from = 0; rows_ = [] } }) rs more
 
 -- among patches each may stand
-pub good_at : (xs : List Part) (p : Part) (qs : List Part) (stop : ℕ) (ms : List Meaning) → ArePatches (xs ++ p ∷ qs) stop ms → IsGood p (stop_of qs stop)
+pub good_at : (xs : List StreamPart) (p : StreamPart) (qs : List StreamPart) (stop : ℕ) (ms : List Meaning) → ArePatches (xs ++ p ∷ qs) stop ms → IsGood p (stop_of qs stop)
 good_at [] p qs stop [] are = absurd are
 good_at [] p qs stop (m ∷ ms) are = (m, are.0, are.1)
 good_at (x ∷ xs) p qs stop [] are = absurd are
 good_at (x ∷ xs) p qs stop (m ∷ ms) are = good_at xs p qs stop ms are.2
 
-pub part_taken : (ps : List Part) (q : Part) (qs : List Part) (stop : ℕ) (ms : List Meaning) (front more : List PlacedRow) → ArePatches (ps ++ q ∷ qs) stop ms → q.rows_ ≡ front ++ more → AreTaken (said front)
+pub part_taken : (ps : List StreamPart) (q : StreamPart) (qs : List StreamPart) (stop : ℕ) (ms : List Meaning) (front more : List PlacedRow) → ArePatches (ps ++ q ∷ qs) stop ms → q.rows_ ≡ front ++ more → AreTaken (said front)
 part_taken ps q qs stop ms front more are rows_ =
     rows_taken front more (subst (λ (l : List PlacedRow). AreTaken (said l)) rows_ (good_taken q (stop_of qs stop) (good_at ps q qs stop ms are)))
 
 -- the first patch begins where the text does
 pub first_from : (rs : List PlacedRow) (stop : ℕ) → stop_of (parts_of (cut rs)) stop ≡ 0
 first_from rs stop =
-    let on = goes_on (record { done = []; last = record { from = 0; rows_ = [] } }) rs in ap (λ (parts : List Part). stop_of parts stop) on.2 ∙ on.3
+    let on = goes_on (record { done = []; last = record { from = 0; rows_ = [] } }) rs in ap (λ (parts : List StreamPart). stop_of parts stop) on.2 ∙ on.3
 
 -- where the next part begins with a row, the part before it stops there
 good_cut : (rs more : List PlacedRow) (r : PlacedRow) (stop : ℕ) (ms : List Meaning) → begins (said (cut rs).last.rows_) (role r.row) ≡ true → ArePatches (parts_of (cut (rs ++ r ∷ more))) stop ms → IsGood (cut rs).last r.at
@@ -171,7 +171,7 @@ good_cut rs more r stop ms first are =
     let on = goes_on (begun (cut rs) r) more in
     let all : parts_of (cut (rs ++ r ∷ more)) ≡ (cut rs).done ++ (cut rs).last ∷ on.0 ∷ on.1 =
     ap parts_of whole ∙ on.2 ∙ append_assoc (cut rs).done ((cut rs).last ∷ []) (on.0 ∷ on.1) in
-    subst (IsGood (cut rs).last) on.3 (good_before (cut rs).done (cut rs).last on.0 on.1 stop ms (subst (λ (l : List Part). ArePatches l stop ms) all are))
+    subst (IsGood (cut rs).last) on.3 (good_before (cut rs).done (cut rs).last on.0 on.1 stop ms (subst (λ (l : List StreamPart). ArePatches l stop ms) all are))
 
 -- ---- a stream has no fault
 
@@ -195,12 +195,12 @@ earlier rs more stop ms are = by (later (cut rs) more)
     by (ended front ps q qs done rows_) =
         let last = (fold cut_with (cut rs) more).last in
         part_taken ps q (qs ++ last ∷ []) stop ms (cut rs).last.rows_ front
-        (subst (λ (l : List Part). ArePatches l stop ms) (ap (λ (l : List Part). l ++ last ∷ []) done ∙ append_assoc ps (q ∷ qs) (last ∷ [])) all) rows_
+        (subst (λ (l : List StreamPart). ArePatches l stop ms) (ap (λ (l : List StreamPart). l ++ last ∷ []) done ∙ append_assoc ps (q ∷ qs) (last ∷ [])) all) rows_
 
 pub stream_or_fault : (text : List ℕ) (ms : List Meaning) (fault : PatchFault) → IsStream text ms → IsStreamFault text fault → ⊥
 stream_or_fault text ms fault s f = by (compared text 0 s.rows_ (length text) f.rows_ f.to s.reads f.reads)
   where
-    last : Part
+    last : StreamPart
     last = (cut f.rows_).last
 
     whole : s.rows_ ≡ f.rows_ → (last.rows_ ≡ [] → ⊥) → ArePatches (parts_of (cut f.rows_)) (length text) ms

@@ -8,7 +8,7 @@ use Rattle.patch_meaning.specs.declared.fault.PatchFault.{PatchFault}
 use Rattle.patch_meaning.specs.declared.fault.PatchFault.TheVariants as faults
 use Rattle.patch_meaning.specs.declared.fault.PatchKind.TheVariants as kinds
 use Rattle.patch_meaning.specs.declared.role.Role.{Role}
-use Rattle.patch_meaning.specs.Draft.{AreBehind, Stands}
+use Rattle.patch_meaning.specs.Draft.{AreBehind, DraftStands}
 use Rattle.patch_meaning.specs.Patch.{AreOutside, IsWell, prev_list}
 use Rattle.patch_meaning.specs.PartRead.{LacksEnd}
 use Rattle.patch_meaning.specs.Roles.{role, said, ids_of, changes_of, is_open}
@@ -22,7 +22,7 @@ said_more rs r = map-append (λ (r : PlacedRow). role r.row) rs (r ∷ [])
 
 -- ---- the end of a patch
 
-pub whole_is : (rs : List Role) (d : Draft) (id : Id) → Stands rs d → d.in_block ≡ false → d.id ≡ Some id → IsWell rs (record { id = id; prev = d.prev; changes = changes_of rs })
+pub whole_is : (rs : List Role) (d : Draft) (id : Id) → DraftStands rs d → d.in_block ≡ false → d.id ≡ Some id → IsWell rs (record { id = id; prev = d.prev; changes = changes_of rs })
 whole_is rs d id s outside is = record {
   parted = s.parted;
   one_id = s.ids ∙ ap prev_list is;

@@ -16,7 +16,7 @@ use Rattle.delta_base.specs.declared.limits.TheConstants.{PATCH_LIMIT}
 use Rattle.patch_meaning.specs.Patch.{Meaning, IsPatch, IsWell}
 use Rattle.patch_meaning.specs.Roles.{role, said}
 use Rattle.patch_meaning.specs.Rows.{RowsTo}
-use Rattle.patch_meaning.specs.Stream.{Part, Cut, begins, cut, cut_with, stop_of}
+use Rattle.patch_meaning.specs.Stream.{StreamPart, Cut, begins, cut, cut_with, stop_of}
 use Rattle.patch_meaning.proofs.Cuts.{begun, longer, stop_more}
 use Rattle.patch_meaning.proofs.Rowed.{rows_more, row_within, rows_order}
 use Rattle.patch_rows.proofs.Slices.{row_shorter, space_shorter}
@@ -122,11 +122,11 @@ gap_there text from at gap =
     (subst (Space (drop at text)) (still (drop at text) (none_behind (drop from text) (drop at text) gap.0)) (skipped (drop at text)), omega arith, gap.2)
 
 -- each part is read up to where the next one begins, or to this place
-abbrev pub AreRead : List ℕ → List Part → ℕ → Type 0
+abbrev pub AreRead : List ℕ → List StreamPart → ℕ → Type 0
 AreRead text [] stop = Unit {0}
 AreRead text (part ∷ parts) stop = RowsTo text part.from part.rows_ (stop_of parts stop) × AreRead text parts stop
 
-read_more : (text : List ℕ) (done : List Part) (last : Part) (stop : ℕ) → AreRead text done last.from → RowsTo text last.from last.rows_ stop → AreRead text (done ++ last ∷ []) stop
+read_more : (text : List ℕ) (done : List StreamPart) (last : StreamPart) (stop : ℕ) → AreRead text done last.from → RowsTo text last.from last.rows_ stop → AreRead text (done ++ last ∷ []) stop
 read_more text [] last stop are up = (up, tt)
 read_more text (part ∷ done) last stop are up = (subst (RowsTo text part.from part.rows_) (sym (stop_more done last stop)) are.0, read_more text done last stop are.1 up)
 

@@ -17,9 +17,9 @@ use Rattle.patch_meaning.specs.declared.fault.PatchFault.{PatchFault}
 use Rattle.patch_meaning.specs.declared.role.Role.{Role}
 use Rattle.patch_meaning.specs.declared.role.Role.TheVariants as roles
 use Rattle.patch_meaning.specs.declared.rows.Next.{Next}
-use Rattle.patch_meaning.specs.Checked.{AreRead, HasTaken, HasDrafted, Refuses, IsStopped}
-use Rattle.patch_meaning.specs.Draft.{Stands}
-use Rattle.patch_meaning.specs.Next.{IsNextRow, IsNext}
+use Rattle.patch_meaning.specs.Checked.{AreRead, HasTakenRows, HasDrafted, Refuses, IsStopped}
+use Rattle.patch_meaning.specs.Draft.{DraftStands}
+use Rattle.patch_meaning.specs.Next.{IsNextRow, IsNextRead}
 use Rattle.patch_meaning.specs.PartRead.{LacksEnd, meaning_of}
 use Rattle.delta_base.specs.declared.limits.TheConstants.{PATCH_LIMIT}
 use Rattle.patch_meaning.specs.Patch.{IsPatch, IsWell, AreTaken, IsPatchFault, rows_, no_row, refused, open_block, no_id, refusal, row_refused}
@@ -39,10 +39,10 @@ use Rattle.patch_meaning.proofs.Rowed.{rows_more, row_within}
 abbrev pub kept : ReadRows → List Role → Type 0
 kept d rs = AreRead rs d
 
-pub started : (text : List ℕ) (Known : List Role → Type 0) → Known [] → HasTaken text 0 Known
+pub started : (text : List ℕ) (Known : List Role → Type 0) → Known [] → HasTakenRows text 0 Known
 started text Known s = record { rs = []; reads = refl; within = omega arith; known = s }
 
-pub taken : (text : List ℕ) (at : ℕ) (Old New : List Role → Type 0) (next : Next) → HasTaken text at Old → IsNextRow text at next → ((rs : List Role) → Old rs → New (rs ++ next.role ∷ [])) → HasTaken text next.end New
+pub taken : (text : List ℕ) (at : ℕ) (Old New : List Role → Type 0) (next : Next) → HasTakenRows text at Old → IsNextRow text at next → ((rs : List Role) → Old rs → New (rs ++ next.role ∷ [])) → HasTakenRows text next.end New
 taken text at Old New next h is step =
     let placed : PlacedRow = record { row = is.0; at = next.at; end = next.end } in
     record {
@@ -87,10 +87,10 @@ further text at next is =
     let low = is.1.1 in
     (omega (arith, row.0, low), row.1)
 
-pub ended : (text : List ℕ) (at : ℕ) (Known : List Role → Type 0) → HasTaken text at Known → Gap text at (length text) → (rs : List PlacedRow) × RowsTo text 0 rs (length text) × Known (said rs)
+pub ended : (text : List ℕ) (at : ℕ) (Known : List Role → Type 0) → HasTakenRows text at Known → Gap text at (length text) → (rs : List PlacedRow) × RowsTo text 0 rs (length text) × Known (said rs)
 ended text at Known h gap = (h.rs, (at, h.reads, gap), h.known)
 
-pub stopped : (text : List ℕ) (at : ℕ) (Known : List Role → Type 0) (next : Next) (fault : PatchFault) → length text ≤ PATCH_LIMIT → ((rs : List Role) → Known rs → AreTaken rs) → HasTaken text at Known
+pub stopped : (text : List ℕ) (at : ℕ) (Known : List Role → Type 0) (next : Next) (fault : PatchFault) → length text ≤ PATCH_LIMIT → ((rs : List Role) → Known rs → AreTaken rs) → HasTakenRows text at Known
     → IsNextRow text at next → ((rs : List Role) → Known rs → IsStopped rs next fault) → Refuses text fault
 stopped text at Known next fault short all h is stop = by (stop (said h.rs) h.known)
   where
@@ -100,7 +100,7 @@ stopped text at Known next fault short all h is stop = by (stop (said h.rs) h.kn
         inr (rows_ h.rs next.at short (at, h.reads, is.1) (all (said h.rs) h.known)
         (refused is.0 next.end s.0 is.2 (ap (refusal (said h.rs)) (sym is.3) ∙ s.1) s.2))
 
-pub broken : (text : List ℕ) (at : ℕ) (Known : List Role → Type 0) (fault : RowFault) → length text ≤ PATCH_LIMIT → ((rs : List Role) → Known rs → AreTaken rs) → HasTaken text at Known → IsNext text at (Err fault)
+pub broken : (text : List ℕ) (at : ℕ) (Known : List Role → Type 0) (fault : RowFault) → length text ≤ PATCH_LIMIT → ((rs : List Role) → Known rs → AreTaken rs) → HasTakenRows text at Known → IsNextRead text at (Err fault)
     → Refuses text (row_refused fault)
 broken text at Known (row.At place kind) short all h is = inr (rows_ h.rs is.0 short (at, h.reads, is.1) (all (said h.rs) h.known) (no_row place kind is.2 refl))
 broken text at Known row.OutOfMemory short all h is = inl refl
@@ -112,9 +112,9 @@ pub lacks_text : (text : List ℕ) (rs : List PlacedRow) (to : ℕ) (fault : Pat
 lacks_text text rs to fault short reads last (taken, inl is) = rows_ rs to short reads taken (open_block last is.0 is.1)
 lacks_text text rs to fault short reads last (taken, inr is) = rows_ rs to short reads taken (no_id last is.0 is.1 is.2)
 
-pub lacks_end : (text : List ℕ) (d : Draft) (fault : PatchFault) → length text ≤ PATCH_LIMIT → HasDrafted text d → ((rs : List Role) → Stands rs d → LacksEnd rs (length text) fault) → Refuses text fault
+pub lacks_end : (text : List ℕ) (d : Draft) (fault : PatchFault) → length text ≤ PATCH_LIMIT → HasDrafted text d → ((rs : List Role) → DraftStands rs d → LacksEnd rs (length text) fault) → Refuses text fault
 lacks_end text d fault short h why = inr (lacks_text text h.0 (length text) fault short h.1 refl (why (said h.0) h.2))
 
-pub whole_patch : (text : List ℕ) (d : Draft) (link : Link) → length text ≤ PATCH_LIMIT → HasDrafted text d → ((rs : List Role) → Stands rs d → IsWell rs (meaning_of link (changes_of rs)))
+pub whole_patch : (text : List ℕ) (d : Draft) (link : Link) → length text ≤ PATCH_LIMIT → HasDrafted text d → ((rs : List Role) → DraftStands rs d → IsWell rs (meaning_of link (changes_of rs)))
     → (changes : List Change) × IsPatch text (meaning_of link changes)
 whole_patch text d link short h well = (changes_of (said h.0), record { short = short; rows_ = h.0; reads = h.1; well = well (said h.0) h.2 })

@@ -3,13 +3,13 @@ use Rattle.std.proofs.Common.{ℕ, ◌<◌, ◌≤◌, List, [], ◌∷◌, ◌+
 use Rattle.patch_rows.specs.declared.row.Row.{Row}
 use Rattle.patch_rows.specs.declared.fault.RowFault.{RowFault}
 use Rattle.patch_rows.specs.declared.fault.RowFault.TheVariants as faults
-use Rattle.patch_rows.specs.Fault.{FailsBy}
+use Rattle.patch_rows.specs.Fault.{RowFailsBy}
 use Rattle.patch_rows.specs.Faults.{FirstFault}
 use Rattle.patch_rows.specs.Grammar.{Space, IsRowAt}
 use Rattle.patch_rows.specs.Reading.{skip_space}
 use Rattle.patch_rows.proofs.Slices.{end_place, space_end}
 use Rattle.patch_rows.proofs.SpaceLaws.{skipped}
-use Rattle.patch_meaning.specs.Next.{IsNext}
+use Rattle.patch_meaning.specs.Next.{IsNextRead}
 use Rattle.patch_meaning.specs.Rows.{AreUpTo}
 use Rattle.patch_reader.specs.declared.placed.PlacedRow.{PlacedRow}
 use Rattle.patch_reader.specs.Rows.{Gap, RowsUpTo}
@@ -22,7 +22,7 @@ pub row_within : (text : List ℕ) (at : ℕ) (r : Row) (end : ℕ) → IsRowAt 
 unfolding IsRowAt
 row_within text at r end is = (is.1, is.2)
 
-pub fault_next : (text : List ℕ) (from at : ℕ) (fault : RowFault) → Gap text from at → at < length text → FailsBy (FirstFault (drop at text)) text fault → IsNext text from (Err fault)
+pub fault_next : (text : List ℕ) (from at : ℕ) (fault : RowFault) → Gap text from at → at < length text → RowFailsBy (FirstFault (drop at text)) text fault → IsNextRead text from (Err fault)
 fault_next text from at (faults.At place kind) gap lt fails = (at, gap, (lt, fails.0, fails.1))
 fault_next text from at faults.OutOfMemory gap lt fails = tt
 

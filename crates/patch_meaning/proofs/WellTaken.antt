@@ -11,7 +11,7 @@ use Rattle.patch_meaning.specs.declared.role.Role.{Role}
 use Rattle.patch_meaning.specs.declared.role.Role.TheVariants as roles
 use Rattle.patch_meaning.specs.Draft.{AreBehind}
 use Rattle.patch_meaning.specs.Patch.{Meaning, IsWell, AreTaken, AreTakenFrom, block_refusal, late, refusal, prev_list, has_some}
-use Rattle.patch_meaning.specs.Roles.{id_of, prev_of, change_of, ids_of, prevs_of, changes_of, open_after, open_from, is_open}
+use Rattle.patch_meaning.specs.Roles.{id_said, prev_of, change_of, ids_of, prevs_of, changes_of, open_after, open_from, is_open}
 
 -- ---- lists of one item
 
@@ -101,7 +101,7 @@ well_closed rs m w = ap (open_from false) w.changes_are ∙ closed false m.chang
 -- ---- each row may stand
 
 id_there : (before rs : List Role) (id : Option Id) (m : Meaning) → IsWell (before ++ roles.Id id ∷ rs) m → (ids_of before ≡ []) × (id ≡ Some m.id)
-id_there before rs id m w = alone (ids_of before) (ids_of rs) id (Some m.id) (sym (said_there id_of before rs (roles.Id id)) ∙ w.one_id)
+id_there before rs id m w = alone (ids_of before) (ids_of rs) id (Some m.id) (sym (said_there id_said before rs (roles.Id id)) ∙ w.one_id)
 
 prev_alone : (xs ys : List (Option Id)) (x : Option Id) (prev : Option Id) → xs ++ x ∷ ys ≡ prev_list prev → (xs ≡ []) × ((id : Id) × (x ≡ Some id))
 prev_alone xs ys x None e = absurd (never xs ys x e)

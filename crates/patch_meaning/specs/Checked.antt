@@ -10,7 +10,7 @@ use Rattle.patch_meaning.specs.declared.fault.PatchFault.TheVariants as faults
 use Rattle.patch_meaning.specs.declared.fault.PatchKind.{PatchKind}
 use Rattle.patch_meaning.specs.declared.role.Role.{Role}
 use Rattle.patch_meaning.specs.declared.rows.Next.{Next}
-use Rattle.patch_meaning.specs.Draft.{Stands}
+use Rattle.patch_meaning.specs.Draft.{DraftStands}
 use Rattle.patch_meaning.specs.Patch.{Meaning, IsPatch, IsPatchFault, refusal}
 use Rattle.patch_meaning.specs.Roles.{said, changes_of}
 use Rattle.patch_reader.specs.declared.placed.PlacedRow.{PlacedRow}
@@ -31,8 +31,8 @@ abbrev pub meanings : List CheckedPatch → List Meaning
 meanings ps = map (λ p. p.meaning) ps
 
 -- their texts
-abbrev pub texts : List CheckedPatch → List (List ℕ)
-texts ps = map (λ p. p.text) ps
+abbrev pub checked_texts : List CheckedPatch → List (List ℕ)
+checked_texts ps = map (λ p. p.text) ps
 
 -- each text is a patch that says this
 abbrev pub AreChecked : List CheckedPatch → Type 0
@@ -51,22 +51,23 @@ IsStopped rs next fault =
 
 -- these rows were taken, and their changes are kept
 abbrev pub AreRead : List Role → ReadRows → Type 0
-AreRead rs read = Stands rs read.draft × (changes_of rs ≡ read.changes.items)
+AreRead rs read = DraftStands rs read.draft × (changes_of rs ≡ read.changes.items)
 
 -- these rows were taken, and no change is kept
 abbrev pub AreDrafted : Draft → List Role → Type 0
-AreDrafted d rs = Stands rs d
+AreDrafted d rs = DraftStands rs d
 
 -- the rows up to a place were taken, and of them this is known
-pub record HasTaken (text : List ℕ) (at : ℕ) (Known : List Role → Type 0) : Type 0 where
+pub record HasTakenRows (text : List ℕ) (at : ℕ) (Known : List Role → Type 0) : Type 0 where
   pub rs : List PlacedRow
   pub reads : RowsUpTo text 0 rs at
   pub within : at ≤ length text
   pub known : Known (said rs)
 
 -- all rows of the text were taken
-abbrev pub HasRead : List ℕ → ReadRows → Type 0
-HasRead text read = (rs : List PlacedRow) × RowsTo text 0 rs (length text) × AreRead (said rs) read
+abbrev pub HasReadPatch : List ℕ → ReadRows → Type 0
+HasReadPatch text read =
+    (rs : List PlacedRow) × RowsTo text 0 rs (length text) × AreRead (said rs) read
 
 -- the same where no change is kept
 abbrev pub HasDrafted : List ℕ → Draft → Type 0
@@ -75,6 +76,6 @@ HasDrafted text d = (rs : List PlacedRow) × RowsTo text 0 rs (length text) × A
 -- The next row behind a place was taken, and this is the place behind it; or all were taken; or it
 -- is the text's first fault.
 abbrev pub TakesNext : List ℕ → ℕ → Draft → Result (Option ℕ) PatchFault → Type 0
-TakesNext text at d (Ok (Some end)) = (at < end) × HasTaken text end (AreDrafted d)
+TakesNext text at d (Ok (Some end)) = (at < end) × HasTakenRows text end (AreDrafted d)
 TakesNext text at d (Ok None) = HasDrafted text d
 TakesNext text at d (Err fault) = Refuses text fault

@@ -14,7 +14,7 @@ use Rattle.patch_meaning.specs.declared.role.Role.{Role}
 use Rattle.patch_meaning.specs.declared.rows.Next.{Next}
 use Rattle.patch_meaning.specs.declared.stream.Cutting.{Cutting}
 use Rattle.patch_meaning.specs.Next.{IsNextRow}
-use Rattle.patch_meaning.specs.Checked.{CheckedPatch, meanings, texts}
+use Rattle.patch_meaning.specs.Checked.{CheckedPatch, meanings, checked_texts}
 use Rattle.patch_meaning.specs.PartRead.{HasPart, IsComplete, meaning_of}
 use Rattle.patch_meaning.specs.Patch.{Meaning, IsPatch, AreTaken, refusal, has_some}
 use Rattle.patch_meaning.specs.Roles.{role, said, change_of, changes_of}
@@ -22,7 +22,7 @@ use Rattle.patch_meaning.specs.Rows.{AreUpTo}
 use Rattle.patch_reader.specs.declared.placed.PlacedRow.{PlacedRow}
 use Rattle.patch_reader.specs.Rows.{Gap, RowsUpTo, NoRowAt}
 use Rattle.patch_meaning.specs.Stream.{ArePatches, AreStream, IsEndFault}
-use Rattle.patch_meaning.specs.Stream.{IsStreamFault, begins, cut, texts_of, within}
+use Rattle.patch_meaning.specs.Stream.{IsStreamFault, begins, cut, part_texts, within}
 
 -- ---- rows that come one at a time
 
@@ -38,22 +38,22 @@ pub record IsCutInto (rs : List PlacedRow) (ms : List Meaning) (changes : List C
       → changes_of (said (cut rs).last.rows_) ≡ changes
 
 -- with a row that says this the next patch begins
-abbrev pub Begins : Role → PartRead → Type 0
-Begins says p = (rs : List PlacedRow) → HasPart rs p → begins (said rs) says ≡ true
+abbrev pub BeginsPatch : Role → PartRead → Type 0
+BeginsPatch says p = (rs : List PlacedRow) → HasPart rs p → begins (said rs) says ≡ true
 
 -- with a row that says this the patch goes on
-abbrev pub GoesOn : Role → PartRead → Type 0
-GoesOn says p = (rs : List PlacedRow) → HasPart rs p → begins (said rs) says ≡ false
+abbrev pub GoesOnInPatch : Role → PartRead → Type 0
+GoesOnInPatch says p = (rs : List PlacedRow) → HasPart rs p → begins (said rs) says ≡ false
 
 -- the patch goes on with a row that says this, or it is complete where the next one begins with it
 abbrev pub IsCutAt : PartRead → Role → ℕ → Option Link → Type 0
-IsCutAt p says at None = GoesOn says p
-IsCutAt p says at (Some link) = Begins says p × IsComplete p at link
+IsCutAt p says at None = GoesOnInPatch says p
+IsCutAt p says at (Some link) = BeginsPatch says p × IsComplete p at link
 
 -- a patch that goes on stays, and behind one that is complete the next one begins
-abbrev pub IsLeft : PartRead → ℕ → Option Link → PartRead → Type 0
-IsLeft old at None new = new ≡ old
-IsLeft old at (Some link) new = HasPart [] new × (new.from ≡ at)
+abbrev pub IsLeftPart : PartRead → ℕ → Option Link → PartRead → Type 0
+IsLeftPart old at None new = new ≡ old
+IsLeftPart old at (Some link) new = HasPart [] new × (new.from ≡ at)
 
 -- what a patch with these changes says that was completed, if one was
 abbrev pub meanings_of : Option Link → List Change → List Meaning
@@ -109,9 +109,9 @@ IsBrokenAt p at kind fault =
     → AreTaken (said (cut rs).last.rows_) × (fault ≡ within (cut rs).last.from at (kinds.Row kind))
 
 -- the last patch of a stream that stops there: it has no rows, or it is complete
-abbrev pub IsLast : PartRead → ℕ → Option Link → Type 0
-IsLast p stop None = (rs : List PlacedRow) → HasPart rs p → has_some rs ≡ false
-IsLast p stop (Some link) =
+abbrev pub IsLastPatch : PartRead → ℕ → Option Link → Type 0
+IsLastPatch p stop None = (rs : List PlacedRow) → HasPart rs p → has_some rs ≡ false
+IsLastPatch p stop (Some link) =
     ((rs : List PlacedRow) → HasPart rs p → has_some rs ≡ true) × IsComplete p stop link
 
 -- the stream of these rows ends there, with the patch that was completed last
@@ -135,7 +135,7 @@ pub record HasCut (text : List ℕ) (at : ℕ) (k : Cutting) : Type 0 where
   pub reads : RowsUpTo text 0 rs at
   pub within : at ≤ length text
   pub parts : IsCutInto rs (meanings k.patches.items) k.changes.items k.part
-  pub texts_are : texts k.patches.items ≡ texts_of text (cut rs).done (cut rs).last.from
+  pub texts_are : checked_texts k.patches.items ≡ part_texts text (cut rs).done (cut rs).last.from
 
 -- the rows up to some place were cut, and this is the next one
 abbrev pub IsNextToCut : List ℕ → Next → Cutting → Type 0
@@ -146,9 +146,9 @@ abbrev pub HasCutAll : List ℕ → Cutting → Type 0
 HasCutAll text k = (at : ℕ) × HasCut text at k × Gap text at (length text)
 
 -- the text is the patch with these changes, if there is one
-abbrev pub IsTextOf : List ℕ → Option Link → List Change → Type 0
-IsTextOf text None changes = Unit {0}
-IsTextOf text (Some link) changes = IsPatch text (meaning_of link changes)
+abbrev pub IsPatchText : List ℕ → Option Link → List Change → Type 0
+IsPatchText text None changes = Unit {0}
+IsPatchText text (Some link) changes = IsPatch text (meaning_of link changes)
 
 -- the patch with its text, if there is one
 abbrev pub checked_of : List ℕ → Option Link → List Change → List CheckedPatch
@@ -156,13 +156,13 @@ checked_of text None changes = []
 checked_of text (Some link) changes = record { text = text; meaning = meaning_of link changes } ∷ []
 
 -- the next row, or none up to the text's end
-abbrev pub IsNextOf : List ℕ → ℕ → Option Next → Type 0
-IsNextOf text at None = Gap text at (length text)
-IsNextOf text at (Some next) = IsNextRow text at next
+abbrev pub IsNextOrEnd : List ℕ → ℕ → Option Next → Type 0
+IsNextOrEnd text at None = Gap text at (length text)
+IsNextOrEnd text at (Some next) = IsNextRow text at next
 
 -- no row stands there, which is a fault of the patch; want of memory is free
-abbrev pub Stops : List ℕ → ℕ → PartRead → PatchFault → Type 0
-Stops text at part fault =
+abbrev pub StopsCutting : List ℕ → ℕ → PartRead → PatchFault → Type 0
+StopsCutting text at part fault =
     (fault ≡ faults.OutOfMemory)
     ⊎ ((to place : ℕ) × (kind : RowKind) × Gap text at to × NoRowAt text to kind place
     × IsBrokenAt part place kind fault)

@@ -14,7 +14,7 @@ AreBehind true changes = AreInside changes
 AreBehind false changes = AreOutside changes
 
 -- these rows were taken, and the draft has what they say
-pub record Stands (rs : List Role) (d : Draft) : Type 0 where
+pub record DraftStands (rs : List Role) (d : Draft) : Type 0 where
   pub taken : AreTaken rs
   pub parted : AreParted rs
   pub ids : ids_of rs ≡ prev_list d.id
@@ -24,6 +24,6 @@ pub record Stands (rs : List Role) (d : Draft) : Type 0 where
   pub blocks : (more : List Change) → AreBehind d.in_block more → AreOutside (changes_of rs ++ more)
 
 -- the row was taken, or the first reason why it may not stand there
-abbrev pub Takes : List Role → Role → Result Unit PatchKind → Draft → Type 0
-Takes rs r (Ok done) d = Stands (rs ++ r ∷ []) d
-Takes rs r (Err why) d = refusal rs r ≡ Some why
+abbrev pub DraftTakes : List Role → Role → Result Unit PatchKind → Draft → Type 0
+DraftTakes rs r (Ok done) d = DraftStands (rs ++ r ∷ []) d
+DraftTakes rs r (Err why) d = refusal rs r ≡ Some why

@@ -14,8 +14,9 @@ IsNextRow text from next =
     (r : Row) × Gap text from next.at × IsRowAt text next.at r next.end × (next.role ≡ role r)
 
 -- the next row, or none up to the text's end, or the first fault of the next row
-abbrev pub IsNext : List ℕ → ℕ → Result (Option Next) RowFault → Type 0
-IsNext text from (Ok None) = Gap text from (length text)
-IsNext text from (Ok (Some next)) = IsNextRow text from next
-IsNext text from (Err (faults.At at kind)) = (to : ℕ) × Gap text from to × NoRowAt text to kind at
-IsNext text from (Err faults.OutOfMemory) = Unit {0}
+abbrev pub IsNextRead : List ℕ → ℕ → Result (Option Next) RowFault → Type 0
+IsNextRead text from (Ok None) = Gap text from (length text)
+IsNextRead text from (Ok (Some next)) = IsNextRow text from next
+IsNextRead text from (Err (faults.At at kind)) =
+    (to : ℕ) × Gap text from to × NoRowAt text to kind at
+IsNextRead text from (Err faults.OutOfMemory) = Unit {0}

@@ -9,7 +9,7 @@ use Rattle.patch_meaning.specs.declared.fault.PatchKind.{PatchKind}
 use Rattle.patch_meaning.specs.declared.fault.PatchKind.TheVariants as kinds
 use Rattle.patch_meaning.specs.declared.part.Part.{Part as PartRead}
 use Rattle.patch_meaning.specs.declared.role.Role.{Role}
-use Rattle.patch_meaning.specs.Draft.{Stands}
+use Rattle.patch_meaning.specs.Draft.{DraftStands}
 use Rattle.patch_meaning.specs.Patch.{Meaning, IsWell, AreTaken, refusal, has_some, place_of}
 use Rattle.patch_meaning.specs.Roles.{said, ids_of, changes_of, is_open}
 use Rattle.patch_meaning.specs.Stream.{IsEndFault, within}
@@ -21,12 +21,12 @@ meaning_of link changes = record { id = link.id; prev = link.prev; changes = cha
 
 -- these are its rows, and each of them was taken
 pub record HasPart (rs : List PlacedRow) (p : PartRead) : Type 0 where
-  pub stands : Stands (said rs) p.draft
+  pub stands : DraftStands (said rs) p.draft
   pub some : has_some rs ≡ p.has_rows
 
 -- a row that says this may not stand at a place behind the others, and that is the fault
-abbrev pub IsRefused : PartRead → Role → ℕ → PatchFault → Type 0
-IsRefused p says at fault =
+abbrev pub IsRefusedRow : PartRead → Role → ℕ → PatchFault → Type 0
+IsRefusedRow p says at fault =
     (rs : List PlacedRow) → HasPart rs p
     → (kind : PatchKind) × (refusal (said rs) says ≡ Some kind) × (fault ≡ within p.from at kind)
 

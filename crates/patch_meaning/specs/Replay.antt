@@ -17,5 +17,5 @@ abbrev pub link_of : Meaning → Link
 link_of m = record { id = m.id; prev = m.prev }
 
 -- what a chain sees of patches
-abbrev pub links_of : List Meaning → List Link
-links_of ms = map link_of ms
+abbrev pub links_said : List Meaning → List Link
+links_said ms = map link_of ms

@@ -81,11 +81,11 @@ said rs = map (λ r. role r.row) rs
 
 -- ---- what a list of rows says
 
-abbrev pub id_of : Role → List (Option Id)
-id_of (roles.Id id) = id ∷ []
-id_of (roles.Prev id) = []
-id_of roles.Other = []
-id_of (roles.Change change) = []
+abbrev pub id_said : Role → List (Option Id)
+id_said (roles.Id id) = id ∷ []
+id_said (roles.Prev id) = []
+id_said roles.Other = []
+id_said (roles.Change change) = []
 
 abbrev pub prev_of : Role → List (Option Id)
 prev_of (roles.Id id) = []
@@ -101,7 +101,7 @@ change_of (roles.Change change) = change ∷ []
 
 -- the ids that id rows name, in their order; none where the value names no id
 abbrev pub ids_of : List Role → List (Option Id)
-ids_of rs = flat_map id_of rs
+ids_of rs = flat_map id_said rs
 
 -- the same of prev rows
 abbrev pub prevs_of : List Role → List (Option Id)

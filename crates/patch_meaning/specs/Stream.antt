@@ -11,7 +11,7 @@ use Rattle.patch_meaning.specs.declared.fault.PatchKind.{PatchKind}
 use Rattle.patch_meaning.specs.declared.fault.PatchKind.TheVariants as kinds
 use Rattle.patch_meaning.specs.declared.role.Role.{Role}
 use Rattle.patch_meaning.specs.declared.role.Role.TheVariants as roles
-use Rattle.patch_meaning.specs.Checked.{CheckedPatch, meanings, texts}
+use Rattle.patch_meaning.specs.Checked.{CheckedPatch, meanings, checked_texts}
 use Rattle.delta_base.specs.declared.limits.TheConstants.{PATCH_LIMIT}
 use Rattle.patch_meaning.specs.Patch.{Meaning, IsWell, AreTaken, refusal, has_some}
 use Rattle.patch_meaning.specs.Roles.{role, said, ids_of, changes_of, is_open}
@@ -22,7 +22,7 @@ use Rattle.patch_meaning.specs.Rows.{RowsTo}
 -- ---- cutting
 
 -- a patch of a stream: where its text begins, and its rows
-pub record Part : Type 0 where
+pub record StreamPart : Type 0 where
   pub from : ℕ
   pub rows_ : List PlacedRow
 
@@ -36,8 +36,8 @@ begins rs (roles.Change change) = false
 
 -- patches that are complete, and the one to which the next row may belong
 pub record Cut : Type 0 where
-  pub done : List Part
-  pub last : Part
+  pub done : List StreamPart
+  pub last : StreamPart
 
 abbrev pub cut_with : Cut → PlacedRow → Cut
 cut_with c r =
@@ -55,12 +55,12 @@ cut rs = fold cut_with (record { done = []; last = record { from = 0; rows_ = []
 -- ---- streams
 
 -- the text of a patch reaches to the next one, or to this place
-abbrev pub stop_of : List Part → ℕ → ℕ
+abbrev pub stop_of : List StreamPart → ℕ → ℕ
 stop_of [] stop = stop
 stop_of (part ∷ parts) stop = part.from
 
 -- each part is a patch within the limit that says this
-abbrev pub ArePatches : List Part → ℕ → List Meaning → Type 0
+abbrev pub ArePatches : List StreamPart → ℕ → List Meaning → Type 0
 ArePatches [] stop [] = Unit {0}
 ArePatches [] stop (m ∷ ms) = ⊥
 ArePatches (part ∷ parts) stop [] = ⊥
@@ -74,16 +74,16 @@ AreStream [] stop ms = ms ≡ []
 AreStream (r ∷ rs) stop ms = ArePatches ((cut (r ∷ rs)).done ++ (cut (r ∷ rs)).last ∷ []) stop ms
 
 -- the texts of patches, each from its place to where the next one begins, or to this place
-abbrev pub texts_of : List ℕ → List Part → ℕ → List (List ℕ)
-texts_of text [] stop = []
-texts_of text (part ∷ parts) stop =
-    slice_range text part.from (stop_of parts stop) ∷ texts_of text parts stop
+abbrev pub part_texts : List ℕ → List StreamPart → ℕ → List (List ℕ)
+part_texts text [] stop = []
+part_texts text (part ∷ parts) stop =
+    slice_range text part.from (stop_of parts stop) ∷ part_texts text parts stop
 
 -- the texts of the patches of which these are the rows; without rows there is none
 abbrev pub cut_texts : List ℕ → List PlacedRow → List (List ℕ)
 cut_texts text [] = []
 cut_texts text (r ∷ rs) =
-    texts_of text ((cut (r ∷ rs)).done ++ (cut (r ∷ rs)).last ∷ []) (length text)
+    part_texts text ((cut (r ∷ rs)).done ++ (cut (r ∷ rs)).last ∷ []) (length text)
 
 -- the text is a stream of patches that say this
 pub record IsStream (text : List ℕ) (ms : List Meaning) : Type 0 where
@@ -96,7 +96,7 @@ pub record IsSplit (text : List ℕ) (ps : List CheckedPatch) : Type 0 where
   pub rows_ : List PlacedRow
   pub reads : RowsTo text 0 rows_ (length text)
   pub stream : AreStream rows_ (length text) (meanings ps)
-  pub texts_are : texts ps ≡ cut_texts text rows_
+  pub texts_are : checked_texts ps ≡ cut_texts text rows_
 
 -- ---- faults
 
@@ -107,13 +107,13 @@ within from at kind =
     else faults.At at kind
 
 -- behind its rows a patch ends at this place: the next one begins there, or the text ends
-pub data EndsAt (text : List ℕ) (part : Part) (to : ℕ) : Type 0 where
+pub data EndsAt (text : List ℕ) (part : StreamPart) (to : ℕ) : Type 0 where
   next : (r : Row) (end : ℕ) → IsRowAt text to r end
       → begins (said part.rows_) (role r) ≡ true → EndsAt text part to
   over : to ≡ length text → (part.rows_ ≡ [] → ⊥) → EndsAt text part to
 
 -- the fault of a patch that ends at this place, and whose rows have none
-pub data IsEndFault (part : Part) (to : ℕ) (fault : PatchFault) : Type 0 where
+pub data IsEndFault (part : StreamPart) (to : ℕ) (fault : PatchFault) : Type 0 where
   too_long : part.from + PATCH_LIMIT < to → fault ≡ faults.TooLong (to - part.from) PATCH_LIMIT
       → IsEndFault part to fault
   open_block : to ≤ part.from + PATCH_LIMIT → is_open (said part.rows_) ≡ true
@@ -124,7 +124,8 @@ pub data IsEndFault (part : Part) (to : ℕ) (fault : PatchFault) : Type 0 where
 -- The first fault of a patch of a stream: its last row may not stand behind the others, no row
 -- stands where the next one would begin, or the patch ends there. Up to that place it is too long
 -- or not, so no fault waits for what follows.
-pub data IsPartFault (text : List ℕ) (part : Part) (to : ℕ) (fault : PatchFault) : Type 0 where
+pub data IsPartFault (text : List ℕ) (part : StreamPart) (to : ℕ)
+    (fault : PatchFault) : Type 0 where
   refused : (front : List PlacedRow) (r : PlacedRow) (kind : PatchKind)
       → part.rows_ ≡ front ++ r ∷ [] → AreTaken (said front)
       → refusal (said front) (role r.row) ≡ Some kind

@@ -2,7 +2,7 @@
 
 ghost use Rattle.std.specs.Prelude.{◌≡◌, ◌≤◌, ◌++◌, ◌∷◌, [], List, Err, length, IfOk, IfErr, OnOk};
 ghost use Rattle.patch_meaning.specs.declared.role.Role.{Role as Said};
-ghost use Rattle.patch_meaning.specs.Checked.{AreRead, HasRead, Refuses, IsStopped};
+ghost use Rattle.patch_meaning.specs.Checked.{AreRead, HasReadPatch, Refuses, IsStopped};
 ghost use Rattle.patch_meaning.specs.Roles.{change_of};
 ghost use Rattle.patch_meaning.specs.PartRead.{meaning_of};
 ghost use Rattle.delta_base.specs.declared.limits.TheConstants.{PATCH_LIMIT};
@@ -141,7 +141,7 @@ pub fn check_patch(alloc: Global, text: &[u8]) -> Result<Checked, PatchFault>
 // Takes all rows of a text.
 fn read_rows(alloc: Global, text: &[u8]) -> Result<ReadRows, PatchFault>
     requires { length text.now ≤ PATCH_LIMIT }
-    ensures ok { IfOk result (HasRead text.now) }
+    ensures ok { IfOk result (HasReadPatch text.now) }
     ensures fault { IfErr result (Refuses text.now) }
 {
     let mut read = ReadRows {
@@ -203,7 +203,7 @@ pub fn refuse<T>(says: Role, fault: PatchFault) -> Result<T, PatchFault>
 // The patch of which all rows were taken.
 fn finish(alloc: Global, read: ReadRows, text: &[u8]) -> Result<Checked, PatchFault>
     requires short { length text.now ≤ PATCH_LIMIT }
-    requires read { HasRead text.now read }
+    requires read { HasReadPatch text.now read }
     ensures ok { IfOk result (λ patch. (patch.text ≡ text.now) × IsPatch text.now patch.meaning) }
     ensures fault { IfErr result (Refuses text.now) }
 {

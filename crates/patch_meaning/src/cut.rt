@@ -1,8 +1,9 @@
 //! A stream that is cut into patches while its rows come one at a time.
 
 ghost use Rattle.std.specs.Prelude.{◌≡◌, IfOk, IfErr, OnErr};
-ghost use Rattle.patch_meaning.specs.Cutting.{Begins, EndsStream, HasTakenNext, IsBrokenAt};
-ghost use Rattle.patch_meaning.specs.Cutting.{IsBrokenAtEnd, IsBrokenBy, IsCutAt, IsLast, IsLeft};
+ghost use Rattle.patch_meaning.specs.Cutting.{BeginsPatch, EndsStream, HasTakenNext, IsBrokenAt};
+ghost use Rattle.patch_meaning.specs.Cutting.{IsBrokenAtEnd, IsBrokenBy, IsCutAt, IsLastPatch};
+ghost use Rattle.patch_meaning.specs.Cutting.{IsLeftPart};
 ghost use Rattle.patch_meaning.specs.PartRead.{IsIncomplete, IsToldAt};
 
 use crate::fault::{PatchFault, PatchKind};
@@ -38,9 +39,9 @@ impl Part {
     // the row begins the next one.
     fn cut_before(&self, says: &Role, at: u64) -> Result<(Part, Option<Link>), PatchFault>
         ensures cut { IfOk result (λ x. IsCutAt self.now says.now at x.1) }
-        ensures left { IfOk result (λ x. IsLeft self.now at x.1 x.0) }
+        ensures left { IfOk result (λ x. IsLeftPart self.now at x.1 x.0) }
         ensures fault { IfErr result (λ fault.
-            Begins says.now self.now × IsIncomplete self.now at fault) }
+            BeginsPatch says.now self.now × IsIncomplete self.now at fault) }
         ensures told { IfErr result (IsToldAt at) }
     {
         if !self.begins_next(says) {
@@ -55,7 +56,7 @@ impl Part {
     /// The ids of the last patch of a stream that ends here, if it has rows.
     pub fn finish_stream(&self, stop: u64) -> Result<Option<Link>, PatchFault>
         ensures ok { IfOk result (EndsStream self.now stop) }
-        ensures last { IfOk result (IsLast self.now stop) }
+        ensures last { IfOk result (IsLastPatch self.now stop) }
         ensures fault { IfErr result (IsBrokenAtEnd self.now stop) }
         ensures told { IfErr result (IsToldAt stop) }
     {

@@ -25,11 +25,11 @@ pub struct Draft {
 }
 
 impl Draft {
-    ghost use Rattle.patch_meaning.specs.Draft.{Stands, Takes};
+    ghost use Rattle.patch_meaning.specs.Draft.{DraftStands, DraftTakes};
 
     /// No row so far.
     pub fn new() -> Draft
-        ensures { Stands [] result }
+        ensures { DraftStands [] result }
     {
         Draft {
             id: None,
@@ -41,7 +41,8 @@ impl Draft {
 
     /// Takes what the next row says, where it may stand behind the others; else nothing changes.
     pub fn take(&mut self, says: &Role) -> Result<(), PatchKind>
-        ensures row { (rs : List Said) → Stands rs self.old → Takes rs says.now result self.new }
+        ensures row { (rs : List Said) → DraftStands rs self.old
+            → DraftTakes rs says.now result self.new }
         ensures err { OnErr result (self.new ≡ self.old) }
     {
         match says {
@@ -56,7 +57,7 @@ impl Draft {
     #[inline]
     pub fn take_found(&mut self, says: Says) -> Result<(), PatchKind>
         ensures { (rs : List Said) (r : Said)
-            → IsFoundRole says r → Stands rs self.old → Takes rs r result self.new }
+            → IsFoundRole says r → DraftStands rs self.old → DraftTakes rs r result self.new }
     {
         match says {
             Says::Quad { .. } => {
@@ -74,7 +75,7 @@ impl Draft {
     #[tactic(auto, unfolding(crate::specs::Patch::refusal))]
     fn take_id(&mut self, id: Option<Id>) -> Result<(), PatchKind>
         ensures row { (rs : List Said)
-            → Stands rs self.old → Takes rs (roles.Id id) result self.new }
+            → DraftStands rs self.old → DraftTakes rs (roles.Id id) result self.new }
         ensures err { OnErr result (self.new ≡ self.old) }
     {
         match id {
@@ -85,7 +86,7 @@ impl Draft {
 
     fn put_id(&mut self, id: Id) -> Result<(), PatchKind>
         ensures row { (rs : List Said)
-            → Stands rs self.old → Takes rs (roles.Id (Some id)) result self.new }
+            → DraftStands rs self.old → DraftTakes rs (roles.Id (Some id)) result self.new }
         ensures err { OnErr result (self.new ≡ self.old) }
     {
         if self.id.is_some() {
@@ -101,7 +102,7 @@ impl Draft {
     #[tactic(auto, unfolding(crate::specs::Patch::refusal))]
     fn take_prev(&mut self, prev: Option<Id>) -> Result<(), PatchKind>
         ensures row { (rs : List Said)
-            → Stands rs self.old → Takes rs (roles.Prev prev) result self.new }
+            → DraftStands rs self.old → DraftTakes rs (roles.Prev prev) result self.new }
         ensures err { OnErr result (self.new ≡ self.old) }
     {
         match prev {
@@ -112,7 +113,7 @@ impl Draft {
 
     fn put_prev(&mut self, prev: Id) -> Result<(), PatchKind>
         ensures row { (rs : List Said)
-            → Stands rs self.old → Takes rs (roles.Prev (Some prev)) result self.new }
+            → DraftStands rs self.old → DraftTakes rs (roles.Prev (Some prev)) result self.new }
         ensures err { OnErr result (self.new ≡ self.old) }
     {
         if self.prev.is_some() {
@@ -126,7 +127,8 @@ impl Draft {
     }
 
     fn take_other(&mut self) -> Result<(), PatchKind>
-        ensures row { (rs : List Said) → Stands rs self.old → Takes rs roles.Other result self.new }
+        ensures row { (rs : List Said) → DraftStands rs self.old
+            → DraftTakes rs roles.Other result self.new }
         ensures err { OnErr result (self.new ≡ self.old) }
     {
         if self.has_change {
@@ -138,8 +140,8 @@ impl Draft {
     /// Takes a row that adds or deletes a quad, which may stand behind any others.
     #[inline]
     pub fn take_quad(&mut self)
-        ensures { (rs : List Said) (adds : Bool) (quad : Statement) → Stands rs self.old
-            → Stands (rs ++ roles.Change (change_by adds quad) ∷ []) self.new }
+        ensures { (rs : List Said) (adds : Bool) (quad : Statement) → DraftStands rs self.old
+            → DraftStands (rs ++ roles.Change (change_by adds quad) ∷ []) self.new }
     {
         self.has_change = true;
     }
@@ -147,7 +149,7 @@ impl Draft {
     #[inline]
     fn take_change(&mut self, change: &Change) -> Result<(), PatchKind>
         ensures row { (rs : List Said)
-            → Stands rs self.old → Takes rs (roles.Change change.now) result self.new }
+            → DraftStands rs self.old → DraftTakes rs (roles.Change change.now) result self.new }
         ensures err { OnErr result (self.new ≡ self.old) }
     {
         match in_block_behind(change, self.in_block) {

@@ -5,9 +5,9 @@ ghost use Rattle.delta_base.specs.declared.limits.TheConstants.{PATCH_LIMIT};
 ghost use Rattle.rdf_terms.specs.declared.change.Change.{Change};
 ghost use Rattle.patch_meaning.specs.declared.fault.PatchFault.TheVariants as faults;
 ghost use Rattle.patch_meaning.specs.declared.role.Role.{Role as Said};
-ghost use Rattle.patch_meaning.specs.Checked.{HasTaken, AreDrafted, HasDrafted};
+ghost use Rattle.patch_meaning.specs.Checked.{HasTakenRows, AreDrafted, HasDrafted};
 ghost use Rattle.patch_meaning.specs.Checked.{Refuses, IsStopped, TakesNext};
-ghost use Rattle.patch_meaning.specs.Draft.{Stands};
+ghost use Rattle.patch_meaning.specs.Draft.{DraftStands};
 ghost use Rattle.patch_meaning.specs.PartRead.{meaning_of};
 ghost use Rattle.patch_meaning.specs.Patch.{IsPatch};
 
@@ -63,7 +63,7 @@ fn take_next(
     from: usize,
 ) -> Result<Option<usize>, PatchFault>
     requires short { length text.now ≤ PATCH_LIMIT }
-    requires taken { HasTaken text.now from (AreDrafted draft.old) }
+    requires taken { HasTakenRows text.now from (AreDrafted draft.old) }
     ensures { TakesNext text.now from draft.new result }
 {
     let at = skip_space(text, from);
@@ -82,10 +82,10 @@ fn take_next(
 // Takes a row, and answers the place behind it.
 fn take(draft: &mut Draft, next: Next) -> Result<usize, PatchFault>
     ensures ok { OnOk result ((rs : List Said)
-        → Stands rs draft.old → Stands (rs ++ next.role ∷ []) draft.new) }
+        → DraftStands rs draft.old → DraftStands (rs ++ next.role ∷ []) draft.new) }
     ensures end { IfOk result (λ end. end ≡ next.end) }
     ensures fault { IfErr result (λ fault. (rs : List Said)
-        → Stands rs draft.old → IsStopped rs next fault) }
+        → DraftStands rs draft.old → IsStopped rs next fault) }
 {
     let Next { role, at, end } = next;
     match draft.take(&role) {

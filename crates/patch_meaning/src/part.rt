@@ -6,10 +6,10 @@ ghost use Rattle.delta_base.specs.declared.limits.TheConstants.{PATCH_LIMIT};
 ghost use Rattle.patch_meaning.specs.declared.fault.PatchFault.TheVariants as faults;
 ghost use Rattle.patch_meaning.specs.declared.role.Role.{Role as Said};
 ghost use Rattle.patch_meaning.specs.declared.role.Role.TheVariants as roles;
-ghost use Rattle.patch_meaning.specs.Draft.{Stands};
+ghost use Rattle.patch_meaning.specs.Draft.{DraftStands};
 ghost use Rattle.patch_meaning.specs.Patch.{IsWell, has_some};
 ghost use Rattle.patch_meaning.specs.PartRead.{meaning_of, HasPart, IsComplete};
-ghost use Rattle.patch_meaning.specs.PartRead.{IsIncomplete, IsRefused, IsToldAt, LacksEnd};
+ghost use Rattle.patch_meaning.specs.PartRead.{IsIncomplete, IsRefusedRow, IsToldAt, LacksEnd};
 ghost use Rattle.patch_meaning.specs.Roles.{role, said, changes_of};
 ghost use Rattle.patch_meaning.specs.Stream.{begins, within};
 ghost use Rattle.patch_reader.specs.declared.placed.PlacedRow.{PlacedRow};
@@ -77,7 +77,7 @@ impl Part {
         ensures rows { OnOk result ((rs : List PlacedRow) (r : PlacedRow)
             → HasPart rs self.old → role r.row ≡ says.now → HasPart (rs ++ r ∷ []) self.new) }
         ensures from { self.new.from ≡ self.old.from }
-        ensures fault { IfErr result (IsRefused self.old says.now at) }
+        ensures fault { IfErr result (IsRefusedRow self.old says.now at) }
         ensures told { IfErr result (IsToldAt at) }
         ensures err { OnErr result (self.new ≡ self.old) }
     {
@@ -139,8 +139,8 @@ fn too_long(from: u64, at: u64) -> PatchFault
 /// The ids of the patch of which all rows were taken.
 pub fn whole(draft: Draft, stop: u64) -> Result<Link, PatchFault>
     ensures ok { IfOk result (λ link. (rs : List Said)
-        → Stands rs draft → IsWell rs (meaning_of link (changes_of rs))) }
-    ensures fault { IfErr result (λ fault. (rs : List Said) → Stands rs draft
+        → DraftStands rs draft → IsWell rs (meaning_of link (changes_of rs))) }
+    ensures fault { IfErr result (λ fault. (rs : List Said) → DraftStands rs draft
         → LacksEnd rs stop fault) }
     ensures told { IfErr result (IsToldAt stop) }
 {

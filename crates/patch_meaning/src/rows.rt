@@ -2,7 +2,7 @@
 
 ghost use Rattle.std.specs.Prelude.{◌≤◌, ℕ, drop, length};
 ghost use Rattle.nquads_text.specs.Grammar.{StartsWith};
-ghost use Rattle.patch_meaning.specs.Next.{IsNext};
+ghost use Rattle.patch_meaning.specs.Next.{IsNextRead};
 ghost use Rattle.patch_reader.specs.Rows.{Gap};
 ghost use Rattle.patch_rows.specs.Grammar.{begins_space};
 
@@ -24,7 +24,7 @@ pub struct Next {
 #[inline(always)]
 pub fn next_row(alloc: Global, text: &[u8], from: usize) -> Result<Option<Next>, RowFault>
     requires { from ≤ length text.now }
-    ensures { IsNext text.now from result }
+    ensures { IsNextRead text.now from result }
 {
     row_from(alloc, text, skip_space(text, from))
 }
@@ -35,7 +35,7 @@ pub fn next_row(alloc: Global, text: &[u8], from: usize) -> Result<Option<Next>,
 pub fn row_from(alloc: Global, text: &[u8], at: usize) -> Result<Option<Next>, RowFault>
     requires within { at ≤ length text.now }
     requires begins { StartsWith begins_space (drop at text.now) → ⊥ }
-    ensures { (from : ℕ) → Gap text.now from at → IsNext text.now from result }
+    ensures { (from : ℕ) → Gap text.now from at → IsNextRead text.now from result }
 {
     if at == text.len() {
         return Ok(None);

@@ -4,8 +4,8 @@ ghost use Rattle.std.specs.Prelude.{◌≡◌, ◌≤◌, ◌++◌, IfOk, IfErr,
 ghost use Rattle.std.specs.List.{slice_range};
 ghost use Rattle.patch_meaning.specs.declared.fault.PatchFault.TheVariants as faults;
 ghost use Rattle.patch_meaning.specs.Checked.{meanings};
-ghost use Rattle.patch_meaning.specs.Cutting.{HasCut, HasCutAll, IsNextOf, IsNextToCut};
-ghost use Rattle.patch_meaning.specs.Cutting.{IsTextOf, RefusesStream, Stops};
+ghost use Rattle.patch_meaning.specs.Cutting.{HasCut, HasCutAll, IsNextOrEnd, IsNextToCut};
+ghost use Rattle.patch_meaning.specs.Cutting.{IsPatchText, RefusesStream, StopsCutting};
 ghost use Rattle.patch_meaning.specs.Cutting.{changes_behind, changes_left, checked_of};
 ghost use Rattle.patch_meaning.specs.Stream.{IsSplit, IsStream};
 
@@ -55,8 +55,8 @@ pub fn split_stream(alloc: Global, text: &[u8]) -> Result<Patches, PatchFault>
 // The next row; where none stands there, the fault of the patch.
 fn next_of(alloc: Global, text: &[u8], at: usize, part: &Part) -> Result<Option<Next>, PatchFault>
     requires { at ≤ length text.now }
-    ensures ok { IfOk result (IsNextOf text.now at) }
-    ensures fault { IfErr result (Stops text.now at part.now) }
+    ensures ok { IfOk result (IsNextOrEnd text.now at) }
+    ensures fault { IfErr result (StopsCutting text.now at part.now) }
 {
     match next_row(alloc, text, at) {
         Ok(next) => Ok(next),
@@ -93,7 +93,7 @@ impl Cutting {
         says: Role,
         done: Option<Link>,
     ) -> Result<(), PatchFault>
-        requires { IsTextOf text.now done self.old.changes.items }
+        requires { IsPatchText text.now done self.old.changes.items }
         ensures patches { OnOk result (self.new.patches.items
             ≡ self.old.patches.items ++ checked_of text.now done self.old.changes.items) }
         ensures changes { OnOk result (self.new.changes.items
@@ -109,7 +109,7 @@ impl Cutting {
 
     // Puts a patch with its text behind those that are complete, if there is one.
     fn put(&mut self, alloc: Global, text: &[u8], done: Option<Link>) -> Result<(), OutOfMemory>
-        requires { IsTextOf text.now done self.old.changes.items }
+        requires { IsPatchText text.now done self.old.changes.items }
         ensures patches { OnOk result (self.new.patches.items
             ≡ self.old.patches.items ++ checked_of text.now done self.old.changes.items) }
         ensures changes { OnOk result (self.new.changes.items

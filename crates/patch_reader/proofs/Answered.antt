@@ -2,15 +2,15 @@
 use Rattle.std.proofs.Common.{◌≡◌, ℕ, ◌<◌, ◌≤◌, true, false, List, [], ◌∷◌, length, drop, Option, Some, Result, Ok, Err, refl, sym, ap, subst, ◌∙◌, arith}
 use Rattle.std.proofs.lemmas.Bool.{false≢true}
 use Rattle.std.proofs.lemmas.List.{length-drop}
-use Rattle.patch_rows.specs.declared.fault.RowFault.{RowFault as RowAnswer}
+use Rattle.patch_rows.specs.declared.fault.RowFault.{RowFault}
 use Rattle.patch_rows.specs.declared.fault.RowFault.TheVariants as faults
 use Rattle.patch_rows.specs.declared.fault.RowKind.{RowKind}
 use Rattle.patch_rows.specs.declared.row.Row.{Row}
-use Rattle.patch_rows.specs.Fault.{Gives}
+use Rattle.patch_rows.specs.Fault.{RowGives}
 use Rattle.patch_rows.specs.Grammar.{row_limit}
 use Rattle.patch_rows.proofs.Shorter.{row_shorter}
 use Rattle.patch_rows.specs.Cut.{AtEnd, is_cut, ends_row}
-use Rattle.patch_reader.specs.Decided.{ShortRowDecided, FirstFaultDecided, MoreDecides, Decides}
+use Rattle.patch_reader.specs.Decided.{ShortRowDecided, FirstFaultDecided, MoreDecides, DecidesRow}
 use Rattle.patch_reader.specs.Limit.{front_row_at}
 use Rattle.patch_rows.specs.Rows.{live_row}
 use Rattle.patch_reader.proofs.RowEnds.{cut_row}
@@ -40,11 +40,11 @@ front_is_bad text at place kind lt e = subst (IsDecided (drop at text)) e (decid
 pub long_starts : (text : List ℕ) (at : ℕ) → row_limit < length (drop at text) → at < length text
 long_starts text at lt = omega (arith, lt, length-drop at text)
 
-abbrev pub offered : Result (Row × ℕ) RowAnswer → Result (Option (Row × ℕ)) RowAnswer
+abbrev pub offered : Result (Row × ℕ) RowFault → Result (Option (Row × ℕ)) RowFault
 offered (Ok x) = Ok (Some x)
 offered (Err e) = Err e
 
-pub front_decides : (text : List ℕ) (at : ℕ) (answer : Result (Row × ℕ) RowAnswer) → row_limit < length (drop at text) → Gives text answer (front_row_at (drop at text)) → Decides text at (offered answer)
+pub front_decides : (text : List ℕ) (at : ℕ) (answer : Result (Row × ℕ) RowFault) → row_limit < length (drop at text) → RowGives text answer (front_row_at (drop at text)) → DecidesRow text at (offered answer)
 front_decides text at (Ok x) lt g = let d = front_there text at x.1 x.0 lt g.0 in (d, further text at x.1 x.0 g.1 d, g.1)
 front_decides text at (Err (faults.At place kind)) lt g = (front_is_bad text at place kind lt g.0, long_starts text at lt, g.1)
 front_decides text at (Err faults.OutOfMemory) lt g = tt

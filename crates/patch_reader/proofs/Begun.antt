@@ -11,7 +11,7 @@ use Rattle.rdf_terms.specs.declared.term.LiteralKind.TheVariants.{Plain, Tagged}
 use Rattle.rdf_terms.specs.declared.term.Term.{Term}
 use Rattle.rdf_terms.specs.declared.term.Term.TheVariants as term
 use Rattle.nquads_text.specs.declared.fault.TextKind.TheVariants.{BadToken, Truncated}
-use Rattle.nquads_text.specs.Fault.{Read as TextRead, ◌>>=◌ as ◌and_then◌}
+use Rattle.nquads_text.specs.Fault.{TextRead, ◌>>=◌ as ◌and_then◌}
 use Rattle.nquads_text.specs.Faults.{begins_term}
 use Rattle.nquads_text.specs.Grammar.{is_blank}
 use Rattle.nquads_text.specs.Reading.{char_at, iri_body_at, string_body_at}
@@ -24,8 +24,8 @@ use Rattle.patch_rows.specs.Grammar.{is_word_byte, is_any, is_node}
 use Rattle.patch_rows.specs.Reading.{stands, row_term_at, bracket_at, needed_term_at, run_of, key_at, other, uncut, word_at}
 use Rattle.patch_rows.specs.declared.cut.TextEnd.TheVariants.{Open}
 use Rattle.patch_rows.specs.Rows.{live_row, open_key, open_term, open_word_prefix, placed_of, prefix_iri_of, prefix_of, quoted_of}
-use Rattle.patch_reader.specs.declared.progress.Part.{Part}
-use Rattle.patch_reader.specs.declared.progress.Part.TheVariants as part
+use Rattle.patch_reader.specs.declared.progress.RowPart.{RowPart}
+use Rattle.patch_reader.specs.declared.progress.RowPart.TheVariants as part
 use Rattle.patch_rows.specs.Cut.{TextAtEnd, AtEnd, ends_row, ends_text, label_open, literal_open}
 use Rattle.patch_reader.specs.Inside.{IsLabelOpen, IsTagOpen, IsSuffixOpen, IsStringOpen}
 use Rattle.patch_reader.specs.Progress.{graph_from, object_from, predicate_from, subject_from, value_from, key_from, iri_from, added_from, removed_from, rest_from, takes_term, takes_node, takes_word}
@@ -157,15 +157,15 @@ cut_prefix_iri rest o = end_then (open_term rest) _ (cut_term rest o)
 
 ruleset cut_terms = (end_then, cut_placed, cut_prefix, cut_prefix_iri, false≢true)
 
-term_opens : (p : Part) (rest : List ℕ) → takes_term p ≡ true → IsCutTerm rest → AtEnd (rest_from p rest)
+term_opens : (p : RowPart) (rest : List ℕ) → takes_term p ≡ true → IsCutTerm rest → AtEnd (rest_from p rest)
 unfolding graph_from object_from predicate_from subject_from value_from iri_from added_from removed_from
 term_opens part.Graph rest t o = rw (term_there rest o) (end_then (placed_of Open is_node rest) _ (cut_placed is_node rest o))
 term_opens _ rest t o = search cut_terms
 
-pub string_opens : (p : Part) (rest body : List ℕ) → takes_term p ≡ true → rest ≡ 34 ∷ body → IsStringOpen (string_body_at body) → AtEnd (rest_from p rest)
+pub string_opens : (p : RowPart) (rest body : List ℕ) → takes_term p ≡ true → rest ≡ 34 ∷ body → IsStringOpen (string_body_at body) → AtEnd (rest_from p rest)
 string_opens p rest body t is a = term_opens p rest t (IsCutTerm.string body is (subst (λ (r : List ℕ). AtEnd (open_term r)) (sym is) (string_term body a)))
 
-pub iri_opens : (p : Part) (rest body : List ℕ) → takes_term p ≡ true → rest ≡ 60 ∷ body → TextAtEnd (iri_body_at body) → AtEnd (rest_from p rest)
+pub iri_opens : (p : RowPart) (rest body : List ℕ) → takes_term p ≡ true → rest ≡ 60 ∷ body → TextAtEnd (iri_body_at body) → AtEnd (rest_from p rest)
 iri_opens p rest body t is a = term_opens p rest t (IsCutTerm.iri body is (subst (λ (r : List ℕ). AtEnd (open_term r)) (sym is) (iri_term body a)))
 
 -- ---- labels
@@ -196,7 +196,7 @@ node_blank l = refl
 
 ruleset cut_labels = (end_then, label_placed, any_blank, node_blank, false≢true)
 
-pub label_opens : (p : Part) (rest : List ℕ) (c : ℕ) (after : List ℕ) → takes_node p ≡ true → char_at rest ≡ Ok (c, after) → begins_name c ≡ true → IsLabelOpen after → AtEnd (rest_from p (95 ∷ 58 ∷ rest))
+pub label_opens : (p : RowPart) (rest : List ℕ) (c : ℕ) (after : List ℕ) → takes_node p ≡ true → char_at rest ≡ Ok (c, after) → begins_name c ≡ true → IsLabelOpen after → AtEnd (rest_from p (95 ∷ 58 ∷ rest))
 unfolding graph_from object_from subject_from value_from
 label_opens part.Graph rest c after t e begins o = end_then (placed_of Open is_node (95 ∷ 58 ∷ rest)) _ (label_placed is_node node_blank rest c after e begins o)
 label_opens _ rest c after t e begins o = search cut_labels
@@ -245,7 +245,7 @@ word_prefix_open b rest letter all =
 
 ruleset cut_words = (end_then, key_open, word_prefix_open, false≢true)
 
-pub word_opens : (p : Part) (b : ℕ) (rest : List ℕ) → takes_word p ≡ true → is_ascii_alphabetic b ≡ true → list_all is_word_byte rest ≡ true → AtEnd (rest_from p (b ∷ rest))
+pub word_opens : (p : RowPart) (b : ℕ) (rest : List ℕ) → takes_word p ≡ true → is_ascii_alphabetic b ≡ true → list_all is_word_byte rest ≡ true → AtEnd (rest_from p (b ∷ rest))
 unfolding key_from added_from removed_from
 word_opens part.Key b rest t letter all = end_then (open_key (b ∷ rest)) _ (key_open b rest letter all)
 word_opens _ b rest t letter all = search cut_words

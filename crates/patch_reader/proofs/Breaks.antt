@@ -15,10 +15,10 @@ use Rattle.rdf_terms.specs.declared.term.Term.TheVariants as term
 use Rattle.rdf_terms.specs.declared.term.LiteralKind.{LiteralKind}
 use Rattle.rdf_terms.specs.declared.term.LiteralKind.TheVariants.{Plain, Typed, Tagged}
 use Rattle.nquads_text.specs.declared.fault.TextKind.TheVariants.{NotUtf8, BadLabel, BadLang, LangStringWithoutTag, BadToken, Truncated}
-use Rattle.nquads_text.specs.Fault.{Fault, Read, ◌>>=◌}
+use Rattle.nquads_text.specs.Fault.{TextFault, TextRead, ◌>>=◌}
 use Rattle.nquads_text.specs.Grammar.{is_blank}
 use Rattle.nquads_text.specs.Reading.{char_at, with_front, string_piece, pieces_at}
-use Rattle.nquads_text.specs.Terms.{name_step, name_len, name_at, label_at, is_tag_byte, tag_at, iri_needed, skip_blanks, kind_of, datatype_at, typed_at, suffix_at, iri_at, literal_at, term_at}
+use Rattle.nquads_text.specs.Terms.{name_step, name_len, name_at, label_at, is_tag_byte, tag_at, iri_needed, skip_blanks, kind_given, datatype_at, typed_at, suffix_at, iri_at, literal_at, term_at}
 use Rattle.nquads_text.proofs.Fronts.{char_spelled, char_at-ascii}
 use Rattle.nquads_text.proofs.NameRuns.{name-char, name-none}
 use Rattle.nquads_text.proofs.BlankRuns.{blanks_parted, blanks_skipped}
@@ -28,28 +28,28 @@ use Rattle.patch_reader.proofs.Stays.{with_more, string_body_stays, ok_char, bad
 use Rattle.patch_reader.proofs.TokenStays.{open_behind, dot_front, IsBlank, quote_front, label_rest, label_size, label_read}
 use Rattle.patch_reader.proofs.Completions.{stop, Completed, completed, front_parts}
 
-abbrev pub stopped : {X : Type 0} → Read X
+abbrev pub stopped : {X : Type 0} → TextRead X
 stopped = Err (NotUtf8, stop)
 
 no_char : char_at stop ≡ stopped
 unfolding char_at
 no_char = refl
 
-abbrev got : {X : Type 0} → X → Result X Fault
+abbrev got : {X : Type 0} → X → Result X TextFault
 got x = Ok x
 
 ok_is_text : {X : Type 0} (x y : X) → got x ≡ Ok y → x ≡ y
 ok_is_text x y e = cc
 
-ok_no_fault : {X : Type 0} (x : X) (f : Fault) → got x ≡ Err f → ⊥
+ok_no_fault : {X : Type 0} (x : X) (f : TextFault) → got x ≡ Err f → ⊥
 ok_no_fault x f e = absurd cc
 
 -- what was read behind a front
-front_ok : (front : List ℕ) (r : Read (List ℕ)) (after : List ℕ) (x : List ℕ) → with_front front r ≡ Ok (x, after) → (y : List ℕ) × (r ≡ Ok (y, after))
+front_ok : (front : List ℕ) (r : TextRead (List ℕ)) (after : List ℕ) (x : List ℕ) → with_front front r ≡ Ok (x, after) → (y : List ℕ) × (r ≡ Ok (y, after))
 front_ok front (Ok z) after x e = let same = ap (λ (p : List ℕ × List ℕ). p.1) (ok_is_text _ _ e) in (z.0, ap (λ (t : List ℕ). Ok (z.0, t)) same)
 front_ok front (Err f) after x e = absurd (ok_no_fault _ f (sym e))
 
-abbrev no_part : List ℕ → Read ℕ → Read (List ℕ)
+abbrev no_part : List ℕ → TextRead ℕ → TextRead (List ℕ)
 no_part start r = r >>= λ c. Err (BadLang, start)
 
 -- a tag that reaches the text's end is none before a dash and such a byte
@@ -64,7 +64,7 @@ tag_breaks first false start longer [] tag e = absurd (ok_no_fault _ _ (sym e))
 tag_breaks first some start longer (b ∷ rest) tag e =
     by (λ t e. tag_breaks first true start longer rest t e) (λ t e. tag_breaks false false start longer rest t e) (is_tag_byte first b) some (nat_eq b 45) e
   where
-    no_tag : (r : Read ℕ) → no_part start r ≡ Ok (tag, []) → ⊥
+    no_tag : (r : TextRead ℕ) → no_part start r ≡ Ok (tag, []) → ⊥
     no_tag (Ok c) e = ok_no_fault (tag, []) (BadLang, start) (sym e)
     no_tag (Err f) e = ok_no_fault (tag, []) f (sym e)
 
@@ -82,7 +82,7 @@ tag_breaks first some start longer (b ∷ rest) tag e =
 
 -- ---- what stands behind a string
 
-bind_ok : {X Y : Type 0} (r : Read X) (f : X × List ℕ → Read Y) (y : Y × List ℕ) → (r >>= f) ≡ Ok y → (x : X × List ℕ) × (r ≡ Ok x) × (f x ≡ Ok y)
+bind_ok : {X Y : Type 0} (r : TextRead X) (f : X × List ℕ → TextRead Y) (y : Y × List ℕ) → (r >>= f) ≡ Ok y → (x : X × List ℕ) × (r ≡ Ok x) × (f x ≡ Ok y)
 bind_ok (Ok x) f y e = (x, refl, e)
 bind_ok (Err g) f y e = absurd (ok_no_fault y g (sym e))
 
@@ -111,12 +111,12 @@ no_quote start after p =
     by true y e = e
     by false y e = refl
 
-abbrev kind_by : List ℕ → List ℕ → List ℕ → Bool → Bool → Read LiteralKind
+abbrev kind_by : List ℕ → List ℕ → List ℕ → Bool → Bool → TextRead LiteralKind
 kind_by start iri after lang string = cond lang (Err (LangStringWithoutTag, start)) (cond string (Ok (Plain, after)) (Ok (Typed iri, after)))
 
 -- behind a datatype there is `>`
-kind_gives : (start iri after : List ℕ) (x : LiteralKind × List ℕ) → kind_of start iri after ≡ Ok x → (x.1 ≡ after) × ((tag : List ℕ) → x.0 ≡ Tagged tag → ⊥)
-unfolding kind_of
+kind_gives : (start iri after : List ℕ) (x : LiteralKind × List ℕ) → kind_given start iri after ≡ Ok x → (x.1 ≡ after) × ((tag : List ℕ) → x.0 ≡ Tagged tag → ⊥)
+unfolding kind_given
 kind_gives start iri after x e = by (bytes_eq iri lang_string) (bytes_eq iri xsd_string) e
   where
     by : (lang string : Bool) → kind_by start iri after lang string ≡ Ok x → (x.1 ≡ after) × ((tag : List ℕ) → x.0 ≡ Tagged tag → ⊥)
@@ -130,11 +130,11 @@ datatype_gives start rest x e =
     let h = bind_ok (char_at rest) _ x e in
     by h.0 h.1 (nat_eq h.0.0 94) h.2
   where
-    by : (hat : ℕ × List ℕ) → char_at rest ≡ Ok hat → (is : Bool) → cond is (iri_needed (skip_blanks hat.1) >>= λ iri. kind_of start iri.0 iri.1) (Err (BadToken, rest)) ≡ Ok x
+    by : (hat : ℕ × List ℕ) → char_at rest ≡ Ok hat → (is : Bool) → cond is (iri_needed (skip_blanks hat.1) >>= λ iri. kind_given start iri.0 iri.1) (Err (BadToken, rest)) ≡ Ok x
         → Behind rest (62 ∷ x.1) × ((tag : List ℕ) → x.0 ≡ Tagged tag → ⊥)
     by hat c false e = absurd (ok_no_fault x (BadToken, rest) (sym e))
     by hat c true e =
-        let i = bind_ok (iri_needed (skip_blanks hat.1)) (λ iri. kind_of start iri.0 iri.1) x e in
+        let i = bind_ok (iri_needed (skip_blanks hat.1)) (λ iri. kind_given start iri.0 iri.1) x e in
         let k = kind_gives start i.0.0 i.0.1 x i.2 in
         let ref = iri_found (skip_blanks hat.1) i.0.0 i.0.1 i.1 in
         let spelled = char_spelled rest hat.0 hat.1 c in
@@ -149,7 +149,7 @@ datatype_gives start rest x e =
 -- ---- what breaks a literal
 
 -- with these bytes behind it the reading meets a byte with which no character begins
-abbrev pub Broken : {X : Type 0} → (List ℕ → Read X) → Type 0
+abbrev pub Broken : {X : Type 0} → (List ℕ → TextRead X) → Type 0
 Broken longer = (bytes : List ℕ) × (2 ≤ length bytes) × (longer bytes ≡ stopped)
 
 hat_breaks : (start text : List ℕ) → list_all is_blank text ≡ true → suffix_at start (text ++ (94 ∷ stop)) ≡ stopped
@@ -300,13 +300,13 @@ name_goes_on zero (b ∷ rest) le e = by (λ k. name_goes_on k rest) (decoded (b
         spelled : (c : ℕ) (after : List ℕ) → char_at (b ∷ rest) ≡ Ok (c, after) → GoesOn zero (b ∷ rest)
         spelled c after is =
             let k : ℕ = length rest - length after in
-            let one : name_len 0 (b ∷ rest) ≡ name_step (Ok (c, after)) (length rest) (λ k. name_len k rest) = ap (λ (r : Read ℕ). name_step r (length rest) (λ k. name_len k rest)) is in
+            let one : name_len 0 (b ∷ rest) ≡ name_step (Ok (c, after)) (length rest) (λ k. name_len k rest) = ap (λ (r : TextRead ℕ). name_step r (length rest) (λ k. name_len k rest)) is in
             let dots : nat_eq c 46 ≡ true → (b ≡ 46) × (k ≡ 0) = λ dot. let f = dot_front b rest c after is dot in let same = ap length f.1 in (f.0, omega (arith, same)) in
             let o = still_open b rest (nat_eq c 46) (is_name_char c) k (name_len k rest) dots (no_stop b rest c after is) (ap (λ (n : ℕ). label_open (drop (0 + n) (b ∷ rest))) (sym one) ∙ e) in
             let g = others k (omega arith) o.0 in
             let more : List ℕ = g.0 ++ stop in
             let longer : char_at ((b ∷ rest) ++ more) ≡ Ok (c, after ++ more) = ok_char (b ∷ rest) c after more is in
-            let two : name_len 0 ((b ∷ rest) ++ more) ≡ name_step (Ok (c, after ++ more)) (length (rest ++ more)) (λ k. name_len k (rest ++ more)) = ap (λ (r : Read ℕ). name_step r (length (rest ++ more)) (λ k. name_len k (rest ++ more))) longer in (
+            let two : name_len 0 ((b ∷ rest) ++ more) ≡ name_step (Ok (c, after ++ more)) (length (rest ++ more)) (λ k. name_len k (rest ++ more)) = ap (λ (r : TextRead ℕ). name_step r (length (rest ++ more)) (λ k. name_len k (rest ++ more))) longer in (
               g.0,
               g.1,
               two
@@ -315,7 +315,7 @@ name_goes_on zero (b ∷ rest) le e = by (λ k. name_goes_on k rest) (decoded (b
             )
 
 -- with these bytes behind it another label is read, up to a byte with which no character begins
-abbrev pub Longer : (List ℕ → Read (List ℕ)) → Type 0
+abbrev pub Longer : (List ℕ → TextRead (List ℕ)) → Type 0
 Longer longer = (bytes : List ℕ) × (2 ≤ length bytes) × ((label : List ℕ) × (longer bytes ≡ Ok (label, stop)))
 
 name_breaks : (start : List ℕ) (longer : List ℕ → List ℕ) (rest : List ℕ) (x : List ℕ × List ℕ) → name_at start rest ≡ Ok x → label_open x.1 ≡ true → Longer (λ bytes. name_at (longer bytes) (rest ++ bytes))
@@ -324,7 +324,7 @@ name_breaks start longer rest x e is =
     let first = bind_ok (char_at rest) _ x e in
     by first.0 first.1 (begins_name first.0.0) refl first.2
   where
-    no_label : (k : ℕ × List ℕ) → cond {A = Read (List ℕ)} false (label_read rest (label_size rest k)) (Err (BadLabel, start)) ≡ Ok x → ⊥
+    no_label : (k : ℕ × List ℕ) → cond {A = TextRead (List ℕ)} false (label_read rest (label_size rest k)) (Err (BadLabel, start)) ≡ Ok x → ⊥
     no_label k e = ok_no_fault x (BadLabel, start) (sym e)
 
     by : (first : ℕ × List ℕ) → char_at rest ≡ Ok first → (begins : Bool) → begins_name first.0 ≡ begins → cond begins (label_read rest (label_size rest first)) (Err (BadLabel, start)) ≡ Ok x
@@ -379,13 +379,13 @@ no_iri : (start iri after : List ℕ) → IsOpen start (term.Iri iri, after) →
 no_iri start iri after (inl e) = false≢true e
 no_iri start iri after (inr e) = false≢true e
 
-abbrev iri_term : Read (List ℕ) → Read Term
+abbrev iri_term : TextRead (List ℕ) → TextRead Term
 iri_term r = r >>= λ iri. Ok (term.Iri iri.0, iri.1)
 
-abbrev blank_term : Read (List ℕ) → Read Term
+abbrev blank_term : TextRead (List ℕ) → TextRead Term
 blank_term r = r >>= λ label. Ok (term.Blank label.0, label.1)
 
-abbrev literal_term : Read Literal → Read Term
+abbrev literal_term : TextRead Literal → TextRead Term
 literal_term r = r >>= λ literal. Ok (term.Literal literal.0, literal.1)
 
 pub term_breaks : (rest : List ℕ) (x : Term × List ℕ) → term_at rest ≡ Ok x → IsOpen rest x → TermBreaks (NotUtf8, stop) x.0 (λ bytes. term_at (rest ++ bytes))

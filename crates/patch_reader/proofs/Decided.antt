@@ -13,13 +13,13 @@ use Rattle.patch_rows.proofs.FaultPlaces.{first_end}
 use Rattle.patch_rows.proofs.Slices.{end_place, row_end}
 use Rattle.patch_rows.proofs.SpaceLaws.{skipped}
 use Rattle.patch_reader.specs.declared.front.Region.TheVariants as regions
-use Rattle.patch_reader.specs.declared.progress.Progress.{Progress}
+use Rattle.patch_reader.specs.declared.progress.RowProgress.{RowProgress}
 use Rattle.patch_reader.specs.Decided.{ShortRowDecided, FirstFaultDecided}
 use Rattle.patch_reader.specs.Held.{IsDecided}
 use Rattle.patch_reader.specs.Limit.{front_row_at}
 use Rattle.patch_reader.specs.Places.{further_place, placed_row}
-use Rattle.patch_reader.specs.Progress.{Follows, IsUnfinished}
-use Rattle.patch_reader.specs.Rows.{NothingDecided, Keeps}
+use Rattle.patch_reader.specs.Progress.{HasFollowed, IsUnfinished}
+use Rattle.patch_reader.specs.Rows.{NothingDecided, KeepsText}
 use Rattle.patch_reader.proofs.Answered.{further, starts}
 use Rattle.patch_reader.proofs.Limits.{IsDecided as IsGiven, decided_front}
 use Rattle.patch_reader.proofs.Kept.{next_given}
@@ -28,7 +28,7 @@ use Rattle.patch_reader.proofs.RowEnds.{cut_row, cut_short}
 use Rattle.patch_reader.proofs.WindowSteps.{stops_moved}
 
 -- the rest of a text begins with the row, and nothing is decided from there on
-module _ (text rest : List ℕ) (at : ℕ) (keeps : Keeps text at rest) (out : skip_space rest ≡ rest) (none : NothingDecided text (at + 0)) where
+module _ (text rest : List ℕ) (at : ℕ) (keeps : KeepsText text at rest) (out : skip_space rest ≡ rest) (none : NothingDecided text (at + 0)) where
   space : Space rest rest
   space = subst (Space rest) out (skipped rest)
 
@@ -62,7 +62,7 @@ module _ (text rest : List ℕ) (at : ℕ) (keeps : Keeps text at rest) (out : s
           met true o = decided (short, subst AtEnd (sym e) o)
           met false o = no_fault f some (short_fault rest f short e o)
 
-pub row_decided : (rest : List ℕ) (p : Progress) → (Follows rest p → IsUnfinished rest → ⊥) → IsDecided rest (regions.Row (Some p))
+pub row_decided : (rest : List ℕ) (p : RowProgress) → (HasFollowed rest p → IsUnfinished rest → ⊥) → IsDecided rest (regions.Row (Some p))
 row_decided rest p decided = λ text passed at (keeps, order, is) none.
     let within = keeps.1 in
     let none_here = stops_moved ends.Open text at passed None (omega (arith, order, within)) within (λ more. is.1 more ∙ sym (is.0 more)) none in

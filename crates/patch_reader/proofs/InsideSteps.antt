@@ -7,7 +7,7 @@ use Rattle.std.proofs.lemmas.Bool.Decides.{nat_tests}
 use Rattle.std.proofs.lemmas.List.{length-append, drop-append-le, drop-drop, drop_more, drop_all, get_or_append_left}
 use Rattle.rdf_terms.specs.Names.{is_name_char}
 use Rattle.nquads_text.specs.declared.fault.TextKind.{TextKind}
-use Rattle.nquads_text.specs.Fault.{Read, ◌>>=◌}
+use Rattle.nquads_text.specs.Fault.{TextRead, ◌>>=◌}
 use Rattle.nquads_text.specs.Grammar.{is_blank}
 use Rattle.nquads_text.specs.Reading.{char_at, iri_body_at, string_body_at, iri_piece, string_piece, with_front, pieces_at}
 use Rattle.nquads_text.specs.Terms.{name_len, is_tag_byte, tag_at, skip_blanks, typed_at, datatype_at, iri_at, iri_needed}
@@ -126,10 +126,10 @@ label_cut (b ∷ bs) e =
 
 -- ---- strings and IRIREFs
 
-module _ (piece : List ℕ → Read (Option ℕ)) (stays : (more rest : List ℕ) → Stays more (piece rest) (piece (rest ++ more))) where
+module _ (piece : List ℕ → TextRead (Option ℕ)) (stays : (more rest : List ℕ) → Stays more (piece rest) (piece (rest ++ more))) where
   piece_longer : (text more : List ℕ) (at next : ℕ) (o : Option ℕ) → at ≤ length text → next ≤ length text → piece (drop at text) ≡ Ok (o, drop next text) → piece (drop at (text ++ more)) ≡ Ok (o, drop next (text ++ more))
   piece_longer text more at next o low high e =
-      ap piece (drop-append-le at text more low) ∙ by (subst (λ (r : Read (Option ℕ)). Stays more r (piece (drop at text ++ more))) e (stays more (drop at text)))
+      ap piece (drop-append-le at text more low) ∙ by (subst (λ (r : TextRead (Option ℕ)). Stays more r (piece (drop at text ++ more))) e (stays more (drop at text)))
     where
       by : Stays more (Ok (o, drop next text)) (piece (drop at text ++ more)) → piece (drop at text ++ more) ≡ Ok (o, drop next (text ++ more))
       by (inl h) = absurd h
@@ -146,11 +146,11 @@ module _ (piece : List ℕ → Read (Option ℕ)) (stays : (more rest : List ℕ
       piece_last piece (text ++ more) [] at next (pieces_at piece 0 (drop at (text ++ more))) lt (omega (arith, le, length-append text more))
       (piece_longer text more at next None (omega (arith, lt, le)) le e) (sym (with_nothing (pieces_at piece 0 (drop at (text ++ more)))))
 
-string_front : (front : List ℕ) (r : Read (List ℕ)) → IsStringOpen r → IsStringOpen (with_front front r)
+string_front : (front : List ℕ) (r : TextRead (List ℕ)) → IsStringOpen r → IsStringOpen (with_front front r)
 string_front front (Ok x) o = o
 string_front front (Err f) o = o
 
-front_end : (front : List ℕ) (r : Read (List ℕ)) → TextAtEnd r → TextAtEnd (with_front front r)
+front_end : (front : List ℕ) (r : TextRead (List ℕ)) → TextAtEnd r → TextAtEnd (with_front front r)
 front_end front (Ok x) o = absurd o
 front_end front (Err f) o = o
 
@@ -214,7 +214,7 @@ pub blanks_over : (text more : List ℕ) (from at : ℕ) → from ≤ length tex
 blanks_over text more from at low high is o =
     subst AreBlanksOpen (sym (drop-append-le from text more low)) (blanks_before (drop from text) more (subst AreBlanksOpen (blanks_there text more from at high is) o))
 
-pub text_end_then : {X Y : Type 0} (r : Read X) (f : X × List ℕ → Read Y) → TextAtEnd r → TextAtEnd (r >>= f)
+pub text_end_then : {X Y : Type 0} (r : TextRead X) (f : X × List ℕ → TextRead Y) → TextAtEnd r → TextAtEnd (r >>= f)
 text_end_then (Ok x) f a = absurd a
 text_end_then (Err e) f a = a
 
@@ -241,7 +241,7 @@ hat_ends text at last is =
 
 -- ---- tags
 
-tag_front : (front : List ℕ) (r : Read (List ℕ)) → IsTagOpen r → IsTagOpen (with_front front r)
+tag_front : (front : List ℕ) (r : TextRead (List ℕ)) → IsTagOpen r → IsTagOpen (with_front front r)
 tag_front front (Ok x) o = o
 tag_front front (Err f) o = o
 

@@ -2,11 +2,11 @@
 use Rattle.std.proofs.Common.{◌≡◌, ℕ, ◌+◌, ◌-◌, ◌^◌, ◌<◌, ◌≤◌, true, List, [], ◌∷◌, ◌++◌, length, drop, Option, Some, None, Result, Ok, Err, refl, sym, ap, subst, ◌∙◌, append-nil, arith}
 use Rattle.std.proofs.lemmas.Bool.{false≢true}
 use Rattle.std.proofs.lemmas.List.{length-append, length-drop, drop-append-le, drop-drop}
-use Rattle.patch_rows.specs.declared.fault.RowFault.{RowFault as RowAnswer}
+use Rattle.patch_rows.specs.declared.fault.RowFault.{RowFault}
 use Rattle.patch_rows.specs.declared.fault.RowFault.TheVariants as faults
 use Rattle.patch_rows.specs.declared.fault.RowKind.{RowKind}
 use Rattle.patch_rows.specs.declared.row.Row.{Row}
-use Rattle.patch_rows.specs.Fault.{Fault, FailsBy}
+use Rattle.patch_rows.specs.Fault.{Fault, RowFailsBy}
 use Rattle.patch_rows.specs.Faults.{FirstFault}
 use Rattle.patch_rows.specs.Grammar.{Space, ShortRowAt, IsRowAt}
 use Rattle.patch_rows.specs.Reading.{skip_space}
@@ -15,9 +15,9 @@ use Rattle.patch_reader.specs.declared.placed.PlacedRow.{PlacedRow}
 use Rattle.patch_rows.specs.declared.cut.TextEnd.{TextEnd}
 use Rattle.patch_rows.specs.declared.cut.TextEnd.TheVariants as ends
 use Rattle.patch_rows.specs.Cut.{AtEnd, is_cut}
-use Rattle.patch_reader.specs.Decided.{ShortRowDecided, FirstFaultDecided, MoreDecides, Reads, GivesRow}
+use Rattle.patch_reader.specs.Decided.{ShortRowDecided, FirstFaultDecided, MoreDecides, ReadsRow, GivesRow}
 use Rattle.patch_reader.specs.Places.{further_place, moved_fault, placed_row}
-use Rattle.patch_reader.specs.Rows.{Gap, RowsUpTo, NoRowAt, FaultBehind, RowsDecided, NextFault, NothingDecided, GivesNext, Keeps}
+use Rattle.patch_reader.specs.Rows.{Gap, RowsUpTo, NoRowAt, FaultBehind, RowsDecided, NextRowFault, NothingDecided, GivesNext, KeepsText}
 use Rattle.patch_reader.proofs.Limits.{any_length}
 use Rattle.patch_reader.proofs.RowEnds.{space_there, cut_row, cut_short}
 use Rattle.patch_reader.proofs.Settled.{only_row, only_fault}
@@ -51,7 +51,7 @@ module _ (text kept : List ℕ) (base : ℕ) (same : drop base text ≡ kept) (w
   none_there : (start place : ℕ) (kind : RowKind) → NoRowAt kept start kind place → NoRowAt text (base + start) kind (base + place)
   none_there start place kind bad = (omega (arith, size, within, bad.0), rw (here start, here place) bad.1, omega (arith, size, within, bad.2))
 
-module _ (text kept : List ℕ) (base : ℕ) (k : Keeps text base kept) where
+module _ (text kept : List ℕ) (base : ℕ) (k : KeepsText text base kept) where
   pub far : (at : ℕ) → at ≤ length kept → further_place base at ≡ base + at
   far at le =
       let s = size text kept base k.0 k.1 in let within = k.1 in let fits = k.2 in
@@ -91,8 +91,8 @@ module _ (text kept : List ℕ) (base : ℕ) (k : Keeps text base kept) where
       refl,
     ))
 
-    fault_next : (place : ℕ) (kind : RowKind) → start < length kept → place ≤ length kept → FirstFaultDecided (drop start kept) (kind, drop place kept) → NextFault text (base + at) kind (further_place base place)
-    fault_next place kind lt le d = subst (λ (n : ℕ). NextFault text (base + at) kind n) (sym (far place le)) (
+    fault_next : (place : ℕ) (kind : RowKind) → start < length kept → place ≤ length kept → FirstFaultDecided (drop start kept) (kind, drop place kept) → NextRowFault text (base + at) kind (further_place base place)
+    fault_next place kind lt le d = subst (λ (n : ℕ). NextRowFault text (base + at) kind n) (sym (far place le)) (
       base + start,
       λ more. (
         gap_stays (fault_not_cut (drop start kept) (kind, drop place kept) d) more,
@@ -121,7 +121,7 @@ module _ (text kept : List ℕ) (base : ℕ) (k : Keeps text base kept) where
         (subst (λ (t : List ℕ). ShortRowAt t r.row (drop r.end text ++ more)) (drop-append-le r.at text more b.1)
         (subst (λ (t : List ℕ). ShortRowAt (drop r.at (text ++ more)) r.row t) (drop-append-le r.end text more ends_within) (d more).1.0)))
 
-    fault_was : (kind : RowKind) (place : ℕ) → MoreDecides (drop start kept) → NextFault text (base + at) kind place → ⊥
+    fault_was : (kind : RowKind) (place : ℕ) → MoreDecides (drop start kept) → NextRowFault text (base + at) kind place → ⊥
     fault_was kind place none (to, d) =
         let b = begins_here to (λ more. (d more).0) in
         let within : place ≤ length text = omega (arith, (d []).1.2, length-append text []) in
@@ -153,13 +153,13 @@ module _ (text kept : List ℕ) (base : ℕ) (k : Keeps text base kept) where
 
 -- ---- what is answered of the next row
 
-abbrev pub moved : ℕ → ℕ → Result (Option (Row × ℕ)) RowAnswer → Result (Option PlacedRow) RowAnswer
+abbrev pub moved : ℕ → ℕ → Result (Option (Row × ℕ)) RowFault → Result (Option PlacedRow) RowFault
 moved base start (Ok (Some x)) = Ok (Some (placed_row base x.0 start x.1))
 moved base start (Ok None) = Ok None
 moved base start (Err fault) = Err (moved_fault base fault)
 
-pub next_given : (end : TextEnd) (text kept : List ℕ) (base at start : ℕ) (answer : Result (Option (Row × ℕ)) RowAnswer) → at ≤ start → start ≤ length kept → Space (drop at kept) (drop start kept)
-    → GivesRow end kept start answer → Keeps text base kept → GivesNext end text (base + at) (moved base start answer)
+pub next_given : (end : TextEnd) (text kept : List ℕ) (base at start : ℕ) (answer : Result (Option (Row × ℕ)) RowFault) → at ≤ start → start ≤ length kept → Space (drop at kept) (drop start kept)
+    → GivesRow end kept start answer → KeepsText text base kept → GivesNext end text (base + at) (moved base start answer)
 next_given ends.Open text kept base at start (Ok (Some x)) low high space d k = row_next text kept base k at start low high space x.1 x.0 d.1 d.2 d.0
 next_given ends.Open text kept base at start (Ok None) low high space d k = none_next text kept base k at start low high space d
 next_given ends.Open text kept base at start (Err (faults.At place kind)) low high space d k = fault_next text kept base k at start low high space place kind d.1 d.2 d.0
@@ -169,6 +169,6 @@ next_given ends.Known text kept base at start (Ok None) low high space d k = non
 next_given ends.Known text kept base at start (Err (faults.At place kind)) low high space d k = fault_known text kept base k at start low high space place kind (d.1, d.0, d.2)
 next_given ends.Known text kept base at start (Err faults.OutOfMemory) low high space d k = tt
 
-pub whole_fault : (text : List ℕ) (at : ℕ) (fault : RowAnswer) → at ≤ length text → (at ≡ length text → ⊥) → FailsBy (FirstFault (drop at text)) text fault → Reads text at (Err fault)
+pub whole_fault : (text : List ℕ) (at : ℕ) (fault : RowFault) → at ≤ length text → (at ≡ length text → ⊥) → RowFailsBy (FirstFault (drop at text)) text fault → ReadsRow text at (Err fault)
 whole_fault text at (faults.At place kind) le ne bad = (bad.0, omega (arith, le, ne), bad.1)
 whole_fault text at faults.OutOfMemory le ne bad = tt

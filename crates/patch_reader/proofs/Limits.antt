@@ -7,8 +7,8 @@ use Rattle.std.proofs.Math.Seq.{take-append-add, drop-append-add}
 use Rattle.patch_rows.specs.declared.fault.RowKind.TheVariants.{TooLong}
 use Rattle.patch_rows.specs.declared.row.Row.{Row}
 use Rattle.patch_rows.specs.Fault.{Fault, Read}
-use Rattle.patch_rows.specs.Faults.{RowFault, FaultDecided, FirstFault}
-use Rattle.patch_rows.specs.Grammar.{RowAt, RowDecided, row_limit, row_front, IsSettled, ShortRowAt}
+use Rattle.patch_rows.specs.Faults.{AnyRowFault, FaultDecided, FirstFault}
+use Rattle.patch_rows.specs.Grammar.{RowAt, RowDecided, row_limit, row_front, FrontDecides, ShortRowAt}
 use Rattle.patch_rows.specs.Rows.{live_row, row_at}
 use Rattle.patch_rows.proofs.Exact.{Exact, exact_ok, exact_err, restated, ok_is, err_is, ok_no_err, err_no_ok}
 use Rattle.patch_rows.proofs.WholeRow.{exact_row}
@@ -26,8 +26,8 @@ row_longer text r after more d = λ others. subst (λ (t : List ℕ). RowAt t r 
     (subst (λ (t : List ℕ). RowAt (text ++ (more ++ others)) r t) (sym (append_assoc after more others)) (d (more ++ others)))
 
 fault_longer : (text : List ℕ) (f : Fault) (more : List ℕ) → FaultDecided text f → FaultDecided (text ++ more) (f.0, f.1 ++ more)
-fault_longer text f more d = λ others. subst (λ (t : List ℕ). RowFault t (f.0, (f.1 ++ more) ++ others)) (sym (append_assoc text more others))
-    (subst (λ (t : List ℕ). RowFault (text ++ (more ++ others)) (f.0, t)) (sym (append_assoc f.1 more others)) (d (more ++ others)))
+fault_longer text f more d = λ others. subst (λ (t : List ℕ). AnyRowFault t (f.0, (f.1 ++ more) ++ others)) (sym (append_assoc text more others))
+    (subst (λ (t : List ℕ). AnyRowFault (text ++ (more ++ others)) (f.0, t)) (sym (append_assoc f.1 more others)) (d (more ++ others)))
 
 -- ---- the front
 
@@ -78,7 +78,7 @@ pub short_row : (text : List ℕ) (r : Row) (after : List ℕ) → length text �
 short_row text r after le e = λ more.
     let d = row_decided text r after e in
     let tail : List ℕ = take (row_limit + 1 - length text) more in
-    let settled : IsSettled (text ++ more) r = (after ++ tail, subst (λ (t : List ℕ). RowDecided t r (after ++ tail)) (sym (front_of_short text more le)) (row_longer text r after tail d)) in
+    let settled : FrontDecides (text ++ more) r = (after ++ tail, subst (λ (t : List ℕ). RowDecided t r (after ++ tail)) (sym (front_of_short text more le)) (row_longer text r after tail d)) in
     (d more, omega (arith, le, length-append text more, length-append after more), λ long. settled)
 
 front_row : (text : List ℕ) (r : Row) (rest : List ℕ) → row_limit < length text → live_row (row_front text) ≡ Ok (r, rest) → (length rest ≡ 0 → ⊥)
@@ -89,7 +89,7 @@ front_row text r rest lt e some = λ more.
     let there : RowAt (text ++ more) r ((rest ++ tail) ++ more) =
     subst (λ (t : List ℕ). RowAt t r ((rest ++ tail) ++ more)) (around text more)
     (subst (λ (t : List ℕ). RowAt (row_front text ++ (tail ++ more)) r t) (sym (append_assoc rest tail more)) (d (tail ++ more))) in
-    let settled : IsSettled (text ++ more) r = (rest, subst (λ (t : List ℕ). RowDecided t r rest) (sym (front_of_long text more lt)) d) in
+    let settled : FrontDecides (text ++ more) r = (rest, subst (λ (t : List ℕ). RowDecided t r rest) (sym (front_of_long text more lt)) d) in
     let behind : length tail ≡ length text - (row_limit + 1) = length-drop (row_limit + 1) text in
     let one : 0 < length rest = omega (arith, some) in
     (there, omega (arith, lt, one, behind, length-append text more, length-append (rest ++ tail) more, length-append rest tail), λ long. settled)
@@ -154,7 +154,7 @@ decided_front text lt =
 pub any_length : (text : List ℕ) (f : Fault) → length text ≤ row_limit → FirstFaultDecided text f → FaultDecided text f
 any_length text f le d = λ more. by more (d more)
   where
-    first : FirstFault (text ++ []) (f.0, f.1 ++ []) → RowFault (text ++ []) (f.0, f.1 ++ [])
+    first : FirstFault (text ++ []) (f.0, f.1 ++ []) → AnyRowFault (text ++ []) (f.0, f.1 ++ [])
     first (FirstFault.short le2 bad) = bad
     first (FirstFault.front g lt bad is) = absurd (omega (arith, le, lt, length-append text []))
     first (FirstFault.too_long lt rows_ faults is) = absurd (omega (arith, le, lt, length-append text []))
@@ -162,12 +162,12 @@ any_length text f le d = λ more. by more (d more)
     kind : f.0 ≡ TooLong → ⊥
     kind = never_too_long (text ++ []) (f.0, f.1 ++ []) (first (d []))
 
-    by : (more : List ℕ) → FirstFault (text ++ more) (f.0, f.1 ++ more) → RowFault (text ++ more) (f.0, f.1 ++ more)
+    by : (more : List ℕ) → FirstFault (text ++ more) (f.0, f.1 ++ more) → AnyRowFault (text ++ more) (f.0, f.1 ++ more)
     by more (FirstFault.short le2 bad) = bad
     by more (FirstFault.front g lt bad is) =
         let there = bad (drop (row_limit + 1) (text ++ more)) in
-        subst (λ (h : Fault). RowFault (text ++ more) h) (sym is)
-        (subst (λ (t : List ℕ). RowFault t (g.0, g.1 ++ drop (row_limit + 1) (text ++ more))) (front_whole (text ++ more)) there)
+        subst (λ (h : Fault). AnyRowFault (text ++ more) h) (sym is)
+        (subst (λ (t : List ℕ). AnyRowFault t (g.0, g.1 ++ drop (row_limit + 1) (text ++ more))) (front_whole (text ++ more)) there)
     by more (FirstFault.too_long lt rows_ faults is) = absurd (kind (ap (λ (h : Fault). h.0) is))
 
 pub more_decides : (text : List ℕ) (f : Fault) → length text ≤ row_limit → live_row text ≡ Err f → ends_row f.0 f.1 ≡ true → MoreDecides text
@@ -190,7 +190,7 @@ Limited text r = Exact r (ShortRow text) (FirstFault text)
 
 -- a text that is no longer than a row may be
 module _ (text : List ℕ) (le : length text ≤ row_limit) where
-  unlimited : (f : Fault) → FirstFault text f → RowFault text f
+  unlimited : (f : Fault) → FirstFault text f → AnyRowFault text f
   unlimited f (FirstFault.short le2 bad) = bad
   unlimited f (FirstFault.front g lt bad is) = absurd (omega (arith, le, lt))
   unlimited f (FirstFault.too_long lt rows_ faults is) = absurd (omega (arith, le, lt))

@@ -11,7 +11,7 @@ use Rattle.rdf_terms.specs.declared.change.Change.TheVariants as change
 use Rattle.rdf_terms.specs.declared.term.Term.{Term}
 use Rattle.rdf_terms.specs.declared.term.Term.TheVariants as term
 use Rattle.nquads_text.specs.declared.fault.TextKind.TheVariants.{NotUtf8, RelativeIri, BadLabel, BadPosition, MissingDot, BadToken, Truncated}
-use Rattle.nquads_text.specs.Fault.{Read as TextRead}
+use Rattle.nquads_text.specs.Fault.{TextRead}
 use Rattle.nquads_text.specs.Faults.{begins_term}
 use Rattle.nquads_text.specs.Reading.{char_at, iri_piece, pieces_at}
 use Rattle.nquads_text.specs.Terms.{label_at, term_at}
@@ -328,13 +328,13 @@ pub record Reads {X : Type 0} (Else : (List ℕ → Read X) → Type 0) (read : 
   pub cut : (end : TextEnd) (rest : List ℕ) → is_cut rest ≡ true → AtEnd (read end rest)
   pub stops : read Known stop ≡ Err row_stop
 
-abbrev Part : {X : Type 0} → (TextEnd → List ℕ → Read X) → Type 0
-Part read = Reads (λ longer. GoesOn longer ⊎ CutsWord longer) read
+abbrev RowPart : {X : Type 0} → (TextEnd → List ℕ → Read X) → Type 0
+RowPart read = Reads (λ longer. GoesOn longer ⊎ CutsWord longer) read
 
 abbrev Closes : {X : Type 0} → (TextEnd → List ℕ → Read X) → Type 0
 Closes read = Reads (λ longer. ⊥) read
 
-key_reads : Part key_of
+key_reads : RowPart key_of
 unfolding key_at other char_at
 key_reads = record {
   stays = key_stays;
@@ -343,7 +343,7 @@ key_reads = record {
   stops = refl;
 }
 
-placed_reads : (fits : Term → Bool) → ((a b : List ℕ) → fits (term.Blank a) ≡ fits (term.Blank b)) → Part (λ end rest. placed_of end fits rest)
+placed_reads : (fits : Term → Bool) → ((a b : List ℕ) → fits (term.Blank a) ≡ fits (term.Blank b)) → RowPart (λ end rest. placed_of end fits rest)
 unfolding placed_of
 placed_reads fits alike = record {
   stays = λ more rest. placed_stays fits more rest alike;
@@ -352,7 +352,7 @@ placed_reads fits alike = record {
   stops = rw needed_stops refl;
 }
 
-prefix_reads : Part prefix_of
+prefix_reads : RowPart prefix_of
 unfolding prefix_of other char_at
 prefix_reads = record {
   stays = prefix_stays;
@@ -361,7 +361,7 @@ prefix_reads = record {
   stops = refl;
 }
 
-prefix_iri_reads : Part prefix_iri_of
+prefix_iri_reads : RowPart prefix_iri_of
 unfolding prefix_iri_of
 prefix_iri_reads = record {
   stays = prefix_iri_stays;
@@ -401,7 +401,7 @@ end_reads : {X : Type 0} (missing : RowKind) (x : X) → Closes (λ end rest. en
 end_reads missing x = spaced (dot_reads missing x)
 
 -- one part, and what closes the row behind it
-then_reads : {X Y : Type 0} {read : TextEnd → List ℕ → Read X} {next : X → TextEnd → List ℕ → Read Y} → Part read → ((x : X) → Closes (next x)) → Closes (λ end rest. read end rest >>= λ x. next x.0 end x.1)
+then_reads : {X Y : Type 0} {read : TextEnd → List ℕ → Read X} {next : X → TextEnd → List ℕ → Read Y} → RowPart read → ((x : X) → Closes (next x)) → Closes (λ end rest. read end rest >>= λ x. next x.0 end x.1)
 then_reads {read = read} {next = next} part closes = record {
   stays = λ more rest. chained more (read Open rest) (read Known (rest ++ more)) _ _ (part.stays more rest) (λ x e. (closes x.0).stays more x.1);
   ends = λ rest. then_ends (λ more. read Known (rest ++ more)) (λ more x. next x.0 Known x.1) (met rest) (read Open rest) _ (λ more. part.stays more rest) (part.ends rest) (λ x. (closes x.0).ends x.1);
@@ -424,13 +424,13 @@ made {read = read} to closes = record {
 
 -- ---- rows
 
-node_part : Part (λ end rest. placed_of end is_node (skip_space rest))
+node_part : RowPart (λ end rest. placed_of end is_node (skip_space rest))
 node_part = spaced (placed_reads is_node node_alike)
 
-iri_part : Part (λ end rest. placed_of end is_iri (skip_space rest))
+iri_part : RowPart (λ end rest. placed_of end is_iri (skip_space rest))
 iri_part = spaced (placed_reads is_iri iri_alike)
 
-any_part : Part (λ end rest. placed_of end is_any (skip_space rest))
+any_part : RowPart (λ end rest. placed_of end is_any (skip_space rest))
 any_part = spaced (placed_reads is_any any_alike)
 
 -- a graph and the dot

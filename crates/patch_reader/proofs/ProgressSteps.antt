@@ -6,7 +6,7 @@ use Rattle.std.proofs.lemmas.Bool.Decides.{nat_tests}
 use Rattle.std.proofs.lemmas.List.{drop-append-le, drop_more, drop_all}
 use Rattle.rdf_terms.specs.Names.{begins_name}
 use Rattle.nquads_text.specs.Faults.{begins_term}
-use Rattle.nquads_text.specs.Fault.{Fault as TextFault}
+use Rattle.nquads_text.specs.Fault.{TextFault}
 use Rattle.nquads_text.specs.Reading.{char_at}
 use Rattle.patch_rows.specs.declared.fault.RowKind.{RowKind}
 use Rattle.patch_rows.specs.Fault.{Fault}
@@ -16,16 +16,16 @@ use Rattle.patch_rows.specs.Rows.{live_row}
 use Rattle.patch_rows.specs.declared.codes.Code.{Code}
 use Rattle.patch_reader.specs.declared.inside.Inside.{Inside}
 use Rattle.patch_reader.specs.declared.inside.Inside.TheVariants as inside
-use Rattle.patch_reader.specs.declared.progress.Part.{Part}
-use Rattle.patch_reader.specs.declared.progress.Part.TheVariants as part
+use Rattle.patch_reader.specs.declared.progress.RowPart.{RowPart}
+use Rattle.patch_reader.specs.declared.progress.RowPart.TheVariants as part
 use Rattle.patch_reader.specs.declared.progress.Place.{Place}
 use Rattle.patch_reader.specs.declared.progress.Place.TheVariants as place
-use Rattle.patch_reader.specs.declared.progress.Progress.{Progress}
+use Rattle.patch_reader.specs.declared.progress.RowProgress.{RowProgress}
 use Rattle.patch_reader.specs.declared.progress.Step.{Step}
 use Rattle.patch_reader.specs.declared.progress.Step.TheVariants as step
 use Rattle.patch_rows.specs.Cut.{AtEnd, is_cut, ends_row}
 use Rattle.patch_reader.specs.Inside.{OpenInside, IsInsideWithin, IsFurther}
-use Rattle.patch_reader.specs.Progress.{rest_from, part_at, part_behind, rest_behind, takes_term, takes_node, takes_word, first_part, parts_left, OpenAt, SameOpen, LeadsInside, Follows, IsPlaceWithin, IsStep, IsFollowed, progress_at}
+use Rattle.patch_reader.specs.Progress.{rest_from, part_at, part_behind, rest_behind, takes_term, takes_node, takes_word, first_part, parts_left, OpenAt, SameOpen, LeadsInside, HasFollowed, IsPlaceWithin, IsPartStep, IsFollowed, progress_at}
 use Rattle.patch_reader.proofs.Begun.{letters_open, string_opens, iri_opens, label_opens, word_opens}
 use Rattle.patch_rows.proofs.GapSteps.{char_longer}
 use Rattle.nquads_text.proofs.Fronts.{char_at-ascii}
@@ -69,21 +69,21 @@ alike e = (subst AtEnd e, subst AtEnd (sym e))
 behind : (text more : List ℕ) (at : ℕ) → at ≤ length text → drop at text ++ more ≡ drop at (text ++ more)
 behind text more at le = sym (drop-append-le at text more le)
 
-module _ (text : List ℕ) (p : Part) (start : ℕ) (low : start ≤ length text) (g : p ≡ part.Graph → stands begins_term (drop start text) ≡ true) where
+module _ (text : List ℕ) (p : RowPart) (start : ℕ) (low : start ≤ length text) (g : p ≡ part.Graph → stands begins_term (drop start text) ≡ true) where
   over : (after : ℕ) (more : List ℕ) → after ≤ length text → part_at p (drop start text) ≡ Ok (drop after text) → rest_from p (drop start (text ++ more)) ≡ rest_behind (part_behind p) (drop after (text ++ more))
   over after more high e =
       ap (rest_from p) (sym (behind text more start low)) ∙ part_over p (drop start text) (drop after text) more g e ∙ ap (rest_behind (part_behind p)) (behind text more after high)
 
-  pub part_leads : (next : Part) (after : ℕ) → after ≤ length text → part_behind p ≡ Some next → part_at p (drop start text) ≡ Ok (drop after text) → SameOpen text (place.Token p start) (place.Gap next after false)
-  part_leads next after high n e = λ more. alike (over after more high e ∙ ap (λ (o : Option Part). rest_behind o (drop after (text ++ more))) n)
+  pub part_leads : (next : RowPart) (after : ℕ) → after ≤ length text → part_behind p ≡ Some next → part_at p (drop start text) ≡ Ok (drop after text) → SameOpen text (place.Token p start) (place.Gap next after false)
+  part_leads next after high n e = λ more. alike (over after more high e ∙ ap (λ (o : Option RowPart). rest_behind o (drop after (text ++ more))) n)
 
   pub part_done : (after : ℕ) → after ≤ length text → part_behind p ≡ None → part_at p (drop start text) ≡ Ok (drop after text) → OpenAt (place.Token p start) text → ⊥
-  part_done after high n e o = subst AtEnd (over after [] high e ∙ ap (λ (o : Option Part). rest_behind o (drop after (text ++ []))) n) (subst (OpenAt (place.Token p start)) (sym (append-nil text)) o)
+  part_done after high n e o = subst AtEnd (over after [] high e ∙ ap (λ (o : Option RowPart). rest_behind o (drop after (text ++ []))) n) (subst (OpenAt (place.Token p start)) (sym (append-nil text)) o)
 
   pub part_met : (at : ℕ) (kind : RowKind) → part_at p (drop start text) ≡ Err (kind, drop at text) → OpenAt (place.Token p start) text ↔ (ends_row kind (drop at text) ≡ true)
   part_met at kind e = alike (part_fails p (drop start text) (kind, drop at text) g e)
 
-pub next_left : (p next : Part) → part_behind p ≡ Some next → parts_left next < parts_left p
+pub next_left : (p next : RowPart) → part_behind p ≡ Some next → parts_left next < parts_left p
 next_left p next e = grind (arith, e)
 
 stands_here : (test : ℕ → Bool) (rest more : List ℕ) → (rest ≡ [] → ⊥) → stands test (rest ++ more) ≡ stands test rest
@@ -105,18 +105,18 @@ pub letters_lead : (text more : List ℕ) → stands is_ascii_alphabetic text �
 letters_lead [] more is o = absurd (false≢true is)
 letters_lead (b ∷ rest) more is o = letters_open b (rest ++ more) is o
 
-pub quote_leads : (text more : List ℕ) (p : Part) (start : ℕ) → takes_term p ≡ true → start < length text → get_or text start 0 ≡ 34 → OpenInside (inside.String (start + 1)) (text ++ more) → OpenAt (place.Token p start) (text ++ more)
+pub quote_leads : (text more : List ℕ) (p : RowPart) (start : ℕ) → takes_term p ≡ true → start < length text → get_or text start 0 ≡ 34 → OpenInside (inside.String (start + 1)) (text ++ more) → OpenAt (place.Token p start) (text ++ more)
 quote_leads text more p start t lt is o = string_opens p (drop start (text ++ more)) (drop (start + 1) (text ++ more)) t (first_there text more start 34 lt is) o
 
-pub bracket_leads : (text more : List ℕ) (p : Part) (start : ℕ) → takes_term p ≡ true → start < length text → get_or text start 0 ≡ 60 → OpenInside (inside.Iri (start + 1)) (text ++ more) → OpenAt (place.Token p start) (text ++ more)
+pub bracket_leads : (text more : List ℕ) (p : RowPart) (start : ℕ) → takes_term p ≡ true → start < length text → get_or text start 0 ≡ 60 → OpenInside (inside.Iri (start + 1)) (text ++ more) → OpenAt (place.Token p start) (text ++ more)
 bracket_leads text more p start t lt is o = iri_opens p (drop start (text ++ more)) (drop (start + 1) (text ++ more)) t (first_there text more start 60 lt is) o
 
-pub word_leads : (text more : List ℕ) (p : Part) (start : ℕ) → takes_word p ≡ true → start < length text → is_ascii_alphabetic (get_or text start 0) ≡ true
+pub word_leads : (text more : List ℕ) (p : RowPart) (start : ℕ) → takes_word p ≡ true → start < length text → is_ascii_alphabetic (get_or text start 0) ≡ true
     → OpenInside (inside.Word (start + 1)) (text ++ more) → OpenAt (place.Token p start) (text ++ more)
 word_leads text more p start t lt letter o =
     subst (λ (r : List ℕ). AtEnd (rest_from p r)) (sym (first_there text more start (get_or text start 0) lt refl)) (word_opens p (get_or text start 0) (drop (start + 1) (text ++ more)) t letter o)
 
-pub label_leads : (text more : List ℕ) (p : Part) (start next c : ℕ) → takes_node p ≡ true → start + 1 < length text → get_or text start 0 ≡ 95 → stands (λ b. nat_eq b 58) (drop (start + 1) text) ≡ true
+pub label_leads : (text more : List ℕ) (p : RowPart) (start next c : ℕ) → takes_node p ≡ true → start + 1 < length text → get_or text start 0 ≡ 95 → stands (λ b. nat_eq b 58) (drop (start + 1) text) ≡ true
     → next ≤ length text → char_at (drop (start + 2) text) ≡ Ok (c, drop next text) → begins_name c ≡ true
     → OpenInside (inside.Label next) (text ++ more) → OpenAt (place.Token p start) (text ++ more)
 label_leads text more p start next c t lt line is high e begins o =
@@ -127,11 +127,11 @@ label_leads text more p start next c t lt line is high e begins o =
 -- ---- what is known inside
 
 -- what is open there is from the place, or as it was known
-pub enters : (text : List ℕ) (old : Progress) (begun new : Inside) → LeadsInside text old begun → IsFurther text begun new → IsInsideWithin (length text) new → OpenInside new text → IsStep text old (step.Enters new)
+pub enters : (text : List ℕ) (old : RowProgress) (begun new : Inside) → LeadsInside text old begun → IsFurther text begun new → IsInsideWithin (length text) new → OpenInside new text → IsPartStep text old (step.Enters new)
 enters text old begun new leads further within open_there = ((λ more o. leads more (further more o)), within, open_there)
 
 -- what leads from the place leads from it with what is known inside
-pub from_place : (text : List ℕ) (old : Place) (known : Inside) (s : Step) → IsStep text (progress_at old) s → IsStep text (record { place = old; inside = known }) s
+pub from_place : (text : List ℕ) (old : Place) (known : Inside) (s : Step) → IsPartStep text (progress_at old) s → IsPartStep text (record { place = old; inside = known }) s
 from_place text old known (step.Goes new) is = is
 from_place text old known (step.Open new) is = is
 from_place text old known (step.Enters new) is = ((λ more o. ⊎_elim (λ a. inl a) (λ b. absurd b) (is.0 more o)), is.1, is.2)
@@ -156,10 +156,10 @@ code_is_none text letters after e named o = false≢true (subst AtEnd (no_code t
 
 -- ---- white space and comments
 
-pub gap_ends : (text : List ℕ) (p : Part) (at : ℕ) (comment : Bool) → is_cut (drop at text) ≡ true → OpenAt (place.Gap p at comment) text
+pub gap_ends : (text : List ℕ) (p : RowPart) (at : ℕ) (comment : Bool) → is_cut (drop at text) ≡ true → OpenAt (place.Gap p at comment) text
 gap_ends text p at comment cut = subst (λ (t : List ℕ). AtEnd (rest_from p t)) (sym (gap_cut comment (drop at text) cut)) (cut_rest p (drop at text) cut)
 
-pub gap_leads : (text : List ℕ) (p : Part) (from at : ℕ) (comment now : Bool) → ((more : List ℕ) → space_behind comment 0 (drop from (text ++ more)) ≡ space_behind now 0 (drop at (text ++ more)))
+pub gap_leads : (text : List ℕ) (p : RowPart) (from at : ℕ) (comment now : Bool) → ((more : List ℕ) → space_behind comment 0 (drop from (text ++ more)) ≡ space_behind now 0 (drop at (text ++ more)))
     → SameOpen text (place.Gap p from comment) (place.Gap p at now)
 gap_leads text p from at comment now same = λ more. alike (ap (rest_from p) (same more))
 
@@ -177,7 +177,7 @@ module _ (text : List ℕ) (at : ℕ) (comment : Bool) (le : at ≤ length text)
       by false is true only = absurd (false≢true (sym is ∙ only refl))
       by false is false only = stops is some_here more
 
-pub gap_passed : (text : List ℕ) (p : Part) (from at : ℕ) (comment now : Bool) → ((more : List ℕ) → space_behind comment 0 (drop from (text ++ more)) ≡ space_behind now 0 (drop at (text ++ more)))
+pub gap_passed : (text : List ℕ) (p : RowPart) (from at : ℕ) (comment now : Bool) → ((more : List ℕ) → space_behind comment 0 (drop from (text ++ more)) ≡ space_behind now 0 (drop at (text ++ more)))
     → ((more : List ℕ) → space_behind now 0 (drop at (text ++ more)) ≡ drop at (text ++ more)) → SameOpen text (place.Gap p from comment) (place.Token p at)
 gap_passed text p from at comment now same over = λ more. alike (ap (rest_from p) (same more ∙ over more))
 
@@ -187,17 +187,17 @@ gap_passed text p from at comment now same over = λ more. alike (ap (rest_from 
 now : (text : List ℕ) (P Q : List ℕ → Type 0) → ((more : List ℕ) → P (text ++ more) → Q (text ++ more)) → P text → Q text
 now text P Q leads there = subst Q (append-nil text) (leads [] (subst P (sym (append-nil text)) there))
 
-module _ (text : List ℕ) (first old : Progress) (so_far : Follows text first → Follows text old) where
-  pub goes_on : (new : Place) → SameOpen text old.place new → Follows text first → Follows text (progress_at new)
+module _ (text : List ℕ) (first old : RowProgress) (so_far : HasFollowed text first → HasFollowed text old) where
+  pub goes_on : (new : Place) → SameOpen text old.place new → HasFollowed text first → HasFollowed text (progress_at new)
   goes_on new same f = let here = so_far f in ((λ more. ((λ o. (same more).0 ((here.0 more).0 o)), (λ o. (here.0 more).1 ((same more).1 o)))), λ more o. absurd o)
 
-  pub followed_open : (new : Place) → length text ≤ row_limit → IsStep text old (step.Open new) → IsFollowed text first (Some (progress_at new))
+  pub followed_open : (new : Place) → length text ≤ row_limit → IsPartStep text old (step.Open new) → IsFollowed text first (Some (progress_at new))
   followed_open new short is = (
     (is.1, omega arith),
     λ f. let there = goes_on new is.0 f in (there, (short, now text (OpenAt new) (OpenAt place.Row) (λ more. (there.0 more).1) is.2)),
   )
 
-  pub followed_inside : (new : Inside) → length text ≤ row_limit → IsPlaceWithin (length text) old.place → IsStep text old (step.Enters new) → IsFollowed text first (Some (record { place = old.place; inside = new }))
+  pub followed_inside : (new : Inside) → length text ≤ row_limit → IsPlaceWithin (length text) old.place → IsPartStep text old (step.Enters new) → IsFollowed text first (Some (record { place = old.place; inside = new }))
   followed_inside new short within is = (
     (within, is.1),
     λ f.
@@ -206,5 +206,5 @@ module _ (text : List ℕ) (first old : Progress) (so_far : Follows text first �
         ((here.0, leads), (short, now text (OpenInside new) (OpenAt place.Row) leads is.2)),
   )
 
-  pub followed_none : IsStep text old step.Decided → IsFollowed text first None
+  pub followed_none : IsPartStep text old step.Decided → IsFollowed text first None
   followed_none is f unfinished = is (now text (OpenAt place.Row) (OpenAt old.place) (λ more. ((so_far f).0 more).0) unfinished.1)

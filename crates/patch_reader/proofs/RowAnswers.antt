@@ -4,7 +4,7 @@ use Rattle.std.proofs.lemmas.List.{length-drop}
 use Rattle.patch_rows.specs.declared.fault.RowFault.{RowFault}
 use Rattle.patch_rows.specs.declared.fault.RowFault.TheVariants as faults
 use Rattle.patch_rows.specs.declared.row.Row.{Row}
-use Rattle.patch_rows.specs.Fault.{Fault, Gives, FailsBy, IsAnswer, IsFaultAnswer}
+use Rattle.patch_rows.specs.Fault.{Fault, RowGives, RowFailsBy, IsRowAnswer, IsRowFaultAnswer}
 use Rattle.patch_rows.specs.Grammar.{ShortRowAt, IsRowAt}
 use Rattle.patch_rows.specs.Faults.{FirstFault}
 use Rattle.patch_reader.specs.Limit.{limited_row_at}
@@ -13,7 +13,7 @@ use Rattle.patch_reader.proofs.Limits.{exact_limited}
 use Rattle.patch_rows.proofs.Shorter.{row_shorter}
 
 abbrev RowGiven : List ℕ → ℕ → Result (Row × ℕ) RowFault → Type 0
-RowGiven text at result = Gives text result (limited_row_at (drop at text))
+RowGiven text at result = RowGives text result (limited_row_at (drop at text))
 
 abbrev and_behind : Row → List ℕ → Row × List ℕ
 and_behind r after = (r, after)
@@ -35,7 +35,7 @@ answer_ok text at (Ok r) low g =
 answer_ok text at (Err e) low g = tt
 
 pub answer_only : (text : List ℕ) (at : ℕ) (result : Result (Row × ℕ) RowFault) → at ≤ length text → RowGiven text at result
-    → (r : Row) (end : ℕ) → IsRowAt text at r end → IsAnswer result r end
+    → (r : Row) (end : ℕ) → IsRowAt text at r end → IsRowAnswer result r end
 unfolding IsRowAt
 answer_only text at (Ok x) low g r end is =
     let read = (exact_limited (drop at text)).again (r, drop end text) is.0 in
@@ -46,13 +46,13 @@ answer_only text at (Err (faults.At place kind)) low g r end is =
     absurd (ok_no_err (and_behind r (drop end text)) (kind, drop place text) (sym read ∙ g.0))
 answer_only text at (Err faults.OutOfMemory) low g r end is = refl
 
-pub answer_fault : (text : List ℕ) (at : ℕ) (result : Result (Row × ℕ) RowFault) → RowGiven text at result → IfErr result (FailsBy (FirstFault (drop at text)) text)
+pub answer_fault : (text : List ℕ) (at : ℕ) (result : Result (Row × ℕ) RowFault) → RowGiven text at result → IfErr result (RowFailsBy (FirstFault (drop at text)) text)
 answer_fault text at (Ok r) g = tt
 answer_fault text at (Err (faults.At place kind)) g = ((exact_limited (drop at text)).fault (kind, drop place text) g.0, g.1)
 answer_fault text at (Err faults.OutOfMemory) g = tt
 
 pub answer_only_fault : (text : List ℕ) (at : ℕ) (result : Result (Row × ℕ) RowFault) → RowGiven text at result
-    → (f : Fault) → FirstFault (drop at text) f → IsFaultAnswer text result f
+    → (f : Fault) → FirstFault (drop at text) f → IsRowFaultAnswer text result f
 answer_only_fault text at (Ok r) g f is = ok_no_err (and_behind r.0 (drop r.1 text)) f (sym g.0 ∙ (exact_limited (drop at text)).only f is)
 answer_only_fault text at (Err (faults.At place kind)) g f is = err_is (Row × List ℕ) (kind, drop place text) f (sym g.0 ∙ (exact_limited (drop at text)).only f is)
 answer_only_fault text at (Err faults.OutOfMemory) g f is = tt

@@ -20,8 +20,8 @@ use Rattle.patch_rows.specs.declared.cut.TextEnd.TheVariants.{Open, Known}
 use Rattle.patch_rows.specs.Rows.{added_of, bare_at, graph_or_dot_of, header_of, live_row, open_key, open_word_prefix, parts_of, placed_of, prefix_iri_of, prefix_of, quad_of, quoted_of, removed_of, row_of}
 use Rattle.patch_rows.specs.declared.codes.Code.{Code}
 use Rattle.patch_rows.specs.declared.codes.Code.TheVariants as code
-use Rattle.patch_reader.specs.declared.progress.Part.{Part}
-use Rattle.patch_reader.specs.declared.progress.Part.TheVariants as part
+use Rattle.patch_reader.specs.declared.progress.RowPart.{RowPart}
+use Rattle.patch_reader.specs.declared.progress.RowPart.TheVariants as part
 use Rattle.patch_rows.specs.Cut.{AtEnd, is_cut}
 use Rattle.patch_reader.specs.Progress.{Rest, end_from, graph_from, object_from, predicate_from, subject_from, value_from, key_from, iri_from, added_from, removed_from, rest_from, part_at, part_behind, rest_behind, first_part}
 use Rattle.patch_reader.proofs.Completions.{stop}
@@ -143,7 +143,7 @@ tail_of (Ok x) after e = (x, refl, behind_is x.1 after e)
 tail_of (Err f) after e = absurd cc
 
 -- the part is read of a longer text too, and the next one behind it
-module _ {X : Type 0} (live : List ℕ → Read X) (again : (rest more : List ℕ) (x : X × List ℕ) → live rest ≡ Ok x → live (rest ++ more) ≡ Ok (x.0, x.1 ++ more)) (next : Part) where
+module _ {X : Type 0} (live : List ℕ → Read X) (again : (rest more : List ℕ) (x : X × List ℕ) → live rest ≡ Ok x → live (rest ++ more) ≡ Ok (x.0, x.1 ++ more)) (next : RowPart) where
   over : (rest after more : List ℕ) → (live rest >>= λ t. Ok t.1) ≡ Ok after → (live (rest ++ more) >>= λ t. rest_behind (Some next) t.1) ≡ rest_behind (Some next) (after ++ more)
   over rest after more e =
       let x = tail_of (live rest) after e in
@@ -170,7 +170,7 @@ stands_longer : (test : ℕ → Bool) (rest more : List ℕ) → stands test res
 stands_longer test [] more e = absurd (false≢true e)
 stands_longer test (b ∷ rest) more e = e
 
-pub part_over : (p : Part) (rest after more : List ℕ) → (p ≡ part.Graph → stands begins_term rest ≡ true) → part_at p rest ≡ Ok after
+pub part_over : (p : RowPart) (rest after more : List ℕ) → (p ≡ part.Graph → stands begins_term rest ≡ true) → part_at p rest ≡ Ok after
     → rest_from p (rest ++ more) ≡ rest_behind (part_behind p) (after ++ more)
 unfolding end_from graph_from object_from predicate_from subject_from value_from key_from iri_from added_from removed_from
 part_over part.Key rest after more g e = over open_key key_again part.Value rest after more e
@@ -191,7 +191,7 @@ fails : {X : Type 0} (r : Read X) (f : Fault) (next : X × List ℕ → Rest) �
 fails (Ok x) f next e = absurd cc
 fails (Err g) f next e = e
 
-pub part_fails : (p : Part) (rest : List ℕ) (f : Fault) → (p ≡ part.Graph → stands begins_term rest ≡ true) → part_at p rest ≡ Err f → rest_from p rest ≡ Err f
+pub part_fails : (p : RowPart) (rest : List ℕ) (f : Fault) → (p ≡ part.Graph → stands begins_term rest ≡ true) → part_at p rest ≡ Err f → rest_from p rest ≡ Err f
 unfolding graph_from object_from predicate_from subject_from value_from key_from iri_from added_from removed_from
 part_fails part.Graph rest f g e = rw (g refl) (fails (placed_of Open is_node rest) f _ e)
 part_fails part.Bare rest f g e = e
@@ -206,7 +206,7 @@ no_graph rest e = rw e refl
 
 ruleset cuts = (end_then, cut_placed, cut_prefix, cut_prefix_iri, cut_dot)
 
-pub cut_rest : (p : Part) (rest : List ℕ) → is_cut rest ≡ true → AtEnd (rest_from p rest)
+pub cut_rest : (p : RowPart) (rest : List ℕ) → is_cut rest ≡ true → AtEnd (rest_from p rest)
 unfolding end_from graph_from object_from predicate_from subject_from value_from key_from iri_from added_from removed_from
 cut_rest part.Graph rest e = rw (cut_stands begins_term rest no_term e) (cut_dot (Common MissingDot) rest e)
 cut_rest part.Key rest e = end_then (open_key rest) _ (cut_key Open rest e)

@@ -3,14 +3,14 @@ use Rattle.std.proofs.Common.{◌≡◌, ℕ, Bool, true, false, cond, List, [],
 use Rattle.rdf_terms.specs.declared.term.Term.{Term}
 use Rattle.rdf_terms.specs.declared.term.Term.TheVariants as term
 use Rattle.nquads_text.specs.declared.fault.TextKind.TheVariants.{NotUtf8, MissingDot, BadToken, Truncated}
-use Rattle.nquads_text.specs.Fault.{Read as TextRead}
+use Rattle.nquads_text.specs.Fault.{TextRead}
 use Rattle.nquads_text.specs.Reading.{char_at, iri_piece}
 use Rattle.patch_rows.specs.declared.codes.Code.{Code}
 use Rattle.patch_rows.specs.declared.codes.Code.TheVariants as code
 use Rattle.patch_rows.specs.declared.fault.RowKind.{RowKind}
 use Rattle.patch_rows.specs.declared.fault.RowKind.TheVariants.{Common, TooLong}
 use Rattle.patch_rows.specs.Fault.{Fault, ◌>>=◌, in_row}
-use Rattle.patch_rows.specs.Faults.{RowFault}
+use Rattle.patch_rows.specs.Faults.{AnyRowFault}
 use Rattle.patch_rows.specs.Reading.{other, whole_label, bracketed, bracket_at, row_term_at, needed_term_at, key_at, or_bad_position, iri_of_string, iri_of_term, dot_at, code_named, word_at}
 use Rattle.patch_rows.specs.declared.cut.TextEnd.TheVariants.{Known}
 use Rattle.patch_rows.specs.Rows.{added_of, bare_at, by_code, graph_or_dot_of, header_of, parts_of, placed_of, prefix_iri_of, prefix_of, quad_of, quoted_of, removed_of, row_at, row_of}
@@ -137,7 +137,7 @@ pub ill_formed_stands : (text rest : List ℕ) → row_at text ≡ Err (Common N
 unfolding RowPlace Place
 ill_formed_stands text rest e = subst Placed e (row_placed text)
 
-pub never_too_long : (text : List ℕ) (f : Fault) → RowFault text f → f.0 ≡ TooLong → ⊥
+pub never_too_long : (text : List ℕ) (f : Fault) → AnyRowFault text f → f.0 ≡ TooLong → ⊥
 unfolding RowPlace
 never_too_long text f bad long =
     subst (λ (kind : RowKind). RowPlace kind f.1) long (subst Placed ((exact_row text).only f bad) (row_placed text))

@@ -13,7 +13,7 @@ use Rattle.rdf_terms.specs.declared.term.Term.{Term}
 use Rattle.rdf_terms.specs.declared.term.Term.TheVariants as term
 use Rattle.nquads_text.specs.declared.fault.TextKind.{TextKind}
 use Rattle.nquads_text.specs.declared.fault.TextKind.TheVariants.{NotUtf8, BadLabel, BadPosition, MissingDot, BadToken, Truncated}
-use Rattle.nquads_text.specs.Fault.{Read as TextRead}
+use Rattle.nquads_text.specs.Fault.{TextRead}
 use Rattle.nquads_text.specs.Faults.{begins_term}
 use Rattle.nquads_text.specs.Reading.{char_at}
 use Rattle.nquads_text.specs.Terms.{term_at}

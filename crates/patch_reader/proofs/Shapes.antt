@@ -4,9 +4,9 @@ use Rattle.std.specs.Char.{to_ascii_lowercase}
 use Rattle.bstr.specs.Utf8.{decoded}
 use Rattle.nquads_text.specs.declared.fault.TextKind.{TextKind}
 use Rattle.nquads_text.specs.declared.fault.TextKind.TheVariants.{NotUtf8, Truncated}
-use Rattle.nquads_text.specs.Fault.{Read as TextRead, ◌>>=◌}
+use Rattle.nquads_text.specs.Fault.{TextRead, ◌>>=◌}
 use Rattle.nquads_text.specs.Reading.{char_at, digit_at, four_digits_at, eight_digits_at, code_at, uchar_at, iri_piece, string_piece, short_or_uchar, with_front, behind, pieces_at}
-use Rattle.nquads_text.specs.Terms.{name_at, label_at, is_tag_byte, tag_at, iri_at, iri_needed, kind_of, datatype_at, typed_at, suffix_at, literal_at, term_at}
+use Rattle.nquads_text.specs.Terms.{name_at, label_at, is_tag_byte, tag_at, iri_at, iri_needed, kind_given, datatype_at, typed_at, suffix_at, literal_at, term_at}
 
 -- ---- terms
 
@@ -98,7 +98,7 @@ tag_placed first some start (b ∷ rest) =
     (text_if (nat_eq b 45) _ _ (front_placed (45 ∷ []) (tag_at false false start rest) (tag_placed false false start rest)) tt))
 
 datatype_placed : (start rest : List ℕ) → Text (datatype_at start rest)
-unfolding datatype_at iri_needed kind_of Place
+unfolding datatype_at iri_needed kind_given Place
 datatype_placed start rest = search (text_then, text_if, char_placed, iri_placed) depth 9
 
 typed_placed : (start text skipped : List ℕ) → Text (typed_at start text skipped)

@@ -9,7 +9,7 @@ use Rattle.bstr.proofs.lemmas.PieceLemmas.{by-shape, value-2, value-3, value-5, 
 use Rattle.rdf_terms.specs.Iri.{is_forbidden, has_scheme}
 use Rattle.nquads_text.specs.declared.fault.TextKind.{TextKind}
 use Rattle.nquads_text.specs.declared.fault.TextKind.TheVariants.{NotUtf8, BadIri, RelativeIri, BadEscape, BadToken}
-use Rattle.nquads_text.specs.Fault.{Read, ◌>>=◌}
+use Rattle.nquads_text.specs.Fault.{TextRead, ◌>>=◌}
 use Rattle.nquads_text.specs.Reading.{char_at, digit_at, four_digits_at, eight_digits_at, code_at, uchar_at, iri_piece, string_piece, short_or_uchar, with_front, behind, pieces_at}
 use Rattle.nquads_text.specs.Terms.{iri_at}
 use Rattle.nquads_text.specs.Grammar.{echar}
@@ -20,22 +20,22 @@ pub use Rattle.patch_rows.proofs.GapSteps.{ok_char}
 -- ---- one reading behind another
 
 -- what is read, with more text behind
-abbrev pub with_more : {X : Type 0} → List ℕ → Read X → Read X
+abbrev pub with_more : {X : Type 0} → List ℕ → TextRead X → TextRead X
 with_more more (Ok x) = Ok (x.0, x.1 ++ more)
 with_more more (Err f) = Err (f.0, f.1 ++ more)
 
 -- reading met the end, or it gives the same with more text
-abbrev pub Stays : {X : Type 0} → List ℕ → Read X → Read X → Type 0
+abbrev pub Stays : {X : Type 0} → List ℕ → TextRead X → TextRead X → Type 0
 Stays more read longer = TextAtEnd read ⊎ (longer ≡ with_more more read)
 
-pub stays_then : {X Y : Type 0} (more : List ℕ) (r longer : Read X) (f g : X × List ℕ → Read Y)
+pub stays_then : {X Y : Type 0} (more : List ℕ) (r longer : TextRead X) (f g : X × List ℕ → TextRead Y)
     → Stays more r longer → ((x : X × List ℕ) → r ≡ Ok x → Stays more (f x) (g (x.0, x.1 ++ more))) → Stays more (r >>= f) (longer >>= g)
 stays_then more (Ok x) longer f g (inl h) step = absurd h
 stays_then more (Ok x) longer f g (inr h) step = rw h (step x refl)
 stays_then more (Err e) longer f g (inl h) step = inl h
 stays_then more (Err e) longer f g (inr h) step = inr (rw h refl)
 
-pub stays_if : {X : Type 0} (more : List ℕ) (b : Bool) (x y f g : Read X) → Stays more x f → Stays more y g → Stays more (cond b x y) (cond b f g)
+pub stays_if : {X : Type 0} (more : List ℕ) (b : Bool) (x y f g : TextRead X) → Stays more x f → Stays more y g → Stays more (cond b x y) (cond b f g)
 stays_if more true x y f g h k = h
 stays_if more false x y f g h k = k
 
@@ -105,14 +105,14 @@ char_by : (more : List ℕ) (b : ℕ) (bs : List ℕ) (o : Option ℕ) (cut : Bo
 unfolding ends_text
 char_by more b bs (Some c) cut e f =
     let is = good_char b bs c e in
-    subst (λ (r : Read ℕ). Stays more r (char_at ((b ∷ bs) ++ more))) (sym is) (inr (ok_char (b ∷ bs) c (drop (decoded (b ∷ bs)).size (b ∷ bs)) more is))
+    subst (λ (r : TextRead ℕ). Stays more r (char_at ((b ∷ bs) ++ more))) (sym is) (inr (ok_char (b ∷ bs) c (drop (decoded (b ∷ bs)).size (b ∷ bs)) more is))
 char_by more b bs None true e f =
-    subst (λ (r : Read ℕ). Stays more r (char_at ((b ∷ bs) ++ more))) (sym (bad_char b bs e)) (inl (at_front f))
+    subst (λ (r : TextRead ℕ). Stays more r (char_at ((b ∷ bs) ++ more))) (sym (bad_char b bs e)) (inl (at_front f))
   where
     at_front : is_front (b ∷ bs) ≡ true → ends_text NotUtf8 (b ∷ bs) ≡ true
     at_front f = f
 char_by more b bs None false e f =
-    subst (λ (r : Read ℕ). Stays more r (char_at ((b ∷ bs) ++ more))) (sym (bad_char b bs e))
+    subst (λ (r : TextRead ℕ). Stays more r (char_at ((b ∷ bs) ++ more))) (sym (bad_char b bs e))
     (inr (bad_char b (bs ++ more) (ap (λ (d : Decoded). d.char) (still_bad b bs more e f) ∙ e)))
 
 pub char_stays : (more rest : List ℕ) → Stays more (char_at rest) (char_at (rest ++ more))
@@ -182,17 +182,17 @@ iri_piece_stays more rest =
 
 -- ---- pieces up to the one that ends them
 
-pub front_stays : (more front : List ℕ) (r longer : Read (List ℕ)) → Stays more r longer → Stays more (with_front front r) (with_front front longer)
+pub front_stays : (more front : List ℕ) (r longer : TextRead (List ℕ)) → Stays more r longer → Stays more (with_front front r) (with_front front longer)
 front_stays more front r longer h = stays_then more r longer (λ x. Ok (front ++ x.0, x.1)) (λ x. Ok (front ++ x.0, x.1)) h (λ x e. ok_stays more (front ++ x.0) x.1)
 
-behind_stays : (more : List ℕ) (o : Option ℕ) (after : List ℕ) (r longer : Read (List ℕ)) → Stays more r longer → Stays more (behind o after r) (behind o (after ++ more) longer)
+behind_stays : (more : List ℕ) (o : Option ℕ) (after : List ℕ) (r longer : TextRead (List ℕ)) → Stays more r longer → Stays more (behind o after r) (behind o (after ++ more) longer)
 behind_stays more None after r longer h = ok_stays more [] after
 behind_stays more (Some c) after r longer h = front_stays more _ r longer h
 
 pub rooms_same : (rest after more : List ℕ) → length (rest ++ more) - length (after ++ more) ≡ length rest - length after
 rooms_same rest after more = omega (arith, length-append rest more, length-append after more)
 
-pub pieces_stay : (piece : List ℕ → Read (Option ℕ)) (more : List ℕ) → ((rest : List ℕ) → Stays more (piece rest) (piece (rest ++ more)))
+pub pieces_stay : (piece : List ℕ → TextRead (Option ℕ)) (more : List ℕ) → ((rest : List ℕ) → Stays more (piece rest) (piece (rest ++ more)))
     → (skip : ℕ) (rest : List ℕ) → Stays more (pieces_at piece skip rest) (pieces_at piece skip (rest ++ more))
 unfolding pieces_at ends_text
 pieces_stay piece more each zero [] = inl refl

@@ -14,10 +14,10 @@ use Rattle.rdf_terms.specs.declared.term.Literal.{Literal}
 use Rattle.rdf_terms.specs.declared.term.Term.{Term}
 use Rattle.rdf_terms.specs.declared.term.Term.TheVariants as term
 use Rattle.nquads_text.specs.declared.fault.TextKind.TheVariants.{BadLang, BadToken, Truncated}
-use Rattle.nquads_text.specs.Fault.{Read, ◌>>=◌}
+use Rattle.nquads_text.specs.Fault.{TextRead, ◌>>=◌}
 use Rattle.nquads_text.specs.Grammar.{is_blank}
 use Rattle.nquads_text.specs.Reading.{char_at, string_piece, pieces_at}
-use Rattle.nquads_text.specs.Terms.{name_step, name_len, name_at, label_at, is_tag_byte, tag_at, iri_at, iri_needed, skip_blanks, kind_of, datatype_at, typed_at, suffix_at, literal_at, term_at}
+use Rattle.nquads_text.specs.Terms.{name_step, name_len, name_at, label_at, is_tag_byte, tag_at, iri_at, iri_needed, skip_blanks, kind_given, datatype_at, typed_at, suffix_at, literal_at, term_at}
 use Rattle.nquads_text.proofs.Fronts.{char_spelled}
 use Rattle.nquads_text.proofs.NameRuns.{name-none}
 use Rattle.nquads_text.proofs.LabelLaws.{inner_taken}
@@ -28,22 +28,22 @@ use Rattle.patch_reader.proofs.Stays.{Stays, stays_then, stays_if, ok_stays, err
 -- ---- readings whose value may be open
 
 -- reading stays, or it gives a value of which this is known, and of the longer reading
-abbrev pub Late : {X : Type 0} → (X × List ℕ → Read X → Type 0) → List ℕ → Read X → Read X → Type 0
+abbrev pub Late : {X : Type 0} → (X × List ℕ → TextRead X → Type 0) → List ℕ → TextRead X → TextRead X → Type 0
 Late P more r longer = Stays more r longer ⊎ ((x : _) × (r ≡ Ok x) × P x longer)
 
-late_then : {X Y : Type 0} (P : Y × List ℕ → Read Y → Type 0) (more : List ℕ) (r longer : Read X) (f g : X × List ℕ → Read Y)
+late_then : {X Y : Type 0} (P : Y × List ℕ → TextRead Y → Type 0) (more : List ℕ) (r longer : TextRead X) (f g : X × List ℕ → TextRead Y)
     → Stays more r longer → ((x : X × List ℕ) → r ≡ Ok x → Late P more (f x) (g (x.0, x.1 ++ more))) → Late P more (r >>= f) (longer >>= g)
 late_then P more (Ok x) longer f g (inl h) step = absurd h
 late_then P more (Ok x) longer f g (inr h) step = rw h (step x refl)
 late_then P more (Err e) longer f g (inl h) step = inl (inl h)
 late_then P more (Err e) longer f g (inr h) step = inl (inr (rw h refl))
 
-late_if : {X : Type 0} (P : X × List ℕ → Read X → Type 0) (more : List ℕ) (b : Bool) (x y f g : Read X) → (b ≡ true → Late P more x f) → (b ≡ false → Late P more y g) → Late P more (cond b x y) (cond b f g)
+late_if : {X : Type 0} (P : X × List ℕ → TextRead X → Type 0) (more : List ℕ) (b : Bool) (x y f g : TextRead X) → (b ≡ true → Late P more x f) → (b ≡ false → Late P more y g) → Late P more (cond b x y) (cond b f g)
 late_if P more true x y f g h k = h refl
 late_if P more false x y f g h k = k refl
 
 -- a value made of another one
-late_map : {X Y : Type 0} (P : X × List ℕ → Read X → Type 0) (Q : Y × List ℕ → Read Y → Type 0) (more : List ℕ) (r longer : Read X) (made : X → Y)
+late_map : {X Y : Type 0} (P : X × List ℕ → TextRead X → Type 0) (Q : Y × List ℕ → TextRead Y → Type 0) (more : List ℕ) (r longer : TextRead X) (made : X → Y)
     → ((x : X × List ℕ) → P x longer → Q (made x.0, x.1) (longer >>= λ x. Ok (made x.0, x.1))) → Late P more r longer → Late Q more (r >>= λ x. Ok (made x.0, x.1)) (longer >>= λ x. Ok (made x.0, x.1))
 late_map P Q more r longer made to (inl h) = inl (stays_then more r longer (λ x. Ok (made x.0, x.1)) (λ x. Ok (made x.0, x.1)) h (λ x e. ok_stays more (made x.0) x.1))
 late_map P Q more r longer made to (inr h) = inr ((made h.0.0, h.0.1), rw h.1 refl, to h.0 h.2)
@@ -179,8 +179,8 @@ names_stay more zero (b ∷ rest) shut = by (λ k. names_stay more k rest) (deco
             let s = char_spelled (b ∷ rest) c after is in
             let longer : char_at ((b ∷ rest) ++ more) ≡ Ok (c, after ++ more) = ok_char (b ∷ rest) c after more is in
             let k : ℕ = length rest - length after in
-            let one : name_len 0 (b ∷ rest) ≡ name_step (Ok (c, after)) (length rest) (λ k. name_len k rest) = ap (λ (r : Read ℕ). name_step r (length rest) (λ k. name_len k rest)) is in
-            let two : name_len 0 ((b ∷ rest) ++ more) ≡ name_step (Ok (c, after ++ more)) (length (rest ++ more)) (λ k. name_len k (rest ++ more)) = ap (λ (r : Read ℕ). name_step r (length (rest ++ more)) (λ k. name_len k (rest ++ more))) longer in
+            let one : name_len 0 (b ∷ rest) ≡ name_step (Ok (c, after)) (length rest) (λ k. name_len k rest) = ap (λ (r : TextRead ℕ). name_step r (length rest) (λ k. name_len k rest)) is in
+            let two : name_len 0 ((b ∷ rest) ++ more) ≡ name_step (Ok (c, after ++ more)) (length (rest ++ more)) (λ k. name_len k (rest ++ more)) = ap (λ (r : TextRead ℕ). name_step r (length (rest ++ more)) (λ k. name_len k (rest ++ more))) longer in
             two
             ∙ ap (λ (j : ℕ). cond (nat_eq c 46) (cond (nat_eq (name_len j (rest ++ more)) 0) 0 (suc j + name_len j (rest ++ more))) (cond (is_name_char c) (suc j + name_len j (rest ++ more)) 0)) (rooms_same rest after more)
             ∙ step_by b rest (nat_eq c 46) (is_name_char c) k (name_len k rest) (name_len k (rest ++ more))
@@ -196,14 +196,14 @@ drop_back rest front after e =
     ap (λ (k : ℕ). drop k rest) n ∙ ap (drop (length front)) e ∙ drop_at front after (length front) refl
 
 -- a label whose text may go on; then too a label is read
-abbrev OpenLabel : List ℕ × List ℕ → Read (List ℕ) → Type 0
+abbrev OpenLabel : List ℕ × List ℕ → TextRead (List ℕ) → Type 0
 OpenLabel x longer = (label_open x.1 ≡ true) × ((y : List ℕ × List ℕ) × (longer ≡ Ok y))
 
 -- how many bytes the label behind `_:` has
 abbrev pub label_size : List ℕ → ℕ × List ℕ → ℕ
 label_size rest first = (length rest - length first.1) + name_len 0 first.1
 
-abbrev pub label_read : List ℕ → ℕ → Read (List ℕ)
+abbrev pub label_read : List ℕ → ℕ → TextRead (List ℕ)
 label_read rest size = Ok (take size rest, drop size rest)
 
 pub fits : (rest : List ℕ) (first : ℕ × List ℕ) → char_at rest ≡ Ok first → label_size rest first ≤ length rest
@@ -246,7 +246,7 @@ label_late more start rest = search (late_then, late_if, char_stays, name_late, 
 
 -- ---- tags
 
-abbrev AllRead : {X : Type 0} → X × List ℕ → Read X → Type 0
+abbrev AllRead : {X : Type 0} → X × List ℕ → TextRead X → Type 0
 AllRead x longer = x.1 ≡ []
 
 tag_late : (more : List ℕ) (first some : Bool) (start rest : List ℕ) → Late AllRead more (tag_at first some start rest) (tag_at first some (start ++ more) (rest ++ more))
@@ -299,8 +299,8 @@ spaced_iri_stays more rest = by (skip_blanks rest) refl
     by [] e = inl (subst (λ (s : List ℕ). TextAtEnd (iri_needed s)) (sym e) (needed_at_end refl))
     by (b ∷ after) e = rw (e, blanks_stay rest more b after e) (needed_stays more (b ∷ after))
 
-kind_stays : (more start iri after : List ℕ) → Stays more (kind_of start iri after) (kind_of (start ++ more) iri (after ++ more))
-unfolding kind_of
+kind_stays : (more start iri after : List ℕ) → Stays more (kind_given start iri after) (kind_given (start ++ more) iri (after ++ more))
+unfolding kind_given
 kind_stays more start iri after = search (stays_if, ok_stays, err_stays)
 
 datatype_stays : (more start rest : List ℕ) → Stays more (datatype_at start rest) (datatype_at (start ++ more) (rest ++ more))
@@ -311,7 +311,7 @@ datatype_stays more start rest = search (stays_then, stays_if, char_stays, space
 abbrev pub OpenKind : List ℕ → LiteralKind × List ℕ → Type 0
 OpenKind text x = ((x.0 ≡ Plain) × (x.1 ≡ text) × (list_all is_blank x.1 ≡ true)) ⊎ ((tag : List ℕ) × (x.0 ≡ Tagged tag) × (x.1 ≡ []))
 
-abbrev LateKind : List ℕ → LiteralKind × List ℕ → Read LiteralKind → Type 0
+abbrev LateKind : List ℕ → LiteralKind × List ℕ → TextRead LiteralKind → Type 0
 LateKind text x longer = OpenKind text x
 
 typed_late : (more start text skipped : List ℕ) → skip_blanks text ≡ skipped → Late (LateKind text) more (typed_at start text skipped) (typed_at (start ++ more) (text ++ more) (skip_blanks (text ++ more)))
@@ -352,7 +352,7 @@ pub kind_is_open : (start text : List ℕ) (x : LiteralKind × List ℕ) (lexica
 kind_is_open start text x lexical last (inl h) = rw (h.0, h.1) (rw last (ap (λ (t : List ℕ). list_all is_blank t) (sym h.1) ∙ h.2))
 kind_is_open start text x lexical last (inr h) = rw (h.1, h.2) refl
 
-abbrev OpenLiteral : List ℕ → Literal × List ℕ → Read Literal → Type 0
+abbrev OpenLiteral : List ℕ → Literal × List ℕ → TextRead Literal → Type 0
 OpenLiteral start x longer = literal_open start (term.Literal x.0) x.1 ≡ true
 
 literal_late : (more rest : List ℕ) → Late (OpenLiteral (34 ∷ rest)) more (literal_at (34 ∷ rest) rest) (literal_at (34 ∷ (rest ++ more)) (rest ++ more))
@@ -400,5 +400,5 @@ term_late more (b ∷ bs) = late_then (OpenTerm (b ∷ bs)) more (char_at (b ∷
     quoted : (after : List ℕ) → (b ≡ 34) × (bs ≡ after) → Late (OpenLiteral (b ∷ bs)) more (literal_at (b ∷ bs) after) (literal_at (b ∷ (bs ++ more)) (after ++ more))
     quoted after f = rw (f.0, sym f.1) (literal_late more bs)
 
-    blank : b ≡ 95 → {longer : Read (List ℕ)} (x : List ℕ × List ℕ) → OpenLabel x longer → OpenTerm (b ∷ bs) (term.Blank x.0, x.1) (longer >>= λ l. Ok (term.Blank l.0, l.1))
+    blank : b ≡ 95 → {longer : TextRead (List ℕ)} (x : List ℕ × List ℕ) → OpenLabel x longer → OpenTerm (b ∷ bs) (term.Blank x.0, x.1) (longer >>= λ l. Ok (term.Blank l.0, l.1))
     blank is x (o, (y, same)) = inr (rw (is, o) refl, ((term.Blank y.0, y.1), rw same refl, (y.0, refl)))

@@ -3,7 +3,7 @@ use Rattle.std.proofs.Common.{◌≡◌, ◌↔◌, ℕ, ◌+◌, ◌-◌, ◌^�
 use Rattle.std.specs.Option.{IfSome}
 use Rattle.std.proofs.lemmas.Bool.{false≢true}
 use Rattle.std.proofs.lemmas.List.{length-append, length-drop, drop-append-le, drop-drop}
-use Rattle.patch_rows.specs.declared.fault.RowFault.{RowFault as RowAnswer}
+use Rattle.patch_rows.specs.declared.fault.RowFault.{RowFault}
 use Rattle.patch_rows.specs.declared.fault.RowFault.TheVariants as faults
 use Rattle.patch_rows.specs.declared.fault.RowKind.{RowKind}
 use Rattle.patch_rows.specs.Fault.{Read}
@@ -18,14 +18,14 @@ use Rattle.patch_rows.specs.declared.cut.TextEnd.{TextEnd}
 use Rattle.patch_rows.specs.declared.cut.TextEnd.TheVariants as ends
 use Rattle.patch_reader.specs.declared.front.Region.{Region}
 use Rattle.patch_reader.specs.declared.front.Region.TheVariants as regions
-use Rattle.patch_reader.specs.declared.progress.Progress.{Progress}
+use Rattle.patch_reader.specs.declared.progress.RowProgress.{RowProgress}
 use Rattle.patch_rows.specs.Cut.{AtEnd}
 use Rattle.patch_reader.specs.Decided.{MoreDecides}
-use Rattle.patch_reader.specs.Held.{IsRegion, IsRest, IsSameGap, IsQuiet, HasAll, PassesGap}
+use Rattle.patch_reader.specs.Held.{IsRegion, IsRest, IsSameGap, DecidesNothing, HasAll, PassesGap}
 use Rattle.patch_reader.specs.Inside.{OpenInside}
-use Rattle.patch_reader.specs.Progress.{OpenAt, Follows, IsUnfinished}
+use Rattle.patch_reader.specs.Progress.{OpenAt, HasFollowed, IsUnfinished}
 use Rattle.patch_reader.specs.declared.progress.Place.TheVariants as place
-use Rattle.patch_reader.specs.Rows.{Gap, RowsUpTo, RowsDecided, NextFault, NothingDecided, RowsStand, Stops, GivesNext, Keeps}
+use Rattle.patch_reader.specs.Rows.{Gap, RowsUpTo, RowsDecided, NextRowFault, NothingDecided, RowsStand, StopsRows, GivesNext, KeepsText}
 use Rattle.patch_reader.proofs.Kept.{none_next}
 use Rattle.patch_reader.proofs.Limits.{more_decides}
 use Rattle.patch_reader.proofs.ProgressSteps.{gap_cut}
@@ -33,7 +33,7 @@ use Rattle.patch_reader.proofs.RowEnds.{cut_row, cut_short}
 
 -- ---- the text goes on
 
-follows_more : (kept piece : List ℕ) (p : Progress) → Follows kept p → Follows (kept ++ piece) p
+follows_more : (kept piece : List ℕ) (p : RowProgress) → HasFollowed kept p → HasFollowed (kept ++ piece) p
 follows_more kept piece p f = (
   (λ more. subst (λ (t : List ℕ). OpenAt place.Row t ↔ OpenAt p.place t) (sym (append_assoc kept piece more)) (f.0 (piece ++ more))),
   (λ more. subst (λ (t : List ℕ). OpenInside p.inside t → OpenAt place.Row t) (sym (append_assoc kept piece more)) (f.1 (piece ++ more))),
@@ -49,7 +49,7 @@ region_more text piece passed at rest (regions.Row progress) is = (
   followed progress is.3,
 )
   where
-    followed : (o : Option Progress) → IfSome o (Follows rest) → IfSome o (Follows (rest ++ piece))
+    followed : (o : Option RowProgress) → IfSome o (HasFollowed rest) → IfSome o (HasFollowed (rest ++ piece))
     followed None f = f
     followed (Some p) f = follows_more rest piece p f
 
@@ -62,7 +62,7 @@ rest_more text piece passed at rest region fits (keeps, le, is) = (
 
 -- ---- white space and comments are passed
 
-module _ (text : List ℕ) (from : ℕ) (kept : List ℕ) (keeps : Keeps text from kept) where
+module _ (text : List ℕ) (from : ℕ) (kept : List ℕ) (keeps : KeepsText text from kept) where
   behind : (at : ℕ) (more : List ℕ) → at ≤ length kept → drop (from + at) (text ++ more) ≡ drop at (kept ++ more)
   behind at more le =
       sym (drop-drop at from (text ++ more)) ∙ ap (drop at) (drop-append-le from text more keeps.1 ∙ ap (λ (t : List ℕ). t ++ more) keeps.0)
@@ -70,7 +70,7 @@ module _ (text : List ℕ) (from : ℕ) (kept : List ℕ) (keeps : Keeps text fr
   whole : (more : List ℕ) → drop from (text ++ more) ≡ kept ++ more
   whole more = drop-append-le from text more keeps.1 ∙ ap (λ (t : List ℕ). t ++ more) keeps.0
 
-  pub keeps_behind : (at : ℕ) → at ≤ length kept → Keeps text (from + at) (drop at kept)
+  pub keeps_behind : (at : ℕ) → at ≤ length kept → KeepsText text (from + at) (drop at kept)
   keeps_behind at le = (
     sym (drop-drop at from text) ∙ ap (drop at) keeps.0,
     (let s : length kept ≡ length text - from = sym (ap length keeps.0) ∙ length-drop from text in omega (arith, s, le, keeps.1)),
@@ -109,7 +109,7 @@ none_there rest unfinished = by (live_row rest) refl unfinished.1
     by (Ok x) e a = absurd a
     by (Err f) e a = more_decides rest f unfinished.0 e a
 
-none_behind : (text : List ℕ) (passed from : ℕ) (kept : List ℕ) → Keeps text from kept → passed ≤ from → skip_space (drop passed text) ≡ kept → IsUnfinished kept → NothingDecided text passed
+none_behind : (text : List ℕ) (passed from : ℕ) (kept : List ℕ) → KeepsText text from kept → passed ≤ from → skip_space (drop passed text) ≡ kept → IsUnfinished kept → NothingDecided text passed
 none_behind text passed from kept keeps order is unfinished =
     let start : ℕ = from - passed in
     let tail : List ℕ = drop passed text in
@@ -119,15 +119,15 @@ none_behind text passed from kept keeps order is unfinished =
     subst (λ (n : ℕ). NothingDecided text n) (let sum : passed + 0 ≡ passed = omega arith in sum)
     (none_next text tail passed (refl, omega (arith, keeps.1, order), keeps.2) 0 start (omega arith) within space (subst (λ (t : List ℕ). MoreDecides t) (sym there) (none_there kept unfinished)))
 
-now : (text : List ℕ) (passed from : ℕ) (kept : List ℕ) (f : List ℕ → List ℕ) → ((more : List ℕ) → skip_space (drop passed (text ++ more)) ≡ f (drop from (text ++ more))) → Keeps text from kept → skip_space (drop passed text) ≡ f kept
+now : (text : List ℕ) (passed from : ℕ) (kept : List ℕ) (f : List ℕ → List ℕ) → ((more : List ℕ) → skip_space (drop passed (text ++ more)) ≡ f (drop from (text ++ more))) → KeepsText text from kept → skip_space (drop passed text) ≡ f kept
 now text passed from kept f is keeps =
     subst (λ (t : List ℕ). skip_space (drop passed t) ≡ f (drop from t)) (append-nil text) (is []) ∙ ap f keeps.0
 
-pub cut_none : (rest : List ℕ) (comment : Bool) → IsQuiet rest (regions.Gap comment)
+pub cut_none : (rest : List ℕ) (comment : Bool) → DecidesNothing rest (regions.Gap comment)
 cut_none rest comment = λ text passed at (keeps, order, is) cut.
     none_behind text passed at rest keeps order (now text passed at rest (space_behind comment 0) is keeps ∙ gap_cut comment rest cut) (cut_short rest cut, cut_row rest cut)
 
-pub row_none : (rest : List ℕ) (p : Progress) → (Follows rest p → IsUnfinished rest) → IsQuiet rest (regions.Row (Some p))
+pub row_none : (rest : List ℕ) (p : RowProgress) → (HasFollowed rest p → IsUnfinished rest) → DecidesNothing rest (regions.Row (Some p))
 row_none rest p unfinished = λ text passed at (keeps, order, is) stuck. none_behind text passed at rest keeps order (now text passed at rest (λ t. t) is.0 keeps) (unfinished is.3)
 
 -- ---- the same stands behind white space and comments
@@ -155,10 +155,10 @@ module _ (text : List ℕ) (a b : ℕ) (a_within : a ≤ length text) (within : 
   open_row : ((more : List ℕ) → skip_space (drop a (text ++ more)) ≡ skip_space (drop b (text ++ more))) → (r : PlacedRow) (rows_ : List PlacedRow) (to : ℕ) → RowsDecided text a (r ∷ rows_) to → RowsDecided text b (r ∷ rows_) to
   open_row same r rows_ to d = λ more. let up = d more in (gap_moved (text ++ more) a b r.at (same more) (within_more text more b within) up.0, up.1, up.2)
 
-  open_fault : ((more : List ℕ) → skip_space (drop a (text ++ more)) ≡ skip_space (drop b (text ++ more))) → (kind : RowKind) (at : ℕ) → NextFault text a kind at → NextFault text b kind at
+  open_fault : ((more : List ℕ) → skip_space (drop a (text ++ more)) ≡ skip_space (drop b (text ++ more))) → (kind : RowKind) (at : ℕ) → NextRowFault text a kind at → NextRowFault text b kind at
   open_fault same kind at (to, bad) = (to, λ more. (gap_moved (text ++ more) a b to (same more) (within_more text more b within) (bad more).0, (bad more).1))
 
-pub stops_moved : (end : TextEnd) (text : List ℕ) (passed from : ℕ) (o : Option RowAnswer) → from ≤ length text → passed ≤ length text → IsSameGap end text passed from → Stops end text from o → Stops end text passed o
+pub stops_moved : (end : TextEnd) (text : List ℕ) (passed from : ℕ) (o : Option RowFault) → from ≤ length text → passed ≤ length text → IsSameGap end text passed from → StopsRows end text from o → StopsRows end text passed o
 stops_moved ends.Open text passed from None low high same none = (
   (λ r d. none.0 r (open_row text passed from high low same r [] r.end d)),
   (λ kind at bad. none.1 kind at (open_fault text passed from high low same kind at bad)),
@@ -172,7 +172,7 @@ pub stand_moved : (end : TextEnd) (text : List ℕ) (passed from to : ℕ) (r : 
 stand_moved ends.Open text passed from to r rows_ low high same up = open_row text from passed low high (λ more. sym (same more)) r rows_ to up
 stand_moved ends.Known text passed from to r rows_ low high same up = (gap_moved text from passed r.at (sym same) high up.0, up.1, up.2)
 
-pub gives_moved : (end : TextEnd) (text : List ℕ) (passed at : ℕ) (answer : Result (Option PlacedRow) RowAnswer) → at ≤ length text → passed ≤ length text → IsSameGap end text passed at → GivesNext end text at answer → GivesNext end text passed answer
+pub gives_moved : (end : TextEnd) (text : List ℕ) (passed at : ℕ) (answer : Result (Option PlacedRow) RowFault) → at ≤ length text → passed ≤ length text → IsSameGap end text passed at → GivesNext end text at answer → GivesNext end text passed answer
 gives_moved end text passed at (Ok (Some r)) low high same is = stand_moved end text passed at r.end r [] low high same is
 gives_moved end text passed at (Ok None) low high same is = stops_moved end text passed at None low high same is
 gives_moved end text passed at (Err fault) low high same is = stops_moved end text passed at (Some fault) low high same is

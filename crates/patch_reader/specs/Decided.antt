@@ -2,7 +2,7 @@
 use Rattle.std.specs.Prelude.{◌≡◌, ℕ, ◌<◌, ◌≤◌, List, ◌++◌, length}
 use Rattle.std.specs.Prelude.{drop, Option, Some, None, Result, Ok, Err}
 use Rattle.patch_rows.specs.declared.row.Row.{Row}
-use Rattle.patch_rows.specs.declared.fault.RowFault.{RowFault as RowAnswer}
+use Rattle.patch_rows.specs.declared.fault.RowFault.{RowFault}
 use Rattle.patch_rows.specs.declared.fault.RowFault.TheVariants as faults
 use Rattle.patch_rows.specs.Fault.{Fault}
 use Rattle.patch_rows.specs.Faults.{FaultDecided, FirstFault}
@@ -33,25 +33,25 @@ MoreDecides text = ((r : Row) (after : List ℕ) → ShortRowDecided text r afte
 -- What is answered of the row at a place: the row and the place behind it where they are
 -- decided, none where more text decides, and else the decided fault at its place. Want of
 -- memory says nothing.
-abbrev pub Decides : List ℕ → ℕ → Result (Option (Row × ℕ)) RowAnswer → Type 0
-Decides text at (Ok (Some x)) =
+abbrev pub DecidesRow : List ℕ → ℕ → Result (Option (Row × ℕ)) RowFault → Type 0
+DecidesRow text at (Ok (Some x)) =
     ShortRowDecided (drop at text) x.0 (drop x.1 text) × (at < x.1) × (x.1 ≤ length text)
-Decides text at (Ok None) = MoreDecides (drop at text)
-Decides text at (Err (faults.At place kind)) =
+DecidesRow text at (Ok None) = MoreDecides (drop at text)
+DecidesRow text at (Err (faults.At place kind)) =
     FirstFaultDecided (drop at text) (kind, drop place text)
     × (at < length text) × (place ≤ length text)
-Decides text at (Err faults.OutOfMemory) = Unit {0}
+DecidesRow text at (Err faults.OutOfMemory) = Unit {0}
 
 -- The same where the text is known to be whole: the row that stands there, none at the text's end,
 -- and else the row's first fault.
-abbrev pub Reads : List ℕ → ℕ → Result (Option (Row × ℕ)) RowAnswer → Type 0
-Reads text at (Ok (Some x)) = IsRowAt text at x.0 x.1
-Reads text at (Ok None) = at ≡ length text
-Reads text at (Err (faults.At place kind)) =
+abbrev pub ReadsRow : List ℕ → ℕ → Result (Option (Row × ℕ)) RowFault → Type 0
+ReadsRow text at (Ok (Some x)) = IsRowAt text at x.0 x.1
+ReadsRow text at (Ok None) = at ≡ length text
+ReadsRow text at (Err (faults.At place kind)) =
     FirstFault (drop at text) (kind, drop place text) × (at < length text) × (place ≤ length text)
-Reads text at (Err faults.OutOfMemory) = Unit {0}
+ReadsRow text at (Err faults.OutOfMemory) = Unit {0}
 
 -- the one or the other
-abbrev pub GivesRow : TextEnd → List ℕ → ℕ → Result (Option (Row × ℕ)) RowAnswer → Type 0
-GivesRow ends.Open text at answer = Decides text at answer
-GivesRow ends.Known text at answer = Reads text at answer
+abbrev pub GivesRow : TextEnd → List ℕ → ℕ → Result (Option (Row × ℕ)) RowFault → Type 0
+GivesRow ends.Open text at answer = DecidesRow text at answer
+GivesRow ends.Known text at answer = ReadsRow text at answer

@@ -8,8 +8,8 @@ use Rattle.patch_rows.specs.declared.cut.TextEnd.TheVariants as ends
 use Rattle.patch_reader.specs.declared.front.Region.{Region}
 use Rattle.patch_reader.specs.declared.front.Region.TheVariants as regions
 use Rattle.patch_reader.specs.Places.{feeds_before}
-use Rattle.patch_reader.specs.Progress.{Follows, IsWithin}
-use Rattle.patch_reader.specs.Rows.{NothingDecided, Keeps}
+use Rattle.patch_reader.specs.Progress.{HasFollowed, IsProgressWithin}
+use Rattle.patch_reader.specs.Rows.{NothingDecided, KeepsText}
 
 -- from behind the last row on, white space and comments are passed up to this place, from which
 -- `rest` stands, or a row begins there
@@ -19,12 +19,12 @@ IsRegion text passed at rest (regions.Gap comment) = (more : List ℕ)
 IsRegion text passed at rest (regions.Row progress) =
     ((more : List ℕ) → skip_space (drop passed (text ++ more)) ≡ drop at (text ++ more))
     × ((more : List ℕ) → skip_space (drop at (text ++ more)) ≡ drop at (text ++ more))
-    × (at < length text) × IfSome progress (Follows rest)
+    × (at < length text) × IfSome progress (HasFollowed rest)
 
 -- what is known of a row lies within so many bytes
 abbrev pub IsKnownWithin : ℕ → Region → Type 0
 IsKnownWithin size (regions.Gap comment) = Unit {0}
-IsKnownWithin size (regions.Row progress) = IfSome progress (IsWithin size)
+IsKnownWithin size (regions.Row progress) = IfSome progress (IsProgressWithin size)
 
 -- no more white space and comments can be passed: nothing stands there, the front of a character,
 -- or a row with what is known of it
@@ -36,7 +36,7 @@ IsStuck rest (regions.Row progress) = IsKnownWithin (length rest) (regions.Row p
 -- at its front
 abbrev pub IsRest : List ℕ → ℕ → ℕ → List ℕ → Region → Type 0
 IsRest text passed at rest region =
-    Keeps text at rest × (passed ≤ at) × IsRegion text passed at rest region
+    KeepsText text at rest × (passed ≤ at) × IsRegion text passed at rest region
 
 -- where a row begins there that wasn't read yet
 abbrev pub row_place : ℕ → Region → Option ℕ
@@ -46,9 +46,9 @@ row_place at (regions.Row (Some progress)) = None
 
 -- The text is kept from a place on, `at` bytes of what is kept were read, and so many line feeds
 -- stand before that. Each place and line has a number.
-pub record Holds (text : List ℕ) (passed from : ℕ) (kept : List ℕ)
+pub record HoldsText (text : List ℕ) (passed from : ℕ) (kept : List ℕ)
     (feeds at : ℕ) (region : Region) : Type 0 where
-  pub keeps : Keeps text from kept
+  pub keeps : KeepsText text from kept
   pub within : at ≤ length kept
   pub rest : IsRest text passed (from + at) (drop at kept) region
   pub stuck : IsStuck (drop at kept) region
@@ -63,8 +63,8 @@ IsSameGap ends.Open text passed at =
 IsSameGap ends.Known text passed at = skip_space (drop passed text) ≡ skip_space (drop at text)
 
 -- whatever text it is the rest of, no row and no fault is decided in it
-abbrev pub IsQuiet : List ℕ → Region → Type 0
-IsQuiet rest region = (text : List ℕ) (passed at : ℕ) → IsRest text passed at rest region
+abbrev pub DecidesNothing : List ℕ → Region → Type 0
+DecidesNothing rest region = (text : List ℕ) (passed at : ℕ) → IsRest text passed at rest region
     → IsStuck rest region → NothingDecided text passed
 
 -- whatever text it is the rest of, a row or a fault is decided in it

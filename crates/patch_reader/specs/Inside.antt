@@ -3,7 +3,7 @@
 use Rattle.std.specs.Prelude.{◌≡◌, ◌⊎◌, ℕ, ◌≤◌, true, false, List, [], ◌∷◌, ◌++◌, drop, Ok, Err}
 use Rattle.std.specs.Char.{is_ascii_alphabetic}
 use Rattle.std.specs.List.{list_all}
-use Rattle.nquads_text.specs.Fault.{Read}
+use Rattle.nquads_text.specs.Fault.{TextRead}
 use Rattle.nquads_text.specs.Grammar.{is_blank}
 use Rattle.nquads_text.specs.Reading.{iri_body_at, string_body_at}
 use Rattle.nquads_text.specs.Terms.{name_len, tag_at, skip_blanks, typed_at, iri_needed}
@@ -22,7 +22,7 @@ AreBlanksOpen rest = (list_all is_blank rest ≡ true)
     ⊎ ((start text : List ℕ) → TextAtEnd (typed_at start text (skip_blanks rest)))
 
 -- a tag that reaches the text's end
-abbrev pub IsTagOpen : Read (List ℕ) → Type 0
+abbrev pub IsTagOpen : TextRead (List ℕ) → Type 0
 IsTagOpen (Ok x) = x.1 ≡ []
 IsTagOpen (Err f) = ends_text f.0 f.1 ≡ true
 
@@ -32,7 +32,7 @@ IsSuffixOpen rest = AreBlanksOpen rest ⊎ ((tag : List ℕ) × (rest ≡ 64 ∷
     × ((start : List ℕ) → IsTagOpen (tag_at true false start tag)))
 
 -- a string that the text's end cuts off, or what stands behind it is open
-abbrev pub IsStringOpen : Read (List ℕ) → Type 0
+abbrev pub IsStringOpen : TextRead (List ℕ) → Type 0
 IsStringOpen (Ok x) = IsSuffixOpen x.1
 IsStringOpen (Err f) = ends_text f.0 f.1 ≡ true
 

@@ -5,7 +5,7 @@ use Rattle.patch_rows.specs.declared.row.Row.{Row}
 use Rattle.patch_rows.specs.declared.fault.RowFault.{RowFault}
 use Rattle.patch_rows.specs.declared.cut.TextEnd.{TextEnd}
 use Rattle.patch_reader.specs.declared.placed.PlacedRow.{PlacedRow}
-use Rattle.patch_reader.specs.Rows.{RowsStand, Stops}
+use Rattle.patch_reader.specs.Rows.{RowsStand, StopsRows}
 use Rattle.patch_reader.specs.Window.{Window}
 
 -- the text that was fed, and whether its end is known; of its rows those taken and those ready; the
@@ -19,18 +19,18 @@ pub record Reader : Type 0 where
 
 -- the text's rows, one behind another, and what comes behind them: no more, or the fault; want of
 -- memory hides the rest
-abbrev pub AreAll : TextEnd → List ℕ → List PlacedRow → Option RowFault → Type 0
-AreAll end text rows_ fault =
-    (behind : ℕ) × RowsStand end text 0 rows_ behind × Stops end text behind fault
+abbrev pub AreAllRows : TextEnd → List ℕ → List PlacedRow → Option RowFault → Type 0
+AreAllRows end text rows_ fault =
+    (behind : ℕ) × RowsStand end text 0 rows_ behind × StopsRows end text behind fault
 
 -- the rows taken and those ready are all rows of what was fed, whose places fit a u64
 abbrev pub HasAllRows : Reader → Type 0
-HasAllRows r = length r.fed < 2 ^ 64 → AreAll r.end r.fed (r.taken ++ r.ready) r.fault
+HasAllRows r = length r.fed < 2 ^ 64 → AreAllRows r.end r.fed (r.taken ++ r.ready) r.fault
 
 -- it is answered which fault was met, if any
-abbrev pub Tells : Option RowFault → Result Unit RowFault → Type 0
-Tells fault (Ok x) = fault ≡ None
-Tells fault (Err e) = fault ≡ Some e
+abbrev pub TellsMetFault : Option RowFault → Result Unit RowFault → Type 0
+TellsMetFault fault (Ok x) = fault ≡ None
+TellsMetFault fault (Err e) = fault ≡ Some e
 
 -- behind a fault no row comes, and the fault stays
 abbrev pub FaultStays : Reader → Reader → Type 0
@@ -53,5 +53,5 @@ TakesRow old None new = Takes old None new
 pub record HasRead (end : TextEnd) (fed : List ℕ) (rows_ : List PlacedRow)
     (fault : Option RowFault) (w : Window) : Type 0 where
   pub all : RowsStand end fed 0 rows_ w.passed
-  pub stops : Stops end fed w.passed fault
+  pub stops : StopsRows end fed w.passed fault
   pub same : fault ≡ None → w.fed ≡ fed

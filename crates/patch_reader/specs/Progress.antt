@@ -15,11 +15,11 @@ use Rattle.patch_rows.specs.declared.codes.Code.{Code}
 use Rattle.patch_rows.specs.declared.codes.Code.TheVariants as code
 use Rattle.patch_reader.specs.declared.inside.Inside.{Inside}
 use Rattle.patch_reader.specs.declared.inside.Inside.TheVariants as inside
-use Rattle.patch_reader.specs.declared.progress.Part.{Part}
-use Rattle.patch_reader.specs.declared.progress.Part.TheVariants as part
+use Rattle.patch_reader.specs.declared.progress.RowPart.{RowPart}
+use Rattle.patch_reader.specs.declared.progress.RowPart.TheVariants as part
 use Rattle.patch_reader.specs.declared.progress.Place.{Place}
 use Rattle.patch_reader.specs.declared.progress.Place.TheVariants as place
-use Rattle.patch_reader.specs.declared.progress.Progress.{Progress}
+use Rattle.patch_reader.specs.declared.progress.RowProgress.{RowProgress}
 use Rattle.patch_reader.specs.declared.progress.Step.{Step}
 use Rattle.patch_reader.specs.declared.progress.Step.TheVariants as step
 use Rattle.patch_rows.specs.Cut.{AtEnd}
@@ -64,7 +64,7 @@ unfoldable pub removed_from : List ℕ → Rest
 removed_from rest = prefix_of Open rest >>= λ p. graph_from (skip_space p.1)
 
 -- from a part on
-abbrev pub rest_from : Part → List ℕ → Rest
+abbrev pub rest_from : RowPart → List ℕ → Rest
 rest_from part.Key rest = key_from rest
 rest_from part.Value rest = value_from rest
 rest_from part.Bare rest = dot_at (Common BadToken) rest
@@ -78,7 +78,7 @@ rest_from part.Graph rest = graph_from rest
 rest_from part.End rest = end_from rest
 
 -- the part alone; a graph is one that is there
-abbrev pub part_at : Part → List ℕ → Rest
+abbrev pub part_at : RowPart → List ℕ → Rest
 part_at part.Key rest = open_key rest >>= λ k. Ok k.1
 part_at part.Value rest = placed_of Open is_any rest >>= λ t. Ok t.1
 part_at part.Bare rest = dot_at (Common BadToken) rest
@@ -92,7 +92,7 @@ part_at part.Graph rest = placed_of Open is_node rest >>= λ t. Ok t.1
 part_at part.End rest = end_from rest
 
 -- the part behind it; none behind the row's dot
-abbrev pub part_behind : Part → Option Part
+abbrev pub part_behind : RowPart → Option RowPart
 part_behind part.Key = Some part.Value
 part_behind part.Value = Some part.End
 part_behind part.Bare = None
@@ -106,7 +106,7 @@ part_behind part.Graph = Some part.End
 part_behind part.End = None
 
 -- a term may stand there
-abbrev pub takes_term : Part → Bool
+abbrev pub takes_term : RowPart → Bool
 takes_term part.Key = false
 takes_term part.Value = true
 takes_term part.Bare = false
@@ -120,7 +120,7 @@ takes_term part.Graph = true
 takes_term part.End = false
 
 -- a blank node may
-abbrev pub takes_node : Part → Bool
+abbrev pub takes_node : RowPart → Bool
 takes_node part.Key = false
 takes_node part.Value = true
 takes_node part.Bare = false
@@ -134,7 +134,7 @@ takes_node part.Graph = true
 takes_node part.End = false
 
 -- a word may
-abbrev pub takes_word : Part → Bool
+abbrev pub takes_word : RowPart → Bool
 takes_word part.Key = true
 takes_word part.Value = false
 takes_word part.Bare = false
@@ -148,7 +148,7 @@ takes_word part.Graph = false
 takes_word part.End = false
 
 -- the part behind a row's code
-abbrev pub first_part : Code → Part
+abbrev pub first_part : Code → RowPart
 first_part code.Header = part.Key
 first_part code.Begin = part.Bare
 first_part code.Commit = part.Bare
@@ -159,7 +159,7 @@ first_part code.Add = part.Subject
 first_part code.Delete = part.Subject
 
 -- what is left behind the part; behind the row's dot only the text
-abbrev pub rest_behind : Option Part → List ℕ → Rest
+abbrev pub rest_behind : Option RowPart → List ℕ → Rest
 rest_behind None after = Ok after
 rest_behind (Some next) after = rest_from next (skip_space after)
 
@@ -181,8 +181,8 @@ abbrev pub SameOpen : List ℕ → Place → Place → Type 0
 SameOpen text old new = (more : List ℕ) → OpenAt old (text ++ more) ↔ OpenAt new (text ++ more)
 
 -- reading the row meets the end where it does from the place on, and also where the token is open
-abbrev pub Follows : List ℕ → Progress → Type 0
-Follows text p = SameOpen text place.Row p.place
+abbrev pub HasFollowed : List ℕ → RowProgress → Type 0
+HasFollowed text p = SameOpen text place.Row p.place
     × ((more : List ℕ) → OpenInside p.inside (text ++ more) → OpenAt place.Row (text ++ more))
 
 -- how many bytes of the text are known there, with the first one of a part
@@ -195,16 +195,16 @@ known_bytes (place.Token p start) = start + 1
 abbrev pub IsPlaceWithin : ℕ → Place → Type 0
 IsPlaceWithin size p = known_bytes p ≤ size
 
-abbrev pub IsWithin : ℕ → Progress → Type 0
-IsWithin size p = IsPlaceWithin size p.place × IsInsideWithin size p.inside
+abbrev pub IsProgressWithin : ℕ → RowProgress → Type 0
+IsProgressWithin size p = IsPlaceWithin size p.place × IsInsideWithin size p.inside
 
 -- what is read inside meets the end only where it does from further inside
-abbrev pub LeadsInside : List ℕ → Progress → Inside → Type 0
+abbrev pub LeadsInside : List ℕ → RowProgress → Inside → Type 0
 LeadsInside text old new = (more : List ℕ) → OpenInside new (text ++ more)
     → OpenAt old.place (text ++ more) ⊎ OpenInside old.inside (text ++ more)
 
 -- how many parts a row has at most from there on
-abbrev pub parts_left : Part → ℕ
+abbrev pub parts_left : RowPart → ℕ
 parts_left part.Key = 3
 parts_left part.Value = 2
 parts_left part.Bare = 1
@@ -225,22 +225,23 @@ steps_left (place.Token p start) = 2 * parts_left p
 
 -- One step: it goes on nearer to the row's end, reading meets the text's end there, or a row or a
 -- fault is decided. Want of memory says nothing.
-abbrev pub IsStep : List ℕ → Progress → Step → Type 0
-IsStep text old (step.Goes new) = SameOpen text old.place new × IsPlaceWithin (length text) new
+abbrev pub IsPartStep : List ℕ → RowProgress → Step → Type 0
+IsPartStep text old (step.Goes new) = SameOpen text old.place new × IsPlaceWithin (length text) new
     × (steps_left new < steps_left old.place)
-IsStep text old (step.Open new) =
+IsPartStep text old (step.Open new) =
     SameOpen text old.place new × IsPlaceWithin (length text) new × OpenAt new text
-IsStep text old (step.Enters new) =
+IsPartStep text old (step.Enters new) =
     LeadsInside text old new × IsInsideWithin (length text) new × OpenInside new text
-IsStep text old step.Decided = OpenAt old.place text → ⊥
-IsStep text old step.OutOfMemory = Unit {0}
+IsPartStep text old step.Decided = OpenAt old.place text → ⊥
+IsPartStep text old step.OutOfMemory = Unit {0}
 
 -- the row is unfinished, and it is followed from there on; none where it isn't
-abbrev pub IsFollowed : List ℕ → Progress → Option Progress → Type 0
-IsFollowed text old None = Follows text old → IsUnfinished text → ⊥
+abbrev pub IsFollowed : List ℕ → RowProgress → Option RowProgress → Type 0
+IsFollowed text old None = HasFollowed text old → IsUnfinished text → ⊥
 IsFollowed text old (Some p) =
-    IsWithin (length text) p × (Follows text old → Follows text p × IsUnfinished text)
+    IsProgressWithin (length text) p
+    × (HasFollowed text old → HasFollowed text p × IsUnfinished text)
 
 -- at a place, with nothing known of what begins there
-abbrev pub progress_at : Place → Progress
+abbrev pub progress_at : Place → RowProgress
 progress_at p = record { place = p; inside = inside.Nothing }

@@ -20,18 +20,18 @@ RowBegins w start = ((more : List ℕ) → Gap (w.fed ++ more) w.passed start)
     × (w.kept ≤ start) × (start < length w.fed)
 
 -- what stands where the next row begins; nothing where that isn't known
-abbrev pub row_front : Window → List ℕ
-row_front w = front_of w.front
+abbrev pub front_text : Window → List ℕ
+front_text w = front_of w.front
   where
     front_of : Option ℕ → List ℕ
     front_of None = []
     front_of (Some start) = drop start w.fed
 
 -- reading goes on behind a row; else all is as before, but for what is known of an unfinished row
-abbrev pub GoesOn : Window → Result (Option PlacedRow) RowFault → Window → Type 0
-GoesOn old (Ok (Some r)) new = new ≡ record old { passed = r.end; front = new.front }
-GoesOn old (Ok None) new = new ≡ record old { front = new.front }
-GoesOn old (Err fault) new = new ≡ record old { front = new.front }
+abbrev pub ReadsOn : Window → Result (Option PlacedRow) RowFault → Window → Type 0
+ReadsOn old (Ok (Some r)) new = new ≡ record old { passed = r.end; front = new.front }
+ReadsOn old (Ok None) new = new ≡ record old { front = new.front }
+ReadsOn old (Err fault) new = new ≡ record old { front = new.front }
 
 -- all that was read was let go, and white space and comments behind it up to where the
 -- next row begins

@@ -2,11 +2,11 @@
 
 ghost use Rattle.std.specs.Prelude.{◌≡◌, ◌≤◌, ℕ, List, true, false, None, length, drop, Ok};
 ghost use Rattle.patch_rows.specs.declared.cut.TextEnd.TheVariants as ends;
-ghost use Rattle.patch_reader.specs.Held.{row_place, IsKnownWithin, IsStuck, IsQuiet};
+ghost use Rattle.patch_reader.specs.Held.{row_place, IsKnownWithin, IsStuck, DecidesNothing};
 ghost use Rattle.patch_reader.specs.Held.{IsDecided, HasAll, PassesGap, StaysThere};
 ghost use Rattle.patch_reader.specs.declared.front.Region.TheVariants as regions;
 
-use crate::progress::{Progress, at_row, follow};
+use crate::progress::{RowProgress, at_row, follow};
 use delta_base::OutOfMemory;
 use patch_rows::TextEnd;
 use patch_rows::parts::{is_cut_at, pass_gap};
@@ -18,7 +18,7 @@ pub enum Region {
     /// Nothing, or the front of a character, in a comment or outside.
     Gap { comment: bool },
     /// A row, and how far it is known, once it was found to be unfinished.
-    Row { progress: Option<Progress> },
+    Row { progress: Option<RowProgress> },
 }
 
 /// Whether a row begins there that wasn't read yet.
@@ -66,7 +66,7 @@ pub fn pass_front(rest: &[u8], region: &mut Region) -> usize
 /// that isn't known.
 pub fn follow_open(alloc: Global, rest: &[u8], region: &mut Region) -> Result<bool, OutOfMemory>
     requires { IsKnownWithin (length rest.now) region.old }
-    ensures quiet { result ≡ Ok true → IsQuiet rest.now region.old }
+    ensures quiet { result ≡ Ok true → DecidesNothing rest.now region.old }
     ensures decided { result ≡ Ok false → (region.old ≡ regions.Row None → ⊥)
         → IsDecided rest.now region.old }
     ensures stays { StaysThere rest.now region.old region.new }
@@ -99,7 +99,7 @@ pub fn follow_rest(
     end: TextEnd,
 ) -> Result<bool, OutOfMemory>
     requires { IsKnownWithin (length rest.now) region.old }
-    ensures quiet { result ≡ Ok true → (end ≡ ends.Open) × IsQuiet rest.now region.old }
+    ensures quiet { result ≡ Ok true → (end ≡ ends.Open) × DecidesNothing rest.now region.old }
     ensures stays { StaysThere rest.now region.old region.new }
     ensures all { result ≡ Ok false → HasAll end rest.now region.new }
 {

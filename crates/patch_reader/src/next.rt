@@ -3,9 +3,9 @@
 ghost use Rattle.std.specs.Prelude.{◌≡◌, ℕ, ◌+◌, ◌≤◌, List, length, drop};
 ghost use Rattle.nquads_text.specs.Grammar.{StartsWith};
 ghost use Rattle.patch_rows.specs.Grammar.{begins_space};
-ghost use Rattle.patch_reader.specs.Decided.{Reads, GivesRow};
-ghost use Rattle.patch_reader.specs.Places.{IsFrom, moved_fault, placed_row};
-ghost use Rattle.patch_reader.specs.Rows.{GivesNext, Keeps};
+ghost use Rattle.patch_reader.specs.Decided.{ReadsRow, GivesRow};
+ghost use Rattle.patch_reader.specs.Places.{IsNotBefore, moved_fault, placed_row};
+ghost use Rattle.patch_reader.specs.Rows.{GivesNext, KeepsText};
 
 use crate::placed::PlacedRow;
 use crate::reading::{decided_row, read_row};
@@ -40,7 +40,7 @@ fn moved(fault: RowFault, base: u64) -> RowFault
 fn whole_row(alloc: Global, text: &[u8], at: usize) -> Result<Option<(Row, usize)>, RowFault>
     requires within { at ≤ length text.now }
     requires begins { StartsWith begins_space (drop at text.now) → ⊥ }
-    ensures { Reads text.now at result }
+    ensures { ReadsRow text.now at result }
 {
     if at == text.len() {
         return Ok(None);
@@ -78,9 +78,9 @@ pub fn next_row(
     end: TextEnd,
 ) -> Result<Option<PlacedRow>, RowFault>
     requires { at ≤ length kept.now }
-    ensures gives { (text : List ℕ) → Keeps text base kept.now
+    ensures gives { (text : List ℕ) → KeepsText text base kept.now
         → GivesNext end text (base + at) result }
-    ensures from { IsFrom base result }
+    ensures from { IsNotBefore base result }
 {
     let start = skip_space(kept, at);
     match row_there(alloc, kept, start, end) {

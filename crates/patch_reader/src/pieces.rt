@@ -3,8 +3,8 @@
 ghost use Rattle.std.specs.Prelude.{◌≡◌, ◌++◌, [], None, OnOk};
 ghost use Rattle.std.specs.Result.{result_err};
 ghost use Rattle.patch_rows.specs.declared.cut.TextEnd.TheVariants as ends;
-ghost use Rattle.patch_reader.specs.Pieces.{HasAllRows, Tells, FaultStays, Takes, TakesRow};
-ghost use Rattle.patch_reader.specs.Rows.{Adds, Stops, StayReady};
+ghost use Rattle.patch_reader.specs.Pieces.{HasAllRows, TellsMetFault, FaultStays, Takes, TakesRow};
+ghost use Rattle.patch_reader.specs.Rows.{AddsRows, StopsRows, StayReady};
 
 use crate::past::{Fed, Taken};
 use crate::placed::PlacedRow;
@@ -23,9 +23,9 @@ fn take_rows(
     ready: &mut VecDeque<PlacedRow>,
 ) -> Result<(), RowFault>
     ensures fed { window.new.fed ≡ window.old.fed }
-    ensures adds { Adds end window.old.fed window.old.passed ready.old.items
+    ensures adds { AddsRows end window.old.fed window.old.passed ready.old.items
         ready.new.items window.new.passed }
-    ensures stops { Stops end window.old.fed window.new.passed (result_err result) }
+    ensures stops { StopsRows end window.old.fed window.new.passed (result_err result) }
 {
     'rows: loop {
         ready.reserve(1)?;
@@ -43,9 +43,9 @@ fn take_piece(
     ready: &mut VecDeque<PlacedRow>,
 ) -> Result<(), RowFault>
     ensures fed { OnOk result (window.new.fed ≡ window.old.fed ++ piece.now) }
-    ensures adds { Adds ends.Open (window.old.fed ++ piece.now) window.old.passed
+    ensures adds { AddsRows ends.Open (window.old.fed ++ piece.now) window.old.passed
         ready.old.items ready.new.items window.new.passed }
-    ensures stops { Stops ends.Open (window.old.fed ++ piece.now) window.new.passed
+    ensures stops { StopsRows ends.Open (window.old.fed ++ piece.now) window.new.passed
         (result_err result) }
 {
     window.push(piece)?;
@@ -116,7 +116,7 @@ impl PatchReader {
         ensures same { (self.new.end ≡ ends.Open) × (self.new.taken ≡ self.old.taken) }
         ensures rows { HasAllRows self.new }
         ensures ready { StayReady self.old.ready self.new.ready }
-        ensures answer { Tells self.new.fault result }
+        ensures answer { TellsMetFault self.new.fault result }
         ensures stays { FaultStays self.old self.new }
     {
         self.fed.feed(piece);
@@ -135,7 +135,7 @@ impl PatchReader {
         ensures same { (self.new.fed ≡ self.old.fed) × (self.new.taken ≡ self.old.taken) }
         ensures rows { HasAllRows self.new }
         ensures ready { StayReady self.old.ready self.new.ready }
-        ensures answer { Tells self.new.fault result }
+        ensures answer { TellsMetFault self.new.fault result }
         ensures stays { FaultStays self.old self.new }
         ensures again { self.old.end ≡ ends.Known → self.new ≡ self.old }
     {
@@ -153,7 +153,7 @@ impl PatchReader {
 
     /// What is answered.
     fn answer(&self) -> Result<(), RowFault>
-        ensures answer { Tells self.now.fault result }
+        ensures answer { TellsMetFault self.now.fault result }
         ensures rows { HasAllRows self.now }
     {
         match self.fault {

@@ -3,7 +3,7 @@
 ghost use Rattle.std.specs.Prelude.{◌≡◌, ◌≤◌, ◌<◌, ◌++◌, ℕ, List, true};
 ghost use Rattle.std.specs.Prelude.{false, length, drop, slice_index, IfOk};
 ghost use Rattle.nquads_text.specs.Faults.{begins_term};
-ghost use Rattle.patch_rows.specs.Fault.{Ends};
+ghost use Rattle.patch_rows.specs.Fault.{GivesEnd};
 ghost use Rattle.patch_rows.specs.Reading.{stands};
 ghost use Rattle.patch_reader.specs.Inside.{OpenInside, IsInsideWithin};
 ghost use Rattle.patch_reader.specs.Progress.{part_at, part_behind as part_behind_of};
@@ -11,9 +11,9 @@ ghost use Rattle.patch_reader.specs.Progress.{takes_term as term_is_taken};
 ghost use Rattle.patch_reader.specs.Progress.{takes_node as node_is_taken};
 ghost use Rattle.patch_reader.specs.Progress.{takes_word as word_is_taken};
 ghost use Rattle.patch_reader.specs.Progress.{first_part as first_part_of, OpenAt};
-ghost use Rattle.patch_reader.specs.Progress.{LeadsInside, IsWithin};
-ghost use Rattle.patch_reader.specs.Progress.{IsStep, IsFollowed, progress_at};
-ghost use Rattle.patch_reader.specs.declared.progress.Part.TheVariants as parts;
+ghost use Rattle.patch_reader.specs.Progress.{LeadsInside, IsProgressWithin};
+ghost use Rattle.patch_reader.specs.Progress.{IsPartStep, IsFollowed, progress_at};
+ghost use Rattle.patch_reader.specs.declared.progress.RowPart.TheVariants as parts;
 ghost use Rattle.patch_reader.specs.declared.progress.Place.TheVariants as place;
 
 use crate::inside::{Inside, is_open, pass};
@@ -30,7 +30,7 @@ use std::alloc::Global;
 
 /// A part of a row behind its code.
 #[derive(Clone, Copy)]
-pub enum Part {
+pub enum RowPart {
     /// The key of a header row.
     Key,
     /// Its value.
@@ -59,19 +59,19 @@ pub enum Place {
     Row,
     /// In white space and comments before a part.
     Gap {
-        part: Part,
+        part: RowPart,
         mark: usize,
         comment: bool,
     },
     /// At a part's first byte.
     Token {
-        part: Part,
+        part: RowPart,
         start: usize,
     },
 }
 
 #[derive(Clone, Copy)]
-pub struct Progress {
+pub struct RowProgress {
     pub place: Place,
     pub inside: Inside,
 }
@@ -91,73 +91,73 @@ pub enum Step {
 }
 
 /// At a place, with nothing known of what begins there.
-fn at_place(place: Place) -> Progress
+fn at_place(place: Place) -> RowProgress
     ensures { result ≡ progress_at place }
 {
-    Progress {
+    RowProgress {
         place,
         inside: Inside::Nothing,
     }
 }
 
 /// At the front of a row of which nothing is known.
-pub fn at_row() -> Progress
+pub fn at_row() -> RowProgress
     ensures { result ≡ progress_at place.Row }
 {
     at_place(Place::Row)
 }
 
-fn first_part(code: Code) -> Part
+fn first_part(code: Code) -> RowPart
     ensures { result ≡ first_part_of code }
 {
     match code {
-        Code::Header => Part::Key,
-        Code::Begin | Code::Commit | Code::Abort => Part::Bare,
-        Code::PrefixAdd => Part::Added,
-        Code::PrefixDelete => Part::Removed,
-        Code::Add | Code::Delete => Part::Subject,
+        Code::Header => RowPart::Key,
+        Code::Begin | Code::Commit | Code::Abort => RowPart::Bare,
+        Code::PrefixAdd => RowPart::Added,
+        Code::PrefixDelete => RowPart::Removed,
+        Code::Add | Code::Delete => RowPart::Subject,
     }
 }
 
-fn part_behind(part: Part) -> Option<Part>
+fn part_behind(part: RowPart) -> Option<RowPart>
     ensures { result ≡ part_behind_of part }
 {
     match part {
-        Part::Key => Some(Part::Value),
-        Part::Value | Part::Graph => Some(Part::End),
-        Part::Bare | Part::End => None,
-        Part::Added => Some(Part::Iri),
-        Part::Iri | Part::Removed | Part::Object => Some(Part::Graph),
-        Part::Subject => Some(Part::Predicate),
-        Part::Predicate => Some(Part::Object),
+        RowPart::Key => Some(RowPart::Value),
+        RowPart::Value | RowPart::Graph => Some(RowPart::End),
+        RowPart::Bare | RowPart::End => None,
+        RowPart::Added => Some(RowPart::Iri),
+        RowPart::Iri | RowPart::Removed | RowPart::Object => Some(RowPart::Graph),
+        RowPart::Subject => Some(RowPart::Predicate),
+        RowPart::Predicate => Some(RowPart::Object),
     }
 }
 
-fn takes_term(part: Part) -> bool
+fn takes_term(part: RowPart) -> bool
     ensures { result ≡ term_is_taken part }
 {
-    !matches!(part, Part::Key | Part::Bare | Part::End)
+    !matches!(part, RowPart::Key | RowPart::Bare | RowPart::End)
 }
 
-fn takes_node(part: Part) -> bool
+fn takes_node(part: RowPart) -> bool
     ensures { result ≡ node_is_taken part }
 {
     matches!(
         part,
-        Part::Value | Part::Subject | Part::Object | Part::Graph
+        RowPart::Value | RowPart::Subject | RowPart::Object | RowPart::Graph
     )
 }
 
-fn takes_word(part: Part) -> bool
+fn takes_word(part: RowPart) -> bool
     ensures { result ≡ word_is_taken part }
 {
-    matches!(part, Part::Key | Part::Added | Part::Removed)
+    matches!(part, RowPart::Key | RowPart::Added | RowPart::Removed)
 }
 
 /// Through white space and comments before a part.
-fn step_gap(text: &[u8], part: Part, mark: usize, comment: bool) -> Step
+fn step_gap(text: &[u8], part: RowPart, mark: usize, comment: bool) -> Step
     requires { mark ≤ length text.now }
-    ensures { IsStep text.now (progress_at (place.Gap part mark comment)) result }
+    ensures { IsPartStep text.now (progress_at (place.Gap part mark comment)) result }
 {
     let (at, comment) = pass_gap(text, mark, comment);
     if is_cut_at(text, at) {
@@ -172,7 +172,7 @@ fn step_gap(text: &[u8], part: Part, mark: usize, comment: bool) -> Step
 
 /// Over a row's code, read as a whole.
 fn step_code(text: &[u8]) -> Step
-    ensures { IsStep text.now (progress_at place.Row) result }
+    ensures { IsPartStep text.now (progress_at place.Row) result }
 {
     match word(text, 0) {
         Ok((letters, behind)) => match find_code(letters) {
@@ -194,27 +194,27 @@ fn step_code(text: &[u8]) -> Step
 }
 
 /// The place behind a part.
-fn read_part(alloc: Global, text: &[u8], part: Part, start: usize) -> Result<usize, RowFault>
+fn read_part(alloc: Global, text: &[u8], part: RowPart, start: usize) -> Result<usize, RowFault>
     requires { start ≤ length text.now }
-    ensures { Ends text.now result (part_at part (drop start text.now)) }
+    ensures { GivesEnd text.now result (part_at part (drop start text.now)) }
 {
     match part {
-        Part::Key => Ok(key(alloc, text, start, TextEnd::Open)?.1),
-        Part::Value | Part::Object => Ok(any(alloc, text, start, TextEnd::Open)?.1),
-        Part::Subject | Part::Graph => Ok(node(alloc, text, start, TextEnd::Open)?.1),
-        Part::Predicate => Ok(iri(alloc, text, start, TextEnd::Open)?.1),
-        Part::Added | Part::Removed => Ok(prefix(alloc, text, start, TextEnd::Open)?.1),
-        Part::Iri => Ok(prefix_iri(alloc, text, start, TextEnd::Open)?.1),
-        Part::Bare => dot(text, start, RowKind::Common(TextKind::BadToken)),
-        Part::End => dot(text, start, RowKind::Common(TextKind::MissingDot)),
+        RowPart::Key => Ok(key(alloc, text, start, TextEnd::Open)?.1),
+        RowPart::Value | RowPart::Object => Ok(any(alloc, text, start, TextEnd::Open)?.1),
+        RowPart::Subject | RowPart::Graph => Ok(node(alloc, text, start, TextEnd::Open)?.1),
+        RowPart::Predicate => Ok(iri(alloc, text, start, TextEnd::Open)?.1),
+        RowPart::Added | RowPart::Removed => Ok(prefix(alloc, text, start, TextEnd::Open)?.1),
+        RowPart::Iri => Ok(prefix_iri(alloc, text, start, TextEnd::Open)?.1),
+        RowPart::Bare => dot(text, start, RowKind::Common(TextKind::BadToken)),
+        RowPart::End => dot(text, start, RowKind::Common(TextKind::MissingDot)),
     }
 }
 
 /// Over a part, read as a whole.
-fn step_part(alloc: Global, text: &[u8], part: Part, start: usize) -> Step
+fn step_part(alloc: Global, text: &[u8], part: RowPart, start: usize) -> Step
     requires within { start < length text.now }
     requires graph { part ≡ parts.Graph → stands begins_term (drop start text.now) ≡ true }
-    ensures { IsStep text.now (progress_at (place.Token part start)) result }
+    ensures { IsPartStep text.now (progress_at (place.Token part start)) result }
 {
     match read_part(alloc, text, part, start) {
         Ok(behind) => match part_behind(part) {
@@ -248,7 +248,7 @@ fn code_begins(text: &[u8]) -> Inside
 }
 
 /// In a label, where its first character stands.
-fn label_begins(text: &[u8], part: Part, start: usize) -> Inside
+fn label_begins(text: &[u8], part: RowPart, start: usize) -> Inside
     requires begins { start < length text.now }
     requires line { slice_index text.now start ≡ 95 }
     requires node { node_is_taken part ≡ true }
@@ -271,7 +271,7 @@ fn label_begins(text: &[u8], part: Part, start: usize) -> Inside
 }
 
 /// In the token with which a part begins, where its first bytes stand.
-fn part_begins(text: &[u8], part: Part, start: usize) -> Inside
+fn part_begins(text: &[u8], part: RowPart, start: usize) -> Inside
     requires { start < length text.now }
     ensures within { IsInsideWithin (length text.now) result }
     ensures leads { (more : List ℕ) → OpenInside result (text.now ++ more)
@@ -293,14 +293,14 @@ fn part_begins(text: &[u8], part: Part, start: usize) -> Inside
 }
 
 /// Whether a graph may stand there, and none does.
-fn lacks_graph(text: &[u8], part: Part, start: usize) -> bool
+fn lacks_graph(text: &[u8], part: RowPart, start: usize) -> bool
     requires { start ≤ length text.now }
     ensures yes { result ≡ true
         → (part ≡ parts.Graph) × (stands begins_term (drop start text.now) ≡ false) }
     ensures none { result ≡ false → part ≡ parts.Graph
         → stands begins_term (drop start text.now) ≡ true }
 {
-    matches!(part, Part::Graph) && !is_term_at(text, start)
+    matches!(part, RowPart::Graph) && !is_term_at(text, start)
 }
 
 /// What is known of a row's code, at least where its first letter stands.
@@ -319,7 +319,7 @@ fn in_code(text: &[u8], inside: Inside) -> Inside
 /// Over a row's code.
 fn step_row(text: &[u8], inside: Inside) -> Step
     requires { IsInsideWithin (length text.now) inside }
-    ensures { IsStep text.now (record { place = place.Row; inside = inside }) result }
+    ensures { IsPartStep text.now (record { place = place.Row; inside = inside }) result }
 {
     let inside = pass(text, in_code(text, inside));
     if is_open(text, inside) {
@@ -329,7 +329,7 @@ fn step_row(text: &[u8], inside: Inside) -> Step
 }
 
 /// What is known of a part, at least where its first bytes stand.
-fn in_part(text: &[u8], part: Part, start: usize, inside: Inside) -> Inside
+fn in_part(text: &[u8], part: RowPart, start: usize, inside: Inside) -> Inside
     requires begins { start < length text.now }
     requires within { IsInsideWithin (length text.now) inside }
     ensures within { IsInsideWithin (length text.now) result }
@@ -343,14 +343,15 @@ fn in_part(text: &[u8], part: Part, start: usize, inside: Inside) -> Inside
 }
 
 /// Over a part.
-fn step_token(alloc: Global, text: &[u8], part: Part, start: usize, inside: Inside) -> Step
+fn step_token(alloc: Global, text: &[u8], part: RowPart, start: usize, inside: Inside) -> Step
     requires begins { start < length text.now }
     requires within { IsInsideWithin (length text.now) inside }
-    ensures { IsStep text.now (record { place = place.Token part start; inside = inside }) result }
+    ensures { IsPartStep text.now
+        (record { place = place.Token part start; inside = inside }) result }
 {
     if lacks_graph(text, part, start) {
         return Step::Goes(Place::Token {
-            part: Part::End,
+            part: RowPart::End,
             start,
         });
     }
@@ -362,9 +363,9 @@ fn step_token(alloc: Global, text: &[u8], part: Part, start: usize, inside: Insi
 }
 
 /// One step through an unfinished row.
-fn advance(alloc: Global, text: &[u8], progress: Progress) -> Step
-    requires { IsWithin (length text.now) progress }
-    ensures { IsStep text.now progress result }
+fn advance(alloc: Global, text: &[u8], progress: RowProgress) -> Step
+    requires { IsProgressWithin (length text.now) progress }
+    ensures { IsPartStep text.now progress result }
 {
     match progress.place {
         Place::Row => step_row(text, progress.inside),
@@ -382,9 +383,9 @@ fn advance(alloc: Global, text: &[u8], progress: Progress) -> Step
 pub fn follow(
     alloc: Global,
     text: &[u8],
-    progress: Progress,
-) -> Result<Option<Progress>, OutOfMemory>
-    requires { IsWithin (length text.now) progress }
+    progress: RowProgress,
+) -> Result<Option<RowProgress>, OutOfMemory>
+    requires { IsProgressWithin (length text.now) progress }
     ensures { IfOk result (IsFollowed text.now progress) }
 {
     if is_long(text, 0) {
@@ -396,7 +397,7 @@ pub fn follow(
             Step::Goes(place) => progress = at_place(place),
             Step::Open(place) => return Ok(Some(at_place(place))),
             Step::Enters(inside) => {
-                return Ok(Some(Progress {
+                return Ok(Some(RowProgress {
                     place: progress.place,
                     inside,
                 }));

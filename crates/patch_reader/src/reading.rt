@@ -4,10 +4,11 @@ ghost use Rattle.std.specs.Prelude.{◌≡◌, ◌≤◌, ◌<◌, ◌+◌, ℕ,
 ghost use Rattle.std.specs.Prelude.{length, take, drop, IfOk, IfErr};
 ghost use Rattle.nquads_text.specs.Grammar.{StartsWith};
 ghost use Rattle.patch_rows.specs.declared.row.Row.{Row};
-ghost use Rattle.patch_rows.specs.Fault.{Fault, Gives, FailsBy, IsAnswer, IsFaultAnswer};
+ghost use Rattle.patch_rows.specs.Fault.{Fault, RowGives, RowFailsBy, IsRowAnswer};
+ghost use Rattle.patch_rows.specs.Fault.{IsRowFaultAnswer};
 ghost use Rattle.patch_rows.specs.Faults.{FirstFault};
 ghost use Rattle.patch_rows.specs.Grammar.{begins_space, IsRowAt, row_limit};
-ghost use Rattle.patch_reader.specs.Decided.{Decides};
+ghost use Rattle.patch_reader.specs.Decided.{DecidesRow};
 ghost use Rattle.patch_reader.specs.Limit.{front_row_at, limited_row_at};
 
 use patch_rows::parts::{ends, row_of};
@@ -38,7 +39,7 @@ fn front_of(text: &[u8], at: usize) -> &[u8]
 fn front_row(alloc: Global, text: &[u8], at: usize) -> Result<(Row, usize), RowFault>
     requires low { at ≤ length text.now }
     requires long { row_limit < length (drop at text.now) }
-    ensures { Gives text.now result (front_row_at (drop at text.now)) }
+    ensures { RowGives text.now result (front_row_at (drop at text.now)) }
 {
     let front = front_of(text, at);
     match row_of(alloc, front, at, TextEnd::Open) {
@@ -64,7 +65,7 @@ fn front_row(alloc: Global, text: &[u8], at: usize) -> Result<(Row, usize), RowF
 fn long_row(alloc: Global, text: &[u8], at: usize) -> Result<Option<(Row, usize)>, RowFault>
     requires low { at ≤ length text.now }
     requires long { row_limit < length (drop at text.now) }
-    ensures { Decides text.now at result }
+    ensures { DecidesRow text.now at result }
 {
     match front_row(alloc, text, at) {
         Ok(found) => Ok(Some(found)),
@@ -77,7 +78,7 @@ fn long_row(alloc: Global, text: &[u8], at: usize) -> Result<Option<(Row, usize)
 #[tactic(auto, using(crate::proofs::Answered::answered))]
 pub fn decided_row(alloc: Global, text: &[u8], at: usize) -> Result<Option<(Row, usize)>, RowFault>
     requires { at ≤ length text.now }
-    ensures { Decides text.now at result }
+    ensures { DecidesRow text.now at result }
 {
     if is_long(text, at) {
         return long_row(alloc, text, at);
@@ -98,7 +99,7 @@ pub fn decided_row(alloc: Global, text: &[u8], at: usize) -> Result<Option<(Row,
 #[tactic(auto, unfolding(crate::specs::Limit::limited_row_at), using(crate::proofs::FrontSteps::limit_steps))]
 fn limited_row(alloc: Global, text: &[u8], at: usize) -> Result<(Row, usize), RowFault>
     requires { at ≤ length text.now }
-    ensures { Gives text.now result (limited_row_at (drop at text.now)) }
+    ensures { RowGives text.now result (limited_row_at (drop at text.now)) }
 {
     if is_long(text, at) {
         return front_row(alloc, text, at);
@@ -112,11 +113,11 @@ pub fn read_row(alloc: Global, text: &[u8], at: usize) -> Result<(Row, usize), R
     requires some { at < length text.now }
     requires begins { StartsWith begins_space (drop at text.now) → ⊥ }
     ensures ok { IfOk result (λ r. IsRowAt text.now at r.0 r.1) }
-    ensures only { (r : Row) (end : ℕ) → IsRowAt text.now at r end → IsAnswer result r end }
-    ensures fault { IfErr result (FailsBy (FirstFault (drop at text.now)) text.now) }
+    ensures only { (r : Row) (end : ℕ) → IsRowAt text.now at r end → IsRowAnswer result r end }
+    ensures fault { IfErr result (RowFailsBy (FirstFault (drop at text.now)) text.now) }
     ensures only_fault { (f : Fault) → FirstFault (drop at text.now) f
-        → IsFaultAnswer text.now result f }
-    ensures gives { Gives text.now result (limited_row_at (drop at text.now)) }
+        → IsRowFaultAnswer text.now result f }
+    ensures gives { RowGives text.now result (limited_row_at (drop at text.now)) }
 {
     limited_row(alloc, text, at)
 }

@@ -3,8 +3,8 @@
 ghost use Rattle.std.specs.Prelude.{◌≡◌, ◌+◌, ◌++◌, ◌≤◌, [], true, false, None};
 ghost use Rattle.std.specs.Prelude.{length, drop, Ok, IfSome, OnOk, OnErr};
 ghost use Rattle.patch_rows.specs.declared.cut.TextEnd.TheVariants as ends;
-ghost use Rattle.patch_reader.specs.Places.{IsFrom, line_number};
-ghost use Rattle.patch_reader.specs.Rows.{GivesNext, Stops};
+ghost use Rattle.patch_reader.specs.Places.{IsNotBefore, line_number};
+ghost use Rattle.patch_reader.specs.Rows.{GivesNext, StopsRows};
 
 use crate::front::{Region, follow_open, follow_rest, is_new, note_unfinished, pass_front};
 use crate::lines::feeds_in;
@@ -47,7 +47,7 @@ pub struct RowWindow {
 
 impl Model for RowWindow {
     ghost use Rattle.std.specs.Prelude.{◌+◌};
-    ghost use Rattle.patch_reader.specs.Held.{Holds, row_place};
+    ghost use Rattle.patch_reader.specs.Held.{HoldsText, row_place};
     ghost use Rattle.patch_reader.specs.Window.{Window};
 
     ghost Value = { Window };
@@ -59,11 +59,12 @@ impl Model for RowWindow {
       kept = r.from;
     } };
 
-    ghost invariant = { λ r. Holds r.fed.text r.passed r.from r.kept.items r.feeds r.at r.region };
+    ghost invariant = { λ r. HoldsText r.fed.text r.passed r.from r.kept.items r.feeds
+        r.at r.region };
 }
 
 impl RowWindow {
-    ghost use Rattle.patch_reader.specs.Window.{GoesOn, LetsGo, RowBegins, row_front};
+    ghost use Rattle.patch_reader.specs.Window.{ReadsOn, LetsGo, RowBegins, front_text};
 
     /// Nothing was fed.
     pub fn new(alloc: Global) -> RowWindow
@@ -111,7 +112,7 @@ impl RowWindow {
 
     /// What stands there.
     pub fn row_front(&self) -> &[u8]
-        ensures { result.now ≡ row_front self.now }
+        ensures { result.now ≡ front_text self.now }
     {
         if is_new(self.region) {
             return &self.kept[self.at..];
@@ -122,9 +123,9 @@ impl RowWindow {
     /// Whether nothing more is decided. Where a row begins that wasn't read yet, that isn't known,
     /// and the answer is false. It costs less than to ask for the next row.
     pub fn is_quiet(&mut self) -> Result<bool, OutOfMemory>
-        ensures quiet { result ≡ Ok true → Stops ends.Open self.old.fed self.old.passed None }
+        ensures quiet { result ≡ Ok true → StopsRows ends.Open self.old.fed self.old.passed None }
         ensures decided { result ≡ Ok false → self.old.front ≡ None
-            → Stops ends.Open self.old.fed self.old.passed None → ⊥ }
+            → StopsRows ends.Open self.old.fed self.old.passed None → ⊥ }
         ensures same { self.new ≡ record self.old { front = self.new.front } }
     {
         let rest = &self.kept[self.at..];
@@ -136,8 +137,8 @@ impl RowWindow {
     /// one, whatever follows.
     pub fn next(&mut self, end: TextEnd) -> Result<Option<PlacedRow>, RowFault>
         ensures gives { GivesNext end self.old.fed self.old.passed result }
-        ensures kept { IsFrom self.old.kept result }
-        ensures goes_on { GoesOn self.old result self.new }
+        ensures kept { IsNotBefore self.old.kept result }
+        ensures goes_on { ReadsOn self.old result self.new }
     {
         let is_quiet = follow_rest(self.alloc, &self.kept[self.at..], &mut self.region, end)?;
         if is_quiet {

@@ -4,7 +4,7 @@ use Rattle.std.proofs.lemmas.List.{length-drop, drop_more, drop_all}
 use Rattle.std.proofs.lemmas.Bool.{ne_eqb, cases_lt, false≢true}
 use Rattle.rdf_terms.specs.declared.term.Term.TheVariants as term
 use Rattle.nquads_text.specs.declared.fault.TextKind.TheVariants.{BadLabel}
-use Rattle.nquads_text.specs.Fault.{Fault as TextFault, Read as TextRead}
+use Rattle.nquads_text.specs.Fault.{TextFault, TextRead}
 use Rattle.nquads_text.specs.Terms.{term_at}
 use Rattle.nquads_text.proofs.Allowed.{body_is_iri}
 use Rattle.patch_rows.specs.declared.fault.RowKind.TheVariants.{Common}

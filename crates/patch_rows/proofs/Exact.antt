@@ -1,7 +1,7 @@
 -- Readings that are exact: they give what a relation has, and fail as another one says, and nothing else.
 use Rattle.std.proofs.Common.{◌≡◌, Bool, true, false, cond, Result, Ok, Err, refl, sym, ap, subst, ◌∙◌, ◌⊎◌, inl, inr, ⊎_elim}
 use Rattle.std.proofs.lemmas.Bool.{false≢true}
-use Rattle.nquads_text.specs.Fault.{Fault as TextFault}
+use Rattle.nquads_text.specs.Fault.{TextFault}
 use Rattle.patch_rows.specs.Fault.{Fault, ◌>>=◌, in_row, as_row_fault}
 
 true≢false : true ≡ false → ⊥

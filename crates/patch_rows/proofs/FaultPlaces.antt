@@ -3,14 +3,14 @@ use Rattle.std.proofs.Common.{◌≡◌, ℕ, ◌+◌, Bool, List, [], ◌∷◌
 use Rattle.std.proofs.lemmas.List.{take-append-drop}
 use Rattle.rdf_terms.specs.declared.term.Term.{Term}
 use Rattle.rdf_terms.specs.Quad.{is_iri}
-use Rattle.nquads_text.specs.Fault.{Fault as TextFault}
-use Rattle.nquads_text.specs.Faults.{NoCharacter, Lacks as TextLacks, EscapeFault, StopsInside, IriStop, IriFault, StringStop, LabelFault, TagFault, DatatypeFault, LiteralFault, TermFault}
+use Rattle.nquads_text.specs.Fault.{TextFault}
+use Rattle.nquads_text.specs.Faults.{NoCharacter, Lacks as TextLacks, EscapeFault, StopsInside, IriStop, IriFault, StringStop, LabelFault, TagFault, DatatypeFault, LiteralFault, AnyTermFault}
 use Rattle.nquads_text.specs.Grammar.{IriPiece, StringPiece}
 use Rattle.patch_rows.specs.declared.codes.Code.{Code}
 use Rattle.patch_rows.specs.declared.codes.Code.TheVariants as code
 use Rattle.patch_rows.specs.declared.fault.RowKind.{RowKind}
 use Rattle.patch_rows.specs.Fault.{Fault}
-use Rattle.patch_rows.specs.Faults.{Lacks, SpacedFault, RowTermFault, DotFault, PlacedFault, KeyFault, PrefixFault, PrefixIriFault, NoDot, EndFault, GraphFault, HeaderFault, QuadFault, AddedFault, RemovedFault, PartsFault, RowFault, FirstFault}
+use Rattle.patch_rows.specs.Faults.{RowLacks, SpacedFault, RowTermFault, DotFault, PlacedFault, KeyFault, PrefixFault, PrefixIriFault, NoDot, EndFault, GraphFault, HeaderFault, QuadFault, AddedFault, RemovedFault, PartsFault, AnyRowFault, FirstFault}
 use Rattle.patch_rows.specs.Grammar.{letters, is_any, is_node, row_front, row_limit}
 use Rattle.patch_rows.proofs.Slices.{IsEnd, end_of_end, space_end, placed_end, key_end, prefix_end, iri_end, word_end}
 
@@ -88,17 +88,17 @@ literal text f (LiteralFault.tag bytes lexical rest is shape t) = end_of_end f.1
 literal text f (LiteralFault.datatype bytes lexical rest is shape d) = end_of_end f.1 rest text (datatype rest f d) (bytes, shape)
 literal text f (LiteralFault.without_tag bytes lexical rest after is shape d there) = at f _ text there (whole text)
 
-term : (text : List ℕ) (f : TextFault) → TermFault text f → Left f text
-term text f (TermFault.no_term l) = lacks_text _ text text _ f l (whole text) (whole text)
-term text f (TermFault.iri i) = iri text f i
-term text f (TermFault.blank b) = label text f b
-term text f (TermFault.literal l) = literal text f l
+term : (text : List ℕ) (f : TextFault) → AnyTermFault text f → Left f text
+term text f (AnyTermFault.no_term l) = lacks_text _ text text _ f l (whole text) (whole text)
+term text f (AnyTermFault.iri i) = iri text f i
+term text f (AnyTermFault.blank b) = label text f b
+term text f (AnyTermFault.literal l) = literal text f l
 
 -- ---- faults of rows
 
-lacks : (fits : ℕ → Bool) (text : List ℕ) (other f : Fault) → Lacks fits text other f → Left other text → Left f text
-lacks fits text other f (Lacks.nothing g missing is) there = at f _ text is (no_character text g missing)
-lacks fits text other f (Lacks.another c after char unfit is) there = at f other text is there
+lacks : (fits : ℕ → Bool) (text : List ℕ) (other f : Fault) → RowLacks fits text other f → Left other text → Left f text
+lacks fits text other f (RowLacks.nothing g missing is) there = at f _ text is (no_character text g missing)
+lacks fits text other f (RowLacks.another c after char unfit is) there = at f other text is there
 
 dot : (text : List ℕ) (f : Fault) → DotFault text f → Left f text
 dot text f d = at f _ text d.1 (whole text)
@@ -176,11 +176,11 @@ parts code.PrefixDelete f text p = removed f text p
 parts code.Add f text p = quad f text p
 parts code.Delete f text p = quad f text p
 
-row : (text : List ℕ) (f : Fault) → RowFault text f → Left f text
-row text f (RowFault.letter l) = lacks _ text _ f l (whole text)
-row text f (RowFault.cut word is) = at f _ text is (none text)
-row text f (RowFault.unknown word b there other is) = at f _ text is (whole text)
-row text f (RowFault.parts c b there p) = end_of_end f.1 b text (parts c f b p) (word_end (letters c) text b there)
+row : (text : List ℕ) (f : Fault) → AnyRowFault text f → Left f text
+row text f (AnyRowFault.letter l) = lacks _ text _ f l (whole text)
+row text f (AnyRowFault.cut word is) = at f _ text is (none text)
+row text f (AnyRowFault.unknown word b there other is) = at f _ text is (whole text)
+row text f (AnyRowFault.parts c b there p) = end_of_end f.1 b text (parts c f b p) (word_end (letters c) text b there)
 
 pub first_end : (text : List ℕ) (f : Fault) → FirstFault text f → IsEnd f.1 text
 unfolding row_front

@@ -7,7 +7,7 @@ use Rattle.std.proofs.lemmas.Bool.{cases_lt}
 use Rattle.std.proofs.lemmas.List.{drop_all, length-append, drop-append-le, get_or_append_left}
 use Rattle.std.proofs.lemmas.List.Folds.{drop_split}
 use Rattle.nquads_text.specs.declared.fault.TextKind.TheVariants.{NotUtf8, Truncated}
-use Rattle.nquads_text.specs.Fault.{Fault}
+use Rattle.nquads_text.specs.Fault.{TextFault}
 use Rattle.nquads_text.specs.Faults.{IsIllFormed, NoCharacter}
 use Rattle.nquads_text.specs.Reading.{char_at}
 use Rattle.nquads_text.specs.Grammar.{is_line_end}
@@ -64,11 +64,11 @@ stops_there text at lt ne e = λ more.
     let same = get_or_append_left text more 0 at lt in
     other_there (text ++ more) at (omega (arith, lt, length-append text more)) (λ is. ne (sym same ∙ is)) (ap is_space same ∙ e)
 
-pub no_more : (text : List ℕ) (at : ℕ) → at ≡ length text → (fault : Fault) × (char_at (drop at text) ≡ Err fault)
+pub no_more : (text : List ℕ) (at : ℕ) → at ≡ length text → (fault : TextFault) × (char_at (drop at text) ≡ Err fault)
 no_more text at e = ((Truncated, drop at text), char_ends text at e)
 
-pub no_character : (text : List ℕ) (at : ℕ) → IsIllFormed (drop at text) → (fault : Fault) × (char_at (drop at text) ≡ Err fault)
-no_character text at bad = let fault : Fault = (NotUtf8, drop at text) in (fault, char_fails (drop at text) fault (NoCharacter.ill_formed bad refl))
+pub no_character : (text : List ℕ) (at : ℕ) → IsIllFormed (drop at text) → (fault : TextFault) × (char_at (drop at text) ≡ Err fault)
+no_character text at bad = let fault : TextFault = (NotUtf8, drop at text) in (fault, char_fails (drop at text) fault (NoCharacter.ill_formed bad refl))
 
 pub ruleset gap_steps = (over_body, over_line_end, over_hash, over_blank, no_more, no_character, stops_there)
 
@@ -78,7 +78,7 @@ nothing_there rest e = rw e refl
 
 -- where the text ends, what was passed is what is skipped
 pub gap_is_space : (text : List ℕ) (from at : ℕ) (comment : Bool) → Passed false from text comment at
-    → (comment ≡ true → (fault : Fault) × (char_at (drop at text) ≡ Err fault))
+    → (comment ≡ true → (fault : TextFault) × (char_at (drop at text) ≡ Err fault))
     → (comment ≡ false → at < length text → (more : List ℕ) → space_behind false 0 (drop at (text ++ more)) ≡ drop at (text ++ more))
     → at ≤ length text → drop at text ≡ skip_space (drop from text)
 gap_is_space text from at true passed stuck stops high =

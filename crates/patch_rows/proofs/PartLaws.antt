@@ -4,7 +4,7 @@ use Rattle.std.proofs.lemmas.Bool.{false≢true, eqb-true}
 use Rattle.std.proofs.lemmas.Bool.Decides.{nat_tests}
 use Rattle.rdf_terms.specs.declared.term.Term.{Term}
 use Rattle.nquads_text.specs.declared.fault.TextKind.TheVariants.{BadPosition}
-use Rattle.nquads_text.specs.Fault.{Read as TextRead}
+use Rattle.nquads_text.specs.Fault.{TextRead}
 use Rattle.nquads_text.specs.Grammar.{StartsWith}
 use Rattle.nquads_text.specs.Faults.{begins_term}
 use Rattle.nquads_text.specs.Reading.{char_at}
@@ -16,7 +16,7 @@ use Rattle.patch_rows.specs.declared.fault.RowKind.{RowKind}
 use Rattle.patch_rows.specs.declared.fault.RowKind.TheVariants.{Common, WrongCount}
 use Rattle.patch_rows.specs.Fault.{Fault}
 use Rattle.patch_rows.specs.Grammar.{RowTerm, Placed, EndAt}
-use Rattle.patch_rows.specs.Faults.{is_dot, Lacks, RowTermFault, DotFault, PlacedFault, NoDot, EndFault}
+use Rattle.patch_rows.specs.Faults.{is_dot, RowLacks, RowTermFault, DotFault, PlacedFault, NoDot, EndFault}
 use Rattle.patch_rows.specs.Reading.{stands, fault_or, other, dot_at, end_at, skip_space}
 use Rattle.patch_rows.specs.declared.cut.TextEnd.TheVariants.{Known}
 use Rattle.patch_rows.specs.Rows.{placed_of}
@@ -56,29 +56,29 @@ module _ (fits : ℕ → Bool) (low : (c : ℕ) → fits c ≡ true → c < 128)
       absurd (false≢true (sym none ∙ ap (stands fits) shape ∙ passes))
   misfit x false e none passes = passes
 
-  lacks_of : (kind : RowKind) (f : Fault) (r : TextRead ℕ) → stands fits text ≡ false → char_at text ≡ r → f ≡ fault_or r (kind, text) → Lacks fits text (kind, text) f
-  lacks_of kind f (Ok x) none e is = Lacks.another x.0 x.1 (char_spelled text x.0 x.1 e) (misfit x (fits x.0) e none refl) is
-  lacks_of kind f (Err g) none e is = Lacks.nothing g (char_fault text g e) is
+  lacks_of : (kind : RowKind) (f : Fault) (r : TextRead ℕ) → stands fits text ≡ false → char_at text ≡ r → f ≡ fault_or r (kind, text) → RowLacks fits text (kind, text) f
+  lacks_of kind f (Ok x) none e is = RowLacks.another x.0 x.1 (char_spelled text x.0 x.1 e) (misfit x (fits x.0) e none refl) is
+  lacks_of kind f (Err g) none e is = RowLacks.nothing g (char_fault text g e) is
 
-  is_other : (kind : RowKind) (f : Fault) → Lacks fits text (kind, text) f → f ≡ other kind text
+  is_other : (kind : RowKind) (f : Fault) → RowLacks fits text (kind, text) f → f ≡ other kind text
   unfolding other
-  is_other kind f (Lacks.nothing g n is) = is ∙ ap (λ (r : TextRead ℕ). fault_or r (kind, text)) (sym (no_character text g n))
-  is_other kind f (Lacks.another c after at bad is) = is ∙ ap (λ (r : TextRead ℕ). fault_or r (kind, text)) (sym (char_stands text c after at))
+  is_other kind f (RowLacks.nothing g n is) = is ∙ ap (λ (r : TextRead ℕ). fault_or r (kind, text)) (sym (no_character text g n))
+  is_other kind f (RowLacks.another c after at bad is) = is ∙ ap (λ (r : TextRead ℕ). fault_or r (kind, text)) (sym (char_stands text c after at))
 
-  to_lacks : (kind : RowKind) (f : Fault) → stands fits text ≡ false → f ≡ other kind text → Lacks fits text (kind, text) f
+  to_lacks : (kind : RowKind) (f : Fault) → stands fits text ≡ false → f ≡ other kind text → RowLacks fits text (kind, text) f
   unfolding other
   to_lacks kind f none is = lacks_of kind f (char_at text) none refl is
 
-  pub exact_other : (X : Type 0) (kind : RowKind) → stands fits text ≡ false → Exact {X = X} (Err (other kind text)) (λ x. ⊥) (λ f. Lacks fits text (kind, text) f)
+  pub exact_other : (X : Type 0) (kind : RowKind) → stands fits text ≡ false → Exact {X = X} (Err (other kind text)) (λ x. ⊥) (λ f. RowLacks fits text (kind, text) f)
   exact_other X kind none = restated (exact_err X (other kind text)) (λ x bad. bad) (λ x bad. bad) (λ f is. to_lacks kind f none is) (λ f l. is_other kind f l)
 
-lacks_apart : (fits : ℕ → Bool) (b : ℕ) (rest : List ℕ) (o f : Fault) → b < 128 → fits b ≡ true → Lacks fits (b ∷ rest) o f → ⊥
-lacks_apart fits b rest o f low passes (Lacks.nothing g n is) = text_not_both (b, rest) g (sym (char_at-ascii b rest low) ∙ no_character (b ∷ rest) g n)
-lacks_apart fits b rest o f low passes (Lacks.another c after at bad is) =
+lacks_apart : (fits : ℕ → Bool) (b : ℕ) (rest : List ℕ) (o f : Fault) → b < 128 → fits b ≡ true → RowLacks fits (b ∷ rest) o f → ⊥
+lacks_apart fits b rest o f low passes (RowLacks.nothing g n is) = text_not_both (b, rest) g (sym (char_at-ascii b rest low) ∙ no_character (b ∷ rest) g n)
+lacks_apart fits b rest o f low passes (RowLacks.another c after at bad is) =
     let same = text_ok_is (b, rest) (c, after) (sym (char_at-ascii b rest low) ∙ char_stands (b ∷ rest) c after at) in
     false≢true (sym bad ∙ ap (λ (x : ℕ × List ℕ). fits x.0) (sym same) ∙ passes)
 
-pub lacks_stands : (fits : ℕ → Bool) → ((c : ℕ) → fits c ≡ true → c < 128) → (text : List ℕ) (o f : Fault) → Lacks fits text o f → stands fits text ≡ false
+pub lacks_stands : (fits : ℕ → Bool) → ((c : ℕ) → fits c ≡ true → c < 128) → (text : List ℕ) (o f : Fault) → RowLacks fits text o f → stands fits text ≡ false
 lacks_stands fits low [] o f l = refl
 lacks_stands fits low (b ∷ rest) o f l = by (fits b) refl
   where
@@ -122,7 +122,7 @@ term_no_dot c e = grind (arith, nat_tests)
 
 abbrev NoDotShape : RowKind → List ℕ → Fault → Type 0
 NoDotShape missing text f = ((stands is_dot text ≡ true) × ⊥) ⊎ ((stands is_dot text ≡ false)
-    × (((stands begins_term text ≡ true) × (f ≡ (WrongCount, text))) ⊎ ((stands begins_term text ≡ false) × Lacks (λ c. is_dot c || begins_term c) text (missing, text) f)))
+    × (((stands begins_term text ≡ true) × (f ≡ (WrongCount, text))) ⊎ ((stands begins_term text ≡ false) × RowLacks (λ c. is_dot c || begins_term c) text (missing, text) f)))
 
 no_dot : (missing : RowKind) (text : List ℕ) (f : Fault) → NoDotShape missing text f → NoDot missing text f
 no_dot missing text f (inl a) = absurd a.1

@@ -16,7 +16,7 @@ use Rattle.nquads_text.specs.Faults.{begins_term}
 use Rattle.patch_rows.specs.declared.fault.RowKind.TheVariants.{Common}
 use Rattle.patch_rows.specs.Fault.{Fault}
 use Rattle.patch_rows.specs.Grammar.{is_word_byte, IsKey, RowTerm, plain, PrefixAt, PrefixIriAt}
-use Rattle.patch_rows.specs.Faults.{is_dot, Lacks, RowTermFault, DotFault, PrefixFault, PrefixIriFault}
+use Rattle.patch_rows.specs.Faults.{is_dot, RowLacks, RowTermFault, DotFault, PrefixFault, PrefixIriFault}
 use Rattle.patch_rows.specs.Reading.{stands, past_colon, plain_of, plain_text, or_bad_position, iri_of_string, iri_of_term}
 use Rattle.patch_rows.specs.declared.cut.TextEnd.TheVariants.{Known}
 use Rattle.patch_rows.specs.Rows.{quoted_of, prefix_of, prefix_iri_of}
@@ -171,7 +171,7 @@ either_none false b e = (refl, e)
 
 abbrev PrefixFaultShape : List ℕ → Fault → Type 0
 PrefixFaultShape text f = ((stands colon text ≡ true) × ⊥) ⊎ ((stands colon text ≡ false) × (((stands letter text ≡ true) × ⊥) ⊎ ((stands letter text ≡ false)
-    × (((dot_or_term text ≡ true) × QuotedFault text f) ⊎ ((dot_or_term text ≡ false) × Lacks opens text (Common BadToken, text) f)))))
+    × (((dot_or_term text ≡ true) × QuotedFault text f) ⊎ ((dot_or_term text ≡ false) × RowLacks opens text (Common BadToken, text) f)))))
 
 quoted_fault : (text : List ℕ) (f : Fault) → dot_or_term text ≡ true → QuotedFault text f → PrefixFault text f
 quoted_fault text f e (inl (inl d)) = PrefixFault.dot d

@@ -22,7 +22,7 @@ use Rattle.patch_rows.specs.declared.codes.Code.{Code}
 use Rattle.patch_rows.specs.declared.codes.Code.TheVariants as code
 use Rattle.patch_rows.specs.declared.row.Row.{Row}
 use Rattle.patch_rows.specs.declared.row.Row.TheVariants as row
-use Rattle.patch_rows.specs.Grammar.{is_word_byte, is_space, begins_space, Space, Spaced, IsKey, KeyAt, letters, WordAt, RowTerm, Placed, is_any, is_node, plain, PrefixAt, PrefixIriAt, EndAt, GraphAt, QuadAt, code_of, ChangeAt, PartsAt, RowAt, row_limit, row_front, IsSettled, ShortRowAt, IsRowAt, IsDecidedRow}
+use Rattle.patch_rows.specs.Grammar.{is_word_byte, is_space, begins_space, Space, Spaced, IsKey, KeyAt, letters, WordAt, RowTerm, Placed, is_any, is_node, plain, PrefixAt, PrefixIriAt, EndAt, GraphAt, QuadAt, code_of, ChangeAt, PartsAt, RowAt, row_limit, row_front, FrontDecides, ShortRowAt, IsRowAt, IsDecidedRow}
 use Rattle.patch_rows.proofs.Shorter.{row_shorter}
 use Rattle.patch_rows.specs.Printing.{quad_text, change_text, parts_text, row_text, IsChangeValue, IsRowValue, IsWellPlaced, IsWritable}
 use Rattle.patch_rows.specs.Reading.{space_behind, skip_space}
@@ -295,7 +295,7 @@ printed_decided r v e value is short = λ more.
     let less = row_shorter (v ++ more) r (10 ∷ more) there in
     let whole : length (v ++ more) ≡ length v + length more = length-append v more in
     let tail : List ℕ = take (row_limit + 1 - length v) more in
-    let settled : IsSettled (v ++ more) r = (
+    let settled : FrontDecides (v ++ more) r = (
       10 ∷ tail,
       λ others.
           subst (λ (t : List ℕ). RowAt t r (10 ∷ (tail ++ others))) (sym (append_assoc v tail others) ∙ ap (λ (t : List ℕ). t ++ others) (sym (front_shape v more short)))

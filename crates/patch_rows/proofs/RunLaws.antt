@@ -13,7 +13,7 @@ use Rattle.nquads_text.proofs.LabelReads.{longest_same}
 use Rattle.patch_rows.specs.declared.fault.RowKind.TheVariants.{Common, WrongCount}
 use Rattle.patch_rows.specs.Fault.{Fault}
 use Rattle.patch_rows.specs.Grammar.{is_word_byte, IsKey, KeyAt, WordAt}
-use Rattle.patch_rows.specs.Faults.{is_dot, Lacks, KeyFault}
+use Rattle.patch_rows.specs.Faults.{is_dot, RowLacks, KeyFault}
 use Rattle.patch_rows.specs.Reading.{stands, run_of, uncut, word_at, key_at}
 use Rattle.patch_rows.proofs.Exact.{Exact, exact_ok, exact_err, exact_of, restated, choice}
 use Rattle.patch_rows.proofs.TermLaws.{starts, started}
@@ -93,7 +93,7 @@ dot_or_letter_low c e = grind (arith, nat_tests)
 
 abbrev KeyShape : List ℕ → Fault → Type 0
 KeyShape text f = ((stands is_dot text ≡ true) × (f ≡ (WrongCount, text))) ⊎ ((stands is_dot text ≡ false)
-    × (((stands is_ascii_alphabetic text ≡ true) × ⊥) ⊎ ((stands is_ascii_alphabetic text ≡ false) × Lacks (λ c. is_dot c || is_ascii_alphabetic c) text (Common BadToken, text) f)))
+    × (((stands is_ascii_alphabetic text ≡ true) × ⊥) ⊎ ((stands is_ascii_alphabetic text ≡ false) × RowLacks (λ c. is_dot c || is_ascii_alphabetic c) text (Common BadToken, text) f)))
 
 key_fault : (text : List ℕ) (f : Fault) → KeyShape text f → KeyFault text f
 key_fault text f (inl a) = KeyFault.dot (starts is_dot text a.0, a.1)
@@ -142,7 +142,7 @@ letter_low : (c : ℕ) → is_ascii_alphabetic c ≡ true → c < 128
 letter_low c e = grind (arith, nat_tests)
 
 abbrev pub WordFault : List ℕ → Fault → Type 0
-WordFault text f = Lacks is_ascii_alphabetic text (Common BadToken, text) f ⊎ (IsWord is_ascii_alphabetic text × (f ≡ (Common Truncated, [])))
+WordFault text f = RowLacks is_ascii_alphabetic text (Common BadToken, text) f ⊎ (IsWord is_ascii_alphabetic text × (f ≡ (Common Truncated, [])))
 
 -- the run, and what stands behind it
 exact_uncut : (text left : List ℕ) → stands letter text ≡ true → left ≡ drop (prefix_len letter text) text

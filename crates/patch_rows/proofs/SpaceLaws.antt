@@ -7,7 +7,7 @@ use Rattle.std.proofs.lemmas.Bool.Decides.{nat_tests}
 use Rattle.std.proofs.lemmas.List.Folds.{list_all-append}
 use Rattle.std.proofs.lemmas.Str.{encode_ascii}
 use lib.Utf8.{scalar, scalars}
-use Rattle.nquads_text.specs.Fault.{Read as TextRead}
+use Rattle.nquads_text.specs.Fault.{TextRead}
 use Rattle.nquads_text.specs.Reading.{char_at}
 use Rattle.nquads_text.proofs.CommentBodies.{line_end_low}
 use Rattle.nquads_text.proofs.Fronts.{char_spelled, char_again, char_at-ascii}

@@ -4,7 +4,7 @@ use Rattle.std.specs.Char.{encode_utf8}
 use Rattle.std.proofs.lemmas.List.{drop_more, drop_all, drop_at, length-append}
 use Rattle.std.proofs.lemmas.Str.{length-encode, len_utf8_bounds}
 use Rattle.std.proofs.lemmas.Bool.{eqb-true}
-use Rattle.nquads_text.specs.Fault.{Fault}
+use Rattle.nquads_text.specs.Fault.{TextFault}
 use Rattle.nquads_text.specs.Reading.{char_at}
 use Rattle.nquads_text.proofs.Fronts.{char_spelled}
 use Rattle.nquads_text.specs.Grammar.{is_line_end}
@@ -44,7 +44,7 @@ in_comment (b ∷ rest) c after e =
     ∙ ap (space_behind (not (is_line_end c)) 0) (behind_first b rest (encode_utf8 c) after (char_spelled (b ∷ rest) c after e).1 (first_byte b rest c after e)))
 
 -- no character there
-pub no_char : (text : List ℕ) (f : Fault) → char_at text ≡ Err f → space_behind true 0 text ≡ text
+pub no_char : (text : List ℕ) (f : TextFault) → char_at text ≡ Err f → space_behind true 0 text ≡ text
 unfolding space_behind
 no_char [] f e = refl
 no_char (b ∷ rest) f e = rw e refl

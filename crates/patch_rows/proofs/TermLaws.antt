@@ -7,9 +7,9 @@ use Rattle.rdf_terms.specs.declared.term.Term.TheVariants as term
 use Rattle.rdf_terms.specs.Iri.{has_scheme}
 use Rattle.rdf_terms.specs.Label.{IsLabel}
 use Rattle.nquads_text.specs.declared.fault.TextKind.TheVariants.{BadLabel, RelativeIri, BadToken}
-use Rattle.nquads_text.specs.Fault.{Fault as TextFault, Read as TextRead, ◌>>=◌ as ◌>>◌}
+use Rattle.nquads_text.specs.Fault.{TextFault, TextRead, ◌>>=◌ as ◌>>◌}
 use Rattle.nquads_text.specs.Grammar.{StartsWith, Longest, BlankNode, IriPiece, TermAt}
-use Rattle.nquads_text.specs.Faults.{TermFault}
+use Rattle.nquads_text.specs.Faults.{AnyTermFault}
 use Rattle.nquads_text.specs.Reading.{iri_piece, iri_body_at}
 use Rattle.nquads_text.specs.Terms.{label_at, iri_at, term_at}
 use Rattle.nquads_text.proofs.Fronts.{char_at-ascii}
@@ -167,15 +167,15 @@ TermRead text = Exact (row_term_at text) (λ x. RowTerm text x.0 x.1) (λ f. Row
 exact_plain : (text : List ℕ) → PlainWay text → TermRead text
 exact_plain text way =
     exact_of (row_term_at text) (in_row (term_at text)) (λ x. RowTerm text x.0 x.1) (λ f. RowTermFault text f) way.0
-    (exact_as (in_row (term_at text)) (λ x. TermAt text x.0 x.1) (λ x. RowTerm text x.0 x.1) (λ f. (g : TextFault) × TermFault text g × (f ≡ as_row_fault g)) (λ f. RowTermFault text f)
-    (exact_in_row (term_at text) (λ x. TermAt text x.0 x.1) (λ g. TermFault text g)
+    (exact_as (in_row (term_at text)) (λ x. TermAt text x.0 x.1) (λ x. RowTerm text x.0 x.1) (λ f. (g : TextFault) × AnyTermFault text g × (f ≡ as_row_fault g)) (λ f. RowTermFault text f)
+    (exact_in_row (term_at text) (λ x. TermAt text x.0 x.1) (λ g. AnyTermFault text g)
     (λ x e. term_found text x.0 x.1 e) (λ x t. term_is_read text x.0 x.1 t) (λ g e. term_fault text g e) (λ g t. term_fault_is_met text g t))
     (λ x t. inl t)
     (λ x t. ⊎_elim (λ plain. plain) (λ blank. absurd (way.1 blank.0 x.1 blank.1)) t)
     (λ f t. RowTermFault.term t.0 t.1 way.1 t.2)
     (λ f t. plain_fault f t))
   where
-    plain_fault : (f : Fault) → RowTermFault text f → (g : TextFault) × TermFault text g × (f ≡ as_row_fault g)
+    plain_fault : (f : Fault) → RowTermFault text f → (g : TextFault) × AnyTermFault text g × (f ≡ as_row_fault g)
     plain_fault f (RowTermFault.term g t none is) = (g, t, is)
     plain_fault f (RowTermFault.label x after i none is) = absurd (way.1 x after i)
 

@@ -5,7 +5,7 @@ use Rattle.patch_rows.specs.declared.fault.RowKind.TheVariants.{UnknownCode}
 use Rattle.patch_rows.specs.declared.row.Row.{Row}
 use Rattle.patch_rows.specs.Fault.{Fault}
 use Rattle.patch_rows.specs.Grammar.{letters, WordAt, code_of, PartsAt, RowAt}
-use Rattle.patch_rows.specs.Faults.{PartsFault, RowFault}
+use Rattle.patch_rows.specs.Faults.{PartsFault, AnyRowFault}
 use Rattle.patch_rows.specs.Reading.{code_named}
 use Rattle.patch_rows.specs.declared.cut.TextEnd.TheVariants.{Known}
 use Rattle.patch_rows.specs.Rows.{by_code, row_of, row_at}
@@ -41,19 +41,19 @@ exact_named text w None e =
     no_code : (c : Code) → None ≡ Some c → ⊥
     no_code c e = absurd cc
 
-row_fault : (text : List ℕ) (f : Fault) → WordFault text f ⊎ ((w : List ℕ × List ℕ) × WordAt text w.0 w.1 × NamedFault text w f) → RowFault text f
-row_fault text f (inl (inl bad)) = RowFault.letter bad
-row_fault text f (inl (inr cut)) = RowFault.cut cut.0 cut.1
-row_fault text f (inr (w, at, inl p)) = RowFault.parts p.0 w.1 (subst (λ (word : List ℕ). WordAt text word w.1) p.1 at) p.2
-row_fault text f (inr (w, at, inr u)) = RowFault.unknown w.0 w.1 at u.0 u.1
+row_fault : (text : List ℕ) (f : Fault) → WordFault text f ⊎ ((w : List ℕ × List ℕ) × WordAt text w.0 w.1 × NamedFault text w f) → AnyRowFault text f
+row_fault text f (inl (inl bad)) = AnyRowFault.letter bad
+row_fault text f (inl (inr cut)) = AnyRowFault.cut cut.0 cut.1
+row_fault text f (inr (w, at, inl p)) = AnyRowFault.parts p.0 w.1 (subst (λ (word : List ℕ). WordAt text word w.1) p.1 at) p.2
+row_fault text f (inr (w, at, inr u)) = AnyRowFault.unknown w.0 w.1 at u.0 u.1
 
-row_fault_shape : (text : List ℕ) (f : Fault) → RowFault text f → WordFault text f ⊎ ((w : List ℕ × List ℕ) × WordAt text w.0 w.1 × NamedFault text w f)
-row_fault_shape text f (RowFault.letter bad) = inl (inl bad)
-row_fault_shape text f (RowFault.cut word is) = inl (inr (word, is))
-row_fault_shape text f (RowFault.unknown word behind at none is) = inr ((word, behind), at, inr (none, is))
-row_fault_shape text f (RowFault.parts c behind at bad) = inr ((letters c, behind), at, inl (c, refl, bad))
+row_fault_shape : (text : List ℕ) (f : Fault) → AnyRowFault text f → WordFault text f ⊎ ((w : List ℕ × List ℕ) × WordAt text w.0 w.1 × NamedFault text w f)
+row_fault_shape text f (AnyRowFault.letter bad) = inl (inl bad)
+row_fault_shape text f (AnyRowFault.cut word is) = inl (inr (word, is))
+row_fault_shape text f (AnyRowFault.unknown word behind at none is) = inr ((word, behind), at, inr (none, is))
+row_fault_shape text f (AnyRowFault.parts c behind at bad) = inr ((letters c, behind), at, inl (c, refl, bad))
 
-pub exact_row : (text : List ℕ) → Exact (row_at text) (λ y. RowAt text y.0 y.1) (λ f. RowFault text f)
+pub exact_row : (text : List ℕ) → Exact (row_at text) (λ y. RowAt text y.0 y.1) (λ f. AnyRowFault text f)
 unfolding row_of RowAt
 exact_row text =
     restated (chained (exact_word text) (λ w. exact_named text w (code_named w.0) refl))

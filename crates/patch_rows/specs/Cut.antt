@@ -13,7 +13,7 @@ use Rattle.nquads_text.specs.declared.fault.TextKind.TheVariants.{NotUtf8, BadIr
 use Rattle.nquads_text.specs.declared.fault.TextKind.TheVariants.{BadEscape, BadLabel, BadLang}
 use Rattle.nquads_text.specs.declared.fault.TextKind.TheVariants.{LangStringWithoutTag, BadPosition}
 use Rattle.nquads_text.specs.declared.fault.TextKind.TheVariants.{MissingDot, BadToken, Truncated}
-use Rattle.nquads_text.specs.Fault.{Read as TextRead}
+use Rattle.nquads_text.specs.Fault.{TextRead}
 use Rattle.nquads_text.specs.Grammar.{is_blank}
 use Rattle.patch_rows.specs.declared.fault.RowKind.{RowKind}
 use Rattle.patch_rows.specs.declared.fault.RowKind.TheVariants.{Common, UnknownCode}

@@ -10,8 +10,8 @@ use Rattle.rdf_terms.specs.Tag.{IsWord}
 use Rattle.nquads_text.specs.declared.fault.TextKind.TheVariants.{BadIri, RelativeIri, BadLabel}
 use Rattle.nquads_text.specs.declared.fault.TextKind.TheVariants.{BadPosition, MissingDot}
 use Rattle.nquads_text.specs.declared.fault.TextKind.TheVariants.{BadToken, Truncated}
-use Rattle.nquads_text.specs.Fault.{Fault as TextFault}
-use Rattle.nquads_text.specs.Faults.{NoCharacter, TermFault, begins_term}
+use Rattle.nquads_text.specs.Fault.{TextFault}
+use Rattle.nquads_text.specs.Faults.{NoCharacter, AnyTermFault, begins_term}
 use Rattle.nquads_text.specs.Grammar.{CharAt, StartsWith}
 use Rattle.patch_rows.specs.declared.codes.Code.{Code}
 use Rattle.patch_rows.specs.declared.codes.Code.TheVariants as code
@@ -31,10 +31,10 @@ abbrev pub is_dot : ℕ → Bool
 is_dot b = b == 46
 
 -- a character of this kind is needed: there is none, or another one, whose fault is `other`
-pub data Lacks (fits : ℕ → Bool) (rest : List ℕ) (other f : Fault) : Type 0 where
-  nothing : (g : TextFault) → NoCharacter rest g → f ≡ as_row_fault g → Lacks fits rest other f
+pub data RowLacks (fits : ℕ → Bool) (rest : List ℕ) (other f : Fault) : Type 0 where
+  nothing : (g : TextFault) → NoCharacter rest g → f ≡ as_row_fault g → RowLacks fits rest other f
   another : (c : ℕ) (after : List ℕ) → CharAt rest c after → fits c ≡ false
-      → f ≡ other → Lacks fits rest other f
+      → f ≡ other → RowLacks fits rest other f
 
 -- white space and comments, and then the fault of a part
 abbrev pub SpacedFault : (List ℕ → Fault → Type 0) → List ℕ → Fault → Type 0
@@ -42,7 +42,7 @@ SpacedFault PartFault text f = (from : List ℕ) × Space text from × PartFault
 
 -- the fault of a term, which is none of an IRIREF where a blank node stands in brackets
 pub data RowTermFault (text : List ℕ) (f : Fault) : Type 0 where
-  term : (g : TextFault) → TermFault text g → ((x after : List ℕ) → InBrackets text x after → ⊥)
+  term : (g : TextFault) → AnyTermFault text g → ((x after : List ℕ) → InBrackets text x after → ⊥)
       → f ≡ as_row_fault g → RowTermFault text f
   -- in brackets something stands behind `_:` that is no label
   label : (x after : List ℕ) → InBrackets text x after → (IsLabel x → ⊥)
@@ -64,13 +64,13 @@ pub data PlacedFault (fits : Term → Bool) (text : List ℕ) (f : Fault) : Type
 -- the fault of a key
 pub data KeyFault (text : List ℕ) (f : Fault) : Type 0 where
   dot : DotFault text f → KeyFault text f
-  other : Lacks (λ c. is_dot c || is_ascii_alphabetic c) text (Common BadToken, text) f
+  other : RowLacks (λ c. is_dot c || is_ascii_alphabetic c) text (Common BadToken, text) f
       → KeyFault text f
 
 -- the fault of a prefix
 pub data PrefixFault (text : List ℕ) (f : Fault) : Type 0 where
   dot : DotFault text f → PrefixFault text f
-  other : Lacks (λ c. is_dot c || c == 58 || is_ascii_alphabetic c || begins_term c) text
+  other : RowLacks (λ c. is_dot c || c == 58 || is_ascii_alphabetic c || begins_term c) text
       (Common BadToken, text) f → PrefixFault text f
   term : StartsWith begins_term text → RowTermFault text f → PrefixFault text f
   -- a term that is no plain string
@@ -97,7 +97,7 @@ pub data PrefixIriFault (text : List ℕ) (f : Fault) : Type 0 where
 -- the fault where only the dot may stand: a term, or any other character, whose kind is `missing`
 pub data NoDot (missing : RowKind) (text : List ℕ) (f : Fault) : Type 0 where
   term : StartsWith begins_term text → f ≡ (WrongCount, text) → NoDot missing text f
-  other : Lacks (λ c. is_dot c || begins_term c) text (missing, text) f → NoDot missing text f
+  other : RowLacks (λ c. is_dot c || begins_term c) text (missing, text) f → NoDot missing text f
 
 -- the same behind white space and comments
 abbrev pub EndFault : RowKind → List ℕ → Fault → Type 0
@@ -158,19 +158,19 @@ PartsFault code.Add text f = QuadFault text f
 PartsFault code.Delete text f = QuadFault text f
 
 -- the first fault of a row of any length, which begins where the text does
-pub data RowFault (text : List ℕ) (f : Fault) : Type 0 where
+pub data AnyRowFault (text : List ℕ) (f : Fault) : Type 0 where
   -- no letter
-  letter : Lacks is_ascii_alphabetic text (Common BadToken, text) f → RowFault text f
+  letter : RowLacks is_ascii_alphabetic text (Common BadToken, text) f → AnyRowFault text f
   -- letters up to the text's end
-  cut : IsWord is_ascii_alphabetic text → f ≡ (Common Truncated, []) → RowFault text f
+  cut : IsWord is_ascii_alphabetic text → f ≡ (Common Truncated, []) → AnyRowFault text f
   unknown : (word behind : List ℕ) → WordAt text word behind → ((c : Code) → word ≡ letters c → ⊥)
-      → f ≡ (UnknownCode, text) → RowFault text f
+      → f ≡ (UnknownCode, text) → AnyRowFault text f
   parts : (c : Code) (behind : List ℕ) → WordAt text (letters c) behind
-      → PartsFault c behind f → RowFault text f
+      → PartsFault c behind f → AnyRowFault text f
 
 -- the fault is the row's first one whatever follows
 abbrev pub FaultDecided : List ℕ → Fault → Type 0
-FaultDecided text f = (more : List ℕ) → RowFault (text ++ more) (f.0, f.1 ++ more)
+FaultDecided text f = (more : List ℕ) → AnyRowFault (text ++ more) (f.0, f.1 ++ more)
 
 -- ---- the limit
 
@@ -178,7 +178,7 @@ FaultDecided text f = (more : List ℕ) → RowFault (text ++ more) (f.0, f.1 ++
 -- the front decides; where the front decides neither a fault nor a row within the limit, the row
 -- is too long.
 pub data FirstFault (text : List ℕ) (f : Fault) : Type 0 where
-  short : length text ≤ row_limit → RowFault text f → FirstFault text f
+  short : length text ≤ row_limit → AnyRowFault text f → FirstFault text f
   front : (g : Fault) → row_limit < length text → FaultDecided (row_front text) g
       → f ≡ (g.0, g.1 ++ drop (row_limit + 1) text) → FirstFault text f
   too_long : row_limit < length text

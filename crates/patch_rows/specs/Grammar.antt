@@ -29,13 +29,13 @@ abbrev pub is_space : ℕ → Bool
 is_space b = b == 32 || b == 9 || is_line_end b
 
 -- '#' [^#xA#xD]*: characters, in UTF-8
-abbrev pub IsComment : List ℕ → Type 0
-IsComment bytes = (cs : List ℕ) × (bytes ≡ 35 ∷ encode_utf8_all cs) × IsTrue (scalars cs)
+abbrev pub IsRowComment : List ℕ → Type 0
+IsRowComment bytes = (cs : List ℕ) × (bytes ≡ 35 ∷ encode_utf8_all cs) × IsTrue (scalars cs)
     × IsTrue (list_all (λ c. not (is_line_end c)) cs)
 
 -- one byte of white space, or a comment
 abbrev pub IsGap : List ℕ → Type 0
-IsGap bytes = ((b : ℕ) × (bytes ≡ b ∷ []) × IsTrue (is_space b)) ⊎ IsComment bytes
+IsGap bytes = ((b : ℕ) × (bytes ≡ b ∷ []) × IsTrue (is_space b)) ⊎ IsRowComment bytes
 
 -- each of them is one
 abbrev pub AreGaps : List (List ℕ) → Type 0
@@ -200,13 +200,13 @@ unfoldable pub row_front : List ℕ → List ℕ
 row_front text = take (row_limit + 1) text
 
 -- the front of the text decides the row
-abbrev pub IsSettled : List ℕ → Row → Type 0
-IsSettled text r = (rest : List ℕ) × RowDecided (row_front text) r rest
+abbrev pub FrontDecides : List ℕ → Row → Type 0
+FrontDecides text r = (rest : List ℕ) × RowDecided (row_front text) r rest
 
 -- a row within the limit: it has no more bytes, and in a text that has more the front decides it
 abbrev pub ShortRowAt : List ℕ → Row → List ℕ → Type 0
 ShortRowAt text r after = RowAt text r after × (length text ≤ length after + row_limit)
-    × (row_limit < length text → IsSettled text r)
+    × (row_limit < length text → FrontDecides text r)
 
 -- The bytes of the text from `at` to `end` are this row.
 unfoldable pub IsRowAt : List ℕ → ℕ → Row → ℕ → Type 0

@@ -12,7 +12,7 @@ use Rattle.rdf_terms.specs.declared.term.Term.{Term}
 use Rattle.rdf_terms.specs.declared.term.Term.TheVariants as term
 use Rattle.nquads_text.specs.declared.fault.TextKind.TheVariants.{BadIri, RelativeIri, BadLabel}
 use Rattle.nquads_text.specs.declared.fault.TextKind.TheVariants.{BadPosition, BadToken, Truncated}
-use Rattle.nquads_text.specs.Fault.{Read as TextRead}
+use Rattle.nquads_text.specs.Fault.{TextRead}
 use Rattle.nquads_text.specs.Faults.{begins_term}
 use Rattle.nquads_text.specs.Reading.{char_at, iri_body_at}
 use Rattle.nquads_text.specs.Terms.{label_at, term_at}

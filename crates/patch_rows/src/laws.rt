@@ -5,7 +5,7 @@ ghost use Rattle.std.specs.Prelude.{◌≡◌, List, ℕ, Ok, Err};
 ghost use Rattle.rdf_terms.specs.declared.term.Term.{Term};
 ghost use Rattle.patch_rows.specs.declared.row.Row.{Row};
 ghost use Rattle.patch_rows.specs.Fault.{Fault};
-ghost use Rattle.patch_rows.specs.Faults.{RowTermFault, RowFault};
+ghost use Rattle.patch_rows.specs.Faults.{RowTermFault, AnyRowFault};
 ghost use Rattle.patch_rows.specs.Grammar.{Space, RowTerm, RowAt};
 ghost use Rattle.patch_rows.specs.Printing.{IsWritable};
 ghost use Rattle.patch_rows.specs.Reading.{skip_space, row_term_at};
@@ -17,8 +17,8 @@ pub fn rows_are_read()
         → RowAt text r after }
     ensures again { (text : List ℕ) (r : Row) (after : List ℕ) → RowAt text r after
         → row_at text ≡ Ok (r, after) }
-    ensures fault { (text : List ℕ) (f : Fault) → row_at text ≡ Err f → RowFault text f }
-    ensures only_fault { (text : List ℕ) (f : Fault) → RowFault text f → row_at text ≡ Err f }
+    ensures fault { (text : List ℕ) (f : Fault) → row_at text ≡ Err f → AnyRowFault text f }
+    ensures only_fault { (text : List ℕ) (f : Fault) → AnyRowFault text f → row_at text ≡ Err f }
 {}
 
 /// The same of a term of a row.

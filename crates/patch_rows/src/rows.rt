@@ -4,7 +4,7 @@
 ghost use Rattle.std.specs.Prelude.{◌≡◌, ◌≤◌, ◌<◌, length, drop, true, false, IfOk};
 ghost use Rattle.rdf_terms.specs.Quad.{may_be_graph};
 ghost use Rattle.patch_rows.specs.declared.codes.Code.TheVariants as codes;
-ghost use Rattle.patch_rows.specs.Fault.{Gives, Ends};
+ghost use Rattle.patch_rows.specs.Fault.{RowGives, GivesEnd};
 ghost use Rattle.patch_rows.specs.Reading.{dot_at, end_at};
 ghost use Rattle.patch_rows.specs.Rows.{graph_or_dot_of, graph_of, header_of, bare_at, quad_of};
 ghost use Rattle.patch_rows.specs.Rows.{added_of, removed_of, parts_of, row_of as row_given};
@@ -24,7 +24,7 @@ use std::alloc::Global;
 #[tactic(auto, unfolding(crate::specs::Reading::dot_at), using(crate::proofs::Steps::met))]
 pub fn dot(text: &[u8], at: usize, missing: RowKind) -> Result<usize, RowFault>
     requires { at ≤ length text.now }
-    ensures { Ends text.now result (dot_at missing (drop at text.now)) }
+    ensures { GivesEnd text.now result (dot_at missing (drop at text.now)) }
 {
     if is_at(text, at, b'.') {
         return Ok(at + 1);
@@ -38,7 +38,7 @@ pub fn dot(text: &[u8], at: usize, missing: RowKind) -> Result<usize, RowFault>
 /// White space and comments, and the dot of a row.
 fn end(text: &[u8], at: usize, missing: RowKind) -> Result<usize, RowFault>
     requires { at ≤ length text.now }
-    ensures { Ends text.now result (end_at missing (drop at text.now)) }
+    ensures { GivesEnd text.now result (end_at missing (drop at text.now)) }
 {
     dot(text, pass_space(text, at), missing)
 }
@@ -52,7 +52,7 @@ fn graph_or_dot(
     text_end: TextEnd,
 ) -> Result<(Option<Term>, usize), RowFault>
     requires { at ≤ length text.now }
-    ensures gives { Gives text.now result (graph_or_dot_of text_end (drop at text.now)) }
+    ensures gives { RowGives text.now result (graph_or_dot_of text_end (drop at text.now)) }
     ensures graph { IfOk result (λ x. may_be_graph x.0 ≡ true) }
 {
     if !is_term_at(text, at) {
@@ -72,7 +72,7 @@ fn graph(
     text_end: TextEnd,
 ) -> Result<(Option<Term>, usize), RowFault>
     requires { at ≤ length text.now }
-    ensures gives { Gives text.now result (graph_of text_end (drop at text.now)) }
+    ensures gives { RowGives text.now result (graph_of text_end (drop at text.now)) }
     ensures graph { IfOk result (λ x. may_be_graph x.0 ≡ true) }
 {
     graph_or_dot(alloc, text, pass_space(text, at), text_end)
@@ -88,7 +88,7 @@ fn header(
     text_end: TextEnd,
 ) -> Result<(Row, usize), RowFault>
     requires { at ≤ length text.now }
-    ensures { Gives text.now result (header_of text_end (drop at text.now)) }
+    ensures { RowGives text.now result (header_of text_end (drop at text.now)) }
 {
     let (key, after) = key(alloc, text, pass_space(text, at), text_end)?;
     let (value, after) = any(alloc, text, pass_space(text, after), text_end)?;
@@ -101,7 +101,7 @@ fn header(
 #[tactic(auto, unfolding(crate::specs::Rows::bare_at))]
 fn bare(text: &[u8], at: usize, change: Change) -> Result<(Row, usize), RowFault>
     requires { at ≤ length text.now }
-    ensures { Gives text.now result (bare_at change (drop at text.now)) }
+    ensures { RowGives text.now result (bare_at change (drop at text.now)) }
 {
     match end(text, at, RowKind::Common(TextKind::BadToken)) {
         Ok(behind) => Ok((Row::Change(change), behind)),
@@ -117,7 +117,7 @@ fn bare(text: &[u8], at: usize, change: Change) -> Result<(Row, usize), RowFault
 #[tactic(auto, unfolding(crate::specs::Rows::quad_of))]
 fn quad(alloc: Global, text: &[u8], at: usize, text_end: TextEnd) -> Result<(Quad, usize), RowFault>
     requires { at ≤ length text.now }
-    ensures { Gives text.now result (quad_of text_end (drop at text.now)) }
+    ensures { RowGives text.now result (quad_of text_end (drop at text.now)) }
 {
     let (subject, after) = node(alloc, text, pass_space(text, at), text_end)?;
     let (predicate, after) = iri(alloc, text, pass_space(text, after), text_end)?;
@@ -131,7 +131,7 @@ fn quad(alloc: Global, text: &[u8], at: usize, text_end: TextEnd) -> Result<(Qua
 #[tactic(auto, unfolding(crate::specs::Rows::parts_of))]
 fn add(alloc: Global, text: &[u8], at: usize, text_end: TextEnd) -> Result<(Row, usize), RowFault>
     requires { at ≤ length text.now }
-    ensures { Gives text.now result (parts_of text_end codes.Add (drop at text.now)) }
+    ensures { RowGives text.now result (parts_of text_end codes.Add (drop at text.now)) }
 {
     match quad(alloc, text, at, text_end) {
         Ok((quad, behind)) => Ok((Row::Change(Change::Add(quad)), behind)),
@@ -149,7 +149,7 @@ fn delete(
     text_end: TextEnd,
 ) -> Result<(Row, usize), RowFault>
     requires { at ≤ length text.now }
-    ensures { Gives text.now result (parts_of text_end codes.Delete (drop at text.now)) }
+    ensures { RowGives text.now result (parts_of text_end codes.Delete (drop at text.now)) }
 {
     match quad(alloc, text, at, text_end) {
         Ok((quad, behind)) => Ok((Row::Change(Change::Delete(quad)), behind)),
@@ -162,7 +162,7 @@ fn delete(
 #[tactic(auto, unfolding(crate::specs::Rows::added_of))]
 fn added(alloc: Global, text: &[u8], at: usize, text_end: TextEnd) -> Result<(Row, usize), RowFault>
     requires { at ≤ length text.now }
-    ensures { Gives text.now result (added_of text_end (drop at text.now)) }
+    ensures { RowGives text.now result (added_of text_end (drop at text.now)) }
 {
     let (prefix, after) = prefix(alloc, text, pass_space(text, at), text_end)?;
     let (iri, after) = prefix_iri(alloc, text, pass_space(text, after), text_end)?;
@@ -183,7 +183,7 @@ fn removed(
     text_end: TextEnd,
 ) -> Result<(Row, usize), RowFault>
     requires { at ≤ length text.now }
-    ensures { Gives text.now result (removed_of text_end (drop at text.now)) }
+    ensures { RowGives text.now result (removed_of text_end (drop at text.now)) }
 {
     let (prefix, after) = prefix(alloc, text, pass_space(text, at), text_end)?;
     let (graph, behind) = graph(alloc, text, after, text_end)?;
@@ -200,7 +200,7 @@ fn parts(
     text_end: TextEnd,
 ) -> Result<(Row, usize), RowFault>
     requires { at ≤ length text.now }
-    ensures { Gives text.now result (parts_of text_end code (drop at text.now)) }
+    ensures { RowGives text.now result (parts_of text_end code (drop at text.now)) }
 {
     match code {
         Code::Header => header(alloc, text, at, text_end),
@@ -224,7 +224,7 @@ pub fn row_of(
     text_end: TextEnd,
 ) -> Result<(Row, usize), RowFault>
     requires { at ≤ length text.now }
-    ensures { Gives text.now result (row_given text_end (drop at text.now)) }
+    ensures { RowGives text.now result (row_given text_end (drop at text.now)) }
 {
     let (word, behind) = word(text, at)?;
     match find_code(word) {

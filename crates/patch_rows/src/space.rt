@@ -1,7 +1,7 @@
 //! White space and comments.
 
 ghost use Rattle.std.specs.Prelude.{◌≡◌, ◌≤◌, ◌<◌, ◌++◌, ℕ, List, length, drop, true, false, Err};
-ghost use Rattle.nquads_text.specs.Fault.{Fault};
+ghost use Rattle.nquads_text.specs.Fault.{TextFault};
 ghost use Rattle.nquads_text.specs.Grammar.{StartsWith};
 ghost use Rattle.nquads_text.specs.Reading.{char_at as char_of};
 ghost use Rattle.patch_rows.specs.Grammar.{Space, begins_space, is_space as is_blank};
@@ -26,7 +26,7 @@ pub fn pass_gap(text: &[u8], from: usize, in_comment: bool) -> (usize, bool)
         ≡ space_behind result.1 0 (drop result.0 (text.now ++ more)) }
     ensures high { result.0 ≤ length text.now }
     ensures stuck { result.1 ≡ true
-        → (fault : Fault) × (char_of (drop result.0 text.now) ≡ Err fault) }
+        → (fault : TextFault) × (char_of (drop result.0 text.now) ≡ Err fault) }
     ensures stops { result.1 ≡ false → result.0 < length text.now
         → (more : List ℕ) → space_behind false 0 (drop result.0 (text.now ++ more))
         ≡ drop result.0 (text.now ++ more) }

@@ -8,7 +8,7 @@ ghost use Rattle.rdf_terms.specs.Quad.{is_iri as iri_stands, is_literal as liter
 ghost use Rattle.nquads_text.specs.Faults.{begins_term as opens_term};
 ghost use Rattle.nquads_text.specs.Reading.{iri_body_at};
 ghost use Rattle.nquads_text.specs.Terms.{label_at, term_at};
-ghost use Rattle.patch_rows.specs.Fault.{Gives, IsThere, in_row};
+ghost use Rattle.patch_rows.specs.Fault.{RowGives, IsThere, in_row};
 ghost use Rattle.patch_rows.specs.Grammar.{is_any, is_node};
 ghost use Rattle.patch_rows.specs.Faults.{is_dot};
 ghost use Rattle.patch_rows.specs.Reading.{stands, other as other_of, begins_blank as blank_begins};
@@ -65,7 +65,7 @@ pub fn other(text: &[u8], at: usize, kind: RowKind) -> RowFault
 /// A term as in N-Triples.
 fn plain_term(alloc: Global, text: &[u8], at: usize) -> Result<(Term, usize), RowFault>
     requires { at ≤ length text.now }
-    ensures { Gives text.now result (in_row (term_at (drop at text.now))) }
+    ensures { RowGives text.now result (in_row (term_at (drop at text.now))) }
 {
     let term = read_term(alloc, text, at)?;
     Ok(term)
@@ -74,7 +74,7 @@ fn plain_term(alloc: Global, text: &[u8], at: usize) -> Result<(Term, usize), Ro
 /// What stands between the brackets of an IRIREF, and the place behind them.
 fn body(alloc: Global, text: &[u8], at: usize) -> Result<(Text, usize), RowFault>
     requires { at ≤ length text.now }
-    ensures { Gives text.now result (in_row (iri_body_at (drop at text.now))) }
+    ensures { RowGives text.now result (in_row (iri_body_at (drop at text.now))) }
 {
     let (body, end) = iri_body(alloc, text, at)?;
     Ok((Text::from_string(body), end))
@@ -102,7 +102,7 @@ fn blank(
     requires begins { start ≤ length text.now }
     requires within { end ≤ length text.now }
     requires some { 1 ≤ length body.now }
-    ensures { Gives text.now result (whole_label (drop start text.now)
+    ensures { RowGives text.now result (whole_label (drop start text.now)
         (drop end text.now) (label_at body.now (drop 1 body.now))) }
 {
     let bad = RowFault::at(start, RowKind::Common(TextKind::BadLabel));
@@ -123,7 +123,7 @@ fn blank(
 fn bracket(alloc: Global, text: &[u8], start: usize, at: usize) -> Result<(Term, usize), RowFault>
     requires begins { start ≤ length text.now }
     requires within { at ≤ length text.now }
-    ensures { Gives text.now result (bracket_at (drop start text.now) (drop at text.now)) }
+    ensures { RowGives text.now result (bracket_at (drop start text.now) (drop at text.now)) }
 {
     let (body, end) = body(alloc, text, at)?;
     if begins_blank(body.as_bytes()) {
@@ -139,7 +139,7 @@ fn bracket(alloc: Global, text: &[u8], start: usize, at: usize) -> Result<(Term,
 #[tactic(auto, using(crate::proofs::BracketSteps::term_steps))]
 fn row_term(alloc: Global, text: &[u8], at: usize) -> Result<(Term, usize), RowFault>
     requires { at ≤ length text.now }
-    ensures { Gives text.now result (row_term_at (drop at text.now)) }
+    ensures { RowGives text.now result (row_term_at (drop at text.now)) }
 {
     if is_at(text, at, b'<') {
         return bracket(alloc, text, at, at + 1);
@@ -151,7 +151,7 @@ fn row_term(alloc: Global, text: &[u8], at: usize) -> Result<(Term, usize), RowF
 #[tactic(auto, unfolding(crate::specs::Reading::needed_term_at))]
 fn needed_term(alloc: Global, text: &[u8], at: usize) -> Result<(Term, usize), RowFault>
     requires { at ≤ length text.now }
-    ensures { Gives text.now result (needed_term_at (drop at text.now)) }
+    ensures { RowGives text.now result (needed_term_at (drop at text.now)) }
 {
     if is_at(text, at, b'.') {
         return Err(RowFault::at(at, RowKind::WrongCount));
@@ -163,7 +163,7 @@ fn needed_term(alloc: Global, text: &[u8], at: usize) -> Result<(Term, usize), R
 #[tactic(auto, unfolding(crate::specs::Rows::open_term))]
 fn open_term(alloc: Global, text: &[u8], at: usize) -> Result<(Term, usize), RowFault>
     requires { at ≤ length text.now }
-    ensures { Gives text.now result (open_term_of (drop at text.now)) }
+    ensures { RowGives text.now result (open_term_of (drop at text.now)) }
 {
     let (term, end) = needed_term(alloc, text, at)?;
     if is_open_literal(text, at, &term, end) {
@@ -180,7 +180,7 @@ pub fn term(
     text_end: TextEnd,
 ) -> Result<(Term, usize), RowFault>
     requires { at ≤ length text.now }
-    ensures { Gives text.now result (term_of text_end (drop at text.now)) }
+    ensures { RowGives text.now result (term_of text_end (drop at text.now)) }
 {
     match text_end {
         TextEnd::Known => needed_term(alloc, text, at),
@@ -199,7 +199,7 @@ fn unless_open(
 ) -> Result<(Term, usize), RowFault>
     requires begins { at ≤ length text.now }
     requires within { end ≤ length text.now }
-    ensures gives { Gives text.now result
+    ensures gives { RowGives text.now result
         (unless_open_of text_end (drop at text.now) term (drop end text.now)) }
     ensures same { IfOk result (λ x. x.0 ≡ term) }
 {
@@ -223,7 +223,7 @@ pub fn any(
     text_end: TextEnd,
 ) -> Result<(Term, usize), RowFault>
     requires { at ≤ length text.now }
-    ensures { Gives text.now result (placed_of text_end is_any (drop at text.now)) }
+    ensures { RowGives text.now result (placed_of text_end is_any (drop at text.now)) }
 {
     let (term, end) = term(alloc, text, at, text_end)?;
     unless_open(text, at, term, end, text_end)
@@ -238,7 +238,7 @@ pub fn node(
     text_end: TextEnd,
 ) -> Result<(Term, usize), RowFault>
     requires { at ≤ length text.now }
-    ensures gives { Gives text.now result (placed_of text_end is_node (drop at text.now)) }
+    ensures gives { RowGives text.now result (placed_of text_end is_node (drop at text.now)) }
     ensures node { IfOk result (λ x. literal_stands x.0 ≡ false) }
 {
     let (term, end) = term(alloc, text, at, text_end)?;
@@ -257,7 +257,7 @@ pub fn iri(
     text_end: TextEnd,
 ) -> Result<(Term, usize), RowFault>
     requires { at ≤ length text.now }
-    ensures gives { Gives text.now result (placed_of text_end iri_stands (drop at text.now)) }
+    ensures gives { RowGives text.now result (placed_of text_end iri_stands (drop at text.now)) }
     ensures iri { IfOk result (λ x. iri_stands x.0 ≡ true) }
 {
     let (term, end) = term(alloc, text, at, text_end)?;

@@ -4,7 +4,7 @@ ghost use Rattle.std.specs.Prelude.{◌≡◌, ◌≤◌, ◌<◌, ◌+◌, List
 ghost use Rattle.std.specs.Prelude.{drop, take, IfOk, IsUtf8, slice_range};
 ghost use Rattle.std.specs.Char.{is_ascii_alphabetic};
 ghost use Rattle.std.specs.List.{prefix_len};
-ghost use Rattle.patch_rows.specs.Fault.{Gives, GivesSlice};
+ghost use Rattle.patch_rows.specs.Fault.{RowGives, GivesSlice};
 ghost use Rattle.patch_rows.specs.Grammar.{is_word_byte as in_word};
 ghost use Rattle.patch_rows.specs.Reading.{word_at, key_at, uncut, iri_of_string as iri_for};
 ghost use Rattle.patch_rows.specs.Reading.{past_colon as behind_colon};
@@ -90,7 +90,7 @@ fn word_text(alloc: Global, text: &[u8], at: usize) -> Result<(Text, usize), Out
 #[tactic(auto, unfolding(crate::specs::Reading::key_at), using(crate::proofs::Steps::met))]
 fn key_there(alloc: Global, text: &[u8], at: usize) -> Result<(Text, usize), RowFault>
     requires { at ≤ length text.now }
-    ensures { Gives text.now result (key_at (drop at text.now)) }
+    ensures { RowGives text.now result (key_at (drop at text.now)) }
 {
     if is_at(text, at, b'.') {
         return Err(RowFault::at(at, RowKind::WrongCount));
@@ -105,7 +105,7 @@ fn key_there(alloc: Global, text: &[u8], at: usize) -> Result<(Text, usize), Row
 /// The word, unless the text's end may cut it.
 fn unless_cut(text: &[u8], word: Text, end: usize) -> Result<(Text, usize), RowFault>
     requires { end ≤ length text.now }
-    ensures { Gives text.now result (uncut (word, drop end text.now)) }
+    ensures { RowGives text.now result (uncut (word, drop end text.now)) }
 {
     if end == text.len() {
         return Err(cut_off(text));
@@ -117,7 +117,7 @@ fn unless_cut(text: &[u8], word: Text, end: usize) -> Result<(Text, usize), RowF
 #[tactic(auto, unfolding(crate::specs::Rows::open_key))]
 fn open_key(alloc: Global, text: &[u8], at: usize) -> Result<(Text, usize), RowFault>
     requires { at ≤ length text.now }
-    ensures { Gives text.now result (open_key_of (drop at text.now)) }
+    ensures { RowGives text.now result (open_key_of (drop at text.now)) }
 {
     let (key, end) = key_there(alloc, text, at)?;
     unless_cut(text, key, end)
@@ -131,7 +131,7 @@ pub fn key(
     text_end: TextEnd,
 ) -> Result<(Text, usize), RowFault>
     requires { at ≤ length text.now }
-    ensures { Gives text.now result (key_of text_end (drop at text.now)) }
+    ensures { RowGives text.now result (key_of text_end (drop at text.now)) }
 {
     match text_end {
         TextEnd::Known => key_there(alloc, text, at),
@@ -160,7 +160,7 @@ fn quoted_prefix(
     text_end: TextEnd,
 ) -> Result<(Text, usize), RowFault>
     requires { at ≤ length text.now }
-    ensures { Gives text.now result (quoted_of text_end (drop at text.now)) }
+    ensures { RowGives text.now result (quoted_of text_end (drop at text.now)) }
 {
     let (found, end) = term(alloc, text, at, text_end)?;
     match found {
@@ -178,7 +178,7 @@ fn quoted_prefix(
 #[tactic(auto, unfolding(crate::specs::Rows::open_word_prefix))]
 fn open_word_prefix(alloc: Global, text: &[u8], at: usize) -> Result<(Text, usize), RowFault>
     requires { at ≤ length text.now }
-    ensures { Gives text.now result (open_word_prefix_of (drop at text.now)) }
+    ensures { RowGives text.now result (open_word_prefix_of (drop at text.now)) }
 {
     let (word, end) = word_text(alloc, text, at)?;
     let (word, end) = unless_cut(text, word, end)?;
@@ -193,7 +193,7 @@ fn word_prefix(
     text_end: TextEnd,
 ) -> Result<(Text, usize), RowFault>
     requires { at ≤ length text.now }
-    ensures { Gives text.now result (word_prefix_of text_end (drop at text.now)) }
+    ensures { RowGives text.now result (word_prefix_of text_end (drop at text.now)) }
 {
     match text_end {
         TextEnd::Known => {
@@ -213,7 +213,7 @@ pub fn prefix(
     text_end: TextEnd,
 ) -> Result<(Text, usize), RowFault>
     requires { at ≤ length text.now }
-    ensures { Gives text.now result (prefix_of text_end (drop at text.now)) }
+    ensures { RowGives text.now result (prefix_of text_end (drop at text.now)) }
 {
     if is_at(text, at, b':') {
         return Ok((Text::from_string(String::new(alloc)), at + 1));
@@ -237,7 +237,7 @@ fn iri_of_string(
 ) -> Result<(Iri, usize), RowFault>
     requires begins { start ≤ length text.now }
     requires within { end ≤ length text.now }
-    ensures { Gives text.now result (iri_for (drop start text.now) string (drop end text.now)) }
+    ensures { RowGives text.now result (iri_for (drop start text.now) string (drop end text.now)) }
 {
     match Iri::new(string) {
         Ok(iri) => Ok((iri, end)),
@@ -262,7 +262,7 @@ pub fn prefix_iri(
     text_end: TextEnd,
 ) -> Result<(Iri, usize), RowFault>
     requires { at ≤ length text.now }
-    ensures { Gives text.now result (prefix_iri_of text_end (drop at text.now)) }
+    ensures { RowGives text.now result (prefix_iri_of text_end (drop at text.now)) }
 {
     let (found, end) = term(alloc, text, at, text_end)?;
     match found {

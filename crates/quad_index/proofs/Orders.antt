@@ -11,8 +11,8 @@ use Rattle.quad_index.specs.declared.key.KeyPattern.{KeyPattern}
 use Rattle.quad_index.specs.declared.order.Order.{Order}
 use Rattle.quad_index.specs.declared.order.Order.TheVariants.{Gspo, Gpos, Gosp, Spog, Posg, Ospg}
 use Rattle.quad_index.specs.declared.order.Placed.{Placed}
-use Rattle.quad_index.specs.Key.{fits, matches}
-use Rattle.quad_index.specs.Order.{placed_cmp, arranged, restored, lowest, bound_first, leads}
+use Rattle.quad_index.specs.Key.{fits_bound, matches_key}
+use Rattle.quad_index.specs.Order.{placed_cmp, arranged, restored, lowest, bound_first, binds_front}
 use Rattle.quad_index.proofs.Fronts.{IsFront}
 
 -- ---- one part
@@ -26,7 +26,7 @@ le_last Less m n h a = refl
 le_last Equal m n h a = refl
 le_last Greater m n h a = absurd (omega arith)
 
-low_fits : (a : Option ℕ) (n : ℕ) → fits a n ≡ true → unwrap_or a 0 ≤ n
+low_fits : (a : Option ℕ) (n : ℕ) → fits_bound a n ≡ true → unwrap_or a 0 ≤ n
 low_fits None n h = omega arith
 low_fits (Some m) n h = let e : m ≡ n = eqb-true m n h in omega arith
 
@@ -56,16 +56,16 @@ squeeze_last o Greater m x y h k a b e = cc
 
 -- ---- four parts
 abbrev fits4 : Option ℕ → Option ℕ → Option ℕ → Option ℕ → Placed → Bool
-fits4 a b c d x = fits a x.first && (fits b x.second && (fits c x.third && fits d x.fourth))
+fits4 a b c d x = fits_bound a x.first && (fits_bound b x.second && (fits_bound c x.third && fits_bound d x.fourth))
 
 abbrev low4 : Option ℕ → Option ℕ → Option ℕ → Option ℕ → Placed
 low4 a b c d = record { first = unwrap_or a 0; second = unwrap_or b 0; third = unwrap_or c 0; fourth = unwrap_or d 0 }
 
 above4 : (a b c d : Option ℕ) (x : Placed) → fits4 a b c d x ≡ true → is_le (placed_cmp (low4 a b c d) x) ≡ true
 above4 a b c d x h =
-    let h1 = and_parts (fits a x.first) _ h in
-    let h2 = and_parts (fits b x.second) _ h1.1 in
-    let h3 = and_parts (fits c x.third) _ h2.1 in
+    let h1 = and_parts (fits_bound a x.first) _ h in
+    let h2 = and_parts (fits_bound b x.second) _ h1.1 in
+    let h3 = and_parts (fits_bound c x.third) _ h2.1 in
     le_part _ _ _ (ranks (unwrap_or a 0) x.first) _ (low_fits a x.first h1.0)
     (le_part _ _ _ (ranks (unwrap_or b 0) x.second) _ (low_fits b x.second h2.0)
     (le_part _ _ _ (ranks (unwrap_or c 0) x.third) _ (low_fits c x.third h3.0)
@@ -229,10 +229,10 @@ turn_ospg false false true false = refl
 turn_ospg false false false true = refl
 turn_ospg false false false false = refl
 
-pub front_of : (order : Order) (q : KeyPattern) → leads order q ≡ true → IsFront placed_cmp (arranged order (lowest q)) (λ x. matches q (restored order x))
-front_of Gspo q l = alike _ _ _ (λ x. turn_gspo (fits q.g x.first) (fits q.s x.second) (fits q.p x.third) (fits q.o x.fourth)) (front4 q.g q.s q.p q.o l)
-front_of Gpos q l = alike _ _ _ (λ x. turn_gpos (fits q.g x.first) (fits q.s x.fourth) (fits q.p x.second) (fits q.o x.third)) (front4 q.g q.p q.o q.s l)
-front_of Gosp q l = alike _ _ _ (λ x. turn_gosp (fits q.g x.first) (fits q.s x.third) (fits q.p x.fourth) (fits q.o x.second)) (front4 q.g q.o q.s q.p l)
-front_of Spog q l = alike _ _ _ (λ x. turn_spog (fits q.g x.fourth) (fits q.s x.first) (fits q.p x.second) (fits q.o x.third)) (front4 q.s q.p q.o q.g l)
-front_of Posg q l = alike _ _ _ (λ x. turn_posg (fits q.g x.fourth) (fits q.s x.third) (fits q.p x.first) (fits q.o x.second)) (front4 q.p q.o q.s q.g l)
-front_of Ospg q l = alike _ _ _ (λ x. turn_ospg (fits q.g x.fourth) (fits q.s x.second) (fits q.p x.third) (fits q.o x.first)) (front4 q.o q.s q.p q.g l)
+pub front_of : (order : Order) (q : KeyPattern) → binds_front order q ≡ true → IsFront placed_cmp (arranged order (lowest q)) (λ x. matches_key q (restored order x))
+front_of Gspo q l = alike _ _ _ (λ x. turn_gspo (fits_bound q.g x.first) (fits_bound q.s x.second) (fits_bound q.p x.third) (fits_bound q.o x.fourth)) (front4 q.g q.s q.p q.o l)
+front_of Gpos q l = alike _ _ _ (λ x. turn_gpos (fits_bound q.g x.first) (fits_bound q.s x.fourth) (fits_bound q.p x.second) (fits_bound q.o x.third)) (front4 q.g q.p q.o q.s l)
+front_of Gosp q l = alike _ _ _ (λ x. turn_gosp (fits_bound q.g x.first) (fits_bound q.s x.third) (fits_bound q.p x.fourth) (fits_bound q.o x.second)) (front4 q.g q.o q.s q.p l)
+front_of Spog q l = alike _ _ _ (λ x. turn_spog (fits_bound q.g x.fourth) (fits_bound q.s x.first) (fits_bound q.p x.second) (fits_bound q.o x.third)) (front4 q.s q.p q.o q.g l)
+front_of Posg q l = alike _ _ _ (λ x. turn_posg (fits_bound q.g x.fourth) (fits_bound q.s x.third) (fits_bound q.p x.first) (fits_bound q.o x.second)) (front4 q.p q.o q.s q.g l)
+front_of Ospg q l = alike _ _ _ (λ x. turn_ospg (fits_bound q.g x.fourth) (fits_bound q.s x.second) (fits_bound q.p x.third) (fits_bound q.o x.first)) (front4 q.o q.s q.p q.g l)

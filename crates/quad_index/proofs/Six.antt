@@ -21,10 +21,10 @@ use Rattle.quad_index.specs.declared.key.KeyPattern.{KeyPattern}
 use Rattle.quad_index.specs.declared.order.Order.{Order}
 use Rattle.quad_index.specs.declared.order.Order.TheVariants.{Gspo, Gpos, Gosp, Spog, Posg, Ospg}
 use Rattle.quad_index.specs.declared.order.Placed.{Placed}
-use Rattle.quad_index.specs.Key.{key_cmp, has_key, matches, AreMatches}
+use Rattle.quad_index.specs.Key.{key_cmp, has_key, matches_key, AreMatches}
 use Rattle.quad_index.specs.Order.{placed_cmp, arranged, restored}
 use Rattle.quad_index.specs.Six.{six}
-use Rattle.quad_index.specs.Ordered.{Kept, keeps, with_key, without_key, keys_of, AreSix}
+use Rattle.quad_index.specs.Ordered.{OrderedKeys, keeps, with_key, without_key, keys_of, AreSix}
 use Rattle.quad_index.proofs.Fronts.{filter_mapped}
 use Rattle.quad_index.proofs.Members.{any_inserted, any_removed, removed_inserted}
 
@@ -109,29 +109,29 @@ unfolding IsStrictlySortedBy
 sorted_restored [] h = tt
 sorted_restored (x ∷ xs) h = (all_restored x xs h.0, sorted_restored xs h.1)
 
-leads_six : (kept : Kept) (rest : List Kept) → map (λ k. k.order) (kept ∷ rest) ≡ six → kept.order ≡ Gspo
+leads_six : (kept : OrderedKeys) (rest : List OrderedKeys) → map (λ k. k.order) (kept ∷ rest) ≡ six → kept.order ≡ Gspo
 leads_six kept rest h = cc
 
-pub first_sorted : (orders : List Kept) (d : Kept) → AreSix orders → IsStrictlySortedBy placed_cmp (get_or orders 0 d).keys → IsStrictlySortedBy key_cmp (keys_of orders)
+pub first_sorted : (orders : List OrderedKeys) (d : OrderedKeys) → AreSix orders → IsStrictlySortedBy placed_cmp (get_or orders 0 d).keys → IsStrictlySortedBy key_cmp (keys_of orders)
 first_sorted [] d six_of s = absurd (let h = six_of.tags in cc)
 first_sorted (kept ∷ rest) d six_of s =
     subst (λ (o : Order). IsStrictlySortedBy key_cmp (map (restored o) kept.keys)) (sym (leads_six kept rest six_of.tags)) (sorted_restored kept.keys s)
 
 -- ---- an insertion into all
-pub all_absent : (orders : List Kept) (keys : List QuadKey) (key : QuadKey) → AllByRecursion (λ kept. (k : QuadKey) → keeps kept k ≡ has_key keys k) orders → has_key keys key ≡ false → AllByRecursion (λ kept. keeps kept key ≡ false) orders
+pub all_absent : (orders : List OrderedKeys) (keys : List QuadKey) (key : QuadKey) → AllByRecursion (λ kept. (k : QuadKey) → keeps kept k ≡ has_key keys k) orders → has_key keys key ≡ false → AllByRecursion (λ kept. keeps kept key ≡ false) orders
 all_absent [] keys key h a = tt
 all_absent (kept ∷ rest) keys key h a = (h.0 key ∙ a, all_absent rest keys key h.1 a)
 
-pub keys_with : (orders : List Kept) (key : QuadKey) → AreSix orders → keys_of (map (with_key key) orders) ≡ insert_key key_cmp (keys_of orders) key
+pub keys_with : (orders : List OrderedKeys) (key : QuadKey) → AreSix orders → keys_of (map (with_key key) orders) ≡ insert_key key_cmp (keys_of orders) key
 keys_with [] key h = absurd (let e = h.tags in cc)
 keys_with (kept ∷ rest) key h =
     subst (λ (o : Order). map (restored o) (insert_key placed_cmp kept.keys (arranged o key)) ≡ insert_key key_cmp (map (restored o) kept.keys) key) (sym (leads_six kept rest h.tags)) (insert_restored key kept.keys)
 
-tags_with : (orders : List Kept) (key : QuadKey) → map (λ k. k.order) (map (with_key key) orders) ≡ map (λ k. k.order) orders
+tags_with : (orders : List OrderedKeys) (key : QuadKey) → map (λ k. k.order) (map (with_key key) orders) ≡ map (λ k. k.order) orders
 tags_with [] key = refl
 tags_with (kept ∷ rest) key = ap (λ l. kept.order ∷ l) (tags_with rest key)
 
-same_with : (orders : List Kept) (keys : List QuadKey) (key : QuadKey) → AllByRecursion (λ kept. (k : QuadKey) → keeps kept k ≡ has_key keys k) orders → AllByRecursion (λ kept. (k : QuadKey) → keeps kept k ≡ has_key (insert_key key_cmp keys key) k) (map (with_key key) orders)
+same_with : (orders : List OrderedKeys) (keys : List QuadKey) (key : QuadKey) → AllByRecursion (λ kept. (k : QuadKey) → keeps kept k ≡ has_key keys k) orders → AllByRecursion (λ kept. (k : QuadKey) → keeps kept k ≡ has_key (insert_key key_cmp keys key) k) (map (with_key key) orders)
 same_with [] keys key h = tt
 same_with (kept ∷ rest) keys key h = (
   (λ k. any_inserted placed_total (arranged kept.order k) (arranged kept.order key) kept.keys
@@ -141,37 +141,37 @@ same_with (kept ∷ rest) keys key h = (
   same_with rest keys key h.1,
 )
 
-pub six_with : (orders : List Kept) (key : QuadKey) → AreSix orders → AreSix (map (with_key key) orders)
+pub six_with : (orders : List OrderedKeys) (key : QuadKey) → AreSix orders → AreSix (map (with_key key) orders)
 six_with orders key h = record {
   tags = tags_with orders key ∙ h.tags;
   same = subst (λ (keys : List QuadKey). AllByRecursion (λ kept. (k : QuadKey) → keeps kept k ≡ has_key keys k) (map (with_key key) orders)) (sym (keys_with orders key h)) (same_with orders (keys_of orders) key h.same);
 }
 
 -- a new key goes out of an order again
-pub out_again : (kept : Kept) (key : QuadKey) → keeps kept key ≡ false → without_key key (with_key key kept) ≡ kept
+pub out_again : (kept : OrderedKeys) (key : QuadKey) → keeps kept key ≡ false → without_key key (with_key key kept) ≡ kept
 out_again kept key h = ap (λ (l : List Placed). record { order = kept.order; keys = l }) (removed_inserted placed_total (arranged kept.order key) kept.keys h)
 
 -- whatever an insertion comes to, all six orders hold the same keys
-pub six_after : {E : Type 0} (result : Result Bool E) (orders after : List Kept) (key : QuadKey) → AreSix orders → IfOk result (λ added. OnTrue added (after ≡ map (with_key key) orders)) → IfOk result (λ added. OnFalse added (after ≡ orders)) → OnErr result (after ≡ orders) → AreSix after
+pub six_after : {E : Type 0} (result : Result Bool E) (orders after : List OrderedKeys) (key : QuadKey) → AreSix orders → IfOk result (λ added. OnTrue added (after ≡ map (with_key key) orders)) → IfOk result (λ added. OnFalse added (after ≡ orders)) → OnErr result (after ≡ orders) → AreSix after
 six_after (Ok true) orders after key h new again err = subst AreSix (sym new) (six_with orders key h)
 six_after (Ok false) orders after key h new again err = subst AreSix (sym again) h
 six_after (Err e) orders after key h new again err = subst AreSix (sym err) h
 
-pub keys_after : {E : Type 0} (result : Result Bool E) (orders : List Kept) (keys before : List QuadKey) (key : QuadKey) → AreSix orders → keys_of orders ≡ before → OnOk result (keys ≡ keys_of (map (with_key key) orders)) → OnOk result (keys ≡ insert_key key_cmp before key)
+pub keys_after : {E : Type 0} (result : Result Bool E) (orders : List OrderedKeys) (keys before : List QuadKey) (key : QuadKey) → AreSix orders → keys_of orders ≡ before → OnOk result (keys ≡ keys_of (map (with_key key) orders)) → OnOk result (keys ≡ insert_key key_cmp before key)
 keys_after (Ok _) orders keys before key h e k = k ∙ keys_with orders key h ∙ ap (λ (l : List QuadKey). insert_key key_cmp l key) e
 keys_after (Err _) orders keys before key h e k = tt
 
 -- ---- a removal from all
-pub keys_without : (orders : List Kept) (key : QuadKey) → AreSix orders → keys_of (map (without_key key) orders) ≡ remove_key (is_at (key_cmp key)) (keys_of orders)
+pub keys_without : (orders : List OrderedKeys) (key : QuadKey) → AreSix orders → keys_of (map (without_key key) orders) ≡ remove_key (is_at (key_cmp key)) (keys_of orders)
 keys_without [] key h = absurd (let e = h.tags in cc)
 keys_without (kept ∷ rest) key h =
     subst (λ (o : Order). map (restored o) (remove_key (is_at (placed_cmp (arranged o key))) kept.keys) ≡ remove_key (is_at (key_cmp key)) (map (restored o) kept.keys)) (sym (leads_six kept rest h.tags)) (remove_restored key kept.keys)
 
-tags_without : (orders : List Kept) (key : QuadKey) → map (λ k. k.order) (map (without_key key) orders) ≡ map (λ k. k.order) orders
+tags_without : (orders : List OrderedKeys) (key : QuadKey) → map (λ k. k.order) (map (without_key key) orders) ≡ map (λ k. k.order) orders
 tags_without [] key = refl
 tags_without (kept ∷ rest) key = ap (λ l. kept.order ∷ l) (tags_without rest key)
 
-same_without : (orders : List Kept) (keys : List QuadKey) (key : QuadKey) → IsStrictlySortedBy key_cmp keys → AllByRecursion (λ kept. IsStrictlySortedBy placed_cmp kept.keys) orders → AllByRecursion (λ kept. (k : QuadKey) → keeps kept k ≡ has_key keys k) orders → AllByRecursion (λ kept. (k : QuadKey) → keeps kept k ≡ has_key (remove_key (is_at (key_cmp key)) keys) k) (map (without_key key) orders)
+same_without : (orders : List OrderedKeys) (keys : List QuadKey) (key : QuadKey) → IsStrictlySortedBy key_cmp keys → AllByRecursion (λ kept. IsStrictlySortedBy placed_cmp kept.keys) orders → AllByRecursion (λ kept. (k : QuadKey) → keeps kept k ≡ has_key keys k) orders → AllByRecursion (λ kept. (k : QuadKey) → keeps kept k ≡ has_key (remove_key (is_at (key_cmp key)) keys) k) (map (without_key key) orders)
 same_without [] keys key t s h = tt
 same_without (kept ∷ rest) keys key t s h = (
   (λ k. any_removed placed_total (arranged kept.order k) (arranged kept.order key) kept.keys s.0
@@ -181,7 +181,7 @@ same_without (kept ∷ rest) keys key t s h = (
   same_without rest keys key t s.1 h.1,
 )
 
-pub six_without : (orders : List Kept) (key : QuadKey) → AreSix orders → IsStrictlySortedBy key_cmp (keys_of orders) → AllByRecursion (λ kept. IsStrictlySortedBy placed_cmp kept.keys) orders → AreSix (map (without_key key) orders)
+pub six_without : (orders : List OrderedKeys) (key : QuadKey) → AreSix orders → IsStrictlySortedBy key_cmp (keys_of orders) → AllByRecursion (λ kept. IsStrictlySortedBy placed_cmp kept.keys) orders → AreSix (map (without_key key) orders)
 six_without orders key h t s = record {
   tags = tags_without orders key ∙ h.tags;
   same = subst (λ (keys : List QuadKey). AllByRecursion (λ kept. (k : QuadKey) → keeps kept k ≡ has_key keys k) (map (without_key key) orders)) (sym (keys_without orders key h)) (same_without orders (keys_of orders) key t s h.same);
@@ -220,17 +220,17 @@ unfolding IsDistinct
 distinct_restored o [] h = tt
 distinct_restored o (x ∷ xs) h = (apart_restored o x xs h.0, distinct_restored o xs h.1)
 
-pub are_matches : (pattern : KeyPattern) (keys found : List QuadKey) (kept : Kept) → ((k : QuadKey) → keeps kept k ≡ has_key keys k) → IsStrictlySortedBy placed_cmp kept.keys → found ≡ filter (matches pattern) (map (restored kept.order) kept.keys) → AreMatches pattern keys found
+pub are_matches : (pattern : KeyPattern) (keys found : List QuadKey) (kept : OrderedKeys) → ((k : QuadKey) → keeps kept k ≡ has_key keys k) → IsStrictlySortedBy placed_cmp kept.keys → found ≡ filter (matches_key pattern) (map (restored kept.order) kept.keys) → AreMatches pattern keys found
 are_matches pattern keys found kept h s e = record {
   exactly = λ k. ap (λ (l : List QuadKey). has_key l k) e
-      ∙ any_filtered k (matches pattern) (map (restored kept.order) kept.keys)
-      ∙ ap (λ b. b && matches pattern k) (any_restored kept.order k kept.keys ∙ h k);
-  each_once = subst (IsDistinct (eq_by_cmp key_cmp)) (filter_mapped (restored kept.order) (matches pattern) kept.keys ∙ sym e)
-      (distinct_restored kept.order _ (IsDistinct-from_sorted placed_cmp _ (IsStrictlySortedBy-filter placed_cmp (λ x. matches pattern (restored kept.order x)) kept.keys s)));
+      ∙ any_filtered k (matches_key pattern) (map (restored kept.order) kept.keys)
+      ∙ ap (λ b. b && matches_key pattern k) (any_restored kept.order k kept.keys ∙ h k);
+  each_once = subst (IsDistinct (eq_by_cmp key_cmp)) (filter_mapped (restored kept.order) (matches_key pattern) kept.keys ∙ sym e)
+      (distinct_restored kept.order _ (IsDistinct-from_sorted placed_cmp _ (IsStrictlySortedBy-filter placed_cmp (λ x. matches_key pattern (restored kept.order x)) kept.keys s)));
 }
 
 -- the order at a place keeps the same keys
-pub same_at : (orders : List Kept) (keys : List QuadKey) (i : ℕ) (d : Kept) → AllByRecursion (λ kept. (k : QuadKey) → keeps kept k ≡ has_key keys k) orders → i < length orders → (k : QuadKey) → keeps (get_or orders i d) k ≡ has_key keys k
+pub same_at : (orders : List OrderedKeys) (keys : List QuadKey) (i : ℕ) (d : OrderedKeys) → AllByRecursion (λ kept. (k : QuadKey) → keeps kept k ≡ has_key keys k) orders → i < length orders → (k : QuadKey) → keeps (get_or orders i d) k ≡ has_key keys k
 same_at [] keys i d h l k = absurd (omega arith)
 same_at (kept ∷ rest) keys zero d h l k = h.0 k
 same_at (kept ∷ rest) keys (suc i) d h l k = same_at rest keys i d h.1 (omega arith) k

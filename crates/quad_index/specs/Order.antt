@@ -44,10 +44,10 @@ bound_first a b c d = (is_some a || not (is_some b)) && (is_some b || not (is_so
     && (is_some c || not (is_some d))
 
 -- whether the bound parts of a pattern stand first in an order
-abbrev pub leads : Order → KeyPattern → Bool
-leads Gspo q = bound_first q.g q.s q.p q.o
-leads Gpos q = bound_first q.g q.p q.o q.s
-leads Gosp q = bound_first q.g q.o q.s q.p
-leads Spog q = bound_first q.s q.p q.o q.g
-leads Posg q = bound_first q.p q.o q.s q.g
-leads Ospg q = bound_first q.o q.s q.p q.g
+abbrev pub binds_front : Order → KeyPattern → Bool
+binds_front Gspo q = bound_first q.g q.s q.p q.o
+binds_front Gpos q = bound_first q.g q.p q.o q.s
+binds_front Gosp q = bound_first q.g q.o q.s q.p
+binds_front Spog q = bound_first q.s q.p q.o q.g
+binds_front Posg q = bound_first q.p q.o q.s q.g
+binds_front Ospg q = bound_first q.o q.s q.p q.g

@@ -3,8 +3,8 @@ ghost use Rattle.std.specs.Prelude.{◌≡◌, ◌+◌, ◌≤◌, [], IsTrue, I
 ghost use Rattle.std.specs.Bool.{OnFalse};
 ghost use Rattle.std.specs.List.{filter};
 ghost use Rattle.std.specs.List.Sorted.{IsStrictlySortedBy};
-ghost use Rattle.quad_index.specs.Key.{matches};
-ghost use Rattle.quad_index.specs.Order.{placed_cmp, restored, leads};
+ghost use Rattle.quad_index.specs.Key.{matches_key};
+ghost use Rattle.quad_index.specs.Order.{placed_cmp, restored, binds_front};
 ghost use Rattle.quad_index.specs.Ordered.{keeps, with_key, without_key};
 
 use crate::key::{KeyPattern, QuadKey, matches};
@@ -24,9 +24,9 @@ pub(crate) struct Ordered {
 }
 
 impl Model for Ordered {
-    ghost use Rattle.quad_index.specs.Ordered.{Kept};
+    ghost use Rattle.quad_index.specs.Ordered.{OrderedKeys};
 
-    ghost Value = { Kept };
+    ghost Value = { OrderedKeys };
 
     ghost view = { λ a. record { order = a.order; keys = a.keys.keys } };
 }
@@ -87,9 +87,9 @@ impl Ordered {
         pattern: &KeyPattern,
         steps: &mut Steps<L>,
     ) -> Result<Vec<QuadKey>, OutOfMemory>
-        requires { IsTrue (leads self.now.order pattern.now) }
+        requires { IsTrue (binds_front self.now.order pattern.now) }
         ensures found { IfOk result (λ found. found.items
-            ≡ filter (matches pattern.now) (map (restored self.now.order) self.now.keys)) }
+            ≡ filter (matches_key pattern.now) (map (restored self.now.order) self.now.keys)) }
         ensures cost { IfOk result (λ found. steps.new ≤ steps.old + length found.items + 1) }
         ensures counted { IfOk result (λ found. steps.old + length found.items ≤ steps.new) }
         ensures sorted { IsStrictlySortedBy placed_cmp self.now.keys }
@@ -107,9 +107,9 @@ fn scan<L: Ledger>(
     pattern: &KeyPattern,
     steps: &mut Steps<L>,
 ) -> Result<Vec<QuadKey>, OutOfMemory>
-    requires { IsTrue (leads order pattern.now) }
+    requires { IsTrue (binds_front order pattern.now) }
     ensures found { IfOk result (λ found.
-        found.items ≡ filter (matches pattern.now) (map (restored order) keys.now.keys)) }
+        found.items ≡ filter (matches_key pattern.now) (map (restored order) keys.now.keys)) }
     ensures cost { IfOk result (λ found. steps.new ≤ steps.old + length found.items + 1) }
     ensures counted { IfOk result (λ found. steps.old + length found.items ≤ steps.new) }
 {

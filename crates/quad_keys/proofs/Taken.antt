@@ -2,7 +2,7 @@
 use Rattle.std.proofs.Common.{◌≡◌, List, [], ◌∷◌, ◌++◌, length, refl, sym, ap, subst, ◌∙◌, append_assoc, append-nil}
 use Rattle.rdf_terms.specs.declared.term.Term.{Term}
 use Rattle.quad_index.specs.declared.key.QuadKey.{QuadKey}
-use Rattle.quad_keys.specs.Keys.{IsKnown, AreKnown}
+use Rattle.quad_keys.specs.Keys.{IsNumbered, AreKnown}
 
 -- the keys that were taken, which are the last ones, and what holds of them
 pub record TakenSoFar (terms : List Term) (P : List QuadKey → Type 0) (all left : List QuadKey) : Type 0 where
@@ -25,7 +25,7 @@ known_here : (terms : List Term) (all left left' taken : List QuadKey) (k : Quad
 known_here terms all left left' taken k h a e = known_last terms left' (k ∷ taken) (subst (AreKnown terms) (whole all left left' taken k a e) h)
 
 -- the key taken next is known
-pub next_known : {terms : List Term} {P : List QuadKey → Type 0} {all left : List QuadKey} {k : QuadKey} (left' : List QuadKey) → TakenSoFar terms P all left → left ≡ left' ++ k ∷ [] → IsKnown terms k
+pub next_known : {terms : List Term} {P : List QuadKey → Type 0} {all left : List QuadKey} {k : QuadKey} (left' : List QuadKey) → TakenSoFar terms P all left → left ≡ left' ++ k ∷ [] → IsNumbered terms k
 next_known {terms = terms} {all = all} {left = left} {k = k} left' s e = let known = known_here terms all left left' s.taken k s.known s.all_is e in known.0
 
 pub next_taken : {terms : List Term} {P : List QuadKey → Type 0} {all left left' : List QuadKey} {k : QuadKey} (Q : List QuadKey → Type 0) → TakenSoFar terms P all left → left ≡ left' ++ k ∷ []

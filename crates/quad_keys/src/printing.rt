@@ -1,8 +1,8 @@
 //! The lines of keys, in order, without a copy of their quads.
 ghost use Rattle.std.specs.Prelude.{◌≡◌, ◌++◌, [], OnOk, IfOk, IsSome, map};
 ghost use Rattle.rdf_terms.specs.Line.{line, graph_text};
-ghost use Rattle.term_table.specs.Table.{term_at};
-ghost use Rattle.quad_keys.specs.Keys.{term_of, quad_of, quads_of, AreKnown, IsKnown};
+ghost use Rattle.term_table.specs.Table.{term_numbered};
+ghost use Rattle.quad_keys.specs.Keys.{term_of_number, quad_of_key, quads_of, AreKnown, IsNumbered};
 
 use delta_base::{OutOfMemory, Text};
 use nquads_text::push_term;
@@ -14,15 +14,16 @@ use term_table::TermTable;
 
 /// The term of a number.
 pub(crate) fn term_of(terms: &TermTable, number: u32) -> &Term
-    requires { IsSome (term_at terms.now number) }
-    ensures { result.now ≡ term_of terms.now number }
+    requires { IsSome (term_numbered terms.now number) }
+    ensures { result.now ≡ term_of_number terms.now number }
 {
     terms.term(number).unwrap()
 }
 
 // Appends the graph of a number behind a space, where there is one.
 fn push_graph(out: &mut Vec<u8>, terms: &TermTable, number: u32) -> Result<(), OutOfMemory>
-    ensures { OnOk result (out.new.items ≡ out.old.items ++ graph_text (term_at terms.now number)) }
+    ensures { OnOk result (out.new.items
+        ≡ out.old.items ++ graph_text (term_numbered terms.now number)) }
 {
     if let Some(graph) = terms.term(number) {
         out.push(b' ')?;
@@ -34,8 +35,8 @@ fn push_graph(out: &mut Vec<u8>, terms: &TermTable, number: u32) -> Result<(), O
 // Appends the canonical line of a key's quad.
 #[tactic(auto, using(crate::proofs::Laying::key_parts))]
 fn push_key(out: &mut Vec<u8>, terms: &TermTable, key: &QuadKey) -> Result<(), OutOfMemory>
-    requires { IsKnown terms.now key.now }
-    ensures { OnOk result (out.new.items ≡ out.old.items ++ line (quad_of terms.now key.now)) }
+    requires { IsNumbered terms.now key.now }
+    ensures { OnOk result (out.new.items ≡ out.old.items ++ line (quad_of_key terms.now key.now)) }
 {
     push_term(out, term_of(terms, key.s))?;
     out.push(b' ')?;
@@ -54,8 +55,8 @@ pub(crate) fn key_line(
     key: &QuadKey,
     room: &mut Vec<u8>,
 ) -> Result<Text, OutOfMemory>
-    requires { IsKnown terms.now key.now }
-    ensures { IfOk result (λ text. text ≡ line (quad_of terms.now key.now)) }
+    requires { IsNumbered terms.now key.now }
+    ensures { IfOk result (λ text. text ≡ line (quad_of_key terms.now key.now)) }
 {
     room.clear();
     push_key(room, terms, key)?;

@@ -11,7 +11,7 @@ use Rattle.delta_base.specs.declared.source_info.SourceInfo.{SourceInfo}
 use Rattle.registry_core.specs.declared.event.Event.{Event}
 use Rattle.registry_core.specs.declared.event.Event.TheVariants.{Created, Renamed, Removed}
 use Rattle.registry_core.specs.Events.{IsMade, AreNext, IsRegistry}
-use Rattle.registry_core.specs.Sources.{sources, used, makes, after, named, renamed, source_named, source_with_id}
+use Rattle.registry_core.specs.Sources.{sources, used, makes, after_event, named, renamed, source_named, source_with_id}
 use Rattle.registry_core.specs.Tables.{SlotsRise, IsTable}
 use Rattle.registry_core.specs.Texts.{registry_length}
 use Rattle.registry_core.proofs.Tables.{sources-push, table-push, empty_table, can_be_made, can_be_named, length-push, used-push}
@@ -122,7 +122,7 @@ record Known (slots : ℕ) (events : List Event) : Type 0 where
   names : DifferBy (λ (source : SourceInfo). source.name) (sources events)
   ids : DifferBy (λ (source : SourceInfo). source.id.0) (sources events)
 
-known_more : (slots : ℕ) (events : List Event) (event : Event) → Known slots events → IsMade slots events event → DifferBy (λ (s : SourceInfo). s.name) (after (sources events) event) × DifferBy (λ (s : SourceInfo). s.id.0) (after (sources events) event)
+known_more : (slots : ℕ) (events : List Event) (event : Event) → Known slots events → IsMade slots events event → DifferBy (λ (s : SourceInfo). s.name) (after_event (sources events) event) × DifferBy (λ (s : SourceInfo). s.id.0) (after_event (sources events) event)
 known_more slots events (Created source) known made =
     let can = can_be_made slots events source.name source.uri source.id source made in (
       differ-push (λ (s : SourceInfo). s.name) (sources events) source known.names (free_name source.name (sources events) can.free),

@@ -10,21 +10,21 @@ use Rattle.registry_core.specs.declared.answer.CreateAnswer.TheVariants.{Made, B
 use Rattle.registry_core.specs.declared.answer.ChangeAnswer.{ChangeAnswer}
 use Rattle.registry_core.specs.declared.answer.ChangeAnswer.TheVariants.{Done, NoSuchName, BadName as IsBadName, NameTaken as IsNameTaken, Full as IsFull}
 use Rattle.registry_core.specs.Answers.{told, end_of_create, end_of_change}
-use Rattle.registry_core.specs.Checks.{IsRefused, IsRefusal}
+use Rattle.registry_core.specs.Checks.{IsRefusedCreate, IsRefusedChange}
 use Rattle.registry_core.specs.Names.{name_fault, uri_fault}
 use Rattle.registry_core.specs.Sources.{named, source_named, source_with_id}
-use Rattle.registry_core.specs.Texts.{longer_by}
-use Rattle.registry_core.specs.Replies.{created, renamed_to, removed_from, of_found, too_long, no_slot, removal}
+use Rattle.registry_core.specs.Texts.{length_with}
+use Rattle.registry_core.specs.Replies.{created, renamed_to, removal_answer, of_found, too_long, no_slot, removal}
 use Rattle.delta_base.specs.declared.limits.TheConstants.{REGISTRY_LIMIT}
 use Rattle.registry_core.proofs.Tables.{chosen, chosen_change, chosen_removal}
 
-pub refused : (reply answer : CreateAnswer) → reply ≡ answer → end_of_create answer ≡ told → IsRefused reply answer
+pub refused : (reply answer : CreateAnswer) → reply ≡ answer → end_of_create answer ≡ told → IsRefusedCreate reply answer
 refused reply answer is ends = inl (sym is, ap end_of_create is ∙ ends)
 
-pub refused_taken : (reply answer : CreateAnswer) (name : List ℕ) → reply ≡ IdTaken name → IsRefused (IdTaken name) answer → IsRefused reply answer
-refused_taken reply answer name is answered = subst (λ (r : CreateAnswer). IsRefused r answer) (sym is) answered
+pub refused_taken : (reply answer : CreateAnswer) (name : List ℕ) → reply ≡ IdTaken name → IsRefusedCreate (IdTaken name) answer → IsRefusedCreate reply answer
+refused_taken reply answer name is answered = subst (λ (r : CreateAnswer). IsRefusedCreate r answer) (sym is) answered
 
-pub refusal : (reply answer : ChangeAnswer) → reply ≡ answer → end_of_change removal answer ≡ told → IsRefusal reply answer
+pub refusal : (reply answer : ChangeAnswer) → reply ≡ answer → end_of_change removal answer ≡ told → IsRefusedChange reply answer
 refusal reply answer is ends = (sym is, ap (end_of_change removal) is ∙ ends)
 
 is_long : (longer : ℕ) → REGISTRY_LIMIT < longer → too_long longer ≡ Some longer
@@ -45,29 +45,29 @@ module _ (living : List SourceInfo) (slots used bytes : ℕ) (source : SourceInf
   reply = created living slots used bytes source
 
   pub bad_name : (at : ℕ) → name_fault source.name ≡ Some at → reply ≡ BadName at
-  bad_name at is = λ i. chosen slots source (is i) (uri_fault source.uri) (source_named source.name living) (source_with_id source.id living) (no_slot slots used) (too_long (longer_by bytes (Created source)))
+  bad_name at is = λ i. chosen slots source (is i) (uri_fault source.uri) (source_named source.name living) (source_with_id source.id living) (no_slot slots used) (too_long (length_with bytes (Created source)))
 
   module _ (name : name_fault source.name ≡ None) where
     pub bad_uri : (at : ℕ) → uri_fault source.uri ≡ Some at → reply ≡ BadUri at
-    bad_uri at is = λ i. chosen slots source (name i) (is i) (source_named source.name living) (source_with_id source.id living) (no_slot slots used) (too_long (longer_by bytes (Created source)))
+    bad_uri at is = λ i. chosen slots source (name i) (is i) (source_named source.name living) (source_with_id source.id living) (no_slot slots used) (too_long (length_with bytes (Created source)))
 
     module _ (uri : uri_fault source.uri ≡ None) where
       pub name_taken : (other : SourceInfo) → source_named source.name living ≡ Some other → reply ≡ NameTaken other.id
-      name_taken other is = λ i. chosen slots source (name i) (uri i) (is i) (source_with_id source.id living) (no_slot slots used) (too_long (longer_by bytes (Created source)))
+      name_taken other is = λ i. chosen slots source (name i) (uri i) (is i) (source_with_id source.id living) (no_slot slots used) (too_long (length_with bytes (Created source)))
 
       module _ (free : source_named source.name living ≡ None) where
         pub id_taken : (other : SourceInfo) → source_with_id source.id living ≡ Some other → reply ≡ IdTaken other.name
-        id_taken other is = λ i. chosen slots source (name i) (uri i) (free i) (is i) (no_slot slots used) (too_long (longer_by bytes (Created source)))
+        id_taken other is = λ i. chosen slots source (name i) (uri i) (free i) (is i) (no_slot slots used) (too_long (length_with bytes (Created source)))
 
         module _ (fresh : source_with_id source.id living ≡ None) where
           pub no_slot_left : used ≡ slots → reply ≡ Full Slots used slots
-          no_slot_left is = λ i. chosen slots source (name i) (uri i) (free i) (fresh i) (is_used slots used is i) (too_long (longer_by bytes (Created source)))
+          no_slot_left is = λ i. chosen slots source (name i) (uri i) (free i) (fresh i) (is_used slots used is i) (too_long (length_with bytes (Created source)))
 
-          pub no_room : used ≢ slots → REGISTRY_LIMIT < longer_by bytes (Created source) → reply ≡ Full Bytes (longer_by bytes (Created source)) REGISTRY_LIMIT
-          no_room has above = λ i. chosen slots source (name i) (uri i) (free i) (fresh i) (is_free slots used has i) (is_long (longer_by bytes (Created source)) above i)
+          pub no_room : used ≢ slots → REGISTRY_LIMIT < length_with bytes (Created source) → reply ≡ Full Bytes (length_with bytes (Created source)) REGISTRY_LIMIT
+          no_room has above = λ i. chosen slots source (name i) (uri i) (free i) (fresh i) (is_free slots used has i) (is_long (length_with bytes (Created source)) above i)
 
-          pub can_make : used ≢ slots → longer_by bytes (Created source) ≤ REGISTRY_LIMIT → reply ≡ Made source
-          can_make has within = λ i. chosen slots source (name i) (uri i) (free i) (fresh i) (is_free slots used has i) (is_short (longer_by bytes (Created source)) within i)
+          pub can_make : used ≢ slots → length_with bytes (Created source) ≤ REGISTRY_LIMIT → reply ≡ Made source
+          can_make has within = λ i. chosen slots source (name i) (uri i) (free i) (fresh i) (is_free slots used has i) (is_short (length_with bytes (Created source)) within i)
 
 -- a renaming, test by test
 module _ (living : List SourceInfo) (bytes : ℕ) (name new_name : List ℕ) where
@@ -79,7 +79,7 @@ module _ (living : List SourceInfo) (bytes : ℕ) (name new_name : List ℕ) whe
 
   module _ (source : SourceInfo) (found : source_named name living ≡ Some source) where
     abbrev longer : ℕ
-    longer = longer_by bytes (Renamed source.slot new_name)
+    longer = length_with bytes (Renamed source.slot new_name)
 
     of_source : change ≡ chosen_change (named new_name source) (name_fault new_name) (source_named new_name living) (too_long longer)
     of_source = ap (of_found (renamed_to living bytes new_name)) found
@@ -101,13 +101,13 @@ module _ (living : List SourceInfo) (bytes : ℕ) (name new_name : List ℕ) whe
 -- a removal, test by test
 module _ (living : List SourceInfo) (bytes : ℕ) (name : List ℕ) where
   abbrev gone : ChangeAnswer
-  gone = of_found (removed_from bytes) (source_named name living)
+  gone = of_found (removal_answer bytes) (source_named name living)
 
   pub none_to_go : source_named name living ≡ None → gone ≡ NoSuchName
-  none_to_go none = ap (of_found (removed_from bytes)) none
+  none_to_go none = ap (of_found (removal_answer bytes)) none
 
-  pub remove_no_room : (source : SourceInfo) → source_named name living ≡ Some source → REGISTRY_LIMIT < longer_by bytes (Removed source.slot) → gone ≡ IsFull Bytes (longer_by bytes (Removed source.slot)) REGISTRY_LIMIT
-  remove_no_room source found above = ap (of_found (removed_from bytes)) found ∙ (λ i. chosen_removal source (is_long (longer_by bytes (Removed source.slot)) above i))
+  pub remove_no_room : (source : SourceInfo) → source_named name living ≡ Some source → REGISTRY_LIMIT < length_with bytes (Removed source.slot) → gone ≡ IsFull Bytes (length_with bytes (Removed source.slot)) REGISTRY_LIMIT
+  remove_no_room source found above = ap (of_found (removal_answer bytes)) found ∙ (λ i. chosen_removal source (is_long (length_with bytes (Removed source.slot)) above i))
 
-  pub can_remove : (source : SourceInfo) → source_named name living ≡ Some source → longer_by bytes (Removed source.slot) ≤ REGISTRY_LIMIT → gone ≡ Done source
-  can_remove source found within = ap (of_found (removed_from bytes)) found ∙ (λ i. chosen_removal source (is_short (longer_by bytes (Removed source.slot)) within i))
+  pub can_remove : (source : SourceInfo) → source_named name living ≡ Some source → length_with bytes (Removed source.slot) ≤ REGISTRY_LIMIT → gone ≡ Done source
+  can_remove source found within = ap (of_found (removal_answer bytes)) found ∙ (λ i. chosen_removal source (is_short (length_with bytes (Removed source.slot)) within i))

@@ -7,7 +7,7 @@ use Rattle.std.proofs.lemmas.Bool.Decides.{nat_tests}
 use Rattle.std.proofs.lemmas.Fmt.{decimal_by_steps}
 use Rattle.uuid.specs.Text.{by_index, hyphenated_text, lower, hex_digit, nibble, digit_place, is_hyphen_place, hyphen}
 use Rattle.uuid.proofs.TextLemmas.{by_index_at, by_index_length, nibble_small}
-use Rattle.delta_base.specs.Ids.{text_of as id_text_of}
+use Rattle.delta_base.specs.Ids.{text_of}
 use Rattle.registry_core.specs.Blanks.{HasNoBlank}
 use Rattle.registry_core.specs.Names.{may_stand, name_stop, name_fault}
 use Rattle.delta_base.specs.declared.source_info.SourceInfo.{SourceInfo}
@@ -48,8 +48,8 @@ either_no_blank : (test : Bool) (d : ℕ) → cond test hyphen (hex_digit lower 
 either_no_blank true d same = omega arith
 either_no_blank false d same = hex_no_blank d same
 
-pub id_text-no_blank : (id : ℕ) → HasNoBlank (id_text_of id)
-unfolding id_text_of
+pub id_text-no_blank : (id : ℕ) → HasNoBlank (text_of id)
+unfolding text_of
 id_text-no_blank id k within same =
     let xs = to_be_bytes w128 id in
     let f : ℕ → ℕ = λ k. cond (is_hyphen_place k) hyphen (hex_digit lower (nibble xs (digit_place k))) in
@@ -89,13 +89,13 @@ module _ (source : SourceInfo) (sound : IsSource source) where
   names_text = source.name ++ 32 ∷ source.uri
 
   abbrev id_and_names_text : List ℕ
-  id_and_names_text = id_text_of source.id.0 ++ 32 ∷ names_text
+  id_and_names_text = text_of source.id.0 ++ 32 ∷ names_text
 
   pub slot_part : (text slot rest : List ℕ) → text ≡ slot ++ 32 ∷ rest → HasNoBlank slot → source_text source ≡ text → (decimal source.slot ≡ slot) × (id_and_names_text ≡ rest)
   slot_part text slot rest parts clear is = one_cut (decimal source.slot) id_and_names_text slot rest (slot-no_blank source.slot sound.slot) clear (is ∙ parts)
 
-  pub id_part : (text id rest : List ℕ) → text ≡ id ++ 32 ∷ rest → HasNoBlank id → id_and_names_text ≡ text → (id_text_of source.id.0 ≡ id) × (names_text ≡ rest)
-  id_part text id rest parts clear is = one_cut (id_text_of source.id.0) names_text id rest (id_text-no_blank source.id.0) clear (is ∙ parts)
+  pub id_part : (text id rest : List ℕ) → text ≡ id ++ 32 ∷ rest → HasNoBlank id → id_and_names_text ≡ text → (text_of source.id.0 ≡ id) × (names_text ≡ rest)
+  id_part text id rest parts clear is = one_cut (text_of source.id.0) names_text id rest (id_text-no_blank source.id.0) clear (is ∙ parts)
 
   pub name_part : (text name uri : List ℕ) → text ≡ name ++ 32 ∷ uri → HasNoBlank name → names_text ≡ text → (source.name ≡ name) × (source.uri ≡ uri)
   name_part text name uri parts clear is = one_cut source.name source.uri name uri (name-no_blank source.name sound.name.1) clear (is ∙ parts)
@@ -104,7 +104,7 @@ module _ (source : SourceInfo) (sound : IsSource source) where
   no_slot_part text clear is = no_cut (decimal source.slot) id_and_names_text (subst HasNoBlank (sym is) clear)
 
   pub no_id_part : (text : List ℕ) → HasNoBlank text → id_and_names_text ≡ text → ⊥
-  no_id_part text clear is = no_cut (id_text_of source.id.0) names_text (subst HasNoBlank (sym is) clear)
+  no_id_part text clear is = no_cut (text_of source.id.0) names_text (subst HasNoBlank (sym is) clear)
 
   pub no_name_part : (text : List ℕ) → HasNoBlank text → names_text ≡ text → ⊥
   no_name_part text clear is = no_cut source.name source.uri (subst HasNoBlank (sym is) clear)

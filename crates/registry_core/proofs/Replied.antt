@@ -14,11 +14,11 @@ use Rattle.registry_core.specs.declared.answer.CreateAnswer.TheVariants.{Made}
 use Rattle.registry_core.specs.declared.answer.ChangeAnswer.{ChangeAnswer}
 use Rattle.registry_core.specs.declared.answer.ChangeAnswer.TheVariants.{Done}
 use Rattle.registry_core.specs.Answers.{told, end_of_change}
-use Rattle.registry_core.specs.Checks.{IsRefused, IsRefusal}
+use Rattle.registry_core.specs.Checks.{IsRefusedCreate, IsRefusedChange}
 use Rattle.registry_core.specs.Sources.{sources, used, named, source_named, source_in}
 use Rattle.registry_core.specs.Texts.{registry_length}
-use Rattle.registry_core.specs.Replies.{created, renamed_to, removed_from, of_found, create_reply, rename_reply, remove_reply, next_source, renaming, removal}
-use Rattle.registry_core.specs.Events.{IsSlot, IsMade, IsNext}
+use Rattle.registry_core.specs.Replies.{created, renamed_to, removal_answer, of_found, create_reply, rename_reply, remove_reply, next_source, renaming, removal}
+use Rattle.registry_core.specs.Events.{IsSlot, IsMade, IsNextEvent}
 use Rattle.registry_core.specs.Tables.{SlotsRise, IsTable}
 use Rattle.registry_core.proofs.Tables.{are_slots, can_be_made, can_be_named, can_go}
 
@@ -110,9 +110,9 @@ module _ (slots : ℕ) (events : List Event) (living : List SourceInfo) (made by
   unfolding rename_reply
   rename_is name new_name = λ i. of_found (renamed_to (table.living_is i) (table.bytes_is i) new_name) (source_named name (table.living_is i))
 
-  pub remove_is : (name : List ℕ) → of_found (removed_from bytes) (source_named name living) ≡ remove_reply slots events name
+  pub remove_is : (name : List ℕ) → of_found (removal_answer bytes) (source_named name living) ≡ remove_reply slots events name
   unfolding remove_reply
-  remove_is name = λ i. of_found (removed_from (table.bytes_is i)) (source_named name (table.living_is i))
+  remove_is name = λ i. of_found (removal_answer (table.bytes_is i)) (source_named name (table.living_is i))
 
   -- a source that a call finds by its name is the one in its slot
   in_slot : (name : List ℕ) (s : SourceInfo) → source_named name (sources events) ≡ Some s → source_in s.slot living ≡ Some s
@@ -182,7 +182,7 @@ module _ (slots : ℕ) (events : List Event) (living : List SourceInfo) (made by
   -- ---- what a call makes may stand behind the others
 
   pub source_next : (name uri : List ℕ) (id : Id) → id.0 < 2 ^ 128 → IsUtf8 name → IsUtf8 uri → create_reply slots events name uri id ≡ Made (next_source events name uri id)
-      → IsNext slots events (Created (record { slot = made + 1; id = id; name = name; uri = uri }))
+      → IsNextEvent slots events (Created (record { slot = made + 1; id = id; name = name; uri = uri }))
   source_next name uri id small is_text is_uri_text due =
       let can = can_be_made slots events name uri id (next_source events name uri id) due in (
         record {
@@ -197,13 +197,13 @@ module _ (slots : ℕ) (events : List Event) (living : List SourceInfo) (made by
   found_slot : (name : List ℕ) (s : SourceInfo) → source_named name (sources events) ≡ Some s → IsSlot s.slot
   found_slot name s found = found_all (λ (x : SourceInfo). IsSlot x.slot) (λ (x : SourceInfo). bytes_eq x.name name) living s slots_fit (ap (source_named name) table.living_is ∙ found)
 
-  pub renaming_next : (name new_name : List ℕ) (source : SourceInfo) → IsUtf8 new_name → rename_reply slots events name new_name ≡ Done (named new_name source) → IsNext slots events (renaming (named new_name source))
+  pub renaming_next : (name new_name : List ℕ) (source : SourceInfo) → IsUtf8 new_name → rename_reply slots events name new_name ≡ Done (named new_name source) → IsNextEvent slots events (renaming (named new_name source))
   renaming_next name new_name source is_text done =
       let can = can_be_named slots events name new_name (named new_name source) done in
       let same : can.source.slot ≡ source.slot = ap (λ (s : SourceInfo). s.slot) can.is in
       ((subst IsSlot same (found_slot name can.source can.found), (is_text, can.is_name)), (name, named new_name source, done, refl))
 
-  pub removal_next : (name : List ℕ) (source : SourceInfo) → remove_reply slots events name ≡ Done source → IsNext slots events (removal source)
+  pub removal_next : (name : List ℕ) (source : SourceInfo) → remove_reply slots events name ≡ Done source → IsNextEvent slots events (removal source)
   removal_next name source done =
       let can = can_go slots events name source done in
       (found_slot name source can.found, (name, source, done, refl))

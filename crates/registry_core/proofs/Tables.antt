@@ -17,32 +17,32 @@ use Rattle.registry_core.specs.declared.answer.ChangeAnswer.{ChangeAnswer}
 use Rattle.registry_core.specs.declared.answer.ChangeAnswer.TheVariants.{Done, NoSuchName, BadName as IsBadName, NameTaken as IsNameTaken, Full as IsFull}
 use Rattle.registry_core.specs.Answers.{first_or}
 use Rattle.registry_core.specs.Names.{name_fault, uri_fault}
-use Rattle.registry_core.specs.Sources.{sources, used, makes, after, named, renamed, source_named, source_with_id, HasSlot}
-use Rattle.registry_core.specs.Texts.{text_of, registry_length, longer_by}
-use Rattle.registry_core.specs.Replies.{created, renamed_to, removed_from, of_found, too_long, no_slot, create_reply, rename_reply, remove_reply, next_source}
+use Rattle.registry_core.specs.Sources.{sources, used, makes, after_event, named, renamed, source_named, source_with_id, HasSlot}
+use Rattle.registry_core.specs.Texts.{event_text, registry_length, length_with}
+use Rattle.registry_core.specs.Replies.{created, renamed_to, removal_answer, of_found, too_long, no_slot, create_reply, rename_reply, remove_reply, next_source}
 use Rattle.delta_base.specs.declared.limits.TheConstants.{REGISTRY_LIMIT}
-use Rattle.registry_core.specs.Events.{events_of, IsSlot, IsNext, IsMade, AreNext, IsRegistry}
-use Rattle.registry_core.specs.Tables.{SlotsRise, IsTable, ReadyView, IsReadyFor}
+use Rattle.registry_core.specs.Events.{events_of, IsSlot, IsNextEvent, IsMade, AreNext, IsRegistry}
+use Rattle.registry_core.specs.Tables.{SlotsRise, IsTable, ReadyEvent, IsReadyFor}
 
 -- ---- one event more
 
 pub events_of-push : (entries : List Entry) (entry : Entry) → events_of (entries ++ entry ∷ []) ≡ events_of entries ++ entry.event ∷ []
 events_of-push entries entry = map-append (λ (entry : Entry). entry.event) entries (entry ∷ [])
 
-folded : (living : List SourceInfo) (events : List Event) (event : Event) → fold after living (events ++ event ∷ []) ≡ after (fold after living events) event
+folded : (living : List SourceInfo) (events : List Event) (event : Event) → fold after_event living (events ++ event ∷ []) ≡ after_event (fold after_event living events) event
 folded living [] event = refl
-folded living (first ∷ events) event = folded (after living first) events event
+folded living (first ∷ events) event = folded (after_event living first) events event
 
-pub sources-push : (events : List Event) (event : Event) → sources (events ++ event ∷ []) ≡ after (sources events) event
+pub sources-push : (events : List Event) (event : Event) → sources (events ++ event ∷ []) ≡ after_event (sources events) event
 unfolding sources
 sources-push events event = folded [] events event
 
-pub length-push : (slots : ℕ) (events : List Event) (event : Event) → registry_length slots (events ++ event ∷ []) ≡ longer_by (registry_length slots events) event
-unfolding longer_by
-length-push slots events event = omega (arith, sum_by-append (λ (event : Event). 5 + length (text_of event)) events (event ∷ []))
+pub length-push : (slots : ℕ) (events : List Event) (event : Event) → registry_length slots (events ++ event ∷ []) ≡ length_with (registry_length slots events) event
+unfolding length_with
+length-push slots events event = omega (arith, sum_by-append (λ (event : Event). 5 + length (event_text event)) events (event ∷ []))
 
-pub longer_is : (bytes size : ℕ) (event : Event) → size ≡ length (text_of event) → bytes + 5 + size ≡ longer_by bytes event
-unfolding longer_by
+pub longer_is : (bytes size : ℕ) (event : Event) → size ≡ length (event_text event) → bytes + 5 + size ≡ length_with bytes event
+unfolding length_with
 longer_is bytes size event is = ap (λ (n : ℕ). bytes + 5 + n) is
 
 pub used-push : (events : List Event) (event : Event) → used (events ++ event ∷ []) ≡ used events + makes event
@@ -52,18 +52,18 @@ append_nil : (xs : List Event) → xs ++ [] ≡ xs
 append_nil [] = refl
 append_nil (x ∷ xs) = ap (λ (ys : List Event). x ∷ ys) (append_nil xs)
 
-pub next-push : (slots : ℕ) (before events : List Event) (event : Event) → AreNext slots before events → IsNext slots (before ++ events) event → AreNext slots before (events ++ event ∷ [])
-next-push slots before [] event all more = (subst (λ (es : List Event). IsNext slots es event) (append_nil before) more, tt)
+pub next-push : (slots : ℕ) (before events : List Event) (event : Event) → AreNext slots before events → IsNextEvent slots (before ++ events) event → AreNext slots before (events ++ event ∷ [])
+next-push slots before [] event all more = (subst (λ (es : List Event). IsNextEvent slots es event) (append_nil before) more, tt)
 next-push slots before (first ∷ events) event all more =
-    (all.0, next-push slots (before ++ first ∷ []) events event all.1 (subst (λ (es : List Event). IsNext slots es event) (sym (append_assoc before (first ∷ []) events)) more))
+    (all.0, next-push slots (before ++ first ∷ []) events event all.1 (subst (λ (es : List Event). IsNextEvent slots es event) (sym (append_assoc before (first ∷ []) events)) more))
 
-pub next-front : (slots : ℕ) (before events : List Event) (event : Event) → AreNext slots before (events ++ event ∷ []) → AreNext slots before events × IsNext slots (before ++ events) event
-next-front slots before [] event all = (tt, subst (λ (es : List Event). IsNext slots es event) (sym (append_nil before)) all.0)
+pub next-front : (slots : ℕ) (before events : List Event) (event : Event) → AreNext slots before (events ++ event ∷ []) → AreNext slots before events × IsNextEvent slots (before ++ events) event
+next-front slots before [] event all = (tt, subst (λ (es : List Event). IsNextEvent slots es event) (sym (append_nil before)) all.0)
 next-front slots before (first ∷ events) event all =
     let rest = next-front slots (before ++ first ∷ []) events event all.1 in
-    ((all.0, rest.0), subst (λ (es : List Event). IsNext slots es event) (append_assoc before (first ∷ []) events) rest.1)
+    ((all.0, rest.0), subst (λ (es : List Event). IsNextEvent slots es event) (append_assoc before (first ∷ []) events) rest.1)
 
-pub registry-push : (slots : ℕ) (events : List Event) (event : Event) → IsRegistry slots events → IsNext slots events event → IsRegistry slots (events ++ event ∷ [])
+pub registry-push : (slots : ℕ) (events : List Event) (event : Event) → IsRegistry slots events → IsNextEvent slots events event → IsRegistry slots (events ++ event ∷ [])
 registry-push slots events event is next = record { is_slot = is.is_slot; are_next = next-push slots [] events event is.are_next next }
 
 -- ---- what a reply shows
@@ -124,14 +124,14 @@ pub record CanBeMade (slots : ℕ) (events : List Event) (source shown : SourceI
   pub free : source_named source.name (sources events) ≡ None
   pub fresh : source_with_id source.id (sources events) ≡ None
   pub slot : used events ≢ slots
-  pub room : longer_by (registry_length slots events) (Created shown) ≤ REGISTRY_LIMIT
+  pub room : length_with (registry_length slots events) (Created shown) ≤ REGISTRY_LIMIT
   pub is : source ≡ shown
 
 pub can_be_made : (slots : ℕ) (events : List Event) (name uri : List ℕ) (id : Id) (shown : SourceInfo) → create_reply slots events name uri id ≡ Made shown → CanBeMade slots events (next_source events name uri id) shown
 unfolding create_reply
 can_be_made slots events name uri id shown is =
     let source = next_source events name uri id in
-    let longer = longer_by (registry_length slots events) (Created source) in
+    let longer = length_with (registry_length slots events) (Created source) in
     let tests = made_by slots source shown (name_fault name) (uri_fault uri) (source_named name (sources events)) (source_with_id id (sources events)) (no_slot slots (used events)) (too_long longer) is in
     record {
       name = tests.0;
@@ -139,7 +139,7 @@ can_be_made slots events name uri id shown is =
       free = tests.2;
       fresh = tests.3;
       slot = has_slot slots (used events) tests.4;
-      room = subst (λ (s : SourceInfo). longer_by (registry_length slots events) (Created s) ≤ REGISTRY_LIMIT) tests.6 (fits longer tests.5);
+      room = subst (λ (s : SourceInfo). length_with (registry_length slots events) (Created s) ≤ REGISTRY_LIMIT) tests.6 (fits longer tests.5);
       is = tests.6;
     }
 
@@ -149,43 +149,43 @@ pub record CanBeNamed (slots : ℕ) (events : List Event) (name new_name : List 
   pub found : source_named name (sources events) ≡ Some source
   pub is_name : name_fault new_name ≡ None
   pub free : source_named new_name (sources events) ≡ None
-  pub room : longer_by (registry_length slots events) (Renamed source.slot new_name) ≤ REGISTRY_LIMIT
+  pub room : length_with (registry_length slots events) (Renamed source.slot new_name) ≤ REGISTRY_LIMIT
   pub is : named new_name source ≡ shown
 
 pub can_be_named : (slots : ℕ) (events : List Event) (name new_name : List ℕ) (shown : SourceInfo) → rename_reply slots events name new_name ≡ Done shown → CanBeNamed slots events name new_name shown
 unfolding rename_reply
 can_be_named slots events name new_name shown is =
     let found = found_by (renamed_to (sources events) (registry_length slots events) new_name) (source_named name (sources events)) shown is in
-    let longer = longer_by (registry_length slots events) (Renamed found.0.slot new_name) in
+    let longer = length_with (registry_length slots events) (Renamed found.0.slot new_name) in
     let tests = done_by (named new_name found.0) shown (name_fault new_name) (source_named new_name (sources events)) (too_long longer) found.2 in
     record { source = found.0; found = found.1; is_name = tests.0; free = tests.1; room = fits longer tests.2; is = tests.3 }
 
 -- of a source that can go
 pub record CanGo (slots : ℕ) (events : List Event) (name : List ℕ) (shown : SourceInfo) : Type 0 where
   pub found : source_named name (sources events) ≡ Some shown
-  pub room : longer_by (registry_length slots events) (Removed shown.slot) ≤ REGISTRY_LIMIT
+  pub room : length_with (registry_length slots events) (Removed shown.slot) ≤ REGISTRY_LIMIT
 
 pub can_go : (slots : ℕ) (events : List Event) (name : List ℕ) (shown : SourceInfo) → remove_reply slots events name ≡ Done shown → CanGo slots events name shown
 unfolding remove_reply
 can_go slots events name shown is =
-    let found = found_by (removed_from (registry_length slots events)) (source_named name (sources events)) shown is in
-    let longer = longer_by (registry_length slots events) (Removed found.0.slot) in
+    let found = found_by (removal_answer (registry_length slots events)) (source_named name (sources events)) shown is in
+    let longer = length_with (registry_length slots events) (Removed found.0.slot) in
     let tests = gone_by found.0 shown (too_long longer) found.2 in
     record {
       found = found.1 ∙ ap (λ (s : SourceInfo). Some s) tests.1;
-      room = subst (λ (s : SourceInfo). longer_by (registry_length slots events) (Removed s.slot) ≤ REGISTRY_LIMIT) tests.1 (fits longer tests.0);
+      room = subst (λ (s : SourceInfo). length_with (registry_length slots events) (Removed s.slot) ≤ REGISTRY_LIMIT) tests.1 (fits longer tests.0);
     }
 
 -- an event that is made has room
-pub has_room : (slots : ℕ) (events : List Event) (event : Event) → IsMade slots events event → longer_by (registry_length slots events) event ≤ REGISTRY_LIMIT
+pub has_room : (slots : ℕ) (events : List Event) (event : Event) → IsMade slots events event → length_with (registry_length slots events) event ≤ REGISTRY_LIMIT
 has_room slots events (Created source) made = (can_be_made slots events source.name source.uri source.id source made).room
 has_room slots events (Renamed slot name) made =
     let can = can_be_named slots events made.0 name made.1 made.2 in
     let same : can.source.slot ≡ slot = ap (λ (s : SourceInfo). s.slot) can.is ∙ made.3 in
-    subst (λ (n : ℕ). longer_by (registry_length slots events) (Renamed n name) ≤ REGISTRY_LIMIT) same can.room
+    subst (λ (n : ℕ). length_with (registry_length slots events) (Renamed n name) ≤ REGISTRY_LIMIT) same can.room
 has_room slots events (Removed slot) made =
     let can = can_go slots events made.0 made.1 made.2 in
-    subst (λ (n : ℕ). longer_by (registry_length slots events) (Removed n) ≤ REGISTRY_LIMIT) made.3 can.room
+    subst (λ (n : ℕ). length_with (registry_length slots events) (Removed n) ≤ REGISTRY_LIMIT) made.3 can.room
 
 -- ---- slots
 
@@ -228,14 +228,14 @@ have_slots slots low high (source ∷ living) rise few = ((omega (arith, rise.0)
 
 -- ---- tables
 
-pub table-push : (slots : ℕ) (events : List Event) (living : List SourceInfo) (made bytes : ℕ) (event : Event) → IsTable slots events living made bytes → IsNext slots events event
-    → IsTable slots (events ++ event ∷ []) (after living event) (made + makes event) (longer_by bytes event)
+pub table-push : (slots : ℕ) (events : List Event) (living : List SourceInfo) (made bytes : ℕ) (event : Event) → IsTable slots events living made bytes → IsNextEvent slots events event
+    → IsTable slots (events ++ event ∷ []) (after_event living event) (made + makes event) (length_with bytes event)
 table-push slots events living made bytes event table next = record {
-  living_is = ap (λ (l : List SourceInfo). after l event) table.living_is ∙ sym (sources-push events event);
+  living_is = ap (λ (l : List SourceInfo). after_event l event) table.living_is ∙ sym (sources-push events event);
   made_is = ap (λ (n : ℕ). n + makes event) table.made_is ∙ sym (used-push events event);
-  bytes_is = ap (λ (n : ℕ). longer_by n event) table.bytes_is ∙ sym (length-push slots events event);
+  bytes_is = ap (λ (n : ℕ). length_with n event) table.bytes_is ∙ sym (length-push slots events event);
   few = few event next.1;
-  short = subst (λ (n : ℕ). longer_by n event ≤ REGISTRY_LIMIT) (sym table.bytes_is) (has_room slots events event next.1);
+  short = subst (λ (n : ℕ). length_with n event ≤ REGISTRY_LIMIT) (sym table.bytes_is) (has_room slots events event next.1);
   rise = rises event next.1;
   registry = registry-push slots events event table.registry next;
 }
@@ -245,7 +245,7 @@ table-push slots events living made bytes event table next = record {
     few (Renamed slot name) is = omega (arith, table.few)
     few (Removed slot) is = omega (arith, table.few)
 
-    rises : (event : Event) → IsMade slots events event → SlotsRise 0 (made + makes event) (after living event)
+    rises : (event : Event) → IsMade slots events event → SlotsRise 0 (made + makes event) (after_event living event)
     rises (Created source) is =
         let can = can_be_made slots events source.name source.uri source.id source is in
         rise-push 0 made living source table.rise (ap (λ (s : SourceInfo). s.slot) (sym can.is) ∙ ap (λ (n : ℕ). n + 1) (sym table.made_is))
@@ -265,5 +265,5 @@ empty_table slots entries living bytes is_slot no_entries no_living is short =
       registry = record { is_slot = is_slot; are_next = tt };
     })
 
-pub ready_itself : (slots : ℕ) (events : List Event) (event : Event) (ready : ReadyView) → IsReadyFor slots events event ready → IsReadyFor slots events ready.event ready
+pub ready_itself : (slots : ℕ) (events : List Event) (event : Event) (ready : ReadyEvent) → IsReadyFor slots events event ready → IsReadyFor slots events ready.event ready
 ready_itself slots events event ready is = subst (λ (e : Event). IsReadyFor slots events e ready) (sym is.event_is) is

@@ -10,20 +10,20 @@ use Rattle.registry_core.specs.Replies.{removal}
 
 -- the reply is a refusal, and is given; or memory ran out for the name of the source that has the
 -- id
-abbrev pub IsRefused : CreateAnswer → CreateAnswer → Type 0
-IsRefused reply answer = ((answer ≡ reply) × (end_of_create reply ≡ told))
+abbrev pub IsRefusedCreate : CreateAnswer → CreateAnswer → Type 0
+IsRefusedCreate reply answer = ((answer ≡ reply) × (end_of_create reply ≡ told))
     ⊎ ((answer ≡ OutOfMemory) × ((name : List ℕ) × (reply ≡ IdTaken name)))
 
 -- the reply is a refusal, and is given
-abbrev pub IsRefusal : ChangeAnswer → ChangeAnswer → Type 0
-IsRefusal reply answer = (answer ≡ reply) × (end_of_change removal reply ≡ told)
+abbrev pub IsRefusedChange : ChangeAnswer → ChangeAnswer → Type 0
+IsRefusedChange reply answer = (answer ≡ reply) × (end_of_change removal reply ≡ told)
 
 -- what is answered before the disk is asked: a refusal; or memory ran out for the source that is
 -- due
 abbrev pub StopsCreate : CreateAnswer → CreateAnswer → Type 0
-StopsCreate reply answer = IsRefused reply answer ⊎ ((answer ≡ OutOfMemory)
+StopsCreate reply answer = IsRefusedCreate reply answer ⊎ ((answer ≡ OutOfMemory)
     × ((source : SourceInfo) × (reply ≡ Made source)))
 
 abbrev pub StopsChange : ChangeAnswer → ChangeAnswer → Type 0
-StopsChange reply answer = IsRefusal reply answer ⊎ ((answer ≡ Wants) × ((source : SourceInfo)
+StopsChange reply answer = IsRefusedChange reply answer ⊎ ((answer ≡ Wants) × ((source : SourceInfo)
     × (reply ≡ Done source)))

@@ -8,7 +8,7 @@ use Rattle.registry_core.specs.declared.event.Entry.{Entry}
 use Rattle.registry_core.specs.declared.answer.CreateAnswer.TheVariants.{Made}
 use Rattle.registry_core.specs.declared.answer.ChangeAnswer.TheVariants.{Done}
 use Rattle.registry_core.specs.Names.{name_fault, uri_fault}
-use Rattle.registry_core.specs.Texts.{payloads_of}
+use Rattle.registry_core.specs.Texts.{registry_payloads}
 use Rattle.registry_core.specs.Replies.{create_reply, rename_reply, remove_reply}
 
 -- what happened, without who brought it
@@ -33,10 +33,10 @@ pub record IsSource (source : SourceInfo) : Type 0 where
   pub uri : IsUri source.uri
 
 -- an event by its parts, whatever came before
-abbrev pub IsSound : Event → Type 0
-IsSound (Created source) = IsSource source
-IsSound (Renamed slot name) = IsSlot slot × IsName name
-IsSound (Removed slot) = IsSlot slot
+abbrev pub IsSoundEvent : Event → Type 0
+IsSoundEvent (Created source) = IsSource source
+IsSoundEvent (Renamed slot name) = IsSlot slot × IsName name
+IsSoundEvent (Removed slot) = IsSlot slot
 
 -- some call over the events so far makes this event
 abbrev pub IsMade : ℕ → List Event → Event → Type 0
@@ -48,13 +48,13 @@ IsMade slots events (Removed slot) = (name : List ℕ) × (source : SourceInfo)
     × (remove_reply slots events name ≡ Done source) × (source.slot ≡ slot)
 
 -- an event that may stand behind the others
-abbrev pub IsNext : ℕ → List Event → Event → Type 0
-IsNext slots events event = IsSound event × IsMade slots events event
+abbrev pub IsNextEvent : ℕ → List Event → Event → Type 0
+IsNextEvent slots events event = IsSoundEvent event × IsMade slots events event
 
 -- each event may stand behind those before it
 abbrev pub AreNext : ℕ → List Event → List Event → Type 0
 AreNext slots before [] = Unit {0}
-AreNext slots before (event ∷ events) = IsNext slots before event
+AreNext slots before (event ∷ events) = IsNextEvent slots before event
     × AreNext slots (before ++ event ∷ []) events
 
 -- the events of a registry of so many slots
@@ -64,12 +64,12 @@ pub record IsRegistry (slots : ℕ) (events : List Event) : Type 0 where
 
 -- the payloads are those of a registry
 abbrev pub IsRegistryFile : List (List ℕ) → ℕ → List Event → Type 0
-IsRegistryFile payloads slots events = (payloads_of slots events ≡ payloads)
+IsRegistryFile payloads slots events = (registry_payloads slots events ≡ payloads)
     × IsRegistry slots events
 
 -- The place, from 0, of the first payload that may not stand there, since it has no such form or no
 -- call makes its event. It is 0 where there is no payload.
-pub record BreaksAt (payloads : List (List ℕ)) (place : ℕ) : Type 0 where
+pub record BreaksAtEvent (payloads : List (List ℕ)) (place : ℕ) : Type 0 where
   pub sound_before : (place ≡ 0) ⊎ ((slots : ℕ) × (events : List Event)
       × IsRegistryFile (take place payloads) slots events)
   pub broken : (slots : ℕ) (events : List Event)

@@ -18,7 +18,7 @@ use Rattle.registry_core.specs.declared.answer.ChangeAnswer.TheVariants.{Full as
 use Rattle.registry_core.specs.Names.{name_fault, uri_fault}
 use Rattle.registry_core.specs.Sources.{sources, used, named, source_named}
 use Rattle.registry_core.specs.Sources.{source_with_id, source_with_uri, by_name}
-use Rattle.registry_core.specs.Texts.{longer_by, registry_length}
+use Rattle.registry_core.specs.Texts.{length_with, registry_length}
 use Rattle.registry_core.specs.Answers.{Ending, made, told, failed, wanting}
 use Rattle.registry_core.specs.Answers.{end_of_create, end_of_change, event_in, first_or}
 
@@ -44,7 +44,7 @@ created living slots used bytes source =
     ∷ option_map (λ other. NameTaken other.id) (source_named source.name living)
     ∷ option_map (λ other. IdTaken other.name) (source_with_id source.id living)
     ∷ option_map (λ have. Full Slots have slots) (no_slot slots used)
-    ∷ option_map (λ have. Full Bytes have REGISTRY_LIMIT) (too_long (longer_by bytes
+    ∷ option_map (λ have. Full Bytes have REGISTRY_LIMIT) (too_long (length_with bytes
     (Created source)))
     ∷ [])
 
@@ -58,14 +58,14 @@ renamed_to living bytes name source =
     first_or (Done (named name source))
     (option_map (λ at. IsBadName at) (name_fault name)
     ∷ option_map (λ other. IsNameTaken other.id) (source_named name living)
-    ∷ option_map (λ have. IsFull Bytes have REGISTRY_LIMIT) (too_long (longer_by bytes
+    ∷ option_map (λ have. IsFull Bytes have REGISTRY_LIMIT) (too_long (length_with bytes
     (Renamed source.slot name)))
     ∷ [])
 
 -- a source that goes: there is no room
-abbrev pub removed_from : ℕ → SourceInfo → ChangeAnswer
-removed_from bytes source = first_or (Done source) (option_map
-    (λ have. IsFull Bytes have REGISTRY_LIMIT) (too_long (longer_by bytes
+abbrev pub removal_answer : ℕ → SourceInfo → ChangeAnswer
+removal_answer bytes source = first_or (Done source) (option_map
+    (λ have. IsFull Bytes have REGISTRY_LIMIT) (too_long (length_with bytes
     (Removed source.slot))) ∷ [])
 
 -- of a source that is found
@@ -78,7 +78,7 @@ rename_reply slots events name new_name = of_found (renamed_to (sources events)
     (registry_length slots events) new_name) (source_named name (sources events))
 
 unfoldable pub remove_reply : ℕ → List Event → List ℕ → ChangeAnswer
-remove_reply slots events name = of_found (removed_from (registry_length slots events))
+remove_reply slots events name = of_found (removal_answer (registry_length slots events))
     (source_named name (sources events))
 
 pub data RegistryCall : Type 0 where
@@ -96,14 +96,15 @@ pub data RegistryReply : Type 0 where
   found : Option SourceInfo → RegistryReply
   listed : List SourceInfo → RegistryReply
 
-abbrev pub reply_of : ℕ → RegistryCall → List Event → RegistryReply
-reply_of slots (create name uri id) events = answered (create_reply slots events name uri id)
-reply_of slots (rename name new_name) events = changed (rename_reply slots events name new_name)
-reply_of slots (remove name) events = changed (remove_reply slots events name)
-reply_of slots (resolve name) events = found (source_named name (sources events))
-reply_of slots (resolve_id id) events = found (source_with_id id (sources events))
-reply_of slots (resolve_uri uri) events = found (source_with_uri uri (sources events))
-reply_of slots list events = listed (by_name (sources events))
+abbrev pub registry_reply : ℕ → RegistryCall → List Event → RegistryReply
+registry_reply slots (create name uri id) events = answered (create_reply slots events name uri id)
+registry_reply slots (rename name new_name) events =
+    changed (rename_reply slots events name new_name)
+registry_reply slots (remove name) events = changed (remove_reply slots events name)
+registry_reply slots (resolve name) events = found (source_named name (sources events))
+registry_reply slots (resolve_id id) events = found (source_with_id id (sources events))
+registry_reply slots (resolve_uri uri) events = found (source_with_uri uri (sources events))
+registry_reply slots list events = listed (by_name (sources events))
 
 -- the event of a renaming and of a removal, by the source that the answer shows
 abbrev pub renaming : SourceInfo → Event
@@ -121,24 +122,24 @@ ending call reply = told
 
 -- the event that a call makes over these events, if it makes one
 abbrev pub event_by : ℕ → RegistryCall → List Event → Option Event
-event_by slots call events = event_in (ending call (reply_of slots call events))
+event_by slots call events = event_in (ending call (registry_reply slots call events))
 
 -- the call makes an event
-abbrev pub Makes : ℕ → RegistryCall → List Event → Type 0
-Makes slots call events = (event : Event) × (event_by slots call events ≡ Some event)
+abbrev pub MakesEvent : ℕ → RegistryCall → List Event → Type 0
+MakesEvent slots call events = (event : Event) × (event_by slots call events ≡ Some event)
 
 -- the call shows the name of the source that has the id, which is a copy
 abbrev pub ShowsName : ℕ → RegistryCall → List Event → Type 0
 ShowsName slots call events =
-    (name : List ℕ) × (reply_of slots call events ≡ answered (IdTaken name))
+    (name : List ℕ) × (registry_reply slots call events ≡ answered (IdTaken name))
 
 -- A call that ends so may have this reply over these events: the one that is due; a fault of the
 -- disk where an event is to be written; want of memory there, or where a name is to be copied.
 abbrev pub MayEnd : Ending → ℕ → RegistryCall → List Event → RegistryReply → Type 0
-MayEnd (made event) slots call events reply = reply ≡ reply_of slots call events
-MayEnd told slots call events reply = reply ≡ reply_of slots call events
-MayEnd failed slots call events reply = Makes slots call events
-MayEnd wanting slots call events reply = Makes slots call events ⊎ ShowsName slots call events
+MayEnd (made event) slots call events reply = reply ≡ registry_reply slots call events
+MayEnd told slots call events reply = reply ≡ registry_reply slots call events
+MayEnd failed slots call events reply = MakesEvent slots call events
+MayEnd wanting slots call events reply = MakesEvent slots call events ⊎ ShowsName slots call events
 
 abbrev pub MayReply : ℕ → RegistryCall → List Event → RegistryReply → Type 0
 MayReply slots call events reply = MayEnd (ending call reply) slots call events reply

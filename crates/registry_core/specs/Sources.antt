@@ -22,14 +22,14 @@ abbrev pub renamed : ℕ → List ℕ → SourceInfo → SourceInfo
 renamed slot name source = if source.slot == slot then named name source else source
 
 -- what one more event makes of the living sources
-abbrev pub after : List SourceInfo → Event → List SourceInfo
-after living (Created source) = living ++ source ∷ []
-after living (Renamed slot name) = map (renamed slot name) living
-after living (Removed slot) = filter (λ source. not (source.slot == slot)) living
+abbrev pub after_event : List SourceInfo → Event → List SourceInfo
+after_event living (Created source) = living ++ source ∷ []
+after_event living (Renamed slot name) = map (renamed slot name) living
+after_event living (Removed slot) = filter (λ source. not (source.slot == slot)) living
 
 -- the living sources, in the order of their slots
 unfoldable pub sources : List Event → List SourceInfo
-sources events = fold after [] events
+sources events = fold after_event [] events
 
 -- how many sources an event makes
 abbrev pub makes : Event → ℕ

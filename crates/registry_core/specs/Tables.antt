@@ -3,8 +3,8 @@ use Rattle.std.specs.Prelude.{◌≡◌, ℕ, ◌<◌, ◌≤◌, List, [], ◌�
 use Rattle.delta_base.specs.declared.source_info.SourceInfo.{SourceInfo}
 use Rattle.registry_core.specs.declared.event.Event.{Event}
 use Rattle.registry_core.specs.declared.event.Entry.{Entry}
-use Rattle.registry_core.specs.Sources.{sources, used, after}
-use Rattle.registry_core.specs.Texts.{registry_length, longer_by}
+use Rattle.registry_core.specs.Sources.{sources, used, after_event}
+use Rattle.registry_core.specs.Texts.{registry_length, length_with}
 use Rattle.delta_base.specs.declared.limits.TheConstants.{REGISTRY_LIMIT}
 use Rattle.registry_core.specs.Events.{IsRegistry}
 
@@ -31,14 +31,14 @@ pub record IsTable (slots : ℕ) (events : List Event) (living : List SourceInfo
   pub registry : IsRegistry slots events
 
 -- an event, the sources that live after it, and the length of the journal with it
-pub record ReadyView : Type 0 where
+pub record ReadyEvent : Type 0 where
   pub event : Event
   pub living : List SourceInfo
   pub longer : ℕ
 
 -- all memory was taken for an event behind these
 pub record IsReadyFor (slots : ℕ) (events : List Event) (event : Event)
-    (ready : ReadyView) : Type 0 where
+    (ready : ReadyEvent) : Type 0 where
   pub event_is : ready.event ≡ event
-  pub living_is : ready.living ≡ after (sources events) event
-  pub longer_is : ready.longer ≡ longer_by (registry_length slots events) event
+  pub living_is : ready.living ≡ after_event (sources events) event
+  pub longer_is : ready.longer ≡ length_with (registry_length slots events) event

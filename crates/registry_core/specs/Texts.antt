@@ -1,7 +1,7 @@
 -- How events are written.
 use Rattle.std.specs.Prelude.{ℕ, ◌+◌, List, [], ◌∷◌, ◌++◌, length, sum_by, map}
 use Rattle.std.specs.Fmt.{decimal}
-use Rattle.delta_base.specs.Ids.{text_of as id_text_of}
+use Rattle.delta_base.specs.Ids.{text_of}
 use Rattle.slot_files.specs.Files.{slots_payload}
 use Rattle.delta_base.specs.declared.source_info.SourceInfo.{SourceInfo}
 use Rattle.registry_core.specs.declared.event.Event.{Event}
@@ -9,24 +9,24 @@ use Rattle.registry_core.specs.declared.event.Event.TheVariants.{Created, Rename
 
 -- `slot id name uri`
 abbrev pub source_text : SourceInfo → List ℕ
-source_text source = decimal source.slot ++ 32 ∷ (id_text_of source.id.0 ++ 32 ∷ (source.name
+source_text source = decimal source.slot ++ 32 ∷ (text_of source.id.0 ++ 32 ∷ (source.name
     ++ 32 ∷ source.uri))
 
 -- `C slot id name uri`, `R slot name` and `D slot`
-abbrev pub text_of : Event → List ℕ
-text_of (Created source) = 67 ∷ 32 ∷ source_text source
-text_of (Renamed slot name) = 82 ∷ 32 ∷ (decimal slot ++ 32 ∷ name)
-text_of (Removed slot) = 68 ∷ 32 ∷ decimal slot
+abbrev pub event_text : Event → List ℕ
+event_text (Created source) = 67 ∷ 32 ∷ source_text source
+event_text (Renamed slot name) = 82 ∷ 32 ∷ (decimal slot ++ 32 ∷ name)
+event_text (Removed slot) = 68 ∷ 32 ∷ decimal slot
 
 -- the payloads of a registry: `S n`, and the events
-abbrev pub payloads_of : ℕ → List Event → List (List ℕ)
-payloads_of slots events = slots_payload slots ∷ map text_of events
+abbrev pub registry_payloads : ℕ → List Event → List (List ℕ)
+registry_payloads slots events = slots_payload slots ∷ map event_text events
 
 -- the length of a journal that holds the slots and the events
 abbrev pub registry_length : ℕ → List Event → ℕ
 registry_length slots events = 9 + (5 + length (slots_payload slots)) + sum_by
-    (λ event. 5 + length (text_of event)) events
+    (λ event. 5 + length (event_text event)) events
 
 -- the length of a journal with one more event
-unfoldable pub longer_by : ℕ → Event → ℕ
-longer_by bytes event = bytes + 5 + length (text_of event)
+unfoldable pub length_with : ℕ → Event → ℕ
+length_with bytes event = bytes + 5 + length (event_text event)

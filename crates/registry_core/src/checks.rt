@@ -3,9 +3,9 @@
 ghost use Rattle.std.specs.Prelude.{◌≡◌, ◌+◌, ◌≤◌, Some, IfSome, IfNone, IfOk, IfErr, slice_get};
 ghost use Rattle.std.specs.List.{AllByRecursion};
 ghost use Rattle.delta_base.specs.declared.source_info.SourceInfo.{SourceInfo as AnySource};
-ghost use Rattle.registry_core.specs.Checks.{IsRefused, IsRefusal};
+ghost use Rattle.registry_core.specs.Checks.{IsRefusedCreate, IsRefusedChange};
 ghost use Rattle.registry_core.specs.Events.{IsSlot};
-ghost use Rattle.registry_core.specs.Replies.{created, renamed_to, removed_from, of_found};
+ghost use Rattle.registry_core.specs.Replies.{created, renamed_to, removal_answer, of_found};
 ghost use Rattle.delta_base.specs.declared.limits.TheConstants.{REGISTRY_LIMIT};
 ghost use Rattle.registry_core.specs.Sources.{named, source_named};
 
@@ -17,7 +17,7 @@ use delta_base::{FullKind, Id, REGISTRY_LIMIT, SourceInfo};
 
 // The answer that shows the name of the source which has an id.
 fn id_taken(source: &SourceInfo) -> CreateAnswer
-    ensures { IsRefused (CreateAnswer.IdTaken source.now.name) result }
+    ensures { IsRefusedCreate (CreateAnswer.IdTaken source.now.name) result }
 {
     match source.name.copy() {
         Ok(name) => CreateAnswer::IdTaken { name },
@@ -42,7 +42,7 @@ pub fn check_create(
     ensures free { IfNone result (created living.now slots used bytes
         (record { slot = used + 1; id = id; name = name.now; uri = uri.now })
         ≡ CreateAnswer.Made (record { slot = used + 1; id = id; name = name.now; uri = uri.now })) }
-    ensures refused { IfSome result (IsRefused (created living.now slots used bytes
+    ensures refused { IfSome result (IsRefusedCreate (created living.now slots used bytes
         (record { slot = used + 1; id = id; name = name.now; uri = uri.now }))) }
 {
     if let Some(at) = name_fault(name) {
@@ -90,7 +90,7 @@ pub fn check_rename(
         × (slice_get living.now place ≡ Some source)
         × (of_found (renamed_to living.now bytes new_name.now)
         (source_named name.now living.now) ≡ ChangeAnswer.Done (named new_name.now source))) }
-    ensures refused { IfErr result (IsRefusal (of_found
+    ensures refused { IfErr result (IsRefusedChange (of_found
         (renamed_to living.now bytes new_name.now) (source_named name.now living.now))) }
 {
     let Some(place) = place_named(living, name) else {
@@ -121,9 +121,9 @@ pub fn check_remove(living: &[SourceInfo], bytes: u64, name: &[u8]) -> Result<us
     requires bytes { bytes ≤ REGISTRY_LIMIT }
     ensures ok { IfOk result (λ place. (source : AnySource)
         × (slice_get living.now place ≡ Some source)
-        × (of_found (removed_from bytes) (source_named name.now living.now)
+        × (of_found (removal_answer bytes) (source_named name.now living.now)
         ≡ ChangeAnswer.Done source)) }
-    ensures refused { IfErr result (IsRefusal (of_found (removed_from bytes)
+    ensures refused { IfErr result (IsRefusedChange (of_found (removal_answer bytes)
         (source_named name.now living.now))) }
 {
     let Some(place) = place_named(living, name) else {

@@ -1,8 +1,8 @@
 //! The registry of named sources: its events, their texts, and what each call makes of them.
 //!
-//! Events fold into the sources that live. What a call replies is told by `reply_of` in
-//! `specs/Replies`, and which payloads
-//! are a registry's by `IsRegistryFile` in `specs/Events`. Nothing here knows of disks or threads.
+//! Events fold into the sources that live. What a call replies is told by `registry_reply` in
+//! `specs/Replies`, and which payloads are a registry's by `IsRegistryFile` in `specs/Events`.
+//! Nothing here knows of disks or threads.
 #![tactic(auto)]
 
 mod answer;

@@ -1,7 +1,7 @@
 //! The sources that live after an event, as a list of their own: all memory for an event is taken
 //! before it is written.
 ghost use Rattle.std.specs.Prelude.{◌≡◌, ◌==◌, IfOk, map, filter, not};
-ghost use Rattle.registry_core.specs.Sources.{named, renamed, after};
+ghost use Rattle.registry_core.specs.Sources.{named, renamed, after_event};
 
 use crate::event::Event;
 use delta_base::{OutOfMemory, SourceInfo, Text};
@@ -75,7 +75,7 @@ pub fn living_after(
     living: &[SourceInfo],
     event: &Event,
 ) -> Result<Vec<SourceInfo>, OutOfMemory>
-    ensures { IfOk result (λ next. next.items ≡ after living.now event.now) }
+    ensures { IfOk result (λ next. next.items ≡ after_event living.now event.now) }
 {
     match event {
         Event::Created(source) => {

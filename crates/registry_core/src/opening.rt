@@ -2,8 +2,8 @@
 ghost use Rattle.std.specs.Prelude.{◌≡◌, ◌⊎◌, ℕ, ◌++◌, ◌∷◌, [], IfOk, IfErr, OnOk, IsErrOf};
 ghost use Rattle.std.specs.List.{AllByRecursion};
 ghost use Rattle.registry_core.specs.declared.event.Event.{Event as AnyEvent};
-ghost use Rattle.registry_core.specs.Events.{events_of, IsNext, IsRegistryFile, BreaksAt};
-ghost use Rattle.registry_core.specs.Texts.{text_of};
+ghost use Rattle.registry_core.specs.Events.{events_of, IsNextEvent, IsRegistryFile, BreaksAtEvent};
+ghost use Rattle.registry_core.specs.Texts.{event_text};
 
 use crate::reading::{TextFault, read_event, read_slots};
 use crate::registry::Registry;
@@ -20,12 +20,12 @@ pub enum PayloadFault {
 
 // Adds the event of a payload.
 fn add_next(alloc: Global, registry: &mut Registry, payload: &[u8]) -> Result<(), TextFault>
-    ensures ok { OnOk result ((event : AnyEvent) × (text_of event ≡ payload.now)
-        × IsNext registry.old.slots (events_of registry.old.entries) event
+    ensures ok { OnOk result ((event : AnyEvent) × (event_text event ≡ payload.now)
+        × IsNextEvent registry.old.slots (events_of registry.old.entries) event
         × (registry.new.entries ≡ registry.old.entries ++ record { event = event; by = 0 } ∷ [])) }
     ensures none { IsErrOf result TextFault.NoEvent → (event : AnyEvent)
-        → IsNext registry.old.slots (events_of registry.old.entries) event
-        → text_of event ≡ payload.now → ⊥ }
+        → IsNextEvent registry.old.slots (events_of registry.old.entries) event
+        → event_text event ≡ payload.now → ⊥ }
     ensures slots { registry.new.slots ≡ registry.old.slots }
 {
     let event = read_event(alloc, payload)?;
@@ -44,7 +44,7 @@ pub fn read_registry(alloc: Global, payloads: &[Bytes]) -> Result<Registry, Payl
     ensures by_nobody { IfOk result (λ registry. AllByRecursion (λ entry. entry.by
         ≡ 0) registry.entries) }
     ensures broken { (place : ℕ) → IsErrOf result (PayloadFault.Broken place)
-        → BreaksAt payloads.now place }
+        → BreaksAtEvent payloads.now place }
 {
     let [first, rest @ ..] = payloads else {
         return Err(PayloadFault::Broken { place: 0 });

@@ -5,8 +5,8 @@ ghost use Rattle.slot_files.specs.Files.{slots_payload};
 ghost use Rattle.registry_core.specs.declared.event.Event.{Event as AnyEvent};
 ghost use Rattle.delta_base.specs.declared.source_info.SourceInfo.{SourceInfo as AnySource};
 ghost use Rattle.registry_core.specs.Blanks.{HasNoBlank};
-ghost use Rattle.registry_core.specs.Events.{IsSlot, IsName, IsUri, IsSource, IsSound};
-ghost use Rattle.registry_core.specs.Texts.{source_text, text_of};
+ghost use Rattle.registry_core.specs.Events.{IsSlot, IsName, IsUri, IsSource, IsSoundEvent};
+ghost use Rattle.registry_core.specs.Texts.{source_text, event_text};
 
 use crate::event::Event;
 use crate::names::{name_fault, uri_fault};
@@ -157,9 +157,9 @@ fn read_renaming(alloc: Global, text: &[u8]) -> Result<(u32, Text), TextFault>
 
 /// The event that a payload is by its form.
 pub fn read_event(alloc: Global, text: &[u8]) -> Result<Event, TextFault>
-    ensures ok { IfOk result (λ event. (text_of event ≡ text.now) × IsSound event) }
-    ensures none { IsErrOf result TextFault.NoEvent → (event : AnyEvent) → IsSound event
-        → text_of event ≡ text.now → ⊥ }
+    ensures ok { IfOk result (λ event. (event_text event ≡ text.now) × IsSoundEvent event) }
+    ensures none { IsErrOf result TextFault.NoEvent → (event : AnyEvent) → IsSoundEvent event
+        → event_text event ≡ text.now → ⊥ }
 {
     match text {
         [b'C', b' ', rest @ ..] => Ok(Event::Created(read_source(alloc, rest)?)),

@@ -3,14 +3,15 @@ ghost use Rattle.std.specs.Prelude.{◌≡◌, ◌+◌, ◌<◌, ◌≤◌, ◌�
 ghost use Rattle.std.specs.Prelude.{IsTrue, IfOk, IfErr, OnOk, IfSome, IfNone, slice_get};
 ghost use Rattle.std.specs.List.{AllByRecursion};
 ghost use Rattle.delta_base.specs.declared.source_info.SourceInfo.{SourceInfo as AnySource};
-ghost use Rattle.registry_core.specs.Checks.{IsRefused, IsRefusal, StopsCreate, StopsChange};
-ghost use Rattle.registry_core.specs.Events.{events_of, IsSlot, IsMade, IsNext, IsRegistry};
+ghost use Rattle.registry_core.specs.Checks.{IsRefusedCreate, IsRefusedChange, StopsCreate};
+ghost use Rattle.registry_core.specs.Checks.{StopsChange};
+ghost use Rattle.registry_core.specs.Events.{events_of, IsSlot, IsMade, IsNextEvent, IsRegistry};
 ghost use Rattle.registry_core.specs.Replies.{create_reply, rename_reply, remove_reply};
 ghost use Rattle.registry_core.specs.Replies.{renaming, removal, next_source};
 ghost use Rattle.delta_base.specs.declared.limits.TheConstants.{REGISTRY_LIMIT};
 ghost use Rattle.registry_core.specs.Sources.{sources, named, by_name, HasSlot};
 ghost use Rattle.registry_core.specs.Tables.{IsReadyFor};
-ghost use Rattle.registry_core.specs.Texts.{text_of, registry_length};
+ghost use Rattle.registry_core.specs.Texts.{event_text, registry_length};
 
 use crate::answer::{ChangeAnswer, CreateAnswer};
 use crate::checks::{check_create, check_remove, check_rename};
@@ -58,9 +59,9 @@ pub struct Ready {
 }
 
 impl Model for Ready {
-    ghost use Rattle.registry_core.specs.Tables.{ReadyView};
+    ghost use Rattle.registry_core.specs.Tables.{ReadyEvent};
 
-    ghost Value = { ReadyView };
+    ghost Value = { ReadyEvent };
 
     ghost view = { λ r. record { event = r.event; living = r.living.items; longer = r.longer } };
 }
@@ -119,7 +120,7 @@ impl Registry {
         ensures free { IfNone result (create_reply self.now.slots
             (events_of self.now.entries) name.now uri.now id
             ≡ CreateAnswer.Made (next_source (events_of self.now.entries) name.now uri.now id)) }
-        ensures refused { IfSome result (IsRefused (create_reply self.now.slots
+        ensures refused { IfSome result (IsRefusedCreate (create_reply self.now.slots
             (events_of self.now.entries) name.now uri.now id)) }
     {
         check_create(
@@ -139,7 +140,7 @@ impl Registry {
             × (slice_get (sources (events_of self.now.entries)) place ≡ Some source)
             × (rename_reply self.now.slots (events_of self.now.entries) name.now new_name.now
             ≡ ChangeAnswer.Done (named new_name.now source))) }
-        ensures refused { IfErr result (IsRefusal (rename_reply self.now.slots
+        ensures refused { IfErr result (IsRefusedChange (rename_reply self.now.slots
             (events_of self.now.entries) name.now new_name.now)) }
     {
         check_rename(&self.living, self.bytes, name, new_name)
@@ -151,7 +152,7 @@ impl Registry {
             × (slice_get (sources (events_of self.now.entries)) place ≡ Some source)
             × (remove_reply self.now.slots (events_of self.now.entries) name.now
             ≡ ChangeAnswer.Done source)) }
-        ensures refused { IfErr result (IsRefusal (remove_reply self.now.slots
+        ensures refused { IfErr result (IsRefusedChange (remove_reply self.now.slots
             (events_of self.now.entries) name.now)) }
     {
         check_remove(&self.living, self.bytes, name)
@@ -161,7 +162,8 @@ impl Registry {
     pub fn new_source(&self, name: &Text, uri: &Text, id: Id) -> Result<SourceInfo, CreateAnswer>
         ensures made { IfOk result (λ source. create_reply self.now.slots
             (events_of self.now.entries) name.now uri.now id ≡ CreateAnswer.Made source) }
-        ensures next { IfOk result (λ source. IsNext self.now.slots (events_of self.now.entries)
+        ensures next { IfOk result
+            (λ source. IsNextEvent self.now.slots (events_of self.now.entries)
             (Event.Created source)) }
         ensures stopped { IfErr result (StopsCreate (create_reply self.now.slots
             (events_of self.now.entries) name.now uri.now id)) }
@@ -188,7 +190,8 @@ impl Registry {
     pub fn renamed_source(&self, name: &Text, new_name: &Text) -> Result<SourceInfo, ChangeAnswer>
         ensures done { IfOk result (λ source. rename_reply self.now.slots
             (events_of self.now.entries) name.now new_name.now ≡ ChangeAnswer.Done source) }
-        ensures next { IfOk result (λ source. IsNext self.now.slots (events_of self.now.entries)
+        ensures next { IfOk result
+            (λ source. IsNextEvent self.now.slots (events_of self.now.entries)
             (renaming source)) }
         ensures stopped { IfErr result (StopsChange (rename_reply self.now.slots
             (events_of self.now.entries) name.now new_name.now)) }
@@ -204,7 +207,8 @@ impl Registry {
     pub fn removed_source(&self, name: &Text) -> Result<SourceInfo, ChangeAnswer>
         ensures done { IfOk result (λ source. remove_reply self.now.slots
             (events_of self.now.entries) name.now ≡ ChangeAnswer.Done source) }
-        ensures next { IfOk result (λ source. IsNext self.now.slots (events_of self.now.entries)
+        ensures next { IfOk result
+            (λ source. IsNextEvent self.now.slots (events_of self.now.entries)
             (removal source)) }
         ensures stopped { IfErr result (StopsChange (remove_reply self.now.slots
             (events_of self.now.entries) name.now)) }
@@ -271,8 +275,8 @@ impl Registry {
 
     /// Takes all the memory that adding an event needs.
     pub fn prepare(&mut self, event: Event, payload: &[u8]) -> Result<Ready, OutOfMemory>
-        requires next { IsNext self.old.slots (events_of self.old.entries) event }
-        requires payload { payload.now ≡ text_of event }
+        requires next { IsNextEvent self.old.slots (events_of self.old.entries) event }
+        requires payload { payload.now ≡ event_text event }
         ensures ready { IfOk result (IsReadyFor self.old.slots (events_of self.old.entries) event) }
         ensures same { self.new ≡ record self.old { spare = self.new.spare } }
         ensures spare { OnOk result (0 < self.new.spare) }
@@ -289,7 +293,7 @@ impl Registry {
     /// Adds an event. It takes no memory.
     pub fn push(&mut self, ready: Ready, by: u32)
         requires spare { 0 < self.old.spare }
-        requires next { IsNext self.old.slots (events_of self.old.entries) ready.event }
+        requires next { IsNextEvent self.old.slots (events_of self.old.entries) ready.event }
         requires ready { IsReadyFor self.old.slots (events_of self.old.entries) ready.event ready }
         ensures entries { self.new.entries ≡ self.old.entries
             ++ record { event = ready.event; by = by } ∷ [] }

@@ -3,8 +3,8 @@ ghost use Rattle.std.specs.Prelude.{◌≡◌, ◌+◌, ◌≤◌, ◌++◌, len
 ghost use Rattle.std.specs.Fmt.{decimal};
 ghost use Rattle.delta_base.specs.declared.id.Id.{Id as AnyId};
 ghost use Rattle.registry_core.specs.declared.event.Event.TheVariants as event;
-ghost use Rattle.registry_core.specs.Events.{IsSlot, IsSound};
-ghost use Rattle.registry_core.specs.Texts.{source_text, text_of};
+ghost use Rattle.registry_core.specs.Events.{IsSlot, IsSoundEvent};
+ghost use Rattle.registry_core.specs.Texts.{source_text, event_text};
 
 use crate::event::Event;
 use delta_base::{OutOfMemory, SourceInfo, id_text};
@@ -26,7 +26,7 @@ pub fn created_length(slot: u32, name: &[u8], uri: &[u8]) -> u64
     requires name { length name.now ≤ 64 }
     requires uri { length uri.now ≤ 1024 }
     ensures value { (id : AnyId) → result
-        ≡ length (text_of (event.Created
+        ≡ length (event_text (event.Created
         (record { slot = slot; id = id; name = name.now; uri = uri.now }))) }
     ensures short { result ≤ 2000 }
 {
@@ -38,7 +38,7 @@ pub fn created_length(slot: u32, name: &[u8], uri: &[u8]) -> u64
 pub fn renamed_length(slot: u32, name: &[u8]) -> u64
     requires slot { IsSlot slot }
     requires name { length name.now ≤ 64 }
-    ensures value { result ≡ length (text_of (event.Renamed slot name.now)) }
+    ensures value { result ≡ length (event_text (event.Renamed slot name.now)) }
     ensures short { result ≤ 2000 }
 {
     let slot_length = slot_text(slot, &mut [0; 4]).len() as u64;
@@ -48,7 +48,7 @@ pub fn renamed_length(slot: u32, name: &[u8]) -> u64
 /// The length of a removal's payload.
 pub fn removed_length(slot: u32) -> u64
     requires { IsSlot slot }
-    ensures value { result ≡ length (text_of (event.Removed slot)) }
+    ensures value { result ≡ length (event_text (event.Removed slot)) }
     ensures short { result ≤ 2000 }
 {
     2 + slot_text(slot, &mut [0; 4]).len() as u64
@@ -70,8 +70,8 @@ fn push_source(text: &mut Vec<u8>, source: &SourceInfo) -> Result<(), OutOfMemor
 
 /// The payload of an event.
 pub fn event_text(alloc: Global, event: &Event) -> Result<Vec<u8>, OutOfMemory>
-    requires { IsSound event.now }
-    ensures { IfOk result (λ text. text.items ≡ text_of event.now) }
+    requires { IsSoundEvent event.now }
+    ensures { IfOk result (λ text. text.items ≡ event_text event.now) }
 {
     let mut text = Vec::new(alloc);
     match event {

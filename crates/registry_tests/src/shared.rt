@@ -1,8 +1,8 @@
 //! A registry that two passes share.
 ghost use Rattle.std.specs.Prelude.{◌≡◌, ◌≤◌, [], IfOk, vec_capacity};
 ghost use Rattle.disk_model.specs.Memory.{memory_mark};
-ghost use Rattle.shared_registry.specs.Passes.{IsPassOf};
-ghost use Rattle.turn_cell.specs.Knowing.{number_of};
+ghost use Rattle.shared_registry.specs.Passes.{IsRegistryPassOf};
+ghost use Rattle.turn_cell.specs.Knowing.{pass_number};
 
 use crate::calls::{TWO_SLOTS, Told, changed, created, id_of, is, open_with};
 use delta_base::Text;
@@ -25,8 +25,8 @@ struct Passes {
 
 // A registry that two passes share.
 fn share(alloc: Global, failing: &[u64]) -> Result<(SharedRegistry<MemDisk>, Passes), Fail>
-    ensures one { IfOk result (λ r. IsPassOf memory_mark r.0 r.1.one × (number_of r.1.one ≡ 1)) }
-    ensures two { IfOk result (λ r. IsPassOf memory_mark r.0 r.1.two × (number_of r.1.two ≡ 2)) }
+    ensures one { IfOk result (λ r. IsRegistryPassOf memory_mark r.0 r.1.one × (pass_number r.1.one ≡ 1)) }
+    ensures two { IfOk result (λ r. IsRegistryPassOf memory_mark r.0 r.1.two × (pass_number r.1.two ≡ 2)) }
     ensures room { IfOk result (λ r.
         (r.0.seats ≡ 2) × (r.1.room.items ≡ []) × (2 ≤ vec_capacity r.1.room)) }
 {
@@ -50,8 +50,8 @@ fn share(alloc: Global, failing: &[u64]) -> Result<(SharedRegistry<MemDisk>, Pas
 
 // Gives both passes back.
 fn close(registry: SharedRegistry<MemDisk>, passes: Passes) -> RegistryState<MemDisk>
-    requires one { IsPassOf memory_mark registry passes.one × (number_of passes.one ≡ 1) }
-    requires two { IsPassOf memory_mark registry passes.two × (number_of passes.two ≡ 2) }
+    requires one { IsRegistryPassOf memory_mark registry passes.one × (pass_number passes.one ≡ 1) }
+    requires two { IsRegistryPassOf memory_mark registry passes.two × (pass_number passes.two ≡ 2) }
     requires room { (registry.seats ≡ 2) × (passes.room.items ≡ [])
         × (2 ≤ vec_capacity passes.room) }
 {
@@ -70,9 +70,9 @@ fn create<R: Wait>(
     name: &str,
     id: u128,
 ) -> Result<Told, Fail>
-    requires { IsPassOf memory_mark registry.now pass.old }
-    ensures of { IsPassOf memory_mark registry.now pass.new }
-    ensures number { number_of pass.new ≡ number_of pass.old }
+    requires { IsRegistryPassOf memory_mark registry.now pass.old }
+    ensures of { IsRegistryPassOf memory_mark registry.now pass.new }
+    ensures number { pass_number pass.new ≡ pass_number pass.old }
 {
     let name = Text::from_str(alloc, name)?;
     let uri = Text::from_str(alloc, "http://e/x")?;
@@ -88,9 +88,9 @@ fn slot_of<R: Wait>(
     pass: &mut RegistryPass<MemDisk>,
     name: &str,
 ) -> Result<u32, Fail>
-    requires { IsPassOf memory_mark registry.now pass.old }
-    ensures of { IsPassOf memory_mark registry.now pass.new }
-    ensures number { number_of pass.new ≡ number_of pass.old }
+    requires { IsRegistryPassOf memory_mark registry.now pass.old }
+    ensures of { IsRegistryPassOf memory_mark registry.now pass.new }
+    ensures number { pass_number pass.new ≡ pass_number pass.old }
 {
     let name = Text::from_str(alloc, name)?;
     let found = registry.resolve(rt, pass, &name)?;
@@ -105,12 +105,12 @@ fn both_make<R: Wait + Abort>(
     one: &mut RegistryPass<MemDisk>,
     two: &mut RegistryPass<MemDisk>,
 ) -> Result<(), Fail>
-    requires one { IsPassOf memory_mark registry.now one.old }
-    requires two { IsPassOf memory_mark registry.now two.old }
-    ensures one { IsPassOf memory_mark registry.now one.new }
-    ensures two { IsPassOf memory_mark registry.now two.new }
-    ensures numbers { (number_of one.new ≡ number_of one.old)
-        × (number_of two.new ≡ number_of two.old) }
+    requires one { IsRegistryPassOf memory_mark registry.now one.old }
+    requires two { IsRegistryPassOf memory_mark registry.now two.old }
+    ensures one { IsRegistryPassOf memory_mark registry.now one.new }
+    ensures two { IsRegistryPassOf memory_mark registry.now two.new }
+    ensures numbers { (pass_number one.new ≡ pass_number one.old)
+        × (pass_number two.new ≡ pass_number two.old) }
 {
     let told = create(rt, alloc, registry, one, "b", 1)?;
     is(rt, told, Told::Made { slot: 1 });
@@ -127,12 +127,12 @@ fn each_finds<R: Wait + Abort>(
     one: &mut RegistryPass<MemDisk>,
     two: &mut RegistryPass<MemDisk>,
 ) -> Result<(), Fail>
-    requires one { IsPassOf memory_mark registry.now one.old }
-    requires two { IsPassOf memory_mark registry.now two.old }
-    ensures one { IsPassOf memory_mark registry.now one.new }
-    ensures two { IsPassOf memory_mark registry.now two.new }
-    ensures numbers { (number_of one.new ≡ number_of one.old)
-        × (number_of two.new ≡ number_of two.old) }
+    requires one { IsRegistryPassOf memory_mark registry.now one.old }
+    requires two { IsRegistryPassOf memory_mark registry.now two.old }
+    ensures one { IsRegistryPassOf memory_mark registry.now one.new }
+    ensures two { IsRegistryPassOf memory_mark registry.now two.new }
+    ensures numbers { (pass_number one.new ≡ pass_number one.old)
+        × (pass_number two.new ≡ pass_number two.old) }
 {
     both_make(rt, alloc, registry, one, two)?;
     assert!(rt; slot_of(rt, alloc, registry, one, "a")? == 2);
@@ -162,9 +162,9 @@ fn remove<R: Wait>(
     pass: &mut RegistryPass<MemDisk>,
     name: &str,
 ) -> Result<Told, Fail>
-    requires { IsPassOf memory_mark registry.now pass.old }
-    ensures of { IsPassOf memory_mark registry.now pass.new }
-    ensures number { number_of pass.new ≡ number_of pass.old }
+    requires { IsRegistryPassOf memory_mark registry.now pass.old }
+    ensures of { IsRegistryPassOf memory_mark registry.now pass.new }
+    ensures number { pass_number pass.new ≡ pass_number pass.old }
 {
     let name = Text::from_str(alloc, name)?;
     let answer = registry.remove(rt, pass, &name);
@@ -177,7 +177,7 @@ fn lists_none<R: Wait + Abort>(
     registry: &SharedRegistry<MemDisk>,
     pass: &mut RegistryPass<MemDisk>,
 ) -> Result<(), Fail>
-    requires { IsPassOf memory_mark registry.now pass.old }
+    requires { IsRegistryPassOf memory_mark registry.now pass.old }
 {
     let listed = registry.list(rt, pass)?;
     assert!(rt; listed.is_empty());
@@ -192,9 +192,9 @@ fn is_removed<R: Wait + Abort>(
     one: &mut RegistryPass<MemDisk>,
     two: &mut RegistryPass<MemDisk>,
 ) -> Result<(), Fail>
-    requires one { IsPassOf memory_mark registry.now one.old }
-    requires two { IsPassOf memory_mark registry.now two.old }
-    ensures { IsPassOf memory_mark registry.now one.new }
+    requires one { IsRegistryPassOf memory_mark registry.now one.old }
+    requires two { IsRegistryPassOf memory_mark registry.now two.old }
+    ensures { IsRegistryPassOf memory_mark registry.now one.new }
 {
     create(rt, alloc, registry, one, "b", 1)?;
     assert!(rt; slot_of(rt, alloc, registry, one, "b")? == 1);
@@ -211,8 +211,8 @@ fn is_found_no_more<R: Wait + Abort>(
     one: &mut RegistryPass<MemDisk>,
     two: &mut RegistryPass<MemDisk>,
 ) -> Result<(), Fail>
-    requires one { IsPassOf memory_mark registry.now one.old }
-    requires two { IsPassOf memory_mark registry.now two.old }
+    requires one { IsRegistryPassOf memory_mark registry.now one.old }
+    requires two { IsRegistryPassOf memory_mark registry.now two.old }
 {
     is_removed(rt, alloc, registry, one, two)?;
     assert!(rt; slot_of(rt, alloc, registry, one, "b")? == 0);
@@ -237,8 +237,8 @@ fn one_fails<R: Wait + Abort>(
     one: &mut RegistryPass<MemDisk>,
     two: &mut RegistryPass<MemDisk>,
 ) -> Result<(), Fail>
-    requires one { IsPassOf memory_mark registry.now one.old }
-    requires two { IsPassOf memory_mark registry.now two.old }
+    requires one { IsRegistryPassOf memory_mark registry.now one.old }
+    requires two { IsRegistryPassOf memory_mark registry.now two.old }
 {
     let told = create(rt, alloc, registry, one, "b", 1)?;
     is(rt, told, Told::DiskFault);

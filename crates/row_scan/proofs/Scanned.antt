@@ -13,7 +13,7 @@ use Rattle.patch_rows.specs.declared.row.Row.{Row}
 use Rattle.patch_rows.specs.declared.row.Row.TheVariants as row
 use Rattle.patch_rows.specs.Grammar.{begins_space, row_limit, IsKey}
 use Rattle.patch_rows.specs.Printing.{row_text, IsRowValue, IsWritable}
-use Rattle.row_scan.specs.Rows.{IsRowThere, NamesId, HasIdRow, id_row}
+use Rattle.row_scan.specs.Rows.{IsRowThere, HasIdDigits, HasIdRow, id_row}
 use Rattle.row_scan.proofs.Ids.{uuid_iri, uuid_utf8}
 use Rattle.row_scan.proofs.Rows.{decided}
 
@@ -39,7 +39,7 @@ behind_word text at word value is left =
 
 -- an id that was read in front of a row's end
 pub names : (text digits behind : List ℕ) (answer : Option Id) → option_map (λ (id : Id). id.0) answer ≡ number_of digits → length digits ≡ 36 → text ≡ digits ++ behind → behind ≡ drop 36 text
-    → behind ≡ 62 ∷ 32 ∷ 46 ∷ 10 ∷ drop 4 behind → IfSome answer (NamesId text)
+    → behind ≡ 62 ∷ 32 ∷ 46 ∷ 10 ∷ drop 4 behind → IfSome answer (HasIdDigits text)
 names text digits behind None reads count whole back ends = tt
 names text digits behind (Some id) reads count whole back ends =
     let rest : drop 4 behind ≡ drop 40 text = ap (drop 4) back ∙ drop-drop 4 36 text in
@@ -95,7 +95,7 @@ id_length : (key digits : List ℕ) → length digits ≡ 36 → length (row_tex
 unfolding row_text
 id_length key digits count = simp length-append (omega (arith, count))
 
-pub id_there : (text : List ℕ) (at : ℕ) (key : List ℕ) (id : Id) (value : List ℕ) → drop at text ≡ 72 ∷ 32 ∷ (key ++ 32 ∷ 60 ∷ (codes "uuid:" ++ value)) → at ≤ length text → NamesId value id
+pub id_there : (text : List ℕ) (at : ℕ) (key : List ℕ) (id : Id) (value : List ℕ) → drop at text ≡ 72 ∷ 32 ∷ (key ++ 32 ∷ 60 ∷ (codes "uuid:" ++ value)) → at ≤ length text → HasIdDigits value id
     → IsUtf8 key → IsKey key → length key ≤ 4 → HasIdRow text at (at + (48 + length key)) key id
 id_there text at key id value stands low names utf8 is small =
     let digits : List ℕ = names.digits in

@@ -44,7 +44,7 @@ abbrev pub HasRow : List ℕ → ℕ → ScannedRow → Type 0
 HasRow text at r = IsSaid text at r.end r.says
 
 -- the 36 bytes of an id stand in front, and behind them the end of its row
-pub record NamesId (text : List ℕ) (id : Id) : Type 0 where
+pub record HasIdDigits (text : List ℕ) (id : Id) : Type 0 where
   pub digits : List ℕ
   pub named : number_of digits ≡ Some id.0
   pub count : length digits ≡ 36

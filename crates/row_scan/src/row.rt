@@ -2,7 +2,7 @@
 //! before it.
 
 ghost use Rattle.std.specs.Prelude.{◌≤◌, length, IfSome};
-ghost use Rattle.row_scan.specs.Rows.{HasRow, NamesId};
+ghost use Rattle.row_scan.specs.Rows.{HasRow, HasIdDigits};
 
 use crate::quad_row;
 use delta_base::{Id, read_id};
@@ -115,7 +115,7 @@ fn id_row(text: &[u8], at: usize) -> Option<ScannedRow>
 
 // The id whose 36 bytes stand in front, where its row ends behind them.
 fn named_id(text: &[u8]) -> Option<Id>
-    ensures { IfSome result (NamesId text.now) }
+    ensures { IfSome result (HasIdDigits text.now) }
 {
     if text.len() < 40 {
         return None;

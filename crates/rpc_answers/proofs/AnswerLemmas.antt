@@ -10,7 +10,7 @@ use Rattle.rpc_answers.specs.declared.answer.Answer.TheVariants as answer
 use Rattle.rpc_answers.specs.Values.{source_data}
 use Rattle.rpc_answers.specs.Answers.{Body, json, patch, body_of}
 use Rattle.rpc_answers.specs.Parts.{IsValueOf}
-use Rattle.rpc_answers.specs.Prints.{IsTextOf, compact}
+use Rattle.rpc_answers.specs.Prints.{IsBodyText, compact}
 
 -- without floats, and of few levels
 abbrev pub IsFlat : Data → Type 0
@@ -72,6 +72,6 @@ compact_is (json wanted) value is = ap compact_text is
 compact_is (patch text) value is = absurd is
 
 -- a text that reads as the value is one of the body
-pub reads_is : (body : Body) (value : Data) (text : List ℕ) → IsValueOf value body → IsUtf8 text → read text ≡ Some value → IsTextOf text body
+pub reads_is : (body : Body) (value : Data) (text : List ℕ) → IsValueOf value body → IsUtf8 text → read text ≡ Some value → IsBodyText text body
 reads_is (json wanted) value text is utf8 reads = (utf8, reads ∙ ap (λ (v : Data). Some v) is)
 reads_is (patch it) value text is utf8 reads = absurd is

@@ -16,10 +16,10 @@ use Rattle.delta_base.specs.declared.source_info.SourceInfo.{SourceInfo}
 use Rattle.rpc_answers.specs.declared.answer.Answer.{Answer}
 use Rattle.rpc_answers.specs.declared.answer.Answer.TheVariants as answer
 use Rattle.rpc_answers.specs.Values.{source_data, id_or_null, whole_or_null, limit_name}
-use Rattle.rpc_answers.specs.Answers.{Body, json, patch, body_of, media_type, CanStand, IsSource}
+use Rattle.rpc_answers.specs.Answers.{Body, json, patch, body_of, media_type, CanStand, IsAnsweredSource}
 use Rattle.rpc_answers.specs.declared.fault.AnswerFault.{AnswerFault}
 use Rattle.rpc_answers.specs.declared.fault.AnswerFault.TheVariants as fault
-use Rattle.rpc_answers.specs.Prints.{IsTextOf, IsPrintOf, IsNoAnswer, at_head, at_body, IsRefused, IsReadBack, bare}
+use Rattle.rpc_answers.specs.Prints.{IsBodyText, IsPrintOf, IsNoAnswer, at_head, at_body, IsRefusedReply, IsReadBack, without_spare}
 use Rattle.delta_base.proofs.IdLemmas.{number_of-text_of}
 
 -- ---- the values of members
@@ -152,16 +152,16 @@ limit_back Patches = refl
 limit_back Bytes = refl
 limit_back Slots = refl
 
-source_back : (source : SourceInfo) → IsSource source → source_in (source_data source) ≡ source
+source_back : (source : SourceInfo) → IsAnsweredSource source → source_in (source_data source) ≡ source
 source_back source fits = ap (λ (id : Id). let s : SourceInfo = record { slot = source.slot; id = id; name = source.name; uri = source.uri } in s) (id_back source.id fits.1)
 
-sources_back : (sources : List SourceInfo) → All IsSource sources → list_in (items_of (map source_data sources)) ≡ sources
+sources_back : (sources : List SourceInfo) → All IsAnsweredSource sources → list_in (items_of (map source_data sources)) ≡ sources
 sources_back [] fits = refl
 sources_back (source ∷ sources) fits =
-    ap (λ (s : SourceInfo). s ∷ list_in (items_of (map source_data sources))) (source_back source (All-head IsSource source sources fits))
-    ∙ ap (λ (rest : List SourceInfo). source ∷ rest) (sources_back sources (All-tail IsSource source sources fits))
+    ap (λ (s : SourceInfo). s ∷ list_in (items_of (map source_data sources))) (source_back source (All-head IsAnsweredSource source sources fits))
+    ∙ ap (λ (rest : List SourceInfo). source ∷ rest) (sources_back sources (All-tail IsAnsweredSource source sources fits))
 
-back : (a : Answer) → CanStand a → answer_of (body_of a) ≡ bare a
+back : (a : Answer) → CanStand a → answer_of (body_of a) ≡ without_spare a
 back answer.Pong fits = refl
 back (answer.Sources sources) fits = ap listed (sources_back sources.items fits)
 back (answer.Source source) fits = ap (λ (s : SourceInfo). answer.Source s) (source_back source fits)
@@ -190,7 +190,7 @@ back answer.OutOfMemory fits = refl
 back (answer.BadRequest kind) fits = refl
 
 -- a text of one type is of one body
-same_body : (x y : Body) (text : List ℕ) → media_type x ≡ media_type y → IsTextOf text x → IsTextOf text y → x ≡ y
+same_body : (x y : Body) (text : List ℕ) → media_type x ≡ media_type y → IsBodyText text x → IsBodyText text y → x ≡ y
 same_body (json v) (json w) text media one other = let same : Some v ≡ Some w = sym one.1 ∙ other.1 in cc
 same_body (json v) (patch w) text media one other = absurd (apart media)
   where
@@ -203,7 +203,7 @@ same_body (patch v) (json w) text media one other = absurd (apart media)
 same_body (patch v) (patch w) text media one other = ap (λ (t : List ℕ). patch t) (sym one ∙ other)
 
 -- a reply prints one answer at most
-pub one_answer : (reply : RawReply) (a b : Answer) → IsPrintOf reply a → IsPrintOf reply b → bare a ≡ bare b
+pub one_answer : (reply : RawReply) (a b : Answer) → IsPrintOf reply a → IsPrintOf reply b → without_spare a ≡ without_spare b
 one_answer reply a b first second =
     let media : Some (media_type (body_of a)) ≡ Some (media_type (body_of b)) = sym first.media ∙ second.media in
     let types : media_type (body_of a) ≡ media_type (body_of b) = cc in
@@ -216,7 +216,7 @@ no_refusal reply a at print (at_body head none is) = none a print
 
 -- reading the print of an answer gives that answer
 pub read_back : (reply : RawReply) (a : Answer) (read : Result Answer AnswerFault) → IsPrintOf reply a
-    → IfOk read (λ b. IsPrintOf reply b) → IfErr read (λ fault. IsRefused reply fault) → IsReadBack a read
+    → IfOk read (λ b. IsPrintOf reply b) → IfErr read (λ fault. IsRefusedReply reply fault) → IsReadBack a read
 read_back reply a (Ok b) print found refused = one_answer reply b a found print
 read_back reply a (Err (fault.NotUnderstood at)) print found refused = no_refusal reply a at print refused
 read_back reply a (Err fault.OutOfMemory) print found refused = tt

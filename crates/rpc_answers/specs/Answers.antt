@@ -12,7 +12,7 @@ use Rattle.http_text.specs.declared.framing.FrameFault.{FrameFault}
 use Rattle.http_text.specs.declared.framing.FrameFault.TheVariants as frame
 use Rattle.rpc_answers.specs.declared.answer.Answer.{Answer}
 use Rattle.rpc_answers.specs.declared.answer.Answer.TheVariants as answer
-use Rattle.rpc_answers.specs.Values.{object_of, word, whole, whole_or_null, id_data}
+use Rattle.rpc_answers.specs.Values.{object_of, word, whole_number, whole_or_null, id_data}
 use Rattle.rpc_answers.specs.Values.{id_or_null, limit_name, source_data, sources_data}
 
 -- a value in JSON, or the text of a patch
@@ -20,16 +20,16 @@ pub data Body : Type 0 where
   json : Data → Body
   patch : List ℕ → Body
 
-pub record Row : Type 0 where
+pub record TableRow : Type 0 where
   pub status : ℕ
   pub body : Body
 
 -- a row whose body is an object of these members
-abbrev pub says : ℕ → List (List ℕ × Data) → Row
+abbrev pub says : ℕ → List (List ℕ × Data) → TableRow
 says status members = record { status = status; body = json (object_of members) }
 
 -- a refusal that says no more than its name
-abbrev pub refuses : ℕ → List ℕ → Row
+abbrev pub refuses : ℕ → List ℕ → TableRow
 refuses status name = says status ((codes "error", word name) ∷ [])
 
 -- the name of a fault of framing, and its status
@@ -52,51 +52,53 @@ abbrev pub status_beside : List ℕ → Option ℕ
 status_beside kind = found frame_faults kind
 
 -- the status and the body of each answer; a refused request has the status beside its fault
-abbrev pub row_of : Answer → Row
-row_of answer.Pong = says 200 ((codes "ping", word (codes "ok")) ∷ [])
-row_of (answer.Sources sources) = says 200 ((codes "sources", sources_data sources.items) ∷ [])
-row_of (answer.Source source) = record { status = 200; body = json (source_data source) }
-row_of (answer.Info version head) =
-    says 200 ((codes "head", id_or_null head) ∷ (codes "version", whole version) ∷ [])
-row_of (answer.Version version) = says 200 ((codes "version", whole version) ∷ [])
-row_of (answer.Patch text) = record { status = 200; body = patch text }
-row_of answer.NoRoute = refuses 404 (codes "no_route")
-row_of answer.NoSource = refuses 404 (codes "no_source")
-row_of (answer.NoPatch version) =
-    says 404 ((codes "error", word (codes "no_patch")) ∷ (codes "version", whole version) ∷ [])
-row_of answer.BadMethod = refuses 405 (codes "bad_method")
-row_of answer.Media = refuses 415 (codes "media")
-row_of answer.BadJson = refuses 400 (codes "bad_json")
-row_of (answer.BadCall name) =
+abbrev pub table_row : Answer → TableRow
+table_row answer.Pong = says 200 ((codes "ping", word (codes "ok")) ∷ [])
+table_row (answer.Sources sources) = says 200 ((codes "sources", sources_data sources.items) ∷ [])
+table_row (answer.Source source) = record { status = 200; body = json (source_data source) }
+table_row (answer.Info version head) =
+    says 200 ((codes "head", id_or_null head) ∷ (codes "version", whole_number version) ∷ [])
+table_row (answer.Version version) = says 200 ((codes "version", whole_number version) ∷ [])
+table_row (answer.Patch text) = record { status = 200; body = patch text }
+table_row answer.NoRoute = refuses 404 (codes "no_route")
+table_row answer.NoSource = refuses 404 (codes "no_source")
+table_row (answer.NoPatch version) =
+    says 404 ((codes "error", word (codes "no_patch"))
+    ∷ (codes "version", whole_number version) ∷ [])
+table_row answer.BadMethod = refuses 405 (codes "bad_method")
+table_row answer.Media = refuses 415 (codes "media")
+table_row answer.BadJson = refuses 400 (codes "bad_json")
+table_row (answer.BadCall name) =
     says 400 ((codes "error", word (codes "bad_call")) ∷ (codes "member", string name) ∷ [])
-row_of (answer.BadPatch at kind) = says 400 ((codes "at", whole at)
+table_row (answer.BadPatch at kind) = says 400 ((codes "at", whole_number at)
     ∷ (codes "error", word (codes "bad_patch")) ∷ (codes "kind", string kind) ∷ [])
-row_of (answer.BadName at) =
-    says 400 ((codes "at", whole at) ∷ (codes "error", word (codes "bad_name")) ∷ [])
-row_of (answer.BadUri at) =
-    says 400 ((codes "at", whole at) ∷ (codes "error", word (codes "bad_uri")) ∷ [])
-row_of (answer.Known version same) = says 409 ((codes "error", word (codes "known"))
-    ∷ (codes "same", boolean same) ∷ (codes "version", whole version) ∷ [])
-row_of (answer.Conflict version head prev_version) = says 409
+table_row (answer.BadName at) =
+    says 400 ((codes "at", whole_number at) ∷ (codes "error", word (codes "bad_name")) ∷ [])
+table_row (answer.BadUri at) =
+    says 400 ((codes "at", whole_number at) ∷ (codes "error", word (codes "bad_uri")) ∷ [])
+table_row (answer.Known version same) = says 409 ((codes "error", word (codes "known"))
+    ∷ (codes "same", boolean same) ∷ (codes "version", whole_number version) ∷ [])
+table_row (answer.Conflict version head prev_version) = says 409
     ((codes "error", word (codes "conflict")) ∷ (codes "head", id_or_null head)
-    ∷ (codes "prev_version", whole_or_null prev_version) ∷ (codes "version", whole version) ∷ [])
-row_of (answer.NameTaken id) =
+    ∷ (codes "prev_version", whole_or_null prev_version)
+    ∷ (codes "version", whole_number version) ∷ [])
+table_row (answer.NameTaken id) =
     says 409 ((codes "error", word (codes "name_taken")) ∷ (codes "id", id_data id) ∷ [])
-row_of (answer.IdTaken name) =
+table_row (answer.IdTaken name) =
     says 409 ((codes "error", word (codes "id_taken")) ∷ (codes "name", string name) ∷ [])
-row_of (answer.Full what have limit) = says 507
-    ((codes "error", word (codes "full")) ∷ (codes "have", whole have)
-    ∷ (codes "limit", whole limit) ∷ (codes "what", word (limit_name what)) ∷ [])
-row_of answer.DiskFault = refuses 500 (codes "disk_fault")
-row_of answer.OutOfMemory = refuses 503 (codes "out_of_memory")
-row_of (answer.BadRequest kind) = says (unwrap_or (status_beside kind) 0)
+table_row (answer.Full what have limit) = says 507
+    ((codes "error", word (codes "full")) ∷ (codes "have", whole_number have)
+    ∷ (codes "limit", whole_number limit) ∷ (codes "what", word (limit_name what)) ∷ [])
+table_row answer.DiskFault = refuses 500 (codes "disk_fault")
+table_row answer.OutOfMemory = refuses 503 (codes "out_of_memory")
+table_row (answer.BadRequest kind) = says (unwrap_or (status_beside kind) 0)
     ((codes "error", word (codes "bad_request")) ∷ (codes "kind", string kind) ∷ [])
 
 abbrev pub status_of : Answer → ℕ
-status_of a = (row_of a).status
+status_of a = (table_row a).status
 
 abbrev pub body_of : Answer → Body
-body_of a = (row_of a).body
+body_of a = (table_row a).body
 
 abbrev pub media_type : Body → List ℕ
 media_type (json value) = codes "application/json"
@@ -107,14 +109,14 @@ abbrev pub NamesItsFault : Answer → Type 0
 NamesItsFault (answer.BadRequest kind) = IsSome (status_beside kind)
 NamesItsFault other = Unit {0}
 
-abbrev pub IsSource : SourceInfo → Type 0
-IsSource source = (source.slot < 2 ^ 32) × IsId source.id.0
+abbrev pub IsAnsweredSource : SourceInfo → Type 0
+IsAnsweredSource source = (source.slot < 2 ^ 32) × IsId source.id.0
 
 -- an answer as it can stand: its numbers are within their types, and a refused request says one
 -- of the faults
 abbrev pub CanStand : Answer → Type 0
-CanStand (answer.Sources sources) = All IsSource sources.items
-CanStand (answer.Source source) = IsSource source
+CanStand (answer.Sources sources) = All IsAnsweredSource sources.items
+CanStand (answer.Source source) = IsAnsweredSource source
 CanStand (answer.Info version head) = (version < 2 ^ 32) × ForSome head (λ id. IsId id.0)
 CanStand (answer.Version version) = version < 2 ^ 32
 CanStand (answer.NoPatch version) = version < 2 ^ 32

@@ -21,12 +21,12 @@ object_of rows = object (members_from rows)
 abbrev pub word : List ℕ → Data
 word text = string text
 
-abbrev pub whole : ℕ → Data
-whole n = number (unsigned n)
+abbrev pub whole_number : ℕ → Data
+whole_number n = number (unsigned n)
 
 abbrev pub whole_or_null : Option ℕ → Data
 whole_or_null None = null
-whole_or_null (Some n) = whole n
+whole_or_null (Some n) = whole_number n
 
 -- an id, hyphenated and in lower case
 abbrev pub id_data : Id → Data
@@ -46,7 +46,7 @@ abbrev pub source_data : SourceInfo → Data
 source_data source = object_of
     ((codes "id", id_data source.id)
     ∷ (codes "name", string source.name)
-    ∷ (codes "slot", whole source.slot)
+    ∷ (codes "slot", whole_number source.slot)
     ∷ (codes "uri", string source.uri) ∷ [])
 
 abbrev pub sources_data : List SourceInfo → Data

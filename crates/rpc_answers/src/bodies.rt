@@ -2,8 +2,8 @@
 ghost use Rattle.std.specs.Prelude.{◌≡◌, [], ◌∷◌, IfOk, codes};
 ghost use Rattle.serde_json.specs.View.{view};
 ghost use Rattle.rpc_answers.specs.Answers.{body_of, NamesItsFault};
-ghost use Rattle.rpc_answers.specs.Parts.{Makes, IsJson};
-ghost use Rattle.rpc_answers.specs.Values.{object_of, word, whole};
+ghost use Rattle.rpc_answers.specs.Parts.{MakesAnswer, IsJson};
+ghost use Rattle.rpc_answers.specs.Values.{object_of, word, whole_number};
 
 use crate::answer::Answer;
 use crate::values::{
@@ -23,57 +23,57 @@ fn refusal_body(alloc: Global, name: &str) -> Result<Value, OutOfMemory>
 // A refusal with a place in a text.
 fn place_body(alloc: Global, at: u64, name: &str) -> Result<Value, OutOfMemory>
     ensures { IfOk result (λ v.
-        view v ≡ object_of ((codes "at", whole at) ∷ (codes "error", word name.now) ∷ [])) }
+        view v ≡ object_of ((codes "at", whole_number at) ∷ (codes "error", word name.now) ∷ [])) }
 {
     Ok(json!(in alloc; {"at": at, "error": name})?)
 }
 
 fn pong_body(alloc: Global) -> Result<Value, OutOfMemory>
-    ensures { IfOk result (λ v. Makes (view v) Answer.Pong) }
+    ensures { IfOk result (λ v. MakesAnswer (view v) Answer.Pong) }
 {
     Ok(json!(in alloc; {"ping": "ok"})?)
 }
 
 fn sources_body(alloc: Global, sources: &Sources) -> Result<Value, OutOfMemory>
-    ensures { IfOk result (λ v. Makes (view v) (Answer.Sources sources.now)) }
+    ensures { IfOk result (λ v. MakesAnswer (view v) (Answer.Sources sources.now)) }
 {
     let values = Value::Array(source_values(alloc, sources.as_slice())?);
     Ok(json!(in alloc; {"sources": values})?)
 }
 
 fn info_body(alloc: Global, version: u32, head: Option<Id>) -> Result<Value, OutOfMemory>
-    ensures { IfOk result (λ v. Makes (view v) (Answer.Info version head)) }
+    ensures { IfOk result (λ v. MakesAnswer (view v) (Answer.Info version head)) }
 {
     let head = id_or_null(alloc, head)?;
     Ok(json!(in alloc; {"head": head, "version": u64::from(version)})?)
 }
 
 fn version_body(alloc: Global, version: u32) -> Result<Value, OutOfMemory>
-    ensures { IfOk result (λ v. Makes (view v) (Answer.Version version)) }
+    ensures { IfOk result (λ v. MakesAnswer (view v) (Answer.Version version)) }
 {
     Ok(json!(in alloc; {"version": u64::from(version)})?)
 }
 
 fn no_patch_body(alloc: Global, version: u32) -> Result<Value, OutOfMemory>
-    ensures { IfOk result (λ v. Makes (view v) (Answer.NoPatch version)) }
+    ensures { IfOk result (λ v. MakesAnswer (view v) (Answer.NoPatch version)) }
 {
     Ok(json!(in alloc; {"error": "no_patch", "version": u64::from(version)})?)
 }
 
 fn bad_call_body(alloc: Global, member: &Text) -> Result<Value, OutOfMemory>
-    ensures { IfOk result (λ v. Makes (view v) (Answer.BadCall member.now)) }
+    ensures { IfOk result (λ v. MakesAnswer (view v) (Answer.BadCall member.now)) }
 {
     Ok(json!(in alloc; {"error": "bad_call", "member": member.as_str()})?)
 }
 
 fn bad_patch_body(alloc: Global, at: u64, kind: &Text) -> Result<Value, OutOfMemory>
-    ensures { IfOk result (λ v. Makes (view v) (Answer.BadPatch at kind.now)) }
+    ensures { IfOk result (λ v. MakesAnswer (view v) (Answer.BadPatch at kind.now)) }
 {
     Ok(json!(in alloc; {"at": at, "error": "bad_patch", "kind": kind.as_str()})?)
 }
 
 fn known_body(alloc: Global, version: u32, same: bool) -> Result<Value, OutOfMemory>
-    ensures { IfOk result (λ v. Makes (view v) (Answer.Known version same)) }
+    ensures { IfOk result (λ v. MakesAnswer (view v) (Answer.Known version same)) }
 {
     Ok(json!(in alloc; {"error": "known", "same": same, "version": u64::from(version)})?)
 }
@@ -87,7 +87,8 @@ fn conflict_members(
 ) -> Result<Value, AllocError>
     ensures { IfOk result (λ v. view v ≡ object_of
         ((codes "error", word (codes "conflict")) ∷ (codes "head", view head)
-        ∷ (codes "prev_version", view prev_version) ∷ (codes "version", whole version) ∷ [])) }
+        ∷ (codes "prev_version", view prev_version)
+        ∷ (codes "version", whole_number version) ∷ [])) }
 {
     json!(in alloc; {
         "error": "conflict",
@@ -103,7 +104,7 @@ fn conflict_body(
     head: Option<Id>,
     prev_version: Option<u32>,
 ) -> Result<Value, OutOfMemory>
-    ensures { IfOk result (λ v. Makes (view v) (Answer.Conflict version head prev_version)) }
+    ensures { IfOk result (λ v. MakesAnswer (view v) (Answer.Conflict version head prev_version)) }
 {
     let head = id_or_null(alloc, head)?;
     let prev_version = number_or_null(prev_version);
@@ -111,20 +112,20 @@ fn conflict_body(
 }
 
 fn name_taken_body(alloc: Global, id: Id) -> Result<Value, OutOfMemory>
-    ensures { IfOk result (λ v. Makes (view v) (Answer.NameTaken id)) }
+    ensures { IfOk result (λ v. MakesAnswer (view v) (Answer.NameTaken id)) }
 {
     let id = id_value(alloc, id)?;
     Ok(json!(in alloc; {"error": "name_taken", "id": id})?)
 }
 
 fn id_taken_body(alloc: Global, name: &Text) -> Result<Value, OutOfMemory>
-    ensures { IfOk result (λ v. Makes (view v) (Answer.IdTaken name.now)) }
+    ensures { IfOk result (λ v. MakesAnswer (view v) (Answer.IdTaken name.now)) }
 {
     Ok(json!(in alloc; {"error": "id_taken", "name": name.as_str()})?)
 }
 
 fn full_body(alloc: Global, what: FullKind, have: u64, limit: u64) -> Result<Value, OutOfMemory>
-    ensures { IfOk result (λ v. Makes (view v) (Answer.Full what have limit)) }
+    ensures { IfOk result (λ v. MakesAnswer (view v) (Answer.Full what have limit)) }
 {
     let what = limit_name(what);
     Ok(json!(in alloc; {"error": "full", "have": have, "limit": limit, "what": what})?)
@@ -132,7 +133,7 @@ fn full_body(alloc: Global, what: FullKind, have: u64, limit: u64) -> Result<Val
 
 fn bad_request_body(alloc: Global, kind: &Text) -> Result<Value, OutOfMemory>
     requires { NamesItsFault (Answer.BadRequest kind.now) }
-    ensures { IfOk result (λ v. Makes (view v) (Answer.BadRequest kind.now)) }
+    ensures { IfOk result (λ v. MakesAnswer (view v) (Answer.BadRequest kind.now)) }
 {
     Ok(json!(in alloc; {"error": "bad_request", "kind": kind.as_str()})?)
 }
@@ -141,7 +142,7 @@ fn bad_request_body(alloc: Global, kind: &Text) -> Result<Value, OutOfMemory>
 pub fn answer_value(alloc: Global, answer: &Answer) -> Result<Value, OutOfMemory>
     requires names_its_fault { NamesItsFault answer.now }
     requires json { IsJson (body_of answer.now) }
-    ensures { IfOk result (λ v. Makes (view v) answer.now) }
+    ensures { IfOk result (λ v. MakesAnswer (view v) answer.now) }
 {
     match answer {
         Answer::Pong => pong_body(alloc),

@@ -5,7 +5,7 @@ ghost use Rattle.std.specs.Option.{ForSome};
 ghost use Rattle.serde_json.specs.Data.{string, boolean};
 ghost use Rattle.serde_json.specs.View.{view};
 ghost use Rattle.delta_base.specs.Ids.{IsId};
-ghost use Rattle.rpc_answers.specs.Values.{word, whole, whole_or_null};
+ghost use Rattle.rpc_answers.specs.Values.{word, whole_number, whole_or_null};
 ghost use Rattle.rpc_answers.specs.Values.{id_data, id_or_null, limit_name};
 
 use delta_base::{FullKind, Id, exact_id};
@@ -31,16 +31,16 @@ pub fn text_in(value: &Value) -> Option<&str>
 
 /// A whole number below 2^64.
 pub fn long_in(value: &Value) -> Option<u64>
-    ensures found { IfSome result (λ n. (view value.now ≡ whole n) × (n < 2 ^ 64)) }
-    ensures none { IfNone result ((n : ℕ) → n < 2 ^ 64 → view value.now ≡ whole n → ⊥) }
+    ensures found { IfSome result (λ n. (view value.now ≡ whole_number n) × (n < 2 ^ 64)) }
+    ensures none { IfNone result ((n : ℕ) → n < 2 ^ 64 → view value.now ≡ whole_number n → ⊥) }
 {
     value.as_u64()
 }
 
 /// A whole number below 2^32.
 pub fn short_in(value: &Value) -> Option<u32>
-    ensures found { IfSome result (λ n. (view value.now ≡ whole n) × (n < 2 ^ 32)) }
-    ensures none { IfNone result ((n : ℕ) → n < 2 ^ 32 → view value.now ≡ whole n → ⊥) }
+    ensures found { IfSome result (λ n. (view value.now ≡ whole_number n) × (n < 2 ^ 32)) }
+    ensures none { IfNone result ((n : ℕ) → n < 2 ^ 32 → view value.now ≡ whole_number n → ⊥) }
 {
     u32::try_from(value.as_u64()?).ok()
 }

@@ -8,19 +8,19 @@ ghost use Rattle.http_session.specs.Texts.{memory_text, refusal_text};
 ghost use Rattle.rpc_answers.specs.declared.answer.Answer.{Answer};
 ghost use Rattle.rpc_answers.specs.declared.fault.AnswerFault.{AnswerFault};
 ghost use Rattle.rpc_answers.specs.Prints.{IsCompactPrintOf, IsPrintOf};
-ghost use Rattle.rpc_answers.specs.Prints.{IsRefused, IsReadBack, bare};
+ghost use Rattle.rpc_answers.specs.Prints.{IsRefusedReply, IsReadBack, without_spare};
 
 /// A reply prints one answer at most, but for the room of a list.
 pub fn replies_are_one_answer()
     ensures { (reply : RawReply) (a b : Answer) → IsPrintOf reply a → IsPrintOf reply b
-        → bare a ≡ bare b }
+        → without_spare a ≡ without_spare b }
 {}
 
 /// Whoever reads the print of an answer reads that answer, or wants memory.
 pub fn prints_are_read()
     ensures { (reply : RawReply) (a : Answer) (read : Result Answer AnswerFault)
         → IsPrintOf reply a → IfOk read (λ b. IsPrintOf reply b)
-        → IfErr read (λ fault. IsRefused reply fault) → IsReadBack a read }
+        → IfErr read (λ fault. IsRefusedReply reply fault) → IsReadBack a read }
 {}
 
 /// What a session writes by itself is the print of an answer: for want of memory, and for each

@@ -2,7 +2,7 @@
 ghost use Rattle.std.specs.Prelude.{◌≡◌, ◌<◌, ◌^◌, ℕ, Bool, Option, [], ◌∷◌, IfSome, IfNone, codes};
 ghost use Rattle.serde_json.specs.View.{view};
 ghost use Rattle.rpc_answers.specs.Parts.{IsRowOf, IsOfNumbers};
-ghost use Rattle.rpc_answers.specs.Values.{object_of, word, whole};
+ghost use Rattle.rpc_answers.specs.Values.{object_of, word, whole_number};
 
 use crate::answer::Answer;
 use crate::fields::{
@@ -15,10 +15,12 @@ use serde_json::Value;
 // The place of a refusal with this name.
 fn place_in(value: &Value, name: &str) -> Option<u64>
     ensures found { IfSome result (λ at.
-        (view value.now ≡ object_of ((codes "at", whole at) ∷ (codes "error", word name.now) ∷ []))
+        (view value.now ≡ object_of
+        ((codes "at", whole_number at) ∷ (codes "error", word name.now) ∷ []))
         × (at < 2 ^ 64)) }
     ensures none { IfNone result ((at : ℕ) → at < 2 ^ 64
-        → view value.now ≡ object_of ((codes "at", whole at) ∷ (codes "error", word name.now) ∷ [])
+        → view value.now ≡ object_of
+        ((codes "at", whole_number at) ∷ (codes "error", word name.now) ∷ [])
         → ⊥) }
 {
     let (at, error) = two_members(value, "at", "error")?;

@@ -3,7 +3,7 @@ ghost use Rattle.std.specs.Prelude.{◌≡◌, List, ℕ, Option, IfOk, unwrap_o
 ghost use Rattle.http_text.specs.Print.{IsAllow, IsPrintableReply};
 ghost use Rattle.rpc_answers.specs.Answers.{status_beside, status_of, body_of};
 ghost use Rattle.rpc_answers.specs.Answers.{media_type, CanStand, NamesItsFault};
-ghost use Rattle.rpc_answers.specs.Prints.{IsTextOf, compact, IsPrintOf, IsCompactPrintOf};
+ghost use Rattle.rpc_answers.specs.Prints.{IsBodyText, compact, IsPrintOf, IsCompactPrintOf};
 
 use crate::answer::Answer;
 use crate::bodies::answer_value;
@@ -64,7 +64,7 @@ fn body_text(alloc: Global, answer: &Answer) -> Result<Bytes, OutOfMemory>
     requires { NamesItsFault answer.now }
     ensures stands { IfOk result (λ _. CanStand answer.now) }
     ensures compact { IfOk result (λ text. text ≡ compact (body_of answer.now)) }
-    ensures reads { IfOk result (λ text. IsTextOf text (body_of answer.now)) }
+    ensures reads { IfOk result (λ text. IsBodyText text (body_of answer.now)) }
 {
     if let Answer::Patch { text } = answer {
         return text.copy();

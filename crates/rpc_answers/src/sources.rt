@@ -3,7 +3,7 @@ ghost use Rattle.std.specs.Prelude.{◌≡◌, List, IfOk, IfSome, IfNone};
 ghost use Rattle.std.specs.List.{All};
 ghost use Rattle.serde_json.specs.Data.{Data, array};
 ghost use Rattle.serde_json.specs.View.{view, items_view};
-ghost use Rattle.rpc_answers.specs.Answers.{IsSource};
+ghost use Rattle.rpc_answers.specs.Answers.{IsAnsweredSource};
 ghost use Rattle.rpc_answers.specs.Parts.{IsRowOf, IsOfSources};
 ghost use Rattle.delta_base.specs.Listed.{Listed};
 ghost use Rattle.rpc_answers.specs.Values.{source_data, sources_data};
@@ -19,8 +19,9 @@ use std::alloc::Global;
 fn parts_in(value: &Value) -> Option<(u32, Id, &str, &str)>
     ensures found { IfSome result (λ row. (view value.now
         ≡ source_data (record { slot = row.0; id = row.1; name = row.2.now; uri = row.3.now }))
-        × IsSource (record { slot = row.0; id = row.1; name = row.2.now; uri = row.3.now })) }
-    ensures none { IfNone result ((source : SourceInfo) → IsSource source
+        × IsAnsweredSource (record
+        { slot = row.0; id = row.1; name = row.2.now; uri = row.3.now })) }
+    ensures none { IfNone result ((source : SourceInfo) → IsAnsweredSource source
         → view value.now ≡ source_data source → ⊥) }
 {
     let (id, name, slot, uri) = four_members(value, "id", "name", "slot", "uri")?;
@@ -34,8 +35,8 @@ fn parts_in(value: &Value) -> Option<(u32, Id, &str, &str)>
 // A source.
 fn source_in(alloc: Global, value: &Value) -> Result<Option<SourceInfo>, OutOfMemory>
     ensures found { IfOk result (λ o. IfSome o (λ source. (view value.now ≡ source_data source)
-        × IsSource source)) }
-    ensures none { IfOk result (λ o. IfNone o ((source : SourceInfo) → IsSource source
+        × IsAnsweredSource source)) }
+    ensures none { IfOk result (λ o. IfNone o ((source : SourceInfo) → IsAnsweredSource source
         → view value.now ≡ source_data source → ⊥)) }
 {
     match parts_in(value) {
@@ -57,8 +58,9 @@ fn source_in(alloc: Global, value: &Value) -> Result<Option<SourceInfo>, OutOfMe
 fn sources_in(alloc: Global, values: &[Value]) -> Result<Option<Vec<SourceInfo>>, OutOfMemory>
     ensures found { IfOk result (λ o.
         IfSome o (λ sources. (array (items_view values.now) ≡ sources_data sources.items)
-        × All IsSource sources.items)) }
-    ensures none { IfOk result (λ o. IfNone o ((sources : List SourceInfo) → All IsSource sources
+        × All IsAnsweredSource sources.items)) }
+    ensures none { IfOk result
+        (λ o. IfNone o ((sources : List SourceInfo) → All IsAnsweredSource sources
         → array (items_view values.now) ≡ sources_data sources → ⊥)) }
 {
     let mut sources = Vec::new(alloc);

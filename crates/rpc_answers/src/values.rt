@@ -4,7 +4,7 @@ ghost use Rattle.std.specs.List.{All};
 ghost use Rattle.std.specs.Option.{ForSome};
 ghost use Rattle.serde_json.specs.View.{view};
 ghost use Rattle.delta_base.specs.Ids.{IsId};
-ghost use Rattle.rpc_answers.specs.Answers.{IsSource};
+ghost use Rattle.rpc_answers.specs.Answers.{IsAnsweredSource};
 ghost use Rattle.rpc_answers.specs.Values.{whole_or_null, id_data, id_or_null};
 ghost use Rattle.rpc_answers.specs.Values.{limit_name, source_data};
 
@@ -55,7 +55,7 @@ pub fn limit_name(what: FullKind) -> &'static str
 /// A source with its own values.
 pub fn source_value(alloc: Global, source: &SourceInfo) -> Result<Value, OutOfMemory>
     ensures value { IfOk result (λ v. view v ≡ source_data source.now) }
-    ensures fits { IfOk result (λ _. IsSource source.now) }
+    ensures fits { IfOk result (λ _. IsAnsweredSource source.now) }
 {
     let id = id_value(alloc, source.id)?;
     Ok(json!(in alloc; {
@@ -69,7 +69,7 @@ pub fn source_value(alloc: Global, source: &SourceInfo) -> Result<Value, OutOfMe
 /// Sources in their order.
 pub fn source_values(alloc: Global, sources: &[SourceInfo]) -> Result<Vec<Value>, OutOfMemory>
     ensures values { IfOk result (λ values. map view values.items ≡ map source_data sources.now) }
-    ensures fits { IfOk result (λ _. All IsSource sources.now) }
+    ensures fits { IfOk result (λ _. All IsAnsweredSource sources.now) }
 {
     let mut values = Vec::new(alloc);
     for source in sources {

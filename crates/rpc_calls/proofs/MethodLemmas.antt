@@ -6,10 +6,10 @@ use Rattle.serde_json.specs.Find.{get}
 use Rattle.serde_json.specs.Read.{read}
 use Rattle.http_text.specs.Print.{IsAllow}
 use Rattle.http_text.specs.declared.message.RawRequest.{RawRequest}
-use Rattle.rpc_calls.specs.Calls.{asked_at, asked_by, asked_by_value, call_of, from_route, got, or_bad_method, posted, unless_refused}
+use Rattle.rpc_calls.specs.Calls.{asked_by_route, asked_by, asked_by_value, call_of, from_route, got, or_bad_method, posted, unless_refused}
 use Rattle.rpc_calls.specs.Media.{has_refused_media}
 use Rattle.rpc_calls.specs.Operations.{Operation, asked, asked_of, id_member, given_id, operations, text_member, version_member, with_member}
-use Rattle.rpc_calls.specs.Outcomes.{Outcome, no_route, media, bad_json, bad_method, bad_call, Answers, IsFaultOf, TellsMethods}
+use Rattle.rpc_calls.specs.Outcomes.{CallOutcome, no_route, media, bad_json, bad_method, bad_call, AnswersCall, IsFaultOf, TellsMethods}
 use Rattle.rpc_calls.specs.Routes.{allowed, route_of}
 use Rattle.rpc_calls.specs.declared.call.Call.{Call}
 use Rattle.rpc_calls.specs.declared.call.CallFault.{CallFault}
@@ -19,7 +19,7 @@ use Rattle.rpc_calls.specs.declared.route.Route.{Route}
 use Rattle.rpc_calls.specs.declared.route.Route.TheVariants as route
 
 -- the methods that it tells, if it does, may stand in a reply
-abbrev IsTold : Outcome → Type 0
+abbrev IsTold : CallOutcome → Type 0
 IsTold (Ok call) = Unit {0}
 IsTold (Err no_route) = Unit {0}
 IsTold (Err media) = Unit {0}
@@ -27,12 +27,12 @@ IsTold (Err bad_json) = Unit {0}
 IsTold (Err (bad_method methods)) = IsAllow (Some methods)
 IsTold (Err (bad_call member)) = Unit {0}
 
-abbrev AreToldIn : Option Outcome → Type 0
+abbrev AreToldIn : Option CallOutcome → Type 0
 AreToldIn None = Unit {0}
 AreToldIn (Some outcome) = IsTold outcome
 
 module _ {A : Type 0} where
-  member : (name : List ℕ) (found : Option A) (next : A → Outcome) → ((a : A) → IsTold (next a)) → IsTold (with_member name found next)
+  member : (name : List ℕ) (found : Option A) (next : A → CallOutcome) → ((a : A) → IsTold (next a)) → IsTold (with_member name found next)
   member name None next told = tt
   member name (Some a) next told = told a
 
@@ -90,7 +90,7 @@ all_told = (
   ),
 )
 
-either : (test : Bool) (x y : Outcome) → IsTold x → IsTold y → IsTold (if test then x else y)
+either : (test : Bool) (x y : CallOutcome) → IsTold x → IsTold y → IsTold (if test then x else y)
 either true x y a b = a
 either false x y a b = b
 
@@ -113,7 +113,7 @@ by_body body = either (is_utf8 body) (asked_by_value (read body)) (Err bad_json)
 
 -- ---- routes
 
-either_in : (test : Bool) (x y : Option Outcome) → AreToldIn x → AreToldIn y → AreToldIn (if test then x else y)
+either_in : (test : Bool) (x y : Option CallOutcome) → AreToldIn x → AreToldIn y → AreToldIn (if test then x else y)
 either_in true x y a b = a
 either_in false x y a b = b
 
@@ -131,11 +131,11 @@ by_posted (route.Log name) body = tt
 by_posted (route.Version name version) body = tt
 by_posted (route.Patch name id) body = tt
 
-by_media : (request : RawRequest) (outcome : Option Outcome) → AreToldIn outcome → AreToldIn (unless_refused request outcome)
+by_media : (request : RawRequest) (outcome : Option CallOutcome) → AreToldIn outcome → AreToldIn (unless_refused request outcome)
 by_media request None told = tt
 by_media request (Some outcome) told = either (has_refused_media request) (Err media) outcome tt told
 
-by_method : (r : Route) (outcome : Option Outcome) → AreToldIn outcome → IsTold (or_bad_method r outcome)
+by_method : (r : Route) (outcome : Option CallOutcome) → AreToldIn outcome → IsTold (or_bad_method r outcome)
 by_method r (Some outcome) told = told
 by_method route.Ping None told = refl
 by_method route.Rpc None told = refl
@@ -151,7 +151,7 @@ by_route (Some r) request =
     (either_in (bytes_eq request.method (codes "GET")) (got r) posts (by_got r)
     (either_in (bytes_eq request.method (codes "POST")) (unless_refused request (posted r request.body)) None (by_media request (posted r request.body) (by_posted r request.body)) tt))
 
-tells : (why : CallFault) (r : Route) (request : RawRequest) → IsFaultOf why (asked_at r request) → TellsMethods why
+tells : (why : CallFault) (r : Route) (request : RawRequest) → IsFaultOf why (asked_by_route r request) → TellsMethods why
 tells (fault.BadMethod methods) r request is = subst IsTold is (by_route (Some r) request)
 tells fault.NoRoute r request is = tt
 tells fault.Media r request is = tt
@@ -160,6 +160,6 @@ tells (fault.BadCall member) r request is = tt
 tells fault.OutOfMemory r request is = tt
 
 -- what a request to a route is told
-pub answer_tells : (result : Result Call CallFault) (r : Route) (request : RawRequest) → Answers result (asked_at r request) → IfErr result TellsMethods
+pub answer_tells : (result : Result Call CallFault) (r : Route) (request : RawRequest) → AnswersCall result (asked_by_route r request) → IfErr result TellsMethods
 answer_tells (Ok call) r request is = tt
 answer_tells (Err why) r request is = tells why r request is

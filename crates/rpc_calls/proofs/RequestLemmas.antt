@@ -12,9 +12,9 @@ use Rattle.serde_json.specs.Data.{Data, Members, object, member, no_members, nul
 use Rattle.serde_json.specs.Find.{as_object}
 use Rattle.serde_json.specs.Read.{read}
 use Rattle.rpc_calls.specs.Calls.{asked_by, asked_by_value, call_of, from_route}
-use Rattle.rpc_calls.specs.Operations.{asked, asked_of, operations, text_member, with_member, id_of}
+use Rattle.rpc_calls.specs.Operations.{asked, asked_of, operations, text_member, with_member, numbered_id}
 use Rattle.rpc_calls.specs.Outcomes.{bad_json}
-use Rattle.rpc_calls.specs.Requests.{IsAskable, get_of, post_of, object_of, one, new_source}
+use Rattle.rpc_calls.specs.Requests.{IsAskable, get_of, post_of, operation_object, one, new_source}
 use Rattle.http_text.specs.Print.{IsPrintable, is_path_byte, is_visible}
 use Rattle.rpc_calls.specs.Routes.{patch_route, route_of}
 use Rattle.std.specs.Option.{ForSome}
@@ -73,39 +73,39 @@ operation_again body given utf8 is =
 pub ping_again : call_of (get_of (codes "/$/ping")) ≡ Ok call.Ping
 ping_again = ap (λ (r : Option Route). from_route r (get_of (codes "/$/ping"))) ping_route
 
-pub list_again : asked (object_of (codes "list") no_members) ≡ Ok call.List
+pub list_again : asked (operation_object (codes "list") no_members) ≡ Ok call.List
 list_again = refl
 
-pub source_again : (name : List ℕ) → asked (object_of (codes "source") (one (codes "name") name)) ≡ Ok (call.Source name)
+pub source_again : (name : List ℕ) → asked (operation_object (codes "source") (one (codes "name") name)) ≡ Ok (call.Source name)
 source_again name = refl
 
-pub log_again : (name : List ℕ) → asked (object_of (codes "log") (one (codes "name") name)) ≡ Ok (call.Log name)
+pub log_again : (name : List ℕ) → asked (operation_object (codes "log") (one (codes "name") name)) ≡ Ok (call.Log name)
 log_again name = refl
 
-pub version_again : (name : List ℕ) → asked (object_of (codes "version") (one (codes "name") name)) ≡ Ok (call.Version name)
+pub version_again : (name : List ℕ) → asked (operation_object (codes "version") (one (codes "name") name)) ≡ Ok (call.Version name)
 version_again name = refl
 
-pub remove_again : (name : List ℕ) → asked (object_of (codes "remove") (one (codes "name") name)) ≡ Ok (call.Remove name)
+pub remove_again : (name : List ℕ) → asked (operation_object (codes "remove") (one (codes "name") name)) ≡ Ok (call.Remove name)
 remove_again name = refl
 
-pub source_by_uri_again : (uri : List ℕ) → asked (object_of (codes "source_by_uri") (one (codes "uri") uri)) ≡ Ok (call.SourceByUri uri)
+pub source_by_uri_again : (uri : List ℕ) → asked (operation_object (codes "source_by_uri") (one (codes "uri") uri)) ≡ Ok (call.SourceByUri uri)
 source_by_uri_again uri = refl
 
 pub rename_again : (name new_name : List ℕ)
-    → asked (object_of (codes "rename") (member (codes "name") (string name) (one (codes "new_name") new_name))) ≡ Ok (call.Rename name new_name)
+    → asked (operation_object (codes "rename") (member (codes "name") (string name) (one (codes "new_name") new_name))) ≡ Ok (call.Rename name new_name)
 rename_again name new_name = refl
 
 pub source_by_id_again : (id : Id) → IsId id.0
-    → asked (object_of (codes "source_by_id") (one (codes "id") (text_of id.0))) ≡ Ok (call.SourceById id)
+    → asked (operation_object (codes "source_by_id") (one (codes "id") (text_of id.0))) ≡ Ok (call.SourceById id)
 source_by_id_again id fits =
-    ap (λ (found : Option ℕ). with_member (codes "id") (option_map id_of found) (λ found. Ok (call.SourceById found)))
+    ap (λ (found : Option ℕ). with_member (codes "id") (option_map numbered_id found) (λ found. Ok (call.SourceById found)))
     (number_of-text_of id.0 fits)
 
 pub create_again : (name uri : List ℕ) (id : Option Id) → ForSome id (λ i. IsId i.0)
-    → asked (object_of (codes "create") (new_source name uri id)) ≡ Ok (call.Create name uri id)
+    → asked (operation_object (codes "create") (new_source name uri id)) ≡ Ok (call.Create name uri id)
 create_again name uri None fits = refl
 create_again name uri (Some id) fits =
-    ap (λ (found : Option ℕ). with_member (codes "id") (option_map (λ number. Some (id_of number)) found) (λ found. Ok (call.Create name uri found)))
+    ap (λ (found : Option ℕ). with_member (codes "id") (option_map (λ number. Some (numbered_id number)) found) (λ found. Ok (call.Create name uri found)))
     (number_of-text_of id.0 (fits id refl))
 
 -- ---- paths
@@ -120,7 +120,7 @@ pub fetch_version_again : (path name : List ℕ) (version : ℕ) → route_of pa
 fetch_version_again path name version is = ap (λ (r : Option Route). from_route r (get_of path)) is
 
 pub fetch_id_again : (path name : List ℕ) (n : ℕ) → route_of path ≡ Some (patch_route name n)
-    → call_of (get_of path) ≡ Ok (call.FetchId name (id_of n))
+    → call_of (get_of path) ≡ Ok (call.FetchId name (numbered_id n))
 fetch_id_again path name n is = ap (λ (r : Option Route). from_route r (get_of path)) is
 
 pub get_printable : (path rest host : List ℕ) → path ≡ 47 ∷ rest → list_all is_path_byte path ≡ true → list_all is_visible host ≡ true → IsPrintable (get_of path) host

@@ -12,13 +12,13 @@ before_semicolon (byte ∷ text) = if byte == 59 then [] else byte ∷ before_se
 
 -- the media type of a Content-Type field, without its parameters and the blanks round it (RFC
 -- 9110, section 8.3)
-abbrev pub media_type : List ℕ → List ℕ
-media_type value = trim_ows (before_semicolon value)
+abbrev pub media_type_of : List ℕ → List ℕ
+media_type_of value = trim_ows (before_semicolon value)
 
 -- patches in Thrift form aren't taken
 abbrev pub is_refused_type : Option (List ℕ) → Bool
 is_refused_type (Some value) =
-    str_eq_ignore_ascii_case (media_type value) (codes "application/rdf-patch+thrift")
+    str_eq_ignore_ascii_case (media_type_of value) (codes "application/rdf-patch+thrift")
 is_refused_type None = false
 
 -- nor is a body that is coded (RFC 9110, section 8.4)

@@ -1,6 +1,6 @@
 //! Bodies that aren't taken.
 ghost use Rattle.std.specs.Prelude.{◌≡◌};
-ghost use Rattle.rpc_calls.specs.Media.{media_type, is_refused_coding};
+ghost use Rattle.rpc_calls.specs.Media.{media_type_of, is_refused_coding};
 ghost use Rattle.rpc_calls.specs.Media.{is_refused_type, has_refused_media};
 
 use delta_base::Bytes;
@@ -8,7 +8,7 @@ use http_text::{RawRequest, split_at_byte, trim_blanks};
 
 // The media type of a Content-Type field, without its parameters.
 fn media_type(value: &[u8]) -> &[u8]
-    ensures { result.now ≡ media_type value.now }
+    ensures { result.now ≡ media_type_of value.now }
 {
     match split_at_byte(value, b';') {
         Some((kind, _)) => trim_blanks(kind),

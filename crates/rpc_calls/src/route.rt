@@ -1,7 +1,7 @@
 //! Where a path leads.
 ghost use Rattle.std.specs.Prelude.{◌≡◌, IfOk};
 ghost use Rattle.rpc_calls.specs.Routes.{allowed, has_post, route_behind};
-ghost use Rattle.rpc_calls.specs.Routes.{route_of, service_route, version_of};
+ghost use Rattle.rpc_calls.specs.Routes.{route_of, service_route, version_asked};
 
 use crate::path::{cut_path, read_segment};
 use delta_base::{Id, OutOfMemory, Text, read_id};
@@ -43,7 +43,7 @@ impl Route {
 
 // The number that 1 to 10 digits have.
 fn version_of(text: &[u8]) -> Option<u64>
-    ensures { result ≡ version_of text.now }
+    ensures { result ≡ version_asked text.now }
 {
     if text.is_empty() || text.len() > 10 || !are_digits(text) {
         return None;

@@ -4,7 +4,7 @@ ghost use Rattle.std.specs.Option.{ForSome};
 ghost use Rattle.serde_json.specs.View.{view};
 ghost use Rattle.delta_base.specs.Ids.{IsId, text_of};
 ghost use Rattle.serde_json.specs.Data.{member, no_members, string};
-ghost use Rattle.rpc_calls.specs.Requests.{new_source, object_of, one};
+ghost use Rattle.rpc_calls.specs.Requests.{new_source, operation_object, one};
 
 use delta_base::{Id, OutOfMemory, Text, id_string};
 use serde_json::{Value, json};
@@ -12,14 +12,15 @@ use std::alloc::Global;
 
 /// `list`.
 pub fn listed(alloc: Global) -> Result<Value, OutOfMemory>
-    ensures { IfOk result (λ value. view value ≡ object_of (codes "list") no_members) }
+    ensures { IfOk result (λ value. view value ≡ operation_object (codes "list") no_members) }
 {
     Ok(json!(in alloc; {"operation": "list"})?)
 }
 
 /// An operation on a name.
 pub fn named(alloc: Global, word: &str, name: &Text) -> Result<Value, OutOfMemory>
-    ensures { IfOk result (λ value. view value ≡ object_of word.now (one (codes "name") name.now)) }
+    ensures { IfOk result (λ value. view value
+        ≡ operation_object word.now (one (codes "name") name.now)) }
 {
     Ok(json!(in alloc; {"name": name.as_str(), "operation": word})?)
 }
@@ -27,7 +28,7 @@ pub fn named(alloc: Global, word: &str, name: &Text) -> Result<Value, OutOfMemor
 /// The operation on an id.
 pub fn with_id(alloc: Global, id: Id) -> Result<Value, OutOfMemory>
     ensures value { IfOk result (λ value.
-        view value ≡ object_of (codes "source_by_id") (one (codes "id") (text_of id.0))) }
+        view value ≡ operation_object (codes "source_by_id") (one (codes "id") (text_of id.0))) }
     ensures fits { IsId id.0 }
 {
     let text = id_string(alloc, id)?;
@@ -37,7 +38,7 @@ pub fn with_id(alloc: Global, id: Id) -> Result<Value, OutOfMemory>
 /// The operation on a URI.
 pub fn with_uri(alloc: Global, uri: &Text) -> Result<Value, OutOfMemory>
     ensures { IfOk result (λ value.
-        view value ≡ object_of (codes "source_by_uri") (one (codes "uri") uri.now)) }
+        view value ≡ operation_object (codes "source_by_uri") (one (codes "uri") uri.now)) }
 {
     Ok(json!(in alloc; {"operation": "source_by_uri", "uri": uri.as_str()})?)
 }
@@ -45,7 +46,7 @@ pub fn with_uri(alloc: Global, uri: &Text) -> Result<Value, OutOfMemory>
 /// `create`, with an id if it is given.
 pub fn created(alloc: Global, name: &Text, uri: &Text, id: Option<Id>) -> Result<Value, OutOfMemory>
     ensures value { IfOk result (λ value.
-        view value ≡ object_of (codes "create") (new_source name.now uri.now id)) }
+        view value ≡ operation_object (codes "create") (new_source name.now uri.now id)) }
     ensures fits { ForSome id (λ i. IsId i.0) }
 {
     let Some(id) = id else {
@@ -62,7 +63,7 @@ pub fn created(alloc: Global, name: &Text, uri: &Text, id: Option<Id>) -> Result
 
 /// `rename`.
 pub fn renamed(alloc: Global, name: &Text, new_name: &Text) -> Result<Value, OutOfMemory>
-    ensures { IfOk result (λ value. view value ≡ object_of (codes "rename")
+    ensures { IfOk result (λ value. view value ≡ operation_object (codes "rename")
         (member (codes "name") (string name.now) (one (codes "new_name") new_name.now))) }
 {
     Ok(

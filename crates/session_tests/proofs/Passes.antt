@@ -3,7 +3,7 @@ use Rattle.std.proofs.Common.{◌≡◌, ℕ, zero, suc, ◌<◌, ◌≤◌, ref
 use Rattle.std.specs.Prelude.{slice_set}
 use Rattle.disk_model.specs.declared.disk.Disk.{Ghosts}
 use Rattle.turn_cell.specs.Turns.{AllOf, IsIn}
-use Rattle.turn_cell.specs.Knowing.{number_of}
+use Rattle.turn_cell.specs.Knowing.{pass_number}
 use Rattle.delta_session.specs.Ends.{IsEnded}
 use Rattle.delta_session.specs.Halls.{IsHallPass, AreHallPasses}
 use Rattle.delta_session.specs.Steps.{HallView, HallSight}
@@ -30,13 +30,13 @@ module _ {A : Type 0} where
 
 module _ {D : Type 0} (mark : D → Option (List ℕ × ℕ)) (hall : HallView D) where
   pub one_used : (passes : List HallSight) (k : ℕ) (p q : HallSight) → AreHallPasses mark hall passes → slice_get passes k ≡ Some p → IsHallPass mark hall q.lists
-      → number_of q.lists.registry ≡ number_of p.lists.registry → AreHallPasses mark hall (slice_set passes k q)
+      → pass_number q.lists.registry ≡ pass_number p.lists.registry → AreHallPasses mark hall (slice_set passes k q)
   one_used passes k p q are at is same = record {
     of = set_all (λ (pass : HallSight). IsHallPass mark hall pass.lists) passes k q are.of is;
     count = set_length passes k q ∙ are.count;
     all = λ n positive high.
         let one = are.all n positive high in
-        still_in passes k p q one.0 at one.1 (λ (pass : HallSight). number_of pass.lists.registry ≡ n) one.2 (λ e. same ∙ e);
+        still_in passes k p q one.0 at one.1 (λ (pass : HallSight). pass_number pass.lists.registry ≡ n) one.2 (λ e. same ∙ e);
   }
 
   pub one_of : (passes : List HallSight) (k : ℕ) (p : HallSight) → AreHallPasses mark hall passes → slice_get passes k ≡ Some p → IsHallPass mark hall p.lists

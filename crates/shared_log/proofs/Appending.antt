@@ -7,7 +7,7 @@ use Rattle.chain_core.specs.declared.answer.LogAnswer.{LogAnswer}
 use Rattle.chain_core.specs.declared.answer.LogAnswer.TheVariants.{Accepted, DiskFault}
 use Rattle.chain_core.specs.Replies.{append, answered}
 use Rattle.patch_log.specs.State.{LogView}
-use Rattle.turn_cell.specs.declared.view.Entry.{Entry as Known}
+use Rattle.turn_cell.specs.declared.view.Known.{Known}
 use Rattle.turn_cell.specs.Turns.{own_count, Adds}
 use Rattle.turn_cell.specs.Sights.{IsOutside}
 use Rattle.turn_cell.specs.Knowing.{SeesOn, Wants, IsQuiet, IsSame, KnowsItsOwn}
@@ -17,7 +17,7 @@ use Rattle.shared_log.specs.History.{history_of, fixed_of, StandsInTurn}
 use Rattle.shared_log.specs.Passes.{LogSight}
 use Rattle.patch_log.specs.Run.{Appended}
 use Rattle.shared_log.specs.Appending.{AppendsInTurn}
-use Rattle.shared_log.specs.Legal.{Legal}
+use Rattle.shared_log.specs.Legal.{LegalOnLog}
 use Rattle.shared_log.proofs.Table.{Stays}
 use Rattle.shared_log.specs.History.{IsKeptBy}
 use Rattle.shared_log.proofs.Stays.{stays_of, grows_of}
@@ -39,10 +39,10 @@ module _ {D : Type 0} (disks : Ghosts D) (p m q : LogSight) (origin was after : 
     on = let grown = grows_of disks was after patch p.view.number answer appended in
         sees_on p m q e same looks own (history_of was.entries) (history_of after.entries) found sees (grown.0, sym grown.1) never_falls
 
-    pub accepted : (place : ℕ) → answer ≡ Accepted place → Legal origin.limits p (append patch) (answered (Accepted place)) q
+    pub accepted : (place : ℕ) → answer ≡ Accepted place → LegalOnLog origin.limits p (append patch) (answered (Accepted place)) q
     accepted place is = (on, (Accepted place, refl, told_accepted origin.limits p m q was after e same looks own found sees doubt patch place (subst (Stays origin.limits p.view.number patch was after) is here)))
 
-    pub faulted : answer ≡ DiskFault → Legal origin.limits p (append patch) (answered DiskFault) q
+    pub faulted : answer ≡ DiskFault → LegalOnLog origin.limits p (append patch) (answered DiskFault) q
     faulted is = (
       on,
       (
@@ -76,7 +76,7 @@ module _ {D : Type 0} (disks : Ghosts D) (p m q : LogSight) (origin was after : 
       wants : Wants p q
       wants = asked p m q e same looks own seen quiet
 
-      pub told : Legal origin.limits p (append patch) (answered answer) q
+      pub told : LegalOnLog origin.limits p (append patch) (answered answer) q
       told = (wants.0, (answer, refl, told_quiet origin.limits p q was (seen ∙ sym found) p.view.number patch after answer no_fault not_accepted here wants.1))
 
       pub as_found : AppendsInTurn disks origin patch answer p q

@@ -5,11 +5,11 @@ use Rattle.std.proofs.lemmas.List.{map-append, length-map}
 use Rattle.chain_core.specs.declared.chain.Patch.{Patch}
 use Rattle.chain_core.specs.declared.chain.Entry.{Entry}
 use Rattle.chain_core.specs.Patches.{patches_of}
-use Rattle.turn_cell.specs.declared.view.Entry.{Entry as Known}
+use Rattle.turn_cell.specs.declared.view.Known.{Known}
 use Rattle.turn_cell.specs.Turns.{AllOf}
-use Rattle.shared_log.specs.History.{entry_of, history_of, chain_of}
+use Rattle.shared_log.specs.History.{entry_of, history_of, patches_known}
 
-pub known_chain : (entries : List Entry) → chain_of (history_of entries) ≡ patches_of entries
+pub known_chain : (entries : List Entry) → patches_known (history_of entries) ≡ patches_of entries
 known_chain [] = refl
 known_chain (entry ∷ entries) = ap (λ (patches : List Patch). entry.patch ∷ patches) (known_chain entries)
 

@@ -17,7 +17,7 @@ use Rattle.chain_core.proofs.Decided.{accepted}
 use Rattle.std.proofs.lemmas.List.{append-nil}
 use Rattle.disk_model.specs.declared.disk.Disk.{Ghosts}
 use Rattle.patch_log.specs.State.{LogView}
-use Rattle.patch_log.specs.Run.{Appended, Appends, IsWant}
+use Rattle.patch_log.specs.Run.{Appended, AppendsPatch, WantsForAppend}
 use Rattle.patch_log.specs.Ready.{ReadyView, IsMadeOf}
 use Rattle.delta_base.specs.declared.fault.OutOfMemory.{OutOfMemory as Want}
 use Rattle.patch_meaning.specs.Checked.{CheckedPatch}
@@ -77,7 +77,7 @@ module _ {D : Type 0} (limits : LogLimits) (by : ℕ) (patch : Patch) (before af
   by_answer DiskFault came grows keeps = (came.0, keeps (λ v e. cc), came.1)
   by_answer OutOfMemory came grows keeps = absurd came
 
-  by_want : (answer : LogAnswer) → IsWant limits chain before.doubt patch (up (patches_of after.entries) after.doubt) answer → KeepsAt answer → Stays limits by patch before after answer
+  by_want : (answer : LogAnswer) → WantsForAppend limits chain before.doubt patch (up (patches_of after.entries) after.doubt) answer → KeepsAt answer → Stays limits by patch before after answer
   by_want answer want keeps =
       let same : after.entries ≡ before.entries = keeps (λ v e. let not : Accepted v ≡ OutOfMemory = sym e ∙ want.told in cc) in
       let left : after.doubt ≡ before.doubt = ap doubt_of want.same in
@@ -87,11 +87,11 @@ module _ {D : Type 0} (limits : LogLimits) (by : ℕ) (patch : Patch) (before af
       doubt_of (up entries doubt) = doubt
       doubt_of (down entries) = None
 
-  pub stays : (answer : LogAnswer) → Appends limits chain before.doubt patch (up (patches_of after.entries) after.doubt) answer → GrowsBy answer → KeepsAt answer → Stays limits by patch before after answer
+  pub stays : (answer : LogAnswer) → AppendsPatch limits chain before.doubt patch (up (patches_of after.entries) after.doubt) answer → GrowsBy answer → KeepsAt answer → Stays limits by patch before after answer
   stays answer appends grows keeps =
       ⊎_elim (λ (s : (fate : Fate) × Stay limits (up chain before.doubt) patch fate (up (patches_of after.entries) after.doubt) answer).
       by_answer answer (subst (Comes (decision chain patch limits) chain before.doubt patch) s.1 (comes (decision chain patch limits) s.0 chain before.doubt patch)) grows keeps)
-      (λ (w : IsWant limits chain before.doubt patch (up (patches_of after.entries) after.doubt) answer). by_want answer w keeps) appends
+      (λ (w : WantsForAppend limits chain before.doubt patch (up (patches_of after.entries) after.doubt) answer). by_want answer w keeps) appends
 
   same_history : after.entries ≡ before.entries → IsGrownBy by (history_of before.entries) (history_of after.entries)
   same_history same = ([], ap history_of same ∙ sym (append-nil (history_of before.entries)), tt)

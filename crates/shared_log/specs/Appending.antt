@@ -7,7 +7,7 @@ use Rattle.chain_core.specs.declared.answer.LogAnswer.{LogAnswer}
 use Rattle.patch_log.specs.State.{LogView}
 use Rattle.patch_log.specs.Run.{Appended}
 use Rattle.turn_cell.specs.Turns.{own_count, Adds}
-use Rattle.turn_cell.specs.Knowing.{IsQuiet, number_of, seen_of, failed_of, own_faults_of}
+use Rattle.turn_cell.specs.Knowing.{IsQuiet, pass_number, seen_of, failed_of, own_faults_of}
 use Rattle.shared_log.specs.History.{history_of, fixed_of, StandsInTurn}
 use Rattle.shared_log.specs.Passes.{LogSight}
 
@@ -22,7 +22,7 @@ module _ {D : Type 0} where
     pub found_stands : StandsInTurn disks found
     pub left_stands : StandsInTurn disks left
     pub found_fixed : fixed_of disks.mark found ≡ fixed_of disks.mark origin
-    pub appended : Appended disks found left patch (number_of p) answer
+    pub appended : Appended disks found left patch (pass_number p) answer
     pub had_seen : IsPrefix (seen_of p) (history_of found.entries)
     pub sees : seen_of q ≡ history_of left.entries
     pub own_faults :

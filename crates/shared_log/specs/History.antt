@@ -7,7 +7,7 @@ use Rattle.chain_core.specs.Patches.{patches_of}
 use Rattle.patch_log.specs.Log.{StandsForLog}
 use Rattle.patch_log.specs.State.{LogView}
 use Rattle.shared_log.specs.declared.value.LogFixed.{LogFixed}
-use Rattle.turn_cell.specs.declared.view.Entry.{Entry as Known}
+use Rattle.turn_cell.specs.declared.view.Known.{Known}
 
 -- a patch, and the number of the pass that brought it
 abbrev pub entry_of : Patch → ℕ → Known Patch
@@ -17,8 +17,8 @@ abbrev pub history_of : List Entry → List (Known Patch)
 history_of entries = map (λ entry. entry_of entry.patch entry.by) entries
 
 -- the patches of a history
-abbrev pub chain_of : List (Known Patch) → List Patch
-chain_of history = map (λ known. known.content) history
+abbrev pub patches_known : List (Known Patch) → List Patch
+patches_known history = map (λ known. known.content) history
 
 module _ {D : Type 0} where
   -- what never changes

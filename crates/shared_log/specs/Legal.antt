@@ -13,56 +13,57 @@ use Rattle.chain_core.specs.declared.answer.LogAnswer.TheVariants.{Full as IsFul
 use Rattle.chain_core.specs.declared.answer.LogAnswer.TheVariants.{DiskFault, OutOfMemory}
 use Rattle.chain_core.specs.Decision.{decision}
 use Rattle.chain_core.specs.Replies.{LogCall, append, fetch_version, fetch_id, describe, version}
-use Rattle.chain_core.specs.Replies.{LogReply, answered, reply_of}
+use Rattle.chain_core.specs.Replies.{LogReply, answered, log_reply}
 use Rattle.turn_cell.specs.Knowing.{SeesOn, IsQuiet, Brought}
 use Rattle.turn_cell.specs.Knowing.{seen_of, mine_of, failed_of, own_faults_of}
-use Rattle.shared_log.specs.History.{chain_of}
+use Rattle.shared_log.specs.History.{patches_known}
 use Rattle.shared_log.specs.Passes.{LogSight}
 
 -- the history that the pass then knows gives this reply, and the pass did nothing else
 abbrev pub IsReply : LogLimits → LogCall → LogReply → LogSight → LogSight → Type 0
 IsReply limits call reply p q =
-    (reply ≡ reply_of limits call (chain_of (seen_of q))) × IsQuiet p q
+    (reply ≡ log_reply limits call (patches_known (seen_of q))) × IsQuiet p q
 
 -- the history that the pass then knows would take the patch
 abbrev pub WouldTake : LogLimits → Patch → LogSight → Type 0
 WouldTake limits patch q =
-    (place : ℕ) × (decision (chain_of (seen_of q)) patch limits ≡ Accept place)
+    (place : ℕ) × (decision (patches_known (seen_of q)) patch limits ≡ Accept place)
 
 -- the pass has brought the patch to this place, where the chain before it takes it
 abbrev pub IsAccepted : LogLimits → Patch → ℕ → LogSight → LogSight → Type 0
 IsAccepted limits patch place p q =
     (brought : Brought patch place p q)
-    × (decision (chain_of brought.before) patch limits ≡ Accept place)
+    × (decision (patches_known brought.before) patch limits ≡ Accept place)
 
 -- the patch may be left as a doubt
-abbrev pub MayFail : Patch → LogSight → LogSight → Type 0
-MayFail patch p q =
+abbrev pub MayLeavePatch : Patch → LogSight → LogSight → Type 0
+MayLeavePatch patch p q =
     (failed_of q ≡ failed_of p) ⊎ (failed_of q ≡ failed_of p ++ patch ∷ [])
 
 -- an answer to an append
-abbrev pub IsAnswer : LogLimits → Patch → LogAnswer → LogSight → LogSight → Type 0
-IsAnswer limits patch (Accepted place) p q = IsAccepted limits patch place p q
-IsAnswer limits patch (IsKnown place same) p q =
+abbrev pub IsAppendAnswer : LogLimits → Patch → LogAnswer → LogSight → LogSight → Type 0
+IsAppendAnswer limits patch (Accepted place) p q = IsAccepted limits patch place p q
+IsAppendAnswer limits patch (IsKnown place same) p q =
     IsReply limits (append patch) (answered (IsKnown place same)) p q
-IsAnswer limits patch (IsConflict place head named) p q =
+IsAppendAnswer limits patch (IsConflict place head named) p q =
     IsReply limits (append patch) (answered (IsConflict place head named)) p q
-IsAnswer limits patch (IsFull what have limit) p q =
+IsAppendAnswer limits patch (IsFull what have limit) p q =
     IsReply limits (append patch) (answered (IsFull what have limit)) p q
 -- the disk failed in this pass's own stay
-IsAnswer limits patch DiskFault p q =
+IsAppendAnswer limits patch DiskFault p q =
     WouldTake limits patch q × Rose (own_faults_of p) (own_faults_of q) × (mine_of q ≡ mine_of p)
-    × MayFail patch p q
-IsAnswer limits patch OutOfMemory p q = WouldTake limits patch q × IsQuiet p q
+    × MayLeavePatch patch p q
+IsAppendAnswer limits patch OutOfMemory p q = WouldTake limits patch q × IsQuiet p q
 
-abbrev pub IsTold : LogLimits → LogCall → LogReply → LogSight → LogSight → Type 0
-IsTold limits (append patch) reply p q =
-    (answer : LogAnswer) × (reply ≡ answered answer) × IsAnswer limits patch answer p q
-IsTold limits (fetch_version place) reply p q = IsReply limits (fetch_version place) reply p q
-IsTold limits (fetch_id id) reply p q = IsReply limits (fetch_id id) reply p q
-IsTold limits describe reply p q = IsReply limits describe reply p q
-IsTold limits version reply p q = IsReply limits version reply p q
+abbrev pub IsLogTold : LogLimits → LogCall → LogReply → LogSight → LogSight → Type 0
+IsLogTold limits (append patch) reply p q =
+    (answer : LogAnswer) × (reply ≡ answered answer) × IsAppendAnswer limits patch answer p q
+IsLogTold limits (fetch_version place) reply p q = IsReply limits (fetch_version place) reply p q
+IsLogTold limits (fetch_id id) reply p q = IsReply limits (fetch_id id) reply p q
+IsLogTold limits describe reply p q = IsReply limits describe reply p q
+IsLogTold limits version reply p q = IsReply limits version reply p q
 
 -- a call of a pass with its reply, on a log of these limits
-abbrev pub Legal : LogLimits → LogSight → LogCall → LogReply → LogSight → Type 0
-Legal limits before call reply after = SeesOn before after × IsTold limits call reply before after
+abbrev pub LegalOnLog : LogLimits → LogSight → LogCall → LogReply → LogSight → Type 0
+LegalOnLog limits before call reply after =
+    SeesOn before after × IsLogTold limits call reply before after

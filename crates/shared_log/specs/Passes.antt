@@ -5,7 +5,8 @@ use Rattle.chain_core.specs.declared.chain.Patch.{Patch}
 use Rattle.patch_log.specs.State.{LogView}
 use Rattle.turn_cell.specs.Turns.{AllOf, Knew, Continues}
 use Rattle.turn_cell.specs.Sights.{Sight, Made, IsOutside, AreAll, ComesFrom}
-use Rattle.turn_cell.specs.Knowing.{number_of, seen_of, mine_of, failed_of, own_faults_of, looks_of}
+use Rattle.turn_cell.specs.Knowing.{pass_number, seen_of, mine_of, failed_of, own_faults_of}
+use Rattle.turn_cell.specs.Knowing.{looks_of}
 use Rattle.shared_log.specs.declared.value.LogFixed.{LogFixed}
 use Rattle.shared_log.specs.History.{history_of, fixed_of}
 
@@ -22,7 +23,7 @@ module _ {D : Type 0} (mark : D → Option (List ℕ × ℕ)) where
   -- a pass as the making gives it: it has seen the log as it was then, and has done nothing
   abbrev pub IsNewPassOf : Made (LogView D) → ℕ → LogSight → Type 0
   IsNewPassOf log number p =
-      IsPassOf log p × (number_of p ≡ number) × (seen_of p ≡ history_of log.origin.entries)
+      IsPassOf log p × (pass_number p ≡ number) × (seen_of p ≡ history_of log.origin.entries)
       × (mine_of p ≡ []) × (own_faults_of p ≡ 0) × (looks_of p ≡ 0) × (failed_of p ≡ [])
 
   -- the passes of this log, of which none has the turn and none is missing
@@ -38,7 +39,7 @@ module _ {D : Type 0} where
   -- what a pass has seen of the log is its beginning, and the places that it knows are just those
   -- of its own entries
   abbrev pub HasSeen : LogView D → LogSight → Type 0
-  HasSeen log p = Knew (history_of log.entries) (number_of p) (seen_of p) (mine_of p)
+  HasSeen log p = Knew (history_of log.entries) (pass_number p) (seen_of p) (mine_of p)
 
   -- a patch in doubt was so at the making, or one of the passes left it
   abbrev pub HasDoubtOf : LogView D → List LogSight → LogView D → Type 0

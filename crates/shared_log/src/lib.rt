@@ -2,7 +2,7 @@
 //!
 //! Each thread has a pass of its own. A call takes the turn, asks the log or appends to it, and
 //! hands the turn on; how long the log is can be asked without waiting. What each call replies is
-//! told by `Legal` in `specs/`.
+//! told by `LegalOnLog` in `specs/`.
 #![tactic(auto)]
 
 mod replies;

@@ -4,12 +4,12 @@ ghost use Rattle.std.specs.Prelude.{vec_len, vec_capacity};
 ghost use Rattle.std.specs.List.{AllByRecursion};
 ghost use Rattle.chain_core.specs.Replies as asked;
 ghost use Rattle.patch_log.specs.Log.{bare};
-ghost use Rattle.turn_cell.specs.Knowing.{Wants, number_of};
+ghost use Rattle.turn_cell.specs.Knowing.{Wants, pass_number};
 ghost use Rattle.shared_log.specs.History.{StandsInTurn};
 ghost use Rattle.shared_log.specs.Passes.{IsPassOf, IsNewPassOf, AreAllPassesOf, IsClosedOf};
 ghost use Rattle.shared_log.specs.Replies.{reply_fetched, reply_described};
 ghost use Rattle.shared_log.specs.Appending.{AppendsInTurn};
-ghost use Rattle.shared_log.specs.Legal.{Legal};
+ghost use Rattle.shared_log.specs.Legal.{LegalOnLog};
 
 use crate::replies::{Fetched, LogInfo};
 use crate::value::LogValue;
@@ -71,7 +71,7 @@ impl<D: Disk> SharedLog<D> {
     pub fn append<R: Wait>(&self, rt: &R, pass: &mut LogPass<D>, patch: &Checked) -> LogAnswer
         requires of { IsPassOf D.mark self.now pass.old }
         ensures of { IsPassOf D.mark self.now pass.new }
-        ensures legal { Legal self.now.origin.limits pass.old
+        ensures legal { LegalOnLog self.now.origin.limits pass.old
             (asked.append (bare patch.now)) (asked.answered result) pass.new }
         ensures stay { AppendsInTurn D.Disk self.now.origin (bare patch.now) result
             pass.old pass.new }
@@ -103,7 +103,7 @@ impl<D: Disk> SharedLog<D> {
     ) -> Result<Fetched, OutOfMemory>
         requires of { IsPassOf D.mark self.now pass.old }
         ensures of { IsPassOf D.mark self.now pass.new }
-        ensures legal { IfOk result (λ fetched. Legal self.now.origin.limits pass.old
+        ensures legal { IfOk result (λ fetched. LegalOnLog self.now.origin.limits pass.old
             (asked.fetch_version version) (reply_fetched fetched) pass.new) }
         ensures want { OnErr result (Wants pass.old pass.new) }
     {
@@ -122,7 +122,7 @@ impl<D: Disk> SharedLog<D> {
     ) -> Result<Fetched, OutOfMemory>
         requires of { IsPassOf D.mark self.now pass.old }
         ensures of { IsPassOf D.mark self.now pass.new }
-        ensures legal { IfOk result (λ fetched. Legal self.now.origin.limits pass.old
+        ensures legal { IfOk result (λ fetched. LegalOnLog self.now.origin.limits pass.old
             (asked.fetch_id id) (reply_fetched fetched) pass.new) }
         ensures want { OnErr result (Wants pass.old pass.new) }
     {
@@ -136,7 +136,7 @@ impl<D: Disk> SharedLog<D> {
     pub fn describe<R: Wait>(&self, rt: &R, pass: &mut LogPass<D>) -> LogInfo
         requires of { IsPassOf D.mark self.now pass.old }
         ensures of { IsPassOf D.mark self.now pass.new }
-        ensures legal { Legal self.now.origin.limits pass.old
+        ensures legal { LegalOnLog self.now.origin.limits pass.old
             asked.describe (reply_described result) pass.new }
     {
         let held = self.turn.enter(rt, pass);
@@ -149,7 +149,7 @@ impl<D: Disk> SharedLog<D> {
     pub fn version(&self, pass: &mut LogPass<D>) -> u32
         requires of { IsPassOf D.mark self.now pass.old }
         ensures of { IsPassOf D.mark self.now pass.new }
-        ensures legal { Legal self.now.origin.limits pass.old
+        ensures legal { LegalOnLog self.now.origin.limits pass.old
             asked.version (asked.counted result) pass.new }
     {
         self.turn.count(pass) as u32

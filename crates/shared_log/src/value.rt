@@ -76,7 +76,7 @@ impl<D: Disk> LogValue<D> {
 
     pub fn describe(&self) -> LogInfo
         ensures { reply_described result
-            ≡ asked.reply_of self.now.limits asked.describe (patches_of self.now.entries) }
+            ≡ asked.log_reply self.now.limits asked.describe (patches_of self.now.entries) }
     {
         let chain = self.log.chain();
         LogInfo {
@@ -87,7 +87,7 @@ impl<D: Disk> LogValue<D> {
 
     pub fn fetch_version(&self, version: u32) -> Result<Fetched, OutOfMemory>
         ensures { IfOk result (λ fetched. reply_fetched fetched
-            ≡ asked.reply_of self.now.limits (asked.fetch_version version)
+            ≡ asked.log_reply self.now.limits (asked.fetch_version version)
             (patches_of self.now.entries)) }
     {
         match self.log.chain().by_version(version) {
@@ -102,7 +102,7 @@ impl<D: Disk> LogValue<D> {
 
     pub fn fetch_id(&self, id: Id) -> Result<Fetched, OutOfMemory>
         ensures { IfOk result (λ fetched. reply_fetched fetched
-            ≡ asked.reply_of self.now.limits (asked.fetch_id id) (patches_of self.now.entries)) }
+            ≡ asked.log_reply self.now.limits (asked.fetch_id id) (patches_of self.now.entries)) }
     {
         match self.log.version_of(id) {
             Some(version) => self.fetch_version(version),

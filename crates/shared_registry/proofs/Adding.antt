@@ -10,8 +10,8 @@ use Rattle.turn_cell.specs.Knowing.{SeesOn, IsSame, IsQuiet}
 use Rattle.turn_cell.proofs.Knowing.{same_on}
 use Rattle.turn_cell.proofs.Views.{prefix_trans, prefix_refl}
 use Rattle.shared_registry.specs.Passes.{RegistrySight}
-use Rattle.shared_registry.specs.Legal.{IsTold}
-use Rattle.shared_registry.specs.Lookups.{Lookup, IsReplied, AreAsked, made_by, faulted_by, ending_of, events_made, events_faulted, RegistryAddsUp}
+use Rattle.shared_registry.specs.Legal.{IsRegistryTold}
+use Rattle.shared_registry.specs.Lookups.{RegistryLookup, IsLookupReply, AreLookups, made_by, faulted_by, ending_of, events_made, events_faulted, RegistryAddsUp}
 
 -- what one call adds, by how it ends
 record AddsOne (end : Ending) (p q : RegistrySight) : Type 0 where
@@ -37,7 +37,7 @@ module _ (p q : RegistrySight) (never_falls : p.view.own_faults ≤ q.view.own_f
     faults = subst (λ (n : ℕ). RoseBy n p.view.own_faults q.view.own_faults) (sym no_fault) (rose_none p.view.own_faults q.view.own_faults never_falls);
   }
 
-  by_ending : (slots : ℕ) (end : Ending) (call : RegistryCall) (reply : RegistryReply) → IsTold end slots call reply p q → AddsOne end p q
+  by_ending : (slots : ℕ) (end : Ending) (call : RegistryCall) (reply : RegistryReply) → IsRegistryTold end slots call reply p q → AddsOne end p q
   by_ending slots (made event) call reply t = record {
     mine = (t.0 ∷ [], t.1.mine, refl);
     failed = ([], t.1.failed ∙ sym (append-nil p.view.failed), omega arith);
@@ -52,7 +52,7 @@ module _ (p q : RegistrySight) (never_falls : p.view.own_faults ≤ q.view.own_f
   }
   by_ending slots wanting call reply t = quiet wanting refl refl t.1
 
-one_call : (p q : RegistrySight) (slots : ℕ) (call : RegistryCall) (reply : Option RegistryReply) → IsReplied slots p call reply q → SeesOn p q × AddsOne (ending_of call reply) p q
+one_call : (p q : RegistrySight) (slots : ℕ) (call : RegistryCall) (reply : Option RegistryReply) → IsLookupReply slots p call reply q → SeesOn p q × AddsOne (ending_of call reply) p q
 one_call p q slots call (Some reply) legal = (legal.0, by_ending p q legal.0.5 slots (ending call reply) call reply legal.1)
 one_call p q slots call None want = (want.0, quiet p q want.0.5 wanting refl refl want.1)
 
@@ -67,7 +67,7 @@ none_yet p = record {
   never_falls = omega arith;
 }
 
-one_before : (p m q : RegistrySight) (asked : Lookup) (more : List Lookup) → SeesOn p m → AddsOne (ending_of asked.call asked.reply) p m → RegistryAddsUp m more q → RegistryAddsUp p (asked ∷ more) q
+one_before : (p m q : RegistrySight) (asked : RegistryLookup) (more : List RegistryLookup) → SeesOn p m → AddsOne (ending_of asked.call asked.reply) p m → RegistryAddsUp m more q → RegistryAddsUp p (asked ∷ more) q
 one_before p m q asked more sees one rest =
     let f = one.failed in
     let g = rest.failed in
@@ -83,12 +83,12 @@ one_before p m q asked more sees one rest =
       never_falls = omega (arith, sees.5, rest.never_falls);
     }
 
-pub add_up : (slots : ℕ) (p q : RegistrySight) (asked : List Lookup) → AreAsked slots p asked q → RegistryAddsUp p asked q
+pub add_up : (slots : ℕ) (p q : RegistrySight) (asked : List RegistryLookup) → AreLookups slots p asked q → RegistryAddsUp p asked q
 add_up slots p q [] same = subst (λ (s : RegistrySight). RegistryAddsUp p [] s) (sym same) (none_yet p)
 add_up slots p q (asked ∷ more) calls =
     let one = one_call p calls.0 slots asked.call asked.reply calls.1 in
     one_before p calls.0 q asked more one.0 one.1 (add_up slots calls.0 q more calls.2)
 
-pub compose : (slots : ℕ) (p mid q : RegistrySight) (first others : List Lookup) → AreAsked slots p first mid → AreAsked slots mid others q → AreAsked slots p (first ++ others) q
-compose slots p mid q [] others same rest = subst (λ (s : RegistrySight). AreAsked slots s others q) same rest
+pub compose : (slots : ℕ) (p mid q : RegistrySight) (first others : List RegistryLookup) → AreLookups slots p first mid → AreLookups slots mid others q → AreLookups slots p (first ++ others) q
+compose slots p mid q [] others same rest = subst (λ (s : RegistrySight). AreLookups slots s others q) same rest
 compose slots p mid q (asked ∷ more) others calls rest = (calls.0, calls.1, compose slots calls.0 mid q more others calls.2 rest)

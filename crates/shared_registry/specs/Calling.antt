@@ -7,8 +7,8 @@ use Rattle.registry_core.specs.Replies.{RegistryCall, RegistryReply}
 use Rattle.log_registry.specs.Changes.{Called}
 use Rattle.log_registry.specs.State.{StateView}
 use Rattle.turn_cell.specs.Turns.{own_count, Adds}
-use Rattle.turn_cell.specs.Knowing.{IsQuiet, number_of, seen_of, failed_of, own_faults_of}
-use Rattle.shared_registry.specs.History.{history_of, fixed_of, StandsInTurn}
+use Rattle.turn_cell.specs.Knowing.{IsQuiet, pass_number, seen_of, failed_of, own_faults_of}
+use Rattle.shared_registry.specs.History.{event_history, registry_fixed_of, RegistryStandsInTurn}
 use Rattle.shared_registry.specs.Passes.{RegistrySight}
 
 module _ {D : Type 0} where
@@ -19,12 +19,12 @@ module _ {D : Type 0} where
       (reply : RegistryReply) (p q : RegistrySight) : Type 0 where
     pub found : StateView D
     pub left : StateView D
-    pub found_stands : StandsInTurn disks found
-    pub left_stands : StandsInTurn disks left
-    pub found_fixed : fixed_of disks.mark found ≡ fixed_of disks.mark origin
-    pub called : Called disks found left call (number_of p) reply
-    pub had_seen : IsPrefix (seen_of p) (history_of found.entries)
-    pub sees : seen_of q ≡ history_of left.entries
+    pub found_stands : RegistryStandsInTurn disks found
+    pub left_stands : RegistryStandsInTurn disks left
+    pub found_fixed : registry_fixed_of disks.mark found ≡ registry_fixed_of disks.mark origin
+    pub called : Called disks found left call (pass_number p) reply
+    pub had_seen : IsPrefix (seen_of p) (event_history found.entries)
+    pub sees : seen_of q ≡ event_history left.entries
     pub own_faults :
         IsQuiet p q
         ⊎ (own_faults_of q

@@ -6,14 +6,14 @@ use Rattle.registry_core.specs.declared.event.Entry.{Entry}
 use Rattle.log_registry.specs.Stands.{StandsForRegistry}
 use Rattle.log_registry.specs.State.{StateView, events_in}
 use Rattle.shared_registry.specs.declared.value.RegistryFixed.{RegistryFixed}
-use Rattle.turn_cell.specs.declared.view.Entry.{Entry as Known}
+use Rattle.turn_cell.specs.declared.view.Known.{Known}
 
 -- an event, and the number of the pass that brought it
-abbrev pub entry_of : Event → ℕ → Known Event
-entry_of event by = record { content = event; by = by }
+abbrev pub event_entry : Event → ℕ → Known Event
+event_entry event by = record { content = event; by = by }
 
-abbrev pub history_of : List Entry → List (Known Event)
-history_of entries = map (λ entry. entry_of entry.event entry.by) entries
+abbrev pub event_history : List Entry → List (Known Event)
+event_history entries = map (λ entry. event_entry entry.event entry.by) entries
 
 -- the events of a history
 abbrev pub known_events : List (Known Event) → List Event
@@ -21,13 +21,13 @@ known_events history = map (λ known. known.content) history
 
 module _ {D : Type 0} where
   -- what never changes
-  abbrev pub fixed_of : (D → Option (List ℕ × ℕ)) → StateView D → RegistryFixed
-  fixed_of mark registry = record { slots = registry.slots; mark = mark registry.disk }
+  abbrev pub registry_fixed_of : (D → Option (List ℕ × ℕ)) → StateView D → RegistryFixed
+  registry_fixed_of mark registry = record { slots = registry.slots; mark = mark registry.disk }
 
   -- A registry that may lie in a turn. If its disk tells its bytes, each image that a crash may
   -- leave holds the events, with the one in doubt or without.
-  abbrev pub StandsInTurn : Ghosts D → StateView D → Type 0
-  StandsInTurn disks registry =
+  abbrev pub RegistryStandsInTurn : Ghosts D → StateView D → Type 0
+  RegistryStandsInTurn disks registry =
       disks.tells
       → StandsForRegistry (disks.past registry.disk) registry.slots (events_in registry)
       registry.doubt

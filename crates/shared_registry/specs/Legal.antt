@@ -5,34 +5,36 @@ use Rattle.std.specs.Prelude.{◌≡◌, ◌⊎◌, ℕ, [], ◌∷◌, ◌++◌
 use Rattle.delta_base.specs.Outside.{Rose}
 use Rattle.registry_core.specs.declared.event.Event.{Event}
 use Rattle.registry_core.specs.Answers.{Ending, made, told, failed, wanting}
-use Rattle.registry_core.specs.Replies.{RegistryCall, RegistryReply, reply_of, event_by, ending}
-use Rattle.registry_core.specs.Replies.{Makes, ShowsName}
+use Rattle.registry_core.specs.Replies.{RegistryCall, RegistryReply, registry_reply, event_by}
+use Rattle.registry_core.specs.Replies.{ending}
+use Rattle.registry_core.specs.Replies.{MakesEvent, ShowsName}
 use Rattle.turn_cell.specs.Knowing.{SeesOn, IsQuiet, Brought, mine_of, failed_of, own_faults_of}
 use Rattle.shared_registry.specs.History.{known_events}
 use Rattle.shared_registry.specs.Passes.{RegistrySight, events_seen}
 
 -- the event may be left as a doubt
-abbrev pub MayFail : Event → RegistrySight → RegistrySight → Type 0
-MayFail event p q = (failed_of q ≡ failed_of p) ⊎ (failed_of q ≡ failed_of p ++ event ∷ [])
+abbrev pub MayLeaveEvent : Event → RegistrySight → RegistrySight → Type 0
+MayLeaveEvent event p q = (failed_of q ≡ failed_of p) ⊎ (failed_of q ≡ failed_of p ++ event ∷ [])
 
 -- what a call told, by how it ended
-abbrev pub IsTold : Ending → ℕ → RegistryCall → RegistryReply
+abbrev pub IsRegistryTold : Ending → ℕ → RegistryCall → RegistryReply
     → RegistrySight → RegistrySight → Type 0
 -- the pass has brought the event, where the events before it give this reply
-IsTold (made event) slots call reply p q =
+IsRegistryTold (made event) slots call reply p q =
     (place : ℕ) × (brought : Brought event place p q)
-    × (reply ≡ reply_of slots call (known_events brought.before))
+    × (reply ≡ registry_reply slots call (known_events brought.before))
 -- the history that the pass then knows gives this reply, and the pass did nothing else
-IsTold told slots call reply p q =
-    (reply ≡ reply_of slots call (events_seen q)) × IsQuiet p q
+IsRegistryTold told slots call reply p q =
+    (reply ≡ registry_reply slots call (events_seen q)) × IsQuiet p q
 -- the disk failed in this pass's own stay, where an event was due
-IsTold failed slots call reply p q =
+IsRegistryTold failed slots call reply p q =
     (event : Event) × (event_by slots call (events_seen q) ≡ Some event)
-    × Rose (own_faults_of p) (own_faults_of q) × (mine_of q ≡ mine_of p) × MayFail event p q
-IsTold wanting slots call reply p q =
-    (Makes slots call (events_seen q) ⊎ ShowsName slots call (events_seen q)) × IsQuiet p q
+    × Rose (own_faults_of p) (own_faults_of q) × (mine_of q ≡ mine_of p) × MayLeaveEvent event p q
+IsRegistryTold wanting slots call reply p q =
+    (MakesEvent slots call (events_seen q) ⊎ ShowsName slots call (events_seen q)) × IsQuiet p q
 
 -- a call of a pass with its reply, on a registry of so many slots
-abbrev pub Legal : ℕ → RegistrySight → RegistryCall → RegistryReply → RegistrySight → Type 0
-Legal slots before call reply after =
-    SeesOn before after × IsTold (ending call reply) slots call reply before after
+abbrev pub LegalOnRegistry : ℕ → RegistrySight → RegistryCall → RegistryReply
+    → RegistrySight → Type 0
+LegalOnRegistry slots before call reply after =
+    SeesOn before after × IsRegistryTold (ending call reply) slots call reply before after

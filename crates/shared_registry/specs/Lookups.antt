@@ -8,27 +8,27 @@ use Rattle.registry_core.specs.Replies.{RegistryCall, RegistryReply, ending}
 use Rattle.turn_cell.specs.Knowing.{IsSame, Wants, seen_of, mine_of}
 use Rattle.turn_cell.specs.Knowing.{failed_of, own_faults_of, looks_of}
 use Rattle.shared_registry.specs.Passes.{RegistrySight}
-use Rattle.shared_registry.specs.Legal.{Legal}
+use Rattle.shared_registry.specs.Legal.{LegalOnRegistry}
 
 -- a call with its reply, or without one where memory ran out
-pub record Lookup : Type 0 where
+pub record RegistryLookup : Type 0 where
   pub call : RegistryCall
   pub reply : Option RegistryReply
 
-abbrev pub IsReplied : ℕ → RegistrySight → RegistryCall → Option RegistryReply
+abbrev pub IsLookupReply : ℕ → RegistrySight → RegistryCall → Option RegistryReply
     → RegistrySight → Type 0
-IsReplied slots p call (Some reply) q = Legal slots p call reply q
-IsReplied slots p call None q = Wants p q
+IsLookupReply slots p call (Some reply) q = LegalOnRegistry slots p call reply q
+IsLookupReply slots p call None q = Wants p q
 
 -- one legal call
-abbrev pub IsAsked : ℕ → RegistrySight → Lookup → RegistrySight → Type 0
-IsAsked slots p asked q = IsReplied slots p asked.call asked.reply q
+abbrev pub IsLookup : ℕ → RegistrySight → RegistryLookup → RegistrySight → Type 0
+IsLookup slots p asked q = IsLookupReply slots p asked.call asked.reply q
 
 -- legal calls one after another
-abbrev pub AreAsked : ℕ → RegistrySight → List Lookup → RegistrySight → Type 0
-AreAsked slots p [] q = q ≡ p
-AreAsked slots p (asked ∷ more) q =
-    (next : RegistrySight) × IsAsked slots p asked next × AreAsked slots next more q
+abbrev pub AreLookups : ℕ → RegistrySight → List RegistryLookup → RegistrySight → Type 0
+AreLookups slots p [] q = q ≡ p
+AreLookups slots p (asked ∷ more) q =
+    (next : RegistrySight) × IsLookup slots p asked next × AreLookups slots next more q
 
 -- how many events a call that ended so has made, and of how many events the disk failed the writing
 abbrev pub made_by : Ending → ℕ
@@ -48,19 +48,19 @@ ending_of call (Some reply) = ending call reply
 ending_of call None = wanting
 
 -- how many events these calls have made
-abbrev pub events_made : List Lookup → ℕ
+abbrev pub events_made : List RegistryLookup → ℕ
 events_made [] = 0
 events_made (asked ∷ more) = made_by (ending_of asked.call asked.reply) + events_made more
 
 -- how many of them met a fault of the disk
-abbrev pub events_faulted : List Lookup → ℕ
+abbrev pub events_faulted : List RegistryLookup → ℕ
 events_faulted [] = 0
 events_faulted (asked ∷ more) = faulted_by (ending_of asked.call asked.reply) + events_faulted more
 
 -- It is the same pass, and knows all that it knew. It has looked once for each call at least; its
 -- own places grew by as many as made an event; no more came as failed than met a fault of the disk,
 -- and its own faults rose by as many as did.
-pub record RegistryAddsUp (p : RegistrySight) (asked : List Lookup)
+pub record RegistryAddsUp (p : RegistrySight) (asked : List RegistryLookup)
     (q : RegistrySight) : Type 0 where
   pub same : IsSame p q
   pub seen : IsPrefix (seen_of p) (seen_of q)

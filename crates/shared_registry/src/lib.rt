@@ -1,7 +1,7 @@
 //! The registry that threads share over a turn.
 //!
 //! Each thread has a pass of its own. A call takes the turn, asks the registry or changes it, and
-//! hands the turn on. What each call replies is told by `Legal` in `specs/`.
+//! hands the turn on. What each call replies is told by `LegalOnRegistry` in `specs/`.
 #![tactic(auto)]
 
 mod laws;

@@ -56,7 +56,7 @@ impl<D: Disk> Model for RegistryPass<D> {
 }
 
 impl<D: Disk> RegistryPass<D> {
-    ghost use Rattle.turn_cell.specs.Knowing.{number_of, own_faults_of};
+    ghost use Rattle.turn_cell.specs.Knowing.{pass_number, own_faults_of};
 
     /// The pass with no source looked up yet.
     pub fn of(pass: Pass<RegistryValue<D>>) -> RegistryPass<D>
@@ -74,7 +74,7 @@ impl<D: Disk> RegistryPass<D> {
     }
 
     pub fn number(&self) -> u32
-        ensures { result ≡ number_of self.now }
+        ensures { result ≡ pass_number self.now }
     {
         self.pass.number()
     }

@@ -6,10 +6,12 @@ ghost use Rattle.std.specs.List.{AllByRecursion};
 ghost use Rattle.registry_core.specs.Replies as asked;
 ghost use Rattle.registry_core.specs.Sources.{HasSlot};
 ghost use Rattle.turn_cell.specs.Knowing.{Wants};
-ghost use Rattle.shared_registry.specs.History.{StandsInTurn};
-ghost use Rattle.shared_registry.specs.Passes.{IsPassOf, IsNewPassOf, AreAllPassesOf, IsClosedOf};
+ghost use Rattle.shared_registry.specs.History.{RegistryStandsInTurn};
+ghost use Rattle.shared_registry.specs.Passes.{IsRegistryPassOf, IsNewRegistryPassOf};
+ghost use Rattle.shared_registry.specs.Passes.{AreAllRegistryPassesOf};
+ghost use Rattle.shared_registry.specs.Passes.{IsClosedRegistryOf};
 ghost use Rattle.shared_registry.specs.Calling.{CallsInTurn};
-ghost use Rattle.shared_registry.specs.Legal.{Legal};
+ghost use Rattle.shared_registry.specs.Legal.{LegalOnRegistry};
 ghost use Rattle.shared_registry.specs.Names.{KeepsNames, HasNames};
 
 use crate::names::{Names, RegistryPass, counts, living_in};
@@ -56,7 +58,7 @@ impl<D: Disk> SharedRegistry<D> {
         ensures passes { IfOk result (λ r.
             (vec_len r.1 ≡ seats) × (vec_capacity r.1 ≡ seats)) }
         ensures new { IfOk result (λ r. (k : ℕ) (p : _) → slice_get r.1.items k ≡ Some p
-            → IsNewPassOf D.mark r.0 (k + 1) p) }
+            → IsNewRegistryPassOf D.mark r.0 (k + 1) p) }
         ensures back { IfErr result (λ b. b.item ≡ state) }
     {
         let slots = state.slots();
@@ -85,9 +87,10 @@ impl<D: Disk> SharedRegistry<D> {
         uri: &Text,
         id: Id,
     ) -> CreateAnswer
-        requires of { IsPassOf D.mark self.now pass.old }
-        ensures of { IsPassOf D.mark self.now pass.new }
-        ensures legal { Legal self.now.origin.slots pass.old (asked.create name.now uri.now id)
+        requires of { IsRegistryPassOf D.mark self.now pass.old }
+        ensures of { IsRegistryPassOf D.mark self.now pass.new }
+        ensures legal { LegalOnRegistry self.now.origin.slots pass.old
+            (asked.create name.now uri.now id)
             (asked.answered result) pass.new }
         ensures stay { CallsInTurn D.Disk self.now.origin (asked.create name.now uri.now id)
             (asked.answered result) pass.old pass.new }
@@ -105,9 +108,10 @@ impl<D: Disk> SharedRegistry<D> {
         uri: &Text,
         id: Id,
     ) -> CreateAnswer
-        requires of { IsPassOf D.mark self.now pass.old }
-        ensures of { IsPassOf D.mark self.now pass.new }
-        ensures legal { Legal self.now.origin.slots pass.old (asked.create name.now uri.now id)
+        requires of { IsRegistryPassOf D.mark self.now pass.old }
+        ensures of { IsRegistryPassOf D.mark self.now pass.new }
+        ensures legal { LegalOnRegistry self.now.origin.slots pass.old
+            (asked.create name.now uri.now id)
             (asked.answered result) pass.new }
         ensures stay { CallsInTurn D.Disk self.now.origin (asked.create name.now uri.now id)
             (asked.answered result) pass.old pass.new }
@@ -139,9 +143,10 @@ impl<D: Disk> SharedRegistry<D> {
         name: &Text,
         new_name: &Text,
     ) -> ChangeAnswer
-        requires of { IsPassOf D.mark self.now pass.old }
-        ensures of { IsPassOf D.mark self.now pass.new }
-        ensures legal { Legal self.now.origin.slots pass.old (asked.rename name.now new_name.now)
+        requires of { IsRegistryPassOf D.mark self.now pass.old }
+        ensures of { IsRegistryPassOf D.mark self.now pass.new }
+        ensures legal { LegalOnRegistry self.now.origin.slots pass.old
+            (asked.rename name.now new_name.now)
             (asked.changed result) pass.new }
         ensures stay { CallsInTurn D.Disk self.now.origin (asked.rename name.now new_name.now)
             (asked.changed result) pass.old pass.new }
@@ -158,9 +163,10 @@ impl<D: Disk> SharedRegistry<D> {
         name: &Text,
         new_name: &Text,
     ) -> ChangeAnswer
-        requires of { IsPassOf D.mark self.now pass.old }
-        ensures of { IsPassOf D.mark self.now pass.new }
-        ensures legal { Legal self.now.origin.slots pass.old (asked.rename name.now new_name.now)
+        requires of { IsRegistryPassOf D.mark self.now pass.old }
+        ensures of { IsRegistryPassOf D.mark self.now pass.new }
+        ensures legal { LegalOnRegistry self.now.origin.slots pass.old
+            (asked.rename name.now new_name.now)
             (asked.changed result) pass.new }
         ensures stay { CallsInTurn D.Disk self.now.origin (asked.rename name.now new_name.now)
             (asked.changed result) pass.old pass.new }
@@ -186,9 +192,9 @@ impl<D: Disk> SharedRegistry<D> {
     /// Removes a source, or says why not: no such name, no room, want of memory and a disk fault,
     /// in this order.
     pub fn remove<R: Wait>(&self, rt: &R, pass: &mut RegistryPass<D>, name: &Text) -> ChangeAnswer
-        requires of { IsPassOf D.mark self.now pass.old }
-        ensures of { IsPassOf D.mark self.now pass.new }
-        ensures legal { Legal self.now.origin.slots pass.old (asked.remove name.now)
+        requires of { IsRegistryPassOf D.mark self.now pass.old }
+        ensures of { IsRegistryPassOf D.mark self.now pass.new }
+        ensures legal { LegalOnRegistry self.now.origin.slots pass.old (asked.remove name.now)
             (asked.changed result) pass.new }
         ensures stay { CallsInTurn D.Disk self.now.origin (asked.remove name.now)
             (asked.changed result) pass.old pass.new }
@@ -204,9 +210,9 @@ impl<D: Disk> SharedRegistry<D> {
         pass: &mut Pass<RegistryValue<D>>,
         name: &Text,
     ) -> ChangeAnswer
-        requires of { IsPassOf D.mark self.now pass.old }
-        ensures of { IsPassOf D.mark self.now pass.new }
-        ensures legal { Legal self.now.origin.slots pass.old (asked.remove name.now)
+        requires of { IsRegistryPassOf D.mark self.now pass.old }
+        ensures of { IsRegistryPassOf D.mark self.now pass.new }
+        ensures legal { LegalOnRegistry self.now.origin.slots pass.old (asked.remove name.now)
             (asked.changed result) pass.new }
         ensures stay { CallsInTurn D.Disk self.now.origin (asked.remove name.now)
             (asked.changed result) pass.old pass.new }
@@ -236,9 +242,9 @@ impl<D: Disk> SharedRegistry<D> {
         pass: &mut Pass<RegistryValue<D>>,
         names: &mut Option<Names>,
     ) -> Result<(), OutOfMemory>
-        requires of { IsPassOf D.mark self.now pass.old }
+        requires of { IsRegistryPassOf D.mark self.now pass.old }
         requires kept { KeepsNames names.old pass.old }
-        ensures of { IsPassOf D.mark self.now pass.new }
+        ensures of { IsRegistryPassOf D.mark self.now pass.new }
         ensures looked { Wants pass.old pass.new }
         ensures kept { KeepsNames names.new pass.new }
         ensures fresh { OnOk result (HasNames names.new pass.new) }
@@ -262,9 +268,9 @@ impl<D: Disk> SharedRegistry<D> {
         pass: &mut RegistryPass<D>,
         name: &Text,
     ) -> Result<Option<SourceInfo>, OutOfMemory>
-        requires of { IsPassOf D.mark self.now pass.old }
-        ensures of { IsPassOf D.mark self.now pass.new }
-        ensures legal { IfOk result (λ found. Legal self.now.origin.slots pass.old
+        requires of { IsRegistryPassOf D.mark self.now pass.old }
+        ensures of { IsRegistryPassOf D.mark self.now pass.new }
+        ensures legal { IfOk result (λ found. LegalOnRegistry self.now.origin.slots pass.old
             (asked.resolve name.now) (asked.found found) pass.new) }
         ensures slot { IfOk result (λ found.
             IfSome found (HasSlot self.now.origin.slots)) }
@@ -281,9 +287,9 @@ impl<D: Disk> SharedRegistry<D> {
         pass: &mut RegistryPass<D>,
         id: Id,
     ) -> Result<Option<SourceInfo>, OutOfMemory>
-        requires of { IsPassOf D.mark self.now pass.old }
-        ensures of { IsPassOf D.mark self.now pass.new }
-        ensures legal { IfOk result (λ found. Legal self.now.origin.slots pass.old
+        requires of { IsRegistryPassOf D.mark self.now pass.old }
+        ensures of { IsRegistryPassOf D.mark self.now pass.new }
+        ensures legal { IfOk result (λ found. LegalOnRegistry self.now.origin.slots pass.old
             (asked.resolve_id id) (asked.found found) pass.new) }
         ensures slot { IfOk result (λ found.
             IfSome found (HasSlot self.now.origin.slots)) }
@@ -300,9 +306,9 @@ impl<D: Disk> SharedRegistry<D> {
         pass: &mut RegistryPass<D>,
         uri: &Text,
     ) -> Result<Option<SourceInfo>, OutOfMemory>
-        requires of { IsPassOf D.mark self.now pass.old }
-        ensures of { IsPassOf D.mark self.now pass.new }
-        ensures legal { IfOk result (λ found. Legal self.now.origin.slots pass.old
+        requires of { IsRegistryPassOf D.mark self.now pass.old }
+        ensures of { IsRegistryPassOf D.mark self.now pass.new }
+        ensures legal { IfOk result (λ found. LegalOnRegistry self.now.origin.slots pass.old
             (asked.resolve_uri uri.now) (asked.found found) pass.new) }
         ensures slot { IfOk result (λ found.
             IfSome found (HasSlot self.now.origin.slots)) }
@@ -314,9 +320,9 @@ impl<D: Disk> SharedRegistry<D> {
 
     /// The sources that live, in the order of their names.
     pub fn list<R: Wait>(&self, rt: &R, pass: &mut RegistryPass<D>) -> Result<Sources, OutOfMemory>
-        requires of { IsPassOf D.mark self.now pass.old }
-        ensures of { IsPassOf D.mark self.now pass.new }
-        ensures legal { IfOk result (λ found. Legal self.now.origin.slots pass.old
+        requires of { IsRegistryPassOf D.mark self.now pass.old }
+        ensures of { IsRegistryPassOf D.mark self.now pass.new }
+        ensures legal { IfOk result (λ found. LegalOnRegistry self.now.origin.slots pass.old
             asked.list (asked.listed found.items) pass.new) }
         ensures slots { IfOk result (λ found.
             AllByRecursion (HasSlot self.now.origin.slots) found.items) }
@@ -329,9 +335,9 @@ impl<D: Disk> SharedRegistry<D> {
     /// The registry, once all passes are back. Its entries begin with what each pass knew, and have
     /// just its own at its places.
     pub fn close(self, passes: Vec<Pass<RegistryValue<D>>>) -> RegistryState<D>
-        requires { AreAllPassesOf D.mark self passes.items }
-        ensures closed { IsClosedOf D.Disk self passes.items result }
-        ensures stands { StandsInTurn D.Disk result }
+        requires { AreAllRegistryPassesOf D.mark self passes.items }
+        ensures closed { IsClosedRegistryOf D.Disk self passes.items result }
+        ensures stands { RegistryStandsInTurn D.Disk result }
     {
         let SharedRegistry { turn, .. } = self;
         turn.close(passes).into_registry()

@@ -6,7 +6,8 @@ ghost use Rattle.registry_core.specs.Replies as asked;
 ghost use Rattle.registry_core.specs.Sources.{sources, HasSlot};
 ghost use Rattle.log_registry.specs.Changes.{Called, IsUntouched};
 ghost use Rattle.log_registry.specs.State.{events_in};
-ghost use Rattle.shared_registry.specs.History.{history_of, fixed_of, StandsInTurn};
+ghost use Rattle.shared_registry.specs.History.{event_history, registry_fixed_of};
+ghost use Rattle.shared_registry.specs.History.{RegistryStandsInTurn};
 ghost use Rattle.turn_cell.specs.Sights.{IsGrownBy};
 
 use crate::names::Names;
@@ -35,13 +36,13 @@ pub struct RegistryValue<D: Disk> {
 
 impl<D: Disk> Model for RegistryValue<D> {
     ghost use Rattle.log_registry.specs.State.{StateView};
-    ghost use Rattle.shared_registry.specs.History.{StandsInTurn};
+    ghost use Rattle.shared_registry.specs.History.{RegistryStandsInTurn};
 
     ghost Value = { StateView D };
 
     ghost view = { λ v. v.registry };
 
-    ghost invariant = { λ v. StandsInTurn D.Disk v.registry };
+    ghost invariant = { λ v. RegistryStandsInTurn D.Disk v.registry };
 }
 
 impl<D: Disk> RegistryValue<D> {
@@ -54,7 +55,7 @@ impl<D: Disk> RegistryValue<D> {
 
     pub fn into_registry(self) -> RegistryState<D>
         ensures same { result ≡ self }
-        ensures stands { StandsInTurn D.Disk self }
+        ensures stands { RegistryStandsInTurn D.Disk self }
     {
         let RegistryValue { registry } = self;
         registry
@@ -78,10 +79,11 @@ impl<D: Disk> RegistryValue<D> {
     pub fn create(&mut self, name: &Text, uri: &Text, id: Id, by: u32) -> CreateAnswer
         ensures called { Called D.Disk self.old self.new (asked.create name.now uri.now id) by
             (asked.answered result) }
-        ensures found_stands { StandsInTurn D.Disk self.old }
-        ensures left_stands { StandsInTurn D.Disk self.new }
-        ensures grown { IsGrownBy by (history_of self.old.entries) (history_of self.new.entries) }
-        ensures fixed { fixed_of D.mark self.new ≡ fixed_of D.mark self.old }
+        ensures found_stands { RegistryStandsInTurn D.Disk self.old }
+        ensures left_stands { RegistryStandsInTurn D.Disk self.new }
+        ensures grown { IsGrownBy by (event_history self.old.entries)
+            (event_history self.new.entries) }
+        ensures fixed { registry_fixed_of D.mark self.new ≡ registry_fixed_of D.mark self.old }
         ensures faults { D.faults self.old.disk ≤ D.faults self.new.disk }
         ensures as_found { result ≢ CreateAnswer.DiskFault
             → ((source : AnySource) → result ≢ CreateAnswer.Made source)
@@ -95,10 +97,11 @@ impl<D: Disk> RegistryValue<D> {
     pub fn rename(&mut self, name: &Text, new_name: &Text, by: u32) -> ChangeAnswer
         ensures called { Called D.Disk self.old self.new (asked.rename name.now new_name.now) by
             (asked.changed result) }
-        ensures found_stands { StandsInTurn D.Disk self.old }
-        ensures left_stands { StandsInTurn D.Disk self.new }
-        ensures grown { IsGrownBy by (history_of self.old.entries) (history_of self.new.entries) }
-        ensures fixed { fixed_of D.mark self.new ≡ fixed_of D.mark self.old }
+        ensures found_stands { RegistryStandsInTurn D.Disk self.old }
+        ensures left_stands { RegistryStandsInTurn D.Disk self.new }
+        ensures grown { IsGrownBy by (event_history self.old.entries)
+            (event_history self.new.entries) }
+        ensures fixed { registry_fixed_of D.mark self.new ≡ registry_fixed_of D.mark self.old }
         ensures faults { D.faults self.old.disk ≤ D.faults self.new.disk }
         ensures as_found { result ≢ ChangeAnswer.DiskFault
             → ((source : AnySource) → result ≢ ChangeAnswer.Done source)
@@ -112,10 +115,11 @@ impl<D: Disk> RegistryValue<D> {
     pub fn remove(&mut self, name: &Text, by: u32) -> ChangeAnswer
         ensures called { Called D.Disk self.old self.new (asked.remove name.now) by
             (asked.changed result) }
-        ensures found_stands { StandsInTurn D.Disk self.old }
-        ensures left_stands { StandsInTurn D.Disk self.new }
-        ensures grown { IsGrownBy by (history_of self.old.entries) (history_of self.new.entries) }
-        ensures fixed { fixed_of D.mark self.new ≡ fixed_of D.mark self.old }
+        ensures found_stands { RegistryStandsInTurn D.Disk self.old }
+        ensures left_stands { RegistryStandsInTurn D.Disk self.new }
+        ensures grown { IsGrownBy by (event_history self.old.entries)
+            (event_history self.new.entries) }
+        ensures fixed { registry_fixed_of D.mark self.new ≡ registry_fixed_of D.mark self.old }
         ensures faults { D.faults self.old.disk ≤ D.faults self.new.disk }
         ensures as_found { result ≢ ChangeAnswer.DiskFault
             → ((source : AnySource) → result ≢ ChangeAnswer.Done source)
@@ -129,7 +133,7 @@ impl<D: Disk> RegistryValue<D> {
 
 impl<D: Disk> Chained for RegistryValue<D> {
     ghost use Rattle.shared_registry.specs.Apart.{events_apart};
-    ghost use Rattle.shared_registry.specs.History.{history_of, fixed_of};
+    ghost use Rattle.shared_registry.specs.History.{event_history, registry_fixed_of};
 
     type Content = Event;
 
@@ -137,13 +141,13 @@ impl<D: Disk> Chained for RegistryValue<D> {
 
     type Fixed = RegistryFixed;
 
-    ghost entries = { λ v. history_of v.entries };
+    ghost entries = { λ v. event_history v.entries };
 
     ghost fault_count = { λ v. D.faults v.disk };
 
     ghost doubt = { λ v. v.doubt };
 
-    ghost fixed = { λ v. fixed_of D.mark v };
+    ghost fixed = { λ v. registry_fixed_of D.mark v };
 
     ghost fits = { λ f es. Unit {0} };
 

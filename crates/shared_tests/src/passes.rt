@@ -3,7 +3,7 @@ ghost use Rattle.std.specs.Prelude.{◌≡◌, ◌<◌, ◌≤◌, ◌^◌, [], 
 ghost use Rattle.std.specs.List.{AllByRecursion};
 ghost use Rattle.disk_model.specs.Memory.{memory_mark};
 ghost use Rattle.shared_log.specs.Passes.{IsPassOf};
-ghost use Rattle.turn_cell.specs.Knowing.{number_of};
+ghost use Rattle.turn_cell.specs.Knowing.{pass_number};
 
 use chain_core::LogAnswer;
 use delta_base::{Bytes, Id, Listing, LogLimits};
@@ -60,8 +60,8 @@ pub(crate) struct Passes {
 
 // A log that two passes share.
 pub(crate) fn share(alloc: Global, failing: &[u64]) -> Result<(SharedLog<MemDisk>, Passes), Fail>
-    ensures one { IfOk result (λ r. IsPassOf memory_mark r.0 r.1.one × (number_of r.1.one ≡ 1)) }
-    ensures two { IfOk result (λ r. IsPassOf memory_mark r.0 r.1.two × (number_of r.1.two ≡ 2)) }
+    ensures one { IfOk result (λ r. IsPassOf memory_mark r.0 r.1.one × (pass_number r.1.one ≡ 1)) }
+    ensures two { IfOk result (λ r. IsPassOf memory_mark r.0 r.1.two × (pass_number r.1.two ≡ 2)) }
     ensures room { IfOk result (λ r.
         (r.0.seats ≡ 2) × (r.1.room.items ≡ []) × (2 ≤ vec_capacity r.1.room)) }
 {
@@ -79,8 +79,8 @@ pub(crate) fn share(alloc: Global, failing: &[u64]) -> Result<(SharedLog<MemDisk
 
 // Gives both passes back.
 pub(crate) fn close(log: SharedLog<MemDisk>, passes: Passes) -> LogState<MemDisk>
-    requires one { IsPassOf memory_mark log passes.one × (number_of passes.one ≡ 1) }
-    requires two { IsPassOf memory_mark log passes.two × (number_of passes.two ≡ 2) }
+    requires one { IsPassOf memory_mark log passes.one × (pass_number passes.one ≡ 1) }
+    requires two { IsPassOf memory_mark log passes.two × (pass_number passes.two ≡ 2) }
     requires room { (log.seats ≡ 2) × (passes.room.items ≡ [])
         × (2 ≤ vec_capacity passes.room) }
 {
@@ -133,8 +133,8 @@ fn both_append<R: Wait + Abort>(
     requires two { IsPassOf memory_mark log.now passes.old.two }
     ensures one { IsPassOf memory_mark log.now passes.new.one }
     ensures two { IsPassOf memory_mark log.now passes.new.two }
-    ensures numbers { (number_of passes.new.one ≡ number_of passes.old.one)
-        × (number_of passes.new.two ≡ number_of passes.old.two) }
+    ensures numbers { (pass_number passes.new.one ≡ pass_number passes.old.one)
+        × (pass_number passes.new.two ≡ pass_number passes.old.two) }
     ensures room { passes.new.room ≡ passes.old.room }
 {
     let answer = log.append(rt, &mut passes.one, &patches.first);

@@ -2,7 +2,7 @@
 ghost use Rattle.std.specs.Prelude.{◌≡◌, ◌<◌, ◌≤◌, ◌^◌, [], vec_capacity};
 ghost use Rattle.disk_model.specs.Memory.{memory_mark};
 ghost use Rattle.shared_log.specs.Passes.{IsPassOf};
-ghost use Rattle.turn_cell.specs.Knowing.{number_of};
+ghost use Rattle.turn_cell.specs.Knowing.{pass_number};
 
 use crate::passes::{Passes, close, share};
 use chain_core::LogAnswer;
@@ -44,7 +44,7 @@ fn contend<R: Wait>(
 ) -> (LogPass<MemDisk>, u32)
     requires of { IsPassOf memory_mark log.now pass }
     requires base { base < 10_000 }
-    ensures { IsPassOf memory_mark log.now result.0 × (number_of result.0 ≡ number_of pass) }
+    ensures { IsPassOf memory_mark log.now result.0 × (pass_number result.0 ≡ pass_number pass) }
 {
     let mut told = 0u32;
     let mut head = None;
@@ -78,8 +78,8 @@ fn race<R: Threads + Wait + Sync>(
     log: SharedLog<MemDisk>,
     passes: Passes,
 ) -> (LogState<MemDisk>, u32, u32)
-    requires one { IsPassOf memory_mark log passes.one × (number_of passes.one ≡ 1) }
-    requires two { IsPassOf memory_mark log passes.two × (number_of passes.two ≡ 2) }
+    requires one { IsPassOf memory_mark log passes.one × (pass_number passes.one ≡ 1) }
+    requires two { IsPassOf memory_mark log passes.two × (pass_number passes.two ≡ 2) }
     requires room { (log.seats ≡ 2) × (passes.room.items ≡ [])
         × (2 ≤ vec_capacity passes.room) }
 {
@@ -90,12 +90,12 @@ fn race<R: Threads + Wait + Sync>(
         || -> (LogPass<MemDisk>, u32)
             requires { IsPassOf memory_mark shared.now one }
             ensures { IsPassOf memory_mark shared.entry.now result.0
-                × (number_of result.0 ≡ number_of one) }
+                × (pass_number result.0 ≡ pass_number one) }
         { contend(rt, alloc, shared, one, 1000) },
         || -> (LogPass<MemDisk>, u32)
             requires { IsPassOf memory_mark shared.now two }
             ensures { IsPassOf memory_mark shared.entry.now result.0
-                × (number_of result.0 ≡ number_of two) }
+                × (pass_number result.0 ≡ pass_number two) }
         { contend(rt, alloc, shared, two, 2000) },
     );
     let state = close(log, Passes { one, two, room });

@@ -9,7 +9,7 @@ use Rattle.slot_files.proofs.Steps.{other_number, other_dir, at_or_not}
 use Rattle.slot_checks.specs.declared.fault.CheckFault.{CheckFault}
 use Rattle.slot_checks.specs.declared.lines.FileLine.{FileLine}
 use Rattle.slot_checks.specs.declared.lines.FileLine.TheVariants as line
-use Rattle.slot_checks.specs.Checks.{HasLines, StopsAtLog, StopsInLogs, Stops, at_log, AreKept}
+use Rattle.slot_checks.specs.Checks.{HasFileLines, StopsAtLog, StopsInLogs, CheckStops, at_log, AreKept}
 use Rattle.slot_checks.specs.Faults.{HasFileFault}
 use Rattle.slot_checks.specs.Lines.{line_text, lines_text}
 use Rattle.slot_checks.specs.Sound.{IsLogLine, HoldsRegistry, AreLogLines}
@@ -60,10 +60,10 @@ lines-push files dir from [] line_ are is = (subst (λ (n : ℕ). IsLogLine (byt
 lines-push files dir from (first ∷ lines) line_ are is =
     (are.0, lines-push files dir (from + 1) lines line_ are.1 (subst (λ (n : ℕ). IsLogLine (bytes_at files dir n) n line_) (omega arith) is))
 
-pub no_lines : (files : Files) (dir : List ℕ) (records : ℕ) (report : List FileLine) → report ≡ line.Registry records ∷ [] → HasLines files dir records 1 report
+pub no_lines : (files : Files) (dir : List ℕ) (records : ℕ) (report : List FileLine) → report ≡ line.Registry records ∷ [] → HasFileLines files dir records 1 report
 no_lines files dir records report is = record { lines = []; report_is = is; logs = tt; count = omega arith }
 
-pub one_more : (files : Files) (dir : List ℕ) (records number : ℕ) (old new : List FileLine) (line_ : FileLine) → HasLines files dir records number old → IsLogLine (bytes_at files dir number) number line_ → new ≡ old ++ line_ ∷ [] → HasLines files dir records (number + 1) new
+pub one_more : (files : Files) (dir : List ℕ) (records number : ℕ) (old new : List FileLine) (line_ : FileLine) → HasFileLines files dir records number old → IsLogLine (bytes_at files dir number) number line_ → new ≡ old ++ line_ ∷ [] → HasFileLines files dir records (number + 1) new
 one_more files dir records number old new line_ has is pushed = record {
   lines = has.lines ++ line_ ∷ [];
   report_is = pushed ∙ ap (λ (l : List FileLine). l ++ line_ ∷ []) has.report_is;
@@ -71,7 +71,7 @@ one_more files dir records number old new line_ has is pushed = record {
   count = omega (arith, has.count, length-append has.lines (line_ ∷ []));
 }
 
-pub stops_at : (files : Files) (dir : List ℕ) (records slots number : ℕ) (report : List FileLine) (fault : CheckFault) → HasLines files dir records number report → number ≤ slots → HasFileFault (bytes_at files dir number) number fault → StopsAtLog files dir slots number fault
+pub stops_at : (files : Files) (dir : List ℕ) (records slots number : ℕ) (report : List FileLine) (fault : CheckFault) → HasFileLines files dir records number report → number ≤ slots → HasFileFault (bytes_at files dir number) number fault → StopsAtLog files dir slots number fault
 stops_at files dir records slots number report fault has within is = record {
   lines = has.lines;
   logs = has.logs;
@@ -93,7 +93,7 @@ lines_same : (old mid : Files) (dir : List ℕ) (from : ℕ) (lines : List FileL
 lines_same old mid dir from [] same are = tt
 lines_same old mid dir from (first ∷ lines) same are = (subst (λ (bytes : List ℕ). IsLogLine bytes from first) (same from) are.0, lines_same old mid dir (from + 1) lines same are.1)
 
-pub has_same : (old mid : Files) (dir : List ℕ) (records end : ℕ) (report : List FileLine) → AreKept dir 1 old mid → HasLines mid dir records end report → HasLines old dir records end report
+pub has_same : (old mid : Files) (dir : List ℕ) (records end : ℕ) (report : List FileLine) → AreKept dir 1 old mid → HasFileLines mid dir records end report → HasFileLines old dir records end report
 has_same old mid dir records end report kept has = record { lines = has.lines; report_is = has.report_is; logs = lines_same old mid dir 1 has.lines (λ n. same_bytes dir 1 old mid n kept) has.logs; count = has.count }
 
 pub stops_same : (old mid : Files) (dir : List ℕ) (slots file : ℕ) (fault : CheckFault) → AreKept dir 1 old mid → StopsAtLog mid dir slots file fault → StopsAtLog old dir slots file fault
@@ -107,14 +107,14 @@ stops_same old mid dir slots file fault kept stops = record {
 
 -- the first visit, and the visits of the logs behind it
 module _ (dir : List ℕ) (old mid new : Files) (first : AreKept dir 1 old mid) where
-  pub stops_behind : (slots records : ℕ) (fault : CheckFault) → HoldsRegistry (bytes_at old dir 0) slots records → StopsInLogs dir slots mid new fault → Stops dir old new fault
+  pub stops_behind : (slots records : ℕ) (fault : CheckFault) → HoldsRegistry (bytes_at old dir 0) slots records → StopsInLogs dir slots mid new fault → CheckStops dir old new fault
   stops_behind slots records fault registry stops = record {
     file = stops.file;
     stops = at_log slots records registry (stops_same old mid dir slots stops.file fault first stops.stops);
     kept = all_twice dir 1 (stops.file + 1) old mid new (omega arith) first stops.kept;
   }
 
-  pub kept_behind : (slots records : ℕ) (report : List FileLine) → HasLines mid dir records (slots + 1) report → AreKept dir (slots + 1) mid new → AreKept dir (length report) old new
+  pub kept_behind : (slots records : ℕ) (report : List FileLine) → HasFileLines mid dir records (slots + 1) report → AreKept dir (slots + 1) mid new → AreKept dir (length report) old new
   kept_behind slots records report has kept =
       let count : slots + 1 ≡ length report = omega (arith, has.count, ap length has.report_is) in
       subst (λ (end : ℕ). AreKept dir end old new) count (all_twice dir 1 (slots + 1) old mid new (omega arith) first kept)

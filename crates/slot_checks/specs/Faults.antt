@@ -3,7 +3,7 @@ use Rattle.std.specs.Prelude.{◌≡◌, ℕ, List}
 use Rattle.delta_base.specs.declared.limits.TheConstants.{LOG_LIMITS}
 use Rattle.disk_model.specs.declared.shelf.ShelfFault.{ShelfFault}
 use Rattle.disk_model.specs.declared.shelf.ShelfFault.TheVariants as shelf
-use Rattle.log_registry.specs.Fault.{HasRegistryFault as HasFault}
+use Rattle.log_registry.specs.Fault.{HasRegistryFault}
 use Rattle.log_registry.specs.declared.fault.RegistryFault.{RegistryFault}
 use Rattle.log_registry.specs.declared.fault.RegistryFault.TheVariants as registry
 use Rattle.patch_log.specs.Fault.{HasLogFault}
@@ -13,22 +13,22 @@ use Rattle.slot_checks.specs.declared.fault.CheckFault.{CheckFault}
 use Rattle.slot_checks.specs.declared.fault.CheckFault.TheVariants as check
 
 -- a fault of the registry, whose file has the number 0
-abbrev pub of_registry : RegistryFault → CheckFault
-of_registry registry.Failed = check.Failed
-of_registry (registry.Damaged at) = check.Damaged 0 at
-of_registry (registry.WrongNumber found) = check.WrongNumber 0 found
-of_registry (registry.OverLimit length limit) = check.OverLimit 0 length limit
-of_registry (registry.BrokenEvent place) = check.BrokenEvent place
-of_registry registry.OutOfMemory = check.OutOfMemory
+abbrev pub check_fault_of_registry : RegistryFault → CheckFault
+check_fault_of_registry registry.Failed = check.Failed
+check_fault_of_registry (registry.Damaged at) = check.Damaged 0 at
+check_fault_of_registry (registry.WrongNumber found) = check.WrongNumber 0 found
+check_fault_of_registry (registry.OverLimit length limit) = check.OverLimit 0 length limit
+check_fault_of_registry (registry.BrokenEvent place) = check.BrokenEvent place
+check_fault_of_registry registry.OutOfMemory = check.OutOfMemory
 
 -- a fault of a log, with its file
-abbrev pub of_log : ℕ → LogFault → CheckFault
-of_log file log.Failed = check.Failed
-of_log file (log.Damaged at) = check.Damaged file at
-of_log file (log.WrongNumber found) = check.WrongNumber file found
-of_log file (log.OverLimit length limit) = check.OverLimit file length limit
-of_log file log.OutOfMemory = check.OutOfMemory
-of_log file (log.BrokenChain version) = check.BrokenChain file version
+abbrev pub check_fault_of_log : ℕ → LogFault → CheckFault
+check_fault_of_log file log.Failed = check.Failed
+check_fault_of_log file (log.Damaged at) = check.Damaged file at
+check_fault_of_log file (log.WrongNumber found) = check.WrongNumber file found
+check_fault_of_log file (log.OverLimit length limit) = check.OverLimit file length limit
+check_fault_of_log file log.OutOfMemory = check.OutOfMemory
+check_fault_of_log file (log.BrokenChain version) = check.BrokenChain file version
 
 -- a fault of a shelf
 abbrev pub of_shelf : ShelfFault → CheckFault
@@ -37,16 +37,18 @@ of_shelf shelf.OutOfMemory = check.OutOfMemory
 
 -- The registry's file has this fault, and none that comes before it. That a call failed, and want
 -- of memory, are free.
-abbrev pub HasRegistryFault : List ℕ → CheckFault → Type 0
-HasRegistryFault file (check.Damaged number at) = (number ≡ 0) × HasFault file (registry.Damaged at)
-HasRegistryFault file (check.WrongNumber number found) =
-    (number ≡ 0) × HasFault file (registry.WrongNumber found)
-HasRegistryFault file (check.OverLimit number length limit) =
-    (number ≡ 0) × HasFault file (registry.OverLimit length limit)
-HasRegistryFault file (check.BrokenChain number version) = ⊥
-HasRegistryFault file (check.BrokenEvent place) = HasFault file (registry.BrokenEvent place)
-HasRegistryFault file check.Failed = Unit {0}
-HasRegistryFault file check.OutOfMemory = Unit {0}
+abbrev pub HasRegistryFileFault : List ℕ → CheckFault → Type 0
+HasRegistryFileFault file (check.Damaged number at) =
+    (number ≡ 0) × HasRegistryFault file (registry.Damaged at)
+HasRegistryFileFault file (check.WrongNumber number found) =
+    (number ≡ 0) × HasRegistryFault file (registry.WrongNumber found)
+HasRegistryFileFault file (check.OverLimit number length limit) =
+    (number ≡ 0) × HasRegistryFault file (registry.OverLimit length limit)
+HasRegistryFileFault file (check.BrokenChain number version) = ⊥
+HasRegistryFileFault file (check.BrokenEvent place) =
+    HasRegistryFault file (registry.BrokenEvent place)
+HasRegistryFileFault file check.Failed = Unit {0}
+HasRegistryFileFault file check.OutOfMemory = Unit {0}
 
 -- a log's file has this fault, and none that comes before it
 abbrev pub HasFileFault : List ℕ → ℕ → CheckFault → Type 0

@@ -7,7 +7,7 @@ use Rattle.log_journal.specs.File.{Holds}
 use Rattle.patch_log.specs.Log.{IsSoundLog, payloads_of}
 use Rattle.registry_core.specs.declared.event.Event.{Event}
 use Rattle.registry_core.specs.Events.{IsRegistry}
-use Rattle.registry_core.specs.Texts.{payloads_of as registry_payloads}
+use Rattle.registry_core.specs.Texts.{registry_payloads}
 use Rattle.slot_files.specs.Files.{Files, bytes_at}
 use Rattle.slot_checks.specs.declared.lines.FileLine.{FileLine}
 use Rattle.slot_checks.specs.declared.lines.FileLine.TheVariants as line

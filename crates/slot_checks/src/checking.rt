@@ -18,7 +18,8 @@ ghost use Rattle.delta_base.specs.Outside.{Rose};
 ghost use Rattle.delta_base.specs.declared.limits.TheConstants.{MOST_SLOTS};
 ghost use Rattle.disk_model.specs.Shelf.{SameOthers};
 ghost use Rattle.slot_files.specs.Files.{IsKept, bytes_at};
-ghost use Rattle.slot_checks.specs.Checks.{HasLines, IsReport, Stops, StopsInLogs, AreKept};
+ghost use Rattle.slot_checks.specs.Checks.{HasFileLines, IsReport, CheckStops, StopsInLogs};
+ghost use Rattle.slot_checks.specs.Checks.{AreKept};
 ghost use Rattle.slot_checks.specs.Faults.{HasFileFault};
 ghost use Rattle.slot_checks.specs.Sound.{IsLogLine};
 
@@ -66,7 +67,7 @@ fn add_logs<H: Shelf>(
 ) -> Result<(), CheckFault>
     requires few { registry.slots ≤ MOST_SLOTS }
     requires first { report.old.items ≡ FileLine.Registry registry.records ∷ [] }
-    ensures ok { H.tells → OnOk result (HasLines (H.files shelf.old) dir.now
+    ensures ok { H.tells → OnOk result (HasFileLines (H.files shelf.old) dir.now
         registry.records (registry.slots + 1) report.new.items) }
     ensures kept { H.tells → OnOk result
         (AreKept dir.now (registry.slots + 1) (H.files shelf.old) (H.files shelf.new)) }
@@ -94,7 +95,8 @@ pub fn check_files<H: Shelf>(alloc: Global, shelf: &mut H, dir: &Text) -> Result
         AreKept dir.now (length report.items) (H.files shelf.old) (H.files shelf.new)) }
 
     // So is each file up to the one with the fault.
-    ensures fault { H.tells → IfErr result (Stops dir.now (H.files shelf.old) (H.files shelf.new)) }
+    ensures fault { H.tells → IfErr result
+        (CheckStops dir.now (H.files shelf.old) (H.files shelf.new)) }
     ensures cause { IsErrOf result CheckFault.Failed
         → Rose (H.faults shelf.old) (H.faults shelf.new) }
     ensures faults { H.faults shelf.old ≤ H.faults shelf.new }

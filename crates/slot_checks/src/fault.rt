@@ -20,11 +20,11 @@ pub enum CheckFault {
 
 impl CheckFault {
     ghost use Rattle.std.specs.Prelude.{◌≡◌};
-    ghost use Rattle.slot_checks.specs.Faults.{of_registry, of_log};
+    ghost use Rattle.slot_checks.specs.Faults.{check_fault_of_registry, check_fault_of_log};
 
     /// A fault of the registry, whose file has the number 0.
     pub fn of_registry(fault: RegistryFault) -> CheckFault
-        ensures { result ≡ of_registry fault }
+        ensures { result ≡ check_fault_of_registry fault }
     {
         match fault {
             RegistryFault::Failed => CheckFault::Failed,
@@ -42,7 +42,7 @@ impl CheckFault {
 
     /// A fault of a log, with its file.
     pub fn of_log(file: u32, fault: LogFault) -> CheckFault
-        ensures { result ≡ of_log file fault }
+        ensures { result ≡ check_fault_of_log file fault }
     {
         match fault {
             LogFault::Failed => CheckFault::Failed,

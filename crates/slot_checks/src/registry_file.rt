@@ -4,7 +4,7 @@ ghost use Rattle.delta_base.specs.Outside.{Rose};
 ghost use Rattle.delta_base.specs.declared.limits.TheConstants.{MOST_SLOTS};
 ghost use Rattle.disk_model.specs.Past.{reads};
 ghost use Rattle.slot_checks.specs.Sound.{HoldsRegistry};
-ghost use Rattle.slot_checks.specs.Faults.{HasRegistryFault};
+ghost use Rattle.slot_checks.specs.Faults.{HasRegistryFileFault};
 
 use crate::fault::CheckFault;
 use disk_model::Disk;
@@ -24,7 +24,7 @@ pub fn read_registry_file<D: Disk>(alloc: Global, disk: D) -> (D, Result<Registr
     ensures ok { D.tells → IfOk result.1 (λ found.
         HoldsRegistry (reads (D.past disk)) found.slots found.records) }
     ensures few { IfOk result.1 (λ found. (1 ≤ found.slots) × (found.slots ≤ MOST_SLOTS)) }
-    ensures fault { D.tells → IfErr result.1 (HasRegistryFault (reads (D.past disk))) }
+    ensures fault { D.tells → IfErr result.1 (HasRegistryFileFault (reads (D.past disk))) }
     ensures kept { D.tells → reads (D.past result.0) ≡ reads (D.past disk) }
     ensures cause { IsErrOf result.1 CheckFault.Failed → Rose (D.faults disk) (D.faults result.0) }
     ensures mark { D.mark result.0 ≡ D.mark disk }

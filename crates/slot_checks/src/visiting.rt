@@ -5,7 +5,7 @@ ghost use Rattle.delta_base.specs.Outside.{Rose};
 ghost use Rattle.disk_model.specs.Shelf.{SameOthers};
 ghost use Rattle.slot_files.specs.Files.{IsKept, bytes_at};
 ghost use Rattle.slot_checks.specs.Sound.{IsLogLine, HoldsRegistry};
-ghost use Rattle.slot_checks.specs.Faults.{HasFileFault, HasRegistryFault};
+ghost use Rattle.slot_checks.specs.Faults.{HasFileFault, HasRegistryFileFault};
 
 use crate::fault::CheckFault;
 use crate::lines::FileLine;
@@ -50,7 +50,7 @@ pub fn check_registry<H: Shelf>(
         HoldsRegistry (bytes_at (H.files shelf.old) dir.now 0) found.slots found.records) }
     ensures few { IfOk result (λ found. (1 ≤ found.slots) × (found.slots ≤ MOST_SLOTS)) }
     ensures fault { H.tells → IfErr result
-        (HasRegistryFault (bytes_at (H.files shelf.old) dir.now 0)) }
+        (HasRegistryFileFault (bytes_at (H.files shelf.old) dir.now 0)) }
     ensures kept { H.tells → IsKept (H.files shelf.old dir.now 0) (H.files shelf.new dir.now 0) }
     ensures others { H.tells → SameOthers (Some (dir.now, 0))
         (H.files shelf.old) (H.files shelf.new) }

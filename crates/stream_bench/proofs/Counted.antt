@@ -7,9 +7,9 @@ use Rattle.patch_rows.specs.Grammar.{IsRowAt}
 use Rattle.patch_reader.specs.declared.placed.PlacedRow.{PlacedRow}
 use Rattle.patch_rows.specs.declared.cut.TextEnd.{TextEnd}
 use Rattle.patch_rows.specs.declared.cut.TextEnd.TheVariants as ends
-use Rattle.patch_reader.specs.Pieces.{Reader, AreAll, HasAllRows, TakesRow}
-use Rattle.patch_reader.specs.Rows.{RowsUpTo, RowsStand, Stops}
-use Rattle.stream_bench.specs.Counting.{HasRows, SameText, TakesOne, Counts}
+use Rattle.patch_reader.specs.Pieces.{Reader, AreAllRows, HasAllRows, TakesRow}
+use Rattle.patch_reader.specs.Rows.{RowsUpTo, RowsStand, StopsRows}
+use Rattle.stream_bench.specs.Counting.{HasRows, SameText, TakesOne, CountsRows}
 
 pub took : (old new : Reader) (row : Row) → TakesRow old (Some row) new → TakesOne old true new × SameText old new
 took old new row (r, is, (ready, same)) = (
@@ -29,7 +29,7 @@ stand_count ends.Open text to rows_ up = let most = rows_count (text ++ []) 0 to
 stand_count ends.Known text to rows_ up = let most = rows_count text 0 to rows_ (omega arith) up in omega (arith, most)
 
 -- a count of rows never stops at the last value of a usize
-pub counted_on : (old new : Reader) (count : ℕ) → TakesOne old true new → SameText old new → HasAllRows new → Counts old count → Counts new (min (count + 1) (2 ^ 64 - 1))
+pub counted_on : (old new : Reader) (count : ℕ) → TakesOne old true new → SameText old new → HasAllRows new → CountsRows old count → CountsRows new (min (count + 1) (2 ^ 64 - 1))
 counted_on old new count one same rows_ counts = λ fits.
     let all = rows_ fits in
     let most = stand_count new.end new.fed all.0 (new.taken ++ new.ready) all.1 in
@@ -43,21 +43,21 @@ rows_end : (rows_ : List PlacedRow) → rows_ ++ [] ≡ rows_
 rows_end [] = refl
 rows_end (r ∷ rows_) = ap (λ (t : List PlacedRow). r ∷ t) (rows_end rows_)
 
-all_there : (text : List ℕ) (r : Reader) (count : ℕ) → AreAll ends.Known text (r.taken ++ r.ready) r.fault → r.fault ≡ None → r.ready ≡ [] → length r.taken ≡ count → HasRows text count
+all_there : (text : List ℕ) (r : Reader) (count : ℕ) → AreAllRows ends.Known text (r.taken ++ r.ready) r.fault → r.fault ≡ None → r.ready ≡ [] → length r.taken ≡ count → HasRows text count
 all_there text r count (behind, up, stops) none empty size = (
   r.taken,
   behind,
   subst (λ (t : List PlacedRow). RowsUpTo text 0 t behind) (ap (λ (t : List PlacedRow). r.taken ++ t) empty ∙ rows_end r.taken) up,
-  subst (λ (o : Option RowFault). Stops ends.Known text behind o) none stops,
+  subst (λ (o : Option RowFault). StopsRows ends.Known text behind o) none stops,
   size,
 )
 
 -- behind the end of a text without a fault, all its rows were counted
-pub all_counted : (text : List ℕ) (r : Reader) (count : ℕ) → length text < 2 ^ 64 → r.fed ≡ text → r.end ≡ ends.Known → r.fault ≡ None → r.ready ≡ [] → HasAllRows r → Counts r count → HasRows text count
+pub all_counted : (text : List ℕ) (r : Reader) (count : ℕ) → length text < 2 ^ 64 → r.fed ≡ text → r.end ≡ ends.Known → r.fault ≡ None → r.ready ≡ [] → HasAllRows r → CountsRows r count → HasRows text count
 all_counted text r count fits fed ended none empty rows_ counts =
     let short : length r.fed < 2 ^ 64 = subst (λ (t : List ℕ). length t < 2 ^ 64) (sym fed) fits in
     all_there text r count
-    (subst (λ (e : TextEnd). AreAll e text (r.taken ++ r.ready) r.fault) ended (subst (λ (t : List ℕ). AreAll r.end t (r.taken ++ r.ready) r.fault) fed (rows_ short)))
+    (subst (λ (e : TextEnd). AreAllRows e text (r.taken ++ r.ready) r.fault) ended (subst (λ (t : List ℕ). AreAllRows r.end t (r.taken ++ r.ready) r.fault) fed (rows_ short)))
     none empty (counts short)
 
 -- a piece more is fed

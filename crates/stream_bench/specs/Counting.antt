@@ -20,5 +20,5 @@ TakesOne old true new =
 TakesOne old false new = (new.taken ≡ old.taken) × (new.ready ≡ [])
 
 -- so many rows were taken, of a text whose places fit a u64
-abbrev pub Counts : Reader → ℕ → Type 0
-Counts r count = length r.fed < 2 ^ 64 → length r.taken ≡ count
+abbrev pub CountsRows : Reader → ℕ → Type 0
+CountsRows r count = length r.fed < 2 ^ 64 → length r.taken ≡ count

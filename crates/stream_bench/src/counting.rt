@@ -2,7 +2,7 @@
 
 ghost use Rattle.std.specs.Prelude.{◌≡◌, [], IfOk};
 ghost use Rattle.patch_reader.specs.Pieces.{HasAllRows};
-ghost use Rattle.stream_bench.specs.Counting.{HasRows, SameText, TakesOne, Counts};
+ghost use Rattle.stream_bench.specs.Counting.{HasRows, SameText, TakesOne, CountsRows};
 
 use patch_reader::PatchReader;
 use patch_rows::RowFault;
@@ -25,7 +25,7 @@ fn take_one(reader: &mut PatchReader) -> bool
 
 /// Takes the rows that are ready, and counts them.
 fn take_rows(reader: &mut PatchReader, before: usize) -> usize
-    ensures counts { Counts reader.old before → Counts reader.new result }
+    ensures counts { CountsRows reader.old before → CountsRows reader.new result }
     ensures all { reader.new.ready ≡ [] }
     ensures same { SameText reader.old reader.new }
     ensures rows { HasAllRows reader.new }

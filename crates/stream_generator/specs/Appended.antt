@@ -5,7 +5,7 @@ use Rattle.std.specs.declared.alloc.Global.{Global}
 
 -- where the call is well the piece stands behind the text; with room for it no memory is needed,
 -- and no room is lost
-pub record Appends {T E : Type 0} (piece : List ℕ) (old new : Vec ℕ Global)
+pub record AppendsPiece {T E : Type 0} (piece : List ℕ) (old new : Vec ℕ Global)
     (result : Result T E) : Type 0 where
   pub ok : OnOk result (new.items ≡ old.items ++ piece)
   pub longer : OnOk result (vec_len new ≡ vec_len old + length piece)

@@ -5,29 +5,30 @@ use Rattle.std.specs.Fmt.{decimal}
 use Rattle.delta_base.specs.Ids.{text_of}
 
 -- the id of patch k: 00000000-0000-4000-8000-000000000000 plus k
-abbrev pub id_of : ℕ → ℕ
-id_of k = 2 ^ 78 + 2 ^ 63 + k
+abbrev pub patch_number : ℕ → ℕ
+patch_number k = 2 ^ 78 + 2 ^ 63 + k
 
 -- behind the number of the predicate: the object of the quad of patch k, and the row's dot
 abbrev pub object_text : ℕ → List ℕ
 object_text k = codes "> \"" ++ (decimal k ++ codes "\" .\n")
 
 -- the quad of patch k, and the row's dot
-abbrev pub quad_text : ℕ → List ℕ
-quad_text k = codes " <http://g/s"
+abbrev pub quad_line : ℕ → List ℕ
+quad_line k = codes " <http://g/s"
     ++ (decimal (k % 100) ++ (codes "> <http://g/p" ++ (decimal (k % 7) ++ object_text k)))
 
 -- the row of this code with the quad of patch k
 abbrev pub quad_row : List ℕ → ℕ → List ℕ
-quad_row code k = code ++ quad_text k
+quad_row code k = code ++ quad_line k
 
-abbrev pub id_row : ℕ → List ℕ
-id_row k = codes "H id <uuid:" ++ (text_of (id_of k) ++ codes "> .\n")
+abbrev pub id_line : ℕ → List ℕ
+id_line k = codes "H id <uuid:" ++ (text_of (patch_number k) ++ codes "> .\n")
 
 -- the first patch names none before it
 abbrev pub prev_row : ℕ → List ℕ
 prev_row k =
-    if k == 1 then [] else codes "H prev <uuid:" ++ (text_of (id_of (pred k)) ++ codes "> .\n")
+    if k == 1 then [] else codes "H prev <uuid:"
+    ++ (text_of (patch_number (pred k)) ++ codes "> .\n")
 
 -- each third patch deletes the quad of an earlier one
 abbrev pub delete_row : ℕ → List ℕ
@@ -39,7 +40,7 @@ block_rows k = codes "TX .\n" ++ (quad_row (codes "A") k ++ (delete_row k ++ cod
 
 -- patch k, in one block
 unfoldable pub patch_text : ℕ → List ℕ
-patch_text k = id_row k ++ (prev_row k ++ block_rows k)
+patch_text k = id_line k ++ (prev_row k ++ block_rows k)
 
 -- so many patches from patch k on
 abbrev pub patches_from : ℕ → ℕ → List ℕ

@@ -2,8 +2,8 @@
 ghost use Rattle.std.specs.Prelude.{◌≡◌, ◌<◌, ◌≤◌, ◌%◌, ◌++◌, IfOk};
 ghost use Rattle.std.specs.Prelude.{codes, decimal, length, vec_len};
 ghost use Rattle.delta_base.specs.Ids.{text_of};
-ghost use Rattle.stream_generator.specs.Appended.{Appends};
-ghost use Rattle.stream_generator.specs.Generator.{id_of, prev_row, object_text, quad_text};
+ghost use Rattle.stream_generator.specs.Appended.{AppendsPiece};
+ghost use Rattle.stream_generator.specs.Generator.{patch_number, prev_row, object_text, quad_line};
 ghost use Rattle.stream_generator.specs.Generator.{quad_row, delete_row, block_rows, patch_text};
 
 use delta_base::{Id, OutOfMemory, id_text};
@@ -31,7 +31,7 @@ pub fn patch_text(alloc: Global, number: u32) -> Result<Vec<u8>, OutOfMemory>
 #[tactic(auto, unfolding(crate::specs::Generator::patch_text))]
 pub fn push_patch(text: &mut Vec<u8>, number: u32) -> Result<(), OutOfMemory>
     requires { 1 ≤ number }
-    ensures appends { Appends (patch_text number) text.old text.new result }
+    ensures appends { AppendsPiece (patch_text number) text.old text.new result }
     ensures some { 0 < length (patch_text number) }
     ensures short { length (patch_text number) ≤ MOST_BYTES }
 {
@@ -42,7 +42,7 @@ pub fn push_patch(text: &mut Vec<u8>, number: u32) -> Result<(), OutOfMemory>
 
 // Appends the rows of a patch behind its headers.
 fn push_block(text: &mut Vec<u8>, number: u32) -> Result<(), OutOfMemory>
-    ensures { Appends (block_rows number) text.old text.new result }
+    ensures { AppendsPiece (block_rows number) text.old text.new result }
 {
     push(text, b"TX .\n")?;
     push_quad_row(text, b"A", number)?;
@@ -51,7 +51,7 @@ fn push_block(text: &mut Vec<u8>, number: u32) -> Result<(), OutOfMemory>
 
 // Appends the rows of a block behind its first one.
 fn push_block_end(text: &mut Vec<u8>, number: u32) -> Result<(), OutOfMemory>
-    ensures { Appends (delete_row number ++ codes "TC .\n") text.old text.new result }
+    ensures { AppendsPiece (delete_row number ++ codes "TC .\n") text.old text.new result }
 {
     push_delete_row(text, number)?;
     push(text, b"TC .\n")
@@ -59,7 +59,7 @@ fn push_block_end(text: &mut Vec<u8>, number: u32) -> Result<(), OutOfMemory>
 
 // Appends bytes.
 fn push(text: &mut Vec<u8>, bytes: &[u8]) -> Result<(), OutOfMemory>
-    ensures { Appends bytes.now text.old text.new result }
+    ensures { AppendsPiece bytes.now text.old text.new result }
 {
     text.extend_from_slice(bytes)?;
     Ok(())
@@ -68,7 +68,7 @@ fn push(text: &mut Vec<u8>, bytes: &[u8]) -> Result<(), OutOfMemory>
 // Appends the row that names the patch before, if there is one.
 fn push_prev_row(text: &mut Vec<u8>, number: u32) -> Result<(), OutOfMemory>
     requires { 1 ≤ number }
-    ensures { Appends (prev_row number) text.old text.new result }
+    ensures { AppendsPiece (prev_row number) text.old text.new result }
 {
     if number == 1 {
         return Ok(());
@@ -78,7 +78,7 @@ fn push_prev_row(text: &mut Vec<u8>, number: u32) -> Result<(), OutOfMemory>
 
 // Appends the row that deletes an earlier quad, in each third patch.
 fn push_delete_row(text: &mut Vec<u8>, number: u32) -> Result<(), OutOfMemory>
-    ensures { Appends (delete_row number) text.old text.new result }
+    ensures { AppendsPiece (delete_row number) text.old text.new result }
 {
     if number % 3 == 0 {
         push_quad_row(text, b"D", number / 3)
@@ -89,8 +89,8 @@ fn push_delete_row(text: &mut Vec<u8>, number: u32) -> Result<(), OutOfMemory>
 
 // Appends a header row whose value is the id of the patch of this number.
 fn push_id_row(text: &mut Vec<u8>, front: &[u8], number: u32) -> Result<(), OutOfMemory>
-    ensures { Appends
-        (front.now ++ (text_of (id_of number) ++ codes "> .\n")) text.old text.new result }
+    ensures { AppendsPiece
+        (front.now ++ (text_of (patch_number number) ++ codes "> .\n")) text.old text.new result }
 {
     push(text, front)?;
     push(text, &id_text(Id(FIRST_ID + u128::from(number))))?;
@@ -99,7 +99,7 @@ fn push_id_row(text: &mut Vec<u8>, front: &[u8], number: u32) -> Result<(), OutO
 
 // Appends a number in decimal.
 fn push_number(text: &mut Vec<u8>, number: u32) -> Result<(), OutOfMemory>
-    ensures { Appends (decimal number) text.old text.new result }
+    ensures { AppendsPiece (decimal number) text.old text.new result }
 {
     let mut buffer = Buffer::new();
     push(text, buffer.format(number).as_bytes())
@@ -107,7 +107,7 @@ fn push_number(text: &mut Vec<u8>, number: u32) -> Result<(), OutOfMemory>
 
 // Appends the row of this code with the quad of the patch of this number.
 fn push_quad_row(text: &mut Vec<u8>, code: &[u8], number: u32) -> Result<(), OutOfMemory>
-    ensures { Appends (quad_row code.now number) text.old text.new result }
+    ensures { AppendsPiece (quad_row code.now number) text.old text.new result }
 {
     push(text, code)?;
     push_quad(text, number)
@@ -115,7 +115,7 @@ fn push_quad_row(text: &mut Vec<u8>, code: &[u8], number: u32) -> Result<(), Out
 
 // Appends the quad of the patch of this number and the row's dot.
 fn push_quad(text: &mut Vec<u8>, number: u32) -> Result<(), OutOfMemory>
-    ensures { Appends (quad_text number) text.old text.new result }
+    ensures { AppendsPiece (quad_line number) text.old text.new result }
 {
     let subject = number % 100;
     push(text, b" <http://g/s")?;
@@ -125,7 +125,7 @@ fn push_quad(text: &mut Vec<u8>, number: u32) -> Result<(), OutOfMemory>
 
 // Appends what stands behind the number of the quad's subject.
 fn push_predicate(text: &mut Vec<u8>, number: u32) -> Result<(), OutOfMemory>
-    ensures { Appends (codes "> <http://g/p" ++ (decimal (number % 7) ++ object_text number))
+    ensures { AppendsPiece (codes "> <http://g/p" ++ (decimal (number % 7) ++ object_text number))
         text.old text.new result }
 {
     push(text, b"> <http://g/p")?;
@@ -135,7 +135,7 @@ fn push_predicate(text: &mut Vec<u8>, number: u32) -> Result<(), OutOfMemory>
 
 // Appends what stands behind the number of the quad's predicate.
 fn push_object(text: &mut Vec<u8>, number: u32) -> Result<(), OutOfMemory>
-    ensures { Appends (object_text number) text.old text.new result }
+    ensures { AppendsPiece (object_text number) text.old text.new result }
 {
     push(text, b"> \"")?;
     push_number(text, number)?;

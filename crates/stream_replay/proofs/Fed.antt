@@ -3,17 +3,17 @@ use Rattle.std.proofs.Common.{◌≡◌, ℕ, List, ◌++◌, Option, Some, None
 use Rattle.patch_rows.specs.declared.cut.TextEnd.TheVariants as cuts
 use Rattle.patch_reader.specs.Window.{Window}
 use Rattle.stream_replay.specs.declared.fault.ReplayFault.{ReplayFault}
-use Rattle.stream_replay.specs.declared.progress.Progress.{Progress}
+use Rattle.stream_replay.specs.declared.progress.StreamProgress.{StreamProgress}
 use Rattle.stream_replay.specs.declared.stream.Streaming.{Streaming}
 use Rattle.stream_replay.specs.Source.{EndsText}
-use Rattle.stream_replay.specs.Streaming.{HasFed, HasMet, HasStreamed, IsRead, IsTold}
+use Rattle.stream_replay.specs.Streaming.{HasFed, HasMet, HasStreamed, IsStreamRead, IsToldEnd}
 use Rattle.stream_replay.proofs.Streams.{now, streamed_longer, streamed_whole}
 
 -- no fault was met
 abbrev IsWell : Option ReplayFault → Type 0
 IsWell fault = (told : ReplayFault) → fault ≡ Some told → ⊥
 
-no_fault : (fault : Option ReplayFault) (text : List ℕ) (s : Streaming) → IsWell fault → HasMet fault text s → (s.window.fed ≡ text) × IsRead cuts.Open s
+no_fault : (fault : Option ReplayFault) (text : List ℕ) (s : Streaming) → IsWell fault → HasMet fault text s → (s.window.fed ≡ text) × IsStreamRead cuts.Open s
 no_fault None text s well has = has
 no_fault (Some told) text s well has = absurd (well told refl)
 
@@ -23,20 +23,20 @@ no_fault (Some told) text s well has = absurd (well told refl)
 abbrev IsPushed : Window → List ℕ → Window → Type 0
 IsPushed old piece new = new ≡ record old { fed = old.fed ++ piece; front = new.front }
 
-read_longer : (old new : Window) (piece : List ℕ) (p : Progress) → IsPushed old piece new → HasStreamed cuts.Open old.fed old.passed p → HasStreamed cuts.Open new.fed new.passed p
+read_longer : (old new : Window) (piece : List ℕ) (p : StreamProgress) → IsPushed old piece new → HasStreamed cuts.Open old.fed old.passed p → HasStreamed cuts.Open new.fed new.passed p
 read_longer old new piece p is h = subst (λ (w : Window). HasStreamed cuts.Open w.fed w.passed p) (sym is) (streamed_longer old.fed piece old.passed p h)
 
 -- a fault was met
 pub fed_stopped : (text piece : List ℕ) (old : Streaming) (pushed : Window) (told : ReplayFault) → IsWell old.fault → IsPushed old.window piece pushed
-    → (HasStreamed cuts.Open pushed.fed pushed.passed old.progress → IsTold cuts.Open pushed.fed told) → HasFed text old → IsTold cuts.Open (text ++ piece) told
+    → (HasStreamed cuts.Open pushed.fed pushed.passed old.progress → IsToldEnd cuts.Open pushed.fed told) → HasFed text old → IsToldEnd cuts.Open (text ++ piece) told
 fed_stopped text piece old pushed told well push stops has =
     let met = no_fault old.fault text old well has in
-    subst (λ (t : List ℕ). IsTold cuts.Open t told) (ap (λ (w : Window). w.fed) push ∙ ap (λ (t : List ℕ). t ++ piece) met.0) (stops (read_longer old.window pushed piece old.progress push met.1))
+    subst (λ (t : List ℕ). IsToldEnd cuts.Open t told) (ap (λ (w : Window). w.fed) push ∙ ap (λ (t : List ℕ). t ++ piece) met.0) (stops (read_longer old.window pushed piece old.progress push met.1))
 
 -- ---- the text is whole
 
-pub faulty_whole : (text : List ℕ) (told : ReplayFault) → IsTold cuts.Open text told → EndsText told text
+pub faulty_whole : (text : List ℕ) (told : ReplayFault) → IsToldEnd cuts.Open text told → EndsText told text
 faulty_whole text told is = is text (now cuts.Open text)
 
-pub fed_whole : (text : List ℕ) (s : Streaming) → IsWell s.fault → HasFed text s → (s.window.fed ≡ text) × IsRead cuts.Known s
+pub fed_whole : (text : List ℕ) (s : Streaming) → IsWell s.fault → HasFed text s → (s.window.fed ≡ text) × IsStreamRead cuts.Known s
 fed_whole text s well has = let met = no_fault s.fault text s well has in (met.0, streamed_whole s.window.fed s.window.passed s.progress met.1)

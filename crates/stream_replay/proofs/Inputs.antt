@@ -5,7 +5,7 @@ use Rattle.std.proofs.KnownBytes.{Consumes-nil, Consumes-trans}
 use Rattle.stream_replay.specs.declared.fault.ReplayFault.{ReplayFault}
 use Rattle.stream_replay.specs.declared.fault.ReplayFault.TheVariants as ends
 use Rattle.stream_replay.specs.declared.stream.Streaming.{Streaming}
-use Rattle.stream_replay.specs.Source.{Ends, EndsText, IsTooLong, Reads, stream_limit}
+use Rattle.stream_replay.specs.Source.{EndsReplay, EndsText, IsTooLong, ReadsBytes, stream_limit}
 use Rattle.stream_replay.specs.Streaming.{HasFed}
 
 -- so many bytes of an input were read and fed
@@ -28,7 +28,7 @@ read_more before mid now old new size count piece h more len feed = record {
 }
 
 -- the input was read to its end
-all_read : (before after : Option (List ℕ)) (text : List ℕ) (IsSuch : List ℕ → Type 0) → Consumes before after text → IsAtEnd after → length text ≤ stream_limit → IsSuch text → Reads before after IsSuch
+all_read : (before after : Option (List ℕ)) (text : List ℕ) (IsSuch : List ℕ → Type 0) → Consumes before after text → IsAtEnd after → length text ≤ stream_limit → IsSuch text → ReadsBytes before after IsSuch
 all_read None after text IsSuch consumed end short is = tt
 all_read (Some all) None text IsSuch consumed end short is = absurd consumed
 all_read (Some all) (Some rest) text IsSuch consumed end short is =
@@ -37,13 +37,13 @@ all_read (Some all) (Some rest) text IsSuch consumed end short is =
 
 -- a read gave nothing more
 pub at_end : (before mid after : Option (List ℕ)) (text piece : List ℕ) (IsSuch : List ℕ → Type 0) → Consumes before mid text → Consumes mid after piece → piece ≡ [] → IsAtEnd after → length text ≤ stream_limit → IsSuch text
-    → Reads before after IsSuch
+    → ReadsBytes before after IsSuch
 at_end before mid after text piece IsSuch consumed none empty end short is =
     all_read before after text IsSuch (subst (Consumes before after) (ap (λ (l : List ℕ). text ++ l) empty ∙ append-nil text) (Consumes-trans before mid after text piece consumed none)) end short is
 
 -- how the text ends its replay is how the input does
 pub ends_input : (before mid after : Option (List ℕ)) (faults now : ℕ) (text piece : List ℕ) (fault : ReplayFault) → Consumes before mid text → Consumes mid after piece → piece ≡ [] → IsAtEnd after → length text ≤ stream_limit
-    → EndsText fault text → Ends before after faults now fault
+    → EndsText fault text → EndsReplay before after faults now fault
 ends_input before mid after faults now text piece (ends.Stream line at kind) consumed none empty end short is = at_end before mid after text piece (EndsText (ends.Stream line at kind)) consumed none empty end short is
 ends_input before mid after faults now text piece (ends.LongPatch size limit) consumed none empty end short is = at_end before mid after text piece (EndsText (ends.LongPatch size limit)) consumed none empty end short is
 ends_input before mid after faults now text piece (ends.Chain fault) consumed none empty end short is = at_end before mid after text piece (EndsText (ends.Chain fault)) consumed none empty end short is

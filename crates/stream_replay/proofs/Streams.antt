@@ -24,8 +24,8 @@ use Rattle.patch_rows.specs.declared.fault.RowFault.TheVariants as rows
 use Rattle.patch_rows.specs.declared.row.Row.{Row}
 use Rattle.patch_rows.specs.Grammar.{ShortRowAt, IsRowAt, IsDecidedRow}
 use Rattle.patch_reader.specs.declared.placed.PlacedRow.{PlacedRow}
-use Rattle.patch_reader.specs.Rows.{Gap, FaultBehind, GivesNext, RowsStand, RowsUpTo, Stops}
-use Rattle.patch_reader.specs.Window.{Window, GoesOn, RowBegins, row_front}
+use Rattle.patch_reader.specs.Rows.{Gap, FaultBehind, GivesNext, RowsStand, RowsUpTo, StopsRows}
+use Rattle.patch_reader.specs.Window.{Window, ReadsOn, RowBegins, front_text}
 use Rattle.patch_reader.proofs.Adding.{stand_joined}
 use Rattle.patch_meaning.specs.declared.fault.PatchFault.{PatchFault}
 use Rattle.patch_meaning.specs.declared.role.Role.{Role}
@@ -44,12 +44,12 @@ use Rattle.patch_reader.proofs.Holding.{row_within}
 use Rattle.patch_meaning.proofs.StreamFaults.{refused_fault, no_row_fault, end_fault}
 use Rattle.stream_replay.specs.declared.fault.ReplayFault.{ReplayFault}
 use Rattle.stream_replay.specs.declared.fault.ReplayFault.TheVariants as ends
-use Rattle.stream_replay.specs.declared.progress.Progress.{Progress}
+use Rattle.stream_replay.specs.declared.progress.StreamProgress.{StreamProgress}
 use Rattle.stream_replay.specs.declared.replay.Replay.{Replay}
 use Rattle.stream_replay.specs.Edits.{HasEdits}
 use Rattle.stream_replay.specs.Replaying.{IsReplay, EndsChain}
 use Rattle.stream_replay.specs.Source.{EndsText}
-use Rattle.stream_replay.specs.Streaming.{AwaitsRow, HasStreamed, HoldsMore, IsRefused, MayBe}
+use Rattle.stream_replay.specs.Streaming.{AwaitsRow, HasStreamed, HoldsMore, IsRefusedStream, MayBe}
 
 -- ---- what the whole text may be
 
@@ -61,7 +61,7 @@ rows_stand : (end : TextEnd) (text : List ℕ) (from to : ℕ) (rs : List Placed
 rows_stand cuts.Open text from to rs up = λ more. up (text ++ more) (more, refl)
 rows_stand cuts.Known text from to rs up = up text refl
 
-fault_there : (end : TextEnd) (text whole : List ℕ) (from at : ℕ) (kind : RowKind) → MayBe end text whole → Stops end text from (Some (rows.At at kind)) → FaultBehind whole from kind at
+fault_there : (end : TextEnd) (text whole : List ℕ) (from at : ℕ) (kind : RowKind) → MayBe end text whole → StopsRows end text from (Some (rows.At at kind)) → FaultBehind whole from kind at
 fault_there cuts.Open text whole from at kind (more, is) stop = subst (λ (t : List ℕ). FaultBehind t from kind at) (sym is) (stop.0, (stop.1 more).0, (stop.1 more).1)
 fault_there cuts.Known text whole from at kind is stop = subst (λ (t : List ℕ). FaultBehind t from kind at) (sym is) stop
 
@@ -70,14 +70,14 @@ pub now : (end : TextEnd) (text : List ℕ) → MayBe end text text
 now cuts.Open text = ([], sym (append-nil text))
 now cuts.Known text = refl
 
-pub fault_within : (end : TextEnd) (text : List ℕ) (from at : ℕ) (kind : RowKind) → Stops end text from (Some (rows.At at kind)) → at ≤ length text
+pub fault_within : (end : TextEnd) (text : List ℕ) (from at : ℕ) (kind : RowKind) → StopsRows end text from (Some (rows.At at kind)) → at ≤ length text
 fault_within end text from at kind stop = (fault_there end text text from at kind (now end text) stop).2.2
 
-pub streamed_at : (end : TextEnd) (text other : List ℕ) (at place : ℕ) (p : Progress) → other ≡ text → place ≡ at → HasStreamed end text at p → HasStreamed end other place p
+pub streamed_at : (end : TextEnd) (text other : List ℕ) (at place : ℕ) (p : StreamProgress) → other ≡ text → place ≡ at → HasStreamed end text at p → HasStreamed end other place p
 streamed_at end text other at place p same there h = subst (λ (n : ℕ). HasStreamed end other n p) (sym there) (subst (λ (t : List ℕ). HasStreamed end t at p) (sym same) h)
 
 -- the text goes on, or it is known to be whole
-streamed_in : (end : TextEnd) (text longer : List ℕ) (at : ℕ) (p : Progress) → ((whole : List ℕ) → MayBe end longer whole → MayBe cuts.Open text whole) → HasStreamed cuts.Open text at p → HasStreamed end longer at p
+streamed_in : (end : TextEnd) (text longer : List ℕ) (at : ℕ) (p : StreamProgress) → ((whole : List ℕ) → MayBe end longer whole → MayBe cuts.Open text whole) → HasStreamed cuts.Open text at p → HasStreamed end longer at p
 streamed_in end text longer at p may h = record {
   rs = h.rs;
   ms = h.ms;
@@ -91,10 +91,10 @@ streamed_in end text longer at p may h = record {
 pub may_later : (text more whole : List ℕ) → MayBe cuts.Open (text ++ more) whole → MayBe cuts.Open text whole
 may_later text more whole (rest, is) = (more ++ rest, is ∙ append_assoc text more rest)
 
-pub streamed_longer : (text more : List ℕ) (at : ℕ) (p : Progress) → HasStreamed cuts.Open text at p → HasStreamed cuts.Open (text ++ more) at p
+pub streamed_longer : (text more : List ℕ) (at : ℕ) (p : StreamProgress) → HasStreamed cuts.Open text at p → HasStreamed cuts.Open (text ++ more) at p
 streamed_longer text more at p h = streamed_in cuts.Open text (text ++ more) at p (may_later text more) h
 
-pub streamed_whole : (text : List ℕ) (at : ℕ) (p : Progress) → HasStreamed cuts.Open text at p → HasStreamed cuts.Known text at p
+pub streamed_whole : (text : List ℕ) (at : ℕ) (p : StreamProgress) → HasStreamed cuts.Open text at p → HasStreamed cuts.Known text at p
 streamed_whole text at p h = streamed_in cuts.Known text text at p (λ whole is. ([], is ∙ sym (append-nil text))) h
 
 -- ---- one more row
@@ -108,10 +108,10 @@ pub record HasPassed (end : TextEnd) (old new : Window) (r : PlacedRow) : Type 0
   pub further : r.at < r.end
   pub within : r.end ≤ length old.fed
 
-pub next_passed : (end : TextEnd) (old new : Window) (o : Option PlacedRow) (r : PlacedRow) → o ≡ Some r → GivesNext end old.fed old.passed (Ok o) → GoesOn old (Ok o) new → HasPassed end old new r
+pub next_passed : (end : TextEnd) (old new : Window) (o : Option PlacedRow) (r : PlacedRow) → o ≡ Some r → GivesNext end old.fed old.passed (Ok o) → ReadsOn old (Ok o) new → HasPassed end old new r
 next_passed end old new o r is given goes =
     let stands = subst (λ (o : Option PlacedRow). GivesNext end old.fed old.passed (Ok o)) is given in
-    let moved = subst (λ (o : Option PlacedRow). GoesOn old (Ok o) new) is goes in
+    let moved = subst (λ (o : Option PlacedRow). ReadsOn old (Ok o) new) is goes in
     let there = row_within end old.fed old.passed r stands in
     record { stands = stands; fed = ap (λ (w : Window). w.fed) moved; passed = ap (λ (w : Window). w.passed) moved; low = there.2; further = there.0; within = there.1 }
 
@@ -127,7 +127,7 @@ up_to_next end text rs passed stop r before there =
 not_behind : (limit : ℕ) (rs : List PlacedRow) (r : PlacedRow) → AreUpTo (rs ++ r ∷ []) limit → nat_lt limit r.at ≡ false
 not_behind limit rs r up = let here = (front_up_to rs r limit up).1 in grind (arith, nat_tests)
 
-pub streamed_more : (end : TextEnd) (text : List ℕ) (at stop : ℕ) (old new : Progress) (says : Role) (done : Option Link) → AwaitsRow end text old says at stop → HasTakenNext old.part says at done new.part
+pub streamed_more : (end : TextEnd) (text : List ℕ) (at stop : ℕ) (old new : StreamProgress) (says : Role) (done : Option Link) → AwaitsRow end text old says at stop → HasTakenNext old.part says at done new.part
     → ((ms : List Meaning) (changes : List Change) → IsReplay ms old.replay → IsReplay (ms ++ meanings_of done changes) new.replay)
     → ((ms : List Meaning) (changes : List Change) → HasEdits changes (replay ms) old.edits → HoldsMore new.part (changes_left done changes) (replay (ms ++ meanings_of done changes)) says at new.edits)
     → HasStreamed end text stop new
@@ -147,7 +147,7 @@ streamed_more end text at stop old new says done a taken applied holds =
     }
 
 -- one more row, with a quad
-pub streamed_quad : (end : TextEnd) (text : List ℕ) (at stop : ℕ) (old new : Progress) (adds : Bool) (quad : Statement) → AwaitsRow end text old (roles.Change (change_by adds quad)) at stop
+pub streamed_quad : (end : TextEnd) (text : List ℕ) (at stop : ℕ) (old new : StreamProgress) (adds : Bool) (quad : Statement) → AwaitsRow end text old (roles.Change (change_by adds quad)) at stop
     → ((rs : List PlacedRow) (r : PlacedRow) (adds : Bool) (quad : Statement) → HasPart rs old.part → role r.row ≡ roles.Change (change_by adds quad) → HasPart (rs ++ r ∷ []) new.part) → new.part.from ≡ old.part.from
     → new.replay ≡ old.replay
     → ((changes : List Change) (d : Dataset) → HasEdits changes d old.edits → HoldsMore new.part changes d (roles.Change (change_by adds quad)) at new.edits) → HasStreamed end text stop new
@@ -157,7 +157,7 @@ streamed_quad end text at stop old new adds quad a part same replayed holds =
     (λ ms changes taken. subst (λ (r : Replay). IsReplay (ms ++ []) r) (sym replayed) (subst (λ (l : List Meaning). IsReplay l old.replay) (sym (append-nil ms)) taken))
     (λ ms changes edits. subst (λ (l : List Meaning). HoldsMore new.part changes (replay l) (roles.Change (change_by adds quad)) at new.edits) (sym (append-nil ms)) (holds changes (replay ms) edits))
 
-pub front_there : (w : Window) (at : ℕ) → w.front ≡ Some at → row_front w ≡ drop at w.fed
+pub front_there : (w : Window) (at : ℕ) → w.front ≡ Some at → front_text w ≡ drop at w.fed
 front_there w at is = rw is refl
 
 -- a row that is decided where the next one begins
@@ -184,7 +184,7 @@ decided_there w at size r begins is end = rows_stand end w.fed w.passed (at + si
     by cuts.Open whole (more, is) = subst (λ (t : List ℕ). RowsUpTo t w.passed (placed r at (at + size) ∷ []) (at + size)) (sym is) (longer more)
     by cuts.Known whole is = subst (λ (t : List ℕ). RowsUpTo t w.passed (placed r at (at + size) ∷ []) (at + size)) (append-nil w.fed ∙ sym is) (longer [])
 
-pub awaits_found : (w : Window) (p : Progress) (at size : ℕ) (r : Row) (says : Role) → RowBegins w at → IsDecidedRow (drop at w.fed) 0 r size → role r ≡ says → (end : TextEnd) → HasStreamed end w.fed w.passed p
+pub awaits_found : (w : Window) (p : StreamProgress) (at size : ℕ) (r : Row) (says : Role) → RowBegins w at → IsDecidedRow (drop at w.fed) 0 r size → role r ≡ says → (end : TextEnd) → HasStreamed end w.fed w.passed p
     → AwaitsRow end w.fed p says at (at + size)
 awaits_found w p at size r says begins is says_is end h =
     record { passed = w.passed; before = h; row_ = r; stands = decided_there w at size r begins is end; says_is = says_is }
@@ -214,7 +214,7 @@ said_further text at end (says.Prev id) is = is.2.further
 said_further text at end _ is = is.further
 
 -- a row was found in front, and it ends further on
-pub found_further : (w : Window) (place : Option ℕ) (at : ℕ) (front : List ℕ) (found : ScannedRow) → place ≡ w.front → place ≡ Some at → RowBegins w at → front ≡ row_front w → HasRow front 0 found → (w.passed ≤ at) × (at < length w.fed) × (0 < found.end)
+pub found_further : (w : Window) (place : Option ℕ) (at : ℕ) (front : List ℕ) (found : ScannedRow) → place ≡ w.front → place ≡ Some at → RowBegins w at → front ≡ front_text w → HasRow front 0 found → (w.passed ≤ at) × (at < length w.fed) × (0 < found.end)
 found_further w place at front found value is begins there row =
     let gap = begins.0 [] in
     (gap.1, begins.2, said_further (drop at w.fed) 0 found.end found.says (subst (λ (t : List ℕ). IsSaid t 0 found.end found.says) (there ∙ front_there w at (sym value ∙ is)) row))
@@ -222,7 +222,7 @@ found_further w place at front found value is begins there row =
 -- ---- faults
 
 -- the next patch begins with a row, and the one before it has a fault; or the row is refused
-pub refused_by : (end : TextEnd) (text : List ℕ) (at stop : ℕ) (old : Progress) (says : Role) (fault : PatchFault) → IsBrokenBy old.part says at fault → AwaitsRow end text old says at stop → IsRefused end text fault
+pub refused_by : (end : TextEnd) (text : List ℕ) (at stop : ℕ) (old : StreamProgress) (says : Role) (fault : PatchFault) → IsBrokenBy old.part says at fault → AwaitsRow end text old says at stop → IsRefusedStream end text fault
 refused_by end text at stop old says fault why a = λ whole may. inr (there whole may)
   where
     h : HasStreamed end text a.passed old
@@ -248,27 +248,27 @@ refused_by end text at stop old says fault why a = λ whole may. inr (there whol
             refused_fault whole (h.rs ++ r ∷ []) stop fault (rows_more whole 0 a.passed h.rs r before row_there.0 row_there.1) (row_ends whole at a.row_ stop row_there.1).1 bad
 
 -- no row stands there
-pub refused_there : (end : TextEnd) (text : List ℕ) (passed at : ℕ) (p : Progress) (kind : RowKind) (fault : PatchFault) → Stops end text passed (Some (rows.At at kind)) → HasStreamed end text passed p → IsBrokenAt p.part at kind fault
-    → IsRefused end text fault
+pub refused_there : (end : TextEnd) (text : List ℕ) (passed at : ℕ) (p : StreamProgress) (kind : RowKind) (fault : PatchFault) → StopsRows end text passed (Some (rows.At at kind)) → HasStreamed end text passed p → IsBrokenAt p.part at kind fault
+    → IsRefusedStream end text fault
 refused_there end text passed at p kind fault stop h why = λ whole may.
     let found = fault_there end text whole passed at kind may stop in
     inr (no_row_fault whole h.rs found.0 h.ms at kind fault (passed, rows_there end text whole 0 passed h.rs may h.reads, found.1) h.parts.before found.2 (why h.rs h.ms h.changes h.parts))
 
 -- ---- the end
 
-reads_whole : (text : List ℕ) (at : ℕ) (p : Progress) (h : HasStreamed cuts.Known text at p) → Gap text at (length text) → RowsTo text 0 h.rs (length text)
+reads_whole : (text : List ℕ) (at : ℕ) (p : StreamProgress) (h : HasStreamed cuts.Known text at p) → Gap text at (length text) → RowsTo text 0 h.rs (length text)
 reads_whole text at p h gap = (at, h.reads, gap)
 
-up_to_end : (text : List ℕ) (at : ℕ) (p : Progress) (h : HasStreamed cuts.Known text at p) → Gap text at (length text) → AreUpTo h.rs (length text)
+up_to_end : (text : List ℕ) (at : ℕ) (p : StreamProgress) (h : HasStreamed cuts.Known text at p) → Gap text at (length text) → AreUpTo h.rs (length text)
 up_to_end text at p h gap = rows_up_to text 0 at (length text) h.rs h.reads gap.1
 
 -- the last patch has a fault
-pub refused_at_end : (text : List ℕ) (at : ℕ) (p : Progress) (fault : PatchFault) → IsBrokenAtEnd p.part (length text) fault → HasStreamed cuts.Known text at p → Gap text at (length text) → IsRefused cuts.Known text fault
+pub refused_at_end : (text : List ℕ) (at : ℕ) (p : StreamProgress) (fault : PatchFault) → IsBrokenAtEnd p.part (length text) fault → HasStreamed cuts.Known text at p → Gap text at (length text) → IsRefusedStream cuts.Known text fault
 refused_at_end text at p fault why h gap = λ whole is.
     let last = why h.rs h.ms h.changes h.parts in
     subst (λ (t : List ℕ). RefusesStream t fault) (sym is) (inr (end_fault text h.rs (length text) h.ms fault (reads_whole text at p h gap) h.parts.before (over refl last.0) last.1))
 
-pub stream_at_end : (text : List ℕ) (at : ℕ) (p : Progress) (done : Option Link) (h : HasStreamed cuts.Known text at p) → Gap text at (length text) → EndsStream p.part (length text) done
+pub stream_at_end : (text : List ℕ) (at : ℕ) (p : StreamProgress) (done : Option Link) (h : HasStreamed cuts.Known text at p) → Gap text at (length text) → EndsStream p.part (length text) done
     → IsStream text (h.ms ++ meanings_of done h.changes)
 stream_at_end text at p done h gap ends = record {
   rows_ = h.rs;

@@ -13,10 +13,10 @@ use Rattle.chain_core.specs.Tested.{IsTested}
 use Rattle.rdf_terms.specs.declared.change.Change.{Change}
 use Rattle.rdf_terms.specs.Dataset.{Dataset, apply, empty}
 use Rattle.patch_meaning.specs.declared.part.Part.{Part}
-use Rattle.patch_meaning.specs.Cutting.{IsCutInto, IsLast, meanings_of}
+use Rattle.patch_meaning.specs.Cutting.{IsCutInto, IsLastPatch, meanings_of}
 use Rattle.patch_meaning.specs.PartRead.{meaning_of}
 use Rattle.patch_meaning.specs.Patch.{Meaning}
-use Rattle.patch_meaning.specs.Replay.{link_of, links_of, replay, replay_from}
+use Rattle.patch_meaning.specs.Replay.{link_of, links_said, replay, replay_from}
 use Rattle.patch_meaning.specs.Roles.{changes_of, said}
 use Rattle.patch_meaning.specs.Rows.{AreUpTo}
 use Rattle.patch_meaning.specs.Stream.{cut}
@@ -25,10 +25,10 @@ use Rattle.patch_reader.specs.declared.placed.PlacedRow.{PlacedRow}
 use Rattle.stream_replay.specs.declared.edits.Edits.{Edits}
 use Rattle.stream_replay.specs.declared.replay.Replay.{Replay}
 use Rattle.stream_replay.specs.Edits.{HasEdits, MakesLines}
-use Rattle.stream_replay.specs.Replaying.{IsWhole, HasTaken, IsReplay}
+use Rattle.stream_replay.specs.Replaying.{IsChainSoFar, HasTakenPatches, IsReplay}
 use Rattle.stream_replay.proofs.Edited.{all_made}
 
-links-append : (ms ns : List Meaning) → links_of (ms ++ ns) ≡ links_of ms ++ links_of ns
+links-append : (ms ns : List Meaning) → links_said (ms ++ ns) ≡ links_said ms ++ links_said ns
 links-append ms ns = map-append link_of ms ns
 
 -- one patch more
@@ -43,21 +43,21 @@ last-push head (k ∷ ls) l = last-push (Some k.id) ls l
 -- ---- faults
 
 -- behind a fault patches change nothing
-broken_more : (ms : List Meaning) (m : Meaning) (fault : Option ChainFault) (r : Replay) → is_some fault ≡ true → HasTaken ms fault r → HasTaken (ms ++ m ∷ []) fault r
+broken_more : (ms : List Meaning) (m : Meaning) (fault : Option ChainFault) (r : Replay) → is_some fault ≡ true → HasTakenPatches ms fault r → HasTakenPatches (ms ++ m ∷ []) fault r
 broken_more ms m None r some has = absurd cc
-broken_more ms m (Some fault) r some has = λ more. subst (λ (l : List Meaning). Breaks (links_of l) fault) (sym (append_assoc ms (m ∷ []) more)) (has (m ∷ more))
+broken_more ms m (Some fault) r some has = λ more. subst (λ (l : List Meaning). Breaks (links_said l) fault) (sym (append_assoc ms (m ∷ []) more)) (has (m ∷ more))
 
 pub still_broken : (ms : List Meaning) (m : Meaning) (r : Replay) → is_some r.fault ≡ true → IsReplay ms r → IsReplay (ms ++ m ∷ []) r
 still_broken ms m r some has = broken_more ms m r.fault r some has
 
 -- the first fault
 pub breaks : (ms more : List Meaning) (m : Meaning) (chain : ChainTest) (fault : ChainFault) → ((links behind : List Link) → IsTested links chain → Breaks (links ++ link_of m ∷ behind) fault)
-    → IsTested (links_of ms) chain → Breaks (links_of ((ms ++ m ∷ []) ++ more)) fault
+    → IsTested (links_said ms) chain → Breaks (links_said ((ms ++ m ∷ []) ++ more)) fault
 breaks ms more m chain fault all tested =
-    subst (λ (ls : List Link). Breaks ls fault) (sym (ap links_of (append_assoc ms (m ∷ []) more) ∙ links-append ms (m ∷ more))) (all (links_of ms) (links_of more) tested)
+    subst (λ (ls : List Link). Breaks ls fault) (sym (ap links_said (append_assoc ms (m ∷ []) more) ∙ links-append ms (m ∷ more))) (all (links_said ms) (links_said more) tested)
 
-pub broken : (ms : List Meaning) (fault : ChainFault) → ((more : List Meaning) → Breaks (links_of (ms ++ more)) fault) → Breaks (links_of ms) fault
-broken ms fault all = subst (λ (l : List Meaning). Breaks (links_of l) fault) (append-nil ms) (all [])
+pub broken : (ms : List Meaning) (fault : ChainFault) → ((more : List Meaning) → Breaks (links_said (ms ++ more)) fault) → Breaks (links_said ms) fault
+broken ms fault all = subst (λ (l : List Meaning). Breaks (links_said l) fault) (append-nil ms) (all [])
 
 -- ---- a chain
 
@@ -65,27 +65,27 @@ none_met : (fault : Option ChainFault) → is_some fault ≡ false → fault ≡
 none_met None none = refl
 none_met (Some fault) none = absurd cc
 
-pub is_whole : (ms : List Meaning) (r : Replay) → is_some r.fault ≡ false → IsReplay ms r → IsWhole ms r
-is_whole ms r none has = subst (λ (fault : Option ChainFault). HasTaken ms fault r) (none_met r.fault none) has
+pub is_whole : (ms : List Meaning) (r : Replay) → is_some r.fault ≡ false → IsReplay ms r → IsChainSoFar ms r
+is_whole ms r none has = subst (λ (fault : Option ChainFault). HasTakenPatches ms fault r) (none_met r.fault none) has
 
-pub make_whole : (ms : List Meaning) (r : Replay) → is_some r.fault ≡ false → IsWhole ms r → IsReplay ms r
-make_whole ms r none is = subst (λ (fault : Option ChainFault). HasTaken ms fault r) (sym (none_met r.fault none)) is
+pub make_whole : (ms : List Meaning) (r : Replay) → is_some r.fault ≡ false → IsChainSoFar ms r → IsReplay ms r
+make_whole ms r none is = subst (λ (fault : Option ChainFault). HasTakenPatches ms fault r) (sym (none_met r.fault none)) is
 
 -- so few can be counted
 pub no_end : (n : ℕ) → n < 2 ^ 32 → min (n + 1) (2 ^ 64 - 1) ≡ n + 1
 no_end n few = omega arith
 
 -- a patch that goes on
-pub goes_on : (ms : List Meaning) (m : Meaning) (old new : Replay) → IsWhole ms old → old.chain.version < 2 ^ 32 - 1
+pub goes_on : (ms : List Meaning) (m : Meaning) (old new : Replay) → IsChainSoFar ms old → old.chain.version < 2 ^ 32 - 1
     → ((links : List Link) → IsTested links old.chain → IsChain (links ++ link_of m ∷ []))
     → ((links : List Link) → IsTested links old.chain → IsChain (links ++ link_of m ∷ []) → IsTested (links ++ link_of m ∷ []) new.chain)
-    → (old.patches < 2 ^ 32 → new.patches ≡ old.patches + 1) → new.head ≡ Some m.id → IsWhole (ms ++ m ∷ []) new
+    → (old.patches < 2 ^ 32 → new.patches ≡ old.patches + 1) → new.head ≡ Some m.id → IsChainSoFar (ms ++ m ∷ []) new
 goes_on ms m old new is room follows pushed count head =
     let few : old.patches < 2 ^ 32 = let v = is.tested.version_is in let n = is.patches_is in let l = length-map ms link_of in omega arith in
     record {
-      tested = subst (λ (ls : List Link). IsTested ls new.chain) (sym (links-append ms (m ∷ []))) (pushed (links_of ms) is.tested (follows (links_of ms) is.tested));
+      tested = subst (λ (ls : List Link). IsTested ls new.chain) (sym (links-append ms (m ∷ []))) (pushed (links_said ms) is.tested (follows (links_said ms) is.tested));
       patches_is = count few ∙ ap (λ (n : ℕ). n + 1) is.patches_is ∙ sym (length-append ms (m ∷ []));
-      head_is = head ∙ sym (ap (last_or None) (links-append ms (m ∷ [])) ∙ last-push None (links_of ms) (link_of m));
+      head_is = head ∙ sym (ap (last_or None) (links-append ms (m ∷ [])) ∙ last-push None (links_said ms) (link_of m));
     }
 
 -- ---- the dataset
@@ -103,7 +103,7 @@ makes_last ms changes e (Some link) nothing has =
     subst (MakesLines e.log) (sym (replay-push ms (meaning_of link changes) empty)) (all_made e.before_block changes (replay ms) e.log has)
 
 -- a part without rows has no change
-pub no_change : (p : Part) (stop : ℕ) (done : Option Link) (rs : List PlacedRow) (ms : List Meaning) (changes : List Change) → IsLast p stop done → IsCutInto rs ms changes p → done ≡ None → changes ≡ []
+pub no_change : (p : Part) (stop : ℕ) (done : Option Link) (rs : List PlacedRow) (ms : List Meaning) (changes : List Change) → IsLastPatch p stop done → IsCutInto rs ms changes p → done ≡ None → changes ≡ []
 no_change p stop (Some link) rs ms changes last h none = absurd cc
 no_change p stop None rs ms changes last h none =
     let empty = none_there (cut rs).last.rows_ (last (cut rs).last.rows_ h.part) in

@@ -6,7 +6,7 @@ use Rattle.patch_meaning.specs.Stream.{IsStreamFault}
 use Rattle.patch_reader.specs.Places.{line_number}
 
 -- what is wrong at the place of the first fault of a text that is no stream, and the place's line
-pub record IsFaulty (line at : ℕ) (kind : PatchKind) (text : List ℕ) : Type 0 where
+pub record IsFaultyStream (line at : ℕ) (kind : PatchKind) (text : List ℕ) : Type 0 where
   pub fault_is : IsStreamFault text (faults.At at kind)
   pub line_is : line ≡ line_number text at
 

@@ -4,12 +4,12 @@ use Rattle.delta_base.specs.Outside.{Rose}
 use Rattle.chain_core.specs.declared.testing.ChainFault.{ChainFault}
 use Rattle.chain_core.specs.Breaks.{Breaks}
 use Rattle.patch_meaning.specs.Patch.{Meaning}
-use Rattle.patch_meaning.specs.Replay.{links_of}
+use Rattle.patch_meaning.specs.Replay.{links_said}
 use Rattle.patch_meaning.specs.Stream.{IsStream}
 use Rattle.stream_replay.specs.declared.replay.Replayed.{Replayed}
 use Rattle.stream_replay.specs.declared.fault.ReplayFault.{ReplayFault}
 use Rattle.stream_replay.specs.declared.fault.ReplayFault.TheVariants as ends
-use Rattle.stream_replay.specs.Places.{IsFaulty, IsLong}
+use Rattle.stream_replay.specs.Places.{IsFaultyStream, IsLong}
 use Rattle.stream_replay.specs.Replaying.{AreReplayed}
 
 -- the bytes that a stream may have
@@ -17,9 +17,9 @@ abbrev pub stream_limit : ℕ
 stream_limit = 268435456
 
 -- where an input tells its bytes, it was read to its end, and its text isn't too long and is such
-abbrev pub Reads : Option (List ℕ) → Option (List ℕ) → (List ℕ → Type 0) → Type 0
-Reads None left IsSuch = Unit {0}
-Reads (Some text) left IsSuch = (left ≡ Some []) × (length text ≤ stream_limit) × IsSuch text
+abbrev pub ReadsBytes : Option (List ℕ) → Option (List ℕ) → (List ℕ → Type 0) → Type 0
+ReadsBytes None left IsSuch = Unit {0}
+ReadsBytes (Some text) left IsSuch = (left ≡ Some []) × (length text ≤ stream_limit) × IsSuch text
 
 -- where an input tells its bytes, they are too many
 abbrev pub IsTooLong : Option (List ℕ) → Type 0
@@ -36,11 +36,11 @@ pub record IsReplayed (r : Replayed) (text : List ℕ) : Type 0 where
 pub record IsUnchained (fault : ChainFault) (text : List ℕ) : Type 0 where
   pub meanings : List Meaning
   pub stream : IsStream text meanings
-  pub breaks : Breaks (links_of meanings) fault
+  pub breaks : Breaks (links_said meanings) fault
 
 -- why a text has no replay; want of memory is free
 abbrev pub EndsText : ReplayFault → List ℕ → Type 0
-EndsText (ends.Stream line at kind) text = IsFaulty line at kind text
+EndsText (ends.Stream line at kind) text = IsFaultyStream line at kind text
 EndsText (ends.LongPatch size limit) text = IsLong size limit text
 EndsText (ends.Chain fault) text = IsUnchained fault text
 EndsText ends.TooLong text = ⊥
@@ -49,12 +49,13 @@ EndsText ends.OutOfMemory text = Unit {0}
 
 -- Why an input has no replay, with what was told of it before and after: its bytes, and how often a
 -- call has failed. Want of memory is free.
-abbrev pub Ends : Option (List ℕ) → Option (List ℕ) → ℕ → ℕ → ReplayFault → Type 0
-Ends before after faults faults' (ends.Stream line at kind) =
-    Reads before after (IsFaulty line at kind)
-Ends before after faults faults' (ends.LongPatch size limit) =
-    Reads before after (IsLong size limit)
-Ends before after faults faults' (ends.Chain fault) = Reads before after (IsUnchained fault)
-Ends before after faults faults' ends.TooLong = IsTooLong before
-Ends before after faults faults' ends.Failed = Rose faults faults'
-Ends before after faults faults' ends.OutOfMemory = Unit {0}
+abbrev pub EndsReplay : Option (List ℕ) → Option (List ℕ) → ℕ → ℕ → ReplayFault → Type 0
+EndsReplay before after faults faults' (ends.Stream line at kind) =
+    ReadsBytes before after (IsFaultyStream line at kind)
+EndsReplay before after faults faults' (ends.LongPatch size limit) =
+    ReadsBytes before after (IsLong size limit)
+EndsReplay before after faults faults' (ends.Chain fault) =
+    ReadsBytes before after (IsUnchained fault)
+EndsReplay before after faults faults' ends.TooLong = IsTooLong before
+EndsReplay before after faults faults' ends.Failed = Rose faults faults'
+EndsReplay before after faults faults' ends.OutOfMemory = Unit {0}

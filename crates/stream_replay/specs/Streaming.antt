@@ -18,7 +18,7 @@ use Rattle.rdf_terms.specs.declared.change.Change.{Change}
 use Rattle.rdf_terms.specs.Dataset.{Dataset}
 use Rattle.stream_replay.specs.declared.edits.Edits.{Edits}
 use Rattle.stream_replay.specs.declared.fault.ReplayFault.{ReplayFault}
-use Rattle.stream_replay.specs.declared.progress.Progress.{Progress}
+use Rattle.stream_replay.specs.declared.progress.StreamProgress.{StreamProgress}
 use Rattle.stream_replay.specs.declared.stream.Streaming.{Streaming}
 use Rattle.stream_replay.specs.Edits.{HasEdits}
 use Rattle.stream_replay.specs.Replaying.{IsReplay}
@@ -33,7 +33,7 @@ MayBe ends.Known text whole = whole ≡ text
 
 -- The rows up to a place were cut into patches. Those that are complete were applied, and what the
 -- changes of the one that may go on do to their dataset is held.
-pub record HasStreamed (end : TextEnd) (text : List ℕ) (at : ℕ) (p : Progress) : Type 0 where
+pub record HasStreamed (end : TextEnd) (text : List ℕ) (at : ℕ) (p : StreamProgress) : Type 0 where
   pub rs : List PlacedRow
   pub ms : List Meaning
   pub changes : List Change
@@ -43,7 +43,7 @@ pub record HasStreamed (end : TextEnd) (text : List ℕ) (at : ℕ) (p : Progres
   pub replayed : IsReplay ms p.replay
 
 -- the rows before the next one were taken; it says this, and stands between these places
-pub record AwaitsRow (end : TextEnd) (text : List ℕ) (p : Progress)
+pub record AwaitsRow (end : TextEnd) (text : List ℕ) (p : StreamProgress)
     (says : Role) (at stop : ℕ) : Type 0 where
   pub passed : ℕ
   pub before : HasStreamed end text passed p
@@ -60,23 +60,23 @@ HoldsMore p changes d says at e =
 -- ---- faults, whatever follows
 
 -- it is the first fault of the text as a stream; want of memory is free
-abbrev pub IsRefused : TextEnd → List ℕ → PatchFault → Type 0
-IsRefused end text fault = (whole : List ℕ) → MayBe end text whole → RefusesStream whole fault
+abbrev pub IsRefusedStream : TextEnd → List ℕ → PatchFault → Type 0
+IsRefusedStream end text fault = (whole : List ℕ) → MayBe end text whole → RefusesStream whole fault
 
 -- so the replay of the text ends
-abbrev pub IsTold : TextEnd → List ℕ → ReplayFault → Type 0
-IsTold end text told = (whole : List ℕ) → MayBe end text whole → EndsText told whole
+abbrev pub IsToldEnd : TextEnd → List ℕ → ReplayFault → Type 0
+IsToldEnd end text told = (whole : List ℕ) → MayBe end text whole → EndsText told whole
 
 -- ---- a stream
 
 -- the rows that the window passed were taken
-abbrev pub IsRead : TextEnd → Streaming → Type 0
-IsRead end s = HasStreamed end s.window.fed s.window.passed s.progress
+abbrev pub IsStreamRead : TextEnd → Streaming → Type 0
+IsStreamRead end s = HasStreamed end s.window.fed s.window.passed s.progress
 
 -- the text was fed, and the rows that were passed were taken; or the fault was met
 abbrev pub HasMet : Option ReplayFault → List ℕ → Streaming → Type 0
-HasMet None text s = (s.window.fed ≡ text) × IsRead ends.Open s
-HasMet (Some told) text s = IsTold ends.Open text told
+HasMet None text s = (s.window.fed ≡ text) × IsStreamRead ends.Open s
+HasMet (Some told) text s = IsToldEnd ends.Open text told
 
 -- the text was fed
 abbrev pub HasFed : List ℕ → Streaming → Type 0

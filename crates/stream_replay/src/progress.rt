@@ -26,21 +26,22 @@ use std::alloc::Global;
 
 /// The open patch, the ids of those before it, and what the changes of all of them do.
 #[derive(Drop)]
-pub struct Progress {
+pub struct StreamProgress {
     pub part: Part,
     edits: Edits,
     replay: Replay,
 }
 
-impl Progress {
-    ghost use Rattle.stream_replay.specs.Streaming.{AwaitsRow, HasStreamed, HoldsMore, IsRefused};
+impl StreamProgress {
+    ghost use Rattle.stream_replay.specs.Streaming.{AwaitsRow, HasStreamed, HoldsMore};
+    ghost use Rattle.stream_replay.specs.Streaming.{IsRefusedStream};
 
     /// No row so far.
-    pub fn new(alloc: Global) -> Progress
+    pub fn new(alloc: Global) -> StreamProgress
         ensures streamed { HasStreamed ends.Open [] 0 result }
         ensures version { result.replay.chain.version ≡ 0 }
     {
-        Progress {
+        StreamProgress {
             part: Part::new(0),
             edits: Edits::new(alloc),
             replay: Replay::new(alloc),
@@ -55,7 +56,7 @@ impl Progress {
         ensures version { OnOk result (self.new.replay.chain.version
             ≤ self.old.replay.chain.version + 1) }
         ensures fault { IfErr result (λ fault. (end : TextEnd) (text : List ℕ) (stop : ℕ)
-            → AwaitsRow end text self.old says.now at stop → IsRefused end text fault) }
+            → AwaitsRow end text self.old says.now at stop → IsRefusedStream end text fault) }
         ensures told { IfErr result (IsToldAt at) }
     {
         match self.part.take_next(says, at) {
@@ -136,7 +137,7 @@ impl Progress {
         ensures fault { IfErr result (λ fault. (ms : List Meaning) (changes : List Change)
             → IsReplay ms self.replay → EndsChain (ms ++ meanings_of done changes) fault) }
     {
-        let Progress {
+        let StreamProgress {
             edits,
             replay: mut before,
             ..

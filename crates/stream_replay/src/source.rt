@@ -1,6 +1,6 @@
 //! The replay of an input.
 ghost use Rattle.std.specs.Prelude.{◌≤◌, IfOk, IfErr};
-ghost use Rattle.stream_replay.specs.Source.{Ends, IsReplayed, Reads};
+ghost use Rattle.stream_replay.specs.Source.{EndsReplay, IsReplayed, ReadsBytes};
 
 use crate::fault::ReplayFault;
 use crate::replay::Replayed;
@@ -22,9 +22,10 @@ pub const STREAM_LIMIT: usize = 268_435_456;
 /// one changes up to the limit of a patch, the ids, and the lines of the dataset.
 pub fn replay_source<S: Source>(alloc: Global, input: &mut S) -> Result<Replayed, ReplayFault>
     ensures ok { IfOk result (λ replayed.
-        Reads (S.left input.old) (S.left input.new) (IsReplayed replayed)) }
+        ReadsBytes (S.left input.old) (S.left input.new) (IsReplayed replayed)) }
     ensures fault { IfErr result
-        (Ends (S.left input.old) (S.left input.new) (S.faults input.old) (S.faults input.new)) }
+        (EndsReplay (S.left input.old) (S.left input.new) (S.faults input.old)
+        (S.faults input.new)) }
     ensures never_falls { S.faults input.old ≤ S.faults input.new }
 {
     let mut stream = Streaming::new(alloc);

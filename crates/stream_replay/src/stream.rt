@@ -1,18 +1,18 @@
 //! A stream that is read in pieces.
 ghost use Rattle.std.specs.Prelude.{◌≡◌, ◌+◌, ◌-◌, ◌<◌, ◌≤◌, ◌^◌, ◌++◌, ◌∷◌, ℕ, List, []};
 ghost use Rattle.std.specs.Prelude.{None, Some, Err, IfOk, IfErr, OnOk, drop, length};
-ghost use Rattle.patch_meaning.specs.Cutting.{EndsStream, IsLast};
+ghost use Rattle.patch_meaning.specs.Cutting.{EndsStream, IsLastPatch};
 ghost use Rattle.patch_meaning.specs.PartRead.{IsToldAt};
 ghost use Rattle.patch_rows.specs.declared.cut.TextEnd.{TextEnd as End};
 ghost use Rattle.patch_rows.specs.declared.cut.TextEnd.TheVariants as ends;
-ghost use Rattle.patch_reader.specs.Places.{IsFrom};
-ghost use Rattle.patch_reader.specs.Rows.{Gap, RowsStand, Stops};
+ghost use Rattle.patch_reader.specs.Places.{IsNotBefore};
+ghost use Rattle.patch_reader.specs.Rows.{Gap, RowsStand, StopsRows};
 ghost use Rattle.patch_reader.specs.Window.{RowBegins};
 ghost use Rattle.row_scan.specs.Rows.{HasRow};
 ghost use Rattle.stream_replay.specs.Found.{found_role};
 
 use crate::fault::ReplayFault;
-use crate::progress::Progress;
+use crate::progress::StreamProgress;
 use crate::replay::Replayed;
 use chain_core::Link;
 use delta_base::OutOfMemory;
@@ -42,15 +42,15 @@ fn found_role(says: Says) -> Option<Role>
 #[derive(Drop)]
 pub struct Streaming {
     window: RowWindow,
-    progress: Progress,
+    progress: StreamProgress,
     /// The first fault. Behind it nothing is read.
     fault: Option<ReplayFault>,
 }
 
 impl Streaming {
     ghost use Rattle.stream_replay.specs.Source.{EndsText, IsReplayed};
-    ghost use Rattle.stream_replay.specs.Streaming.{AwaitsRow, HasFed, IsRead};
-    ghost use Rattle.stream_replay.specs.Streaming.{HasStreamed, IsFew, IsRefused, IsTold};
+    ghost use Rattle.stream_replay.specs.Streaming.{AwaitsRow, HasFed, IsStreamRead};
+    ghost use Rattle.stream_replay.specs.Streaming.{HasStreamed, IsFew, IsRefusedStream, IsToldEnd};
 
     /// No byte so far.
     pub fn new(alloc: Global) -> Streaming
@@ -60,7 +60,7 @@ impl Streaming {
     {
         Streaming {
             window: RowWindow::new(alloc),
-            progress: Progress::new(alloc),
+            progress: StreamProgress::new(alloc),
             fault: None,
         }
     }
@@ -105,10 +105,11 @@ impl Streaming {
     fn advance(&mut self, alloc: Global, end: TextEnd) -> Result<(), ReplayFault>
         requires room { length self.old.window.fed ≤ 2 ^ 31 }
         requires few { self.old.progress.replay.chain.version ≤ self.old.window.passed }
-        ensures ok { OnOk result (IsRead end self.old → IsRead end self.new) }
-        ensures stops { OnOk result (Stops end self.new.window.fed self.new.window.passed None) }
-        ensures fault { IfErr result (λ told. IsRead end self.old
-            → IsTold end self.old.window.fed told) }
+        ensures ok { OnOk result (IsStreamRead end self.old → IsStreamRead end self.new) }
+        ensures stops { OnOk result
+            (StopsRows end self.new.window.fed self.new.window.passed None) }
+        ensures fault { IfErr result (λ told. IsStreamRead end self.old
+            → IsToldEnd end self.old.window.fed told) }
         ensures few { OnOk result (self.new.progress.replay.chain.version
             ≤ self.new.window.passed) }
         ensures fed { self.new.window.fed ≡ self.old.window.fed }
@@ -128,9 +129,10 @@ impl Streaming {
     fn take_found_rows(&mut self, alloc: Global) -> Result<(), ReplayFault>
         requires room { length self.old.window.fed ≤ 2 ^ 31 }
         requires few { self.old.progress.replay.chain.version ≤ self.old.window.passed }
-        ensures ok { OnOk result ((end : End) → IsRead end self.old → IsRead end self.new) }
-        ensures fault { IfErr result (λ told. (end : End) → IsRead end self.old
-            → IsTold end self.old.window.fed told) }
+        ensures ok { OnOk result
+            ((end : End) → IsStreamRead end self.old → IsStreamRead end self.new) }
+        ensures fault { IfErr result (λ told. (end : End) → IsStreamRead end self.old
+            → IsToldEnd end self.old.window.fed told) }
         ensures few { OnOk result (self.new.progress.replay.chain.version
             ≤ self.new.window.passed) }
         ensures further { self.old.window.passed ≤ self.new.window.passed }
@@ -161,10 +163,10 @@ impl Streaming {
         requires begins { RowBegins self.old.window place }
         requires front { self.old.window.front ≡ Some place }
         requires found { HasRow (drop place self.old.window.fed) 0 found }
-        ensures ok { OnOk result ((end : End) → IsRead end self.old
+        ensures ok { OnOk result ((end : End) → IsStreamRead end self.old
             → HasStreamed end self.old.window.fed (place + found.end) self.new.progress) }
-        ensures fault { IfErr result (λ told. (end : End) → IsRead end self.old
-            → IsTold end self.old.window.fed told) }
+        ensures fault { IfErr result (λ told. (end : End) → IsStreamRead end self.old
+            → IsToldEnd end self.old.window.fed told) }
         ensures version { OnOk result (self.new.progress.replay.chain.version
             ≤ self.old.progress.replay.chain.version + 1) }
         ensures window { self.new.window ≡ self.old.window }
@@ -197,7 +199,7 @@ impl Streaming {
         ensures fault { IfErr result (λ told. (end : End) (passed : ℕ)
             → RowsStand end self.old.window.fed passed (row ∷ []) row.end
             → HasStreamed end self.old.window.fed passed self.old.progress
-            → IsTold end self.old.window.fed told) }
+            → IsToldEnd end self.old.window.fed told) }
         ensures version { OnOk result (self.new.progress.replay.chain.version
             ≤ self.old.progress.replay.chain.version + 1) }
         ensures window { self.new.window ≡ self.old.window }
@@ -220,7 +222,7 @@ impl Streaming {
             → HasStreamed end self.old.window.fed stop self.new.progress) }
         ensures fault { IfErr result (λ told. (end : End) (stop : ℕ)
             → AwaitsRow end self.old.window.fed self.old.progress says.now at stop
-            → IsTold end self.old.window.fed told) }
+            → IsToldEnd end self.old.window.fed told) }
         ensures version { OnOk result (self.new.progress.replay.chain.version
             ≤ self.old.progress.replay.chain.version + 1) }
         ensures window { self.new.window ≡ self.old.window }
@@ -237,8 +239,8 @@ impl Streaming {
         requires low { window.now.kept ≤ at }
         requires high { at ≤ length window.now.fed }
         requires told { IsToldAt at fault }
-        ensures { (end : End) → IsRefused end window.now.fed fault
-            → IsTold end window.now.fed result }
+        ensures { (end : End) → IsRefusedStream end window.now.fed fault
+            → IsToldEnd end window.now.fed result }
     {
         match fault {
             PatchFault::At { at, kind } => ReplayFault::Stream {
@@ -254,10 +256,11 @@ impl Streaming {
     // The fault where no row stands.
     fn break_off(&self, fault: RowFault) -> ReplayFault
         requires there { (end : End) × (passed : ℕ)
-            × Stops end self.now.window.fed passed (Some fault) }
-        requires kept { IsFrom self.now.window.kept (Err fault) }
-        ensures { (end : End) → Stops end self.now.window.fed self.now.window.passed (Some fault)
-            → IsRead end self.now → IsTold end self.now.window.fed result }
+            × StopsRows end self.now.window.fed passed (Some fault) }
+        requires kept { IsNotBefore self.now.window.kept (Err fault) }
+        ensures { (end : End) → StopsRows end self.now.window.fed self.now.window.passed
+            (Some fault)
+            → IsStreamRead end self.now → IsToldEnd end self.now.window.fed result }
     {
         match fault {
             RowFault::At { at, kind } => {
@@ -270,8 +273,9 @@ impl Streaming {
     // The ids of the last patch of a stream that ends with what was fed.
     fn last_patch(&self) -> Result<Option<Link>, ReplayFault>
         ensures ok { IfOk result (EndsStream self.now.progress.part (length self.now.window.fed)) }
-        ensures last { IfOk result (IsLast self.now.progress.part (length self.now.window.fed)) }
-        ensures fault { IfErr result (λ told. IsRead ends.Known self.now
+        ensures last { IfOk result
+            (IsLastPatch self.now.progress.part (length self.now.window.fed)) }
+        ensures fault { IfErr result (λ told. IsStreamRead ends.Known self.now
             → Gap self.now.window.fed self.now.window.passed (length self.now.window.fed)
             → EndsText told self.now.window.fed) }
     {

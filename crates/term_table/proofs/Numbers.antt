@@ -19,7 +19,7 @@ use Rattle.std.proofs.lemmas.Map.Keys.{IsDistinct-push}
 use Rattle.std.proofs.lemmas.List.Quantifiers.{position-Some}
 use Rattle.std.proofs.lemmas.Option.{slice_get-get_or}
 use Rattle.std.proofs.Common.{get_or}
-use Rattle.term_table.specs.Table.{same, term_at, number_of}
+use Rattle.term_table.specs.Table.{same, term_numbered, number_in}
 
 -- ---- the same parts
 
@@ -62,20 +62,20 @@ same_refl (term.Literal a) = and_from _ _ ((bytes_eq-Decides a.lexical a.lexical
 
 -- ---- the term of a number
 
-pub term_at_next : (terms : List Term) (i : ℕ) → term_at terms (i + 1) ≡ slice_get terms i
+pub term_at_next : (terms : List Term) (i : ℕ) → term_numbered terms (i + 1) ≡ slice_get terms i
 term_at_next terms i = let e : ((i + 1) == 0) ≡ false = grind arith in let f : (i + 1) - 1 ≡ i = omega arith in rw (e, f) refl
 
-named_at : (terms : List Term) (t : Term) (p : Option ℕ) (n : ℕ) → position (same t) terms ≡ p → option_map (λ at. at + 1) p ≡ Some n → term_at terms n ≡ Some t
+named_at : (terms : List Term) (t : Term) (p : Option ℕ) (n : ℕ) → position (same t) terms ≡ p → option_map (λ at. at + 1) p ≡ Some n → term_numbered terms n ≡ Some t
 named_at terms t None n e f = absurd cc
 named_at terms t (Some i) n e f =
     let found = position-Some (same t) terms i t e in
     let whole : Some (i + 1) ≡ Some n = f in
     let number : i + 1 ≡ n = cc in
-    subst (λ (m : ℕ). term_at terms m ≡ Some t) number
+    subst (λ (m : ℕ). term_numbered terms m ≡ Some t) number
     (term_at_next terms i ∙ slice_get-get_or terms i t found.0 ∙ ap Some (sym (same_exact t (get_or terms i t) found.1)))
 
 -- a number names its term
-pub named : (terms : List Term) (t : Term) (n : ℕ) → number_of terms t ≡ Some n → term_at terms n ≡ Some t
+pub named : (terms : List Term) (t : Term) (n : ℕ) → number_in terms t ≡ Some n → term_numbered terms n ≡ Some t
 named terms t n e = named_at terms t (position (same t) terms) n refl e
 
 -- ---- each term has one number
@@ -96,12 +96,12 @@ one_place (y ∷ ys) zero (suc j) x d e f = let whole : Some y ≡ Some x = e in
 one_place (y ∷ ys) (suc i) zero x d e f = let whole : Some y ≡ Some x = f in let is : y ≡ x = cc in absurd (unlike y x ys i d.0 e is)
 one_place (y ∷ ys) (suc i) (suc j) x d e f = ap suc (one_place ys i j x d.1 e f)
 
-pub one_number : (terms : List Term) (m n : ℕ) (t : Term) → IsDistinct same terms → term_at terms m ≡ Some t → term_at terms n ≡ Some t → m ≡ n
+pub one_number : (terms : List Term) (m n : ℕ) (t : Term) → IsDistinct same terms → term_numbered terms m ≡ Some t → term_numbered terms n ≡ Some t → m ≡ n
 one_number terms zero n t d e f = absurd cc
 one_number terms (suc m) zero t d e f = absurd cc
 one_number terms (suc m) (suc n) t d e f = ap suc (one_place terms m n t d (sym (at_suc terms m) ∙ e) (sym (at_suc terms n) ∙ f))
   where
-    at_suc : (terms : List Term) (i : ℕ) → term_at terms (suc i) ≡ slice_get terms i
+    at_suc : (terms : List Term) (i : ℕ) → term_numbered terms (suc i) ≡ slice_get terms i
     at_suc terms i = let e : (suc i == 0) ≡ false = grind arith in let f : suc i - 1 ≡ i = omega arith in rw (e, f) refl
 
 -- ---- a number names the same term when more have come
@@ -111,7 +111,7 @@ slice_grows [] more i x e = absurd cc
 slice_grows (y ∷ ys) more zero x e = e
 slice_grows (y ∷ ys) more (suc i) x e = slice_grows ys more i x e
 
-pub stays : (xs more : List Term) (n : ℕ) (t : Term) → term_at xs n ≡ Some t → term_at (xs ++ more) n ≡ Some t
+pub stays : (xs more : List Term) (n : ℕ) (t : Term) → term_numbered xs n ≡ Some t → term_numbered (xs ++ more) n ≡ Some t
 stays xs more n t e = by (n == 0) e
   where
     by : (b : Bool) → cond b None (slice_get xs (n - 1)) ≡ Some t → cond b None (slice_get (xs ++ more) (n - 1)) ≡ Some t
@@ -147,7 +147,7 @@ found p xs h e = let i = within p xs h in by (nat_lt (position_or_len p xs) (len
     by true g k = cc
     by false g k = let i = within p xs h in grind arith
 
-pub is_new : (xs : List Term) (t : Term) → number_of xs t ≡ None → list_any (same t) xs ≡ false
+pub is_new : (xs : List Term) (t : Term) → number_in xs t ≡ None → list_any (same t) xs ≡ false
 is_new xs t e = by (list_any (same t) xs) refl
   where
     no_place : (p : Option ℕ) → option_map (λ at. at + 1) p ≡ None → p ≡ None

@@ -11,11 +11,11 @@ abbrev pub same : Term → Term → Bool
 same = terms_eq.TheImpl.ghosts.eq
 
 -- the term of a number, from 1 on
-abbrev pub term_at : List Term → ℕ → Option Term
-term_at terms number = if number == 0 then None else slice_get terms (number - 1)
+abbrev pub term_numbered : List Term → ℕ → Option Term
+term_numbered terms number = if number == 0 then None else slice_get terms (number - 1)
 
-abbrev pub number_of : List Term → Term → Option ℕ
-number_of terms term = option_map (λ at. at + 1) (position (same term) terms)
+abbrev pub number_in : List Term → Term → Option ℕ
+number_in terms term = option_map (λ at. at + 1) (position (same term) terms)
 
 -- with the term behind the others, unless it is there
 abbrev pub interned : List Term → Term → List Term

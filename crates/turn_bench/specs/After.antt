@@ -3,7 +3,7 @@ use Rattle.std.specs.Prelude.{◌≡◌, ◌⊎◌, ℕ, ◌+◌, ◌<◌, ◌�
 use Rattle.atomic_table.specs.Seated.{TableId}
 use Rattle.turn_cell.specs.Turns.{places_by, Continues}
 use Rattle.turn_cell.specs.Sights.{Sight, IsOutside}
-use Rattle.turn_cell.specs.Knowing.{number_of, mine_of, own_faults_of, looks_of}
+use Rattle.turn_cell.specs.Knowing.{pass_number, mine_of, own_faults_of, looks_of}
 use Rattle.turn_bench.specs.declared.numbers.Numbers.{Numbers}
 
 abbrev pub NumberSight : Type 0
@@ -14,15 +14,15 @@ abbrev pub IsIdle : TableId → NumberSight → Type 0
 IsIdle cell p = (p.cell ≡ cell) × IsOutside p
 
 -- each of so many stays has added an entry of the pass, or the pass has faults of its own
-abbrev pub Adds : ℕ → NumberSight → NumberSight → Type 0
-Adds stays p q = (length (mine_of q) ≡ length (mine_of p) + stays) ⊎ (0 < own_faults_of q)
+abbrev pub StaysAdd : ℕ → NumberSight → NumberSight → Type 0
+StaysAdd stays p q = (length (mine_of q) ≡ length (mine_of p) + stays) ⊎ (0 < own_faults_of q)
 
 -- the same pass, idle again, after so many stays: each is one look at the history
 pub record IsAfter (stays : ℕ) (p q : NumberSight) : Type 0 where
   pub idle : IsIdle p.cell q
-  pub number : number_of q ≡ number_of p
+  pub number : pass_number q ≡ pass_number p
   pub looks : looks_of q ≡ looks_of p + stays
-  pub adds : Adds stays p q
+  pub adds : StaysAdd stays p q
   pub faults : 0 < own_faults_of p → 0 < own_faults_of q
 
 -- each pass is the one of that place, after so many stays

@@ -1,15 +1,15 @@
 //! The smallest value that a turn takes: numbers, each with the pass that added it.
 ghost use Rattle.std.specs.Prelude.{◌≡◌, ◌≤◌, ◌++◌, ◌∷◌, [], ◌⊎◌, IfOk, length, filter, ◌==◌};
 ghost use Rattle.std.specs.Prelude.{vec_len, vec_capacity};
-ghost use Rattle.turn_bench.specs.Added.{HasAdded, IsRefused};
+ghost use Rattle.turn_bench.specs.Added.{HasAdded, LacksRoom};
 
 use delta_base::OutOfMemory;
 use std::alloc::Global;
-use turn_cell::{Chained, Entry};
+use turn_cell::{Chained, Known};
 
 #[derive(Drop)]
 pub struct Numbers {
-    pub entries: Vec<Entry<u64>>,
+    pub entries: Vec<Known<u64>>,
     pub faults: u64,
 }
 
@@ -33,10 +33,10 @@ impl Numbers {
 
     /// Adds a number, or counts a fault where there is no room.
     pub fn add(&mut self, number: u64, by: u32)
-        ensures added { HasAdded number by self.old self.new ⊎ IsRefused self.old self.new }
+        ensures added { HasAdded number by self.old self.new ⊎ LacksRoom self.old self.new }
         ensures faults { self.old.faults ≤ self.new.faults }
     {
-        let entry = Entry {
+        let entry = Known {
             content: number,
             by,
         };

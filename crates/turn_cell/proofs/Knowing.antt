@@ -4,7 +4,7 @@ use mathlib.Core.List.{IsPrefix}
 use mathlib.Core.Logic.{dite}
 use native.Mathlib.Decide.{ℕ_discrete}
 use Rattle.delta_base.specs.Outside.{Rose}
-use Rattle.turn_cell.specs.declared.view.Entry.{Entry}
+use Rattle.turn_cell.specs.declared.view.Known.{Known}
 use Rattle.turn_cell.specs.Turns.{places_by, last_count, own_count, Adds}
 use Rattle.turn_cell.specs.Sights.{Sight, IsOutside}
 use Rattle.turn_cell.specs.Knowing.{IsSame, IsQuiet, KnowsItsOwn, SeesOn, Wants, Brought}
@@ -29,7 +29,7 @@ rises own old new more = dite (ℕ_discrete new last_count)
     (λ ne. inl (rw (ne_eqb new last_count ne) (⊎_elim (λ (l : old < new). omega arith) (λ (e : new ≡ 2 ^ 64 - 1). absurd (ne e)) more)))
 
 module _ {C : Type 0} where
-  one_more : (n : ℕ) (content : C) (front : List (Entry C)) → places_by n (front ++ record { content = content; by = n } ∷ []) ≡ places_by n front ++ (length front + 1) ∷ []
+  one_more : (n : ℕ) (content : C) (front : List (Known C)) → places_by n (front ++ record { content = content; by = n } ∷ []) ≡ places_by n front ++ (length front + 1) ∷ []
   one_more n content front = places_append n 1 front (record { content = content; by = n } ∷ []) ∙ ap (λ (l : List ℕ). places_by n front ++ l) (rw (eq-eqb n n refl) (ap (λ (k : ℕ). k ∷ []) (omega arith)))
 
 module _ {C X F : Type 0} where
@@ -58,11 +58,11 @@ module _ {C X F : Type 0} where
         let still = quiet_on p m q e.quiet quiet in let looked = e.looked in let faults = still.1 in
         ((same_on p m q e.same same.0, same.1, subst (IsPrefix p.view.seen) (sym seen) e.later, own, omega arith, omega arith), still)
 
-    module _ (was left : List (Entry C)) (found : was ≡ m.view.seen) (sees : q.view.seen ≡ left) where
+    module _ (was left : List (Known C)) (found : was ≡ m.view.seen) (sees : q.view.seen ≡ left) where
       -- the pass has left more entries
       pub sees_on : IsPrefix was left → m.view.own_faults ≤ q.view.own_faults → SeesOn p q
       sees_on longer never_falls =
-          let behind : IsPrefix m.view.seen q.view.seen = subst (λ (l : List (Entry C) × List (Entry C)). IsPrefix l.0 l.1) (λ i. (found i, sym sees i)) longer in
+          let behind : IsPrefix m.view.seen q.view.seen = subst (λ (l : List (Known C) × List (Known C)). IsPrefix l.0 l.1) (λ i. (found i, sym sees i)) longer in
           let looked = e.looked in let faults = e.quiet.1 in
           (same_on p m q e.same same.0, same.1, prefix_trans p.view.seen m.view.seen q.view.seen e.later behind, own, omega arith, omega arith)
 

@@ -2,16 +2,16 @@
 -- Of two passes p and q, p is the pass before the call and q the pass behind it.
 use Rattle.std.specs.Prelude.{◌≡◌, ℕ, ◌<◌, ◌≤◌, List, [], ◌∷◌, ◌++◌, length}
 use mathlib.Core.List.{IsPrefix}
-use Rattle.turn_cell.specs.declared.view.Entry.{Entry}
+use Rattle.turn_cell.specs.declared.view.Known.{Known}
 use Rattle.turn_cell.specs.Turns.{places_by}
 use Rattle.turn_cell.specs.Sights.{Sight, IsOutside}
 
 module _ {C X F : Type 0} where
-  abbrev pub number_of : Sight C X F → ℕ
-  number_of p = p.view.number
+  abbrev pub pass_number : Sight C X F → ℕ
+  pass_number p = p.view.number
 
   -- the history that the pass has seen
-  abbrev pub seen_of : Sight C X F → List (Entry C)
+  abbrev pub seen_of : Sight C X F → List (Known C)
   seen_of p = p.view.seen
 
   -- the places of the entries that the pass brought, counted from 1
@@ -33,7 +33,7 @@ module _ {C X F : Type 0} where
   -- the same pass: of that cell, at that place, with that number and fixed part
   abbrev pub IsSame : Sight C X F → Sight C X F → Type 0
   IsSame p q =
-      (q.cell ≡ p.cell) × (q.place ≡ p.place) × (number_of q ≡ number_of p)
+      (q.cell ≡ p.cell) × (q.place ≡ p.place) × (pass_number q ≡ pass_number p)
       × (q.view.fixed ≡ p.view.fixed)
 
   -- it brought no entry, had no fault and left no doubt
@@ -43,7 +43,7 @@ module _ {C X F : Type 0} where
 
   -- its places are just those of its own entries among those that it has seen
   abbrev pub KnowsItsOwn : Sight C X F → Type 0
-  KnowsItsOwn p = places_by (number_of p) (seen_of p) ≡ mine_of p
+  KnowsItsOwn p = places_by (pass_number p) (seen_of p) ≡ mine_of p
 
   -- It is the same pass, outside again. It has looked at the history, and has seen all that it had
   -- seen; it knows its own entries, and has no fewer faults.
@@ -59,9 +59,9 @@ module _ {C X F : Type 0} where
   -- The last entry has this content and the pass's number. It stands at this place, behind all that
   -- the pass had seen.
   pub record Brought (content : C) (place : ℕ) (p q : Sight C X F) : Type 0 where
-    pub before : List (Entry C)
+    pub before : List (Known C)
     pub had_seen : IsPrefix (seen_of p) before
-    pub sees : seen_of q ≡ before ++ record { content = content; by = number_of p } ∷ []
+    pub sees : seen_of q ≡ before ++ record { content = content; by = pass_number p } ∷ []
     pub at_end : place ≡ length (seen_of q)
     pub mine : mine_of q ≡ mine_of p ++ place ∷ []
     pub failed : failed_of q ≡ failed_of p

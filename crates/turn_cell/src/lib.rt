@@ -20,4 +20,4 @@ mod wait;
 pub use chained::Chained;
 pub use rule::{Making, TurnRule};
 pub use turn::{Held, Pass, Turn};
-pub use view::{Entry, Past, Role, Stage, Stay, View};
+pub use view::{Known, Published, Role, Stage, TakenIn, View};

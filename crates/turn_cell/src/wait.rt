@@ -2,7 +2,7 @@
 ghost use Rattle.std.specs.Prelude.{◌≡◌, ℕ, ◌%◌, ◌^◌, ◌≤◌, ◌∷◌, [], Some, None};
 ghost use Rattle.turn_cell.specs.declared.view.Role.TheVariants.{Pass};
 ghost use Rattle.turn_cell.specs.declared.view.Stage.TheVariants.{Waiting, Inside};
-ghost use Rattle.turn_cell.specs.Turns.{Stands};
+ghost use Rattle.turn_cell.specs.Turns.{StandsForPublished};
 ghost use Rattle.turn_cell.specs.Steps.{at_stage, IsSeatOf, StaysAt};
 
 use crate::chained::Chained;
@@ -23,7 +23,7 @@ pub(crate) fn wait<V: Chained, R: Wait>(
         × ((t : ℕ) × (seat.old.me.0.stage ≡ Waiting t) × (t % 2 ^ 64 ≡ ticket)) }
     ensures same { StaysAt seat.old seat.new }
     ensures taken { (t : ℕ) × (y : _) × (f : _) × (seat.old.me.0.fixed ≡ Some f)
-        × Stands V.entries V.fault_count V.doubt V.fixed f y (Some result)
+        × StandsForPublished V.entries V.fault_count V.doubt V.fixed f y (Some result)
         × (seat.new.me ≡ (at_stage seat.old.me.0 (Inside t y), (0, None) ∷ [])) }
 {
     for _ in rt.forever() {

@@ -4,9 +4,10 @@ use Rattle.worker_pool.specs.declared.gate.Arrival.{Arrival}
 
 module _ {L : Type 0} where
   -- links in their order, whose dice are numbers from this one on
-  abbrev pub numbered : ℕ → List L → List (Arrival L)
-  numbered first [] = []
-  numbered first (link ∷ links) = record { link = link; dice = first } ∷ numbered (first + 1) links
+  abbrev pub arrivals_from : ℕ → List L → List (Arrival L)
+  arrivals_from first [] = []
+  arrivals_from first (link ∷ links) =
+      record { link = link; dice = first } ∷ arrivals_from (first + 1) links
 
 -- the arrivals left, the links put back, how many more can be, which calls of `next` fail, how many
 -- were made, and how many failed

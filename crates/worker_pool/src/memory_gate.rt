@@ -20,12 +20,12 @@ pub struct MemGate<L> {
 
 impl<L> Model for MemGate<L> {
     ghost use Rattle.std.specs.Prelude.{◌+◌, ◌-◌, ◌^◌, ◌<◌, ◌≤◌, vec_len, vec_capacity, reverse};
-    ghost use Rattle.worker_pool.specs.Memory.{GateState, numbered};
+    ghost use Rattle.worker_pool.specs.Memory.{GateState, arrivals_from};
 
     ghost Value = { GateState L };
 
     ghost view = { λ g. record {
-      arrivals = numbered g.given (reverse g.left.items);
+      arrivals = arrivals_from g.given (reverse g.left.items);
       back = g.back.items;
       room = vec_capacity g.back - vec_len g.back;
       failing = g.count.failing.items;
@@ -39,14 +39,14 @@ impl<L> Model for MemGate<L> {
 }
 
 impl<L> MemGate<L> {
-    ghost use Rattle.worker_pool.specs.Memory.{numbered};
+    ghost use Rattle.worker_pool.specs.Memory.{arrivals_from};
 
     /// The links arrive in their order, with the dice 0, 1, 2 and so on. The calls of `next` of the
     /// numbers in `failing`, from 0, fail.
     pub fn new(alloc: Global, links: Vec<L>, failing: Calls) -> Result<MemGate<L>, OutOfMemory>
     where
         L: Drop,
-        ensures arrivals { IfOk result (λ gate. gate.arrivals ≡ numbered 0 links.items) }
+        ensures arrivals { IfOk result (λ gate. gate.arrivals ≡ arrivals_from 0 links.items) }
         ensures back { IfOk result (λ gate. gate.back ≡ []) }
         ensures failing { IfOk result (λ gate. gate.failing ≡ failing.items) }
         ensures calls { IfOk result (λ gate. (gate.calls ≡ 0) × (gate.faults ≡ 0)) }

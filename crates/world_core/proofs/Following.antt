@@ -23,7 +23,7 @@ use Rattle.world_core.specs.declared.log.LogPart.{LogPart}
 use Rattle.world_core.specs.declared.log.LogPart.TheVariants.{Up, Down}
 use Rattle.world_core.specs.declared.zone.ZonePart.{ZonePart}
 use Rattle.world_core.specs.declared.zone.ZonePart.TheVariants.{Up as ZoneUp, Down as ZoneDown}
-use Rattle.world_core.specs.Parts.{IsZoneOf, AreZonesOf, EveryImageOf, EveryImageOfZone, HoldsSome, IsReplayed}
+use Rattle.world_core.specs.Parts.{IsZoneOf, AreZonesOf, EveryImageOf, EveryImageOfZone, HoldsSome, IsZoneReplayed}
 use Rattle.world_core.proofs.Running.{HoldsWhatMayBeFound}
 use Rattle.world_core.proofs.Taking.{zone_images}
 
@@ -136,18 +136,18 @@ zones_promise limits events parts are = zones_begin (world limits events) parts 
 
 -- ---- datasets
 
-zone_replayed : (point : WorldPoint) (part : ZonePart) (zone : LogPoint) → Follows (chain_of point.log) zone → IsZoneOf part zone → IsReplayed point.log part
+zone_replayed : (point : WorldPoint) (part : ZonePart) (zone : LogPoint) → Follows (chain_of point.log) zone → IsZoneOf part zone → IsZoneReplayed point.log part
 zone_replayed point (ZoneUp zone) (up taken doubt) follows runs =
     (runs.checked, runs.stands.without.checked, subst (λ (patches : List Patch). BeginsLog point.log patches) (sym runs.taken_is) (begins_log point taken follows.0), runs.stands.brief_is)
 zone_replayed point (ZoneUp zone) (down taken) follows runs = absurd runs
 zone_replayed point (ZoneDown disk) zone follows keeps = tt
 
-zones_replayed : (point : WorldPoint) (parts : List ZonePart) (zones : List LogPoint) → AllByRecursion (Follows (chain_of point.log)) zones → AreZonesOf parts zones → AllByRecursion (IsReplayed point.log) parts
+zones_replayed : (point : WorldPoint) (parts : List ZonePart) (zones : List LogPoint) → AllByRecursion (Follows (chain_of point.log)) zones → AreZonesOf parts zones → AllByRecursion (IsZoneReplayed point.log) parts
 zones_replayed point [] zones all are = tt
 zones_replayed point (part ∷ parts) [] all are = absurd are
 zones_replayed point (part ∷ parts) (zone ∷ zones) all are = (zone_replayed point part zone all.0 are.0, zones_replayed point parts zones all.1 are.1)
 
-pub zones_replay : (limits : LogLimits) (events : List WorldEvent) (parts : List ZonePart) → AreZonesOf parts (world limits events).zones → AllByRecursion (IsReplayed (world limits events).log) parts
+pub zones_replay : (limits : LogLimits) (events : List WorldEvent) (parts : List ZonePart) → AreZonesOf parts (world limits events).zones → AllByRecursion (IsZoneReplayed (world limits events).log) parts
 zones_replay limits events parts are = zones_replayed (world limits events) parts (world limits events).zones (always_all limits events) are
 
 -- ---- the log

@@ -22,7 +22,7 @@ use Rattle.chain_core.specs.Decision.{decision}
 use Rattle.chain_core.specs.Log.{LogPoint, up, down, with_doubt, stopped}
 use Rattle.chain_core.specs.Patches.{patches_of, texts_of, patch_at}
 use Rattle.chain_core.specs.Stay.{Outcome, accepted_by, decided_by, stay}
-use Rattle.patch_log.specs.Log.{IsSound, IsSoundLog, MayHold, StandsForLog}
+use Rattle.patch_log.specs.Log.{IsSound, IsSoundLog, MayHoldChain, StandsForLog}
 use Rattle.patch_log.specs.State.{LogView}
 use Rattle.patch_log.specs.declared.fault.LogFault.{LogFault}
 use Rattle.patch_log.specs.declared.fault.LogFault.TheVariants.{Failed, OutOfMemory as Want}
@@ -36,7 +36,7 @@ use Rattle.world_core.specs.declared.event.WorldEvent.TheVariants.{Open}
 use Rattle.world_core.specs.declared.message.Message.{Message}
 use Rattle.world_core.specs.declared.log.LogPart.{LogPart}
 use Rattle.world_core.specs.declared.log.LogPart.TheVariants.{Up, Down}
-use Rattle.world_core.specs.Parts.{run_as, stop_by, Carries, Runs, Keeps, IsPartOf, EveryImageOf, HoldsSome}
+use Rattle.world_core.specs.Parts.{run_as, stop_by, CarriesPart, Runs, KeepsChain, IsPartOf, EveryImageOf, HoldsSome}
 use Rattle.world_core.specs.World.{MayBeFound, served, while_up, sending}
 
 pub if_ok-map : {T E : Type 0} (P Q : T → Type 0) (result : Result T E) → ((value : T) → P value → Q value) → IfOk result P → IfOk result Q
@@ -46,9 +46,9 @@ if_ok-map P Q (Err error) implies holds = holds
 -- ---- disks
 
 -- a disk whose bytes are all synced keeps the log that they hold
-pub keeps_image : (number : ℕ) (disk : PlanDisk) (image : List ℕ) (chain : List Patch) → plan_past disk ≡ began image → Holds image number (texts_of chain) → IsSoundLog LOG_LIMITS chain → Keeps number disk chain
+pub keeps_image : (number : ℕ) (disk : PlanDisk) (image : List ℕ) (chain : List Patch) → plan_past disk ≡ began image → Holds image number (texts_of chain) → IsSoundLog LOG_LIMITS chain → KeepsChain number disk chain
 keeps_image number disk image chain is holds log = record {
-  each = subst (λ (past : Past). EveryImage past (MayHold number chain None)) (sym is) (λ left same. subst (λ (file : List ℕ). Holds file number (texts_of chain)) (sym same) holds);
+  each = subst (λ (past : Past). EveryImage past (MayHoldChain number chain None)) (sym is) (λ left same. subst (λ (file : List ℕ). Holds file number (texts_of chain)) (sym same) holds);
   without = log;
   having = log;
 }
@@ -58,7 +58,7 @@ record Left (number : ℕ) (image : List ℕ) (chain : List Patch) : Type 0 wher
   holds : Holds image number (texts_of chain)
   log : IsSoundLog LOG_LIMITS chain
 
-left_by_stop : (number : ℕ) (opened : Bool) (old : PlanDisk) (chain : List Patch) (doubt : Option Patch) (image : List ℕ) → Carries number old chain doubt → image ≡ image_of (plan_past old) (cond opened 257 0) → MayLeave (plan_past old) image
+left_by_stop : (number : ℕ) (opened : Bool) (old : PlanDisk) (chain : List Patch) (doubt : Option Patch) (image : List ℕ) → CarriesPart number old chain doubt → image ≡ image_of (plan_past old) (cond opened 257 0) → MayLeave (plan_past old) image
     → Left number image (cond opened (with_doubt chain doubt) chain)
 left_by_stop number true old chain None image carries is may = record { holds = carries.stands.each image may; log = carries.stands.without }
 left_by_stop number false old chain None image carries is may = record { holds = carries.stands.each image may; log = carries.stands.without }
@@ -66,8 +66,8 @@ left_by_stop number true old chain (Some patch) image carries is may =
     record { holds = subst (λ (file : List ℕ). Holds file number (texts_of (chain ++ patch ∷ []))) (sym is) (subst (λ (texts : List (List ℕ)). Holds (image_of (plan_past old) 257) number texts) (sym (texts_of-push chain patch)) carries.leaves.1); log = carries.stands.having }
 left_by_stop number false old chain (Some patch) image carries is may = record { holds = subst (λ (file : List ℕ). Holds file number (texts_of chain)) (sym is) carries.leaves.0; log = carries.stands.without }
 
-pub stop_keeps : (number : ℕ) (opened : Bool) (old : PlanDisk) (chain : List Patch) (doubt : Option Patch) (image : List ℕ) (disk : PlanDisk) → Carries number old chain doubt → image ≡ image_of (plan_past old) (cond opened 257 0) → MayLeave (plan_past old) image
-    → plan_past disk ≡ began image → Keeps number disk (cond opened (with_doubt chain doubt) chain)
+pub stop_keeps : (number : ℕ) (opened : Bool) (old : PlanDisk) (chain : List Patch) (doubt : Option Patch) (image : List ℕ) (disk : PlanDisk) → CarriesPart number old chain doubt → image ≡ image_of (plan_past old) (cond opened 257 0) → MayLeave (plan_past old) image
+    → plan_past disk ≡ began image → KeepsChain number disk (cond opened (with_doubt chain doubt) chain)
 stop_keeps number opened old chain doubt image disk carries is may fresh =
     let left = left_by_stop number opened old chain doubt image carries is may in
     keeps_image number disk image (cond opened (with_doubt chain doubt) chain) fresh left.holds left.log
@@ -79,11 +79,11 @@ stands_along past n m k l c e d f same_number same_limits same_chain same_doubt 
     subst (λ (x : Option Patch). StandsForLog past m l e x) same_doubt (subst (λ (x : List Patch). StandsForLog past m l x d) same_chain (subst (λ (x : LogLimits). StandsForLog past m x c d) same_limits (subst (λ (x : ℕ). StandsForLog past x k c d) same_number stands)))
 
 -- what a disk keeps is what a read of it gives
-pub found_here : (number : ℕ) (disk : PlanDisk) (chain found : List Patch) → Keeps number disk chain → Holds (reads (plan_past disk)) number (texts_of found) → AllByRecursion IsSound found → found ≡ chain
+pub found_here : (number : ℕ) (disk : PlanDisk) (chain found : List Patch) → KeepsChain number disk chain → Holds (reads (plan_past disk)) number (texts_of found) → AllByRecursion IsSound found → found ≡ chain
 found_here number disk chain found keeps holds sound =
     ⊎_elim (λ (is : found ≡ chain). is) (λ (is : found ≡ chain). is) (found_again (plan_past disk) number LOG_LIMITS chain found None (reads (plan_past disk)) keeps (plan_reads_left disk) holds sound)
 
-pub opened_runs : (disk : PlanDisk) (log : LogView PlanDisk) (chain : List Patch) → Keeps LOG_NUMBER disk chain → Holds (reads (plan_past disk)) LOG_NUMBER (texts_of (patches_of log.entries)) → IsSoundLog LOG_LIMITS (patches_of log.entries)
+pub opened_runs : (disk : PlanDisk) (log : LogView PlanDisk) (chain : List Patch) → KeepsChain LOG_NUMBER disk chain → Holds (reads (plan_past disk)) LOG_NUMBER (texts_of (patches_of log.entries)) → IsSoundLog LOG_LIMITS (patches_of log.entries)
     → (log.doubt ≡ None) × (log.number ≡ LOG_NUMBER) × (log.limits ≡ LOG_LIMITS) → StandsForLog (plan_past log.disk) log.number log.limits (patches_of log.entries) log.doubt → Runs log chain None
 opened_runs disk log chain keeps holds sound settled stands =
     let same = found_here LOG_NUMBER disk chain (patches_of log.entries) keeps holds sound.sound in
@@ -98,11 +98,11 @@ opened_runs disk log chain keeps holds sound settled stands =
       };
     }
 
-pub no_fault : (number : ℕ) (disk : PlanDisk) (chain : List Patch) (fault : LogFault) → Keeps number disk chain → number < 2 ^ 32 → HasLogFault (reads (plan_past disk)) number LOG_LIMITS fault → (fault ≡ Failed) ⊎ (fault ≡ Want)
+pub no_fault : (number : ℕ) (disk : PlanDisk) (chain : List Patch) (fault : LogFault) → KeepsChain number disk chain → number < 2 ^ 32 → HasLogFault (reads (plan_past disk)) number LOG_LIMITS fault → (fault ≡ Failed) ⊎ (fault ≡ Want)
 no_fault number disk chain fault keeps fits has = no_fault_again (plan_past disk) number LOG_LIMITS chain None (reads (plan_past disk)) fault fits keeps (plan_reads_left disk) has
 
 -- a new journal keeps no patches
-pub new_keeps : (number : ℕ) (disk : PlanDisk) → EveryImage (plan_past disk) (λ image. image ≡ header number ++ 0 ∷ []) → Keeps number disk []
+pub new_keeps : (number : ℕ) (disk : PlanDisk) → EveryImage (plan_past disk) (λ image. image ≡ header number ++ 0 ∷ []) → KeepsChain number disk []
 new_keeps number disk every =
     let log : IsSoundLog LOG_LIMITS [] = record { log = record { chain = record { follow = tt; differ = tt }; few = omega arith; room = omega arith; short = tt }; sound = tt } in
     record { each = (started (plan_past disk) number every).each; without = log; having = log }
@@ -177,7 +177,7 @@ run_up_part part log event result same part_of = if_ok-map
     by_point sent ran (up chain doubt) runs = ran chain doubt runs
     by_point sent ran (down chain) runs = absurd runs
 
-pub open_part : (part : LogPart) (disk : PlanDisk) (event : WorldEvent) (log : LogView PlanDisk) → part ≡ Down disk → event ≡ Open → ((chain : List Patch) → Keeps LOG_NUMBER disk chain → Runs log chain None)
+pub open_part : (part : LogPart) (disk : PlanDisk) (event : WorldEvent) (log : LogView PlanDisk) → part ≡ Down disk → event ≡ Open → ((chain : List Patch) → KeepsChain LOG_NUMBER disk chain → Runs log chain None)
     → (point : LogPoint) → IsPartOf part point → IsPartOf (Up log) (sending LOG_LIMITS point event).0 × (◌≡◌ {A = Option Message} None (sending LOG_LIMITS point event).1)
 open_part part disk event log same opens runs point is =
     subst (λ (e : WorldEvent). IsPartOf (Up log) (sending LOG_LIMITS point e).0 × (◌≡◌ {A = Option Message} None (sending LOG_LIMITS point e).1)) (sym opens) (by_point point (subst (λ (p : LogPart). IsPartOf p point) same is))
@@ -198,14 +198,14 @@ abbrev pub HoldsWhatMayBeFound : ℕ → LogPoint → List ℕ → Type 0
 HoldsWhatMayBeFound number point = HoldsSome number (MayBeFound point)
 
 -- a disk that carries a log or a zone
-pub carried_images : (number : ℕ) (disk : PlanDisk) (chain : List Patch) (doubt : Option Patch) → Carries number disk chain doubt → EveryImage (plan_past disk) (HoldsWhatMayBeFound number (up chain doubt))
+pub carried_images : (number : ℕ) (disk : PlanDisk) (chain : List Patch) (doubt : Option Patch) → CarriesPart number disk chain doubt → EveryImage (plan_past disk) (HoldsWhatMayBeFound number (up chain doubt))
 carried_images number disk chain None carries = λ image left. (chain, inl refl, carries.stands.each image left)
 carried_images number disk chain (Some patch) carries = λ image left. ⊎_elim
     (λ (without : Holds image number (texts_of chain)). let found : HoldsWhatMayBeFound number (up chain (Some patch)) image = (chain, inl refl, without) in found)
     (λ (having : Holds image number (texts_of chain ++ patch.text ∷ [])). let found : HoldsWhatMayBeFound number (up chain (Some patch)) image = (chain ++ patch ∷ [], inr refl, subst (λ (texts : List (List ℕ)). Holds image number texts) (sym (texts_of-push chain patch)) having) in found)
     (carries.stands.each image left)
 
-pub kept_images : (number : ℕ) (disk : PlanDisk) (chain : List Patch) → Keeps number disk chain → EveryImage (plan_past disk) (HoldsWhatMayBeFound number (down chain))
+pub kept_images : (number : ℕ) (disk : PlanDisk) (chain : List Patch) → KeepsChain number disk chain → EveryImage (plan_past disk) (HoldsWhatMayBeFound number (down chain))
 kept_images number disk chain keeps = λ image left. (chain, refl, keeps.each image left)
 
 -- each image of a log's disk holds what may be found

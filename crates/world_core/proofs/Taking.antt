@@ -18,8 +18,8 @@ use Rattle.chain_core.specs.Decision.{decision}
 use Rattle.chain_core.specs.Log.{LogPoint, up, down}
 use Rattle.chain_core.specs.Patches.{texts_of}
 use Rattle.chain_core.specs.Stay.{Outcome, accepted_by, stay, fate_by_plan}
-use Rattle.patch_meaning.specs.Checked.{CheckedPatch, texts}
-use Rattle.patch_log.specs.Log.{bare, LeavesEither}
+use Rattle.patch_meaning.specs.Checked.{CheckedPatch, checked_texts}
+use Rattle.patch_log.specs.Log.{bare, LeavesEitherChain}
 use Rattle.patch_log.specs.declared.fault.LogFault.TheVariants as log
 use Rattle.zone_state.specs.declared.answer.TakeAnswer.{TakeAnswer}
 use Rattle.zone_state.specs.declared.answer.TakeAnswer.TheVariants as take
@@ -30,20 +30,20 @@ use Rattle.zone_state.specs.Brief.{Brief, brief_of, file_length}
 use Rattle.zone_state.specs.Fault.{HasZoneFault}
 use Rattle.zone_state.specs.Stay.{decided}
 use Rattle.zone_state.specs.Taking.{taking, taken_by, taken_then, told_by}
-use Rattle.zone_state.specs.Zone.{ZoneView, StandsForZone, DiskHolds, doubt_of, point_of}
+use Rattle.zone_state.specs.Zone.{ZoneView, StandsForZone, DiskHolds, doubt_of, zone_point}
 use Rattle.zone_state.proofs.Decisions.{IsDecided, decided as is_decided}
 use Rattle.zone_state.proofs.Growing.{bare_texts}
 use Rattle.zone_state.proofs.AsLogs.{decided_alike, stays_alike, zone_log}
 use Rattle.zone_state.proofs.Readings.{sound_checked}
 use Rattle.world_core.specs.declared.zone.ZonePart.{ZonePart}
 use Rattle.world_core.specs.declared.zone.ZonePart.TheVariants.{Up, Down}
-use Rattle.world_core.specs.Parts.{run_as, stop_by, stop_taken, stopped_if, Carries, RunsZone, Keeps, IsZoneOf, EveryImageOfZone}
+use Rattle.world_core.specs.Parts.{run_as, stop_by, stop_taken, stopped_if, CarriesPart, RunsZone, KeepsChain, IsZoneOf, EveryImageOfZone}
 use Rattle.world_core.proofs.Running.{HoldsWhatMayBeFound, AsRun, accepted_as_run, stands_along, found_here, no_fault, carried_images, kept_images}
 
 -- ---- disks
 
 -- the disk of a zone that runs
-pub zone_carries : (zone : ZoneView PlanDisk) (taken : List Patch) (doubt : Option Patch) → RunsZone zone taken doubt → Carries ZONE_NUMBER zone.disk taken doubt
+pub zone_carries : (zone : ZoneView PlanDisk) (taken : List Patch) (doubt : Option Patch) → RunsZone zone taken doubt → CarriesPart ZONE_NUMBER zone.disk taken doubt
 zone_carries zone taken doubt runs = record {
   stands = stands_along (plan_past zone.disk) ZONE_NUMBER ZONE_NUMBER zone.limits LOG_LIMITS (map bare runs.checked) taken (doubt_of runs.left) doubt refl runs.limits_is runs.taken_is runs.doubt_is
       (zone_log (Unit {0}) (plan_past zone.disk) zone runs.checked runs.left runs.stands tt);
@@ -59,7 +59,7 @@ zone_images (Down disk) (down taken) keeps = kept_images ZONE_NUMBER disk taken 
 
 -- ---- opening
 
-pub opened_zone : (disk : PlanDisk) (zone : ZoneView PlanDisk) (checked : List CheckedPatch) (taken : List Patch) → Keeps ZONE_NUMBER disk taken → Holds (reads (plan_past disk)) ZONE_NUMBER (texts checked)
+pub opened_zone : (disk : PlanDisk) (zone : ZoneView PlanDisk) (checked : List CheckedPatch) (taken : List Patch) → KeepsChain ZONE_NUMBER disk taken → Holds (reads (plan_past disk)) ZONE_NUMBER (checked_texts checked)
     → StandsForZone (Unit {0}) (plan_past zone.disk) zone checked None → zone.limits ≡ LOG_LIMITS → RunsZone zone taken None
 opened_zone disk zone checked taken keeps holds stands limits =
     let held : Holds (reads (plan_past disk)) ZONE_NUMBER (texts_of (map bare checked)) = subst (λ (ts : List (List ℕ)). Holds (reads (plan_past disk)) ZONE_NUMBER ts) (sym (bare_texts checked)) holds in
@@ -77,7 +77,7 @@ opened_zone disk zone checked taken keeps holds stands limits =
 abbrev IsFree : ZoneFault → Type 0
 IsFree f = (f ≡ fault.Failed) ⊎ ((f ≡ fault.TermsFull) ⊎ (f ≡ fault.OutOfMemory))
 
-pub no_zone_fault : (disk : PlanDisk) (taken : List Patch) (f : ZoneFault) → Keeps ZONE_NUMBER disk taken → HasZoneFault (reads (plan_past disk)) LOG_LIMITS f → IsFree f
+pub no_zone_fault : (disk : PlanDisk) (taken : List Patch) (f : ZoneFault) → KeepsChain ZONE_NUMBER disk taken → HasZoneFault (reads (plan_past disk)) LOG_LIMITS f → IsFree f
 no_zone_fault disk taken fault.Failed keeps has = inl refl
 no_zone_fault disk taken fault.TermsFull keeps has = inr (inl refl)
 no_zone_fault disk taken fault.OutOfMemory keeps has = inr (inr refl)
@@ -184,12 +184,12 @@ planned_runs zone planned taken doubt runs same past = subst (λ (z : ZoneView P
     having = runs.stands.having;
     on_disk = λ told. subst (λ (p : Past). DiskHolds p (file_length zone.brief.ids zone.brief.bytes) runs.checked runs.left) (sym past) (runs.stands.on_disk told);
   };
-  leaves = subst (λ (p : Past). LeavesEither p ZONE_NUMBER taken doubt) (sym past) runs.leaves;
+  leaves = subst (λ (p : Past). LeavesEitherChain p ZONE_NUMBER taken doubt) (sym past) runs.leaves;
 })
 
-pub leaves_checked : (zone : ZoneView PlanDisk) (taken : List Patch) (doubt : Option Patch) (runs : RunsZone zone taken doubt) → LeavesEither (plan_past zone.disk) ZONE_NUMBER (map bare runs.checked) (doubt_of runs.left)
+pub leaves_checked : (zone : ZoneView PlanDisk) (taken : List Patch) (doubt : Option Patch) (runs : RunsZone zone taken doubt) → LeavesEitherChain (plan_past zone.disk) ZONE_NUMBER (map bare runs.checked) (doubt_of runs.left)
 leaves_checked zone taken doubt runs =
-    subst (λ (d : Option Patch). LeavesEither (plan_past zone.disk) ZONE_NUMBER (map bare runs.checked) d) (sym runs.doubt_is) (subst (λ (t : List Patch). LeavesEither (plan_past zone.disk) ZONE_NUMBER t doubt) (sym runs.taken_is) runs.leaves)
+    subst (λ (d : Option Patch). LeavesEitherChain (plan_past zone.disk) ZONE_NUMBER (map bare runs.checked) d) (sym runs.doubt_is) (subst (λ (t : List Patch). LeavesEitherChain (plan_past zone.disk) ZONE_NUMBER t doubt) (sym runs.taken_is) runs.leaves)
 
 -- the zone runs on, or stops where it is to stop
 abbrev pub Took : ZoneView PlanDisk → List Patch → Option Patch → Patch → Fate → Option Bool → Type 0
@@ -200,12 +200,12 @@ module _ (zone new : ZoneView PlanDisk) (taken : List Patch) (doubt : Option Pat
   after = taken_then answer runs.checked patch
 
   -- the stay of the patches that were checked
-  stay_checked : (left : Option CheckedPatch) → taken_by (decided zone patch) (fate_by_plan runs.left plan) (map bare runs.checked) (doubt_of runs.left) (bare patch) ≡ (point_of after left, Some answer)
+  stay_checked : (left : Option CheckedPatch) → taken_by (decided zone patch) (fate_by_plan runs.left plan) (map bare runs.checked) (doubt_of runs.left) (bare patch) ≡ (zone_point after left, Some answer)
       → fate_by_plan (doubt_of runs.left) plan ≡ run_as (doubt_of runs.left) fate
-      → (stay LOG_LIMITS (up (map bare runs.checked) (doubt_of runs.left)) (bare patch) fate).0 ≡ stopped_if (point_of after left) (stop_taken fate answer)
+      → (stay LOG_LIMITS (up (map bare runs.checked) (doubt_of runs.left)) (bare patch) fate).0 ≡ stopped_if (zone_point after left) (stop_taken fate answer)
   stay_checked left is planned =
-      let as_planned : taken_by (decided zone patch) (run_as (doubt_of runs.left) fate) (map bare runs.checked) (doubt_of runs.left) (bare patch) ≡ (point_of after left, Some answer) =
-      subst (λ (f : Fate). taken_by (decided zone patch) f (map bare runs.checked) (doubt_of runs.left) (bare patch) ≡ (point_of after left, Some answer)) (same_plan runs.left plan ∙ planned) is in
+      let as_planned : taken_by (decided zone patch) (run_as (doubt_of runs.left) fate) (map bare runs.checked) (doubt_of runs.left) (bare patch) ≡ (zone_point after left, Some answer) =
+      subst (λ (f : Fate). taken_by (decided zone patch) f (map bare runs.checked) (doubt_of runs.left) (bare patch) ≡ (zone_point after left, Some answer)) (same_plan runs.left plan ∙ planned) is in
       let took = took_as_run fate (map bare runs.checked) (doubt_of runs.left) (bare patch) (map bare after) (doubt_of left) answer (decided zone patch) (is_decided zone.brief.ids zone.brief.bytes (bare patch) zone.limits) as_planned in
       let same : (taken_by (decided zone patch) fate (map bare runs.checked) (doubt_of runs.left) (bare patch)).0 ≡ (stay LOG_LIMITS (up (map bare runs.checked) (doubt_of runs.left)) (bare patch) fate).0 =
       ap (λ (brief : Brief). (taken_by (taking brief.ids brief.bytes (bare patch) zone.limits) fate (map bare runs.checked) (doubt_of runs.left) (bare patch)).0) runs.stands.brief_is
@@ -214,9 +214,9 @@ module _ (zone new : ZoneView PlanDisk) (taken : List Patch) (doubt : Option Pat
       sym same ∙ took
 
   pub took_runs : (left : Option CheckedPatch) → StandsForZone (Unit {0}) (plan_past new.disk) new after left → new.limits ≡ LOG_LIMITS
-      → taken_by (decided zone patch) (fate_by_plan runs.left plan) (map bare runs.checked) (doubt_of runs.left) (bare patch) ≡ (point_of after left, Some answer)
+      → taken_by (decided zone patch) (fate_by_plan runs.left plan) (map bare runs.checked) (doubt_of runs.left) (bare patch) ≡ (zone_point after left, Some answer)
       → fate_by_plan (doubt_of runs.left) plan ≡ run_as (doubt_of runs.left) fate
-      → LeavesEither (plan_past new.disk) ZONE_NUMBER (map bare after) (doubt_of left)
+      → LeavesEitherChain (plan_past new.disk) ZONE_NUMBER (map bare after) (doubt_of left)
       → Took new taken doubt (bare patch) fate (stop_taken fate answer)
   took_runs left stands limits is planned leaves =
       let now : RunsZone new (map bare after) (doubt_of left) = record { checked = after; left = left; taken_is = refl; doubt_is = refl; limits_is = limits; stands = stands; leaves = leaves } in

@@ -24,7 +24,7 @@ use Rattle.world_core.specs.declared.event.WorldEvent.{WorldEvent}
 use Rattle.world_core.specs.declared.event.WorldEvent.TheVariants.{Append, Serve, Describe, Stop, Open, NewZone, Deliver, ZoneStop, ZoneOpen}
 use Rattle.world_core.specs.declared.message.Message.{Message}
 use Rattle.world_core.specs.declared.message.Message.TheVariants.{Accepted, Item}
-use Rattle.world_core.specs.World.{WorldPoint, told, served, sending, joined, step, start, world, MayBeFound, WasAccepted, WasServed, KeepsPromises}
+use Rattle.world_core.specs.World.{WorldPoint, accepted_message, served, sending, with_message, step, start, world, MayBeFound, WasAccepted, WasServed, KeepsPromises}
 use Rattle.world_core.proofs.Growing.{chain_of, GrowsTo, AreChains, stays_same, grows_on, sending_chains, sending_grows, still_at, found_grows, found_each, last_at}
 
 -- ---- chains
@@ -70,7 +70,7 @@ served_is chain asked version patch (Some p) at is =
     let parts = same_item asked version p patch inner in
     subst (λ (v : ℕ). patch_at chain v ≡ Some patch) parts.0 (at ∙ ap (λ (q : Patch). Some q) parts.1)
 
-told_is : (answer : Option LogAnswer) (version : ℕ) (patch : Patch) → told answer ≡ Some (Item version patch) → ⊥
+told_is : (answer : Option LogAnswer) (version : ℕ) (patch : Patch) → accepted_message answer ≡ Some (Item version patch) → ⊥
 told_is None version patch is = cc
 told_is (Some (IsAccepted v)) version patch is = cc
 told_is (Some (IsKnown v same)) version patch is = cc
@@ -100,7 +100,7 @@ sent_stands limits (down chain) (Deliver message zone fate) version patch is = a
 sent_stands limits (down chain) (ZoneStop zone opened) version patch is = absurd (cc)
 sent_stands limits (down chain) (ZoneOpen zone) version patch is = absurd (cc)
 
-joined_cases : (pool : List Message) (sent : Option Message) (message : Message) → Contains (joined pool sent) message → Contains pool message ⊎ (sent ≡ Some message)
+joined_cases : (pool : List Message) (sent : Option Message) (message : Message) → Contains (with_message pool sent) message → Contains pool message ⊎ (sent ≡ Some message)
 joined_cases pool None message has = inl has
 joined_cases pool (Some last) message has = ⊎_elim (λ (earlier : Contains pool message). inl earlier) (λ (is : last ≡ message). inr (ap (λ (m : Message). Some m) is)) (Contains-push_cases pool last message has)
 
@@ -127,10 +127,10 @@ always_served limits events more patch version found has may =
 
 -- the answer is that the patch was accepted at this version
 abbrev Accepts : List Patch → Patch → ℕ → Outcome → Type 0
-Accepts chain patch version outcome = told outcome.1 ≡ Some (Accepted version) → patch_at (chain_of outcome.0) version ≡ Some patch
+Accepts chain patch version outcome = accepted_message outcome.1 ≡ Some (Accepted version) → patch_at (chain_of outcome.0) version ≡ Some patch
 
 module _ (chain : List Patch) (doubt : Option Patch) (patch : Patch) (version : ℕ) where
-  was_done : told (Some (IsAccepted (length chain + 1))) ≡ Some (Accepted version) → patch_at (chain ++ patch ∷ []) version ≡ Some patch
+  was_done : accepted_message (Some (IsAccepted (length chain + 1))) ≡ Some (Accepted version) → patch_at (chain ++ patch ∷ []) version ≡ Some patch
   was_done is =
       let inner : Accepted (length chain + 1) ≡ Accepted version = cc in
       let same : length chain + 1 ≡ version = cc in

@@ -13,7 +13,7 @@ use Rattle.chain_core.specs.declared.fate.Fate.{Fate}
 use Rattle.chain_core.specs.Log.{LogPoint, up, down, with_doubt}
 use Rattle.chain_core.specs.Stay.{stay}
 use Rattle.patch_log.specs.Log.{bare}
-use Rattle.zone_state.specs.Brief.{Brief, id_of}
+use Rattle.zone_state.specs.Brief.{Brief, id_taken}
 use Rattle.zone_state.specs.Zone.{ZoneView}
 use Rattle.zone_state.specs.declared.file.TheConstants.{ZONE_NUMBER}
 use Rattle.delta_base.specs.declared.limits.TheConstants.{LOG_LIMITS}
@@ -22,7 +22,7 @@ use Rattle.world_core.specs.declared.event.WorldEvent.TheVariants.{ZoneStop}
 use Rattle.world_core.specs.declared.zone.ZonePart.{ZonePart}
 use Rattle.world_core.specs.declared.zone.ZonePart.TheVariants.{Up, Down}
 use Rattle.world_core.specs.declared.message.Message.{Message}
-use Rattle.world_core.specs.Parts.{RunsZone, Keeps, IsZoneOf, AreZonesOf, IsSoundMessage}
+use Rattle.world_core.specs.Parts.{RunsZone, KeepsChain, IsZoneOf, AreZonesOf, IsSoundMessage}
 use Rattle.world_core.specs.World.{handed, changed_at, zone_after}
 
 pub handed_next : (limits : LogLimits) (taken : List Patch) (doubt : Option Patch) (version : ℕ) (patch : Patch) (fate : Fate) → version ≡ length taken + 1 → handed limits (up taken doubt) version patch fate ≡ (stay limits (up taken doubt) patch fate).0
@@ -34,7 +34,7 @@ handed_other limits taken doubt version patch fate other =
     ap (λ (b : Bool). cond b (stay limits (up taken doubt) patch fate).0 (up taken doubt)) differ
 
 pub count_of : (zone : ZoneView PlanDisk) (taken : List Patch) (doubt : Option Patch) → RunsZone zone taken doubt → length zone.brief.ids ≡ length taken
-count_of zone taken doubt runs = ap (λ (brief : Brief). length brief.ids) runs.stands.brief_is ∙ length-map runs.checked id_of ∙ sym (length-map runs.checked bare) ∙ ap length runs.taken_is
+count_of zone taken doubt runs = ap (λ (brief : Brief). length brief.ids) runs.stands.brief_is ∙ length-map runs.checked id_taken ∙ sym (length-map runs.checked bare) ∙ ap length runs.taken_is
 
 -- the zone at a place is taken out, and another is put there
 pub zones_set : (parts : List ZonePart) (points : List LogPoint) (place : ℕ) (d blank new : ZonePart) (change : LogPoint → LogPoint) → AreZonesOf parts points → place < length parts
@@ -60,7 +60,7 @@ zones_push (first ∷ parts) (top ∷ points) part point are is = (are.0, zones_
 
 -- a zone that is up is one of a point that is up
 pub stop_part : (part : ZonePart) (zone : ZoneView PlanDisk) (pool : List Message) (event : WorldEvent) (place : ℕ) (opened : Bool) (disk : PlanDisk) → part ≡ Up zone → event ≡ ZoneStop place opened
-    → ((chain : List Patch) → (doubt : Option Patch) → RunsZone zone chain doubt → Keeps ZONE_NUMBER disk (cond opened (with_doubt chain doubt) chain))
+    → ((chain : List Patch) → (doubt : Option Patch) → RunsZone zone chain doubt → KeepsChain ZONE_NUMBER disk (cond opened (with_doubt chain doubt) chain))
     → (point : LogPoint) → IsZoneOf part point → IsZoneOf (Down disk) (zone_after LOG_LIMITS pool event point)
 stop_part part zone pool event place opened disk same stops left point is =
     subst (λ (e : WorldEvent). IsZoneOf (Down disk) (zone_after LOG_LIMITS pool e point)) (sym stops) (by_point point (subst (λ (p : ZonePart). IsZoneOf p point) same is))

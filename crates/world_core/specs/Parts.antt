@@ -16,7 +16,7 @@ use Rattle.chain_core.specs.declared.answer.LogAnswer.TheVariants.{DiskFault}
 use Rattle.chain_core.specs.Log.{LogPoint, up, down, stopped}
 use Rattle.chain_core.specs.Patches.{texts_of}
 use Rattle.patch_meaning.specs.Checked.{CheckedPatch, AreChecked}
-use Rattle.patch_log.specs.Log.{bare, IsSound, StandsForLog, LeavesEither}
+use Rattle.patch_log.specs.Log.{bare, IsSound, StandsForLog, LeavesEitherChain}
 use Rattle.patch_log.specs.State.{LogView, chain_of}
 use Rattle.zone_state.specs.declared.answer.TakeAnswer.{TakeAnswer}
 use Rattle.zone_state.specs.declared.answer.TakeAnswer.TheVariants as take
@@ -47,17 +47,17 @@ run_as doubt (Fails phase) = fails_in phase doubt
 run_as doubt (Stops phase opened) = fails_in phase doubt
 
 -- how the gate is to stand where a log is stopped behind an append: one that was run as a failure
-abbrev pub stop_of : Fate → Option Bool
-stop_of (Stops phase opened) = Some opened
-stop_of other = None
+abbrev pub stop_for : Fate → Option Bool
+stop_for (Stops phase opened) = Some opened
+stop_for other = None
 
 abbrev pub stop_by : Fate → LogAnswer → Option Bool
-stop_by fate DiskFault = stop_of fate
+stop_by fate DiskFault = stop_for fate
 stop_by fate other = None
 
 -- the same of a zone
 abbrev pub stop_taken : Fate → TakeAnswer → Option Bool
-stop_taken fate take.DiskFault = stop_of fate
+stop_taken fate take.DiskFault = stop_for fate
 stop_taken fate other = None
 
 abbrev pub stopped_if : LogPoint → Option Bool → LogPoint
@@ -66,10 +66,10 @@ stopped_if point (Some opened) = stopped point opened
 
 -- A disk under a log or a zone that runs. Each image holds the chain, with the patch in doubt or
 -- without; a stop leaves the one image or the other.
-pub record Carries (number : ℕ) (disk : PlanDisk) (chain : List Patch) (doubt : Option Patch)
+pub record CarriesPart (number : ℕ) (disk : PlanDisk) (chain : List Patch) (doubt : Option Patch)
     : Type 0 where
   pub stands : StandsForLog (plan_past disk) number LOG_LIMITS chain doubt
-  pub leaves : LeavesEither (plan_past disk) number chain doubt
+  pub leaves : LeavesEitherChain (plan_past disk) number chain doubt
 
 -- a log that runs
 pub record Runs (log : LogView PlanDisk) (chain : List Patch) (doubt : Option Patch) : Type 0 where
@@ -77,7 +77,7 @@ pub record Runs (log : LogView PlanDisk) (chain : List Patch) (doubt : Option Pa
   pub doubt_is : log.doubt ≡ doubt
   pub number_is : log.number ≡ LOG_NUMBER
   pub limits_is : log.limits ≡ LOG_LIMITS
-  pub on_disk : Carries LOG_NUMBER log.disk chain doubt
+  pub on_disk : CarriesPart LOG_NUMBER log.disk chain doubt
 
 -- A zone that runs. It stands for patches that were checked, of which its dataset is the replay.
 pub record RunsZone (zone : ZoneView PlanDisk) (taken : List Patch) (doubt : Option Patch)
@@ -88,21 +88,21 @@ pub record RunsZone (zone : ZoneView PlanDisk) (taken : List Patch) (doubt : Opt
   pub doubt_is : doubt_of left ≡ doubt
   pub limits_is : zone.limits ≡ LOG_LIMITS
   pub stands : StandsForZone (Unit {0}) (plan_past zone.disk) zone checked left
-  pub leaves : LeavesEither (plan_past zone.disk) ZONE_NUMBER taken doubt
+  pub leaves : LeavesEitherChain (plan_past zone.disk) ZONE_NUMBER taken doubt
 
 -- a disk that a log or a zone was on, or one that is new: each of its images holds the chain
-abbrev pub Keeps : ℕ → PlanDisk → List Patch → Type 0
-Keeps number disk chain = StandsForLog (plan_past disk) number LOG_LIMITS chain None
+abbrev pub KeepsChain : ℕ → PlanDisk → List Patch → Type 0
+KeepsChain number disk chain = StandsForLog (plan_past disk) number LOG_LIMITS chain None
 
 -- a log of the code is one of the world
 abbrev pub IsPartOf : LogPart → LogPoint → Type 0
 IsPartOf (Up log) (up chain doubt) = Runs log chain doubt
-IsPartOf (Down disk) (down chain) = Keeps LOG_NUMBER disk chain
+IsPartOf (Down disk) (down chain) = KeepsChain LOG_NUMBER disk chain
 IsPartOf part other = ⊥
 
 abbrev pub IsZoneOf : ZonePart → LogPoint → Type 0
 IsZoneOf (ZoneUp zone) (up taken doubt) = RunsZone zone taken doubt
-IsZoneOf (ZoneDown disk) (down taken) = Keeps ZONE_NUMBER disk taken
+IsZoneOf (ZoneDown disk) (down taken) = KeepsChain ZONE_NUMBER disk taken
 IsZoneOf part other = ⊥
 
 -- one after another
@@ -141,7 +141,7 @@ HoldsSome number P image = (found : List Patch) × P found × Holds image number
 
 -- the dataset of a zone that runs is the replay of so many first patches as its version
 -- says, checked again
-abbrev pub IsReplayed : LogPoint → ZonePart → Type 0
-IsReplayed log (ZoneUp zone) = (taken : List CheckedPatch) × AreChecked taken
+abbrev pub IsZoneReplayed : LogPoint → ZonePart → Type 0
+IsZoneReplayed log (ZoneUp zone) = (taken : List CheckedPatch) × AreChecked taken
     × BeginsLog log (map bare taken) × (zone.brief ≡ brief_of taken)
-IsReplayed log (ZoneDown disk) = Unit {0}
+IsZoneReplayed log (ZoneDown disk) = Unit {0}

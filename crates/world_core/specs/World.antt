@@ -27,9 +27,9 @@ pub record WorldPoint : Type 0 where
   pub pool : List Message
 
 -- what an append sends by its answer: only that it was accepted
-abbrev pub told : Option LogAnswer → Option Message
-told (Some (IsAccepted version)) = Some (Accepted version)
-told other = None
+abbrev pub accepted_message : Option LogAnswer → Option Message
+accepted_message (Some (IsAccepted version)) = Some (Accepted version)
+accepted_message other = None
 
 -- what is sent to who asks for a version
 abbrev pub served : ℕ → Option Patch → Option Message
@@ -41,7 +41,7 @@ abbrev pub Sending : Type 0
 Sending = LogPoint × Option Message
 
 abbrev pub appended : Outcome → Sending
-appended (point, answer) = (point, told answer)
+appended (point, answer) = (point, accepted_message answer)
 
 -- what an event makes of a log that is up
 abbrev pub while_up : LogLimits → List Patch → Option Patch → WorldEvent → Sending
@@ -64,9 +64,9 @@ sending limits (up chain doubt) event = while_up limits chain doubt event
 sending limits (down chain) event = while_down chain event
 
 -- the pool with one message more, if one was sent
-abbrev pub joined : List Message → Option Message → List Message
-joined pool None = pool
-joined pool (Some message) = pool ++ message ∷ []
+abbrev pub with_message : List Message → Option Message → List Message
+with_message pool None = pool
+with_message pool (Some message) = pool ++ message ∷ []
 
 -- A zone takes the patch behind its own as a log does: where it names the head, its id is new and
 -- there is room.
@@ -112,7 +112,7 @@ step limits world event =
     record {
       log = sent.0;
       zones = zones_after limits world.pool world.zones event;
-      pool = joined world.pool sent.1;
+      pool = with_message world.pool sent.1;
     }
 
 -- an empty log that is up, no zone and no message

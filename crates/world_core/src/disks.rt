@@ -2,7 +2,7 @@
 ghost use Rattle.std.specs.Prelude.{◌≡◌, ℕ, [], List, Option, IfOk, if◌then◌else◌};
 ghost use Rattle.chain_core.specs.declared.chain.Patch.{Patch};
 ghost use Rattle.chain_core.specs.Log.{with_doubt};
-ghost use Rattle.world_core.specs.Parts.{Carries, Keeps};
+ghost use Rattle.world_core.specs.Parts.{CarriesPart, KeepsChain};
 
 use delta_base::{Bytes, OutOfMemory};
 use disk_model::PlanDisk;
@@ -11,7 +11,7 @@ use std::alloc::Global;
 
 /// A new disk with an empty journal.
 pub(crate) fn new_disk(alloc: Global, number: u32) -> Result<PlanDisk, OutOfMemory>
-    ensures { IfOk result (λ disk. Keeps number disk []) }
+    ensures { IfOk result (λ disk. KeepsChain number disk []) }
 {
     let mut disk = PlanDisk::new(alloc, Bytes::from_slice(alloc, &[])?)?;
     match format(&mut disk, number) {
@@ -36,8 +36,8 @@ pub(crate) fn stopped_disk(
     opened: bool,
 ) -> Result<PlanDisk, OutOfMemory>
     ensures { IfOk result (λ left. (number : ℕ) (chain : List Patch) (doubt : Option Patch)
-        → Carries number disk chain doubt
-        → Keeps number left (if opened then with_doubt chain doubt else chain)) }
+        → CarriesPart number disk chain doubt
+        → KeepsChain number left (if opened then with_doubt chain doubt else chain)) }
 {
     let image = disk.image(image_left(opened))?;
     PlanDisk::new(alloc, image)

@@ -8,9 +8,9 @@ ghost use Rattle.chain_core.specs.Patches.{patch_at, last_id};
 ghost use Rattle.chain_core.specs.Stay.{stay};
 ghost use Rattle.patch_log.specs.Log.{bare};
 ghost use Rattle.world_core.specs.declared.log.TheConstants.{LOG_NUMBER};
-ghost use Rattle.world_core.specs.Parts.{run_as, stop_by, Runs, Keeps};
+ghost use Rattle.world_core.specs.Parts.{run_as, stop_by, Runs, KeepsChain};
 ghost use Rattle.world_core.specs.Parts.{IsPartOf, IsSoundMessage, IsSoundSent};
-ghost use Rattle.world_core.specs.World.{told, served, appended, while_up, sending};
+ghost use Rattle.world_core.specs.World.{accepted_message, served, appended, while_up, sending};
 
 use crate::disks::{new_disk, stopped_disk};
 use crate::event::WorldEvent;
@@ -38,8 +38,8 @@ pub(crate) type Sent = (LogPart, Option<Message>);
 
 // Opens the log that a disk keeps.
 fn open(alloc: Global, disk: PlanDisk) -> Result<LogState<PlanDisk>, OutOfMemory>
-    requires { (chain : List OnePatch) × Keeps LOG_NUMBER disk chain }
-    ensures { IfOk result (λ log. (chain : List OnePatch) → Keeps LOG_NUMBER disk chain
+    requires { (chain : List OnePatch) × KeepsChain LOG_NUMBER disk chain }
+    ensures { IfOk result (λ log. (chain : List OnePatch) → KeepsChain LOG_NUMBER disk chain
         → Runs log chain None) }
 {
     match LogState::open_on(alloc, disk, LOG_NUMBER, LOG_LIMITS) {
@@ -66,7 +66,7 @@ pub(crate) fn start(alloc: Global) -> Result<LogState<PlanDisk>, OutOfMemory>
 fn stop(alloc: Global, log: LogState<PlanDisk>, opened: bool) -> Result<PlanDisk, OutOfMemory>
     ensures { IfOk result (λ disk. (chain : List OnePatch) (doubt : Option OnePatch)
         → Runs log chain doubt
-        → Keeps LOG_NUMBER disk (if opened then with_doubt chain doubt else chain)) }
+        → KeepsChain LOG_NUMBER disk (if opened then with_doubt chain doubt else chain)) }
 {
     stopped_disk(alloc, log.close(), opened)
 }
@@ -106,7 +106,7 @@ fn stop_by(fate: Fate, answer: LogAnswer) -> Option<bool>
 // The message that an answer sends.
 fn message_of(answer: LogAnswer) -> Option<Message>
     ensures sound { IsSoundSent result }
-    ensures told { result ≡ told (Some answer) }
+    ensures told { result ≡ accepted_message (Some answer) }
 {
     match answer {
         LogAnswer::Accepted { version } => Some(Message::Accepted { version }),
@@ -125,7 +125,7 @@ fn append_as(
     ensures part { IfOk result (λ sent. (chain : List OnePatch)
         (doubt : Option OnePatch) → Runs log chain doubt
         → let outcome = stay LOG_LIMITS (up chain doubt) (bare patch.now) fate in
-        IsPartOf sent.0 outcome.0 × (sent.1 ≡ told outcome.1)) }
+        IsPartOf sent.0 outcome.0 × (sent.1 ≡ accepted_message outcome.1)) }
 {
     let mut log = log;
     let answer = append_by_plan(&mut log, patch, fate)?;

@@ -2,7 +2,7 @@
 ghost use Rattle.std.specs.Prelude.{◌≡◌, Option, is_none};
 ghost use Rattle.chain_core.specs.declared.chain.Patch.{Patch};
 ghost use Rattle.chain_core.specs.Stay.{fate_by_plan};
-ghost use Rattle.world_core.specs.Parts.{run_as, stop_of};
+ghost use Rattle.world_core.specs.Parts.{run_as, stop_for};
 
 use chain_core::Fate;
 use delta_base::Phase;
@@ -28,7 +28,7 @@ pub(crate) fn failing_sync(settled: bool, fate: Fate) -> Option<u64>
 
 /// How the gate is to stand where what was run as a failure is stopped.
 pub(crate) fn stop_of(fate: Fate) -> Option<bool>
-    ensures { result ≡ stop_of fate }
+    ensures { result ≡ stop_for fate }
 {
     match fate {
         Fate::Stops { opened, .. } => Some(opened),

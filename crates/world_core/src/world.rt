@@ -6,7 +6,7 @@ ghost use Rattle.world_core.specs.declared.log.TheConstants.{LOG_NUMBER};
 ghost use Rattle.zone_state.specs.declared.file.TheConstants.{ZONE_NUMBER};
 ghost use Rattle.world_core.specs.World.{WorldPoint, start, step, world, KeepsPromises, BeginsLog};
 ghost use Rattle.world_core.specs.Parts.{IsWorldOf, EveryImageOf};
-ghost use Rattle.world_core.specs.Parts.{EveryImageOfZone, HoldsSome, IsReplayed};
+ghost use Rattle.world_core.specs.Parts.{EveryImageOfZone, HoldsSome, IsZoneReplayed};
 
 use crate::event::{WorldEvent, WorldEvents};
 use crate::log::{LogPart, run_log, start};
@@ -68,7 +68,7 @@ pub fn world_run(alloc: Global, events: &WorldEvents) -> Result<World, OutOfMemo
         (HoldsSome ZONE_NUMBER (BeginsLog (world LOG_LIMITS events.now.items).log)))
         w.zones.items) }
     ensures replays { IfOk result (λ w. AllByRecursion
-        (IsReplayed (world LOG_LIMITS events.now.items).log) w.zones.items) }
+        (IsZoneReplayed (world LOG_LIMITS events.now.items).log) w.zones.items) }
 {
     let mut world = first(alloc)?;
     for event in events.as_slice() {

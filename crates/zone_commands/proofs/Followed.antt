@@ -10,19 +10,19 @@ use Rattle.log_journal.specs.File.{Holds}
 use Rattle.log_journal.proofs.Steps.{either}
 use Rattle.dataset_tx.specs.Held.{AreMet}
 use Rattle.rdf_terms.specs.declared.term.Term.{Term}
-use Rattle.patch_meaning.specs.Checked.{CheckedPatch, texts}
+use Rattle.patch_meaning.specs.Checked.{CheckedPatch, checked_texts}
 use Rattle.rpc_answers.specs.declared.answer.Answer.{Answer}
-use Rattle.zone_state.specs.Brief.{Brief, brief_of, changes_of, file_length, id_of}
-use Rattle.zone_state.specs.Zone.{ZoneView, AreTaken, StandsForZone, zone_number}
+use Rattle.zone_state.specs.Brief.{Brief, brief_of, changes_taken, file_length, id_taken}
+use Rattle.zone_state.specs.Zone.{ZoneView, AreTakenPatches, StandsForZone, zone_number}
 use Rattle.zone_state.specs.declared.fault.ZoneFault.{ZoneFault}
 use Rattle.zone_state.proofs.Growing.{texts-push}
 use Rattle.follower.specs.declared.ends.SyncEnd.{SyncEnd}
 use Rattle.follower.specs.declared.ends.SyncEnd.TheVariants.{CaughtUp, NoSuchName, PeerBehind, NoPatch, PeerRefused, Diverged, Repeated, BadPatch, LinkFault, CutShort, NotUnderstood, Full, TermsFull, DiskFault, OutOfMemory}
-use Rattle.follower.specs.Exchanges.{Exchanged, Net, Said, calls_of}
+use Rattle.follower.specs.Exchanges.{Exchanged, Net, WasSaid, calls_of}
 use Rattle.follower.specs.Grown.{GrewBy, HoldsAmid}
 use Rattle.follower.specs.Syncing.{TextEnds, FetchRefuses, told, no_source, no_patch, refused, FetchEnds, answered, faulty, not_asked, RestIs, stopped, caught_up, EndIs, unanswered, compared, followed}
 use Rattle.zone_commands.specs.Files.{IsZoneFile}
-use Rattle.zone_commands.specs.Following.{Followed, IsLeft, zone_of}
+use Rattle.zone_commands.specs.Following.{Followed, IsLeftFile, zone_of}
 
 -- ---- an end says nothing of the disk
 
@@ -55,17 +55,17 @@ module _ {D : Type 0} where
     refuses_seen a end (no_patch has is ends) = no_patch has is ends
     refuses_seen a end (refused none ends) = refused none ends
 
-    ends_seen : (said : List Said) (end : SyncEnd) → FetchEnds known more zone said end → FetchEnds known more (seen zone) said end
+    ends_seen : (said : List WasSaid) (end : SyncEnd) → FetchEnds known more zone said end → FetchEnds known more (seen zone) said end
     ends_seen said end (answered a is ends) = answered a is (refuses_seen a end ends)
     ends_seen said end (faulty fault is ends) = faulty fault is ends
     ends_seen said end (not_asked is ends) = not_asked is ends
 
   module _ (old new : ZoneView D) where
-    rest_seen : (theirs : ℕ) (last : List Said) (more : List CheckedPatch) (end : SyncEnd) → RestIs old new theirs last more end → RestIs (seen old) (seen new) theirs last more end
+    rest_seen : (theirs : ℕ) (last : List WasSaid) (more : List CheckedPatch) (end : SyncEnd) → RestIs old new theirs last more end → RestIs (seen old) (seen new) theirs last more end
     rest_seen theirs last more end (stopped less ends) = stopped less (ends_seen old.terms more new last end ends)
     rest_seen theirs last more end (caught_up same none is) = caught_up same none is
 
-    end_seen : (said : List Said) (more : List CheckedPatch) (end : SyncEnd) → EndIs old new said more end → EndIs (seen old) (seen new) said more end
+    end_seen : (said : List WasSaid) (more : List CheckedPatch) (end : SyncEnd) → EndIs old new said more end → EndIs (seen old) (seen new) said more end
     end_seen said more end (unanswered none same ends) = unanswered none (ap seen same) ends
     end_seen said more end (compared theirs head is none same ends) = compared theirs head is none (ap seen same) ends
     end_seen said more end (followed theirs head last is before rest) = followed theirs head last is before (rest_seen theirs last more end rest)
@@ -75,7 +75,7 @@ module _ {D : Type 0} where
       ap (λ (b : Brief). record { brief = b; terms = zone.terms; settled = true; limits = zone.limits; disk = tt }) brief
       ∙ ap (λ (l : LogLimits). record { brief = brief_of taken; terms = zone.terms; settled = true; limits = l; disk = tt }) limits
 
-  pub end_of_zone : (old new : ZoneView D) (taken all : List CheckedPatch) (said : List Said) (more : List CheckedPatch) (end : SyncEnd)
+  pub end_of_zone : (old new : ZoneView D) (taken all : List CheckedPatch) (said : List WasSaid) (more : List CheckedPatch) (end : SyncEnd)
       → old.brief ≡ brief_of taken → old.limits ≡ LOG_LIMITS → new.brief ≡ brief_of all → new.limits ≡ LOG_LIMITS
       → EndIs old new said more end → EndIs (zone_of taken old.terms) (zone_of all new.terms) said more end
   end_of_zone old new taken all said more end old_brief old_limits new_brief new_limits is =
@@ -87,7 +87,7 @@ module _ {D : Type 0} where
   pub file_read : (tells : Type 0) (past : Past) (zone : ZoneView D) (taken : List CheckedPatch) → zone.limits ≡ LOG_LIMITS → StandsForZone tells past zone taken None → tells → MayLeave past (reads past) → IsZoneFile (reads past) taken
   file_read tells past zone taken limits stands tell left = record {
     holds = (stands.on_disk tell).each (reads past) left;
-    chain = subst (λ (l : LogLimits). AreTaken l taken) limits stands.without;
+    chain = subst (λ (l : LogLimits). AreTakenPatches l taken) limits stands.without;
   }
 
   doubtful : (end : SyncEnd) (zone : ZoneView D) → zone.settled ≡ false → (end ≢ DiskFault → zone.settled ≡ true) → end ≡ DiskFault
@@ -108,16 +108,16 @@ module _ {D : Type 0} where
   doubtful OutOfMemory zone not is = let yes = is (λ e. cc) in cc
 
   pub file_left : (tells : Type 0) (past : Past) (zone : ZoneView D) (taken : List CheckedPatch) (doubt : Option CheckedPatch) (end : SyncEnd) → zone.limits ≡ LOG_LIMITS → StandsForZone tells past zone taken doubt
-      → (end ≢ DiskFault → zone.settled ≡ true) → tells → MayLeave past (reads past) → IsLeft (reads past) taken end
+      → (end ≢ DiskFault → zone.settled ≡ true) → tells → MayLeave past (reads past) → IsLeftFile (reads past) taken end
   file_left tells past zone taken None end limits stands well tell left = inl (file_read tells past zone taken limits stands tell left)
   file_left tells past zone taken (Some doubt) end limits stands well tell left =
       let all = stands.on_disk tell in
-      let within = subst (λ (l : LogLimits). AreTaken l taken) limits stands.without in
-      let having = subst (λ (l : LogLimits). AreTaken l (taken ++ doubt ∷ [])) limits stands.having in
+      let within = subst (λ (l : LogLimits). AreTakenPatches l taken) limits stands.without in
+      let having = subst (λ (l : LogLimits). AreTakenPatches l (taken ++ doubt ∷ [])) limits stands.having in
       ⊎_elim
       (λ without. inl (record { holds = without; chain = within }))
       (λ having_it. inr (doubtful end zone stands.settled_is well, (doubt, record { holds = subst (λ (ts : List (List ℕ)). Holds (reads past) zone_number ts) (sym (texts-push taken doubt)) having_it; chain = having })))
-      (either (file_length zone.brief.ids zone.brief.bytes) zone_number (texts taken) doubt.text all.doubt_sized (reads past) all.sized (all.each (reads past) left))
+      (either (file_length zone.brief.ids zone.brief.bytes) zone_number (checked_texts taken) doubt.text all.doubt_sized (reads past) all.sized (all.each (reads past) left))
 
 -- what a disk reads is left at its last moment
 pub read_last : (P : List ℕ → Type 0) (old new : Past) → LeavesOnly P old new → MayLeave new (reads new) → P (reads new)
@@ -126,20 +126,20 @@ read_last P old new only left = only.each (reads new) (new, only.goes_on, went_n
 module _ {D L : Type 0} (disks : Ghosts D) (net_tells : Type 0) (left sent : L → Option (List ℕ)) (address name file : List ℕ) (net net' : Net L) where
   -- a zone was opened, caught up and was closed
   pub of_disk : (old new : ZoneView D) (end : SyncEnd)
-      → (taken : List CheckedPatch) × StandsForZone disks.tells (disks.past old.disk) old taken None × AreMet (changes_of taken) [] old.terms × (disks.tells → Holds file zone_number (texts taken))
+      → (taken : List CheckedPatch) × StandsForZone disks.tells (disks.past old.disk) old taken None × AreMet (changes_taken taken) [] old.terms × (disks.tells → Holds file zone_number (checked_texts taken))
       → old.limits ≡ LOG_LIMITS → new.limits ≡ old.limits → (old.settled ≡ true → end ≢ DiskFault → new.settled ≡ true)
-      → (said : List Said) × (more : List CheckedPatch) × GrewBy disks old new more said × EndIs old new said more end
+      → (said : List WasSaid) × (more : List CheckedPatch) × GrewBy disks old new more said × EndIs old new said more end
       × (net_tells → Exchanged left sent address (calls_of name (length old.brief.ids) said) said None net net')
       → (disk : D) → disk ≡ new.disk → ((d : D) → disks.tells → MayLeave (disks.past d) (reads (disks.past d))) → Followed left sent disks.tells net_tells address name file (reads (disks.past disk)) net net' end
   of_disk old new end found old_limits new_limits settled follows disk is may =
       let grown = follows.2.took found.0 None found.1 in
       let amid = follows.2.amid in
       let limits = new_limits ∙ old_limits in
-      let count : length old.brief.ids ≡ length found.0 = ap (λ (b : Brief). length b.ids) found.1.brief_is ∙ length-map found.0 id_of in
+      let count : length old.brief.ids ≡ length found.0 = ap (λ (b : Brief). length b.ids) found.1.brief_is ∙ length-map found.0 id_taken in
       subst (λ (d : D). Followed left sent disks.tells net_tells address name file (reads (disks.past d)) net net' end) (sym is) (record {
         taken = found.0;
         more = follows.1;
-        was = λ tell. record { holds = found.3 tell; chain = subst (λ (l : LogLimits). AreTaken l found.0) old_limits found.1.without };
+        was = λ tell. record { holds = found.3 tell; chain = subst (λ (l : LogLimits). AreTakenPatches l found.0) old_limits found.1.without };
         is = λ tell. file_left disks.tells (disks.past new.disk) new (found.0 ++ follows.1) grown.0 end limits grown.1 (settled found.1.settled_is) tell (may new.disk tell);
         met = old.terms;
         met' = new.terms;
@@ -158,7 +158,7 @@ module _ {L : Type 0} (left sent : L → Option (List ℕ)) (tells shelf_tells n
     taken = came.taken;
     more = came.more;
     was = λ yes. subst (λ (f : List ℕ). IsZoneFile f came.taken) (was yes) (came.was (tell yes));
-    is = λ yes. subst (λ (f : List ℕ). IsLeft f (came.taken ++ came.more) end) (is yes) (came.is (tell yes));
+    is = λ yes. subst (λ (f : List ℕ). IsLeftFile f (came.taken ++ came.more) end) (is yes) (came.is (tell yes));
     met = came.met;
     met' = came.met';
     are_met = came.are_met;

@@ -4,9 +4,9 @@ use Rattle.delta_base.specs.declared.limits.TheConstants.{LOG_LIMITS}
 use Rattle.rdf_terms.specs.declared.term.Term.{Term}
 use Rattle.dataset_tx.specs.Held.{AreMet}
 use Rattle.patch_meaning.specs.Checked.{CheckedPatch}
-use Rattle.zone_state.specs.Brief.{brief_of, changes_of}
+use Rattle.zone_state.specs.Brief.{brief_of, changes_taken}
 use Rattle.zone_state.specs.Zone.{ZoneView}
-use Rattle.follower.specs.Exchanges.{Exchanged, Net, Said, calls_of}
+use Rattle.follower.specs.Exchanges.{Exchanged, Net, WasSaid, calls_of}
 use Rattle.follower.specs.Grown.{HoldsAmid, WasTried}
 use Rattle.follower.specs.Syncing.{EndIs}
 use Rattle.follower.specs.declared.ends.SyncEnd.{SyncEnd}
@@ -25,8 +25,8 @@ zone_of taken terms = record {
 
 -- the file is that of a zone that took these patches, or of one that took these and the one at
 -- which its disk failed
-abbrev pub IsLeft : List ℕ → List CheckedPatch → SyncEnd → Type 0
-IsLeft file taken end =
+abbrev pub IsLeftFile : List ℕ → List CheckedPatch → SyncEnd → Type 0
+IsLeftFile file taken end =
     IsZoneFile file taken
     ⊎ ((end ≡ DiskFault) × ((last : CheckedPatch) × IsZoneFile file (taken ++ last ∷ [])))
 
@@ -38,11 +38,11 @@ pub record Followed {L : Type 0} (left sent : L → Option (List ℕ)) (tells ne
   pub taken : List CheckedPatch
   pub more : List CheckedPatch
   pub was : tells → IsZoneFile file taken
-  pub is : tells → IsLeft file' (taken ++ more) end
+  pub is : tells → IsLeftFile file' (taken ++ more) end
   pub met : List Term
   pub met' : List Term
-  pub are_met : AreMet (changes_of taken) [] met
-  pub said : List Said
+  pub are_met : AreMet (changes_taken taken) [] met
+  pub said : List WasSaid
   -- the one at which the disk failed is that whose text was said last
   pub tried : tells → (tried : List CheckedPatch) × WasTried said tried
       × HoldsAmid taken None (more ++ tried) file'

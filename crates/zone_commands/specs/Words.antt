@@ -10,15 +10,15 @@ use Rattle.zone_commands.specs.declared.words.Position.{Position}
 use Rattle.zone_commands.specs.declared.words.Position.TheVariants as position
 
 -- whether a term may stand in a position
-abbrev pub may_stand : Position → Term → Bool
-may_stand position.Graph term = not (is_literal term)
-may_stand position.Subject term = not (is_literal term)
-may_stand position.Predicate term = is_iri term
-may_stand position.Object term = true
+abbrev pub fits_position : Position → Term → Bool
+fits_position position.Graph term = not (is_literal term)
+fits_position position.Subject term = not (is_literal term)
+fits_position position.Predicate term = is_iri term
+fits_position position.Object term = true
 
 -- the word is the text of a term that may stand there
 abbrev pub IsTermWord : Position → List ℕ → Term → Type 0
-IsTermWord position word term = TermAt word term [] × (may_stand position term ≡ true)
+IsTermWord position word term = TermAt word term [] × (fits_position position term ≡ true)
 
 -- `*` is free
 abbrev pub IsPartWord : Position → List ℕ → Option Term → Type 0

@@ -7,7 +7,7 @@ ghost use Rattle.disk_model.specs.Shelf.{SameOthers};
 ghost use Rattle.slot_files.specs.Files.{IsKept, bytes_at};
 ghost use Rattle.zone_state.specs.Fault.{HasZoneFault};
 ghost use Rattle.zone_state.specs.Zone.{zone_number};
-ghost use Rattle.zone_commands.specs.Files.{HasLines};
+ghost use Rattle.zone_commands.specs.Files.{HasZoneLines};
 ghost use Rattle.zone_commands.specs.Order.{IsInOrder};
 ghost use Rattle.zone_commands.specs.Readings.{lines_read};
 
@@ -62,7 +62,7 @@ pub fn read_zone_file<D: Disk>(
     reading: &Reading,
 ) -> (D, Result<Lines, ZoneFault>)
     ensures ok { D.tells
-        → IfOk result.1 (λ lines. HasLines (reads (D.past disk)) reading.now lines.keys) }
+        → IfOk result.1 (λ lines. HasZoneLines (reads (D.past disk)) reading.now lines.keys) }
     ensures fault { D.tells → IfErr result.1 (HasZoneFault (reads (D.past disk)) LOG_LIMITS) }
     ensures kept { D.tells → reads (D.past result.0) ≡ reads (D.past disk) }
     ensures cause { IsErrOf result.1 ZoneFault.Failed → Rose (D.faults disk) (D.faults result.0) }
@@ -90,7 +90,7 @@ pub fn read_zone<H: Shelf>(
 ) -> Result<Lines, ZoneFault>
     ensures ok { H.tells → IfOk result
         (λ lines.
-        HasLines (bytes_at (H.files shelf.old) dir.now zone_number) reading.now lines.keys) }
+        HasZoneLines (bytes_at (H.files shelf.old) dir.now zone_number) reading.now lines.keys) }
     ensures fault { H.tells → IfErr result
         (HasZoneFault (bytes_at (H.files shelf.old) dir.now zone_number) LOG_LIMITS) }
     ensures kept { H.tells → IsKept (H.files shelf.old dir.now zone_number)

@@ -1,6 +1,6 @@
 //! The words that stand for the parts of a pattern.
 ghost use Rattle.std.specs.Prelude.{◌≡◌, IfOk};
-ghost use Rattle.zone_commands.specs.Words.{may_stand, IsTermWord, IsPartWord};
+ghost use Rattle.zone_commands.specs.Words.{fits_position, IsTermWord, IsPartWord};
 ghost use Rattle.zone_commands.specs.Words.{IsGraphWord, IsPatternOf, Finds};
 
 use dataset_tx::{GraphPart, Pattern};
@@ -21,7 +21,7 @@ pub enum Position {
 impl Position {
     /// Whether a term may stand there.
     pub fn allows(self, term: &Term) -> bool
-        ensures { result ≡ may_stand self term.now }
+        ensures { result ≡ fits_position self term.now }
     {
         match self {
             Position::Graph | Position::Subject => !term.is_literal(),

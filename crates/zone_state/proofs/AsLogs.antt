@@ -20,20 +20,20 @@ use Rattle.chain_core.specs.Patches.{last_id, journal_length}
 use Rattle.chain_core.specs.Stay.{decided_by}
 use Rattle.chain_core.proofs.Decided.{IsAcceptable, accepted, decision-rest, same_id-refl}
 use Rattle.chain_core.proofs.Patches.{length-push}
-use Rattle.patch_meaning.specs.Checked.{CheckedPatch, texts}
+use Rattle.patch_meaning.specs.Checked.{CheckedPatch, checked_texts}
 use Rattle.patch_log.specs.Log.{bare, IsSoundLog, StandsForLog}
 use Rattle.zone_state.specs.declared.answer.TakeAnswer.{TakeAnswer}
 use Rattle.zone_state.specs.declared.answer.TakeAnswer.TheVariants.{Applied, Diverged, Repeated, Full, TermsFull, OutOfMemory, DiskFault}
-use Rattle.zone_state.specs.Brief.{id_of, last_of, file_length}
+use Rattle.zone_state.specs.Brief.{id_taken, last_of, file_length}
 use Rattle.zone_state.specs.Taking.{taking, taken_by}
-use Rattle.zone_state.specs.Zone.{ZoneView, AreTaken, StandsForZone, with_doubtful, zone_number, doubt_of}
+use Rattle.zone_state.specs.Zone.{ZoneView, AreTakenPatches, StandsForZone, with_doubtful, zone_number, doubt_of}
 use Rattle.zone_state.proofs.Decisions.{CanBeTaken, can_be_taken, taking-new, taking-rest}
 use Rattle.zone_state.proofs.Growing.{bare_versions, bare_last, bare_length, bare_texts, bare-push}
 use Rattle.zone_state.proofs.Readings.{sound_checked}
 
 module _ (taken : List CheckedPatch) (patch : Patch) (limits : LogLimits) where
   abbrev ids : List Id
-  ids = map id_of taken
+  ids = map id_taken taken
 
   abbrev bytes : ℕ
   bytes = sum_by (λ (p : CheckedPatch). length p.text) taken
@@ -42,7 +42,7 @@ module _ (taken : List CheckedPatch) (patch : Patch) (limits : LogLimits) where
   chain = map bare taken
 
   counts : length chain ≡ length ids
-  counts = length-map taken bare ∙ sym (length-map taken id_of)
+  counts = length-map taken bare ∙ sym (length-map taken id_taken)
 
   can_accept : CanBeTaken ids bytes patch limits → IsAcceptable chain patch limits
   can_accept can = record {
@@ -98,7 +98,7 @@ module _ (fate : Fate) (chain : List Patch) (doubt : Option Patch) (patch : Patc
   stays_alike OutOfMemory made alike = sym (not_accepted made (λ version is. let no = (alike version).1 is in cc))
   stays_alike DiskFault made alike = sym (not_accepted made (λ version is. let no = (alike version).1 is in cc))
 
-pub taken_log : (limits : LogLimits) (taken : List CheckedPatch) → AreTaken limits taken → IsSoundLog limits (map bare taken)
+pub taken_log : (limits : LogLimits) (taken : List CheckedPatch) → AreTakenPatches limits taken → IsSoundLog limits (map bare taken)
 taken_log limits taken are = record { log = are.log; sound = sound_checked taken are.checked }
 
 -- the disk of a zone stands for the log of its patches
@@ -115,7 +115,7 @@ zone_log tells past zone taken (Some doubt) stands told =
     let all = stands.on_disk told in
     record {
       each = λ image left. subst (λ (ts : List (List ℕ)). HoldsWithOrWithout zone_number ts doubt.text image) (sym (bare_texts taken))
-          (either (file_length zone.brief.ids zone.brief.bytes) zone_number (texts taken) doubt.text all.doubt_sized image all.sized (all.each image left));
+          (either (file_length zone.brief.ids zone.brief.bytes) zone_number (checked_texts taken) doubt.text all.doubt_sized image all.sized (all.each image left));
       without = taken_log zone.limits taken stands.without;
       having = subst (λ (ps : List Patch). IsSoundLog zone.limits ps) (bare-push taken doubt) (taken_log zone.limits (with_doubtful taken (Some doubt)) stands.having);
     }

@@ -15,7 +15,7 @@ use Rattle.zone_state.specs.declared.answer.TakeAnswer.TheVariants.{Applied, Div
 use Rattle.zone_state.specs.declared.answer.TakeAnswer.TheVariants as answers
 use Rattle.chain_core.specs.declared.fate.Fate.{Fate}
 use Rattle.chain_core.specs.Log.{up}
-use Rattle.zone_state.specs.Brief.{last_of, version_in, file_length}
+use Rattle.zone_state.specs.Brief.{last_of, version_among, file_length}
 use Rattle.zone_state.specs.Taking.{taking, unless_repeated, within_limits, taken_by, taken_then}
 
 true_not_false : true ≡ false → ⊥
@@ -24,7 +24,7 @@ true_not_false same = cc
 -- nothing stands against the patch
 pub record CanBeTaken (ids : List Id) (bytes : ℕ) (patch : Patch) (limits : LogLimits) : Type 0 where
   pub follows : patch.prev ≡ last_of ids
-  pub new : version_in ids patch.id ≡ None
+  pub new : version_among ids patch.id ≡ None
   pub place : length ids ≢ limits.patches
   pub room : file_length ids bytes + (PAYLOAD_FRAME + length patch.text) ≤ limits.bytes
 
@@ -39,20 +39,20 @@ module _ (ids : List Id) (bytes : ℕ) (patch : Patch) (limits : LogLimits) wher
   abbrev by_limits : Bool → Bool → TakeAnswer
   by_limits full long = cond full (Full Patches (length ids) limits.patches) (cond long (Full Bytes longer limits.bytes) (Applied (length ids + 1)))
 
-  tested : taking ids bytes patch limits ≡ by_tests (same_id patch.prev (last_of ids)) (version_in ids patch.id)
+  tested : taking ids bytes patch limits ≡ by_tests (same_id patch.prev (last_of ids)) (version_among ids patch.id)
   unfolding taking
   tested = refl
 
   pub taking-diverged : same_id patch.prev (last_of ids) ≡ false → taking ids bytes patch limits ≡ Diverged (last_of ids) patch.prev
-  taking-diverged other = tested ∙ ap (λ test. by_tests test (version_in ids patch.id)) other
+  taking-diverged other = tested ∙ ap (λ test. by_tests test (version_among ids patch.id)) other
 
-  follows_so : same_id patch.prev (last_of ids) ≡ true → taking ids bytes patch limits ≡ unless_repeated (version_in ids patch.id) ids bytes patch limits
-  follows_so follows = tested ∙ ap (λ test. by_tests test (version_in ids patch.id)) follows
+  follows_so : same_id patch.prev (last_of ids) ≡ true → taking ids bytes patch limits ≡ unless_repeated (version_among ids patch.id) ids bytes patch limits
+  follows_so follows = tested ∙ ap (λ test. by_tests test (version_among ids patch.id)) follows
 
-  pub taking-repeated : (version : ℕ) → same_id patch.prev (last_of ids) ≡ true → version_in ids patch.id ≡ Some version → taking ids bytes patch limits ≡ Repeated version
+  pub taking-repeated : (version : ℕ) → same_id patch.prev (last_of ids) ≡ true → version_among ids patch.id ≡ Some version → taking ids bytes patch limits ≡ Repeated version
   taking-repeated version follows is = follows_so follows ∙ ap (λ found. unless_repeated found ids bytes patch limits) is
 
-  pub taking-new : same_id patch.prev (last_of ids) ≡ true → version_in ids patch.id ≡ None → taking ids bytes patch limits ≡ within_limits ids bytes patch limits
+  pub taking-new : same_id patch.prev (last_of ids) ≡ true → version_among ids patch.id ≡ None → taking ids bytes patch limits ≡ within_limits ids bytes patch limits
   taking-new follows new = follows_so follows ∙ ap (λ found. unless_repeated found ids bytes patch limits) new
 
   pub taking-full_patches : length ids ≡ limits.patches → within_limits ids bytes patch limits ≡ Full Patches (length ids) limits.patches
@@ -76,7 +76,7 @@ module _ (ids : List Id) (bytes : ℕ) (patch : Patch) (limits : LogLimits) wher
   -- what is taken could be
   pub can_be_taken : (version : ℕ) → taking ids bytes patch limits ≡ Applied version → CanBeTaken ids bytes patch limits × (version ≡ length ids + 1)
   can_be_taken version is =
-      let tests = applied_by_tests (same_id patch.prev (last_of ids)) (version_in ids patch.id) version (sym tested ∙ is) in
+      let tests = applied_by_tests (same_id patch.prev (last_of ids)) (version_among ids patch.id) version (sym tested ∙ is) in
       let sizes = applied_by_limits (eqb (length ids) limits.patches) (ltb limits.bytes longer) version tests.2 in (
         record {
           follows = same_id-true patch.prev (last_of ids) tests.0;
@@ -95,7 +95,7 @@ IsDecided answers.DiskFault = ⊥
 IsDecided other = Unit {0}
 
 pub decided : (ids : List Id) (bytes : ℕ) (patch : Patch) (limits : LogLimits) → IsDecided (taking ids bytes patch limits)
-decided ids bytes patch limits = subst IsDecided (sym (tested ids bytes patch limits)) (by_each (same_id patch.prev (last_of ids)) (version_in ids patch.id))
+decided ids bytes patch limits = subst IsDecided (sym (tested ids bytes patch limits)) (by_each (same_id patch.prev (last_of ids)) (version_among ids patch.id))
   where
     by_size : (full long : Bool) → IsDecided (by_limits ids bytes patch limits full long)
     by_size true long = tt

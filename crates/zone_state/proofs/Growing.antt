@@ -13,12 +13,12 @@ use Rattle.chain_core.specs.Links.{IsChain, last_or}
 use Rattle.chain_core.specs.Patches.{links_of, texts_of, version_of, last_id, journal_length}
 use Rattle.chain_core.proofs.Stays.{links-push, short-push}
 use Rattle.chain_core.proofs.Patches.{length-push}
-use Rattle.patch_meaning.specs.Checked.{CheckedPatch, AreChecked, texts, meanings}
+use Rattle.patch_meaning.specs.Checked.{CheckedPatch, AreChecked, checked_texts, meanings}
 use Rattle.patch_meaning.specs.Patch.{Meaning, IsPatch}
 use Rattle.patch_meaning.specs.Replay.{replay, replay_from}
 use Rattle.patch_log.specs.Log.{bare}
-use Rattle.zone_state.specs.Brief.{brief_of, with_patch, id_of, last_of, version_in, file_length}
-use Rattle.zone_state.specs.Zone.{AreTaken}
+use Rattle.zone_state.specs.Brief.{brief_of, with_patch, id_taken, last_of, version_among, file_length}
+use Rattle.zone_state.specs.Zone.{AreTakenPatches}
 use Rattle.zone_state.proofs.Decisions.{CanBeTaken}
 use Rattle.std.specs.List.{AllByRecursion}
 
@@ -33,38 +33,38 @@ meanings-push taken patch = map-append (λ (p : CheckedPatch). p.meaning) taken 
 
 pub brief-push : (taken : List CheckedPatch) (patch : CheckedPatch) → brief_of (taken ++ patch ∷ []) ≡ with_patch (brief_of taken) patch
 brief-push taken patch =
-    let ids = map-append id_of taken (patch ∷ []) in
+    let ids = map-append id_taken taken (patch ∷ []) in
     let bytes : sum_by (λ (p : CheckedPatch). length p.text) (taken ++ patch ∷ []) ≡ sum_by (λ (p : CheckedPatch). length p.text) taken + length patch.text = omega (arith, sum_by-append (λ (p : CheckedPatch). length p.text) taken (patch ∷ [])) in
     let contents : replay (meanings (taken ++ patch ∷ [])) ≡ apply patch.meaning.changes (replay (meanings taken)) = ap replay (meanings-push taken patch) ∙ replay-push (meanings taken) patch.meaning empty in
     ap (λ (is : List Id). record { ids = is; bytes = sum_by (λ (p : CheckedPatch). length p.text) (taken ++ patch ∷ []); contents = replay (meanings (taken ++ patch ∷ [])) }) ids
-    ∙ ap (λ (n : ℕ). record { ids = map id_of taken ++ patch.meaning.id ∷ []; bytes = n; contents = replay (meanings (taken ++ patch ∷ [])) }) bytes
-    ∙ ap (λ (d : Dataset). record { ids = map id_of taken ++ patch.meaning.id ∷ []; bytes = sum_by (λ (p : CheckedPatch). length p.text) taken + length patch.text; contents = d }) contents
+    ∙ ap (λ (n : ℕ). record { ids = map id_taken taken ++ patch.meaning.id ∷ []; bytes = n; contents = replay (meanings (taken ++ patch ∷ [])) }) bytes
+    ∙ ap (λ (d : Dataset). record { ids = map id_taken taken ++ patch.meaning.id ∷ []; bytes = sum_by (λ (p : CheckedPatch). length p.text) taken + length patch.text; contents = d }) contents
 
 -- ---- patches without their changes
 
 pub bare-push : (taken : List CheckedPatch) (patch : CheckedPatch) → map bare (taken ++ patch ∷ []) ≡ map bare taken ++ bare patch ∷ []
 bare-push taken patch = map-append bare taken (patch ∷ [])
 
-pub bare_texts : (taken : List CheckedPatch) → texts_of (map bare taken) ≡ texts taken
+pub bare_texts : (taken : List CheckedPatch) → texts_of (map bare taken) ≡ checked_texts taken
 bare_texts [] = refl
 bare_texts (patch ∷ taken) = ap (λ (ts : List (List ℕ)). patch.text ∷ ts) (bare_texts taken)
 
-pub texts-push : (taken : List CheckedPatch) (patch : CheckedPatch) → texts (taken ++ patch ∷ []) ≡ texts taken ++ patch.text ∷ []
+pub texts-push : (taken : List CheckedPatch) (patch : CheckedPatch) → checked_texts (taken ++ patch ∷ []) ≡ checked_texts taken ++ patch.text ∷ []
 texts-push taken patch = map-append (λ (p : CheckedPatch). p.text) taken (patch ∷ [])
 
-pub bare_versions : (taken : List CheckedPatch) (id : Id) → version_of (map bare taken) id ≡ version_in (map id_of taken) id
+pub bare_versions : (taken : List CheckedPatch) (id : Id) → version_of (map bare taken) id ≡ version_among (map id_taken taken) id
 bare_versions [] id = refl
 bare_versions (patch ∷ taken) id = ap (λ (later : Option ℕ). cond (eqb patch.meaning.id.0 id.0) (Some 1) (option_map (λ version. version + 1) later)) (bare_versions taken id)
 
 -- the id of the last one is that of the last link
-last_behind : (head : Option Id) (taken : List CheckedPatch) → 0 < length taken → slice_get (map id_of taken) (length (map id_of taken) - 1) ≡ last_or head (links_of (map bare taken))
+last_behind : (head : Option Id) (taken : List CheckedPatch) → 0 < length taken → slice_get (map id_taken taken) (length (map id_taken taken) - 1) ≡ last_or head (links_of (map bare taken))
 last_behind head [] some = absurd (omega arith)
 last_behind head (patch ∷ []) some = refl
 last_behind head (patch ∷ (next ∷ taken)) some =
-    let at : length (map id_of (patch ∷ (next ∷ taken))) - 1 ≡ suc (length (map id_of (next ∷ taken)) - 1) = omega arith in
-    ap (λ (n : ℕ). slice_get (map id_of (patch ∷ (next ∷ taken))) n) at ∙ last_behind (Some patch.meaning.id) (next ∷ taken) (omega arith)
+    let at : length (map id_taken (patch ∷ (next ∷ taken))) - 1 ≡ suc (length (map id_taken (next ∷ taken)) - 1) = omega arith in
+    ap (λ (n : ℕ). slice_get (map id_taken (patch ∷ (next ∷ taken))) n) at ∙ last_behind (Some patch.meaning.id) (next ∷ taken) (omega arith)
 
-pub bare_last : (taken : List CheckedPatch) → last_id (map bare taken) ≡ last_of (map id_of taken)
+pub bare_last : (taken : List CheckedPatch) → last_id (map bare taken) ≡ last_of (map id_taken taken)
 bare_last [] = refl
 bare_last (patch ∷ taken) = sym (last_behind None (patch ∷ taken) (omega arith))
 
@@ -72,7 +72,7 @@ bare_last (patch ∷ taken) = sym (last_behind None (patch ∷ taken) (omega ari
 abbrev framed : List ℕ → ℕ
 framed text = PAYLOAD_FRAME + length text
 
-pub bare_length : (taken : List CheckedPatch) → journal_length (map bare taken) ≡ file_length (map id_of taken) (sum_by (λ (p : CheckedPatch). length p.text) taken)
+pub bare_length : (taken : List CheckedPatch) → journal_length (map bare taken) ≡ file_length (map id_taken taken) (sum_by (λ (p : CheckedPatch). length p.text) taken)
 bare_length [] = refl
 bare_length (patch ∷ taken) = omega (arith, bare_length taken, sum_by-cons framed patch.text (texts_of (map bare taken)), sum_by-cons (λ (p : CheckedPatch). length p.text) patch taken)
 
@@ -82,12 +82,12 @@ pub checked-push : (taken : List CheckedPatch) (patch : CheckedPatch) → AreChe
 checked-push [] patch all one = (one, tt)
 checked-push (first ∷ taken) patch all one = (all.0, checked-push taken patch all.1 one)
 
-pub chain-push : (taken : List CheckedPatch) (patch : CheckedPatch) → IsChain (links_of (map bare taken)) → patch.meaning.prev ≡ last_of (map id_of taken) → version_in (map id_of taken) patch.meaning.id ≡ None → IsChain (links_of (map bare (taken ++ patch ∷ [])))
+pub chain-push : (taken : List CheckedPatch) (patch : CheckedPatch) → IsChain (links_of (map bare taken)) → patch.meaning.prev ≡ last_of (map id_taken taken) → version_among (map id_taken taken) patch.meaning.id ≡ None → IsChain (links_of (map bare (taken ++ patch ∷ [])))
 chain-push taken patch chain follows new =
     subst (λ (ps : List Patch). IsChain (links_of ps)) (sym (bare-push taken patch)) (links-push (map bare taken) (bare patch) chain (follows ∙ sym (bare_last taken)) (bare_versions taken patch.meaning.id ∙ new))
 
-pub taken-push : (limits : LogLimits) (taken : List CheckedPatch) (patch : CheckedPatch) → AreTaken limits taken → IsPatch patch.text patch.meaning
-    → CanBeTaken (brief_of taken).ids (brief_of taken).bytes (bare patch) limits → AreTaken limits (taken ++ patch ∷ [])
+pub taken-push : (limits : LogLimits) (taken : List CheckedPatch) (patch : CheckedPatch) → AreTakenPatches limits taken → IsPatch patch.text patch.meaning
+    → CanBeTaken (brief_of taken).ids (brief_of taken).bytes (bare patch) limits → AreTakenPatches limits (taken ++ patch ∷ [])
 taken-push limits taken patch are one can =
     let longer = bare-push taken patch in
     let differs = can.place in
@@ -95,7 +95,7 @@ taken-push limits taken patch are one can =
       checked = checked-push taken patch are.checked one;
       log = record {
         chain = chain-push taken patch are.log.chain can.follows can.new;
-        few = omega (arith, are.log.few, differs, length-map (taken ++ patch ∷ []) bare, length-append taken (patch ∷ []), length-map taken id_of, length-map taken bare);
+        few = omega (arith, are.log.few, differs, length-map (taken ++ patch ∷ []) bare, length-append taken (patch ∷ []), length-map taken id_taken, length-map taken bare);
         room = omega (arith, can.room, ap journal_length longer, length-push (map bare taken) (bare patch), bare_length taken);
         short = subst (λ (ps : List Patch). AllByRecursion (λ (p : Patch). length p.text ≤ PATCH_LIMIT) ps) (sym longer) (short-push (map bare taken) (bare patch) are.log.short one.short);
       };

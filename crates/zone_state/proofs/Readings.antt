@@ -19,25 +19,25 @@ use Rattle.patch_meaning.specs.Patch.{Meaning, IsPatch}
 use Rattle.patch_meaning.proofs.Settled.{one_meaning}
 use Rattle.chain_core.specs.Breaks.{BreaksAt}
 use Rattle.patch_log.specs.Log.{bare, IsSound, AreChained}
-use Rattle.patch_log.specs.Opening.{IsNextOf, AreFound as AreFoundEntries}
+use Rattle.patch_log.specs.Opening.{IsNextInLog, AreFoundEntries}
 use Rattle.patch_log.proofs.Openings.{breaks_at}
 use Rattle.zone_state.specs.declared.opening.Reading.{Reading}
-use Rattle.zone_state.specs.Brief.{Brief, with_patch, id_of, last_of, version_in, changes_of}
-use Rattle.zone_state.specs.Next.{IsNext, AreFound}
-use Rattle.zone_state.specs.Opening.{HasRead, MeetsMore, HasReceived}
+use Rattle.zone_state.specs.Brief.{Brief, with_patch, id_taken, last_of, version_among, changes_taken}
+use Rattle.zone_state.specs.Next.{IsNextPatch, AreFoundPatches}
+use Rattle.zone_state.specs.Opening.{HasReadZone, MeetsMore, HasReceived}
 use Rattle.zone_state.specs.State.{brief_in}
 use Rattle.zone_state.proofs.Growing.{brief-push, texts-push, bare_texts, bare_versions, bare_last, checked-push, chain-push}
 
 -- ---- one text
 
 -- a text that is a patch which doesn't go behind the others
-pub not_next : (ids : List Id) (text : List ℕ) (most : ℕ) (read patch : CheckedPatch) → read.text ≡ text → IsPatch read.text read.meaning → ((read.meaning.prev ≡ last_of ids) × (version_in ids read.meaning.id ≡ None) → ⊥)
-    → IsNext ids text most patch → ⊥
+pub not_next : (ids : List Id) (text : List ℕ) (most : ℕ) (read patch : CheckedPatch) → read.text ≡ text → IsPatch read.text read.meaning → ((read.meaning.prev ≡ last_of ids) × (version_among ids read.meaning.id ≡ None) → ⊥)
+    → IsNextPatch ids text most patch → ⊥
 not_next ids text limit read patch text_is is none next =
     let one = subst (λ (t : List ℕ). IsPatch t read.meaning) text_is is in
     let other = subst (λ (t : List ℕ). IsPatch t patch.meaning) next.text_is next.checked in
     let same : read.meaning ≡ patch.meaning = one_meaning text read.meaning patch.meaning one other in
-    none (ap (λ (m : Meaning). m.prev) same ∙ next.follows, ap (λ (m : Meaning). version_in ids m.id) same ∙ next.new)
+    none (ap (λ (m : Meaning). m.prev) same ∙ next.follows, ap (λ (m : Meaning). version_among ids m.id) same ∙ next.new)
 
 -- ---- terms
 
@@ -67,8 +67,8 @@ overflows_now changes more known met are = record { terms = are.terms; met = mee
 
 -- ---- one patch more
 
-changes-push : (taken : List CheckedPatch) (patch : CheckedPatch) → changes_of (taken ++ patch ∷ []) ≡ changes_of taken ++ patch.meaning.changes
-changes-push taken patch = flat_map-append (λ (p : CheckedPatch). p.meaning.changes) taken (patch ∷ []) ∙ ap (λ (cs : List Change). changes_of taken ++ cs) (append-nil patch.meaning.changes)
+changes-push : (taken : List CheckedPatch) (patch : CheckedPatch) → changes_taken (taken ++ patch ∷ []) ≡ changes_taken taken ++ patch.meaning.changes
+changes-push taken patch = flat_map-append (λ (p : CheckedPatch). p.meaning.changes) taken (patch ∷ []) ∙ ap (λ (cs : List Change). changes_taken taken ++ cs) (append-nil patch.meaning.changes)
 
 pub true_or_false : true ≡ false → ⊥
 true_or_false same = cc
@@ -92,20 +92,20 @@ module _ (old mid new : Reading) (patch : CheckedPatch) (meets : MeetsMore old m
       ∙ ap (λ (n : ℕ). record { ids = old.kept.ids.items ++ patch.meaning.id ∷ []; bytes = n; contents = new.kept.contents.contents }) bytes
       ∙ ap (λ (d : Dataset). record { ids = old.kept.ids.items ++ patch.meaning.id ∷ []; bytes = old.kept.bytes + length patch.text; contents = d }) (ap (λ v. v.contents) contents ∙ applied)
 
-  overflow_more : (taken : List CheckedPatch) → HasRead old taken → (was : Bool) → old.full ≡ was → new.full ≡ true → AreMore most (changes_of taken ++ patch.meaning.changes) []
-  overflow_more taken read true was is = overflows_still (changes_of taken) patch.meaning.changes (read.overflow was)
-  overflow_more taken read false was is = overflows_now (changes_of taken) patch.meaning.changes old.kept.contents.terms (read.met was) (meets.overflow was (sym full ∙ is))
+  overflow_more : (taken : List CheckedPatch) → HasReadZone old taken → (was : Bool) → old.full ≡ was → new.full ≡ true → AreMore most (changes_taken taken ++ patch.meaning.changes) []
+  overflow_more taken read true was is = overflows_still (changes_taken taken) patch.meaning.changes (read.overflow was)
+  overflow_more taken read false was is = overflows_now (changes_taken taken) patch.meaning.changes old.kept.contents.terms (read.met was) (meets.overflow was (sym full ∙ is))
 
-  pub has_read_more : (taken : List CheckedPatch) → HasRead old taken → HasRead new (taken ++ patch ∷ [])
+  pub has_read_more : (taken : List CheckedPatch) → HasReadZone old taken → HasReadZone new (taken ++ patch ∷ [])
   has_read_more taken read = record {
-    ids_are = ids ∙ ap (λ (is : List Id). is ++ patch.meaning.id ∷ []) read.ids_are ∙ sym (map-append id_of taken (patch ∷ []));
+    ids_are = ids ∙ ap (λ (is : List Id). is ++ patch.meaning.id ∷ []) read.ids_are ∙ sym (map-append id_taken taken (patch ∷ []));
     whole = λ is. brief_more is ∙ ap (λ (brief : Brief). with_patch brief patch) (read.whole (was_not_full is)) ∙ sym (brief-push taken patch);
     met = λ is. subst (λ (cs : List Change). AreMet cs [] new.kept.contents.terms) (sym (changes-push taken patch))
-        (rw (ap (λ v. v.terms) contents) (meets_both (changes_of taken) patch.meaning.changes [] old.kept.contents.terms mid.kept.contents.terms (read.met (was_not_full is)) (meets.applied (sym full ∙ is)).1));
+        (rw (ap (λ v. v.terms) contents) (meets_both (changes_taken taken) patch.meaning.changes [] old.kept.contents.terms mid.kept.contents.terms (read.met (was_not_full is)) (meets.applied (sym full ∙ is)).1));
     overflow = λ is. subst (λ (cs : List Change). AreMore most cs []) (sym (changes-push taken patch)) (overflow_more taken read old.full refl is);
   }
 
-pub has_read_none : (reading : Reading) → reading.kept.ids.items ≡ [] → reading.kept.bytes ≡ 0 → reading.kept.contents ≡ record { contents = empty; staged = None; terms = [] } → reading.full ≡ false → HasRead reading []
+pub has_read_none : (reading : Reading) → reading.kept.ids.items ≡ [] → reading.kept.bytes ≡ 0 → reading.kept.contents ≡ record { contents = empty; staged = None; terms = [] } → reading.full ≡ false → HasReadZone reading []
 has_read_none reading ids bytes contents full = record {
   ids_are = ids;
   whole = λ is.
@@ -133,7 +133,7 @@ by_nobody : (taken : List CheckedPatch) → AllByRecursion (λ (entry : Entry). 
 by_nobody [] = tt
 by_nobody (patch ∷ taken) = (refl, by_nobody taken)
 
-as_entries : (found : List (List ℕ)) (most : ℕ) (taken : List CheckedPatch) → AreFound found most taken → AreFoundEntries found most (map brought taken)
+as_entries : (found : List (List ℕ)) (most : ℕ) (taken : List CheckedPatch) → AreFoundPatches found most taken → AreFoundEntries found most (map brought taken)
 as_entries found most taken are = record {
   texts_are = ap texts_of (patches_brought taken) ∙ bare_texts taken ∙ are.texts_are;
   sound = subst (λ (ps : List Patch). AllByRecursion IsSound ps) (sym (patches_brought taken)) (sound_checked taken are.checked);
@@ -143,33 +143,33 @@ as_entries found most taken are = record {
 }
 
 -- where no patch is the next one, the texts break there
-pub breaks : (found : List (List ℕ)) (text : List ℕ) (rest : List (List ℕ)) (most : ℕ) (taken : List CheckedPatch) → AreFound found most taken
-    → ((patch : CheckedPatch) → IsNext (map id_of taken) text most patch → ⊥) → BreaksAt (AreChained most) (found ++ text ∷ rest) (length taken + 1)
+pub breaks : (found : List (List ℕ)) (text : List ℕ) (rest : List (List ℕ)) (most : ℕ) (taken : List CheckedPatch) → AreFoundPatches found most taken
+    → ((patch : CheckedPatch) → IsNextPatch (map id_taken taken) text most patch → ⊥) → BreaksAt (AreChained most) (found ++ text ∷ rest) (length taken + 1)
 breaks found text rest most taken are none =
     let count : length (map brought taken) ≡ length taken = length-map taken brought in
     subst (λ (n : ℕ). BreaksAt (AreChained most) (found ++ text ∷ rest) (n + 1)) count (breaks_at found text rest most (map brought taken) (as_entries found most taken are) no_entry)
   where
-    no_entry : (patch : Patch) → IsNextOf (patches_of (map brought taken)) text most patch → ⊥
+    no_entry : (patch : Patch) → IsNextInLog (patches_of (map brought taken)) text most patch → ⊥
     no_entry patch next =
-        let one = subst (λ (ps : List Patch). IsNextOf ps text most patch) (patches_brought taken) next in
+        let one = subst (λ (ps : List Patch). IsNextInLog ps text most patch) (patches_brought taken) next in
         let on = one.goes_on in
         none (record { text = patch.text; meaning = record { id = patch.id; prev = patch.prev; changes = on.sound.0 } }) (record {
           text_is = on.text_is;
           checked = on.sound.1;
           follows = on.follows ∙ bare_last taken;
           new = sym (bare_versions taken patch.id) ∙ one.new;
-          few = omega (arith, on.few, length-map taken bare, length-map taken id_of);
+          few = omega (arith, on.few, length-map taken bare, length-map taken id_taken);
         })
 
-pub found_none : (most : ℕ) → AreFound [] most []
+pub found_none : (most : ℕ) → AreFoundPatches [] most []
 found_none most = record { texts_are = refl; checked = tt; chain = record { follow = tt; differ = tt }; few = omega arith }
 
-pub found_more : (found : List (List ℕ)) (text : List ℕ) (most : ℕ) (taken : List CheckedPatch) (patch : CheckedPatch) → AreFound found most taken → IsNext (map id_of taken) text most patch → AreFound (found ++ text ∷ []) most (taken ++ patch ∷ [])
+pub found_more : (found : List (List ℕ)) (text : List ℕ) (most : ℕ) (taken : List CheckedPatch) (patch : CheckedPatch) → AreFoundPatches found most taken → IsNextPatch (map id_taken taken) text most patch → AreFoundPatches (found ++ text ∷ []) most (taken ++ patch ∷ [])
 found_more found text most taken patch are next = record {
   texts_are = texts-push taken patch ∙ ap (λ (ts : List (List ℕ)). ts ++ patch.text ∷ []) are.texts_are ∙ ap (λ (t : List ℕ). found ++ t ∷ []) next.text_is;
   checked = checked-push taken patch are.checked next.checked;
   chain = chain-push taken patch are.chain next.follows next.new;
-  few = omega (arith, next.few, length-map taken id_of, length-append taken (patch ∷ []));
+  few = omega (arith, next.few, length-map taken id_taken, length-append taken (patch ∷ []));
 }
 
 -- ---- what was received
@@ -177,12 +177,12 @@ found_more found text most taken patch are next = record {
 module _ (first old new : Reading) (payloads : List (List ℕ)) (text : List ℕ) (has : HasReceived first payloads old) where
   -- a payload that is the next patch
   pub received_more : old.broken ≡ false → new.broken ≡ old.broken → new.most ≡ old.most
-      → ((patch : CheckedPatch) × IsNext old.kept.ids.items text old.most patch × ((taken : List CheckedPatch) → HasRead old taken → HasRead new (taken ++ patch ∷ [])))
+      → ((patch : CheckedPatch) × IsNextPatch old.kept.ids.items text old.most patch × ((taken : List CheckedPatch) → HasReadZone old taken → HasReadZone new (taken ++ patch ∷ [])))
       → HasReceived first (payloads ++ text ∷ []) new
   received_more whole still same added =
       let found = has.found whole in
       let read = found.2 in
-      let next = subst (λ (n : ℕ). IsNext (map id_of found.0) text n added.0) has.most_is (subst (λ (ids : List Id). IsNext ids text old.most added.0) read.ids_are added.1) in
+      let next = subst (λ (n : ℕ). IsNextPatch (map id_taken found.0) text n added.0) has.most_is (subst (λ (ids : List Id). IsNextPatch ids text old.most added.0) read.ids_are added.1) in
       record {
         most_is = same ∙ has.most_is;
         found = λ is. (found.0 ++ added.0 ∷ [], found_more payloads text first.most found.0 added.0 found.1 next, added.2 found.0 read);
@@ -191,13 +191,13 @@ module _ (first old new : Reading) (payloads : List (List ℕ)) (text : List ℕ
 
   -- one that isn't
   pub received_broken : old.broken ≡ false → new.broken ≡ true → new.most ≡ old.most → new.kept.ids.items ≡ old.kept.ids.items
-      → ((patch : CheckedPatch) → IsNext old.kept.ids.items text old.most patch → ⊥) → HasReceived first (payloads ++ text ∷ []) new
+      → ((patch : CheckedPatch) → IsNextPatch old.kept.ids.items text old.most patch → ⊥) → HasReceived first (payloads ++ text ∷ []) new
   received_broken whole broken same ids none =
       let found = has.found whole in
       let read = found.2 in
-      let count : length found.0 + 1 ≡ length new.kept.ids.items + 1 = omega (arith, ap length ids, ap length read.ids_are, length-map found.0 id_of) in
-      let no_next = λ (patch : CheckedPatch) (next : IsNext (map id_of found.0) text first.most patch).
-      none patch (subst (λ (n : ℕ). IsNext old.kept.ids.items text n patch) (sym has.most_is) (subst (λ (is : List Id). IsNext is text first.most patch) (sym read.ids_are) next)) in
+      let count : length found.0 + 1 ≡ length new.kept.ids.items + 1 = omega (arith, ap length ids, ap length read.ids_are, length-map found.0 id_taken) in
+      let no_next = λ (patch : CheckedPatch) (next : IsNextPatch (map id_taken found.0) text first.most patch).
+      none patch (subst (λ (n : ℕ). IsNextPatch old.kept.ids.items text n patch) (sym has.most_is) (subst (λ (is : List Id). IsNextPatch is text first.most patch) (sym read.ids_are) next)) in
       record {
         most_is = same ∙ has.most_is;
         found = λ is. absurd (true_and_false new.broken broken is);

@@ -16,12 +16,12 @@ pub record Brief : Type 0 where
   pub bytes : ℕ
   pub contents : Dataset
 
-abbrev pub id_of : CheckedPatch → Id
-id_of patch = patch.meaning.id
+abbrev pub id_taken : CheckedPatch → Id
+id_taken patch = patch.meaning.id
 
 abbrev pub brief_of : List CheckedPatch → Brief
 brief_of taken = record {
-  ids = map id_of taken;
+  ids = map id_taken taken;
   bytes = sum_by (λ patch. length patch.text) taken;
   contents = replay (meanings taken);
 }
@@ -35,18 +35,18 @@ with_patch brief patch = record {
 }
 
 -- the changes of patches, one after another
-abbrev pub changes_of : List CheckedPatch → List Change
-changes_of taken = flat_map (λ patch. patch.meaning.changes) taken
+abbrev pub changes_taken : List CheckedPatch → List Change
+changes_taken taken = flat_map (λ patch. patch.meaning.changes) taken
 
 -- the id of the last one
 abbrev pub last_of : List Id → Option Id
 last_of ids = slice_get ids (length ids - 1)
 
 -- the version of the patch with this id, counted from 1
-abbrev pub version_in : List Id → Id → Option ℕ
-version_in [] id = None
-version_in (first ∷ ids) id =
-    if first.0 == id.0 then Some 1 else option_map (λ version. version + 1) (version_in ids id)
+abbrev pub version_among : List Id → Id → Option ℕ
+version_among [] id = None
+version_among (first ∷ ids) id =
+    if first.0 == id.0 then Some 1 else option_map (λ version. version + 1) (version_among ids id)
 
 -- the length of a journal that holds patches with these ids and so many bytes
 abbrev pub file_length : List Id → ℕ → ℕ

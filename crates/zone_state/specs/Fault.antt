@@ -4,23 +4,23 @@ use Rattle.delta_base.specs.declared.limits.LogLimits.{LogLimits}
 use Rattle.term_table.specs.Table.{most}
 use Rattle.dataset_tx.specs.Held.{AreMore}
 use Rattle.log_journal.specs.File.{Holds}
-use Rattle.patch_meaning.specs.Checked.{CheckedPatch, texts}
+use Rattle.patch_meaning.specs.Checked.{CheckedPatch, checked_texts}
 use Rattle.patch_log.specs.declared.fault.LogFault.{LogFault}
 use Rattle.patch_log.specs.declared.fault.LogFault.TheVariants as log
 use Rattle.patch_log.specs.Fault.{HasLogFault}
 use Rattle.zone_state.specs.declared.fault.ZoneFault.{ZoneFault}
 use Rattle.zone_state.specs.declared.fault.ZoneFault.TheVariants as zone
-use Rattle.zone_state.specs.Brief.{changes_of}
-use Rattle.zone_state.specs.Zone.{zone_number, AreTaken}
+use Rattle.zone_state.specs.Brief.{changes_taken}
+use Rattle.zone_state.specs.Zone.{zone_number, AreTakenPatches}
 
 -- a fault of a log, as one of a zone
-abbrev pub of_log : LogFault → ZoneFault
-of_log log.Failed = zone.Failed
-of_log (log.Damaged at) = zone.Damaged at
-of_log (log.WrongNumber found) = zone.WrongNumber found
-of_log (log.OverLimit length limit) = zone.OverLimit length limit
-of_log log.OutOfMemory = zone.OutOfMemory
-of_log (log.BrokenChain version) = zone.BrokenChain version
+abbrev pub zone_fault : LogFault → ZoneFault
+zone_fault log.Failed = zone.Failed
+zone_fault (log.Damaged at) = zone.Damaged at
+zone_fault (log.WrongNumber found) = zone.WrongNumber found
+zone_fault (log.OverLimit length limit) = zone.OverLimit length limit
+zone_fault log.OutOfMemory = zone.OutOfMemory
+zone_fault (log.BrokenChain version) = zone.BrokenChain version
 
 -- The file has this fault, and none that comes before it: those of a log, and then that its patches
 -- have more terms than there are numbers. What a file can't tell is free: that its disk failed, and
@@ -35,7 +35,7 @@ HasZoneFault file limits (zone.OverLimit length limit) =
 HasZoneFault file limits (zone.BrokenChain version) =
     HasLogFault file zone_number limits (log.BrokenChain version)
 HasZoneFault file limits zone.TermsFull =
-    (taken : List CheckedPatch) × Holds file zone_number (texts taken)
-    × AreTaken limits taken × AreMore most (changes_of taken) []
+    (taken : List CheckedPatch) × Holds file zone_number (checked_texts taken)
+    × AreTakenPatches limits taken × AreMore most (changes_taken taken) []
 HasZoneFault file limits zone.Failed = Unit {0}
 HasZoneFault file limits zone.OutOfMemory = Unit {0}

@@ -8,16 +8,16 @@ use Rattle.chain_core.specs.Breaks.{BreaksAt}
 use Rattle.patch_meaning.specs.Checked.{CheckedPatch}
 use Rattle.patch_log.specs.Log.{AreChained}
 use Rattle.zone_state.specs.declared.opening.Reading.{Reading}
-use Rattle.zone_state.specs.Brief.{brief_of, id_of, changes_of}
-use Rattle.zone_state.specs.Next.{AreFound}
+use Rattle.zone_state.specs.Brief.{brief_of, id_taken, changes_taken}
+use Rattle.zone_state.specs.Next.{AreFoundPatches}
 use Rattle.zone_state.specs.State.{brief_in}
 
 -- these patches were read; the dataset is theirs unless they have too many terms
-pub record HasRead (reading : Reading) (taken : List CheckedPatch) : Type 0 where
-  pub ids_are : reading.kept.ids.items ≡ map id_of taken
+pub record HasReadZone (reading : Reading) (taken : List CheckedPatch) : Type 0 where
+  pub ids_are : reading.kept.ids.items ≡ map id_taken taken
   pub whole : reading.full ≡ false → brief_in reading.kept ≡ brief_of taken
-  pub met : reading.full ≡ false → AreMet (changes_of taken) [] reading.kept.contents.terms
-  pub overflow : reading.full ≡ true → AreMore most (changes_of taken) []
+  pub met : reading.full ≡ false → AreMet (changes_taken taken) [] reading.kept.contents.terms
+  pub overflow : reading.full ≡ true → AreMore most (changes_taken taken) []
 
 -- the changes were applied, or have too many terms, or those before had
 pub record MeetsMore (old new : Reading) (changes : List Change) : Type 0 where
@@ -33,6 +33,6 @@ pub record HasReceived (first : Reading) (payloads : List (List ℕ))
     (reading : Reading) : Type 0 where
   pub most_is : reading.most ≡ first.most
   pub found : reading.broken ≡ false → (taken : List CheckedPatch)
-      × AreFound payloads first.most taken × HasRead reading taken
+      × AreFoundPatches payloads first.most taken × HasReadZone reading taken
   pub breaks : reading.broken ≡ true
       → BreaksAt (AreChained first.most) payloads (length reading.kept.ids.items + 1)

@@ -25,7 +25,7 @@ view_of journal kept limits = record {
 
 -- the journal's length and limit are those of the patches taken, nothing is staged, and the zone
 -- stands for some patches
-pub record IsKept {D : Type 0} {disks : Ghosts D} (journal : Journal D disks) (kept : Kept)
+pub record IsZoneKept {D : Type 0} {disks : Ghosts D} (journal : Journal D disks) (kept : Kept)
     (limits : LogLimits) : Type 0 where
   pub length_is : length_of journal ≡ file_length kept.ids.items kept.bytes
   pub limit_is : limit_of journal ≡ limits.bytes

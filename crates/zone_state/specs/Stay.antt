@@ -5,11 +5,11 @@ use Rattle.disk_model.specs.Past.{ok_syncs}
 use Rattle.chain_core.specs.declared.fate.Fate.{Fate}
 use Rattle.chain_core.specs.Stay.{fate_by_syncs, fate_by_plan}
 use Rattle.patch_meaning.specs.Checked.{CheckedPatch}
-use Rattle.patch_log.specs.Log.{bare, LeavesEither}
+use Rattle.patch_log.specs.Log.{bare, LeavesEitherChain}
 use Rattle.zone_state.specs.declared.answer.TakeAnswer.{TakeAnswer}
 use Rattle.zone_state.specs.declared.answer.TakeAnswer.TheVariants.{Applied}
 use Rattle.zone_state.specs.Taking.{taking, taken_then, TakeStay}
-use Rattle.zone_state.specs.Zone.{ZoneView, StandsForZone, zone_number, doubt_of, point_of}
+use Rattle.zone_state.specs.Zone.{ZoneView, StandsForZone, zone_number, doubt_of, zone_point}
 
 -- what a zone makes of the patch
 abbrev pub decided : {D : Type 0} → ZoneView D → CheckedPatch → TakeAnswer
@@ -26,7 +26,7 @@ pub record TookOne {D : Type 0} (disks : Ghosts D) (before after : ZoneView D)
   -- the disk chose the fate; that of the next patch is that of the syncs which were done
   pub fate : Fate
   pub stay : TakeStay (decided before patch) (map bare taken) (doubt_of doubt) (bare patch) fate
-      (point_of (taken_then answer taken patch) left) answer
+      (zone_point (taken_then answer taken patch) left) answer
   pub by_syncs : disks.tells → (version : ℕ) → decided before patch ≡ Applied version
       → fate ≡ fate_by_syncs doubt
       (ok_syncs (disks.past after.disk) - ok_syncs (disks.past before.disk))
@@ -35,8 +35,8 @@ pub record TookOne {D : Type 0} (disks : Ghosts D) (before after : ZoneView D)
   pub planned : disks.plans → IsTrue (not (disks.short after.disk))
       → TakeStay (decided before patch) (map bare taken) (doubt_of doubt) (bare patch)
       (fate_by_plan doubt (disks.next_failure before.disk))
-      (point_of (taken_then answer taken patch) left) answer
+      (zone_point (taken_then answer taken patch) left) answer
   pub images : disks.plans → disks.tells → IsTrue (not (disks.short after.disk))
-      → LeavesEither (disks.past before.disk) zone_number (map bare taken) (doubt_of doubt)
-      → LeavesEither (disks.past after.disk) zone_number
+      → LeavesEitherChain (disks.past before.disk) zone_number (map bare taken) (doubt_of doubt)
+      → LeavesEitherChain (disks.past after.disk) zone_number
       (map bare (taken_then answer taken patch)) (doubt_of left)

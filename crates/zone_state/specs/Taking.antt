@@ -18,7 +18,7 @@ use Rattle.zone_state.specs.declared.answer.TakeAnswer.{TakeAnswer}
 use Rattle.zone_state.specs.declared.answer.TakeAnswer.TheVariants.{Applied, Diverged}
 use Rattle.zone_state.specs.declared.answer.TakeAnswer.TheVariants.{Repeated, Full, TermsFull}
 use Rattle.zone_state.specs.declared.answer.TakeAnswer.TheVariants.{OutOfMemory, DiskFault}
-use Rattle.zone_state.specs.Brief.{last_of, version_in, file_length}
+use Rattle.zone_state.specs.Brief.{last_of, version_among, file_length}
 
 -- of a patch whose id is new
 abbrev pub within_limits : List Id → ℕ → Patch → LogLimits → TakeAnswer
@@ -37,7 +37,7 @@ unless_repeated None ids bytes patch limits = within_limits ids bytes patch limi
 unfoldable pub taking : List Id → ℕ → Patch → LogLimits → TakeAnswer
 taking ids bytes patch limits =
     if not (same_id patch.prev (last_of ids)) then Diverged (last_of ids) patch.prev
-    else unless_repeated (version_in ids patch.id) ids bytes patch limits
+    else unless_repeated (version_among ids patch.id) ids bytes patch limits
 
 -- what an append answers to the device, as a zone tells it
 abbrev pub told_by : LogAnswer → TakeAnswer
@@ -59,8 +59,8 @@ TakeStay decided taken doubt patch fate after answer =
     taken_by decided fate taken doubt patch ≡ (after, Some answer)
 
 -- the patch is the next one, and what it needs isn't there: numbers for its terms, or memory
-abbrev pub IsWant : TakeAnswer → TakeAnswer → Type 0
-IsWant decided answer =
+abbrev pub WantsForTaking : TakeAnswer → TakeAnswer → Type 0
+WantsForTaking decided answer =
     ((version : ℕ) × (decided ≡ Applied version))
     × ((answer ≡ TermsFull) ⊎ (answer ≡ OutOfMemory))
 

@@ -7,7 +7,7 @@ use Rattle.log_journal.specs.Journal.{HoldsAll, InDoubt}
 use Rattle.delta_base.specs.declared.limits.LogLimits.{LogLimits}
 use Rattle.chain_core.specs.declared.chain.Patch.{Patch}
 use Rattle.chain_core.specs.Log.{IsLog, LogPoint, up}
-use Rattle.patch_meaning.specs.Checked.{CheckedPatch, AreChecked, texts}
+use Rattle.patch_meaning.specs.Checked.{CheckedPatch, AreChecked, checked_texts}
 use Rattle.patch_log.specs.Log.{bare}
 use Rattle.zone_state.specs.declared.file.TheConstants.{ZONE_NUMBER}
 use Rattle.zone_state.specs.Brief.{Brief, brief_of, file_length}
@@ -26,7 +26,7 @@ pub record ZoneView (D : Type 0) : Type 0 where
   pub disk : D
 
 -- patches that their texts are, and a chain within the limits
-pub record AreTaken (limits : LogLimits) (taken : List CheckedPatch) : Type 0 where
+pub record AreTakenPatches (limits : LogLimits) (taken : List CheckedPatch) : Type 0 where
   pub checked : AreChecked taken
   pub log : IsLog limits (map bare taken)
 
@@ -36,8 +36,9 @@ with_doubtful taken (Some doubt) = taken ++ doubt ∷ []
 
 -- in every image stand the texts taken, and the one in doubt stands behind them
 abbrev pub DiskHolds : Past → ℕ → List CheckedPatch → Option CheckedPatch → Type 0
-DiskHolds past end taken None = HoldsAll past end zone_number (texts taken)
-DiskHolds past end taken (Some doubt) = InDoubt past end zone_number (texts taken) doubt.text
+DiskHolds past end taken None = HoldsAll past end zone_number (checked_texts taken)
+DiskHolds past end taken (Some doubt) =
+    InDoubt past end zone_number (checked_texts taken) doubt.text
 
 -- A zone stands for the patches that it took, and for the one whose gate may stand open. Of a disk
 -- that tells nothing, nothing is said.
@@ -45,13 +46,13 @@ pub record StandsForZone {D : Type 0} (tells : Type 0) (past : Past) (zone : Zon
     (taken : List CheckedPatch) (doubt : Option CheckedPatch) : Type 0 where
   pub brief_is : zone.brief ≡ brief_of taken
   pub settled_is : zone.settled ≡ is_none doubt
-  pub without : AreTaken zone.limits taken
-  pub having : AreTaken zone.limits (with_doubtful taken doubt)
+  pub without : AreTakenPatches zone.limits taken
+  pub having : AreTakenPatches zone.limits (with_doubtful taken doubt)
   pub on_disk : tells → DiskHolds past (file_length zone.brief.ids zone.brief.bytes) taken doubt
 
 abbrev pub doubt_of : Option CheckedPatch → Option Patch
 doubt_of doubt = option_map bare doubt
 
 -- the zone as a log that runs
-abbrev pub point_of : List CheckedPatch → Option CheckedPatch → LogPoint
-point_of taken doubt = up (map bare taken) (doubt_of doubt)
+abbrev pub zone_point : List CheckedPatch → Option CheckedPatch → LogPoint
+zone_point taken doubt = up (map bare taken) (doubt_of doubt)

@@ -1,6 +1,6 @@
 //! Ids in the order in which their patches were taken, found without a walk along them.
 ghost use Rattle.std.specs.Prelude.{◌≡◌, ◌+◌, ◌^◌, ◌<◌, ◌≤◌, [], ◌∷◌, ◌++◌, length, OnOk, None};
-ghost use Rattle.zone_state.specs.Brief.{last_of, version_in};
+ghost use Rattle.zone_state.specs.Brief.{last_of, version_among};
 
 use delta_base::{Id, Listing, OutOfMemory};
 use std::alloc::Global;
@@ -21,13 +21,13 @@ impl Model for Ids {
     ghost use Rattle.std.specs.HashMap.{spare};
     ghost use Rattle.delta_base.specs.declared.id.Id.{Id as TheId};
     ghost use Rattle.delta_base.specs.Listed.{Listed};
-    ghost use Rattle.zone_state.specs.Ids.{IsIndexOf};
+    ghost use Rattle.zone_state.specs.Ids.{IsIndexOfIds};
 
     ghost Value = { Listed TheId };
 
     ghost view = { λ s. record { items = s.list.items; spare = s.places } };
 
-    ghost invariant = { λ s. (length s.list.items < 2 ^ 32) × IsIndexOf s.versions s.list.items
+    ghost invariant = { λ s. (length s.list.items < 2 ^ 32) × IsIndexOfIds s.versions s.list.items
         × (s.places ≤ s.list.spare) × (s.places ≤ spare s.versions) };
 }
 
@@ -58,7 +58,7 @@ impl Ids {
 
     /// The version of the patch with an id.
     pub fn version_of(&self, id: Id) -> Option<u32>
-        ensures { result ≡ version_in self.now.items id }
+        ensures { result ≡ version_among self.now.items id }
     {
         self.versions.get(&id.0).copied()
     }
@@ -79,7 +79,7 @@ impl Ids {
     /// Adds an id that is new, in a place that is ready.
     pub fn push(&mut self, id: Id)
         requires ready { 1 ≤ self.old.spare }
-        requires new { version_in self.old.items id ≡ None }
+        requires new { version_among self.old.items id ≡ None }
         requires few { length self.old.items + 1 < 2 ^ 32 }
         ensures items { self.new.items ≡ self.old.items ++ id ∷ [] }
     {

@@ -8,7 +8,7 @@ ghost use Rattle.dataset_tx.specs.Held.{AreMet, AreMore};
 ghost use Rattle.log_journal.specs.Payload.{payload_of};
 ghost use Rattle.patch_log.specs.Log.{bare};
 ghost use Rattle.patch_meaning.specs.Patch.{IsPatch};
-ghost use Rattle.zone_state.specs.Brief.{version_in};
+ghost use Rattle.zone_state.specs.Brief.{version_among};
 ghost use Rattle.zone_state.specs.Taking.{taking, within_limits};
 
 use crate::answer::TakeAnswer;
@@ -129,7 +129,7 @@ impl Kept {
     pub fn commit_staged(&mut self, id: Id, size: u64)
         requires staged { IsSome self.old.contents.staged }
         requires ready { 1 ≤ self.old.ids.spare }
-        requires new { version_in self.old.ids.items id ≡ None }
+        requires new { version_among self.old.ids.items id ≡ None }
         requires few { length self.old.ids.items + 1 < 2 ^ 32 }
         requires short { size ≤ PATCH_LIMIT }
         ensures ids { self.new.ids.items ≡ self.old.ids.items ++ id ∷ [] }
@@ -145,7 +145,7 @@ impl Kept {
     /// Counts a patch that was applied, in a place that is ready. Takes no memory.
     pub fn count(&mut self, id: Id, size: u64)
         requires ready { 1 ≤ self.old.ids.spare }
-        requires new { version_in self.old.ids.items id ≡ None }
+        requires new { version_among self.old.ids.items id ≡ None }
         requires few { length self.old.ids.items + 1 < 2 ^ 32 }
         requires short { size ≤ PATCH_LIMIT }
         ensures ids { self.new.ids.items ≡ self.old.ids.items ++ id ∷ [] }

@@ -13,7 +13,8 @@ ghost use Rattle.patch_log.specs.Log.{bare, IsSoundLog, StandsForLog};
 ghost use Rattle.zone_state.specs.declared.answer.TakeAnswer.TheVariants.{Applied};
 ghost use Rattle.zone_state.specs.Brief.{brief_of};
 ghost use Rattle.zone_state.specs.Taking.{taking, taken_by};
-ghost use Rattle.zone_state.specs.Zone.{ZoneView, AreTaken, StandsForZone, zone_number, doubt_of};
+ghost use Rattle.zone_state.specs.Zone.{ZoneView, AreTakenPatches, StandsForZone, zone_number};
+ghost use Rattle.zone_state.specs.Zone.{doubt_of};
 
 use disk_model::Disk;
 
@@ -31,7 +32,7 @@ pub fn zones_decide_as_logs()
 
 /// Patches that were taken are a log, and the disk of a zone stands for it.
 pub fn zones_stand_as_logs<D: Disk>()
-    ensures taken { (limits : LogLimits) (taken : List CheckedPatch) → AreTaken limits taken
+    ensures taken { (limits : LogLimits) (taken : List CheckedPatch) → AreTakenPatches limits taken
         → IsSoundLog limits (map bare taken) }
     ensures stands { D.tells → (past : Past) (zone : ZoneView D)
         (taken : List CheckedPatch) (doubt : Option CheckedPatch)

@@ -7,8 +7,8 @@ ghost use Rattle.chain_core.specs.Breaks.{BreaksAt};
 ghost use Rattle.patch_meaning.specs.Checked.{CheckedPatch};
 ghost use Rattle.patch_meaning.specs.Patch.{IsPatch};
 ghost use Rattle.patch_log.specs.Log.{AreChained};
-ghost use Rattle.zone_state.specs.Brief.{last_of, version_in, brief_of, changes_of};
-ghost use Rattle.zone_state.specs.Next.{IsNext, AreFound};
+ghost use Rattle.zone_state.specs.Brief.{last_of, version_among, brief_of, changes_taken};
+ghost use Rattle.zone_state.specs.Next.{IsNextPatch, AreFoundPatches};
 ghost use Rattle.zone_state.specs.State.{brief_in};
 
 use crate::fault::ZoneFault;
@@ -53,16 +53,16 @@ fn read_patch(alloc: Global, text: &[u8]) -> Result<Checked, NextFault>
 // Whether it names the last patch, and its id is new.
 fn follows(ids: &Ids, id: Id, prev: Option<Id>) -> bool
     ensures { IsTrue result
-        ↔ ((prev ≡ last_of ids.now.items) × (version_in ids.now.items id ≡ None)) }
+        ↔ ((prev ≡ last_of ids.now.items) × (version_among ids.now.items id ≡ None)) }
 {
     prev == ids.last() && ids.version_of(id).is_none()
 }
 
 // The patch that a text is, if it goes behind those with these ids.
 fn next_patch(alloc: Global, ids: &Ids, text: &[u8], most: u32) -> Result<Checked, NextFault>
-    ensures ok { IfOk result (λ patch. IsNext ids.now.items text.now most patch) }
+    ensures ok { IfOk result (λ patch. IsNextPatch ids.now.items text.now most patch) }
     ensures broken { IsErrOf result NextFault.Broken
-        → (patch : CheckedPatch) → IsNext ids.now.items text.now most patch → ⊥ }
+        → (patch : CheckedPatch) → IsNextPatch ids.now.items text.now most patch → ⊥ }
 {
     if ids.len() >= most {
         return Err(NextFault::Broken);
@@ -78,7 +78,7 @@ fn next_patch(alloc: Global, ids: &Ids, text: &[u8], most: u32) -> Result<Checke
 }
 
 impl Reading {
-    ghost use Rattle.zone_state.specs.Opening.{HasRead, MeetsMore, HasReceived};
+    ghost use Rattle.zone_state.specs.Opening.{HasReadZone, MeetsMore, HasReceived};
 
     /// Of no payloads. There may be so many patches.
     pub fn new(alloc: Global, most: u32) -> Reading
@@ -118,10 +118,10 @@ impl Reading {
 
     // Adds a patch that goes behind those that were read.
     fn add(&mut self, patch: &Checked) -> Result<(), OutOfMemory>
-        requires new { version_in self.old.kept.ids.items patch.now.meaning.id ≡ None }
+        requires new { version_among self.old.kept.ids.items patch.now.meaning.id ≡ None }
         requires few { length self.old.kept.ids.items + 1 < 2 ^ 32 }
-        ensures ok { OnOk result ((taken : List CheckedPatch) → HasRead self.old taken
-            → HasRead self.new (taken ++ patch.now ∷ [])) }
+        ensures ok { OnOk result ((taken : List CheckedPatch) → HasReadZone self.old taken
+            → HasReadZone self.new (taken ++ patch.now ∷ [])) }
         ensures most { self.new.most ≡ self.old.most }
         ensures broken { self.new.broken ≡ self.old.broken }
     {
@@ -134,11 +134,11 @@ impl Reading {
     // Adds the patch of a payload, if it goes behind those that were read.
     fn add_next(&mut self, text: &Bytes) -> Result<(), NextFault>
         ensures ok { OnOk result ((patch : CheckedPatch)
-            × IsNext self.old.kept.ids.items text.now self.old.most patch
-            × ((taken : List CheckedPatch) → HasRead self.old taken
-            → HasRead self.new (taken ++ patch ∷ []))) }
+            × IsNextPatch self.old.kept.ids.items text.now self.old.most patch
+            × ((taken : List CheckedPatch) → HasReadZone self.old taken
+            → HasReadZone self.new (taken ++ patch ∷ []))) }
         ensures none { IsErrOf result NextFault.Broken → (patch : CheckedPatch)
-            → IsNext self.old.kept.ids.items text.now self.old.most patch → ⊥ }
+            → IsNextPatch self.old.kept.ids.items text.now self.old.most patch → ⊥ }
         ensures same { IsErrOf result NextFault.Broken → self.new ≡ self.old }
         ensures most { self.new.most ≡ self.old.most }
         ensures broken { self.new.broken ≡ self.old.broken }
@@ -160,8 +160,8 @@ impl Reading {
     pub fn finish(self) -> Result<Kept, ZoneFault>
         ensures ok { (first : Reading) (payloads : List (List ℕ)) → HasReceived first payloads self
             → IfOk result (λ kept. (taken : List CheckedPatch)
-            × AreFound payloads first.most taken × (brief_in kept ≡ brief_of taken)
-            × AreMet (changes_of taken) [] kept.contents.terms) }
+            × AreFoundPatches payloads first.most taken × (brief_in kept ≡ brief_of taken)
+            × AreMet (changes_taken taken) [] kept.contents.terms) }
         ensures unstaged { IfOk result (λ kept. kept.contents.staged ≡ None) }
         ensures broken { (first : Reading) (payloads : List (List ℕ))
             → HasReceived first payloads self
@@ -169,8 +169,8 @@ impl Reading {
             → BreaksAt (AreChained first.most) payloads version }
         ensures terms_full { (first : Reading) (payloads : List (List ℕ))
             → HasReceived first payloads self → IsErrOf result ZoneFault.TermsFull
-            → (taken : List CheckedPatch) × AreFound payloads first.most taken
-            × AreMore most (changes_of taken) [] }
+            → (taken : List CheckedPatch) × AreFoundPatches payloads first.most taken
+            × AreMore most (changes_taken taken) [] }
         ensures faults { IfErr result (λ fault.
             ((version : ℕ) × (fault ≡ ZoneFault.BrokenChain version))
             ⊎ (fault ≡ ZoneFault.TermsFull)) }

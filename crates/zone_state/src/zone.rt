@@ -10,10 +10,10 @@ ghost use Rattle.term_table.specs.Table.{most};
 ghost use Rattle.dataset_tx.specs.Held.{AreMet, AreMore};
 ghost use Rattle.dataset_tx.specs.Pattern.{matches};
 ghost use Rattle.dataset_tx.specs.Prefixes.{prefix_change};
-ghost use Rattle.patch_meaning.specs.Checked.{CheckedPatch, texts};
-ghost use Rattle.patch_log.specs.Log.{bare, MayHoldDuring};
-ghost use Rattle.zone_state.specs.Brief.{with_patch, last_of, file_length, changes_of};
-ghost use Rattle.zone_state.specs.Taking.{IsWant, IsDecidedBy};
+ghost use Rattle.patch_meaning.specs.Checked.{CheckedPatch, checked_texts};
+ghost use Rattle.patch_log.specs.Log.{bare, MayHoldChainDuring};
+ghost use Rattle.zone_state.specs.Brief.{with_patch, last_of, file_length, changes_taken};
+ghost use Rattle.zone_state.specs.Taking.{WantsForTaking, IsDecidedBy};
 ghost use Rattle.zone_state.specs.Zone.{zone_number, StandsForZone, doubt_of};
 ghost use Rattle.zone_state.specs.Stay.{decided, TookOne};
 ghost use Rattle.zone_state.specs.Fault.{HasZoneFault};
@@ -47,13 +47,13 @@ pub struct Zone<D: Disk> {
 
 impl<D: Disk> Model for Zone<D> {
     ghost use Rattle.zone_state.specs.Zone.{ZoneView};
-    ghost use Rattle.zone_state.specs.State.{view_of, IsKept};
+    ghost use Rattle.zone_state.specs.State.{view_of, IsZoneKept};
 
     ghost Value = { ZoneView D };
 
     ghost view = { λ z. view_of z.journal z.kept z.limits };
 
-    ghost invariant = { λ z. IsKept z.journal z.kept z.limits };
+    ghost invariant = { λ z. IsZoneKept z.journal z.kept z.limits };
 }
 
 impl<D: Disk> Zone<D> {
@@ -62,8 +62,8 @@ impl<D: Disk> Zone<D> {
         // The patches taken are those of the journal's payloads, and none is in doubt.
         ensures taken { IfOk result (λ zone. (taken : List CheckedPatch)
             × StandsForZone D.tells (D.past zone.disk) zone taken None
-            × AreMet (changes_of taken) [] zone.terms
-            × (D.tells → Holds (reads (D.past disk)) zone_number (texts taken))) }
+            × AreMet (changes_taken taken) [] zone.terms
+            × (D.tells → Holds (reads (D.past disk)) zone_number (checked_texts taken))) }
         ensures limits { IfOk result (λ zone. zone.limits ≡ limits) }
         ensures fault { D.tells → IfErr result (λ refusal.
             HasZoneFault (reads (D.past disk)) limits refusal.fault) }
@@ -196,7 +196,7 @@ impl<D: Disk> Zone<D> {
 
         // Where memory or numbers for terms are wanted, the patch is the next one.
         ensures want { (result ≡ TakeAnswer.TermsFull) ⊎ (result ≡ TakeAnswer.OutOfMemory)
-            → IsWant (decided self.old patch.now) result }
+            → WantsForTaking (decided self.old patch.now) result }
         ensures terms_full { result ≡ TakeAnswer.TermsFull
             → AreMore most patch.now.meaning.changes self.old.terms }
         ensures terms { AreMet patch.now.meaning.changes self.old.terms self.new.terms }
@@ -215,13 +215,13 @@ impl<D: Disk> Zone<D> {
         // the new one, or with neither. What is applied is in every image.
         ensures any_moment { D.tells → (taken : List CheckedPatch) (doubt : Option CheckedPatch)
             → StandsForZone D.tells (D.past self.old.disk) self.old taken doubt
-            → LeavesOnly (MayHoldDuring zone_number (map bare taken) (doubt_of doubt)
+            → LeavesOnly (MayHoldChainDuring zone_number (map bare taken) (doubt_of doubt)
             (bare patch.now)) (D.past self.old.disk) (D.past self.new.disk) }
         ensures kept { (version : ℕ) → result ≡ TakeAnswer.Applied version → D.tells
             → (taken : List CheckedPatch) (doubt : Option CheckedPatch)
             → StandsForZone D.tells (D.past self.old.disk) self.old taken doubt
             → EveryImage (D.past self.new.disk) (λ image.
-            Holds image zone_number (texts (taken ++ patch.now ∷ []))) }
+            Holds image zone_number (checked_texts (taken ++ patch.now ∷ []))) }
 
         ensures cause { result ≡ TakeAnswer.DiskFault
             → Rose (D.faults self.old.disk) (D.faults self.new.disk) }

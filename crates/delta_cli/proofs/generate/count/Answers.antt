@@ -1,6 +1,6 @@
 use Rattle.std.proofs.Common.{◌≡◌, List, ℕ, Some, subst, inl, inr}
 use Rattle.std.specs.Prelude.{IfOk}
-use Rattle.stream_replay.specs.Source.{Ends, IsReplayed}
+use Rattle.stream_replay.specs.Source.{EndsReplay, IsReplayed}
 use Rattle.delta_cli.proofs.Generated.{counts_are, only_memory}
 use Rattle.delta_cli.proofs.generate.count.Goals as goal
 use Rattle.delta_cli.proofs.generate.count.Goals.{in-Failed, in_default}
@@ -14,7 +14,7 @@ returns-in-Ok c =
 pub prove-unreachable-requires : goal.prove-unreachable-requires
 prove-unreachable-requires c =
     let input = c.replay_source.new.input in
-    let why = subst (λ (text : List ℕ). Ends (Some text) (Some input.left) c.new-source.result.faults input.faults c.in-Err.fault)
+    let why = subst (λ (text : List ℕ). EndsReplay (Some text) (Some input.left) c.new-source.result.faults input.faults c.in-Err.fault)
     c.new-source.ensures.left c.in-Err.ensures.fault in
     let ends = only_memory c.args.patches c.requires (Some input.left) c.new-source.result.faults input.faults c.in-Err.fault why in
     elim c.match-matches.branch [ in-Failed w ↦ cc | in_default w ↦ elim ends [ inl failed ↦ w.in_default.not-Failed failed | inr wants ↦ w.in_default.not-OutOfMemory wants ] ]

@@ -5,7 +5,7 @@ use Rattle.http_text.specs.Taken.{reply_messages}
 use Rattle.http_text.specs.declared.framing.FrameFault.{FrameFault}
 use Rattle.http_text.specs.declared.message.Kind.TheVariants.{Replies}
 use Rattle.delta_client.specs.declared.fault.AskFault.{AskFault}
-use Rattle.delta_client.specs.Asking.{NextIs}
+use Rattle.delta_client.specs.Asking.{NextReplyIs}
 use Rattle.delta_client.proofs.Nexts.{begin_with, read_none, read_more, is_cut, is_faulty, consumed_none}
 use Rattle.delta_client.proofs.reply.next_reply.Goals as goal
 
@@ -45,7 +45,7 @@ returns-in-Err-clause-next g c given taken gave =
     let bytes = given ++ has.read in
     let decides = subst (λ (r : Result Unit FrameFault). Decides Replies bytes (reply_messages taken ++ waiting c.loop-round.reader) r) c.in-Err.is has.decides in
     let ends = is_faulty bytes taken (g.L.Link.left c.loop-round.link) c.loop-round.reader c.take.new.self c.in-Err.fault c.in-None.ensures.none decides in
-    (has.read, has.consumed, subst (λ (fault : AskFault). NextIs bytes taken (g.L.Link.left c.loop-round.link) c.take.new.self (Err fault)) (sym c.of_frame.ensures) ends)
+    (has.read, has.consumed, subst (λ (fault : AskFault). NextReplyIs bytes taken (g.L.Link.left c.loop-round.link) c.take.new.self (Err fault)) (sym c.of_frame.ensures) ends)
 
 pub returns-in-Err-read-clause-next : goal.returns-in-Err-read-clause-next
 returns-in-Err-read-clause-next g c given taken gave =

@@ -1,6 +1,6 @@
 use Rattle.std.proofs.Common.{List, ℕ, sym, subst}
 use Rattle.slot_checks.specs.Checks.{AreKept}
-use Rattle.delta_server.specs.Ends.{Stops, at_files, at_hall, shelf_view}
+use Rattle.delta_server.specs.Ends.{StopsServe, at_files, at_hall, shelf_view}
 use Rattle.delta_server.proofs.Counted.{counted}
 use Rattle.delta_server.proofs.Halls.{refused_failing, refused_length, refused_marked}
 use Rattle.delta_server.proofs.Shelving.{back_over, rose_before}
@@ -32,7 +32,7 @@ returns-in-Err-open_hall-clause-stopped g c =
     let left : List g.row.H-D.Denot = c.in-Err-open_hall.refusal.disks.items in
     let fault = c.in-Err-open_hall.refusal.fault in
     let refused = c.in-Err-open_hall.ensures.refused in
-    subst (Stops g.H.D.Disk g.H.Shelf.tells dir c.args.workers (shelf_view old (g.H.Shelf.faults c.args.shelf.now))
+    subst (StopsServe g.H.D.Disk g.H.Shelf.tells dir c.args.workers (shelf_view old (g.H.Shelf.faults c.args.shelf.now))
     (shelf_view new (g.H.Shelf.faults c.put_back.new.shelf))) (sym c.refusal_of.ensures)
     (at_hall fault asked left c.in-Ok.ensures.asked refused
     (λ failed.

@@ -4,7 +4,7 @@ use Rattle.std.specs.Global.{Vec}
 use Rattle.disk_model.specs.Past.{reads}
 use Rattle.slot_checks.proofs.Steps.{opened_kept, same_bytes, visit_kept}
 use Rattle.slot_files.specs.Files.{bytes_at}
-use Rattle.delta_server.specs.Files.{AreMarked, AreRead}
+use Rattle.delta_server.specs.Files.{AreMarked, AreFilesRead}
 use Rattle.delta_server.proofs.Shelving.{marked_more, read_more}
 use Rattle.delta_server.proofs.opening.take_logs.Goals as goal
 use Rattle.delta_server.proofs.opening.take_logs.Goals.{else-loop-number-test, then-loop-number-test+in-Ok+else-number-slots}
@@ -25,7 +25,7 @@ loop-number-preserved g c =
       marked = λ told first. subst (AreMarked g.H.D.Disk dir 0) (sym pushed)
           (marked_more g.H.D.Disk dir 0 taken c.in-Ok.disk (l.invariant.marked told first)
           (opened.mark told ∙ ap (λ (n : ℕ). Some (dir, n)) (let at : number ≡ 0 + length taken = omega (arith, l.invariant.count) in at)));
-      read = λ told first. subst (AreRead g.H.D.Disk old dir 0) (sym pushed)
+      read = λ told first. subst (AreFilesRead g.H.D.Disk old dir 0) (sym pushed)
           (read_more g.H.D.Disk old dir 0 taken c.in-Ok.disk (l.invariant.read told first)
           (ap reads (opened.opened told) ∙ same_bytes dir number old mid number (l.invariant.kept told)
           ∙ ap (bytes_at old dir) (let at : number ≡ 0 + length taken = omega (arith, l.invariant.count) in at)));
@@ -59,9 +59,9 @@ returns-clause-read g c told first =
     let items = λ (disks : Vec g.row.H-D.Denot). disks.items in
     let taken : List g.row.H-D.Denot = l.disks.items in
     elim c.loop-number-test.branch [
-      | else-loop-number-test w ↦ subst (AreRead g.H.D.Disk old dir 0) (sym (ap items w.disks-is)) (l.invariant.read told first)
+      | else-loop-number-test w ↦ subst (AreFilesRead g.H.D.Disk old dir 0) (sym (ap items w.disks-is)) (l.invariant.read told first)
       | then-loop-number-test+in-Ok+else-number-slots w ↦
-          subst (AreRead g.H.D.Disk old dir 0) (sym (ap items w.disks-is ∙ w.push_reserved.ensures.items))
+          subst (AreFilesRead g.H.D.Disk old dir 0) (sym (ap items w.disks-is ∙ w.push_reserved.ensures.items))
           (read_more g.H.D.Disk old dir 0 taken w.in-Ok.disk (l.invariant.read told first)
           (ap reads (w.in-Ok.ensures.opened told) ∙ same_bytes dir l.number old mid l.number (l.invariant.kept told)
           ∙ ap (bytes_at old dir) (let at : l.number ≡ 0 + length taken = omega (arith, l.invariant.count) in at)))

@@ -2,7 +2,7 @@ use Rattle.std.proofs.Common.{List, ℕ, inl, inr, Err, refl, sym, ap, subst, �
 use Rattle.disk_model.specs.Past.{reads}
 use Rattle.disk_model.specs.declared.shelf.ShelfFault.{ShelfFault}
 use Rattle.slot_checks.proofs.Steps.{all_kept, visit_kept}
-use Rattle.slot_checks.specs.Faults.{HasRegistryFault}
+use Rattle.slot_checks.specs.Faults.{HasRegistryFileFault}
 use Rattle.slot_checks.specs.declared.fault.CheckFault.{CheckFault}
 use Rattle.delta_cli.specs.declared.refusal.Refusal.TheVariants as refusals
 use Rattle.delta_server.specs.Ends.{HasNoDisks, at_registry, at_shelf, shelf_view}
@@ -37,7 +37,7 @@ returns-in-Err-clause-stopped g c =
     subst (HasNoDisks g.H.D.Disk g.H.Shelf.tells dir (shelf_view old (g.H.Shelf.faults c.args.shelf.now))
     (shelf_view new (g.H.Shelf.faults c.put_back.new.self))) (sym c.of_check.ensures)
     (at_registry c.in-Err.fault
-    (λ told. subst (λ (bytes : List ℕ). HasRegistryFault bytes c.in-Err.fault) (ap reads (opened.opened told)) (err_at (λ (f : CheckFault). HasRegistryFault (reads (g.H.D.Disk.past c.in-Ok.first)) f) c.read_registry_file-first.result.1 c.in-Err.fault c.in-Err.is (c.read_registry_file-first.ensures.fault (tell told))))
+    (λ told. subst (λ (bytes : List ℕ). HasRegistryFileFault bytes c.in-Err.fault) (ap reads (opened.opened told)) (err_at (λ (f : CheckFault). HasRegistryFileFault (reads (g.H.D.Disk.past c.in-Ok.first)) f) c.read_registry_file-first.result.1 c.in-Err.fault c.in-Err.is (c.read_registry_file-first.ensures.fault (tell told))))
     (λ failed. rose_before (g.H.Shelf.faults c.args.shelf.now) (g.H.Shelf.faults c.disk.new.self) (g.H.Shelf.faults c.put_back.new.self) c.disk.ensures.never_falls
     (c.put_back.ensures.rises (risen g.H.D.Disk (g.H.D.Disk.faults c.in-Ok.first) (g.H.D.Disk.faults after) (c.read_registry_file-first.ensures.cause (c.in-Err.is ∙ ap (λ (f : CheckFault). Err f) failed)))))
     (λ told. put_at g.H.D.Disk dir old mid new c.in-Ok.first after (opened.made told) (c.disk.ensures.others told) (opened.opened told)

@@ -1,5 +1,5 @@
 use Rattle.std.proofs.Common.{◌≡◌, ◌≢◌, ◌+◌, ◌∙◌, ◌∷◌, List, length, refl, sym, ap, subst, arith}
-use Rattle.delta_session.specs.Opening.{IsOpenedRegistry, IsRefusedRegistry, IsRefusedHall, WasOpened, registry_refused, miscounted, of_registry}
+use Rattle.delta_session.specs.Opening.{IsOpenedRegistry, IsRefusedRegistry, IsRefusedHall, WasOpened, registry_refused, miscounted, hall_fault_of_registry}
 use Rattle.delta_session.specs.declared.fault.HallFault.TheVariants as hall
 use Rattle.delta_session.proofs.Opens.{refused_hall}
 use Rattle.delta_session.proofs.opening.open_hall.Goals as goal
@@ -20,7 +20,7 @@ returns-in-Err-clause-refused g c =
       planned = e.planned;
     } in
     subst (λ (all : List g.row.D.Denot). IsRefusedHall g.D.Disk all r.result.fault r.result.disks.items) (sym c.take_first-first.ensures.disks)
-    (refused_hall g.D.Disk first stop.disk more more r.result.disks.items (of_registry stop.fault) r.result.fault r.ensures.disks (r.ensures.fault ∙ c.of_registry.ensures) (registry_refused stop.fault refl is refl))
+    (refused_hall g.D.Disk first stop.disk more more r.result.disks.items (hall_fault_of_registry stop.fault) r.result.fault r.ensures.disks (r.ensures.fault ∙ c.of_registry.ensures) (registry_refused stop.fault refl is refl))
 
 pub returns-then-len-slots-clause-refused : goal.returns-then-len-slots-clause-refused
 returns-then-len-slots-clause-refused g c =

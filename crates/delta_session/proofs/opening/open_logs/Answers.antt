@@ -2,7 +2,7 @@ use Rattle.std.proofs.Common.{◌≡◌, ◌∙◌, ◌∷◌, List, length, ref
 use Rattle.std.proofs.lemmas.Result.{IfErr-weaker}
 use Rattle.delta_base.specs.declared.limits.TheConstants.{LOG_LIMITS}
 use Rattle.hall_logs.proofs.Opens.{left_same, left_still}
-use Rattle.delta_session.specs.Opening.{WasOpened, wanting, of_log}
+use Rattle.delta_session.specs.Opening.{WasOpened, wanting, hall_fault_of_log}
 use Rattle.delta_session.specs.declared.fault.HallFault.TheVariants as hall
 use Rattle.delta_session.proofs.Opens.{logs_refused, refused_count, opened_count, opened_settled, refused_hall}
 use Rattle.delta_session.proofs.opening.open_logs.Goals as goal
@@ -49,6 +49,6 @@ returns-in-Err-clause-refused g c = λ disk opened.
     let e = c.in-Err.ensures in
     let stop = c.in-Err.field-0 in
     let r = c.refused-in-Err in
-    refused_hall g.D.Disk disk c.args.registry.disk more stop.disks.items r.result.disks.items (of_log stop.file stop.fault) r.result.fault
+    refused_hall g.D.Disk disk c.args.registry.disk more stop.disks.items r.result.disks.items (hall_fault_of_log stop.file stop.fault) r.result.fault
     (r.ensures.disks ∙ ap (λ (d : g.row.D.Denot). d ∷ stop.disks.items) c.close-in-Err.ensures.disk) (r.ensures.fault ∙ c.of_log-fault.ensures)
     (logs_refused g.D.Disk disk c.args.registry.disk more stop.disks.items stop.file stop.fault was e.refused e.want)

@@ -2,7 +2,7 @@ use Rattle.std.proofs.Common.{◌≡◌, ◌∙◌, ◌++◌, ◌∷◌, [], Lis
 use Rattle.std.specs.Prelude.{reverse}
 use Rattle.shared_log.specs.Passes.{LogSight}
 use Rattle.shared_registry.specs.Passes.{RegistrySight}
-use Rattle.delta_session.specs.Halls.{joined}
+use Rattle.delta_session.specs.Halls.{paired_sights}
 use Rattle.delta_session.specs.Steps.{HallSight}
 use Rattle.delta_session.proofs.Opens.{joins_one, pair}
 use Rattle.delta_session.proofs.sharing.join.Goals as goal
@@ -16,10 +16,10 @@ loop-sight-preserved g c =
     let taken = c.in-Some-pop.ensures in
     let p = c.push_reserved.ensures in
     let same : length rest ≡ length others = omega (arith, popped.cases, taken.cases, l.invariant.count, c.pop.new.self.ok.0, c.pop-in-Some.new.self.ok.0) in
-    let whole : List HallSight = joined c.args.sights.now.items c.args.parts.now.items in record {
+    let whole : List HallSight = paired_sights c.args.sights.now.items c.args.parts.now.items in record {
       joined = joins_one whole l.sights.items rest l.parts.items others l.passes.items c.in-Some.sight c.in-Some-pop.part l.invariant.joined popped.items taken.items same
-          ∙ ap (λ (s : RegistrySight). joined rest others ++ reverse (l.passes.items ++ pair s c.in-Some-pop.part ∷ [])) (sym c.of.ensures)
-          ∙ ap (λ (passes : List HallSight). joined rest others ++ reverse passes) (sym p.items);
+          ∙ ap (λ (s : RegistrySight). paired_sights rest others ++ reverse (l.passes.items ++ pair s c.in-Some-pop.part ∷ [])) (sym c.of.ensures)
+          ∙ ap (λ (passes : List HallSight). paired_sights rest others ++ reverse passes) (sym p.items);
       count = omega (arith, popped.cases, taken.cases, l.invariant.count);
       room = omega (arith, l.invariant.room, p.len, p.capacity, popped.cases);
       sights_room = c.pop.ensures.capacity ∙ l.invariant.sights_room;

@@ -1,11 +1,11 @@
 use Rattle.std.proofs.Common.{◌≡◌, ◌≤◌, ◌+◌, ◌++◌, vec_len, vec_capacity}
 use Rattle.std.specs.Prelude.{reverse}
-use Rattle.delta_session.specs.Halls.{joined}
+use Rattle.delta_session.specs.Halls.{paired_sights}
 use Rattle.delta_session.proofs.sharing.join.Given as goal
 
 abbrev pub invariant-loop-sight : goal.invariant-loop-sight
 invariant-loop-sight g l = record {
-  joined : joined l.initial.sights.items l.initial.parts.items ≡ joined l.sights.items l.parts.items ++ reverse l.passes.items;
+  joined : paired_sights l.initial.sights.items l.initial.parts.items ≡ paired_sights l.sights.items l.parts.items ++ reverse l.passes.items;
   count : vec_len l.sights ≡ vec_len l.parts;
   room : vec_len l.passes + vec_len l.sights ≤ vec_capacity l.passes;
   sights_room : vec_capacity l.sights ≡ vec_capacity l.initial.sights;

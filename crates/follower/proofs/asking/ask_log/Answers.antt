@@ -4,7 +4,7 @@ use Rattle.rpc_answers.specs.declared.answer.Answer.{Answer}
 use Rattle.rpc_calls.specs.declared.call.Call.TheVariants as calls
 use Rattle.follower.specs.declared.ends.SyncEnd.{SyncEnd}
 use Rattle.follower.specs.Ends.{LogSays, LogTold, answered, faulty, not_asked}
-use Rattle.follower.specs.Exchanges.{Said, net_of}
+use Rattle.follower.specs.Exchanges.{WasSaid, net_of}
 use Rattle.follower.proofs.Chains.{asks_none, asks_call}
 use Rattle.follower.proofs.asking.ask_log.Goals as goal
 
@@ -21,7 +21,7 @@ pub returns-in-Ok-said-clause-asked : goal.returns-in-Ok-said-clause-asked
 returns-in-Ok-said-clause-asked g c =
     let told = λ (net : g.row.N.Denot). net_of g.N.Dial net in
     let e = c.in-Ok-said.ensures in
-    let said : Said = Ok c.in-Ok-said.answer in (
+    let said : WasSaid = Ok c.in-Ok-said.answer in (
       said ∷ [],
       says c.in-Ok-said.answer c.log_told.result c.log_told.ensures,
       λ mine tells. asks_call g.N.L.Link.left g.N.L.Link.sent c.args.address.now c.in-Ok.call (calls.Log c.args.name.now) said said c.args.line.now.open c.ask_again-said.new.line.open (told c.args.net.now) (told c.ask_again-said.new.net)
@@ -32,7 +32,7 @@ pub returns-in-Err-said-clause-asked : goal.returns-in-Err-said-clause-asked
 returns-in-Err-said-clause-asked g c =
     let told = λ (net : g.row.N.Denot). net_of g.N.Dial net in
     let e = c.in-Err-said.ensures in
-    let said : Said = Err c.in-Err-said.fault in (
+    let said : WasSaid = Err c.in-Err-said.fault in (
       said ∷ [],
       faulty c.in-Err-said.fault refl c.from.ensures,
       λ mine tells. asks_call g.N.L.Link.left g.N.L.Link.sent c.args.address.now c.in-Ok.call (calls.Log c.args.name.now) said said c.args.line.now.open c.ask_again-said.new.line.open (told c.args.net.now) (told c.ask_again-said.new.net)

@@ -2,7 +2,7 @@ use Rattle.std.proofs.Common.{ℕ, [], ◌∷◌, ◌++◌, Option, Ok, refl, su
 use Rattle.delta_base.specs.declared.id.Id.{Id}
 use Rattle.rpc_answers.specs.declared.answer.Answer.TheVariants as answer
 use Rattle.zone_state.specs.Brief.{last_of}
-use Rattle.follower.specs.Exchanges.{Said, net_of}
+use Rattle.follower.specs.Exchanges.{WasSaid, net_of}
 use Rattle.follower.specs.Syncing.{Compares, GoesBefore, compared, followed, texts_said}
 use Rattle.follower.proofs.Chains.{asks_none}
 use Rattle.follower.proofs.Amid.{grew_none, grew_behind}
@@ -11,7 +11,7 @@ use Rattle.follower.proofs.syncing.catch_up.Goals as goal
 pub returns-in-Some-clause-follows : goal.returns-in-Some-clause-follows
 returns-in-Some-clause-follows g c =
     let told = λ (net : g.row.N.Denot). net_of g.N.Dial net in
-    let info : Said = Ok (answer.Info c.args.theirs c.args.head) in
+    let info : WasSaid = Ok (answer.Info c.args.theirs c.args.head) in
     let ends = subst (λ (have : Option Id). Compares c.version.result have c.args.theirs c.args.head c.in-Some.end) c.head.ensures c.in-Some.ensures.ends in
     let ends_now = subst (λ (mine : ℕ). Compares mine (last_of c.args.zone.now.brief.ids) c.args.theirs c.args.head c.in-Some.end) c.version.ensures.version ends in (
       [],
@@ -26,5 +26,5 @@ returns-in-None-clause-follows g c =
     let before = subst (λ (have : Option Id). GoesBefore c.version.result have c.args.theirs c.args.head) c.head.ensures c.in-None.ensures.before in
     let before_now = subst (λ (mine : ℕ). GoesBefore mine (last_of c.args.zone.now.brief.ids) c.args.theirs c.args.head) c.version.ensures.version before in
     let rest = c.take_rest.ensures.follows in
-    let info : Said = Ok (answer.Info c.args.theirs c.args.head) in
+    let info : WasSaid = Ok (answer.Info c.args.theirs c.args.head) in
     (texts_said rest.1 ++ rest.0, rest.1, grew_behind g.D.Disk (info ∷ texts_said rest.1) rest.0 c.args.zone.now c.take_rest.new.zone rest.1 rest.2, followed c.args.theirs c.args.head rest.0 refl before_now rest.3, rest.4)

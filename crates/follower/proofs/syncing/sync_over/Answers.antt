@@ -1,7 +1,7 @@
 use Rattle.std.proofs.Common.{◌+◌, [], ◌∷◌, List, Ok, length, refl, subst}
 use Rattle.rpc_answers.specs.declared.answer.Answer.TheVariants as answer
 use Rattle.rpc_calls.specs.declared.call.Call.TheVariants as calls
-use Rattle.follower.specs.Exchanges.{Said, Asks, net_of, calls_of, fetches}
+use Rattle.follower.specs.Exchanges.{WasSaid, AsksAll, net_of, calls_of, fetches}
 use Rattle.follower.specs.Syncing.{unanswered}
 use Rattle.follower.proofs.Chains.{asks_both}
 use Rattle.follower.proofs.Amid.{grew_none}
@@ -19,8 +19,8 @@ returns-in-Ok-clause-follows g c =
     let rest = c.catch_up.ensures.follows in
     let mine = length c.args.zone.now.brief.ids in
     let name = c.args.name.now in
-    let info : Said = Ok (answer.Info c.in-Ok.theirs c.in-Ok.head) in
-    let first = λ (tells : g.N.Dial.tells). subst (λ (said : List Said). Asks g.N.L.Link.left g.N.L.Link.sent c.args.address.now (calls_of name mine said) said c.args.line.now.open (told c.args.net.now) (told c.ask_log.new.net) c.ask_log.new.line.open)
+    let info : WasSaid = Ok (answer.Info c.in-Ok.theirs c.in-Ok.head) in
+    let first = λ (tells : g.N.Dial.tells). subst (λ (said : List WasSaid). AsksAll g.N.L.Link.left g.N.L.Link.sent c.args.address.now (calls_of name mine said) said c.args.line.now.open (told c.args.net.now) (told c.ask_log.new.net) c.ask_log.new.line.open)
     asked.1 (asked.2 mine tells) in (
       info ∷ rest.0,
       rest.1,

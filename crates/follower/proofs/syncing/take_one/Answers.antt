@@ -2,7 +2,7 @@ use Rattle.std.proofs.Common.{[], ◌∷◌, Ok, Err, refl, ap}
 use Rattle.rpc_answers.specs.declared.answer.Answer.{Answer}
 use Rattle.rpc_answers.specs.declared.answer.Answer.TheVariants as answer
 use Rattle.rpc_calls.specs.declared.call.Call.TheVariants as calls
-use Rattle.follower.specs.Exchanges.{Said, net_of}
+use Rattle.follower.specs.Exchanges.{WasSaid, net_of}
 use Rattle.follower.specs.Grown.{Stayed}
 use Rattle.follower.specs.Syncing.{FetchRefuses, answered, faulty, not_asked}
 use Rattle.follower.proofs.Amid.{stayed_none}
@@ -19,7 +19,7 @@ pub returns-in-Ok-said-clause-ok : goal.returns-in-Ok-said-clause-ok
 returns-in-Ok-said-clause-ok g c =
     let told = λ (net : g.row.N.Denot). net_of g.N.Dial net in
     let e = c.in-Ok-said.ensures in
-    let said : Said = Ok c.in-Ok-said.answer in
+    let said : WasSaid = Ok c.in-Ok-said.answer in
     on_ok c.take_answer.result (λ is. (
       is.0,
       is.2,
@@ -33,7 +33,7 @@ pub returns-in-Ok-said-clause-err : goal.returns-in-Ok-said-clause-err
 returns-in-Ok-said-clause-err g c =
     let told = λ (net : g.row.N.Denot). net_of g.N.Dial net in
     let e = c.in-Ok-said.ensures in
-    let said : Said = Ok c.in-Ok-said.answer in
+    let said : WasSaid = Ok c.in-Ok-said.answer in
     on_err c.take_answer.result (λ end is. (
       said ∷ [],
       answered c.in-Ok-said.answer refl is.0,
@@ -47,7 +47,7 @@ pub returns-in-Err-said-clause-err : goal.returns-in-Err-said-clause-err
 returns-in-Err-said-clause-err g c =
     let told = λ (net : g.row.N.Denot). net_of g.N.Dial net in
     let e = c.in-Err-said.ensures in
-    let said : Said = Err c.in-Err-said.fault in (
+    let said : WasSaid = Err c.in-Err-said.fault in (
       said ∷ [],
       faulty c.in-Err-said.fault refl c.from.ensures,
       stayed_none g.D.Disk c.args.zone.now (said ∷ []),

@@ -6,7 +6,7 @@ use Rattle.rpc_answers.specs.declared.answer.Answer.TheVariants as answers
 use Rattle.zone_state.specs.Zone.{ZoneView}
 use Rattle.follower.specs.declared.ends.SyncEnd.{SyncEnd}
 use Rattle.follower.specs.declared.ends.SyncEnd.TheVariants.{DiskFault}
-use Rattle.follower.specs.Exchanges.{Said}
+use Rattle.follower.specs.Exchanges.{WasSaid}
 use Rattle.follower.specs.Grown.{Stayed, Took}
 use Rattle.follower.specs.Syncing.{IsText, TextEnds, end_of}
 use Rattle.follower.proofs.Answered.{Answers, no_patch_ends, took_ok, took_err, took_stayed, took_untouched, taken_settles, on_ok}
@@ -45,7 +45,7 @@ returns g c =
     let text : IsText c.args.text.now next = c.in-Ok.ensures.ok in
     let old : ZoneView g.row.D.Denot = c.args.zone.now in
     let new : ZoneView g.row.D.Denot = c.take_next-answer.new.self in
-    let said : List Said = Ok (answers.Patch c.args.text.now) ∷ [] in
+    let said : List WasSaid = Ok (answers.Patch c.args.text.now) ∷ [] in
     let is_said : said ≡ Ok (answers.Patch next.text) ∷ [] = ap (λ (t : List ℕ). Ok (answers.Patch t) ∷ []) (sym text.0) in
     record {
       ok = subst (λ (r : Result (Unit {0}) SyncEnd). OnOk r ((one : CheckedPatch) × IsText c.args.text.now one × Took g.D.Disk old new one)) (sym ends)

@@ -1,7 +1,7 @@
 use Rattle.std.proofs.Common.{◌+◌, ◌++◌, List, map, sym, subst, ap, ◌∙◌, arith}
 use Rattle.std.specs.Prelude.{reverse}
 use Rattle.patch_log.specs.State.{LogView}
-use Rattle.hall_logs.specs.Files.{IsOpened, IsRefused}
+use Rattle.hall_logs.specs.Files.{IsOpened, IsRefusedLog}
 use Rattle.hall_logs.proofs.Opens.{Opening, opens_one, refused_here}
 use Rattle.hall_logs.proofs.opening.open_files.Goals as goal
 
@@ -40,7 +40,7 @@ returns-in-Err-clause-refused g c =
     let fault = c.in-Err.field-0.fault in
     let e = c.in-Err.ensures in
     let before = subst (λ (others : List g.row.D.Denot). Opening g.D.Disk c.args.limits c.args.disks.now.items l.opened.items others l.file) c.in-Some.ensures.items l.invariant.opening in
-    let one : IsRefused g.D.Disk c.args.limits (l.file + 1) c.in-Some.disk fault after = record {
+    let one : IsRefusedLog g.D.Disk c.args.limits (l.file + 1) c.in-Some.disk fault after = record {
       has = e.fault;
       kept = record { mark = e.mark_refused; kept = e.kept_refused };
       cause = e.cause;

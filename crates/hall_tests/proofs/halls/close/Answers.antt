@@ -1,11 +1,11 @@
 use Rattle.std.proofs.Common.{arith, sym, subst, ℕ}
-use Rattle.hall_logs.specs.Slots.{AreAllPasses}
+use Rattle.hall_logs.specs.Slots.{AreAllHallPasses}
 use Rattle.hall_logs.proofs.Still.{as_many_ended}
 use Rattle.hall_tests.proofs.halls.close.Goals as goal
 
 pub close-requires-clause-passes : goal.close-requires-clause-passes
 close-requires-clause-passes g c =
-    subst (λ (seats : ℕ). AreAllPasses g.D.Disk.mark c.args.shared.0.logs seats c.args.shared.1.items) (sym c.requires.logs.1) c.requires.passes
+    subst (λ (seats : ℕ). AreAllHallPasses g.D.Disk.mark c.args.shared.0.logs seats c.args.shared.1.items) (sym c.requires.logs.1) c.requires.passes
 
 pub returns : goal.returns
 returns g c =

@@ -1,11 +1,11 @@
 use Rattle.std.proofs.Common.{◌≡◌, ℕ, ◌≤◌, Bool, not, List, [], ◌∷◌, length, get_or, ap, ◌∙◌, arith}
 use Rattle.std.specs.Cmp.Lexicographic.{pointwise, texts_ties}
 use Rattle.std.specs.Prelude.{nat_eq}
-use Rattle.line_log.specs.Sorting.{Row, edits_at, ends, shown}
+use Rattle.line_log.specs.Sorting.{NumberedLine, edits_at, ends, lines_numbered}
 use Rattle.line_log.proofs.sorting.ends.Goals as goal
 
-next_ends : (line : List ℕ) (rows : List Row) (d : Row) (es : List (Bool × List ℕ)) → 1 ≤ length rows
-    → not (pointwise nat_eq line (get_or rows 0 d).line.0.now) ≡ ends line (edits_at es (shown rows))
+next_ends : (line : List ℕ) (rows : List NumberedLine) (d : NumberedLine) (es : List (Bool × List ℕ)) → 1 ≤ length rows
+    → not (pointwise nat_eq line (get_or rows 0 d).line.0.now) ≡ ends line (edits_at es (lines_numbered rows))
 next_ends line [] d es h = absurd (omega arith)
 next_ends line (row ∷ rows) d es h = ap not (texts_ties line row.line.0.now)
 

@@ -5,7 +5,7 @@ use Rattle.nquads_documents.proofs.DocumentFaults.{document_faults_found}
 use Rattle.nquads_documents.proofs.DocumentLaws.{documents_found}
 use Rattle.nquads_documents.proofs.Sorting.{made_of, made_canonical, same_shown}
 use Rattle.nquads_documents.proofs.TermsRead.{terms_found, terms_again, term_faults_found, term_faults_again}
-use Rattle.nquads_text.specs.Faults.{TermFault}
+use Rattle.nquads_text.specs.Faults.{AnyTermFault}
 use Rattle.nquads_documents.proofs.canonical.canonical_lines.Goals as goal
 
 pub returns-in-Ok : goal.returns-in-Ok
@@ -23,4 +23,4 @@ pub returns-in-Err-At : goal.returns-in-Err-At
 returns-in-Err-At c =
     let f = rw c.in-Err-At.field-0-is at c.in-Err-At.ensures in
     let line = rw c.in-Err-At.field-0-is at c.line_at.ensures in
-    rw c.in-Err-At.field-0-is (document_faults_found TermFault terms_found terms_again term_faults_found term_faults_again c.args.text.now _ f.0, f.1, line)
+    rw c.in-Err-At.field-0-is (document_faults_found AnyTermFault terms_found terms_again term_faults_found term_faults_again c.args.text.now _ f.0, f.1, line)

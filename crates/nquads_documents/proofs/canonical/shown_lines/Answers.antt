@@ -1,7 +1,7 @@
 use Rattle.std.proofs.Common.{◌≡◌, ◌<◌, Bool, List, ℕ, ◌++◌, ◌∷◌, [], Ok, drop, length, map, sym, ap, subst, ◌∙◌, arith}
 use Rattle.std.proofs.lemmas.List.{map-append}
 use Rattle.std.proofs.lemmas.Result.{err_from_is_err_and}
-use Rattle.nquads_documents.specs.Reading.{document_at, part_at}
+use Rattle.nquads_documents.specs.Reading.{document_at, document_part_at}
 use Rattle.nquads_documents.specs.Shown.{PushesPart, shown}
 use Rattle.nquads_documents.proofs.Documents.{document_ends, document_fails_on}
 use Rattle.nquads_documents.proofs.Showing.{AreShown, goes_further, lent_more, none_more, printed_more}
@@ -26,7 +26,7 @@ loop-at-smaller-in_ok-push-in-None c =
 pub loop-at-preserved-in_ok-push-in-None : goal.loop-at-preserved-in_ok-push-in-None
 loop-at-preserved-in_ok-push-in-None c =
     let text = c.args.text.now in let new = c.push_part.new.out.items in let next = c.in_ok-is_line-in-None.next in
-    let part = subst (λ (is_line : Bool). PushesPart text c.loop-at.printed.items new (Ok (is_line, next)) (part_at (drop c.loop-at.at text))) c.if-is_line.true c.in_ok-is_line-in-None.ensures in
+    let part = subst (λ (is_line : Bool). PushesPart text c.loop-at.printed.items new (Ok (is_line, next)) (document_part_at (drop c.loop-at.at text))) c.if-is_line.true c.in_ok-is_line-in-None.ensures in
     let size : c.len.result ≡ length new = c.len.ensures ∙ c.push_part.new.out.ok.0 in
     subst (λ (ends : List ℕ). AreShown text new (map shown c.loop-at.lines.items) ends next)
     (sym (c.in_ok-push-in-None.ensures.items ∙ ap (λ (end : ℕ). c.loop-at.ends.items ++ end ∷ []) size))
@@ -40,7 +40,7 @@ loop-at-smaller c =
 pub loop-at-preserved : goal.loop-at-preserved
 loop-at-preserved c =
     let text = c.args.text.now in let new = c.push_part.new.out.items in let next = c.in_ok-is_line-in-None.next in
-    let part = subst (λ (is_line : Bool). PushesPart text c.loop-at.printed.items new (Ok (is_line, next)) (part_at (drop c.loop-at.at text))) c.if-is_line.false c.in_ok-is_line-in-None.ensures in
+    let part = subst (λ (is_line : Bool). PushesPart text c.loop-at.printed.items new (Ok (is_line, next)) (document_part_at (drop c.loop-at.at text))) c.if-is_line.false c.in_ok-is_line-in-None.ensures in
     none_more text c.loop-at.printed.items new (map shown c.loop-at.lines.items) c.loop-at.ends.items c.loop-at.at next c.loop-at-test.true part c.loop-at.invariant
 
 pub returns : goal.returns

@@ -1,6 +1,6 @@
 use Rattle.std.proofs.Common.{subst, arith}
 use Rattle.std.proofs.lemmas.Result.{err_from_is_err_and}
-use Rattle.patch_meaning.specs.Cutting.{IsNextOf}
+use Rattle.patch_meaning.specs.Cutting.{IsNextOrEnd}
 use Rattle.patch_meaning.proofs.Cuts.{if_ok}
 use Rattle.patch_meaning.proofs.Read.{further}
 use Rattle.patch_meaning.proofs.Splits.{stopped_there, gap_left, is_stream}
@@ -18,12 +18,12 @@ returns-in_err-at-clause-fault c =
 
 pub take-requires : goal.take-requires
 take-requires c =
-    let next = subst (IsNextOf c.args.text.now c.loop-cutting.at) c.in-Some.is c.in_ok-next.ensures.ok in
+    let next = subst (IsNextOrEnd c.args.text.now c.loop-cutting.at) c.in-Some.is c.in_ok-next.ensures.ok in
     (c.loop-cutting.at, c.loop-cutting.invariant, next)
 
 pub loop-cutting-smaller : goal.loop-cutting-smaller
 loop-cutting-smaller c =
-    let next = subst (IsNextOf c.args.text.now c.loop-cutting.at) c.in-Some.is c.in_ok-next.ensures.ok in
+    let next = subst (IsNextOrEnd c.args.text.now c.loop-cutting.at) c.in-Some.is c.in_ok-next.ensures.ok in
     let far = further c.args.text.now c.loop-cutting.at c.in-Some.next next in
     omega (arith, far.0, far.1, c.in_ok-at.ensures.end)
 

@@ -3,7 +3,7 @@ use Rattle.patch_rows.specs.declared.fault.RowFault.{RowFault}
 use Rattle.patch_rows.specs.declared.row.Row.{Row}
 use Rattle.patch_reader.specs.declared.placed.PlacedRow.{PlacedRow}
 use Rattle.patch_reader.specs.Decided.{GivesRow}
-use Rattle.patch_reader.specs.Rows.{RowsStand, Stops}
+use Rattle.patch_reader.specs.Rows.{RowsStand, StopsRows}
 use Rattle.patch_reader.proofs.Kept.{next_given}
 use Rattle.patch_reader.proofs.next.next_row.Goals as goal
 
@@ -22,6 +22,6 @@ returns-in-Ok-None-clause-gives c = λ text k.
 
 pub returns-in-Err-clause-gives : goal.returns-in-Err-clause-gives
 returns-in-Err-clause-gives c = λ text k.
-    subst (λ (fault : RowFault). Stops c.args.end text (c.args.base + c.args.at) (Some fault)) (sym c.moved.ensures)
+    subst (λ (fault : RowFault). StopsRows c.args.end text (c.args.base + c.args.at) (Some fault)) (sym c.moved.ensures)
     (next_given c.args.end text c.args.kept.now c.args.base c.args.at c.skip_space-start.result (Err c.in-Err.fault)
     c.skip_space-start.ensures.low c.skip_space-start.ensures.high c.skip_space-start.ensures.space c.in-Err.ensures k)

@@ -1,7 +1,7 @@
 use Rattle.std.proofs.Common.{◌+◌, ◌*◌, ◌<◌, ◌≤◌, length, sym, subst, arith}
 use Rattle.patch_reader.specs.Progress.{SameOpen, parts_left}
-use Rattle.patch_reader.specs.declared.progress.Part.{Part}
-use Rattle.patch_reader.specs.declared.progress.Part.TheVariants as part
+use Rattle.patch_reader.specs.declared.progress.RowPart.{RowPart}
+use Rattle.patch_reader.specs.declared.progress.RowPart.TheVariants as part
 use Rattle.patch_reader.specs.declared.progress.Place.TheVariants as place
 use Rattle.patch_reader.proofs.ProgressSteps.{graph_is_none, enters, from_place}
 use Rattle.patch_reader.proofs.progress.step_token.Goals as goal
@@ -10,7 +10,7 @@ pub returns-then-lacks_graph : goal.returns-then-lacks_graph
 returns-then-lacks_graph c =
     let is = c.lacks_graph.ensures.yes c.if-lacks_graph.true in
     let lt = c.requires.begins in
-    subst (λ (p : Part). SameOpen c.args.text.now (place.Token p c.args.start) (place.Token part.End c.args.start) × (c.args.start + 1 ≤ length c.args.text.now) × (2 < 2 * parts_left p)) (sym is.0)
+    subst (λ (p : RowPart). SameOpen c.args.text.now (place.Token p c.args.start) (place.Token part.End c.args.start) × (c.args.start + 1 ≤ length c.args.text.now) × (2 < 2 * parts_left p)) (sym is.0)
     (graph_is_none c.args.text.now c.args.start lt is.1, omega (arith, lt), omega arith)
 
 pub returns-then-is_open : goal.returns-then-is_open

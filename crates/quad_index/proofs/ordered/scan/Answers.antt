@@ -1,6 +1,6 @@
 use Rattle.std.proofs.Common.{rules, ◌≡◌, false, true, ap, ◌∙◌}
 use Rattle.quad_index.specs.Order.{arranged}
-use Rattle.quad_index.specs.Key.{matches}
+use Rattle.quad_index.specs.Key.{matches_key}
 use Rattle.quad_index.proofs.ordered.scan.Goals as goal
 use Rattle.quad_index.proofs.ordered.scan.Goals.{in-None, in-Some+then-not-matches}
 use Rattle.quad_index.proofs.Scans.{scan_start, scan_more, scan_stop, scan_end}
@@ -13,7 +13,7 @@ loop-placed-init g c = record {
 
 pub loop-placed-preserved : goal.loop-placed-preserved
 loop-placed-preserved g c =
-    let m : matches c.args.pattern.now c.restored-key.result ≡ true = search rules in
+    let m : matches_key c.args.pattern.now c.restored-key.result ≡ true = search rules in
     record {
       counted = search rules;
       scanning = scan_more _ _ _ _ _ c.in-Some.placed.now _ _ _ c.loop-placed.invariant.scanning c.in-Some.ensures.steps c.restored-key.ensures m c.in_ok-push.ensures.items;
@@ -24,6 +24,6 @@ returns-clause-found g c =
     elim c.match-next.branch [
       | in-None w ↦ scan_end _ _ _ _ _ c.loop-placed.invariant.scanning w.in-None.ensures.steps.0
       | in-Some+then-not-matches w ↦
-          (let m : matches c.args.pattern.now w.restored-key.result ≡ false = search rules in
+          (let m : matches_key c.args.pattern.now w.restored-key.result ≡ false = search rules in
           scan_stop _ _ _ _ _ w.in-Some.placed.now _ _ c.requires c.loop-placed.invariant.scanning w.in-Some.ensures.steps w.restored-key.ensures m)
     ]

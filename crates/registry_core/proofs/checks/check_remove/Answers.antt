@@ -3,11 +3,11 @@ use Rattle.delta_base.specs.declared.limits.FullKind.TheVariants.{Bytes}
 use Rattle.delta_base.specs.declared.source_info.SourceInfo.{SourceInfo}
 use Rattle.registry_core.specs.declared.event.Event.TheVariants.{Removed}
 use Rattle.registry_core.specs.declared.answer.ChangeAnswer.TheVariants.{Full}
-use Rattle.registry_core.specs.Checks.{IsRefusal}
-use Rattle.registry_core.specs.Replies.{removed_from, of_found}
+use Rattle.registry_core.specs.Checks.{IsRefusedChange}
+use Rattle.registry_core.specs.Replies.{removal_answer, of_found}
 use Rattle.delta_base.specs.declared.limits.TheConstants.{REGISTRY_LIMIT}
 use Rattle.registry_core.specs.Sources.{source_named}
-use Rattle.registry_core.specs.Texts.{text_of, longer_by}
+use Rattle.registry_core.specs.Texts.{event_text, length_with}
 use Rattle.registry_core.proofs.Checked.{refusal, remove_no_room, can_remove}
 use Rattle.registry_core.proofs.Replied.{get_there}
 use Rattle.registry_core.proofs.Tables.{longer_is}
@@ -17,18 +17,18 @@ pub returns-then-longer-gt-REGISTRY_LIMIT-clause-refused : goal.returns-then-lon
 returns-then-longer-gt-REGISTRY_LIMIT-clause-refused c =
     let living = c.args.living.now in
     let source = c.index-living-place.result in
-    let longer = longer_by c.args.bytes (Removed source.slot) in
+    let longer = length_with c.args.bytes (Removed source.slot) in
     let found : source_named c.args.name.now living ≡ Some source = c.in-Some.ensures.some.1 ∙ get_there living c.in-Some.place source c.in-Some.ensures.some.0 c.index-living-place.is in
-    let have : c.args.bytes + 5 + c.removed_length.result ≡ longer = longer_is c.args.bytes c.removed_length.result (Removed source.slot) (c.removed_length.ensures.value ∙ ap (λ (s : SourceInfo). length (text_of (Removed s.slot))) (sym c.index-living-place.is)) in
+    let have : c.args.bytes + 5 + c.removed_length.result ≡ longer = longer_is c.args.bytes c.removed_length.result (Removed source.slot) (c.removed_length.ensures.value ∙ ap (λ (s : SourceInfo). length (event_text (Removed s.slot))) (sym c.index-living-place.is)) in
     let above : REGISTRY_LIMIT < longer = subst (λ (n : ℕ). REGISTRY_LIMIT < n) have c.if-longer-gt-REGISTRY_LIMIT.true in
-    subst (λ (n : ℕ). IsRefusal (of_found (removed_from c.args.bytes) (source_named c.args.name.now living)) (Full Bytes n REGISTRY_LIMIT)) (sym have) (refusal _ _ (remove_no_room living c.args.bytes c.args.name.now source found above) refl)
+    subst (λ (n : ℕ). IsRefusedChange (of_found (removal_answer c.args.bytes) (source_named c.args.name.now living)) (Full Bytes n REGISTRY_LIMIT)) (sym have) (refusal _ _ (remove_no_room living c.args.bytes c.args.name.now source found above) refl)
 
 pub returns-clause-ok : goal.returns-clause-ok
 returns-clause-ok c =
     let living = c.args.living.now in
     let source = c.index-living-place.result in
-    let longer = longer_by c.args.bytes (Removed source.slot) in
+    let longer = length_with c.args.bytes (Removed source.slot) in
     let there = get_there living c.in-Some.place source c.in-Some.ensures.some.0 c.index-living-place.is in
-    let have : c.args.bytes + 5 + c.removed_length.result ≡ longer = longer_is c.args.bytes c.removed_length.result (Removed source.slot) (c.removed_length.ensures.value ∙ ap (λ (s : SourceInfo). length (text_of (Removed s.slot))) (sym c.index-living-place.is)) in
+    let have : c.args.bytes + 5 + c.removed_length.result ≡ longer = longer_is c.args.bytes c.removed_length.result (Removed source.slot) (c.removed_length.ensures.value ∙ ap (λ (s : SourceInfo). length (event_text (Removed s.slot))) (sym c.index-living-place.is)) in
     let within : longer ≤ REGISTRY_LIMIT = subst (λ (n : ℕ). n ≤ REGISTRY_LIMIT) have c.if-longer-gt-REGISTRY_LIMIT.false in
     (source, there, can_remove living c.args.bytes c.args.name.now source (c.in-Some.ensures.some.1 ∙ there) within)

@@ -3,7 +3,7 @@ use Rattle.serde_json.specs.View.{view}
 use Rattle.serde_json.specs.declared.value.Value.{Value}
 use Rattle.delta_base.specs.declared.source_info.SourceInfo.{SourceInfo}
 use Rattle.rpc_answers.specs.Values.{source_data}
-use Rattle.rpc_answers.specs.Answers.{IsSource}
+use Rattle.rpc_answers.specs.Answers.{IsAnsweredSource}
 use Rattle.rpc_answers.proofs.SourceLemmas.{list_fails, one_more, one_fits}
 use Rattle.rpc_answers.proofs.sources.sources_in.Goals as goal
 
@@ -11,7 +11,7 @@ pub returns-in-None-clause-none : goal.returns-in-None-clause-none
 returns-in-None-clause-none c =
     let none = rw c.in-None.is at c.in_ok-source.ensures.none in
     list_fails c.args.values.now c.loop-value.value-index c.value-item.result c.loop-value-test.true
-    (subst (λ (v : Value). (source : SourceInfo) → IsSource source → view v ≡ source_data source → ⊥) c.value-item.is none)
+    (subst (λ (v : Value). (source : SourceInfo) → IsAnsweredSource source → view v ≡ source_data source → ⊥) c.value-item.is none)
 
 pub loop-value-preserved : goal.loop-value-preserved
 loop-value-preserved c =

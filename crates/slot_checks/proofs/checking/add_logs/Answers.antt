@@ -1,5 +1,5 @@
 use Rattle.std.proofs.Common.{◌≡◌, ℕ, ◌+◌, ◌≤◌, List, subst, arith}
-use Rattle.slot_checks.specs.Checks.{HasLines, StopsInLogs}
+use Rattle.slot_checks.specs.Checks.{HasFileLines, StopsInLogs}
 use Rattle.slot_checks.specs.Faults.{HasFileFault}
 use Rattle.slot_checks.specs.Sound.{IsLogLine}
 use Rattle.slot_checks.proofs.Steps.{one_more, same_bytes, stops_at, visit_kept, told_err}
@@ -47,6 +47,6 @@ returns-in_ok-add_log-clause-ok g c told =
     let number = c.loop-number.number in
     let added = c.in_ok-add_log.ensures.ok told in
     let last : number + 1 ≡ c.args.registry.slots + 1 = omega (arith, c.loop-number-test.true) in
-    subst (λ (n : ℕ). HasLines old dir c.args.registry.records n c.add_log.new.report.items) last
+    subst (λ (n : ℕ). HasFileLines old dir c.args.registry.records n c.add_log.new.report.items) last
     (one_more old dir c.args.registry.records number c.loop-number.report.items c.add_log.new.report.items added.0 (c.loop-number.invariant.lines told)
     (subst (λ (bytes : List ℕ). IsLogLine bytes number added.0) (same_bytes dir number old mid number (c.loop-number.invariant.kept told)) added.1) added.2)

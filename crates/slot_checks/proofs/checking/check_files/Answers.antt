@@ -1,6 +1,6 @@
 use Rattle.std.proofs.Common.{◌+◌, refl}
 use Rattle.slot_checks.specs.declared.fault.CheckFault.TheVariants.{OutOfMemory}
-use Rattle.slot_checks.specs.Checks.{Stops, at_registry}
+use Rattle.slot_checks.specs.Checks.{CheckStops, at_registry}
 use Rattle.slot_checks.proofs.Steps.{has_same, visit_kept, all_kept, stops_behind, kept_behind, told_err}
 use Rattle.slot_checks.proofs.checking.check_files.Goals as goal
 
@@ -31,14 +31,14 @@ returns-in_err-registry-clause-fault g c told =
     let old = g.H.Shelf.files c.args.shelf.now in
     let mid = g.H.Shelf.files c.check_registry.new.shelf in
     let dir = c.args.dir.now in
-    told_err (Stops dir old mid) c.from_residual.result c.in_err-registry.field-0.0 c.from_residual.ensures.1 (record { file = 0; stops = at_registry refl (c.in_err-registry.ensures.fault told); kept = visit_kept dir 0 old old mid (all_kept dir 0 old) (c.check_registry.ensures.kept told) (c.check_registry.ensures.others told) })
+    told_err (CheckStops dir old mid) c.from_residual.result c.in_err-registry.field-0.0 c.from_residual.ensures.1 (record { file = 0; stops = at_registry refl (c.in_err-registry.ensures.fault told); kept = visit_kept dir 0 old old mid (all_kept dir 0 old) (c.check_registry.ensures.kept told) (c.check_registry.ensures.others told) })
 
 pub returns-in_err-push-clause-fault : goal.returns-in_err-push-clause-fault
 returns-in_err-push-clause-fault g c told =
     let old = g.H.Shelf.files c.args.shelf.now in
     let mid = g.H.Shelf.files c.check_registry.new.shelf in
     let dir = c.args.dir.now in
-    told_err (Stops dir old mid) c.from_residual-in_err-push.result OutOfMemory c.from_residual-in_err-push.ensures.1 (record { file = 0; stops = at_registry refl tt; kept = visit_kept dir 0 old old mid (all_kept dir 0 old) (c.check_registry.ensures.kept told) (c.check_registry.ensures.others told) })
+    told_err (CheckStops dir old mid) c.from_residual-in_err-push.result OutOfMemory c.from_residual-in_err-push.ensures.1 (record { file = 0; stops = at_registry refl tt; kept = visit_kept dir 0 old old mid (all_kept dir 0 old) (c.check_registry.ensures.kept told) (c.check_registry.ensures.others told) })
 
 pub returns-in_err-add_logs-clause-fault : goal.returns-in_err-add_logs-clause-fault
 returns-in_err-add_logs-clause-fault g c told =
@@ -47,5 +47,5 @@ returns-in_err-add_logs-clause-fault g c told =
     let new = g.H.Shelf.files c.add_logs.new.shelf in
     let dir = c.args.dir.now in
     let first = visit_kept dir 0 old old mid (all_kept dir 0 old) (c.check_registry.ensures.kept told) (c.check_registry.ensures.others told) in
-    told_err (Stops dir old new) c.from_residual-in_err-add_logs.result c.in_err-add_logs.field-0.0 c.from_residual-in_err-add_logs.ensures.1
+    told_err (CheckStops dir old new) c.from_residual-in_err-add_logs.result c.in_err-add_logs.field-0.0 c.from_residual-in_err-add_logs.ensures.1
     (stops_behind dir old mid new first c.in_ok-registry.registry.slots c.in_ok-registry.registry.records c.in_err-add_logs.field-0.0 (c.in_ok-registry.ensures.ok told) (c.in_err-add_logs.ensures.fault told))

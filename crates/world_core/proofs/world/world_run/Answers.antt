@@ -8,7 +8,7 @@ use Rattle.world_core.specs.declared.event.WorldEvent.{WorldEvent}
 use Rattle.world_core.specs.World.{start, step, world, KeepsPromises, BeginsLog}
 use Rattle.std.specs.List.{AllByRecursion}
 use Rattle.world_core.specs.declared.zone.ZonePart.{ZonePart}
-use Rattle.world_core.specs.Parts.{IsWorldOf, EveryImageOf, EveryImageOfZone, HoldsSome, IsReplayed}
+use Rattle.world_core.specs.Parts.{IsWorldOf, EveryImageOf, EveryImageOfZone, HoldsSome, IsZoneReplayed}
 use Rattle.world_core.proofs.Running.{images_found}
 use Rattle.world_core.proofs.Following.{zones_promise, zones_replay, log_promises}
 use Rattle.world_core.proofs.world.world_run.Goals as goal
@@ -53,4 +53,4 @@ returns-clause-replays c =
     let events = c.as_slice-event-items.result.now in
     let so_far = take c.loop-event.event-index events in
     let whole : so_far ≡ c.args.events.now.items = take_all c.loop-event.event-index events c.loop-event-test.false ∙ c.as_slice-event-items.ensures in
-    subst (λ (es : List WorldEvent). AllByRecursion (IsReplayed (world LOG_LIMITS es).log) c.loop-event.world.zones.items) whole (zones_replay LOG_LIMITS so_far c.loop-event.world.zones.items c.loop-event.invariant.zones_are)
+    subst (λ (es : List WorldEvent). AllByRecursion (IsZoneReplayed (world LOG_LIMITS es).log) c.loop-event.world.zones.items) whole (zones_replay LOG_LIMITS so_far c.loop-event.world.zones.items c.loop-event.invariant.zones_are)

@@ -3,7 +3,7 @@ use Rattle.chain_core.specs.declared.chain.Patch.{Patch}
 use Rattle.chain_core.specs.Log.{with_doubt}
 use Rattle.disk_model.specs.declared.plan.PlanDisk.{PlanDisk}
 use Rattle.zone_state.specs.declared.file.TheConstants.{ZONE_NUMBER}
-use Rattle.world_core.specs.Parts.{Carries, Keeps, RunsZone}
+use Rattle.world_core.specs.Parts.{CarriesPart, KeepsChain, RunsZone}
 use Rattle.world_core.proofs.Running.{if_ok-map}
 use Rattle.world_core.proofs.Taking.{zone_carries}
 use Rattle.world_core.proofs.zone.stop.Goals as goal
@@ -11,6 +11,6 @@ use Rattle.world_core.proofs.zone.stop.Goals as goal
 pub returns : goal.returns
 returns c =
     let zone = c.args.zone in
-    if_ok-map (λ (disk : PlanDisk). (number : ℕ) (chain : List Patch) (doubt : Option Patch) → Carries number c.close.result chain doubt → Keeps number disk (cond c.args.opened (with_doubt chain doubt) chain))
-    (λ (disk : PlanDisk). (taken : List Patch) (doubt : Option Patch) → RunsZone zone taken doubt → Keeps ZONE_NUMBER disk (cond c.args.opened (with_doubt taken doubt) taken)) c.stopped_disk.result
-    (λ disk keeps taken doubt runs. keeps ZONE_NUMBER taken doubt (subst (λ (old : PlanDisk). Carries ZONE_NUMBER old taken doubt) (sym c.close.ensures.disk) (zone_carries zone taken doubt runs))) c.stopped_disk.ensures
+    if_ok-map (λ (disk : PlanDisk). (number : ℕ) (chain : List Patch) (doubt : Option Patch) → CarriesPart number c.close.result chain doubt → KeepsChain number disk (cond c.args.opened (with_doubt chain doubt) chain))
+    (λ (disk : PlanDisk). (taken : List Patch) (doubt : Option Patch) → RunsZone zone taken doubt → KeepsChain ZONE_NUMBER disk (cond c.args.opened (with_doubt taken doubt) taken)) c.stopped_disk.result
+    (λ disk keeps taken doubt runs. keeps ZONE_NUMBER taken doubt (subst (λ (old : PlanDisk). CarriesPart ZONE_NUMBER old taken doubt) (sym c.close.ensures.disk) (zone_carries zone taken doubt runs))) c.stopped_disk.ensures

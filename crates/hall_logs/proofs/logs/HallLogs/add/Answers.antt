@@ -3,7 +3,7 @@ use Rattle.patch_log.specs.State.{LogView}
 use Rattle.turn_cell.specs.Turns.{AllOf}
 use Rattle.turn_cell.specs.Sights.{Made}
 use Rattle.turn_cell.proofs.Views.{all_append}
-use Rattle.hall_logs.specs.Slots.{Hall}
+use Rattle.hall_logs.specs.Slots.{LogsOfHall}
 use Rattle.hall_logs.proofs.logs.HallLogs.add.Goals as goal
 
 pub invariant_of-self : goal.invariant_of-self
@@ -26,10 +26,10 @@ returns-in-Ok-clause-ok g c =
     record {
       log = log;
       parts = c.in-Ok.parts.items;
-      logs_are = c.push_reserved.ensures.items ∙ ap (λ (h : Hall g.row.D.Denot). h.logs ++ log ∷ []) view;
+      logs_are = c.push_reserved.ensures.items ∙ ap (λ (h : LogsOfHall g.row.D.Denot). h.logs ++ log ∷ []) view;
       origin_is = c.in-Ok.ensures.log.0;
-      seats_are = ap (λ (h : Hall g.row.D.Denot). h.seats) view;
+      seats_are = ap (λ (h : LogsOfHall g.row.D.Denot). h.seats) view;
       dealt = c.deal.ensures.dealt;
-      count = omega (arith, c.in-Ok.parts.ok.0, c.args.passes.now.ok.0, c.requires.count, c.in-Ok.ensures.passes.0, ap (λ (h : Hall g.row.D.Denot). h.seats) view);
+      count = omega (arith, c.in-Ok.parts.ok.0, c.args.passes.now.ok.0, c.requires.count, c.in-Ok.ensures.passes.0, ap (λ (h : LogsOfHall g.row.D.Denot). h.seats) view);
       new_parts = c.in-Ok.ensures.new;
     }

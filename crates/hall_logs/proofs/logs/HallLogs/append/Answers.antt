@@ -4,7 +4,7 @@ use Rattle.patch_log.specs.State.{LogView}
 use Rattle.turn_cell.specs.Sights.{Made}
 use Rattle.patch_log.specs.Log.{bare}
 use Rattle.shared_log.specs.Passes.{LogSight}
-use Rattle.shared_log.specs.Legal.{Legal}
+use Rattle.shared_log.specs.Legal.{LegalOnLog}
 use Rattle.shared_log.specs.Appending.{AppendsInTurn}
 use Rattle.hall_logs.proofs.Parts.{low, part_of, still_parts, on_slot}
 use Rattle.hall_logs.proofs.logs.HallLogs.append.Goals as goal
@@ -22,7 +22,7 @@ returns-clause-of g c =
 pub returns-clause-legal : goal.returns-clause-legal
 returns-clause-legal g c =
     on_slot g.D.Disk.mark c.args.self.now.logs c.args.pass.now c.pass.inside.parts.items c.args.slot c.pass.view_is c.requires.of c.requires.slot c.log_of-log.result.now c.index_mut.result.now c.log_of-log.ensures c.index_mut.ensures.value c.append.new.pass
-    (λ (log : Made (LogView g.row.D.Denot)) (p q : LogSight). Legal log.origin.limits p (asked.append (bare c.args.patch.now)) (asked.answered c.append.result) q) c.append.ensures.legal
+    (λ (log : Made (LogView g.row.D.Denot)) (p q : LogSight). LegalOnLog log.origin.limits p (asked.append (bare c.args.patch.now)) (asked.answered c.append.result) q) c.append.ensures.legal
 
 pub returns-clause-stay : goal.returns-clause-stay
 returns-clause-stay g c =

@@ -4,7 +4,7 @@ use Rattle.turn_cell.specs.Turns.{AllOf}
 use Rattle.turn_cell.specs.Sights.{Made}
 use Rattle.shared_log.specs.Passes.{LogSight}
 use Rattle.hall_logs.specs.Ends.{AreEnded}
-use Rattle.hall_logs.specs.Slots.{Hall, AreAllPasses}
+use Rattle.hall_logs.specs.Slots.{LogsOfHall, AreAllHallPasses}
 use Rattle.hall_logs.specs.Rooms.{Room}
 use Rattle.hall_logs.proofs.Ending.{Closing, begins, counted, longs, parts_are, one_more, ended}
 use Rattle.hall_logs.proofs.Still.{all_still}
@@ -14,16 +14,16 @@ pub loop-log-init : goal.loop-log-init
 loop-log-init g c =
     let whole : List (List LogSight) = c.args.passes.items in
     let logs : List (Made (LogView g.row.D.Denot)) = c.self.inside.logs.items in
-    let hall : Hall g.row.D.Denot = c.args.self in
+    let hall : LogsOfHall g.row.D.Denot = c.args.self in
     let is = c.self.view_is in
-    let are = subst (λ (h : Hall g.row.D.Denot). AreAllPasses g.D.Disk.mark h.logs h.seats whole) (sym is) c.requires.passes in
+    let are = subst (λ (h : LogsOfHall g.row.D.Denot). AreAllHallPasses g.D.Disk.mark h.logs h.seats whole) (sym is) c.requires.passes in
     let start = begins g.D.Disk logs c.self.inside.seats whole are c.self.invariant.0 in
     let r = c.requires.rooms in
     let room_is = ap (λ (room : Room). room.disks) c.rooms.view_is in
     let count_is = ap (λ (room : Room). room.lists.count) c.rooms.view_is in
     let width_is = ap (λ (room : Room). room.lists.width) c.rooms.view_is in
-    let many : vec_len c.self.inside.logs ≡ length hall.logs = omega (arith, c.self.inside.logs.ok.0, ap (λ (h : Hall g.row.D.Denot). length h.logs) is) in record {
-      closing = subst (λ (z : Hall g.row.D.Denot × List g.row.D.Denot). Closing g.D.Disk z.0.logs z.0.seats whole logs whole z.1) (λ i. (is i, sym c.rooms.invariant i)) start;
+    let many : vec_len c.self.inside.logs ≡ length hall.logs = omega (arith, c.self.inside.logs.ok.0, ap (λ (h : LogsOfHall g.row.D.Denot). length h.logs) is) in record {
+      closing = subst (λ (z : LogsOfHall g.row.D.Denot × List g.row.D.Denot). Closing g.D.Disk z.0.logs z.0.seats whole logs whole z.1) (λ i. (is i, sym c.rooms.invariant i)) start;
       capacity = room_is;
       room = omega (arith, ap length c.rooms.invariant, c.rooms.inside.disks.ok.0, r.disks, room_is, many);
       lists = omega (arith, r.count, count_is, many);
@@ -76,8 +76,8 @@ loop-log-preserved g c =
 
 pub returns-clause-idle : goal.returns-clause-idle
 returns-clause-idle g c = λ new settled.
-    let hall : Hall g.row.D.Denot = c.args.self in
+    let hall : LogsOfHall g.row.D.Denot = c.args.self in
     let disks : List g.row.D.Denot = c.reverse.new.self.items in
-    let alike = subst (λ (h : Hall g.row.D.Denot). AllOf (λ (log : Made (LogView g.row.D.Denot)). log.seats ≡ h.seats) h.logs) c.self.view_is c.self.invariant.0 in
+    let alike = subst (λ (h : LogsOfHall g.row.D.Denot). AllOf (λ (log : Made (LogView g.row.D.Denot)). log.seats ≡ h.seats) h.logs) c.self.view_is c.self.invariant.0 in
     let ends : AreEnded g.D.Disk 0 hall.logs c.args.passes.items disks = search rules in
     all_still g.D.Disk hall.logs hall.seats c.args.passes.items new c.requires.passes.count alike settled disks ends

@@ -3,7 +3,7 @@ use Rattle.chain_core.specs.Replies as asked
 use Rattle.patch_log.specs.State.{LogView}
 use Rattle.turn_cell.specs.Sights.{Made}
 use Rattle.shared_log.specs.Passes.{LogSight}
-use Rattle.shared_log.specs.Legal.{Legal}
+use Rattle.shared_log.specs.Legal.{LegalOnLog}
 use Rattle.shared_log.specs.Replies.{reply_described}
 use Rattle.hall_logs.proofs.Parts.{low, part_of, still_parts, on_slot}
 use Rattle.hall_logs.proofs.logs.HallLogs.describe.Goals as goal
@@ -21,4 +21,4 @@ returns-clause-of g c =
 pub returns-clause-legal : goal.returns-clause-legal
 returns-clause-legal g c =
     on_slot g.D.Disk.mark c.args.self.now.logs c.args.pass.now c.pass.inside.parts.items c.args.slot c.pass.view_is c.requires.of c.requires.slot c.log_of-log.result.now c.index_mut.result.now c.log_of-log.ensures c.index_mut.ensures.value c.describe.new.pass
-    (λ (log : Made (LogView g.row.D.Denot)) (p q : LogSight). Legal log.origin.limits p asked.describe (reply_described c.describe.result) q) c.describe.ensures.legal
+    (λ (log : Made (LogView g.row.D.Denot)) (p q : LogSight). LegalOnLog log.origin.limits p asked.describe (reply_described c.describe.result) q) c.describe.ensures.legal

@@ -3,7 +3,7 @@ use Rattle.chain_core.specs.Replies as asked
 use Rattle.patch_log.specs.State.{LogView}
 use Rattle.turn_cell.specs.Sights.{Made}
 use Rattle.shared_log.specs.Passes.{LogSight}
-use Rattle.shared_log.specs.Legal.{Legal}
+use Rattle.shared_log.specs.Legal.{LegalOnLog}
 use Rattle.turn_cell.specs.Knowing.{Wants}
 use Rattle.shared_log.specs.declared.replies.Fetched.{Fetched}
 use Rattle.shared_log.specs.Replies.{reply_fetched}
@@ -24,10 +24,10 @@ returns-clause-of g c =
 
 pub returns-clause-legal : goal.returns-clause-legal
 returns-clause-legal g c =
-    if_ok (λ (fetched : Fetched). Legal c.log_of-log.result.now.origin.limits c.index_mut.result.now (asked.fetch_version c.args.version) (reply_fetched fetched) c.fetch_version.new.pass)
-    (λ (fetched : Fetched). OnSlot c.args.slot (λ (log : Made (LogView g.row.D.Denot)) (p q : LogSight). Legal log.origin.limits p (asked.fetch_version c.args.version) (reply_fetched fetched) q) c.args.self.now.logs c.args.pass.now _)
+    if_ok (λ (fetched : Fetched). LegalOnLog c.log_of-log.result.now.origin.limits c.index_mut.result.now (asked.fetch_version c.args.version) (reply_fetched fetched) c.fetch_version.new.pass)
+    (λ (fetched : Fetched). OnSlot c.args.slot (λ (log : Made (LogView g.row.D.Denot)) (p q : LogSight). LegalOnLog log.origin.limits p (asked.fetch_version c.args.version) (reply_fetched fetched) q) c.args.self.now.logs c.args.pass.now _)
     (λ fetched legal. on_slot g.D.Disk.mark c.args.self.now.logs c.args.pass.now c.pass.inside.parts.items c.args.slot c.pass.view_is c.requires.of c.requires.slot c.log_of-log.result.now c.index_mut.result.now c.log_of-log.ensures c.index_mut.ensures.value c.fetch_version.new.pass
-    (λ (log : Made (LogView g.row.D.Denot)) (p q : LogSight). Legal log.origin.limits p (asked.fetch_version c.args.version) (reply_fetched fetched) q) legal) c.fetch_version.result c.fetch_version.ensures.legal
+    (λ (log : Made (LogView g.row.D.Denot)) (p q : LogSight). LegalOnLog log.origin.limits p (asked.fetch_version c.args.version) (reply_fetched fetched) q) legal) c.fetch_version.result c.fetch_version.ensures.legal
 
 pub returns-clause-want : goal.returns-clause-want
 returns-clause-want g c =

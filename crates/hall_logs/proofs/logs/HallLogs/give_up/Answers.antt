@@ -2,7 +2,7 @@ use Rattle.std.proofs.Common.{◌++◌, List, map, refl, sym, subst, ◌∙◌, 
 use Rattle.std.specs.Prelude.{reverse}
 use Rattle.patch_log.specs.State.{LogView}
 use Rattle.turn_cell.specs.Sights.{Made}
-use Rattle.hall_logs.specs.Slots.{Hall}
+use Rattle.hall_logs.specs.Slots.{LogsOfHall}
 use Rattle.hall_logs.proofs.Shares.{all_new}
 use Rattle.hall_logs.proofs.Still.{GivingUp, gives_one, as_many_ended}
 use Rattle.hall_logs.proofs.logs.HallLogs.give_up.Goals as goal
@@ -13,7 +13,7 @@ close-disks-requires-clause-passes g c =
 
 pub loop-log-init : goal.loop-log-init
 loop-log-init g c =
-    let hall : Hall g.row.D.Denot = c.args.self in
+    let hall : LogsOfHall g.row.D.Denot = c.args.self in
     let disks : List g.row.D.Denot = c.close-disks.result.items in
     let ends = c.close-disks.ensures.ends in
     let many = as_many_ended g.D.Disk 0 hall.logs c.args.passes.items disks ends in record {

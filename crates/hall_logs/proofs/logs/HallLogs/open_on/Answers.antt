@@ -7,7 +7,7 @@ use Rattle.patch_log.specs.State.{LogView}
 use Rattle.turn_cell.specs.Turns.{AllOf}
 use Rattle.turn_cell.specs.Sights.{Made}
 use Rattle.hall_logs.specs.Files.{AreOpened, IsFresh, IsStill, AreLeft}
-use Rattle.hall_logs.specs.Slots.{AreNew, AreAllPasses}
+use Rattle.hall_logs.specs.Slots.{AreNew, AreAllHallPasses}
 use Rattle.hall_logs.proofs.Opens.{all_fresh, as_many, left_still, left_same, left_refused, all_reverse, when_ok, when_err}
 use Rattle.hall_logs.proofs.Shares.{all_new}
 use Rattle.hall_logs.proofs.logs.HallLogs.open_on.Goals as goal
@@ -38,7 +38,7 @@ returns-in-Ok-open_files-clause-logs g c =
 
 pub returns-in-Ok-open_files-clause-passes : goal.returns-in-Ok-open_files-clause-passes
 returns-in-Ok-open_files-clause-passes g c =
-    when_ok c.share.result (λ r. (vec_len r.1 ≡ c.args.seats) × AreNew g.D.Disk.mark r.0.logs 1 r.1.items) (λ r. AreAllPasses g.D.Disk.mark r.0.logs c.args.seats r.1.items) c.share.ensures.new
+    when_ok c.share.result (λ r. (vec_len r.1 ≡ c.args.seats) × AreNew g.D.Disk.mark r.0.logs 1 r.1.items) (λ r. AreAllHallPasses g.D.Disk.mark r.0.logs c.args.seats r.1.items) c.share.ensures.new
     (λ r new. all_new g.D.Disk.mark r.0.logs c.args.seats r.1.items new.1 (sym r.1.ok.0 ∙ new.0))
 
 pub returns-in-Ok-open_files-clause-want : goal.returns-in-Ok-open_files-clause-want

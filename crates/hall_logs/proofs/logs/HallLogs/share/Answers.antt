@@ -9,7 +9,7 @@ use Rattle.std.specs.List.{AllZip}
 use Rattle.turn_cell.proofs.Views.{all_map}
 use Rattle.hall_logs.specs.Files.{IsFresh, IsStill}
 use Rattle.hall_logs.specs.Rooms.{Room}
-use Rattle.hall_logs.specs.Slots.{Hall, AreNew}
+use Rattle.hall_logs.specs.Slots.{LogsOfHall, AreNew}
 use Rattle.hall_logs.proofs.Opens.{all_reverse}
 use Rattle.hall_logs.proofs.Shares.{lengths_new, shares_none, shares_one, settled}
 use Rattle.hall_logs.proofs.logs.HallLogs.share.Goals as goal
@@ -37,15 +37,15 @@ give_up-requires-clause-settled g c =
     let l = c.loop-log in
     let origins = l.invariant.sharing.order in
     let none = all_map (IsFresh g.D.Disk) (λ (log : LogView g.row.D.Denot). log.doubt ≡ None) (λ log fresh. fresh.1) (reverse c.args.opened.items) (all_reverse (IsFresh g.D.Disk) c.args.opened.items c.requires.fresh) in
-    subst (λ (h : Hall g.row.D.Denot). AllOf (λ (log : Made (LogView g.row.D.Denot)). log.origin.doubt ≡ None) h.logs) (sym c.in-Err.ensures.err.1)
+    subst (λ (h : LogsOfHall g.row.D.Denot). AllOf (λ (log : Made (LogView g.row.D.Denot)). log.origin.doubt ≡ None) h.logs) (sym c.in-Err.ensures.err.1)
     (settled g.D.Disk.mark l.hall.logs (reverse l.opened.items) (reverse c.args.opened.items) origins none)
 
 pub give_up-requires-clause-passes : goal.give_up-requires-clause-passes
 give_up-requires-clause-passes g c =
     let l = c.loop-log in
     let e = c.in-Err.ensures.err in
-    let new = subst (λ (z : Hall g.row.D.Denot × List (List LogSight)). AreNew g.D.Disk.mark z.0.logs 1 z.1) (λ i. (sym e.1 i, sym e.2 i)) l.invariant.sharing.new in
-    (new, omega (arith, c.add.ensures.count, l.passes.ok.0, l.invariant.sharing.count, ap (λ (h : Hall g.row.D.Denot). h.seats) e.1))
+    let new = subst (λ (z : LogsOfHall g.row.D.Denot × List (List LogSight)). AreNew g.D.Disk.mark z.0.logs 1 z.1) (λ i. (sym e.1 i, sym e.2 i)) l.invariant.sharing.new in
+    (new, omega (arith, c.add.ensures.count, l.passes.ok.0, l.invariant.sharing.count, ap (λ (h : LogsOfHall g.row.D.Denot). h.seats) e.1))
 
 pub returns-in-Err-clause-still : goal.returns-in-Err-clause-still
 returns-in-Err-clause-still g c =

@@ -1,5 +1,5 @@
 use Rattle.std.proofs.Common.{subst, ◌++◌}
-use Rattle.http_text.specs.Messages.{Reads, between, inside}
+use Rattle.http_text.specs.Messages.{ReadsMessages, between, inside}
 use Rattle.http_text.specs.Readers.{waiting}
 use Rattle.http_text.specs.Taken.{reply_messages}
 use Rattle.http_text.specs.declared.message.Kind.{Kind}
@@ -10,12 +10,12 @@ use Rattle.http_text.proofs.replies.ReplyReader.finish.Goals as goal
 
 pub returns-clause-between : goal.returns-clause-between
 returns-clause-between c = on_ok c.finish.result _ _ (λ ends bytes taken stands.
-    subst (λ (r : MessageReader). Reads Replies bytes (reply_messages taken ++ waiting r) between) c.self.view_is
-    (subst (λ (k : Kind). Reads k bytes (reply_messages taken ++ waiting c.self.inside.reader) between) c.self.invariant.0
+    subst (λ (r : MessageReader). ReadsMessages Replies bytes (reply_messages taken ++ waiting r) between) c.self.view_is
+    (subst (λ (k : Kind). ReadsMessages k bytes (reply_messages taken ++ waiting c.self.inside.reader) between) c.self.invariant.0
     (ends bytes (reply_messages taken) (at_kind c.self.inside.reader.kind Replies c.self.inside.reader c.args.self.now bytes (reply_messages taken) c.self.invariant.0 c.self.view_is stands)))) c.finish.ensures.between
 
 pub returns-clause-inside : goal.returns-clause-inside
 returns-clause-inside c = on_err c.finish.result _ _ (λ ends bytes taken stands.
-    subst (λ (r : MessageReader). Reads Replies bytes (reply_messages taken ++ waiting r) inside) c.self.view_is
-    (subst (λ (k : Kind). Reads k bytes (reply_messages taken ++ waiting c.self.inside.reader) inside) c.self.invariant.0
+    subst (λ (r : MessageReader). ReadsMessages Replies bytes (reply_messages taken ++ waiting r) inside) c.self.view_is
+    (subst (λ (k : Kind). ReadsMessages k bytes (reply_messages taken ++ waiting c.self.inside.reader) inside) c.self.invariant.0
     (ends bytes (reply_messages taken) (at_kind c.self.inside.reader.kind Replies c.self.inside.reader c.args.self.now bytes (reply_messages taken) c.self.invariant.0 c.self.view_is stands)))) c.finish.ensures.inside

@@ -1,6 +1,6 @@
 use Rattle.std.proofs.Common.{◌≡◌, None, Some, subst, sym}
 use Rattle.std.specs.Prelude.{IfNone, IfSome}
-use Rattle.http_text.specs.Readers.{StandsFor}
+use Rattle.http_text.specs.Readers.{ReaderStandsFor}
 use Rattle.http_text.specs.Taken.{request_messages, taken_after}
 use Rattle.http_text.specs.declared.message.Kind.{Kind}
 use Rattle.http_text.specs.declared.message.Kind.TheVariants.{Requests}
@@ -20,5 +20,5 @@ returns-clause-rest c = λ bytes taken stands.
     let some : IfSome c.match-take.result (λ r. c.take.result ≡ Some (forms.Request r)) =
     elim c.match-take.branch [ in-Some-Request w ↦ rw w.result-is (cc) | in-None w ↦ rw w.result-is tt ] in
     let rest = c.take.ensures.rest bytes (request_messages taken) (at_kind c.self.inside.reader.kind Requests c.self.inside.reader c.args.self.now bytes (request_messages taken) c.self.invariant.0 c.self.view_is stands) in
-    subst (λ (k : Kind). StandsFor k bytes (request_messages (taken_after taken c.match-take.result)) c.take.new.self) c.self.invariant.0
+    subst (λ (k : Kind). ReaderStandsFor k bytes (request_messages (taken_after taken c.match-take.result)) c.take.new.self) c.self.invariant.0
     (rw (sym (taken_messages forms.Request taken c.match-take.result c.take.result none some)) rest)

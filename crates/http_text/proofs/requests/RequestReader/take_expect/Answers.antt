@@ -1,5 +1,5 @@
 use Rattle.std.proofs.Common.{◌≡◌, ◌⊎◌, ◌∙◌, [], Some, ap, subst}
-use Rattle.http_text.specs.Readers.{StandsFor, waiting, fault_of, was_told}
+use Rattle.http_text.specs.Readers.{ReaderStandsFor, waiting, fault_of, was_told}
 use Rattle.http_text.specs.Taken.{AsksBehind, request_messages}
 use Rattle.http_text.specs.declared.framing.FrameFault.TheVariants.{OutOfMemory}
 use Rattle.http_text.specs.declared.message.Kind.{Kind}
@@ -10,7 +10,7 @@ use Rattle.http_text.proofs.requests.RequestReader.take_expect.Goals as goal
 
 pub returns-clause-stands : goal.returns-clause-stands
 returns-clause-stands c = λ bytes taken stands.
-    subst (λ (k : Kind). StandsFor k bytes (request_messages taken) c.take_expect.new.self) c.self.invariant.0
+    subst (λ (k : Kind). ReaderStandsFor k bytes (request_messages taken) c.take_expect.new.self) c.self.invariant.0
     (c.take_expect.ensures.stands bytes (request_messages taken) (at_kind c.self.inside.reader.kind Requests c.self.inside.reader c.args.self.now bytes (request_messages taken) c.self.invariant.0 c.self.view_is stands))
 
 pub returns-clause-asks : goal.returns-clause-asks

@@ -1,14 +1,14 @@
 use Rattle.std.proofs.Common.{◌≡◌, ℕ, ◌≤◌, ◌<◌, ◌-◌, Bool, List, length, take, drop, get_or, sym, ap, subst, ◌∙◌, arith}
 use Rattle.line_log.specs.declared.edits.Edit.{Edit}
-use Rattle.line_log.specs.Held.{Fill, cut, start_of}
+use Rattle.line_log.specs.Held.{Fill, cut_edits, start_of}
 use Rattle.line_log.specs.Sorting.{line_at}
 use Rattle.line_log.proofs.Cuts.{length-cut, line-cut, line_inside}
 use Rattle.line_log.proofs.log.LineLog.line.Goals as goal
 
-within : (es : List Edit) (text : List ℕ) (all : List (Bool × List ℕ)) (n : ℕ) → cut 0 es text ≡ all → n < length all → n < length es
+within : (es : List Edit) (text : List ℕ) (all : List (Bool × List ℕ)) (n : ℕ) → cut_edits 0 es text ≡ all → n < length all → n < length es
 within es text all n is h = subst (λ (m : ℕ). n < m) (sym (ap length is) ∙ length-cut 0 es text) h
 
-module _ (es ds : List Edit) (text front : List ℕ) (all : List (Bool × List ℕ)) (n start : ℕ) (edit : Edit) (is : cut 0 es text ≡ all) (inside : n < length all) (same : ds ≡ es) (from : start ≡ start_of 0 ds n)
+module _ (es ds : List Edit) (text front : List ℕ) (all : List (Bool × List ℕ)) (n start : ℕ) (edit : Edit) (is : cut_edits 0 es text ≡ all) (inside : n < length all) (same : ds ≡ es) (from : start ≡ start_of 0 ds n)
     (found : edit ≡ get_or es n edit) (whole : front ≡ text) (fill : Fill 0 es (length text)) where
   begins : start ≡ start_of 0 es n
   begins = from ∙ ap (λ (l : List Edit). start_of 0 l n) same

@@ -1,6 +1,6 @@
 use Rattle.std.proofs.Common.{◌≤◌, ⊎_elim, Err, sym, ◌∙◌, ap, subst, arith}
 use Rattle.disk_model.specs.Past.{reads}
-use Rattle.delta_base.specs.Journals.{journal_length}
+use Rattle.delta_base.specs.Journals.{payloads_length}
 use Rattle.patch_log.specs.declared.fault.LogFault.{LogFault}
 use Rattle.patch_log.specs.Fault.{HasLogFault}
 use Rattle.patch_log.proofs.Openings.{found_log}
@@ -15,7 +15,7 @@ invariant_of-result g c =
 pub returns-in-Ok-read_log-clause-log : goal.returns-in-Ok-read_log-clause-log
 returns-in-Ok-read_log-clause-log g c =
     let payloads = c.in-Ok.opened.1.items in
-    let fits : journal_length payloads ≤ c.args.limits.bytes = omega (arith, c.in-Ok.ensures.length, c.in-Ok.ensures.within) in
+    let fits : payloads_length payloads ≤ c.args.limits.bytes = omega (arith, c.in-Ok.ensures.length, c.in-Ok.ensures.within) in
     found_log payloads c.args.limits c.in-Ok-read_log.chain.items c.in-Ok-read_log.ensures.ok fits
 
 pub returns-in-Err-read_log-clause-fault : goal.returns-in-Err-read_log-clause-fault
@@ -23,7 +23,7 @@ returns-in-Err-read_log-clause-fault g c told =
     let file = reads (g.D.Disk.past c.args.disk) in
     let limits = c.args.limits in
     let payloads = c.in-Ok.opened.1.items in
-    let fits : journal_length payloads ≤ limits.bytes = omega (arith, c.in-Ok.ensures.length, c.in-Ok.ensures.within) in
+    let fits : payloads_length payloads ≤ limits.bytes = omega (arith, c.in-Ok.ensures.length, c.in-Ok.ensures.within) in
     ⊎_elim
     (λ broken. subst (λ (fault : LogFault). HasLogFault file c.args.number limits fault) (sym broken.1) (
       payloads,

@@ -1,6 +1,6 @@
 use Rattle.std.proofs.Common.{ℕ, ◌++◌, List, sym, ap, subst, ◌∙◌, arith}
 use Rattle.std.proofs.lemmas.Result.{err_from_is_err_and}
-use Rattle.patch_meaning.specs.Cutting.{IsTextOf, checked_of}
+use Rattle.patch_meaning.specs.Cutting.{IsPatchText, checked_of}
 use Rattle.patch_meaning.proofs.Splits.{last_piece, part_before, unfinished, finished}
 use Rattle.patch_meaning.proofs.stream.Cutting.finish.Goals as goal
 
@@ -18,7 +18,7 @@ returns-in_err-done-clause-fault c =
 pub put-requires : goal.put-requires
 put-requires c =
     let r = c.requires in
-    subst (λ (text : List ℕ). IsTextOf text c.in_ok-done.done c.args.self.changes.items) (sym c.piece-text.ensures) (last_piece c.args.text.now r.0 c.args.self c.in_ok-done.done r.1 r.2 c.in_ok-done.ensures.last)
+    subst (λ (text : List ℕ). IsPatchText text c.in_ok-done.done c.args.self.changes.items) (sym c.piece-text.ensures) (last_piece c.args.text.now r.0 c.args.self c.in_ok-done.done r.1 r.2 c.in_ok-done.ensures.last)
 
 pub returns-clause-split : goal.returns-clause-split
 returns-clause-split c =

@@ -1,6 +1,6 @@
 use Rattle.std.proofs.Common.{ℕ, ◌++◌, List, sym, ap, subst, ◌∙◌, arith}
 use Rattle.patch_meaning.specs.declared.part.Part.{Part}
-use Rattle.patch_meaning.specs.Cutting.{HasTakenNext, IsTextOf, checked_of}
+use Rattle.patch_meaning.specs.Cutting.{HasTakenNext, IsPatchText, checked_of}
 use Rattle.patch_meaning.proofs.Splits.{next_piece, part_before, broken_row, taken_behind}
 use Rattle.patch_meaning.proofs.stream.Cutting.take.Goals as goal
 
@@ -13,7 +13,7 @@ piece-text-requires c =
 pub go_on-requires : goal.go_on-requires
 go_on-requires c =
     let r = c.requires in
-    subst (λ (text : List ℕ). IsTextOf text c.in-Ok.done c.args.self.now.changes.items) (sym c.piece-text.ensures)
+    subst (λ (text : List ℕ). IsPatchText text c.in-Ok.done c.args.self.now.changes.items) (sym c.piece-text.ensures)
     (next_piece c.args.text.now r.0 c.args.self.now c.args.next c.in-Ok.done r.1 r.2 c.in-Ok.ensures.cut)
 
 pub returns-in_ok-go_on-in-Ok-clause-ok : goal.returns-in_ok-go_on-in-Ok-clause-ok

@@ -1,5 +1,5 @@
 use Rattle.std.proofs.Common.{◌+◌, ℕ, List, ap, sym, subst, ◌∙◌}
-use Rattle.patch_reader.specs.Held.{IsQuiet, IsDecided}
+use Rattle.patch_reader.specs.Held.{DecidesNothing, IsDecided}
 use Rattle.patch_reader.specs.Rows.{NothingDecided}
 use Rattle.patch_reader.specs.Window.{Window}
 use Rattle.patch_reader.proofs.Holding.{followed, was_read, rest_is}
@@ -15,7 +15,7 @@ returns-clause-quiet c = λ yes.
     let r = c.self.inside in
     let rest = rest_is c.deref.result.now r.kept.items r.at c.deref.ensures.value in
     subst (λ (w : Window). NothingDecided w.fed w.passed) c.self.view_is
-    (subst (λ (t : List ℕ). IsQuiet t r.region) rest (c.follow_open.ensures.quiet yes) r.fed.text r.passed (r.from + r.at) c.self.invariant.rest c.self.invariant.stuck)
+    (subst (λ (t : List ℕ). DecidesNothing t r.region) rest (c.follow_open.ensures.quiet yes) r.fed.text r.passed (r.from + r.at) c.self.invariant.rest c.self.invariant.stuck)
 
 pub returns-clause-decided : goal.returns-clause-decided
 returns-clause-decided c = λ more front none.

@@ -2,9 +2,9 @@ use Rattle.std.proofs.Common.{◌+◌, ◌≤◌, List, ℕ, Option, Some, None,
 use Rattle.patch_rows.specs.declared.cut.TextEnd.{TextEnd}
 use Rattle.patch_rows.specs.declared.cut.TextEnd.TheVariants as ends
 use Rattle.patch_reader.specs.declared.placed.PlacedRow.{PlacedRow}
-use Rattle.patch_reader.specs.Held.{IsQuiet}
-use Rattle.patch_reader.specs.Places.{IsFrom}
-use Rattle.patch_reader.specs.Rows.{GivesNext, Stops}
+use Rattle.patch_reader.specs.Held.{DecidesNothing}
+use Rattle.patch_reader.specs.Places.{IsNotBefore}
+use Rattle.patch_reader.specs.Rows.{GivesNext, StopsRows}
 use Rattle.patch_reader.specs.Window.{Window}
 use Rattle.patch_reader.proofs.Holding.{followed, known_now, rest_is, row_given, row_within}
 use Rattle.patch_reader.proofs.window.RowWindow.next.Goals as goal
@@ -24,9 +24,9 @@ returns-then-is_quiet-clause-gives c =
     let r = c.self.inside in
     let quiet = c.follow_rest.ensures.quiet (c.in_ok-is_quiet.was ∙ ap Ok c.if-is_quiet.true) in
     let rest = rest_is c.deref.result.now r.kept.items r.at c.deref.ensures.value in
-    subst (λ (end : TextEnd). Stops end c.args.self.now.fed c.args.self.now.passed None) (sym quiet.0)
-    (subst (λ (w : Window). Stops ends.Open w.fed w.passed None) c.self.view_is
-    (subst (λ (t : List ℕ). IsQuiet t r.region) rest quiet.1 r.fed.text r.passed (r.from + r.at) c.self.invariant.rest c.self.invariant.stuck))
+    subst (λ (end : TextEnd). StopsRows end c.args.self.now.fed c.args.self.now.passed None) (sym quiet.0)
+    (subst (λ (w : Window). StopsRows ends.Open w.fed w.passed None) c.self.view_is
+    (subst (λ (t : List ℕ). DecidesNothing t r.region) rest quiet.1 r.fed.text r.passed (r.from + r.at) c.self.invariant.rest c.self.invariant.stuck))
 
 pub invariant_of-self-in-Ok-Some : goal.invariant_of-self-in-Ok-Some
 invariant_of-self-in-Ok-Some c =
@@ -40,7 +40,7 @@ pass_row-requires-clause-low c =
     let there = row_within c.args.end r.fed.text r.passed x
     (row_given r.fed.text r.passed r.from r.kept.items r.feeds r.at r.region c.self.invariant c.args.end c.follow_rest.new.region c.deref.result.now c.deref-2.result.now (Ok (Some x)) c.deref.ensures.value c.deref-2.ensures.value
     c.follow_rest.ensures.stays (c.follow_rest.ensures.all (c.in_ok-is_quiet.was ∙ ap Ok c.if-is_quiet.false)) (λ whole keeps. subst (λ (o : Option PlacedRow). GivesNext c.args.end whole (r.from + r.at) (Ok o)) c.in-Ok-Some.field-0-is (c.in-Ok-Some.ensures.gives whole keeps))) in
-    let low : r.from ≤ x.at = subst (λ (o : Option PlacedRow). IsFrom r.from (Ok o)) c.in-Ok-Some.field-0-is c.in-Ok-Some.ensures.from in
+    let low : r.from ≤ x.at = subst (λ (o : Option PlacedRow). IsNotBefore r.from (Ok o)) c.in-Ok-Some.field-0-is c.in-Ok-Some.ensures.from in
     omega (arith, low, there.0)
 
 pub pass_row-requires-clause-high : goal.pass_row-requires-clause-high

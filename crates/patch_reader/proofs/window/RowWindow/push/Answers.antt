@@ -1,6 +1,6 @@
 use Rattle.std.proofs.Common.{◌≡◌, ◌+◌, ◌-◌, ◌≤◌, List, ℕ, length, drop, sym, ap, subst, ◌∙◌, arith}
 use Rattle.std.proofs.lemmas.List.{length-append, length-drop}
-use Rattle.patch_reader.specs.Held.{IsStuck, Holds, PassesGap}
+use Rattle.patch_reader.specs.Held.{IsStuck, HoldsText, PassesGap}
 use Rattle.patch_reader.proofs.Holding.{pushed, rest_is}
 use Rattle.patch_reader.proofs.window.RowWindow.push.Goals as goal
 
@@ -14,7 +14,7 @@ invariant_of-self-2 c =
     let rest = rest_is c.deref.result.now longer r.at c.deref.ensures.value in
     let all : length r.kept.items ≡ length r.fed.text - r.from = sym (ap length c.self.invariant.keeps.0) ∙ length-drop r.from r.fed.text in
     let within = c.self.invariant.keeps.1 in
-    subst (λ (t : List ℕ). Holds t r.passed r.from longer r.feeds (r.at + size) new) (sym c.feed.ensures)
+    subst (λ (t : List ℕ). HoldsText t r.passed r.from longer r.feeds (r.at + size) new) (sym c.feed.ensures)
     (pushed r.fed.text r.passed r.from r.kept.items r.feeds r.at r.region c.self.invariant piece longer size new c.in_ok-extend_from_slice.ensures.items
     (omega (arith, all, within, c.if-piece-self.false, c.len.ensures, length-append r.fed.text piece))
     (subst (λ (t : List ℕ). size ≤ length t) rest c.pass_front.ensures.within)

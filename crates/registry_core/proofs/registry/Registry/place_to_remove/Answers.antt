@@ -3,9 +3,9 @@ use Rattle.std.specs.Prelude.{slice_get}
 use Rattle.delta_base.specs.declared.source_info.SourceInfo.{SourceInfo}
 use Rattle.registry_core.specs.declared.answer.ChangeAnswer.{ChangeAnswer}
 use Rattle.registry_core.specs.declared.answer.ChangeAnswer.TheVariants.{Done}
-use Rattle.registry_core.specs.Checks.{IsRefusal}
+use Rattle.registry_core.specs.Checks.{IsRefusedChange}
 use Rattle.registry_core.specs.Events.{events_of}
-use Rattle.registry_core.specs.Replies.{removed_from, of_found, remove_reply}
+use Rattle.registry_core.specs.Replies.{removal_answer, of_found, remove_reply}
 use Rattle.registry_core.specs.Sources.{source_named}
 use Rattle.registry_core.proofs.Replied.{slots_fit, remove_is}
 use Rattle.registry_core.proofs.registry.Registry.place_to_remove.Goals as goal
@@ -20,7 +20,7 @@ returns-clause-ok c =
     let r = c.self.inside in
     let events = events_of r.entries.items in
     let found = c.check_remove.result in
-    let one = subst (λ (l : List SourceInfo). IfOk found (λ place. (source : SourceInfo) × (slice_get l place ≡ Some source) × (of_found (removed_from r.bytes) (source_named c.args.name.now l) ≡ Done source))) c.deref.ensures.value c.check_remove.ensures.ok in
+    let one = subst (λ (l : List SourceInfo). IfOk found (λ place. (source : SourceInfo) × (slice_get l place ≡ Some source) × (of_found (removal_answer r.bytes) (source_named c.args.name.now l) ≡ Done source))) c.deref.ensures.value c.check_remove.ensures.ok in
     let two = subst (λ (reply : ChangeAnswer). IfOk found (λ place. (source : SourceInfo) × (slice_get r.living.items place ≡ Some source) × (reply ≡ Done source))) (remove_is r.slots events r.living.items r.made r.bytes c.self.invariant c.args.name.now) one in
     rw (← c.self.view_is) (subst (λ (l : List SourceInfo). IfOk found (λ place. (source : SourceInfo) × (slice_get l place ≡ Some source) × (remove_reply r.slots events c.args.name.now ≡ Done source))) c.self.invariant.living_is two)
 
@@ -29,5 +29,5 @@ returns-clause-refused c =
     let r = c.self.inside in
     let events = events_of r.entries.items in
     let found = c.check_remove.result in
-    let one = subst (λ (l : List SourceInfo). IfErr found (IsRefusal (of_found (removed_from r.bytes) (source_named c.args.name.now l)))) c.deref.ensures.value c.check_remove.ensures.refused in
-    rw (← c.self.view_is) (subst (λ (reply : ChangeAnswer). IfErr found (IsRefusal reply)) (remove_is r.slots events r.living.items r.made r.bytes c.self.invariant c.args.name.now) one)
+    let one = subst (λ (l : List SourceInfo). IfErr found (IsRefusedChange (of_found (removal_answer r.bytes) (source_named c.args.name.now l)))) c.deref.ensures.value c.check_remove.ensures.refused in
+    rw (← c.self.view_is) (subst (λ (reply : ChangeAnswer). IfErr found (IsRefusedChange reply)) (remove_is r.slots events r.living.items r.made r.bytes c.self.invariant c.args.name.now) one)

@@ -3,7 +3,7 @@ use Rattle.std.specs.Prelude.{slice_get}
 use Rattle.delta_base.specs.declared.source_info.SourceInfo.{SourceInfo}
 use Rattle.registry_core.specs.declared.answer.ChangeAnswer.{ChangeAnswer}
 use Rattle.registry_core.specs.declared.answer.ChangeAnswer.TheVariants.{Done}
-use Rattle.registry_core.specs.Checks.{IsRefusal}
+use Rattle.registry_core.specs.Checks.{IsRefusedChange}
 use Rattle.registry_core.specs.Events.{events_of}
 use Rattle.registry_core.specs.Replies.{renamed_to, of_found, rename_reply}
 use Rattle.registry_core.specs.Sources.{named, source_named}
@@ -30,5 +30,5 @@ returns-clause-refused c =
     let r = c.self.inside in
     let events = events_of r.entries.items in
     let found = c.check_rename.result in
-    let one = subst (λ (l : List SourceInfo). IfErr found (IsRefusal (of_found (renamed_to l r.bytes c.args.new_name.now) (source_named c.args.name.now l)))) c.deref.ensures.value c.check_rename.ensures.refused in
-    rw (← c.self.view_is) (subst (λ (reply : ChangeAnswer). IfErr found (IsRefusal reply)) (rename_is r.slots events r.living.items r.made r.bytes c.self.invariant c.args.name.now c.args.new_name.now) one)
+    let one = subst (λ (l : List SourceInfo). IfErr found (IsRefusedChange (of_found (renamed_to l r.bytes c.args.new_name.now) (source_named c.args.name.now l)))) c.deref.ensures.value c.check_rename.ensures.refused in
+    rw (← c.self.view_is) (subst (λ (reply : ChangeAnswer). IfErr found (IsRefusedChange reply)) (rename_is r.slots events r.living.items r.made r.bytes c.self.invariant c.args.name.now c.args.new_name.now) one)

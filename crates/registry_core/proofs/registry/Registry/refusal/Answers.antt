@@ -4,7 +4,7 @@ use Rattle.registry_core.specs.declared.answer.CreateAnswer.{CreateAnswer}
 use Rattle.registry_core.specs.declared.answer.CreateAnswer.TheVariants.{Made}
 use Rattle.registry_core.specs.Replies.{create_reply, created}
 use Rattle.registry_core.specs.Events.{events_of}
-use Rattle.registry_core.specs.Checks.{IsRefused}
+use Rattle.registry_core.specs.Checks.{IsRefusedCreate}
 use Rattle.registry_core.proofs.Replied.{source_is, reply_is}
 use Rattle.registry_core.proofs.registry.Registry.refusal.Goals as goal
 
@@ -24,5 +24,5 @@ returns-clause-refused c =
     let events = events_of r.entries.items in
     let source : SourceInfo = record { slot = r.made + 1; id = c.args.id; name = c.args.name.now; uri = c.args.uri.now } in
     let found = c.check_create.result in
-    let here = subst (λ (l : List SourceInfo). IfSome found (IsRefused (created l r.slots r.made r.bytes source))) c.deref.ensures.value c.check_create.ensures.refused in
-    rw (← c.self.view_is) (subst (λ (reply : CreateAnswer). IfSome found (IsRefused reply)) (reply_is r.slots events r.living.items r.made r.bytes c.self.invariant c.args.name.now c.args.uri.now c.args.id) here)
+    let here = subst (λ (l : List SourceInfo). IfSome found (IsRefusedCreate (created l r.slots r.made r.bytes source))) c.deref.ensures.value c.check_create.ensures.refused in
+    rw (← c.self.view_is) (subst (λ (reply : CreateAnswer). IfSome found (IsRefusedCreate reply)) (reply_is r.slots events r.living.items r.made r.bytes c.self.invariant c.args.name.now c.args.uri.now c.args.id) here)

@@ -6,8 +6,8 @@ use Rattle.log_registry.specs.State.{StateView}
 use Rattle.turn_cell.specs.Sights.{IsGrownBy}
 use Rattle.turn_cell.proofs.Knowing.{Entered}
 use Rattle.shared_registry.specs.Calling.{CallsInTurn}
-use Rattle.shared_registry.specs.History.{history_of, fixed_of, StandsInTurn}
-use Rattle.shared_registry.specs.Legal.{Legal}
+use Rattle.shared_registry.specs.History.{event_history, registry_fixed_of, RegistryStandsInTurn}
+use Rattle.shared_registry.specs.Legal.{LegalOnRegistry}
 use Rattle.shared_registry.proofs.Calling as told
 use Rattle.shared_registry.proofs.Calling.{same_fixed}
 use Rattle.shared_registry.proofs.shared.SharedRegistry.create_by.Goals as goal
@@ -16,14 +16,14 @@ pub leave-requires-clause-grown : goal.leave-requires-clause-grown
 leave-requires-clause-grown g c =
     let e = c.enter-held.ensures in
     let after : StateView g.row.D.Denot = c.create.new.self in
-    subst (λ (z : ℕ × StateView g.row.D.Denot). IsGrownBy z.0 (history_of z.1.entries) (history_of after.entries))
+    subst (λ (z : ℕ × StateView g.row.D.Denot). IsGrownBy z.0 (event_history z.1.entries) (event_history after.entries))
     (λ i. ((c.number-by.ensures ∙ sym e.same.2) i, (c.value_mut.ensures.value ∙ e.value) i)) c.create.ensures.grown
 
 pub leave-requires-in-DiskFault-clause-grown : goal.leave-requires-in-DiskFault-clause-grown
 leave-requires-in-DiskFault-clause-grown g c =
     let e = c.enter-held.ensures in
     let after : StateView g.row.D.Denot = c.create.new.self in
-    subst (λ (z : ℕ × StateView g.row.D.Denot). IsGrownBy z.0 (history_of z.1.entries) (history_of after.entries))
+    subst (λ (z : ℕ × StateView g.row.D.Denot). IsGrownBy z.0 (event_history z.1.entries) (event_history after.entries))
     (λ i. ((c.number-by.ensures ∙ sym e.same.2) i, (c.value_mut.ensures.value ∙ e.value) i)) c.create.ensures.grown
 
 pub returns-in-Made-clause-legal : goal.returns-in-Made-clause-legal
@@ -42,11 +42,11 @@ returns-in-Made-clause-legal g c =
     let reply = asked.answered c.create.result in
     let at : c.value_mut.result.now ≡ was = c.value_mut.ensures.value ∙ e.value in
     let entered : Entered p m = record { same = e.same; quiet = e.quiet; later = e.later; own = e.own; looked = e.looks } in
-    let fixed = same_fixed m.view.fixed (fixed_of disks.mark was) (fixed_of disks.mark origin) e.from.2 (e.same.3 ∙ c.requires.of.2) in
-    let found = ap (λ (r : StateView g.row.D.Denot). history_of r.entries) (sym e.value) ∙ e.entries in
+    let fixed = same_fixed m.view.fixed (registry_fixed_of disks.mark was) (registry_fixed_of disks.mark origin) e.from.2 (e.same.3 ∙ c.requires.of.2) in
+    let found = ap (λ (r : StateView g.row.D.Denot). event_history r.entries) (sym e.value) ∙ e.entries in
     let called : Called disks was after call p.view.number reply = subst (λ (z : ℕ × StateView g.row.D.Denot). Called disks z.1 after call z.0 reply) (λ i. (c.number-by.ensures i, at i)) a.called in
-    let found_stands : StandsInTurn disks was = subst (λ (r : StateView g.row.D.Denot). StandsInTurn disks r) at a.found_stands in
-    subst (λ answer. Legal origin.slots p call (asked.answered answer) q) c.in-Made.is (told.made_legal disks p m q origin was after call reply entered fixed found called found_stands a.left_stands l.same l.looks l.own l.entries l.faults l.never_falls l.doubt _ (ap (λ answer. asked.ending call (asked.answered answer)) c.in-Made.is))
+    let found_stands : RegistryStandsInTurn disks was = subst (λ (r : StateView g.row.D.Denot). RegistryStandsInTurn disks r) at a.found_stands in
+    subst (λ answer. LegalOnRegistry origin.slots p call (asked.answered answer) q) c.in-Made.is (told.made_legal disks p m q origin was after call reply entered fixed found called found_stands a.left_stands l.same l.looks l.own l.entries l.faults l.never_falls l.doubt _ (ap (λ answer. asked.ending call (asked.answered answer)) c.in-Made.is))
 
 pub returns-in-Made-clause-stay : goal.returns-in-Made-clause-stay
 returns-in-Made-clause-stay g c =
@@ -64,10 +64,10 @@ returns-in-Made-clause-stay g c =
     let reply = asked.answered c.create.result in
     let at : c.value_mut.result.now ≡ was = c.value_mut.ensures.value ∙ e.value in
     let entered : Entered p m = record { same = e.same; quiet = e.quiet; later = e.later; own = e.own; looked = e.looks } in
-    let fixed = same_fixed m.view.fixed (fixed_of disks.mark was) (fixed_of disks.mark origin) e.from.2 (e.same.3 ∙ c.requires.of.2) in
-    let found = ap (λ (r : StateView g.row.D.Denot). history_of r.entries) (sym e.value) ∙ e.entries in
+    let fixed = same_fixed m.view.fixed (registry_fixed_of disks.mark was) (registry_fixed_of disks.mark origin) e.from.2 (e.same.3 ∙ c.requires.of.2) in
+    let found = ap (λ (r : StateView g.row.D.Denot). event_history r.entries) (sym e.value) ∙ e.entries in
     let called : Called disks was after call p.view.number reply = subst (λ (z : ℕ × StateView g.row.D.Denot). Called disks z.1 after call z.0 reply) (λ i. (c.number-by.ensures i, at i)) a.called in
-    let found_stands : StandsInTurn disks was = subst (λ (r : StateView g.row.D.Denot). StandsInTurn disks r) at a.found_stands in
+    let found_stands : RegistryStandsInTurn disks was = subst (λ (r : StateView g.row.D.Denot). RegistryStandsInTurn disks r) at a.found_stands in
     subst (λ answer. CallsInTurn disks origin call (asked.answered answer) p q) c.in-Made.is (told.published disks p m q origin was after call reply entered fixed found called found_stands a.left_stands l.same l.looks l.own l.entries l.faults l.never_falls l.doubt)
 
 pub returns-in-DiskFault-clause-legal : goal.returns-in-DiskFault-clause-legal
@@ -86,11 +86,11 @@ returns-in-DiskFault-clause-legal g c =
     let reply = asked.answered c.create.result in
     let at : c.value_mut.result.now ≡ was = c.value_mut.ensures.value ∙ e.value in
     let entered : Entered p m = record { same = e.same; quiet = e.quiet; later = e.later; own = e.own; looked = e.looks } in
-    let fixed = same_fixed m.view.fixed (fixed_of disks.mark was) (fixed_of disks.mark origin) e.from.2 (e.same.3 ∙ c.requires.of.2) in
-    let found = ap (λ (r : StateView g.row.D.Denot). history_of r.entries) (sym e.value) ∙ e.entries in
+    let fixed = same_fixed m.view.fixed (registry_fixed_of disks.mark was) (registry_fixed_of disks.mark origin) e.from.2 (e.same.3 ∙ c.requires.of.2) in
+    let found = ap (λ (r : StateView g.row.D.Denot). event_history r.entries) (sym e.value) ∙ e.entries in
     let called : Called disks was after call p.view.number reply = subst (λ (z : ℕ × StateView g.row.D.Denot). Called disks z.1 after call z.0 reply) (λ i. (c.number-by.ensures i, at i)) a.called in
-    let found_stands : StandsInTurn disks was = subst (λ (r : StateView g.row.D.Denot). StandsInTurn disks r) at a.found_stands in
-    subst (λ answer. Legal origin.slots p call (asked.answered answer) q) c.in-DiskFault.is (told.failed_legal disks p m q origin was after call reply entered fixed found called found_stands a.left_stands l.same l.looks l.own l.entries l.faults l.never_falls l.doubt (ap (λ answer. asked.ending call (asked.answered answer)) c.in-DiskFault.is))
+    let found_stands : RegistryStandsInTurn disks was = subst (λ (r : StateView g.row.D.Denot). RegistryStandsInTurn disks r) at a.found_stands in
+    subst (λ answer. LegalOnRegistry origin.slots p call (asked.answered answer) q) c.in-DiskFault.is (told.failed_legal disks p m q origin was after call reply entered fixed found called found_stands a.left_stands l.same l.looks l.own l.entries l.faults l.never_falls l.doubt (ap (λ answer. asked.ending call (asked.answered answer)) c.in-DiskFault.is))
 
 pub returns-in-DiskFault-clause-stay : goal.returns-in-DiskFault-clause-stay
 returns-in-DiskFault-clause-stay g c =
@@ -108,10 +108,10 @@ returns-in-DiskFault-clause-stay g c =
     let reply = asked.answered c.create.result in
     let at : c.value_mut.result.now ≡ was = c.value_mut.ensures.value ∙ e.value in
     let entered : Entered p m = record { same = e.same; quiet = e.quiet; later = e.later; own = e.own; looked = e.looks } in
-    let fixed = same_fixed m.view.fixed (fixed_of disks.mark was) (fixed_of disks.mark origin) e.from.2 (e.same.3 ∙ c.requires.of.2) in
-    let found = ap (λ (r : StateView g.row.D.Denot). history_of r.entries) (sym e.value) ∙ e.entries in
+    let fixed = same_fixed m.view.fixed (registry_fixed_of disks.mark was) (registry_fixed_of disks.mark origin) e.from.2 (e.same.3 ∙ c.requires.of.2) in
+    let found = ap (λ (r : StateView g.row.D.Denot). event_history r.entries) (sym e.value) ∙ e.entries in
     let called : Called disks was after call p.view.number reply = subst (λ (z : ℕ × StateView g.row.D.Denot). Called disks z.1 after call z.0 reply) (λ i. (c.number-by.ensures i, at i)) a.called in
-    let found_stands : StandsInTurn disks was = subst (λ (r : StateView g.row.D.Denot). StandsInTurn disks r) at a.found_stands in
+    let found_stands : RegistryStandsInTurn disks was = subst (λ (r : StateView g.row.D.Denot). RegistryStandsInTurn disks r) at a.found_stands in
     subst (λ answer. CallsInTurn disks origin call (asked.answered answer) p q) c.in-DiskFault.is (told.published disks p m q origin was after call reply entered fixed found called found_stands a.left_stands l.same l.looks l.own l.entries l.faults l.never_falls l.doubt)
 
 pub returns-in_default-clause-legal : goal.returns-in_default-clause-legal
@@ -130,10 +130,10 @@ returns-in_default-clause-legal g c =
     let reply = asked.answered c.create.result in
     let at : c.value_mut.result.now ≡ was = c.value_mut.ensures.value ∙ e.value in
     let entered : Entered p m = record { same = e.same; quiet = e.quiet; later = e.later; own = e.own; looked = e.looks } in
-    let fixed = same_fixed m.view.fixed (fixed_of disks.mark was) (fixed_of disks.mark origin) e.from.2 (e.same.3 ∙ c.requires.of.2) in
-    let found = ap (λ (r : StateView g.row.D.Denot). history_of r.entries) (sym e.value) ∙ e.entries in
+    let fixed = same_fixed m.view.fixed (registry_fixed_of disks.mark was) (registry_fixed_of disks.mark origin) e.from.2 (e.same.3 ∙ c.requires.of.2) in
+    let found = ap (λ (r : StateView g.row.D.Denot). event_history r.entries) (sym e.value) ∙ e.entries in
     let called : Called disks was after call p.view.number reply = subst (λ (z : ℕ × StateView g.row.D.Denot). Called disks z.1 after call z.0 reply) (λ i. (c.number-by.ensures i, at i)) a.called in
-    let found_stands : StandsInTurn disks was = subst (λ (r : StateView g.row.D.Denot). StandsInTurn disks r) at a.found_stands in
+    let found_stands : RegistryStandsInTurn disks was = subst (λ (r : StateView g.row.D.Denot). RegistryStandsInTurn disks r) at a.found_stands in
     told.told_legal disks p m q origin was after call reply entered fixed found called found_stands a.left_stands l.same l.looks l.own (told.create_quiet c.create.result c.in_default.not-DiskFault c.in_default.not-Made) l.seen l.quiet
 
 pub returns-in_default-clause-stay : goal.returns-in_default-clause-stay
@@ -152,8 +152,8 @@ returns-in_default-clause-stay g c =
     let reply = asked.answered c.create.result in
     let at : c.value_mut.result.now ≡ was = c.value_mut.ensures.value ∙ e.value in
     let entered : Entered p m = record { same = e.same; quiet = e.quiet; later = e.later; own = e.own; looked = e.looks } in
-    let fixed = same_fixed m.view.fixed (fixed_of disks.mark was) (fixed_of disks.mark origin) e.from.2 (e.same.3 ∙ c.requires.of.2) in
-    let found = ap (λ (r : StateView g.row.D.Denot). history_of r.entries) (sym e.value) ∙ e.entries in
+    let fixed = same_fixed m.view.fixed (registry_fixed_of disks.mark was) (registry_fixed_of disks.mark origin) e.from.2 (e.same.3 ∙ c.requires.of.2) in
+    let found = ap (λ (r : StateView g.row.D.Denot). event_history r.entries) (sym e.value) ∙ e.entries in
     let called : Called disks was after call p.view.number reply = subst (λ (z : ℕ × StateView g.row.D.Denot). Called disks z.1 after call z.0 reply) (λ i. (c.number-by.ensures i, at i)) a.called in
-    let found_stands : StandsInTurn disks was = subst (λ (r : StateView g.row.D.Denot). StandsInTurn disks r) at a.found_stands in
+    let found_stands : RegistryStandsInTurn disks was = subst (λ (r : StateView g.row.D.Denot). RegistryStandsInTurn disks r) at a.found_stands in
     told.as_found disks p m q origin was after call reply entered fixed found called found_stands a.left_stands l.same l.looks l.own (told.create_quiet c.create.result c.in_default.not-DiskFault c.in_default.not-Made) l.seen l.quiet

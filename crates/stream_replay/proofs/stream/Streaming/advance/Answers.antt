@@ -1,8 +1,8 @@
 use Rattle.std.proofs.Common.{◌≡◌, ℕ, ◌-◌, ◌<◌, List, [], ◌∷◌, Some, length, refl, sym, ap, subst, ◌∙◌, arith}
 use Rattle.std.proofs.lemmas.Result.{err_from_is_err_and}
-use Rattle.patch_reader.specs.Rows.{RowsStand, Stops}
+use Rattle.patch_reader.specs.Rows.{RowsStand, StopsRows}
 use Rattle.patch_reader.specs.Window.{Window}
-use Rattle.stream_replay.specs.Streaming.{IsTold}
+use Rattle.stream_replay.specs.Streaming.{IsToldEnd}
 use Rattle.stream_replay.proofs.Streams.{next_passed, streamed_at}
 use Rattle.stream_replay.proofs.stream.Streaming.advance.Goals as goal
 
@@ -23,14 +23,14 @@ returns-in_err-take_row-in-Ok-Some-clause-fault c =
     let row = c.in-Ok-Some in let next = next_passed end old new row.field-0 row.row row.field-0-is row.ensures.gives row.ensures.goes_on in
     rw (p.1, p.2)
     (λ read.
-    subst (λ (t : List ℕ). IsTold end t taken.field-0.0) (next.fed ∙ c.rows.invariant.fed)
+    subst (λ (t : List ℕ). IsToldEnd end t taken.field-0.0) (next.fed ∙ c.rows.invariant.fed)
     (taken.ensures.fault end old.passed (subst (λ (t : List ℕ). RowsStand end t old.passed (row.row ∷ []) row.row.end) (sym next.fed) next.stands)
     (streamed_at end old.fed new.fed old.passed old.passed c.rows.self.progress next.fed refl (c.rows.invariant.read read))))
 
 pub break_off-requires-clause-there : goal.break_off-requires-clause-there
 break_off-requires-clause-there c =
     let old = c.rows.self.window in
-    (c.args.end, old.passed, subst (λ (w : Window). Stops c.args.end w.fed old.passed (Some c.in-Err.fault)) (sym c.in-Err.ensures.goes_on) c.in-Err.ensures.gives)
+    (c.args.end, old.passed, subst (λ (w : Window). StopsRows c.args.end w.fed old.passed (Some c.in-Err.fault)) (sym c.in-Err.ensures.goes_on) c.in-Err.ensures.gives)
 
 pub take_found_rows-requires-clause-few : goal.take_found_rows-requires-clause-few
 take_found_rows-requires-clause-few c =
@@ -52,7 +52,7 @@ returns-in-Err-clause-fault c = λ read.
     let old = c.rows.self.window in let new = c.next.new.self in let end = c.args.end in
     let fed : new.fed ≡ old.fed = ap (λ (w : Window). w.fed) c.in-Err.ensures.goes_on in
     let passed : new.passed ≡ old.passed = ap (λ (w : Window). w.passed) c.in-Err.ensures.goes_on in
-    subst (λ (t : List ℕ). IsTold end t c.break_off.result) (fed ∙ c.rows.invariant.fed)
+    subst (λ (t : List ℕ). IsToldEnd end t c.break_off.result) (fed ∙ c.rows.invariant.fed)
     (c.break_off.ensures end
-    (subst (λ (w : Window). Stops end w.fed w.passed (Some c.in-Err.fault)) (sym c.in-Err.ensures.goes_on) c.in-Err.ensures.gives)
+    (subst (λ (w : Window). StopsRows end w.fed w.passed (Some c.in-Err.fault)) (sym c.in-Err.ensures.goes_on) c.in-Err.ensures.gives)
     (streamed_at end old.fed new.fed old.passed new.passed c.rows.self.progress fed passed (c.rows.invariant.read read)))

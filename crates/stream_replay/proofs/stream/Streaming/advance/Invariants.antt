@@ -1,11 +1,11 @@
 use Rattle.std.proofs.Common.{◌≡◌, ◌-◌, ◌≤◌, length}
-use Rattle.stream_replay.specs.Streaming.{IsRead}
+use Rattle.stream_replay.specs.Streaming.{IsStreamRead}
 use Rattle.stream_replay.proofs.stream.Streaming.advance.Given as goal
 
 -- the rows so far were taken
 abbrev pub invariant-rows : goal.invariant-rows
 invariant-rows l = record {
-  read : IsRead l.end l.fn.self → IsRead l.end l.self;
+  read : IsStreamRead l.end l.fn.self → IsStreamRead l.end l.self;
   few : l.self.progress.replay.chain.version ≤ l.self.window.passed;
   fed : l.self.window.fed ≡ l.fn.self.window.fed;
   same : l.self.fault ≡ l.fn.self.fault;

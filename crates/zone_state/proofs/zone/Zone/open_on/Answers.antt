@@ -1,12 +1,12 @@
 use Rattle.std.proofs.Common.{◌≤◌, ⊎_elim, ℕ, List, Err, sym, ◌∙◌, ap, subst, arith}
-use Rattle.delta_base.specs.Journals.{journal_length}
+use Rattle.delta_base.specs.Journals.{payloads_length}
 use Rattle.disk_model.specs.Past.{reads}
 use Rattle.chain_core.specs.Breaks.{BreaksAt}
 use Rattle.log_journal.specs.File.{Holds}
 use Rattle.patch_log.specs.Log.{AreChained}
 use Rattle.zone_state.specs.declared.fault.ZoneFault.{ZoneFault}
 use Rattle.zone_state.specs.Fault.{HasZoneFault}
-use Rattle.zone_state.specs.Next.{AreFound}
+use Rattle.zone_state.specs.Next.{AreFoundPatches}
 use Rattle.zone_state.specs.Zone.{zone_number}
 use Rattle.zone_state.proofs.Opened.{taken_found, length_opened, zone_opened, kept_opened}
 use Rattle.zone_state.proofs.zone.Zone.open_on.Goals as goal
@@ -16,7 +16,7 @@ invariant_of-result g c =
     let e = c.in-Ok.ensures in
     let payloads = e.received.0 in
     let read = c.in-Ok-finish.ensures.ok c.new-reading.result payloads e.received.1 in
-    let are = subst (λ (n : ℕ). AreFound payloads n read.0) c.new-reading.ensures.most read.1 in
+    let are = subst (λ (n : ℕ). AreFoundPatches payloads n read.0) c.new-reading.ensures.most read.1 in
     kept_opened c.in-Ok.journal c.in-Ok-finish.kept c.args.limits payloads read.0 are read.2 e.received.2 e.received.3 e.within e.limit c.new-reading.ensures.countable c.in-Ok-finish.ensures.unstaged
 
 pub returns-in-Ok-finish-clause-taken : goal.returns-in-Ok-finish-clause-taken
@@ -24,7 +24,7 @@ returns-in-Ok-finish-clause-taken g c =
     let e = c.in-Ok.ensures in
     let payloads = e.received.0 in
     let read = c.in-Ok-finish.ensures.ok c.new-reading.result payloads e.received.1 in
-    let are = subst (λ (n : ℕ). AreFound payloads n read.0) c.new-reading.ensures.most read.1 in (
+    let are = subst (λ (n : ℕ). AreFoundPatches payloads n read.0) c.new-reading.ensures.most read.1 in (
       read.0,
       zone_opened c.in-Ok.journal c.in-Ok-finish.kept c.args.limits payloads read.0 are read.2 e.received.2 e.received.3 e.within,
       read.3,
@@ -36,7 +36,7 @@ returns-in-Ok-finish-clause-few g c told =
     let e = c.in-Ok.ensures in
     let payloads = e.received.0 in
     let read = c.in-Ok-finish.ensures.ok c.new-reading.result payloads e.received.1 in
-    let are = subst (λ (n : ℕ). AreFound payloads n read.0) c.new-reading.ensures.most read.1 in
+    let are = subst (λ (n : ℕ). AreFoundPatches payloads n read.0) c.new-reading.ensures.most read.1 in
     omega (arith, e.few told, length_opened c.in-Ok.journal c.in-Ok-finish.kept c.args.limits payloads read.0 are read.2 e.received.2 e.received.3 e.within)
 
 pub returns-in-Err-finish-clause-fault : goal.returns-in-Err-finish-clause-fault
@@ -46,7 +46,7 @@ returns-in-Err-finish-clause-fault g c told =
     let e = c.in-Ok.ensures in
     let payloads = e.received.0 in
     let holds = e.received.4 told in
-    let fits : journal_length payloads ≤ limits.bytes = omega (arith, e.received.3, e.within) in
+    let fits : payloads_length payloads ≤ limits.bytes = omega (arith, e.received.3, e.within) in
     let is = c.in-Err-finish.is in
     let most = c.new-reading.ensures.most in
     ⊎_elim
@@ -58,7 +58,7 @@ returns-in-Err-finish-clause-fault g c told =
     ))
     (λ full.
     let found = c.finish.ensures.terms_full c.new-reading.result payloads e.received.1 (is ∙ ap (λ (fault : ZoneFault). Err fault) full) in
-    let are = subst (λ (n : ℕ). AreFound payloads n found.0) most found.1 in
+    let are = subst (λ (n : ℕ). AreFoundPatches payloads n found.0) most found.1 in
     subst (λ (fault : ZoneFault). HasZoneFault file limits fault) (sym full) (
       found.0,
       subst (λ (ts : List (List ℕ)). Holds file zone_number ts) (sym are.texts_are) holds,

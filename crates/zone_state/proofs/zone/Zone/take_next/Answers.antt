@@ -4,7 +4,7 @@ use Rattle.rdf_terms.specs.declared.term.Term.{Term}
 use Rattle.dataset_tx.specs.Held.{AreMet}
 use Rattle.log_journal.specs.Payload.{payload_of}
 use Rattle.log_journal.specs.StandsFor.{disk_of}
-use Rattle.patch_meaning.specs.Checked.{texts}
+use Rattle.patch_meaning.specs.Checked.{checked_texts}
 use Rattle.patch_log.specs.Log.{bare}
 use Rattle.zone_state.specs.Zone.{zone_number}
 use Rattle.zone_state.specs.State.{view_of}
@@ -59,8 +59,8 @@ returns-in-Ok-write-clause-stay g c =
     rw (← c.self.view_is) (λ taken doubt stands no_terms no_want.
     let before = journal_is zone.journal zone.kept zone.limits c.self.invariant taken doubt stands in
     took_written zone.journal zone.kept zone.limits c.self.invariant patch c.in-Applied.version c.in-Applied.ensures (Ok c.in-Ok-write.field-0) c.write.new.journal kept c.prepare.ensures.checked (payload_of c.in-Ok.block) c.in-Ok.ensures.block brief e.stands e.length
-    taken doubt stands e.settling (e.phase zone_number (texts taken) (text_in doubt) before) (λ plans long. e.planned plans long zone_number (texts taken) (text_in doubt) before)
-    (λ plans told long. e.images plans told long zone_number (texts taken) (text_in doubt) before))
+    taken doubt stands e.settling (e.phase zone_number (checked_texts taken) (text_in doubt) before) (λ plans long. e.planned plans long zone_number (checked_texts taken) (text_in doubt) before)
+    (λ plans told long. e.images plans told long zone_number (checked_texts taken) (text_in doubt) before))
 
 pub returns-in-Ok-write-clause-terms : goal.returns-in-Ok-write-clause-terms
 returns-in-Ok-write-clause-terms g c =
@@ -114,8 +114,8 @@ returns-in-Ok-clause-stay g c =
     rw (← c.self.view_is) (λ taken doubt stands no_terms no_want.
     let before = journal_is zone.journal zone.kept zone.limits c.self.invariant taken doubt stands in
     took_written zone.journal zone.kept zone.limits c.self.invariant patch c.in-Applied.version c.in-Applied.ensures (Err c.in-Err.field-0) c.write.new.journal kept c.prepare.ensures.checked (payload_of c.in-Ok.block) c.in-Ok.ensures.block brief e.stands e.length
-    taken doubt stands e.settling (e.phase zone_number (texts taken) (text_in doubt) before) (λ plans long. e.planned plans long zone_number (texts taken) (text_in doubt) before)
-    (λ plans told long. e.images plans told long zone_number (texts taken) (text_in doubt) before))
+    taken doubt stands e.settling (e.phase zone_number (checked_texts taken) (text_in doubt) before) (λ plans long. e.planned plans long zone_number (checked_texts taken) (text_in doubt) before)
+    (λ plans told long. e.images plans told long zone_number (checked_texts taken) (text_in doubt) before))
 
 pub returns-in-Ok-clause-terms : goal.returns-in-Ok-clause-terms
 returns-in-Ok-clause-terms g c =

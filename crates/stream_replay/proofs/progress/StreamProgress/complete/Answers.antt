@@ -5,7 +5,7 @@ use Rattle.patch_meaning.specs.Cutting.{changes_left, meanings_of}
 use Rattle.patch_meaning.specs.Replay.{replay}
 use Rattle.stream_replay.specs.Edits.{HasEdits}
 use Rattle.stream_replay.proofs.Taken.{edits_left}
-use Rattle.stream_replay.proofs.progress.Progress.complete.Goals as goal
+use Rattle.stream_replay.proofs.progress.StreamProgress.complete.Goals as goal
 
 pub returns-in_ok-take-in-Some-clause-edits : goal.returns-in_ok-take-in-Some-clause-edits
 returns-in_ok-take-in-Some-clause-edits c =

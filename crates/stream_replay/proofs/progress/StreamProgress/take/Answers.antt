@@ -5,7 +5,7 @@ use Rattle.patch_meaning.specs.Replay.{replay}
 use Rattle.stream_replay.specs.Replaying.{IsReplay}
 use Rattle.stream_replay.specs.Streaming.{HoldsMore}
 use Rattle.stream_replay.proofs.Streams.{refused_by, streamed_more}
-use Rattle.stream_replay.proofs.progress.Progress.take.Goals as goal
+use Rattle.stream_replay.proofs.progress.StreamProgress.take.Goals as goal
 
 pub returns-in-Err-clause-fault : goal.returns-in-Err-clause-fault
 returns-in-Err-clause-fault c = λ end text stop a. refused_by end text c.args.at stop c.args.self.now c.args.says.now c.in-Err.fault c.in-Err.ensures.fault a

@@ -3,7 +3,7 @@ use Rattle.std.proofs.lemmas.Bool.{false≢true}
 use Rattle.std.proofs.lemmas.Result.{on_ok_weaker}
 use Rattle.row_scan.specs.Found.{change_by}
 use Rattle.stream_replay.proofs.Streams.{streamed_quad}
-use Rattle.stream_replay.proofs.progress.Progress.take_quad.Goals as goal
+use Rattle.stream_replay.proofs.progress.StreamProgress.take_quad.Goals as goal
 
 pub returns-then-is_behind_limit-clause-ok : goal.returns-then-is_behind_limit-clause-ok
 returns-then-is_behind_limit-clause-ok c = λ end text stop quad is a.

@@ -1,6 +1,6 @@
 use Rattle.std.proofs.Common.{[], refl}
 use Rattle.patch_meaning.proofs.Cuts.{nothing_cut}
-use Rattle.stream_replay.proofs.progress.Progress.new.Goals as goal
+use Rattle.stream_replay.proofs.progress.StreamProgress.new.Goals as goal
 
 pub returns-clause-streamed : goal.returns-clause-streamed
 returns-clause-streamed c = record {
