@@ -99,13 +99,16 @@ fn conflict_in(status: u16, value: &Value) -> Option<(u32, Option<Id>, Option<u3
         "prev_version",
         "version",
     )?;
-    if status != 409 || !is_word(error, "conflict") {
-        return None;
+    if status == 409
+        && is_word(error, "conflict")
+        && let Some(head) = id_or_null_in(head)
+        && let Some(prev_version) = short_or_null_in(prev_version)
+        && let Some(version) = short_in(version)
+    {
+        Some((version, head, prev_version))
+    } else {
+        None
     }
-    let head = id_or_null_in(head)?;
-    let prev_version = short_or_null_in(prev_version)?;
-    let version = short_in(version)?;
-    Some((version, head, prev_version))
 }
 
 fn name_taken_in(status: u16, value: &Value) -> Option<Id>

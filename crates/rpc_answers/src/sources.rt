@@ -25,11 +25,15 @@ fn parts_in(value: &Value) -> Option<(u32, Id, &str, &str)>
         → view value.now ≡ source_data source → ⊥) }
 {
     let (id, name, slot, uri) = four_members(value, "id", "name", "slot", "uri")?;
-    let id = id_in(id)?;
-    let name = text_in(name)?;
-    let slot = short_in(slot)?;
-    let uri = text_in(uri)?;
-    Some((slot, id, name, uri))
+    if let Some(id) = id_in(id)
+        && let Some(name) = text_in(name)
+        && let Some(slot) = short_in(slot)
+        && let Some(uri) = text_in(uri)
+    {
+        Some((slot, id, name, uri))
+    } else {
+        None
+    }
 }
 
 // A source.

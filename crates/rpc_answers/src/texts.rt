@@ -59,14 +59,15 @@ fn bad_request_in(status: u16, value: &Value) -> Option<&str>
         → IsRowOf status (view value.now) (Answer.BadRequest kind) → ⊥) }
 {
     let (error, kind) = two_members(value, "error", "kind")?;
-    if !is_word(error, "bad_request") {
-        return None;
+    if is_word(error, "bad_request")
+        && let Some(kind) = text_in(kind)
+        && let Some(beside) = status_beside(kind)
+        && beside == status
+    {
+        Some(kind)
+    } else {
+        None
     }
-    let kind = text_in(kind)?;
-    if status_beside(kind)? != status {
-        return None;
-    }
-    Some(kind)
 }
 
 /// The answer of a status and a value, where it is one with a text.
