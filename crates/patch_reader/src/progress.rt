@@ -1,7 +1,7 @@
 //! How far the reading of an unfinished row is known, so that it isn't read again for each piece.
 
 ghost use Rattle.std.specs.Prelude.{◌≡◌, ◌≤◌, ◌<◌, ◌++◌, ℕ, List, true};
-ghost use Rattle.std.specs.Prelude.{false, length, drop, slice_index, IfOk};
+ghost use Rattle.std.specs.Prelude.{false, length, drop, slice_index, IfOk, MatchResult, Ok, Err};
 ghost use Rattle.nquads_text.specs.Faults.{begins_term};
 ghost use Rattle.patch_rows.specs.Fault.{GivesEnd};
 ghost use Rattle.patch_rows.specs.Reading.{stands};
@@ -193,18 +193,37 @@ fn step_code(text: &[u8]) -> Step
     }
 }
 
+/// The place behind what was read, which is let go.
+#[inline(always)]
+fn place_behind<T: Drop>(read: Result<(T, usize), RowFault>) -> Result<usize, RowFault>
+    ensures { MatchResult read (λ x. result ≡ Ok x.1) (λ fault. result ≡ Err fault) }
+{
+    match read {
+        Ok((value, behind)) => {
+            drop(value);
+            Ok(behind)
+        }
+        Err(fault) => Err(fault),
+    }
+}
+
 /// The place behind a part.
 fn read_part(alloc: Global, text: &[u8], part: RowPart, start: usize) -> Result<usize, RowFault>
     requires { start ≤ length text.now }
     ensures { GivesEnd text.now result (part_at part (drop start text.now)) }
 {
     match part {
-        RowPart::Key => Ok(key(alloc, text, start, TextEnd::Open)?.1),
-        RowPart::Value | RowPart::Object => Ok(any(alloc, text, start, TextEnd::Open)?.1),
-        RowPart::Subject | RowPart::Graph => Ok(node(alloc, text, start, TextEnd::Open)?.1),
-        RowPart::Predicate => Ok(iri(alloc, text, start, TextEnd::Open)?.1),
-        RowPart::Added | RowPart::Removed => Ok(prefix(alloc, text, start, TextEnd::Open)?.1),
-        RowPart::Iri => Ok(prefix_iri(alloc, text, start, TextEnd::Open)?.1),
+        RowPart::Key => place_behind(key(alloc, text, start, TextEnd::Open)),
+        RowPart::Value | RowPart::Object => place_behind(any(alloc, text, start, TextEnd::Open)),
+        RowPart::Subject | RowPart::Graph => place_behind(node(alloc, text, start, TextEnd::Open)),
+        RowPart::Predicate => place_behind(iri(alloc, text, start, TextEnd::Open)),
+        RowPart::Added | RowPart::Removed => place_behind(prefix(
+            alloc,
+            text,
+            start,
+            TextEnd::Open,
+        )),
+        RowPart::Iri => place_behind(prefix_iri(alloc, text, start, TextEnd::Open)),
         RowPart::Bare => dot(text, start, RowKind::Common(TextKind::BadToken)),
         RowPart::End => dot(text, start, RowKind::Common(TextKind::MissingDot)),
     }
