@@ -60,8 +60,13 @@ fn graph_or_dot(
         return Ok((None, behind));
     }
     let (term, after) = node(alloc, text, at, text_end)?;
-    let behind = end(text, after, RowKind::Common(TextKind::MissingDot))?;
-    Ok((Some(term), behind))
+    match end(text, after, RowKind::Common(TextKind::MissingDot)) {
+        Ok(behind) => Ok((Some(term), behind)),
+        Err(fault) => {
+            drop(term);
+            Err(fault)
+        }
+    }
 }
 
 /// The graph of a row, if it has one, and the row's end.

@@ -167,6 +167,7 @@ fn open_term(alloc: Global, text: &[u8], at: usize) -> Result<(Term, usize), Row
 {
     let (term, end) = needed_term(alloc, text, at)?;
     if is_open_literal(text, at, &term, end) {
+        drop(term);
         return Err(cut_off(text));
     }
     Ok((term, end))
@@ -207,6 +208,7 @@ fn unless_open(
         TextEnd::Known => Ok((term, end)),
         TextEnd::Open => {
             if is_open_blank(text, at, &term, end) {
+                drop(term);
                 return Err(cut_off(text));
             }
             Ok((term, end))
@@ -243,6 +245,7 @@ pub fn node(
 {
     let (term, end) = term(alloc, text, at, text_end)?;
     if term.is_literal() {
+        drop(term);
         return Err(RowFault::at(at, RowKind::Common(TextKind::BadPosition)));
     }
     unless_open(text, at, term, end, text_end)
@@ -262,6 +265,7 @@ pub fn iri(
 {
     let (term, end) = term(alloc, text, at, text_end)?;
     if !term.is_iri() {
+        drop(term);
         return Err(RowFault::at(at, RowKind::Common(TextKind::BadPosition)));
     }
     unless_open(text, at, term, end, text_end)

@@ -170,7 +170,10 @@ fn quoted_prefix(
                 kind: LiteralKind::Plain,
             },
         ) => Ok((lexical, end)),
-        _ => Err(RowFault::at(at, RowKind::Common(TextKind::BadPosition))),
+        term => {
+            drop(term);
+            Err(RowFault::at(at, RowKind::Common(TextKind::BadPosition)))
+        }
     }
 }
 
@@ -273,6 +276,9 @@ pub fn prefix_iri(
                 kind: LiteralKind::Plain,
             },
         ) => iri_of_string(text, at, lexical, end),
-        _ => Err(RowFault::at(at, RowKind::Common(TextKind::BadPosition))),
+        term => {
+            drop(term);
+            Err(RowFault::at(at, RowKind::Common(TextKind::BadPosition)))
+        }
     }
 }
