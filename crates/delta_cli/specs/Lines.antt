@@ -1,7 +1,6 @@
 -- The line on err and the status of each way in which a command ends without its result.
-use Rattle.std.specs.Prelude.{ℕ, List, [], ◌∷◌, ◌++◌, Option, None, Some, codes}
+use Rattle.std.specs.Prelude.{ℕ, List, [], ◌∷◌, ◌++◌, codes}
 use Rattle.std.specs.Fmt.{decimal}
-use Rattle.delta_base.specs.declared.id.Id.{Id}
 use Rattle.delta_base.specs.Ids.{text_of}
 use Rattle.chain_core.specs.declared.testing.ChainFault.{ChainFault}
 use Rattle.chain_core.specs.declared.testing.ChainFault.TheVariants as chains
@@ -9,7 +8,7 @@ use Rattle.nquads_text.specs.Names.{text_kind_name}
 use Rattle.patch_meaning.specs.Names.{fault_name, patch_kind_name}
 use Rattle.patch_meaning.specs.declared.fault.PatchFault.{PatchFault}
 use Rattle.patch_meaning.specs.declared.fault.PatchFault.TheVariants as faults
-use Rattle.slot_checks.specs.Lines.{fault_line}
+use Rattle.slot_checks.specs.Lines.{fault_line, id_or_none}
 use Rattle.delta_cli.specs.declared.name.Name.{Name}
 use Rattle.delta_cli.specs.declared.name.Name.TheVariants as names
 use Rattle.delta_cli.specs.declared.refusal.Refusal.{Refusal}
@@ -67,11 +66,6 @@ usage_text names.Append = codes "append ADDR NAME"
 usage_text names.Fetch = codes "fetch ADDR NAME WHICH"
 usage_text names.Help = codes "--help"
 usage_text names.Version = codes "--version"
-
--- an id in the hyphenated form, or `none`
-abbrev pub id_or_none : Option Id → List ℕ
-id_or_none None = codes "none"
-id_or_none (Some id) = text_of id.0
 
 -- ---- lines
 

@@ -16,7 +16,7 @@ use Rattle.stream_replay.specs.declared.fault.ReplayFault.TheVariants as replays
 use Rattle.generated_replay.specs.Meanings.{head}
 use Rattle.delta_cli.specs.Channels.{Channel, ChannelFailed, IsSilent, WritesText, WritesFront}
 use Rattle.delta_cli.specs.Document.{IsShown, IsFaultyDocument}
-use Rattle.delta_cli.specs.Lines.{id_or_none}
+use Rattle.slot_checks.specs.Lines.{id_or_none}
 use Rattle.delta_cli.specs.declared.refusal.Refusal.{Refusal}
 use Rattle.delta_cli.specs.declared.refusal.Refusal.TheVariants as refusals
 

@@ -5,10 +5,10 @@ ghost use Rattle.delta_cli.specs.Channels.{WritesText, channel};
 ghost use Rattle.delta_cli.specs.Results.{StopsEmitting, StopsPrinting};
 ghost use Rattle.delta_cli.specs.Results.{counts_line, generated_line};
 
-use crate::lines::push_id;
 use crate::refusal::Refusal;
 use delta_base::{Id, OutOfMemory, Sink};
 use sink_writing::{Room, write_all};
+use slot_checks::push_id;
 use std::alloc::Global;
 use stream_generator::{GeneratedSource, MOST_BYTES, push_patch};
 use stream_replay::{ReplayFault, replay_source};

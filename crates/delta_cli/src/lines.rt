@@ -1,8 +1,8 @@
 //! The lines on err.
-ghost use Rattle.std.specs.Prelude.{◌≡◌, ◌++◌, ◌∷◌, [], IfOk, OnOk, codes};
+ghost use Rattle.std.specs.Prelude.{◌≡◌, ◌++◌, ◌∷◌, [], IfOk, codes};
 ghost use Rattle.std.specs.Fmt.{decimal};
 ghost use Rattle.patch_meaning.specs.Names.{fault_name};
-ghost use Rattle.delta_cli.specs.Lines.{bad_patch_line, chain_line, fault_at, id_or_none};
+ghost use Rattle.delta_cli.specs.Lines.{bad_patch_line, chain_line, fault_at};
 ghost use Rattle.delta_cli.specs.Lines.{limit_line, refusal_line, no_patch_line};
 ghost use Rattle.delta_cli.specs.Lines.{not_understood_line, peer_behind_line, place_line};
 ghost use Rattle.delta_cli.specs.Lines.{refused_line, usage_text, zone_full_line};
@@ -12,7 +12,7 @@ use crate::refusal::Refusal;
 use chain_core::ChainFault;
 use delta_base::{Bytes, Id, OutOfMemory, id_text};
 use patch_meaning::PatchFault;
-use slot_checks::fault_text;
+use slot_checks::{fault_text, push_id};
 use std::alloc::Global;
 
 /// The line of a refusal.
@@ -200,15 +200,4 @@ fn repeated_line(alloc: Global, id: Id, version: u32) -> Result<Vec<u8>, OutOfMe
     text.extend_from_slice(&id_text(id))?;
     text.extend_from_slice(end.as_bytes())?;
     Ok(text)
-}
-
-/// Appends an id, or `none`.
-pub fn push_id(text: &mut Vec<u8>, id: Option<Id>) -> Result<(), OutOfMemory>
-    ensures { OnOk result (text.new.items ≡ text.old.items ++ id_or_none id) }
-{
-    match id {
-        Some(id) => text.extend_from_slice(&id_text(id))?,
-        None => text.extend_from_slice(b"none")?,
-    }
-    Ok(())
 }

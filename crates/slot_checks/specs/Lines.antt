@@ -10,15 +10,15 @@ use Rattle.slot_checks.specs.declared.lines.FileLine.{FileLine}
 use Rattle.slot_checks.specs.declared.lines.FileLine.TheVariants as line
 
 -- an id in its hyphenated form, or `none`
-abbrev pub head_text : Option Id → List ℕ
-head_text None = codes "none"
-head_text (Some id) = text_of id.0
+abbrev pub id_or_none : Option Id → List ℕ
+id_or_none None = codes "none"
+id_or_none (Some id) = text_of id.0
 
 -- a line, with its line feed
 abbrev pub line_text : FileLine → List ℕ
 line_text (line.Registry records) = codes "file 0 records " ++ (decimal records ++ 10 ∷ [])
 line_text (line.Log number patches head) = codes "file " ++ (decimal number
-    ++ (codes " patches " ++ (decimal patches ++ (codes " head " ++ (head_text head ++ 10 ∷ [])))))
+    ++ (codes " patches " ++ (decimal patches ++ (codes " head " ++ (id_or_none head ++ 10 ∷ [])))))
 
 -- all lines, in their order
 abbrev pub lines_text : List FileLine → List ℕ

@@ -12,5 +12,5 @@ mod visiting;
 pub use checking::check_files;
 pub use fault::CheckFault;
 pub use fault_lines::fault_text;
-pub use lines::{FileLine, Report, report_text};
+pub use lines::{FileLine, Report, push_id, report_text};
 pub use registry_file::{RegistryFile, read_registry_file};

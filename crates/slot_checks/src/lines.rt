@@ -1,6 +1,6 @@
 //! The lines of a report, a line for each file.
 ghost use Rattle.std.specs.Prelude.{◌≡◌, ◌++◌, ◌∷◌, [], IfOk, OnOk};
-ghost use Rattle.slot_checks.specs.Lines.{head_text, line_text, lines_text};
+ghost use Rattle.slot_checks.specs.Lines.{id_or_none, line_text, lines_text};
 
 use delta_base::{Id, Listing, OutOfMemory, id_text};
 use std::alloc::Global;
@@ -21,13 +21,13 @@ pub enum FileLine {
 /// A line for each file, the registry's first.
 pub type Report = Listing<FileLine>;
 
-// Adds an id, or `none`.
-fn push_head(text: &mut Vec<u8>, head: Option<Id>) -> Result<(), OutOfMemory>
-    ensures { OnOk result (text.new.items ≡ text.old.items ++ head_text head) }
+/// Adds an id, or `none`.
+pub fn push_id(text: &mut Vec<u8>, id: Option<Id>) -> Result<(), OutOfMemory>
+    ensures { OnOk result (text.new.items ≡ text.old.items ++ id_or_none id) }
 {
-    match head {
-        None => text.extend_from_slice(b"none")?,
+    match id {
         Some(id) => text.extend_from_slice(&id_text(id))?,
+        None => text.extend_from_slice(b"none")?,
     }
     Ok(())
 }
@@ -49,7 +49,7 @@ fn log_line(
 {
     let front = format!(in alloc; "file {number} patches {patches} head ")?;
     let mut text = front.into_bytes();
-    push_head(&mut text, head)?;
+    push_id(&mut text, head)?;
     text.push(b'\n')?;
     Ok(text)
 }

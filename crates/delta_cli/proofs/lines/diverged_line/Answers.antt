@@ -2,7 +2,7 @@ use Rattle.std.proofs.Common.{◌≡◌, ℕ, List, [], ◌∷◌, ◌++◌, ap,
 use Rattle.std.specs.Prelude.{codes}
 use Rattle.std.specs.Fmt.{decimal}
 use Rattle.std.specs.Global.{Vec}
-use Rattle.delta_cli.specs.Lines.{id_or_none}
+use Rattle.slot_checks.specs.Lines.{id_or_none}
 use Rattle.delta_cli.proofs.lines.diverged_line.Goals as goal
 
 -- what is pushed piece by piece
