@@ -1,6 +1,7 @@
 """Runs programs side by side on one input, and compares their time and peak memory."""
 import filecmp
 import os
+import shutil
 import statistics
 import subprocess
 import sys
@@ -11,16 +12,61 @@ TOP = Path(__file__).resolve().parent.parent
 ROUNDS = 5
 
 
+def want(tool, what):
+    """Ends the script with a line where a tool is missing that it can't do without."""
+    if shutil.which(tool) is None:
+        sys.exit(f"bench/{Path(sys.argv[0]).name} wants {tool} ({what}), and it isn't on the PATH")
+
+
+def say(text):
+    """A line on standard error before a step that prints nothing for a while."""
+    print(f"bench/{Path(sys.argv[0]).name}: {text}", file=sys.stderr, flush=True)
+
+
 def plain():
     """The path of the plain Rust program, built."""
-    program = Path(tempfile.gettempdir()) / "rdfdelta-bench-plain"
-    subprocess.run(["rustc", "--edition", "2021", "-C", "opt-level=3", "-o", program, TOP / "bench/plain/src/main.rs"], check=True)
-    return program
+    sources = TOP / "bench/plain/src"
+    built = sources.parent / "target/plain"
+    if built.exists() and all(source.stat().st_mtime < built.stat().st_mtime for source in sources.iterdir()):
+        return built
+    want("rustc", "the compiler of Rust, for the plain program")
+    say("building the plain program")
+    built.parent.mkdir(exist_ok=True)
+    new = built.with_suffix(f".{os.getpid()}")
+    subprocess.run(["rustc", "--edition", "2021", "-C", "opt-level=3", "-o", new, sources / "main.rs"], check=True)
+    new.rename(built)
+    return built
 
 
 def program():
     """The path of rdfdelta, the one that bin/rdfdelta runs."""
-    return Path(subprocess.run([TOP / "bin/program"], stdout=subprocess.PIPE, check=True, text=True).stdout.strip())
+    done = subprocess.run([TOP / "bin/program"], stdout=subprocess.PIPE, text=True)
+    if done.returncode != 0:
+        sys.exit(done.returncode)
+    return Path(done.stdout.strip())
+
+
+def is_current(program):
+    """Whether no source is newer than a program of the crates, as bin/program looks at it."""
+    parts = [path for name in ("src", "specs", "proofs") for path in TOP.glob(f"crates/*/{name}")]
+    words = ["find", *parts, TOP / "crates.txt", "-newer", program, "-print", "-quit"]
+    return program.exists() and not subprocess.run(words, stdout=subprocess.PIPE, check=True).stdout
+
+
+def bench_program(name, *words):
+    """The path of a crate's program that measures, which a first run proves and builds where a source is newer."""
+    crate = TOP / "crates" / name
+    built = crate / "out" / name
+    if is_current(built):
+        return built
+    want("rt", "the toolchain that proves and builds its program")
+    say(f"proving and building {name}, which takes some minutes the first time")
+    run_once = ["rt", "run", "--", *words]
+    done = subprocess.run(run_once, cwd=crate, stdin=subprocess.DEVNULL, capture_output=True, text=True)
+    if done.returncode != 0:
+        sys.exit(f"{done.stdout}{done.stderr}{name} was not built")
+    built.touch()
+    return built
 
 
 def built():
@@ -38,11 +84,14 @@ def run(words, source, out):
     return usage.ru_utime + usage.ru_stime, usage.ru_maxrss / 1024
 
 
-def compare(title, programs, source):
-    """Runs each program ROUNDS times in turn, prints its medians and its ratios to the first one after ours, and returns its seconds."""
+def compare(title, programs, source, differs=None):
+    """Runs each program ROUNDS times in turn, prints its medians and ours against it, and returns the seconds of each.
+
+    An output that isn't ours is a fault, but of the programs for which `differs` says why."""
     folder = Path(tempfile.gettempdir())
     outs = {name: folder / f"rdfdelta-bench-{name}.out" for name in programs}
     found = {name: [] for name in programs}
+    say(f"{title}: {ROUNDS} rounds")
     for _ in range(ROUNDS):
         for name, words in programs.items():
             found[name].append(run(words, source, outs[name]))
@@ -54,8 +103,10 @@ def compare(title, programs, source):
     for name in programs:
         print(f"  {name:10} {seconds[name]:8.3f} s {memory[name]:8.1f} MiB")
     for name in others:
-        same = "the same output" if filecmp.cmp(outs[ours], outs[name], shallow=False) else "ANOTHER OUTPUT"
-        print(f"  against {name}: {seconds[name] / seconds[ours]:.2f} of its rate, {memory[ours] / memory[name]:.2f} times its memory, {same}")
+        is_same = filecmp.cmp(outs[ours], outs[name], shallow=False)
+        same = "the same output" if is_same else (differs or {}).get(name, "ANOTHER OUTPUT")
+        rate, size = seconds[name] / seconds[ours], memory[ours] / memory[name]
+        print(f"  against {name}: {rate:.2f} of its rate, {size:.2f} times its memory, {same}")
     for out in outs.values():
         out.unlink()
     return seconds

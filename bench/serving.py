@@ -6,8 +6,6 @@ import subprocess
 import sys
 import time
 
-from measure import program
-
 WORKERS = 16
 
 
