@@ -13,9 +13,10 @@ ROUNDS = 5
 
 
 def want(tool, what):
-    """Ends the script with a line where a tool is missing that it can't do without."""
+    """Ends the script with a line and a status of its own where a tool is missing that it can't do without."""
     if shutil.which(tool) is None:
-        sys.exit(f"bench/{Path(sys.argv[0]).name} wants {tool} ({what}), and it isn't on the PATH")
+        say(f"it wants {tool} ({what}), which isn't on the PATH")
+        sys.exit(os.EX_UNAVAILABLE)
 
 
 def say(text):
