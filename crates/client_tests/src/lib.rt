@@ -1,13 +1,7 @@
-//! Worked examples of calls over connections in memory and over sockets: what is sent, what is
-//! answered, which connections are made, and what each failing call leaves.
+//! Worked examples of calls over sockets: what is sent, what is answered, and an address that nobody listens at. Those
+//! over connections in memory stand in `rpc_cases`.
 #![tactic(auto)]
 
-#[cfg(test)]
-mod answers;
-#[cfg(test)]
-mod faults;
-#[cfg(test)]
-mod lines;
 #[cfg(test)]
 mod links;
 #[cfg(test)]
