@@ -12,49 +12,99 @@ fn calls(alloc: Global, numbers: &[u64]) -> Result<Calls, AllocError> {
     Ok(Listing::from_vec(Vec::from_slice(alloc, numbers)?))
 }
 
-// A read of four bytes gives so many, which are these, and leaves the others.
-fn gives<S: Source>(rt: &impl Abort, source: &mut S, count: usize, bytes: &[u8; 4]) {
-    let mut into = [0; 4];
-    assert!(rt; source.read(&mut into) == Ok(count));
-    assert!(rt; into == *bytes);
-}
+/// What reads of `abcde` answer in pieces of two, the second of which fails, with their buffers.
+static READS: [(Result<usize, Failed>, [u8; 4]); 5] = [
+    (Ok(2), *b"ab.."),
+    (Err(Failed), *b"...."),
+    (Ok(2), *b"cd.."),
+    (Ok(1), *b"e..."),
+    (Ok(0), *b"...."),
+];
 
-fn read_fails<S: Source>(rt: &impl Abort, source: &mut S) {
-    assert!(rt; source.read(&mut [0; 4]) == Err(Failed));
-}
-
-#[test]
-fn a_source_gives_pieces_and_fails_in_mid_stream(rt: HostRuntime) -> Result<(), Fail> {
-    let content = Bytes::from_slice(rt.alloc(), b"abcde")?;
-    let mut source = MemSource::new(content, 2, calls(rt.alloc(), &[1])?);
-    gives(&rt, &mut source, 2, b"ab\0\0");
-    read_fails(&rt, &mut source);
-    assert!(rt; source.faults() == 1);
-    gives(&rt, &mut source, 2, b"cd\0\0");
+fn gives(rt: &impl Abort, source: &mut MemSource) {
+    for (place, (answer, bytes)) in READS.iter().enumerate() {
+        let mut into = *b"....";
+        assert!(rt; source.read(&mut into) == *answer, "at {place}");
+        assert!(rt; into == *bytes, "at {place}");
+    }
     assert!(rt; source.read(&mut []) == Ok(0));
-    gives(&rt, &mut source, 1, b"e\0\0\0");
-    gives(&rt, &mut source, 0, b"\0\0\0\0");
-    Ok(())
+    assert!(rt; source.faults() == 1);
 }
 
-// A write of these bytes answers so.
-fn takes<K: Sink>(rt: &impl Abort, sink: &mut K, bytes: &[u8], told: Result<usize, Failed>) {
-    assert!(rt; sink.write(bytes) == told);
-}
+/// What writes answer, the second of which fails.
+static WRITES: [(&[u8], Result<usize, Failed>); 3] = [
+    (b"ab", Ok(2)),
+    (b"cd", Err(Failed)),
+    (b"ef", Ok(2)),
+];
 
-#[test]
-fn a_sink_keeps_what_was_written_round_a_failure(rt: HostRuntime) -> Result<(), Fail> {
-    let mut sink = MemSink::new(rt.alloc(), calls(rt.alloc(), &[1])?);
-    takes(&rt, &mut sink, b"ab", Ok(2));
-    takes(&rt, &mut sink, b"cd", Err(Failed));
-    takes(&rt, &mut sink, b"ef", Ok(2));
+fn takes(rt: &impl Abort, sink: &mut MemSink) {
+    for (place, (bytes, answer)) in WRITES.iter().enumerate() {
+        assert!(rt; sink.write(bytes) == *answer, "at {place}");
+    }
     assert!(rt; sink.written() == b"abef".as_slice());
     assert!(rt; sink.faults() == 1);
+}
+
+#[test]
+fn a_source_and_a_sink_fail_in_mid_stream(rt: HostRuntime) -> Result<(), Fail> {
+    let content = Bytes::from_slice(rt.alloc(), b"abcde")?;
+    let mut source = MemSource::new(content, 2, calls(rt.alloc(), &[1])?);
+    gives(&rt, &mut source);
+    drop(source);
+    let mut sink = MemSink::new(rt.alloc(), calls(rt.alloc(), &[1])?);
+    takes(&rt, &mut sink);
+    drop(sink);
+    Ok(())
+}
+
+/// A call of a link, with its answer.
+enum Step {
+    /// A read, with its buffer.
+    Read(Result<usize, Failed>, [u8; 4]),
+    Write(&'static [u8], Result<usize, Failed>),
+}
+
+/// The calls 1 and 3 fail.
+static STEPS: [Step; 7] = [
+    Step::Read(Ok(3), *b"abc."),
+    Step::Write(b"xy", Err(Failed)),
+    Step::Write(b"xy", Ok(2)),
+    Step::Read(Err(Failed), *b"...."),
+    Step::Read(Ok(2), *b"de.."),
+    Step::Write(b"z", Ok(1)),
+    Step::Read(Ok(0), *b"...."),
+];
+
+fn is_answered(link: &mut MemLink, step: &Step) -> bool {
+    match step {
+        Step::Read(answer, bytes) => {
+            let mut into = *b"....";
+            link.read(&mut into) == *answer && into == *bytes
+        }
+        Step::Write(bytes, answer) => link.write(bytes) == *answer,
+    }
+}
+
+fn serves(rt: &impl Abort, link: &mut MemLink) {
+    for (place, step) in STEPS.iter().enumerate() {
+        assert!(rt; is_answered(link, step), "at {place}");
+    }
+    assert!(rt; link.faults() == 2);
+    assert!(rt; link.sent() == b"xyz".as_slice());
+}
+
+#[test]
+fn a_link_reads_and_writes_with_one_count_of_calls(rt: HostRuntime) -> Result<(), Fail> {
+    let content = Bytes::from_slice(rt.alloc(), b"abcde")?;
+    let mut link = MemLink::new(rt.alloc(), content, 3, calls(rt.alloc(), &[1, 3])?);
+    serves(&rt, &mut link);
+    drop(link);
     Ok(())
 }
 
 #[test]
-fn a_reader_and_a_writer_of_std_serve(rt: HostRuntime) -> Result<(), Fail> {
+fn a_reader_a_writer_and_a_stream_of_std_serve(rt: HostRuntime) -> Result<(), Fail> {
     let mut source = StdSource::new(b"abc".as_slice());
     let mut into = [0; 2];
     assert!(rt; source.read(&mut into) == Ok(2));
@@ -69,43 +119,11 @@ fn a_reader_and_a_writer_of_std_serve(rt: HostRuntime) -> Result<(), Fail> {
         "a write that takes nothing failed"
     );
     assert!(rt; sink.faults() == 1);
-    Ok(())
-}
-
-// A read of four bytes from the link gives so many, which are these, and leaves the others.
-fn link_gives(rt: &impl Abort, link: &mut MemLink, count: usize, bytes: &[u8; 4]) {
-    let mut into = [0; 4];
-    assert!(rt; link.read(&mut into) == Ok(count));
-    assert!(rt; into == *bytes);
-}
-
-fn link_takes(rt: &impl Abort, link: &mut MemLink, bytes: &[u8], told: Result<usize, Failed>) {
-    assert!(rt; link.write(bytes) == told);
-}
-
-#[test]
-fn a_link_reads_and_writes_with_one_count_of_calls(rt: HostRuntime) -> Result<(), Fail> {
-    let content = Bytes::from_slice(rt.alloc(), b"abcde")?;
-    let mut link = MemLink::new(rt.alloc(), content, 3, calls(rt.alloc(), &[1, 3])?);
-    link_gives(&rt, &mut link, 3, b"abc\0");
-    link_takes(&rt, &mut link, b"xy", Err(Failed));
-    link_takes(&rt, &mut link, b"xy", Ok(2));
-    assert!(rt; link.read(&mut [0; 4]) == Err(Failed));
-    assert!(rt; link.faults() == 2);
-    link_gives(&rt, &mut link, 2, b"de\0\0");
-    link_takes(&rt, &mut link, b"z", Ok(1));
-    link_gives(&rt, &mut link, 0, b"\0\0\0\0");
-    assert!(rt; link.sent() == b"xyz".as_slice());
-    Ok(())
-}
-
-#[test]
-fn a_stream_of_std_serves_as_a_link(rt: HostRuntime) -> Result<(), Fail> {
     let mut link = StdLink::new(Cursor::new(Vec::from_slice(rt.alloc(), b"abc")?));
-    let mut into = [0; 2];
     assert!(rt; link.read(&mut into) == Ok(2));
     assert!(rt; link.write(b"xy") == Ok(2));
     assert!(rt; link.read(&mut into) == Ok(0));
     assert!(rt; link.faults() == 0);
+    drop(link);
     Ok(())
 }

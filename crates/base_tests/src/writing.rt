@@ -1,5 +1,5 @@
 //! Short texts together, long ones by themselves, and a sink that fails.
-use delta_base::{Calls, Listing, MemSink, Sink};
+use delta_base::{Calls, Failed, Listing, MemSink, Sink};
 use sink_writing::{PIECE, Room, write_all};
 use std::alloc::{AllocError, Global};
 use std::process::Abort;
@@ -10,44 +10,56 @@ fn sink(alloc: Global, failing: &[u64]) -> Result<MemSink, AllocError> {
     Ok(MemSink::new(alloc, calls))
 }
 
-fn stay_together(rt: &impl Abort, mut room: Room, out: &mut MemSink) -> Result<(), Fail> {
-    room.put(out, b"ab")?;
-    room.put(out, b"cd")?;
-    assert!(rt; out.written().is_empty());
-    room.write_out(out)?;
-    assert!(rt; out.written() == b"abcd".as_slice());
+/// Texts that are put into a room; how many bytes go out by themselves, and how many in all; and the
+/// first ones.
+static ROWS: [(&[&[u8]], usize, usize, &[u8]); 2] = [
+    (&[b"ab", b"cd"], 0, 4, b"abcd"),
+    // The second text is longer than a room, and drives it out.
+    (&[b"ab", &[b'x'; PIECE]], PIECE + 2, PIECE + 2, b"abx"),
+];
+
+fn put(room: &mut Room, out: &mut MemSink, texts: &[&[u8]]) -> Result<(), Failed> {
+    for text in texts {
+        room.put(out, text)?;
+    }
+    Ok(())
+}
+
+/// How many bytes went out by themselves.
+fn write(alloc: Global, out: &mut MemSink, texts: &[&[u8]]) -> Result<usize, Fail> {
+    let mut room = Room::new(alloc)?;
+    let put = put(&mut room, out, texts);
+    let count = out.written().len();
+    let written = room.write_out(out);
+    put?;
+    written?;
+    Ok(count)
+}
+
+fn are_written(
+    rt: &impl Abort,
+    alloc: Global,
+    texts: &[&[u8]],
+    (early, count): (usize, usize),
+    front: &[u8],
+) -> Result<(), Fail> {
+    let mut out = sink(alloc, &[])?;
+    let found = write(alloc, &mut out, texts);
+    let same = out.written().len() == count && out.written().starts_with(front);
+    drop(out);
+    assert!(rt; found? == early && same, "{count} bytes");
     Ok(())
 }
 
 #[test]
-fn short_texts_are_written_together(rt: HostRuntime) -> Result<(), Fail> {
-    let mut out = sink(rt.alloc(), &[])?;
-    let room = Room::new(rt.alloc())?;
-    stay_together(&rt, room, &mut out)
-}
-
-// The text is longer than a room, and goes out by itself.
-fn goes_out(rt: &impl Abort, mut room: Room, out: &mut MemSink, text: &[u8]) -> Result<(), Fail> {
-    room.put(out, b"ab")?;
-    room.put(out, text)?;
-    assert!(rt; out.written().len() == PIECE + 2);
-    room.write_out(out)?;
-    assert!(rt; out.written().len() == PIECE + 2);
-    Ok(())
-}
-
-#[test]
-fn a_long_text_drives_the_room_out(rt: HostRuntime) -> Result<(), Fail> {
-    let long = vec![in rt.alloc(); b'x'; PIECE]?;
-    let mut out = sink(rt.alloc(), &[])?;
-    let room = Room::new(rt.alloc())?;
-    goes_out(&rt, room, &mut out, &long)
-}
-
-#[test]
-fn a_sink_that_fails_is_told(rt: HostRuntime) -> Result<(), Fail> {
+fn short_texts_are_written_together_and_long_ones_alone(rt: HostRuntime) -> Result<(), Fail> {
+    for (texts, early, count, front) in ROWS {
+        are_written(&rt, rt.alloc(), texts, (early, count), front)?;
+    }
     let mut out = sink(rt.alloc(), &[0])?;
-    assert!(rt; write_all(&mut out, b"ab").is_err());
-    assert!(rt; out.faults() == 1);
+    let written = write_all(&mut out, b"ab");
+    let faults = out.faults();
+    drop(out);
+    assert!(rt; written.is_err() && faults == 1);
     Ok(())
 }
