@@ -1,5 +1,5 @@
 use Rattle.std.proofs.Common.{◌≡◌}
-use Rattle.patch_tests.proofs.pieces.take_ends.Given as goal
+use Rattle.patch_cases.proofs.pieces.take_ends.Given as goal
 
 -- taking rows ends no text
 abbrev pub invariant-loop : goal.invariant-loop
