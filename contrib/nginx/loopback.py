@@ -10,7 +10,7 @@ import subprocess
 import sys
 import tempfile
 import time
-from collections.abc import Iterator
+from collections.abc import Callable, Iterator
 from dataclasses import dataclass
 from pathlib import Path
 
@@ -27,6 +27,9 @@ pid {folder}/nginx.pid;
 error_log {folder}/error.log;
 events {{ worker_connections 4096; }}
 http {{
+    # A machine that others use too may take its time for a thousand handshakes.
+    client_header_timeout 300s;
+    keepalive_timeout 300s;
     access_log off;
     client_body_temp_path {folder}/bodies;
     proxy_temp_path {folder}/replies;
@@ -38,13 +41,14 @@ http {{
 """
 
 
-@dataclass(frozen=True)
+@dataclass
 class Stand:
-    """What stands: nginx at the port `front` with its files in `folder`, and behind it the server at the port `back`."""
+    """What stands: nginx at the port `front`, its files in `folder`, and behind it the server at the port `back`."""
 
     folder: Path
     front: int
     back: int
+    server: subprocess.Popen | None = None
 
     def errors(self) -> list[str]:
         """What nginx wrote of errors."""
@@ -67,7 +71,8 @@ def free_ports(count: int) -> list[int]:
 
 
 def run(*words: object, text: str | None = None) -> str:
-    return subprocess.run([str(word) for word in words], input=text, capture_output=True, text=True, check=True).stdout
+    command = [str(word) for word in words]
+    return subprocess.run(command, input=text, capture_output=True, text=True, check=True).stdout
 
 
 def configure(stand: Stand, processes: int) -> None:
@@ -78,6 +83,7 @@ def configure(stand: Stand, processes: int) -> None:
         "127.0.0.1:10660;": f"127.0.0.1:{stand.back};",
         "/etc/nginx/": f"{stand.folder}/",
         "/var/log/nginx/": f"{stand.folder}/",
+        "/usr/local/share/rdfdelta/page": f"{TOP}/contrib/page/web",
     }
     for place, new in places.items():
         if place not in text:
@@ -92,9 +98,10 @@ def make_secrets(folder: Path) -> None:
     subject = ["-subj", "/CN=localhost", "-addext", "subjectAltName=IP:127.0.0.1"]
     files = ["-keyout", folder / "rdfdelta.key", "-out", folder / "rdfdelta.crt"]
     run("openssl", "req", "-x509", "-newkey", "rsa:2048", "-nodes", "-days", "1", *subject, *files)
-    lines = {name: f"{name}:" + run("openssl", "passwd", "-apr1", "-stdin", text=word) for name, word in (READER, WRITER)}
-    (folder / "rdfdelta.writers").write_text(lines["writer"])
-    (folder / "rdfdelta.readers").write_text(lines["writer"] + lines["reader"])
+    hashes = (run("openssl", "passwd", "-apr1", "-stdin", text=word) for _, word in (READER, WRITER))
+    reader, writer = (f"{name}:{hash}" for (name, _), hash in zip((READER, WRITER), hashes))
+    (folder / "rdfdelta.writers").write_text(writer)
+    (folder / "rdfdelta.readers").write_text(writer + reader)
 
 
 def await_port(port: int, process: subprocess.Popen) -> None:
@@ -118,8 +125,13 @@ def stop(process: subprocess.Popen) -> None:
 
 
 @contextlib.contextmanager
-def standing(nginx: str, processes: int, slots: int) -> Iterator[Stand]:
-    """The server and nginx with so many worker processes, until the block ends."""
+def standing(
+    nginx: str, processes: int, slots: int, prepare: Callable[[Path], None] = lambda data: None
+) -> Iterator[Stand]:
+    """The server and nginx with so many worker processes, until the block ends.
+
+    The files of the server may be prepared, between their making and the server's start.
+    """
     with tempfile.TemporaryDirectory() as name, contextlib.ExitStack() as started:
         stand = Stand(Path(name), *free_ports(2))
         make_secrets(stand.folder)
@@ -128,10 +140,15 @@ def standing(nginx: str, processes: int, slots: int) -> Iterator[Stand]:
         data.mkdir()
         program = run(TOP / "bin/program").strip()
         run(program, "init", data, slots)
-        server = [program, "serve", data, f"127.0.0.1:{stand.back}", str(WORKERS)]
-        front = [nginx, "-p", stand.folder, "-c", stand.folder / "nginx.conf", "-e", stand.folder / "error.log"]
-        for words, port in ((server, stand.back), (front, stand.front)):
-            process = subprocess.Popen(words)
-            started.callback(stop, process)
-            await_port(port, process)
+        prepare(data)
+        stand.server = start([program, "serve", data, f"127.0.0.1:{stand.back}", WORKERS], stand.back, started)
+        start([nginx, "-p", name, "-c", f"{name}/nginx.conf", "-e", f"{name}/error.log"], stand.front, started)
         yield stand
+
+
+def start(words: list[object], port: int, started: contextlib.ExitStack) -> subprocess.Popen:
+    """A process that takes connections at a port, and is stopped with the others."""
+    process = subprocess.Popen([str(word) for word in words])
+    started.callback(stop, process)
+    await_port(port, process)
+    return process
