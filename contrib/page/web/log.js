@@ -103,13 +103,26 @@ export class LogView {
   }
 
   /**
+   * Whether a log is what it was, or goes on from there. Else it was restored from an older copy, or another log has
+   * its name.
+   * @param {import('./server.js').Log} before
+   * @param {import('./server.js').Log} now
+   */
+  async #goesOn(before, now) {
+    if (before.version === 0 || now.version <= before.version) {
+      return before.version === 0 || (now.version === before.version && now.head === before.head);
+    }
+    const next = await this.#load(before.version + 1, this.#closing.signal);
+    return next.prev === before.head;
+  }
+
+  /**
    * Takes in where the log is now.
    * @param {import('./server.js').Log} now
    */
   async #see(now) {
     const before = this.#log;
-    // Where it goes back, it was restored from an older copy, or another log has its name.
-    const isAnother = now.version < before.version || (now.version === before.version && now.head !== before.head);
+    const isAnother = !await this.#goesOn(before, now);
     if (isAnother) {
       this.#patches.clear();
       this.#prefixes = new Prefixes();
