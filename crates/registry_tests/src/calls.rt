@@ -99,10 +99,6 @@ pub(crate) fn open_with(
     }
 }
 
-pub(crate) fn open(alloc: Global, file: &[u8]) -> Result<RegistryState<MemDisk>, Fail> {
-    open_with(alloc, file, &[])
-}
-
 pub(crate) fn create(
     alloc: Global,
     registry: &mut RegistryState<MemDisk>,
@@ -135,6 +131,15 @@ pub(crate) fn remove(
     Ok(changed(registry.remove(&name, 1)))
 }
 
-pub(crate) fn is(rt: &impl Abort, told: Told, wanted: Told) {
-    assert!(rt; told == wanted);
+/// A step of a case of a table.
+#[derive(Clone, Copy)]
+pub(crate) struct Place {
+    /// What the case shows.
+    pub(crate) shows: &'static str,
+    pub(crate) step: usize,
+}
+
+/// What was found at a place is what stands there.
+pub(crate) fn is<T: PartialEq>(rt: &impl Abort, at: Place, found: &T, wanted: &T) {
+    assert!(rt; found == wanted, "{}: step {}", at.shows, at.step);
 }

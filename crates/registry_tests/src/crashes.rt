@@ -1,5 +1,5 @@
 //! What stands after a crash or after a call of the disk that failed.
-use crate::calls::{TWO_SLOTS, Told, create, open, open_with, rename};
+use crate::calls::{TWO_SLOTS, Told, create, open_with, rename};
 use delta_base::Bytes;
 use disk_model::MemDisk;
 use log_registry::RegistryState;
@@ -44,7 +44,7 @@ fn acknowledged(
 
 // How many events the registry of an image has.
 fn events_in(alloc: Global, image: &[u8]) -> Result<u64, Fail> {
-    let registry = open(alloc, image)?;
+    let registry = open_with(alloc, image, &[])?;
     let count = registry.count();
     drop(registry);
     Ok(count)
@@ -84,58 +84,24 @@ fn survives_fuse(rt: &impl Abort, alloc: Global, calls: u64) -> Result<u64, Fail
     }
 }
 
+// The same on a disk that fails at one call.
+fn survives_fault(rt: &impl Abort, alloc: Global, failing: u64) -> Result<u64, Fail> {
+    let registry = open_with(alloc, TWO_SLOTS, &[failing])?;
+    survives(rt, alloc, registry)
+}
+
+// The first five calls are those of the opening, and each event has four.
 #[test]
-fn what_was_acknowledged_survives_a_fuse(rt: HostRuntime) -> Result<(), Fail> {
+fn what_was_acknowledged_survives_a_stop_or_a_failing_call(rt: HostRuntime) -> Result<(), Fail> {
     let alloc = rt.alloc();
     let mut most = 0;
     for calls in 0..60 {
         most = survives_fuse(&rt, alloc, calls)?;
     }
     assert!(rt; most == 10);
-    Ok(())
-}
-
-// The first five calls are those of the opening, and each event has four.
-#[test]
-fn what_was_acknowledged_survives_a_failing_call(rt: HostRuntime) -> Result<(), Fail> {
-    let alloc = rt.alloc();
     for failing in 5..45 {
-        let registry = open_with(alloc, TWO_SLOTS, &[failing])?;
-        let done = survives(&rt, alloc, registry)?;
-        assert!(rt; done >= 1 && done <= 10);
-    }
-    Ok(())
-}
-
-// Creates a source, and does so again where the disk failed.
-fn creates(
-    rt: &impl Abort,
-    alloc: Global,
-    registry: &mut RegistryState<MemDisk>,
-) -> Result<u64, Fail> {
-    let mut told = create(alloc, registry, "a", "http://e/a", 1)?;
-    let faults = registry.faults();
-    if faults == 1 {
-        assert!(rt; told == Told::DiskFault && registry.count() == 0);
-        told = create(alloc, registry, "a", "http://e/a", 1)?;
-    }
-    assert!(rt; told == Told::Made { slot: 1 } && registry.count() == 1);
-    Ok(faults)
-}
-
-// The disk fails at one call, and a creation that was refused is made again.
-fn made_again(rt: &impl Abort, alloc: Global, failing: u64) -> Result<u64, Fail> {
-    let mut registry = open_with(alloc, TWO_SLOTS, &[failing])?;
-    let made = creates(rt, alloc, &mut registry);
-    drop(registry);
-    made
-}
-
-#[test]
-fn a_refused_creation_is_made_again(rt: HostRuntime) -> Result<(), Fail> {
-    let alloc = rt.alloc();
-    for failing in 5..9 {
-        assert!(rt; made_again(&rt, alloc, failing)? == 1);
+        let done = survives_fault(&rt, alloc, failing)?;
+        assert!(rt; done >= 1 && done <= 10, "call {failing}");
     }
     Ok(())
 }

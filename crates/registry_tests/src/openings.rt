@@ -1,9 +1,9 @@
 //! Files whose payloads are no registry's, each with the least place.
+use crate::calls::{Place, is};
 use delta_base::{Bytes, Listing};
 use disk_model::MemDisk;
 use log_registry::{RegistryFault, RegistryState};
 use std::alloc::Global;
-use std::process::Abort;
 use std::test::Fail;
 
 const MADE: &[u8] = b"C 1 00000000-0000-4000-8000-000000000001 A http://e/a";
@@ -46,54 +46,37 @@ fn fault_of(alloc: Global, payloads: &[&[u8]]) -> Result<Option<RegistryFault>, 
     Ok(fault)
 }
 
-/// Payloads, with the place of the first that breaks them.
-type Broken = (&'static [&'static [u8]], u64);
+/// Payloads, with the place of the first that breaks them, if one does.
+type Row = (&'static [&'static [u8]], Option<u64>);
 
-fn break_each(rt: &impl Abort, alloc: Global, files: &[Broken]) -> Result<(), Fail> {
-    for (payloads, place) in files {
-        let found = fault_of(alloc, payloads)?;
-        assert!(rt; found == Some(RegistryFault::BrokenEvent { place: *place }));
+static ROWS: [Row; 15] = [
+    // The first payload tells the slots.
+    (&[], Some(0)),
+    (&[b"S 0"], Some(0)),
+    (&[b"S 17"], Some(0)),
+    (&[MADE], Some(0)),
+    (&[b"S 2", b"S 2"], Some(1)),
+    // An event has its form.
+    (&[b"S 2", UPPER_ID], Some(1)),
+    (&[b"S 2", MADE, b"R 1  B"], Some(2)),
+    (&[b"S 2", MADE, b"D 01"], Some(2)),
+    (&[b"S 2", MADE, b""], Some(2)),
+    // It is one that a call makes.
+    (&[b"S 2", b"R 1 B"], Some(1)),
+    (&[b"S 2", OTHER_SLOT], Some(1)),
+    (&[b"S 2", MADE, MADE], Some(2)),
+    (&[b"S 2", MADE, b"R 1 A"], Some(2)),
+    (&[b"S 2", MADE, b"D 1", b"D 1"], Some(3)),
+    (&[b"S 2", MADE, b"R 1 B", b"D 1"], None),
+];
+
+#[test]
+fn the_first_payload_that_is_no_registrys_is_told(rt: HostRuntime) -> Result<(), Fail> {
+    let shows = "payloads of a registry";
+    for (step, (payloads, place)) in ROWS.iter().enumerate() {
+        let found = fault_of(rt.alloc(), payloads)?;
+        let wanted = place.map(|place| RegistryFault::BrokenEvent { place });
+        is(&rt, Place { shows, step }, &found, &wanted);
     }
-    Ok(())
-}
-
-static HEADS: [Broken; 5] = [
-    (&[], 0),
-    (&[b"S 0"], 0),
-    (&[b"S 17"], 0),
-    (&[MADE], 0),
-    (&[b"S 2", b"S 2"], 1),
-];
-
-#[test]
-fn the_first_payload_tells_the_slots(rt: HostRuntime) -> Result<(), Fail> {
-    break_each(&rt, rt.alloc(), &HEADS)
-}
-
-static FORMS: [Broken; 4] = [
-    (&[b"S 2", UPPER_ID], 1),
-    (&[b"S 2", MADE, b"R 1  B"], 2),
-    (&[b"S 2", MADE, b"D 01"], 2),
-    (&[b"S 2", MADE, b""], 2),
-];
-
-#[test]
-fn an_event_has_its_form(rt: HostRuntime) -> Result<(), Fail> {
-    break_each(&rt, rt.alloc(), &FORMS)
-}
-
-static EVENTS: [Broken; 5] = [
-    (&[b"S 2", b"R 1 B"], 1),
-    (&[b"S 2", OTHER_SLOT], 1),
-    (&[b"S 2", MADE, MADE], 2),
-    (&[b"S 2", MADE, b"R 1 A"], 2),
-    (&[b"S 2", MADE, b"D 1", b"D 1"], 3),
-];
-
-#[test]
-fn an_event_is_one_that_a_call_makes(rt: HostRuntime) -> Result<(), Fail> {
-    let alloc = rt.alloc();
-    break_each(&rt, alloc, &EVENTS)?;
-    assert!(rt; fault_of(alloc, &[b"S 2", MADE, b"R 1 B", b"D 1"])? == None);
     Ok(())
 }

@@ -4,7 +4,7 @@ ghost use Rattle.disk_model.specs.Memory.{memory_mark};
 ghost use Rattle.shared_registry.specs.Passes.{IsRegistryPassOf};
 ghost use Rattle.turn_cell.specs.Knowing.{pass_number};
 
-use crate::calls::{TWO_SLOTS, Told, changed, created, id_of, is, open_with};
+use crate::calls::{TWO_SLOTS, Told, changed, created, id_of, open_with};
 use delta_base::Text;
 use disk_model::MemDisk;
 use log_registry::RegistryState;
@@ -115,9 +115,9 @@ fn both_make<R: Wait + Abort>(
         × (pass_number two.new ≡ pass_number two.old) }
 {
     let told = create(rt, alloc, registry, one, "b", 1)?;
-    is(rt, told, Told::Made { slot: 1 });
+    assert!(rt; told == Told::Made { slot: 1 });
     let told = create(rt, alloc, registry, two, "a", 2)?;
-    is(rt, told, Told::Made { slot: 2 });
+    assert!(rt; told == Told::Made { slot: 2 });
     Ok(())
 }
 
@@ -201,7 +201,7 @@ fn is_removed<R: Wait + Abort>(
     create(rt, alloc, registry, one, "b", 1)?;
     assert!(rt; slot_of(rt, alloc, registry, one, "b")? == 1);
     let told = remove(rt, alloc, registry, two, "b")?;
-    is(rt, told, Told::Made { slot: 1 });
+    assert!(rt; told == Told::Made { slot: 1 });
     Ok(())
 }
 
@@ -243,10 +243,10 @@ fn one_fails<R: Wait + Abort>(
     requires two { IsRegistryPassOf memory_mark registry.now two.old }
 {
     let told = create(rt, alloc, registry, one, "b", 1)?;
-    is(rt, told, Told::DiskFault);
+    assert!(rt; told == Told::DiskFault);
     assert!(rt; one.own_faults() == 1 && two.own_faults() == 0);
     let told = create(rt, alloc, registry, two, "b", 1)?;
-    is(rt, told, Told::Made { slot: 1 });
+    assert!(rt; told == Told::Made { slot: 1 });
     Ok(())
 }
 

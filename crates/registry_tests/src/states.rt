@@ -1,5 +1,7 @@
-//! A registry in one thread.
-use crate::calls::{ONE_SLOT, TWO_SLOTS, Told, create, id_of, is, open, remove, rename};
+//! A registry in one thread: what it answers, and what it has then.
+use crate::calls::{
+    ONE_SLOT, Place, TWO_SLOTS, Told, create, id_of, is, open_with, remove, rename,
+};
 use delta_base::{FullKind, Id, SourceInfo, Text};
 use disk_model::MemDisk;
 use log_registry::RegistryState;
@@ -11,321 +13,278 @@ use std::test::Fail;
 /// The id whose last digits are 9.
 const ID9: Id = Id(0x0000_0000_0000_4000_8000_0000_0000_0009);
 
-fn has(source: &SourceInfo, slot: u32, name: &str, uri: &str) -> bool {
+/// The slot, the name and the URI of a source.
+type Source = (u32, &'static str, &'static str);
+
+/// A call of a registry or a look at it, with what that gives.
+enum Step {
+    Create(&'static str, &'static str, u128, Told),
+    Rename(&'static str, &'static str, Told),
+    Remove(&'static str, Told),
+    /// A creation with this id is refused, since the source with this name has it.
+    IdOf(&'static str, u128, &'static str),
+    FindsName(&'static str, Option<Source>),
+    FindsUri(&'static str, Option<Source>),
+    FindsId(u128, Option<Source>),
+    /// The names in the order of the list, each behind a blank.
+    Lists(&'static str),
+    /// So many events were made.
+    Count(u64),
+    Faults(u64),
+}
+
+struct Case {
+    shows: &'static str,
+    file: &'static [u8],
+    /// The numbers of the calls of the disk that fail. The opening makes the first five, and each
+    /// event four.
+    failing: &'static [u64],
+    steps: &'static [Step],
+}
+
+/// A creation that is refused is made again.
+const TWICE: &[Step] = &[
+    Step::Create("a", "http://e/a", 1, Told::DiskFault),
+    Step::Faults(1),
+    Step::Count(0),
+    Step::Create("a", "http://e/a", 1, Told::Made { slot: 1 }),
+    Step::Count(1),
+];
+
+static CASES: [Case; 10] = [
+    Case {
+        shows: "slots are few",
+        file: ONE_SLOT,
+        failing: &[],
+        steps: &[
+            Step::Create("ABC", "http://e/abc", 9, Told::Made { slot: 1 }),
+            Step::Create("ABC", "http://e/x", 8, Told::NameTaken { id: ID9 }),
+            Step::Create(
+                "B",
+                "http://e/x",
+                8,
+                Told::Full {
+                    what: FullKind::Slots,
+                    have: 1,
+                    limit: 1,
+                },
+            ),
+        ],
+    },
+    Case {
+        shows: "a taken id shows its name, unless the name is taken too",
+        file: TWO_SLOTS,
+        failing: &[],
+        steps: &[
+            Step::Create("ABC", "http://e/abc", 9, Told::Made { slot: 1 }),
+            Step::IdOf("B", 9, "ABC"),
+            Step::Create("ABC", "http://e/x", 9, Told::NameTaken { id: ID9 }),
+        ],
+    },
+    Case {
+        shows: "a removed slot is not used again",
+        file: TWO_SLOTS,
+        failing: &[],
+        steps: &[
+            Step::Create("A", "http://e/a", 1, Told::Made { slot: 1 }),
+            Step::Rename("A", "B", Told::Made { slot: 1 }),
+            Step::Remove("B", Told::Made { slot: 1 }),
+            Step::Create("B", "http://e/b", 2, Told::Made { slot: 2 }),
+            Step::Lists(" B"),
+            Step::Count(4),
+        ],
+    },
+    Case {
+        shows: "creations are refused at a place",
+        file: TWO_SLOTS,
+        failing: &[],
+        steps: &[
+            Step::Create("a/b", "http://e/b", 1, Told::BadName { at: 1 }),
+            Step::Create("b", "abc", 1, Told::BadUri { at: 0 }),
+            Step::Create("", "http://e/b", 1, Told::BadName { at: 0 }),
+            Step::Create(".b", "http://e/b", 1, Told::BadName { at: 0 }),
+            Step::Create("b", "http://e/ b", 1, Told::BadUri { at: 9 }),
+        ],
+    },
+    Case {
+        shows: "changes are refused",
+        file: TWO_SLOTS,
+        failing: &[],
+        steps: &[
+            Step::Create("ABC", "http://e/abc", 9, Told::Made { slot: 1 }),
+            Step::Rename("ABC", "ABC", Told::NameTaken { id: ID9 }),
+            Step::Rename("ABC", "a b", Told::BadName { at: 1 }),
+            Step::Remove("X", Told::NoSuchName),
+        ],
+    },
+    // A URI finds the source that has it first, and as a name it finds none.
+    Case {
+        shows: "sources are found and listed",
+        file: TWO_SLOTS,
+        failing: &[],
+        steps: &[
+            Step::Create("b", "http://e/x", 1, Told::Made { slot: 1 }),
+            Step::Create("a", "http://e/x", 2, Told::Made { slot: 2 }),
+            Step::Lists(" a b"),
+            Step::FindsUri("http://e/x", Some((1, "b", "http://e/x"))),
+            Step::FindsName("http://e/x", None),
+            Step::FindsId(2, Some((2, "a", "http://e/x"))),
+            Step::FindsName("a", Some((2, "a", "http://e/x"))),
+        ],
+    },
+    Case {
+        shows: "a creation fails at its first call",
+        file: TWO_SLOTS,
+        failing: &[5],
+        steps: TWICE,
+    },
+    Case {
+        shows: "a creation fails at its second call",
+        file: TWO_SLOTS,
+        failing: &[6],
+        steps: TWICE,
+    },
+    Case {
+        shows: "a creation fails at its third call",
+        file: TWO_SLOTS,
+        failing: &[7],
+        steps: TWICE,
+    },
+    Case {
+        shows: "a creation fails at its fourth call",
+        file: TWO_SLOTS,
+        failing: &[8],
+        steps: TWICE,
+    },
+];
+
+fn has(source: &SourceInfo, (slot, name, uri): Source) -> bool {
     source.slot == slot && source.name.as_str() == name && source.uri.as_str() == uri
 }
 
-fn shows(rt: &impl Abort, found: Option<SourceInfo>, slot: u32, name: &str, uri: &str) {
-    let there = match &found {
-        Some(source) => has(source, slot, name, uri),
-        None => false,
+fn is_found(found: Option<SourceInfo>, wanted: Option<Source>) -> bool {
+    let same = match (&found, wanted) {
+        (Some(source), Some(wanted)) => has(source, wanted),
+        (None, None) => true,
+        _ => false,
     };
     drop(found);
-    assert!(rt; there);
+    same
 }
 
-// The names in the order of the list, each behind a blank.
-fn list(alloc: Global, registry: &RegistryState<MemDisk>) -> Result<String, Fail> {
+fn finds_name(
+    alloc: Global,
+    registry: &RegistryState<MemDisk>,
+    name: &str,
+    wanted: Option<Source>,
+) -> Result<bool, Fail> {
+    let name = Text::from_str(alloc, name)?;
+    Ok(is_found(registry.resolve(&name)?, wanted))
+}
+
+fn finds_uri(
+    alloc: Global,
+    registry: &RegistryState<MemDisk>,
+    uri: &str,
+    wanted: Option<Source>,
+) -> Result<bool, Fail> {
+    let uri = Text::from_str(alloc, uri)?;
+    Ok(is_found(registry.resolve_uri(&uri)?, wanted))
+}
+
+/// Whether a registry lists these names.
+fn lists(alloc: Global, registry: &RegistryState<MemDisk>, names: &str) -> Result<bool, Fail> {
     let mut text = String::new(alloc);
     let listed = registry.list()?;
     for source in listed.as_slice() {
         text.push_str(" ")?;
         text.push_str(source.name.as_str())?;
     }
-    Ok(text)
+    Ok(text.as_str() == names)
 }
 
-/// A call on a registry.
-enum Call {
-    Create {
-        name: &'static str,
-        uri: &'static str,
-        id: u128,
-    },
-    Rename {
-        name: &'static str,
-        new_name: &'static str,
-    },
-    Remove {
-        name: &'static str,
-    },
-}
-
-/// A call with its answer.
-type Step = (Call, Told);
-
-fn answer(alloc: Global, registry: &mut RegistryState<MemDisk>, call: &Call) -> Result<Told, Fail> {
-    match call {
-        Call::Create { name, uri, id } => create(alloc, registry, name, uri, *id),
-        Call::Rename { name, new_name } => rename(alloc, registry, name, new_name),
-        Call::Remove { name } => remove(alloc, registry, name),
-    }
-}
-
-// A registry answers these calls so.
-fn answers(
-    rt: &impl Abort,
+/// Whether a creation with the id of another source shows the name of that.
+fn shows_taken(
     alloc: Global,
     registry: &mut RegistryState<MemDisk>,
-    steps: &[Step],
-) -> Result<(), Fail> {
-    for (call, wanted) in steps {
-        let told = answer(alloc, registry, call)?;
-        is(rt, told, *wanted);
-    }
-    Ok(())
-}
-
-// The registry of a file does.
-fn answers_from(rt: &impl Abort, alloc: Global, file: &[u8], steps: &[Step]) -> Result<(), Fail> {
-    let mut registry = open(alloc, file)?;
-    let answered = answers(rt, alloc, &mut registry, steps);
-    drop(registry);
-    answered
-}
-
-static FEW: [Step; 3] = [
-    (
-        Call::Create {
-            name: "ABC",
-            uri: "http://e/abc",
-            id: 9,
-        },
-        Told::Made { slot: 1 },
-    ),
-    (
-        Call::Create {
-            name: "ABC",
-            uri: "http://e/x",
-            id: 8,
-        },
-        Told::NameTaken { id: ID9 },
-    ),
-    (
-        Call::Create {
-            name: "B",
-            uri: "http://e/x",
-            id: 8,
-        },
-        Told::Full {
-            what: FullKind::Slots,
-            have: 1,
-            limit: 1,
-        },
-    ),
-];
-
-#[test]
-fn slots_are_few(rt: HostRuntime) -> Result<(), Fail> {
-    answers_from(&rt, rt.alloc(), ONE_SLOT, &FEW)
-}
-
-// Whether a creation with the id of ABC shows that name.
-fn shows_taken(alloc: Global, registry: &mut RegistryState<MemDisk>) -> Result<bool, Fail> {
-    let name = Text::from_str(alloc, "B")?;
+    name: &str,
+    id: u128,
+    other: &str,
+) -> Result<bool, Fail> {
+    let name = Text::from_str(alloc, name)?;
     let uri = Text::from_str(alloc, "http://e/x")?;
-    let answer = registry.create(&name, &uri, ID9, 1);
-    let shown = matches!(&answer, CreateAnswer::IdTaken { name } if name.as_str() == "ABC");
+    let answer = registry.create(&name, &uri, id_of(id), 1);
+    let shown = matches!(&answer, CreateAnswer::IdTaken { name } if name.as_str() == other);
     drop(answer);
     Ok(shown)
 }
 
-// A creation with a taken id shows its name, unless its own name is taken too.
-fn id_is_taken(
+fn goes(
+    rt: &impl Abort,
+    alloc: Global,
+    at: Place,
+    registry: &mut RegistryState<MemDisk>,
+    step: &Step,
+) -> Result<(), Fail> {
+    match step {
+        Step::Create(name, uri, id, told) => {
+            is(rt, at, &create(alloc, registry, name, uri, *id)?, told);
+        }
+        Step::Rename(name, new, told) => is(rt, at, &rename(alloc, registry, name, new)?, told),
+        Step::Remove(name, told) => is(rt, at, &remove(alloc, registry, name)?, told),
+        Step::IdOf(name, id, other) => {
+            is(
+                rt,
+                at,
+                &shows_taken(alloc, registry, name, *id, other)?,
+                &true,
+            );
+        }
+        Step::FindsName(name, source) => {
+            is(rt, at, &finds_name(alloc, registry, name, *source)?, &true);
+        }
+        Step::FindsUri(uri, source) => {
+            is(rt, at, &finds_uri(alloc, registry, uri, *source)?, &true);
+        }
+        Step::FindsId(id, source) => {
+            is(
+                rt,
+                at,
+                &is_found(registry.resolve_id(id_of(*id))?, *source),
+                &true,
+            );
+        }
+        Step::Lists(names) => is(rt, at, &lists(alloc, registry, names)?, &true),
+        Step::Count(count) => is(rt, at, &registry.count(), count),
+        Step::Faults(faults) => is(rt, at, &registry.faults(), faults),
+    }
+    Ok(())
+}
+
+fn goes_through(
     rt: &impl Abort,
     alloc: Global,
     registry: &mut RegistryState<MemDisk>,
+    case: &Case,
 ) -> Result<(), Fail> {
-    create(alloc, registry, "ABC", "http://e/abc", 9)?;
-    assert!(rt; shows_taken(alloc, registry)?);
-    let told = create(alloc, registry, "ABC", "http://e/x", 9)?;
-    is(rt, told, Told::NameTaken { id: ID9 });
+    let shows = case.shows;
+    for (step, wanted) in case.steps.iter().enumerate() {
+        goes(rt, alloc, Place { shows, step }, registry, wanted)?;
+    }
     Ok(())
 }
 
-#[test]
-fn a_taken_id_shows_its_name(rt: HostRuntime) -> Result<(), Fail> {
-    let alloc = rt.alloc();
-    let mut registry = open(alloc, TWO_SLOTS)?;
-    let taken = id_is_taken(&rt, alloc, &mut registry);
+fn holds(rt: &impl Abort, alloc: Global, case: &Case) -> Result<(), Fail> {
+    let mut registry = open_with(alloc, case.file, case.failing)?;
+    let gone = goes_through(rt, alloc, &mut registry, case);
     drop(registry);
-    taken
+    gone
 }
 
-static REMOVED: [Step; 4] = [
-    (
-        Call::Create {
-            name: "A",
-            uri: "http://e/a",
-            id: 1,
-        },
-        Told::Made { slot: 1 },
-    ),
-    (
-        Call::Rename {
-            name: "A",
-            new_name: "B",
-        },
-        Told::Made { slot: 1 },
-    ),
-    (Call::Remove { name: "B" }, Told::Made { slot: 1 }),
-    (
-        Call::Create {
-            name: "B",
-            uri: "http://e/b",
-            id: 2,
-        },
-        Told::Made { slot: 2 },
-    ),
-];
-
-// Whether a registry lists these names.
-fn lists(alloc: Global, registry: &RegistryState<MemDisk>, names: &str) -> Result<bool, Fail> {
-    let listed = list(alloc, registry)?;
-    Ok(listed.as_str() == names)
-}
-
-// What is made behind a removal has the next slot.
-fn takes_the_next(
-    rt: &impl Abort,
-    alloc: Global,
-    registry: &mut RegistryState<MemDisk>,
-) -> Result<(), Fail> {
-    answers(rt, alloc, registry, &REMOVED)?;
-    assert!(rt; lists(alloc, registry, " B")?);
-    assert!(rt; registry.count() == 4);
+#[test]
+fn what_a_registry_answers_and_has_then(rt: HostRuntime) -> Result<(), Fail> {
+    for case in &CASES {
+        holds(&rt, rt.alloc(), case)?;
+    }
     Ok(())
-}
-
-#[test]
-fn a_removed_slot_is_not_used_again(rt: HostRuntime) -> Result<(), Fail> {
-    let alloc = rt.alloc();
-    let mut registry = open(alloc, TWO_SLOTS)?;
-    let taken = takes_the_next(&rt, alloc, &mut registry);
-    drop(registry);
-    taken
-}
-
-static REFUSED: [Step; 5] = [
-    (
-        Call::Create {
-            name: "a/b",
-            uri: "http://e/b",
-            id: 1,
-        },
-        Told::BadName { at: 1 },
-    ),
-    (
-        Call::Create {
-            name: "b",
-            uri: "abc",
-            id: 1,
-        },
-        Told::BadUri { at: 0 },
-    ),
-    (
-        Call::Create {
-            name: "",
-            uri: "http://e/b",
-            id: 1,
-        },
-        Told::BadName { at: 0 },
-    ),
-    (
-        Call::Create {
-            name: ".b",
-            uri: "http://e/b",
-            id: 1,
-        },
-        Told::BadName { at: 0 },
-    ),
-    (
-        Call::Create {
-            name: "b",
-            uri: "http://e/ b",
-            id: 1,
-        },
-        Told::BadUri { at: 9 },
-    ),
-];
-
-#[test]
-fn creations_are_refused_at_a_place(rt: HostRuntime) -> Result<(), Fail> {
-    answers_from(&rt, rt.alloc(), TWO_SLOTS, &REFUSED)
-}
-
-static CHANGES: [Step; 4] = [
-    (
-        Call::Create {
-            name: "ABC",
-            uri: "http://e/abc",
-            id: 9,
-        },
-        Told::Made { slot: 1 },
-    ),
-    (
-        Call::Rename {
-            name: "ABC",
-            new_name: "ABC",
-        },
-        Told::NameTaken { id: ID9 },
-    ),
-    (
-        Call::Rename {
-            name: "ABC",
-            new_name: "a b",
-        },
-        Told::BadName { at: 1 },
-    ),
-    (Call::Remove { name: "X" }, Told::NoSuchName),
-];
-
-#[test]
-fn changes_are_refused(rt: HostRuntime) -> Result<(), Fail> {
-    answers_from(&rt, rt.alloc(), TWO_SLOTS, &CHANGES)
-}
-
-// A URI finds the source that has it first, and as a name it finds none.
-fn is_found_by_uri(
-    rt: &impl Abort,
-    alloc: Global,
-    registry: &RegistryState<MemDisk>,
-) -> Result<(), Fail> {
-    let uri = Text::from_str(alloc, "http://e/x")?;
-    shows(rt, registry.resolve_uri(&uri)?, 1, "b", "http://e/x");
-    assert!(rt; registry.resolve(&uri)?.is_none());
-    Ok(())
-}
-
-fn is_found_by_name(
-    rt: &impl Abort,
-    alloc: Global,
-    registry: &RegistryState<MemDisk>,
-) -> Result<(), Fail> {
-    let name = Text::from_str(alloc, "a")?;
-    shows(rt, registry.resolve(&name)?, 2, "a", "http://e/x");
-    Ok(())
-}
-
-// Makes two sources, and finds them.
-fn finds_two(
-    rt: &impl Abort,
-    alloc: Global,
-    registry: &mut RegistryState<MemDisk>,
-) -> Result<(), Fail> {
-    create(alloc, registry, "b", "http://e/x", 1)?;
-    create(alloc, registry, "a", "http://e/x", 2)?;
-    assert!(rt; lists(alloc, registry, " a b")?);
-    is_found_by_uri(rt, alloc, registry)?;
-    shows(rt, registry.resolve_id(id_of(2))?, 2, "a", "http://e/x");
-    is_found_by_name(rt, alloc, registry)
-}
-
-#[test]
-fn sources_are_found_and_listed(rt: HostRuntime) -> Result<(), Fail> {
-    let alloc = rt.alloc();
-    let mut registry = open(alloc, TWO_SLOTS)?;
-    let found = finds_two(&rt, alloc, &mut registry);
-    drop(registry);
-    found
 }
