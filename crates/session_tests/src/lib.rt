@@ -1,20 +1,6 @@
-//! Worked examples of a hall and its sessions: replies byte for byte, how sessions end, what faults
-//! of links and disks leave, and what is wrong with files.
+//! Passes of a hall that serve connections side by side. `session_cases` has the worked examples of one pass after
+//! another.
 #![tactic(auto)]
 
-#[cfg(test)]
-mod asking;
-#[cfg(test)]
-mod faults;
-#[cfg(test)]
-mod framing;
-#[cfg(test)]
-mod logs;
-#[cfg(test)]
-mod opened;
-#[cfg(test)]
-mod openings;
-#[cfg(test)]
-mod sources;
 #[cfg(test)]
 mod threads;

@@ -1,11 +1,8 @@
-//! Passes that serve connections of one hall side by side.
+//! Two gates of one connection each, which send the same patch to a hall.
 ghost use Rattle.std.specs.Prelude.{◌≡◌, ◌<◌, IfOk, vec_len};
 
-use crate::asking::{answers, link_of, open, over, reply, request};
-use crate::logs::{CREATE, FIRST, SOURCE};
-use crate::opened::Opened;
-use delta_base::{Calls, MemLink, OutOfMemory};
-use delta_session::Worked;
+use delta_base::{Bytes, Calls, MemLink, OutOfMemory};
+use delta_session::{Worked, open_hall, serve_gates};
 use disk_model::MemDisk;
 use std::alloc::Global;
 use std::process::Abort;
@@ -14,65 +11,112 @@ use std::test::Fail;
 use std::thread::Threads;
 use worker_pool::MemGate;
 
-// A gate of one connection, which sends a patch.
+/// A registry of two slots that has a source, and the logs of its slots.
+const FILES: &[&[u8]] = &[
+    b"RDJ1\0\0\0\0\x01\0\0\0\x03S 2\x01\0\0\0\x39C 1 00000000-0000-4000-8000-000000000009 ABC http://e/abc\0",
+    b"RDJ1\0\0\0\x01\0",
+    b"RDJ1\0\0\0\x02\0",
+];
+
+const POST: &[u8] =
+    b"POST /ABC HTTP/1.1\r\nHost: a\r\nContent-Length: 51\r\n\r\nH id <uuid:00000000-0000-4000-8000-000000000001> .\n";
+
+const APPENDED: &[u8] =
+    b"HTTP/1.1 200 OK\r\nContent-Type: application/json\r\nContent-Length: 13\r\n\r\n{\"version\":1}";
+
+const KNOWN: &[u8] =
+    b"HTTP/1.1 409 Conflict\r\nContent-Type: application/json\r\nContent-Length: 41\r\n\r\n{\"error\":\"known\",\"same\":true,\"version\":1}";
+
+/// The log of the source behind that.
+const LOG: &[u8] =
+    b"RDJ1\0\0\0\x01\x01\0\0\0\x33H id <uuid:00000000-0000-4000-8000-000000000001> .\n\0";
+
+fn add_disks(alloc: Global, disks: &mut Vec<MemDisk>) -> Result<(), OutOfMemory> {
+    for file in FILES {
+        let image = Bytes::from_slice(alloc, file)?;
+        disks.push(MemDisk::from_image(alloc, image, Calls::new(alloc))?)?;
+    }
+    Ok(())
+}
+
+fn disks(alloc: Global) -> Result<Vec<MemDisk>, Fail>
+    ensures { IfOk result (λ disks. 0 < vec_len disks) }
+{
+    let mut disks = Vec::new(alloc);
+    let added = add_disks(alloc, &mut disks);
+    if added.is_ok() && !disks.is_empty() {
+        return Ok(disks);
+    }
+    drop(disks);
+    Err(Fail::from("no disks"))
+}
+
+// A gate of one connection.
 fn gate(alloc: Global) -> Result<MemGate<MemLink>, OutOfMemory> {
-    let text = request(alloc, "POST /ABC", FIRST)?;
     let mut links = Vec::new(alloc);
-    links.push(link_of(alloc, &text, 8_192, &[])?)?;
+    links.push(MemLink::new(
+        alloc,
+        Bytes::from_slice(alloc, POST)?,
+        8_192,
+        Calls::new(alloc),
+    ))?;
     MemGate::new(alloc, links, Calls::new(alloc))
 }
 
-// Two such gates.
-fn gates(alloc: Global) -> Result<Vec<MemGate<MemLink>>, Fail>
-    ensures { IfOk result (λ gates. vec_len gates ≡ 2) }
-{
-    let mut gates = Vec::new(alloc);
-    let added = add_two(alloc, &mut gates);
-    if added.is_ok() && gates.len() == 2 {
-        return Ok(gates);
-    }
-    drop(gates);
-    added?;
-    Err(Fail::from("two gates"))
-}
-
-fn add_two(alloc: Global, gates: &mut Vec<MemGate<MemLink>>) -> Result<(), OutOfMemory> {
+fn add_gates(alloc: Global, gates: &mut Vec<MemGate<MemLink>>) -> Result<(), OutOfMemory> {
     for _ in 0..2 {
         gates.push(gate(alloc)?)?;
     }
     Ok(())
 }
 
-/// A hall with a source.
-fn open_with_source<R: Abort + Wait>(rt: &R, alloc: Global) -> Result<Opened<MemDisk>, Fail> {
-    let mut hall = open(alloc)?;
-    match answers(
-        rt,
-        alloc,
-        &mut hall,
-        0,
-        "POST /$/rpc",
-        CREATE,
-        "200 OK",
-        SOURCE,
-    ) {
-        Ok(()) => Ok(hall),
-        Err(fault) => {
-            drop(hall);
-            Err(Fail::from(fault))
+fn gates(alloc: Global) -> Result<Vec<MemGate<MemLink>>, Fail>
+    ensures { IfOk result (λ gates. vec_len gates ≡ 2) }
+{
+    let mut gates = Vec::new(alloc);
+    let added = add_gates(alloc, &mut gates);
+    if added.is_ok() && gates.len() == 2 {
+        return Ok(gates);
+    }
+    drop(gates);
+    Err(Fail::from("no two gates"))
+}
+
+/// What is left once two passes have served both connections.
+fn worked<R: Threads + Wait + Sync>(
+    rt: &R,
+    alloc: Global,
+    disks: Vec<MemDisk>,
+    gates: Vec<MemGate<MemLink>>,
+) -> Result<Worked<MemDisk, MemGate<MemLink>>, Fail>
+    requires disks { 0 < vec_len disks }
+    requires gates { vec_len gates ≡ 2 }
+{
+    match open_hall(alloc, disks, 2) {
+        Ok((hall, passes)) => match serve_gates(rt, alloc, hall, passes, gates) {
+            Ok(worked) => Ok(worked),
+            Err(left) => {
+                drop(left);
+                Err(Fail::from("nobody was served"))
+            }
+        },
+        Err(refusal) => {
+            drop(refusal);
+            drop(gates);
+            Err(Fail::from("not opened"))
         }
     }
 }
 
-/// How many connections were sent the first of these replies; each other was sent the second one.
-fn count_firsts<R: Abort>(rt: &R, gates: &[MemGate<MemLink>], first: &[u8], known: &[u8]) -> u32 {
+/// How many connections were told that the patch was appended; each other was told that it was known.
+fn count_firsts<R: Abort>(rt: &R, gates: &[MemGate<MemLink>]) -> u32 {
     let mut firsts = 0u32;
     for gate in gates {
         for link in gate.back() {
-            if link.sent() == first {
+            if link.sent() == APPENDED {
                 firsts = firsts.saturating_add(1);
             } else {
-                assert!(rt; link.sent() == known);
+                assert!(rt; link.sent() == KNOWN);
             }
         }
     }
@@ -80,44 +124,22 @@ fn count_firsts<R: Abort>(rt: &R, gates: &[MemGate<MemLink>], first: &[u8], know
 }
 
 /// One of the connections appended the patch, and the other came behind it.
-fn one_is_first<R: Abort>(
-    rt: &R,
-    alloc: Global,
-    gates: &[MemGate<MemLink>],
-) -> Result<(), OutOfMemory> {
-    let first = reply(alloc, "200 OK", b"{\"version\":1}")?;
-    let known = reply(
-        alloc,
-        "409 Conflict",
-        b"{\"error\":\"known\",\"same\":true,\"version\":1}",
-    )?;
-    assert!(rt; count_firsts(rt, gates, &first, &known) == 1);
+fn one_was_first<R: Abort>(rt: &R, worked: &Worked<MemDisk, MemGate<MemLink>>) -> Result<(), Fail> {
+    assert!(rt; count_firsts(rt, &worked.gates) == 1);
+    let Some(log) = worked.disks.get(1) else {
+        return Err(Fail::from("no log"));
+    };
+    let image = log.image(0)?;
+    assert!(rt; image.as_slice() == LOG);
     Ok(())
-}
-
-/// The disks of a hall in which that was so.
-fn worked<R: Abort + Threads + Wait + Sync>(rt: &R, alloc: Global) -> Result<Vec<MemDisk>, Fail>
-    ensures { IfOk result (λ disks. 0 < vec_len disks) }
-{
-    let gates = gates(alloc)?;
-    let hall = open_with_source(rt, alloc)?;
-    let Worked { disks, gates } = hall.work(rt, gates);
-    let ran = one_is_first(rt, alloc, &gates);
-    drop(gates);
-    match ran {
-        Ok(()) => Ok(disks),
-        Err(fault) => {
-            drop(disks);
-            Err(Fail::from(fault))
-        }
-    }
 }
 
 #[test]
 fn one_of_two_connections_is_first(rt: HostRuntime) -> Result<(), Fail> {
     let alloc = rt.alloc();
-    let mut hall = over(alloc, worked(&rt, alloc)?)?;
-    let ran = answers(&rt, alloc, &mut hall, 0, "GET /ABC/1", b"", "200 OK", FIRST);
-    drop(hall);
-    Ok(ran?)
+    let gates = gates(alloc)?;
+    let worked = worked(&rt, alloc, disks(alloc)?, gates)?;
+    let ran = one_was_first(&rt, &worked);
+    drop(worked);
+    ran
 }

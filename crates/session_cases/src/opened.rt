@@ -1,15 +1,13 @@
 //! A hall that two passes share.
-ghost use Rattle.std.specs.Prelude.{◌≡◌, ◌<◌, IfOk, vec_len};
+ghost use Rattle.std.specs.Prelude.{◌<◌, vec_len};
 
-use delta_base::{Link, MemLink};
-use delta_session::{Hall, HallPasses, HallRefusal, Worked, open_hall, serve_gates, serve_session};
+use delta_base::Link;
+use delta_session::{Hall, HallPasses, HallRefusal, open_hall, serve_session};
 use disk_model::Disk;
 use http_text::SessionEnd;
 use std::alloc::Global;
 use std::marker::Model;
 use std::sync::Wait;
-use std::thread::Threads;
-use worker_pool::MemGate;
 
 /// A hall with its two passes, so that it can be closed at any moment.
 #[derive(Drop)]
@@ -76,27 +74,5 @@ impl<D: Disk> Opened<D> {
     {
         let Opened { hall, passes, .. } = self;
         hall.close(passes)
-    }
-}
-
-impl<D: Disk + Send> Opened<D> {
-    /// Each pass serves the connections of its gate, and then the hall is closed.
-    pub(crate) fn work<R: Threads + Wait + Sync>(
-        self,
-        rt: &R,
-        gates: Vec<MemGate<MemLink>>,
-    ) -> Worked<D, MemGate<MemLink>>
-        requires { vec_len gates ≡ 2 }
-        ensures { 0 < vec_len result.disks }
-    {
-        let Opened {
-            alloc,
-            hall,
-            passes,
-        } = self;
-        match serve_gates(rt, alloc, hall, passes, gates) {
-            Ok(worked) => worked,
-            Err(left) => left,
-        }
     }
 }

@@ -1,0 +1,200 @@
+//! What is said to the hall over links in memory.
+use crate::Stage;
+use crate::framing::{request_of, tell_reply};
+use bstr::ByteSlice;
+use case_scripts::{Answer, Words};
+use delta_base::{Bytes, Link, Listing, MemLink, OutOfMemory};
+use http_text::SessionEnd;
+use std::alloc::Global;
+use std::fmt::Write;
+use std::sync::Wait;
+
+/// How many bytes a link gives at once where nothing else is said.
+const PIECE: usize = 8_192;
+
+/// How a session ended, what was sent, and how often the link failed.
+#[derive(Drop)]
+struct Talk {
+    end: SessionEnd,
+    sent: Vec<u8>,
+    faults: u64,
+}
+
+impl<'a, R: Wait> Stage<'a, R> {
+    // One of the passes serves this link. There is no end where no hall is open.
+    fn serve(&mut self, place: usize, link: &mut MemLink) -> Option<SessionEnd> {
+        match &mut self.hall {
+            Some(hall) => Some(hall.serve(self.rt, place % 2, link)),
+            None => None,
+        }
+    }
+
+    // One of the passes reads this text in pieces of a size, where a call of the link may fail.
+    fn talk_over(
+        &mut self,
+        place: usize,
+        text: &[u8],
+        piece: usize,
+        failing: Option<u64>,
+    ) -> Result<Talk, OutOfMemory> {
+        let mut link = link_of(self.alloc, text, piece, failing)?;
+        let end = self.serve(place, &mut link);
+        let sent = Vec::from_slice(self.alloc, link.sent())?;
+        let faults = link.faults();
+        match end {
+            Some(end) => Ok(Talk { end, sent, faults }),
+            None => Err(OutOfMemory),
+        }
+    }
+
+    /// `request PASS LINE [BODY]`: the status and the body of the reply, where the rest of it is as it should be.
+    pub(crate) fn request(&mut self, words: &Words, answer: &mut Answer) {
+        let place = words.number(1).unwrap_or(0) as usize;
+        let Ok(text) = request_of(self.alloc, words.bytes(2), words.bytes(3)) else {
+            return answer.push(b"out of memory");
+        };
+        let Ok(talk) = self.talk_over(place, &text, PIECE, None) else {
+            return answer.push(b"no hall");
+        };
+        if talk.end != SessionEnd::Closed {
+            tell_end(talk.end, answer);
+        }
+        tell_reply(self.alloc, &talk.sent, answer);
+    }
+
+    /// `talk PASS TEXT`: how the session ended, and what was sent.
+    pub(crate) fn talk(&mut self, words: &Words, answer: &mut Answer) {
+        let place = words.number(1).unwrap_or(0) as usize;
+        tell_talk(self.talk_over(place, words.bytes(2), PIECE, None), answer);
+    }
+
+    /// `break CALL TEXT`: the same, where this call of the link fails, counted from 0.
+    pub(crate) fn talk_breaking(&mut self, words: &Words, answer: &mut Answer) {
+        tell_talk(
+            self.talk_over(0, words.bytes(2), PIECE, words.number(1)),
+            answer,
+        );
+    }
+
+    /// `keep TEXT SENT FETCH FETCHED`: `kept` where this was sent, and is then to be fetched. Where memory runs out,
+    /// the session says so or ends so.
+    pub(crate) fn keep(&mut self, words: &Words, answer: &mut Answer) {
+        let Ok(talk) = self.talk_over(0, words.bytes(1), PIECE, None) else {
+            return answer.push(b"kept");
+        };
+        if talk.sent.as_slice() != words.bytes(2) {
+            let is_told = talk.faults > 0 || self.has_faults() || tells_want(&talk);
+            return answer.push(if is_told { b"kept" } else { b"silent" });
+        }
+        match self.talk_over(1, words.bytes(3), PIECE, None) {
+            Ok(fetch) if fetch.sent.as_slice() == words.bytes(4) => answer.push(b"kept"),
+            _ => answer.push(b"lost"),
+        }
+    }
+
+    // Whether a disk has failed in a call of the first pass; one that finds no memory fails.
+    fn has_faults(&self) -> bool {
+        match &self.hall {
+            Some(hall) => hall.own_faults(0) > 0,
+            None => false,
+        }
+    }
+
+    // Talks so to a hall that is opened anew.
+    fn talk_anew(&mut self, text: &[u8], piece: usize) -> Result<Talk, OutOfMemory> {
+        match self.open_anew() {
+            Ok(()) => self.talk_over(0, text, piece, None),
+            Err(_) => Err(OutOfMemory),
+        }
+    }
+
+    /// `pieces FROM TO TEXT`: the same for each of these sizes of pieces, in a hall that is opened anew.
+    pub(crate) fn talk_in_pieces(&mut self, words: &Words, answer: &mut Answer) {
+        let from = words.number(1).unwrap_or(1);
+        let first = self.talk_anew(words.bytes(3), from as usize);
+        for piece in from..words.number(2).unwrap_or(0) {
+            let next = self.talk_anew(words.bytes(3), piece.saturating_add(1) as usize);
+            if !are_alike(&first, &next) {
+                let _ = write!(answer, "other than in pieces of {piece}: ");
+                return tell_talk(next, answer);
+            }
+        }
+        tell_talk(first, answer);
+    }
+
+    /// `cuts FROM TO TEXT`: the same where the text ends at each of these places.
+    pub(crate) fn talk_cut(&mut self, words: &Words, answer: &mut Answer) {
+        let from = words.number(1).unwrap_or(0);
+        let first = self.talk_anew(front(words.bytes(3), from), PIECE);
+        for cut in from..words.number(2).unwrap_or(0) {
+            let next = self.talk_anew(front(words.bytes(3), cut.saturating_add(1)), PIECE);
+            if !are_alike(&first, &next) {
+                let _ = write!(answer, "other than cut at {cut}: ");
+                return tell_talk(next, answer);
+            }
+        }
+        tell_talk(first, answer);
+    }
+}
+
+// Whether a session said that memory was wanting, or ended so.
+fn tells_want(talk: &Talk) -> bool {
+    talk.end == SessionEnd::OutOfMemory
+        || talk
+            .sent
+            .as_slice()
+            .contains_str(b"HTTP/1.1 503 Service Unavailable\r\n")
+}
+
+// Whether two talks ended alike, and the same was sent.
+fn are_alike(one: &Result<Talk, OutOfMemory>, other: &Result<Talk, OutOfMemory>) -> bool {
+    match (one, other) {
+        (Ok(one), Ok(other)) => one.end == other.end && one.sent == other.sent,
+        _ => false,
+    }
+}
+
+// So many first bytes.
+fn front(text: &[u8], count: u64) -> &[u8] {
+    &text[..text.len().min(count as usize)]
+}
+
+// A link that gives a text in pieces, of which a call may fail.
+fn link_of(
+    alloc: Global,
+    text: &[u8],
+    piece: usize,
+    failing: Option<u64>,
+) -> Result<MemLink, OutOfMemory> {
+    let mut calls = Listing::new(alloc);
+    if let Some(call) = failing {
+        calls.push(call)?;
+    }
+    Ok(MemLink::new(alloc, Bytes::from_slice(alloc, text)?, piece.max(1), calls))
+}
+
+fn tell_end(end: SessionEnd, answer: &mut Answer) {
+    let _ = match end {
+        SessionEnd::Closed => write!(answer, "closed"),
+        SessionEnd::Asked => write!(answer, "asked"),
+        SessionEnd::Spent => write!(answer, "spent"),
+        SessionEnd::Refused { status } => write!(answer, "refused {status}"),
+        SessionEnd::CutShort => write!(answer, "cut short"),
+        SessionEnd::LinkFault => write!(answer, "link fault"),
+        SessionEnd::OutOfMemory => write!(answer, "out of memory"),
+    };
+}
+
+fn tell_talk(talk: Result<Talk, OutOfMemory>, answer: &mut Answer) {
+    let Ok(talk) = talk else {
+        return answer.push(b"no hall");
+    };
+    tell_end(talk.end, answer);
+    if talk.faults > 1 {
+        let _ = write!(answer, ", {} calls failed", talk.faults);
+    }
+    if !talk.sent.is_empty() {
+        answer.push(b" ");
+        answer.push(&talk.sent);
+    }
+}
