@@ -1,0 +1,131 @@
+"""Patches: their ids, the changes that take effect, and making new ones below the limit."""
+from __future__ import annotations
+
+import re
+import uuid
+from collections.abc import Iterable, Iterator
+from dataclasses import dataclass
+from itertools import takewhile
+
+from rdfdelta import errors
+from rdfdelta.rows import Iri, Literal, Row, read_rows
+
+PATCH_LIMIT = 4_194_304
+_HEX = "[0-9A-Fa-f]"
+_HYPHENATED = rf"{_HEX}{{8}}(?:-{_HEX}{{4}}){{3}}-{_HEX}{{12}}"
+_UUID = re.compile(rf"(?:urn:)?(?:uuid:)?({_HYPHENATED}|\{{{_HYPHENATED}\}}|{_HEX}{{32}})")
+
+
+@dataclass(frozen=True, slots=True)
+class Link:
+    """The id of a patch, and that of the patch before it."""
+
+    id: str
+    prev: str | None
+
+
+def draw_id() -> str:
+    return str(uuid.uuid4())
+
+
+def _id_of(row: Row) -> str:
+    value = row.parts[1]
+    found = _UUID.fullmatch(value.value) if isinstance(value, Iri | Literal) else None
+    if found is None:
+        raise errors.BadPatch(row.at, row.line, "the value is no id")
+    return str(uuid.UUID(found[1]))
+
+
+def _key_of(row: Row) -> str | None:
+    """The key of a header, none for another row."""
+    key = row.parts[0] if row.code == "H" else None
+    return key.value if isinstance(key, Literal) else None
+
+
+def read_link(patch: bytes) -> Link:
+    """The ids of a patch. Its headers are read and no other rows."""
+    return _link_of(takewhile(lambda row: row.code == "H", read_rows(patch)))
+
+
+def check_patch(patch: bytes) -> Link:
+    """The ids of a text that was read to its end as one patch."""
+    if len(patch) > PATCH_LIMIT:
+        raise errors.BadPatch(len(patch), 1, f"too long: limit {PATCH_LIMIT}")
+    rows = list(read_rows(patch))
+    headers = list(takewhile(lambda row: row.code == "H", rows))
+    in_block = False
+    for row in rows[len(headers):]:
+        if row.code == "H":
+            raise errors.BadPatch(row.at, row.line, "a header behind other rows")
+        if row.code in ("TX", "TC", "TA"):
+            if in_block == (row.code == "TX"):
+                raise errors.BadPatch(row.at, row.line, f"{row.code} {'inside' if in_block else 'outside'} a block")
+            in_block = not in_block
+    if in_block:
+        raise errors.BadPatch(len(patch), 1 + patch.count(b"\n"), "the text ends inside a block")
+    return _link_of(headers)
+
+
+def _link_of(headers: Iterable[Row]) -> Link:
+    found: dict[str, str] = {}
+    for row in headers:
+        key = _key_of(row)
+        name = "prev" if key == "previous" else key
+        if name in ("id", "prev"):
+            if name in found:
+                raise errors.BadPatch(row.at, row.line, f"a second {name}")
+            found[name] = _id_of(row)
+    if "id" not in found:
+        raise errors.BadPatch(0, 1, "no row names the id before the other rows")
+    return Link(found["id"], found.get("prev"))
+
+
+def changes(patch: bytes) -> list[Row]:
+    """The rows of A, D, PA and PD that take effect, in their order: those of a block that TA ends have none."""
+    kept: list[Row] = []
+    block: int | None = None
+    for row in read_rows(patch):
+        if row.code == "TX":
+            block = len(kept)
+        elif row.code in ("TC", "TA"):
+            if row.code == "TA":
+                del kept[block:]
+            block = None
+        elif row.code != "H":
+            kept.append(row)
+    return kept
+
+
+def compose(patch_id: str, prev: str | None, rows: Iterable[str], notes: Iterable[str] = ()) -> bytes:
+    """A patch of one block, with its rows a line each, and with further headers where there are notes."""
+    lines = [f"H id <uuid:{patch_id}> ."]
+    if prev is not None:
+        lines.append(f"H prev <uuid:{prev}> .")
+    return ("\n".join([*lines, *notes, "TX .", *rows, "TC ."]) + "\n").encode()
+
+
+def cut(rows: Iterable[str], limit: int, notes: Iterable[str] = ()) -> Iterator[list[str]]:
+    """Rows in lists, each of which makes one patch within a limit of bytes."""
+    spare = limit - len(compose(str(uuid.UUID(int=0)), str(uuid.UUID(int=0)), [], notes))
+    piece: list[str] = []
+    used = 0
+    for row in rows:
+        size = len(row.encode()) + 1
+        if size > spare:
+            raise errors.RdfDeltaError(f"a row of {size} bytes is longer than a patch may be: {row[:60]}..")
+        if used + size > spare:
+            yield piece
+            piece, used = [], 0
+        piece.append(row)
+        used += size
+    if piece:
+        yield piece
+
+
+def follow_on(patch: bytes, patch_id: str, prev: str | None) -> bytes:
+    """A patch with the rows and other headers of this one, under other ids."""
+    kept = [row for row in read_rows(patch) if _key_of(row) not in ("id", "prev", "previous")]
+    notes = [row.text for row in kept if row.code == "H"]
+    rows = [row.text for row in kept if row.code != "H"]
+    lines = [f"H id <uuid:{patch_id}> .", *([f"H prev <uuid:{prev}> ."] if prev else []), *notes, *rows]
+    return ("\n".join(lines) + "\n").encode()

@@ -1,0 +1,117 @@
+"""Journals are read as the program reads them, and damage is told at the same byte."""
+from __future__ import annotations
+
+import subprocess
+from collections.abc import Callable
+from pathlib import Path
+
+import pytest
+
+from conftest import PROGRAM, Running, id_of, patch
+from rdfdelta import BadFile, Damaged, Held, Journal, Registry
+from rdfdelta.journal import Counter
+
+
+@pytest.fixture
+def folder(running: Running) -> Path:
+    """The files of a server with a log of three patches, in slot 1 of 4."""
+    running.fill("ABC", 3)
+    running.client.create("DEF", "http://e/def")
+    running.client.rename("DEF", "GHI")
+    running.client.create("JKL", "http://e/jkl")
+    running.client.remove("JKL")
+    running.stop()
+    return running.folder
+
+
+def checked(folder: Path) -> str:
+    """What the program says of the files."""
+    done = subprocess.run([PROGRAM, "check", folder], capture_output=True, text=True)
+    return done.stderr.removeprefix("rdfdelta: ").strip()
+
+
+def test_a_log(folder: Path) -> None:
+    journal = Journal.read(folder / "rdj-0001")
+    assert journal.number == 1 and journal.payloads == (patch(1), patch(2), patch(3))
+    assert [link.id for link in journal.links()] == [id_of(1), id_of(2), id_of(3)]
+    assert list(journal.patches(3)) == [(3, patch(3))] and list(journal.patches(4)) == []
+    assert journal.end == (folder / "rdj-0001").stat().st_size - 1
+
+
+def test_the_registry(folder: Path) -> None:
+    registry = Registry.of(Journal.read(folder / "rdj-0000"))
+    assert (registry.slots, registry.used) == (4, 3)
+    assert [(source.name, source.slot) for source in registry.sources] == [("ABC", 1), ("GHI", 2)]
+    with pytest.raises(BadFile, match="has no patches"):
+        Journal.read(folder / "rdj-0000").links()
+    with pytest.raises(BadFile, match="not the registry"):
+        Registry.of(Journal.read(folder / "rdj-0001"))
+
+
+def test_each_truncation_is_damage_at_the_byte_of_check(folder: Path) -> None:
+    path = folder / "rdj-0001"
+    whole = path.read_bytes()
+    told: dict[int, str] = {}
+    for length in range(len(whole)):
+        with pytest.raises(Damaged) as damaged:
+            Journal.parse(path, whole[:length])
+        told[length] = f"file 1: byte {damaged.value.at}: damaged"
+    for length in [0, 7, 8, 9, 12, 13, 14, 50, *range(len(whole) - 5, len(whole))]:
+        path.write_bytes(whole[:length])
+        assert checked(folder) == told[length]
+
+
+@pytest.mark.parametrize("hurt, said", [
+    (lambda whole: b"RDJ2" + whole[4:], "file 1: byte 0: damaged"),
+    (lambda whole: whole[:7] + b"\x02" + whole[8:], "file 1: wrong number 2"),
+    (lambda whole: whole.replace(b"000000000002> .\nTX", b"000000000001> .\nTX"), "file 1: broken chain at version 3"),
+    (lambda whole: whole.replace(b"H prev", b"H pref"), "file 1: broken chain at version 2"),
+    (lambda whole: whole[:9] + b"\0\0\0\x05" + whole[13:], "file 1: broken chain at version 1"),
+    (lambda whole: whole.replace(b'A <http://e/s> <http://e/p> "2"', b'a <http://e/s> <http://e/p> "2"'),
+     "file 1: broken chain at version 2"),
+    (lambda whole: whole.replace(b"TC .", b"TX ."), "file 1: broken chain at version 1"),
+    (lambda whole: whole + b"behind", ""),
+    (lambda whole: whole[:8] + b"\x02" + whole[9:], ""),
+])
+def test_other_damage(folder: Path, hurt: Callable[[bytes], bytes], said: str) -> None:
+    path = folder / "rdj-0001"
+    path.write_bytes(hurt(path.read_bytes()))
+    assert checked(folder) == said
+    if not said:
+        Journal.read(path).links()
+        return
+    with pytest.raises(BadFile) as bad:
+        Journal.read(path).links()
+    assert str(bad.value) == said.replace("file 1", str(path))
+
+
+@pytest.mark.parametrize("events", [
+    [], [b"S 0"], [b"S 17"], [b"S 01"], [b"S 2", b"X"], [b"S 2", b"D 1"], [b"S 2", b"R 1 A"],
+    [b"S 2", b"C 2 00000000-0000-4000-8000-000000000009 A http://e/"],
+    [b"S 2", b"C 1 00000000-0000-4000-8000-00000000000A A http://e/"],
+    [b"S 1", *(b"C %d 00000000-0000-4000-8000-00000000000%d A%d http://e/" % (k, k, k) for k in (1, 2))],
+    [b"S 2", *(b"C %d 00000000-0000-4000-8000-00000000000%d A http://e/" % (k, k) for k in (1, 2))],
+    [b"S 2", b"C 1 00000000-0000-4000-8000-000000000009 A http://e/", b"R 1 A"],
+])
+def test_registries_that_are_none(folder: Path, events: list[bytes]) -> None:
+    path = folder / "rdj-0000"
+    content = b"RDJ1\0\0\0\0" + b"".join(b"\1" + len(event).to_bytes(4, "big") + event for event in events) + b"\0"
+    path.write_bytes(content)
+    with pytest.raises(BadFile) as bad:
+        Registry.of(Journal.read(path))
+    assert str(bad.value) == checked(folder).replace("file 0", str(path))
+
+
+def test_a_file_that_is_held_is_refused(running: Running) -> None:
+    with pytest.raises(Held, match=f"held by pid {running.process.pid}"):
+        Journal.read(running.folder / "rdj-0001")
+
+
+def test_a_counter_goes_on(running: Running) -> None:
+    counter = Counter(running.folder / "rdj-0001")
+    assert (counter.look(), counter.newest()) == (0, None)
+    running.fill("ABC", 2)
+    assert (counter.look(), counter.newest()) == (2, patch(2))
+    running.fill("ABC", 1, begin=3)
+    assert (counter.look(), counter.newest()) == (3, patch(3))
+    assert Counter(running.folder / "none").look() == 0
