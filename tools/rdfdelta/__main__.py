@@ -1,0 +1,3 @@
+from rdfdelta.commands import main
+
+main(prog_name="rdfd")

@@ -1,0 +1,85 @@
+"""Zones: folders in which the program keeps a copy of a log with its dataset.
+
+The program locks a zone's file while it has it, and whoever comes meanwhile is told that the disk failed. So all that
+goes through here waits for a lock file of its own beside it first.
+"""
+from __future__ import annotations
+
+from collections.abc import Callable, Iterator
+from contextlib import contextmanager
+from pathlib import Path
+
+from rdfdelta import errors, locks
+from rdfdelta.answers import LogState
+from rdfdelta.journal import ZONE, Counter, file_of
+from rdfdelta.patches import read_link
+from rdfdelta.program import Program
+from rdfdelta.server import Log
+
+LOCK_FILE = "rdfd.lock"
+# The statuses of the program that the zone's loop tells apart.
+DISK_FAILED, DAMAGED, OTHER_CHAIN = 5, 9, 10
+TRIED_AGAIN = frozenset({6, 7, 8})
+
+
+class Zone:
+    """The zone in a folder."""
+
+    def __init__(self, folder: Path, program: Program, tell: Callable[[str], None] | None = None) -> None:
+        self.folder = folder
+        self.program = program
+        self.file = file_of(folder, ZONE)
+        self._tell = tell
+        self._counter = Counter(self.file)
+
+    @contextmanager
+    def alone(self) -> Iterator[None]:
+        """The zone's lock."""
+        if not self.folder.is_dir():
+            raise errors.RdfDeltaError(f"{self.folder}: no such folder")
+        with locks.exclusive(self.folder / LOCK_FILE, tell=self._tell):
+            yield
+
+    def make(self) -> None:
+        """Makes the folder and the zone in it where there is none."""
+        self.folder.mkdir(parents=True, exist_ok=True)
+        with self.alone():
+            if not self.file.exists() or self.file.stat().st_size == 0:
+                self.program.run("zone", self.folder)
+
+    def state(self) -> LogState:
+        """The version of the zone and its newest patch, by its file."""
+        version = self._counter.look()
+        newest = self._counter.newest()
+        return LogState(read_link(newest).id if newest is not None else None, version)
+
+    def sync(self, log: Log, look: Callable[[int], None]) -> None:
+        """Has the program fetch and take what the log has behind the zone; the zone's version is told meanwhile."""
+        address = log.server.direct_address()
+        log.server.rest()
+        with self.alone():
+            words = ("sync", self.folder, address, log.name)
+            self.program.watch(*words, look=lambda: look(self._counter.look()))
+
+    def show(self, command: str, *words: str) -> int:
+        """Has the program print what the zone has; its status."""
+        with self.alone():
+            return self.program.show(command, self.folder, *words)
+
+
+def hint(zone: Path, failed: errors.ProgramFailed) -> str | None:
+    """What to do where the zone and the log have parted, or nobody has that log."""
+    if failed.status == 1 and "no_source" in failed.line:
+        return "the source was renamed or removed, or the name is wrong: `rdfd logs` shows the names"
+    if failed.status != OTHER_CHAIN:
+        return None
+    file = file_of(zone, ZONE)
+    if "peer behind" in failed.line:
+        return (
+            "the log was restored from an older copy. The zone has patches that the log lacks: before writers go on,\n"
+            f"`rdfd patches {file} FROM --append LOG` gives them back, FROM being the log's version and one"
+        )
+    return (
+        "the log is another one than the zone followed, or went on behind a restoring. To begin anew, follow it with\n"
+        f"another folder; `rdfd patches {file}` prints what this zone has taken"
+    )
