@@ -15,6 +15,37 @@ use std::alloc::Global;
 use std::io;
 use std::sync::Wait;
 
+#[derive(Clone, Copy)]
+enum Command {
+    Failing,
+    Hall,
+    Filled,
+    Crash,
+    File,
+    Pass,
+    Request,
+    Talk,
+    Break,
+    Keep,
+    Pieces,
+    Cuts,
+}
+
+const COMMANDS: [(&str, Command); 12] = [
+    ("failing", Command::Failing),
+    ("hall", Command::Hall),
+    ("filled", Command::Filled),
+    ("crash", Command::Crash),
+    ("file", Command::File),
+    ("pass", Command::Pass),
+    ("request", Command::Request),
+    ("talk", Command::Talk),
+    ("break", Command::Break),
+    ("keep", Command::Keep),
+    ("pieces", Command::Pieces),
+    ("cuts", Command::Cuts),
+];
+
 /// A hall that is open, and the files over which it was opened.
 #[derive(Drop)]
 struct Stage<'a, R: Wait> {
@@ -34,20 +65,20 @@ impl<'a, R: Wait> Layer for Stage<'a, R> {
     }
 
     fn answer(&mut self, words: &Words, answer: &mut Answer) {
-        match words.name() {
-            b"failing" => self.set_failing(words, answer),
-            b"hall" => self.open_over(words, answer),
-            b"filled" => self.open_filled(words, answer),
-            b"crash" => self.crash(words, answer),
-            b"file" => self.tell_file(words, answer),
-            b"pass" => self.tell_pass(words, answer),
-            b"request" => self.request(words, answer),
-            b"talk" => self.talk(words, answer),
-            b"break" => self.talk_breaking(words, answer),
-            b"keep" => self.keep(words, answer),
-            b"pieces" => self.talk_in_pieces(words, answer),
-            b"cuts" => self.talk_cut(words, answer),
-            _ => answer.push(b"no such command"),
+        match words.command(&COMMANDS) {
+            Some(Command::Failing) => self.set_failing(words, answer),
+            Some(Command::Hall) => self.open_over(words, answer),
+            Some(Command::Filled) => self.open_filled(words, answer),
+            Some(Command::Crash) => self.crash(words, answer),
+            Some(Command::File) => self.tell_file(words, answer),
+            Some(Command::Pass) => self.tell_pass(words, answer),
+            Some(Command::Request) => self.request(words, answer),
+            Some(Command::Talk) => self.talk(words, answer),
+            Some(Command::Break) => self.talk_breaking(words, answer),
+            Some(Command::Keep) => self.keep(words, answer),
+            Some(Command::Pieces) => self.talk_alike(words, false, answer),
+            Some(Command::Cuts) => self.talk_alike(words, true, answer),
+            None => answer.push(b"no such command"),
         }
     }
 }

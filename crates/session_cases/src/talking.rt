@@ -29,6 +29,18 @@ impl<'a, R: Wait> Stage<'a, R> {
         }
     }
 
+    // One of the passes serves this link, and what was said is told.
+    fn talk_on(&mut self, place: usize, link: &mut MemLink) -> Result<Talk, OutOfMemory> {
+        match self.serve(place, link) {
+            Some(end) => Ok(Talk {
+                end,
+                sent: Vec::from_slice(self.alloc, link.sent())?,
+                faults: link.faults(),
+            }),
+            None => Err(OutOfMemory),
+        }
+    }
+
     // One of the passes reads this text in pieces of a size, where a call of the link may fail.
     fn talk_over(
         &mut self,
@@ -38,13 +50,9 @@ impl<'a, R: Wait> Stage<'a, R> {
         failing: Option<u64>,
     ) -> Result<Talk, OutOfMemory> {
         let mut link = link_of(self.alloc, text, piece, failing)?;
-        let end = self.serve(place, &mut link);
-        let sent = Vec::from_slice(self.alloc, link.sent())?;
-        let faults = link.faults();
-        match end {
-            Some(end) => Ok(Talk { end, sent, faults }),
-            None => Err(OutOfMemory),
-        }
+        let talk = self.talk_on(place, &mut link);
+        drop(link);
+        talk
     }
 
     /// `request PASS LINE [BODY]`: the status and the body of the reply, where the rest of it is as it should be.
@@ -108,28 +116,24 @@ impl<'a, R: Wait> Stage<'a, R> {
         }
     }
 
-    /// `pieces FROM TO TEXT`: the same for each of these sizes of pieces, in a hall that is opened anew.
-    pub(crate) fn talk_in_pieces(&mut self, words: &Words, answer: &mut Answer) {
-        let from = words.number(1).unwrap_or(1);
-        let first = self.talk_anew(words.bytes(3), from as usize);
-        for piece in from..words.number(2).unwrap_or(0) {
-            let next = self.talk_anew(words.bytes(3), piece.saturating_add(1) as usize);
-            if !are_alike(&first, &next) {
-                let _ = write!(answer, "other than in pieces of {piece}: ");
-                return tell_talk(next, answer);
-            }
+    // Talks in a hall that is opened anew: of a text that ends at a place, or of one in pieces of that size.
+    fn talk_at(&mut self, text: &[u8], at: u64, is_cut: bool) -> Result<Talk, OutOfMemory> {
+        if is_cut {
+            self.talk_anew(front(text, at), PIECE)
+        } else {
+            self.talk_anew(text, at as usize)
         }
-        tell_talk(first, answer);
     }
 
-    /// `cuts FROM TO TEXT`: the same where the text ends at each of these places.
-    pub(crate) fn talk_cut(&mut self, words: &Words, answer: &mut Answer) {
-        let from = words.number(1).unwrap_or(0);
-        let first = self.talk_anew(front(words.bytes(3), from), PIECE);
-        for cut in from..words.number(2).unwrap_or(0) {
-            let next = self.talk_anew(front(words.bytes(3), cut.saturating_add(1)), PIECE);
+    /// `pieces FROM TO TEXT`: the same for each of these sizes of pieces, in a hall that is opened anew. `cuts FROM TO
+    /// TEXT`: the same where the text ends at each of these places.
+    pub(crate) fn talk_alike(&mut self, words: &Words, is_cut: bool, answer: &mut Answer) {
+        let from = words.number(1).unwrap_or(1);
+        let first = self.talk_at(words.bytes(3), from, is_cut);
+        for at in from..words.number(2).unwrap_or(0) {
+            let next = self.talk_at(words.bytes(3), at.saturating_add(1), is_cut);
             if !are_alike(&first, &next) {
-                let _ = write!(answer, "other than cut at {cut}: ");
+                let _ = write!(answer, "other than at {at}: ");
                 return tell_talk(next, answer);
             }
         }
