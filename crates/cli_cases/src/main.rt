@@ -13,6 +13,33 @@ use giving::{Failing, calls};
 use std::alloc::Global;
 use std::io;
 
+#[derive(Clone, Copy)]
+enum Command {
+    Run,
+    Count,
+    Peer,
+    Fail,
+    Sent,
+    Tries,
+    Put,
+    PutGenerated,
+    File,
+    Positions,
+}
+
+const COMMANDS: [(&str, Command); 10] = [
+    ("run", Command::Run),
+    ("count", Command::Count),
+    ("peer", Command::Peer),
+    ("fail", Command::Fail),
+    ("sent", Command::Sent),
+    ("tries", Command::Tries),
+    ("put", Command::Put),
+    ("put-generated", Command::PutGenerated),
+    ("file", Command::File),
+    ("positions", Command::Positions),
+];
+
 /// The files, and what the next run is given and the last one sent.
 #[derive(Drop)]
 struct Tool {
@@ -36,18 +63,18 @@ impl Layer for Tool {
     }
 
     fn answer(&mut self, words: &Words, answer: &mut Answer) {
-        match words.name() {
-            b"run" => self.run(words, false, answer),
-            b"count" => self.run(words, true, answer),
-            b"peer" => self.add_peer(words, answer),
-            b"fail" => self.fail(words, answer),
-            b"sent" => self.tell_sent(answer),
-            b"tries" => self.tell_tries(answer),
-            b"put" => self.put(words, answer),
-            b"put-generated" => self.put_generated(words, answer),
-            b"file" => self.tell_file(words, answer),
-            b"positions" => positions::positions(self.alloc, words, answer),
-            _ => answer.push(b"no such command"),
+        match words.command(&COMMANDS) {
+            Some(Command::Run) => self.run(words, false, answer),
+            Some(Command::Count) => self.run(words, true, answer),
+            Some(Command::Peer) => self.add_peer(words, answer),
+            Some(Command::Fail) => self.fail(words, answer),
+            Some(Command::Sent) => self.tell_sent(answer),
+            Some(Command::Tries) => self.tell_tries(answer),
+            Some(Command::Put) => self.put(words, answer),
+            Some(Command::PutGenerated) => self.put_generated(words, answer),
+            Some(Command::File) => self.tell_file(words, answer),
+            Some(Command::Positions) => positions::positions(self.alloc, words, answer),
+            None => answer.push(b"no such command"),
         }
     }
 }

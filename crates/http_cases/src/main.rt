@@ -16,6 +16,29 @@ use http_text::{ReplyReader, RequestReader};
 use std::io;
 use std::sync::Wait;
 
+#[derive(Clone, Copy)]
+enum Command {
+    Requests,
+    Replies,
+    Steps,
+    Print,
+    Talk,
+    Fronts,
+    Breaks,
+    Turns,
+}
+
+const COMMANDS: [(&str, Command); 8] = [
+    ("requests", Command::Requests),
+    ("replies", Command::Replies),
+    ("steps", Command::Steps),
+    ("print", Command::Print),
+    ("talk", Command::Talk),
+    ("fronts", Command::Fronts),
+    ("breaks", Command::Breaks),
+    ("turns", Command::Turns),
+];
+
 /// The layer of messages and sessions, in which nothing stays open.
 #[derive(Drop)]
 struct Messages<'a, R> {
@@ -26,16 +49,16 @@ impl<'a, R: Wait + AllocGlobal> Messages<'a, R> {
     // What a command answers.
     fn told(&self, words: &Words) -> Result<Vec<u8>, OutOfMemory> {
         let alloc = self.rt.alloc();
-        match words.name() {
-            b"requests" => pieces::told::<RequestReader>(alloc, words),
-            b"replies" => pieces::told::<ReplyReader>(alloc, words),
-            b"steps" => steps::told(alloc, words),
-            b"print" => printing::told(alloc, words.bytes(1)),
-            b"talk" => sessions::talk(self.rt, alloc, words),
-            b"fronts" => sessions::fronts(self.rt, alloc, words.bytes(1)),
-            b"breaks" => sessions::breaks(self.rt, alloc, words),
-            b"turns" => sessions::turns(self.rt, alloc, words),
-            _ => Ok(Vec::from_slice(alloc, b"no such command")?),
+        match words.command(&COMMANDS) {
+            Some(Command::Requests) => pieces::told::<RequestReader>(alloc, words),
+            Some(Command::Replies) => pieces::told::<ReplyReader>(alloc, words),
+            Some(Command::Steps) => steps::told(alloc, words),
+            Some(Command::Print) => printing::told(alloc, words.bytes(1)),
+            Some(Command::Talk) => sessions::talk(self.rt, alloc, words),
+            Some(Command::Fronts) => sessions::fronts(self.rt, alloc, words.bytes(1)),
+            Some(Command::Breaks) => sessions::breaks(self.rt, alloc, words),
+            Some(Command::Turns) => sessions::turns(self.rt, alloc, words),
+            None => Ok(Vec::from_slice(alloc, b"no such command")?),
         }
     }
 }

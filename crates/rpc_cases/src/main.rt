@@ -15,6 +15,33 @@ use delta_base::OutOfMemory;
 use std::alloc::Global;
 use std::io;
 
+#[derive(Clone, Copy)]
+enum Command {
+    Call,
+    Sends,
+    Answer,
+    Reply,
+    Last,
+    Host,
+    Ask,
+    Fronts,
+    Twice,
+    Breaks,
+}
+
+const COMMANDS: [(&str, Command); 10] = [
+    ("call", Command::Call),
+    ("sends", Command::Sends),
+    ("answer", Command::Answer),
+    ("reply", Command::Reply),
+    ("last", Command::Last),
+    ("host", Command::Host),
+    ("ask", Command::Ask),
+    ("fronts", Command::Fronts),
+    ("twice", Command::Twice),
+    ("breaks", Command::Breaks),
+];
+
 /// The layer of calls and answers, in which nothing stays open.
 #[derive(Drop)]
 struct Rpc {
@@ -25,18 +52,18 @@ impl Rpc {
     // What a command answers.
     fn told(&self, words: &Words) -> Result<Vec<u8>, OutOfMemory> {
         let alloc = self.alloc;
-        match str::from_utf8(words.name()).unwrap_or("") {
-            "call" => requests::call(alloc, words),
-            "sends" => requests::sends(alloc, words),
-            "answer" => answers::answer(alloc, words),
-            "reply" => made::reply(alloc, words, false),
-            "last" => made::reply(alloc, words, true),
-            "host" => asking::host(alloc, words.bytes(1)),
-            "ask" => asking::ask_anyhow(alloc, words.bytes(1)),
-            "fronts" => asking::fronts(alloc, words.bytes(1)),
-            "twice" => lines::twice(alloc, words),
-            "breaks" => lines::breaks(alloc, words),
-            _ => Ok(Vec::from_slice(alloc, b"no such command")?),
+        match words.command(&COMMANDS) {
+            Some(Command::Call) => requests::call(alloc, words),
+            Some(Command::Sends) => requests::sends(alloc, words),
+            Some(Command::Answer) => answers::answer(alloc, words),
+            Some(Command::Reply) => made::reply(alloc, words, false),
+            Some(Command::Last) => made::reply(alloc, words, true),
+            Some(Command::Host) => asking::host(alloc, words.bytes(1)),
+            Some(Command::Ask) => asking::ask_anyhow(alloc, words.bytes(1)),
+            Some(Command::Fronts) => asking::fronts(alloc, words.bytes(1)),
+            Some(Command::Twice) => lines::twice(alloc, words),
+            Some(Command::Breaks) => lines::breaks(alloc, words),
+            None => Ok(Vec::from_slice(alloc, b"no such command")?),
         }
     }
 }
