@@ -1,84 +1,149 @@
-//! Images of disks in memory, fuses and failing calls; and each adapter once over real files.
-use crate::fakes::{calls, no_calls};
-use delta_base::{Bytes, Failed, OutOfMemory, Text};
-use disk_model::{Disk, HostDisk, HostShelf, MemDisk, MemShelf, PlanDisk, Planned, Shelf};
+//! Disks in memory: what their calls answer, and what a crash leaves of them.
+use crate::tables::{EMPTY, Place, are_bytes, calls, disk_of, is};
+use delta_base::{Bytes, Failed, OutOfMemory};
+use disk_model::{Disk, MemDisk, PlanDisk, Planned};
+use log_journal::{FormatFault, format};
 use std::alloc::Global;
-use std::fs::{self, File, OpenOptions};
 use std::process::Abort;
-use std::rt::{Env, Files};
 use std::test::Fail;
-use std::{env, process};
 
-fn is_long(rt: &impl Abort, disk: &mut impl Disk, length: u64) {
-    assert!(rt; disk.len() == Ok(length));
+/// What a disk begins with, and which of its calls fail.
+enum Start {
+    /// An empty one, whose calls of these numbers fail.
+    New(&'static [u64]),
+    Image(&'static [u8], &'static [u64]),
+    /// One whose calls all fail after so many.
+    Fused(&'static [u8], u64),
 }
 
-/// A crash leaves these bytes where this is chosen of what isn't synced.
-fn leaves(rt: &impl Abort, disk: &MemDisk, choice: u64, image: &[u8]) -> Result<(), OutOfMemory> {
-    let left = disk.image(choice)?;
-    assert!(rt; left.as_slice() == image, "choice {choice}");
-    Ok(())
+/// A call of a disk or a look at it, with what that gives.
+enum Step {
+    Write(u64, &'static [u8], Result<(), Failed>),
+    Sync(Result<(), Failed>),
+    /// Six syncs, so many of which are done well.
+    Syncs(u64),
+    Length(u64),
+    /// A read of four bytes from a place on gives so many, and leaves the dots of the others.
+    Read(u64, usize, [u8; 4]),
+    /// A crash leaves these bytes where this is chosen of what isn't synced.
+    Left(u64, &'static [u8]),
+    Faults(u64),
+    /// A file of number 1 is made of it.
+    Format(Result<(), FormatFault>),
 }
 
-fn leaves_each(
-    rt: &impl Abort,
-    disk: &MemDisk,
-    images: &[(u64, &[u8])],
-) -> Result<(), OutOfMemory> {
-    for (choice, image) in images {
-        leaves(rt, disk, *choice, image)?;
-    }
-    Ok(())
+struct Case {
+    shows: &'static str,
+    disk: Start,
+    steps: &'static [Step],
 }
 
-/// What a crash leaves of `abc`, which is synced, and `XY` over its end, which isn't.
-static UNSYNCED: [(u64, &[u8]); 4] = [
-    (0, b"abc"),
-    (1, b"abXY"),
-    (7, b"ab\x07\x07"),
-    (263, b"ab\x07\x07"),
+static CASES: [Case; 9] = [
+    Case {
+        shows: "an image keeps, loses or fills what is not synced",
+        disk: Start::New(&[]),
+        steps: &[
+            Step::Write(0, b"abc", Ok(())),
+            Step::Sync(Ok(())),
+            Step::Write(2, b"XY", Ok(())),
+            Step::Left(0, b"abc"),
+            Step::Left(1, b"abXY"),
+            Step::Left(7, b"ab\x07\x07"),
+            Step::Left(263, b"ab\x07\x07"),
+            Step::Sync(Ok(())),
+            Step::Left(0, b"abXY"),
+            Step::Left(1, b"abXY"),
+            Step::Left(7, b"abXY"),
+        ],
+    },
+    Case {
+        shows: "a read stops at the end of the file",
+        disk: Start::Image(b"abc", &[]),
+        steps: &[
+            Step::Length(3),
+            Step::Read(1, 2, *b"bc.."),
+            Step::Read(9, 0, *b"...."),
+        ],
+    },
+    // Nothing is synced, and a failed write has written its range.
+    Case {
+        shows: "each call of a list fails and no other",
+        disk: Start::New(&[1, 2]),
+        steps: &[
+            Step::Write(0, b"ab", Ok(())),
+            Step::Sync(Err(Failed)),
+            Step::Write(2, b"c", Err(Failed)),
+            Step::Faults(2),
+            Step::Left(0, b""),
+            Step::Left(1, b"abc"),
+        ],
+    },
+    Case {
+        shows: "all calls fail behind a fuse of 0",
+        disk: Start::Fused(b"a", 0),
+        steps: &[Step::Syncs(0), Step::Faults(6)],
+    },
+    Case {
+        shows: "all calls fail behind a fuse of 1",
+        disk: Start::Fused(b"a", 1),
+        steps: &[Step::Syncs(1), Step::Faults(5)],
+    },
+    Case {
+        shows: "all calls fail behind a fuse of 2",
+        disk: Start::Fused(b"a", 2),
+        steps: &[Step::Syncs(2), Step::Faults(4)],
+    },
+    Case {
+        shows: "all calls fail behind a fuse of 3",
+        disk: Start::Fused(b"a", 3),
+        steps: &[Step::Syncs(3), Step::Faults(3)],
+    },
+    // A failed sync makes nothing durable.
+    Case {
+        shows: "a failed write has written its range",
+        disk: Start::Image(b"abc", &[0, 2]),
+        steps: &[
+            Step::Write(1, b"XYZ", Err(Failed)),
+            Step::Faults(1),
+            Step::Length(4),
+            Step::Left(0, b"abc"),
+            Step::Left(1, b"aXYZ"),
+            Step::Left(7, b"a\x07\x07\x07"),
+            Step::Sync(Err(Failed)),
+            Step::Left(0, b"abc"),
+        ],
+    },
+    Case {
+        shows: "an empty file is formatted once",
+        disk: Start::New(&[]),
+        steps: &[
+            Step::Format(Ok(())),
+            Step::Left(0, EMPTY),
+            Step::Format(Err(FormatFault::NotEmpty { length: 9 })),
+        ],
+    },
 ];
 
-/// The same once all is synced.
-static SYNCED: [(u64, &[u8]); 3] = [(0, b"abXY"), (1, b"abXY"), (7, b"abXY")];
-
-#[test]
-fn an_image_keeps_loses_or_fills_what_is_not_synced(rt: HostRuntime) -> Result<(), Fail> {
-    let mut disk = MemDisk::new(rt.alloc(), no_calls(rt.alloc()));
-    assert!(rt; disk.write_at(0, b"abc").is_ok());
-    assert!(rt; disk.sync().is_ok());
-    assert!(rt; disk.write_at(2, b"XY").is_ok());
-    let unsynced = leaves_each(&rt, &disk, &UNSYNCED);
-    assert!(rt; disk.sync().is_ok());
-    let synced = leaves_each(&rt, &disk, &SYNCED);
-    drop(disk);
-    Ok(unsynced.and(synced)?)
+fn disk_from(alloc: Global, disk: &Start) -> Result<MemDisk, Fail> {
+    match disk {
+        Start::New(failing) => Ok(MemDisk::new(alloc, calls(alloc, failing)?)),
+        Start::Image(image, failing) => disk_of(alloc, image, failing),
+        Start::Fused(image, calls) => {
+            let bytes = Bytes::from_slice(alloc, image)?;
+            Ok(MemDisk::with_fuse(alloc, bytes, *calls)?)
+        }
+    }
 }
 
-#[test]
-fn a_read_stops_at_the_end_of_the_file(rt: HostRuntime) -> Result<(), Fail> {
-    let image = Bytes::from_slice(rt.alloc(), b"abc")?;
-    let mut disk = MemDisk::from_image(rt.alloc(), image, no_calls(rt.alloc()))?;
-    let mut into = [b'.'; 4];
-    is_long(&rt, &mut disk, 3);
-    assert!(rt; disk.read_at(1, &mut into) == Ok(2));
-    assert!(rt; into == *b"bc..");
-    assert!(rt; disk.read_at(9, &mut into) == Ok(0));
-    drop(disk);
-    Ok(())
-}
-
-#[test]
-fn each_call_of_a_list_fails_and_no_other(rt: HostRuntime) -> Result<(), Fail> {
-    let mut disk = MemDisk::new(rt.alloc(), calls(rt.alloc(), &[1, 2])?);
-    assert!(rt; disk.write_at(0, b"ab").is_ok());
-    assert!(rt; disk.sync().is_err());
-    assert!(rt; disk.write_at(2, b"c").is_err());
-    assert!(rt; disk.faults() == 2);
-    // Nothing was synced, and a failed write has written its range.
-    let left = leaves_each(&rt, &disk, &[(0, b""), (1, b"abc")]);
-    drop(disk);
-    Ok(left?)
+/// What a write answers that begins within the file or at its end.
+fn write(disk: &mut MemDisk, at: u64, bytes: &[u8]) -> Result<Result<(), Failed>, Fail> {
+    let read = disk.image(1)?;
+    let length = read.len() as u64;
+    drop(read);
+    if at > length {
+        return Err(Fail::from("a write behind the end"));
+    }
+    Ok(disk.write_at(at, bytes))
 }
 
 /// How many of six syncs are done well.
@@ -92,14 +157,57 @@ fn sync_six(disk: &mut MemDisk) -> u64 {
     well
 }
 
+fn read(disk: &mut MemDisk, from: u64) -> (Result<usize, Failed>, [u8; 4]) {
+    let mut into = *b"....";
+    let count = disk.read_at(from, &mut into);
+    (count, into)
+}
+
+fn leaves(
+    rt: &impl Abort,
+    at: Place,
+    disk: &MemDisk,
+    choice: u64,
+    wanted: &[u8],
+) -> Result<(), OutOfMemory> {
+    let left = disk.image(choice)?;
+    are_bytes(rt, at, left.as_slice(), wanted);
+    Ok(())
+}
+
+fn goes(rt: &impl Abort, at: Place, disk: &mut MemDisk, step: &Step) -> Result<(), Fail> {
+    match step {
+        Step::Write(place, bytes, answer) => is(rt, at, &write(disk, *place, bytes)?, answer),
+        Step::Sync(answer) => is(rt, at, &disk.sync(), answer),
+        Step::Syncs(well) => is(rt, at, &sync_six(disk), well),
+        Step::Length(length) => is(rt, at, &disk.len(), &Ok(*length)),
+        Step::Read(from, count, into) => is(rt, at, &read(disk, *from), &(Ok(*count), *into)),
+        Step::Left(choice, bytes) => leaves(rt, at, disk, *choice, bytes)?,
+        Step::Faults(faults) => is(rt, at, &disk.faults(), faults),
+        Step::Format(answer) => is(rt, at, &format(disk, 1), answer),
+    }
+    Ok(())
+}
+
+fn goes_through(rt: &impl Abort, disk: &mut MemDisk, case: &Case) -> Result<(), Fail> {
+    let shows = case.shows;
+    for (step, wanted) in case.steps.iter().enumerate() {
+        goes(rt, Place { shows, step }, disk, wanted)?;
+    }
+    Ok(())
+}
+
+fn holds(rt: &impl Abort, alloc: Global, case: &Case) -> Result<(), Fail> {
+    let mut disk = disk_from(alloc, &case.disk)?;
+    let gone = goes_through(rt, &mut disk, case);
+    drop(disk);
+    gone
+}
+
 #[test]
-fn all_calls_fail_behind_the_fuse(rt: HostRuntime) -> Result<(), Fail> {
-    for fuse in 0..4 {
-        let image = Bytes::from_slice(rt.alloc(), b"a")?;
-        let mut disk = MemDisk::with_fuse(rt.alloc(), image, fuse)?;
-        assert!(rt; sync_six(&mut disk) == fuse);
-        assert!(rt; disk.faults() == 6 - fuse.min(6));
-        drop(disk);
+fn what_a_disk_in_memory_answers_and_a_crash_leaves(rt: HostRuntime) -> Result<(), Fail> {
+    for case in &CASES {
+        holds(&rt, rt.alloc(), case)?;
     }
     Ok(())
 }
@@ -111,240 +219,26 @@ fn keeps(rt: &impl Abort, disk: &PlanDisk, image: &[u8]) -> Result<(), OutOfMemo
     Ok(())
 }
 
-/// The second sync fails, and what it was for isn't durable.
+/// The second sync fails, and what it was for isn't durable until the next one.
 fn fails_as_planned(rt: &impl Abort, disk: &mut PlanDisk) -> Result<(), OutOfMemory> {
     disk.plan(Some(1));
     assert!(rt; disk.write_at(0, b"a").is_ok());
     assert!(rt; disk.sync().is_ok());
     assert!(rt; disk.write_at(1, b"b").is_ok());
     assert!(rt; disk.sync().is_err());
-    keeps(rt, disk, b"a")
+    keeps(rt, disk, b"a")?;
+    assert!(rt; disk.faults() == 1);
+    assert!(rt; disk.sync().is_ok());
+    keeps(rt, disk, b"ab")
 }
 
 #[test]
 fn the_planned_sync_fails(rt: HostRuntime) -> Result<(), Fail> {
     let mut disk = PlanDisk::new(rt.alloc(), Bytes::from_slice(rt.alloc(), b"")?)?;
     let failed = fails_as_planned(&rt, &mut disk);
-    assert!(rt; disk.faults() == 1);
-    assert!(rt; disk.sync().is_ok());
-    let kept = keeps(&rt, &disk, b"ab");
     // A failure that was planned isn't one for want of memory.
-    assert!(rt; !disk.is_short());
+    let short = disk.is_short();
     drop(disk);
-    Ok(failed.and(kept)?)
-}
-
-/// A failed sync makes nothing durable.
-fn fails_to_sync(rt: &impl Abort, disk: &mut MemDisk) -> Result<(), OutOfMemory> {
-    assert!(rt; disk.sync() == Err(Failed));
-    leaves(rt, disk, 0, b"abc")
-}
-
-/// What a crash leaves of `abc` once the write of `XYZ` from its second byte on has failed.
-static FAILED_WRITE: [(u64, &[u8]); 3] = [(0, b"abc"), (1, b"aXYZ"), (7, b"a\x07\x07\x07")];
-
-#[test]
-fn a_failed_write_has_written_its_range(rt: HostRuntime) -> Result<(), Fail> {
-    let image = Bytes::from_slice(rt.alloc(), b"abc")?;
-    let mut disk = MemDisk::from_image(rt.alloc(), image, calls(rt.alloc(), &[0, 2])?)?;
-    assert!(rt; disk.write_at(1, b"XYZ") == Err(Failed));
-    assert!(rt; disk.faults() == 1);
-    is_long(&rt, &mut disk, 4);
-    let written = leaves_each(&rt, &disk, &FAILED_WRITE);
-    let unsynced = fails_to_sync(&rt, &mut disk);
-    drop(disk);
-    Ok(written.and(unsynced)?)
-}
-
-fn holds(rt: &impl Abort, shelf: &MemShelf, dir: &Text, number: u32, bytes: Option<&[u8]>) {
-    assert!(rt; shelf.file(dir, number) == bytes);
-}
-
-/// A new file is empty, and keeps what is written once its disk is put back.
-fn keeps_new(rt: &impl Abort, shelf: &mut MemShelf, dir: &Text) -> Result<(), Failed> {
-    let mut disk = shelf.disk(dir, 1).map_err(|_| Failed)?;
-    holds(rt, shelf, dir, 1, Some(b""));
-    assert!(rt; disk.write_at(0, b"abc").is_ok());
-    shelf.put_back(disk);
-    holds(rt, shelf, dir, 1, Some(b"abc"));
-    Ok(())
-}
-
-/// Put back once more, it stands in the place of what was there.
-fn keeps_again(rt: &impl Abort, shelf: &mut MemShelf, dir: &Text) -> Result<(), Failed> {
-    let mut disk = shelf.disk(dir, 1).map_err(|_| Failed)?;
-    is_long(rt, &mut disk, 3);
-    assert!(rt; disk.write_at(0, b"X").is_ok());
-    shelf.put_back(disk);
-    holds(rt, shelf, dir, 1, Some(b"Xbc"));
-    Ok(())
-}
-
-#[test]
-fn a_shelf_in_memory_keeps_its_files(rt: HostRuntime) -> Result<(), Fail> {
-    let dir = Text::from_str(rt.alloc(), "d")?;
-    let other = Text::from_str(rt.alloc(), "e")?;
-    let mut shelf = MemShelf::new(rt.alloc(), no_calls(rt.alloc()));
-    holds(&rt, &shelf, &dir, 1, None);
-    let kept = keeps_new(&rt, &mut shelf, &dir);
-    holds(&rt, &shelf, &dir, 2, None);
-    holds(&rt, &shelf, &other, 1, None);
-    let again = keeps_again(&rt, &mut shelf, &dir);
-    drop(shelf);
-    Ok(kept.and(again)?)
-}
-
-/// Takes a file of a shelf, and puts it back.
-fn takes<S: Shelf>(shelf: &mut S, dir: &Text, number: u32) -> Result<(), Failed> {
-    let disk = shelf.disk(dir, number).map_err(|_| Failed)?;
-    shelf.put_back(disk);
-    Ok(())
-}
-
-#[test]
-fn a_listed_call_of_a_shelf_fails(rt: HostRuntime) -> Result<(), Fail> {
-    let dir = Text::from_str(rt.alloc(), "d")?;
-    let mut shelf = MemShelf::new(rt.alloc(), calls(rt.alloc(), &[1])?);
-    assert!(rt; takes(&mut shelf, &dir, 1).is_ok());
-    assert!(rt; takes(&mut shelf, &dir, 2).is_err());
-    assert!(rt; shelf.faults() == 1);
-    drop(shelf);
-    Ok(())
-}
-
-/// Writes a file of the shelf, and reads past its end.
-fn write_and_read(rt: &impl Abort, disk: &mut impl Disk) {
-    is_long(rt, disk, 0);
-    assert!(rt; disk.write_at(0, b"abc").is_ok());
-    assert!(rt; disk.sync().is_ok());
-    let mut into = [b'.'; 4];
-    assert!(rt; disk.read_at(1, &mut into) == Ok(2));
-    assert!(rt; into == *b"bc..");
-    is_long(rt, disk, 3);
-}
-
-/// A file is one disk's alone until that is put back.
-fn is_one_disk<S: Shelf>(
-    rt: &impl Abort,
-    shelf: &mut S,
-    dir: &Text,
-    number: u32,
-) -> Result<(), Failed> {
-    let mut disk = shelf.disk(dir, number).map_err(|_| Failed)?;
-    write_and_read(rt, &mut disk);
-    assert!(rt; takes(shelf, dir, number).is_err());
-    assert!(rt; shelf.faults() == 1);
-    shelf.put_back(disk);
-    takes(shelf, dir, number)
-}
-
-/// The same of a file of the system.
-fn is_one_file<R: Abort + Files<File = File>>(
-    rt: &R,
-    alloc: Global,
-    dir: &Text,
-    number: u32,
-) -> Result<(), Failed> {
-    let mut shelf = HostShelf::new(rt, alloc);
-    let read = is_one_disk(rt, &mut shelf, dir, number);
-    assert!(rt; shelf.faults() == 1);
-    drop(shelf);
-    read
-}
-
-/// The system's folder for what doesn't last.
-fn temp_folder(rt: &HostRuntime) -> Result<String, Fail> {
-    let folder = env::temp_dir(rt)?;
-    let text = folder.as_path().to_str().ok_or("the folder is no text")?;
-    Ok(format!(in rt.alloc(); "{text}")?)
-}
-
-/// A path there that is this process's alone.
-fn temp_path(rt: &HostRuntime, name: &str) -> Result<String, Fail> {
-    let process = process::id(rt.process());
-    let folder = temp_folder(rt)?;
-    Ok(format!(in rt.alloc(); "{folder}/{name}-{process}")?)
-}
-
-/// The bytes of a file, which goes.
-fn taken(rt: &HostRuntime, path: &str) -> Result<Vec<u8>, Fail> {
-    let bytes = fs::read(rt, path)?;
-    fs::remove_file(rt, path)?;
-    Ok(bytes)
-}
-
-#[test]
-fn a_file_of_the_system_is_read_past_its_end(rt: HostRuntime) -> Result<(), Fail> {
-    let number = 1000 + process::id(rt.process()) % 8000;
-    let folder = temp_folder(&rt)?;
-    let dir = Text::from_str(rt.alloc(), folder.as_str())?;
-    let read = is_one_file(&rt, rt.alloc(), &dir, number);
-    drop(dir);
-    read?;
-    let path = format!(in rt.alloc(); "{folder}/rdj-{number:04}")?;
-    let bytes = taken(&rt, path.as_str())?;
-    assert!(rt; bytes.as_slice() == b"abc".as_slice());
-    Ok(())
-}
-
-/// A read of some bytes gives these.
-fn reads(rt: &impl Abort, disk: &mut impl Disk, at: u64, bytes: &[u8; 2]) {
-    let mut into = *b"..";
-    assert!(rt; disk.read_at(at, &mut into) == Ok(2));
-    assert!(rt; into == *bytes);
-}
-
-fn reads_what_was_written(rt: &impl Abort, disk: &mut HostDisk) {
-    for (at, bytes) in [(2, b"cd"), (4, b"ef"), (0, b"ab"), (3, b"de")] {
-        reads(rt, disk, at, bytes);
-    }
-    assert!(rt; disk.write_at(3, b"XYZ!").is_ok());
-    for (at, bytes) in [(2, b"cX"), (4, b"YZ"), (5, b"Z!")] {
-        reads(rt, disk, at, bytes);
-    }
-}
-
-#[test]
-fn a_read_gives_what_was_written_since_the_one_before(rt: HostRuntime) -> Result<(), Fail> {
-    let path = temp_path(&rt, "delta-again")?;
-    fs::write(&rt, path.as_str(), b"abcdef")?;
-    let file = OpenOptions::new()
-        .read(true)
-        .write(true)
-        .open(&rt, path.as_str())?;
-    let mut disk = HostDisk::new(rt.alloc(), file);
-    reads_what_was_written(&rt, &mut disk);
-    drop(disk);
-    fs::remove_file(&rt, path.as_str())?;
-    Ok(())
-}
-
-#[test]
-fn a_path_that_is_no_folder_fails(rt: HostRuntime) -> Result<(), Fail> {
-    let dir = Text::from_str(rt.alloc(), "/nowhere/at/all")?;
-    let mut shelf = HostShelf::new(&rt, rt.alloc());
-    assert!(rt; takes(&mut shelf, &dir, 1).is_err());
-    assert!(rt; shelf.faults() == 1);
-    drop(shelf);
-    Ok(())
-}
-
-fn refuses_write(rt: &impl Abort, disk: &mut HostDisk) {
-    assert!(rt;
-        disk.write_at(0, b"x") == Err(Failed),
-        "the file is opened for reading alone"
-    );
-    assert!(rt; disk.faults() == 1);
-    assert!(rt; disk.len() == Ok(3));
-}
-
-#[test]
-fn a_refused_write_is_counted(rt: HostRuntime) -> Result<(), Fail> {
-    let path = temp_path(&rt, "delta")?;
-    fs::write(&rt, path.as_str(), b"abc")?;
-    let mut disk = HostDisk::new(rt.alloc(), File::open(&rt, path.as_str())?);
-    refuses_write(&rt, &mut disk);
-    drop(disk);
-    fs::remove_file(&rt, path.as_str())?;
-    Ok(())
+    assert!(rt; !short);
+    Ok(failed?)
 }

@@ -1,42 +1,14 @@
-//! Files byte for byte, and what a crash leaves of an append.
+//! Journals: why a file isn't opened, what writes and appends answer, and what a crash leaves.
 ghost use Rattle.std.specs.Prelude.{IfOk, IsTrue};
 ghost use Rattle.log_journal.specs.StandsFor.{is_settled};
 
-use crate::fakes::{calls, no_calls};
-use delta_base::{Bytes, Phase};
+use crate::tables::{EMPTY, Place, are_bytes, disk_of, is, no_calls};
+use delta_base::{Bytes, Failed, Phase};
 use disk_model::{Disk, MemDisk, PlanDisk};
-use log_journal::{
-    AppendFault, FormatFault, Journal, JournalFault, Payloads, format, make_block, write,
-};
+use log_journal::{AppendFault, Journal, JournalFault, Payloads, make_block, write};
 use std::alloc::Global;
 use std::process::Abort;
 use std::test::Fail;
-
-const EMPTY: [u8; 9] = *b"RDJ1\0\0\0\x01\0";
-
-// A crash leaves these bytes of what is synced.
-fn keeps(rt: &impl Abort, disk: &MemDisk, bytes: &[u8]) -> Result<(), Fail> {
-    let image = disk.image(0)?;
-    assert!(rt; image.as_slice() == bytes);
-    Ok(())
-}
-
-#[test]
-fn an_empty_file_is_formatted_once(rt: HostRuntime) -> Result<(), Fail> {
-    let alloc = rt.alloc();
-    let mut disk = MemDisk::new(alloc, no_calls(alloc));
-    assert!(rt; format(&mut disk, 1) == Ok(()));
-    let kept = keeps(&rt, &disk, &EMPTY);
-    assert!(rt; format(&mut disk, 1) == Err(FormatFault::NotEmpty { length: 9 }));
-    drop(disk);
-    kept
-}
-
-// A disk with these bytes, of which these calls fail.
-fn disk_of(alloc: Global, image: &[u8], failing: &[u64]) -> Result<MemDisk, Fail> {
-    let bytes = Bytes::from_slice(alloc, image)?;
-    Ok(MemDisk::from_image(alloc, bytes, calls(alloc, failing)?)?)
-}
 
 // The journal of number 1 on a disk, and its payloads.
 fn open<D: Disk + Drop>(alloc: Global, disk: D) -> Result<(Journal<D>, Payloads), Fail>
@@ -60,130 +32,256 @@ fn journal_on<D: Disk + Drop>(alloc: Global, disk: D) -> Result<Journal<D>, Fail
     Ok(journal)
 }
 
-fn is_empty_and_shut(rt: &impl Abort, journal: &Journal<MemDisk>) {
-    assert!(rt; journal.length() == 9);
-    assert!(rt; journal.is_settled());
-    assert!(rt; journal.room_for(986));
-    assert!(rt; !journal.room_for(987));
-}
-
-#[test]
-fn a_gate_of_seven_is_shut(rt: HostRuntime) -> Result<(), Fail> {
-    let alloc = rt.alloc();
-    let (journal, payloads) = open(alloc, disk_of(alloc, b"RDJ1\0\0\0\x01\x07", &[])?)?;
-    is_empty_and_shut(&rt, &journal);
-    drop(journal);
-    assert!(rt; payloads.is_empty());
-    drop(payloads);
-    Ok(())
-}
-
-// Why a disk isn't opened as number 1 within 14 bytes.
-fn fault_of(alloc: Global, disk: MemDisk) -> Result<JournalFault, Fail> {
-    match Journal::open_on(alloc, disk, 1, 14) {
+// Why a disk isn't opened as number 1 within so many bytes.
+fn fault_of(alloc: Global, disk: MemDisk, limit: u64) -> Option<JournalFault> {
+    match Journal::open_on(alloc, disk, 1, limit) {
         Ok(opened) => {
             drop(opened);
-            Err(Fail::from("opened"))
+            None
         }
         Err(refusal) => {
             let fault = refusal.fault;
             drop(refusal);
-            Ok(fault)
+            Some(fault)
         }
     }
 }
 
-fn fails(rt: &impl Abort, alloc: Global, image: &[u8], wanted: JournalFault) -> Result<(), Fail> {
-    let fault = fault_of(alloc, disk_of(alloc, image, &[])?)?;
-    assert!(rt; fault == wanted);
-    Ok(())
-}
+/// A file that is opened within 14 bytes, and its fault.
+type Opening = (&'static [u8], JournalFault);
+
+static OPENINGS: [Opening; 13] = [
+    (b"RDJ1\0\0\0\x01\x01", JournalFault::Damaged { at: 9 }),
+    (
+        b"RDJ1\0\0\0\x01\x01\0\0\0\x02a",
+        JournalFault::Damaged { at: 13 },
+    ),
+    (b"RDJ1\0\0\0\x01", JournalFault::Damaged { at: 8 }),
+    (b"RDJ1\0\0\0\x02", JournalFault::WrongNumber { found: 2 }),
+    (b"RDJ1\0\0\0", JournalFault::Damaged { at: 0 }),
+    // A length that breaks off, a payload that does, and a whole one without the gate behind it.
+    (b"RDJ1\0\0\0\x01\x01\0\0\0", JournalFault::Damaged { at: 9 }),
+    (
+        b"RDJ1\0\0\0\x01\x01\0\0\0\0",
+        JournalFault::Damaged { at: 13 },
+    ),
+    (
+        b"RDJ1\0\0\0\x01\x01\0\0\0\x02ab",
+        JournalFault::Damaged { at: 15 },
+    ),
+    (
+        b"RDJ1\0\0\0\x01\x01\0\0\0\x01a\x01\0\0\0\x01",
+        JournalFault::Damaged { at: 19 },
+    ),
+    (b"RDJ2\0\0\0\x01\0", JournalFault::Damaged { at: 0 }),
+    (b"", JournalFault::Damaged { at: 0 }),
+    (b"RDJ1\0\0\0\x02\0", JournalFault::WrongNumber { found: 2 }),
+    (
+        b"RDJ1\0\0\0\x01\x01\0\0\0\x01a\0",
+        JournalFault::OverLimit {
+            length: 15,
+            limit: 14,
+        },
+    ),
+];
+
+/// A call of an opening that fails, and the fault then. A sync, a look at the length, the header,
+/// and twice two reads: call 7 is none of the opening's.
+static READS: [(u64, Option<JournalFault>); 2] = [(6, Some(JournalFault::Failed)), (7, None)];
 
 #[test]
 fn each_fault_of_a_file_has_its_place(rt: HostRuntime) -> Result<(), Fail> {
     let alloc = rt.alloc();
-    for (image, fault) in [
-        (
-            b"RDJ1\0\0\0\x01\x01".as_slice(),
-            JournalFault::Damaged { at: 9 },
-        ),
-        (
-            b"RDJ1\0\0\0\x01\x01\0\0\0\x02a",
-            JournalFault::Damaged { at: 13 },
-        ),
-        (b"RDJ1\0\0\0\x01", JournalFault::Damaged { at: 8 }),
-        (b"RDJ1\0\0\0\x02", JournalFault::WrongNumber { found: 2 }),
-        (b"RDJ1\0\0\0", JournalFault::Damaged { at: 0 }),
-        // A length that breaks off, a payload that does, and a whole one without the
-        // gate behind it.
-        (b"RDJ1\0\0\0\x01\x01\0\0\0", JournalFault::Damaged { at: 9 }),
-        (
-            b"RDJ1\0\0\0\x01\x01\0\0\0\0",
-            JournalFault::Damaged { at: 13 },
-        ),
-        (
-            b"RDJ1\0\0\0\x01\x01\0\0\0\x02ab",
-            JournalFault::Damaged { at: 15 },
-        ),
-        (
-            b"RDJ1\0\0\0\x01\x01\0\0\0\x01a\x01\0\0\0\x01",
-            JournalFault::Damaged { at: 19 },
-        ),
-        (b"RDJ2\0\0\0\x01\0", JournalFault::Damaged { at: 0 }),
-        (b"", JournalFault::Damaged { at: 0 }),
-        (b"RDJ1\0\0\0\x02\0", JournalFault::WrongNumber { found: 2 }),
-        (
-            b"RDJ1\0\0\0\x01\x01\0\0\0\x01a\0",
-            JournalFault::OverLimit {
-                length: 15,
-                limit: 14,
-            },
-        ),
-    ] {
-        fails(&rt, alloc, image, fault)?;
+    let shows = "a file within 14 bytes";
+    for (step, (image, fault)) in OPENINGS.iter().enumerate() {
+        let found = fault_of(alloc, disk_of(alloc, image, &[])?, 14);
+        is(&rt, Place { shows, step }, &found, &Some(*fault));
+    }
+    let image = b"RDJ1\0\0\0\x01\x01\0\0\0\x01a\x01\0\0\0\x02bc\0tail";
+    let shows = "each payload is read in two";
+    for (step, (call, fault)) in READS.iter().enumerate() {
+        let found = fault_of(alloc, disk_of(alloc, image, &[*call])?, 1000);
+        is(&rt, Place { shows, step }, &found, fault);
     }
     Ok(())
 }
 
-// An empty journal, of whose disk these calls fail. The opening makes a sync, a look at the
-// length and a read, and an append four calls.
-fn empty(alloc: Global, failing: &[u64]) -> Result<Journal<MemDisk>, Fail>
-    ensures { IfOk result (λ journal. IsTrue (is_settled journal)) }
-{
-    journal_on(alloc, disk_of(alloc, &EMPTY, failing)?)
+/// A call of a journal or a look at it, with what that gives.
+enum Step {
+    /// An append of `abc` to a journal that is settled.
+    Append(Result<(), AppendFault>),
+    /// A write of `abc`, for which there's room.
+    Write(Result<(), Phase>),
+    Settle(Result<(), Failed>),
+    Length(u64),
+    IsSettled(bool),
+    /// There's room for a payload of this length.
+    HasRoom(u64, bool),
 }
 
-// What an append of `abc` answers.
-fn append<D: Disk + Drop>(
-    alloc: Global,
-    journal: &mut Journal<D>,
-) -> Result<Result<(), AppendFault>, Fail>
-    requires { IsTrue (is_settled journal.old) }
-{
+/// What a crash leaves where this is chosen of what isn't synced.
+enum Left {
+    /// So many payloads, each of which is `abc`.
+    Payloads(u64, usize),
+    File(u64, &'static [u8]),
+}
+
+struct Case {
+    shows: &'static str,
+    /// The file that is opened, or none where one is made of an empty disk.
+    file: Option<&'static [u8]>,
+    /// The numbers of the calls that fail. The opening of a file without payloads makes a sync,
+    /// a look at the length and a read, and an append four calls.
+    failing: &'static [u64],
+    steps: &'static [Step],
+    faults: u64,
+    left: &'static [Left],
+}
+
+static CASES: [Case; 5] = [
+    Case {
+        shows: "a gate of seven is shut",
+        file: Some(b"RDJ1\0\0\0\x01\x07"),
+        failing: &[],
+        steps: &[
+            Step::Length(9),
+            Step::IsSettled(true),
+            Step::HasRoom(986, true),
+            Step::HasRoom(987, false),
+        ],
+        faults: 0,
+        left: &[Left::Payloads(0, 0)],
+    },
+    Case {
+        shows: "a failed gate is in doubt until it is settled",
+        file: Some(EMPTY),
+        failing: &[6],
+        steps: &[
+            Step::Append(Err(AppendFault::Failed)),
+            Step::Length(9),
+            Step::IsSettled(false),
+            Step::Settle(Ok(())),
+        ],
+        faults: 1,
+        left: &[
+            Left::Payloads(0, 0),
+            Left::Payloads(1, 0),
+            Left::Payloads(7, 0),
+        ],
+    },
+    Case {
+        shows: "a crash in doubt leaves the payload or not",
+        file: Some(EMPTY),
+        failing: &[6],
+        steps: &[
+            Step::Append(Err(AppendFault::Failed)),
+            Step::Length(9),
+            Step::IsSettled(false),
+        ],
+        faults: 1,
+        left: &[Left::Payloads(0, 0), Left::Payloads(1, 1)],
+    },
+    // The gate's sync fails, then the settling's write, and then the sync of the body.
+    Case {
+        shows: "a write settles first",
+        file: Some(EMPTY),
+        failing: &[6, 7, 11],
+        steps: &[
+            Step::Write(Err(Phase::Gate)),
+            Step::Write(Err(Phase::Settling)),
+            Step::Write(Err(Phase::Body)),
+            Step::Write(Ok(())),
+            Step::Length(17),
+        ],
+        faults: 3,
+        left: &[],
+    },
+    Case {
+        shows: "a new journal takes a payload",
+        file: None,
+        failing: &[],
+        steps: &[Step::Length(9), Step::Append(Ok(()))],
+        faults: 0,
+        left: &[Left::File(0, b"RDJ1\0\0\0\x01\x01\0\0\0\x03abc\0")],
+    },
+];
+
+// A new journal on an empty disk.
+fn started(alloc: Global) -> Result<Journal<MemDisk>, Fail> {
+    match Journal::start_on(MemDisk::new(alloc, no_calls(alloc)), 1, 1000) {
+        Ok(journal) => Ok(journal),
+        Err(refusal) => {
+            drop(refusal);
+            Err(Fail::from("refused"))
+        }
+    }
+}
+
+fn journal_of(alloc: Global, case: &Case) -> Result<Journal<MemDisk>, Fail> {
+    match case.file {
+        Some(file) => journal_on(alloc, disk_of(alloc, file, case.failing)?),
+        None => started(alloc),
+    }
+}
+
+// What an append of `abc` answers, or a write of it.
+fn append(alloc: Global, journal: &mut Journal<MemDisk>) -> Result<Result<(), AppendFault>, Fail> {
+    if !journal.is_settled() {
+        return Err(Fail::from("not settled"));
+    }
     let block = make_block(alloc, b"abc")?;
     let answer = journal.append(&block);
     drop(block);
     Ok(answer)
 }
 
-// Writes `abc`, for which there's room.
-fn writes<D: Disk + Drop>(
-    rt: &impl Abort,
+fn write_abc<D: Disk + Drop>(
     alloc: Global,
     journal: &mut Journal<D>,
-    wanted: Result<(), Phase>,
-) -> Result<(), Fail> {
+) -> Result<Result<(), Phase>, Fail> {
+    if !journal.room_for(3) {
+        return Err(Fail::from("no room"));
+    }
     let block = make_block(alloc, b"abc")?;
-    assert!(rt; journal.room_for(3));
     let answer = write(journal, &block);
     drop(block);
-    assert!(rt; answer == wanted);
+    Ok(answer)
+}
+
+fn goes(
+    rt: &impl Abort,
+    alloc: Global,
+    at: Place,
+    journal: &mut Journal<MemDisk>,
+    step: &Step,
+) -> Result<(), Fail> {
+    match step {
+        Step::Append(answer) => is(rt, at, &append(alloc, journal)?, answer),
+        Step::Write(answer) => is(rt, at, &write_abc(alloc, journal)?, answer),
+        Step::Settle(answer) => is(rt, at, &journal.settle(), answer),
+        Step::Length(length) => is(rt, at, &journal.length(), length),
+        Step::IsSettled(settled) => is(rt, at, &journal.is_settled(), settled),
+        Step::HasRoom(payload, room) => is(rt, at, &journal.room_for(*payload), room),
+    }
     Ok(())
 }
 
-// How many payloads a disk holds, each of which is `abc`.
-fn count_of<D: Disk + Drop>(alloc: Global, disk: D) -> Result<usize, Fail> {
-    let (journal, payloads) = open(alloc, disk)?;
+fn goes_through(
+    rt: &impl Abort,
+    alloc: Global,
+    journal: &mut Journal<MemDisk>,
+    case: &Case,
+) -> Result<(), Fail> {
+    let shows = case.shows;
+    for (step, wanted) in case.steps.iter().enumerate() {
+        goes(rt, alloc, Place { shows, step }, journal, wanted)?;
+    }
+    Ok(())
+}
+
+// How many payloads a file holds, each of which is `abc`.
+fn count_of(alloc: Global, file: Bytes) -> Result<usize, Fail> {
+    let (journal, payloads) = open(alloc, MemDisk::from_image(alloc, file, no_calls(alloc))?)?;
     drop(journal);
     let count = payloads.len();
     let alike = payloads
@@ -198,121 +296,86 @@ fn count_of<D: Disk + Drop>(alloc: Global, disk: D) -> Result<usize, Fail> {
     }
 }
 
-// How many payloads a crash leaves.
-fn left(alloc: Global, disk: &MemDisk, choice: u64) -> Result<usize, Fail> {
-    let image = disk.image(choice)?;
-    count_of(alloc, MemDisk::from_image(alloc, image, no_calls(alloc))?)
-}
-
-// A crash leaves so many payloads where this is chosen of what isn't synced.
 fn leaves(
     rt: &impl Abort,
     alloc: Global,
+    at: Place,
     disk: &MemDisk,
-    choices: &[(u64, usize)],
+    left: &Left,
 ) -> Result<(), Fail> {
-    for (choice, count) in choices {
-        assert!(rt; left(alloc, disk, *choice)? == *count, "choice {choice}");
+    match left {
+        Left::Payloads(choice, count) => {
+            is(rt, at, &count_of(alloc, disk.image(*choice)?)?, count);
+        }
+        Left::File(choice, file) => {
+            let image = disk.image(*choice)?;
+            are_bytes(rt, at, image.as_slice(), file);
+            drop(image);
+        }
     }
     Ok(())
 }
 
-// The append fails at its gate.
-fn comes_in_doubt(
-    rt: &impl Abort,
-    alloc: Global,
-    journal: &mut Journal<MemDisk>,
-) -> Result<(), Fail>
-    requires { IsTrue (is_settled journal.old) }
-{
-    assert!(rt; append(alloc, journal)? == Err(AppendFault::Failed));
-    assert!(rt; journal.length() == 9);
-    assert!(rt; !journal.is_settled());
+fn leaves_all(rt: &impl Abort, alloc: Global, disk: &MemDisk, case: &Case) -> Result<(), Fail> {
+    let shows = case.shows;
+    for (step, left) in case.left.iter().enumerate() {
+        leaves(rt, alloc, Place { shows, step }, disk, left)?;
+    }
     Ok(())
 }
 
-#[test]
-fn a_failed_gate_is_in_doubt_until_it_is_settled(rt: HostRuntime) -> Result<(), Fail> {
-    let alloc = rt.alloc();
-    let mut journal = empty(alloc, &[6])?;
-    let doubt = comes_in_doubt(&rt, alloc, &mut journal);
-    assert!(rt; journal.settle().is_ok());
+fn holds(rt: &impl Abort, alloc: Global, case: &Case) -> Result<(), Fail> {
+    let mut journal = journal_of(alloc, case)?;
+    let gone = goes_through(rt, alloc, &mut journal, case);
     let disk = journal.close();
-    assert!(rt; disk.faults() == 1);
-    let left = doubt.and_then(|()| leaves(&rt, alloc, &disk, &[(0, 0), (1, 0), (7, 0)]));
+    assert!(rt; disk.faults() == case.faults, "{}", case.shows);
+    let left = gone.and_then(|()| leaves_all(rt, alloc, &disk, case));
     drop(disk);
     left
 }
 
 #[test]
-fn a_crash_in_doubt_leaves_the_payload_or_not(rt: HostRuntime) -> Result<(), Fail> {
-    let alloc = rt.alloc();
-    let mut journal = empty(alloc, &[6])?;
-    let doubt = comes_in_doubt(&rt, alloc, &mut journal);
-    let disk = journal.close();
-    let left = doubt.and_then(|()| leaves(&rt, alloc, &disk, &[(0, 0), (1, 1)]));
-    drop(disk);
-    left
-}
-
-fn opens(alloc: Global, disk: MemDisk) -> bool {
-    match Journal::open_on(alloc, disk, 1, 1000) {
-        Ok(opened) => {
-            drop(opened);
-            true
-        }
-        Err(refusal) => {
-            drop(refusal);
-            false
-        }
-    }
-}
-
-#[test]
-fn an_opening_reads_each_payload_in_two(rt: HostRuntime) -> Result<(), Fail> {
-    let alloc = rt.alloc();
-    let image = b"RDJ1\0\0\0\x01\x01\0\0\0\x01a\x01\0\0\0\x02bc\0tail";
-    // A sync, a look at the length, the header, and twice two reads: call 7 is none
-    // of the opening's.
-    for (failing, is_opened) in [(6, false), (7, true)] {
-        let disk = disk_of(alloc, image, &[failing])?;
-        assert!(rt; opens(alloc, disk) == is_opened, "call {failing} fails");
+fn what_a_journal_answers_and_a_crash_leaves(rt: HostRuntime) -> Result<(), Fail> {
+    for case in &CASES {
+        holds(&rt, rt.alloc(), case)?;
     }
     Ok(())
 }
+
+/// Plans of syncs that fail, each with what a write answers then.
+static PLANS: [(Option<u64>, Result<(), Phase>); 5] = [
+    (Some(1), Err(Phase::Gate)),
+    (Some(0), Err(Phase::Settling)),
+    (Some(1), Err(Phase::Body)),
+    (Some(2), Ok(())),
+    (Some(1), Err(Phase::Gate)),
+];
 
 fn writes_as_planned(
     rt: &impl Abort,
     alloc: Global,
     journal: &mut Journal<PlanDisk>,
 ) -> Result<(), Fail> {
-    for (next, answer) in [
-        (Some(1), Err(Phase::Gate)),
-        (Some(0), Err(Phase::Settling)),
-        (Some(1), Err(Phase::Body)),
-        (Some(2), Ok(())),
-        (Some(1), Err(Phase::Gate)),
-    ] {
-        journal.plan(next);
-        writes(rt, alloc, journal, answer)?;
+    let shows = "a planned sync fails in its phase";
+    for (step, (next, answer)) in PLANS.iter().enumerate() {
+        journal.plan(*next);
+        is(
+            rt,
+            Place { shows, step },
+            &write_abc(alloc, journal)?,
+            answer,
+        );
     }
+    assert!(rt; !journal.is_short());
     Ok(())
-}
-
-// How many payloads a crash leaves of a disk with a plan.
-fn left_as_planned(alloc: Global, disk: &PlanDisk, choice: u64) -> Result<usize, Fail> {
-    let image = disk.image(choice)?;
-    count_of(alloc, MemDisk::from_image(alloc, image, no_calls(alloc))?)
 }
 
 // The second payload is in doubt: what was synced has one payload, and with 1 for what wasn't
 // there are two.
 fn leaves_doubt(rt: &impl Abort, alloc: Global, disk: &PlanDisk) -> Result<(), Fail> {
     for (choice, count) in [(0, 1), (257, 2)] {
-        assert!(rt;
-            left_as_planned(alloc, disk, choice)? == count,
-            "choice {choice}"
-        );
+        let left = count_of(alloc, disk.image(choice)?)?;
+        assert!(rt; left == count, "choice {choice}");
     }
     Ok(())
 }
@@ -320,10 +383,9 @@ fn leaves_doubt(rt: &impl Abort, alloc: Global, disk: &PlanDisk) -> Result<(), F
 #[test]
 fn a_planned_journal_fails_in_its_phase(rt: HostRuntime) -> Result<(), Fail> {
     let alloc = rt.alloc();
-    let disk = PlanDisk::new(alloc, Bytes::from_slice(alloc, &EMPTY)?)?;
+    let disk = PlanDisk::new(alloc, Bytes::from_slice(alloc, EMPTY)?)?;
     let mut journal = journal_on(alloc, disk)?;
     let written = writes_as_planned(&rt, alloc, &mut journal);
-    assert!(rt; !journal.is_short());
     let disk = journal.close();
     let left = written.and_then(|()| leaves_doubt(&rt, alloc, &disk));
     drop(disk);
@@ -351,7 +413,7 @@ fn keeps_acknowledged(
     acknowledged: usize,
 ) -> Result<(), Fail> {
     for choice in [0, 1, 7, 257] {
-        let count = left(alloc, disk, choice)?;
+        let count = count_of(alloc, disk.image(choice)?)?;
         assert!(rt; count.wrapping_sub(acknowledged) <= 1, "after {fuse} calls");
     }
     Ok(())
@@ -359,7 +421,7 @@ fn keeps_acknowledged(
 
 // Appends over a disk that fails for good after some calls.
 fn stops(rt: &impl Abort, alloc: Global, fuse: u64) -> Result<(), Fail> {
-    let disk = MemDisk::with_fuse(alloc, Bytes::from_slice(alloc, &EMPTY)?, fuse)?;
+    let disk = MemDisk::with_fuse(alloc, Bytes::from_slice(alloc, EMPTY)?, fuse)?;
     let mut journal = journal_on(alloc, disk)?;
     let acknowledged = append_ten(alloc, &mut journal);
     let disk = journal.close();
@@ -374,65 +436,4 @@ fn each_stop_leaves_what_was_acknowledged(rt: HostRuntime) -> Result<(), Fail> {
         stops(&rt, rt.alloc(), fuse)?;
     }
     Ok(())
-}
-
-fn writes_settle_first(
-    rt: &impl Abort,
-    alloc: Global,
-    journal: &mut Journal<MemDisk>,
-) -> Result<(), Fail> {
-    for answer in [
-        Err(Phase::Gate),
-        Err(Phase::Settling),
-        Err(Phase::Body),
-        Ok(()),
-    ] {
-        writes(rt, alloc, journal, answer)?;
-    }
-    Ok(())
-}
-
-#[test]
-fn a_write_settles_first(rt: HostRuntime) -> Result<(), Fail> {
-    let alloc = rt.alloc();
-    // The gate's sync fails, then the settling's write, and then the sync of the body.
-    let mut journal = empty(alloc, &[6, 7, 11])?;
-    let written = writes_settle_first(&rt, alloc, &mut journal);
-    assert!(rt; journal.length() == 17);
-    let disk = journal.close();
-    assert!(rt; disk.faults() == 3);
-    drop(disk);
-    written
-}
-
-// A new journal on an empty disk.
-fn started(alloc: Global) -> Result<Journal<MemDisk>, Fail>
-    ensures { IfOk result (λ journal. IsTrue (is_settled journal)) }
-{
-    match Journal::start_on(MemDisk::new(alloc, no_calls(alloc)), 1, 1000) {
-        Ok(journal) => Ok(journal),
-        Err(refusal) => {
-            drop(refusal);
-            Err(Fail::from("refused"))
-        }
-    }
-}
-
-fn takes_payload(rt: &impl Abort, alloc: Global, journal: &mut Journal<MemDisk>) -> Result<(), Fail>
-    requires { IsTrue (is_settled journal.old) }
-{
-    assert!(rt; journal.length() == 9);
-    assert!(rt; append(alloc, journal)?.is_ok());
-    Ok(())
-}
-
-#[test]
-fn a_new_journal_takes_a_payload(rt: HostRuntime) -> Result<(), Fail> {
-    let alloc = rt.alloc();
-    let mut journal = started(alloc)?;
-    let taken = takes_payload(&rt, alloc, &mut journal);
-    let disk = journal.close();
-    let kept = taken.and_then(|()| keeps(&rt, &disk, b"RDJ1\0\0\0\x01\x01\0\0\0\x03abc\0"));
-    drop(disk);
-    kept
 }

@@ -3,20 +3,16 @@
 #![tactic(auto)]
 
 #[cfg(test)]
-mod appends;
-#[cfg(test)]
 mod chains;
-#[cfg(test)]
-mod checking;
 #[cfg(test)]
 mod disks;
 #[cfg(test)]
-mod fakes;
-#[cfg(test)]
-mod indexes;
+mod files;
 #[cfg(test)]
 mod journals;
 #[cfg(test)]
 mod logs;
 #[cfg(test)]
-mod making;
+mod shelves;
+#[cfg(test)]
+mod tables;

@@ -1,15 +1,13 @@
 //! Logs over disks in memory: what they answer, and what a crash leaves of them.
-use crate::fakes::{LIMITS, P1, P2, calls, no_calls};
+use crate::tables::{EMPTY, LIMITS, P1, P2, Place, disk_of, is, no_calls};
 use chain_core::{Decision, LogAnswer};
-use delta_base::{Bytes, FullKind, Id, LogLimits};
+use delta_base::{Bytes, FullKind, Id, LogLimits, OutOfMemory};
 use disk_model::MemDisk;
-use patch_log::{LogFault, LogState, append, append_all};
+use patch_log::{LogFault, LogState, Ready, append, append_all, append_made};
 use patch_meaning::{Checked, check_patch};
 use std::alloc::Global;
 use std::process::Abort;
 use std::test::Fail;
-
-const EMPTY: &[u8] = b"RDJ1\0\0\0\x01\0";
 
 const FIRST: &[u8] = P1;
 
@@ -22,7 +20,7 @@ const OTHER_TEXT: &[u8] = b"H id <uuid:00000000-0000-4000-8000-000000000001> .\n
 
 const NO_PREVIOUS: &[u8] = b"H id <uuid:00000000-0000-4000-8000-000000000009> .\n";
 
-const BEHIND_NONE: &[u8] =
+const BEHIND_NINTH: &[u8] =
     b"H id <uuid:00000000-0000-4000-8000-000000000004> .\nH prev <uuid:00000000-0000-4000-8000-000000000009> .\n";
 
 const BEHIND_SECOND: &[u8] =
@@ -34,267 +32,292 @@ const ID2: Id = Id(0x0000_0000_0000_4000_8000_0000_0000_0002);
 
 const ID3: Id = Id(0x0000_0000_0000_4000_8000_0000_0000_0003);
 
-/// A disk with these bytes, whose calls of these numbers fail.
-pub fn disk_of(alloc: Global, image: &[u8], failing: &[u64]) -> Result<MemDisk, Fail> {
-    let bytes = Bytes::from_slice(alloc, image)?;
-    Ok(MemDisk::from_image(alloc, bytes, calls(alloc, failing)?)?)
+const ID4: Id = Id(0x0000_0000_0000_4000_8000_0000_0000_0004);
+
+const ID5: Id = Id(0x0000_0000_0000_4000_8000_0000_0000_0005);
+
+const ID9: Id = Id(0x0000_0000_0000_4000_8000_0000_0000_0009);
+
+/// A call of a log or a look at it, with what that gives.
+enum Step {
+    /// Pass 7 takes the memory for a patch first, and then appends it.
+    Add(&'static [u8], LogAnswer),
+    /// The patch is made ready for pass 5 outside the log.
+    Ready(&'static [u8], LogAnswer),
+    /// The same, or else it is told why not.
+    Made(&'static [u8], LogAnswer),
+    /// There's no memory to make it ready.
+    Want(&'static [u8], LogAnswer),
+    /// Patches are appended one after another.
+    All(&'static [&'static [u8]], &'static [LogAnswer]),
+    Decide(&'static [u8], Decision),
+    /// The pass that brought the first patch.
+    BroughtBy(u32),
+    Has(Id, Option<u32>),
+    /// How many patches it has, and its head.
+    Stands(u32, Option<Id>),
+    IsSettled(bool),
+    Faults(u64),
 }
 
-/// The log of number 1 on a disk.
-pub fn open(alloc: Global, disk: MemDisk, limits: LogLimits) -> Result<LogState<MemDisk>, Fail> {
-    match LogState::open_on(alloc, disk, 1, limits) {
-        Ok(log) => Ok(log),
-        Err(refusal) => {
-            drop(refusal);
-            Err(Fail::from("not opened"))
-        }
-    }
+struct Case {
+    shows: &'static str,
+    /// What is in the log when it is opened.
+    payloads: &'static [&'static [u8]],
+    /// The numbers of the calls that fail. The opening of a log without patches makes three calls,
+    /// and an append four.
+    failing: &'static [u64],
+    limits: LogLimits,
+    steps: &'static [Step],
+    /// The version and the head of what a crash leaves where this is chosen of what isn't synced.
+    left: &'static [(u64, u32, Option<Id>)],
 }
 
-/// A new log, the calls of these numbers of whose disk fail. An opening makes three calls and an
-/// append four.
-pub fn new_log(alloc: Global, failing: &[u64]) -> Result<LogState<MemDisk>, Fail> {
-    open(alloc, disk_of(alloc, EMPTY, failing)?, LIMITS)
-}
-
-// Takes the memory first, and then appends.
-fn add(alloc: Global, log: &mut LogState<MemDisk>, text: &[u8]) -> Result<LogAnswer, Fail> {
-    let patch = check_patch(alloc, text)?;
-    let ready = log.reserve(&patch, 7);
-    drop(patch);
-    Ok(log.append_reserved(ready?))
-}
-
-// Adds the first patch and then the second, which has this answer.
-fn add_two(alloc: Global, log: &mut LogState<MemDisk>) -> Result<LogAnswer, Fail> {
-    add(alloc, log, FIRST)?;
-    add(alloc, log, SECOND)
-}
-
-// The log that a crash leaves.
-fn log_left(alloc: Global, disk: &MemDisk, choice: u64) -> Result<LogState<MemDisk>, Fail> {
-    let image = disk.image(choice)?;
-    let left = MemDisk::from_image(alloc, image, no_calls(alloc))?;
-    open(alloc, left, LIMITS)
-}
-
-// The version and the head of the log that a crash leaves.
-fn found_in(alloc: Global, disk: &MemDisk, choice: u64) -> Result<(u32, Option<Id>), Fail> {
-    let log = log_left(alloc, disk, choice)?;
-    let found = (log.chain().version(), log.chain().head());
-    drop(log);
-    Ok(found)
-}
-
-/// Texts that are sent to a new log one after another, and its answers.
-static ANSWERS: [(&[u8], LogAnswer); 8] = [
-    (
-        SECOND,
-        LogAnswer::Conflict {
-            version: 0,
-            head: None,
-            prev_version: None,
-        },
-    ),
-    (FIRST, LogAnswer::Accepted { version: 1 }),
-    (
-        FIRST,
-        LogAnswer::Known {
-            version: 1,
-            same: true,
-        },
-    ),
-    (
-        OTHER_TEXT,
-        LogAnswer::Known {
-            version: 1,
-            same: false,
-        },
-    ),
-    (
-        NO_PREVIOUS,
-        LogAnswer::Conflict {
-            version: 1,
-            head: Some(ID1),
-            prev_version: Some(0),
-        },
-    ),
-    (SECOND, LogAnswer::Accepted { version: 2 }),
-    (
-        THIRD,
-        LogAnswer::Conflict {
-            version: 2,
-            head: Some(ID2),
-            prev_version: Some(1),
-        },
-    ),
-    (
-        BEHIND_NONE,
-        LogAnswer::Conflict {
-            version: 2,
-            head: Some(ID2),
-            prev_version: None,
-        },
-    ),
-];
-
-fn takes_the_next(rt: &impl Abort, alloc: Global, log: &mut LogState<MemDisk>) -> Result<(), Fail> {
-    for (text, answer) in ANSWERS {
-        let found = add(alloc, log, text)?;
-        assert!(rt; found == answer);
-    }
-    Ok(())
-}
-
-#[test]
-fn a_log_takes_the_next_patch_alone(rt: HostRuntime) -> Result<(), Fail> {
-    let alloc = rt.alloc();
-    let mut log = new_log(alloc, &[])?;
-    let taken = takes_the_next(&rt, alloc, &mut log);
-    drop(log);
-    taken
-}
-
-// Which pass brought the first patch of a log.
-fn brought_by(log: &LogState<MemDisk>) -> Option<u32> {
-    log.chain().entry(1).map(|entry| entry.by)
-}
-
-// The same of the log that a crash leaves.
-fn brought_again_by(alloc: Global, disk: &MemDisk) -> Result<Option<u32>, Fail> {
-    let log = log_left(alloc, disk, 1)?;
-    let by = brought_by(&log);
-    drop(log);
-    Ok(by)
-}
-
-#[test]
-fn who_brought_a_patch_is_kept(rt: HostRuntime) -> Result<(), Fail> {
-    let alloc = rt.alloc();
-    let mut log = new_log(alloc, &[])?;
-    let added = add(alloc, &mut log, FIRST);
-    let by = brought_by(&log);
-    let disk = log.close();
-    assert!(rt; by == Some(7));
-    let again = added.and_then(|_| brought_again_by(alloc, &disk));
-    drop(disk);
-    assert!(rt; again? == Some(0));
-    Ok(())
-}
-
-// What is decided of a third patch behind the first two.
-fn decided_of_third(alloc: Global, log: &mut LogState<MemDisk>) -> Result<Decision, Fail> {
-    add_two(alloc, log)?;
-    let patch = check_patch(alloc, BEHIND_SECOND)?;
-    let found = log.decide_here(&patch);
-    drop(patch);
-    Ok(found)
-}
-
-// What a log of two patches within these limits decides of a third.
-fn decided(alloc: Global, patches: u32, bytes: u64) -> Result<Decision, Fail> {
-    let disk = disk_of(alloc, EMPTY, &[])?;
-    let mut log = open(alloc, disk, LogLimits { patches, bytes })?;
-    let found = decided_of_third(alloc, &mut log);
-    drop(log);
-    found
-}
-
-#[test]
-fn a_full_log_shows_its_numbers(rt: HostRuntime) -> Result<(), Fail> {
-    let alloc = rt.alloc();
-    for (patches, bytes, decision) in [
-        (
-            2,
-            10_000,
-            Decision::Full {
-                what: FullKind::Patches,
-                have: 2,
-                limit: 2,
-            },
-        ),
-        (
-            100,
-            389,
-            Decision::Full {
-                what: FullKind::Bytes,
-                have: 390,
-                limit: 389,
-            },
-        ),
-        (100, 390, Decision::Accept { version: 3 }),
-    ] {
-        assert!(rt; decided(alloc, patches, bytes)? == decision);
-    }
-    Ok(())
-}
-
-// The call of a new log's second append that is the gate's sync.
+/// The call of a new log's second append that is the gate's sync.
 const SECOND_GATE: u64 = 10;
 
-// The second append fails at the gate's sync.
-fn comes_in_doubt(rt: &impl Abort, alloc: Global, log: &mut LogState<MemDisk>) -> Result<(), Fail> {
-    let answer = add_two(alloc, log)?;
-    assert!(rt; answer == LogAnswer::DiskFault);
-    assert!(rt; log.faults() == 1);
-    assert!(rt; log.chain().version() == 1);
-    Ok(())
-}
-
-// A crash leaves a log of this version with this head.
-fn leaves(
-    rt: &impl Abort,
-    alloc: Global,
-    disk: &MemDisk,
-    choice: u64,
-    wanted: (u32, Option<Id>),
-) -> Result<(), Fail> {
-    let found = found_in(alloc, disk, choice)?;
-    assert!(rt; found == wanted);
-    Ok(())
-}
-
-fn leaves_either(rt: &impl Abort, alloc: Global, disk: &MemDisk) -> Result<(), Fail> {
-    leaves(rt, alloc, disk, 1, (2, Some(ID2)))?;
-    leaves(rt, alloc, disk, 0, (1, Some(ID1)))
-}
-
-#[test]
-fn a_gate_left_in_doubt_may_stand_open(rt: HostRuntime) -> Result<(), Fail> {
-    let alloc = rt.alloc();
-    let mut log = new_log(alloc, &[SECOND_GATE])?;
-    let doubt = comes_in_doubt(&rt, alloc, &mut log);
-    let disk = log.close();
-    let left = doubt.and_then(|()| leaves_either(&rt, alloc, &disk));
-    drop(disk);
-    left
-}
-
-// The third patch is accepted in the place of the second, which is in doubt.
-fn makes_way(rt: &impl Abort, alloc: Global, log: &mut LogState<MemDisk>) -> Result<(), Fail> {
-    add_two(alloc, log)?;
-    let answer = add(alloc, log, THIRD)?;
-    assert!(rt; answer == LogAnswer::Accepted { version: 2 });
-    Ok(())
-}
-
-fn leaves_third(rt: &impl Abort, alloc: Global, disk: &MemDisk) -> Result<(), Fail> {
-    for choice in [0, 1, 7] {
-        leaves(rt, alloc, disk, choice, (2, Some(ID3)))?;
-    }
-    Ok(())
-}
-
-#[test]
-fn what_is_settled_makes_way(rt: HostRuntime) -> Result<(), Fail> {
-    let alloc = rt.alloc();
-    let mut log = new_log(alloc, &[SECOND_GATE])?;
-    let made = makes_way(&rt, alloc, &mut log);
-    let disk = log.close();
-    let left = made.and_then(|()| leaves_third(&rt, alloc, &disk));
-    drop(disk);
-    left
-}
+static CASES: [Case; 12] = [
+    Case {
+        shows: "a log takes the next patch alone",
+        payloads: &[],
+        failing: &[],
+        limits: LIMITS,
+        steps: &[
+            Step::Add(
+                SECOND,
+                LogAnswer::Conflict {
+                    version: 0,
+                    head: None,
+                    prev_version: None,
+                },
+            ),
+            Step::Add(FIRST, LogAnswer::Accepted { version: 1 }),
+            Step::Add(
+                FIRST,
+                LogAnswer::Known {
+                    version: 1,
+                    same: true,
+                },
+            ),
+            Step::Add(
+                OTHER_TEXT,
+                LogAnswer::Known {
+                    version: 1,
+                    same: false,
+                },
+            ),
+            Step::Add(
+                NO_PREVIOUS,
+                LogAnswer::Conflict {
+                    version: 1,
+                    head: Some(ID1),
+                    prev_version: Some(0),
+                },
+            ),
+            Step::Add(SECOND, LogAnswer::Accepted { version: 2 }),
+            Step::Add(
+                THIRD,
+                LogAnswer::Conflict {
+                    version: 2,
+                    head: Some(ID2),
+                    prev_version: Some(1),
+                },
+            ),
+            Step::Add(
+                BEHIND_NINTH,
+                LogAnswer::Conflict {
+                    version: 2,
+                    head: Some(ID2),
+                    prev_version: None,
+                },
+            ),
+        ],
+        left: &[],
+    },
+    Case {
+        shows: "who brought a patch is kept until a crash",
+        payloads: &[],
+        failing: &[],
+        limits: LIMITS,
+        steps: &[
+            Step::Add(FIRST, LogAnswer::Accepted { version: 1 }),
+            Step::BroughtBy(7),
+        ],
+        left: &[(1, 1, Some(ID1))],
+    },
+    Case {
+        shows: "a log full of patches shows its numbers",
+        payloads: &[],
+        failing: &[],
+        limits: LogLimits {
+            patches: 2,
+            bytes: 10_000,
+        },
+        steps: &[
+            Step::Add(FIRST, LogAnswer::Accepted { version: 1 }),
+            Step::Add(SECOND, LogAnswer::Accepted { version: 2 }),
+            Step::Decide(
+                BEHIND_SECOND,
+                Decision::Full {
+                    what: FullKind::Patches,
+                    have: 2,
+                    limit: 2,
+                },
+            ),
+        ],
+        left: &[],
+    },
+    Case {
+        shows: "a log full of bytes shows its numbers",
+        payloads: &[],
+        failing: &[],
+        limits: LogLimits {
+            patches: 100,
+            bytes: 389,
+        },
+        steps: &[
+            Step::Add(FIRST, LogAnswer::Accepted { version: 1 }),
+            Step::Add(SECOND, LogAnswer::Accepted { version: 2 }),
+            Step::Decide(
+                BEHIND_SECOND,
+                Decision::Full {
+                    what: FullKind::Bytes,
+                    have: 390,
+                    limit: 389,
+                },
+            ),
+        ],
+        left: &[],
+    },
+    Case {
+        shows: "a log has room up to its limit",
+        payloads: &[],
+        failing: &[],
+        limits: LogLimits {
+            patches: 100,
+            bytes: 390,
+        },
+        steps: &[
+            Step::Add(FIRST, LogAnswer::Accepted { version: 1 }),
+            Step::Add(SECOND, LogAnswer::Accepted { version: 2 }),
+            Step::Decide(BEHIND_SECOND, Decision::Accept { version: 3 }),
+        ],
+        left: &[],
+    },
+    Case {
+        shows: "a gate left in doubt may stand open",
+        payloads: &[],
+        failing: &[SECOND_GATE],
+        limits: LIMITS,
+        steps: &[
+            Step::Add(FIRST, LogAnswer::Accepted { version: 1 }),
+            Step::Add(SECOND, LogAnswer::DiskFault),
+            Step::Faults(1),
+            Step::Stands(1, Some(ID1)),
+        ],
+        left: &[(1, 2, Some(ID2)), (0, 1, Some(ID1))],
+    },
+    // The third patch is accepted in the place of the second, which was in doubt.
+    Case {
+        shows: "what is settled makes way",
+        payloads: &[],
+        failing: &[SECOND_GATE],
+        limits: LIMITS,
+        steps: &[
+            Step::Add(FIRST, LogAnswer::Accepted { version: 1 }),
+            Step::Add(SECOND, LogAnswer::DiskFault),
+            Step::Add(THIRD, LogAnswer::Accepted { version: 2 }),
+        ],
+        left: &[(0, 2, Some(ID3)), (1, 2, Some(ID3)), (7, 2, Some(ID3))],
+    },
+    Case {
+        shows: "a patch is made ready without a log",
+        payloads: &[],
+        failing: &[],
+        limits: LIMITS,
+        steps: &[
+            Step::Ready(FIRST, LogAnswer::Accepted { version: 1 }),
+            Step::BroughtBy(5),
+            Step::IsSettled(true),
+        ],
+        left: &[],
+    },
+    Case {
+        shows: "want of memory is told of a patch that could be accepted",
+        payloads: &[],
+        failing: &[],
+        limits: LIMITS,
+        steps: &[
+            Step::Want(FIRST, LogAnswer::OutOfMemory),
+            Step::Want(
+                SECOND,
+                LogAnswer::Conflict {
+                    version: 0,
+                    head: None,
+                    prev_version: None,
+                },
+            ),
+            Step::Made(FIRST, LogAnswer::Accepted { version: 1 }),
+            Step::Want(
+                FIRST,
+                LogAnswer::Known {
+                    version: 1,
+                    same: true,
+                },
+            ),
+        ],
+        left: &[],
+    },
+    Case {
+        shows: "many appends are answered in order",
+        payloads: &[],
+        failing: &[],
+        limits: LIMITS,
+        steps: &[Step::All(
+            &[FIRST, SECOND, FIRST],
+            &[
+                LogAnswer::Accepted { version: 1 },
+                LogAnswer::Accepted { version: 2 },
+                LogAnswer::Known {
+                    version: 1,
+                    same: true,
+                },
+            ],
+        )],
+        left: &[],
+    },
+    // The first sync of the second append fails, and its patch is sent again.
+    Case {
+        shows: "a fault is told once",
+        payloads: &[],
+        failing: &[9],
+        limits: LIMITS,
+        steps: &[
+            Step::All(
+                &[FIRST, SECOND, SECOND],
+                &[
+                    LogAnswer::Accepted { version: 1 },
+                    LogAnswer::DiskFault,
+                    LogAnswer::Accepted { version: 2 },
+                ],
+            ),
+            Step::Faults(1),
+        ],
+        left: &[],
+    },
+    Case {
+        shows: "ids that fall are found after an opening",
+        payloads: &[NO_PREVIOUS, BEHIND_NINTH],
+        failing: &[],
+        limits: LIMITS,
+        steps: &[
+            Step::Has(ID9, Some(1)),
+            Step::Has(ID4, Some(2)),
+            Step::Has(ID5, None),
+        ],
+        left: &[],
+    },
+];
 
 fn push_payload(bytes: &mut Vec<u8>, payload: &[u8]) -> Result<(), Fail> {
     bytes.push(1)?;
@@ -304,7 +327,7 @@ fn push_payload(bytes: &mut Vec<u8>, payload: &[u8]) -> Result<(), Fail> {
 }
 
 /// A journal with these payloads.
-pub fn journal_of(alloc: Global, payloads: &[&[u8]]) -> Result<Vec<u8>, Fail> {
+fn journal_of(alloc: Global, payloads: &[&[u8]]) -> Result<Vec<u8>, Fail> {
     let mut bytes = b"RDJ1\0\0\0\x01".to_vec(alloc)?;
     for payload in payloads {
         push_payload(&mut bytes, payload)?;
@@ -313,8 +336,236 @@ pub fn journal_of(alloc: Global, payloads: &[&[u8]]) -> Result<Vec<u8>, Fail> {
     Ok(bytes)
 }
 
-// Why a disk isn't opened as number 1 with at most two patches.
-fn fault_of(alloc: Global, disk: MemDisk) -> Result<LogFault, Fail> {
+/// A disk with that, whose calls of these numbers fail.
+fn disk_with(alloc: Global, payloads: &[&[u8]], failing: &[u64]) -> Result<MemDisk, Fail> {
+    let file = journal_of(alloc, payloads)?;
+    let disk = disk_of(alloc, &file, failing);
+    drop(file);
+    disk
+}
+
+/// The log of number 1 on a disk.
+fn open(alloc: Global, disk: MemDisk, limits: LogLimits) -> Result<LogState<MemDisk>, Fail> {
+    match LogState::open_on(alloc, disk, 1, limits) {
+        Ok(log) => Ok(log),
+        Err(refusal) => {
+            drop(refusal);
+            Err(Fail::from("not opened"))
+        }
+    }
+}
+
+fn add(alloc: Global, log: &mut LogState<MemDisk>, text: &[u8]) -> Result<LogAnswer, Fail> {
+    let patch = check_patch(alloc, text)?;
+    let ready = log.reserve(&patch, 7);
+    drop(patch);
+    Ok(log.append_reserved(ready?))
+}
+
+fn add_ready(alloc: Global, log: &mut LogState<MemDisk>, text: &[u8]) -> Result<LogAnswer, Fail> {
+    let patch = check_patch(alloc, text)?;
+    let ready = Ready::of(alloc, &patch, 5);
+    drop(patch);
+    Ok(log.append_ready(ready?))
+}
+
+fn add_made(alloc: Global, log: &mut LogState<MemDisk>, text: &[u8]) -> Result<LogAnswer, Fail> {
+    let patch = check_patch(alloc, text)?;
+    let answer = append_made(log, &patch, Ready::of(alloc, &patch, 5));
+    drop(patch);
+    Ok(answer)
+}
+
+fn add_in_want(alloc: Global, log: &mut LogState<MemDisk>, text: &[u8]) -> Result<LogAnswer, Fail> {
+    let patch = check_patch(alloc, text)?;
+    let answer = append_made(log, &patch, Err(OutOfMemory));
+    drop(patch);
+    Ok(answer)
+}
+
+fn decided(alloc: Global, log: &LogState<MemDisk>, text: &[u8]) -> Result<Decision, Fail> {
+    let patch = check_patch(alloc, text)?;
+    let found = log.decide_here(&patch);
+    drop(patch);
+    Ok(found)
+}
+
+/// The patches that these texts are.
+fn patches_of(alloc: Global, texts: &[&[u8]]) -> Result<Vec<Checked>, Fail> {
+    let mut patches = Vec::new(alloc);
+    for text in texts {
+        patches.push(check_patch(alloc, text)?)?;
+    }
+    Ok(patches)
+}
+
+/// Whether these texts have these answers, one after another.
+fn answers_all(
+    alloc: Global,
+    log: &mut LogState<MemDisk>,
+    texts: &[&[u8]],
+    wanted: &[LogAnswer],
+) -> Result<bool, Fail> {
+    let patches = patches_of(alloc, texts)?;
+    let answers = append_all(alloc, log, &patches, 3);
+    drop(patches);
+    let answers = answers?;
+    let same = answers.as_slice() == wanted;
+    drop(answers);
+    Ok(same)
+}
+
+/// Which pass brought the first patch of a log.
+fn brought_by(log: &LogState<MemDisk>) -> Option<u32> {
+    log.chain().entry(1).map(|entry| entry.by)
+}
+
+fn stands(log: &LogState<MemDisk>) -> (u32, Option<Id>) {
+    (log.chain().version(), log.chain().head())
+}
+
+fn goes(
+    rt: &impl Abort,
+    alloc: Global,
+    at: Place,
+    log: &mut LogState<MemDisk>,
+    step: &Step,
+) -> Result<(), Fail> {
+    match step {
+        Step::Add(text, answer) => is(rt, at, &add(alloc, log, text)?, answer),
+        Step::Ready(text, answer) => is(rt, at, &add_ready(alloc, log, text)?, answer),
+        Step::Made(text, answer) => is(rt, at, &add_made(alloc, log, text)?, answer),
+        Step::Want(text, answer) => is(rt, at, &add_in_want(alloc, log, text)?, answer),
+        Step::All(texts, answers) => {
+            is(rt, at, &answers_all(alloc, log, texts, answers)?, &true);
+        }
+        Step::Decide(text, decision) => is(rt, at, &decided(alloc, log, text)?, decision),
+        Step::BroughtBy(pass) => is(rt, at, &brought_by(log), &Some(*pass)),
+        Step::Has(id, version) => is(rt, at, &log.version_of(*id), version),
+        Step::Stands(version, head) => is(rt, at, &stands(log), &(*version, *head)),
+        Step::IsSettled(settled) => is(rt, at, &log.is_settled(), settled),
+        Step::Faults(faults) => is(rt, at, &log.faults(), faults),
+    }
+    Ok(())
+}
+
+fn goes_through(
+    rt: &impl Abort,
+    alloc: Global,
+    log: &mut LogState<MemDisk>,
+    case: &Case,
+) -> Result<(), Fail> {
+    let shows = case.shows;
+    for (step, wanted) in case.steps.iter().enumerate() {
+        goes(rt, alloc, Place { shows, step }, log, wanted)?;
+    }
+    Ok(())
+}
+
+/// The log that a crash leaves.
+fn log_left(alloc: Global, disk: &MemDisk, choice: u64) -> Result<LogState<MemDisk>, Fail> {
+    let image = disk.image(choice)?;
+    let left = MemDisk::from_image(alloc, image, no_calls(alloc))?;
+    open(alloc, left, LIMITS)
+}
+
+/// Its version and head, and the pass that brought its first patch.
+fn found_in(
+    alloc: Global,
+    disk: &MemDisk,
+    choice: u64,
+) -> Result<(u32, Option<Id>, Option<u32>), Fail> {
+    let log = log_left(alloc, disk, choice)?;
+    let (version, head) = stands(&log);
+    let by = brought_by(&log);
+    drop(log);
+    Ok((version, head, by))
+}
+
+/// What a crash leaves has no patch that a pass brought.
+fn leaves(rt: &impl Abort, alloc: Global, disk: &MemDisk, case: &Case) -> Result<(), Fail> {
+    let shows = case.shows;
+    for (step, (choice, version, head)) in case.left.iter().enumerate() {
+        let found = found_in(alloc, disk, *choice)?;
+        let wanted = (*version, *head, Some(0));
+        is(rt, Place { shows, step }, &found, &wanted);
+    }
+    Ok(())
+}
+
+fn holds(rt: &impl Abort, alloc: Global, case: &Case) -> Result<(), Fail> {
+    let disk = disk_with(alloc, case.payloads, case.failing)?;
+    let mut log = open(alloc, disk, case.limits)?;
+    let gone = goes_through(rt, alloc, &mut log, case);
+    let disk = log.close();
+    let left = gone.and_then(|()| leaves(rt, alloc, &disk, case));
+    drop(disk);
+    left
+}
+
+#[test]
+fn what_a_log_answers_and_a_crash_leaves(rt: HostRuntime) -> Result<(), Fail> {
+    for case in &CASES {
+        holds(&rt, rt.alloc(), case)?;
+    }
+    Ok(())
+}
+
+/// A file that is opened with at most two patches.
+enum File {
+    Image(&'static [u8]),
+    Payloads(&'static [&'static [u8]]),
+}
+
+/// A file, the numbers of the calls that fail, and why it isn't opened.
+static REFUSED: [(File, &[u64], LogFault); 10] = [
+    (
+        File::Payloads(&[FIRST, SECOND, THIRD]),
+        &[],
+        LogFault::BrokenChain { version: 3 },
+    ),
+    (
+        File::Payloads(&[FIRST, FIRST]),
+        &[],
+        LogFault::BrokenChain { version: 2 },
+    ),
+    (
+        File::Payloads(&[SECOND]),
+        &[],
+        LogFault::BrokenChain { version: 1 },
+    ),
+    (
+        File::Payloads(&[FIRST, b"X"]),
+        &[],
+        LogFault::BrokenChain { version: 2 },
+    ),
+    (
+        File::Payloads(&[&[b'#'; 987], b"X"]),
+        &[],
+        LogFault::OverLimit {
+            length: 1007,
+            limit: 1000,
+        },
+    ),
+    (
+        File::Image(b"RDJ1\0\0\0\x02\0"),
+        &[],
+        LogFault::WrongNumber { found: 2 },
+    ),
+    (File::Image(b"RDJ1"), &[], LogFault::Damaged { at: 0 }),
+    (File::Image(EMPTY), &[0], LogFault::Failed),
+    (File::Image(EMPTY), &[1], LogFault::Failed),
+    (File::Image(EMPTY), &[2], LogFault::Failed),
+];
+
+fn file_on(alloc: Global, file: &File, failing: &[u64]) -> Result<MemDisk, Fail> {
+    match file {
+        File::Image(image) => disk_of(alloc, image, failing),
+        File::Payloads(payloads) => disk_with(alloc, payloads, failing),
+    }
+}
+
+fn fault_of(alloc: Global, disk: MemDisk) -> Option<LogFault> {
     let limits = LogLimits {
         patches: 2,
         bytes: 1000,
@@ -322,80 +573,23 @@ fn fault_of(alloc: Global, disk: MemDisk) -> Result<LogFault, Fail> {
     match LogState::open_on(alloc, disk, 1, limits) {
         Ok(log) => {
             drop(log);
-            Err(Fail::from("opened"))
+            None
         }
         Err(refusal) => {
             let fault = refusal.fault;
             drop(refusal);
-            Ok(fault)
+            Some(fault)
         }
     }
 }
 
-// A file isn't opened for this cause, if the calls of these numbers fail.
-fn fails(
-    rt: &impl Abort,
-    alloc: Global,
-    image: &[u8],
-    failing: &[u64],
-    wanted: LogFault,
-) -> Result<(), Fail> {
-    let fault = fault_of(alloc, disk_of(alloc, image, failing)?)?;
-    assert!(rt; fault == wanted);
-    Ok(())
-}
-
-// A journal with these payloads isn't opened for this cause.
-fn payloads_fail(
-    rt: &impl Abort,
-    alloc: Global,
-    payloads: &[&[u8]],
-    wanted: LogFault,
-) -> Result<(), Fail> {
-    let image = journal_of(alloc, payloads)?;
-    let failed = fails(rt, alloc, &image, &[], wanted);
-    drop(image);
-    failed
-}
-
-#[test]
-fn each_fault_of_payloads_is_told(rt: HostRuntime) -> Result<(), Fail> {
-    let alloc = rt.alloc();
-    for (payloads, fault) in [
-        (
-            [FIRST, SECOND, THIRD].as_slice(),
-            LogFault::BrokenChain { version: 3 },
-        ),
-        (&[FIRST, FIRST], LogFault::BrokenChain { version: 2 }),
-        (&[SECOND], LogFault::BrokenChain { version: 1 }),
-        (&[FIRST, b"X"], LogFault::BrokenChain { version: 2 }),
-        (
-            &[&[b'#'; 987], b"X"],
-            LogFault::OverLimit {
-                length: 1007,
-                limit: 1000,
-            },
-        ),
-    ] {
-        payloads_fail(&rt, alloc, payloads, fault)?;
-    }
-    Ok(())
-}
-
 #[test]
 fn each_fault_of_a_file_is_told(rt: HostRuntime) -> Result<(), Fail> {
-    let alloc = rt.alloc();
-    for (image, fault) in [
-        (
-            b"RDJ1\0\0\0\x02\0".as_slice(),
-            LogFault::WrongNumber { found: 2 },
-        ),
-        (b"RDJ1", LogFault::Damaged { at: 0 }),
-    ] {
-        fails(&rt, alloc, image, &[], fault)?;
-    }
-    for call in 0..3u64 {
-        fails(&rt, alloc, EMPTY, &[call], LogFault::Failed)?;
+    let shows = "a file that is refused";
+    for (step, (file, failing, fault)) in REFUSED.iter().enumerate() {
+        let disk = file_on(rt.alloc(), file, failing)?;
+        let found = fault_of(rt.alloc(), disk);
+        is(&rt, Place { shows, step }, &found, &Some(*fault));
     }
     Ok(())
 }
@@ -528,49 +722,4 @@ fn what_was_acknowledged_is_found_again(rt: HostRuntime) -> Result<(), Fail> {
     let found = are_found_again(&rt, alloc, &patches);
     drop(patches);
     found
-}
-
-/// The patches that these texts are.
-fn patches_of(alloc: Global, texts: &[&[u8]]) -> Result<Vec<Checked>, Fail> {
-    let mut patches = Vec::new(alloc);
-    for text in texts {
-        patches.push(check_patch(alloc, text)?)?;
-    }
-    Ok(patches)
-}
-
-/// These texts have these answers of a log, one after another.
-pub fn answers_in_order(
-    rt: &impl Abort,
-    alloc: Global,
-    log: &mut LogState<MemDisk>,
-    texts: &[&[u8]],
-    wanted: &[LogAnswer],
-) -> Result<(), Fail> {
-    let patches = patches_of(alloc, texts)?;
-    let answers = append_all(alloc, log, &patches, 3);
-    drop(patches);
-    let answers = answers?;
-    assert!(rt; answers.as_slice() == wanted);
-    Ok(())
-}
-
-/// What a log answers to the first patch, the second and the first again.
-static THREE: [LogAnswer; 3] = [
-    LogAnswer::Accepted { version: 1 },
-    LogAnswer::Accepted { version: 2 },
-    LogAnswer::Known {
-        version: 1,
-        same: true,
-    },
-];
-
-#[test]
-fn many_appends_are_answered_in_order(rt: HostRuntime) -> Result<(), Fail> {
-    let alloc = rt.alloc();
-    let mut log = new_log(alloc, &[])?;
-    let texts = [FIRST, SECOND, FIRST];
-    let answered = answers_in_order(&rt, alloc, &mut log, &texts, &THREE);
-    drop(log);
-    answered
 }
