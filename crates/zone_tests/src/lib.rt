@@ -3,12 +3,12 @@
 #![tactic(auto)]
 
 #[cfg(test)]
-mod crashes;
+mod cases;
 #[cfg(test)]
-mod fakes;
+mod crashes;
 #[cfg(test)]
 mod openings;
 #[cfg(test)]
 mod searches;
 #[cfg(test)]
-mod takings;
+mod tables;

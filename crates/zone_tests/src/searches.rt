@@ -1,10 +1,9 @@
-//! The prefixes of a zone, and its quads by pattern.
+//! The prefixes of a zone, its quads by pattern, and its dump.
 ghost use Rattle.std.specs.Prelude.{◌≡◌, ◌<◌};
 
-use crate::fakes::{FIRST, SECOND, THIRD, disk_of, journal_of, open};
 use dataset_tx::{GraphPart, Pattern};
-use delta_base::LOG_LIMITS;
-use disk_model::MemDisk;
+use disk_model::PlanDisk;
+use nquads_documents::print_document;
 use nquads_text::read_term;
 use quad_index::Steps;
 use rdf_terms::Change;
@@ -13,14 +12,6 @@ use std::marker::Brand;
 use std::sync::ledger::{Blank, Ledger};
 use std::test::Fail;
 use zone_state::Zone;
-
-// A zone that took these patches.
-fn zone_of(alloc: Global, texts: &[&[u8]]) -> Result<Zone<MemDisk>, Fail> {
-    let file = journal_of(alloc, texts)?;
-    let disk = disk_of(alloc, &file, &[]);
-    drop(file);
-    open(alloc, disk?, LOG_LIMITS)
-}
 
 // Whether a change sets this prefix of the default graph to this IRI.
 fn sets(change: &Change, wanted: (&str, &str)) -> bool {
@@ -34,8 +25,8 @@ fn sets(change: &Change, wanted: (&str, &str)) -> bool {
     }
 }
 
-// Whether a zone has these prefixes, in this order.
-fn has_prefixes(zone: &Zone<MemDisk>, wanted: &[(&str, &str)]) -> Result<bool, Fail> {
+/// Whether a zone has these prefixes, in this order.
+pub fn has_prefixes(zone: &Zone<PlanDisk>, wanted: &[(&str, &str)]) -> Result<bool, Fail> {
     let found = zone.prefixes()?;
     let same = found.len() == wanted.len()
         && found
@@ -45,16 +36,6 @@ fn has_prefixes(zone: &Zone<MemDisk>, wanted: &[(&str, &str)]) -> Result<bool, F
             .all(|(change, wanted)| sets(change, *wanted));
     drop(found);
     Ok(same)
-}
-
-#[test]
-fn a_zone_has_the_prefixes_that_it_took(rt: HostRuntime) -> Result<(), Fail> {
-    let alloc = rt.alloc();
-    let zone = zone_of(alloc, &[FIRST, SECOND, THIRD])?;
-    let same = has_prefixes(&zone, &[("e", "http://e/"), ("f", "http://f/")]);
-    drop(zone);
-    assert!(rt; same?);
-    Ok(())
 }
 
 // The pattern of an object in the default graph.
@@ -73,7 +54,7 @@ fn pattern_of(alloc: Global, object: &[u8]) -> Result<Pattern, Fail> {
 // How many quads a zone has with this object.
 fn found_with<L: Ledger>(
     alloc: Global,
-    zone: &Zone<MemDisk>,
+    zone: &Zone<PlanDisk>,
     object: &[u8],
     blank: Blank,
 ) -> Result<usize, Fail>
@@ -91,23 +72,30 @@ fn found_with<L: Ledger>(
     Ok(count)
 }
 
-// Whether a zone of two patches has a quad with the object of the second, and none with another.
-fn finds(alloc: Global, zone: &Zone<MemDisk>) -> Result<bool, Fail> {
-    for (object, count) in [(b"<http://e/o2>", 1), (b"<http://e/o3>", 0)] {
-        let found = found_with::<Brand>(alloc, zone, object, Blank::new(1))?;
-        if found != count {
-            return Ok(false);
-        }
-    }
-    Ok(true)
+/// The same, by steps of its own.
+pub fn finds(alloc: Global, zone: &Zone<PlanDisk>, object: &[u8]) -> Result<usize, Fail> {
+    found_with::<Brand>(alloc, zone, object, Blank::new(1))
 }
 
-#[test]
-fn a_pattern_finds_the_quads_of_a_zone(rt: HostRuntime) -> Result<(), Fail> {
-    let alloc = rt.alloc();
-    let zone = zone_of(alloc, &[FIRST, SECOND])?;
-    let found = finds(alloc, &zone);
-    drop(zone);
-    assert!(rt; found?);
-    Ok(())
+/// Whether the dump of a zone, printed, is this document.
+pub fn dumps(alloc: Global, zone: &Zone<PlanDisk>, document: &str) -> Result<bool, Fail> {
+    let quads = zone.dump()?;
+    let printed = print_document(alloc, &quads);
+    drop(quads);
+    let text = printed?;
+    let same = text.as_str() == document;
+    drop(text);
+    Ok(same)
+}
+
+/// Whether a zone has these lines.
+pub fn has_lines(zone: &Zone<PlanDisk>, lines: &[&str]) -> Result<bool, Fail> {
+    let found = zone.lines()?;
+    let same = found.len() == lines.len()
+        && found
+            .iter()
+            .zip(lines)
+            .all(|(found, line)| found.as_str() == *line);
+    drop(found);
+    Ok(same)
 }

@@ -1,5 +1,5 @@
-//! What the tests run on.
-use delta_base::{Bytes, Id, Listing, LogLimits};
+//! What the tests run on, and where in a table they are.
+use delta_base::{Bytes, Id, LOG_LIMITS, Listing, LogLimits};
 use disk_model::{Disk, MemDisk};
 use patch_meaning::check_patch;
 use std::alloc::Global;
@@ -58,21 +58,17 @@ pub fn take<D: Disk>(alloc: Global, zone: &mut Zone<D>, text: &[u8]) -> Result<T
     Ok(answer)
 }
 
-/// A zone answers so.
-pub fn is(rt: &impl Abort, answer: TakeAnswer, wanted: TakeAnswer) {
-    assert!(rt; answer == wanted);
+/// A step of a case of a table.
+#[derive(Clone, Copy)]
+pub struct Place {
+    /// What the case shows.
+    pub shows: &'static str,
+    pub step: usize,
 }
 
-/// Whether a zone has these lines.
-pub fn has_lines<D: Disk>(zone: &Zone<D>, lines: &[&str]) -> Result<bool, Fail> {
-    let found = zone.lines()?;
-    let same = found.len() == lines.len()
-        && found
-            .iter()
-            .zip(lines)
-            .all(|(found, line)| found.as_str() == *line);
-    drop(found);
-    Ok(same)
+/// What was found at a place is what stands there.
+pub fn is<T: PartialEq>(rt: &impl Abort, at: Place, found: &T, wanted: &T) {
+    assert!(rt; found == wanted, "{}: step {}", at.shows, at.step);
 }
 
 /// Puts a payload behind a journal's others.
@@ -91,4 +87,13 @@ pub fn journal_of(alloc: Global, payloads: &[&[u8]]) -> Result<Vec<u8>, Fail> {
     }
     journal.push(0)?;
     Ok(journal)
+}
+
+/// The version and the head of the zone on an image.
+pub fn found_in(alloc: Global, image: Bytes) -> Result<(u32, Option<Id>), Fail> {
+    let disk = MemDisk::from_image(alloc, image, Listing::new(alloc))?;
+    let zone = open(alloc, disk, LOG_LIMITS)?;
+    let found = (zone.version(), zone.head());
+    drop(zone);
+    Ok(found)
 }
