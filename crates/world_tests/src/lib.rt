@@ -3,6 +3,8 @@
 #![tactic(auto)]
 
 #[cfg(test)]
+mod cases;
+#[cfg(test)]
 mod events;
 #[cfg(test)]
 mod parts;
@@ -10,7 +12,5 @@ mod parts;
 mod plain;
 #[cfg(test)]
 mod random;
-#[cfg(test)]
-mod rows;
 #[cfg(test)]
 mod stops;

@@ -1,4 +1,4 @@
-//! Stops at each call of a log's device, and of a zone's.
+//! Stops at each call of a log's device.
 ghost use Rattle.std.specs.Prelude.{◌<◌};
 
 use crate::events::{Step, next, run};
@@ -6,21 +6,13 @@ use chain_core::Fate;
 use delta_base::Phase;
 use std::alloc::Global;
 use std::test::Fail;
-use world_core::{LogPart, World, ZonePart};
+use world_core::{LogPart, World};
 
 // How many patches the log has, if it is up.
 fn version_of(world: &World) -> Option<u32> {
     match &world.log {
         LogPart::Up(log) => Some(log.chain().version()),
         LogPart::Down(_) => None,
-    }
-}
-
-// How many patches the first zone took, if there is one and it is up.
-fn taken_of(world: &World) -> Option<u32> {
-    match world.zones.get(0) {
-        Some(ZonePart::Up(zone)) => Some(zone.version()),
-        Some(ZonePart::Down(_)) | None => None,
     }
 }
 
@@ -68,34 +60,5 @@ fn each_stop_leaves_what_was_acknowledged(rt: HostRuntime) -> Result<(), Fail> {
     for accepted in 0..10u32 {
         assert!(rt; are_left(rt.alloc(), accepted)?, "behind {accepted}");
     }
-    Ok(())
-}
-
-// A zone stops in this phase of taking the first patch, and is opened again: how many patches
-// it has then.
-fn taken_behind(alloc: Global, phase: Phase, opened: bool) -> Result<Option<u32>, Fail> {
-    let taking = Step::Deliver {
-        message: 1,
-        fate: Fate::Stops { phase, opened },
-    };
-    let served = Step::Serve { version: 1 };
-    let steps = [
-        next(1, Fate::Done),
-        served,
-        Step::NewZone,
-        taking,
-        Step::ZoneOpen,
-    ];
-    let world = run(alloc, &steps)?;
-    let taken = taken_of(&world);
-    drop(world);
-    Ok(taken)
-}
-
-#[test]
-fn a_zone_that_stops_has_the_patch_or_not(rt: HostRuntime) -> Result<(), Fail> {
-    assert!(rt; taken_behind(rt.alloc(), Phase::Body, true)? == Some(0));
-    assert!(rt; taken_behind(rt.alloc(), Phase::Gate, false)? == Some(0));
-    assert!(rt; taken_behind(rt.alloc(), Phase::Gate, true)? == Some(1));
     Ok(())
 }
