@@ -21,7 +21,7 @@ pub(crate) const LIMITS: LogLimits = LogLimits {
 const EMPTY: &[u8] = b"RDJ1\0\0\x03\xe8\0";
 
 /// Five patches, each behind the one before it.
-pub(crate) static PATCHES: [&[u8]; 5] = [
+static PATCHES: [&[u8]; 5] = [
     b"H id <uuid:00000000-0000-4000-8000-000000000001> .\nTX .\nA <http://e/s> <http://e/p> <http://e/o> .\nTC .\n",
     b"H id <uuid:00000000-0000-4000-8000-000000000002> .\nH prev <uuid:00000000-0000-4000-8000-000000000001> .\nA <http://e/s> <http://e/p> <http://e/o2> .\n",
     b"H id <uuid:00000000-0000-4000-8000-000000000003> .\nH prev <uuid:00000000-0000-4000-8000-000000000002> .\nD <http://e/s> <http://e/p> <http://e/o> .\n",
@@ -30,7 +30,7 @@ pub(crate) static PATCHES: [&[u8]; 5] = [
 ];
 
 /// What the log's call is answered with by a log of so many of them; 0 stands for a log of none.
-pub(crate) static INFOS: [&[u8]; 6] = [
+static INFOS: [&[u8]; 6] = [
     b"{\"head\":null,\"version\":0}",
     b"{\"head\":\"00000000-0000-4000-8000-000000000001\",\"version\":1}",
     b"{\"head\":\"00000000-0000-4000-8000-000000000002\",\"version\":2}",
@@ -43,72 +43,113 @@ pub(crate) static INFOS: [&[u8]; 6] = [
 pub(crate) const LOG_ASKED: &[u8] =
     b"POST /$/rpc HTTP/1.1\r\nHost: e:80\r\nContent-Type: application/json\r\nContent-Length: 32\r\n\r\n{\"name\":\"ABC\",\"operation\":\"log\"}";
 
-/// Texts one behind another.
-pub(crate) fn joined(alloc: Global, texts: &[&[u8]]) -> Result<Vec<u8>, OutOfMemory> {
-    let mut all = Vec::new(alloc);
-    for text in texts {
-        all.extend_from_slice(text)?;
-    }
-    Ok(all)
+/// A reply of a peer.
+#[derive(Clone, Copy)]
+pub(crate) enum Reply {
+    /// The answer to the log's call by a log of so many patches.
+    Log(usize),
+    /// That answer, behind which the connection closes.
+    LastLog(usize),
+    /// The patch of this number.
+    Patch(usize),
+    /// Another text in the place of a patch.
+    Text(&'static [u8]),
+    /// JSON with this status.
+    Json(&'static str, &'static [u8]),
+    /// Other bytes.
+    Bytes(&'static [u8]),
 }
 
-/// A reply with this status, fields and body.
-pub(crate) fn reply(
+const OK: &str = "200 OK";
+
+const JSON: &str = "Content-Type: application/json\r\n";
+
+/// Adds a reply with this status, fields and body.
+fn add_reply(
     alloc: Global,
-    status: &str,
-    fields: &str,
+    all: &mut Vec<u8>,
+    (status, fields): (&str, &str),
     body: &[u8],
-) -> Result<Vec<u8>, OutOfMemory> {
+) -> Result<(), OutOfMemory> {
     let head = format!(in alloc;
         "HTTP/1.1 {status}\r\n{fields}Content-Length: {}\r\n\r\n",
         body.len()
     )?;
-    let mut text = head.into_bytes();
-    text.extend_from_slice(body)?;
-    Ok(text)
+    all.extend_from_slice(head.as_bytes())?;
+    drop(head);
+    all.extend_from_slice(body)?;
+    Ok(())
 }
 
-/// The answer with this JSON.
-pub(crate) fn json(alloc: Global, status: &str, body: &[u8]) -> Result<Vec<u8>, OutOfMemory> {
-    reply(alloc, status, "Content-Type: application/json\r\n", body)
+fn info(version: usize) -> &'static [u8] {
+    INFOS.get(version).copied().unwrap_or(b"")
 }
 
-/// The answer with a patch.
-pub(crate) fn patch(alloc: Global, text: &[u8]) -> Result<Vec<u8>, OutOfMemory> {
-    reply(
-        alloc,
-        "200 OK",
-        "Content-Type: application/rdf-patch\r\n",
-        text,
-    )
+fn text(number: usize) -> &'static [u8] {
+    PATCHES.get(number.wrapping_sub(1)).copied().unwrap_or(b"")
 }
 
-/// The answer to the log's call, and then these patches.
-pub(crate) fn log_and(alloc: Global, info: &[u8], texts: &[&[u8]]) -> Result<Vec<u8>, OutOfMemory> {
-    let mut all = json(alloc, "200 OK", info)?;
-    for text in texts {
-        let next = patch(alloc, text)?;
-        all.extend_from_slice(&next)?;
-        drop(next);
+fn add(alloc: Global, all: &mut Vec<u8>, reply: &Reply) -> Result<(), OutOfMemory> {
+    let last = "Connection: close\r\nContent-Type: application/json\r\n";
+    let patch = "Content-Type: application/rdf-patch\r\n";
+    match reply {
+        Reply::Log(version) => add_reply(alloc, all, (OK, JSON), info(*version)),
+        Reply::LastLog(version) => add_reply(alloc, all, (OK, last), info(*version)),
+        Reply::Patch(number) => add_reply(alloc, all, (OK, patch), text(*number)),
+        Reply::Text(body) => add_reply(alloc, all, (OK, patch), body),
+        Reply::Json(status, body) => add_reply(alloc, all, (*status, JSON), body),
+        Reply::Bytes(bytes) => Ok(all.extend_from_slice(bytes)?),
+    }
+}
+
+/// Replies one behind another.
+fn joined(alloc: Global, replies: &[Reply]) -> Result<Vec<u8>, OutOfMemory> {
+    let mut all = Vec::new(alloc);
+    for reply in replies {
+        add(alloc, &mut all, reply)?;
     }
     Ok(all)
 }
 
-/// Numbers of calls.
-pub(crate) fn calls(alloc: Global, numbers: &[u64]) -> Result<Calls, OutOfMemory> {
-    Ok(Listing::from_vec(Vec::from_slice(alloc, numbers)?))
+/// The first bytes, so many less than there are.
+fn front(bytes: &[u8], less: usize) -> &[u8] {
+    &bytes[..bytes.len().saturating_sub(less)]
 }
 
-/// A dial whose connections give these texts, and whose calls of these numbers fail.
+/// Adds a link that gives these replies, less so many bytes at the end.
+fn add_link(
+    alloc: Global,
+    links: &mut Vec<MemLink>,
+    replies: &[Reply],
+    less: usize,
+) -> Result<(), OutOfMemory> {
+    let bytes = joined(alloc, replies)?;
+    let content = Bytes::from_slice(alloc, front(&bytes, less))?;
+    links.push(MemLink::new(alloc, content, 8_192, Calls::new(alloc)))?;
+    Ok(())
+}
+
+fn add_links(
+    alloc: Global,
+    links: &mut Vec<MemLink>,
+    texts: &[&[Reply]],
+    less: usize,
+) -> Result<(), OutOfMemory> {
+    for replies in texts {
+        add_link(alloc, links, replies, less)?;
+    }
+    Ok(())
+}
+
+/// A dial whose connections give these replies, less so many bytes at the end of each.
 pub(crate) fn dial_of(
     alloc: Global,
-    texts: &[&[u8]],
-    failing: &[u64],
+    texts: &[&[Reply]],
+    less: usize,
 ) -> Result<MemDial<MemLink>, OutOfMemory> {
-    let failing = calls(alloc, failing)?;
     let mut links = Vec::new(alloc);
-    match add_links(alloc, &mut links, texts) {
-        Ok(()) => MemDial::new(alloc, links, failing),
+    match add_links(alloc, &mut links, texts, less) {
+        Ok(()) => MemDial::new(alloc, links, Calls::new(alloc)),
         Err(fault) => {
             drop(links);
             Err(fault)
@@ -116,13 +157,9 @@ pub(crate) fn dial_of(
     }
 }
 
-/// Adds links that give these texts.
-fn add_links(alloc: Global, links: &mut Vec<MemLink>, texts: &[&[u8]]) -> Result<(), OutOfMemory> {
-    for text in texts {
-        let content = Bytes::from_slice(alloc, text)?;
-        links.push(MemLink::new(alloc, content, 8_192, Calls::new(alloc)))?;
-    }
-    Ok(())
+/// Numbers of calls.
+fn calls(alloc: Global, numbers: &[u64]) -> Result<Calls, OutOfMemory> {
+    Ok(Listing::from_vec(Vec::from_slice(alloc, numbers)?))
 }
 
 /// A zone that took nothing, on a disk whose calls of these numbers fail; none where one of them is

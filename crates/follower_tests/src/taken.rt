@@ -1,8 +1,5 @@
 //! What a zone has taken, what was asked, over which connections, and what failing calls leave.
-use crate::peers::{
-    INFOS, LOG_ASKED, PATCHES, caught_up, dial_of, joined, log_and, new_zone, patch, reply,
-    synced_in_short, zone_at,
-};
+use crate::peers::{LOG_ASKED, Reply, caught_up, dial_of, new_zone, synced_in_short, zone_at};
 use delta_base::{MemLink, OutOfMemory, Text};
 use delta_client::{Dial, MemDial};
 use disk_model::MemDisk;
@@ -16,105 +13,134 @@ use zone_state::Zone;
 const LINES: &[u8] =
     b"<http://e/s> <http://e/p> \"5\" .\n<http://e/s> <http://e/p> <http://e/o2> .\n";
 
-/// The requests for the patches 3 to 5.
-static FETCHES: [&[u8]; 3] = [
-    b"GET /ABC/3 HTTP/1.1\r\nHost: e:80\r\n\r\n",
-    b"GET /ABC/4 HTTP/1.1\r\nHost: e:80\r\n\r\n",
-    b"GET /ABC/5 HTTP/1.1\r\nHost: e:80\r\n\r\n",
+/// The answers of a log of all five patches to a zone that has none.
+static ALL: [Reply; 6] = [
+    Reply::Log(5),
+    Reply::Patch(1),
+    Reply::Patch(2),
+    Reply::Patch(3),
+    Reply::Patch(4),
+    Reply::Patch(5),
 ];
 
-/// On these connections this was sent.
-fn are_asked<R: Abort>(rt: &R, links: &[MemLink], asked: &[&[u8]]) {
-    assert!(rt; links.len() == asked.len());
-    for (link, text) in links.iter().zip(asked) {
-        assert!(rt; link.sent() == *text);
-    }
+/// The requests for the patches 3 to 5.
+const FETCH3: &[u8] = b"GET /ABC/3 HTTP/1.1\r\nHost: e:80\r\n\r\n";
+
+const FETCH4: &[u8] = b"GET /ABC/4 HTTP/1.1\r\nHost: e:80\r\n\r\n";
+
+const FETCH5: &[u8] = b"GET /ABC/5 HTTP/1.1\r\nHost: e:80\r\n\r\n";
+
+/// What a zone at version 2 reads on its connections, how it ends, what it asked on each of them,
+/// and how many of its tries to connect failed.
+struct Row {
+    shows: &'static str,
+    links: &'static [&'static [Reply]],
+    end: &'static str,
+    asked: &'static [&'static [&'static [u8]]],
+    tries: u64,
+    faults: u64,
 }
 
-/// A zone at version 2 catches up over a dial, and asks these on its connections.
-fn catches_up<R: Abort>(
-    rt: &R,
+static ROWS: [Row; 3] = [
+    Row {
+        shows: "one connection serves all calls",
+        links: &[&[
+            Reply::Log(5),
+            Reply::Patch(3),
+            Reply::Patch(4),
+            Reply::Patch(5),
+        ]],
+        end: "CaughtUp",
+        asked: &[&[LOG_ASKED, FETCH3, FETCH4, FETCH5]],
+        tries: 1,
+        faults: 0,
+    },
+    Row {
+        shows: "a reply that closes is followed by another connection",
+        links: &[&[Reply::LastLog(3)], &[Reply::Patch(3)]],
+        end: "CaughtUp",
+        asked: &[&[LOG_ASKED], &[FETCH3]],
+        tries: 2,
+        faults: 0,
+    },
+    Row {
+        shows: "a connect that fails is told",
+        links: &[],
+        end: "LinkFault",
+        asked: &[],
+        tries: 1,
+        faults: 1,
+    },
+];
+
+/// Whether these texts were sent one behind another.
+fn is_sent(sent: &[u8], texts: &[&[u8]]) -> bool {
+    let mut rest = sent;
+    for text in texts {
+        match rest.strip_prefix(*text) {
+            Some(behind) => rest = behind,
+            None => return false,
+        }
+    }
+    rest.is_empty()
+}
+
+/// On these connections this was sent.
+fn are_asked(links: &[MemLink], asked: &[&[&[u8]]]) -> bool {
+    links.len() == asked.len()
+        && links
+            .iter()
+            .zip(asked)
+            .all(|(link, texts)| is_sent(link.sent(), texts))
+}
+
+fn catches_up(
+    rt: &impl Abort,
     alloc: Global,
     net: &mut MemDial<MemLink>,
-    asked: &[&[u8]],
+    row: &Row,
 ) -> Result<(), Fail> {
     let (told, _) = caught_up(alloc, 2, net)?;
-    assert!(rt; told.0 == "CaughtUp");
-    assert!(rt; net.tries() == asked.len() as u64);
-    assert!(rt; net.faults() == 0);
-    are_asked(rt, net.back(), asked);
+    assert!(rt; told.0 == row.end, "{}: {}", row.shows, told.0);
+    assert!(rt;
+        net.tries() == row.tries && net.faults() == row.faults,
+        "{}",
+        row.shows
+    );
+    assert!(rt; are_asked(net.back(), row.asked), "{}", row.shows);
     Ok(())
 }
 
-/// A zone at version 2 catches up over connections that give these texts, and asks these on them.
-fn catches_up_over<R: Abort>(
-    rt: &R,
-    alloc: Global,
-    replies: &[&[u8]],
-    asked: &[&[u8]],
-) -> Result<(), Fail> {
-    let mut net = dial_of(alloc, replies, &[])?;
-    let told = catches_up(rt, alloc, &mut net, asked);
+fn dials(rt: &impl Abort, alloc: Global, row: &Row) -> Result<(), Fail> {
+    let mut net = dial_of(alloc, row.links, 0)?;
+    let told = catches_up(rt, alloc, &mut net, row);
     drop(net);
     told
 }
 
 #[test]
-fn one_connection_serves_all_calls(rt: HostRuntime) -> Result<(), Fail> {
-    let alloc = rt.alloc();
-    let bytes = log_and(alloc, INFOS[5], &PATCHES[2..])?;
-    let asked = joined(alloc, &[LOG_ASKED, FETCHES[0], FETCHES[1], FETCHES[2]])?;
-    catches_up_over(&rt, alloc, &[&bytes], &[&asked])
-}
-
-#[test]
-fn a_reply_that_closes_is_followed_by_another_connection(rt: HostRuntime) -> Result<(), Fail> {
-    let alloc = rt.alloc();
-    let fields = "Connection: close\r\nContent-Type: application/json\r\n";
-    let first = reply(alloc, "200 OK", fields, INFOS[3])?;
-    let second = patch(alloc, PATCHES[2])?;
-    catches_up_over(&rt, alloc, &[&first, &second], &[LOG_ASKED, FETCHES[0]])
-}
-
-#[test]
-fn a_connect_that_fails_is_told(rt: HostRuntime) -> Result<(), Fail> {
-    let alloc = rt.alloc();
-    let mut net = dial_of(alloc, &[], &[])?;
-    let ended = caught_up(alloc, 2, &mut net);
-    let (tries, faults) = (net.tries(), net.faults());
-    drop(net);
-    let (told, _) = ended?;
-    assert!(rt; told.0 == "LinkFault");
-    assert!(rt; tries == 1 && faults == 1);
+fn what_is_asked_over_which_connections(rt: HostRuntime) -> Result<(), Fail> {
+    for row in &ROWS {
+        dials(&rt, rt.alloc(), row)?;
+    }
     Ok(())
 }
 
-/// A zone catches up over a connection that gives these bytes.
-fn reads(alloc: Global, zone: &mut Zone<MemDisk>, bytes: &[u8]) -> Result<(), OutOfMemory> {
-    let mut net = dial_of(alloc, &[bytes], &[])?;
-    let told = synced_in_short(alloc, &mut net, zone);
-    drop(net);
-    told?;
-    Ok(())
-}
-
-/// The lines of a zone's dataset behind that.
-fn reads_lines(
-    alloc: Global,
-    zone: &mut Zone<MemDisk>,
-    bytes: &[u8],
-) -> Result<BTreeSet<Text>, Fail> {
-    reads(alloc, zone, bytes)?;
-    Ok(zone.lines()?)
-}
-
-/// The lines of a zone's dataset, which takes this version of the log over a connection that
-/// gives these bytes.
-fn lines_behind(alloc: Global, mine: usize, bytes: &[u8]) -> Result<BTreeSet<Text>, Fail> {
-    let mut zone = zone_at(alloc, mine)?;
-    let lines = reads_lines(alloc, &mut zone, bytes);
+/// The lines of a new zone that caught up over a dial.
+fn lines_behind(alloc: Global, net: &mut MemDial<MemLink>) -> Result<BTreeSet<Text>, Fail> {
+    let mut zone = zone_at(alloc, 0)?;
+    let lines = reads_lines(alloc, net, &mut zone);
     drop(zone);
     lines
+}
+
+fn reads_lines(
+    alloc: Global,
+    net: &mut MemDial<MemLink>,
+    zone: &mut Zone<MemDisk>,
+) -> Result<BTreeSet<Text>, Fail> {
+    synced_in_short(alloc, net, zone)?;
+    Ok(zone.lines()?)
 }
 
 /// Lines one behind another.
@@ -129,9 +155,10 @@ fn joined_lines(alloc: Global, lines: &BTreeSet<Text>) -> Result<Vec<u8>, OutOfM
 #[test]
 fn a_zone_that_caught_up_has_the_dataset_of_the_log(rt: HostRuntime) -> Result<(), Fail> {
     let alloc = rt.alloc();
-    let bytes = log_and(alloc, INFOS[5], &PATCHES)?;
-    let lines = lines_behind(alloc, 0, &bytes)?;
-    drop(bytes);
+    let mut net = dial_of(alloc, &[&ALL], 0)?;
+    let lines = lines_behind(alloc, &mut net);
+    drop(net);
+    let lines = lines?;
     let found = joined_lines(alloc, &lines);
     drop(lines);
     assert!(rt; found?.as_slice() == LINES);
@@ -157,13 +184,8 @@ fn told_behind(
 }
 
 /// A disk that fails at this call is told with its fault, and the zone then has not taken all.
-fn tells_a_fault_at<R: Abort>(
-    rt: &R,
-    alloc: Global,
-    bytes: &[u8],
-    number: u64,
-) -> Result<(), OutOfMemory> {
-    let mut net = dial_of(alloc, &[bytes], &[])?;
+fn tells_a_fault_at<R: Abort>(rt: &R, alloc: Global, number: u64) -> Result<(), OutOfMemory> {
+    let mut net = dial_of(alloc, &[&ALL], 0)?;
     let told = told_behind(alloc, &mut net, number);
     drop(net);
     if let Some((name, version, faults)) = told? {
@@ -183,10 +205,8 @@ fn tells_its_fault<R: Abort>(rt: &R, name: &str, version: u32, faults: u64) {
 
 #[test]
 fn a_disk_that_fails_is_told(rt: HostRuntime) -> Result<(), Fail> {
-    let alloc = rt.alloc();
-    let bytes = log_and(alloc, INFOS[5], &PATCHES)?;
     for number in 0..40 {
-        tells_a_fault_at(&rt, alloc, &bytes, number)?;
+        tells_a_fault_at(&rt, rt.alloc(), number)?;
     }
     Ok(())
 }
@@ -213,9 +233,8 @@ fn is_want<R: Abort>(rt: &R, name: &str, faults: u64, version: u32) {
 #[test]
 fn want_of_memory_is_told(rt: HostRuntime) -> Result<(), Fail> {
     let alloc = rt.alloc();
-    let bytes = log_and(alloc, INFOS[3], &PATCHES[2..3])?;
-    let mut net = dial_of(alloc, &[&bytes], &[])?;
-    drop(bytes);
+    let replies = [Reply::Log(3), Reply::Patch(3)];
+    let mut net = dial_of(alloc, &[&replies], 0)?;
     let told = tells_want(&rt, alloc, &mut net);
     drop(net);
     told
