@@ -197,30 +197,53 @@ fn has(disk: &MemDisk, bytes: &[u8]) -> bool {
     }
 }
 
+// Writes words and a number.
+fn tell(words: &[u8], number: u64, answer: &mut Answer) {
+    answer.push(words);
+    let _ = write!(answer, "{number}");
+}
+
+// Writes what is wrong with files.
+fn tell_fault(fault: HallFault, answer: &mut Answer) {
+    match fault {
+        HallFault::DiskFault => answer.push(b"disk fault"),
+        HallFault::Damaged { file, at } => {
+            tell(b"file ", u64::from(file), answer);
+            tell(b": damaged at ", at, answer);
+        }
+        HallFault::WrongNumber { file, found } => {
+            tell(b"file ", u64::from(file), answer);
+            tell(b": wrong number ", u64::from(found), answer);
+        }
+        HallFault::OverLimit {
+            file,
+            length,
+            limit,
+        } => {
+            tell(b"file ", u64::from(file), answer);
+            tell(b": length ", length, answer);
+            tell(b" over ", limit, answer);
+        }
+        HallFault::BrokenChain { file, version } => {
+            tell(b"file ", u64::from(file), answer);
+            tell(b": broken chain at version ", version, answer);
+        }
+        HallFault::BrokenEvent { place } => tell(b"broken event ", place, answer),
+        HallFault::WrongCount { disks, slots } => {
+            tell(b"", disks, answer);
+            tell(b" files for ", u64::from(slots), answer);
+            answer.push(b" slots");
+        }
+        HallFault::OutOfMemory => answer.push(b"out of memory"),
+    }
+}
+
 // Writes why no hall was opened.
 fn tell_refusal(refusal: &HallRefusal<MemDisk>, files: &[Vec<u8>], answer: &mut Answer) {
     if !are_back(&refusal.disks, files) {
         answer.push(b"other files than before, ");
     }
-    let _ = match refusal.fault {
-        HallFault::DiskFault => write!(answer, "disk fault"),
-        HallFault::Damaged { file, at } => write!(answer, "file {file}: damaged at {at}"),
-        HallFault::WrongNumber { file, found } => write!(
-            answer,
-            "file {file}: wrong number {found}"
-        ),
-        HallFault::OverLimit {
-            file,
-            length,
-            limit,
-        } => { write!(answer, "file {file}: length {length} over {limit}") }
-        HallFault::BrokenChain { file, version } => {
-            write!(answer, "file {file}: broken chain at version {version}")
-        }
-        HallFault::BrokenEvent { place } => write!(answer, "broken event {place}"),
-        HallFault::WrongCount { disks, slots } => write!(answer, "{disks} files for {slots} slots"),
-        HallFault::OutOfMemory => write!(answer, "out of memory"),
-    };
+    tell_fault(refusal.fault, answer);
 }
 
 // The file of the first log with so many patches.

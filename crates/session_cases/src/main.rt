@@ -26,12 +26,11 @@ enum Command {
     Request,
     Talk,
     Break,
-    Keep,
     Pieces,
     Cuts,
 }
 
-const COMMANDS: [(&str, Command); 12] = [
+const COMMANDS: [(&str, Command); 11] = [
     ("failing", Command::Failing),
     ("hall", Command::Hall),
     ("filled", Command::Filled),
@@ -41,7 +40,6 @@ const COMMANDS: [(&str, Command); 12] = [
     ("request", Command::Request),
     ("talk", Command::Talk),
     ("break", Command::Break),
-    ("keep", Command::Keep),
     ("pieces", Command::Pieces),
     ("cuts", Command::Cuts),
 ];
@@ -75,7 +73,6 @@ impl<'a, R: Wait> Layer for Stage<'a, R> {
             Some(Command::Request) => self.request(words, answer),
             Some(Command::Talk) => self.talk(words, answer),
             Some(Command::Break) => self.talk_breaking(words, answer),
-            Some(Command::Keep) => self.keep(words, answer),
             Some(Command::Pieces) => self.talk_alike(words, false, answer),
             Some(Command::Cuts) => self.talk_alike(words, true, answer),
             None => answer.push(b"no such command"),

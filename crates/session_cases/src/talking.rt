@@ -1,7 +1,6 @@
 //! What is said to the hall over links in memory.
 use crate::Stage;
 use crate::framing::{request_of, tell_reply};
-use bstr::ByteSlice;
 use case_scripts::{Answer, Words};
 use delta_base::{Bytes, Link, Listing, MemLink, OutOfMemory};
 use http_text::SessionEnd;
@@ -84,30 +83,6 @@ impl<'a, R: Wait> Stage<'a, R> {
         );
     }
 
-    /// `keep TEXT SENT FETCH FETCHED`: `kept` where this was sent, and is then to be fetched. Where memory runs out,
-    /// the session says so or ends so.
-    pub(crate) fn keep(&mut self, words: &Words, answer: &mut Answer) {
-        let Ok(talk) = self.talk_over(0, words.bytes(1), PIECE, None) else {
-            return answer.push(b"kept");
-        };
-        if talk.sent.as_slice() != words.bytes(2) {
-            let is_told = talk.faults > 0 || self.has_faults() || tells_want(&talk);
-            return answer.push(if is_told { b"kept" } else { b"silent" });
-        }
-        match self.talk_over(1, words.bytes(3), PIECE, None) {
-            Ok(fetch) if fetch.sent.as_slice() == words.bytes(4) => answer.push(b"kept"),
-            _ => answer.push(b"lost"),
-        }
-    }
-
-    // Whether a disk has failed in a call of the first pass; one that finds no memory fails.
-    fn has_faults(&self) -> bool {
-        match &self.hall {
-            Some(hall) => hall.own_faults(0) > 0,
-            None => false,
-        }
-    }
-
     // Talks so to a hall that is opened anew.
     fn talk_anew(&mut self, text: &[u8], piece: usize) -> Result<Talk, OutOfMemory> {
         match self.open_anew() {
@@ -139,15 +114,6 @@ impl<'a, R: Wait> Stage<'a, R> {
         }
         tell_talk(first, answer);
     }
-}
-
-// Whether a session said that memory was wanting, or ended so.
-fn tells_want(talk: &Talk) -> bool {
-    talk.end == SessionEnd::OutOfMemory
-        || talk
-            .sent
-            .as_slice()
-            .contains_str(b"HTTP/1.1 503 Service Unavailable\r\n")
 }
 
 // Whether two talks ended alike, and the same was sent.
