@@ -1,7 +1,7 @@
 //! Fills a new journal.
 ghost use Rattle.std.specs.Prelude.{◌≡◌, ℕ, ◌+◌, ◌*◌, ◌++◌, ◌<◌, ◌≤◌, ◌^◌, [], List, Some};
 ghost use Rattle.std.specs.Prelude.{false, length, replicate, IsTrue, IfOk, OnOk, IsErrOf};
-ghost use Rattle.delta_base.specs.declared.limits.TheConstants.{PAYLOAD_FRAME};
+ghost use Rattle.log_base.specs.declared.limits.TheConstants.{PAYLOAD_FRAME};
 ghost use Rattle.delta_base.specs.Outside.{Rose};
 ghost use Rattle.disk_model.specs.Past.{reads};
 ghost use Rattle.disk_model.specs.Shelf.{SameOthers};

@@ -3,10 +3,10 @@ use Rattle.std.proofs.Common.{◌≡◌, ◌≢◌, ℕ, zero, suc, ◌^◌, ◌
 use Rattle.std.specs.List.{AllByRecursion}
 use Rattle.std.proofs.lemmas.List.{map-append, take-map, take_at}
 use Rattle.delta_base.specs.declared.id.Id.{Id}
-use Rattle.delta_base.specs.declared.limits.TheConstants.{PATCH_LIMIT}
+use Rattle.log_base.specs.declared.limits.TheConstants.{PATCH_LIMIT}
 use Rattle.chain_core.specs.declared.chain.Patch.{Patch}
 use Rattle.chain_core.specs.declared.chain.Entry.{Entry}
-use Rattle.chain_core.specs.declared.link.Link.{Link}
+use Rattle.log_base.specs.declared.chain_link.ChainLink.{ChainLink}
 use Rattle.chain_core.specs.Links.{Follow, AllDiffer, IsChain, last_or}
 use Rattle.chain_core.specs.Chain.{IsBoundedChain}
 use Rattle.chain_core.specs.Patches.{patches_of, links_of, version_of, last_id}
@@ -14,25 +14,25 @@ use Rattle.chain_core.proofs.Versions.{link_to, ids, new_behind, links_of-entrie
 
 -- ---- the first patches of a chain
 
-follow-take : (head : Option Id) (ls : List Link) (n : ℕ) → Follow head ls → Follow head (take n ls)
+follow-take : (head : Option Id) (ls : List ChainLink) (n : ℕ) → Follow head ls → Follow head (take n ls)
 follow-take head [] zero follow = tt
 follow-take head [] (suc n) follow = tt
 follow-take head (l ∷ ls) zero follow = tt
 follow-take head (l ∷ ls) (suc n) follow = (follow.0, follow-take (Some l.id) ls n follow.1)
 
-all-take : (P : Id → Type 0) (ls : List Link) (n : ℕ) → AllByRecursion P (ids ls) → AllByRecursion P (ids (take n ls))
+all-take : (P : Id → Type 0) (ls : List ChainLink) (n : ℕ) → AllByRecursion P (ids ls) → AllByRecursion P (ids (take n ls))
 all-take P [] zero all = tt
 all-take P [] (suc n) all = tt
 all-take P (l ∷ ls) zero all = tt
 all-take P (l ∷ ls) (suc n) all = (all.0, all-take P ls n all.1)
 
-differ-take : (ls : List Link) (n : ℕ) → AllDiffer (ids ls) → AllDiffer (ids (take n ls))
+differ-take : (ls : List ChainLink) (n : ℕ) → AllDiffer (ids ls) → AllDiffer (ids (take n ls))
 differ-take [] zero differ = tt
 differ-take [] (suc n) differ = tt
 differ-take (l ∷ ls) zero differ = tt
 differ-take (l ∷ ls) (suc n) differ = (all-take (λ j. j ≢ l.id) ls n differ.0, differ-take ls n differ.1)
 
-pub chain-take : (ls : List Link) (n : ℕ) → IsChain ls → IsChain (take n ls)
+pub chain-take : (ls : List ChainLink) (n : ℕ) → IsChain ls → IsChain (take n ls)
 chain-take ls n chain = record { follow = follow-take None ls n chain.follow; differ = differ-take ls n chain.differ }
 
 pub links-take : (patches : List Patch) (n : ℕ) → IsChain (links_of patches) → IsChain (links_of (take n patches))
@@ -40,7 +40,7 @@ links-take patches n chain = subst IsChain (take-map link_to n patches) (chain-t
 
 -- ---- a chain without its last patch
 
-pub last_follows : (head : Option Id) (ls : List Link) (l : Link) → Follow head (ls ++ l ∷ []) → l.prev ≡ last_or head ls
+pub last_follows : (head : Option Id) (ls : List ChainLink) (l : ChainLink) → Follow head (ls ++ l ∷ []) → l.prev ≡ last_or head ls
 last_follows head [] l follow = follow.0
 last_follows head (x ∷ ls) l follow = last_follows (Some x.id) ls l follow.1
 

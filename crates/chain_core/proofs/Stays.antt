@@ -2,10 +2,10 @@
 use Rattle.std.proofs.Common.{◌≡◌, ℕ, ◌≤◌, Bool, true, false, cond, List, [], ◌∷◌, ◌++◌, length, Option, Some, None, refl, sym, subst, arith, length-append}
 use Rattle.std.specs.List.{AllByRecursion}
 use Rattle.std.proofs.lemmas.List.{map-append}
-use Rattle.delta_base.specs.declared.limits.TheConstants.{PATCH_LIMIT}
+use Rattle.log_base.specs.declared.limits.TheConstants.{PATCH_LIMIT}
 use Rattle.chain_core.specs.declared.chain.Patch.{Patch}
-use Rattle.delta_base.specs.declared.limits.LogLimits.{LogLimits}
-use Rattle.delta_base.specs.declared.phase.Phase.TheVariants.{Settling, Body, Gate}
+use Rattle.log_base.specs.declared.limits.LogLimits.{LogLimits}
+use Rattle.log_base.specs.declared.phase.Phase.TheVariants.{Settling, Body, Gate}
 use Rattle.chain_core.specs.declared.fate.Fate.{Fate}
 use Rattle.chain_core.specs.declared.fate.Fate.TheVariants.{Done, Fails, Stops}
 use Rattle.chain_core.specs.declared.answer.Decision.{Decision}

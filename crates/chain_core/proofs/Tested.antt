@@ -7,7 +7,7 @@ use Rattle.std.proofs.Math.Seq.{get_or-append_seam, take-append-add}
 use Rattle.std.proofs.lemmas.List.{take_at, take-append-le}
 use Rattle.std.proofs.lemmas.Option.{none-some, slice_get_read}
 use Rattle.delta_base.specs.declared.id.Id.{Id}
-use Rattle.chain_core.specs.declared.link.Link.{Link}
+use Rattle.log_base.specs.declared.chain_link.ChainLink.{ChainLink}
 use Rattle.chain_core.specs.declared.testing.ChainTest.{ChainTest}
 use Rattle.chain_core.specs.Links.{IsChain, last_or, version_in}
 use Rattle.chain_core.specs.Breaks.{BreaksAt, DivergesAt, RepeatsAt}
@@ -16,30 +16,30 @@ use Rattle.chain_core.proofs.Chained.{version_more, chain-push, last_or-push}
 use Rattle.chain_core.proofs.Fronts.{chain-take, last_follows}
 use Rattle.chain_core.proofs.Versions.{new_behind}
 
-abbrev prev_of : Link → Option Id
+abbrev prev_of : ChainLink → Option Id
 prev_of l = l.prev
 
-abbrev id_of : Link → Id
+abbrev id_of : ChainLink → Id
 id_of l = l.id
 
 -- ---- the patch behind the chain
 
-behind : (ls more : List Link) (x : Link) → slice_get (ls ++ x ∷ more) (length ls) ≡ Some x
+behind : (ls more : List ChainLink) (x : ChainLink) → slice_get (ls ++ x ∷ more) (length ls) ≡ Some x
 behind ls more x =
     slice_get_read (ls ++ x ∷ more) (length (ls ++ x ∷ more)) (length ls) x refl (omega (arith, length-append ls (x ∷ more))) (sym (get_or-append_seam ls x more x))
 
-before : (ls more : List Link) (x : Link) → take (length ls) (ls ++ x ∷ more) ≡ ls
+before : (ls more : List ChainLink) (x : ChainLink) → take (length ls) (ls ++ x ∷ more) ≡ ls
 before ls more x = take_at ls (x ∷ more) (length ls) refl
 
 -- with it they are no chain
-breaks_behind : (ls more : List Link) (x : Link) → IsChain ls → (IsChain (ls ++ x ∷ []) → ⊥) → BreaksAt IsChain (ls ++ x ∷ more) (length ls + 1)
+breaks_behind : (ls more : List ChainLink) (x : ChainLink) → IsChain ls → (IsChain (ls ++ x ∷ []) → ⊥) → BreaksAt IsChain (ls ++ x ∷ more) (length ls + 1)
 breaks_behind ls more x chain none = record {
   within = omega (arith, length-append ls (x ∷ more));
   so_before = λ fewer less. subst IsChain (sym (take-append-le fewer ls (x ∷ more) (omega arith))) (chain-take ls fewer chain);
   broken = λ longer. none (subst IsChain (take-append-add ls (x ∷ more) 1) longer);
 }
 
-pub diverges : (ls more : List Link) (x : Link) (t : ChainTest) → IsTested ls t → (x.prev ≡ t.head → ⊥) → DivergesAt (ls ++ x ∷ more) t.version t.head x.prev
+pub diverges : (ls more : List ChainLink) (x : ChainLink) (t : ChainTest) → IsTested ls t → (x.prev ≡ t.head → ⊥) → DivergesAt (ls ++ x ∷ more) t.version t.head x.prev
 diverges ls more x t is differ =
     subst (λ (n : ℕ). DivergesAt (ls ++ x ∷ more) n t.head x.prev) (sym is.version_is)
     (record {
@@ -49,21 +49,21 @@ diverges ls more x t is differ =
       differ = differ;
     })
 
-pub repeats : (ls more : List Link) (x : Link) (t : ChainTest) (version : ℕ) → IsTested ls t → x.prev ≡ t.head → version_in ls x.id ≡ Some version → RepeatsAt (ls ++ x ∷ more) x.id version
+pub repeats : (ls more : List ChainLink) (x : ChainLink) (t : ChainTest) (version : ℕ) → IsTested ls t → x.prev ≡ t.head → version_in ls x.id ≡ Some version → RepeatsAt (ls ++ x ∷ more) x.id version
 repeats ls more x t version is same found = record {
   taken = length ls;
   breaks = breaks_behind ls more x is.chain (λ longer. none-some version (sym (new_behind ls x longer.differ) ∙ found));
   follows = ap (option_map prev_of) (behind ls more x) ∙ ap Some (same ∙ is.head_is ∙ ap (last_or None) (sym (before ls more x)));
   id_is = ap (option_map id_of) (behind ls more x);
-  version_is = ap (λ (front : List Link). version_in front x.id) (before ls more x) ∙ found;
+  version_is = ap (λ (front : List ChainLink). version_in front x.id) (before ls more x) ∙ found;
 }
 
-pub follows : (ls : List Link) (x : Link) (t : ChainTest) → IsTested ls t → x.prev ≡ t.head → version_in ls x.id ≡ None → IsChain (ls ++ x ∷ [])
+pub follows : (ls : List ChainLink) (x : ChainLink) (t : ChainTest) → IsTested ls t → x.prev ≡ t.head → version_in ls x.id ≡ None → IsChain (ls ++ x ∷ [])
 follows ls x t is same absent = chain-push ls x is.chain (same ∙ is.head_is) absent
 
 -- ---- one patch more
 
-pub tested_more : (ls : List Link) (x : Link) (old new : ChainTest) → IsTested ls old → IsChain (ls ++ x ∷ []) → new.version ≡ old.version + 1 → new.head ≡ Some x.id
+pub tested_more : (ls : List ChainLink) (x : ChainLink) (old new : ChainTest) → IsTested ls old → IsChain (ls ++ x ∷ []) → new.version ≡ old.version + 1 → new.head ≡ Some x.id
     → ((q : ℕ) → get nat_eq new.versions q ≡ cond (nat_eq x.id.0 q) (Some (old.version + 1)) (get nat_eq old.versions q)) → IsTested (ls ++ x ∷ []) new
 tested_more ls x old new is chain version head updates = record {
   chain = chain;

@@ -3,7 +3,7 @@ use Rattle.std.specs.Prelude.{◌≡◌, ◌≢◌, ℕ, ◌+◌, ◌<◌, ◌�
 use Rattle.std.specs.Prelude.{Option, None, Some, take, slice_get}
 use Rattle.std.specs.Option.{option_map}
 use Rattle.delta_base.specs.declared.id.Id.{Id}
-use Rattle.chain_core.specs.declared.link.Link.{Link}
+use Rattle.log_base.specs.declared.chain_link.ChainLink.{ChainLink}
 use Rattle.chain_core.specs.declared.testing.ChainFault.{ChainFault}
 use Rattle.chain_core.specs.declared.testing.ChainFault.TheVariants as faults
 use Rattle.chain_core.specs.Links.{IsChain, version_in}
@@ -17,7 +17,7 @@ pub record BreaksAt {T : Type 0} (IsSo : List T → Type 0) (items : List T)
   pub broken : IsSo (take count items) → ⊥
 
 -- behind so many the chain breaks: these end with one id, and the next names another
-pub record DivergesAt (ls : List Link) (version : ℕ) (have found : Option Id) : Type 0 where
+pub record DivergesAt (ls : List ChainLink) (version : ℕ) (have found : Option Id) : Type 0 where
   pub breaks : BreaksAt IsChain ls (version + 1)
   pub have_is : have ≡ last_or None (take version ls)
   pub found_is : option_map (λ l. l.prev) (slice_get ls version) ≡ Some found
@@ -25,7 +25,7 @@ pub record DivergesAt (ls : List Link) (version : ℕ) (have found : Option Id) 
 
 -- behind some the chain breaks: the next names the last of their ids, and one of them has
 -- its own id
-pub record RepeatsAt (ls : List Link) (id : Id) (version : ℕ) : Type 0 where
+pub record RepeatsAt (ls : List ChainLink) (id : Id) (version : ℕ) : Type 0 where
   pub taken : ℕ
   pub breaks : BreaksAt IsChain ls (taken + 1)
   pub follows : option_map (λ l. l.prev) (slice_get ls taken) ≡ Some (last_or None (take taken ls))
@@ -33,6 +33,6 @@ pub record RepeatsAt (ls : List Link) (id : Id) (version : ℕ) : Type 0 where
   pub version_is : version_in (take taken ls) id ≡ Some version
 
 -- what a fault says
-abbrev pub Breaks : List Link → ChainFault → Type 0
+abbrev pub Breaks : List ChainLink → ChainFault → Type 0
 Breaks ls (faults.Diverged version have found) = DivergesAt ls version have found
 Breaks ls (faults.Repeated id version) = RepeatsAt ls id version

@@ -1,12 +1,12 @@
 -- Entries of a chain.
 use Rattle.std.specs.Prelude.{◌<◌, ◌≤◌, ◌^◌, List, length, map}
 use Rattle.std.specs.List.{AllByRecursion}
-use Rattle.delta_base.specs.declared.limits.TheConstants.{PATCH_LIMIT}
+use Rattle.log_base.specs.declared.limits.TheConstants.{PATCH_LIMIT}
 use Rattle.chain_core.specs.declared.chain.Entry.{Entry}
-use Rattle.chain_core.specs.declared.link.Link.{Link}
+use Rattle.log_base.specs.declared.chain_link.ChainLink.{ChainLink}
 use Rattle.chain_core.specs.Links.{IsChain}
 
-abbrev pub entry_link : Entry → Link
+abbrev pub entry_link : Entry → ChainLink
 entry_link e = record { id = e.patch.id; prev = e.patch.prev }
 
 -- the entries are a chain of fewer than 2 ^ 32 patches, each within the limit of a patch

@@ -2,8 +2,8 @@
 use Rattle.std.specs.Prelude.{◌≤◌, List, [], ◌∷◌, ◌++◌, length}
 use Rattle.std.specs.Prelude.{Option, Some, None, Bool, if◌then◌else◌}
 use Rattle.std.specs.List.{AllByRecursion}
-use Rattle.delta_base.specs.declared.limits.LogLimits.{LogLimits}
-use Rattle.delta_base.specs.declared.limits.TheConstants.{PATCH_LIMIT}
+use Rattle.log_base.specs.declared.limits.LogLimits.{LogLimits}
+use Rattle.log_base.specs.declared.limits.TheConstants.{PATCH_LIMIT}
 use Rattle.chain_core.specs.declared.chain.Patch.{Patch}
 use Rattle.chain_core.specs.Links.{IsChain}
 use Rattle.chain_core.specs.Patches.{links_of, journal_length}

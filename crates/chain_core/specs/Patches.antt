@@ -1,10 +1,10 @@
 -- The patches of a chain, without who brought them.
 use Rattle.std.specs.Prelude.{ℕ, zero, suc, List, map, slice_get, Option, Some, None}
 use Rattle.delta_base.specs.declared.id.Id.{Id}
-use Rattle.delta_base.specs.Journals.{payloads_length}
+use Rattle.log_base.specs.Journals.{payloads_length}
 use Rattle.chain_core.specs.declared.chain.Patch.{Patch}
 use Rattle.chain_core.specs.declared.chain.Entry.{Entry}
-use Rattle.chain_core.specs.declared.link.Link.{Link}
+use Rattle.log_base.specs.declared.chain_link.ChainLink.{ChainLink}
 use Rattle.chain_core.specs.Links.{last_or, version_in}
 
 abbrev pub patch_of : Entry → Patch
@@ -13,7 +13,7 @@ patch_of entry = entry.patch
 abbrev pub patches_of : List Entry → List Patch
 patches_of entries = map patch_of entries
 
-abbrev pub links_of : List Patch → List Link
+abbrev pub links_of : List Patch → List ChainLink
 links_of patches = map (λ patch. record { id = patch.id; prev = patch.prev }) patches
 
 abbrev pub texts_of : List Patch → List (List ℕ)

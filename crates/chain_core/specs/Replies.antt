@@ -1,7 +1,7 @@
 -- What a log replies to each call, by its chain.
 use Rattle.std.specs.Prelude.{ℕ, List, length, Option, Some, None}
 use Rattle.delta_base.specs.declared.id.Id.{Id}
-use Rattle.delta_base.specs.declared.limits.LogLimits.{LogLimits}
+use Rattle.log_base.specs.declared.limits.LogLimits.{LogLimits}
 use Rattle.chain_core.specs.declared.chain.Patch.{Patch}
 use Rattle.chain_core.specs.declared.answer.LogAnswer.{LogAnswer}
 use Rattle.chain_core.specs.Patches.{version_of, patch_at, patch_named, last_id}

@@ -1,11 +1,11 @@
 -- One stay in a log's turn: what an append makes of the log.
 use Rattle.std.specs.Prelude.{◌≡◌, ℕ, ◌+◌, List, [], ◌∷◌, ◌++◌, length}
 use Rattle.std.specs.Prelude.{Option, Some, None, if◌then◌else◌}
-use Rattle.delta_base.specs.declared.limits.LogLimits.{LogLimits}
+use Rattle.log_base.specs.declared.limits.LogLimits.{LogLimits}
 use Rattle.chain_core.specs.declared.chain.Patch.{Patch}
-use Rattle.delta_base.specs.declared.phase.Phase.{Phase}
-use Rattle.delta_base.specs.declared.phase.Phase.TheVariants.{Settling, Body, Gate}
-use Rattle.delta_base.specs.Phases.{phase_by_syncs, phase_by_plan}
+use Rattle.log_base.specs.declared.phase.Phase.{Phase}
+use Rattle.log_base.specs.declared.phase.Phase.TheVariants.{Settling, Body, Gate}
+use Rattle.log_base.specs.Phases.{phase_by_syncs, phase_by_plan}
 use Rattle.chain_core.specs.declared.fate.Fate.{Fate}
 use Rattle.chain_core.specs.declared.fate.Fate.TheVariants.{Done, Fails, Stops}
 use Rattle.chain_core.specs.declared.answer.Decision.{Decision}

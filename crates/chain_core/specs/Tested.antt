@@ -2,16 +2,16 @@
 use Rattle.std.specs.Prelude.{◌≡◌, ℕ, List, None, length, nat_eq}
 use Rattle.std.specs.HashMap.{HashMap, get}
 use Rattle.delta_base.specs.declared.id.Id.{Id}
-use Rattle.chain_core.specs.declared.link.Link.{Link}
+use Rattle.log_base.specs.declared.chain_link.ChainLink.{ChainLink}
 use Rattle.chain_core.specs.declared.testing.ChainTest.{ChainTest}
 use Rattle.chain_core.specs.Links.{IsChain, last_or, version_in}
 
 -- the versions of patches by the numbers of their ids
-abbrev pub AreVersions : {S : Type 0} → HashMap ℕ ℕ S → List Link → Type 0
+abbrev pub AreVersions : {S : Type 0} → HashMap ℕ ℕ S → List ChainLink → Type 0
 AreVersions versions ls = (id : Id) → get nat_eq versions id.0 ≡ version_in ls id
 
 -- the patches are a chain, and its length, its last id and its versions are kept
-pub record IsTested (ls : List Link) (t : ChainTest) : Type 0 where
+pub record IsTested (ls : List ChainLink) (t : ChainTest) : Type 0 where
   pub chain : IsChain ls
   pub version_is : t.version ≡ length ls
   pub head_is : t.head ≡ last_or None ls

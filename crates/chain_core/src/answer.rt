@@ -1,5 +1,6 @@
 //! What is decided of a patch, and what an append answers.
-use delta_base::{FullKind, Id};
+use delta_base::Id;
+use log_base::FullKind;
 
 /// What a chain makes of one more patch.
 #[derive(Clone, Copy, Debug, PartialEq, Eq)]

@@ -1,14 +1,14 @@
 //! What a chain makes of one more patch.
 ghost use Rattle.std.specs.Prelude.{◌≡◌, ◌≤◌, length};
-ghost use Rattle.delta_base.specs.declared.limits.TheConstants.{PATCH_LIMIT};
+ghost use Rattle.log_base.specs.declared.limits.TheConstants.{PATCH_LIMIT};
 ghost use Rattle.chain_core.specs.Patches.{patches_of, version_of};
 ghost use Rattle.chain_core.specs.Decision.{decision, version_named};
 
 use crate::answer::Decision;
 use crate::chain::Chain;
-use crate::link::Link;
 use crate::lookup::Lookup;
-use delta_base::{FullKind, Id, LogLimits, PAYLOAD_FRAME};
+use delta_base::Id;
+use log_base::{ChainLink, FullKind, LogLimits, PAYLOAD_FRAME};
 
 // Where a chain has a patch's id, and the version that the patch names as the one before it.
 #[derive(Clone, Copy)]
@@ -21,7 +21,7 @@ struct Places {
 fn decide_found(
     chain: &Chain,
     limits: &LogLimits,
-    link: Link,
+    link: ChainLink,
     text: &[u8],
     places: Places,
 ) -> Decision
@@ -79,7 +79,7 @@ fn named_by<L: Lookup>(chain: &L, prev: Option<Id>) -> Option<u32>
 }
 
 /// What a chain makes of the patch with this link and text.
-pub fn decide<L: Lookup>(chain: &L, limits: &LogLimits, link: Link, text: &[u8]) -> Decision
+pub fn decide<L: Lookup>(chain: &L, limits: &LogLimits, link: ChainLink, text: &[u8]) -> Decision
     requires text { length text.now ≤ PATCH_LIMIT }
     requires few { length (L.entries chain.now) ≤ limits.now.patches }
     ensures { result ≡ decision (patches_of (L.entries chain.now))

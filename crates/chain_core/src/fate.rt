@@ -1,6 +1,6 @@
 //! What the device calls of an accepted append come to.
 
-use delta_base::Phase;
+use log_base::Phase;
 
 /// How the device calls of an append end. `opened` says whether a gate that was being written
 /// stands open after a stop.

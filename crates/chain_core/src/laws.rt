@@ -1,11 +1,11 @@
 //! Laws of chains and their faults.
 ghost use Rattle.std.specs.Prelude.{◌≡◌, ◌≤◌, List, Bool, length};
-ghost use Rattle.chain_core.specs.declared.link.Link.{Link};
+ghost use Rattle.log_base.specs.declared.chain_link.ChainLink.{ChainLink};
 ghost use Rattle.chain_core.specs.declared.testing.ChainFault.{ChainFault};
 ghost use Rattle.chain_core.specs.Links.{IsChain};
 ghost use Rattle.chain_core.specs.Breaks.{Breaks};
-ghost use Rattle.delta_base.specs.declared.limits.LogLimits.{LogLimits};
-ghost use Rattle.delta_base.specs.declared.limits.TheConstants.{PATCH_LIMIT};
+ghost use Rattle.log_base.specs.declared.limits.LogLimits.{LogLimits};
+ghost use Rattle.log_base.specs.declared.limits.TheConstants.{PATCH_LIMIT};
 ghost use Rattle.chain_core.specs.declared.chain.Patch.{Patch};
 ghost use Rattle.chain_core.specs.declared.fate.Fate.{Fate};
 ghost use Rattle.chain_core.specs.Log.{LogPoint, IsPoint, stopped, opened_again};
@@ -13,12 +13,12 @@ ghost use Rattle.chain_core.specs.Stay.{stay};
 
 /// A chain has no fault.
 pub fn chains_have_no_fault()
-    ensures { (links : List Link) (fault : ChainFault) → Breaks links fault → IsChain links → ⊥ }
+    ensures { (links : List ChainLink) (fault : ChainFault) → Breaks links fault → IsChain links → ⊥ }
 {}
 
 /// Patches have one fault at most.
 pub fn patches_have_one_fault()
-    ensures { (links : List Link) (fault other : ChainFault)
+    ensures { (links : List ChainLink) (fault other : ChainFault)
         → Breaks links fault → Breaks links other → fault ≡ other }
 {}
 

@@ -6,7 +6,6 @@ mod chain;
 mod deciding;
 mod fate;
 mod laws;
-mod link;
 mod lookup;
 mod testing;
 
@@ -15,6 +14,5 @@ pub use chain::{Chain, Entry, Patch};
 pub use deciding::decide;
 pub use fate::Fate;
 pub use laws::{chains_have_no_fault, patches_have_one_fault, stays_keep_logs, stops_keep_logs};
-pub use link::Link;
 pub use lookup::Lookup;
 pub use testing::{ChainFault, ChainTest};

@@ -1,13 +1,13 @@
 //! The test whether patches are a chain, patch by patch.
 ghost use Rattle.std.specs.Prelude.{◌≡◌, ◌+◌, ◌-◌, ◌<◌, ◌^◌, List, [], ◌∷◌};
 ghost use Rattle.std.specs.Prelude.{◌++◌, OnOk, OnErr, IfNone, IfSome};
-ghost use Rattle.chain_core.specs.declared.link.Link.{Link};
+ghost use Rattle.log_base.specs.declared.chain_link.ChainLink.{ChainLink};
 ghost use Rattle.chain_core.specs.Links.{IsChain};
 ghost use Rattle.chain_core.specs.Breaks.{Breaks};
 ghost use Rattle.chain_core.specs.Tested.{IsTested};
 
-use crate::link::Link;
 use delta_base::{Id, OutOfMemory};
+use log_base::ChainLink;
 use std::alloc::Global;
 use std::collections::HashMap;
 
@@ -52,10 +52,10 @@ impl ChainTest {
     }
 
     /// Tests a patch: first the previous one that it names, then its id.
-    pub fn fault_of(&self, link: Link) -> Option<ChainFault>
-        ensures follows { IfNone result ((links : List Link) → IsTested links self.now
+    pub fn fault_of(&self, link: ChainLink) -> Option<ChainFault>
+        ensures follows { IfNone result ((links : List ChainLink) → IsTested links self.now
             → IsChain (links ++ link ∷ [])) }
-        ensures breaks { IfSome result (λ fault. (links more : List Link) → IsTested links self.now
+        ensures breaks { IfSome result (λ fault. (links more : List ChainLink) → IsTested links self.now
             → Breaks (links ++ link ∷ more) fault) }
     {
         if link.prev != self.head {
@@ -75,12 +75,12 @@ impl ChainTest {
     }
 
     /// Takes a patch that goes on the chain.
-    pub fn push(&mut self, link: Link) -> Result<(), OutOfMemory>
+    pub fn push(&mut self, link: ChainLink) -> Result<(), OutOfMemory>
         requires room { self.old.version < 2 ^ 32 - 1 }
-        ensures ok { OnOk result ((links : List Link) → IsTested links self.old
+        ensures ok { OnOk result ((links : List ChainLink) → IsTested links self.old
             → IsChain (links ++ link ∷ []) → IsTested (links ++ link ∷ []) self.new) }
         ensures version { OnOk result (self.new.version ≡ self.old.version + 1) }
-        ensures err { OnErr result ((links : List Link)
+        ensures err { OnErr result ((links : List ChainLink)
             → IsTested links self.old → IsTested links self.new) }
     {
         self.versions.insert(link.id.0, self.version + 1)?;

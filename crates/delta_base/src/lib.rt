@@ -1,4 +1,4 @@
-//! Ids, texts, lists, limits and the traits of the outside, on which every other crate stands.
+//! Ids, texts, lists and the traits of the outside, on which every other crate stands.
 //!
 //! Nothing here knows of RDF. Sources, sinks and links tell their bytes to contracts where
 //! they can, and count their failed calls, so that a caller's contract can say that a fault
@@ -8,28 +8,19 @@
 mod count;
 mod fault;
 mod id;
-mod limits;
 mod link;
 mod list;
 mod memory;
 mod outside;
-mod phase;
-mod source_info;
 mod standard;
 mod text;
 
 pub use count::CallCount;
 pub use fault::{Failed, OutOfMemory};
 pub use id::{Id, exact_id, id_string, id_text, random_id, read_id};
-pub use limits::{
-    EMPTY_JOURNAL, FullKind, LOG_BYTES, LOG_LIMITS, LOG_PATCHES, LogLimits, MOST_SLOTS,
-    PATCH_LIMIT, PAYLOAD_FRAME, REGISTRY_LIMIT,
-};
 pub use link::{Link, MemLink, StdLink};
 pub use list::{Back, Calls, Listing};
 pub use memory::{MemSink, MemSource};
 pub use outside::{Sink, Source};
-pub use phase::Phase;
-pub use source_info::{SourceInfo, Sources};
 pub use standard::{StdSink, StdSource};
 pub use text::{Bytes, Text};

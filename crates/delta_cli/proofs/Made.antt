@@ -2,7 +2,7 @@
 use Rattle.std.proofs.Common.{◌≡◌, ◌<◌, ℕ, List, length, Result, Err, refl}
 use Rattle.std.proofs.KnownBytes.{Keeps-refl}
 use Rattle.delta_base.specs.Outside.{Rose}
-use Rattle.delta_base.specs.declared.limits.TheConstants.{LOG_LIMITS}
+use Rattle.log_base.specs.declared.limits.TheConstants.{LOG_LIMITS}
 use Rattle.slot_files.specs.Files.{Files, StopsAt, bytes_at}
 use Rattle.slot_files.specs.declared.fault.InitFault.{InitFault}
 use Rattle.slot_files.specs.declared.fault.InitFault.TheVariants as inits

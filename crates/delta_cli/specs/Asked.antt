@@ -3,7 +3,7 @@ use Rattle.std.specs.Prelude.{◌≡◌, ℕ, List, Option, Result, Ok, Err}
 use Rattle.std.specs.Io.KnownBytes.{Consumes, IsAtEnd}
 use Rattle.delta_base.specs.Memory.{CountsCall}
 use Rattle.delta_base.specs.Outside.{Rose}
-use Rattle.delta_base.specs.declared.limits.TheConstants.{PATCH_LIMIT}
+use Rattle.log_base.specs.declared.limits.TheConstants.{PATCH_LIMIT}
 use Rattle.patch_meaning.specs.Patch.{IsPatch, IsPatchFault, Meaning}
 use Rattle.patch_meaning.specs.declared.fault.PatchFault.TheVariants as patches
 use Rattle.patch_meaning.specs.declared.fault.PatchKind.{PatchKind}

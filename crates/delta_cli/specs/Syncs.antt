@@ -2,8 +2,8 @@
 use Rattle.std.specs.Prelude.{◌≡◌, ◌⊎◌, ℕ, List, [], ◌∷◌, ◌++◌, Option, Some, codes}
 use Rattle.std.specs.Fmt.{decimal}
 use Rattle.delta_base.specs.Outside.{Rose}
-use Rattle.delta_base.specs.declared.limits.FullKind.{FullKind}
-use Rattle.delta_base.specs.declared.limits.TheConstants.{LOG_LIMITS}
+use Rattle.log_base.specs.declared.limits.FullKind.{FullKind}
+use Rattle.log_base.specs.declared.limits.TheConstants.{LOG_LIMITS}
 use Rattle.chain_core.specs.declared.testing.ChainFault.TheVariants as chains
 use Rattle.disk_model.specs.Shelf.{SameOthers}
 use Rattle.slot_files.specs.Files.{Files, bytes_at}

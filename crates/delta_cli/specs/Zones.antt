@@ -2,7 +2,7 @@
 use Rattle.std.specs.Prelude.{◌≡◌, ℕ, ◌<◌, List, [], length, Some}
 use Rattle.std.specs.List.{flat_map}
 use Rattle.delta_base.specs.Outside.{Rose}
-use Rattle.delta_base.specs.declared.limits.TheConstants.{LOG_LIMITS}
+use Rattle.log_base.specs.declared.limits.TheConstants.{LOG_LIMITS}
 use Rattle.disk_model.specs.Shelf.{SameOthers}
 use Rattle.log_journal.specs.File.{file_of}
 use Rattle.slot_files.specs.Files.{Files, IsKept, bytes_at}

@@ -1,6 +1,6 @@
 //! The command `append`: the patch that the input is, appended to a log of a server.
 ghost use Rattle.std.specs.Prelude.{◌≡◌, ◌≤◌, List, ℕ, length, IfErr, IfOk, OnOk};
-ghost use Rattle.delta_base.specs.declared.limits.TheConstants.{PATCH_LIMIT};
+ghost use Rattle.log_base.specs.declared.limits.TheConstants.{PATCH_LIMIT};
 ghost use Rattle.delta_client.specs.Lines.{told_of};
 ghost use Rattle.patch_meaning.specs.Checked.{Refuses};
 ghost use Rattle.patch_meaning.specs.Patch.{IsPatch, Meaning};
@@ -14,8 +14,9 @@ ghost use Rattle.delta_cli.specs.Told.{network_of};
 use crate::ask::ask;
 use crate::input::{InputFault, read_all};
 use crate::refusal::Refusal;
-use delta_base::{Bytes, PATCH_LIMIT, Sink, Source, Text};
+use delta_base::{Bytes, Sink, Source, Text};
 use delta_client::Dial;
+use log_base::PATCH_LIMIT;
 use patch_meaning::{PatchFault, check_link};
 use rpc_calls::Call;
 use std::alloc::Global;

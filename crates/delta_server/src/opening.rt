@@ -2,7 +2,7 @@
 ghost use Rattle.std.specs.Prelude.{◌≡◌, ◌⊎◌, ℕ, ◌+◌, ◌<◌, ◌≤◌, [], IfOk};
 ghost use Rattle.std.specs.Prelude.{IfErr, OnOk, OnErr, length, vec_capacity};
 ghost use Rattle.delta_base.specs.Outside.{Rose};
-ghost use Rattle.delta_base.specs.declared.limits.TheConstants.{MOST_SLOTS};
+ghost use Rattle.log_base.specs.declared.limits.TheConstants.{MOST_SLOTS};
 ghost use Rattle.slot_files.specs.Files.{bytes_at};
 ghost use Rattle.slot_checks.specs.Checks.{AreKept};
 ghost use Rattle.slot_checks.specs.Sound.{HoldsRegistry};
@@ -12,10 +12,11 @@ ghost use Rattle.delta_server.specs.Files.{AreMarked, AreFilesRead};
 ghost use Rattle.delta_server.specs.Serving.{AreDisksAsked, IsHallOver};
 
 use crate::files::put_back;
-use delta_base::{MOST_SLOTS, Text};
+use delta_base::Text;
 use delta_cli::Refusal;
 use delta_session::{Hall, HallFault, HallPasses, open_hall};
 use disk_model::{Shelf, ShelfFault};
+use log_base::MOST_SLOTS;
 use slot_checks::{CheckFault, read_registry_file};
 use std::alloc::Global;
 

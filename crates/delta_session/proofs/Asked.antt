@@ -1,7 +1,7 @@
 -- What the calls of a hall on its lists come to.
 use Rattle.std.proofs.Common.{◌≡◌, ℕ, refl, sym, ◌∙◌, subst, List, [], ◌∷◌, Option, Some, None, Result, Ok, Err, IfOk, OnErr, IsErr}
 use Rattle.chain_core.specs.Replies.{LogCall, LogReply}
-use Rattle.delta_base.specs.declared.source_info.SourceInfo.{SourceInfo}
+use Rattle.log_base.specs.declared.source_info.SourceInfo.{SourceInfo}
 use Rattle.http_session.specs.declared.answerer.Said.{Said}
 use Rattle.http_session.specs.declared.answerer.Said.TheVariants.{OutOfMemory}
 use Rattle.patch_log.specs.State.{LogView}

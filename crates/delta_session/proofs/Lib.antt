@@ -5,3 +5,4 @@ pub mod Refused
 pub mod Passing
 pub mod Opens
 pub mod Posts
+pub mod OwnTexts

@@ -2,7 +2,7 @@
 use Rattle.std.specs.Prelude.{◌≡◌, ◌≢◌, ℕ, ◌+◌, ◌≤◌, List, [], ◌∷◌, length, map, IsTrue, None}
 use Rattle.std.specs.List.{AllByRecursion}
 use Rattle.delta_base.specs.Outside.{Rose}
-use Rattle.delta_base.specs.declared.limits.TheConstants.{LOG_LIMITS}
+use Rattle.log_base.specs.declared.limits.TheConstants.{LOG_LIMITS}
 use Rattle.disk_model.specs.Past.{reads}
 use Rattle.disk_model.specs.declared.disk.Disk.{Ghosts}
 use Rattle.log_journal.specs.File.{Holds}

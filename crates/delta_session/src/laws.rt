@@ -1,5 +1,13 @@
 //! Laws of a hall's answers. These functions do nothing but call others like them: their
 //! contracts are theorems.
+ghost use Rattle.std.specs.Prelude.{◌≡◌, ◌≢◌, Bool, true, None};
+ghost use Rattle.http_text.specs.Faults.{frame_name};
+ghost use Rattle.http_text.specs.Print.{reply_text};
+ghost use Rattle.http_text.specs.declared.framing.FrameFault.{FrameFault};
+ghost use Rattle.http_text.specs.declared.message.RawReply.{RawReply};
+ghost use Rattle.http_session.specs.Texts.{memory_text, refusal_text};
+ghost use Rattle.rpc_answers.specs.Prints.{IsCompactPrintOf};
+ghost use Rattle.rpc_answers.specs.declared.answer.Answer.{Answer};
 ghost use Rattle.delta_session.specs.Laws.{SessionsAreServed, PassesStay};
 
 use disk_model::Disk;
@@ -18,4 +26,15 @@ pub fn sessions_are_served<D: Disk>()
 /// Whatever legal calls the passes made, all are there and each has its number.
 pub fn passes_stay<D: Disk>()
     ensures { PassesStay D }
+{}
+
+/// What a session writes by itself is the print of an answer: for want of memory, and for each
+/// fault of framing that refuses a request.
+pub fn sessions_say_answers()
+    ensures memory { (reply : RawReply) (close : Bool)
+        → IsCompactPrintOf reply Answer.OutOfMemory close
+        → memory_text close ≡ reply_text reply None }
+    ensures refusals { (reply : RawReply) (fault : FrameFault) → fault ≢ FrameFault.OutOfMemory
+        → IsCompactPrintOf reply (Answer.BadRequest (frame_name fault)) true
+        → refusal_text fault ≡ reply_text reply None }
 {}

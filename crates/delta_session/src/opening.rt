@@ -9,9 +9,9 @@ use crate::fault::{HallFault, HallRefusal};
 use crate::hall::Hall;
 use crate::pass::HallPasses;
 use crate::sharing::share;
-use delta_base::LOG_LIMITS;
 use disk_model::Disk;
 use hall_logs::{HallLogs, LogsRefusal};
+use log_base::LOG_LIMITS;
 use log_registry::{RegistryRefusal, RegistryState};
 use std::alloc::Global;
 

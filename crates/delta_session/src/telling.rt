@@ -9,8 +9,9 @@ ghost use Rattle.delta_session.specs.Telling.{append_answer, change_answer, crea
 ghost use Rattle.delta_session.specs.Telling.{log_answer, registry_answer};
 
 use chain_core::LogAnswer;
-use delta_base::{OutOfMemory, SourceInfo, Sources};
+use delta_base::OutOfMemory;
 use http_session::Said;
+use log_base::{SourceInfo, Sources};
 use registry_core::{ChangeAnswer, CreateAnswer};
 use rpc_answers::{Answer, into_reply};
 use shared_log::Fetched;

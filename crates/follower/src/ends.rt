@@ -1,6 +1,7 @@
 //! How catching up ends.
-use delta_base::{Bytes, FullKind, Id};
+use delta_base::{Bytes, Id};
 use delta_client::AskFault;
+use log_base::FullKind;
 use patch_meaning::PatchFault;
 
 #[derive(Drop)]

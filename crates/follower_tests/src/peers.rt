@@ -3,10 +3,11 @@ ghost use Rattle.std.specs.Prelude.{◌≡◌, true, IfOk};
 ghost use Rattle.std.specs.List.{list_all};
 ghost use Rattle.http_text.specs.Print.{is_visible};
 
-use delta_base::{Bytes, Calls, Listing, LogLimits, MemLink, OutOfMemory, Text};
+use delta_base::{Bytes, Calls, Listing, MemLink, OutOfMemory, Text};
 use delta_client::MemDial;
 use disk_model::MemDisk;
 use follower::{SyncEnd, sync};
+use log_base::LogLimits;
 use patch_meaning::check_patch;
 use std::alloc::Global;
 use std::test::Fail;

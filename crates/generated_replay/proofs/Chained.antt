@@ -5,7 +5,7 @@ use Rattle.std.proofs.lemmas.Bool.Decides.{nat_tests}
 use Rattle.delta_base.specs.declared.id.Id.{Id}
 use Rattle.chain_core.specs.Breaks.{last_or}
 use Rattle.chain_core.specs.Links.{Follow, AllDiffer, IsChain}
-use Rattle.chain_core.specs.declared.link.Link.{Link}
+use Rattle.log_base.specs.declared.chain_link.ChainLink.{ChainLink}
 use Rattle.patch_meaning.specs.Patch.{Meaning}
 use Rattle.patch_meaning.specs.Replay.{link_of, links_said}
 use Rattle.stream_generator.specs.Generator.{patch_number}
@@ -23,7 +23,7 @@ follow_from (suc count) k from =
     (refl, subst (λ (before : Option Id). Follow before (links_said (meanings_from (k + 1) count))) (follows k from) (follow_from count (k + 1) (omega arith)))
 
 abbrev ids_from : ℕ → ℕ → List Id
-ids_from k count = map (λ (l : Link). l.id) (links_said (meanings_from k count))
+ids_from k count = map (λ (l : ChainLink). l.id) (links_said (meanings_from k count))
 
 ids_behind : (count k low : ℕ) → low < k → AllByRecursion (λ (i : Id). i ≢ patch_id low) (ids_from k count)
 ids_behind zero k low less = tt

@@ -5,7 +5,7 @@ use Rattle.std.proofs.lemmas.List.{append-nil, length-append}
 use Rattle.std.proofs.lemmas.Grind.{flat_map-append}
 use Rattle.std.proofs.lemmas.List.Sums.{fold-append}
 use Rattle.delta_base.specs.declared.id.Id.{Id}
-use Rattle.delta_base.specs.declared.limits.TheConstants.{PATCH_LIMIT}
+use Rattle.log_base.specs.declared.limits.TheConstants.{PATCH_LIMIT}
 use Rattle.delta_base.specs.Ids.{number_of, text_of}
 use Rattle.delta_base.proofs.IdLemmas.{number_of-text_of}
 use Rattle.rdf_terms.specs.declared.change.Change.{Change}

@@ -5,7 +5,7 @@ use Rattle.std.specs.List.{AllZip}
 use Rattle.std.proofs.lemmas.List.{append-nil, reverse-append, reverse-reverse}
 use Rattle.disk_model.specs.declared.disk.Disk.{Ghosts}
 use Rattle.disk_model.proofs.Moments.{kept}
-use Rattle.delta_base.specs.declared.limits.LogLimits.{LogLimits}
+use Rattle.log_base.specs.declared.limits.LogLimits.{LogLimits}
 use Rattle.patch_log.specs.declared.fault.LogFault.{LogFault}
 use Rattle.patch_log.specs.State.{LogView}
 use Rattle.turn_cell.specs.Turns.{AllOf}

@@ -9,7 +9,7 @@ use Rattle.turn_cell.specs.Turns.{IsIn, AllOf}
 use Rattle.turn_cell.specs.Sights.{Made}
 use Rattle.turn_cell.specs.Knowing.{SeesOn, pass_number}
 use Rattle.shared_log.specs.Passes.{LogSight, IsPassOf}
-use Rattle.delta_base.specs.declared.limits.LogLimits.{LogLimits}
+use Rattle.log_base.specs.declared.limits.LogLimits.{LogLimits}
 use Rattle.chain_core.specs.Replies.{LogCall, LogReply}
 use Rattle.hall_logs.specs.Calls.{IsReplied, IsAsked, AreAsked}
 use Rattle.hall_logs.specs.Slots.{ArePartsOf, AreAllHallPasses}

@@ -1,6 +1,6 @@
 -- Many calls of one pass on one log.
 use Rattle.std.specs.Prelude.{◌≡◌, List, [], ◌∷◌, Option, Some, None}
-use Rattle.delta_base.specs.declared.limits.LogLimits.{LogLimits}
+use Rattle.log_base.specs.declared.limits.LogLimits.{LogLimits}
 use Rattle.chain_core.specs.Replies.{LogCall, LogReply}
 use Rattle.turn_cell.specs.Knowing.{Wants}
 use Rattle.shared_log.specs.Passes.{LogSight}

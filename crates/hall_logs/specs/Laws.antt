@@ -1,7 +1,7 @@
 -- What is true of all calls of passes.
 use Rattle.std.specs.Prelude.{◌≡◌, ℕ, ◌+◌, List, ◌++◌, Option, Some, slice_get}
 use Rattle.std.specs.List.{AllZip}
-use Rattle.delta_base.specs.declared.limits.LogLimits.{LogLimits}
+use Rattle.log_base.specs.declared.limits.LogLimits.{LogLimits}
 use Rattle.patch_log.specs.State.{LogView}
 use Rattle.turn_cell.specs.Sights.{Made}
 use Rattle.shared_log.specs.Passes.{LogSight}

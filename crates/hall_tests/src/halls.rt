@@ -3,9 +3,10 @@ ghost use Rattle.std.specs.Prelude.{◌≡◌, length, IfOk, vec_len};
 ghost use Rattle.hall_logs.specs.Rooms.{HasRoom};
 ghost use Rattle.hall_logs.specs.Slots.{AreAllHallPasses};
 
-use delta_base::{Bytes, Listing, LogLimits};
+use delta_base::{Bytes, Listing};
 use disk_model::{Disk, MemDisk};
 use hall_logs::{HallLogs, LogsPass, LogsRefusal, Rooms};
+use log_base::LogLimits;
 use std::alloc::Global;
 use std::test::Fail;
 

@@ -2,7 +2,7 @@
 use Rattle.std.specs.Prelude.{◌≡◌, ◌≢◌, ◌⊎◌, ℕ, ◌+◌, ◌^◌, ◌<◌, Bool, IsTrue, Result}
 use Rattle.std.specs.Prelude.{Ok, Err, List, ◌∷◌, ◌++◌, [], length, drop, Vec}
 use Rattle.std.specs.declared.alloc.Global.{Global}
-use Rattle.delta_base.specs.Journals.{payloads_length}
+use Rattle.log_base.specs.Journals.{payloads_length}
 use Rattle.delta_base.specs.Outside.{Rose}
 use Rattle.log_journal.specs.File.{front, header, block, Holds, AreSized}
 use Rattle.log_journal.specs.File.{BreaksOff, HasNoHeader, HasHeader, Damage}

@@ -3,8 +3,8 @@
 ghost use Rattle.std.specs.Prelude.{◌≡◌, ◌≢◌, None, false, ◌⊎◌, ℕ, ◌+◌, ◌<◌, ◌≤◌, ◌↔◌};
 ghost use Rattle.std.specs.Prelude.{◌++◌, [], ◌∷◌, List, length, IsTrue, not, OnOk, OnErr};
 ghost use Rattle.std.specs.Prelude.{IsErrOf, IfOk, IfErr, IsOk, is_ok, if◌then◌else◌};
-ghost use Rattle.delta_base.specs.declared.limits.TheConstants.{EMPTY_JOURNAL, PAYLOAD_FRAME};
-ghost use Rattle.delta_base.specs.Journals.{payloads_length};
+ghost use Rattle.log_base.specs.declared.limits.TheConstants.{EMPTY_JOURNAL, PAYLOAD_FRAME};
+ghost use Rattle.log_base.specs.Journals.{payloads_length};
 ghost use Rattle.delta_base.specs.Outside.{Rose, HasCause};
 ghost use Rattle.disk_model.specs.Past.{reads, synced, ok_syncs, synced_bytes, filled, Keeps};
 ghost use Rattle.disk_model.specs.Calls.{WroteSome};
@@ -17,8 +17,9 @@ use crate::fault::{FormatFault, JournalFault};
 use crate::open::{Payloads, format, read_payloads};
 use crate::receiver::Receiver;
 use crate::synced_writes::write_synced;
-use delta_base::{EMPTY_JOURNAL, Failed, Listing, PAYLOAD_FRAME};
+use delta_base::{Failed, Listing};
 use disk_model::{Disk, Planned};
+use log_base::{EMPTY_JOURNAL, PAYLOAD_FRAME};
 use std::alloc::Global;
 
 #[derive(Clone, Copy, Debug, PartialEq, Eq)]

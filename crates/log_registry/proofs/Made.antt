@@ -1,10 +1,10 @@
 -- From what was written to what a call made of the registry.
 use Rattle.std.proofs.Common.{◌≡◌, ◌≢◌, ℕ, zero, suc, ◌+◌, ◌-◌, not, List, [], ◌∷◌, ◌++◌, length, Option, Some, None, Result, Ok, Err, OnOk, refl, sym, ◌∙◌, subst, arith}
 use Rattle.std.specs.Prelude.{IsTrue}
-use Rattle.delta_base.specs.declared.phase.Phase.{Phase}
-use Rattle.delta_base.specs.declared.phase.Phase.TheVariants.{Settling, Body, Gate}
+use Rattle.log_base.specs.declared.phase.Phase.{Phase}
+use Rattle.log_base.specs.declared.phase.Phase.TheVariants.{Settling, Body, Gate}
 use Rattle.delta_base.specs.Outside.{Rose, HasCause}
-use Rattle.delta_base.specs.Phases.{phase_by_syncs, phase_by_plan}
+use Rattle.log_base.specs.Phases.{phase_by_syncs, phase_by_plan}
 use Rattle.disk_model.specs.declared.disk.Disk.{Ghosts}
 use Rattle.disk_model.specs.Past.{ok_syncs, EveryImage}
 use Rattle.log_journal.specs.File.{Holds}

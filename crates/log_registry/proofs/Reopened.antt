@@ -4,13 +4,13 @@ use Rattle.std.specs.Prelude.{sum_by}
 use Rattle.std.proofs.lemmas.Fmt.{length-decimal-le_succ}
 use Rattle.std.proofs.lemmas.List.Sums.{sum_by-cons}
 use Rattle.disk_model.specs.Past.{Past, MayLeave}
-use Rattle.delta_base.specs.Journals.{payloads_length}
+use Rattle.log_base.specs.Journals.{payloads_length}
 use Rattle.log_journal.specs.File.{Holds}
 use Rattle.log_journal.proofs.OneReading.{one_list, one_number, never_both}
 use Rattle.slot_files.specs.Files.{slots_payload}
 use Rattle.registry_core.specs.declared.event.Event.{Event}
 use Rattle.registry_core.specs.Events.{AreNext, IsRegistry, BreaksAtEvent}
-use Rattle.delta_base.specs.declared.limits.TheConstants.{REGISTRY_LIMIT}
+use Rattle.log_base.specs.declared.limits.TheConstants.{REGISTRY_LIMIT}
 use Rattle.registry_core.specs.Texts.{event_text, registry_payloads, registry_length}
 use Rattle.registry_core.proofs.Openings.{one_registry}
 use Rattle.registry_core.proofs.Tables.{length-push, has_room}

@@ -12,7 +12,7 @@ use Rattle.log_journal.proofs.Steps.{either}
 use Rattle.slot_files.specs.Files.{slots_payload}
 use Rattle.registry_core.specs.declared.event.Event.{Event}
 use Rattle.registry_core.specs.Events.{IsNextEvent, IsRegistry}
-use Rattle.delta_base.specs.declared.limits.TheConstants.{REGISTRY_LIMIT}
+use Rattle.log_base.specs.declared.limits.TheConstants.{REGISTRY_LIMIT}
 use Rattle.registry_core.specs.Texts.{event_text, registry_payloads, registry_length, length_with}
 use Rattle.registry_core.proofs.Tables.{length-push, registry-push, has_room}
 use Rattle.log_registry.specs.Stands.{MayHoldEvents, MayHoldEventsDuring, StandsForRegistry, event_payload}

@@ -1,9 +1,9 @@
 -- One call on a registry: what it makes of the events and of the disk.
 use Rattle.std.specs.Prelude.{◌≡◌, ◌≢◌, ℕ, ◌-◌, ◌≤◌, [], ◌∷◌, ◌++◌, not, IsTrue, Option, Some, None}
-use Rattle.delta_base.specs.declared.phase.Phase.{Phase}
-use Rattle.delta_base.specs.declared.phase.Phase.TheVariants.{Settling, Body, Gate}
+use Rattle.log_base.specs.declared.phase.Phase.{Phase}
+use Rattle.log_base.specs.declared.phase.Phase.TheVariants.{Settling, Body, Gate}
 use Rattle.delta_base.specs.Outside.{Rose}
-use Rattle.delta_base.specs.Phases.{phase_by_syncs, phase_by_plan}
+use Rattle.log_base.specs.Phases.{phase_by_syncs, phase_by_plan}
 use Rattle.disk_model.specs.declared.disk.Disk.{Ghosts}
 use Rattle.disk_model.specs.Past.{ok_syncs, EveryImage, LeavesOnly}
 use Rattle.log_journal.specs.File.{Holds}

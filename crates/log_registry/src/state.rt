@@ -18,8 +18,9 @@ ghost use Rattle.log_registry.specs.Stands.{StandsForRegistry};
 ghost use Rattle.log_registry.specs.State.{events_in};
 
 use crate::fault::{RegistryFault, RegistryRefusal};
-use delta_base::{Id, OutOfMemory, Phase, REGISTRY_LIMIT, SourceInfo, Sources, Text};
+use delta_base::{Id, OutOfMemory, Text};
 use disk_model::{Disk, Planned};
+use log_base::{Phase, REGISTRY_LIMIT, SourceInfo, Sources};
 use log_journal::{Block, Journal, OpenRefusal, make_block, write};
 use registry_core::{
     ChangeAnswer, CreateAnswer, Event, PayloadFault, Ready, Registry, event_text, find_named,

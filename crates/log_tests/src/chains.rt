@@ -1,10 +1,11 @@
 //! Chains by hand: what they keep, find and decide.
 ghost use Rattle.std.specs.Prelude.{◌≡◌, ◌≤◌, length, IfOk};
-ghost use Rattle.delta_base.specs.declared.limits.TheConstants.{PATCH_LIMIT};
+ghost use Rattle.log_base.specs.declared.limits.TheConstants.{PATCH_LIMIT};
 
 use crate::tables::{LIMITS, P1, P2, Place, is};
-use chain_core::{Chain, ChainFault, ChainTest, Decision, Link, LogAnswer, Lookup, Patch, decide};
-use delta_base::{Bytes, FullKind, Id, LogLimits, OutOfMemory, PATCH_LIMIT};
+use chain_core::{Chain, ChainFault, ChainTest, Decision, LogAnswer, Lookup, Patch, decide};
+use delta_base::{Bytes, Id, OutOfMemory};
+use log_base::{ChainLink, FullKind, LogLimits, PATCH_LIMIT};
 use patch_log::IndexedChain;
 use std::alloc::Global;
 use std::process::Abort;
@@ -232,7 +233,7 @@ fn decided(chain: &Chain, row: &Row) -> Option<Decision>
     if row.text.len() as u64 > PATCH_LIMIT || row.limits.patches < 2 {
         return None;
     }
-    let link = Link {
+    let link = ChainLink {
         id: row.id,
         prev: row.prev,
     };
@@ -253,8 +254,8 @@ fn what_a_chain_decides_of_a_patch_behind_it(rt: HostRuntime) -> Result<(), Fail
     Ok(())
 }
 
-fn link(id: u128, prev: Option<u128>) -> Link {
-    Link {
+fn link(id: u128, prev: Option<u128>) -> ChainLink {
+    ChainLink {
         id: Id(id),
         prev: prev.map(Id),
     }

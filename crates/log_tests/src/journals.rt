@@ -3,8 +3,9 @@ ghost use Rattle.std.specs.Prelude.{IfOk, IsTrue};
 ghost use Rattle.log_journal.specs.StandsFor.{is_settled};
 
 use crate::tables::{EMPTY, Place, are_bytes, disk_of, is, no_calls};
-use delta_base::{Bytes, Failed, Phase};
+use delta_base::{Bytes, Failed};
 use disk_model::{Disk, MemDisk, PlanDisk};
+use log_base::Phase;
 use log_journal::{AppendFault, Journal, JournalFault, Payloads, make_block, write};
 use std::alloc::Global;
 use std::process::Abort;

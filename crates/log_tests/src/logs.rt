@@ -1,8 +1,9 @@
 //! Logs over disks in memory: what they answer, and what a crash leaves of them.
 use crate::tables::{EMPTY, LIMITS, P1, P2, Place, disk_of, is, no_calls};
 use chain_core::{Decision, LogAnswer};
-use delta_base::{Bytes, FullKind, Id, LogLimits, OutOfMemory};
+use delta_base::{Bytes, Id, OutOfMemory};
 use disk_model::MemDisk;
+use log_base::{FullKind, LogLimits};
 use patch_log::{LogFault, LogState, Ready, append, append_all, append_made};
 use patch_meaning::{Checked, check_patch};
 use std::alloc::Global;

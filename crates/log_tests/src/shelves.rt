@@ -2,8 +2,9 @@
 //! them, and what stops the work.
 use crate::files::takes;
 use crate::tables::{Place, are_bytes, calls, is};
-use delta_base::{Id, MOST_SLOTS, Text};
+use delta_base::{Id, Text};
 use disk_model::{Disk, MemDisk, MemShelf, Shelf};
+use log_base::MOST_SLOTS;
 use slot_checks::{CheckFault, FileLine, Report, check_files, fault_text, report_text};
 use slot_files::{InitFault, init_slots};
 use std::alloc::Global;

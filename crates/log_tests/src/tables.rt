@@ -1,6 +1,7 @@
 //! What the tests run on, and where in a table they are.
-use delta_base::{Bytes, Calls, Listing, LogLimits};
+use delta_base::{Bytes, Calls, Listing};
 use disk_model::MemDisk;
+use log_base::LogLimits;
 use std::alloc::{AllocError, Global};
 use std::process::Abort;
 use std::test::Fail;

@@ -1,7 +1,7 @@
 //! What the rows of a patch say together, and how a stream is cut.
 use case_scripts::Answer;
-use chain_core::Link;
 use delta_base::{Id, id_text};
+use log_base::ChainLink;
 use patch_meaning::{Checked, PatchFault, check_link, check_patch, split_stream};
 use std::alloc::Global;
 use std::fmt::Write;
@@ -48,7 +48,7 @@ pub(crate) fn patch(alloc: Global, text: &[u8], answer: &mut Answer) {
     match check_patch(alloc, text) {
         Ok(patch) => {
             if link
-                != Ok(Link {
+                != Ok(ChainLink {
                     id: patch.id(),
                     prev: patch.prev(),
                 })

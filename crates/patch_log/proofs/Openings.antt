@@ -2,11 +2,11 @@
 use Rattle.std.proofs.Common.{◌≡◌, ℕ, zero, suc, ◌+◌, ◌^◌, ◌<◌, ◌≤◌, List, [], ◌∷◌, ◌++◌, length, take, None, refl, sym, ◌∙◌, ap, subst, arith, length-append, append_assoc}
 use Rattle.std.specs.List.{AllByRecursion}
 use Rattle.std.proofs.lemmas.List.{length-map, take_at}
-use Rattle.delta_base.specs.declared.limits.LogLimits.{LogLimits}
-use Rattle.delta_base.specs.declared.limits.TheConstants.{PATCH_LIMIT}
+use Rattle.log_base.specs.declared.limits.LogLimits.{LogLimits}
+use Rattle.log_base.specs.declared.limits.TheConstants.{PATCH_LIMIT}
 use Rattle.chain_core.specs.declared.chain.Patch.{Patch}
 use Rattle.chain_core.specs.declared.chain.Entry.{Entry}
-use Rattle.chain_core.specs.declared.link.Link.{Link}
+use Rattle.log_base.specs.declared.chain_link.ChainLink.{ChainLink}
 use Rattle.chain_core.specs.Chain.{IsBoundedChain}
 use Rattle.chain_core.specs.Links.{IsChain}
 use Rattle.chain_core.specs.Patches.{patch_of, patches_of, links_of, texts_of, version_of, last_id}
@@ -14,7 +14,7 @@ use Rattle.chain_core.proofs.Fronts.{links-front}
 use Rattle.chain_core.proofs.Versions.{links_of-entries}
 use Rattle.chain_core.proofs.Patches.{patches_of-push}
 use Rattle.chain_core.proofs.Stays.{links-push}
-use Rattle.delta_base.specs.Journals.{payloads_length}
+use Rattle.log_base.specs.Journals.{payloads_length}
 use Rattle.patch_log.specs.Log.{IsSound, IsSoundLog, AreChained}
 use Rattle.chain_core.specs.Breaks.{BreaksAt}
 use Rattle.patch_log.specs.Opening.{MayJoin, IsNextInLog, AreFoundEntries}
@@ -24,18 +24,18 @@ abbrev brought : Patch → Entry
 brought patch = record { patch = patch; by = 0 }
 
 -- a text is that of one patch
-one_next : (patches : List Patch) (text : List ℕ) (most : ℕ) (link : Link) → IsSound (record { id = link.id; prev = link.prev; text = text })
+one_next : (patches : List Patch) (text : List ℕ) (most : ℕ) (link : ChainLink) → IsSound (record { id = link.id; prev = link.prev; text = text })
     → (patch : Patch) → MayJoin patches text most patch → patch ≡ record { id = link.id; prev = link.prev; text = text }
 one_next patches text most link sound patch next = one_sound patch (record { id = link.id; prev = link.prev; text = text }) next.text_is next.sound sound
 
 -- a text that is a patch which doesn't name the last of the others
-pub not_next : (patches : List Patch) (text : List ℕ) (most : ℕ) (link : Link) → IsSound (record { id = link.id; prev = link.prev; text = text }) → (link.prev ≡ last_id patches → ⊥)
+pub not_next : (patches : List Patch) (text : List ℕ) (most : ℕ) (link : ChainLink) → IsSound (record { id = link.id; prev = link.prev; text = text }) → (link.prev ≡ last_id patches → ⊥)
     → (patch : Patch) → IsNextInLog patches text most patch → ⊥
 not_next patches text most link sound none patch next =
     none (ap (λ (p : Patch). p.prev) (sym (one_next patches text most link sound patch next.goes_on)) ∙ next.goes_on.follows)
 
 -- a text that is a patch whose id one of the others has
-pub not_new : (patches : List Patch) (text : List ℕ) (most : ℕ) (link : Link) → IsSound (record { id = link.id; prev = link.prev; text = text }) → (version_of patches link.id ≡ None → ⊥)
+pub not_new : (patches : List Patch) (text : List ℕ) (most : ℕ) (link : ChainLink) → IsSound (record { id = link.id; prev = link.prev; text = text }) → (version_of patches link.id ≡ None → ⊥)
     → (patch : Patch) → IsNextInLog patches text most patch → ⊥
 not_new patches text most link sound none patch next =
     none (ap (λ (p : Patch). version_of patches p.id) (sym (one_next patches text most link sound patch next.goes_on)) ∙ next.new)

@@ -4,17 +4,17 @@ use Rattle.std.proofs.lemmas.List.{length-map}
 use Rattle.disk_model.specs.declared.disk.Disk.{Ghosts}
 use Rattle.disk_model.specs.Past.{Past, EveryImage, LeavesOnly}
 use Rattle.disk_model.proofs.Moments.{starts}
-use Rattle.delta_base.specs.Journals.{payloads_length}
+use Rattle.log_base.specs.Journals.{payloads_length}
 use Rattle.log_journal.specs.Journal.{HoldsWithOrWithout}
 use Rattle.log_journal.specs.declared.journal.Journal.{Journal}
 use Rattle.log_journal.specs.StandsFor.{StandsFor, StandsInDoubt, Leaves, length_of, limit_of, is_settled, disk_of}
 use Rattle.log_journal.specs.Writing.{StandsWith, HoldsDuring}
-use Rattle.delta_base.specs.Phases.{phase_by_syncs, phase_by_plan}
+use Rattle.log_base.specs.Phases.{phase_by_syncs, phase_by_plan}
 use Rattle.log_journal.proofs.Steps.{either}
 use Rattle.chain_core.specs.declared.chain.Patch.{Patch}
 use Rattle.chain_core.specs.declared.chain.Entry.{Entry}
-use Rattle.delta_base.specs.declared.limits.LogLimits.{LogLimits}
-use Rattle.delta_base.specs.declared.phase.Phase.TheVariants.{Settling}
+use Rattle.log_base.specs.declared.limits.LogLimits.{LogLimits}
+use Rattle.log_base.specs.declared.phase.Phase.TheVariants.{Settling}
 use Rattle.chain_core.specs.declared.fate.Fate.{Fate}
 use Rattle.chain_core.specs.declared.fate.Fate.TheVariants.{Fails}
 use Rattle.chain_core.specs.declared.answer.Decision.{Decision}

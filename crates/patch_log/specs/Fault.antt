@@ -1,11 +1,11 @@
 -- Why a log can't be opened.
 use Rattle.std.specs.Prelude.{◌≤◌, ℕ, List}
-use Rattle.delta_base.specs.Journals.{payloads_length}
+use Rattle.log_base.specs.Journals.{payloads_length}
 use Rattle.log_journal.specs.File.{Holds}
 use Rattle.log_journal.specs.Reading.{HasFault}
 use Rattle.log_journal.specs.declared.fault.JournalFault.{JournalFault}
 use Rattle.log_journal.specs.declared.fault.JournalFault.TheVariants as journal
-use Rattle.delta_base.specs.declared.limits.LogLimits.{LogLimits}
+use Rattle.log_base.specs.declared.limits.LogLimits.{LogLimits}
 use Rattle.patch_log.specs.declared.fault.LogFault.{LogFault}
 use Rattle.patch_log.specs.declared.fault.LogFault.TheVariants as log
 use Rattle.chain_core.specs.Breaks.{BreaksAt}

@@ -3,7 +3,7 @@ use Rattle.std.specs.Prelude.{◌≡◌, ◌≢◌, ◌⊎◌, ℕ, ◌-◌, ◌
 use Rattle.std.specs.Prelude.{◌++◌, Bool, true, false, not, IsTrue, Option}
 use Rattle.std.specs.List.{AllByRecursion}
 use Rattle.delta_base.specs.Outside.{Rose}
-use Rattle.delta_base.specs.declared.limits.LogLimits.{LogLimits}
+use Rattle.log_base.specs.declared.limits.LogLimits.{LogLimits}
 use Rattle.disk_model.specs.declared.disk.Disk.{Ghosts}
 use Rattle.disk_model.specs.Past.{ok_syncs, MayLeave, EveryImage, LeavesOnly}
 use Rattle.log_journal.specs.File.{Holds}

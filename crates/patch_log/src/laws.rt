@@ -4,7 +4,7 @@ ghost use Rattle.std.specs.List.{AllByRecursion};
 ghost use Rattle.disk_model.specs.Past.{Past, MayLeave};
 ghost use Rattle.log_journal.specs.File.{Holds};
 ghost use Rattle.chain_core.specs.declared.chain.Patch.{Patch};
-ghost use Rattle.delta_base.specs.declared.limits.LogLimits.{LogLimits};
+ghost use Rattle.log_base.specs.declared.limits.LogLimits.{LogLimits};
 ghost use Rattle.chain_core.specs.Log.{with_doubt};
 ghost use Rattle.chain_core.specs.Patches.{texts_of};
 ghost use Rattle.patch_log.specs.declared.fault.LogFault.{LogFault};

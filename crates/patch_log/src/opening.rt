@@ -11,14 +11,15 @@ ghost use Rattle.patch_log.specs.Opening.{MayJoin, IsNextInLog, AreFoundEntries}
 use crate::fault::LogFault;
 use crate::indexed::IndexedChain;
 use crate::next_fault::NextFault;
-use chain_core::{Chain, Link, Lookup, Patch};
+use chain_core::{Chain, Lookup, Patch};
 use delta_base::Bytes;
+use log_base::ChainLink;
 use log_journal::Payloads;
 use patch_meaning::{PatchFault, check_link};
 use std::alloc::Global;
 
 // The id and the previous id that a text names, if it is a patch.
-fn read_link(alloc: Global, text: &[u8]) -> Result<Link, NextFault>
+fn read_link(alloc: Global, text: &[u8]) -> Result<ChainLink, NextFault>
     ensures ok { IfOk result (λ link.
         IsSound (record { id = link.id; prev = link.prev; text = text.now })) }
     ensures broken { IsErrOf result NextFault.Broken
@@ -34,7 +35,7 @@ fn read_link(alloc: Global, text: &[u8]) -> Result<Link, NextFault>
 }
 
 // Whether it names the last patch.
-fn follows(chain: &Chain, link: Link) -> bool
+fn follows(chain: &Chain, link: ChainLink) -> bool
     ensures { IsTrue result ↔ (link.prev ≡ last_id (patches_of chain.now.items)) }
 {
     link.prev == chain.head()
@@ -42,7 +43,7 @@ fn follows(chain: &Chain, link: Link) -> bool
 
 // The id and the previous id of the patch that a text is, if it goes behind the chain where its
 // id is new.
-fn next_link(alloc: Global, chain: &Chain, text: &[u8], most: u32) -> Result<Link, NextFault>
+fn next_link(alloc: Global, chain: &Chain, text: &[u8], most: u32) -> Result<ChainLink, NextFault>
     ensures ok { IfOk result (λ link. MayJoin (patches_of chain.now.items) text.now most
         (record { id = link.id; prev = link.prev; text = text.now })) }
     ensures broken { IsErrOf result NextFault.Broken → (patch : PatchRead)
@@ -72,7 +73,7 @@ fn with_next(
     ensures broken { IsErrOf result NextFault.Broken → (patch : PatchRead)
         → IsNextInLog (patches_of chain.items) text most patch → ⊥ }
 {
-    let Link { id, prev } = next_link(alloc, chain.chain(), text.as_slice(), most)?;
+    let ChainLink { id, prev } = next_link(alloc, chain.chain(), text.as_slice(), most)?;
     chain.with(Patch { id, prev, text }, 0)
 }
 

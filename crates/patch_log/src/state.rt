@@ -43,9 +43,10 @@ use crate::fault::{LogFault, LogRefusal};
 use crate::indexed::IndexedChain;
 use crate::opening::read_log;
 use crate::ready::Ready;
-use chain_core::{Chain, Decision, Link, LogAnswer, Lookup, Patch, decide};
-use delta_base::{Id, LogLimits, OutOfMemory, Phase};
+use chain_core::{Chain, Decision, LogAnswer, Lookup, Patch, decide};
+use delta_base::{Id, OutOfMemory};
 use disk_model::{Disk, Planned};
+use log_base::{ChainLink, LogLimits, Phase};
 use log_journal::{Journal, OpenRefusal, write};
 use patch_meaning::Checked;
 use std::alloc::Global;
@@ -193,7 +194,7 @@ impl<D: Disk> LogState<D> {
         ensures stands { D.tells → StandsForLog (D.past self.now.disk) self.now.number
             self.now.limits (chain_of self.now) self.now.doubt }
     {
-        let link = Link {
+        let link = ChainLink {
             id: patch.id(),
             prev: patch.prev(),
         };
@@ -206,7 +207,7 @@ impl<D: Disk> LogState<D> {
         ensures stands { D.tells → StandsForLog (D.past self.now.disk) self.now.number
             self.now.limits (chain_of self.now) self.now.doubt }
     {
-        let link = Link {
+        let link = ChainLink {
             id: ready.patch.id,
             prev: ready.patch.prev,
         };

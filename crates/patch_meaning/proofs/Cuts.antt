@@ -4,7 +4,7 @@ use Rattle.std.specs.Prelude.{OnOk, IfOk, IfErr}
 use Rattle.std.proofs.lemmas.List.{map-append}
 use Rattle.std.proofs.lemmas.List.Sums.{fold-append}
 use Rattle.std.proofs.lemmas.Grind.{flat_map-append}
-use Rattle.chain_core.specs.declared.link.Link.{Link}
+use Rattle.log_base.specs.declared.chain_link.ChainLink.{ChainLink}
 use Rattle.rdf_terms.specs.declared.change.Change.{Change}
 use Rattle.patch_rows.specs.declared.fault.RowKind.{RowKind}
 use Rattle.patch_reader.specs.declared.placed.PlacedRow.{PlacedRow}
@@ -15,7 +15,7 @@ use Rattle.patch_meaning.specs.declared.part.Part.{Part as PartRead}
 use Rattle.patch_meaning.specs.declared.role.Role.{Role}
 use Rattle.patch_meaning.specs.Cutting.{IsCutInto, BeginsPatch, GoesOnInPatch, IsCutAt, IsLeftPart, HasTakenNext, AreRefused, EndsWith, IsBrokenAt, IsBrokenBy, IsLastPatch, EndsStream, IsBrokenAtEnd, changes_behind}
 use Rattle.patch_meaning.specs.PartRead.{HasPart, IsComplete, IsIncomplete, IsRefusedRow, meaning_of}
-use Rattle.delta_base.specs.declared.limits.TheConstants.{PATCH_LIMIT}
+use Rattle.log_base.specs.declared.limits.TheConstants.{PATCH_LIMIT}
 use Rattle.patch_meaning.specs.Patch.{Meaning, IsWell, AreTaken, refusal, has_some}
 use Rattle.patch_meaning.specs.Roles.{role, said, change_of, changes_of}
 use Rattle.patch_meaning.specs.Rows.{AreUpTo}
@@ -100,14 +100,14 @@ added old new says at same step from rs ms changes r h up is place =
     ∙ ap (λ (q : Role). changes ++ change_of q) is)
 
 -- a patch that is complete says what its rows say
-pub well_with : (rs : List Role) (link : Link) (changes : List Change) → changes_of rs ≡ changes → IsWell rs (meaning_of link (changes_of rs)) → IsWell rs (meaning_of link changes)
+pub well_with : (rs : List Role) (link : ChainLink) (changes : List Change) → changes_of rs ≡ changes → IsWell rs (meaning_of link (changes_of rs)) → IsWell rs (meaning_of link changes)
 well_with rs link changes are well = subst (λ (cs : List Change). IsWell rs (meaning_of link cs)) are well
 
 -- the changes of a patch that stops within its limit
 pub changes_within : (rs : List PlacedRow) (ms : List Meaning) (changes : List Change) (p : PartRead) (stop : ℕ) → IsCutInto rs ms changes p → AreUpTo rs stop → stop ≤ p.from + PATCH_LIMIT → changes_of (said (cut rs).last.rows_) ≡ changes
 changes_within rs ms changes p stop h up short = h.changes_are (up_further rs stop (p.from + PATCH_LIMIT) short up)
 
-begun_with : (old mid new : PartRead) (says : Role) (at : ℕ) (link : Link) → BeginsPatch says old → IsComplete old at link → HasPart [] mid → mid.from ≡ at → Adds mid says new → new.from ≡ mid.from
+begun_with : (old mid new : PartRead) (says : Role) (at : ℕ) (link : ChainLink) → BeginsPatch says old → IsComplete old at link → HasPart [] mid → mid.from ≡ at → Adds mid says new → new.from ≡ mid.from
     → HasTakenNext old says at (Some link) new
 begun_with old mid new says at link first done none starts step from rs ms changes r h up is place =
     let last = done (cut rs).last.rows_ h.part in
@@ -119,7 +119,7 @@ begun_with old mid new says at link first done none starts step from rs ms chang
     (patches_more (cut rs).done (cut rs).last ms (meaning_of link changes) at h.before well (subst (λ (n : ℕ). at ≤ n + PATCH_LIMIT) (sym h.from_is) last.1)))
     (λ now. changes_more [] r ∙ ap change_of is)
 
-pub taken_next : (old mid new : PartRead) (says : Role) (at : ℕ) (done : Option Link) → IsCutAt old says at done → IsLeftPart old at done mid → Adds mid says new → new.from ≡ mid.from → HasTakenNext old says at done new
+pub taken_next : (old mid new : PartRead) (says : Role) (at : ℕ) (done : Option ChainLink) → IsCutAt old says at done → IsLeftPart old at done mid → Adds mid says new → new.from ≡ mid.from → HasTakenNext old says at done new
 taken_next old mid new says at None is left step from = added old new says at is (λ rs r h. step rs r (subst (HasPart rs) (sym left) h)) (from ∙ ap (λ (p : PartRead). p.from) left)
 taken_next old mid new says at (Some link) is left step from = begun_with old mid new says at link is.0 is.1 left.0 left.1 step from
 
@@ -149,7 +149,7 @@ pub broken_before : (p : PartRead) (says : Role) (at : ℕ) (fault : PatchFault)
 broken_before p says at fault first why rs ms changes r h is place = inl (first (cut rs).last.rows_ h.part, ends_with p rs ms changes at fault why h)
 
 -- the row is refused
-pub broken_row : (old mid : PartRead) (says : Role) (at : ℕ) (done : Option Link) (fault : PatchFault) → IsCutAt old says at done → IsLeftPart old at done mid → IsRefusedRow mid says at fault → IsBrokenBy old says at fault
+pub broken_row : (old mid : PartRead) (says : Role) (at : ℕ) (done : Option ChainLink) (fault : PatchFault) → IsCutAt old says at done → IsLeftPart old at done mid → IsRefusedRow mid says at fault → IsBrokenBy old says at fault
 broken_row old mid says at None fault same left why rs ms changes r h is place =
     let last = (cut rs).last in
     let no = why last.rows_ (subst (HasPart last.rows_) (sym left) h.part) in
@@ -185,7 +185,7 @@ pub stream_by : (rs : List PlacedRow) (stop : ℕ) (ms : List Meaning) → has_s
 stream_by [] stop ms some are = absurd cc
 stream_by (r ∷ rs) stop ms some are = are
 
-stream_ends : (p : PartRead) (stop : ℕ) (link : Link) → ((rs : List PlacedRow) → HasPart rs p → has_some rs ≡ true) → IsComplete p stop link → EndsStream p stop (Some link)
+stream_ends : (p : PartRead) (stop : ℕ) (link : ChainLink) → ((rs : List PlacedRow) → HasPart rs p → has_some rs ≡ true) → IsComplete p stop link → EndsStream p stop (Some link)
 stream_ends p stop link some is rs ms changes h up =
     let last = is (cut rs).last.rows_ h.part in
     let well = well_with (said (cut rs).last.rows_) link changes (changes_within rs ms changes p stop h up last.1) last.0 in
@@ -208,7 +208,7 @@ no_rows : (p : PartRead) (stop : ℕ) → ((rs : List PlacedRow) → HasPart rs 
 no_rows p stop none rs ms changes h up =
     subst (AreStream rs stop) (sym (append-nil ms)) (empty_by rs stop ms (h.some (none_there (cut rs).last.rows_ (none (cut rs).last.rows_ h.part))) h.before)
 
-pub ends_stream : (p : PartRead) (stop : ℕ) (done : Option Link) → IsLastPatch p stop done → EndsStream p stop done
+pub ends_stream : (p : PartRead) (stop : ℕ) (done : Option ChainLink) → IsLastPatch p stop done → EndsStream p stop done
 ends_stream p stop None last = no_rows p stop last
 ends_stream p stop (Some link) last = stream_ends p stop link last.0 last.1
 

@@ -14,7 +14,7 @@ use Rattle.patch_meaning.specs.declared.role.Role.{Role}
 use Rattle.patch_meaning.specs.declared.role.Role.TheVariants as roles
 use Rattle.patch_meaning.specs.Draft.{DraftStands}
 use Rattle.patch_meaning.specs.PartRead.{LacksEnd}
-use Rattle.delta_base.specs.declared.limits.TheConstants.{PATCH_LIMIT}
+use Rattle.log_base.specs.declared.limits.TheConstants.{PATCH_LIMIT}
 use Rattle.patch_meaning.specs.Patch.{Meaning, IsWell, AreTaken, AreTakenFrom, block_refusal, refusal, prev_list}
 use Rattle.patch_meaning.specs.Roles.{role, said, changes_of, open_after}
 use Rattle.patch_meaning.specs.Stream.{StreamPart, IsEndFault, too_long}

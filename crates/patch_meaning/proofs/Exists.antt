@@ -15,7 +15,7 @@ use Rattle.patch_meaning.specs.declared.fault.PatchFault.{PatchFault}
 use Rattle.patch_meaning.specs.declared.fault.PatchKind.{PatchKind}
 use Rattle.patch_meaning.specs.declared.fault.PatchKind.TheVariants as kinds
 use Rattle.patch_meaning.specs.PartRead.{LacksEnd}
-use Rattle.delta_base.specs.declared.limits.TheConstants.{PATCH_LIMIT}
+use Rattle.log_base.specs.declared.limits.TheConstants.{PATCH_LIMIT}
 use Rattle.patch_meaning.specs.Patch.{Meaning, IsWell, IsPatch, IsPatchFault, AreTaken, refusal, has_some}
 use Rattle.patch_meaning.specs.Patch as patch
 use Rattle.patch_meaning.specs.Roles.{role, said}

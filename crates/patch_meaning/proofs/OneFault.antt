@@ -10,7 +10,7 @@ use Rattle.patch_reader.specs.Rows.{NoRowAt}
 use Rattle.patch_meaning.specs.declared.fault.PatchFault.{PatchFault}
 use Rattle.patch_meaning.specs.declared.fault.PatchKind.{PatchKind}
 use Rattle.patch_meaning.specs.declared.fault.PatchKind.TheVariants as kinds
-use Rattle.delta_base.specs.declared.limits.TheConstants.{PATCH_LIMIT}
+use Rattle.log_base.specs.declared.limits.TheConstants.{PATCH_LIMIT}
 use Rattle.patch_meaning.specs.Patch.{Meaning, AreTaken, refusal}
 use Rattle.patch_meaning.specs.Roles.{role, said, is_open}
 use Rattle.patch_meaning.specs.Stream.{StreamPart, Cut, ArePatches, EndsAt, IsPartFault, IsEndFault, IsStreamFault, begins, cut, cut_with, within, refused, too_long, open_block, no_id, next, over}

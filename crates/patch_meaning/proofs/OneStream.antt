@@ -7,7 +7,7 @@ use Rattle.patch_rows.specs.declared.row.Row.{Row}
 use Rattle.patch_rows.specs.Grammar.{IsRowAt}
 use Rattle.patch_meaning.specs.declared.fault.PatchFault.{PatchFault}
 use Rattle.patch_meaning.specs.declared.fault.PatchKind.{PatchKind}
-use Rattle.delta_base.specs.declared.limits.TheConstants.{PATCH_LIMIT}
+use Rattle.log_base.specs.declared.limits.TheConstants.{PATCH_LIMIT}
 use Rattle.patch_meaning.specs.Patch.{Meaning, IsWell, AreTaken, AreTakenFrom, refusal}
 use Rattle.patch_meaning.specs.Roles.{role, said, is_open}
 use Rattle.patch_reader.specs.declared.placed.PlacedRow.{PlacedRow}

@@ -12,7 +12,7 @@ use Rattle.patch_rows.proofs.SpaceLaws.{skipped, none_behind}
 use Rattle.patch_reader.specs.declared.placed.PlacedRow.{PlacedRow}
 use Rattle.patch_reader.specs.Rows.{Gap, RowsUpTo}
 use Rattle.patch_meaning.specs.declared.role.Role.{Role}
-use Rattle.delta_base.specs.declared.limits.TheConstants.{PATCH_LIMIT}
+use Rattle.log_base.specs.declared.limits.TheConstants.{PATCH_LIMIT}
 use Rattle.patch_meaning.specs.Patch.{Meaning, IsPatch, IsWell}
 use Rattle.patch_meaning.specs.Roles.{role, said}
 use Rattle.patch_meaning.specs.Rows.{RowsTo}

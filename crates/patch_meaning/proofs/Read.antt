@@ -6,7 +6,7 @@ use Rattle.patch_rows.specs.declared.fault.RowFault.{RowFault}
 use Rattle.patch_rows.specs.declared.fault.RowFault.TheVariants as row
 use Rattle.patch_meaning.specs.declared.checked.ReadRows.{ReadRows}
 use Rattle.patch_meaning.specs.declared.draft.Draft.{Draft}
-use Rattle.chain_core.specs.declared.link.Link.{Link}
+use Rattle.log_base.specs.declared.chain_link.ChainLink.{ChainLink}
 use Rattle.delta_base.specs.declared.id.Id.{Id}
 use Rattle.delta_base.specs.Ids.{number_of}
 use Rattle.rdf_terms.specs.declared.change.Change.{Change}
@@ -21,7 +21,7 @@ use Rattle.patch_meaning.specs.Checked.{AreRead, HasTakenRows, HasDrafted, Refus
 use Rattle.patch_meaning.specs.Draft.{DraftStands}
 use Rattle.patch_meaning.specs.Next.{IsNextRow, IsNextRead}
 use Rattle.patch_meaning.specs.PartRead.{LacksEnd, meaning_of}
-use Rattle.delta_base.specs.declared.limits.TheConstants.{PATCH_LIMIT}
+use Rattle.log_base.specs.declared.limits.TheConstants.{PATCH_LIMIT}
 use Rattle.patch_meaning.specs.Patch.{IsPatch, IsWell, AreTaken, IsPatchFault, rows_, no_row, refused, open_block, no_id, refusal, row_refused}
 use Rattle.patch_meaning.specs.Roles.{value_id, header_role, role, IsFoundRole, said, changes_of}
 use Rattle.patch_meaning.specs.Rows.{RowsTo}
@@ -115,6 +115,6 @@ lacks_text text rs to fault short reads last (taken, inr is) = rows_ rs to short
 pub lacks_end : (text : List ℕ) (d : Draft) (fault : PatchFault) → length text ≤ PATCH_LIMIT → HasDrafted text d → ((rs : List Role) → DraftStands rs d → LacksEnd rs (length text) fault) → Refuses text fault
 lacks_end text d fault short h why = inr (lacks_text text h.0 (length text) fault short h.1 refl (why (said h.0) h.2))
 
-pub whole_patch : (text : List ℕ) (d : Draft) (link : Link) → length text ≤ PATCH_LIMIT → HasDrafted text d → ((rs : List Role) → DraftStands rs d → IsWell rs (meaning_of link (changes_of rs)))
+pub whole_patch : (text : List ℕ) (d : Draft) (link : ChainLink) → length text ≤ PATCH_LIMIT → HasDrafted text d → ((rs : List Role) → DraftStands rs d → IsWell rs (meaning_of link (changes_of rs)))
     → (changes : List Change) × IsPatch text (meaning_of link changes)
 whole_patch text d link short h well = (changes_of (said h.0), record { short = short; rows_ = h.0; reads = h.1; well = well (said h.0) h.2 })

@@ -2,7 +2,7 @@
 use Rattle.std.proofs.Common.{◌≡◌, ℕ, ◌≤◌, true, List, [], ◌∷◌, ◌++◌, length, Option, Some, None, refl, sym, ap, subst, ◌∙◌, append-nil, ◌⊎◌, inl, inr, arith}
 use Rattle.std.specs.List.{slice_range}
 use Rattle.std.proofs.lemmas.List.{map-append}
-use Rattle.chain_core.specs.declared.link.Link.{Link}
+use Rattle.log_base.specs.declared.chain_link.ChainLink.{ChainLink}
 use Rattle.rdf_terms.specs.declared.change.Change.{Change}
 use Rattle.patch_rows.specs.declared.row.Row.{Row}
 use Rattle.patch_reader.specs.declared.placed.PlacedRow.{PlacedRow}
@@ -26,7 +26,7 @@ use Rattle.patch_meaning.proofs.Rowed.{rows_more, row_within, rows_order, rows_u
 
 -- ---- texts
 
-meanings_more : (ps : List CheckedPatch) (text : List ℕ) (done : Option Link) (changes : List Change) → meanings (ps ++ checked_of text done changes) ≡ meanings ps ++ meanings_of done changes
+meanings_more : (ps : List CheckedPatch) (text : List ℕ) (done : Option ChainLink) (changes : List Change) → meanings (ps ++ checked_of text done changes) ≡ meanings ps ++ meanings_of done changes
 meanings_more ps text None changes = map-append (λ (p : CheckedPatch). p.meaning) ps []
 meanings_more ps text (Some link) changes = map-append (λ (p : CheckedPatch). p.meaning) ps (checked_of text (Some link) changes)
 
@@ -37,7 +37,7 @@ texts_more text (part ∷ done) last stop =
     ∙ ap (λ (l : List (List ℕ)). slice_range text part.from (stop_of done last.from) ∷ l) (texts_more text done last stop)
 
 -- one more patch with its text
-texts_with : (text : List ℕ) (c : Cut) (p : PartRead) (ps : List CheckedPatch) (link : Link) (changes : List Change) (stop : ℕ) → c.last.from ≡ p.from → checked_texts ps ≡ part_texts text c.done c.last.from
+texts_with : (text : List ℕ) (c : Cut) (p : PartRead) (ps : List CheckedPatch) (link : ChainLink) (changes : List Change) (stop : ℕ) → c.last.from ≡ p.from → checked_texts ps ≡ part_texts text c.done c.last.from
     → checked_texts (ps ++ checked_of (slice_range text p.from stop) (Some link) changes) ≡ part_texts text (c.done ++ c.last ∷ []) stop
 texts_with text c p ps link changes stop from are =
     map-append (λ (q : CheckedPatch). q.text) ps (checked_of (slice_range text p.from stop) (Some link) changes)
@@ -47,7 +47,7 @@ texts_with text c p ps link changes stop from are =
 abbrev texts_so_far : List ℕ → Cut → List (List ℕ)
 texts_so_far text c = part_texts text c.done c.last.from
 
-texts_next : (text : List ℕ) (rs : List PlacedRow) (r : PlacedRow) (p : PartRead) (ps : List CheckedPatch) (done : Option Link) (changes : List Change) → HasPart (cut rs).last.rows_ p → (cut rs).last.from ≡ p.from
+texts_next : (text : List ℕ) (rs : List PlacedRow) (r : PlacedRow) (p : PartRead) (ps : List CheckedPatch) (done : Option ChainLink) (changes : List Change) → HasPart (cut rs).last.rows_ p → (cut rs).last.from ≡ p.from
     → IsCutAt p (role r.row) r.at done → checked_texts ps ≡ texts_so_far text (cut rs) → checked_texts (ps ++ checked_of (slice_range text p.from r.at) done changes) ≡ texts_so_far text (cut (rs ++ r ∷ []))
 texts_next text rs r p ps None changes h from same are = ap checked_texts (append-nil ps) ∙ are ∙ sym (ap (texts_so_far text) (cut_longer rs r (same (cut rs).last.rows_ h)))
 texts_next text rs r p ps (Some link) changes h from is are =
@@ -61,7 +61,7 @@ last_text : (text : List ℕ) (rs : List PlacedRow) (texts_are : List (List ℕ)
 last_text text [] texts_are some are = absurd cc
 last_text text (r ∷ rs) texts_are some are = are
 
-texts_last : (text : List ℕ) (rs : List PlacedRow) (p : PartRead) (ps : List CheckedPatch) (done : Option Link) (changes : List Change) → IsCutInto rs (meanings ps) changes p → IsLastPatch p (length text) done
+texts_last : (text : List ℕ) (rs : List PlacedRow) (p : PartRead) (ps : List CheckedPatch) (done : Option ChainLink) (changes : List Change) → IsCutInto rs (meanings ps) changes p → IsLastPatch p (length text) done
     → checked_texts ps ≡ texts_so_far text (cut rs) → checked_texts (ps ++ checked_of (slice_range text p.from (length text)) done changes) ≡ cut_texts text rs
 texts_last text rs p ps None changes h none are = ap checked_texts (append-nil ps) ∙ no_rows_left text rs ps (h.some (none_there (cut rs).last.rows_ (none (cut rs).last.rows_ h.part))) are
 texts_last text rs p ps (Some link) changes h is are =
@@ -79,18 +79,18 @@ rows_there : (text : List ℕ) (at stop : ℕ) (k : Cutting) → (h : HasCut tex
 rows_there text at stop k h gap = subst (λ (n : ℕ). RowsTo text n (cut h.rs).last.rows_ stop) h.parts.from_is (at, last_rows text h.rs at h.reads, gap)
 
 -- the text from where a patch begins to where it stops is that patch
-whole_piece : (text : List ℕ) (at stop : ℕ) (k : Cutting) (link : Link) → (h : HasCut text at k) → Gap text at stop → IsComplete k.part stop link → IsPatch (slice_range text k.part.from stop) (meaning_of link k.changes.items)
+whole_piece : (text : List ℕ) (at stop : ℕ) (k : Cutting) (link : ChainLink) → (h : HasCut text at k) → Gap text at stop → IsComplete k.part stop link → IsPatch (slice_range text k.part.from stop) (meaning_of link k.changes.items)
 whole_piece text at stop k link h gap is =
     let whole = is (cut h.rs).last.rows_ h.parts.part in
     piece_patch text k.part.from stop (cut h.rs).last.rows_ (meaning_of link k.changes.items) (rows_there text at stop k h gap) whole.1
     (well_with (said (cut h.rs).last.rows_) link k.changes.items (changes_within h.rs (meanings k.patches.items) k.changes.items k.part stop h.parts (all_before text at stop k h gap.1) whole.1) whole.0)
 
-pub next_piece : (text : List ℕ) (at : ℕ) (k : Cutting) (row : Next) (done : Option Link) → HasCut text at k → IsNextRow text at row → IsCutAt k.part row.role row.at done
+pub next_piece : (text : List ℕ) (at : ℕ) (k : Cutting) (row : Next) (done : Option ChainLink) → HasCut text at k → IsNextRow text at row → IsCutAt k.part row.role row.at done
     → IsPatchText (slice_range text k.part.from row.at) done k.changes.items
 next_piece text at k row None h is c = tt
 next_piece text at k row (Some link) h is c = whole_piece text at row.at k link h is.1 c.1
 
-pub last_piece : (text : List ℕ) (at : ℕ) (k : Cutting) (done : Option Link) → HasCut text at k → Gap text at (length text) → IsLastPatch k.part (length text) done
+pub last_piece : (text : List ℕ) (at : ℕ) (k : Cutting) (done : Option ChainLink) → HasCut text at k → Gap text at (length text) → IsLastPatch k.part (length text) done
     → IsPatchText (slice_range text k.part.from (length text)) done k.changes.items
 last_piece text at k None h gap last = tt
 last_piece text at k (Some link) h gap last = whole_piece text at (length text) k link h gap last.1
@@ -109,7 +109,7 @@ begun_text text k part from none silent = record {
   texts_are = ap checked_texts none;
 }
 
-pub taken_behind : (text : List ℕ) (at : ℕ) (old new : Cutting) (row : Next) (done : Option Link) → IsNextRow text at row → HasCut text at old → IsCutAt old.part row.role row.at done
+pub taken_behind : (text : List ℕ) (at : ℕ) (old new : Cutting) (row : Next) (done : Option ChainLink) → IsNextRow text at row → HasCut text at old → IsCutAt old.part row.role row.at done
     → HasTakenNext old.part row.role row.at done new.part → new.patches.items ≡ old.patches.items ++ checked_of (slice_range text old.part.from row.at) done old.changes.items
     → new.changes.items ≡ changes_behind done old.changes.items row.role → HasCut text row.end new
 taken_behind text at old new row done is h cuts taken patches changes =
@@ -145,7 +145,7 @@ unfinished text at k fault h gap why =
     let ends = why h.rs (meanings k.patches.items) k.changes.items h.parts in
     inr (end_fault text h.rs (length text) (meanings k.patches.items) fault (at, h.reads, gap) h.parts.before (over refl ends.0) ends.1)
 
-pub finished : (text : List ℕ) (at : ℕ) (k : Cutting) (done : Option Link) (ps : List CheckedPatch) → HasCut text at k → Gap text at (length text) → EndsStream k.part (length text) done
+pub finished : (text : List ℕ) (at : ℕ) (k : Cutting) (done : Option ChainLink) (ps : List CheckedPatch) → HasCut text at k → Gap text at (length text) → EndsStream k.part (length text) done
     → IsLastPatch k.part (length text) done → ps ≡ k.patches.items ++ checked_of (slice_range text k.part.from (length text)) done k.changes.items → IsSplit text ps
 finished text at k done ps h gap ends last same = record {
   rows_ = h.rs;

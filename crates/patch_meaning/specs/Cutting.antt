@@ -1,8 +1,8 @@
 -- A stream of which some rows were taken.
 use Rattle.std.specs.Prelude.{◌≡◌, ◌⊎◌, ℕ, ◌+◌, ◌≤◌, true, false, List}
 use Rattle.std.specs.Prelude.{[], ◌∷◌, ◌++◌, Option, Some, None, length}
-use Rattle.delta_base.specs.declared.limits.TheConstants.{PATCH_LIMIT}
-use Rattle.chain_core.specs.declared.link.Link.{Link}
+use Rattle.log_base.specs.declared.limits.TheConstants.{PATCH_LIMIT}
+use Rattle.log_base.specs.declared.chain_link.ChainLink.{ChainLink}
 use Rattle.rdf_terms.specs.declared.change.Change.{Change}
 use Rattle.patch_rows.specs.declared.fault.RowKind.{RowKind}
 use Rattle.patch_meaning.specs.declared.fault.PatchFault.{PatchFault}
@@ -46,31 +46,31 @@ abbrev pub GoesOnInPatch : Role → PartRead → Type 0
 GoesOnInPatch says p = (rs : List PlacedRow) → HasPart rs p → begins (said rs) says ≡ false
 
 -- the patch goes on with a row that says this, or it is complete where the next one begins with it
-abbrev pub IsCutAt : PartRead → Role → ℕ → Option Link → Type 0
+abbrev pub IsCutAt : PartRead → Role → ℕ → Option ChainLink → Type 0
 IsCutAt p says at None = GoesOnInPatch says p
 IsCutAt p says at (Some link) = BeginsPatch says p × IsComplete p at link
 
 -- a patch that goes on stays, and behind one that is complete the next one begins
-abbrev pub IsLeftPart : PartRead → ℕ → Option Link → PartRead → Type 0
+abbrev pub IsLeftPart : PartRead → ℕ → Option ChainLink → PartRead → Type 0
 IsLeftPart old at None new = new ≡ old
 IsLeftPart old at (Some link) new = HasPart [] new × (new.from ≡ at)
 
 -- what a patch with these changes says that was completed, if one was
-abbrev pub meanings_of : Option Link → List Change → List Meaning
+abbrev pub meanings_of : Option ChainLink → List Change → List Meaning
 meanings_of None changes = []
 meanings_of (Some link) changes = meaning_of link changes ∷ []
 
 -- where a patch was completed, its changes are not those of the next one
-abbrev pub changes_left : Option Link → List Change → List Change
+abbrev pub changes_left : Option ChainLink → List Change → List Change
 changes_left None changes = changes
 changes_left (Some link) changes = []
 
 -- the changes of the patch that may go on behind a row
-abbrev pub changes_behind : Option Link → List Change → Role → List Change
+abbrev pub changes_behind : Option ChainLink → List Change → Role → List Change
 changes_behind done changes says = changes_left done changes ++ change_of says
 
 -- the row was taken, and a patch was completed where the next one begins with it
-abbrev pub HasTakenNext : PartRead → Role → ℕ → Option Link → PartRead → Type 0
+abbrev pub HasTakenNext : PartRead → Role → ℕ → Option ChainLink → PartRead → Type 0
 HasTakenNext old says at done new =
     (rs : List PlacedRow) (ms : List Meaning) (changes : List Change) (r : PlacedRow)
     → IsCutInto rs ms changes old → AreUpTo rs at → role r.row ≡ says → r.at ≡ at
@@ -109,13 +109,13 @@ IsBrokenAt p at kind fault =
     → AreTaken (said (cut rs).last.rows_) × (fault ≡ within (cut rs).last.from at (kinds.Row kind))
 
 -- the last patch of a stream that stops there: it has no rows, or it is complete
-abbrev pub IsLastPatch : PartRead → ℕ → Option Link → Type 0
+abbrev pub IsLastPatch : PartRead → ℕ → Option ChainLink → Type 0
 IsLastPatch p stop None = (rs : List PlacedRow) → HasPart rs p → has_some rs ≡ false
 IsLastPatch p stop (Some link) =
     ((rs : List PlacedRow) → HasPart rs p → has_some rs ≡ true) × IsComplete p stop link
 
 -- the stream of these rows ends there, with the patch that was completed last
-abbrev pub EndsStream : PartRead → ℕ → Option Link → Type 0
+abbrev pub EndsStream : PartRead → ℕ → Option ChainLink → Type 0
 EndsStream p stop done =
     (rs : List PlacedRow) (ms : List Meaning) (changes : List Change) → IsCutInto rs ms changes p
     → AreUpTo rs stop → AreStream rs stop (ms ++ meanings_of done changes)
@@ -146,12 +146,12 @@ abbrev pub HasCutAll : List ℕ → Cutting → Type 0
 HasCutAll text k = (at : ℕ) × HasCut text at k × Gap text at (length text)
 
 -- the text is the patch with these changes, if there is one
-abbrev pub IsPatchText : List ℕ → Option Link → List Change → Type 0
+abbrev pub IsPatchText : List ℕ → Option ChainLink → List Change → Type 0
 IsPatchText text None changes = Unit {0}
 IsPatchText text (Some link) changes = IsPatch text (meaning_of link changes)
 
 -- the patch with its text, if there is one
-abbrev pub checked_of : List ℕ → Option Link → List Change → List CheckedPatch
+abbrev pub checked_of : List ℕ → Option ChainLink → List Change → List CheckedPatch
 checked_of text None changes = []
 checked_of text (Some link) changes = record { text = text; meaning = meaning_of link changes } ∷ []
 

@@ -1,8 +1,8 @@
 -- A patch of a stream of which some rows were taken.
 use Rattle.std.specs.Prelude.{◌≡◌, ◌⊎◌, ℕ, ◌+◌, ◌≤◌, true, false, List, [], Some, IfSome}
-use Rattle.delta_base.specs.declared.limits.TheConstants.{PATCH_LIMIT}
+use Rattle.log_base.specs.declared.limits.TheConstants.{PATCH_LIMIT}
 use Rattle.rdf_terms.specs.declared.change.Change.{Change}
-use Rattle.chain_core.specs.declared.link.Link.{Link}
+use Rattle.log_base.specs.declared.chain_link.ChainLink.{ChainLink}
 use Rattle.patch_meaning.specs.declared.fault.PatchFault.{PatchFault}
 use Rattle.patch_meaning.specs.declared.fault.PatchFault.TheVariants as faults
 use Rattle.patch_meaning.specs.declared.fault.PatchKind.{PatchKind}
@@ -16,7 +16,7 @@ use Rattle.patch_meaning.specs.Stream.{IsEndFault, within}
 use Rattle.patch_reader.specs.declared.placed.PlacedRow.{PlacedRow}
 
 -- what a patch with these ids and changes says
-abbrev pub meaning_of : Link → List Change → Meaning
+abbrev pub meaning_of : ChainLink → List Change → Meaning
 meaning_of link changes = record { id = link.id; prev = link.prev; changes = changes }
 
 -- these are its rows, and each of them was taken
@@ -31,7 +31,7 @@ IsRefusedRow p says at fault =
     → (kind : PatchKind) × (refusal (said rs) says ≡ Some kind) × (fault ≡ within p.from at kind)
 
 -- the patch that stops there is complete, and has these ids
-abbrev pub IsComplete : PartRead → ℕ → Link → Type 0
+abbrev pub IsComplete : PartRead → ℕ → ChainLink → Type 0
 IsComplete p stop link =
     (rs : List PlacedRow) → HasPart rs p
     → IsWell (said rs) (meaning_of link (changes_of (said rs))) × (stop ≤ p.from + PATCH_LIMIT)

@@ -1,7 +1,7 @@
 -- The dataset that patches make one after another, and what makes them a chain.
 use Rattle.std.specs.Prelude.{List, [], ◌∷◌, map}
 use Rattle.rdf_terms.specs.Dataset.{Dataset, apply, empty}
-use Rattle.chain_core.specs.declared.link.Link.{Link}
+use Rattle.log_base.specs.declared.chain_link.ChainLink.{ChainLink}
 use Rattle.patch_meaning.specs.Patch.{Meaning}
 
 -- the patches one after another
@@ -13,9 +13,9 @@ replay_from (m ∷ ms) d = replay_from ms (apply m.changes d)
 abbrev pub replay : List Meaning → Dataset
 replay ms = replay_from ms empty
 
-abbrev pub link_of : Meaning → Link
+abbrev pub link_of : Meaning → ChainLink
 link_of m = record { id = m.id; prev = m.prev }
 
 -- what a chain sees of patches
-abbrev pub links_said : List Meaning → List Link
+abbrev pub links_said : List Meaning → List ChainLink
 links_said ms = map link_of ms

@@ -12,7 +12,7 @@ use Rattle.patch_meaning.specs.declared.fault.PatchKind.TheVariants as kinds
 use Rattle.patch_meaning.specs.declared.role.Role.{Role}
 use Rattle.patch_meaning.specs.declared.role.Role.TheVariants as roles
 use Rattle.patch_meaning.specs.Checked.{CheckedPatch, meanings, checked_texts}
-use Rattle.delta_base.specs.declared.limits.TheConstants.{PATCH_LIMIT}
+use Rattle.log_base.specs.declared.limits.TheConstants.{PATCH_LIMIT}
 use Rattle.patch_meaning.specs.Patch.{Meaning, IsWell, AreTaken, refusal, has_some}
 use Rattle.patch_meaning.specs.Roles.{role, said, ids_of, changes_of, is_open}
 use Rattle.patch_reader.specs.declared.placed.PlacedRow.{PlacedRow}

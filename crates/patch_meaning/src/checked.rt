@@ -5,7 +5,7 @@ ghost use Rattle.patch_meaning.specs.declared.role.Role.{Role as Said};
 ghost use Rattle.patch_meaning.specs.Checked.{AreRead, HasReadPatch, Refuses, IsStopped};
 ghost use Rattle.patch_meaning.specs.Roles.{change_of};
 ghost use Rattle.patch_meaning.specs.PartRead.{meaning_of};
-ghost use Rattle.delta_base.specs.declared.limits.TheConstants.{PATCH_LIMIT};
+ghost use Rattle.log_base.specs.declared.limits.TheConstants.{PATCH_LIMIT};
 ghost use Rattle.patch_meaning.specs.Patch.{IsPatch};
 
 use crate::draft::Draft;
@@ -13,8 +13,8 @@ use crate::fault::PatchFault;
 use crate::part::whole;
 use crate::role::Role;
 use crate::rows::{Next, next_row};
-use chain_core::Link;
-use delta_base::{Bytes, Id, Listing, OutOfMemory, PATCH_LIMIT};
+use delta_base::{Bytes, Id, Listing, OutOfMemory};
+use log_base::{ChainLink, PATCH_LIMIT};
 use rdf_terms::Changes;
 use std::alloc::Global;
 use std::marker::Model;
@@ -46,7 +46,7 @@ impl Checked {
     pub(crate) fn with_text(
         alloc: Global,
         text: &[u8],
-        link: Link,
+        link: ChainLink,
         changes: Changes,
     ) -> Result<Checked, OutOfMemory>
         requires { IsPatch text.now (meaning_of link changes.items) }

@@ -9,14 +9,14 @@ ghost use Rattle.patch_meaning.specs.PartRead.{IsIncomplete, IsToldAt};
 use crate::fault::{PatchFault, PatchKind};
 use crate::part::Part;
 use crate::role::Role;
-use chain_core::Link;
+use log_base::ChainLink;
 use patch_rows::RowKind;
 
 impl Part {
     /// Takes what the next row of a stream says, and the row's place. Where the next patch begins
     /// with it, the ids of the patch so far are answered, and the part is that next patch. Behind a
     /// fault the part is as before.
-    pub fn take_next(&mut self, says: &Role, at: u64) -> Result<Option<Link>, PatchFault>
+    pub fn take_next(&mut self, says: &Role, at: u64) -> Result<Option<ChainLink>, PatchFault>
         ensures ok { IfOk result (λ done. HasTakenNext self.old says.now at done self.new) }
         ensures cut { IfOk result (IsCutAt self.old says.now at) }
         ensures fault { IfErr result (IsBrokenBy self.old says.now at) }
@@ -37,7 +37,7 @@ impl Part {
 
     // The patch to which the row belongs that says this, and the ids of the one before it, where
     // the row begins the next one.
-    fn cut_before(&self, says: &Role, at: u64) -> Result<(Part, Option<Link>), PatchFault>
+    fn cut_before(&self, says: &Role, at: u64) -> Result<(Part, Option<ChainLink>), PatchFault>
         ensures cut { IfOk result (λ x. IsCutAt self.now says.now at x.1) }
         ensures left { IfOk result (λ x. IsLeftPart self.now at x.1 x.0) }
         ensures fault { IfErr result (λ fault.
@@ -54,7 +54,7 @@ impl Part {
     }
 
     /// The ids of the last patch of a stream that ends here, if it has rows.
-    pub fn finish_stream(&self, stop: u64) -> Result<Option<Link>, PatchFault>
+    pub fn finish_stream(&self, stop: u64) -> Result<Option<ChainLink>, PatchFault>
         ensures ok { IfOk result (EndsStream self.now stop) }
         ensures last { IfOk result (IsLastPatch self.now stop) }
         ensures fault { IfErr result (IsBrokenAtEnd self.now stop) }

@@ -1,7 +1,7 @@
 //! The ids of a text that is a patch.
 
 ghost use Rattle.std.specs.Prelude.{◌≡◌, ◌≤◌, ◌++◌, ◌∷◌, [], List, length, IfOk, IfErr, OnOk};
-ghost use Rattle.delta_base.specs.declared.limits.TheConstants.{PATCH_LIMIT};
+ghost use Rattle.log_base.specs.declared.limits.TheConstants.{PATCH_LIMIT};
 ghost use Rattle.rdf_terms.specs.declared.change.Change.{Change};
 ghost use Rattle.patch_meaning.specs.declared.fault.PatchFault.TheVariants as faults;
 ghost use Rattle.patch_meaning.specs.declared.role.Role.{Role as Said};
@@ -16,14 +16,13 @@ use crate::draft::Draft;
 use crate::fault::{PatchFault, PatchKind};
 use crate::part::whole;
 use crate::rows::{Next, row_from};
-use chain_core::Link;
-use delta_base::PATCH_LIMIT;
+use log_base::{ChainLink, PATCH_LIMIT};
 use patch_rows::skip_space;
 use row_scan::scan_row;
 use std::alloc::Global;
 
 /// The ids of one patch. A fault is the text's first. No change is kept, and no text copied.
-pub fn check_link(alloc: Global, text: &[u8]) -> Result<Link, PatchFault>
+pub fn check_link(alloc: Global, text: &[u8]) -> Result<ChainLink, PatchFault>
     ensures ok { IfOk result (λ link.
         (changes : List Change) × IsPatch text.now (meaning_of link changes)) }
     ensures fault { IfErr result (Refuses text.now) }

@@ -2,7 +2,7 @@
 
 ghost use Rattle.std.specs.Prelude.{◌≡◌, ◌+◌, ◌++◌, ◌∷◌, [], Bool, List};
 ghost use Rattle.std.specs.Prelude.{IfOk, IfErr, OnOk, OnErr, nat_lt, ◌-◌};
-ghost use Rattle.delta_base.specs.declared.limits.TheConstants.{PATCH_LIMIT};
+ghost use Rattle.log_base.specs.declared.limits.TheConstants.{PATCH_LIMIT};
 ghost use Rattle.patch_meaning.specs.declared.fault.PatchFault.TheVariants as faults;
 ghost use Rattle.patch_meaning.specs.declared.role.Role.{Role as Said};
 ghost use Rattle.patch_meaning.specs.declared.role.Role.TheVariants as roles;
@@ -19,8 +19,7 @@ ghost use Rattle.row_scan.specs.Found.{change_by};
 use crate::draft::Draft;
 use crate::fault::{PatchFault, PatchKind};
 use crate::role::Role;
-use chain_core::Link;
-use delta_base::PATCH_LIMIT;
+use log_base::{ChainLink, PATCH_LIMIT};
 
 /// A patch of a stream, as far as its rows were taken. Who reads them keeps the changes.
 #[derive(Clone, Copy)]
@@ -114,7 +113,7 @@ impl Part {
     }
 
     /// The ids of the patch whose text stops here.
-    pub fn finish(&self, stop: u64) -> Result<Link, PatchFault>
+    pub fn finish(&self, stop: u64) -> Result<ChainLink, PatchFault>
         ensures ok { IfOk result (IsComplete self.now stop) }
         ensures fault { IfErr result (IsIncomplete self.now stop) }
         ensures told { IfErr result (IsToldAt stop) }
@@ -137,7 +136,7 @@ fn too_long(from: u64, at: u64) -> PatchFault
 }
 
 /// The ids of the patch of which all rows were taken.
-pub fn whole(draft: Draft, stop: u64) -> Result<Link, PatchFault>
+pub fn whole(draft: Draft, stop: u64) -> Result<ChainLink, PatchFault>
     ensures ok { IfOk result (λ link. (rs : List Said)
         → DraftStands rs draft → IsWell rs (meaning_of link (changes_of rs))) }
     ensures fault { IfErr result (λ fault. (rs : List Said) → DraftStands rs draft
@@ -155,7 +154,7 @@ pub fn whole(draft: Draft, stop: u64) -> Result<Link, PatchFault>
             at: stop,
             kind: PatchKind::NoId,
         }),
-        Some(id) => Ok(Link {
+        Some(id) => Ok(ChainLink {
             id,
             prev: draft.prev,
         }),

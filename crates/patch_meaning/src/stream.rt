@@ -14,8 +14,8 @@ use crate::fault::PatchFault;
 use crate::part::Part;
 use crate::role::Role;
 use crate::rows::{Next, next_row};
-use chain_core::Link;
 use delta_base::{Listing, OutOfMemory};
+use log_base::ChainLink;
 use patch_rows::RowFault;
 use rdf_terms::Changes;
 use std::alloc::Global;
@@ -91,7 +91,7 @@ impl Cutting {
         alloc: Global,
         text: &[u8],
         says: Role,
-        done: Option<Link>,
+        done: Option<ChainLink>,
     ) -> Result<(), PatchFault>
         requires { IsPatchText text.now done self.old.changes.items }
         ensures patches { OnOk result (self.new.patches.items
@@ -108,7 +108,12 @@ impl Cutting {
     }
 
     // Puts a patch with its text behind those that are complete, if there is one.
-    fn put(&mut self, alloc: Global, text: &[u8], done: Option<Link>) -> Result<(), OutOfMemory>
+    fn put(
+        &mut self,
+        alloc: Global,
+        text: &[u8],
+        done: Option<ChainLink>,
+    ) -> Result<(), OutOfMemory>
         requires { IsPatchText text.now done self.old.changes.items }
         ensures patches { OnOk result (self.new.patches.items
             ≡ self.old.patches.items ++ checked_of text.now done self.old.changes.items) }

@@ -2,8 +2,8 @@
 use Rattle.std.proofs.Common.{◌≡◌, ◌≢◌, ◌⊎◌, inl, inr, ℕ, ◌+◌, ◌<◌, ◌≤◌, Bool, true, false, cond, eqb, ltb, List, [], ◌∷◌, Option, Some, None, refl, sym, ◌∙◌, ap, subst, arith}
 use Rattle.std.proofs.lemmas.Bool.Decides.{nat_tests}
 use Rattle.delta_base.specs.declared.id.Id.{Id}
-use Rattle.delta_base.specs.declared.limits.FullKind.TheVariants.{Bytes, Slots}
-use Rattle.delta_base.specs.declared.source_info.SourceInfo.{SourceInfo}
+use Rattle.log_base.specs.declared.limits.FullKind.TheVariants.{Bytes, Slots}
+use Rattle.log_base.specs.declared.source_info.SourceInfo.{SourceInfo}
 use Rattle.registry_core.specs.declared.event.Event.TheVariants.{Created, Renamed, Removed}
 use Rattle.registry_core.specs.declared.answer.CreateAnswer.{CreateAnswer}
 use Rattle.registry_core.specs.declared.answer.CreateAnswer.TheVariants.{Made, BadName, BadUri, NameTaken, IdTaken, Full}
@@ -15,7 +15,7 @@ use Rattle.registry_core.specs.Names.{name_fault, uri_fault}
 use Rattle.registry_core.specs.Sources.{named, source_named, source_with_id}
 use Rattle.registry_core.specs.Texts.{length_with}
 use Rattle.registry_core.specs.Replies.{created, renamed_to, removal_answer, of_found, too_long, no_slot, removal}
-use Rattle.delta_base.specs.declared.limits.TheConstants.{REGISTRY_LIMIT}
+use Rattle.log_base.specs.declared.limits.TheConstants.{REGISTRY_LIMIT}
 use Rattle.registry_core.proofs.Tables.{chosen, chosen_change, chosen_removal}
 
 pub refused : (reply answer : CreateAnswer) → reply ≡ answer → end_of_create answer ≡ told → IsRefusedCreate reply answer

@@ -4,7 +4,7 @@ use Rattle.std.specs.Prelude.{slice_get}
 use Rattle.std.specs.List.{AllByRecursion, find}
 use Rattle.std.specs.Fmt.{decimal}
 use Rattle.delta_base.specs.Ids.{text_of}
-use Rattle.delta_base.specs.declared.source_info.SourceInfo.{SourceInfo}
+use Rattle.log_base.specs.declared.source_info.SourceInfo.{SourceInfo}
 use Rattle.registry_core.specs.declared.event.Event.TheVariants.{Created}
 use Rattle.registry_core.specs.Texts.{event_text}
 use Rattle.delta_base.proofs.IdLemmas.{length-text_of}

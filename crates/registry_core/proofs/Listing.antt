@@ -3,7 +3,7 @@ use Rattle.std.proofs.Common.{◌≡◌, ℕ, zero, suc, ◌<◌, ◌≤◌, Boo
 use Rattle.std.specs.Prelude.{fold}
 use Rattle.std.proofs.lemmas.List.{drop_all}
 use Rattle.std.specs.List.{AllByRecursion, insert}
-use Rattle.delta_base.specs.declared.source_info.SourceInfo.{SourceInfo}
+use Rattle.log_base.specs.declared.source_info.SourceInfo.{SourceInfo}
 use Rattle.registry_core.specs.Sources.{is_before, put, by_name}
 
 pub put_here : (listed : List SourceInfo) (place : ℕ) (source d : SourceInfo) → place ≤ length listed → ((k : ℕ) → k < place → is_before source (get_or listed k d) ≡ false)

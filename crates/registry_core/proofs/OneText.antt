@@ -4,7 +4,7 @@ use Rattle.std.specs.Fmt.{decimal}
 use Rattle.std.proofs.lemmas.Fmt.{decimal_injective}
 use Rattle.delta_base.specs.Ids.{number_of, text_of}
 use Rattle.delta_base.specs.declared.id.Id.{Id}
-use Rattle.delta_base.specs.declared.source_info.SourceInfo.{SourceInfo}
+use Rattle.log_base.specs.declared.source_info.SourceInfo.{SourceInfo}
 use Rattle.registry_core.specs.Texts.{source_text, event_text}
 use Rattle.registry_core.specs.Events.{IsSlot, IsSoundEvent, IsSource}
 use Rattle.registry_core.specs.declared.event.Event.{Event}

@@ -4,7 +4,7 @@ use Rattle.std.specs.Fmt.{decimal}
 use Rattle.std.specs.List.{AllByRecursion}
 use Rattle.std.proofs.lemmas.Fmt.{decimal_injective}
 use Rattle.std.proofs.lemmas.List.{map-append, take_at, length-take}
-use Rattle.slot_files.specs.Files.{slots_payload}
+use Rattle.registry_core.specs.Texts.{slots_payload}
 use Rattle.registry_core.specs.declared.event.Event.{Event}
 use Rattle.registry_core.specs.declared.event.Entry.{Entry}
 use Rattle.registry_core.specs.Texts.{event_text, registry_payloads}

@@ -10,7 +10,7 @@ use Rattle.uuid.proofs.TextLemmas.{by_index_at, by_index_length, nibble_small}
 use Rattle.delta_base.specs.Ids.{text_of}
 use Rattle.registry_core.specs.Blanks.{HasNoBlank}
 use Rattle.registry_core.specs.Names.{may_stand, name_stop, name_fault}
-use Rattle.delta_base.specs.declared.source_info.SourceInfo.{SourceInfo}
+use Rattle.log_base.specs.declared.source_info.SourceInfo.{SourceInfo}
 use Rattle.registry_core.specs.Texts.{source_text}
 use Rattle.registry_core.specs.Events.{IsSlot, IsSource}
 

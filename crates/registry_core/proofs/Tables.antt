@@ -6,8 +6,8 @@ use Rattle.std.proofs.lemmas.List.{map-append}
 use Rattle.std.proofs.lemmas.List.Sums.{sum_by-append}
 use Rattle.std.proofs.lemmas.Bool.Decides.{nat_tests}
 use Rattle.delta_base.specs.declared.id.Id.{Id}
-use Rattle.delta_base.specs.declared.limits.FullKind.TheVariants.{Bytes, Slots}
-use Rattle.delta_base.specs.declared.source_info.SourceInfo.{SourceInfo}
+use Rattle.log_base.specs.declared.limits.FullKind.TheVariants.{Bytes, Slots}
+use Rattle.log_base.specs.declared.source_info.SourceInfo.{SourceInfo}
 use Rattle.registry_core.specs.declared.event.Event.{Event}
 use Rattle.registry_core.specs.declared.event.Event.TheVariants.{Created, Renamed, Removed}
 use Rattle.registry_core.specs.declared.event.Entry.{Entry}
@@ -20,7 +20,7 @@ use Rattle.registry_core.specs.Names.{name_fault, uri_fault}
 use Rattle.registry_core.specs.Sources.{sources, used, makes, after_event, named, renamed, source_named, source_with_id, HasSlot}
 use Rattle.registry_core.specs.Texts.{event_text, registry_length, length_with}
 use Rattle.registry_core.specs.Replies.{created, renamed_to, removal_answer, of_found, too_long, no_slot, create_reply, rename_reply, remove_reply, next_source}
-use Rattle.delta_base.specs.declared.limits.TheConstants.{REGISTRY_LIMIT}
+use Rattle.log_base.specs.declared.limits.TheConstants.{REGISTRY_LIMIT}
 use Rattle.registry_core.specs.Events.{events_of, IsSlot, IsNextEvent, IsMade, AreNext, IsRegistry}
 use Rattle.registry_core.specs.Tables.{SlotsRise, IsTable, ReadyEvent, IsReadyFor}
 

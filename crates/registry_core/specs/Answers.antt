@@ -1,6 +1,6 @@
 -- How a call ends.
 use Rattle.std.specs.Prelude.{◌≡◌, ◌⊎◌, ◌≢◌, ℕ, List, [], ◌∷◌, Option, Some, None}
-use Rattle.delta_base.specs.declared.source_info.SourceInfo.{SourceInfo}
+use Rattle.log_base.specs.declared.source_info.SourceInfo.{SourceInfo}
 use Rattle.registry_core.specs.declared.event.Event.{Event}
 use Rattle.registry_core.specs.declared.event.Event.TheVariants.{Created}
 use Rattle.registry_core.specs.declared.answer.CreateAnswer.{CreateAnswer}

@@ -4,7 +4,7 @@ use Rattle.registry_core.specs.declared.answer.CreateAnswer.{CreateAnswer}
 use Rattle.registry_core.specs.declared.answer.CreateAnswer.TheVariants.{Made, IdTaken, OutOfMemory}
 use Rattle.registry_core.specs.declared.answer.ChangeAnswer.{ChangeAnswer}
 use Rattle.registry_core.specs.declared.answer.ChangeAnswer.TheVariants.{Done, OutOfMemory as Wants}
-use Rattle.delta_base.specs.declared.source_info.SourceInfo.{SourceInfo}
+use Rattle.log_base.specs.declared.source_info.SourceInfo.{SourceInfo}
 use Rattle.registry_core.specs.Answers.{told, end_of_create, end_of_change}
 use Rattle.registry_core.specs.Replies.{removal}
 

@@ -1,7 +1,7 @@
 -- Which events a registry has, and which payloads are a registry's.
 use Rattle.std.specs.Prelude.{◌≡◌, ◌⊎◌, ℕ, ◌+◌, ◌<◌, ◌≤◌, ◌^◌, List, []}
 use Rattle.std.specs.Prelude.{◌∷◌, ◌++◌, length, take, map, None, IsUtf8}
-use Rattle.delta_base.specs.declared.source_info.SourceInfo.{SourceInfo}
+use Rattle.log_base.specs.declared.source_info.SourceInfo.{SourceInfo}
 use Rattle.registry_core.specs.declared.event.Event.{Event}
 use Rattle.registry_core.specs.declared.event.Event.TheVariants.{Created, Renamed, Removed}
 use Rattle.registry_core.specs.declared.event.Entry.{Entry}

@@ -2,10 +2,13 @@
 use Rattle.std.specs.Prelude.{ℕ, ◌+◌, List, [], ◌∷◌, ◌++◌, length, sum_by, map}
 use Rattle.std.specs.Fmt.{decimal}
 use Rattle.delta_base.specs.Ids.{text_of}
-use Rattle.slot_files.specs.Files.{slots_payload}
-use Rattle.delta_base.specs.declared.source_info.SourceInfo.{SourceInfo}
+use Rattle.log_base.specs.declared.source_info.SourceInfo.{SourceInfo}
 use Rattle.registry_core.specs.declared.event.Event.{Event}
 use Rattle.registry_core.specs.declared.event.Event.TheVariants.{Created, Renamed, Removed}
+
+-- `S`, a space and the number of slots in decimal
+abbrev pub slots_payload : ℕ → List ℕ
+slots_payload slots = 83 ∷ 32 ∷ decimal slots
 
 -- `slot id name uri`
 abbrev pub source_text : SourceInfo → List ℕ

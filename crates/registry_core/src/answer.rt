@@ -1,5 +1,6 @@
 //! What the calls that change a registry answer.
-use delta_base::{FullKind, Id, SourceInfo, Text};
+use delta_base::{Id, Text};
+use log_base::{FullKind, SourceInfo};
 
 /// What a creation answers.
 #[derive(Debug, Drop)]

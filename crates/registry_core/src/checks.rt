@@ -2,18 +2,19 @@
 //! an id.
 ghost use Rattle.std.specs.Prelude.{◌≡◌, ◌+◌, ◌≤◌, Some, IfSome, IfNone, IfOk, IfErr, slice_get};
 ghost use Rattle.std.specs.List.{AllByRecursion};
-ghost use Rattle.delta_base.specs.declared.source_info.SourceInfo.{SourceInfo as AnySource};
+ghost use Rattle.log_base.specs.declared.source_info.SourceInfo.{SourceInfo as AnySource};
 ghost use Rattle.registry_core.specs.Checks.{IsRefusedCreate, IsRefusedChange};
 ghost use Rattle.registry_core.specs.Events.{IsSlot};
 ghost use Rattle.registry_core.specs.Replies.{created, renamed_to, removal_answer, of_found};
-ghost use Rattle.delta_base.specs.declared.limits.TheConstants.{REGISTRY_LIMIT};
+ghost use Rattle.log_base.specs.declared.limits.TheConstants.{REGISTRY_LIMIT};
 ghost use Rattle.registry_core.specs.Sources.{named, source_named};
 
 use crate::answer::{ChangeAnswer, CreateAnswer};
 use crate::lookups::{place_named, place_with_id};
 use crate::names::{name_fault, uri_fault};
 use crate::texts::{created_length, removed_length, renamed_length};
-use delta_base::{FullKind, Id, REGISTRY_LIMIT, SourceInfo};
+use delta_base::Id;
+use log_base::{FullKind, REGISTRY_LIMIT, SourceInfo};
 
 // The answer that shows the name of the source which has an id.
 fn id_taken(source: &SourceInfo) -> CreateAnswer

@@ -2,7 +2,8 @@
 ghost use Rattle.std.specs.Prelude.{◌≡◌};
 ghost use Rattle.registry_core.specs.Sources.{makes};
 
-use delta_base::{SourceInfo, Text};
+use delta_base::Text;
+use log_base::SourceInfo;
 
 /// One thing that happened.
 #[derive(Debug, Drop)]

@@ -25,4 +25,4 @@ pub use lookups::{find_named, find_with_id, find_with_uri, listed};
 pub use names::{name_fault, uri_fault};
 pub use opening::{PayloadFault, read_registry};
 pub use registry::{Ready, Registry};
-pub use texts::event_text;
+pub use texts::{event_text, first_payload};

@@ -4,7 +4,8 @@ ghost use Rattle.std.specs.Prelude.{◌≡◌, ◌==◌, IfOk, map, filter, not}
 ghost use Rattle.registry_core.specs.Sources.{named, renamed, after_event};
 
 use crate::event::Event;
-use delta_base::{OutOfMemory, SourceInfo, Text};
+use delta_base::{OutOfMemory, Text};
+use log_base::SourceInfo;
 use std::alloc::Global;
 
 /// The same source by another name.

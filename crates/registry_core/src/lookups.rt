@@ -5,7 +5,8 @@ ghost use Rattle.std.specs.List.{AllByRecursion};
 ghost use Rattle.registry_core.specs.Sources.{source_named, source_with_id, source_with_uri};
 ghost use Rattle.registry_core.specs.Sources.{source_in, HasSlot, put, by_name};
 
-use delta_base::{Id, OutOfMemory, SourceInfo, Sources};
+use delta_base::{Id, OutOfMemory};
+use log_base::{SourceInfo, Sources};
 use std::alloc::Global;
 
 /// The place of the source with a name.

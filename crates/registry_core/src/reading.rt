@@ -1,18 +1,17 @@
 //! Reads payloads as events, whatever came before.
 ghost use Rattle.std.specs.Prelude.{◌≡◌, ℕ, ◌<◌, ◌^◌, ◌++◌, ◌∷◌, IfOk, IfSome, IfNone, IsErrOf};
 ghost use Rattle.std.specs.Fmt.{decimal};
-ghost use Rattle.slot_files.specs.Files.{slots_payload};
 ghost use Rattle.registry_core.specs.declared.event.Event.{Event as AnyEvent};
-ghost use Rattle.delta_base.specs.declared.source_info.SourceInfo.{SourceInfo as AnySource};
+ghost use Rattle.log_base.specs.declared.source_info.SourceInfo.{SourceInfo as AnySource};
 ghost use Rattle.registry_core.specs.Blanks.{HasNoBlank};
 ghost use Rattle.registry_core.specs.Events.{IsSlot, IsName, IsUri, IsSource, IsSoundEvent};
-ghost use Rattle.registry_core.specs.Texts.{source_text, event_text};
+ghost use Rattle.registry_core.specs.Texts.{slots_payload, source_text, event_text};
 
 use crate::event::Event;
 use crate::names::{name_fault, uri_fault};
-use crate::texts::slot_text;
-use delta_base::{OutOfMemory, SourceInfo, Text, exact_id};
-use slot_files::first_payload;
+use crate::texts::{first_payload, slot_text};
+use delta_base::{OutOfMemory, Text, exact_id};
+use log_base::SourceInfo;
 use std::alloc::Global;
 
 /// Why a payload is no event.

@@ -2,13 +2,13 @@
 ghost use Rattle.std.specs.Prelude.{◌≡◌, ◌+◌, ◌<◌, ◌≤◌, ◌↔◌, ◌++◌, ◌∷◌, [], length, Some};
 ghost use Rattle.std.specs.Prelude.{IsTrue, IfOk, IfErr, OnOk, IfSome, IfNone, slice_get};
 ghost use Rattle.std.specs.List.{AllByRecursion};
-ghost use Rattle.delta_base.specs.declared.source_info.SourceInfo.{SourceInfo as AnySource};
+ghost use Rattle.log_base.specs.declared.source_info.SourceInfo.{SourceInfo as AnySource};
 ghost use Rattle.registry_core.specs.Checks.{IsRefusedCreate, IsRefusedChange, StopsCreate};
 ghost use Rattle.registry_core.specs.Checks.{StopsChange};
 ghost use Rattle.registry_core.specs.Events.{events_of, IsSlot, IsMade, IsNextEvent, IsRegistry};
 ghost use Rattle.registry_core.specs.Replies.{create_reply, rename_reply, remove_reply};
 ghost use Rattle.registry_core.specs.Replies.{renaming, removal, next_source};
-ghost use Rattle.delta_base.specs.declared.limits.TheConstants.{REGISTRY_LIMIT};
+ghost use Rattle.log_base.specs.declared.limits.TheConstants.{REGISTRY_LIMIT};
 ghost use Rattle.registry_core.specs.Sources.{sources, named, by_name, HasSlot};
 ghost use Rattle.registry_core.specs.Tables.{IsReadyFor};
 ghost use Rattle.registry_core.specs.Texts.{event_text, registry_length};
@@ -18,8 +18,9 @@ use crate::checks::{check_create, check_remove, check_rename};
 use crate::event::{Entry, Event};
 use crate::living::{living_after, with_name};
 use crate::lookups::{listed, place_in};
-use delta_base::{Id, Listing, OutOfMemory, SourceInfo, Sources, Text};
-use slot_files::first_payload;
+use crate::texts::first_payload;
+use delta_base::{Id, Listing, OutOfMemory, Text};
+use log_base::{SourceInfo, Sources};
 use std::alloc::Global;
 use std::marker::Model;
 

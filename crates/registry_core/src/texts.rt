@@ -1,15 +1,32 @@
-//! Writes events.
+//! Writes the payloads of a registry.
 ghost use Rattle.std.specs.Prelude.{◌≡◌, ◌+◌, ◌≤◌, ◌++◌, length, IfOk, OnOk};
 ghost use Rattle.std.specs.Fmt.{decimal};
 ghost use Rattle.delta_base.specs.declared.id.Id.{Id as AnyId};
+ghost use Rattle.log_base.specs.declared.limits.TheConstants.{MOST_SLOTS};
 ghost use Rattle.registry_core.specs.declared.event.Event.TheVariants as event;
 ghost use Rattle.registry_core.specs.Events.{IsSlot, IsSoundEvent};
-ghost use Rattle.registry_core.specs.Texts.{source_text, event_text};
+ghost use Rattle.registry_core.specs.Texts.{slots_payload, source_text, event_text};
 
 use crate::event::Event;
-use delta_base::{OutOfMemory, SourceInfo, id_text};
-use slot_files::first_payload;
+use delta_base::{OutOfMemory, id_text};
+use log_base::SourceInfo;
 use std::alloc::Global;
+
+/// The registry's first payload: `S`, a space and the number of slots in decimal. It is written
+/// into the buffer.
+pub fn first_payload<'a>(slots: u8, room: &'a mut [u8; 4]) -> &'a [u8]
+    requires { slots ≤ MOST_SLOTS }
+    ensures payload { result.now ≡ slots_payload slots }
+    ensures short { length result.now ≤ 4 }
+{
+    let last = b'0' + slots % 10;
+    if slots < 10 {
+        *room = [b'S', b' ', last, 0];
+        return &room[..3];
+    }
+    *room = [b'S', b' ', b'0' + slots / 10, last];
+    &room[..]
+}
 
 /// A slot in decimal. It is written into the buffer.
 pub fn slot_text<'a>(slot: u32, room: &'a mut [u8; 4]) -> &'a [u8]

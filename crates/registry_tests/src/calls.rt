@@ -2,8 +2,9 @@
 ghost use Rattle.std.specs.Prelude.{◌≡◌, IfOk};
 ghost use Rattle.std.specs.List.{AllByRecursion};
 
-use delta_base::{Bytes, FullKind, Id, Listing, Text};
+use delta_base::{Bytes, Id, Listing, Text};
 use disk_model::MemDisk;
+use log_base::FullKind;
 use log_registry::RegistryState;
 use registry_core::{ChangeAnswer, CreateAnswer};
 use std::alloc::Global;

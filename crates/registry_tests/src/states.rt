@@ -2,8 +2,9 @@
 use crate::calls::{
     ONE_SLOT, Place, TWO_SLOTS, Told, create, id_of, is, open_with, remove, rename,
 };
-use delta_base::{FullKind, Id, SourceInfo, Text};
+use delta_base::{Id, Text};
 use disk_model::MemDisk;
+use log_base::{FullKind, SourceInfo};
 use log_registry::RegistryState;
 use registry_core::CreateAnswer;
 use std::alloc::Global;

@@ -9,10 +9,10 @@ use Rattle.serde_json.specs.Read.{read}
 use Rattle.serde_json.specs.View.{items_of}
 use Rattle.delta_base.specs.Ids.{IsId, number_of, text_of}
 use Rattle.delta_base.specs.declared.id.Id.{Id}
-use Rattle.delta_base.specs.declared.limits.FullKind.{FullKind}
-use Rattle.delta_base.specs.declared.limits.FullKind.TheVariants.{Patches, Bytes, Slots}
+use Rattle.log_base.specs.declared.limits.FullKind.{FullKind}
+use Rattle.log_base.specs.declared.limits.FullKind.TheVariants.{Patches, Bytes, Slots}
 use Rattle.http_text.specs.declared.message.RawReply.{RawReply}
-use Rattle.delta_base.specs.declared.source_info.SourceInfo.{SourceInfo}
+use Rattle.log_base.specs.declared.source_info.SourceInfo.{SourceInfo}
 use Rattle.rpc_answers.specs.declared.answer.Answer.{Answer}
 use Rattle.rpc_answers.specs.declared.answer.Answer.TheVariants as answer
 use Rattle.rpc_answers.specs.Values.{source_data, id_or_null, whole_or_null, limit_name}

@@ -3,7 +3,7 @@ use Rattle.std.proofs.Common.{◌≡◌, ◌∙◌, ℕ, ◌==◌, ◌||◌, Lis
 use Rattle.std.specs.List.{list_any}
 use Rattle.std.proofs.lemmas.Bool.{eqb-true}
 use Rattle.http_text.specs.Print.{statuses}
-use Rattle.delta_base.specs.declared.limits.FullKind.TheVariants.{Patches}
+use Rattle.log_base.specs.declared.limits.FullKind.TheVariants.{Patches}
 use Rattle.http_text.specs.declared.message.RawReply.{RawReply}
 use Rattle.rpc_answers.specs.declared.answer.Answer.{Answer}
 use Rattle.rpc_answers.specs.declared.answer.Answer.TheVariants as answer

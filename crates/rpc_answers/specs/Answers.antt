@@ -6,7 +6,7 @@ use Rattle.std.specs.List.{All}
 use lib.Pointwise.{pointwise}
 use Rattle.serde_json.specs.Data.{Data, boolean, string}
 use Rattle.delta_base.specs.Ids.{IsId}
-use Rattle.delta_base.specs.declared.source_info.SourceInfo.{SourceInfo}
+use Rattle.log_base.specs.declared.source_info.SourceInfo.{SourceInfo}
 use Rattle.http_text.specs.Faults.{frame_name, frame_status}
 use Rattle.http_text.specs.declared.framing.FrameFault.{FrameFault}
 use Rattle.http_text.specs.declared.framing.FrameFault.TheVariants as frame

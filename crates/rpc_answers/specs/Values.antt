@@ -5,9 +5,9 @@ use Rattle.serde_json.specs.Data.{array, object, Members, member, no_members}
 use Rattle.serde_json.specs.View.{items_of}
 use Rattle.delta_base.specs.Ids.{text_of}
 use Rattle.delta_base.specs.declared.id.Id.{Id}
-use Rattle.delta_base.specs.declared.limits.FullKind.{FullKind}
-use Rattle.delta_base.specs.declared.limits.FullKind.TheVariants.{Patches, Bytes, Slots}
-use Rattle.delta_base.specs.declared.source_info.SourceInfo.{SourceInfo}
+use Rattle.log_base.specs.declared.limits.FullKind.{FullKind}
+use Rattle.log_base.specs.declared.limits.FullKind.TheVariants.{Patches, Bytes, Slots}
+use Rattle.log_base.specs.declared.source_info.SourceInfo.{SourceInfo}
 
 abbrev pub members_from : List (List ℕ × Data) → Members
 members_from [] = no_members

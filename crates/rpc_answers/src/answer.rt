@@ -1,5 +1,6 @@
 //! What a server answers.
-use delta_base::{Bytes, FullKind, Id, SourceInfo, Sources, Text};
+use delta_base::{Bytes, Id, Text};
+use log_base::{FullKind, SourceInfo, Sources};
 
 /// An answer to a call.
 #[derive(Debug, Drop)]

@@ -9,7 +9,8 @@ use crate::answer::Answer;
 use crate::values::{
     id_or_null, id_value, limit_name, number_or_null, source_value, source_values,
 };
-use delta_base::{FullKind, Id, OutOfMemory, Sources, Text};
+use delta_base::{Id, OutOfMemory, Text};
+use log_base::{FullKind, Sources};
 use serde_json::{Value, json};
 use std::alloc::{AllocError, Global};
 

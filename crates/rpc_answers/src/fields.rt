@@ -8,7 +8,8 @@ ghost use Rattle.delta_base.specs.Ids.{IsId};
 ghost use Rattle.rpc_answers.specs.Values.{word, whole_number, whole_or_null};
 ghost use Rattle.rpc_answers.specs.Values.{id_data, id_or_null, limit_name};
 
-use delta_base::{FullKind, Id, exact_id};
+use delta_base::{Id, exact_id};
+use log_base::FullKind;
 use serde_json::Value;
 
 /// Whether the value is that word.

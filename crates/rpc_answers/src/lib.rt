@@ -21,6 +21,6 @@ mod values;
 
 pub use answer::Answer;
 pub use fault::AnswerFault;
-pub use laws::{prints_are_read, replies_are_one_answer, sessions_say_answers};
+pub use laws::{prints_are_read, replies_are_one_answer};
 pub use print::{into_reply, print_answer};
 pub use read::read_answer;

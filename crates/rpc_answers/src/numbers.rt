@@ -9,7 +9,8 @@ use crate::fields::{
     flag_in, id_in, id_or_null_in, is_word, limit_in, long_in, short_in, short_or_null_in,
 };
 use crate::members::{four_members, one_member, three_members, two_members};
-use delta_base::{FullKind, Id};
+use delta_base::Id;
+use log_base::FullKind;
 use serde_json::Value;
 
 // The place of a refusal with this name.

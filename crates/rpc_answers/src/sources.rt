@@ -11,7 +11,8 @@ ghost use Rattle.rpc_answers.specs.Values.{source_data, sources_data};
 use crate::answer::Answer;
 use crate::fields::{id_in, short_in, text_in};
 use crate::members::{four_members, one_member};
-use delta_base::{Id, Listing, OutOfMemory, SourceInfo, Text};
+use delta_base::{Id, Listing, OutOfMemory, Text};
+use log_base::SourceInfo;
 use serde_json::Value;
 use std::alloc::Global;
 

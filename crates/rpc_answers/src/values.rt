@@ -8,7 +8,8 @@ ghost use Rattle.rpc_answers.specs.Answers.{IsAnsweredSource};
 ghost use Rattle.rpc_answers.specs.Values.{whole_or_null, id_data, id_or_null};
 ghost use Rattle.rpc_answers.specs.Values.{limit_name, source_data};
 
-use delta_base::{FullKind, Id, OutOfMemory, SourceInfo, id_string};
+use delta_base::{Id, OutOfMemory, id_string};
+use log_base::{FullKind, SourceInfo};
 use serde_json::{Value, json};
 use std::alloc::Global;
 

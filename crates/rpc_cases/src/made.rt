@@ -5,8 +5,9 @@ ghost use Rattle.http_text.specs.Print.{IsAllow};
 ghost use Rattle.rpc_answers.specs.Answers.{NamesItsFault};
 
 use case_scripts::Words;
-use delta_base::{Bytes, FullKind, Id, Listing, OutOfMemory, SourceInfo, Text, read_id};
+use delta_base::{Bytes, Id, Listing, OutOfMemory, Text, read_id};
 use http_text::print_reply;
+use log_base::{FullKind, SourceInfo};
 use rpc_answers::{Answer, into_reply};
 use std::alloc::Global;
 

@@ -11,8 +11,9 @@ ghost use Rattle.turn_cell.specs.Sights.{IsGrownBy};
 
 use crate::replies::{Fetched, LogInfo};
 use chain_core::{LogAnswer, Patch};
-use delta_base::{Id, LogLimits, OutOfMemory};
+use delta_base::{Id, OutOfMemory};
 use disk_model::Disk;
+use log_base::LogLimits;
 use patch_log::{LogState, Ready, append_made};
 use patch_meaning::Checked;
 use std::collections::LinkedList;

@@ -3,9 +3,9 @@ use Rattle.std.proofs.Common.{◌≡◌, ◌≢◌, ◌⊎◌, ℕ, ◌+◌, ◌
 use Rattle.std.proofs.lemmas.List.{append-nil}
 use mathlib.Core.List.{IsPrefix}
 use Rattle.delta_base.specs.Outside.{Rose}
-use Rattle.delta_base.specs.declared.phase.Phase.{Phase}
-use Rattle.delta_base.specs.declared.phase.Phase.TheVariants.{Settling, Body, Gate}
-use Rattle.delta_base.specs.declared.source_info.SourceInfo.{SourceInfo}
+use Rattle.log_base.specs.declared.phase.Phase.{Phase}
+use Rattle.log_base.specs.declared.phase.Phase.TheVariants.{Settling, Body, Gate}
+use Rattle.log_base.specs.declared.source_info.SourceInfo.{SourceInfo}
 use Rattle.disk_model.specs.declared.disk.Disk.{Ghosts}
 use Rattle.registry_core.specs.declared.event.Event.{Event}
 use Rattle.registry_core.specs.declared.answer.CreateAnswer.{CreateAnswer}

@@ -3,7 +3,7 @@ use Rattle.std.specs.Prelude.{◌≡◌, ◌≢◌, ◌⊎◌, ℕ, List, [], �
 use Rattle.std.proofs.Common.{inl, inr, ap, refl, ⊎_elim}
 use mathlib.Core.Logic.{dite}
 use native.Mathlib.Decide.{ℕ_discrete}
-use Rattle.delta_base.specs.declared.source_info.SourceInfo.{SourceInfo}
+use Rattle.log_base.specs.declared.source_info.SourceInfo.{SourceInfo}
 use Rattle.registry_core.specs.declared.event.Event.{Event}
 use Rattle.registry_core.specs.declared.event.Event.TheVariants.{Created, Renamed, Removed}
 

@@ -1,7 +1,7 @@
 -- The sources that a pass keeps, which live after all that it has seen.
 use Rattle.std.specs.Prelude.{◌≡◌, ℕ, List, length, Option, Some, None}
 use Rattle.std.specs.List.{AllByRecursion}
-use Rattle.delta_base.specs.declared.source_info.SourceInfo.{SourceInfo}
+use Rattle.log_base.specs.declared.source_info.SourceInfo.{SourceInfo}
 use Rattle.registry_core.specs.Sources.{sources, HasSlot}
 use Rattle.turn_cell.specs.Knowing.{seen_of}
 use Rattle.shared_registry.specs.declared.names.Names.{Names}

@@ -3,8 +3,8 @@ ghost use Rattle.std.specs.Prelude.{◌≡◌, IsTrue, IsSome, IfSome, Some};
 ghost use Rattle.shared_registry.specs.declared.names.Names.{Names as Kept};
 
 use crate::value::RegistryValue;
-use delta_base::{SourceInfo, Sources};
 use disk_model::Disk;
+use log_base::{SourceInfo, Sources};
 use std::marker::Model;
 use turn_cell::Pass;
 

@@ -16,8 +16,9 @@ ghost use Rattle.shared_registry.specs.Names.{KeepsNames, HasNames};
 
 use crate::names::{Names, RegistryPass, counts, living_in};
 use crate::value::RegistryValue;
-use delta_base::{Back, Id, OutOfMemory, SourceInfo, Sources, Text};
+use delta_base::{Back, Id, OutOfMemory, Text};
 use disk_model::Disk;
+use log_base::{SourceInfo, Sources};
 use log_registry::RegistryState;
 use registry_core::{ChangeAnswer, CreateAnswer, find_named, find_with_id, find_with_uri, listed};
 use std::alloc::Global;

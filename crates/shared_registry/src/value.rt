@@ -1,7 +1,7 @@
 //! A registry as the value of a turn.
 ghost use Rattle.std.specs.Prelude.{◌≡◌, ◌≢◌, ◌≤◌, length, IfOk};
 ghost use Rattle.std.specs.List.{AllByRecursion};
-ghost use Rattle.delta_base.specs.declared.source_info.SourceInfo.{SourceInfo as AnySource};
+ghost use Rattle.log_base.specs.declared.source_info.SourceInfo.{SourceInfo as AnySource};
 ghost use Rattle.registry_core.specs.Replies as asked;
 ghost use Rattle.registry_core.specs.Sources.{sources, HasSlot};
 ghost use Rattle.log_registry.specs.Changes.{Called, IsUntouched};
@@ -11,8 +11,9 @@ ghost use Rattle.shared_registry.specs.History.{RegistryStandsInTurn};
 ghost use Rattle.turn_cell.specs.Sights.{IsGrownBy};
 
 use crate::names::Names;
-use delta_base::{Id, OutOfMemory, Sources, Text};
+use delta_base::{Id, OutOfMemory, Text};
 use disk_model::Disk;
+use log_base::Sources;
 use log_registry::RegistryState;
 use registry_core::{ChangeAnswer, CreateAnswer, Event, copies};
 use std::alloc::Global;

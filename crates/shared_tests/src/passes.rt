@@ -6,8 +6,9 @@ ghost use Rattle.shared_log.specs.Passes.{IsPassOf};
 ghost use Rattle.turn_cell.specs.Knowing.{pass_number};
 
 use chain_core::LogAnswer;
-use delta_base::{Bytes, Id, Listing, LogLimits};
+use delta_base::{Bytes, Id, Listing};
 use disk_model::MemDisk;
+use log_base::LogLimits;
 use patch_log::{LogState, Ready};
 use patch_meaning::{Checked, check_patch};
 use shared_log::{Fetched, LogPass, LogValue, SharedLog};

@@ -1,6 +1,6 @@
 -- Why a file of a registry and its logs isn't in its form.
 use Rattle.std.specs.Prelude.{◌≡◌, ℕ, List}
-use Rattle.delta_base.specs.declared.limits.TheConstants.{LOG_LIMITS}
+use Rattle.log_base.specs.declared.limits.TheConstants.{LOG_LIMITS}
 use Rattle.disk_model.specs.declared.shelf.ShelfFault.{ShelfFault}
 use Rattle.disk_model.specs.declared.shelf.ShelfFault.TheVariants as shelf
 use Rattle.log_registry.specs.Fault.{HasRegistryFault}

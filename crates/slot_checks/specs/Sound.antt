@@ -1,7 +1,7 @@
 -- Files that are in their form.
 use Rattle.std.specs.Prelude.{◌≡◌, ℕ, ◌+◌, List, [], ◌∷◌, length}
 use Rattle.chain_core.specs.declared.chain.Patch.{Patch}
-use Rattle.delta_base.specs.declared.limits.TheConstants.{LOG_LIMITS}
+use Rattle.log_base.specs.declared.limits.TheConstants.{LOG_LIMITS}
 use Rattle.chain_core.specs.Patches.{last_id}
 use Rattle.log_journal.specs.File.{Holds}
 use Rattle.patch_log.specs.Log.{IsSoundLog, payloads_of}

@@ -15,7 +15,7 @@ ghost use Rattle.std.specs.Prelude.{
   Some,
 };
 ghost use Rattle.delta_base.specs.Outside.{Rose};
-ghost use Rattle.delta_base.specs.declared.limits.TheConstants.{MOST_SLOTS};
+ghost use Rattle.log_base.specs.declared.limits.TheConstants.{MOST_SLOTS};
 ghost use Rattle.disk_model.specs.Shelf.{SameOthers};
 ghost use Rattle.slot_files.specs.Files.{IsKept, bytes_at};
 ghost use Rattle.slot_checks.specs.Checks.{HasFileLines, IsReport, CheckStops, StopsInLogs};

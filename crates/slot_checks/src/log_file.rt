@@ -7,8 +7,8 @@ ghost use Rattle.slot_checks.specs.Faults.{HasFileFault};
 
 use crate::fault::CheckFault;
 use crate::lines::FileLine;
-use delta_base::LOG_LIMITS;
 use disk_model::Disk;
+use log_base::LOG_LIMITS;
 use patch_log::{LogRefusal, LogState};
 use std::alloc::Global;
 

@@ -1,7 +1,7 @@
 //! The file of the registry.
 ghost use Rattle.std.specs.Prelude.{◌≡◌, ℕ, ◌≤◌, IfOk, IfErr, IsErrOf};
 ghost use Rattle.delta_base.specs.Outside.{Rose};
-ghost use Rattle.delta_base.specs.declared.limits.TheConstants.{MOST_SLOTS};
+ghost use Rattle.log_base.specs.declared.limits.TheConstants.{MOST_SLOTS};
 ghost use Rattle.disk_model.specs.Past.{reads};
 ghost use Rattle.slot_checks.specs.Sound.{HoldsRegistry};
 ghost use Rattle.slot_checks.specs.Faults.{HasRegistryFileFault};

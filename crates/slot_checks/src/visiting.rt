@@ -1,5 +1,5 @@
 //! Visits to the files of a shelf, whose disks are put back.
-ghost use Rattle.delta_base.specs.declared.limits.TheConstants.{MOST_SLOTS};
+ghost use Rattle.log_base.specs.declared.limits.TheConstants.{MOST_SLOTS};
 ghost use Rattle.std.specs.Prelude.{◌≡◌, ℕ, ◌≤◌, IfOk, IfErr, IsErrOf, Some};
 ghost use Rattle.delta_base.specs.Outside.{Rose};
 ghost use Rattle.disk_model.specs.Shelf.{SameOthers};

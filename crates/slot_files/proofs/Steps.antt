@@ -4,7 +4,8 @@ use Rattle.std.specs.Prelude.{Option, Some, None, unwrap_or}
 use Rattle.std.proofs.lemmas.Bool.{cases_eq, cases_lt}
 use Rattle.disk_model.specs.Shelf.{SameOthers}
 use Rattle.log_journal.specs.File.{file_of}
-use Rattle.slot_files.specs.Files.{Files, bytes_at, slots_payload, AreMade, SameBut, IsInitial, end_before, StopsAt, KeepsFull}
+use Rattle.registry_core.specs.Texts.{slots_payload}
+use Rattle.slot_files.specs.Files.{Files, bytes_at, AreMade, SameBut, IsInitial, end_before, StopsAt, KeepsFull}
 
 -- a file that has bytes is there
 pub there : (file : Option (List ℕ)) → 0 < length (unwrap_or file []) → Some (unwrap_or file []) ≡ file

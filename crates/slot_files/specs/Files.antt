@@ -1,8 +1,8 @@
 -- The files of a registry and its logs, as they are made.
 use Rattle.std.specs.Prelude.{◌≡◌, ◌⊎◌, ℕ, zero, suc, ◌+◌, ◌<◌, ◌≤◌, List}
 use Rattle.std.specs.Prelude.{[], ◌∷◌, length, Option, Some, None, unwrap_or}
-use Rattle.std.specs.Fmt.{decimal}
 use Rattle.log_journal.specs.File.{file_of}
+use Rattle.registry_core.specs.Texts.{slots_payload}
 
 -- what a shelf has for each directory and number
 abbrev pub Files : Type 0
@@ -11,10 +11,6 @@ Files = List ℕ → ℕ → Option (List ℕ)
 -- the bytes of a file, and none where there is no file
 abbrev pub bytes_at : Files → List ℕ → ℕ → List ℕ
 bytes_at files dir number = unwrap_or (files dir number) []
-
--- `S`, a space and the number of slots in decimal
-abbrev pub slots_payload : ℕ → List ℕ
-slots_payload slots = 83 ∷ 32 ∷ decimal slots
 
 -- the files of a directory from 1 on and below `end` had no bytes, and are now empty journals
 -- of their numbers

@@ -14,4 +14,3 @@ mod registry;
 pub use fault::InitFault;
 pub use journal::format_file;
 pub use making::init_slots;
-pub use registry::first_payload;

@@ -1,15 +1,16 @@
 //! All files of a registry with its logs.
 ghost use Rattle.std.specs.Prelude.{◌≡◌, ℕ, ◌+◌, ◌<◌, ◌≤◌, length, OnOk, IsErrOf};
 ghost use Rattle.delta_base.specs.Outside.{Rose};
-ghost use Rattle.delta_base.specs.declared.limits.TheConstants.{MOST_SLOTS};
+ghost use Rattle.log_base.specs.declared.limits.TheConstants.{MOST_SLOTS};
 ghost use Rattle.slot_files.specs.Files.{IsInitial, StopsAt, SameBut, KeepsFull};
 
 use crate::fault::InitFault;
 use crate::logs::format_logs;
-use crate::registry::{first_payload, write_registry};
+use crate::registry::write_registry;
 use delta_base::Text;
 use disk_model::Shelf;
 use log_journal::make_block;
+use registry_core::first_payload;
 use std::alloc::Global;
 
 /// Makes the files of the logs, from 1 to the number of slots, and then file 0 of the registry.

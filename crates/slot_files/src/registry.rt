@@ -1,34 +1,18 @@
 //! The file of the registry: a journal whose first payload tells the number of slots.
-ghost use Rattle.std.specs.Prelude.{◌≡◌, ℕ, ◌+◌, ◌<◌, ◌≤◌, [], ◌∷◌, Some, length, OnOk, IsErrOf};
+ghost use Rattle.std.specs.Prelude.{◌≡◌, ℕ, ◌<◌, ◌≤◌, [], ◌∷◌, Some, length, OnOk, IsErrOf};
 ghost use Rattle.delta_base.specs.Outside.{Rose};
-ghost use Rattle.delta_base.specs.declared.limits.TheConstants.{MOST_SLOTS};
 ghost use Rattle.disk_model.specs.Past.{reads};
 ghost use Rattle.disk_model.specs.Shelf.{SameOthers};
 ghost use Rattle.log_journal.specs.File.{file_of};
 ghost use Rattle.log_journal.specs.Payload.{payload_of};
-ghost use Rattle.slot_files.specs.Files.{bytes_at, slots_payload};
+ghost use Rattle.slot_files.specs.Files.{bytes_at};
 
 use crate::fault::InitFault;
 use crate::opening::opened;
-use delta_base::{REGISTRY_LIMIT, Text};
+use delta_base::Text;
 use disk_model::{Disk, Shelf};
+use log_base::REGISTRY_LIMIT;
 use log_journal::{AppendFault, Block, FormatFault, Journal};
-
-/// The registry's first payload: `S`, a space and the number of slots in decimal. It is written
-/// into the buffer.
-pub fn first_payload<'a>(slots: u8, room: &'a mut [u8; 4]) -> &'a [u8]
-    requires { slots ≤ MOST_SLOTS }
-    ensures payload { result.now ≡ slots_payload slots }
-    ensures short { length result.now ≤ 4 }
-{
-    let last = b'0' + slots % 10;
-    if slots < 10 {
-        *room = [b'S', b' ', last, 0];
-        return &room[..3];
-    }
-    *room = [b'S', b' ', b'0' + slots / 10, last];
-    &room[..]
-}
 
 // Makes an empty file the registry's, and gives its disk back.
 fn written<D: Disk>(disk: D, block: &Block) -> (D, Result<(), InitFault>)

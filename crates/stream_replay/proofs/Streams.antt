@@ -3,8 +3,8 @@ use Rattle.std.proofs.Common.{◌≡◌, ℕ, ◌+◌, ◌<◌, ◌≤◌, Bool,
 use Rattle.std.specs.Prelude.{codes, nat_lt}
 use Rattle.std.proofs.lemmas.Bool.Decides.{nat_tests}
 use Rattle.std.proofs.lemmas.List.{drop-drop, drop-append-le}
-use Rattle.delta_base.specs.declared.limits.TheConstants.{PATCH_LIMIT}
-use Rattle.chain_core.specs.declared.link.Link.{Link}
+use Rattle.log_base.specs.declared.limits.TheConstants.{PATCH_LIMIT}
+use Rattle.log_base.specs.declared.chain_link.ChainLink.{ChainLink}
 use Rattle.rdf_terms.specs.declared.change.Change.{Change}
 use Rattle.rdf_terms.specs.Dataset.{Dataset}
 use Rattle.rdf_terms.specs.Quad.{Statement}
@@ -127,7 +127,7 @@ up_to_next end text rs passed stop r before there =
 not_behind : (limit : ℕ) (rs : List PlacedRow) (r : PlacedRow) → AreUpTo (rs ++ r ∷ []) limit → nat_lt limit r.at ≡ false
 not_behind limit rs r up = let here = (front_up_to rs r limit up).1 in grind (arith, nat_tests)
 
-pub streamed_more : (end : TextEnd) (text : List ℕ) (at stop : ℕ) (old new : StreamProgress) (says : Role) (done : Option Link) → AwaitsRow end text old says at stop → HasTakenNext old.part says at done new.part
+pub streamed_more : (end : TextEnd) (text : List ℕ) (at stop : ℕ) (old new : StreamProgress) (says : Role) (done : Option ChainLink) → AwaitsRow end text old says at stop → HasTakenNext old.part says at done new.part
     → ((ms : List Meaning) (changes : List Change) → IsReplay ms old.replay → IsReplay (ms ++ meanings_of done changes) new.replay)
     → ((ms : List Meaning) (changes : List Change) → HasEdits changes (replay ms) old.edits → HoldsMore new.part (changes_left done changes) (replay (ms ++ meanings_of done changes)) says at new.edits)
     → HasStreamed end text stop new
@@ -268,7 +268,7 @@ refused_at_end text at p fault why h gap = λ whole is.
     let last = why h.rs h.ms h.changes h.parts in
     subst (λ (t : List ℕ). RefusesStream t fault) (sym is) (inr (end_fault text h.rs (length text) h.ms fault (reads_whole text at p h gap) h.parts.before (over refl last.0) last.1))
 
-pub stream_at_end : (text : List ℕ) (at : ℕ) (p : StreamProgress) (done : Option Link) (h : HasStreamed cuts.Known text at p) → Gap text at (length text) → EndsStream p.part (length text) done
+pub stream_at_end : (text : List ℕ) (at : ℕ) (p : StreamProgress) (done : Option ChainLink) (h : HasStreamed cuts.Known text at p) → Gap text at (length text) → EndsStream p.part (length text) done
     → IsStream text (h.ms ++ meanings_of done h.changes)
 stream_at_end text at p done h gap ends = record {
   rows_ = h.rs;

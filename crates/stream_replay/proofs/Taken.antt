@@ -3,8 +3,8 @@ use Rattle.std.proofs.Common.{◌≡◌, ℕ, ◌+◌, ◌<◌, ◌^◌, ◌-◌
 use Rattle.std.specs.Prelude.{is_some}
 use Rattle.std.proofs.lemmas.List.{map-append, length-map}
 use Rattle.delta_base.specs.declared.id.Id.{Id}
-use Rattle.delta_base.specs.declared.limits.TheConstants.{PATCH_LIMIT}
-use Rattle.chain_core.specs.declared.link.Link.{Link}
+use Rattle.log_base.specs.declared.limits.TheConstants.{PATCH_LIMIT}
+use Rattle.log_base.specs.declared.chain_link.ChainLink.{ChainLink}
 use Rattle.chain_core.specs.declared.testing.ChainFault.{ChainFault}
 use Rattle.chain_core.specs.declared.testing.ChainTest.{ChainTest}
 use Rattle.chain_core.specs.Links.{IsChain}
@@ -36,7 +36,7 @@ replay-push : (ms : List Meaning) (m : Meaning) (d : Dataset) → replay_from (m
 replay-push [] m d = refl
 replay-push (n ∷ ms) m d = replay-push ms m (apply n.changes d)
 
-last-push : (head : Option Id) (ls : List Link) (l : Link) → last_or head (ls ++ l ∷ []) ≡ Some l.id
+last-push : (head : Option Id) (ls : List ChainLink) (l : ChainLink) → last_or head (ls ++ l ∷ []) ≡ Some l.id
 last-push head [] l = refl
 last-push head (k ∷ ls) l = last-push (Some k.id) ls l
 
@@ -51,10 +51,10 @@ pub still_broken : (ms : List Meaning) (m : Meaning) (r : Replay) → is_some r.
 still_broken ms m r some has = broken_more ms m r.fault r some has
 
 -- the first fault
-pub breaks : (ms more : List Meaning) (m : Meaning) (chain : ChainTest) (fault : ChainFault) → ((links behind : List Link) → IsTested links chain → Breaks (links ++ link_of m ∷ behind) fault)
+pub breaks : (ms more : List Meaning) (m : Meaning) (chain : ChainTest) (fault : ChainFault) → ((links behind : List ChainLink) → IsTested links chain → Breaks (links ++ link_of m ∷ behind) fault)
     → IsTested (links_said ms) chain → Breaks (links_said ((ms ++ m ∷ []) ++ more)) fault
 breaks ms more m chain fault all tested =
-    subst (λ (ls : List Link). Breaks ls fault) (sym (ap links_said (append_assoc ms (m ∷ []) more) ∙ links-append ms (m ∷ more))) (all (links_said ms) (links_said more) tested)
+    subst (λ (ls : List ChainLink). Breaks ls fault) (sym (ap links_said (append_assoc ms (m ∷ []) more) ∙ links-append ms (m ∷ more))) (all (links_said ms) (links_said more) tested)
 
 pub broken : (ms : List Meaning) (fault : ChainFault) → ((more : List Meaning) → Breaks (links_said (ms ++ more)) fault) → Breaks (links_said ms) fault
 broken ms fault all = subst (λ (l : List Meaning). Breaks (links_said l) fault) (append-nil ms) (all [])
@@ -77,13 +77,13 @@ no_end n few = omega arith
 
 -- a patch that goes on
 pub goes_on : (ms : List Meaning) (m : Meaning) (old new : Replay) → IsChainSoFar ms old → old.chain.version < 2 ^ 32 - 1
-    → ((links : List Link) → IsTested links old.chain → IsChain (links ++ link_of m ∷ []))
-    → ((links : List Link) → IsTested links old.chain → IsChain (links ++ link_of m ∷ []) → IsTested (links ++ link_of m ∷ []) new.chain)
+    → ((links : List ChainLink) → IsTested links old.chain → IsChain (links ++ link_of m ∷ []))
+    → ((links : List ChainLink) → IsTested links old.chain → IsChain (links ++ link_of m ∷ []) → IsTested (links ++ link_of m ∷ []) new.chain)
     → (old.patches < 2 ^ 32 → new.patches ≡ old.patches + 1) → new.head ≡ Some m.id → IsChainSoFar (ms ++ m ∷ []) new
 goes_on ms m old new is room follows pushed count head =
     let few : old.patches < 2 ^ 32 = let v = is.tested.version_is in let n = is.patches_is in let l = length-map ms link_of in omega arith in
     record {
-      tested = subst (λ (ls : List Link). IsTested ls new.chain) (sym (links-append ms (m ∷ []))) (pushed (links_said ms) is.tested (follows (links_said ms) is.tested));
+      tested = subst (λ (ls : List ChainLink). IsTested ls new.chain) (sym (links-append ms (m ∷ []))) (pushed (links_said ms) is.tested (follows (links_said ms) is.tested));
       patches_is = count few ∙ ap (λ (n : ℕ). n + 1) is.patches_is ∙ sym (length-append ms (m ∷ []));
       head_is = head ∙ sym (ap (last_or None) (links-append ms (m ∷ [])) ∙ last-push None (links_said ms) (link_of m));
     }
@@ -91,11 +91,11 @@ goes_on ms m old new is room follows pushed count head =
 -- ---- the dataset
 
 -- the edits go on with a patch that is complete, if there is one
-pub edits_left : (ms : List Meaning) (changes : List Change) (e : Edits) (link : Link) → HasEdits [] (apply changes (replay ms)) e → HasEdits [] (replay (ms ++ meaning_of link changes ∷ [])) e
+pub edits_left : (ms : List Meaning) (changes : List Change) (e : Edits) (link : ChainLink) → HasEdits [] (apply changes (replay ms)) e → HasEdits [] (replay (ms ++ meaning_of link changes ∷ [])) e
 edits_left ms changes e link has = subst (λ (d : Dataset). HasEdits [] d e) (sym (replay-push ms (meaning_of link changes) empty)) has
 
 -- the edits behind the last patch make the lines
-pub makes_last : (ms : List Meaning) (changes : List Change) (e : Edits) (done : Option Link) → (done ≡ None → changes ≡ []) → HasEdits changes (replay ms) e → MakesLines e.log (replay (ms ++ meanings_of done changes))
+pub makes_last : (ms : List Meaning) (changes : List Change) (e : Edits) (done : Option ChainLink) → (done ≡ None → changes ≡ []) → HasEdits changes (replay ms) e → MakesLines e.log (replay (ms ++ meanings_of done changes))
 makes_last ms changes e None nothing has =
     subst (λ (l : List Meaning). MakesLines e.log (replay l)) (sym (append-nil ms))
     (subst (λ (cs : List Change). MakesLines e.log (apply cs (replay ms))) (nothing refl) (all_made e.before_block changes (replay ms) e.log has))
@@ -103,7 +103,7 @@ makes_last ms changes e (Some link) nothing has =
     subst (MakesLines e.log) (sym (replay-push ms (meaning_of link changes) empty)) (all_made e.before_block changes (replay ms) e.log has)
 
 -- a part without rows has no change
-pub no_change : (p : Part) (stop : ℕ) (done : Option Link) (rs : List PlacedRow) (ms : List Meaning) (changes : List Change) → IsLastPatch p stop done → IsCutInto rs ms changes p → done ≡ None → changes ≡ []
+pub no_change : (p : Part) (stop : ℕ) (done : Option ChainLink) (rs : List PlacedRow) (ms : List Meaning) (changes : List Change) → IsLastPatch p stop done → IsCutInto rs ms changes p → done ≡ None → changes ≡ []
 no_change p stop (Some link) rs ms changes last h none = absurd cc
 no_change p stop None rs ms changes last h none =
     let empty = none_there (cut rs).last.rows_ (last (cut rs).last.rows_ h.part) in

@@ -1,7 +1,7 @@
 -- A stream of which some pieces were read.
 use Rattle.std.specs.Prelude.{◌≡◌, ℕ, ◌+◌, ◌≤◌, nat_lt, false, List}
 use Rattle.std.specs.Prelude.{[], ◌∷◌, ◌++◌, Option, None, Some}
-use Rattle.delta_base.specs.declared.limits.TheConstants.{PATCH_LIMIT}
+use Rattle.log_base.specs.declared.limits.TheConstants.{PATCH_LIMIT}
 use Rattle.patch_rows.specs.declared.cut.TextEnd.{TextEnd}
 use Rattle.patch_rows.specs.declared.cut.TextEnd.TheVariants as ends
 use Rattle.patch_rows.specs.declared.row.Row.{Row}

@@ -19,8 +19,8 @@ ghost use Rattle.stream_replay.specs.Replaying.{AreReplayed, EndsChain, IsReplay
 use crate::edits::Edits;
 use crate::fault::ReplayFault;
 use crate::replay::{Replay, Replayed};
-use chain_core::Link;
 use delta_base::OutOfMemory;
+use log_base::ChainLink;
 use patch_meaning::{Part, PatchFault, Role};
 use std::alloc::Global;
 
@@ -86,7 +86,7 @@ impl StreamProgress {
     }
 
     // Takes the patch that is complete, if there is one.
-    fn complete(&mut self, done: Option<Link>) -> Result<(), OutOfMemory>
+    fn complete(&mut self, done: Option<ChainLink>) -> Result<(), OutOfMemory>
         requires room { self.old.replay.chain.version < 2 ^ 32 - 1 }
         ensures replay { OnOk result ((ms : List Meaning) (changes : List Change)
             → IsReplay ms self.old.replay
@@ -128,7 +128,7 @@ impl StreamProgress {
     }
 
     /// The replay with the last patch, if there is one.
-    pub fn finish(self, done: Option<Link>) -> Result<Replayed, ReplayFault>
+    pub fn finish(self, done: Option<ChainLink>) -> Result<Replayed, ReplayFault>
         requires room { self.replay.chain.version < 2 ^ 32 - 1 }
         ensures ok { IfOk result (λ replayed. (ms : List Meaning) (changes : List Change)
             → IsReplay ms self.replay

@@ -9,9 +9,10 @@ ghost use Rattle.stream_replay.specs.Edits.{MakesLines};
 
 use crate::edits::Edits;
 use crate::fault::ReplayFault;
-use chain_core::{ChainFault, ChainTest, Link};
+use chain_core::{ChainFault, ChainTest};
 use delta_base::{Id, OutOfMemory};
 use line_log::MadeLines;
+use log_base::ChainLink;
 use std::alloc::Global;
 
 /// The dataset that a chain of patches makes from the empty one.
@@ -56,7 +57,7 @@ impl Replay {
     /// Tests a patch against the chain. Most rows complete none, so this stays out of the
     /// way of those.
     #[inline(never)]
-    pub fn take(&mut self, link: Link) -> Result<(), OutOfMemory>
+    pub fn take(&mut self, link: ChainLink) -> Result<(), OutOfMemory>
         requires room { self.old.chain.version < 2 ^ 32 - 1 }
         ensures replay { OnOk result ((ms : List Meaning) (changes : List Change)
             → IsReplay ms self.old → IsReplay (ms ++ meaning_of link changes ∷ []) self.new) }

@@ -14,8 +14,8 @@ ghost use Rattle.stream_replay.specs.Found.{found_role};
 use crate::fault::ReplayFault;
 use crate::progress::StreamProgress;
 use crate::replay::Replayed;
-use chain_core::Link;
 use delta_base::OutOfMemory;
+use log_base::ChainLink;
 use patch_meaning::{PatchFault, Role, role_of};
 use patch_reader::{PlacedRow, RowWindow};
 use patch_rows::{RowFault, TextEnd};
@@ -271,7 +271,7 @@ impl Streaming {
     }
 
     // The ids of the last patch of a stream that ends with what was fed.
-    fn last_patch(&self) -> Result<Option<Link>, ReplayFault>
+    fn last_patch(&self) -> Result<Option<ChainLink>, ReplayFault>
         ensures ok { IfOk result (EndsStream self.now.progress.part (length self.now.window.fed)) }
         ensures last { IfOk result
             (IsLastPatch self.now.progress.part (length self.now.window.fed)) }

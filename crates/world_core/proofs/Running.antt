@@ -7,8 +7,8 @@ use Rattle.disk_model.specs.Plan.{plan_past, plan_reads_left}
 use Rattle.disk_model.specs.declared.plan.PlanDisk.{PlanDisk}
 use Rattle.log_journal.specs.File.{Holds, header}
 use Rattle.log_journal.proofs.Steps.{started}
-use Rattle.delta_base.specs.declared.phase.Phase.TheVariants.{Settling, Body, Gate}
-use Rattle.delta_base.specs.declared.limits.LogLimits.{LogLimits}
+use Rattle.log_base.specs.declared.phase.Phase.TheVariants.{Settling, Body, Gate}
+use Rattle.log_base.specs.declared.limits.LogLimits.{LogLimits}
 use Rattle.delta_base.specs.declared.fault.OutOfMemory.{OutOfMemory}
 use Rattle.chain_core.specs.declared.chain.Patch.{Patch}
 use Rattle.chain_core.specs.declared.chain.Entry.{Entry}
@@ -29,7 +29,7 @@ use Rattle.patch_log.specs.declared.fault.LogFault.TheVariants.{Failed, OutOfMem
 use Rattle.patch_log.specs.Fault.{HasLogFault}
 use Rattle.patch_log.proofs.Reopened.{found_again, no_fault_again}
 use Rattle.patch_log.proofs.Sound.{texts_of-push}
-use Rattle.delta_base.specs.declared.limits.TheConstants.{LOG_LIMITS}
+use Rattle.log_base.specs.declared.limits.TheConstants.{LOG_LIMITS}
 use Rattle.world_core.specs.declared.log.TheConstants.{LOG_NUMBER}
 use Rattle.world_core.specs.declared.event.WorldEvent.{WorldEvent}
 use Rattle.world_core.specs.declared.event.WorldEvent.TheVariants.{Open}

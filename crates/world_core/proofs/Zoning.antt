@@ -8,7 +8,7 @@ use Rattle.std.proofs.lemmas.Bool.Decides.{nat_tests}
 use Rattle.std.proofs.lemmas.List.{length-map}
 use Rattle.disk_model.specs.declared.plan.PlanDisk.{PlanDisk}
 use Rattle.chain_core.specs.declared.chain.Patch.{Patch}
-use Rattle.delta_base.specs.declared.limits.LogLimits.{LogLimits}
+use Rattle.log_base.specs.declared.limits.LogLimits.{LogLimits}
 use Rattle.chain_core.specs.declared.fate.Fate.{Fate}
 use Rattle.chain_core.specs.Log.{LogPoint, up, down, with_doubt}
 use Rattle.chain_core.specs.Stay.{stay}
@@ -16,7 +16,7 @@ use Rattle.patch_log.specs.Log.{bare}
 use Rattle.zone_state.specs.Brief.{Brief, id_taken}
 use Rattle.zone_state.specs.Zone.{ZoneView}
 use Rattle.zone_state.specs.declared.file.TheConstants.{ZONE_NUMBER}
-use Rattle.delta_base.specs.declared.limits.TheConstants.{LOG_LIMITS}
+use Rattle.log_base.specs.declared.limits.TheConstants.{LOG_LIMITS}
 use Rattle.world_core.specs.declared.event.WorldEvent.{WorldEvent}
 use Rattle.world_core.specs.declared.event.WorldEvent.TheVariants.{ZoneStop}
 use Rattle.world_core.specs.declared.zone.ZonePart.{ZonePart}

@@ -1,6 +1,6 @@
 //! Laws of every world. These functions do nothing: their contracts are theorems.
 ghost use Rattle.std.specs.Prelude.{◌≡◌, ℕ, ◌++◌, List, Some, slice_get};
-ghost use Rattle.delta_base.specs.declared.limits.LogLimits.{LogLimits};
+ghost use Rattle.log_base.specs.declared.limits.LogLimits.{LogLimits};
 ghost use Rattle.chain_core.specs.declared.chain.Patch.{Patch};
 ghost use Rattle.chain_core.specs.Links.{IsChain};
 ghost use Rattle.chain_core.specs.Log.{LogPoint};

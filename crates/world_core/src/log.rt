@@ -1,7 +1,7 @@
 //! A log over a disk whose syncs fail as planned, event by event.
 ghost use Rattle.std.specs.Prelude.{◌≡◌, ℕ, [], ◌∷◌, ◌++◌, List, Bool};
 ghost use Rattle.std.specs.Prelude.{Option, Some, None, IfOk, if◌then◌else◌};
-ghost use Rattle.delta_base.specs.declared.limits.TheConstants.{LOG_LIMITS};
+ghost use Rattle.log_base.specs.declared.limits.TheConstants.{LOG_LIMITS};
 ghost use Rattle.chain_core.specs.declared.chain.Patch.{Patch as OnePatch};
 ghost use Rattle.chain_core.specs.Log.{LogPoint, up, with_doubt};
 ghost use Rattle.chain_core.specs.Patches.{patch_at, last_id};
@@ -17,8 +17,9 @@ use crate::event::WorldEvent;
 use crate::message::Message;
 use crate::plan::{failing_sync, stop_of};
 use chain_core::{Fate, LogAnswer};
-use delta_base::{LOG_LIMITS, OutOfMemory};
+use delta_base::OutOfMemory;
 use disk_model::{PlanDisk, Planned};
+use log_base::LOG_LIMITS;
 use patch_log::{LogFault, LogRefusal, LogState, append};
 use patch_meaning::Checked;
 use std::alloc::Global;

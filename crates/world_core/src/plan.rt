@@ -5,7 +5,7 @@ ghost use Rattle.chain_core.specs.Stay.{fate_by_plan};
 ghost use Rattle.world_core.specs.Parts.{run_as, stop_for};
 
 use chain_core::Fate;
-use delta_base::Phase;
+use log_base::Phase;
 
 /// The sync that is to fail for an append to come to this fate, counted from 0. A phase that isn't
 /// run fails nothing.

@@ -1,7 +1,7 @@
 //! Runs a world.
 ghost use Rattle.std.specs.Prelude.{IfOk};
 ghost use Rattle.std.specs.List.{AllByRecursion};
-ghost use Rattle.delta_base.specs.declared.limits.TheConstants.{LOG_LIMITS};
+ghost use Rattle.log_base.specs.declared.limits.TheConstants.{LOG_LIMITS};
 ghost use Rattle.world_core.specs.declared.log.TheConstants.{LOG_NUMBER};
 ghost use Rattle.zone_state.specs.declared.file.TheConstants.{ZONE_NUMBER};
 ghost use Rattle.world_core.specs.World.{WorldPoint, start, step, world, KeepsPromises, BeginsLog};

@@ -1,6 +1,6 @@
 //! A zone over a disk whose syncs fail as planned.
 ghost use Rattle.std.specs.Prelude.{◌≡◌, [], List, Option, Some, None, IfOk, if◌then◌else◌};
-ghost use Rattle.delta_base.specs.declared.limits.TheConstants.{LOG_LIMITS};
+ghost use Rattle.log_base.specs.declared.limits.TheConstants.{LOG_LIMITS};
 ghost use Rattle.chain_core.specs.declared.chain.Patch.{Patch as OnePatch};
 ghost use Rattle.chain_core.specs.Log.{up, with_doubt};
 ghost use Rattle.chain_core.specs.Stay.{stay};
@@ -11,8 +11,9 @@ ghost use Rattle.world_core.specs.Parts.{stop_taken, stopped_if, KeepsChain, Run
 use crate::disks::{new_disk, stopped_disk};
 use crate::plan::{failing_sync, stop_of};
 use chain_core::Fate;
-use delta_base::{LOG_LIMITS, OutOfMemory};
+use delta_base::OutOfMemory;
 use disk_model::PlanDisk;
+use log_base::LOG_LIMITS;
 use patch_meaning::Checked;
 use std::alloc::Global;
 use zone_state::{TakeAnswer, ZONE_NUMBER, Zone, ZoneFault, ZoneRefusal};

@@ -1,7 +1,7 @@
 //! The zones of a world, and the messages that reach them.
 ghost use Rattle.std.specs.Prelude.{◌≡◌, List, Option, Some, IfOk};
 ghost use Rattle.std.specs.List.{AllByRecursion};
-ghost use Rattle.delta_base.specs.declared.limits.TheConstants.{LOG_LIMITS};
+ghost use Rattle.log_base.specs.declared.limits.TheConstants.{LOG_LIMITS};
 ghost use Rattle.chain_core.specs.declared.chain.Patch.{Patch as OnePatch};
 ghost use Rattle.chain_core.specs.Log.{LogPoint, up};
 ghost use Rattle.patch_log.specs.Log.{bare, IsSound};

@@ -2,8 +2,9 @@
 use crate::events::{Step, id_of, patch_of, run};
 use crate::parts::{are_notes, has_values};
 use crate::plain::Note;
-use chain_core::{Chain, Fate, Link};
-use delta_base::{Id, Phase};
+use chain_core::{Chain, Fate};
+use delta_base::Id;
+use log_base::{ChainLink, Phase};
 use std::alloc::Global;
 use std::process::Abort;
 use std::test::Fail;
@@ -102,7 +103,7 @@ static CASES: [Case; 9] = [
                 Note::Accepted { version: 1 },
                 Note::Item {
                     version: 1,
-                    patch: Link {
+                    patch: ChainLink {
                         id: ID1,
                         prev: None,
                     },

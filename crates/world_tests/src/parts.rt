@@ -1,9 +1,10 @@
 //! Compares worlds that were run with plain ones.
 use crate::events::line_of;
 use crate::plain::{Note, Plain, Point};
-use chain_core::{Chain, Link};
-use delta_base::{Bytes, LOG_LIMITS};
+use chain_core::Chain;
+use delta_base::Bytes;
 use disk_model::PlanDisk;
+use log_base::{ChainLink, LOG_LIMITS};
 use patch_log::LogState;
 use std::alloc::Global;
 use std::test::Fail;
@@ -11,7 +12,7 @@ use world_core::{LOG_NUMBER, LogPart, Message, World, ZonePart};
 use zone_state::{ZONE_NUMBER, Zone};
 
 // The chain has just the patches with these links, in order, and then this one.
-fn has_links(chain: &Chain, links: &[Link], last: Option<Link>) -> bool {
+fn has_links(chain: &Chain, links: &[ChainLink], last: Option<ChainLink>) -> bool {
     let count = chain.version() as usize;
     let more = if last.is_some() { 1 } else { 0 };
     if count != links.len() + more {
@@ -25,7 +26,7 @@ fn has_links(chain: &Chain, links: &[Link], last: Option<Link>) -> bool {
             Some(link) => Some(*link),
             None => last,
         };
-        let found = Link {
+        let found = ChainLink {
             id: patch.id,
             prev: patch.prev,
         };
@@ -41,8 +42,8 @@ fn keeps(
     alloc: Global,
     disk: PlanDisk,
     number: u32,
-    links: &[Link],
-    last: Option<Link>,
+    links: &[ChainLink],
+    last: Option<ChainLink>,
 ) -> Result<bool, Fail> {
     match LogState::open_on(alloc, disk, number, LOG_LIMITS) {
         Ok(log) => {
@@ -62,8 +63,8 @@ fn holds(
     alloc: Global,
     image: Bytes,
     number: u32,
-    links: &[Link],
-    last: Option<Link>,
+    links: &[ChainLink],
+    last: Option<ChainLink>,
 ) -> Result<bool, Fail> {
     let disk = PlanDisk::new(alloc, image)?;
     keeps(alloc, disk, number, links, last)
@@ -163,7 +164,7 @@ fn is_note(message: &Message, note: Note) -> bool {
         },
         Message::Item { version, patch } => Note::Item {
             version: *version,
-            patch: Link {
+            patch: ChainLink {
                 id: patch.id,
                 prev: patch.prev,
             },

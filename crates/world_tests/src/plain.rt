@@ -1,8 +1,9 @@
 //! What events make of a world, computed plainly by the cases of the definition. Patches are told
 //! by their links.
 use crate::events::values_of;
-use chain_core::{Fate, Link};
-use delta_base::{Id, Phase};
+use chain_core::Fate;
+use delta_base::Id;
+use log_base::{ChainLink, Phase};
 use patch_meaning::Checked;
 use std::alloc::Global;
 use std::test::Fail;
@@ -12,8 +13,8 @@ use world_core::{WorldEvent, WorldEvents};
 #[derive(Drop)]
 pub struct Point {
     pub up: bool,
-    pub chain: Vec<Link>,
-    pub doubt: Option<Link>,
+    pub chain: Vec<ChainLink>,
+    pub doubt: Option<ChainLink>,
 }
 
 /// A message that was sent.
@@ -21,7 +22,7 @@ pub struct Point {
 pub enum Note {
     Accepted { version: u32 },
     Info { version: u32, head: Option<Id> },
-    Item { version: u32, patch: Link },
+    Item { version: u32, patch: ChainLink },
 }
 
 /// A world.
@@ -33,8 +34,8 @@ pub struct Plain {
 }
 
 /// The link of a patch.
-pub fn link_of(patch: &Checked) -> Link {
-    Link {
+pub fn link_of(patch: &Checked) -> ChainLink {
+    ChainLink {
         id: patch.id(),
         prev: patch.prev(),
     }
@@ -75,7 +76,7 @@ impl Point {
     }
 
     // The patch names the head, and its id is new. Room there is always.
-    fn fits(&self, patch: Link) -> bool {
+    fn fits(&self, patch: ChainLink) -> bool {
         for old in &self.chain {
             if old.id == patch.id {
                 return false;
@@ -85,14 +86,14 @@ impl Point {
     }
 
     // The patch is behind the others, and none is in doubt.
-    fn accept(&mut self, patch: Link) -> Result<Option<u32>, Fail> {
+    fn accept(&mut self, patch: ChainLink) -> Result<Option<u32>, Fail> {
         self.chain.push(patch)?;
         self.doubt = None;
         Ok(Some(self.version()))
     }
 
     // It is down, with this patch where its gate stands open.
-    fn halt(&mut self, doubt: Option<Link>, opened: bool) -> Result<(), Fail> {
+    fn halt(&mut self, doubt: Option<ChainLink>, opened: bool) -> Result<(), Fail> {
         if let (Some(patch), true) = (doubt, opened) {
             self.chain.push(patch)?;
         }
@@ -102,7 +103,7 @@ impl Point {
     }
 
     // Fails in this phase, or goes on where there is nothing to settle.
-    fn fail(&mut self, patch: Link, phase: Phase) -> Result<Option<u32>, Fail> {
+    fn fail(&mut self, patch: ChainLink, phase: Phase) -> Result<Option<u32>, Fail> {
         match phase {
             Phase::Settling => {
                 if self.doubt.is_none() {
@@ -116,7 +117,7 @@ impl Point {
     }
 
     // Stops in this phase, or goes on where there is nothing to settle.
-    fn stop(&mut self, patch: Link, phase: Phase, opened: bool) -> Result<Option<u32>, Fail> {
+    fn stop(&mut self, patch: ChainLink, phase: Phase, opened: bool) -> Result<Option<u32>, Fail> {
         match phase {
             Phase::Settling => {
                 if self.doubt.is_none() {
@@ -131,7 +132,7 @@ impl Point {
     }
 
     /// An append with this fate: the version where it was accepted.
-    pub fn stay(&mut self, patch: Link, fate: Fate) -> Result<Option<u32>, Fail> {
+    pub fn stay(&mut self, patch: ChainLink, fate: Fate) -> Result<Option<u32>, Fail> {
         if !self.up || !self.fits(patch) {
             return Ok(None);
         }

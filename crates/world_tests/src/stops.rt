@@ -3,7 +3,7 @@ ghost use Rattle.std.specs.Prelude.{◌<◌};
 
 use crate::events::{Step, next, run};
 use chain_core::Fate;
-use delta_base::Phase;
+use log_base::Phase;
 use std::alloc::Global;
 use std::test::Fail;
 use world_core::{LogPart, World};

@@ -1,6 +1,6 @@
 -- The file of a zone, and what is read of it.
 use Rattle.std.specs.Prelude.{◌≡◌, ℕ, List}
-use Rattle.delta_base.specs.declared.limits.TheConstants.{LOG_LIMITS}
+use Rattle.log_base.specs.declared.limits.TheConstants.{LOG_LIMITS}
 use Rattle.log_journal.specs.File.{Holds}
 use Rattle.patch_meaning.specs.Checked.{CheckedPatch, meanings, checked_texts}
 use Rattle.patch_meaning.specs.Replay.{replay}

@@ -1,6 +1,6 @@
 -- What becomes of a zone's file that catches up with a log.
 use Rattle.std.specs.Prelude.{◌≡◌, ◌⊎◌, ℕ, true, List, [], ◌∷◌, ◌++◌, Option, None, length}
-use Rattle.delta_base.specs.declared.limits.TheConstants.{LOG_LIMITS}
+use Rattle.log_base.specs.declared.limits.TheConstants.{LOG_LIMITS}
 use Rattle.rdf_terms.specs.declared.term.Term.{Term}
 use Rattle.dataset_tx.specs.Held.{AreMet}
 use Rattle.patch_meaning.specs.Checked.{CheckedPatch}

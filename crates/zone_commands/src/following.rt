@@ -2,7 +2,7 @@
 ghost use Rattle.std.specs.Prelude.{◌≡◌, ◌≢◌, ◌≤◌, Ok, Some, true, IfOk, IfErr, OnErr, IsErrOf};
 ghost use Rattle.std.specs.List.{list_all};
 ghost use Rattle.delta_base.specs.Outside.{Rose};
-ghost use Rattle.delta_base.specs.declared.limits.TheConstants.{LOG_LIMITS};
+ghost use Rattle.log_base.specs.declared.limits.TheConstants.{LOG_LIMITS};
 ghost use Rattle.disk_model.specs.Past.{reads};
 ghost use Rattle.disk_model.specs.Shelf.{SameOthers};
 ghost use Rattle.http_text.specs.Print.{is_visible};
@@ -12,10 +12,11 @@ ghost use Rattle.zone_state.specs.Zone.{zone_number};
 ghost use Rattle.follower.specs.Exchanges.{net_of};
 ghost use Rattle.zone_commands.specs.Following.{Followed};
 
-use delta_base::{LOG_LIMITS, Text};
+use delta_base::Text;
 use delta_client::Dial;
 use disk_model::{Disk, Shelf, ShelfFault};
 use follower::{SyncEnd, sync};
+use log_base::LOG_LIMITS;
 use std::alloc::Global;
 use zone_state::{ZONE_NUMBER, Zone, ZoneFault, ZoneRefusal};
 

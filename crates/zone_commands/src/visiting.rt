@@ -1,7 +1,7 @@
 //! Visits to the file of a zone, whose disk is put back.
 ghost use Rattle.std.specs.Prelude.{◌≡◌, ◌≤◌, ◌<◌, IfOk, IfErr, IsErrOf, Some};
 ghost use Rattle.delta_base.specs.Outside.{Rose};
-ghost use Rattle.delta_base.specs.declared.limits.TheConstants.{LOG_LIMITS};
+ghost use Rattle.log_base.specs.declared.limits.TheConstants.{LOG_LIMITS};
 ghost use Rattle.disk_model.specs.Past.{reads};
 ghost use Rattle.disk_model.specs.Shelf.{SameOthers};
 ghost use Rattle.slot_files.specs.Files.{IsKept, bytes_at};
@@ -14,8 +14,9 @@ ghost use Rattle.zone_commands.specs.Readings.{lines_read};
 use crate::lines::{quad_lines, row_lines};
 use crate::reading::Reading;
 use dataset_tx::Pattern;
-use delta_base::{LOG_LIMITS, OutOfMemory, Text};
+use delta_base::{OutOfMemory, Text};
 use disk_model::{Disk, Shelf, ShelfFault};
+use log_base::LOG_LIMITS;
 use quad_index::Steps;
 use std::alloc::Global;
 use std::collections::BTreeSet;

@@ -3,9 +3,9 @@ use Rattle.std.proofs.Common.{◌≡◌, ◌≢◌, ℕ, ◌+◌, ◌≤◌, Boo
 use Rattle.std.proofs.lemmas.Bool.{eq-eqb}
 use Rattle.std.proofs.lemmas.Bool.Decides.{nat_tests}
 use Rattle.delta_base.specs.declared.id.Id.{Id}
-use Rattle.delta_base.specs.declared.limits.FullKind.TheVariants.{Patches, Bytes}
-use Rattle.delta_base.specs.declared.limits.LogLimits.{LogLimits}
-use Rattle.delta_base.specs.declared.limits.TheConstants.{PAYLOAD_FRAME}
+use Rattle.log_base.specs.declared.limits.FullKind.TheVariants.{Patches, Bytes}
+use Rattle.log_base.specs.declared.limits.LogLimits.{LogLimits}
+use Rattle.log_base.specs.declared.limits.TheConstants.{PAYLOAD_FRAME}
 use Rattle.chain_core.specs.declared.chain.Patch.{Patch}
 use Rattle.chain_core.specs.Decision.{same_id}
 use Rattle.chain_core.proofs.Decided.{same_id-true}

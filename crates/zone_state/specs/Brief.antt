@@ -4,7 +4,7 @@ use Rattle.std.specs.Prelude.{Option, None, Some, length, map, sum_by, if◌then
 use Rattle.std.specs.List.{flat_map}
 use Rattle.std.specs.Option.{option_map}
 use Rattle.delta_base.specs.declared.id.Id.{Id}
-use Rattle.delta_base.specs.declared.limits.TheConstants.{EMPTY_JOURNAL, PAYLOAD_FRAME}
+use Rattle.log_base.specs.declared.limits.TheConstants.{EMPTY_JOURNAL, PAYLOAD_FRAME}
 use Rattle.rdf_terms.specs.declared.change.Change.{Change}
 use Rattle.rdf_terms.specs.Dataset.{Dataset, apply}
 use Rattle.patch_meaning.specs.Checked.{CheckedPatch, meanings}

@@ -1,6 +1,6 @@
 -- Why a zone can't be opened.
 use Rattle.std.specs.Prelude.{ℕ, List, []}
-use Rattle.delta_base.specs.declared.limits.LogLimits.{LogLimits}
+use Rattle.log_base.specs.declared.limits.LogLimits.{LogLimits}
 use Rattle.term_table.specs.Table.{most}
 use Rattle.dataset_tx.specs.Held.{AreMore}
 use Rattle.log_journal.specs.File.{Holds}

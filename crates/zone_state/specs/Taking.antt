@@ -3,9 +3,9 @@ use Rattle.std.specs.Prelude.{◌≡◌, ◌⊎◌, ℕ, ◌+◌, ◌==◌, nat_
 use Rattle.std.specs.Prelude.{◌++◌, length, Option, Some, None, if◌then◌else◌}
 use Rattle.std.specs.Option.{option_map}
 use Rattle.delta_base.specs.declared.id.Id.{Id}
-use Rattle.delta_base.specs.declared.limits.FullKind.TheVariants.{Patches, Bytes}
-use Rattle.delta_base.specs.declared.limits.LogLimits.{LogLimits}
-use Rattle.delta_base.specs.declared.limits.TheConstants.{PAYLOAD_FRAME}
+use Rattle.log_base.specs.declared.limits.FullKind.TheVariants.{Patches, Bytes}
+use Rattle.log_base.specs.declared.limits.LogLimits.{LogLimits}
+use Rattle.log_base.specs.declared.limits.TheConstants.{PAYLOAD_FRAME}
 use Rattle.chain_core.specs.declared.chain.Patch.{Patch}
 use Rattle.chain_core.specs.declared.fate.Fate.{Fate}
 use Rattle.chain_core.specs.declared.answer.LogAnswer.{LogAnswer}

@@ -4,7 +4,7 @@ use Rattle.std.specs.Option.{option_map}
 use Rattle.rdf_terms.specs.declared.term.Term.{Term}
 use Rattle.disk_model.specs.Past.{Past}
 use Rattle.log_journal.specs.Journal.{HoldsAll, InDoubt}
-use Rattle.delta_base.specs.declared.limits.LogLimits.{LogLimits}
+use Rattle.log_base.specs.declared.limits.LogLimits.{LogLimits}
 use Rattle.chain_core.specs.declared.chain.Patch.{Patch}
 use Rattle.chain_core.specs.Log.{IsLog, LogPoint, up}
 use Rattle.patch_meaning.specs.Checked.{CheckedPatch, AreChecked, checked_texts}

@@ -1,5 +1,6 @@
 //! What taking a patch answers.
-use delta_base::{FullKind, Id};
+use delta_base::Id;
+use log_base::FullKind;
 
 #[derive(Clone, Copy, Debug, PartialEq, Eq)]
 pub enum TakeAnswer {

@@ -1,7 +1,7 @@
 //! What is kept of the patches that were taken.
 ghost use Rattle.std.specs.Prelude.{◌≡◌, ◌+◌, ◌*◌, ◌^◌, ◌<◌, ◌≤◌, [], ◌∷◌, ◌++◌, length};
 ghost use Rattle.std.specs.Prelude.{IfOk, OnOk, OnErr, IsErrOf, IsSome, None, Some};
-ghost use Rattle.delta_base.specs.declared.limits.TheConstants.{PATCH_LIMIT};
+ghost use Rattle.log_base.specs.declared.limits.TheConstants.{PATCH_LIMIT};
 ghost use Rattle.rdf_terms.specs.Dataset.{apply, empty};
 ghost use Rattle.term_table.specs.Table.{most};
 ghost use Rattle.dataset_tx.specs.Held.{AreMet, AreMore};
@@ -14,7 +14,8 @@ ghost use Rattle.zone_state.specs.Taking.{taking, within_limits};
 use crate::answer::TakeAnswer;
 use crate::ids::Ids;
 use dataset_tx::{DataFault, Dataset};
-use delta_base::{EMPTY_JOURNAL, FullKind, Id, LogLimits, PAYLOAD_FRAME};
+use delta_base::Id;
+use log_base::{EMPTY_JOURNAL, FullKind, LogLimits, PAYLOAD_FRAME};
 use log_journal::{Block, make_block};
 use patch_meaning::Checked;
 use std::alloc::Global;

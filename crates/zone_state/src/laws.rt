@@ -1,6 +1,6 @@
 //! What zones have in common with logs. These functions do nothing: their contracts are theorems.
 ghost use Rattle.std.specs.Prelude.{◌≡◌, ◌↔◌, ℕ, List, Option, map};
-ghost use Rattle.delta_base.specs.declared.limits.LogLimits.{LogLimits};
+ghost use Rattle.log_base.specs.declared.limits.LogLimits.{LogLimits};
 ghost use Rattle.disk_model.specs.Past.{Past};
 ghost use Rattle.chain_core.specs.declared.answer.Decision.TheVariants.{Accept};
 ghost use Rattle.chain_core.specs.declared.chain.Patch.{Patch};

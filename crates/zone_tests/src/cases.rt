@@ -4,8 +4,9 @@ use crate::tables::{
     FIRST, ID1, ID2, ID3, ID9, LINE1, LINE2, Place, SECOND, THIRD, found_in, is, journal_of, open,
     take,
 };
-use delta_base::{Bytes, FullKind, Id, LOG_LIMITS, LogLimits};
+use delta_base::{Bytes, Id};
 use disk_model::{Disk, PlanDisk};
+use log_base::{FullKind, LOG_LIMITS, LogLimits};
 use std::alloc::Global;
 use std::process::Abort;
 use std::test::Fail;

@@ -1,7 +1,8 @@
 //! What failing calls and stops leave of zones.
 use crate::tables::{EMPTY, FIRST, ID1, ID2, SECOND, disk_of, found_in, open, take};
-use delta_base::{Bytes, Id, LOG_LIMITS};
+use delta_base::{Bytes, Id};
 use disk_model::MemDisk;
+use log_base::LOG_LIMITS;
 use std::alloc::Global;
 use std::process::Abort;
 use std::test::Fail;

@@ -1,7 +1,7 @@
 //! Which files aren't opened, and why.
 use crate::tables::{EMPTY, FIRST, Place, SECOND, THIRD, disk_of, is, journal_of};
-use delta_base::LogLimits;
 use disk_model::MemDisk;
+use log_base::LogLimits;
 use std::alloc::Global;
 use std::test::Fail;
 use zone_state::{Zone, ZoneFault};

@@ -1,6 +1,7 @@
 //! What the tests run on, and where in a table they are.
-use delta_base::{Bytes, Id, LOG_LIMITS, Listing, LogLimits};
+use delta_base::{Bytes, Id, Listing};
 use disk_model::{Disk, MemDisk};
+use log_base::{LOG_LIMITS, LogLimits};
 use patch_meaning::check_patch;
 use std::alloc::Global;
 use std::process::Abort;

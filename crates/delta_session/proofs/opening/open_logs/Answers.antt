@@ -1,6 +1,6 @@
 use Rattle.std.proofs.Common.{◌≡◌, ◌∙◌, ◌∷◌, List, length, refl, ap, arith}
 use Rattle.std.proofs.lemmas.Result.{IfErr-weaker}
-use Rattle.delta_base.specs.declared.limits.TheConstants.{LOG_LIMITS}
+use Rattle.log_base.specs.declared.limits.TheConstants.{LOG_LIMITS}
 use Rattle.hall_logs.proofs.Opens.{left_same, left_still}
 use Rattle.delta_session.specs.Opening.{WasOpened, wanting, hall_fault_of_log}
 use Rattle.delta_session.specs.declared.fault.HallFault.TheVariants as hall

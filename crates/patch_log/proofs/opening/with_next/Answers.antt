@@ -1,7 +1,7 @@
 use Rattle.std.proofs.Common.{◌≡◌, ℕ, List, subst}
 use Rattle.chain_core.specs.declared.chain.Entry.{Entry}
 use Rattle.chain_core.specs.declared.chain.Patch.{Patch}
-use Rattle.chain_core.specs.declared.link.Link.{Link}
+use Rattle.log_base.specs.declared.chain_link.ChainLink.{ChainLink}
 use Rattle.chain_core.specs.Chain.{IsBoundedChain}
 use Rattle.chain_core.specs.Patches.{patches_of}
 use Rattle.patch_log.specs.Opening.{MayJoin}
@@ -9,7 +9,7 @@ use Rattle.patch_log.proofs.Openings.{next_kept, not_new}
 use Rattle.patch_log.proofs.opening.with_next.Goals as goal
 
 -- the patch goes on the chain, if its id is new
-goes_on : (entries chain : List Entry) (bytes text : List ℕ) (most : ℕ) (link : Link) → entries ≡ chain → bytes ≡ text → MayJoin (patches_of entries) bytes most (record { id = link.id; prev = link.prev; text = bytes })
+goes_on : (entries chain : List Entry) (bytes text : List ℕ) (most : ℕ) (link : ChainLink) → entries ≡ chain → bytes ≡ text → MayJoin (patches_of entries) bytes most (record { id = link.id; prev = link.prev; text = bytes })
     → MayJoin (patches_of chain) text most (record { id = link.id; prev = link.prev; text = text })
 goes_on entries chain bytes text most link same_entries same_text on =
     subst (λ (es : List Entry). MayJoin (patches_of es) text most (record { id = link.id; prev = link.prev; text = text })) same_entries

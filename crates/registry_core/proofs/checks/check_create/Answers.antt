@@ -1,11 +1,11 @@
 use Rattle.std.proofs.Common.{◌≡◌, ◌+◌, ◌<◌, ◌≤◌, ℕ, sym, ◌∙◌, ap, subst, refl}
-use Rattle.delta_base.specs.declared.limits.FullKind.TheVariants.{Bytes}
-use Rattle.delta_base.specs.declared.source_info.SourceInfo.{SourceInfo}
+use Rattle.log_base.specs.declared.limits.FullKind.TheVariants.{Bytes}
+use Rattle.log_base.specs.declared.source_info.SourceInfo.{SourceInfo}
 use Rattle.registry_core.specs.declared.event.Event.TheVariants.{Created}
 use Rattle.registry_core.specs.declared.answer.CreateAnswer.TheVariants.{Full}
 use Rattle.registry_core.specs.Checks.{IsRefusedCreate}
 use Rattle.registry_core.specs.Replies.{created}
-use Rattle.delta_base.specs.declared.limits.TheConstants.{REGISTRY_LIMIT}
+use Rattle.log_base.specs.declared.limits.TheConstants.{REGISTRY_LIMIT}
 use Rattle.registry_core.specs.Texts.{length_with}
 use Rattle.registry_core.proofs.Checked.{refused, no_room, can_make}
 use Rattle.registry_core.proofs.Tables.{longer_is}

@@ -1,11 +1,11 @@
 use Rattle.std.proofs.Common.{◌≡◌, ◌+◌, ◌<◌, ◌≤◌, ℕ, length, Some, refl, sym, ◌∙◌, ap, subst}
-use Rattle.delta_base.specs.declared.limits.FullKind.TheVariants.{Bytes}
-use Rattle.delta_base.specs.declared.source_info.SourceInfo.{SourceInfo}
+use Rattle.log_base.specs.declared.limits.FullKind.TheVariants.{Bytes}
+use Rattle.log_base.specs.declared.source_info.SourceInfo.{SourceInfo}
 use Rattle.registry_core.specs.declared.event.Event.TheVariants.{Removed}
 use Rattle.registry_core.specs.declared.answer.ChangeAnswer.TheVariants.{Full}
 use Rattle.registry_core.specs.Checks.{IsRefusedChange}
 use Rattle.registry_core.specs.Replies.{removal_answer, of_found}
-use Rattle.delta_base.specs.declared.limits.TheConstants.{REGISTRY_LIMIT}
+use Rattle.log_base.specs.declared.limits.TheConstants.{REGISTRY_LIMIT}
 use Rattle.registry_core.specs.Sources.{source_named}
 use Rattle.registry_core.specs.Texts.{event_text, length_with}
 use Rattle.registry_core.proofs.Checked.{refusal, remove_no_room, can_remove}

@@ -1,7 +1,7 @@
 use Rattle.std.proofs.Common.{rules, ℕ, Bool, Option}
 use Rattle.serde_json.specs.Data.{Data}
 use Rattle.delta_base.specs.declared.id.Id.{Id}
-use Rattle.delta_base.specs.declared.limits.FullKind.{FullKind}
+use Rattle.log_base.specs.declared.limits.FullKind.{FullKind}
 use Rattle.rpc_answers.specs.declared.answer.Answer.{Answer}
 use Rattle.rpc_answers.specs.declared.answer.Answer.TheVariants as answer
 use Rattle.rpc_answers.specs.Parts.{IsRowOf, IsOfNumbers}

@@ -1,7 +1,7 @@
 use Rattle.std.proofs.Common.{◌≡◌, subst}
 use Rattle.serde_json.specs.View.{view}
 use Rattle.serde_json.specs.declared.value.Value.{Value}
-use Rattle.delta_base.specs.declared.source_info.SourceInfo.{SourceInfo}
+use Rattle.log_base.specs.declared.source_info.SourceInfo.{SourceInfo}
 use Rattle.rpc_answers.specs.Values.{source_data}
 use Rattle.rpc_answers.specs.Answers.{IsAnsweredSource}
 use Rattle.rpc_answers.proofs.SourceLemmas.{list_fails, one_more, one_fits}

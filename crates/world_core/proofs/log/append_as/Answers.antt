@@ -1,7 +1,7 @@
 use Rattle.std.proofs.Common.{◌≡◌, None, refl, sym, ◌∙◌, subst}
 use Rattle.chain_core.specs.Stay.{Outcome}
 use Rattle.patch_log.specs.Log.{bare}
-use Rattle.delta_base.specs.declared.limits.TheConstants.{LOG_LIMITS}
+use Rattle.log_base.specs.declared.limits.TheConstants.{LOG_LIMITS}
 use Rattle.world_core.specs.declared.log.LogPart.TheVariants.{Up, Down}
 use Rattle.world_core.specs.Parts.{IsPartOf}
 use Rattle.world_core.specs.World.{accepted_message}

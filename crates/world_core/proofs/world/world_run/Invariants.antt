@@ -1,5 +1,5 @@
 use Rattle.std.proofs.Common.{take}
-use Rattle.delta_base.specs.declared.limits.TheConstants.{LOG_LIMITS}
+use Rattle.log_base.specs.declared.limits.TheConstants.{LOG_LIMITS}
 use Rattle.world_core.specs.World.{world}
 use Rattle.world_core.specs.Parts.{IsWorldOf}
 use Rattle.world_core.proofs.world.world_run.Given as goal

@@ -1,7 +1,7 @@
 use Rattle.std.proofs.Common.{◌≡◌, ◌<◌, ◌≤◌, List, length, get_or, sym, ◌∙◌, ap, subst, arith}
 use Rattle.std.proofs.Math.ListN.{set}
 use Rattle.chain_core.specs.Log.{LogPoint}
-use Rattle.delta_base.specs.declared.limits.TheConstants.{LOG_LIMITS}
+use Rattle.log_base.specs.declared.limits.TheConstants.{LOG_LIMITS}
 use Rattle.world_core.specs.declared.zone.ZonePart.{ZonePart}
 use Rattle.world_core.specs.Parts.{IsZoneOf, AreZonesOf}
 use Rattle.world_core.specs.World.{changed_at, zone_after}

@@ -2,7 +2,7 @@ use Rattle.std.proofs.Common.{◌≡◌, ◌+◌, length, sym, subst, arith}
 use Rattle.chain_core.specs.declared.chain.Patch.{Patch}
 use Rattle.chain_core.specs.Log.{LogPoint, up}
 use Rattle.chain_core.specs.Stay.{stay}
-use Rattle.delta_base.specs.declared.limits.TheConstants.{LOG_LIMITS}
+use Rattle.log_base.specs.declared.limits.TheConstants.{LOG_LIMITS}
 use Rattle.world_core.specs.Parts.{IsZoneOf}
 use Rattle.world_core.proofs.Zoning.{handed_next, count_of}
 use Rattle.world_core.proofs.zones.hand.Goals as goal

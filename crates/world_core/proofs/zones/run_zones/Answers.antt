@@ -1,6 +1,6 @@
 use Rattle.std.proofs.Common.{[], ◌∷◌, ◌++◌, List, None, sym, subst}
 use Rattle.chain_core.specs.Log.{up}
-use Rattle.delta_base.specs.declared.limits.TheConstants.{LOG_LIMITS}
+use Rattle.log_base.specs.declared.limits.TheConstants.{LOG_LIMITS}
 use Rattle.world_core.specs.declared.event.WorldEvent.{WorldEvent}
 use Rattle.world_core.specs.declared.zone.ZonePart.{ZonePart}
 use Rattle.world_core.specs.declared.zone.ZonePart.TheVariants.{Up}

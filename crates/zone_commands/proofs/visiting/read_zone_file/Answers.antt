@@ -1,5 +1,5 @@
 use Rattle.std.proofs.Common.{◌∙◌, sym, ap, subst}
-use Rattle.delta_base.specs.declared.limits.LogLimits.{LogLimits}
+use Rattle.log_base.specs.declared.limits.LogLimits.{LogLimits}
 use Rattle.patch_meaning.specs.Checked.{meanings}
 use Rattle.zone_state.specs.Brief.{Brief}
 use Rattle.zone_state.specs.Zone.{AreTakenPatches}

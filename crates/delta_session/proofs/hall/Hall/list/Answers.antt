@@ -1,5 +1,5 @@
 use Rattle.delta_base.specs.Listed.{Listed}
-use Rattle.delta_base.specs.declared.source_info.SourceInfo.{SourceInfo}
+use Rattle.log_base.specs.declared.source_info.SourceInfo.{SourceInfo}
 use Rattle.delta_session.specs.Answered.{ByRegistry}
 use Rattle.delta_session.specs.Steps.{HallView, HallSight}
 use Rattle.registry_core.specs.Replies as registry

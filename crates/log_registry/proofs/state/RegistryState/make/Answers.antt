@@ -1,6 +1,6 @@
 use Rattle.std.proofs.Common.{◌≡◌, ◌+◌, [], ◌∷◌, ◌++◌, Some, Result, Ok, Err, length, sym, ◌∙◌, ap, subst}
-use Rattle.delta_base.specs.declared.phase.Phase.{Phase}
-use Rattle.delta_base.specs.declared.phase.Phase.TheVariants.{Settling, Body, Gate}
+use Rattle.log_base.specs.declared.phase.Phase.{Phase}
+use Rattle.log_base.specs.declared.phase.Phase.TheVariants.{Settling, Body, Gate}
 use Rattle.log_journal.specs.Payload.{payload_of}
 use Rattle.log_journal.specs.StandsFor.{disk_of, length_of}
 use Rattle.log_journal.specs.Writing.{StandsWith, payloads_left, doubt_left, longer_by}

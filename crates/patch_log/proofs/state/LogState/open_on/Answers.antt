@@ -1,6 +1,6 @@
 use Rattle.std.proofs.Common.{◌≤◌, ⊎_elim, Err, sym, ◌∙◌, ap, subst, arith}
 use Rattle.disk_model.specs.Past.{reads}
-use Rattle.delta_base.specs.Journals.{payloads_length}
+use Rattle.log_base.specs.Journals.{payloads_length}
 use Rattle.patch_log.specs.declared.fault.LogFault.{LogFault}
 use Rattle.patch_log.specs.Fault.{HasLogFault}
 use Rattle.patch_log.proofs.Openings.{found_log}

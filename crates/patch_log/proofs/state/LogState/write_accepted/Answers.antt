@@ -2,8 +2,8 @@ use Rattle.std.proofs.Common.{◌≡◌, ℕ, ◌+◌, List, [], ◌∷◌, ◌+
 use Rattle.log_journal.specs.Payload.{payload_of}
 use Rattle.log_journal.specs.StandsFor.{length_of}
 use Rattle.log_journal.specs.Writing.{StandsWith, payloads_left, doubt_left, failing, longer_by, LeavesEither}
-use Rattle.delta_base.specs.declared.phase.Phase.{Phase}
-use Rattle.delta_base.specs.declared.phase.Phase.TheVariants.{Settling, Body, Gate}
+use Rattle.log_base.specs.declared.phase.Phase.{Phase}
+use Rattle.log_base.specs.declared.phase.Phase.TheVariants.{Settling, Body, Gate}
 use Rattle.chain_core.specs.declared.fate.Fate.{Fate}
 use Rattle.chain_core.specs.declared.fate.Fate.TheVariants.{Done, Fails}
 use Rattle.chain_core.specs.declared.answer.LogAnswer.TheVariants.{Accepted, DiskFault}

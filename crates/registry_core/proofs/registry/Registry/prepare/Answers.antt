@@ -1,5 +1,5 @@
 use Rattle.std.proofs.Common.{ℕ, List, length, refl, ◌∙◌, ap}
-use Rattle.delta_base.specs.declared.source_info.SourceInfo.{SourceInfo}
+use Rattle.log_base.specs.declared.source_info.SourceInfo.{SourceInfo}
 use Rattle.registry_core.specs.Events.{events_of}
 use Rattle.registry_core.specs.Sources.{after_event}
 use Rattle.registry_core.specs.Texts.{length_with}

@@ -1,5 +1,5 @@
 use Rattle.std.proofs.Common.{◌≡◌, ◌+◌, ℕ, List, IfNone, IfSome, subst}
-use Rattle.delta_base.specs.declared.source_info.SourceInfo.{SourceInfo}
+use Rattle.log_base.specs.declared.source_info.SourceInfo.{SourceInfo}
 use Rattle.registry_core.specs.declared.answer.CreateAnswer.{CreateAnswer}
 use Rattle.registry_core.specs.declared.answer.CreateAnswer.TheVariants.{Made}
 use Rattle.registry_core.specs.Replies.{create_reply, created}

@@ -1,5 +1,5 @@
 use Rattle.std.proofs.Common.{◌≤◌, ⊎_elim, ℕ, List, Err, sym, ◌∙◌, ap, subst, arith}
-use Rattle.delta_base.specs.Journals.{payloads_length}
+use Rattle.log_base.specs.Journals.{payloads_length}
 use Rattle.disk_model.specs.Past.{reads}
 use Rattle.chain_core.specs.Breaks.{BreaksAt}
 use Rattle.log_journal.specs.File.{Holds}

@@ -1,7 +1,7 @@
 use Rattle.std.proofs.Common.{◌≡◌, ℕ, ◌+◌, ◌/◌, ◌%◌, ◌<◌, ◌≤◌, List, [], ◌∷◌, ◌++◌, ap, sym, ◌∙◌, arith}
 use Rattle.std.proofs.lemmas.Fmt.{decimal_digit, decimal_step}
-use Rattle.slot_files.specs.Files.{slots_payload}
-use Rattle.slot_files.proofs.registry.first_payload.Goals as goal
+use Rattle.registry_core.specs.Texts.{slots_payload}
+use Rattle.registry_core.proofs.texts.first_payload.Goals as goal
 
 one_digit : (slots : ℕ) → slots < 10 → 83 ∷ 32 ∷ (48 + slots % 10) ∷ [] ≡ slots_payload slots
 one_digit slots small =

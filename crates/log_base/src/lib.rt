@@ -1,0 +1,16 @@
+//! What logs and registries speak of: a patch's two ids, limits, the phases of an append, and
+//! what is told of a source.
+#![tactic(auto)]
+
+mod chain_link;
+mod limits;
+mod phase;
+mod source_info;
+
+pub use chain_link::ChainLink;
+pub use limits::{
+    EMPTY_JOURNAL, FullKind, LOG_BYTES, LOG_LIMITS, LOG_PATCHES, LogLimits, MOST_SLOTS,
+    PATCH_LIMIT, PAYLOAD_FRAME, REGISTRY_LIMIT,
+};
+pub use phase::Phase;
+pub use source_info::{SourceInfo, Sources};
