@@ -1,6 +1,6 @@
 //! Words as positions.
 use case_scripts::{Answer, Words};
-use command_words::{WordsFault, read_words};
+use command_tables::{WordsFault, read_words};
 use delta_base::OutOfMemory;
 use std::alloc::Global;
 

@@ -1,10 +1,10 @@
 -- From the end of a command and what was told of it to the answer of the tool.
 use Rattle.std.proofs.Common.{ℕ, List, Option, sym, subst, ⊎_elim}
 use Rattle.delta_cli.specs.declared.command.Command.{Command}
-use Rattle.delta_cli.specs.declared.refusal.Refusal.{Refusal}
-use Rattle.delta_cli.specs.Channels.{Channel}
+use Rattle.command_tables.specs.declared.refusal.Refusal.{Refusal}
+use Rattle.command_tables.specs.Channels.{Channel}
 use Rattle.delta_cli.specs.Commands.{Asks, RefusesWords}
-use Rattle.delta_cli.specs.Refusals.{ReportsRefusal}
+use Rattle.command_tables.specs.Refusals.{ReportsRefusal}
 use Rattle.delta_cli.specs.Told.{Told, LeavesAll}
 use Rattle.delta_cli.specs.Tool.{Stops, Answers, stopped, untold, refused, unread}
 

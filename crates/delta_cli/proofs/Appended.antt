@@ -6,9 +6,9 @@ use Rattle.patch_meaning.specs.declared.fault.PatchFault.{PatchFault}
 use Rattle.patch_meaning.specs.declared.fault.PatchFault.TheVariants as faults
 use Rattle.patch_meaning.specs.declared.fault.PatchKind.{PatchKind}
 use Rattle.delta_cli.specs.Asked.{IsReadAs, StopsPatch, StopsText}
-use Rattle.delta_cli.specs.Channels.{Channel}
-use Rattle.delta_cli.specs.declared.refusal.Refusal.{Refusal}
-use Rattle.delta_cli.specs.declared.refusal.Refusal.TheVariants as refusals
+use Rattle.command_tables.specs.Channels.{Channel}
+use Rattle.command_tables.specs.declared.refusal.Refusal.{Refusal}
+use Rattle.command_tables.specs.declared.refusal.Refusal.TheVariants as refusals
 
 not_memory : (fault : PatchFault) (at : ℕ) (kind : PatchKind) → fault ≡ faults.At at kind → fault ≡ faults.OutOfMemory → ⊥
 not_memory fault at kind is other = cc

@@ -8,11 +8,12 @@ use Rattle.slot_checks.specs.Lines.{lines_text}
 use Rattle.slot_checks.specs.declared.fault.CheckFault.{CheckFault}
 use Rattle.slot_checks.specs.declared.fault.CheckFault.TheVariants as checks
 use Rattle.slot_checks.specs.declared.lines.FileLine.{FileLine}
-use Rattle.delta_cli.specs.Channels.{Channel}
+use Rattle.command_tables.specs.Channels.{Channel}
 use Rattle.delta_cli.specs.Results.{StopsPrinting}
-use Rattle.delta_cli.specs.Tool.{KeepsSome, Reported, StopsCheck, check_refusal}
-use Rattle.delta_cli.specs.declared.refusal.Refusal.{Refusal}
-use Rattle.delta_cli.specs.declared.refusal.Refusal.TheVariants as refusals
+use Rattle.command_tables.specs.Refusals.{check_refusal}
+use Rattle.delta_cli.specs.Tool.{KeepsSome, Reported, StopsCheck}
+use Rattle.command_tables.specs.declared.refusal.Refusal.{Refusal}
+use Rattle.command_tables.specs.declared.refusal.Refusal.TheVariants as refusals
 
 module _ (dir : List ℕ) (tells : Type 0) (files files' : Files) (faults faults' : ℕ) where
   some : (fault : CheckFault) → (tells → CheckStops dir files files' fault) → KeepsSome dir tells files files'

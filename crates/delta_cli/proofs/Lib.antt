@@ -1,10 +1,8 @@
-mod Addresses
 mod Answered
 mod Appended
 mod Checked
 mod Generated
 mod Made
-mod Pieces
 mod Printed
 mod Shown
 mod Synced

@@ -11,12 +11,14 @@ use Rattle.zone_state.specs.Zone.{zone_number}
 use Rattle.zone_state.specs.declared.fault.ZoneFault.{ZoneFault}
 use Rattle.zone_state.specs.declared.fault.ZoneFault.TheVariants as zones
 use Rattle.zone_commands.specs.declared.reading.Reading.{Reading}
-use Rattle.delta_cli.specs.Channels.{Channel}
+use Rattle.command_tables.specs.Channels.{Channel}
 use Rattle.delta_cli.specs.Results.{StopsPrinting}
-use Rattle.delta_cli.specs.Tool.{StopsInit, init_refusal}
-use Rattle.delta_cli.specs.Zones.{ReadsZone, StopsMaking, StopsZone, bytes_of, zone_refusal}
-use Rattle.delta_cli.specs.declared.refusal.Refusal.{Refusal}
-use Rattle.delta_cli.specs.declared.refusal.Refusal.TheVariants as refusals
+use Rattle.command_tables.specs.Refusals.{init_refusal}
+use Rattle.delta_cli.specs.Tool.{StopsInit}
+use Rattle.command_tables.specs.Refusals.{zone_refusal}
+use Rattle.delta_cli.specs.Zones.{ReadsZone, StopsMaking, StopsZone, bytes_of}
+use Rattle.command_tables.specs.declared.refusal.Refusal.{Refusal}
+use Rattle.command_tables.specs.declared.refusal.Refusal.TheVariants as refusals
 
 module _ (dir : List ℕ) (tells : Type 0) (files : Files) (faults faults' : ℕ) where
   pub init_stops : {T : Type 0} (slots : ℕ) (files' : Files) (result : Result T InitFault) (fault : InitFault) → result ≡ Err fault

@@ -5,9 +5,9 @@ use Rattle.delta_cli.specs.Zones.{bytes_of}
 use Rattle.stream_generator.specs.Generator.{patch_text, patches_from}
 use Rattle.stream_replay.specs.declared.replay.Replayed.{Replayed}
 use Rattle.stream_replay.specs.Source.{ReadsBytes, IsReplayed}
-use Rattle.delta_cli.specs.declared.refusal.Refusal.{Refusal}
-use Rattle.delta_cli.specs.declared.refusal.Refusal.TheVariants as refusals
-use Rattle.delta_cli.specs.Channels.{Channel}
+use Rattle.command_tables.specs.declared.refusal.Refusal.{Refusal}
+use Rattle.command_tables.specs.declared.refusal.Refusal.TheVariants as refusals
+use Rattle.command_tables.specs.Channels.{Channel}
 use Rattle.delta_cli.specs.Results.{ReadsInput, PrintsFront, HasReplayLines, StopsPrinting, StopsReplay}
 
 pub reads_weaker : (before after : Option (List ℕ)) (P Q : List ℕ → Type 0) → ((text : List ℕ) → P text → Q text) → ReadsBytes before after P → ReadsBytes before after Q

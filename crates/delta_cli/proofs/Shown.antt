@@ -3,11 +3,11 @@ use Rattle.std.proofs.Common.{◌≡◌, ℕ, true, List, sym, subst, rules, tes
 use Rattle.std.specs.List.{All, list_all}
 use Rattle.std.proofs.lemmas.List.Sums.{list_all-from_AllPass}
 use Rattle.http_text.specs.Print.{is_visible}
-use Rattle.delta_cli.specs.Addresses.{IsVisible}
+use Rattle.command_tables.specs.Addresses.{IsVisible}
 use Rattle.delta_cli.specs.Asked.{AskedEnd, StopsAsking}
-use Rattle.delta_cli.specs.Channels.{Channel}
-use Rattle.delta_cli.specs.declared.refusal.Refusal.{Refusal}
-use Rattle.delta_cli.specs.declared.refusal.Refusal.TheVariants as refusals
+use Rattle.command_tables.specs.Channels.{Channel}
+use Rattle.command_tables.specs.declared.refusal.Refusal.{Refusal}
+use Rattle.command_tables.specs.declared.refusal.Refusal.TheVariants as refusals
 
 visible_is : (b : ℕ) → IsVisible b → is_visible b ≡ true
 visible_is b is = search (rules, tests)

@@ -12,11 +12,12 @@ use Rattle.zone_state.specs.declared.fault.ZoneFault.TheVariants as zones
 use Rattle.follower.specs.declared.ends.SyncEnd.{SyncEnd}
 use Rattle.follower.specs.declared.ends.SyncEnd.TheVariants as ends
 use Rattle.zone_commands.specs.Following.{Followed}
-use Rattle.delta_cli.specs.Channels.{Channel}
+use Rattle.command_tables.specs.Channels.{Channel}
 use Rattle.delta_cli.specs.Syncs.{StopsOpening, StopsSync, Synced, dialled, unopened}
 use Rattle.delta_cli.specs.Told.{Network}
-use Rattle.delta_cli.specs.Zones.{KeepsZone, zone_refusal}
-use Rattle.delta_cli.specs.declared.refusal.Refusal.{Refusal}
+use Rattle.command_tables.specs.Refusals.{zone_refusal}
+use Rattle.delta_cli.specs.Zones.{KeepsZone}
+use Rattle.command_tables.specs.declared.refusal.Refusal.{Refusal}
 
 opening_stops : (dir : List ℕ) (tells : Type 0) (files : Files) (faults faults' : ℕ) (result : Result SyncEnd ZoneFault) (fault : ZoneFault) → result ≡ Err fault
     → (tells → HasZoneFault (bytes_at files dir zone_number) LOG_LIMITS fault) → (result ≡ Err zones.Failed → Rose faults faults')

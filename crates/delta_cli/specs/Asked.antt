@@ -12,11 +12,11 @@ use Rattle.rpc_calls.specs.declared.call.Call.{Call}
 use Rattle.client_commands.specs.Asks.{AsksBoth, AsksOnce}
 use Rattle.client_commands.specs.declared.fault.ClientFault.{ClientFault}
 use Rattle.client_commands.specs.declared.fault.ClientFault.TheVariants as clients
-use Rattle.delta_cli.specs.Channels.{Channel, ChannelFailed, IsLonger, IsSilent, WritesText}
-use Rattle.delta_cli.specs.Channels.{WritesFront}
+use Rattle.command_tables.specs.Channels.{Channel, ChannelFailed, IsLonger, IsSilent, WritesText}
+use Rattle.command_tables.specs.Channels.{WritesFront}
 use Rattle.delta_cli.specs.Told.{Network}
-use Rattle.delta_cli.specs.declared.refusal.Refusal.{Refusal}
-use Rattle.delta_cli.specs.declared.refusal.Refusal.TheVariants as refusals
+use Rattle.command_tables.specs.declared.refusal.Refusal.{Refusal}
+use Rattle.command_tables.specs.declared.refusal.Refusal.TheVariants as refusals
 
 -- how asking ends: with what is printed, or with a fault
 abbrev pub AskedEnd : Type 0

@@ -2,7 +2,7 @@
 use Rattle.std.specs.Prelude.{◌≡◌, ℕ, ◌≤◌, Bool, true, false, List}
 use Rattle.std.specs.Prelude.{[], ◌∷◌, Option, None, Some, codes}
 use Rattle.std.specs.Fmt.{decimal}
-use Rattle.command_words.specs.Positions.{ArePlain, FitPositions, IsPlainWord}
+use Rattle.command_tables.specs.Positions.{ArePlain, FitPositions, IsPlainWord}
 use Rattle.delta_base.specs.Ids.{number_of, random_id}
 use Rattle.delta_base.specs.declared.id.Id.{Id}
 use Rattle.rpc_calls.specs.Routes.{version_asked}
@@ -11,14 +11,14 @@ use Rattle.rpc_calls.specs.declared.call.Call.TheVariants as calls
 use Rattle.zone_commands.specs.Words.{IsPatternOf}
 use Rattle.zone_commands.specs.declared.reading.Reading.{Reading}
 use Rattle.zone_commands.specs.declared.reading.Reading.TheVariants as readings
-use Rattle.delta_cli.specs.Addresses.{IsAddress}
+use Rattle.command_tables.specs.Addresses.{IsAddress}
 use Rattle.delta_cli.specs.declared.command.Command.{Command}
 use Rattle.delta_cli.specs.declared.command.Command.TheVariants as commands
-use Rattle.delta_cli.specs.declared.name.Name.{Name}
-use Rattle.delta_cli.specs.declared.name.Name.TheVariants as names
-use Rattle.delta_cli.specs.declared.refusal.Refusal.{Refusal}
-use Rattle.delta_cli.specs.declared.refusal.Refusal.TheVariants as refusals
-use Rattle.delta_cli.specs.Lines.{name_text}
+use Rattle.command_tables.specs.declared.name.Name.{Name}
+use Rattle.command_tables.specs.declared.name.Name.TheVariants as names
+use Rattle.command_tables.specs.declared.refusal.Refusal.{Refusal}
+use Rattle.command_tables.specs.declared.refusal.Refusal.TheVariants as refusals
+use Rattle.command_tables.specs.Names.{name_text}
 
 -- the words are a command's and these, none of which begins with `-`
 abbrev pub AreCommandWords : List (List ℕ) → List ℕ → List (List ℕ) → Type 0
@@ -97,76 +97,10 @@ Fits other = Unit {0}
 abbrev pub AsksNothing : List (List ℕ) → Type 0
 AsksNothing words = (dice : ℕ) (c : Command) → Asks words dice c → ⊥
 
--- the command that a word names, or none
-abbrev pub IsNamed : List ℕ → Option Name → Type 0
-IsNamed word None = (name : Name) → word ≡ name_text name → ⊥
-IsNamed word (Some name) = word ≡ name_text name
-
--- what stands for each word behind the name
-abbrev pub positions_of : Name → List (List ℕ)
-positions_of names.Replay = []
-positions_of names.Nquads = []
-positions_of names.Gen = codes "N" ∷ []
-positions_of names.Emit = codes "N" ∷ []
-positions_of names.Init = codes "DIR" ∷ codes "SLOTS" ∷ []
-positions_of names.Check = codes "DIR" ∷ []
-positions_of names.Zone = codes "DIR" ∷ []
-positions_of names.Dump = codes "DIR" ∷ []
-positions_of names.Prefixes = codes "DIR" ∷ []
-positions_of names.Match = codes "DIR" ∷ codes "G" ∷ codes "S" ∷ codes "P" ∷ codes "O" ∷ []
-positions_of names.Sync = codes "DIR" ∷ codes "ADDR" ∷ codes "NAME" ∷ []
-positions_of names.Serve = codes "DIR" ∷ codes "ADDR" ∷ codes "WORKERS" ∷ []
-positions_of names.Ping = codes "ADDR" ∷ []
-positions_of names.List = codes "ADDR" ∷ []
-positions_of names.Create = codes "ADDR" ∷ codes "NAME" ∷ codes "URI" ∷ []
-positions_of names.Rename = codes "ADDR" ∷ codes "NAME" ∷ codes "NEW" ∷ []
-positions_of names.Remove = codes "ADDR" ∷ codes "NAME" ∷ []
-positions_of names.Describe = codes "ADDR" ∷ codes "NAME" ∷ []
-positions_of names.LogVersion = codes "ADDR" ∷ codes "NAME" ∷ []
-positions_of names.Append = codes "ADDR" ∷ codes "NAME" ∷ []
-positions_of names.Fetch = codes "ADDR" ∷ codes "NAME" ∷ codes "WHICH" ∷ []
-positions_of names.Help = []
-positions_of names.Version = []
-
--- the first word names a command
-abbrev pub BeginsWith : List (List ℕ) → Name → Type 0
-BeginsWith words name = (rest : List (List ℕ)) × (words ≡ name_text name ∷ rest)
-
--- the first word is this one
-abbrev pub HasFirst : List (List ℕ) → List ℕ → Type 0
-HasFirst words first = (rest : List (List ℕ)) × (words ≡ first ∷ rest)
-
--- the first word names the command, and behind it stands a word for each of its positions, none of
--- which begins with `-`
-abbrev pub FitsName : List (List ℕ) → Name → Type 0
-FitsName words name = BeginsWith words name × FitPositions (positions_of name) words
-
 -- the name is that of one of these commands; `serve` is the command of another call
 abbrev pub IsOfTool : Name → Type 0
 IsOfTool names.Serve = ⊥
 IsOfTool other = Unit {0}
-
--- the command asks a server at the address of its first position
-abbrev pub asks_server : Name → Bool
-asks_server names.Ping = true
-asks_server names.List = true
-asks_server names.Create = true
-asks_server names.Rename = true
-asks_server names.Remove = true
-asks_server names.Describe = true
-asks_server names.LogVersion = true
-asks_server names.Append = true
-asks_server names.Fetch = true
-asks_server other = false
-
--- the command is on a zone, whose directory is its first position
-abbrev pub is_of_zone : Name → Bool
-is_of_zone names.Zone = true
-is_of_zone names.Dump = true
-is_of_zone names.Prefixes = true
-is_of_zone names.Match = true
-is_of_zone names.Sync = true
-is_of_zone other = false
 
 -- the command is one call to a server
 abbrev pub IsOfCall : Name → Type 0
@@ -186,8 +120,3 @@ RefusesWords words refusals.UnknownCommand =
 RefusesWords words (refusals.Usage name) = AsksNothing words × BeginsWith words name × IsOfTool name
 RefusesWords words refusals.OutOfMemory = Unit {0}
 RefusesWords words other = ⊥
-
--- the number that a word is, of those from the one to the other, or none
-abbrev pub IsNumberIn : ℕ → ℕ → List ℕ → Option ℕ → Type 0
-IsNumberIn low high word None = (n : ℕ) → low ≤ n → n ≤ high → word ≡ decimal n → ⊥
-IsNumberIn low high word (Some n) = (low ≤ n) × (n ≤ high) × (word ≡ decimal n)

@@ -1,10 +1,6 @@
-pub mod Addresses
-pub mod Channels
 pub mod Asked
 pub mod Commands
 pub mod Document
-pub mod Lines
-pub mod Refusals
 pub mod Results
 pub mod Told
 pub mod Zones

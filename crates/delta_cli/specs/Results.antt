@@ -14,11 +14,11 @@ use Rattle.sink_writing.specs.Writing.{joined}
 use Rattle.stream_replay.specs.declared.fault.ReplayFault.{ReplayFault}
 use Rattle.stream_replay.specs.declared.fault.ReplayFault.TheVariants as replays
 use Rattle.generated_replay.specs.Meanings.{head}
-use Rattle.delta_cli.specs.Channels.{Channel, ChannelFailed, IsSilent, WritesText, WritesFront}
+use Rattle.command_tables.specs.Channels.{Channel, ChannelFailed, IsSilent, WritesText, WritesFront}
 use Rattle.delta_cli.specs.Document.{IsShown, IsFaultyDocument}
 use Rattle.slot_checks.specs.Lines.{id_or_none}
-use Rattle.delta_cli.specs.declared.refusal.Refusal.{Refusal}
-use Rattle.delta_cli.specs.declared.refusal.Refusal.TheVariants as refusals
+use Rattle.command_tables.specs.declared.refusal.Refusal.{Refusal}
+use Rattle.command_tables.specs.declared.refusal.Refusal.TheVariants as refusals
 
 -- where the input tells its bytes, it was read to its end, has at most 268,435,456 bytes, and
 -- they are such

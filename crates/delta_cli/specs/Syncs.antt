@@ -17,12 +17,12 @@ use Rattle.follower.specs.Exchanges.{Net}
 use Rattle.follower.specs.declared.ends.SyncEnd.{SyncEnd}
 use Rattle.follower.specs.declared.ends.SyncEnd.TheVariants as ends
 use Rattle.zone_commands.specs.Following.{Followed}
-use Rattle.delta_cli.specs.Channels.{Channel, IsSilent, WritesText}
+use Rattle.command_tables.specs.Channels.{Channel, IsSilent, WritesText}
 use Rattle.delta_cli.specs.Results.{StopsPrinting}
 use Rattle.delta_cli.specs.Told.{Network}
 use Rattle.delta_cli.specs.Zones.{HasZoneFileFault, KeepsZone}
-use Rattle.delta_cli.specs.declared.refusal.Refusal.{Refusal}
-use Rattle.delta_cli.specs.declared.refusal.Refusal.TheVariants as refusals
+use Rattle.command_tables.specs.declared.refusal.Refusal.{Refusal}
+use Rattle.command_tables.specs.declared.refusal.Refusal.TheVariants as refusals
 
 -- the zone has so many patches, which are all of the log
 abbrev pub caught_up_line : ℕ → List ℕ

@@ -2,7 +2,7 @@
 use Rattle.std.specs.Prelude.{◌≡◌, ℕ}
 use Rattle.slot_files.specs.Files.{Files}
 use Rattle.delta_client.specs.Lines.{Links}
-use Rattle.delta_cli.specs.Channels.{Channel}
+use Rattle.command_tables.specs.Channels.{Channel}
 
 -- the connections of a dial, how often one was tried for, and how often a call has failed
 pub record Network (L : Type 0) : Type 0 where

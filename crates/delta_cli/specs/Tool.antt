@@ -13,11 +13,11 @@ use Rattle.slot_checks.specs.declared.lines.FileLine.{FileLine}
 use Rattle.rpc_calls.specs.declared.call.Call.TheVariants as calls
 use Rattle.delta_cli.specs.Asked.{Asked, Described, IsPatchWith}
 use Rattle.delta_cli.specs.Asked.{PrintsEnd, StopsAppend, StopsAsking}
-use Rattle.delta_cli.specs.Channels.{Channel, ChannelFailed, IsSilent, TellsLine, WritesText}
-use Rattle.delta_cli.specs.Channels.{WritesFront}
+use Rattle.command_tables.specs.Channels.{Channel, ChannelFailed, IsSilent, TellsLine, WritesText}
+use Rattle.command_tables.specs.Channels.{WritesFront}
 use Rattle.delta_cli.specs.Commands.{Asks, RefusesWords}
 use Rattle.delta_cli.specs.Document.{IsShown}
-use Rattle.delta_cli.specs.Lines.{refusal_line, exit_status, out_of_memory_line}
+use Rattle.command_tables.specs.Lines.{refusal_line, exit_status, out_of_memory_line}
 use Rattle.delta_cli.specs.Results.{ReadsInput, Prints, HasReplayLines, generated_line, StopsReplay}
 use Rattle.delta_cli.specs.Results.{StopsNquads, StopsPrinting, StopsEmitting, StopsWriting}
 use Rattle.delta_cli.specs.Told.{Told, LeavesInput, LeavesFiles, LeavesNet, LeavesAll}
@@ -26,8 +26,8 @@ use Rattle.delta_cli.specs.Zones.{IsNewZone, KeepsZone, ReadsZone, SparesZone}
 use Rattle.delta_cli.specs.Zones.{StopsMaking, StopsZone, bytes_of}
 use Rattle.delta_cli.specs.declared.command.Command.{Command}
 use Rattle.delta_cli.specs.declared.command.Command.TheVariants as commands
-use Rattle.delta_cli.specs.declared.refusal.Refusal.{Refusal}
-use Rattle.delta_cli.specs.declared.refusal.Refusal.TheVariants as refusals
+use Rattle.command_tables.specs.declared.refusal.Refusal.{Refusal}
+use Rattle.command_tables.specs.declared.refusal.Refusal.TheVariants as refusals
 use Rattle.delta_cli.specs.declared.help.TheConstants.{HELP, VERSION}
 
 -- where the shelf tells its files, those of the directory that had bytes and those of other names
@@ -40,18 +40,6 @@ Spares dir slots tells files files' =
 abbrev pub Reported : List ℕ → Type 0 → Files → Files → List FileLine → Type 0
 Reported dir tells files files' report =
     tells → IsReport files dir report × AreKept dir (length report) files files'
-
--- the end of a command that makes files, and why it couldn't
-abbrev pub init_refusal : InitFault → Refusal
-init_refusal (inits.NotEmpty number length) = refusals.NotEmpty number length
-init_refusal inits.Failed = refusals.DiskFailed
-init_refusal inits.OutOfMemory = refusals.OutOfMemory
-
--- the end of a check that finds a fault
-abbrev pub check_refusal : CheckFault → Refusal
-check_refusal checks.Failed = refusals.DiskFailed
-check_refusal checks.OutOfMemory = refusals.OutOfMemory
-check_refusal fault = refusals.File fault
 
 -- why files were not made
 abbrev pub StopsInit : List ℕ → ℕ → Type 0 → Files → Files → ℕ → ℕ → Refusal → Type 0

@@ -14,9 +14,9 @@ use Rattle.zone_state.specs.declared.fault.ZoneFault.{ZoneFault}
 use Rattle.zone_state.specs.declared.fault.ZoneFault.TheVariants as zones
 use Rattle.zone_commands.specs.Files.{HasZoneLines}
 use Rattle.zone_commands.specs.declared.reading.Reading.{Reading}
-use Rattle.delta_cli.specs.Channels.{Channel, ChannelFailed, IsSilent, WritesFront}
-use Rattle.delta_cli.specs.declared.refusal.Refusal.{Refusal}
-use Rattle.delta_cli.specs.declared.refusal.Refusal.TheVariants as refusals
+use Rattle.command_tables.specs.Channels.{Channel, ChannelFailed, IsSilent, WritesFront}
+use Rattle.command_tables.specs.declared.refusal.Refusal.{Refusal}
+use Rattle.command_tables.specs.declared.refusal.Refusal.TheVariants as refusals
 
 -- ---- its file is made
 
@@ -58,16 +58,6 @@ abbrev pub KeepsZone : List ℕ → Type 0 → Files → Files → Type 0
 KeepsZone dir tells old new = tells
     → IsKept (old dir zone_number) (new dir zone_number)
     × SameOthers (Some (dir, zone_number)) old new
-
--- the end of a command that finds a fault of a zone's file
-abbrev pub zone_refusal : ZoneFault → Refusal
-zone_refusal zones.Failed = refusals.DiskFailed
-zone_refusal zones.OutOfMemory = refusals.OutOfMemory
-zone_refusal zones.TermsFull = refusals.ZoneTermsFull
-zone_refusal (zones.Damaged at) = refusals.File (checks.Damaged zone_number at)
-zone_refusal (zones.WrongNumber found) = refusals.File (checks.WrongNumber zone_number found)
-zone_refusal (zones.OverLimit size limit) = refusals.File (checks.OverLimit zone_number size limit)
-zone_refusal (zones.BrokenChain version) = refusals.File (checks.BrokenChain zone_number version)
 
 -- a zone's file has this fault, and none that comes before it
 abbrev pub HasZoneFileFault : List ℕ → CheckFault → Type 0

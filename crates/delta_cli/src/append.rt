@@ -5,15 +5,15 @@ ghost use Rattle.delta_client.specs.Lines.{told_of};
 ghost use Rattle.patch_meaning.specs.Checked.{Refuses};
 ghost use Rattle.patch_meaning.specs.Patch.{IsPatch, Meaning};
 ghost use Rattle.patch_reader.specs.Places.{line_number};
-ghost use Rattle.delta_cli.specs.Addresses.{IsAddress};
+ghost use Rattle.command_tables.specs.Addresses.{IsAddress};
 ghost use Rattle.delta_cli.specs.Asked.{Asked, IsPatchWith, IsReadAs, PrintsEnd};
 ghost use Rattle.delta_cli.specs.Asked.{StopsAppend, StopsAsking, StopsPatch, StopsText};
-ghost use Rattle.delta_cli.specs.Channels.{channel};
+ghost use Rattle.command_tables.specs.Channels.{channel};
 ghost use Rattle.delta_cli.specs.Told.{network_of};
 
 use crate::ask::ask;
 use crate::input::{InputFault, read_all};
-use crate::refusal::Refusal;
+use command_tables::Refusal;
 use delta_base::{Bytes, Sink, Source, Text};
 use delta_client::Dial;
 use log_base::PATCH_LIMIT;

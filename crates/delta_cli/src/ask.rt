@@ -1,13 +1,13 @@
 //! The commands that ask a server, and what comes of its answers.
 ghost use Rattle.std.specs.Prelude.{◌≡◌, IfErr, OnOk};
 ghost use Rattle.delta_client.specs.Lines.{told_of};
-ghost use Rattle.delta_cli.specs.Addresses.{IsAddress};
+ghost use Rattle.command_tables.specs.Addresses.{IsAddress};
 ghost use Rattle.delta_cli.specs.Asked.{Asked, Described, PrintsEnd, StopsAsking};
-ghost use Rattle.delta_cli.specs.Channels.{channel};
+ghost use Rattle.command_tables.specs.Channels.{channel};
 ghost use Rattle.delta_cli.specs.Told.{network_of};
 
-use crate::refusal::Refusal;
 use client_commands::{ClientFault, ask_once};
+use command_tables::Refusal;
 use delta_base::{Bytes, Sink, Text};
 use delta_client::Dial;
 use rpc_calls::Call;

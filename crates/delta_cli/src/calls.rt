@@ -1,15 +1,15 @@
 //! What the words ask of a server.
 ghost use Rattle.std.specs.Prelude.{◌≡◌, ◌<◌, [], ℕ, get_or, length, true, IfOk, IfErr};
 ghost use Rattle.rpc_calls.specs.Routes.{version_asked};
-ghost use Rattle.delta_cli.specs.Channels.{words_of};
-ghost use Rattle.delta_cli.specs.Commands.{Asks, AsksFor, FitsName, IsOfCall};
-ghost use Rattle.delta_cli.specs.Commands.{RefusesWords, asks_server};
-ghost use Rattle.delta_cli.specs.declared.name.Name.TheVariants as names;
+ghost use Rattle.command_tables.specs.Channels.{words_of};
+ghost use Rattle.command_tables.specs.Names.{FitsName};
+ghost use Rattle.delta_cli.specs.Commands.{Asks, AsksFor, IsOfCall};
+ghost use Rattle.command_tables.specs.Names.{asks_server};
+ghost use Rattle.delta_cli.specs.Commands.{RefusesWords};
+ghost use Rattle.command_tables.specs.declared.name.Name.TheVariants as names;
 
-use crate::address::is_address;
 use crate::command::Command;
-use crate::name::Name;
-use crate::refusal::Refusal;
+use command_tables::{Name, Refusal, is_address};
 use delta_base::{OutOfMemory, Text, random_id, read_id};
 use http_text::{are_digits, digits_value};
 use rpc_calls::Call;

@@ -2,11 +2,11 @@
 ghost use Rattle.std.specs.Prelude.{◌≡◌, List, IfErr, OnOk};
 ghost use Rattle.slot_checks.specs.Lines.{lines_text};
 ghost use Rattle.slot_checks.specs.declared.lines.FileLine.{FileLine};
-ghost use Rattle.delta_cli.specs.Channels.{WritesText, channel};
+ghost use Rattle.command_tables.specs.Channels.{WritesText, channel};
 ghost use Rattle.delta_cli.specs.Results.{StopsPrinting};
 ghost use Rattle.delta_cli.specs.Tool.{Reported, StopsCheck};
 
-use crate::refusal::Refusal;
+use command_tables::Refusal;
 use delta_base::{Sink, Text};
 use disk_model::Shelf;
 use sink_writing::write_all;

@@ -1,16 +1,16 @@
 //! What the words ask for.
 ghost use Rattle.std.specs.Prelude.{◌≡◌, ◌<◌, ◌≤◌, ◌^◌, ◌∷◌, [], ℕ, List, false, IfOk, IfErr, OnOk};
-ghost use Rattle.delta_cli.specs.Channels.{words_of};
-ghost use Rattle.command_words.specs.Positions.{FitPositions};
-ghost use Rattle.delta_cli.specs.Commands.{Asks, BeginsWith, FitsName, HasFirst};
-ghost use Rattle.delta_cli.specs.Commands.{IsNumberIn, IsOfTool, RefusesWords};
-ghost use Rattle.delta_cli.specs.Commands.{asks_server, is_of_zone, positions_of};
+ghost use Rattle.command_tables.specs.Channels.{words_of};
+ghost use Rattle.command_tables.specs.Positions.{FitPositions};
+ghost use Rattle.command_tables.specs.Names.{BeginsWith, FitsName, HasFirst};
+ghost use Rattle.delta_cli.specs.Commands.{Asks};
+ghost use Rattle.command_tables.specs.Names.{IsNumberIn};
+ghost use Rattle.delta_cli.specs.Commands.{IsOfTool, RefusesWords};
+ghost use Rattle.command_tables.specs.Names.{asks_server, is_of_zone, positions_of};
 
 use crate::calls::make_asking;
-use crate::name::Name;
-use crate::refusal::Refusal;
 use crate::zone_words::make_of_zone;
-use command_words::{WordsFault, read_words};
+use command_tables::{Name, Refusal, WordsFault, read_words};
 use delta_base::{OutOfMemory, Text};
 use rpc_calls::Call;
 use std::alloc::Global;
@@ -168,23 +168,5 @@ fn make(alloc: Global, name: Name, words: &[String]) -> Result<Command, Refusal>
             dir: Text::from_str(alloc, dir.as_str())?,
         }),
         _ => unreachable!(),
-    }
-}
-
-/// The number that a word is, of those from the one to the other. A number is written in one way.
-pub fn number_in(alloc: Global, low: u32, high: u32, word: &str) -> Result<Option<u32>, OutOfMemory>
-    ensures { IfOk result (IsNumberIn low high word.now) }
-{
-    let Ok(number) = word.parse::<u32>() else {
-        return Ok(None);
-    };
-    if number < low || high < number {
-        return Ok(None);
-    }
-    let text = format!(in alloc; "{number}")?;
-    if text.as_str() == word {
-        Ok(Some(number))
-    } else {
-        Ok(None)
     }
 }

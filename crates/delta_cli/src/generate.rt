@@ -1,11 +1,11 @@
 //! The commands `gen` and `emit`: the stream of the generator, replayed to its counts, or written.
 ghost use Rattle.std.specs.Prelude.{◌≡◌, ◌≤◌, IfOk, IfErr, OnOk};
 ghost use Rattle.stream_generator.specs.Generator.{stream_text};
-ghost use Rattle.delta_cli.specs.Channels.{WritesText, channel};
+ghost use Rattle.command_tables.specs.Channels.{WritesText, channel};
 ghost use Rattle.delta_cli.specs.Results.{StopsEmitting, StopsPrinting};
 ghost use Rattle.delta_cli.specs.Results.{counts_line, generated_line};
 
-use crate::refusal::Refusal;
+use command_tables::Refusal;
 use delta_base::{Id, OutOfMemory, Sink};
 use sink_writing::{Room, write_all};
 use slot_checks::push_id;

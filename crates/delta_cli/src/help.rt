@@ -1,9 +1,9 @@
 //! The commands `--help` and `--version`.
 ghost use Rattle.std.specs.Prelude.{IfErr, OnOk};
-ghost use Rattle.delta_cli.specs.Channels.{WritesText, channel};
+ghost use Rattle.command_tables.specs.Channels.{WritesText, channel};
 ghost use Rattle.delta_cli.specs.Results.{StopsWriting};
 
-use crate::refusal::Refusal;
+use command_tables::Refusal;
 use delta_base::Sink;
 use sink_writing::write_all;
 

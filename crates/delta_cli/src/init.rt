@@ -3,7 +3,7 @@ ghost use Rattle.std.specs.Prelude.{◌≤◌, IfErr, OnOk};
 ghost use Rattle.slot_files.specs.Files.{IsInitial};
 ghost use Rattle.delta_cli.specs.Tool.{Spares, StopsInit};
 
-use crate::refusal::Refusal;
+use command_tables::Refusal;
 use delta_base::Text;
 use disk_model::Shelf;
 use slot_files::init_slots;

@@ -2,7 +2,7 @@
 ghost use Rattle.std.specs.Prelude.{◌≡◌, ◌+◌, ◌<◌, ◌≤◌, ◌^◌, ℕ, List, length, IsErrOf, IfOk, OnOk};
 ghost use Rattle.std.specs.Io.KnownBytes.{Consumes, IsAtEnd};
 ghost use Rattle.delta_base.specs.Outside.{Rose};
-ghost use Rattle.delta_cli.specs.Channels.{IsLonger};
+ghost use Rattle.command_tables.specs.Channels.{IsLonger};
 
 use delta_base::Source;
 use sink_writing::PIECE;

@@ -1,13 +1,13 @@
 //! The command `nquads`: a document in canonical form.
 ghost use Rattle.std.specs.Prelude.{◌≡◌, ◌<◌, ◌^◌, length, IfOk, IfErr, OnOk};
 ghost use Rattle.sink_writing.specs.Writing.{joined};
-ghost use Rattle.delta_cli.specs.Channels.{WritesText, channel};
+ghost use Rattle.command_tables.specs.Channels.{WritesText, channel};
 ghost use Rattle.delta_cli.specs.Document.{IsShown};
 ghost use Rattle.delta_cli.specs.Results.{AreShown, Prints, ReadsInput, StopsDocument};
 ghost use Rattle.delta_cli.specs.Results.{StopsNquads, StopsPrinting, StopsReading};
 
 use crate::input::{InputFault, read_all};
-use crate::refusal::Refusal;
+use command_tables::Refusal;
 use delta_base::{Sink, Source};
 use nquads_documents::{DocFault, canonical_lines};
 use sink_writing::{Room, write_texts};

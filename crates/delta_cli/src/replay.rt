@@ -1,11 +1,11 @@
 //! The command `replay`: the canonical lines of the dataset that a stream of patches makes.
 ghost use Rattle.std.specs.Prelude.{◌≡◌, IfErr, OnOk};
-ghost use Rattle.delta_cli.specs.Channels.{WritesText, channel};
+ghost use Rattle.command_tables.specs.Channels.{WritesText, channel};
 ghost use Rattle.delta_cli.specs.Results.{HasReplayLines, Prints, ReadsInput, StopsPrinting};
 ghost use Rattle.delta_cli.specs.Results.{StopsReplay, refusal_of};
 ghost use Rattle.delta_cli.specs.Zones.{bytes_of};
 
-use crate::refusal::Refusal;
+use command_tables::Refusal;
 use delta_base::{Sink, Source};
 use line_log::MadeLines;
 use sink_writing::Room;

@@ -2,14 +2,14 @@
 ghost use Rattle.std.specs.Prelude.{◌≡◌, ◌≢◌, ℕ, IfErr, IfOk, OnOk};
 ghost use Rattle.delta_client.specs.Lines.{told_of};
 ghost use Rattle.follower.specs.declared.ends.SyncEnd.TheVariants as ends;
-ghost use Rattle.delta_cli.specs.Addresses.{IsAddress};
-ghost use Rattle.delta_cli.specs.Channels.{WritesText, channel};
+ghost use Rattle.command_tables.specs.Addresses.{IsAddress};
+ghost use Rattle.command_tables.specs.Channels.{WritesText, channel};
 ghost use Rattle.delta_cli.specs.Results.{StopsPrinting};
 ghost use Rattle.delta_cli.specs.Syncs.{CatchesUp, StopsSync, TellsEnd, caught_up_line};
 ghost use Rattle.delta_cli.specs.Told.{network_of};
 
-use crate::refusal::Refusal;
 use chain_core::ChainFault;
+use command_tables::Refusal;
 use delta_base::{OutOfMemory, Sink, Text};
 use delta_client::Dial;
 use disk_model::Shelf;

@@ -1,7 +1,7 @@
 //! The top call.
 ghost use Rattle.std.specs.Prelude.{IfErr, OnOk};
 ghost use Rattle.delta_client.specs.Lines.{told_of};
-ghost use Rattle.delta_cli.specs.Channels.{channel, words_of};
+ghost use Rattle.command_tables.specs.Channels.{channel, words_of};
 ghost use Rattle.delta_cli.specs.Commands.{Asks, Fits};
 ghost use Rattle.delta_cli.specs.Told.{network_of, told};
 ghost use Rattle.delta_cli.specs.Tool.{Answers, Does, Stops};
@@ -14,10 +14,10 @@ use crate::generate::{emit, generate};
 use crate::help::{HELP, VERSION, print};
 use crate::init::init;
 use crate::nquads::nquads;
-use crate::refusal::{Refusal, report};
 use crate::replay::replay;
 use crate::sync::sync_zone;
 use crate::zone::{make_zone, print_zone};
+use command_tables::{Refusal, report};
 use delta_base::{Sink, Source};
 use delta_client::Dial;
 use disk_model::Shelf;

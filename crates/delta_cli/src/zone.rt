@@ -4,12 +4,12 @@ ghost use Rattle.std.specs.Io.KnownBytes.{Appends};
 ghost use Rattle.delta_base.specs.Outside.{Rose};
 ghost use Rattle.sink_writing.specs.Writing.{AppendsFront};
 ghost use Rattle.slot_files.specs.Files.{bytes_at};
-ghost use Rattle.delta_cli.specs.Channels.{WritesText, channel};
+ghost use Rattle.command_tables.specs.Channels.{WritesText, channel};
 ghost use Rattle.delta_cli.specs.Results.{StopsPrinting};
 ghost use Rattle.delta_cli.specs.Zones.{IsNewZone, KeepsZone, ReadsZone, SparesZone, StopsMaking};
 ghost use Rattle.delta_cli.specs.Zones.{StopsZone, bytes_of};
 
-use crate::refusal::Refusal;
+use command_tables::Refusal;
 use delta_base::{Failed, Sink, Text};
 use disk_model::Shelf;
 use sink_writing::Room;

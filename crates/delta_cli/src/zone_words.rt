@@ -1,15 +1,14 @@
 //! What the words ask of a zone.
 ghost use Rattle.std.specs.Prelude.{◌≡◌, [], ℕ, get_or, true, IfOk, IfErr};
 ghost use Rattle.zone_commands.specs.Words.{Finds, IsPatternOf};
-ghost use Rattle.delta_cli.specs.Channels.{words_of};
-ghost use Rattle.delta_cli.specs.Commands.{Asks, FitsName, RefusesWords, is_of_zone};
-ghost use Rattle.delta_cli.specs.declared.name.Name.TheVariants as names;
+ghost use Rattle.command_tables.specs.Channels.{words_of};
+ghost use Rattle.command_tables.specs.Names.{FitsName, is_of_zone};
+ghost use Rattle.delta_cli.specs.Commands.{Asks, RefusesWords};
+ghost use Rattle.command_tables.specs.declared.name.Name.TheVariants as names;
 
-use crate::address::is_address;
 use crate::calls::text_at;
 use crate::command::Command;
-use crate::name::Name;
-use crate::refusal::Refusal;
+use command_tables::{Name, Refusal, is_address};
 use dataset_tx::Pattern;
 use delta_base::{OutOfMemory, Text};
 use std::alloc::Global;

@@ -4,11 +4,11 @@ use Rattle.std.specs.Prelude.{String, string_bytes, codes}
 use Rattle.std.specs.Fmt.{decimal}
 use Rattle.std.specs.declared.alloc.Global.{Global}
 use Rattle.std.proofs.lemmas.List.Elements.{All-nil, All-cons, All-head, All-tail}
-use Rattle.command_words.specs.Positions.{FitPositions, IsPlainWord}
-use Rattle.delta_cli.specs.Channels.{words_of}
-use Rattle.delta_cli.specs.Commands.{BeginsWith, FitsName, positions_of}
-use Rattle.delta_cli.specs.declared.name.Name.TheVariants as names
-use Rattle.delta_cli.proofs.Words.{plain_number}
+use Rattle.command_tables.specs.Positions.{FitPositions, IsPlainWord}
+use Rattle.command_tables.specs.Channels.{words_of}
+use Rattle.command_tables.specs.Names.{BeginsWith, FitsName, positions_of}
+use Rattle.command_tables.specs.declared.name.Name.TheVariants as names
+use Rattle.command_tables.proofs.Words.{plain_number}
 use Rattle.delta_server.specs.Words.{AsksToServe}
 
 -- words that ask for a server are one for each position

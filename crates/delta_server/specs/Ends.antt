@@ -9,11 +9,11 @@ use Rattle.slot_checks.specs.Faults.{HasRegistryFileFault}
 use Rattle.slot_checks.specs.declared.fault.CheckFault.{CheckFault}
 use Rattle.slot_checks.specs.declared.fault.CheckFault.TheVariants as checks
 use Rattle.worker_pool.specs.declared.gate.Arrival.{Arrival}
-use Rattle.delta_cli.specs.Channels.{Channel, IsSilent}
-use Rattle.delta_cli.specs.Refusals.{ReportsRefusal}
-use Rattle.delta_cli.specs.Tool.{check_refusal}
-use Rattle.delta_cli.specs.declared.refusal.Refusal.{Refusal}
-use Rattle.delta_cli.specs.declared.refusal.Refusal.TheVariants as refusals
+use Rattle.command_tables.specs.Channels.{Channel, IsSilent}
+use Rattle.command_tables.specs.Refusals.{ReportsRefusal}
+use Rattle.command_tables.specs.Refusals.{check_refusal}
+use Rattle.command_tables.specs.declared.refusal.Refusal.{Refusal}
+use Rattle.command_tables.specs.declared.refusal.Refusal.TheVariants as refusals
 use Rattle.delta_session.specs.Ends.{IsEnded}
 use Rattle.delta_session.specs.Opening.{IsRefusedHall}
 use Rattle.delta_session.specs.Steps.{HallView, HallSight}

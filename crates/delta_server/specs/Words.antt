@@ -1,12 +1,12 @@
 -- The words that ask a server to serve.
 use Rattle.std.specs.Prelude.{◌≡◌, ℕ, ◌≤◌, List, [], ◌∷◌, codes}
 use Rattle.std.specs.Fmt.{decimal}
-use Rattle.command_words.specs.Positions.{IsPlainWord}
-use Rattle.delta_cli.specs.Addresses.{IsAddress}
-use Rattle.delta_cli.specs.Commands.{BeginsWith}
-use Rattle.delta_cli.specs.declared.name.Name.TheVariants as names
-use Rattle.delta_cli.specs.declared.refusal.Refusal.{Refusal}
-use Rattle.delta_cli.specs.declared.refusal.Refusal.TheVariants as refusals
+use Rattle.command_tables.specs.Positions.{IsPlainWord}
+use Rattle.command_tables.specs.Addresses.{IsAddress}
+use Rattle.command_tables.specs.Names.{BeginsWith}
+use Rattle.command_tables.specs.declared.name.Name.TheVariants as names
+use Rattle.command_tables.specs.declared.refusal.Refusal.{Refusal}
+use Rattle.command_tables.specs.declared.refusal.Refusal.TheVariants as refusals
 
 -- The words ask for a server of this directory's files at this address, with so many workers. The
 -- number is decimal, without sign and leading zeros; no word behind the first begins with `-`.

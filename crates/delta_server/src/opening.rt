@@ -12,8 +12,8 @@ ghost use Rattle.delta_server.specs.Files.{AreMarked, AreFilesRead};
 ghost use Rattle.delta_server.specs.Serving.{AreDisksAsked, IsHallOver};
 
 use crate::files::put_back;
+use command_tables::Refusal;
 use delta_base::Text;
-use delta_cli::Refusal;
 use delta_session::{Hall, HallFault, HallPasses, open_hall};
 use disk_model::{Shelf, ShelfFault};
 use log_base::MOST_SLOTS;

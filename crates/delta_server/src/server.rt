@@ -1,6 +1,6 @@
 //! The top call of the server.
 ghost use Rattle.std.specs.Prelude.{◌≡◌, ◌≤◌, IfErr, IsErr, OnOk, length, take};
-ghost use Rattle.delta_cli.specs.Channels.{channel, words_of};
+ghost use Rattle.command_tables.specs.Channels.{channel, words_of};
 ghost use Rattle.delta_server.specs.Ends.{AnswersServe, FailsServe, StopsServe, shelf_view};
 ghost use Rattle.delta_server.specs.Gates.{HaveFailed};
 ghost use Rattle.delta_server.specs.Serving.{HasServed};
@@ -9,8 +9,8 @@ use crate::files::put_back;
 use crate::gates::{counts, gather, have_failed, lay_aside};
 use crate::opening::open;
 use crate::words::{MOST_WORKERS, Serve, read_serve};
+use command_tables::{Refusal, report};
 use delta_base::{Link, Sink};
-use delta_cli::{Refusal, report};
 use delta_session::serve_gates;
 use disk_model::Shelf;
 use std::alloc::Global;

@@ -1,13 +1,12 @@
 //! What the words ask for.
 ghost use Rattle.std.specs.Prelude.{◌≡◌, ℕ, List, IfOk, IfErr, OnOk};
-ghost use Rattle.command_words.specs.Positions.{FitPositions};
-ghost use Rattle.delta_cli.specs.Channels.{words_of};
-ghost use Rattle.delta_cli.specs.Commands.{BeginsWith, FitsName, positions_of};
+ghost use Rattle.command_tables.specs.Positions.{FitPositions};
+ghost use Rattle.command_tables.specs.Channels.{words_of};
+ghost use Rattle.command_tables.specs.Names.{BeginsWith, FitsName, positions_of};
 ghost use Rattle.delta_server.specs.Words.{AsksToServe, RefusesToServe};
 
-use command_words::{WordsFault, read_words};
+use command_tables::{Name, Refusal, WordsFault, is_address, number_in, read_words};
 use delta_base::Text;
-use delta_cli::{Name, Refusal, is_address, number_in};
 use std::alloc::Global;
 
 /// A directory whose files are to be served, by so many workers.

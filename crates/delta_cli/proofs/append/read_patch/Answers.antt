@@ -1,4 +1,4 @@
-use Rattle.delta_cli.specs.Channels.{channel}
+use Rattle.command_tables.specs.Channels.{channel}
 use Rattle.delta_cli.proofs.Appended.{stops_patch}
 use Rattle.delta_cli.proofs.Printed.{err_weaker}
 use Rattle.delta_cli.proofs.append.read_patch.Goals as goal

@@ -1,6 +1,6 @@
 use Rattle.delta_client.specs.Lines.{told_of}
 use Rattle.delta_cli.specs.Asked.{Described}
-use Rattle.delta_cli.specs.Channels.{channel}
+use Rattle.command_tables.specs.Channels.{channel}
 use Rattle.delta_cli.specs.Told.{network_of}
 use Rattle.delta_cli.proofs.Printed.{err_weaker}
 use Rattle.delta_cli.proofs.Shown.{all_visible, stops_asking}

@@ -1,8 +1,8 @@
 use Rattle.std.proofs.Common.{refl, ap, subst, Some}
 use Rattle.delta_base.specs.declared.id.Id.{Id}
-use Rattle.delta_cli.specs.Channels.{words_of}
-use Rattle.delta_cli.specs.Commands.{FitsName}
-use Rattle.delta_cli.specs.declared.name.Name.TheVariants as names
+use Rattle.command_tables.specs.Channels.{words_of}
+use Rattle.command_tables.specs.Names.{FitsName}
+use Rattle.command_tables.specs.declared.name.Name.TheVariants as names
 use Rattle.delta_cli.proofs.Words.{three_are}
 use Rattle.delta_cli.proofs.calls.make_call.Goals as goal
 

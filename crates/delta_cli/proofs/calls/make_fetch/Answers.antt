@@ -3,8 +3,8 @@ use Rattle.std.specs.Prelude.{option_map}
 use Rattle.delta_base.specs.Ids.{number_of}
 use Rattle.delta_base.specs.declared.id.Id.{Id}
 use Rattle.rpc_calls.specs.Routes.{version_asked}
-use Rattle.delta_cli.specs.Channels.{words_of}
-use Rattle.delta_cli.specs.declared.name.Name.TheVariants as names
+use Rattle.command_tables.specs.Channels.{words_of}
+use Rattle.command_tables.specs.declared.name.Name.TheVariants as names
 use Rattle.delta_cli.proofs.Words.{three_are}
 use Rattle.delta_cli.proofs.calls.make_fetch.Goals as goal
 

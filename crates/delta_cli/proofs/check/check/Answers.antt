@@ -1,5 +1,5 @@
 use Rattle.std.proofs.Common.{sym, subst}
-use Rattle.delta_cli.specs.Channels.{channel}
+use Rattle.command_tables.specs.Channels.{channel}
 use Rattle.delta_cli.specs.Tool.{StopsCheck}
 use Rattle.delta_cli.proofs.Checked.{check_stops}
 use Rattle.delta_cli.proofs.check.check.Goals as goal

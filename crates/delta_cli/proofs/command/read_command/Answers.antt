@@ -1,5 +1,5 @@
 use Rattle.std.proofs.Common.{ap, sym, ◌∷◌, ◌∙◌}
-use Rattle.delta_cli.proofs.Words.{first_of_words}
+use Rattle.command_tables.proofs.Words.{first_of_words}
 use Rattle.delta_cli.proofs.command.read_command.Goals as goal
 
 pub read_named-requires : goal.read_named-requires

@@ -1,4 +1,4 @@
-use Rattle.delta_cli.specs.Channels.{words_of}
+use Rattle.command_tables.specs.Channels.{words_of}
 use Rattle.delta_cli.proofs.Words.{nameless, first_nameless}
 use Rattle.delta_cli.proofs.command.read_named.Goals as goal
 

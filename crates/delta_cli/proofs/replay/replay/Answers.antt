@@ -1,4 +1,4 @@
-use Rattle.delta_cli.specs.Channels.{channel}
+use Rattle.command_tables.specs.Channels.{channel}
 use Rattle.delta_cli.proofs.Printed.{err_weaker, stops_printing}
 use Rattle.delta_cli.proofs.replay.replay.Goals as goal
 

@@ -1,7 +1,7 @@
 use Rattle.std.proofs.Common.{ap, subst}
 use Rattle.std.proofs.KnownBytes.{Keeps-refl}
 use Rattle.delta_client.specs.Lines.{told_of}
-use Rattle.delta_cli.specs.Channels.{channel}
+use Rattle.command_tables.specs.Channels.{channel}
 use Rattle.delta_cli.specs.Syncs.{Synced, ended, unprinted}
 use Rattle.delta_cli.specs.Told.{network_of}
 use Rattle.delta_cli.proofs.Printed.{err_weaker}

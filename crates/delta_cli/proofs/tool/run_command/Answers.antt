@@ -1,6 +1,6 @@
 use Rattle.std.proofs.Common.{refl, sym, subst}
 use Rattle.delta_client.specs.Lines.{told_of}
-use Rattle.delta_cli.specs.Channels.{channel}
+use Rattle.command_tables.specs.Channels.{channel}
 use Rattle.delta_cli.specs.Told.{network_of, told}
 use Rattle.delta_cli.specs.Tool.{Stops}
 use Rattle.delta_cli.specs.declared.command.Command.{Command}

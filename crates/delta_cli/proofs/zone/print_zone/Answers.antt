@@ -1,5 +1,5 @@
 use Rattle.std.proofs.Common.{sym, subst}
-use Rattle.delta_cli.specs.Channels.{channel}
+use Rattle.command_tables.specs.Channels.{channel}
 use Rattle.delta_cli.specs.Zones.{StopsZone}
 use Rattle.delta_cli.proofs.Made.{printing_stops, reading_stops}
 use Rattle.delta_cli.proofs.Printed.{err_weaker}

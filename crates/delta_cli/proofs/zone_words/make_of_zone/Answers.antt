@@ -1,8 +1,9 @@
 use Rattle.std.proofs.Common.{ℕ, List, [], get_or, sym, subst}
 use Rattle.dataset_tx.specs.declared.pattern.Pattern.{Pattern}
 use Rattle.zone_commands.specs.Words.{Finds, IsPatternOf}
-use Rattle.delta_cli.specs.Channels.{words_of}
-use Rattle.delta_cli.specs.Commands.{FitsName, IsOfTool}
+use Rattle.command_tables.specs.Channels.{words_of}
+use Rattle.command_tables.specs.Names.{FitsName}
+use Rattle.delta_cli.specs.Commands.{IsOfTool}
 use Rattle.delta_cli.proofs.Words.{five_are, matchless}
 use Rattle.delta_cli.proofs.zone_words.make_of_zone.Goals as goal
 

@@ -1,5 +1,5 @@
 use Rattle.std.proofs.Common.{rules}
-use Rattle.delta_cli.specs.Channels.{words_of}
+use Rattle.command_tables.specs.Channels.{words_of}
 use Rattle.delta_cli.proofs.Words.{sync_are}
 use Rattle.delta_cli.proofs.zone_words.make_sync.Goals as goal
 

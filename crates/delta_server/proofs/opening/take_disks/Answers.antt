@@ -1,7 +1,7 @@
 use Rattle.std.proofs.Common.{inl, inr, ⊎_elim, List, ℕ, length, refl, sym, arith}
 use Rattle.slot_checks.proofs.Steps.{all_kept, all_twice, same_bytes}
 use Rattle.slot_checks.specs.Checks.{AreKept}
-use Rattle.delta_cli.specs.declared.refusal.Refusal.TheVariants as refusals
+use Rattle.command_tables.specs.declared.refusal.Refusal.TheVariants as refusals
 use Rattle.delta_server.specs.Ends.{at_shelf}
 use Rattle.delta_server.proofs.Shelving.{kept_over, read_same, rose_before, rose_behind}
 use Rattle.delta_server.proofs.opening.take_disks.Goals as goal

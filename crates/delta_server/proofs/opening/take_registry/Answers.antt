@@ -4,7 +4,7 @@ use Rattle.disk_model.specs.declared.shelf.ShelfFault.{ShelfFault}
 use Rattle.slot_checks.proofs.Steps.{all_kept, visit_kept}
 use Rattle.slot_checks.specs.Faults.{HasRegistryFileFault}
 use Rattle.slot_checks.specs.declared.fault.CheckFault.{CheckFault}
-use Rattle.delta_cli.specs.declared.refusal.Refusal.TheVariants as refusals
+use Rattle.command_tables.specs.declared.refusal.Refusal.TheVariants as refusals
 use Rattle.delta_server.specs.Ends.{HasNoDisks, at_registry, at_shelf, shelf_view}
 use Rattle.delta_server.proofs.Shelving.{err_at, rose_before, put_at}
 use Rattle.delta_server.proofs.Halls.{risen}

@@ -1,6 +1,6 @@
 use Rattle.std.proofs.Common.{inl, inr, List, map, take, refl, sym, ap, subst, ◌∙◌, true≢false}
 use Rattle.slot_checks.proofs.Steps.{all_kept}
-use Rattle.delta_cli.specs.declared.refusal.Refusal.TheVariants as refusals
+use Rattle.command_tables.specs.declared.refusal.Refusal.TheVariants as refusals
 use Rattle.delta_server.specs.Ends.{at_files, at_shelf}
 use Rattle.delta_server.specs.Gates.{HaveFailed}
 use Rattle.delta_server.proofs.Shelving.{on_ok}

@@ -1,7 +1,7 @@
 use Rattle.std.proofs.Common.{◌≡◌, inr, ◌≤◌, ◌++◌, List, ℕ, length, map, take, drop, refl, sym, ap, subst, ◌∙◌, arith, take-append-drop}
 use Rattle.slot_checks.proofs.Steps.{all_kept}
 use Rattle.slot_checks.specs.Checks.{AreKept}
-use Rattle.delta_cli.specs.declared.refusal.Refusal.TheVariants as refusals
+use Rattle.command_tables.specs.declared.refusal.Refusal.TheVariants as refusals
 use Rattle.delta_session.specs.Working.{HasWorked}
 use Rattle.delta_server.specs.Ends.{at_files, at_shelf, at_workers}
 use Rattle.delta_server.proofs.Gathered.{came_back, gathered, laid_length, aside_length, front, idle, count}

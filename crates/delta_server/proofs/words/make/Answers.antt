@@ -1,9 +1,9 @@
 use Rattle.std.proofs.Common.{◌≡◌, ◌∷◌, [], sym, subst, ◌∙◌, arith}
 use Rattle.std.specs.Prelude.{Some, codes, string_bytes}
 use Rattle.std.specs.Fmt.{decimal}
-use Rattle.command_words.specs.Positions.{IsPlainWord}
-use Rattle.delta_cli.specs.Addresses.{IsAddress}
-use Rattle.delta_cli.specs.Commands.{IsNumberIn}
+use Rattle.command_tables.specs.Positions.{IsPlainWord}
+use Rattle.command_tables.specs.Addresses.{IsAddress}
+use Rattle.command_tables.specs.Names.{IsNumberIn}
 use Rattle.delta_server.proofs.Asking.{four_words}
 use Rattle.delta_server.proofs.words.make.Goals as goal
 

@@ -1,7 +1,7 @@
 use Rattle.std.proofs.Common.{◌∷◌, List, ℕ, sym, ap, ◌∙◌}
 use Rattle.std.specs.Prelude.{codes}
 use Rattle.std.specs.Cmp.Lexicographic.{bytes_decides}
-use Rattle.delta_cli.proofs.Words.{first_of_words}
+use Rattle.command_tables.proofs.Words.{first_of_words}
 use Rattle.delta_server.proofs.words.read_serve.Goals as goal
 
 pub read_positions-requires : goal.read_positions-requires

@@ -1,0 +1,5 @@
+mod Addresses
+mod EndOfPositions
+mod Pieces
+mod WalkOfPositions
+pub mod Words

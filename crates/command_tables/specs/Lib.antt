@@ -1,0 +1,6 @@
+pub mod Addresses
+pub mod Channels
+pub mod Lines
+pub mod Names
+pub mod Positions
+pub mod Refusals

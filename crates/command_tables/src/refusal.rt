@@ -1,0 +1,205 @@
+//! How a command ends without its result, and the line that tells it.
+ghost use Rattle.std.specs.Prelude.{◌≡◌};
+ghost use Rattle.command_tables.specs.Channels.{channel};
+ghost use Rattle.command_tables.specs.Lines.{exit_status};
+ghost use Rattle.command_tables.specs.Refusals.{ReportsRefusal};
+
+use crate::lines::line_of;
+use crate::name::Name;
+use chain_core::ChainFault;
+use delta_base::{Bytes, OutOfMemory, Sink};
+use nquads_text::TextKind;
+use patch_meaning::{PatchFault, PatchKind};
+use sink_writing::write_all;
+use slot_checks::CheckFault;
+use slot_files::InitFault;
+use std::alloc::Global;
+use zone_state::{ZONE_NUMBER, ZoneFault};
+
+/// How a command ends without its result.
+#[derive(Debug, Drop)]
+pub enum Refusal {
+    /// The first word names no command, or there is none.
+    UnknownCommand,
+    /// The words behind the command's name aren't those that it takes.
+    Usage(Name),
+    /// The input is no stream of patches: the line, the place and the kind of its first fault.
+    Stream {
+        line: u64,
+        at: u64,
+        kind: PatchKind,
+    },
+    /// The input is no stream of patches: its first fault is that a patch is too long.
+    LongPatch {
+        length: u64,
+        limit: u64,
+    },
+    /// The input is no document: the line, the place and the kind of its first fault.
+    Document {
+        line: usize,
+        at: usize,
+        kind: TextKind,
+    },
+    /// The input has more bytes than it may have.
+    TooLong {
+        limit: u64,
+    },
+    InputFailed,
+    OutputFailed,
+    /// A file that was to be made has bytes.
+    NotEmpty {
+        file: u32,
+        length: u64,
+    },
+    /// There are not numbers enough for the terms of a zone.
+    ZoneTermsFull,
+    /// A zone takes no patch more: what it has of what is limited, and the limit.
+    ZoneFull {
+        have: u64,
+        limit: u64,
+    },
+    /// A file isn't in its form.
+    File(CheckFault),
+    /// There are not as many files as the registry's file says.
+    WrongCount {
+        disks: u64,
+        slots: u32,
+    },
+    DiskFailed,
+    LinkFailed,
+    /// The server's answer has another status than 200.
+    Refused {
+        status: u16,
+        body: Bytes,
+    },
+    /// The server's bytes are no answer to the call.
+    NotUnderstood {
+        at: u64,
+    },
+    /// The server's bytes end before an answer does.
+    CutShort,
+    /// The text that the server has for this version is no patch.
+    BadPatch {
+        version: u32,
+        fault: PatchFault,
+    },
+    /// The server's log is shorter than the zone.
+    PeerBehind {
+        mine: u32,
+        theirs: u32,
+    },
+    /// The server's log has no patch of this version, which it told.
+    NoPatch {
+        version: u32,
+    },
+    /// The patches of the stream, or of a zone and the next one, are no chain.
+    Chain(ChainFault),
+    OutOfMemory,
+}
+
+impl Refusal {
+    ghost use Rattle.std.specs.Prelude.{◌≡◌};
+    ghost use Rattle.command_tables.specs.Refusals.{check_refusal, init_refusal};
+    ghost use Rattle.command_tables.specs.Refusals.{zone_refusal};
+
+    /// The end of a command that finds this fault of a file.
+    pub fn of_check(fault: CheckFault) -> Refusal
+        ensures { result ≡ check_refusal fault }
+    {
+        match fault {
+            CheckFault::Failed => Refusal::DiskFailed,
+            CheckFault::OutOfMemory => Refusal::OutOfMemory,
+            fault => Refusal::File(fault),
+        }
+    }
+
+    /// The end of a command that makes a file where this is why it couldn't.
+    pub fn of_init(fault: InitFault) -> Refusal
+        ensures { result ≡ init_refusal fault }
+    {
+        match fault {
+            InitFault::NotEmpty { number, length } => Refusal::NotEmpty {
+                file: number,
+                length,
+            },
+            InitFault::Failed => Refusal::DiskFailed,
+            InitFault::OutOfMemory => Refusal::OutOfMemory,
+        }
+    }
+
+    /// The end of a command that finds this fault of a zone's file.
+    pub fn of_zone(fault: ZoneFault) -> Refusal
+        ensures { result ≡ zone_refusal fault }
+    {
+        let file = ZONE_NUMBER;
+        match fault {
+            ZoneFault::Failed => Refusal::DiskFailed,
+            ZoneFault::OutOfMemory => Refusal::OutOfMemory,
+            ZoneFault::TermsFull => Refusal::ZoneTermsFull,
+            ZoneFault::Damaged { at } => Refusal::File(CheckFault::Damaged { file, at }),
+            ZoneFault::WrongNumber { found } => {
+                Refusal::File(CheckFault::WrongNumber { file, found })
+            }
+            ZoneFault::OverLimit { length, limit } => Refusal::File(CheckFault::OverLimit {
+                file,
+                length,
+                limit,
+            }),
+            ZoneFault::BrokenChain { version } => {
+                Refusal::File(CheckFault::BrokenChain { file, version })
+            }
+        }
+    }
+}
+
+impl From<OutOfMemory> for Refusal {
+    ghost use Rattle.std.specs.Prelude.{◌≡◌};
+    ghost use Rattle.command_tables.specs.declared.refusal.Refusal.TheVariants as refusals;
+
+    ghost from_gives = { λ _ e. e ≡ refusals.OutOfMemory };
+
+    fn from(_error: OutOfMemory) -> Refusal {
+        Refusal::OutOfMemory
+    }
+}
+
+/// Writes the line of a refusal on `err`, and gives its status.
+pub fn report<E: Sink>(alloc: Global, refusal: Refusal, err: &mut E) -> u8
+    ensures { ReportsRefusal refusal (channel (E.written err.old) (E.faults err.old))
+        (channel (E.written err.new) (E.faults err.new)) result }
+{
+    let status = status_of(&refusal);
+    let line = line_of(alloc, &refusal);
+    drop(refusal);
+    match line {
+        Ok(line) => {
+            let _ = write_all(err, line.as_slice());
+            status
+        }
+        Err(_) => {
+            let _ = write_all(err, b"rdfdelta: out of memory\n");
+            8
+        }
+    }
+}
+
+fn status_of(refusal: &Refusal) -> u8
+    ensures { result ≡ exit_status refusal.now }
+{
+    match refusal {
+        Refusal::NotEmpty { .. } | Refusal::ZoneTermsFull | Refusal::ZoneFull { .. } => 1,
+        Refusal::Refused { .. } => 1,
+        Refusal::UnknownCommand | Refusal::Usage(_) => 2,
+        Refusal::Stream { .. }
+        | Refusal::LongPatch { .. }
+        | Refusal::Document { .. }
+        | Refusal::TooLong { .. } => 3,
+        Refusal::InputFailed | Refusal::OutputFailed => 4,
+        Refusal::DiskFailed => 5,
+        Refusal::LinkFailed => 6,
+        Refusal::NotUnderstood { .. } | Refusal::CutShort | Refusal::BadPatch { .. } => 7,
+        Refusal::OutOfMemory => 8,
+        Refusal::File(_) | Refusal::WrongCount { .. } => 9,
+        Refusal::Chain(_) | Refusal::PeerBehind { .. } | Refusal::NoPatch { .. } => 10,
+    }
+}
