@@ -128,10 +128,12 @@ fn a_read_gives_what_was_written_since_the_one_before(rt: HostRuntime) -> Result
 
 #[test]
 fn a_path_that_is_no_folder_fails(rt: HostRuntime) -> Result<(), Fail> {
-    let dir = Text::from_str(rt.alloc(), "/nowhere/at/all")?;
     let mut shelf = HostShelf::new(&rt, rt.alloc());
-    assert!(rt; takes(&mut shelf, &dir, 1).is_err());
-    assert!(rt; shelf.faults() == 1);
+    for (path, faults) in [("/nowhere/at/all", 1), ("", 2)] {
+        let dir = Text::from_str(rt.alloc(), path)?;
+        assert!(rt; takes(&mut shelf, &dir, 1).is_err());
+        assert!(rt; shelf.faults() == faults);
+    }
     drop(shelf);
     Ok(())
 }
@@ -143,6 +145,28 @@ fn refuses_write(rt: &impl Abort, disk: &mut HostDisk) {
     );
     assert!(rt; disk.faults() == 1);
     assert!(rt; disk.len() == Ok(3));
+}
+
+// What is written before a sync that fails is well, and nothing behind it.
+fn loses_what_was_written(rt: &impl Abort, disk: &mut HostDisk) {
+    assert!(rt; disk.write_at(0, b"x").is_ok());
+    assert!(rt; disk.sync() == Err(Failed), "the system syncs no device");
+    assert!(rt; disk.faults() == 1);
+    assert!(rt; disk.write_at(0, b"x") == Err(Failed));
+    assert!(rt; disk.sync() == Err(Failed));
+    assert!(rt; disk.faults() == 3);
+}
+
+#[test]
+fn behind_a_failed_sync_no_call_is_well(rt: HostRuntime) -> Result<(), Fail> {
+    let file = OpenOptions::new()
+        .read(true)
+        .write(true)
+        .open(&rt, "/dev/null")?;
+    let mut disk = HostDisk::new(rt.alloc(), file);
+    loses_what_was_written(&rt, &mut disk);
+    drop(disk);
+    Ok(())
 }
 
 #[test]
