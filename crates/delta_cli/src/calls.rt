@@ -11,7 +11,7 @@ ghost use Rattle.command_tables.specs.declared.name.Name.TheVariants as names;
 use crate::command::Command;
 use command_tables::{Name, Refusal, is_address};
 use delta_base::{OutOfMemory, Text, random_id, read_id};
-use http_text::{are_digits, digits_value};
+use http_heads::{are_digits, digits_value};
 use rpc_calls::Call;
 use std::alloc::Global;
 

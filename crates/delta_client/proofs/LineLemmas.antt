@@ -4,7 +4,7 @@ use Rattle.std.specs.Prelude.{IsSome, MatchBool}
 use Rattle.std.specs.Io.KnownBytes.{Appends, Consumes}
 use Rattle.std.proofs.KnownBytes.{Consumes-nil, Consumes-trans}
 use Rattle.http_text.specs.Taken.{GaveReplies}
-use Rattle.http_text.specs.declared.message.RawReply.{RawReply}
+use Rattle.http_heads.specs.declared.message.RawReply.{RawReply}
 use Rattle.http_text.specs.declared.reader.MessageReader.{MessageReader}
 use Rattle.rpc_answers.specs.declared.answer.Answer.{Answer}
 use Rattle.sink_writing.specs.Writing.{AppendsFront}

@@ -3,14 +3,14 @@ use Rattle.std.proofs.Common.{◌≡◌, ◌⊎◌, inl, inr, ⊎_elim, ℕ, Lis
 use Rattle.std.proofs.lemmas.List.{append-nil}
 use Rattle.std.specs.Io.KnownBytes.{Consumes, IsAtEnd}
 use Rattle.std.proofs.KnownBytes.{Consumes-trans, Consumes-nil}
-use Rattle.http_text.specs.Messages.{AreMessages}
+use Rattle.http_messages.specs.Messages.{AreMessages}
 use Rattle.http_text.specs.Readers.{Decides, waiting}
 use Rattle.http_text.specs.Taken.{GaveReplies, reply_messages}
-use Rattle.http_text.specs.declared.framing.FrameFault.{FrameFault}
-use Rattle.http_text.specs.declared.framing.FrameFault.TheVariants as frame
-use Rattle.http_text.specs.declared.message.Kind.TheVariants.{Replies}
-use Rattle.http_text.specs.declared.message.Message.{Message}
-use Rattle.http_text.specs.declared.message.RawReply.{RawReply}
+use Rattle.http_heads.specs.declared.framing.FrameFault.{FrameFault}
+use Rattle.http_heads.specs.declared.framing.FrameFault.TheVariants as frame
+use Rattle.http_heads.specs.declared.message.Kind.TheVariants.{Replies}
+use Rattle.http_heads.specs.declared.message.Message.{Message}
+use Rattle.http_heads.specs.declared.message.RawReply.{RawReply}
 use Rattle.http_text.specs.declared.reader.MessageReader.{MessageReader}
 use Rattle.delta_client.specs.declared.fault.AskFault.{AskFault}
 use Rattle.delta_client.specs.declared.fault.AskFault.TheVariants as ask

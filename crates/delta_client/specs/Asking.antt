@@ -1,13 +1,13 @@
 -- What one call says of the bytes of its connection.
 use Rattle.std.specs.Prelude.{◌≡◌, ◌⊎◌, ℕ, List, [], ◌∷◌, ◌++◌, Option, Result, Ok, Err}
 use Rattle.std.specs.Io.KnownBytes.{IsAtEnd}
-use Rattle.http_text.specs.Messages.{ReadsMessages, AreMessages, between, inside, faulty}
+use Rattle.http_messages.specs.Messages.{ReadsMessages, AreMessages, between, inside, faulty}
 use Rattle.http_text.specs.Print.{request_text}
 use Rattle.http_text.specs.Taken.{GaveReplies, reply_messages}
-use Rattle.http_text.specs.declared.framing.FrameFault.{FrameFault}
-use Rattle.http_text.specs.declared.framing.FrameFault.TheVariants as frame
-use Rattle.http_text.specs.declared.message.Kind.TheVariants.{Replies}
-use Rattle.http_text.specs.declared.message.RawReply.{RawReply}
+use Rattle.http_heads.specs.declared.framing.FrameFault.{FrameFault}
+use Rattle.http_heads.specs.declared.framing.FrameFault.TheVariants as frame
+use Rattle.http_heads.specs.declared.message.Kind.TheVariants.{Replies}
+use Rattle.http_heads.specs.declared.message.RawReply.{RawReply}
 use Rattle.http_text.specs.declared.reader.MessageReader.{MessageReader}
 use Rattle.rpc_answers.specs.declared.fault.AnswerFault.{AnswerFault}
 use Rattle.rpc_answers.specs.declared.fault.AnswerFault.TheVariants as answers

@@ -3,7 +3,7 @@ use Rattle.std.specs.Prelude.{◌≡◌, ◌⊎◌, ℕ, List, [], ◌∷◌, �
 use Rattle.std.specs.Prelude.{Some, None, Result, Ok, Err, MatchBool}
 use Rattle.std.specs.Io.KnownBytes.{Appends, Consumes}
 use Rattle.http_text.specs.Taken.{GaveReplies}
-use Rattle.http_text.specs.declared.message.RawReply.{RawReply}
+use Rattle.http_heads.specs.declared.message.RawReply.{RawReply}
 use Rattle.rpc_answers.specs.declared.answer.Answer.{Answer}
 use Rattle.rpc_answers.specs.Prints.{IsPrintOf}
 use Rattle.sink_writing.specs.Writing.{AppendsFront}

@@ -3,7 +3,7 @@ ghost use Rattle.std.specs.Prelude.{◌≡◌, ◌≤◌, ◌++◌, ℕ, List, t
 ghost use Rattle.std.specs.List.{list_all};
 ghost use Rattle.std.specs.Io.KnownBytes.{Appends, Consumes};
 ghost use Rattle.delta_base.specs.Outside.{Rose};
-ghost use Rattle.http_text.specs.declared.message.RawReply.{RawReply as Reply};
+ghost use Rattle.http_heads.specs.declared.message.RawReply.{RawReply as Reply};
 ghost use Rattle.http_text.specs.Taken.{GaveReplies};
 ghost use Rattle.http_text.specs.Print.{is_visible};
 ghost use Rattle.rpc_answers.specs.Answers.{NamesItsFault};

@@ -2,7 +2,7 @@
 ghost use Rattle.std.specs.Prelude.{◌≡◌};
 
 use delta_base::OutOfMemory;
-use http_text::FrameFault;
+use http_heads::FrameFault;
 use rpc_answers::AnswerFault;
 
 /// Why a call has no answer.

@@ -2,13 +2,14 @@
 ghost use Rattle.std.specs.Prelude.{◌≡◌, ◌≤◌, ◌++◌, ℕ, List, IsErrOf};
 ghost use Rattle.std.specs.Io.KnownBytes.{Consumes};
 ghost use Rattle.delta_base.specs.Outside.{Rose};
-ghost use Rattle.http_text.specs.declared.message.RawReply.{RawReply as Reply};
+ghost use Rattle.http_heads.specs.declared.message.RawReply.{RawReply as Reply};
 ghost use Rattle.http_text.specs.Taken.{GaveReplies};
 ghost use Rattle.delta_client.specs.Asking.{NextReplyIs};
 
 use crate::fault::AskFault;
 use delta_base::Link;
-use http_text::{RawReply, ReplyReader};
+use http_heads::RawReply;
+use http_text::ReplyReader;
 
 /// How many bytes are read at once.
 const PIECE: usize = 8_192;

@@ -1,11 +1,11 @@
 -- What a session writes by itself, as prints of answers.
 use Rattle.std.proofs.Common.{◌≡◌, ◌≢◌, ◌∙◌, ℕ, ◌++◌, List, Bool, true, Some, None, codes, refl, ap, sym}
 use Rattle.serde_json.proofs.OnLiterals.{serde_json_on_literals}
-use Rattle.http_text.specs.Faults.{frame_name, frame_status}
+use Rattle.http_heads.specs.Faults.{frame_name, frame_status}
 use Rattle.http_text.specs.Print.{reply_text}
-use Rattle.http_text.specs.declared.framing.FrameFault.{FrameFault}
-use Rattle.http_text.specs.declared.framing.FrameFault.TheVariants as frame
-use Rattle.http_text.specs.declared.message.RawReply.{RawReply}
+use Rattle.http_heads.specs.declared.framing.FrameFault.{FrameFault}
+use Rattle.http_heads.specs.declared.framing.FrameFault.TheVariants as frame
+use Rattle.http_heads.specs.declared.message.RawReply.{RawReply}
 use Rattle.http_session.specs.Texts.{json_reply, memory_text, refusal_text}
 use Rattle.rpc_answers.specs.declared.answer.Answer.TheVariants as answer
 use Rattle.rpc_answers.specs.Answers.{body_of, status_of}

@@ -3,7 +3,7 @@ use Rattle.std.specs.Prelude.{◌≡◌, ◌⊎◌, ℕ, List, [], ◌∷◌, Op
 use Rattle.std.specs.Option.{option_copied}
 use Rattle.chain_core.specs.Replies.{LogCall, LogReply, append as appends}
 use Rattle.log_base.specs.declared.source_info.SourceInfo.{SourceInfo}
-use Rattle.http_text.specs.declared.message.RawRequest.{RawRequest}
+use Rattle.http_heads.specs.declared.message.RawRequest.{RawRequest}
 use Rattle.http_session.specs.declared.answerer.Said.{Said}
 use Rattle.http_session.specs.declared.answerer.Said.TheVariants.{Reply, OutOfMemory}
 use Rattle.patch_log.specs.Log.{bare}

@@ -1,10 +1,10 @@
 //! Laws of a hall's answers. These functions do nothing but call others like them: their
 //! contracts are theorems.
 ghost use Rattle.std.specs.Prelude.{◌≡◌, ◌≢◌, Bool, true, None};
-ghost use Rattle.http_text.specs.Faults.{frame_name};
+ghost use Rattle.http_heads.specs.Faults.{frame_name};
 ghost use Rattle.http_text.specs.Print.{reply_text};
-ghost use Rattle.http_text.specs.declared.framing.FrameFault.{FrameFault};
-ghost use Rattle.http_text.specs.declared.message.RawReply.{RawReply};
+ghost use Rattle.http_heads.specs.declared.framing.FrameFault.{FrameFault};
+ghost use Rattle.http_heads.specs.declared.message.RawReply.{RawReply};
 ghost use Rattle.http_session.specs.Texts.{memory_text, refusal_text};
 ghost use Rattle.rpc_answers.specs.Prints.{IsCompactPrintOf};
 ghost use Rattle.rpc_answers.specs.declared.answer.Answer.{Answer};

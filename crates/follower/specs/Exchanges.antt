@@ -3,7 +3,7 @@ use Rattle.std.specs.Prelude.{◌≡◌, ℕ, ◌+◌, Bool, List, [], ◌∷◌
 use Rattle.std.specs.Prelude.{None, IsSome, IsNone, Result, Ok, Err, if◌then◌else◌}
 use Rattle.std.specs.Io.KnownBytes.{Appends, Consumes}
 use Rattle.delta_base.specs.Memory.{CountsCall}
-use Rattle.http_text.specs.declared.message.RawReply.{RawReply}
+use Rattle.http_heads.specs.declared.message.RawReply.{RawReply}
 use Rattle.rpc_answers.specs.declared.answer.Answer.{Answer}
 use Rattle.rpc_answers.specs.Prints.{IsPrintOf}
 use Rattle.rpc_calls.specs.declared.call.Call.{Call}

@@ -6,7 +6,8 @@
 
 ghost use Rattle.std.specs.Prelude.{◌<◌};
 
-use http_text::{FrameFault, RequestReader};
+use http_heads::FrameFault;
+use http_text::RequestReader;
 use std::alloc::Global;
 use std::env::Args;
 use std::io::Read;

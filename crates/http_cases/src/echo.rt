@@ -3,8 +3,8 @@ ghost use Rattle.std.specs.Prelude.{◌≡◌, Some, IfOk, codes};
 ghost use Rattle.http_session.specs.Said.{IsPrintableSaid};
 
 use delta_base::{Bytes, OutOfMemory};
+use http_heads::{RawReply, RawRequest};
 use http_session::{Answerer, Said};
-use http_text::{RawReply, RawRequest};
 use std::alloc::Global;
 use std::sync::Wait;
 

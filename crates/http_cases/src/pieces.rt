@@ -2,7 +2,7 @@
 use crate::streams::{Stream, tell_end};
 use case_scripts::Words;
 use delta_base::OutOfMemory;
-use http_text::FrameFault;
+use http_heads::FrameFault;
 use std::alloc::{AllocError, Global};
 
 /// How a text is cut: a first piece of so many bytes, and then pieces of one size.

@@ -1,6 +1,7 @@
 //! A request and a reply that are printed.
 use delta_base::{Bytes, OutOfMemory, Text};
-use http_text::{RawReply, RawRequest, print_reply, print_request};
+use http_heads::{RawReply, RawRequest};
+use http_text::{print_reply, print_request};
 use std::alloc::Global;
 
 // The text of a request for `/` to the host `a`.

@@ -1,5 +1,6 @@
 //! Readers of streams of messages, and what they give in words.
-use http_text::{CutShort, FrameFault, RawReply, RawRequest, ReplyReader, RequestReader};
+use http_heads::{FrameFault, RawReply, RawRequest};
+use http_text::{CutShort, ReplyReader, RequestReader};
 use std::alloc::{AllocError, Global};
 
 /// What stands between the things that a stream gives.

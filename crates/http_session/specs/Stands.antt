@@ -6,16 +6,16 @@ use Rattle.delta_base.specs.Outside.{Rose}
 use Rattle.sink_writing.specs.Writing.{AppendsFront}
 use Rattle.http_text.specs.Readers.{waiting, was_told, fault_of}
 use Rattle.http_text.specs.Taken.{request_messages, GaveRequests, AsksAtFront}
-use Rattle.http_text.specs.declared.framing.FrameFault.{FrameFault}
-use Rattle.http_text.specs.declared.framing.FrameFault.TheVariants as faults
-use Rattle.http_text.specs.declared.message.Message.{Message}
-use Rattle.http_text.specs.declared.message.RawRequest.{RawRequest}
+use Rattle.http_heads.specs.declared.framing.FrameFault.{FrameFault}
+use Rattle.http_heads.specs.declared.framing.FrameFault.TheVariants as faults
+use Rattle.http_heads.specs.declared.message.Message.{Message}
+use Rattle.http_heads.specs.declared.message.RawRequest.{RawRequest}
 use Rattle.http_text.specs.declared.reader.MessageReader.{MessageReader}
 use Rattle.http_text.specs.declared.session.SessionEnd.{SessionEnd}
 use Rattle.http_text.specs.declared.session.SessionEnd.TheVariants.{Asked, Spent, Refused}
 use Rattle.http_text.specs.declared.session.SessionEnd.TheVariants.{LinkFault, OutOfMemory}
 use Rattle.http_session.specs.declared.answerer.Said.{Said}
-use Rattle.http_text.specs.Faults.{frame_status}
+use Rattle.http_heads.specs.Faults.{frame_status}
 use Rattle.http_session.specs.Texts.{continue_text, continue_line, refusal_text}
 use Rattle.http_session.specs.Said.{said_text}
 use Rattle.http_session.specs.Output.{Exchange, requests_of, most_requests}

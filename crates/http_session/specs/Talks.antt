@@ -3,18 +3,18 @@ use Rattle.std.specs.Prelude.{◌≡◌, ◌⊎◌, ℕ, ◌<◌, true, false, L
 use Rattle.std.specs.Prelude.{[], ◌∷◌, ◌++◌, length, Option, All}
 use Rattle.std.specs.Io.KnownBytes.{Appends, Consumes, IsAtEnd}
 use mathlib.Core.List.{IsPrefix}
-use Rattle.http_text.specs.Messages.{AreMessages, BeginsWithGoodHead}
-use Rattle.http_text.specs.Messages.{EndsAs, IsFrameFault, between, inside}
+use Rattle.http_messages.specs.Messages.{AreMessages, BeginsWithGoodHead}
+use Rattle.http_messages.specs.Messages.{EndsAs, IsFrameFault, between, inside}
 use Rattle.http_text.specs.Taken.{request_messages}
-use Rattle.http_text.specs.declared.framing.FrameFault.{FrameFault}
-use Rattle.http_text.specs.declared.message.Kind.TheVariants.{Requests}
-use Rattle.http_text.specs.declared.message.RawRequest.{RawRequest}
+use Rattle.http_heads.specs.declared.framing.FrameFault.{FrameFault}
+use Rattle.http_heads.specs.declared.message.Kind.TheVariants.{Requests}
+use Rattle.http_heads.specs.declared.message.RawRequest.{RawRequest}
 use Rattle.http_text.specs.declared.session.SessionEnd.{SessionEnd}
 use Rattle.http_text.specs.declared.session.SessionEnd.TheVariants.{Closed, Asked, Spent}
 use Rattle.http_text.specs.declared.session.SessionEnd.TheVariants.{Refused, CutShort}
 use Rattle.http_text.specs.declared.session.SessionEnd.TheVariants.{LinkFault, OutOfMemory}
 use Rattle.http_session.specs.declared.answerer.Said.{Said}
-use Rattle.http_text.specs.Faults.{frame_status}
+use Rattle.http_heads.specs.Faults.{frame_status}
 use Rattle.http_session.specs.Texts.{continue_text, continue_line, refusal_text}
 use Rattle.http_session.specs.Output.{Exchange, requests_of, most_requests, output, AnswerChain}
 

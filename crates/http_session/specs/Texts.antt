@@ -2,10 +2,10 @@
 -- memory, and refusals.
 use Rattle.std.specs.Prelude.{ℕ, Bool, true, false, List, [], ◌++◌, Some, None, codes}
 use Rattle.httparse.specs.Ascii.{crlf_bytes}
-use Rattle.http_text.specs.Faults.{frame_name, frame_status}
+use Rattle.http_heads.specs.Faults.{frame_name, frame_status}
 use Rattle.http_text.specs.Print.{reply_text}
-use Rattle.http_text.specs.declared.framing.FrameFault.{FrameFault}
-use Rattle.http_text.specs.declared.message.RawReply.{RawReply}
+use Rattle.http_heads.specs.declared.framing.FrameFault.{FrameFault}
+use Rattle.http_heads.specs.declared.message.RawReply.{RawReply}
 
 -- what asks a client to send the body of its request (RFC 9110, section 15.2.1)
 abbrev pub continue_text : List ℕ

@@ -5,7 +5,7 @@ ghost use Rattle.std.specs.Io.KnownBytes.{Appends, IsAtEnd};
 ghost use Rattle.delta_base.specs.Outside.{Rose};
 ghost use Rattle.http_text.specs.Readers.{fault_of, was_told};
 ghost use Rattle.http_text.specs.Taken.{GaveRequests};
-ghost use Rattle.http_text.specs.declared.message.Message.{Message};
+ghost use Rattle.http_heads.specs.declared.message.Message.{Message};
 ghost use Rattle.http_session.specs.Said.{IsPrintableSaid, said_text};
 ghost use Rattle.http_session.specs.Output.{most_requests};
 ghost use Rattle.http_session.specs.Talks.{Moment, TalksOn, IsDrained, moment_of};
@@ -15,7 +15,8 @@ ghost use Rattle.http_session.specs.Stands.{SessionStands, StopsSending, TellsAs
 use crate::answerer::{Answerer, Said};
 use crate::texts::{continue_text, memory_text, refusal_text};
 use delta_base::Link;
-use http_text::{FrameFault, RawRequest, RequestReader, SessionEnd, print_reply};
+use http_heads::{FrameFault, RawRequest};
+use http_text::{RequestReader, SessionEnd, print_reply};
 use sink_writing::send_all;
 use std::alloc::Global;
 use std::sync::Wait;

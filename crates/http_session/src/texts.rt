@@ -2,7 +2,7 @@
 ghost use Rattle.std.specs.Prelude.{◌≡◌};
 ghost use Rattle.http_session.specs.Texts.{continue_text, memory_text, refusal_text};
 
-use http_text::FrameFault;
+use http_heads::FrameFault;
 
 /// Asks a client to send the body of its request.
 pub fn continue_text() -> &'static [u8]

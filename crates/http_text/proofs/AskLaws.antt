@@ -1,11 +1,12 @@
 -- What those who carry a session need of the messages taken, and of the head behind them.
 use Rattle.std.proofs.Common.{◌≡◌, ℕ, Bool, true, false, ◌⊎◌, List, [], ◌∷◌, ◌++◌, refl, sym, ◌∙◌, subst, inl, inr}
-use Rattle.http_text.specs.Heads.{ReadsHead, print_heads}
-use Rattle.http_text.specs.Messages.{message_expects, BeginsWithGoodHead, AreMessages}
+use Rattle.http_heads.specs.Heads.{ReadsHead, print_heads}
+use Rattle.http_heads.specs.Asking.{message_expects}
+use Rattle.http_messages.specs.Messages.{BeginsWithGoodHead, AreMessages}
 use Rattle.http_text.specs.Taken.{AsksBehind}
-use Rattle.http_text.specs.declared.message.Kind.{Kind}
-use Rattle.http_text.specs.declared.message.Message.{Message}
-use Rattle.http_text.proofs.HeadLaws.{nothing_read}
+use Rattle.http_heads.specs.declared.message.Kind.{Kind}
+use Rattle.http_heads.specs.declared.message.Message.{Message}
+use Rattle.http_heads.proofs.HeadLaws.{nothing_read}
 use Rattle.http_text.proofs.ReaderLemmas.{message_head}
 use Rattle.http_text.proofs.RunLemmas.{messages_grow}
 use Rattle.http_text.proofs.StayLemmas.{good_head_stays}

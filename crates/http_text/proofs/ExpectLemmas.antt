@@ -1,20 +1,20 @@
 -- Whether the head at the front of a reader asks for 100 Continue.
 use Rattle.std.proofs.Common.{◌≡◌, ℕ, Bool, true, false, ◌⊎◌, List, [], ◌∷◌, ◌++◌, length, take, Some, Ok, Err, refl, sym, ap, ◌∙◌, subst, inl, inr, arith}
 use Rattle.std.proofs.lemmas.List.{append-nil}
-use Rattle.http_text.specs.Heads.{Head, fields_of, ReadsHead, room_behind}
-use Rattle.http_text.specs.Messages.{head_expects, framing_behind, BeginsWithHead, BeginsWithGoodHead, AreMessages}
-use Rattle.http_text.specs.Front.{TellsFaultAt}
+use Rattle.http_heads.specs.Heads.{Head, fields_of, ReadsHead, room_behind}
+use Rattle.http_messages.specs.Messages.{head_expects, framing_behind, BeginsWithHead, BeginsWithGoodHead, AreMessages}
+use Rattle.http_messages.specs.Front.{TellsFaultAt}
 use Rattle.http_text.specs.Readers.{HoldsHead, HoldsStage, HasHeadFault, KnowsAsk, stage_fault, stage_expects, asks_first}
 use Rattle.http_text.specs.Taken.{AsksBehind}
-use Rattle.http_text.specs.declared.follow.HeadProgress.{HeadProgress}
-use Rattle.http_text.specs.declared.framing.FrameFault.{FrameFault}
-use Rattle.http_text.specs.declared.framing.FrameFault.TheVariants as faults
-use Rattle.http_text.specs.declared.framing.Framing.{Framing}
-use Rattle.http_text.specs.declared.message.Kind.{Kind}
-use Rattle.http_text.specs.declared.message.Message.{Message}
+use Rattle.http_heads.specs.declared.progress.HeadProgress.{HeadProgress}
+use Rattle.http_heads.specs.declared.framing.FrameFault.{FrameFault}
+use Rattle.http_heads.specs.declared.framing.FrameFault.TheVariants as faults
+use Rattle.http_heads.specs.declared.framing.Framing.{Framing}
+use Rattle.http_heads.specs.declared.message.Kind.{Kind}
+use Rattle.http_heads.specs.declared.message.Message.{Message}
 use Rattle.http_text.specs.declared.reader.Stage.{Stage}
 use Rattle.http_text.specs.declared.reader.Stage.TheVariants as stages
-use Rattle.http_text.proofs.HeadLaws.{head_unique, head_grows}
+use Rattle.http_heads.proofs.HeadLaws.{head_unique, head_grows}
 use Rattle.http_text.proofs.PassLemmas.{HasNoInterim, same_passed, no_interim_none, no_interim_begins, no_interim_fault, head_in_front}
 use Rattle.http_text.proofs.ReaderLemmas.{good_head, message_head}
 use Rattle.http_text.proofs.UniqueLemmas.{message_same}

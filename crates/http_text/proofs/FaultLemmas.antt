@@ -5,25 +5,26 @@ use Rattle.std.specs.List.{flat_map}
 use Rattle.httparse.specs.Ascii.{crlf_bytes}
 use Rattle.httparse.specs.Grammar.{ChunkLine, ReadsChunkLine, print_chunk_line, chunk_size, NeverHasChunkLine, NeverHasSection, Field, IsField, LineEnd, print_section}
 use Rattle.httparse.proofs.ChunkLemmas.{chunk_line_unique}
-use Rattle.http_text.specs.Heads.{Head, print_head, fields_of, ReadsHead, IsBadHead, room_behind}
-use Rattle.http_text.specs.Chunks.{Chunk, IsChunk, AreChunks, print_chunk, data_of, IsShortLine, most_line, most_trailers, IsBadLine, AreBadTrailers, IsNoLineEnd, IsBadBehind, IsChunkFault, IsChunkedFault}
-use Rattle.http_text.specs.Framing.{most_body}
-use Rattle.http_text.specs.Messages.{BeginsWithHead, framing_behind, IsFaultAt, IsFrameFault, IsBodyFault, IsBody, BeginsNoMessage}
-use Rattle.http_text.specs.Stages.{IsOpenHead, IsOpenLine, AreOpenTrailers, IsInChunk, HoldsPart}
+use Rattle.http_heads.specs.Heads.{Head, print_head, fields_of, ReadsHead, IsBadHead, room_behind}
+use Rattle.http_messages.specs.Chunks.{Chunk, IsChunk, AreChunks, print_chunk, data_of, IsShortLine, most_line, most_trailers, IsBadLine, AreBadTrailers, IsNoLineEnd, IsBadBehind, IsChunkFault, IsChunkedFault}
+use Rattle.http_heads.specs.Framing.{most_body}
+use Rattle.http_messages.specs.Messages.{BeginsWithHead, framing_behind, IsFaultAt, IsFrameFault, IsBodyFault, IsBody, BeginsNoMessage}
+use Rattle.http_messages.specs.Stages.{IsOpenHead, IsOpenLine, AreOpenTrailers, IsInChunk, HoldsPart}
 use Rattle.http_text.specs.Readers.{HoldsRest}
-use Rattle.http_text.specs.declared.message.Kind.{Kind}
-use Rattle.http_text.specs.declared.framing.FrameFault.{FrameFault}
-use Rattle.http_text.specs.declared.framing.FrameFault.TheVariants as faults
-use Rattle.http_text.specs.declared.framing.Framing.{Framing}
-use Rattle.http_text.specs.declared.framing.Framing.TheVariants.{Sized, Chunked}
-use Rattle.http_text.specs.declared.stage.BodyPart.{BodyPart}
-use Rattle.http_text.specs.declared.stage.BodyPart.TheVariants as parts
+use Rattle.http_heads.specs.declared.message.Kind.{Kind}
+use Rattle.http_heads.specs.declared.framing.FrameFault.{FrameFault}
+use Rattle.http_heads.specs.declared.framing.FrameFault.TheVariants as faults
+use Rattle.http_heads.specs.declared.framing.Framing.{Framing}
+use Rattle.http_heads.specs.declared.framing.Framing.TheVariants.{Sized, Chunked}
+use Rattle.http_messages.specs.declared.stage.BodyPart.{BodyPart}
+use Rattle.http_messages.specs.declared.stage.BodyPart.TheVariants as parts
 use Rattle.http_text.specs.declared.reader.Stage.{Stage}
 use Rattle.http_text.specs.declared.reader.Stage.TheVariants as stages
-use Rattle.http_text.proofs.HeadLaws.{head_unique, head_grows}
-use Rattle.http_text.proofs.GrowLemmas.{take_past, begins_grows}
+use Rattle.http_heads.proofs.HeadLaws.{head_unique, head_grows}
+use Rattle.http_messages.proofs.GrowLemmas.{take_past, begins_grows}
 use Rattle.http_text.proofs.PassLemmas.{passes_grow, no_interim_none, no_interim_begins, head_in_front, fault_behind}
-use Rattle.http_text.proofs.PlaceLemmas.{HasNoChunk, same_place, same_parts, line_of_chunk}
+use Rattle.http_heads.proofs.HeadLaws.{same_parts}
+use Rattle.http_messages.proofs.PlaceLemmas.{HasNoChunk, same_place, line_of_chunk}
 use Rattle.http_text.proofs.OpenLemmas.{line_place, chunk_place, last_place, whole_text}
 
 -- a chunk line within its limit stands in the first bytes

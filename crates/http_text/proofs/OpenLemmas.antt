@@ -5,22 +5,22 @@ use Rattle.std.specs.List.{flat_map}
 use Rattle.httparse.specs.Ascii.{crlf_bytes}
 use Rattle.httparse.specs.Grammar.{ChunkLine, IsChunkLine, print_chunk_line, chunk_size, print_section, HasNoChunkLine}
 use Rattle.httparse.proofs.ChunkLemmas.{chunk_line_unique}
-use Rattle.http_text.specs.Heads.{ReadsHead, PassesOver, room_behind}
-use Rattle.http_text.specs.Chunks.{Chunk, AreChunks, print_chunk, data_of, ChunkedBody, IsChunkedBody, print_chunked}
-use Rattle.http_text.specs.Messages.{BeginsNoMessage, framing_behind, IsBody}
-use Rattle.http_text.specs.declared.message.Kind.{Kind}
-use Rattle.http_text.specs.Stages.{IsInChunk, HoldsPart}
+use Rattle.http_heads.specs.Heads.{ReadsHead, PassesOver, room_behind}
+use Rattle.http_messages.specs.Chunks.{Chunk, AreChunks, print_chunk, data_of, ChunkedBody, IsChunkedBody, print_chunked}
+use Rattle.http_messages.specs.Messages.{BeginsNoMessage, framing_behind, IsBody}
+use Rattle.http_heads.specs.declared.message.Kind.{Kind}
+use Rattle.http_messages.specs.Stages.{IsInChunk, HoldsPart}
 use Rattle.http_text.specs.Readers.{HoldsRest}
-use Rattle.http_text.specs.declared.framing.Framing.{Framing}
-use Rattle.http_text.specs.declared.framing.Framing.TheVariants.{Chunked}
-use Rattle.http_text.specs.declared.stage.BodyPart.{BodyPart}
-use Rattle.http_text.specs.declared.stage.BodyPart.TheVariants as parts
+use Rattle.http_heads.specs.declared.framing.Framing.{Framing}
+use Rattle.http_heads.specs.declared.framing.Framing.TheVariants.{Chunked}
+use Rattle.http_messages.specs.declared.stage.BodyPart.{BodyPart}
+use Rattle.http_messages.specs.declared.stage.BodyPart.TheVariants as parts
 use Rattle.http_text.specs.declared.reader.Stage.{Stage}
 use Rattle.http_text.specs.declared.reader.Stage.TheVariants as stages
-use Rattle.http_text.proofs.HeadLaws.{head_unique}
-use Rattle.http_text.proofs.GrowLemmas.{begins_grows}
+use Rattle.http_heads.proofs.HeadLaws.{head_unique}
+use Rattle.http_messages.proofs.GrowLemmas.{begins_grows}
 use Rattle.http_text.proofs.PassLemmas.{passes_grow, same_passed, no_interim_none, no_interim_begins}
-use Rattle.http_text.proofs.PlaceLemmas.{HasNoChunk, same_place, line_of_chunk}
+use Rattle.http_messages.proofs.PlaceLemmas.{HasNoChunk, same_place, line_of_chunk}
 
 -- ---- places without a chunk
 

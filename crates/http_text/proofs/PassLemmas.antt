@@ -2,15 +2,15 @@
 use Rattle.std.proofs.Common.{◌≡◌, ℕ, ◌+◌, ◌-◌, ◌≤◌, List, [], ◌∷◌, ◌++◌, length, take, refl, sym, ap, ap₂, ◌∙◌, subst, arith, append_assoc, length-append, All, true≢false, inl}
 use Rattle.std.proofs.lemmas.List.{flat_map_more}
 use Rattle.std.proofs.lemmas.List.Elements.{All-head, All-tail, All-nil, All-cons, All-append}
-use Rattle.http_text.specs.Heads.{Head, most_head, print_head, print_heads, fields_of, ReadsHead, HasNoHead, IsInterim, is_interim, PassesOver, room_behind}
-use Rattle.http_text.specs.Messages.{BeginsWithHead, IsFaultAt, IsFrameFault}
-use Rattle.http_text.specs.Front.{TellsFaultAt}
+use Rattle.http_heads.specs.Heads.{Head, most_head, print_head, print_heads, fields_of, ReadsHead, HasNoHead, IsInterim, is_interim, PassesOver, room_behind}
+use Rattle.http_messages.specs.Messages.{BeginsWithHead, IsFaultAt, IsFrameFault}
+use Rattle.http_messages.specs.Front.{TellsFaultAt}
 use Rattle.http_text.specs.Readers.{TellsFault}
-use Rattle.http_text.specs.declared.message.Kind.{Kind}
-use Rattle.http_text.specs.declared.framing.FrameFault.{FrameFault}
-use Rattle.http_text.specs.declared.framing.FrameFault.TheVariants as faults
-use Rattle.http_text.proofs.HeadLaws.{head_unique, head_grows}
-use Rattle.http_text.proofs.GrowLemmas.{take_past}
+use Rattle.http_heads.specs.declared.message.Kind.{Kind}
+use Rattle.http_heads.specs.declared.framing.FrameFault.{FrameFault}
+use Rattle.http_heads.specs.declared.framing.FrameFault.TheVariants as faults
+use Rattle.http_heads.proofs.HeadLaws.{head_unique, head_grows}
+use Rattle.http_messages.proofs.GrowLemmas.{take_past}
 
 pub passes_none : (kind : Kind) (text : List ℕ) → PassesOver kind text [] text
 passes_none kind text = record { each = All-nil (IsInterim kind); short = omega arith; text_is = refl }

@@ -17,16 +17,16 @@ use Rattle.std.specs.List.{flat_map}
 use Rattle.httparse.specs.Ascii.{crlf_bytes}
 use Rattle.httparse.proofs.GrammarLemmas.{print_request-append}
 use Rattle.httparse.proofs.TrimLemmas.{AllPass-reverse, trim_ows_space}
-use Rattle.http_text.specs.Framing.{most_body, sized, length_value, is_length}
-use Rattle.http_text.specs.Heads.{request as request_head}
-use Rattle.http_text.specs.Messages.{before_query, from_slash, path_of, IsMessage}
+use Rattle.http_heads.specs.Framing.{most_body, sized, length_value, is_length}
+use Rattle.http_heads.specs.Heads.{request as request_head}
+use Rattle.http_messages.specs.Messages.{before_query, from_slash, path_of, IsMessage}
 use Rattle.http_text.proofs.PassLemmas.{passes_none}
-use Rattle.http_text.specs.declared.message.Kind.TheVariants.{Requests}
-use Rattle.http_text.specs.declared.message.Message.TheVariants as forms
-use Rattle.http_text.specs.declared.message.RawRequest.{RawRequest}
+use Rattle.http_heads.specs.declared.message.Kind.TheVariants.{Requests}
+use Rattle.http_heads.specs.declared.message.Message.TheVariants as forms
+use Rattle.http_heads.specs.declared.message.RawRequest.{RawRequest}
 use Rattle.http_text.specs.Print.{field, body_fields, head_for, request_text, is_visible, is_path_byte, IsPrintable, FitsReader}
-use Rattle.http_text.specs.declared.framing.FrameFault.TheVariants.{BodyTooLong}
-use Rattle.http_text.specs.declared.framing.Framing.TheVariants.{Sized}
+use Rattle.http_heads.specs.declared.framing.FrameFault.TheVariants.{BodyTooLong}
+use Rattle.http_heads.specs.declared.framing.Framing.TheVariants.{Sized}
 
 visible_is : (b : ℕ) → is_visible b ≡ true → (33 ≤ b) × (b ≤ 126)
 visible_is b visible = (grind (arith, nat_tests), grind (arith, nat_tests))

@@ -3,35 +3,36 @@ use Rattle.std.proofs.Common.{◌≡◌, ℕ, Bool, true, false, ◌-◌, ◌<�
 use Rattle.std.specs.Global.{Vec}
 use Rattle.std.proofs.lemmas.List.{append-nil}
 use Rattle.std.proofs.lemmas.List.Elements.{All-nil}
-use Rattle.http_text.specs.Heads.{Head, request, reply, print_head, HasNoHead, IsBadHead, IsInterim, PassesOver, room_behind}
-use Rattle.http_text.specs.Chunks.{IsChunk}
-use Rattle.http_text.specs.Messages.{message_of, request_of, reply_of, message_expects, head_expects, BeginsWithHead, BeginsWithGoodHead, framing_behind, IsMessage, IsBody, IsFrameFault}
-use Rattle.http_text.specs.Front.{TellsFaultAt}
-use Rattle.http_text.specs.Stages.{IsOpenHead, HoldsPart, TellsBodyFault, HeadStepIs, UsesSome}
-use Rattle.http_text.specs.declared.stage.HeadEnd.{HeadEnd}
+use Rattle.http_heads.specs.Heads.{Head, request, reply, print_head, HasNoHead, IsBadHead, IsInterim, PassesOver, room_behind}
+use Rattle.http_messages.specs.Chunks.{IsChunk}
+use Rattle.http_heads.specs.Asking.{message_expects}
+use Rattle.http_messages.specs.Messages.{message_of, request_of, reply_of, head_expects, BeginsWithHead, BeginsWithGoodHead, framing_behind, IsMessage, IsBody, IsFrameFault}
+use Rattle.http_messages.specs.Front.{TellsFaultAt}
+use Rattle.http_messages.specs.Stages.{IsOpenHead, HoldsPart, TellsBodyFault, HeadStepIs, UsesSome}
+use Rattle.http_messages.specs.declared.stage.HeadEnd.{HeadEnd}
 use Rattle.http_text.specs.Readers.{HoldsHead, HoldsBody, HoldsRest, IsHeadOfMessage, NextMessageIs, BeginsBody, EndsHead, TellsFault, HasHeadFault, KnowsAsk, BreaksAs}
-use Rattle.http_text.specs.declared.framing.FrameFault.{FrameFault}
-use Rattle.http_text.specs.declared.framing.FrameFault.TheVariants as faults
-use Rattle.http_text.specs.declared.framing.Framing.{Framing}
-use Rattle.http_text.specs.declared.framing.Framing.TheVariants.{Sized, Chunked}
-use Rattle.http_text.specs.declared.message.Kind.{Kind}
-use Rattle.http_text.specs.declared.message.Message.{Message}
-use Rattle.http_text.specs.declared.message.Message.TheVariants as forms
-use Rattle.http_text.specs.declared.message.RawRequest.{RawRequest}
-use Rattle.http_text.specs.declared.message.RawReply.{RawReply}
-use Rattle.http_text.specs.declared.line.LineAt.TheVariants as lines
-use Rattle.http_text.specs.declared.stage.BodyPart.{BodyPart}
-use Rattle.http_text.specs.declared.stage.BodyPart.TheVariants as parts
-use Rattle.http_text.specs.declared.stage.HeadEnd.TheVariants as ends
-use Rattle.http_text.specs.Follow.{Follows}
-use Rattle.http_text.specs.declared.follow.HeadProgress.{HeadProgress}
-use Rattle.http_text.specs.declared.follow.HeadProgress.TheVariants as at
+use Rattle.http_heads.specs.declared.framing.FrameFault.{FrameFault}
+use Rattle.http_heads.specs.declared.framing.FrameFault.TheVariants as faults
+use Rattle.http_heads.specs.declared.framing.Framing.{Framing}
+use Rattle.http_heads.specs.declared.framing.Framing.TheVariants.{Sized, Chunked}
+use Rattle.http_heads.specs.declared.message.Kind.{Kind}
+use Rattle.http_heads.specs.declared.message.Message.{Message}
+use Rattle.http_heads.specs.declared.message.Message.TheVariants as forms
+use Rattle.http_heads.specs.declared.message.RawRequest.{RawRequest}
+use Rattle.http_heads.specs.declared.message.RawReply.{RawReply}
+use Rattle.http_messages.specs.declared.line.LineAt.TheVariants as lines
+use Rattle.http_messages.specs.declared.stage.BodyPart.{BodyPart}
+use Rattle.http_messages.specs.declared.stage.BodyPart.TheVariants as parts
+use Rattle.http_messages.specs.declared.stage.HeadEnd.TheVariants as ends
+use Rattle.http_heads.specs.Follow.{Follows}
+use Rattle.http_heads.specs.declared.progress.HeadProgress.{HeadProgress}
+use Rattle.http_heads.specs.declared.progress.HeadProgress.TheVariants as at
 use Rattle.http_text.specs.declared.reader.Stage.{Stage}
 use Rattle.http_text.specs.declared.reader.Stage.TheVariants as stages
-use Rattle.http_text.proofs.HeadLaws.{nothing_read, some_head}
-use Rattle.http_text.proofs.GrowLemmas.{begins_grows}
+use Rattle.http_heads.proofs.HeadLaws.{nothing_read, some_head}
+use Rattle.http_messages.proofs.GrowLemmas.{begins_grows}
 use Rattle.http_text.proofs.PassLemmas.{passes_none, passes_grow, passes_more, room_more, tells_behind}
-use Rattle.http_text.proofs.ChunkLemmas.{open_line}
+use Rattle.http_messages.proofs.ChunkLemmas.{open_line}
 use Rattle.http_text.proofs.StayLemmas.{good_head_stays}
 
 -- no byte of a head has come

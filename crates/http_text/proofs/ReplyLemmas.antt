@@ -12,13 +12,13 @@ use Rattle.http.specs.StatusCode.{code_digits}
 use Rattle.httparse.specs.Ascii.{crlf_bytes}
 use Rattle.httparse.specs.Grammar.{AllPass, is_token_byte, is_value_byte, trim_ows, IsField, print_field, print_version, print_response}
 use Rattle.httparse.proofs.GrammarLemmas.{print_response-append}
-use Rattle.http_text.specs.Heads.{reply}
-use Rattle.http_text.specs.Messages.{reply_of, IsMessage, framing_behind}
+use Rattle.http_heads.specs.Heads.{reply}
+use Rattle.http_messages.specs.Messages.{reply_of, IsMessage, framing_behind}
 use Rattle.http_text.specs.Print.{field, is_visible, body_fields, phrase_of, statuses, status_line, allow_fields, close_fields, reply_fields, reply_head, reply_text, HasContentType, IsAllow, IsPrintableReply, FitsReader}
-use Rattle.http_text.specs.declared.framing.Framing.TheVariants.{Sized}
-use Rattle.http_text.specs.declared.message.Kind.TheVariants.{Replies}
-use Rattle.http_text.specs.declared.message.Message.TheVariants as forms
-use Rattle.http_text.specs.declared.message.RawReply.{RawReply}
+use Rattle.http_heads.specs.declared.framing.Framing.TheVariants.{Sized}
+use Rattle.http_heads.specs.declared.message.Kind.TheVariants.{Replies}
+use Rattle.http_heads.specs.declared.message.Message.TheVariants as forms
+use Rattle.http_heads.specs.declared.message.RawReply.{RawReply}
 use Rattle.http_text.proofs.PassLemmas.{passes_none}
 use Rattle.http_text.proofs.PrintLemmas.{trim_word, decimal_word, size_again, token_of, field_is}
 

@@ -2,23 +2,23 @@
 use Rattle.std.proofs.Common.{◌≡◌, ◌≢◌, ℕ, Bool, ◌+◌, ◌-◌, ◌<◌, ◌≤◌, ◌⊎◌, List, [], ◌∷◌, ◌++◌, length, take, drop, Option, None, Some, Ok, Err, refl, sym, ap, ◌∙◌, subst, inl, inr, arith, append_assoc, length-append}
 use Rattle.std.specs.Prelude.{IfNone, IfSome}
 use Rattle.std.proofs.lemmas.List.{append-nil, take_rest, take-append-drop}
-use Rattle.http_text.specs.Heads.{print_head, print_heads}
-use Rattle.http_text.proofs.HeadLaws.{head_not_empty}
-use Rattle.http_text.specs.Messages.{IsMessage, AreMessages, ReadsMessages, between, inside}
+use Rattle.http_heads.specs.Heads.{print_head, print_heads}
+use Rattle.http_heads.proofs.HeadLaws.{head_not_empty}
+use Rattle.http_messages.specs.Messages.{IsMessage, AreMessages, ReadsMessages, between, inside}
 use Rattle.http_text.proofs.FaultLemmas.{open_no_fault}
-use Rattle.http_text.proofs.GrowLemmas.{lt_or_le}
+use Rattle.http_messages.proofs.GrowLemmas.{lt_or_le}
 use Rattle.http_text.proofs.OpenLemmas.{open_no_message}
 use Rattle.http_text.proofs.StayLemmas.{broken_stays}
 use Rattle.http_text.specs.Readers.{TellsFault, BreaksAs, HoldsHead, HoldsRest, CanGoOn, NextMessageIs, AdvanceIs, HoldsMessages, HoldsFaulty, HoldsStage, stage_fault, Decides}
-use Rattle.http_text.specs.declared.framing.FrameFault.{FrameFault}
-use Rattle.http_text.specs.declared.framing.FrameFault.TheVariants as faults
-use Rattle.http_text.specs.declared.message.Message.{Message}
-use Rattle.http_text.specs.declared.message.Kind.{Kind}
-use Rattle.http_text.specs.declared.follow.HeadProgress.{HeadProgress}
+use Rattle.http_heads.specs.declared.framing.FrameFault.{FrameFault}
+use Rattle.http_heads.specs.declared.framing.FrameFault.TheVariants as faults
+use Rattle.http_heads.specs.declared.message.Message.{Message}
+use Rattle.http_heads.specs.declared.message.Kind.{Kind}
+use Rattle.http_heads.specs.declared.progress.HeadProgress.{HeadProgress}
 use Rattle.http_text.specs.declared.reader.Broken.{Broken}
 use Rattle.http_text.specs.declared.reader.Stage.{Stage}
 use Rattle.http_text.specs.declared.reader.Stage.TheVariants as stages
-use Rattle.http_text.specs.declared.framing.FrameFault.TheVariants.{OutOfMemory}
+use Rattle.http_heads.specs.declared.framing.FrameFault.TheVariants.{OutOfMemory}
 
 -- more bytes join the rest
 pub messages_grow : (kind : Kind) (messages : List Message) (bytes rest more : List ℕ) → AreMessages kind bytes messages rest → AreMessages kind (bytes ++ more) messages (rest ++ more)

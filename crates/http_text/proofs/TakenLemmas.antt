@@ -2,14 +2,14 @@
 use Rattle.std.proofs.Common.{◌≡◌, ℕ, List, [], ◌∷◌, ◌++◌, map, Option, Some, None, Result, Ok, Err, sym, ap, ◌∙◌, subst}
 use Rattle.std.specs.Prelude.{OnOk, OnErr, IfNone, IfSome}
 use Rattle.std.proofs.lemmas.List.{map-append}
-use Rattle.http_text.specs.Heads.{Head, request, reply, IsHeadOf}
-use Rattle.http_text.specs.Messages.{message_of, IsMessage, AreMessages}
+use Rattle.http_heads.specs.Heads.{Head, request, reply, IsHeadOf}
+use Rattle.http_messages.specs.Messages.{message_of, IsMessage, AreMessages}
 use Rattle.http_text.specs.Readers.{ReaderStandsFor, IsReader, waiting}
 use Rattle.http_text.specs.Taken.{taken_after}
-use Rattle.http_text.specs.declared.message.Kind.{Kind}
-use Rattle.http_text.specs.declared.message.Kind.TheVariants.{Requests, Replies}
-use Rattle.http_text.specs.declared.message.Message.{Message}
-use Rattle.http_text.specs.declared.message.Message.TheVariants as forms
+use Rattle.http_heads.specs.declared.message.Kind.{Kind}
+use Rattle.http_heads.specs.declared.message.Kind.TheVariants.{Requests, Replies}
+use Rattle.http_heads.specs.declared.message.Message.{Message}
+use Rattle.http_heads.specs.declared.message.Message.TheVariants as forms
 use Rattle.http_text.specs.declared.reader.MessageReader.{MessageReader}
 
 -- a reader whose kind is known

@@ -5,24 +5,25 @@ use Rattle.std.specs.List.{flat_map}
 use Rattle.httparse.specs.Grammar.{print_chunk_line, print_section}
 use Rattle.httparse.proofs.ChunkLemmas.{chunk_line_unique}
 use Rattle.httparse.proofs.GrammarLemmas.{section_unique}
-use Rattle.http_text.specs.Heads.{print_head, print_heads, ReadsHead, PassesOver, room_behind}
-use Rattle.http_text.specs.Chunks.{print_chunk, data_of}
-use Rattle.http_text.specs.Messages.{message_of, IsMessage, AreMessages, framing_behind, IsBody, BeginsNoMessage, End, between, inside, faulty, EndsAs, ReadsMessages, IsFrameFault}
-use Rattle.http_text.specs.declared.framing.FrameFault.{FrameFault}
-use Rattle.http_text.specs.declared.framing.Framing.{Framing}
-use Rattle.http_text.specs.declared.framing.Framing.TheVariants.{Sized, Chunked}
-use Rattle.http_text.specs.declared.message.Kind.{Kind}
-use Rattle.http_text.specs.declared.message.Message.{Message}
-use Rattle.http_text.proofs.HeadLaws.{head_unique, head_not_empty}
+use Rattle.http_heads.specs.Heads.{print_head, print_heads, ReadsHead, PassesOver, room_behind}
+use Rattle.http_messages.specs.Chunks.{print_chunk, data_of}
+use Rattle.http_messages.specs.Messages.{message_of, IsMessage, AreMessages, framing_behind, IsBody, BeginsNoMessage, End, between, inside, faulty, EndsAs, ReadsMessages, IsFrameFault}
+use Rattle.http_heads.specs.declared.framing.FrameFault.{FrameFault}
+use Rattle.http_heads.specs.declared.framing.Framing.{Framing}
+use Rattle.http_heads.specs.declared.framing.Framing.TheVariants.{Sized, Chunked}
+use Rattle.http_heads.specs.declared.message.Kind.{Kind}
+use Rattle.http_heads.specs.declared.message.Message.{Message}
+use Rattle.http_heads.proofs.HeadLaws.{head_unique, head_not_empty}
 use Rattle.http_text.proofs.FaultLemmas.{fault_no_message, open_no_fault}
 use Rattle.http_text.proofs.KindLemmas.{fault_once}
-use Rattle.http_text.proofs.GrowLemmas.{begins_grows}
+use Rattle.http_messages.proofs.GrowLemmas.{begins_grows}
 use Rattle.http_text.proofs.PassLemmas.{passes_grow, same_passed, no_interim_begins}
-use Rattle.http_text.proofs.PlaceLemmas.{same_place, same_parts}
+use Rattle.http_heads.proofs.HeadLaws.{same_parts}
+use Rattle.http_messages.proofs.PlaceLemmas.{same_place}
 use Rattle.http_text.proofs.OpenLemmas.{last_place, whole_text}
 use Rattle.http_text.proofs.ReaderLemmas.{start}
 use Rattle.http_text.specs.declared.reader.Stage.TheVariants as stages
-use Rattle.http_text.specs.declared.follow.HeadProgress.TheVariants as at
+use Rattle.http_heads.specs.declared.progress.HeadProgress.TheVariants as at
 
 -- no fault stands where nothing does
 nothing_good : (kind : Kind) (fault : FrameFault) → IsFrameFault kind [] fault → ⊥

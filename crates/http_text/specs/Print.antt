@@ -7,10 +7,10 @@ use Rattle.http.specs.StatusCode.{code_digits, reason_phrase}
 use Rattle.httparse.specs.Ascii.{crlf_bytes}
 use Rattle.httparse.specs.Grammar.{is_value_byte, Field, crlf, RequestHead, print_request}
 use Rattle.httparse.specs.Grammar.{ResponseHead, print_response, print_version}
-use Rattle.http_text.specs.Heads.{most_head}
-use Rattle.http_text.specs.Framing.{most_body}
-use Rattle.http_text.specs.declared.message.RawRequest.{RawRequest}
-use Rattle.http_text.specs.declared.message.RawReply.{RawReply}
+use Rattle.http_heads.specs.Heads.{most_head}
+use Rattle.http_heads.specs.Framing.{most_body}
+use Rattle.http_heads.specs.declared.message.RawRequest.{RawRequest}
+use Rattle.http_heads.specs.declared.message.RawReply.{RawReply}
 
 -- name ":" SP value CRLF
 abbrev pub field : List ℕ → List ℕ → Field

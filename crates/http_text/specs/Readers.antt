@@ -1,21 +1,22 @@
 -- What a reader stands for.
 use Rattle.std.specs.Prelude.{◌≡◌, ◌⊎◌, ℕ, Bool, true, false, List, [], ◌∷◌}
 use Rattle.std.specs.Prelude.{◌++◌, take, Option, Some, None, Result, Ok, Err}
-use Rattle.http_text.specs.Heads.{Head, PassesOver, room_behind}
-use Rattle.http_text.specs.Messages.{message_of, message_expects, BeginsWithHead}
-use Rattle.http_text.specs.Messages.{BeginsWithGoodHead, framing_behind, IsMessage}
-use Rattle.http_text.specs.Messages.{IsFrameFault, AreMessages, ReadsMessages, between, inside}
-use Rattle.http_text.specs.Messages.{faulty}
-use Rattle.http_text.specs.Follow.{Follows}
-use Rattle.http_text.specs.Front.{TellsFaultAt}
-use Rattle.http_text.specs.declared.follow.HeadProgress.{HeadProgress}
-use Rattle.http_text.specs.Stages.{IsOpenHead, HoldsPart, UsesSome}
-use Rattle.http_text.specs.declared.framing.FrameFault.{FrameFault}
-use Rattle.http_text.specs.declared.framing.FrameFault.TheVariants.{OutOfMemory}
-use Rattle.http_text.specs.declared.framing.Framing.{Framing}
-use Rattle.http_text.specs.declared.message.Kind.{Kind}
-use Rattle.http_text.specs.declared.message.Message.{Message}
-use Rattle.http_text.specs.declared.stage.BodyPart.{BodyPart}
+use Rattle.http_heads.specs.Heads.{Head, PassesOver, room_behind}
+use Rattle.http_heads.specs.Asking.{message_expects}
+use Rattle.http_messages.specs.Messages.{message_of, BeginsWithHead}
+use Rattle.http_messages.specs.Messages.{BeginsWithGoodHead, framing_behind, IsMessage}
+use Rattle.http_messages.specs.Messages.{IsFrameFault, AreMessages, ReadsMessages, between, inside}
+use Rattle.http_messages.specs.Messages.{faulty}
+use Rattle.http_heads.specs.Follow.{Follows}
+use Rattle.http_messages.specs.Front.{TellsFaultAt}
+use Rattle.http_heads.specs.declared.progress.HeadProgress.{HeadProgress}
+use Rattle.http_messages.specs.Stages.{IsOpenHead, HoldsPart, UsesSome}
+use Rattle.http_heads.specs.declared.framing.FrameFault.{FrameFault}
+use Rattle.http_heads.specs.declared.framing.FrameFault.TheVariants.{OutOfMemory}
+use Rattle.http_heads.specs.declared.framing.Framing.{Framing}
+use Rattle.http_heads.specs.declared.message.Kind.{Kind}
+use Rattle.http_heads.specs.declared.message.Message.{Message}
+use Rattle.http_messages.specs.declared.stage.BodyPart.{BodyPart}
 use Rattle.http_text.specs.declared.reader.Broken.{Broken}
 use Rattle.http_text.specs.declared.reader.Stage.{Stage}
 use Rattle.http_text.specs.declared.reader.Stage.TheVariants.{Head as InHead, Body, Faulty}

@@ -1,13 +1,13 @@
 -- What callers have taken of a reader.
 use Rattle.std.specs.Prelude.{ℕ, true, List, [], ◌∷◌, ◌++◌, map, Option, Some, None}
-use Rattle.http_text.specs.Messages.{AreMessages, BeginsWithGoodHead}
+use Rattle.http_messages.specs.Messages.{AreMessages, BeginsWithGoodHead}
 use Rattle.http_text.specs.Readers.{ReaderStandsFor}
-use Rattle.http_text.specs.declared.message.Kind.{Kind}
-use Rattle.http_text.specs.declared.message.Kind.TheVariants.{Requests, Replies}
-use Rattle.http_text.specs.declared.message.Message.{Message}
-use Rattle.http_text.specs.declared.message.Message.TheVariants as forms
-use Rattle.http_text.specs.declared.message.RawRequest.{RawRequest}
-use Rattle.http_text.specs.declared.message.RawReply.{RawReply}
+use Rattle.http_heads.specs.declared.message.Kind.{Kind}
+use Rattle.http_heads.specs.declared.message.Kind.TheVariants.{Requests, Replies}
+use Rattle.http_heads.specs.declared.message.Message.{Message}
+use Rattle.http_heads.specs.declared.message.Message.TheVariants as forms
+use Rattle.http_heads.specs.declared.message.RawRequest.{RawRequest}
+use Rattle.http_heads.specs.declared.message.RawReply.{RawReply}
 use Rattle.http_text.specs.declared.reader.MessageReader.{MessageReader}
 
 -- requests and replies as messages

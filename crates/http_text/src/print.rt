@@ -7,13 +7,13 @@ ghost use Rattle.httparse.specs.Grammar.{print_field, print_request, print_respo
 ghost use Rattle.http_text.specs.Print.{FitsReader, IsPrintable, IsPrintableReply, allow_fields};
 ghost use Rattle.http_text.specs.Print.{body_fields, close_fields, field, head_for, phrase_of};
 ghost use Rattle.http_text.specs.Print.{reply_head, reply_text, request_text, status_line};
-ghost use Rattle.http_text.specs.Messages.{IsMessage};
-ghost use Rattle.http_text.specs.declared.message.Kind.TheVariants as kinds;
-ghost use Rattle.http_text.specs.declared.message.Message.TheVariants as forms;
+ghost use Rattle.http_messages.specs.Messages.{IsMessage};
+ghost use Rattle.http_heads.specs.declared.message.Kind.TheVariants as kinds;
+ghost use Rattle.http_heads.specs.declared.message.Message.TheVariants as forms;
 
-use crate::message::{RawReply, RawRequest};
 use delta_base::{Bytes, OutOfMemory, Text};
 use http::StatusCode;
+use http_heads::{RawReply, RawRequest};
 use std::alloc::{AllocError, Global};
 
 // Adds a request line.

@@ -8,24 +8,23 @@ ghost use Rattle.http_text.specs.Readers.{IsHeadOfMessage};
 ghost use Rattle.http_text.specs.Readers.{IsReader, ReadsPiece, ReaderStandsFor, asks_first};
 ghost use Rattle.http_text.specs.Readers.{fault_of};
 ghost use Rattle.http_text.specs.Readers.{stage_expects, stage_fault, waiting, was_told};
-ghost use Rattle.http_text.specs.Messages.{End, ReadsMessages, between, inside};
+ghost use Rattle.http_messages.specs.Messages.{End, ReadsMessages, between, inside};
 ghost use Rattle.http_text.specs.Taken.{AsksBehind, taken_after};
-ghost use Rattle.http_text.specs.declared.follow.HeadProgress.{HeadProgress as At};
-ghost use Rattle.http_text.specs.declared.framing.FrameFault.{FrameFault as Fault};
-ghost use Rattle.http_text.specs.declared.framing.FrameFault.TheVariants.{OutOfMemory};
-ghost use Rattle.http_text.specs.declared.message.Kind.{Kind};
-ghost use Rattle.http_text.specs.declared.message.Message.{Message};
-ghost use Rattle.http_text.specs.declared.message.Message.TheVariants as forms;
-ghost use Rattle.http_text.specs.Stages.{HeadStepIs, HoldsPart, IsSomePart, PartStepIs};
-ghost use Rattle.http_text.specs.declared.framing.Framing as framings;
+ghost use Rattle.http_heads.specs.declared.progress.HeadProgress.{HeadProgress as At};
+ghost use Rattle.http_heads.specs.declared.framing.FrameFault.{FrameFault as Fault};
+ghost use Rattle.http_heads.specs.declared.framing.FrameFault.TheVariants.{OutOfMemory};
+ghost use Rattle.http_heads.specs.declared.message.Kind.{Kind};
+ghost use Rattle.http_heads.specs.declared.message.Message.{Message};
+ghost use Rattle.http_heads.specs.declared.message.Message.TheVariants as forms;
+ghost use Rattle.http_messages.specs.Stages.{HeadStepIs, HoldsPart, IsSomePart, PartStepIs};
+ghost use Rattle.http_heads.specs.declared.framing.Framing as framings;
 
-use crate::chunk::{step_content, step_content_end, step_line, step_trailers};
-use crate::follow::HeadProgress;
-use crate::framing::{FrameFault, Framing};
-use crate::line::LineAt;
-use crate::message::{Kind, Message, RawReply, RawRequest};
-use crate::stage::{BodyPart, HeadEnd, MOST_HEAD, step_head, step_sized};
 use delta_base::Bytes;
+use http_heads::{FrameFault, Framing, HeadProgress, Kind, Message, RawReply, RawRequest};
+use http_messages::{
+    BodyPart, HeadEnd, LineAt, MOST_HEAD, step_content, step_content_end, step_head, step_line,
+    step_sized, step_trailers,
+};
 use httparse::spans::HeaderSpan;
 use std::alloc::Global;
 use std::collections::VecDeque;

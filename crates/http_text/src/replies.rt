@@ -1,7 +1,6 @@
 //! Replies from a stream of bytes that comes in any pieces.
-use crate::framing::FrameFault;
-use crate::message::{Kind, Message, RawReply};
 use crate::reader::{CutShort, MessageReader};
+use http_heads::{FrameFault, Kind, Message, RawReply};
 use std::alloc::Global;
 use std::marker::Model;
 
@@ -18,7 +17,7 @@ impl Model for ReplyReader {
 
     ghost use Rattle.std.specs.Prelude.{◌≡◌};
     ghost use Rattle.http_text.specs.Readers.{IsReader};
-    ghost use Rattle.http_text.specs.declared.message.Kind.TheVariants as kinds;
+    ghost use Rattle.http_heads.specs.declared.message.Kind.TheVariants as kinds;
 
     ghost view = { λ r. r.reader };
 
@@ -28,13 +27,13 @@ impl Model for ReplyReader {
 impl ReplyReader {
     ghost use Rattle.std.specs.Prelude.{◌≡◌, ◌++◌, ◌∷◌, ℕ, List, [], map, None};
     ghost use Rattle.std.specs.Prelude.{Some, IfErr, IfNone, IfSome, OnErr, OnOk};
-    ghost use Rattle.http_text.specs.Messages.{ReadsMessages, between, inside};
+    ghost use Rattle.http_messages.specs.Messages.{ReadsMessages, between, inside};
     ghost use Rattle.http_text.specs.Readers.{Decides, fault_of, waiting};
     ghost use Rattle.http_text.specs.Taken.{GaveReplies, reply_messages, taken_after};
-    ghost use Rattle.http_text.specs.declared.framing.FrameFault.{FrameFault as Fault};
-    ghost use Rattle.http_text.specs.declared.message.Kind.TheVariants as kinds;
-    ghost use Rattle.http_text.specs.declared.message.Message.TheVariants as forms;
-    ghost use Rattle.http_text.specs.declared.message.RawReply.{RawReply as Taken};
+    ghost use Rattle.http_heads.specs.declared.framing.FrameFault.{FrameFault as Fault};
+    ghost use Rattle.http_heads.specs.declared.message.Kind.TheVariants as kinds;
+    ghost use Rattle.http_heads.specs.declared.message.Message.TheVariants as forms;
+    ghost use Rattle.http_heads.specs.declared.message.RawReply.{RawReply as Taken};
 
     /// A reader that was given no bytes.
     pub fn new(alloc: Global) -> ReplyReader

@@ -1,7 +1,6 @@
 //! Requests from a stream of bytes that comes in any pieces.
-use crate::framing::FrameFault;
-use crate::message::{Kind, Message, RawRequest};
 use crate::reader::{CutShort, MessageReader};
+use http_heads::{FrameFault, Kind, Message, RawRequest};
 use std::alloc::Global;
 use std::marker::Model;
 
@@ -18,7 +17,7 @@ impl Model for RequestReader {
 
     ghost use Rattle.std.specs.Prelude.{◌≡◌};
     ghost use Rattle.http_text.specs.Readers.{IsReader};
-    ghost use Rattle.http_text.specs.declared.message.Kind.TheVariants as kinds;
+    ghost use Rattle.http_heads.specs.declared.message.Kind.TheVariants as kinds;
 
     ghost view = { λ r. r.reader };
 
@@ -29,15 +28,15 @@ impl RequestReader {
     ghost use Rattle.std.specs.Prelude.{◌≡◌, ◌⊎◌, ◌||◌, ◌++◌, ◌∷◌, ℕ, false};
     ghost use Rattle.std.specs.Prelude.{List, [], map, None, Some, IfErr, IfNone};
     ghost use Rattle.std.specs.Prelude.{IfSome, IsTrue, MatchOption, OnErr, OnOk};
-    ghost use Rattle.http_text.specs.Messages.{ReadsMessages, between, inside};
+    ghost use Rattle.http_messages.specs.Messages.{ReadsMessages, between, inside};
     ghost use Rattle.http_text.specs.Readers.{Decides, fault_of, waiting, was_told};
     ghost use Rattle.http_text.specs.Taken.{AsksAtFront, GaveRequests};
     ghost use Rattle.http_text.specs.Taken.{request_messages, taken_after};
-    ghost use Rattle.http_text.specs.declared.framing.FrameFault.{FrameFault as Fault};
-    ghost use Rattle.http_text.specs.declared.message.Kind.TheVariants as kinds;
-    ghost use Rattle.http_text.specs.declared.framing.FrameFault.TheVariants.{OutOfMemory};
-    ghost use Rattle.http_text.specs.declared.message.Message.TheVariants as forms;
-    ghost use Rattle.http_text.specs.declared.message.RawRequest.{RawRequest as Taken};
+    ghost use Rattle.http_heads.specs.declared.framing.FrameFault.{FrameFault as Fault};
+    ghost use Rattle.http_heads.specs.declared.message.Kind.TheVariants as kinds;
+    ghost use Rattle.http_heads.specs.declared.framing.FrameFault.TheVariants.{OutOfMemory};
+    ghost use Rattle.http_heads.specs.declared.message.Message.TheVariants as forms;
+    ghost use Rattle.http_heads.specs.declared.message.RawRequest.{RawRequest as Taken};
 
     /// A reader that was given no bytes.
     pub fn new(alloc: Global) -> RequestReader

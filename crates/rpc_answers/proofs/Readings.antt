@@ -11,7 +11,7 @@ use Rattle.delta_base.specs.Ids.{IsId, number_of, text_of}
 use Rattle.delta_base.specs.declared.id.Id.{Id}
 use Rattle.log_base.specs.declared.limits.FullKind.{FullKind}
 use Rattle.log_base.specs.declared.limits.FullKind.TheVariants.{Patches, Bytes, Slots}
-use Rattle.http_text.specs.declared.message.RawReply.{RawReply}
+use Rattle.http_heads.specs.declared.message.RawReply.{RawReply}
 use Rattle.log_base.specs.declared.source_info.SourceInfo.{SourceInfo}
 use Rattle.rpc_answers.specs.declared.answer.Answer.{Answer}
 use Rattle.rpc_answers.specs.declared.answer.Answer.TheVariants as answer

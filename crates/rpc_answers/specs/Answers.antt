@@ -7,9 +7,9 @@ use lib.Pointwise.{pointwise}
 use Rattle.serde_json.specs.Data.{Data, boolean, string}
 use Rattle.delta_base.specs.Ids.{IsId}
 use Rattle.log_base.specs.declared.source_info.SourceInfo.{SourceInfo}
-use Rattle.http_text.specs.Faults.{frame_name, frame_status}
-use Rattle.http_text.specs.declared.framing.FrameFault.{FrameFault}
-use Rattle.http_text.specs.declared.framing.FrameFault.TheVariants as frame
+use Rattle.http_heads.specs.Faults.{frame_name, frame_status}
+use Rattle.http_heads.specs.declared.framing.FrameFault.{FrameFault}
+use Rattle.http_heads.specs.declared.framing.FrameFault.TheVariants as frame
 use Rattle.rpc_answers.specs.declared.answer.Answer.{Answer}
 use Rattle.rpc_answers.specs.declared.answer.Answer.TheVariants as answer
 use Rattle.rpc_answers.specs.Values.{object_of, word, whole_number, whole_or_null, id_data}

@@ -1,6 +1,6 @@
 //! Laws of answers and the replies that print them.
 ghost use Rattle.std.specs.Prelude.{◌≡◌, Result, IfOk, IfErr};
-ghost use Rattle.http_text.specs.declared.message.RawReply.{RawReply};
+ghost use Rattle.http_heads.specs.declared.message.RawReply.{RawReply};
 ghost use Rattle.rpc_answers.specs.declared.answer.Answer.{Answer};
 ghost use Rattle.rpc_answers.specs.declared.fault.AnswerFault.{AnswerFault};
 ghost use Rattle.rpc_answers.specs.Prints.{IsPrintOf, IsReadBack, IsRefusedReply, without_spare};

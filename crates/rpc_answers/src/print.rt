@@ -8,7 +8,7 @@ ghost use Rattle.rpc_answers.specs.Prints.{IsBodyText, compact, IsPrintOf, IsCom
 use crate::answer::Answer;
 use crate::bodies::answer_value;
 use delta_base::{Bytes, OutOfMemory};
-use http_text::RawReply;
+use http_heads::RawReply;
 use std::alloc::Global;
 
 /// The status beside the name of a fault of framing.

@@ -5,7 +5,7 @@ use Rattle.serde_json.specs.Data.{Data, null, boolean, number, string, array, ob
 use Rattle.serde_json.specs.Find.{get}
 use Rattle.serde_json.specs.Read.{read}
 use Rattle.http_text.specs.Print.{IsAllow}
-use Rattle.http_text.specs.declared.message.RawRequest.{RawRequest}
+use Rattle.http_heads.specs.declared.message.RawRequest.{RawRequest}
 use Rattle.rpc_calls.specs.Calls.{asked_by_route, asked_by, asked_by_value, call_of, from_route, got, or_bad_method, posted, unless_refused}
 use Rattle.rpc_calls.specs.Media.{has_refused_media}
 use Rattle.rpc_calls.specs.Operations.{Operation, asked, asked_of, id_member, given_id, operations, text_member, version_member, with_member}

@@ -21,7 +21,7 @@ use Rattle.std.specs.Option.{ForSome}
 use Rattle.delta_base.proofs.IdLemmas.{number_of-text_of}
 use Rattle.delta_base.specs.Ids.{IsId, number_of, text_of}
 use Rattle.delta_base.specs.declared.id.Id.{Id}
-use Rattle.http_text.specs.declared.message.RawRequest.{RawRequest}
+use Rattle.http_heads.specs.declared.message.RawRequest.{RawRequest}
 use Rattle.rpc_calls.specs.declared.call.Call.{Call}
 use Rattle.rpc_calls.specs.declared.call.Call.TheVariants as call
 use Rattle.rpc_calls.specs.declared.route.Route.{Route}

@@ -4,7 +4,7 @@ ghost use Rattle.rpc_calls.specs.Media.{media_type_of, is_refused_coding};
 ghost use Rattle.rpc_calls.specs.Media.{is_refused_type, has_refused_media};
 
 use delta_base::Bytes;
-use http_text::{RawRequest, split_at_byte, trim_blanks};
+use http_heads::{RawRequest, split_at_byte, trim_blanks};
 
 // The media type of a Content-Type field, without its parameters.
 fn media_type(value: &[u8]) -> &[u8]

@@ -3,7 +3,7 @@ ghost use Rattle.std.specs.Prelude.{◌≡◌, ◌<◌, ◌++◌, ◌∷◌, All
 ghost use Rattle.rpc_calls.specs.Paths.{IsCutAs, segment_of, text_of_segment};
 
 use delta_base::{OutOfMemory, Text};
-use http_text::split_at_byte;
+use http_heads::split_at_byte;
 use percent_encoding::{
     AsciiSet, DecodeError, NON_ALPHANUMERIC, ascii_set, percent_decode, percent_encode,
 };

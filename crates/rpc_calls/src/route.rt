@@ -5,7 +5,7 @@ ghost use Rattle.rpc_calls.specs.Routes.{route_of, service_route, version_asked}
 
 use crate::path::{cut_path, read_segment};
 use delta_base::{Id, OutOfMemory, Text, read_id};
-use http_text::{are_digits, digits_value};
+use http_heads::{are_digits, digits_value};
 use std::alloc::Global;
 
 /// What a path stands for.

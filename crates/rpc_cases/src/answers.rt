@@ -1,7 +1,7 @@
 //! Replies, and the answers that they are.
 use case_scripts::Words;
 use delta_base::{Bytes, OutOfMemory};
-use http_text::RawReply;
+use http_heads::RawReply;
 use rpc_answers::{AnswerFault, print_answer, read_answer};
 use std::alloc::Global;
 

@@ -1,6 +1,6 @@
 //! Calls in words.
 use delta_base::{Id, OutOfMemory, Text, id_text};
-use http_text::RawRequest;
+use http_heads::RawRequest;
 use rpc_calls::{Call, CallFault, read_call};
 use std::alloc::{AllocError, Global};
 

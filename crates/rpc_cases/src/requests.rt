@@ -6,7 +6,8 @@ ghost use Rattle.http_text.specs.Print.{is_visible};
 use crate::calls::{fault_told, told};
 use case_scripts::Words;
 use delta_base::{Bytes, OutOfMemory, Text};
-use http_text::{RawRequest, RequestReader, print_request};
+use http_heads::RawRequest;
+use http_text::{RequestReader, print_request};
 use rpc_calls::{Call, print_call, read_call};
 use std::alloc::Global;
 

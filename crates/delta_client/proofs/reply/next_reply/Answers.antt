@@ -2,8 +2,8 @@ use Rattle.std.proofs.Common.{◌≡◌, ◌++◌, ◌∷◌, [], Err, Result, r
 use Rattle.std.proofs.KnownBytes.{Consumes-kept}
 use Rattle.http_text.specs.Readers.{Decides, waiting}
 use Rattle.http_text.specs.Taken.{reply_messages}
-use Rattle.http_text.specs.declared.framing.FrameFault.{FrameFault}
-use Rattle.http_text.specs.declared.message.Kind.TheVariants.{Replies}
+use Rattle.http_heads.specs.declared.framing.FrameFault.{FrameFault}
+use Rattle.http_heads.specs.declared.message.Kind.TheVariants.{Replies}
 use Rattle.delta_client.specs.declared.fault.AskFault.{AskFault}
 use Rattle.delta_client.specs.Asking.{NextReplyIs}
 use Rattle.delta_client.proofs.Nexts.{begin_with, read_none, read_more, is_cut, is_faulty, consumed_none}

@@ -1,6 +1,6 @@
 use Rattle.std.proofs.Common.{◌≡◌, ℕ, ◌≤◌, List}
 use Rattle.http_text.specs.Taken.{GaveReplies}
-use Rattle.http_text.specs.declared.message.RawReply.{RawReply}
+use Rattle.http_heads.specs.declared.message.RawReply.{RawReply}
 use Rattle.delta_client.proofs.Nexts.{HasRead}
 use Rattle.delta_client.proofs.reply.next_reply.Given as goal
 

@@ -3,9 +3,9 @@ use Rattle.std.specs.List.{flat_map}
 use Rattle.std.specs.Option.{option_copied}
 use Rattle.httparse.specs.Grammar.{print_field}
 use Rattle.http_text.specs.Print.{allow_fields, body_fields}
-use Rattle.http_text.specs.Messages.{IsMessage}
-use Rattle.http_text.specs.declared.message.Kind.TheVariants.{Replies}
-use Rattle.http_text.specs.declared.message.Message.TheVariants as forms
+use Rattle.http_messages.specs.Messages.{IsMessage}
+use Rattle.http_heads.specs.declared.message.Kind.TheVariants.{Replies}
+use Rattle.http_heads.specs.declared.message.Message.TheVariants as forms
 use Rattle.http_text.proofs.ReplyLemmas.{reply_printed_again, all_reply_text}
 use Rattle.http_text.proofs.print.print_reply.Goals as goal
 

@@ -2,9 +2,9 @@ use Rattle.std.proofs.Common.{◌≡◌, ◌∙◌, ◌++◌, sym, ap₂, subst,
 use Rattle.std.specs.List.{flat_map}
 use Rattle.httparse.specs.Grammar.{print_field}
 use Rattle.http_text.specs.Print.{body_fields}
-use Rattle.http_text.specs.Messages.{IsMessage}
-use Rattle.http_text.specs.declared.message.Kind.TheVariants.{Requests}
-use Rattle.http_text.specs.declared.message.Message.TheVariants as forms
+use Rattle.http_messages.specs.Messages.{IsMessage}
+use Rattle.http_heads.specs.declared.message.Kind.TheVariants.{Requests}
+use Rattle.http_heads.specs.declared.message.Message.TheVariants as forms
 use Rattle.http_text.proofs.PrintLemmas.{printed_again, all_text}
 use Rattle.http_text.proofs.print.print_request.Goals as goal
 

@@ -1,9 +1,9 @@
 use Rattle.std.proofs.Common.{subst, refl, inl, inr, Ok, Option}
 use Rattle.std.proofs.lemmas.Result.{err_from_is_err_and}
-use Rattle.http_text.specs.Stages.{PartStepIs}
+use Rattle.http_messages.specs.Stages.{PartStepIs}
 use Rattle.http_text.specs.Readers.{HoldsRest}
 use Rattle.http_text.specs.declared.reader.Stage.{Stage}
-use Rattle.http_text.specs.declared.stage.BodyPart.{BodyPart}
+use Rattle.http_messages.specs.declared.stage.BodyPart.{BodyPart}
 use Rattle.http_text.proofs.ReaderLemmas.{body_goes_on, body_is_whole, body_breaks, memory_breaks, head_breaks, head_fault_tells, start_with, room_fits, uses_some}
 use Rattle.http_text.proofs.StayLemmas.{head_fault_used}
 use Rattle.http_text.proofs.reader.advance.Goals as goal

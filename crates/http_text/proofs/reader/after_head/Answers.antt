@@ -1,6 +1,6 @@
 use Rattle.std.proofs.Common.{refl, inl, subst, Ok, arith}
-use Rattle.http_text.specs.Stages.{HeadStepIs}
-use Rattle.http_text.specs.declared.stage.HeadEnd.{HeadEnd}
+use Rattle.http_messages.specs.Stages.{HeadStepIs}
+use Rattle.http_messages.specs.declared.stage.HeadEnd.{HeadEnd}
 use Rattle.http_text.proofs.ReaderLemmas.{head_goes_on, interim_passed, no_room_left, head_is_whole, ends_body}
 use Rattle.http_text.proofs.reader.after_head.Goals as goal
 

@@ -1,5 +1,5 @@
 use Rattle.std.proofs.Common.{◌≡◌, ◌++◌, length, List, ℕ}
-use Rattle.http_text.specs.declared.message.Message.{Message}
+use Rattle.http_heads.specs.declared.message.Message.{Message}
 use Rattle.http_text.specs.Readers.{CanGoOn, HoldsMessages}
 use Rattle.http_text.proofs.reader.read_piece.Given as goal
 

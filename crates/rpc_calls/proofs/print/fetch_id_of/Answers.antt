@@ -1,6 +1,6 @@
 use Rattle.std.proofs.Common.{◌≡◌, ◌∙◌, ◌++◌, List, ℕ, [], ◌∷◌, IsUtf8, ap, sym, refl, subst}
 use Rattle.http_text.specs.Print.{IsPrintable}
-use Rattle.http_text.specs.declared.message.RawRequest.{RawRequest}
+use Rattle.http_heads.specs.declared.message.RawRequest.{RawRequest}
 use Rattle.delta_base.specs.Ids.{number_of, text_of}
 use Rattle.rpc_calls.specs.Calls.{call_of}
 use Rattle.rpc_calls.specs.Paths.{path_for, segment_of}

@@ -1,9 +1,9 @@
 use Rattle.std.proofs.Common.{subst, ◌++◌}
-use Rattle.http_text.specs.Messages.{ReadsMessages, between, inside}
+use Rattle.http_messages.specs.Messages.{ReadsMessages, between, inside}
 use Rattle.http_text.specs.Readers.{waiting}
 use Rattle.http_text.specs.Taken.{reply_messages}
-use Rattle.http_text.specs.declared.message.Kind.{Kind}
-use Rattle.http_text.specs.declared.message.Kind.TheVariants.{Replies}
+use Rattle.http_heads.specs.declared.message.Kind.{Kind}
+use Rattle.http_heads.specs.declared.message.Kind.TheVariants.{Replies}
 use Rattle.http_text.specs.declared.reader.MessageReader.{MessageReader}
 use Rattle.http_text.proofs.TakenLemmas.{at_kind, on_ok, on_err}
 use Rattle.http_text.proofs.replies.ReplyReader.finish.Goals as goal

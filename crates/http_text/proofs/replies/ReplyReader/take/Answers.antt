@@ -2,9 +2,9 @@ use Rattle.std.proofs.Common.{◌≡◌, None, Some, subst, sym}
 use Rattle.std.specs.Prelude.{IfNone, IfSome}
 use Rattle.http_text.specs.Readers.{ReaderStandsFor}
 use Rattle.http_text.specs.Taken.{reply_messages, taken_after}
-use Rattle.http_text.specs.declared.message.Kind.{Kind}
-use Rattle.http_text.specs.declared.message.Kind.TheVariants.{Replies}
-use Rattle.http_text.specs.declared.message.Message.TheVariants as forms
+use Rattle.http_heads.specs.declared.message.Kind.{Kind}
+use Rattle.http_heads.specs.declared.message.Kind.TheVariants.{Replies}
+use Rattle.http_heads.specs.declared.message.Message.TheVariants as forms
 use Rattle.http_text.proofs.TakenLemmas.{at_kind, IsOfKind, waiting_of_kind, taken_messages}
 use Rattle.http_text.proofs.replies.ReplyReader.take.Goals as goal
 use Rattle.http_text.proofs.replies.ReplyReader.take.Goals.{in-Some-Reply, in-None}

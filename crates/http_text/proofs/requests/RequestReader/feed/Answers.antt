@@ -1,8 +1,8 @@
 use Rattle.std.proofs.Common.{subst, ◌++◌}
 use Rattle.http_text.specs.Readers.{ReaderStandsFor, Decides, waiting}
 use Rattle.http_text.specs.Taken.{request_messages}
-use Rattle.http_text.specs.declared.message.Kind.{Kind}
-use Rattle.http_text.specs.declared.message.Kind.TheVariants.{Requests}
+use Rattle.http_heads.specs.declared.message.Kind.{Kind}
+use Rattle.http_heads.specs.declared.message.Kind.TheVariants.{Requests}
 use Rattle.http_text.proofs.TakenLemmas.{at_kind}
 use Rattle.http_text.proofs.requests.RequestReader.feed.Goals as goal
 

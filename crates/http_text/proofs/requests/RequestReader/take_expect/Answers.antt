@@ -1,9 +1,9 @@
 use Rattle.std.proofs.Common.{◌≡◌, ◌⊎◌, ◌∙◌, [], Some, ap, subst}
 use Rattle.http_text.specs.Readers.{ReaderStandsFor, waiting, fault_of, was_told}
 use Rattle.http_text.specs.Taken.{AsksBehind, request_messages}
-use Rattle.http_text.specs.declared.framing.FrameFault.TheVariants.{OutOfMemory}
-use Rattle.http_text.specs.declared.message.Kind.{Kind}
-use Rattle.http_text.specs.declared.message.Kind.TheVariants.{Requests}
+use Rattle.http_heads.specs.declared.framing.FrameFault.TheVariants.{OutOfMemory}
+use Rattle.http_heads.specs.declared.message.Kind.{Kind}
+use Rattle.http_heads.specs.declared.message.Kind.TheVariants.{Requests}
 use Rattle.http_text.specs.declared.reader.MessageReader.{MessageReader}
 use Rattle.http_text.proofs.TakenLemmas.{at_kind}
 use Rattle.http_text.proofs.requests.RequestReader.take_expect.Goals as goal

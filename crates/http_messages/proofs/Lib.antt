@@ -1,0 +1,10 @@
+pub mod ChunkLemmas
+pub mod FrontLemmas
+pub mod GrowLemmas
+pub mod LineLemmas
+pub mod PartLemmas
+pub mod PieceLemmas
+pub mod PlaceLemmas
+pub mod StayAtLemmas
+pub mod StepLemmas
+pub mod TrailerLemmas

@@ -1,0 +1,5 @@
+pub mod Chunks
+pub mod Front
+pub mod Line
+pub mod Messages
+pub mod Stages

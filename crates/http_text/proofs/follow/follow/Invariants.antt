@@ -1,9 +1,0 @@
-use Rattle.std.proofs.Common.{◌≡◌, ◌<◌, ◌++◌, ℕ, List, true, take}
-use Rattle.http_text.specs.Follow.{Follows, is_known}
-use Rattle.http_text.proofs.follow.follow.Given as goal
-
-abbrev pub invariant-loop-passed : goal.invariant-loop-passed
-invariant-loop-passed l = record {
-  follows : (text : List ℕ) → Follows l.kind text l.fn.progress → Follows l.kind (text ++ take l.passed l.bytes) l.progress;
-  known : 0 < l.passed → is_known l.progress ≡ true;
-}
