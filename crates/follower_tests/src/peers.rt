@@ -3,7 +3,7 @@ ghost use Rattle.std.specs.Prelude.{◌≡◌, true, IfOk};
 ghost use Rattle.std.specs.List.{list_all};
 ghost use Rattle.http_text.specs.Print.{is_visible};
 
-use delta_base::{Bytes, Calls, Listing, MemLink, OutOfMemory, Text};
+use delta_base::{Bytes, Calls, MemLink, OutOfMemory, Text};
 use delta_client::MemDial;
 use disk_model::MemDisk;
 use follower::{SyncEnd, sync};
@@ -11,6 +11,7 @@ use log_base::LogLimits;
 use patch_meaning::check_patch;
 use std::alloc::Global;
 use std::test::Fail;
+use worked_rows::disk_of;
 use zone_state::Zone;
 
 pub(crate) const LIMITS: LogLimits = LogLimits {
@@ -158,19 +159,13 @@ pub(crate) fn dial_of(
     }
 }
 
-/// Numbers of calls.
-fn calls(alloc: Global, numbers: &[u64]) -> Result<Calls, OutOfMemory> {
-    Ok(Listing::from_vec(Vec::from_slice(alloc, numbers)?))
-}
-
 /// A zone that took nothing, on a disk whose calls of these numbers fail; none where one of them is
 /// a call of the opening.
 pub(crate) fn new_zone(
     alloc: Global,
     failing: &[u64],
 ) -> Result<Option<Zone<MemDisk>>, OutOfMemory> {
-    let bytes = Bytes::from_slice(alloc, EMPTY)?;
-    let disk = MemDisk::from_image(alloc, bytes, calls(alloc, failing)?)?;
+    let disk = disk_of(alloc, EMPTY, failing)?;
     match Zone::open_on(alloc, disk, LIMITS) {
         Ok(zone) => Ok(Some(zone)),
         Err(_) => Ok(None),

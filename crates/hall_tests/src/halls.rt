@@ -3,12 +3,12 @@ ghost use Rattle.std.specs.Prelude.{◌≡◌, length, IfOk, vec_len};
 ghost use Rattle.hall_logs.specs.Rooms.{HasRoom};
 ghost use Rattle.hall_logs.specs.Slots.{AreAllHallPasses};
 
-use delta_base::{Bytes, Listing};
 use disk_model::{Disk, MemDisk};
 use hall_logs::{HallLogs, LogsPass, LogsRefusal, Rooms};
 use log_base::LogLimits;
 use std::alloc::Global;
 use std::test::Fail;
+use worked_rows::disk_of;
 
 pub(crate) const LIMITS: LogLimits = LogLimits {
     patches: 65_536,
@@ -18,19 +18,13 @@ pub(crate) const LIMITS: LogLimits = LogLimits {
 /// A hall that two passes share, with the passes and the room for what comes back.
 pub(crate) type Shared<D> = (HallLogs<D>, Vec<LogsPass<D>>, Rooms<D>);
 
-/// A disk with these bytes, whose calls of these numbers fail.
-pub(crate) fn disk(alloc: Global, bytes: &[u8], failing: &[u64]) -> Result<MemDisk, Fail> {
-    let failing = Listing::from_vec(Vec::from_slice(alloc, failing)?);
-    Ok(MemDisk::from_image(alloc, Bytes::from_slice(alloc, bytes)?, failing)?)
-}
-
 /// The disks of two empty logs, of which the calls of these numbers fail on the second.
 pub(crate) fn two_disks(alloc: Global, failing: &[u64]) -> Result<Vec<MemDisk>, Fail>
     ensures { IfOk result (λ disks. vec_len disks ≡ 2) }
 {
     let mut disks = Vec::new(alloc);
-    disks.push(disk(alloc, b"RDJ1\0\0\0\x01\0", &[])?)?;
-    disks.push(disk(alloc, b"RDJ1\0\0\0\x02\0", failing)?)?;
+    disks.push(disk_of(alloc, b"RDJ1\0\0\0\x01\0", &[])?)?;
+    disks.push(disk_of(alloc, b"RDJ1\0\0\0\x02\0", failing)?)?;
     Ok(disks)
 }
 

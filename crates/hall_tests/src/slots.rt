@@ -4,7 +4,7 @@ ghost use Rattle.disk_model.specs.Memory.{memory_mark};
 ghost use Rattle.hall_logs.specs.Slots.{AreAllHallPasses};
 
 use crate::calls::{append_by, version_by};
-use crate::halls::{LIMITS, close, disk, open, two_disks};
+use crate::halls::{LIMITS, close, open, two_disks};
 use chain_core::LogAnswer;
 use disk_model::MemDisk;
 use hall_logs::{HallLogs, LogsPass, LogsRefusal};
@@ -14,12 +14,7 @@ use std::alloc::Global;
 use std::process::Abort;
 use std::sync::Wait;
 use std::test::Fail;
-
-pub(crate) const FIRST: &[u8] =
-    b"H id <uuid:00000000-0000-4000-8000-000000000001> .\nTX .\nA <http://e/s> <http://e/p> <http://e/o> .\nTC .\n";
-
-const SECOND: &[u8] =
-    b"H id <uuid:00000000-0000-4000-8000-000000000002> .\nH prev <uuid:00000000-0000-4000-8000-000000000001> .\nTX .\nA <http://e/s> <http://e/p> <http://e/o2> .\nTC .\n";
+use worked_rows::{FIRST, SECOND, disk_of};
 
 fn is(rt: &impl Abort, answer: LogAnswer, wanted: LogAnswer) {
     assert!(rt; answer == wanted);
@@ -118,9 +113,9 @@ fn three_disks(alloc: Global) -> Result<Vec<MemDisk>, Fail>
     ensures { IfOk result (λ disks. vec_len disks ≡ 3) }
 {
     let mut disks = Vec::new(alloc);
-    disks.push(disk(alloc, b"RDJ1\0\0\0\x01\0", &[])?)?;
-    disks.push(disk(alloc, b"RDJ2", &[])?)?;
-    disks.push(disk(alloc, b"RDJ1\0\0\0\x03\0", &[])?)?;
+    disks.push(disk_of(alloc, b"RDJ1\0\0\0\x01\0", &[])?)?;
+    disks.push(disk_of(alloc, b"RDJ2", &[])?)?;
+    disks.push(disk_of(alloc, b"RDJ1\0\0\0\x03\0", &[])?)?;
     Ok(disks)
 }
 

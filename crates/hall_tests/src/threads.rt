@@ -5,7 +5,6 @@ ghost use Rattle.hall_logs.specs.Visits.{HasVisited};
 
 use crate::calls::version_by;
 use crate::halls::{close, open, two_disks};
-use crate::slots::FIRST;
 use disk_model::Disk;
 use hall_logs::{HallLogs, LogsPass};
 use patch_meaning::{Checked, check_patch};
@@ -13,6 +12,7 @@ use std::sync::Wait;
 use std::test::Fail;
 use std::thread;
 use std::thread::Threads;
+use worked_rows::FIRST;
 
 // One append to the first log.
 fn append_one<R: Wait, D: Disk>(rt: &R, hall: &HallLogs<D>, pass: &mut LogsPass<D>, patch: &Checked)

@@ -2,7 +2,7 @@
 ghost use Rattle.std.specs.Prelude.{◌≡◌, ◌≤◌, length, IfOk};
 ghost use Rattle.log_base.specs.declared.limits.TheConstants.{PATCH_LIMIT};
 
-use crate::tables::{LIMITS, P1, P2, Place, is};
+use crate::tables::{LIMITS, Place, is};
 use chain_core::{Chain, ChainFault, ChainTest, Decision, LogAnswer, Lookup, Patch, decide};
 use delta_base::{Bytes, Id, OutOfMemory};
 use log_base::{ChainLink, FullKind, LogLimits, PATCH_LIMIT};
@@ -10,6 +10,7 @@ use patch_log::IndexedChain;
 use std::alloc::Global;
 use std::process::Abort;
 use std::test::Fail;
+use worked_rows::{FIRST, SECOND};
 
 const U1: Id = Id(0x4000_8000_0000_0000_0001);
 
@@ -25,7 +26,7 @@ fn one(alloc: Global) -> Result<Chain, OutOfMemory>
 {
     let mut chain = Chain::new(alloc);
     chain.reserve()?;
-    let text = Bytes::from_slice(alloc, P1)?;
+    let text = Bytes::from_slice(alloc, FIRST)?;
     chain.push(
         Patch {
             id: U1,
@@ -43,7 +44,7 @@ fn two(alloc: Global) -> Result<Chain, OutOfMemory>
 {
     let mut chain = Chain::new(alloc);
     chain.reserve()?;
-    let first = Bytes::from_slice(alloc, P1)?;
+    let first = Bytes::from_slice(alloc, FIRST)?;
     chain.push(
         Patch {
             id: U1,
@@ -53,7 +54,7 @@ fn two(alloc: Global) -> Result<Chain, OutOfMemory>
         7,
     );
     chain.reserve()?;
-    let second = Bytes::from_slice(alloc, P2)?;
+    let second = Bytes::from_slice(alloc, SECOND)?;
     chain.push(
         Patch {
             id: U2,
@@ -106,7 +107,7 @@ static ROWS: [Row; 9] = [
         behind: 0,
         id: U1,
         prev: None,
-        text: P1,
+        text: FIRST,
         limits: LIMITS,
         decision: Decision::Accept { version: 1 },
     },
@@ -115,7 +116,7 @@ static ROWS: [Row; 9] = [
         behind: 1,
         id: U2,
         prev: Some(U1),
-        text: P2,
+        text: SECOND,
         limits: LIMITS,
         decision: Decision::Accept { version: 2 },
     },
@@ -124,7 +125,7 @@ static ROWS: [Row; 9] = [
         behind: 2,
         id: U1,
         prev: None,
-        text: P1,
+        text: FIRST,
         limits: LIMITS,
         decision: Decision::Known {
             version: 1,
@@ -136,7 +137,7 @@ static ROWS: [Row; 9] = [
         behind: 2,
         id: U2,
         prev: Some(U9),
-        text: P1,
+        text: FIRST,
         limits: LIMITS,
         decision: Decision::Known {
             version: 2,
@@ -148,7 +149,7 @@ static ROWS: [Row; 9] = [
         behind: 2,
         id: U3,
         prev: Some(U1),
-        text: P2,
+        text: SECOND,
         limits: LIMITS,
         decision: Decision::Conflict {
             version: 2,
@@ -161,7 +162,7 @@ static ROWS: [Row; 9] = [
         behind: 0,
         id: U2,
         prev: Some(U1),
-        text: P2,
+        text: SECOND,
         limits: LIMITS,
         decision: Decision::Conflict {
             version: 0,
@@ -174,7 +175,7 @@ static ROWS: [Row; 9] = [
         behind: 1,
         id: U9,
         prev: None,
-        text: P1,
+        text: FIRST,
         limits: LIMITS,
         decision: Decision::Conflict {
             version: 1,
@@ -187,7 +188,7 @@ static ROWS: [Row; 9] = [
         behind: 2,
         id: U3,
         prev: Some(U2),
-        text: P2,
+        text: SECOND,
         limits: LogLimits {
             patches: 2,
             bytes: 67_108_864,
@@ -203,7 +204,7 @@ static ROWS: [Row; 9] = [
         behind: 2,
         id: U3,
         prev: Some(U2),
-        text: P2,
+        text: SECOND,
         limits: LogLimits {
             patches: 3,
             bytes: 443,

@@ -1,11 +1,12 @@
 //! Disks in memory: what their calls answer, and what a crash leaves of them.
-use crate::tables::{EMPTY, Place, are_bytes, calls, disk_of, is};
+use crate::tables::{EMPTY, Place, are_bytes, is};
 use delta_base::{Bytes, Failed, OutOfMemory};
 use disk_model::{Disk, MemDisk, PlanDisk, Planned};
 use log_journal::{FormatFault, format};
 use std::alloc::Global;
 use std::process::Abort;
 use std::test::Fail;
+use worked_rows::{calls, disk_of};
 
 /// What a disk begins with, and which of its calls fail.
 enum Start {
@@ -127,7 +128,7 @@ static CASES: [Case; 9] = [
 fn disk_from(alloc: Global, disk: &Start) -> Result<MemDisk, Fail> {
     match disk {
         Start::New(failing) => Ok(MemDisk::new(alloc, calls(alloc, failing)?)),
-        Start::Image(image, failing) => disk_of(alloc, image, failing),
+        Start::Image(image, failing) => Ok(disk_of(alloc, image, failing)?),
         Start::Fused(image, calls) => {
             let bytes = Bytes::from_slice(alloc, image)?;
             Ok(MemDisk::with_fuse(alloc, bytes, *calls)?)

@@ -2,7 +2,7 @@
 ghost use Rattle.std.specs.Prelude.{IfOk, IsTrue};
 ghost use Rattle.log_journal.specs.StandsFor.{is_settled};
 
-use crate::tables::{EMPTY, Place, are_bytes, disk_of, is, no_calls};
+use crate::tables::{EMPTY, Place, are_bytes, is, no_calls};
 use delta_base::{Bytes, Failed};
 use disk_model::{Disk, MemDisk, PlanDisk};
 use log_base::Phase;
@@ -10,6 +10,7 @@ use log_journal::{AppendFault, Journal, JournalFault, Payloads, make_block, writ
 use std::alloc::Global;
 use std::process::Abort;
 use std::test::Fail;
+use worked_rows::disk_of;
 
 // The journal of number 1 on a disk, and its payloads.
 fn open<D: Disk + Drop>(alloc: Global, disk: D) -> Result<(Journal<D>, Payloads), Fail>

@@ -1,5 +1,5 @@
 //! Logs over disks in memory: what they answer, and what a crash leaves of them.
-use crate::tables::{EMPTY, LIMITS, P1, P2, Place, disk_of, is, no_calls};
+use crate::tables::{EMPTY, LIMITS, Place, is, no_calls};
 use chain_core::{Decision, LogAnswer};
 use delta_base::{Bytes, Id, OutOfMemory};
 use disk_model::MemDisk;
@@ -9,10 +9,7 @@ use patch_meaning::{Checked, check_patch};
 use std::alloc::Global;
 use std::process::Abort;
 use std::test::Fail;
-
-const FIRST: &[u8] = P1;
-
-const SECOND: &[u8] = P2;
+use worked_rows::{FIRST, SECOND, disk_of, journal_of};
 
 const THIRD: &[u8] =
     b"H id <uuid:00000000-0000-4000-8000-000000000003> .\nH prev <uuid:00000000-0000-4000-8000-000000000001> .\nTX .\nA <http://e/s> <http://e/p> <http://e/o3> .\nTC .\n";
@@ -320,29 +317,12 @@ static CASES: [Case; 12] = [
     },
 ];
 
-fn push_payload(bytes: &mut Vec<u8>, payload: &[u8]) -> Result<(), Fail> {
-    bytes.push(1)?;
-    bytes.extend_from_slice(&u32::try_from(payload.len())?.to_be_bytes())?;
-    bytes.extend_from_slice(payload)?;
-    Ok(())
-}
-
-/// A journal with these payloads.
-fn journal_of(alloc: Global, payloads: &[&[u8]]) -> Result<Vec<u8>, Fail> {
-    let mut bytes = b"RDJ1\0\0\0\x01".to_vec(alloc)?;
-    for payload in payloads {
-        push_payload(&mut bytes, payload)?;
-    }
-    bytes.push(0)?;
-    Ok(bytes)
-}
-
 /// A disk with that, whose calls of these numbers fail.
 fn disk_with(alloc: Global, payloads: &[&[u8]], failing: &[u64]) -> Result<MemDisk, Fail> {
-    let file = journal_of(alloc, payloads)?;
+    let file = journal_of(alloc, 1, payloads)?;
     let disk = disk_of(alloc, &file, failing);
     drop(file);
-    disk
+    Ok(disk?)
 }
 
 /// The log of number 1 on a disk.
@@ -561,7 +541,7 @@ static REFUSED: [(File, &[u64], LogFault); 10] = [
 
 fn file_on(alloc: Global, file: &File, failing: &[u64]) -> Result<MemDisk, Fail> {
     match file {
-        File::Image(image) => disk_of(alloc, image, failing),
+        File::Image(image) => Ok(disk_of(alloc, image, failing)?),
         File::Payloads(payloads) => disk_with(alloc, payloads, failing),
     }
 }

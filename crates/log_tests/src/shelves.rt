@@ -1,7 +1,7 @@
 //! Files in memory: the files of two logs as they are made and with patches, what a check tells of
 //! them, and what stops the work.
 use crate::files::takes;
-use crate::tables::{Place, are_bytes, calls, is};
+use crate::tables::{Place, are_bytes, is};
 use delta_base::{Id, Text};
 use disk_model::{Disk, MemDisk, MemShelf, Shelf};
 use log_base::MOST_SLOTS;
@@ -10,6 +10,7 @@ use slot_files::{InitFault, init_slots};
 use std::alloc::Global;
 use std::process::Abort;
 use std::test::Fail;
+use worked_rows::calls;
 
 /// A call on a shelf or a look at it, with what that gives.
 #[derive(Clone, Copy)]

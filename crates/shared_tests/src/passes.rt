@@ -16,6 +16,7 @@ use std::alloc::Global;
 use std::process::Abort;
 use std::sync::Wait;
 use std::test::Fail;
+use worked_rows::{FIRST, SECOND};
 
 const LIMITS: LogLimits = LogLimits {
     patches: 65_536,
@@ -23,12 +24,6 @@ const LIMITS: LogLimits = LogLimits {
 };
 
 const EMPTY: &[u8] = b"RDJ1\0\0\0\x01\0";
-
-const FIRST: &[u8] =
-    b"H id <uuid:00000000-0000-4000-8000-000000000001> .\nTX .\nA <http://e/s> <http://e/p> <http://e/o> .\nTC .\n";
-
-const SECOND: &[u8] =
-    b"H id <uuid:00000000-0000-4000-8000-000000000002> .\nH prev <uuid:00000000-0000-4000-8000-000000000001> .\nTX .\nA <http://e/s> <http://e/p> <http://e/o2> .\nTC .\n";
 
 const THIRD: &[u8] =
     b"H id <uuid:00000000-0000-4000-8000-000000000003> .\nH prev <uuid:00000000-0000-4000-8000-000000000001> .\nTX .\nA <http://e/s> <http://e/p> <http://e/o3> .\nTC .\n";

@@ -1,16 +1,14 @@
 //! What zones answer and have then, and what a crash leaves of them.
 use crate::searches::{dumps, finds, has_lines, has_prefixes};
-use crate::tables::{
-    FIRST, ID1, ID2, ID3, ID9, LINE1, LINE2, Place, SECOND, THIRD, found_in, is, journal_of, open,
-    take,
-};
+use crate::tables::{ID1, ID2, ID3, ID9, LINE1, LINE2, Place, THIRD, found_in, is, open, take};
 use delta_base::{Bytes, Id};
 use disk_model::{Disk, PlanDisk};
 use log_base::{FullKind, LOG_LIMITS, LogLimits};
 use std::alloc::Global;
 use std::process::Abort;
 use std::test::Fail;
-use zone_state::{TakeAnswer, Zone};
+use worked_rows::{FIRST, SECOND, journal_of};
+use zone_state::{TakeAnswer, ZONE_NUMBER, Zone};
 
 // It has the id of the second patch and names none that there is.
 const BEHIND_NINTH: &[u8] =
@@ -338,7 +336,7 @@ fn holds_on(rt: &impl Abort, alloc: Global, file: &[u8], case: &Case) -> Result<
 }
 
 fn holds(rt: &impl Abort, alloc: Global, case: &Case) -> Result<(), Fail> {
-    let file = journal_of(alloc, case.payloads)?;
+    let file = journal_of(alloc, ZONE_NUMBER, case.payloads)?;
     let held = holds_on(rt, alloc, &file, case);
     drop(file);
     held

@@ -1,11 +1,12 @@
 //! What failing calls and stops leave of zones.
-use crate::tables::{EMPTY, FIRST, ID1, ID2, SECOND, disk_of, found_in, open, take};
+use crate::tables::{EMPTY, ID1, ID2, found_in, open, take};
 use delta_base::{Bytes, Id};
 use disk_model::MemDisk;
 use log_base::LOG_LIMITS;
 use std::alloc::Global;
 use std::process::Abort;
 use std::test::Fail;
+use worked_rows::{FIRST, SECOND, disk_of};
 use zone_state::{TakeAnswer, Zone};
 
 /// The head of a zone by how many patches it took.

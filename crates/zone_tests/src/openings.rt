@@ -1,10 +1,11 @@
 //! Which files aren't opened, and why.
-use crate::tables::{EMPTY, FIRST, Place, SECOND, THIRD, disk_of, is, journal_of};
+use crate::tables::{EMPTY, Place, THIRD, is};
 use disk_model::MemDisk;
 use log_base::LogLimits;
 use std::alloc::Global;
 use std::test::Fail;
-use zone_state::{Zone, ZoneFault};
+use worked_rows::{FIRST, SECOND, disk_of, journal_of};
+use zone_state::{ZONE_NUMBER, Zone, ZoneFault};
 
 /// A file that is opened with at most two patches.
 enum File {
@@ -61,12 +62,12 @@ static REFUSED: [(File, &[u64], ZoneFault); 11] = [
 
 fn file_on(alloc: Global, file: &File, failing: &[u64]) -> Result<MemDisk, Fail> {
     match file {
-        File::Image(image) => disk_of(alloc, image, failing),
+        File::Image(image) => Ok(disk_of(alloc, image, failing)?),
         File::Payloads(payloads) => {
-            let journal = journal_of(alloc, payloads)?;
+            let journal = journal_of(alloc, ZONE_NUMBER, payloads)?;
             let disk = disk_of(alloc, &journal, failing);
             drop(journal);
-            disk
+            Ok(disk?)
         }
     }
 }

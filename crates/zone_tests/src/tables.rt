@@ -11,15 +11,7 @@ use zone_state::{TakeAnswer, Zone};
 /// A file of no patches.
 pub const EMPTY: &[u8] = b"RDJ1\0\0\x03\xe8\0";
 
-/// A patch of 104 bytes that names none before it.
-pub const FIRST: &[u8] =
-    b"H id <uuid:00000000-0000-4000-8000-000000000001> .\nTX .\nA <http://e/s> <http://e/p> <http://e/o> .\nTC .\n";
-
-/// The patch of 158 bytes behind it.
-pub const SECOND: &[u8] =
-    b"H id <uuid:00000000-0000-4000-8000-000000000002> .\nH prev <uuid:00000000-0000-4000-8000-000000000001> .\nTX .\nA <http://e/s> <http://e/p> <http://e/o2> .\nTC .\n";
-
-/// The patch behind that, which sets two prefixes and takes a quad away.
+/// The patch behind `SECOND`, which sets two prefixes and takes a quad away.
 pub const THIRD: &[u8] =
     b"H id <uuid:00000000-0000-4000-8000-000000000003> .\nH prev <uuid:00000000-0000-4000-8000-000000000002> .\nTX .\nPA \"f\" <http://f/> .\nPA \"e\" <http://e/> .\nD <http://e/s> <http://e/p> <http://e/o> .\nTC .\n";
 
@@ -35,13 +27,6 @@ pub const ID9: Id = Id(0x0000_0000_0000_4000_8000_0000_0000_0009);
 pub const LINE1: &str = "<http://e/s> <http://e/p> <http://e/o> .\n";
 
 pub const LINE2: &str = "<http://e/s> <http://e/p> <http://e/o2> .\n";
-
-/// A disk with these bytes, whose calls of these numbers fail.
-pub fn disk_of(alloc: Global, image: &[u8], failing: &[u64]) -> Result<MemDisk, Fail> {
-    let calls = Listing::from_vec(Vec::from_slice(alloc, failing)?);
-    let bytes = Bytes::from_slice(alloc, image)?;
-    Ok(MemDisk::from_image(alloc, bytes, calls)?)
-}
 
 /// The zone on a disk.
 pub fn open<D: Disk + Drop>(alloc: Global, disk: D, limits: LogLimits) -> Result<Zone<D>, Fail> {
@@ -70,24 +55,6 @@ pub struct Place {
 /// What was found at a place is what stands there.
 pub fn is<T: PartialEq>(rt: &impl Abort, at: Place, found: &T, wanted: &T) {
     assert!(rt; found == wanted, "{}: step {}", at.shows, at.step);
-}
-
-/// Puts a payload behind a journal's others.
-fn add(journal: &mut Vec<u8>, payload: &[u8]) -> Result<(), Fail> {
-    journal.push(1)?;
-    journal.extend_from_slice(&u32::try_from(payload.len())?.to_be_bytes())?;
-    journal.extend_from_slice(payload)?;
-    Ok(())
-}
-
-/// A journal with these payloads.
-pub fn journal_of(alloc: Global, payloads: &[&[u8]]) -> Result<Vec<u8>, Fail> {
-    let mut journal = b"RDJ1\0\0\x03\xe8".to_vec(alloc)?;
-    for payload in payloads {
-        add(&mut journal, payload)?;
-    }
-    journal.push(0)?;
-    Ok(journal)
 }
 
 /// The version and the head of the zone on an image.
