@@ -5,12 +5,17 @@
 //! is the worker's own relation, so nothing here knows of HTTP or of logs.
 #![tactic(auto)]
 
+mod budget;
+mod client_link;
+mod door;
 mod gate;
 mod memory_gate;
 mod pool;
 mod tcp_gate;
 mod worker;
 
+pub use client_link::ClientLink;
+pub use door::Door;
 pub use gate::{Arrival, Gate};
 pub use memory_gate::MemGate;
 pub use pool::{Post, serve_all};
