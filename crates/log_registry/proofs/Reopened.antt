@@ -7,7 +7,7 @@ use Rattle.disk_model.specs.Past.{Past, MayLeave}
 use Rattle.log_base.specs.Journals.{payloads_length}
 use Rattle.log_journal.specs.File.{Holds}
 use Rattle.log_journal.proofs.OneReading.{one_list, one_number, never_both}
-use Rattle.slot_files.specs.Files.{slots_payload}
+use Rattle.registry_core.specs.Texts.{slots_payload}
 use Rattle.registry_core.specs.declared.event.Event.{Event}
 use Rattle.registry_core.specs.Events.{AreNext, IsRegistry, BreaksAtEvent}
 use Rattle.log_base.specs.declared.limits.TheConstants.{REGISTRY_LIMIT}

@@ -9,7 +9,7 @@ use Rattle.log_journal.specs.declared.journal.Journal.{Journal}
 use Rattle.log_journal.specs.StandsFor.{StandsFor, StandsInDoubt, Leaves, length_of, limit_of, disk_of}
 use Rattle.log_journal.specs.Writing.{StandsWith, HoldsDuring}
 use Rattle.log_journal.proofs.Steps.{either}
-use Rattle.slot_files.specs.Files.{slots_payload}
+use Rattle.registry_core.specs.Texts.{slots_payload}
 use Rattle.registry_core.specs.declared.event.Event.{Event}
 use Rattle.registry_core.specs.Events.{IsNextEvent, IsRegistry}
 use Rattle.log_base.specs.declared.limits.TheConstants.{REGISTRY_LIMIT}
