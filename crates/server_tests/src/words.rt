@@ -7,7 +7,8 @@ use std::process::Abort;
 use std::sync::Wait;
 use std::test::Fail;
 use std::thread::Threads;
-use worker_pool::{MemGate, TcpGate};
+use std::time::Clock;
+use worker_pool::{Door, MemGate, TcpGate};
 
 const USAGE: &str = "rdfdelta: usage: serve DIR ADDR WORKERS\n";
 
@@ -82,11 +83,14 @@ fn an_address_may_have_colons(rt: HostRuntime) -> Result<(), Fail> {
 
 const FAILED: &str = "rdfdelta: link failed\n";
 
-// Sixteen gates behind one that has no port.
-fn tcp_gates(alloc: Global) -> Result<Vec<TcpGate<'static>>, Fail> {
+// Sixteen gates over a door that has no port.
+fn tcp_gates<'a, C: Clock + Drop>(
+    alloc: Global,
+    door: &'a Door<C>,
+) -> Result<Vec<TcpGate<'a, C>>, Fail> {
     let mut gates = Vec::new(alloc);
     for place in 0..16 {
-        gates.push(TcpGate::new(None, 0, place))?;
+        gates.push(TcpGate::new(door, 0, place))?;
     }
     Ok(gates)
 }
@@ -94,7 +98,8 @@ fn tcp_gates(alloc: Global) -> Result<Vec<TcpGate<'static>>, Fail> {
 #[test]
 fn a_port_in_use_is_a_failed_link(rt: HostRuntime) -> Result<(), Fail> {
     let alloc = rt.alloc();
-    let gates = tcp_gates(alloc)?;
+    let door = Door::new(&rt, None);
+    let gates = tcp_gates(alloc, &door)?;
     let mut shelf = shelf(alloc, &[])?;
     let ran = ends(&rt, alloc, TWO, &mut shelf, gates, 6, FAILED);
     drop(shelf);

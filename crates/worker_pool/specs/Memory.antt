@@ -1,5 +1,6 @@
 -- How contracts see a gate in memory.
-use Rattle.std.specs.Prelude.{ℕ, ◌+◌, List, [], ◌∷◌}
+use Rattle.std.specs.Prelude.{◌≡◌, ℕ, ◌+◌, List, [], ◌∷◌}
+use Rattle.delta_base.specs.Memory.{CountsCall}
 use Rattle.worker_pool.specs.declared.gate.Arrival.{Arrival}
 
 module _ {L : Type 0} where
@@ -18,3 +19,8 @@ pub record GateState (L : Type 0) : Type 0 where
   pub failing : List ℕ
   pub calls : ℕ
   pub faults : ℕ
+
+-- after a call of `next`: one call more, and the same calls are to fail
+abbrev pub CountsOnGate : {L : Type 0} → GateState L → GateState L → Type 0
+CountsOnGate before after =
+    CountsCall before.calls after.calls × (after.failing ≡ before.failing)

@@ -15,12 +15,16 @@ const SLICE: u64 = 50;
 /// How long one read or one write waits for the client, in seconds.
 const PATIENCE: u64 = 75;
 
-/// How long what still comes behind the last reply is read, in milliseconds, and how many bytes.
-const PARTING: u64 = 1_000;
+/// How long the first byte of a connection is waited for where all workers are busy, in seconds.
+/// The system may make a connection well before its client is told.
+const WELCOME: u64 = 1;
 
-const PARTING_BYTES: usize = 1_048_576;
+/// How long what still comes behind the last reply is read, in seconds.
+const PARTING: u64 = 1;
 
-/// How many bytes of it are read at once.
+/// How many bytes of it are read, and how many at once.
+const PARTING_BYTES: usize = 67_108_864;
+
 const PIECE: usize = 8_192;
 
 /// The text by which a client is asked to go on with its request, so that it ends none.
@@ -29,6 +33,8 @@ const GO_ON: &[u8] = b"HTTP/1.1 100 Continue\r\n\r\n";
 /// What a connection is at.
 #[derive(Clone, Copy)]
 enum Stage {
+    /// No byte has come so far.
+    New,
     /// No byte of a request has come behind the reply to the one before.
     Between,
     Request(Budget),
@@ -44,6 +50,7 @@ impl Stage {
             return false;
         }
         match self {
+            Stage::New => waited < Duration::from_secs(WELCOME) || !door.is_busy(),
             // What has come is read also where all workers are busy.
             Stage::Between => waited.is_zero() || !door.is_busy(),
             Stage::Request(budget) | Stage::Reply(budget) => !budget.is_spent(now),
@@ -78,8 +85,8 @@ impl Stage {
 }
 
 /// A connection with a client, which tells nothing of its bytes. Each request and each reply has a
-/// budget of time, each call waits for 75 seconds at most, and between requests a call waits only
-/// while a worker is free. What takes longer counts as failed.
+/// budget of time, no call waits for more than 75 seconds, and between requests a call waits only
+/// while a worker is free. What takes longer has failed, as what the system refuses.
 #[derive(Drop)]
 pub struct ClientLink<'a, C> {
     stream: TcpStream,
@@ -100,7 +107,7 @@ impl<'a, C: Clock> ClientLink<'a, C> {
         Ok(ClientLink {
             stream,
             door,
-            stage: Stage::Between,
+            stage: Stage::New,
             has_replied: false,
             faults: 0,
         })
@@ -192,7 +199,7 @@ fn read_rest<C: Clock>(stream: &mut TcpStream, door: &Door<C>) {
             _ => return,
         }
         match door.now() {
-            Some(now) if now.duration_since(begun) < Duration::from_millis(PARTING) => {}
+            Some(now) if now.duration_since(begun) < Duration::from_secs(PARTING) => {}
             _ => return,
         }
     }

@@ -71,7 +71,10 @@ impl<L> MemGate<L> {
 }
 
 impl<L> Gate for MemGate<L> {
-    ghost use Rattle.std.specs.Prelude.{◌<◌, length};
+    ghost use Rattle.std.specs.Prelude.{◌⊎◌, ◌<◌, ◌≤◌, ◌++◌, ◌∷◌, length};
+    ghost use Rattle.std.specs.Prelude.{None, IfSome, IfNone, Contains};
+    ghost use Rattle.delta_base.specs.Outside.{Rose};
+    ghost use Rattle.worker_pool.specs.Memory.{CountsOnGate};
 
     type L = L;
 
@@ -89,7 +92,23 @@ impl<L> Gate for MemGate<L> {
         self.count.faults
     }
 
-    fn next(&mut self) -> Option<Arrival<L>> {
+    fn next(&mut self) -> Option<Arrival<L>>
+        ensures some { IfSome result (λ a. self.old.arrivals ≡ a ∷ self.new.arrivals) }
+        ensures awaits { IfSome result (λ _. length self.new.arrivals < self.new.room) }
+        ensures none { IfNone result (self.new.arrivals ≡ self.old.arrivals) }
+        ensures cause { IfNone result
+            ((Unit {0} × (self.new.arrivals ≡ [])) ⊎ Rose self.old.faults self.new.faults) }
+        ensures back { self.new.back ≡ self.old.back }
+        ensures never_falls { self.old.faults ≤ self.new.faults }
+
+        // Exactly the listed calls fail.
+        ensures listed { Contains self.old.failing self.old.calls → result ≡ None }
+        ensures fails { IfNone result
+            ((self.old.arrivals ≡ []) ⊎ Contains self.old.failing self.old.calls) }
+        ensures faults { (self.new.faults ≡ self.old.faults)
+            ⊎ Contains self.old.failing self.old.calls }
+        ensures next { CountsOnGate self.old self.new }
+    {
         if self.count.start().is_err() {
             return None;
         }
@@ -99,7 +118,14 @@ impl<L> Gate for MemGate<L> {
         Some(Arrival { link, dice })
     }
 
-    fn put_back(&mut self, link: L) {
+    fn put_back(&mut self, link: L)
+        requires { length self.old.arrivals < self.old.room }
+        ensures back { self.new.back ≡ self.old.back ++ link ∷ [] }
+        ensures arrivals { self.new.arrivals ≡ self.old.arrivals }
+        ensures faults { self.new.faults ≡ self.old.faults }
+        ensures calls { self.new.calls ≡ self.old.calls }
+        ensures failing { self.new.failing ≡ self.old.failing }
+    {
         self.back.push_reserved(link);
     }
 }
