@@ -2,8 +2,8 @@
 //!
 //! A gate gives connections one after another and takes each back; a worker serves one at a time;
 //! `serve_all` has the workers serve side by side, on threads. What a worker does on a connection
-//! is the worker's own relation, so nothing here knows of logs; of HTTP a link over a socket knows one
-//! text.
+//! is the worker's own relation, so nothing here knows of logs; of HTTP one text is known to the
+//! link over a socket.
 #![tactic(auto)]
 
 mod budget;
