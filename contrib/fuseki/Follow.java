@@ -340,8 +340,8 @@ public final class Follow {
                 throw fault(code, "too few or too many terms");
             }
             Node graph = parts.size() == least ? null : node(parts.get(least));
-            if (OWN_GRAPH.equals(graph)) {
-                throw fault(code, "the graph <" + OWN_GRAPH + "> is the follower's own");
+            if (graph != null && isTaken(graph)) {
+                throw fault(code, "the graph <" + graph + "> is the follower's own or Jena's");
             }
             String prefix = parts.get(0).getImage();
             switch (code.getImage()) {
@@ -356,6 +356,11 @@ public final class Follow {
                     Quad quad = new Quad(name, node(parts.get(0)), node(parts.get(1)), node(parts.get(2)));
                     return code.getImage().equals("A") ? dataset -> dataset.add(quad) : dataset -> dataset.delete(quad);
             }
+        }
+
+        /** Whether a name stands for another graph here: the follower's, the default one, or the union of all. */
+        private static boolean isTaken(Node graph) {
+            return graph.equals(OWN_GRAPH) || Quad.isDefaultGraph(graph) || Quad.isUnionGraph(graph);
         }
 
         /** A term. Tags are in lower case, as the log compares them: to TDB2 they would be two terms. */
