@@ -1,86 +1,83 @@
 //! Calls in words.
-use delta_base::{Id, OutOfMemory, Text, id_text};
-use http_heads::RawRequest;
+use case_scripts::Answer as Told;
+use delta_base::{Id, Text, id_text};
+use http_text::RawRequest;
 use rpc_calls::{Call, CallFault, read_call};
-use std::alloc::{AllocError, Global};
+use std::alloc::Global;
+use std::fmt::Write;
 
-// Words with blanks between them.
-fn joined(alloc: Global, words: &[&[u8]]) -> Result<Vec<u8>, AllocError> {
-    let mut told = Vec::new(alloc);
+// Tells words with blanks between them.
+fn tell_words(words: &[&[u8]], told: &mut Told) {
     for (place, word) in words.iter().enumerate() {
         if place > 0 {
-            told.extend_from_slice(b" ")?;
+            told.push(b" ");
         }
-        told.extend_from_slice(word)?;
-    }
-    Ok(told)
-}
-
-// The operation on a name.
-fn named(alloc: Global, operation: &str, name: &Text) -> Result<Vec<u8>, AllocError> {
-    joined(alloc, &[operation.as_bytes(), name.as_bytes()])
-}
-
-fn created(alloc: Global, name: &Text, uri: &Text, id: Option<Id>) -> Result<Vec<u8>, AllocError> {
-    let (name, uri) = (name.as_bytes(), uri.as_bytes());
-    match id {
-        Some(id) => joined(alloc, &[b"create", name, uri, &id_text(id)]),
-        None => joined(alloc, &[b"create", name, uri]),
+        told.push(word);
     }
 }
 
-fn fetched(alloc: Global, name: &Text, version: u64) -> Result<Vec<u8>, AllocError> {
-    let version = version.to_string(alloc)?;
-    joined(
-        alloc,
-        &[b"fetch_version", name.as_bytes(), version.as_bytes()],
-    )
+// Tells the operation on a name.
+fn tell_named(operation: &[u8], name: &Text, told: &mut Told) {
+    tell_words(&[operation, name.as_bytes()], told);
 }
 
-// A call in words.
-fn call_told(alloc: Global, call: &Call) -> Result<Vec<u8>, AllocError> {
+fn tell_created(name: &Text, uri: &Text, id: Option<Id>, told: &mut Told) {
+    tell_words(&[b"create", name.as_bytes(), uri.as_bytes()], told);
+    if let Some(id) = id {
+        told.push(b" ");
+        told.push(&id_text(id));
+    }
+}
+
+fn tell_fetched(name: &Text, version: u64, told: &mut Told) {
+    tell_named(b"fetch_version", name, told);
+    let _ = write!(told, " {version}");
+}
+
+// Tells a call.
+fn tell_call(call: &Call, told: &mut Told) {
     match call {
-        Call::Ping => joined(alloc, &[b"ping"]),
-        Call::List => joined(alloc, &[b"list"]),
-        Call::Source { name } => named(alloc, "source", name),
-        Call::SourceById { id } => joined(alloc, &[b"source_by_id", &id_text(*id)]),
-        Call::SourceByUri { uri } => named(alloc, "source_by_uri", uri),
-        Call::Log { name } => named(alloc, "log", name),
-        Call::Version { name } => named(alloc, "version", name),
-        Call::Remove { name } => named(alloc, "remove", name),
-        Call::Create { name, uri, id } => created(alloc, name, uri, *id),
+        Call::Ping => told.push(b"ping"),
+        Call::List => told.push(b"list"),
+        Call::Source { name } => tell_named(b"source", name, told),
+        Call::SourceById { id } => tell_words(&[b"source_by_id", &id_text(*id)], told),
+        Call::SourceByUri { uri } => tell_named(b"source_by_uri", uri, told),
+        Call::Log { name } => tell_named(b"log", name, told),
+        Call::Version { name } => tell_named(b"version", name, told),
+        Call::Remove { name } => tell_named(b"remove", name, told),
+        Call::Create { name, uri, id } => tell_created(name, uri, *id, told),
         Call::Rename { name, new_name } => {
-            joined(alloc, &[b"rename", name.as_bytes(), new_name.as_bytes()])
+            tell_words(&[b"rename", name.as_bytes(), new_name.as_bytes()], told);
         }
-        Call::Append { name, patch } => joined(
-            alloc,
-            &[b"append", name.as_bytes(), patch.as_slice()],
-        ),
-        Call::FetchVersion { name, version } => fetched(alloc, name, *version),
-        Call::FetchId { name, id } => joined(alloc, &[b"fetch_id", name.as_bytes(), &id_text(*id)]),
+        Call::Append { name, patch } => {
+            tell_words(&[b"append", name.as_bytes(), patch.as_slice()], told);
+        }
+        Call::FetchVersion { name, version } => tell_fetched(name, *version, told),
+        Call::FetchId { name, id } => {
+            tell_words(&[b"fetch_id", name.as_bytes(), &id_text(*id)], told);
+        }
     }
 }
 
-// A fault in words.
-pub(crate) fn fault_told(alloc: Global, fault: CallFault) -> Result<Vec<u8>, AllocError> {
+/// Tells why a request is no call.
+pub(crate) fn tell_fault(fault: CallFault, told: &mut Told) {
     match fault {
-        CallFault::NoRoute => joined(alloc, &[b"no route"]),
-        CallFault::BadMethod { allow } => joined(alloc, &[b"allow", allow.as_bytes()]),
-        CallFault::Media => joined(alloc, &[b"media"]),
-        CallFault::BadJson => joined(alloc, &[b"bad json"]),
-        CallFault::BadCall { member } => joined(alloc, &[b"bad call", member.as_bytes()]),
-        CallFault::OutOfMemory => joined(alloc, &[b"out of memory"]),
+        CallFault::NoRoute => told.push(b"no route"),
+        CallFault::BadMethod { allow } => tell_words(&[b"allow", allow.as_bytes()], told),
+        CallFault::Media => told.push(b"media"),
+        CallFault::BadJson => told.push(b"bad json"),
+        CallFault::BadCall { member } => tell_words(&[b"bad call", member.as_bytes()], told),
+        CallFault::OutOfMemory => told.push(b"out of memory"),
     }
 }
 
-/// What a request asks, in words, or why it is no call.
-pub(crate) fn told(alloc: Global, request: &RawRequest) -> Result<Vec<u8>, OutOfMemory> {
+/// Tells what a request asks, or why it is no call.
+pub(crate) fn tell_asked(alloc: Global, request: &RawRequest, told: &mut Told) {
     match read_call(alloc, request) {
         Ok(call) => {
-            let told = call_told(alloc, &call);
+            tell_call(&call, told);
             drop(call);
-            Ok(told?)
         }
-        Err(fault) => Ok(fault_told(alloc, fault)?),
+        Err(fault) => tell_fault(fault, told),
     }
 }

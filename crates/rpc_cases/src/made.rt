@@ -1,37 +1,28 @@
 //! Answers that are made of words, as whole replies.
-ghost use Rattle.std.specs.Prelude.{IfOk};
 ghost use Rattle.std.specs.Option.{option_copied};
 ghost use Rattle.http_text.specs.Print.{IsAllow};
 ghost use Rattle.rpc_answers.specs.Answers.{NamesItsFault};
 
-use case_scripts::Words;
-use delta_base::{Bytes, Id, Listing, OutOfMemory, Text, read_id};
+use crate::values::{bytes_of, tell_text, text_at, word};
+use case_scripts::{Answer as Told, Words};
+use delta_base::{Id, Listing, read_id};
 use http_text::print_reply;
 use log_base::{FullKind, SourceInfo};
 use rpc_answers::{Answer, into_reply};
 use std::alloc::Global;
-
-// The text at a place.
-fn word(words: &Words, place: usize) -> &str {
-    str::from_utf8(words.bytes(place)).unwrap_or("")
-}
-
-fn text(alloc: Global, words: &Words, place: usize) -> Result<Text, OutOfMemory> {
-    Text::from_str(alloc, word(words, place))
-}
 
 // The number at a place, where there is one of 32 bits.
 fn number(words: &Words, place: usize) -> Option<u32> {
     u32::try_from(words.number(place)?).ok()
 }
 
-fn source(alloc: Global, words: &Words) -> Result<SourceInfo, OutOfMemory> {
-    Ok(SourceInfo {
+fn source(alloc: Global, words: &Words) -> SourceInfo {
+    SourceInfo {
         slot: number(words, 2).unwrap_or(0),
         id: read_id(words.bytes(3)).unwrap_or(Id(0)),
-        name: text(alloc, words, 4)?,
-        uri: text(alloc, words, 5)?,
-    })
+        name: text_at(alloc, words, 4),
+        uri: text_at(alloc, words, 5),
+    }
 }
 
 // The answer of a log.
@@ -62,19 +53,19 @@ fn log_answer(words: &Words) -> Answer
 }
 
 // The answer of these words.
-fn answer(alloc: Global, words: &Words) -> Result<Answer, OutOfMemory>
-    ensures { IfOk result (λ answer. NamesItsFault answer) }
+fn answer(alloc: Global, words: &Words) -> Answer
+    ensures { NamesItsFault result }
 {
     match word(words, 1) {
-        "source" => Ok(Answer::Source(source(alloc, words)?)),
-        "sources" => Ok(Answer::Sources(Listing::new(alloc))),
-        "bad_call" => Ok(Answer::BadCall {
-            member: text(alloc, words, 2)?,
-        }),
-        "patch" => Ok(Answer::Patch {
-            text: Bytes::from_slice(alloc, words.bytes(2))?,
-        }),
-        _ => Ok(log_answer(words)),
+        "source" => Answer::Source(source(alloc, words)),
+        "sources" => Answer::Sources(Listing::new(alloc)),
+        "bad_call" => Answer::BadCall {
+            member: text_at(alloc, words, 2),
+        },
+        "patch" => Answer::Patch {
+            text: bytes_of(alloc, words.bytes(2)),
+        },
+        _ => log_answer(words),
     }
 }
 
@@ -89,11 +80,14 @@ fn allow(words: &Words) -> Option<&'static str>
 }
 
 /// `reply ANSWER ..`, `last ANSWER ..`: the text of an answer's reply, behind which the connection stays or ends.
-pub(crate) fn reply(alloc: Global, words: &Words, close: bool) -> Result<Vec<u8>, OutOfMemory> {
+pub(crate) fn reply(alloc: Global, words: &Words, close: bool, told: &mut Told) {
     let allow = allow(words);
-    let answer = answer(alloc, words)?;
-    let reply = into_reply(alloc, answer, close)?;
-    let text = print_reply(alloc, &reply, allow);
-    drop(reply);
-    Ok(text?.into_vec())
+    match into_reply(alloc, answer(alloc, words), close) {
+        Ok(reply) => {
+            let text = print_reply(alloc, &reply, allow);
+            drop(reply);
+            tell_text(text, told);
+        }
+        Err(_) => told.push(b"out of memory"),
+    }
 }

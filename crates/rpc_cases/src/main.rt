@@ -6,12 +6,13 @@
 mod answers;
 mod asking;
 mod calls;
+mod changes;
 mod lines;
 mod made;
 mod requests;
+mod values;
 
 use case_scripts::{Answer, Layer, Words, run_script};
-use delta_base::OutOfMemory;
 use std::alloc::Global;
 use std::io;
 
@@ -48,33 +49,23 @@ struct Rpc {
     alloc: Global,
 }
 
-impl Rpc {
-    // What a command answers.
-    fn told(&self, words: &Words) -> Result<Vec<u8>, OutOfMemory> {
-        let alloc = self.alloc;
-        match words.command(&COMMANDS) {
-            Some(Command::Call) => requests::call(alloc, words),
-            Some(Command::Sends) => requests::sends(alloc, words),
-            Some(Command::Answer) => answers::answer(alloc, words),
-            Some(Command::Reply) => made::reply(alloc, words, false),
-            Some(Command::Last) => made::reply(alloc, words, true),
-            Some(Command::Host) => asking::host(alloc, words.bytes(1)),
-            Some(Command::Ask) => asking::ask_anyhow(alloc, words.bytes(1)),
-            Some(Command::Fronts) => asking::fronts(alloc, words.bytes(1)),
-            Some(Command::Twice) => lines::twice(alloc, words),
-            Some(Command::Breaks) => lines::breaks(alloc, words),
-            None => Ok(Vec::from_slice(alloc, b"no such command")?),
-        }
-    }
-}
-
 impl Layer for Rpc {
     fn clear(&mut self) {}
 
     fn answer(&mut self, words: &Words, answer: &mut Answer) {
-        match self.told(words) {
-            Ok(told) => answer.push(told.as_slice()),
-            Err(_) => answer.push(b"out of memory"),
+        let alloc = self.alloc;
+        match words.command(&COMMANDS) {
+            Some(Command::Call) => requests::call(alloc, words, answer),
+            Some(Command::Sends) => requests::sends(alloc, words, answer),
+            Some(Command::Answer) => answers::answer(alloc, words, answer),
+            Some(Command::Reply) => made::reply(alloc, words, false, answer),
+            Some(Command::Last) => made::reply(alloc, words, true, answer),
+            Some(Command::Host) => asking::host(alloc, words, answer),
+            Some(Command::Ask) => asking::ask_anyhow(alloc, words.bytes(1), answer),
+            Some(Command::Fronts) => asking::fronts(alloc, words.bytes(1), answer),
+            Some(Command::Twice) => lines::twice(alloc, words, answer),
+            Some(Command::Breaks) => lines::breaks(alloc, words, answer),
+            None => answer.push(b"no such command"),
         }
     }
 }

@@ -3,8 +3,9 @@ ghost use Rattle.std.specs.Prelude.{◌≡◌, true, IfOk};
 ghost use Rattle.std.specs.List.{list_all};
 ghost use Rattle.http_text.specs.Print.{is_visible};
 
-use crate::calls::{fault_told, told};
-use case_scripts::Words;
+use crate::calls::{tell_asked, tell_fault};
+use crate::values::{bytes_of, tell_text};
+use case_scripts::{Answer as Told, Words};
 use delta_base::{Bytes, OutOfMemory, Text};
 use http_heads::RawRequest;
 use http_text::{RequestReader, print_request};
@@ -19,33 +20,33 @@ pub(crate) fn host(alloc: Global) -> Result<Text, OutOfMemory>
 }
 
 // The word at a place, where there is one.
-fn word(alloc: Global, words: &Words, place: usize) -> Result<Option<Bytes>, OutOfMemory> {
+fn word(alloc: Global, words: &Words, place: usize) -> Option<Bytes> {
     if words.count() < place {
-        return Ok(None);
+        None
+    } else {
+        Some(bytes_of(alloc, words.bytes(place)))
     }
-    Ok(Some(Bytes::from_slice(alloc, words.bytes(place))?))
 }
 
 // The request of these words: a method, a path, a body, and the type and the coding of the body.
-fn request(alloc: Global, words: &Words) -> Result<RawRequest, OutOfMemory> {
-    Ok(RawRequest {
-        method: Bytes::from_slice(alloc, words.bytes(1))?,
-        path: Bytes::from_slice(alloc, words.bytes(2))?,
+fn request(alloc: Global, words: &Words) -> RawRequest {
+    RawRequest {
+        method: bytes_of(alloc, words.bytes(1)),
+        path: bytes_of(alloc, words.bytes(2)),
         http10: false,
         close: false,
         expects: false,
-        content_type: word(alloc, words, 4)?,
-        encoding: word(alloc, words, 5)?,
-        body: Bytes::from_slice(alloc, words.bytes(3))?,
-    })
+        content_type: word(alloc, words, 4),
+        encoding: word(alloc, words, 5),
+        body: bytes_of(alloc, words.bytes(3)),
+    }
 }
 
 /// `call METHOD PATH [BODY [TYPE [CODING]]]`: what a request asks, or why it is no call.
-pub(crate) fn call(alloc: Global, words: &Words) -> Result<Vec<u8>, OutOfMemory> {
-    let request = request(alloc, words)?;
-    let told = told(alloc, &request);
+pub(crate) fn call(alloc: Global, words: &Words, told: &mut Told) {
+    let request = request(alloc, words);
+    tell_asked(alloc, &request, told);
     drop(request);
-    told
 }
 
 // The text of the request that a client sends for a call.
@@ -57,43 +58,42 @@ fn printed(alloc: Global, call: &Call) -> Result<Bytes, OutOfMemory> {
     text
 }
 
-// The text of the request for the call that a request is, or why it is none.
-fn sent(alloc: Global, request: &RawRequest) -> Result<Vec<u8>, OutOfMemory> {
+// Tells the text of the request for the call that a request is, or why it is none.
+fn tell_sent(alloc: Global, request: &RawRequest, told: &mut Told) {
     match read_call(alloc, request) {
         Ok(call) => {
             let text = printed(alloc, &call);
             drop(call);
-            Ok(text?.into_vec())
+            tell_text(text, told);
         }
-        Err(fault) => Ok(fault_told(alloc, fault)?),
+        Err(fault) => tell_fault(fault, told),
     }
 }
 
-// What the text of a request asks.
-fn read(alloc: Global, text: &[u8]) -> Result<Vec<u8>, OutOfMemory> {
+// Tells what the text of a request asks.
+fn tell_read(alloc: Global, text: &[u8], told: &mut Told) {
     let mut reader = RequestReader::new(alloc);
-    let fed = reader.feed(text);
+    if reader.feed(text).is_err() {
+        told.push(b"not taken: ");
+    }
     let request = reader.take();
     drop(reader);
-    match (request, fed) {
-        (Some(request), Ok(())) => {
-            let told = told(alloc, &request);
-            drop(request);
-            told
-        }
-        _ => Ok(Vec::from_slice(alloc, b"no request")?),
+    if let Some(request) = request {
+        tell_asked(alloc, &request, told);
+        drop(request);
     }
 }
 
 /// `sends METHOD PATH [BODY]`: the text that a client sends for the call that a request is. The text asks the same.
-pub(crate) fn sends(alloc: Global, words: &Words) -> Result<Vec<u8>, OutOfMemory> {
-    let request = request(alloc, words)?;
-    let sent = sent(alloc, &request);
+pub(crate) fn sends(alloc: Global, words: &Words, told: &mut Told) {
+    let request = request(alloc, words);
+    tell_sent(alloc, &request, told);
+    let mut asked = Told::new(alloc);
+    tell_asked(alloc, &request, &mut asked);
     drop(request);
-    let sent = sent?;
-    let asked = call(alloc, words)?;
-    if read(alloc, sent.as_slice())? != asked {
-        return Ok(Vec::from_slice(alloc, b"a text that asks something else")?);
+    let mut again = Told::new(alloc);
+    tell_read(alloc, told.bytes(), &mut again);
+    if again.bytes() != asked.bytes() {
+        told.push(b", a text that asks something else");
     }
-    Ok(sent)
 }
