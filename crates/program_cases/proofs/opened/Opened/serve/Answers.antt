@@ -1,8 +1,8 @@
 use Rattle.std.proofs.Common.{◌≡◌, ◌<◌, length, Some, slice_get, arith}
 use Rattle.hall_logs.proofs.Parts.{get_there}
 use Rattle.delta_session.specs.Steps.{HallSight}
-use Rattle.session_cases.proofs.Passes.{one_used}
-use Rattle.session_cases.proofs.opened.Opened.serve.Goals as goal
+use Rattle.program_cases.proofs.Passes.{one_used}
+use Rattle.program_cases.proofs.opened.Opened.serve.Goals as goal
 
 pub invariant_of-self : goal.invariant_of-self
 invariant_of-self g c =

@@ -1,17 +1,13 @@
 //! Words as positions.
+use crate::arguments::strings_of;
 use case_scripts::{Answer, Words};
+<<<<<<< HEAD:crates/cli_cases/src/positions.rt
 use command_tables::{WordsFault, read_words};
 use delta_base::OutOfMemory;
+=======
+use command_tables::{WordsFault, read_words};
+>>>>>>> 413ac53e (Sessions and commands share one program of cases):crates/program_cases/src/positions.rt
 use std::alloc::Global;
-
-// The words of a command.
-fn words_of(alloc: Global, words: &Words) -> Result<Vec<String>, OutOfMemory> {
-    let mut made = Vec::new(alloc);
-    for place in 2..words.count().saturating_add(1) {
-        made.push(String::from_utf8_lossy(alloc, words.bytes(place))?)?;
-    }
-    Ok(made)
-}
 
 // Writes the values, each in brackets.
 fn tell(values: Result<Vec<&str>, WordsFault>, answer: &mut Answer) {
@@ -31,15 +27,16 @@ fn tell(values: Result<Vec<&str>, WordsFault>, answer: &mut Answer) {
 
 /// `positions COUNT COMMAND WORD ..`: the values of so many positions, none, one or three, behind a command.
 pub(crate) fn positions(alloc: Global, words: &Words, answer: &mut Answer) {
-    let Ok(made) = words_of(alloc, words) else {
+    let end = words.count().saturating_add(1);
+    let Ok(made) = strings_of(alloc, words, 2, end) else {
         return answer.push(b"out of memory");
     };
     if made.is_empty() {
         return answer.push(b"no command");
     }
-    match words.bytes(1) {
-        b"0" => tell(read_words(alloc, &[], &made), answer),
-        b"1" => tell(read_words(alloc, &["N"], &made), answer),
+    match words.number(1) {
+        Some(0) => tell(read_words(alloc, &[], &made), answer),
+        Some(1) => tell(read_words(alloc, &["N"], &made), answer),
         _ => tell(read_words(alloc, &["DIR", "ADDR", "NAME"], &made), answer),
     }
 }

@@ -1,35 +1,39 @@
 //! The text of a request, and of the reply to it.
 use bstr::ByteSlice;
 use case_scripts::Answer;
-use delta_base::OutOfMemory;
 use std::alloc::Global;
+use std::fmt::Write;
 
 /// The text of a request with this first line and body.
-pub(crate) fn request_of(alloc: Global, line: &[u8], body: &[u8]) -> Result<Vec<u8>, OutOfMemory> {
-    let mut text = Vec::from_slice(alloc, line)?;
+pub(crate) fn request_of(alloc: Global, line: &[u8], body: &[u8]) -> Answer {
+    let mut text = Answer::new(alloc);
     let length = body.len();
-    let head = format!(in alloc; " HTTP/1.1\r\nHost: a\r\nContent-Length: {length}\r\n\r\n")?;
-    text.extend_from_slice(head.as_bytes())?;
-    text.extend_from_slice(body)?;
-    Ok(text)
+    text.push(line);
+    let _ = write!(
+        text,
+        " HTTP/1.1\r\nHost: a\r\nContent-Length: {length}\r\n\r\n"
+    );
+    text.push(body);
+    text
 }
 
 // The text of a reply with this status and body.
-fn reply_of(alloc: Global, status: &[u8], body: &[u8]) -> Result<Vec<u8>, OutOfMemory> {
+fn reply_of(alloc: Global, status: &[u8], body: &[u8]) -> Answer {
     let kind = if body.starts_with(b"{") {
         "json"
     } else {
         "rdf-patch"
     };
     let length = body.len();
-    let mut text = Vec::from_slice(alloc, b"HTTP/1.1 ")?;
-    text.extend_from_slice(status)?;
-    let head = format!(in alloc;
+    let mut text = Answer::new(alloc);
+    text.push(b"HTTP/1.1 ");
+    text.push(status);
+    let _ = write!(
+        text,
         "\r\nContent-Type: application/{kind}\r\nContent-Length: {length}\r\n\r\n"
-    )?;
-    text.extend_from_slice(head.as_bytes())?;
-    text.extend_from_slice(body)?;
-    Ok(text)
+    );
+    text.push(body);
+    text
 }
 
 // The status and the body of a reply.
@@ -42,8 +46,7 @@ fn parts_of(reply: &[u8]) -> Option<(&[u8], &[u8])> {
 /// Writes the status and the body of a reply; where it isn't the whole text that these make, writes all of it.
 pub(crate) fn tell_reply(alloc: Global, reply: &[u8], answer: &mut Answer) {
     if let Some((status, body)) = parts_of(reply)
-        && let Ok(whole) = reply_of(alloc, status, body)
-        && whole.as_slice() == reply
+        && reply_of(alloc, status, body).bytes() == reply
     {
         answer.push(status);
         answer.push(b" ");
