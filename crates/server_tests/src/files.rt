@@ -1,5 +1,5 @@
 //! What connections are sent, and what stands in the files behind a server.
-use crate::runs::{TWO, add_gate, fill, link_of, run, shelf};
+use crate::runs::{TWO, add_connection, fill, run, shelf};
 use delta_base::{MemLink, OutOfMemory, Text};
 use disk_model::MemShelf;
 use std::alloc::Global;
@@ -23,21 +23,14 @@ fn request(alloc: Global, line: &str, body: &str) -> Result<String, Fail> {
     )?)
 }
 
-// Adds a gate of one connection with this text.
-fn add(alloc: Global, gates: &mut Vec<MemGate<MemLink>>, text: &str) -> Result<(), OutOfMemory> {
-    let mut links = Vec::new(alloc);
-    links.push(link_of(alloc, text.as_bytes())?)?;
-    add_gate(alloc, gates, links, &[])
-}
-
-// Adds such gates, and others up to sixteen.
+// Adds gates of one connection each, with these texts, and others up to sixteen.
 fn add_all(
     alloc: Global,
     gates: &mut Vec<MemGate<MemLink>>,
     texts: &[&str],
 ) -> Result<(), OutOfMemory> {
     for text in texts {
-        add(alloc, gates, text)?;
+        add_connection(alloc, gates, text.as_bytes())?;
     }
     fill(alloc, gates)
 }

@@ -40,8 +40,8 @@ pub(crate) fn shelf(alloc: Global, failing: &[u64]) -> Result<MemShelf, Fail> {
     }
 }
 
-/// A link that gives this text.
-pub(crate) fn link_of(alloc: Global, text: &[u8]) -> Result<MemLink, OutOfMemory> {
+// A link that gives this text.
+fn link_of(alloc: Global, text: &[u8]) -> Result<MemLink, OutOfMemory> {
     let content = Bytes::from_slice(alloc, text)?;
     Ok(MemLink::new(alloc, content, 8_192, Calls::new(alloc)))
 }
@@ -56,6 +56,17 @@ pub(crate) fn add_gate<L: Drop>(
     let calls: Calls = Listing::from_vec(Vec::from_slice(alloc, failing)?);
     gates.push(MemGate::new(alloc, links, calls)?)?;
     Ok(())
+}
+
+/// Adds a gate of one connection with this text.
+pub(crate) fn add_connection(
+    alloc: Global,
+    gates: &mut Vec<MemGate<MemLink>>,
+    text: &[u8],
+) -> Result<(), OutOfMemory> {
+    let mut links = Vec::new(alloc);
+    links.push(link_of(alloc, text)?)?;
+    add_gate(alloc, gates, links, &[])
 }
 
 /// Adds gates without links, up to sixteen.

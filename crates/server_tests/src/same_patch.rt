@@ -1,6 +1,7 @@
 //! Two gates of one connection each, which send the same patch to a hall.
 ghost use Rattle.std.specs.Prelude.{◌≡◌, ◌<◌, IfOk, vec_len};
 
+use crate::runs::add_connection;
 use delta_base::{Bytes, Calls, MemLink, OutOfMemory};
 use delta_session::{Worked, open_hall, serve_gates};
 use disk_model::MemDisk;
@@ -51,21 +52,9 @@ fn disks(alloc: Global) -> Result<Vec<MemDisk>, Fail>
     Err(Fail::from("no disks"))
 }
 
-// A gate of one connection.
-fn gate(alloc: Global) -> Result<MemGate<MemLink>, OutOfMemory> {
-    let mut links = Vec::new(alloc);
-    links.push(MemLink::new(
-        alloc,
-        Bytes::from_slice(alloc, POST)?,
-        8_192,
-        Calls::new(alloc),
-    ))?;
-    MemGate::new(alloc, links, Calls::new(alloc))
-}
-
 fn add_gates(alloc: Global, gates: &mut Vec<MemGate<MemLink>>) -> Result<(), OutOfMemory> {
     for _ in 0..2 {
-        gates.push(gate(alloc)?)?;
+        add_connection(alloc, gates, POST)?;
     }
     Ok(())
 }

@@ -4,7 +4,7 @@ ghost use Rattle.std.specs.Prelude.{◌≡◌, true, IfOk};
 ghost use Rattle.std.specs.List.{list_all};
 ghost use Rattle.http_text.specs.Print.{is_visible};
 
-use crate::links::{Both, FIRST, SECOND, are_told, asks_twice};
+use crate::calls::{Both, FIRST, SECOND, are_told, asks_twice};
 use delta_base::{OutOfMemory, StdLink, Text};
 use delta_client::{Dial, DialFault, Line, Open, TcpDial, is_host};
 use http_text::ReplyReader;
