@@ -3,7 +3,7 @@ ghost use Rattle.rpc_answers.specs.Answers.{NamesItsFault};
 
 use crate::values::bytes_of;
 use case_scripts::{Answer as Told, Words};
-use http_text::RawReply;
+use http_heads::RawReply;
 use rpc_answers::{Answer, AnswerFault, print_answer, read_answer};
 use std::alloc::Global;
 use std::fmt::Write;

@@ -1,7 +1,7 @@
 //! Calls in words.
 use case_scripts::Answer as Told;
 use delta_base::{Id, Text, id_text};
-use http_text::RawRequest;
+use http_heads::RawRequest;
 use rpc_calls::{Call, CallFault, read_call};
 use std::alloc::Global;
 use std::fmt::Write;
