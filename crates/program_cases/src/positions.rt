@@ -1,12 +1,7 @@
 //! Words as positions.
 use crate::arguments::strings_of;
 use case_scripts::{Answer, Words};
-<<<<<<< HEAD:crates/cli_cases/src/positions.rt
 use command_tables::{WordsFault, read_words};
-use delta_base::OutOfMemory;
-=======
-use command_tables::{WordsFault, read_words};
->>>>>>> 413ac53e (Sessions and commands share one program of cases):crates/program_cases/src/positions.rt
 use std::alloc::Global;
 
 // Writes the values, each in brackets.
