@@ -1,5 +1,6 @@
 mod Addresses
 mod EndOfPositions
 mod Pieces
+mod Printed
 mod WalkOfPositions
 pub mod Words

@@ -1,5 +1,6 @@
 pub mod Addresses
 pub mod Channels
+pub mod Help
 pub mod Lines
 pub mod Names
 pub mod Positions

@@ -1,93 +1,72 @@
 -- The names of the commands, and the words that stand behind them.
 use Rattle.std.specs.Prelude.{◌≡◌, ℕ, ◌≤◌, Bool, true, false, List}
-use Rattle.std.specs.Prelude.{[], ◌∷◌, Option, None, Some, codes}
+use Rattle.std.specs.Prelude.{[], ◌∷◌, ◌++◌, map, Option, None, Some, if◌then◌else◌}
 use Rattle.std.specs.Fmt.{decimal}
+use Rattle.std.specs.List.{flat_map}
+use Rattle.std.specs.Str.{bytes_eq}
+use Rattle.std.proofs.Common.{get_or}
+use denote.Enum.Declared.{tag_of}
 use Rattle.command_tables.specs.Positions.{FitPositions}
+use Rattle.command_tables.specs.contracts.name.Name.{the_type}
 use Rattle.command_tables.specs.declared.name.Name.{Name}
-use Rattle.command_tables.specs.declared.name.Name.TheVariants as names
+use Rattle.command_tables.specs.declared.rows.Group.{Group}
+use Rattle.command_tables.specs.declared.rows.Group.TheVariants as groups
+use Rattle.command_tables.specs.declared.rows.CommandRow.{CommandRow}
+use Rattle.command_tables.specs.declared.rows.TheConstants.{ROWS}
+
+-- a row of the constant, in which a reference is known by what stands there
+abbrev pub KnownRow : Type 0
+KnownRow = CommandRow (record { now : List ℕ }) (record { now : List (record { now : List ℕ }) })
+
+-- what stands in a column of a command's row; rows stand in the order of the names
+abbrev pub of_command : {A : Type 0} → (KnownRow → A) → A → Name → A
+of_command column missing name = get_or (map column ROWS.now) (tag_of the_type name) missing
 
 -- the word that names a command
 abbrev pub name_text : Name → List ℕ
-name_text names.Replay = codes "replay"
-name_text names.Nquads = codes "nquads"
-name_text names.Gen = codes "gen"
-name_text names.Emit = codes "emit"
-name_text names.Init = codes "init"
-name_text names.Check = codes "check"
-name_text names.Zone = codes "zone"
-name_text names.Dump = codes "dump"
-name_text names.Prefixes = codes "prefixes"
-name_text names.Match = codes "match"
-name_text names.Sync = codes "sync"
-name_text names.Serve = codes "serve"
-name_text names.Ping = codes "ping"
-name_text names.List = codes "list"
-name_text names.Create = codes "create"
-name_text names.Rename = codes "rename"
-name_text names.Remove = codes "remove"
-name_text names.Describe = codes "describe"
-name_text names.LogVersion = codes "version"
-name_text names.Append = codes "append"
-name_text names.Fetch = codes "fetch"
-name_text names.Help = codes "--help"
-name_text names.Version = codes "--version"
+name_text = of_command (λ row. row.word.now) []
+
+-- what stands for each word behind the name
+abbrev pub positions_of : Name → List (List ℕ)
+positions_of = of_command (λ row. map (λ text. text.now) row.positions.now) []
+
+-- what the command is on
+abbrev pub group_of : Name → Group
+group_of = of_command (λ row. row.group) groups.Own
+
+abbrev pub is_call : Group → Bool
+is_call groups.Call = true
+is_call other = false
+
+-- the command asks a server at the address of its first position
+abbrev pub asks_server : Name → Bool
+asks_server = of_command (λ row. is_call row.group) false
+
+abbrev pub is_zone : Group → Bool
+is_zone groups.Zone = true
+is_zone other = false
+
+-- the command is on a zone, whose directory is its first position
+abbrev pub is_of_zone : Name → Bool
+is_of_zone = of_command (λ row. is_zone row.group) false
+
+-- a word, and behind it each position behind a blank
+abbrev pub words_text : List ℕ → List (List ℕ) → List ℕ
+words_text word positions = word ++ flat_map (λ position. 32 ∷ position) positions
 
 -- a command's words
 abbrev pub usage_text : Name → List ℕ
-usage_text names.Replay = codes "replay"
-usage_text names.Nquads = codes "nquads"
-usage_text names.Gen = codes "gen N"
-usage_text names.Emit = codes "emit N"
-usage_text names.Init = codes "init DIR SLOTS"
-usage_text names.Check = codes "check DIR"
-usage_text names.Zone = codes "zone DIR"
-usage_text names.Dump = codes "dump DIR"
-usage_text names.Prefixes = codes "prefixes DIR"
-usage_text names.Match = codes "match DIR G S P O"
-usage_text names.Sync = codes "sync DIR ADDR NAME"
-usage_text names.Serve = codes "serve DIR ADDR WORKERS"
-usage_text names.Ping = codes "ping ADDR"
-usage_text names.List = codes "list ADDR"
-usage_text names.Create = codes "create ADDR NAME URI"
-usage_text names.Rename = codes "rename ADDR NAME NEW"
-usage_text names.Remove = codes "remove ADDR NAME"
-usage_text names.Describe = codes "describe ADDR NAME"
-usage_text names.LogVersion = codes "version ADDR NAME"
-usage_text names.Append = codes "append ADDR NAME"
-usage_text names.Fetch = codes "fetch ADDR NAME WHICH"
-usage_text names.Help = codes "--help"
-usage_text names.Version = codes "--version"
+usage_text name = words_text (name_text name) (positions_of name)
 
 -- the command that a word names, or none
 abbrev pub IsNamed : List ℕ → Option Name → Type 0
 IsNamed word None = (name : Name) → word ≡ name_text name → ⊥
 IsNamed word (Some name) = word ≡ name_text name
 
--- what stands for each word behind the name
-abbrev pub positions_of : Name → List (List ℕ)
-positions_of names.Replay = []
-positions_of names.Nquads = []
-positions_of names.Gen = codes "N" ∷ []
-positions_of names.Emit = codes "N" ∷ []
-positions_of names.Init = codes "DIR" ∷ codes "SLOTS" ∷ []
-positions_of names.Check = codes "DIR" ∷ []
-positions_of names.Zone = codes "DIR" ∷ []
-positions_of names.Dump = codes "DIR" ∷ []
-positions_of names.Prefixes = codes "DIR" ∷ []
-positions_of names.Match = codes "DIR" ∷ codes "G" ∷ codes "S" ∷ codes "P" ∷ codes "O" ∷ []
-positions_of names.Sync = codes "DIR" ∷ codes "ADDR" ∷ codes "NAME" ∷ []
-positions_of names.Serve = codes "DIR" ∷ codes "ADDR" ∷ codes "WORKERS" ∷ []
-positions_of names.Ping = codes "ADDR" ∷ []
-positions_of names.List = codes "ADDR" ∷ []
-positions_of names.Create = codes "ADDR" ∷ codes "NAME" ∷ codes "URI" ∷ []
-positions_of names.Rename = codes "ADDR" ∷ codes "NAME" ∷ codes "NEW" ∷ []
-positions_of names.Remove = codes "ADDR" ∷ codes "NAME" ∷ []
-positions_of names.Describe = codes "ADDR" ∷ codes "NAME" ∷ []
-positions_of names.LogVersion = codes "ADDR" ∷ codes "NAME" ∷ []
-positions_of names.Append = codes "ADDR" ∷ codes "NAME" ∷ []
-positions_of names.Fetch = codes "ADDR" ∷ codes "NAME" ∷ codes "WHICH" ∷ []
-positions_of names.Help = []
-positions_of names.Version = []
+-- the name beside the first word that is this one
+abbrev pub first_name : List ℕ → List (List ℕ × Name) → Option Name
+first_name word [] = None
+first_name word (row ∷ rows) = if bytes_eq row.0 word then Some row.1 else first_name word rows
 
 -- the first word names a command
 abbrev pub BeginsWith : List (List ℕ) → Name → Type 0
@@ -101,28 +80,6 @@ HasFirst words first = (rest : List (List ℕ)) × (words ≡ first ∷ rest)
 -- which begins with `-`
 abbrev pub FitsName : List (List ℕ) → Name → Type 0
 FitsName words name = BeginsWith words name × FitPositions (positions_of name) words
-
--- the command asks a server at the address of its first position
-abbrev pub asks_server : Name → Bool
-asks_server names.Ping = true
-asks_server names.List = true
-asks_server names.Create = true
-asks_server names.Rename = true
-asks_server names.Remove = true
-asks_server names.Describe = true
-asks_server names.LogVersion = true
-asks_server names.Append = true
-asks_server names.Fetch = true
-asks_server other = false
-
--- the command is on a zone, whose directory is its first position
-abbrev pub is_of_zone : Name → Bool
-is_of_zone names.Zone = true
-is_of_zone names.Dump = true
-is_of_zone names.Prefixes = true
-is_of_zone names.Match = true
-is_of_zone names.Sync = true
-is_of_zone other = false
 
 -- the number that a word is, of those from the one to the other, or none
 abbrev pub IsNumberIn : ℕ → ℕ → List ℕ → Option ℕ → Type 0

@@ -63,7 +63,7 @@ fn usage_line(alloc: Global, name: Name) -> Result<Vec<u8>, OutOfMemory>
         text.items ≡ codes "rdfdelta: usage: " ++ (usage_text name ++ 10 ∷ [])) }
 {
     let mut text = Vec::from_slice(alloc, b"rdfdelta: usage: ")?;
-    text.extend_from_slice(name.usage())?;
+    name.push_usage(&mut text)?;
     text.push(b'\n')?;
     Ok(text)
 }
