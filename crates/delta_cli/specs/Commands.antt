@@ -18,7 +18,7 @@ use Rattle.command_tables.specs.declared.name.Name.{Name}
 use Rattle.command_tables.specs.declared.name.Name.TheVariants as names
 use Rattle.command_tables.specs.declared.refusal.Refusal.{Refusal}
 use Rattle.command_tables.specs.declared.refusal.Refusal.TheVariants as refusals
-use Rattle.command_tables.specs.Names.{name_text}
+use Rattle.command_tables.specs.Names.{BeginsWith, asks_server}
 
 -- the words are a command's and these, none of which begins with `-`
 abbrev pub AreCommandWords : List (List ℕ) → List ℕ → List (List ℕ) → Type 0
@@ -102,16 +102,11 @@ abbrev pub IsOfTool : Name → Type 0
 IsOfTool names.Serve = ⊥
 IsOfTool other = Unit {0}
 
--- the command is one call to a server
+-- the command is one call to a server, with no input
 abbrev pub IsOfCall : Name → Type 0
-IsOfCall names.Ping = Unit {0}
-IsOfCall names.List = Unit {0}
-IsOfCall names.Create = Unit {0}
-IsOfCall names.Rename = Unit {0}
-IsOfCall names.Remove = Unit {0}
-IsOfCall names.LogVersion = Unit {0}
-IsOfCall names.Fetch = Unit {0}
-IsOfCall other = ⊥
+IsOfCall names.Describe = ⊥
+IsOfCall names.Append = ⊥
+IsOfCall other = asks_server other ≡ true
 
 -- why words ask for no command; want of memory is free
 abbrev pub RefusesWords : List (List ℕ) → Refusal → Type 0

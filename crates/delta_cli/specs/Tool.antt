@@ -15,6 +15,7 @@ use Rattle.delta_cli.specs.Asked.{Asked, Described, IsPatchWith}
 use Rattle.delta_cli.specs.Asked.{PrintsEnd, StopsAppend, StopsAsking}
 use Rattle.command_tables.specs.Channels.{Channel, ChannelFailed, IsSilent, TellsLine, WritesText}
 use Rattle.command_tables.specs.Channels.{WritesFront}
+use Rattle.command_tables.specs.Help.{help_text}
 use Rattle.delta_cli.specs.Commands.{Asks, RefusesWords}
 use Rattle.delta_cli.specs.Document.{IsShown}
 use Rattle.command_tables.specs.Lines.{refusal_line, exit_status, out_of_memory_line}
@@ -28,7 +29,7 @@ use Rattle.delta_cli.specs.declared.command.Command.{Command}
 use Rattle.delta_cli.specs.declared.command.Command.TheVariants as commands
 use Rattle.command_tables.specs.declared.refusal.Refusal.{Refusal}
 use Rattle.command_tables.specs.declared.refusal.Refusal.TheVariants as refusals
-use Rattle.delta_cli.specs.declared.help.TheConstants.{HELP, VERSION}
+use Rattle.delta_cli.specs.declared.help.TheConstants.{VERSION}
 
 -- where the shelf tells its files, those of the directory that had bytes and those of other names
 -- are as they were
@@ -109,7 +110,7 @@ module _ {L : Type 0} (left sent : L → Option (List ℕ)) (tells net_tells : T
       (λ text. PrintsEnd
       (Asked left sent net_tells address (calls.Append name text) old.net new.net) old.out new.out)
       × LeavesFiles old new
-  Does commands.Help old new = WritesText old.out new.out HELP.now × LeavesInput old new
+  Does commands.Help old new = WritesText old.out new.out help_text × LeavesInput old new
       × LeavesFiles old new × LeavesNet old new
   Does commands.Version old new = WritesText old.out new.out VERSION.now
       × LeavesInput old new × LeavesFiles old new × LeavesNet old new
@@ -159,7 +160,7 @@ module _ {L : Type 0} (left sent : L → Option (List ℕ)) (tells net_tells : T
       (Asked left sent net_tells address (calls.Append name text) old.net new.net) old.out new.out)
       refusal
       × LeavesFiles old new
-  Stops commands.Help refusal old new = StopsWriting HELP.now refusal old.out new.out
+  Stops commands.Help refusal old new = StopsWriting help_text refusal old.out new.out
       × LeavesInput old new × LeavesFiles old new × LeavesNet old new
   Stops commands.Version refusal old new = StopsWriting VERSION.now refusal old.out new.out
       × LeavesInput old new × LeavesFiles old new × LeavesNet old new

@@ -18,5 +18,5 @@ mod zone;
 mod zone_words;
 
 pub use command::Command;
-pub use help::{HELP, VERSION};
+pub use help::VERSION;
 pub use tool::run_tool;

@@ -11,7 +11,7 @@ use crate::ask::{ask, describe};
 use crate::check::check;
 use crate::command::{Command, read_command};
 use crate::generate::{emit, generate};
-use crate::help::{HELP, VERSION, print};
+use crate::help::{VERSION, print, write_help};
 use crate::init::init;
 use crate::nquads::nquads;
 use crate::replay::replay;
@@ -105,7 +105,7 @@ fn run_command<S: Source, K: Sink, H: Shelf, N: Dial>(
         Command::Ask { address, call } => ask(alloc, address, call, net, out),
         Command::Describe { address, name } => describe(alloc, address, name, net, out),
         Command::Append { address, name } => append(alloc, address, name, input, net, out),
-        Command::Help => print(HELP, out),
+        Command::Help => write_help(out),
         Command::Version => print(VERSION, out),
     }
 }

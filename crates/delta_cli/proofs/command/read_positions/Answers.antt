@@ -1,5 +1,5 @@
 use Rattle.std.proofs.Common.{Err, ap}
-use Rattle.command_words.specs.declared.WordsFault.{WordsFault}
+use Rattle.command_tables.specs.declared.positions.WordsFault.{WordsFault}
 use Rattle.command_tables.specs.Channels.{words_of}
 use Rattle.delta_cli.proofs.Words.{unfit}
 use Rattle.delta_cli.proofs.command.read_positions.Goals as goal
