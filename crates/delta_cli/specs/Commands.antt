@@ -2,7 +2,7 @@
 use Rattle.std.specs.Prelude.{◌≡◌, ℕ, ◌≤◌, Bool, true, false, List}
 use Rattle.std.specs.Prelude.{[], ◌∷◌, Option, None, Some, codes}
 use Rattle.std.specs.Fmt.{decimal}
-use Rattle.command_tables.specs.Positions.{ArePlain, FitPositions, IsPlainWord}
+use Rattle.command_tables.specs.Positions.{ArePlain, IsPlainWord}
 use Rattle.delta_base.specs.Ids.{number_of, random_id}
 use Rattle.delta_base.specs.declared.id.Id.{Id}
 use Rattle.rpc_calls.specs.Routes.{version_asked}

@@ -1,17 +1,15 @@
 //! What the words ask for.
-ghost use Rattle.std.specs.Prelude.{◌≡◌, ◌<◌, ◌≤◌, ◌^◌, ◌∷◌, [], ℕ, List, false, IfOk, IfErr, OnOk};
+ghost use Rattle.std.specs.Prelude.{◌≡◌, ℕ, false, IfOk, IfErr, OnOk};
 ghost use Rattle.command_tables.specs.Channels.{words_of};
 ghost use Rattle.command_tables.specs.Positions.{FitPositions};
 ghost use Rattle.command_tables.specs.Names.{BeginsWith, FitsName, HasFirst};
-ghost use Rattle.delta_cli.specs.Commands.{Asks};
-ghost use Rattle.command_tables.specs.Names.{IsNumberIn};
-ghost use Rattle.delta_cli.specs.Commands.{IsOfTool, RefusesWords};
 ghost use Rattle.command_tables.specs.Names.{asks_server, is_of_zone, positions_of};
+ghost use Rattle.delta_cli.specs.Commands.{Asks, IsOfTool, RefusesWords};
 
 use crate::calls::make_asking;
 use crate::zone_words::make_of_zone;
-use command_tables::{Name, Refusal, WordsFault, read_words};
-use delta_base::{OutOfMemory, Text};
+use command_tables::{Name, Refusal, WordsFault, number_in, read_words};
+use delta_base::Text;
 use rpc_calls::Call;
 use std::alloc::Global;
 use zone_commands::Reading;
