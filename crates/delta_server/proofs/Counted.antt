@@ -2,6 +2,7 @@
 use Rattle.std.proofs.Common.{◌≡◌, ℕ, List, [], ◌∷◌, length, refl, sym, ◌∙◌, subst, arith}
 use Rattle.disk_model.specs.Past.{reads}
 use Rattle.disk_model.specs.declared.disk.Disk.{Ghosts}
+use Rattle.disk_model.specs.declared.shelf.Shelf.{Ghosts as ShelfGhosts}
 use Rattle.log_journal.proofs.OneReading.{one_list}
 use Rattle.log_journal.specs.File.{Holds}
 use Rattle.log_registry.specs.State.{events_in}
@@ -45,7 +46,7 @@ log_counts file log.OutOfMemory disks slots same = cc
 wanting_counts : (disks slots : ℕ) → halls.WrongCount disks slots ≡ halls.OutOfMemory → ⊥
 wanting_counts disks slots same = cc
 
-module _ {D : Type 0} (disks : Ghosts D) (tells : Type 0) (told : tells) (disks_tell : disks.tells) where
+module _ {D H : Type 0} (disks : Ghosts D) (shelf : ShelfGhosts H D) (told : shelf.tells) (disks_tell : disks.tells) where
   counted_one : (dir : List ℕ) (files : Files) (slots : ℕ) (records : ℕ) (disk : D) (more : List D) (fault : HallFault) (after : D) (left : List D)
       → length more ≡ slots → reads (disks.past disk) ≡ bytes_at files dir 0 → HoldsRegistry (bytes_at files dir 0) slots records
       → IsHallRefused disks disk more fault after left → (count found : ℕ) → halls.WrongCount count found ≡ fault → ⊥
@@ -62,7 +63,7 @@ module _ {D : Type 0} (disks : Ghosts D) (tells : Type 0) (told : tells) (disks_
       differs (long ∙ one ∙ opened.2)
 
   -- over a shelf that tells its files the count is right
-  pub counted : (dir : List ℕ) (files : Files) (asked : List D) (fault : HallFault) (left : List D) → AreDisksAsked disks tells dir files asked
+  pub counted : (dir : List ℕ) (files : Files) (asked : List D) (fault : HallFault) (left : List D) → AreDisksAsked disks shelf dir files asked
       → IsRefusedHall disks asked fault left → (count found : ℕ) → fault ≡ halls.WrongCount count found → ⊥
   counted dir files [] fault left are refused count found wrong = absurd refused
   counted dir files (disk ∷ more) fault [] are refused count found wrong = absurd refused

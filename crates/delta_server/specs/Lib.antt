@@ -2,4 +2,5 @@ pub mod Ends
 pub mod Files
 pub mod Gates
 pub mod Serving
+pub mod Views
 pub mod Words

@@ -2,25 +2,26 @@
 use Rattle.std.specs.Prelude.{◌≡◌, ℕ, ◌+◌, List, take, drop, length}
 use Rattle.delta_base.specs.declared.link.Link.{Ghosts as LinkGhosts}
 use Rattle.disk_model.specs.declared.disk.Disk.{Ghosts}
+use Rattle.disk_model.specs.declared.shelf.Shelf.{Ghosts as ShelfGhosts}
 use Rattle.slot_files.specs.Files.{Files, bytes_at}
 use Rattle.slot_checks.specs.Sound.{HoldsRegistry}
-use Rattle.worker_pool.specs.declared.gate.Arrival.{Arrival}
+use Rattle.worker_pool.specs.declared.gate.Gate.{Ghosts as GateGhosts}
 use Rattle.delta_session.specs.Halls.{AreHallPasses, AreNewPasses}
 use Rattle.delta_session.specs.Opening.{IsOpenedHall}
 use Rattle.delta_session.specs.Steps.{HallView, HallSight}
 use Rattle.delta_session.specs.Working.{HasWorked}
 use Rattle.delta_server.specs.Files.{AreMarked, AreFilesRead, ArePutBack}
 
-module _ {D : Type 0} (disks : Ghosts D) (tells : Type 0) where
+module _ {D H : Type 0} (disks : Ghosts D) (shelf : ShelfGhosts H D) where
   -- As many disks as file 0 says, and its own: those of the directory's files, which read what the
   -- files have.
   pub record AreDisksAsked (dir : List ℕ) (files : Files) (asked : List D) : Type 0 where
     pub slots : ℕ
     pub count : length asked ≡ slots + 1
-    pub marked : tells → AreMarked disks dir 0 asked
-    pub read : tells → AreFilesRead disks files dir 0 asked
+    pub marked : shelf.tells → AreMarked disks dir 0 asked
+    pub read : shelf.tells → AreFilesRead disks files dir 0 asked
     pub said :
-        tells → (records : ℕ) × HoldsRegistry (bytes_at files dir 0) slots records
+        shelf.tells → (records : ℕ) × HoldsRegistry (bytes_at files dir 0) slots records
 
   -- a hall over the files of a directory, with a new pass for each worker
   pub record IsHallOver (dir : List ℕ) (files : Files) (workers : ℕ) (hall : HallView D)
@@ -32,8 +33,8 @@ module _ {D : Type 0} (disks : Ghosts D) (tells : Type 0) where
     pub all : AreHallPasses disks.mark hall passes
     pub new : AreNewPasses disks.mark hall 1 passes
 
-module _ {D G L : Type 0} (disks : Ghosts D) (links : LinkGhosts L) (tells told : Type 0)
-    (arrivals : G → List (Arrival L)) (back : G → List L) (faults : G → ℕ) where
+module _ {D H L G : Type 0} (disks : Ghosts D) (shelf : ShelfGhosts H D) (links : LinkGhosts L)
+    (gate : GateGhosts G L) where
   -- A hall was opened over the files, and each worker served the connections of its own gate: one
   -- session each, until the gate gave no more. The other gates were not asked. The files then have
   -- what the hall's disks read.
@@ -42,10 +43,10 @@ module _ {D G L : Type 0} (disks : Ghosts D) (links : LinkGhosts L) (tells told 
     pub hall : HallView D
     pub passes : List HallSight
     pub left : List D
-    pub over : IsHallOver disks tells dir old workers hall passes
+    pub over : IsHallOver disks shelf dir old workers hall passes
     pub worked :
-        HasWorked disks links told arrivals back faults hall passes (take workers gates)
-        (take workers after) left
+        HasWorked disks links gate.tells gate.arrivals gate.back gate.faults hall passes
+        (take workers gates) (take workers after) left
     pub idle : drop workers after ≡ drop workers gates
     pub count : length after ≡ length gates
-    pub put_back : tells → ArePutBack disks dir left old new
+    pub put_back : shelf.tells → ArePutBack disks dir left old new

@@ -7,9 +7,10 @@ ghost use Rattle.slot_files.specs.Files.{bytes_at};
 ghost use Rattle.slot_checks.specs.Checks.{AreKept};
 ghost use Rattle.slot_checks.specs.Sound.{HoldsRegistry};
 ghost use Rattle.delta_session.specs.Ends.{HasHallRoom};
-ghost use Rattle.delta_server.specs.Ends.{HasNoDisks, StopsServe, hall_refusal, shelf_view};
+ghost use Rattle.delta_server.specs.Ends.{HasNoDisks, StopsServe, hall_refusal};
 ghost use Rattle.delta_server.specs.Files.{AreMarked, AreFilesRead};
 ghost use Rattle.delta_server.specs.Serving.{AreDisksAsked, IsHallOver};
+ghost use Rattle.delta_server.specs.Views.{shelf_view};
 
 use crate::files::put_back;
 use command_tables::Refusal;
@@ -67,9 +68,8 @@ fn take_registry<H: Shelf>(
         × HoldsRegistry (bytes_at (H.files shelf.old) dir.now 0) slots records) }
     ensures kept { H.tells → OnOk result
         (AreKept dir.now 1 (H.files shelf.old) (H.files shelf.new)) }
-    ensures stopped { IfErr result (HasNoDisks H.D.Disk H.tells dir.now
-        (shelf_view (H.files shelf.old) (H.faults shelf.old))
-        (shelf_view (H.files shelf.new) (H.faults shelf.new))) }
+    ensures stopped { IfErr result (HasNoDisks H.Shelf dir.now
+        (shelf_view H.Shelf shelf.old) (shelf_view H.Shelf shelf.new)) }
     ensures empty { OnErr result (disks.new.items ≡ []) }
     ensures never_falls { H.faults shelf.old ≤ H.faults shelf.new }
     ensures room { vec_capacity disks.new ≡ vec_capacity disks.old }
@@ -129,12 +129,11 @@ fn take_logs<H: Shelf>(
 // The disks of a directory's files, as many as the registry's file says.
 fn take_disks<H: Shelf>(alloc: Global, shelf: &mut H, dir: &Text) -> Result<Vec<H::D>, Refusal>
     ensures asked { IfOk result (λ disks.
-        AreDisksAsked H.D.Disk H.tells dir.now (H.files shelf.old) disks.items) }
+        AreDisksAsked H.D.Disk H.Shelf dir.now (H.files shelf.old) disks.items) }
     ensures kept { H.tells → IfOk result (λ disks.
         AreKept dir.now (length disks.items) (H.files shelf.old) (H.files shelf.new)) }
-    ensures stopped { IfErr result (HasNoDisks H.D.Disk H.tells dir.now
-        (shelf_view (H.files shelf.old) (H.faults shelf.old))
-        (shelf_view (H.files shelf.new) (H.faults shelf.new))) }
+    ensures stopped { IfErr result (HasNoDisks H.Shelf dir.now
+        (shelf_view H.Shelf shelf.old) (shelf_view H.Shelf shelf.new)) }
     ensures never_falls { H.faults shelf.old ≤ H.faults shelf.new }
 {
     let Ok(mut disks) = Vec::with_capacity(alloc, MOST_SLOTS as usize + 1) else {
@@ -165,14 +164,13 @@ pub fn open<H: Shelf>(
     workers: u32,
 ) -> Result<(Hall<H::D>, HallPasses<H::D>), Refusal>
     requires workers { (1 ≤ workers) × (workers ≤ 16) }
-    ensures over { IfOk result (λ r. (over : IsHallOver H.D.Disk H.tells dir.now
+    ensures over { IfOk result (λ r. (over : IsHallOver H.D.Disk H.Shelf dir.now
         (H.files shelf.old) workers r.0 r.1.passes.items)
         × (H.tells → AreKept dir.now (length over.disks_are)
         (H.files shelf.old) (H.files shelf.new))) }
     ensures room { IfOk result (λ r. HasHallRoom r.0 r.1.room) }
-    ensures stopped { IfErr result (StopsServe H.D.Disk H.tells dir.now workers
-        (shelf_view (H.files shelf.old) (H.faults shelf.old))
-        (shelf_view (H.files shelf.new) (H.faults shelf.new))) }
+    ensures stopped { IfErr result (StopsServe H.D.Disk H.Shelf dir.now workers
+        (shelf_view H.Shelf shelf.old) (shelf_view H.Shelf shelf.new)) }
     ensures never_falls { H.faults shelf.old ≤ H.faults shelf.new }
 {
     let disks = match take_disks(alloc, shelf, dir) {

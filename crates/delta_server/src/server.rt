@@ -1,9 +1,10 @@
 //! The top call of the server.
 ghost use Rattle.std.specs.Prelude.{◌≡◌, ◌≤◌, IfErr, IsErr, OnOk, length, take};
-ghost use Rattle.command_tables.specs.Channels.{channel, words_of};
-ghost use Rattle.delta_server.specs.Ends.{AnswersServe, FailsServe, StopsServe, shelf_view};
+ghost use Rattle.command_tables.specs.Channels.{words_of};
+ghost use Rattle.delta_server.specs.Ends.{AnswersServe, FailsServe, StopsServe};
 ghost use Rattle.delta_server.specs.Gates.{HaveFailed};
 ghost use Rattle.delta_server.specs.Serving.{HasServed};
+ghost use Rattle.delta_server.specs.Views.{output_view, shelf_view};
 
 use crate::files::put_back;
 use crate::gates::{counts, gather, have_failed, lay_aside};
@@ -40,12 +41,9 @@ where
     H::D: Send,
     G::L: Link + Send,
     requires gates { length gates.items ≡ 16 }
-    ensures { AnswersServe H.D.Disk G.L.Link H.tells G.tells G.arrivals G.back G.faults
-        (words_of words.now)
-        (shelf_view (H.files shelf.old) (H.faults shelf.old))
-        (shelf_view (H.files shelf.new) (H.faults shelf.new)) gates.items result.gates.items
-        (channel (E.written err.old) (E.faults err.old))
-        (channel (E.written err.new) (E.faults err.new)) result.status }
+    ensures { AnswersServe H.D.Disk H.Shelf G.L.Link G.Gate (words_of words.now)
+        (shelf_view H.Shelf shelf.old) (shelf_view H.Shelf shelf.new) gates.items result.gates.items
+        (output_view E.Sink err.old) (output_view E.Sink err.new) result.status }
 {
     let serve = match read_serve(alloc, words) {
         Ok(serve) => serve,
@@ -75,15 +73,13 @@ where
     G::L: Link + Send,
     requires gates { length gates.items ≡ 16 }
     requires workers { (1 ≤ serve.now.workers) × (serve.now.workers ≤ 16) }
-    ensures served { OnOk result.1 (HasServed H.D.Disk G.L.Link H.tells G.tells G.arrivals G.back
-        G.faults serve.now.dir serve.now.workers (H.files shelf.old) (H.files shelf.new)
-        gates.items result.0.items) }
+    ensures served { OnOk result.1 (HasServed H.D.Disk H.Shelf G.L.Link G.Gate serve.now.dir
+        serve.now.workers (H.files shelf.old) (H.files shelf.new) gates.items result.0.items) }
     ensures well { OnOk result.1 (HaveFailed G.faults (take serve.now.workers gates.items)
         (take serve.now.workers result.0.items) → ⊥) }
-    ensures failed { IfErr result.1 (FailsServe H.D.Disk G.L.Link H.tells G.tells G.arrivals G.back
-        G.faults serve.now.dir serve.now.workers
-        (shelf_view (H.files shelf.old) (H.faults shelf.old))
-        (shelf_view (H.files shelf.new) (H.faults shelf.new)) gates.items result.0.items) }
+    ensures failed { IfErr result.1 (FailsServe H.D.Disk H.Shelf G.L.Link G.Gate serve.now.dir
+        serve.now.workers (shelf_view H.Shelf shelf.old) (shelf_view H.Shelf shelf.new)
+        gates.items result.0.items) }
 {
     let workers = serve.workers as usize;
     let Ok(before) = counts(alloc, &gates[..workers]) else {
@@ -115,12 +111,10 @@ where
     G::L: Link + Send,
     requires gates { length gates.items ≡ 16 }
     requires workers { (1 ≤ serve.now.workers) × (serve.now.workers ≤ 16) }
-    ensures served { OnOk result.1 (HasServed H.D.Disk G.L.Link H.tells G.tells G.arrivals G.back
-        G.faults serve.now.dir serve.now.workers (H.files shelf.old) (H.files shelf.new)
-        gates.items result.0.items) }
-    ensures stopped { IfErr result.1 (StopsServe H.D.Disk H.tells serve.now.dir serve.now.workers
-        (shelf_view (H.files shelf.old) (H.faults shelf.old))
-        (shelf_view (H.files shelf.new) (H.faults shelf.new))) }
+    ensures served { OnOk result.1 (HasServed H.D.Disk H.Shelf G.L.Link G.Gate serve.now.dir
+        serve.now.workers (H.files shelf.old) (H.files shelf.new) gates.items result.0.items) }
+    ensures stopped { IfErr result.1 (StopsServe H.D.Disk H.Shelf serve.now.dir serve.now.workers
+        (shelf_view H.Shelf shelf.old) (shelf_view H.Shelf shelf.new)) }
     ensures same { IsErr result.1 → result.0.items ≡ gates.items }
 {
     let mut gates = gates;

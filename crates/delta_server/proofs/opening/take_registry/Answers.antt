@@ -5,7 +5,8 @@ use Rattle.slot_checks.proofs.Steps.{all_kept, visit_kept}
 use Rattle.slot_checks.specs.Faults.{HasRegistryFileFault}
 use Rattle.slot_checks.specs.declared.fault.CheckFault.{CheckFault}
 use Rattle.command_tables.specs.declared.refusal.Refusal.TheVariants as refusals
-use Rattle.delta_server.specs.Ends.{HasNoDisks, at_registry, at_shelf, shelf_view}
+use Rattle.delta_server.specs.Ends.{HasNoDisks, at_registry, at_shelf}
+use Rattle.delta_server.specs.Views.{shelf_view}
 use Rattle.delta_server.proofs.Shelving.{err_at, rose_before, put_at}
 use Rattle.delta_server.proofs.Halls.{risen}
 use Rattle.delta_server.proofs.opening.take_registry.Goals as goal
@@ -34,8 +35,7 @@ returns-in-Err-clause-stopped g c =
     let opened = c.in-Ok.ensures in
     let after = c.read_registry_file-first.result.0 in
     let tell = λ (told : g.H.Shelf.tells). g.met.H.Shelf.disks_tell told in
-    subst (HasNoDisks g.H.D.Disk g.H.Shelf.tells dir (shelf_view old (g.H.Shelf.faults c.args.shelf.now))
-    (shelf_view new (g.H.Shelf.faults c.put_back.new.self))) (sym c.of_check.ensures)
+    subst (HasNoDisks g.H.Shelf dir (shelf_view g.H.Shelf c.args.shelf.now) (shelf_view g.H.Shelf c.put_back.new.self)) (sym c.of_check.ensures)
     (at_registry c.in-Err.fault
     (λ told. subst (λ (bytes : List ℕ). HasRegistryFileFault bytes c.in-Err.fault) (ap reads (opened.opened told)) (err_at (λ (f : CheckFault). HasRegistryFileFault (reads (g.H.D.Disk.past c.in-Ok.first)) f) c.read_registry_file-first.result.1 c.in-Err.fault c.in-Err.is (c.read_registry_file-first.ensures.fault (tell told))))
     (λ failed. rose_before (g.H.Shelf.faults c.args.shelf.now) (g.H.Shelf.faults c.disk.new.self) (g.H.Shelf.faults c.put_back.new.self) c.disk.ensures.never_falls

@@ -1,5 +1,5 @@
 use Rattle.std.proofs.Common.{Err, ap, refl}
-use Rattle.command_words.specs.declared.WordsFault.{WordsFault}
+use Rattle.command_tables.specs.declared.positions.WordsFault.{WordsFault}
 use Rattle.command_tables.specs.Channels.{words_of}
 use Rattle.delta_server.proofs.Asking.{asked_fit}
 use Rattle.delta_server.proofs.words.read_positions.Goals as goal
