@@ -5,3 +5,4 @@ pub mod Lines
 pub mod Names
 pub mod Positions
 pub mod Refusals
+pub mod Views

@@ -1,8 +1,8 @@
 //! How a command ends without its result, and the line that tells it.
 ghost use Rattle.std.specs.Prelude.{◌≡◌};
-ghost use Rattle.command_tables.specs.Channels.{channel};
 ghost use Rattle.command_tables.specs.Lines.{exit_status};
 ghost use Rattle.command_tables.specs.Refusals.{ReportsRefusal};
+ghost use Rattle.command_tables.specs.Views.{output_view};
 
 use crate::lines::line_of;
 use crate::name::Name;
@@ -165,8 +165,8 @@ impl From<OutOfMemory> for Refusal {
 
 /// Writes the line of a refusal on `err`, and gives its status.
 pub fn report<E: Sink>(alloc: Global, refusal: Refusal, err: &mut E) -> u8
-    ensures { ReportsRefusal refusal (channel (E.written err.old) (E.faults err.old))
-        (channel (E.written err.new) (E.faults err.new)) result }
+    ensures { ReportsRefusal refusal
+        (output_view E.Sink err.old) (output_view E.Sink err.new) result }
 {
     let status = status_of(&refusal);
     let line = line_of(alloc, &refusal);

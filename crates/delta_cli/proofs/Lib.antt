@@ -1,4 +1,3 @@
-mod Answered
 mod Appended
 mod Checked
 mod Generated

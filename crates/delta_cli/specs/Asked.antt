@@ -1,20 +1,23 @@
 -- What commands ask of a server, what they print of its answers, and why they don't.
-use Rattle.std.specs.Prelude.{◌≡◌, ℕ, List, Option, Result, Ok, Err}
+use Rattle.std.specs.Prelude.{◌≡◌, ℕ, List, Result, Ok, Err}
 use Rattle.std.specs.Io.KnownBytes.{Consumes, IsAtEnd}
 use Rattle.delta_base.specs.Memory.{CountsCall}
 use Rattle.delta_base.specs.Outside.{Rose}
+use Rattle.delta_base.specs.declared.link.Link.{Ghosts as LinkGhosts}
 use Rattle.log_base.specs.declared.limits.TheConstants.{PATCH_LIMIT}
 use Rattle.patch_meaning.specs.Patch.{IsPatch, IsPatchFault, Meaning}
 use Rattle.patch_meaning.specs.declared.fault.PatchFault.TheVariants as patches
 use Rattle.patch_meaning.specs.declared.fault.PatchKind.{PatchKind}
 use Rattle.patch_reader.specs.Places.{line_number}
 use Rattle.rpc_calls.specs.declared.call.Call.{Call}
+use Rattle.rpc_calls.specs.declared.call.Call.TheVariants as calls
+use Rattle.delta_client.specs.declared.dial.Dial.{Ghosts as DialGhosts}
 use Rattle.client_commands.specs.Asks.{AsksBoth, AsksOnce}
 use Rattle.client_commands.specs.declared.fault.ClientFault.{ClientFault}
 use Rattle.client_commands.specs.declared.fault.ClientFault.TheVariants as clients
 use Rattle.command_tables.specs.Channels.{Channel, ChannelFailed, IsLonger, IsSilent, WritesText}
 use Rattle.command_tables.specs.Channels.{WritesFront}
-use Rattle.delta_cli.specs.Told.{Network}
+use Rattle.delta_cli.specs.Views.{DialView}
 use Rattle.command_tables.specs.declared.refusal.Refusal.{Refusal}
 use Rattle.command_tables.specs.declared.refusal.Refusal.TheVariants as refusals
 
@@ -24,17 +27,19 @@ AskedEnd = Result (List ℕ) ClientFault
 
 -- ---- what was asked
 
-module _ {L : Type 0} (left sent : L → Option (List ℕ)) (tells : Type 0) (address : List ℕ) where
+module _ {N L : Type 0} (dial : DialGhosts N L) (links : LinkGhosts L) (address : List ℕ) where
   -- One connection was tried for. Where the dial tells, the call was asked over it, and ended so. A
   -- failed link has raised the dial's count.
-  pub record Asked (call : Call) (net net' : Network L) (ended : AskedEnd) : Type 0 where
+  pub record Asked (call : Call) (net net' : DialView L) (ended : AskedEnd) : Type 0 where
     pub tries : CountsCall net.tries net'.tries
-    pub asks : tells → AsksOnce left sent address call net.links net'.links ended
+    pub asks : dial.tells
+        → AsksOnce links.left links.sent address call net.links net'.links ended
     pub cause : ended ≡ Err clients.LinkFailed → Rose net.faults net'.faults
 
   -- the same of a source and its log, over as many connections as it took
-  pub record Described (name : List ℕ) (net net' : Network L) (ended : AskedEnd) : Type 0 where
-    pub asks : tells → AsksBoth left sent address name net.links net'.links ended
+  pub record Described (name : List ℕ) (net net' : DialView L) (ended : AskedEnd) : Type 0 where
+    pub asks : dial.tells
+        → AsksBoth links.left links.sent address name net.links net'.links ended
     pub cause : ended ≡ Err clients.LinkFailed → Rose net.faults net'.faults
 
 -- ---- what was printed
@@ -92,11 +97,22 @@ StopsPatch input input' refusals.InputFailed = ChannelFailed input input'
 StopsPatch input input' refusals.OutOfMemory = Unit {0}
 StopsPatch input input' other = ⊥
 
--- Why a patch was not appended: the input was not read as one, and then nobody was connected to; or
--- asking for it stopped.
-pub data StopsAppend (input input' out out' : Channel) (Unasked : Type 0)
-    (Stops : List ℕ → Refusal → Type 0) (refusal : Refusal) : Type 0 where
-  unread : StopsPatch input input' refusal → Unasked → IsSilent out out'
-      → StopsAppend input input' out out' Unasked Stops refusal
-  asked : IsPatchWith input input' (λ text. Stops text refusal)
-      → StopsAppend input input' out out' Unasked Stops refusal
+-- ---- what was appended
+
+module _ {N L : Type 0} (dial : DialGhosts N L) (links : LinkGhosts L)
+    (address name : List ℕ) where
+  -- the input is a patch, which the server was asked to append, and what it answered is printed
+  abbrev pub AppendsInput : Channel → Channel → Channel → Channel → DialView L → DialView L
+      → Type 0
+  AppendsInput input input' out out' net net' = IsPatchWith input input'
+      (λ text. PrintsEnd (Asked dial links address (calls.Append name text) net net') out out')
+
+  -- Why a patch was not appended: the input was not read as one, and then nobody was connected to;
+  -- or asking for it stopped.
+  pub data StopsAppend (input input' out out' : Channel) (net net' : DialView L)
+      (refusal : Refusal) : Type 0 where
+    unread : StopsPatch input input' refusal → net' ≡ net → IsSilent out out'
+        → StopsAppend input input' out out' net net' refusal
+    asked : IsPatchWith input input' (λ text. StopsAsking
+        (Asked dial links address (calls.Append name text) net net') out out' refusal)
+        → StopsAppend input input' out out' net net' refusal

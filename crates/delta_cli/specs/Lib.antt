@@ -1,8 +1,9 @@
 pub mod Asked
 pub mod Commands
 pub mod Document
+pub mod Frames
 pub mod Results
-pub mod Told
+pub mod Views
 pub mod Zones
 pub mod Syncs
 pub mod Tool

@@ -1,12 +1,15 @@
 -- What `sync` does with a zone and a log of a server, or why it stops.
-use Rattle.std.specs.Prelude.{◌≡◌, ◌⊎◌, ℕ, List, [], ◌∷◌, ◌++◌, Option, Some, codes}
+use Rattle.std.specs.Prelude.{◌≡◌, ◌⊎◌, ℕ, List, [], ◌∷◌, ◌++◌, Some, codes}
 use Rattle.std.specs.Fmt.{decimal}
 use Rattle.delta_base.specs.Outside.{Rose}
+use Rattle.delta_base.specs.declared.link.Link.{Ghosts as LinkGhosts}
 use Rattle.log_base.specs.declared.limits.FullKind.{FullKind}
 use Rattle.log_base.specs.declared.limits.TheConstants.{LOG_LIMITS}
 use Rattle.chain_core.specs.declared.testing.ChainFault.TheVariants as chains
 use Rattle.disk_model.specs.Shelf.{SameOthers}
-use Rattle.slot_files.specs.Files.{Files, bytes_at}
+use Rattle.disk_model.specs.declared.shelf.Shelf.{Ghosts as ShelfGhosts}
+use Rattle.slot_files.specs.Files.{bytes_at}
+use Rattle.delta_client.specs.declared.dial.Dial.{Ghosts as DialGhosts}
 use Rattle.rpc_answers.specs.Answers.{body_of}
 use Rattle.rpc_answers.specs.Prints.{compact}
 use Rattle.rpc_answers.specs.declared.answer.Answer.TheVariants.{NoSource}
@@ -19,7 +22,8 @@ use Rattle.follower.specs.declared.ends.SyncEnd.TheVariants as ends
 use Rattle.zone_commands.specs.Following.{Followed}
 use Rattle.command_tables.specs.Channels.{Channel, IsSilent, WritesText}
 use Rattle.delta_cli.specs.Results.{StopsPrinting}
-use Rattle.delta_cli.specs.Told.{Network}
+use Rattle.command_tables.specs.Views.{ShelfView}
+use Rattle.delta_cli.specs.Views.{DialView}
 use Rattle.delta_cli.specs.Zones.{HasZoneFileFault, KeepsZone}
 use Rattle.command_tables.specs.declared.refusal.Refusal.{Refusal}
 use Rattle.command_tables.specs.declared.refusal.Refusal.TheVariants as refusals
@@ -29,7 +33,7 @@ abbrev pub caught_up_line : ℕ → List ℕ
 caught_up_line version = codes "caught up at version " ++ (decimal version ++ 10 ∷ [])
 
 -- what is told of a dial, without the count of its faults
-abbrev pub dialled : {L : Type 0} → Network L → Net L
+abbrev pub dialled : {L : Type 0} → DialView L → Net L
 dialled net = record { told = net.links; tries = net.tries }
 
 -- which refusal tells this end
@@ -53,46 +57,43 @@ TellsEnd end refusals.OutOfMemory = (end ≡ ends.OutOfMemory) ⊎ (end ≡ ends
 TellsEnd end other = ⊥
 
 -- why the zone of a directory can't be opened
-abbrev pub StopsOpening : List ℕ → Type 0 → Files → ℕ → ℕ → Refusal → Type 0
-StopsOpening dir tells files faults faults' (refusals.File fault) =
-    tells → HasZoneFileFault (bytes_at files dir zone_number) fault
-StopsOpening dir tells files faults faults' refusals.ZoneTermsFull =
-    tells → HasZoneFault (bytes_at files dir zone_number) LOG_LIMITS zones.TermsFull
-StopsOpening dir tells files faults faults' refusals.DiskFailed = Rose faults faults'
-StopsOpening dir tells files faults faults' refusals.OutOfMemory = Unit {0}
-StopsOpening dir tells files faults faults' other = ⊥
+abbrev pub StopsOpening : List ℕ → Type 0 → ShelfView → ShelfView → Refusal → Type 0
+StopsOpening dir tells old new (refusals.File fault) =
+    tells → HasZoneFileFault (bytes_at old.files dir zone_number) fault
+StopsOpening dir tells old new refusals.ZoneTermsFull =
+    tells → HasZoneFault (bytes_at old.files dir zone_number) LOG_LIMITS zones.TermsFull
+StopsOpening dir tells old new refusals.DiskFailed = Rose old.faults new.faults
+StopsOpening dir tells old new refusals.OutOfMemory = Unit {0}
+StopsOpening dir tells old new other = ⊥
 
-module _ {L : Type 0} (left sent : L → Option (List ℕ)) (tells net_tells : Type 0)
-    (dir address name : List ℕ) where
+module _ {H D N L : Type 0} (shelf : ShelfGhosts H D) (dial : DialGhosts N L)
+    (links : LinkGhosts L) (dir address name : List ℕ) where
   -- The zone of the directory followed the log, and that ended so; every other file is as it was. A
   -- failed disk or link has raised its count.
-  pub record Synced (files files' : Files) (faults faults' : ℕ) (net net' : Network L)
-      (end : SyncEnd) : Type 0 where
-    pub followed : Followed left sent tells net_tells address name
-        (bytes_at files dir zone_number) (bytes_at files' dir zone_number)
+  pub record Synced (old new : ShelfView) (net net' : DialView L) (end : SyncEnd) : Type 0 where
+    pub followed : Followed links.left links.sent shelf.tells dial.tells address name
+        (bytes_at old.files dir zone_number) (bytes_at new.files dir zone_number)
         (dialled net) (dialled net') end
-    pub others : tells → SameOthers (Some (dir, zone_number)) files files'
-    pub disk : end ≡ ends.DiskFault → Rose faults faults'
+    pub others : shelf.tells → SameOthers (Some (dir, zone_number)) old.files new.files
+    pub disk : end ≡ ends.DiskFault → Rose old.faults new.faults
     pub link : end ≡ ends.LinkFault → Rose net.faults net'.faults
 
   -- the zone caught up, and the version is written
-  abbrev pub CatchesUp : Files → Files → ℕ → ℕ → Network L → Network L → Channel → Channel
+  abbrev pub CatchesUp : ShelfView → ShelfView → DialView L → DialView L → Channel → Channel
       → Type 0
-  CatchesUp files files' faults faults' net net' out out' =
-      (version : ℕ) × Synced files files' faults faults' net net' (ends.CaughtUp version)
+  CatchesUp old new net net' out out' =
+      (version : ℕ) × Synced old new net net' (ends.CaughtUp version)
       × WritesText out out' (caught_up_line version)
 
   -- Why no version was written: the zone could not be opened, and then nobody was connected to; or
   -- catching up ended otherwise; or it caught up, and that isn't printed.
-  pub data StopsSync (files files' : Files) (faults faults' : ℕ) (net net' : Network L)
-      (out out' : Channel) (refusal : Refusal) : Type 0 where
-    unopened : StopsOpening dir tells files faults faults' refusal
-        → KeepsZone dir tells files files' → net' ≡ net → IsSilent out out'
-        → StopsSync files files' faults faults' net net' out out' refusal
-    ended : (end : SyncEnd) → Synced files files' faults faults' net net' end
-        → TellsEnd end refusal → IsSilent out out'
-        → StopsSync files files' faults faults' net net' out out' refusal
-    unprinted : (version : ℕ)
-        → Synced files files' faults faults' net net' (ends.CaughtUp version)
+  pub data StopsSync (old new : ShelfView) (net net' : DialView L) (out out' : Channel)
+      (refusal : Refusal) : Type 0 where
+    unopened : StopsOpening dir shelf.tells old new refusal
+        → KeepsZone dir shelf.tells old.files new.files → net' ≡ net → IsSilent out out'
+        → StopsSync old new net net' out out' refusal
+    ended : (end : SyncEnd) → Synced old new net net' end → TellsEnd end refusal
+        → IsSilent out out' → StopsSync old new net net' out out' refusal
+    unprinted : (version : ℕ) → Synced old new net net' (ends.CaughtUp version)
         → StopsPrinting (caught_up_line version) out out' refusal
-        → StopsSync files files' faults faults' net net' out out' refusal
+        → StopsSync old new net net' out out' refusal

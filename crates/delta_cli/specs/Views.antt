@@ -1,45 +1,39 @@
--- What is told of the outside before and after a run of the tool.
-use Rattle.std.specs.Prelude.{◌≡◌, ℕ}
-use Rattle.slot_files.specs.Files.{Files}
-use Rattle.delta_client.specs.Lines.{Links}
+-- What is told of the objects of the outside before and after a run of the tool.
+use Rattle.std.specs.Prelude.{ℕ}
+use Rattle.delta_base.specs.declared.outside.Sink.{Ghosts as SinkGhosts}
+use Rattle.delta_base.specs.declared.outside.Source.{Ghosts as SourceGhosts}
+use Rattle.disk_model.specs.declared.shelf.Shelf.{Ghosts as ShelfGhosts}
+use Rattle.delta_client.specs.Lines.{Links, told_of}
+use Rattle.delta_client.specs.declared.dial.Dial.{Ghosts as DialGhosts}
 use Rattle.command_tables.specs.Channels.{Channel}
+use Rattle.command_tables.specs.Views.{ShelfView, input_view, output_view, shelf_view}
 
 -- the connections of a dial, how often one was tried for, and how often a call has failed
-pub record Network (L : Type 0) : Type 0 where
+pub record DialView (L : Type 0) : Type 0 where
   pub links : Links L
   pub tries : ℕ
   pub faults : ℕ
 
-abbrev pub network_of : {L : Type 0} → Links L → ℕ → ℕ → Network L
-network_of links tries faults = record { links = links; tries = tries; faults = faults }
+abbrev pub dial_view : {N L : Type 0} → DialGhosts N L → N → DialView L
+dial_view dial net = record {
+  links = told_of (dial.to_come net) (dial.addresses net) (dial.back net);
+  tries = dial.tries net;
+  faults = dial.faults net;
+}
 
--- the input, the output, the files that the shelf has, how often a call of the shelf has failed,
--- and the dial
-pub record Told (L : Type 0) : Type 0 where
+-- what is told of all that a command works with: the input, out, the shelf and the dial
+pub record OutsideView (L : Type 0) : Type 0 where
   pub input : Channel
   pub out : Channel
-  pub files : Files
-  pub shelf_faults : ℕ
-  pub net : Network L
+  pub shelf : ShelfView
+  pub net : DialView L
 
-abbrev pub told : {L : Type 0} → Channel → Channel → Files → ℕ → Network L → Told L
-told input out files shelf_faults net =
-    record { input = input; out = out; files = files; shelf_faults = shelf_faults; net = net }
-
-module _ {L : Type 0} where
-  -- no call was made of the input
-  abbrev pub LeavesInput : Told L → Told L → Type 0
-  LeavesInput old new = new.input ≡ old.input
-
-  -- no call was made of the shelf
-  abbrev pub LeavesFiles : Told L → Told L → Type 0
-  LeavesFiles old new = (new.files ≡ old.files) × (new.shelf_faults ≡ old.shelf_faults)
-
-  -- no call was made of the dial
-  abbrev pub LeavesNet : Told L → Told L → Type 0
-  LeavesNet old new = new.net ≡ old.net
-
-  -- nothing was read, written on out or changed in a file, and nobody was connected to
-  abbrev pub LeavesAll : Told L → Told L → Type 0
-  LeavesAll old new =
-      LeavesInput old new × (new.out ≡ old.out) × LeavesFiles old new × LeavesNet old new
+module _ {S K H D N L : Type 0} (source : SourceGhosts S) (sink : SinkGhosts K)
+    (shelf : ShelfGhosts H D) (dial : DialGhosts N L) where
+  abbrev pub outside_of : S → K → H → N → OutsideView L
+  outside_of input out files net = record {
+    input = input_view source input;
+    out = output_view sink out;
+    shelf = shelf_view shelf files;
+    net = dial_view dial net;
+  }

@@ -10,11 +10,11 @@ use Rattle.slot_checks.specs.declared.fault.CheckFault.{CheckFault}
 use Rattle.slot_checks.specs.declared.fault.CheckFault.TheVariants as checks
 use Rattle.zone_state.specs.Fault.{HasZoneFault}
 use Rattle.zone_state.specs.Zone.{zone_number}
-use Rattle.zone_state.specs.declared.fault.ZoneFault.{ZoneFault}
 use Rattle.zone_state.specs.declared.fault.ZoneFault.TheVariants as zones
 use Rattle.zone_commands.specs.Files.{HasZoneLines}
 use Rattle.zone_commands.specs.declared.reading.Reading.{Reading}
 use Rattle.command_tables.specs.Channels.{Channel, ChannelFailed, IsSilent, WritesFront}
+use Rattle.command_tables.specs.Views.{ShelfView}
 use Rattle.command_tables.specs.declared.refusal.Refusal.{Refusal}
 use Rattle.command_tables.specs.declared.refusal.Refusal.TheVariants as refusals
 
@@ -39,12 +39,12 @@ pub record IsTaken (dir : List ℕ) (files : Files) (file size : ℕ) : Type 0 w
   pub size_is : size ≡ length (bytes_at files dir zone_number)
 
 -- why it was not made
-abbrev pub StopsMaking : List ℕ → Type 0 → Files → ℕ → ℕ → Refusal → Type 0
-StopsMaking dir tells files faults faults' (refusals.NotEmpty file size) =
-    tells → IsTaken dir files file size
-StopsMaking dir tells files faults faults' refusals.DiskFailed = Rose faults faults'
-StopsMaking dir tells files faults faults' refusals.OutOfMemory = Unit {0}
-StopsMaking dir tells files faults faults' other = ⊥
+abbrev pub StopsMaking : List ℕ → Type 0 → ShelfView → ShelfView → Refusal → Type 0
+StopsMaking dir tells old new (refusals.NotEmpty file size) =
+    tells → IsTaken dir old.files file size
+StopsMaking dir tells old new refusals.DiskFailed = Rose old.faults new.faults
+StopsMaking dir tells old new refusals.OutOfMemory = Unit {0}
+StopsMaking dir tells old new other = ⊥
 
 -- ---- it is read
 
@@ -76,17 +76,17 @@ abbrev pub bytes_of : List (List ℕ) → List ℕ
 bytes_of lines = flat_map (λ line. line) lines
 
 -- why nothing was read of it, or not all was written
-abbrev pub StopsZone : List ℕ → Reading → Type 0 → Files → ℕ → ℕ
+abbrev pub StopsZone : List ℕ → Reading → Type 0 → ShelfView → ShelfView
     → Channel → Channel → Refusal → Type 0
-StopsZone dir reading tells files faults faults' out out' (refusals.File fault) =
-    (tells → HasZoneFileFault (bytes_at files dir zone_number) fault) × IsSilent out out'
-StopsZone dir reading tells files faults faults' out out' refusals.ZoneTermsFull =
-    (tells → HasZoneFault (bytes_at files dir zone_number) LOG_LIMITS zones.TermsFull)
+StopsZone dir reading tells old new out out' (refusals.File fault) =
+    (tells → HasZoneFileFault (bytes_at old.files dir zone_number) fault) × IsSilent out out'
+StopsZone dir reading tells old new out out' refusals.ZoneTermsFull =
+    (tells → HasZoneFault (bytes_at old.files dir zone_number) LOG_LIMITS zones.TermsFull)
     × IsSilent out out'
-StopsZone dir reading tells files faults faults' out out' refusals.DiskFailed =
-    Rose faults faults' × IsSilent out out'
-StopsZone dir reading tells files faults faults' out out' refusals.OutputFailed =
-    ChannelFailed out out' × ((lines : List (List ℕ)) × ReadsZone dir reading tells files lines
+StopsZone dir reading tells old new out out' refusals.DiskFailed =
+    Rose old.faults new.faults × IsSilent out out'
+StopsZone dir reading tells old new out out' refusals.OutputFailed =
+    ChannelFailed out out' × ((lines : List (List ℕ)) × ReadsZone dir reading tells old.files lines
     × WritesFront out out' (bytes_of lines))
-StopsZone dir reading tells files faults faults' out out' refusals.OutOfMemory = IsSilent out out'
-StopsZone dir reading tells files faults faults' out out' other = ⊥
+StopsZone dir reading tells old new out out' refusals.OutOfMemory = IsSilent out out'
+StopsZone dir reading tells old new out out' other = ⊥

@@ -1,15 +1,14 @@
 //! The command `append`: the patch that the input is, appended to a log of a server.
-ghost use Rattle.std.specs.Prelude.{◌≡◌, ◌≤◌, List, ℕ, length, IfErr, IfOk, OnOk};
+ghost use Rattle.std.specs.Prelude.{◌≡◌, ◌≤◌, length, IfErr, IfOk, OnOk};
 ghost use Rattle.log_base.specs.declared.limits.TheConstants.{PATCH_LIMIT};
-ghost use Rattle.delta_client.specs.Lines.{told_of};
 ghost use Rattle.patch_meaning.specs.Checked.{Refuses};
 ghost use Rattle.patch_meaning.specs.Patch.{IsPatch, Meaning};
 ghost use Rattle.patch_reader.specs.Places.{line_number};
 ghost use Rattle.command_tables.specs.Addresses.{IsAddress};
-ghost use Rattle.delta_cli.specs.Asked.{Asked, IsPatchWith, IsReadAs, PrintsEnd};
-ghost use Rattle.delta_cli.specs.Asked.{StopsAppend, StopsAsking, StopsPatch, StopsText};
-ghost use Rattle.command_tables.specs.Channels.{channel};
-ghost use Rattle.delta_cli.specs.Told.{network_of};
+ghost use Rattle.delta_cli.specs.Asked.{AppendsInput, IsReadAs};
+ghost use Rattle.delta_cli.specs.Asked.{StopsAppend, StopsPatch, StopsText};
+ghost use Rattle.command_tables.specs.Views.{input_view, output_view};
+ghost use Rattle.delta_cli.specs.Views.{dial_view};
 
 use crate::ask::ask;
 use crate::input::{InputFault, read_all};
@@ -32,33 +31,14 @@ pub fn append<S: Source, K: Sink, N: Dial>(
     out: &mut K,
 ) -> Result<(), Refusal>
     requires { IsAddress address.now }
-    ensures done { OnOk result (IsPatchWith
-        (channel (S.left input.old) (S.faults input.old))
-        (channel (S.left input.new) (S.faults input.new))
-        (λ text. PrintsEnd (Asked N.L.left N.L.sent N.tells address.now (Call.Append name.now text)
-        (network_of (told_of (N.to_come net.old) (N.addresses net.old) (N.back net.old))
-        (N.tries net.old) (N.faults net.old))
-        (network_of (told_of (N.to_come net.new) (N.addresses net.new) (N.back net.new))
-        (N.tries net.new) (N.faults net.new)))
-        (channel (K.written out.old) (K.faults out.old))
-        (channel (K.written out.new) (K.faults out.new)))) }
-    ensures stopped { IfErr result (StopsAppend
-        (channel (S.left input.old) (S.faults input.old))
-        (channel (S.left input.new) (S.faults input.new))
-        (channel (K.written out.old) (K.faults out.old))
-        (channel (K.written out.new) (K.faults out.new))
-        (network_of (told_of (N.to_come net.new) (N.addresses net.new) (N.back net.new))
-        (N.tries net.new) (N.faults net.new)
-        ≡ network_of (told_of (N.to_come net.old) (N.addresses net.old) (N.back net.old))
-        (N.tries net.old) (N.faults net.old))
-        (λ text. StopsAsking
-        (Asked N.L.left N.L.sent N.tells address.now (Call.Append name.now text)
-        (network_of (told_of (N.to_come net.old) (N.addresses net.old) (N.back net.old))
-        (N.tries net.old) (N.faults net.old))
-        (network_of (told_of (N.to_come net.new) (N.addresses net.new) (N.back net.new))
-        (N.tries net.new) (N.faults net.new)))
-        (channel (K.written out.old) (K.faults out.old))
-        (channel (K.written out.new) (K.faults out.new)))) }
+    ensures done { OnOk result (AppendsInput N.Dial N.L.Link address.now name.now
+        (input_view S.Source input.old) (input_view S.Source input.new)
+        (output_view K.Sink out.old) (output_view K.Sink out.new)
+        (dial_view N.Dial net.old) (dial_view N.Dial net.new)) }
+    ensures stopped { IfErr result (StopsAppend N.Dial N.L.Link address.now name.now
+        (input_view S.Source input.old) (input_view S.Source input.new)
+        (output_view K.Sink out.old) (output_view K.Sink out.new)
+        (dial_view N.Dial net.old) (dial_view N.Dial net.new)) }
 {
     let name = name.copy()?;
     match read_patch(alloc, input) {
@@ -75,12 +55,10 @@ pub fn append<S: Source, K: Sink, N: Dial>(
 // The input's text, which is a patch.
 fn read_patch<S: Source>(alloc: Global, input: &mut S) -> Result<Bytes, Refusal>
     ensures read { IfOk result (IsReadAs
-        (channel (S.left input.old) (S.faults input.old))
-        (channel (S.left input.new) (S.faults input.new))) }
+        (input_view S.Source input.old) (input_view S.Source input.new)) }
     ensures is_patch { IfOk result (λ text. (meaning : Meaning) × IsPatch text meaning) }
     ensures stopped { IfErr result (StopsPatch
-        (channel (S.left input.old) (S.faults input.old))
-        (channel (S.left input.new) (S.faults input.new))) }
+        (input_view S.Source input.old) (input_view S.Source input.new)) }
 {
     match read_all(alloc, input, PATCH_LIMIT as usize) {
         Ok(text) => patch_of(alloc, text),

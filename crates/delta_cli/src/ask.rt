@@ -1,10 +1,9 @@
 //! The commands that ask a server, and what comes of its answers.
 ghost use Rattle.std.specs.Prelude.{◌≡◌, IfErr, OnOk};
-ghost use Rattle.delta_client.specs.Lines.{told_of};
 ghost use Rattle.command_tables.specs.Addresses.{IsAddress};
 ghost use Rattle.delta_cli.specs.Asked.{Asked, Described, PrintsEnd, StopsAsking};
-ghost use Rattle.command_tables.specs.Channels.{channel};
-ghost use Rattle.delta_cli.specs.Told.{network_of};
+ghost use Rattle.command_tables.specs.Views.{output_view};
+ghost use Rattle.delta_cli.specs.Views.{dial_view};
 
 use client_commands::{ClientFault, ask_once};
 use command_tables::Refusal;
@@ -23,21 +22,13 @@ pub fn ask<N: Dial, K: Sink>(
     out: &mut K,
 ) -> Result<(), Refusal>
     requires { IsAddress address.now }
-    ensures done { OnOk result (PrintsEnd (Asked N.L.left N.L.sent N.tells address.now call.now
-        (network_of (told_of (N.to_come net.old) (N.addresses net.old) (N.back net.old))
-        (N.tries net.old) (N.faults net.old))
-        (network_of (told_of (N.to_come net.new) (N.addresses net.new) (N.back net.new))
-        (N.tries net.new) (N.faults net.new)))
-        (channel (K.written out.old) (K.faults out.old))
-        (channel (K.written out.new) (K.faults out.new))) }
+    ensures done { OnOk result (PrintsEnd (Asked N.Dial N.L.Link address.now call.now
+        (dial_view N.Dial net.old) (dial_view N.Dial net.new))
+        (output_view K.Sink out.old) (output_view K.Sink out.new)) }
     ensures stopped { IfErr result (StopsAsking
-        (Asked N.L.left N.L.sent N.tells address.now call.now
-        (network_of (told_of (N.to_come net.old) (N.addresses net.old) (N.back net.old))
-        (N.tries net.old) (N.faults net.old))
-        (network_of (told_of (N.to_come net.new) (N.addresses net.new) (N.back net.new))
-        (N.tries net.new) (N.faults net.new)))
-        (channel (K.written out.old) (K.faults out.old))
-        (channel (K.written out.new) (K.faults out.new))) }
+        (Asked N.Dial N.L.Link address.now call.now
+        (dial_view N.Dial net.old) (dial_view N.Dial net.new))
+        (output_view K.Sink out.old) (output_view K.Sink out.new)) }
 {
     let ended = ask_once(alloc, net, address, call);
     show(ended, out)
@@ -52,21 +43,13 @@ pub fn describe<N: Dial, K: Sink>(
     out: &mut K,
 ) -> Result<(), Refusal>
     requires { IsAddress address.now }
-    ensures done { OnOk result (PrintsEnd (Described N.L.left N.L.sent N.tells address.now name.now
-        (network_of (told_of (N.to_come net.old) (N.addresses net.old) (N.back net.old))
-        (N.tries net.old) (N.faults net.old))
-        (network_of (told_of (N.to_come net.new) (N.addresses net.new) (N.back net.new))
-        (N.tries net.new) (N.faults net.new)))
-        (channel (K.written out.old) (K.faults out.old))
-        (channel (K.written out.new) (K.faults out.new))) }
+    ensures done { OnOk result (PrintsEnd (Described N.Dial N.L.Link address.now name.now
+        (dial_view N.Dial net.old) (dial_view N.Dial net.new))
+        (output_view K.Sink out.old) (output_view K.Sink out.new)) }
     ensures stopped { IfErr result (StopsAsking
-        (Described N.L.left N.L.sent N.tells address.now name.now
-        (network_of (told_of (N.to_come net.old) (N.addresses net.old) (N.back net.old))
-        (N.tries net.old) (N.faults net.old))
-        (network_of (told_of (N.to_come net.new) (N.addresses net.new) (N.back net.new))
-        (N.tries net.new) (N.faults net.new)))
-        (channel (K.written out.old) (K.faults out.old))
-        (channel (K.written out.new) (K.faults out.new))) }
+        (Described N.Dial N.L.Link address.now name.now
+        (dial_view N.Dial net.old) (dial_view N.Dial net.new))
+        (output_view K.Sink out.old) (output_view K.Sink out.new)) }
 {
     let ended = client_commands::describe(alloc, net, address, name);
     show(ended, out)
@@ -75,11 +58,9 @@ pub fn describe<N: Dial, K: Sink>(
 // Writes the text with which asking ended.
 fn show<K: Sink>(ended: Result<Bytes, ClientFault>, out: &mut K) -> Result<(), Refusal>
     ensures done { OnOk result (PrintsEnd (λ e. e ≡ ended)
-        (channel (K.written out.old) (K.faults out.old))
-        (channel (K.written out.new) (K.faults out.new))) }
+        (output_view K.Sink out.old) (output_view K.Sink out.new)) }
     ensures stopped { IfErr result (StopsAsking (λ e. e ≡ ended)
-        (channel (K.written out.old) (K.faults out.old))
-        (channel (K.written out.new) (K.faults out.new))) }
+        (output_view K.Sink out.old) (output_view K.Sink out.new)) }
 {
     match ended {
         Ok(text) => write_all(out, text.as_slice()).map_err(|_| Refusal::OutputFailed),

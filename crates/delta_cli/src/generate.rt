@@ -1,9 +1,10 @@
 //! The commands `gen` and `emit`: the stream of the generator, replayed to its counts, or written.
 ghost use Rattle.std.specs.Prelude.{◌≡◌, ◌≤◌, IfOk, IfErr, OnOk};
 ghost use Rattle.stream_generator.specs.Generator.{stream_text};
-ghost use Rattle.command_tables.specs.Channels.{WritesText, channel};
+ghost use Rattle.command_tables.specs.Channels.{WritesText};
 ghost use Rattle.delta_cli.specs.Results.{StopsEmitting, StopsPrinting};
 ghost use Rattle.delta_cli.specs.Results.{counts_line, generated_line};
+ghost use Rattle.command_tables.specs.Views.{output_view};
 
 use command_tables::Refusal;
 use delta_base::{Id, OutOfMemory, Sink};
@@ -17,11 +18,10 @@ use stream_replay::{ReplayFault, replay_source};
 /// last patch's id.
 pub fn generate<K: Sink>(alloc: Global, patches: u32, out: &mut K) -> Result<(), Refusal>
     requires { patches ≤ 65536 }
-    ensures done { OnOk result (WritesText (channel (K.written out.old) (K.faults out.old))
-        (channel (K.written out.new) (K.faults out.new)) (generated_line patches)) }
+    ensures done { OnOk result (WritesText
+        (output_view K.Sink out.old) (output_view K.Sink out.new) (generated_line patches)) }
     ensures stopped { IfErr result (StopsPrinting (generated_line patches)
-        (channel (K.written out.old) (K.faults out.old))
-        (channel (K.written out.new) (K.faults out.new))) }
+        (output_view K.Sink out.old) (output_view K.Sink out.new)) }
 {
     let line = count(alloc, patches)?;
     write_all(out, line.as_slice()).map_err(|_| Refusal::OutputFailed)
@@ -62,11 +62,11 @@ fn counts_line(
 /// first byte is written.
 pub fn emit<K: Sink>(alloc: Global, patches: u32, out: &mut K) -> Result<(), Refusal>
     requires { patches ≤ 65536 }
-    ensures done { OnOk result (WritesText (channel (K.written out.old) (K.faults out.old))
-        (channel (K.written out.new) (K.faults out.new)) (stream_text patches)) }
+    ensures done { OnOk result (WritesText
+        (output_view K.Sink out.old) (output_view K.Sink out.new) (stream_text patches)) }
     ensures stopped { IfErr result (λ refusal.
-        StopsEmitting (stream_text patches) refusal (channel (K.written out.old) (K.faults out.old))
-        (channel (K.written out.new) (K.faults out.new))) }
+        StopsEmitting (stream_text patches) refusal
+        (output_view K.Sink out.old) (output_view K.Sink out.new)) }
 {
     let mut room = Room::new(alloc)?;
     let Ok(mut text) = Vec::with_capacity(alloc, MOST_BYTES) else {

@@ -1,6 +1,7 @@
 //! The commands `--help` and `--version`.
 ghost use Rattle.std.specs.Prelude.{IfErr, OnOk};
-ghost use Rattle.command_tables.specs.Channels.{WritesText, channel};
+ghost use Rattle.command_tables.specs.Channels.{WritesText};
+ghost use Rattle.command_tables.specs.Views.{output_view};
 ghost use Rattle.command_tables.specs.Help.{help_text};
 ghost use Rattle.delta_cli.specs.Results.{StopsWriting};
 
@@ -13,22 +14,20 @@ pub const VERSION: &str = "rdfdelta 0.1.0\n";
 
 /// Writes a text that is known.
 pub fn print<K: Sink>(text: &str, out: &mut K) -> Result<(), Refusal>
-    ensures done { OnOk result (WritesText (channel (K.written out.old) (K.faults out.old))
-        (channel (K.written out.new) (K.faults out.new)) text.now) }
-    ensures stopped { IfErr result (λ refusal.
-        StopsWriting text.now refusal (channel (K.written out.old) (K.faults out.old))
-        (channel (K.written out.new) (K.faults out.new))) }
+    ensures done { OnOk result
+        (WritesText (output_view K.Sink out.old) (output_view K.Sink out.new) text.now) }
+    ensures stopped { IfErr result (λ refusal. StopsWriting text.now refusal
+        (output_view K.Sink out.old) (output_view K.Sink out.new)) }
 {
     write_all(out, text.as_bytes()).map_err(|_| Refusal::OutputFailed)
 }
 
 /// Writes what the commands are.
 pub fn write_help<K: Sink>(out: &mut K) -> Result<(), Refusal>
-    ensures done { OnOk result (WritesText (channel (K.written out.old) (K.faults out.old))
-        (channel (K.written out.new) (K.faults out.new)) help_text) }
-    ensures stopped { IfErr result (λ refusal.
-        StopsWriting help_text refusal (channel (K.written out.old) (K.faults out.old))
-        (channel (K.written out.new) (K.faults out.new))) }
+    ensures done { OnOk result
+        (WritesText (output_view K.Sink out.old) (output_view K.Sink out.new) help_text) }
+    ensures stopped { IfErr result (λ refusal. StopsWriting help_text refusal
+        (output_view K.Sink out.old) (output_view K.Sink out.new)) }
 {
     print_help(out).map_err(|_| Refusal::OutputFailed)
 }

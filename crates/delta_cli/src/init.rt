@@ -2,6 +2,7 @@
 ghost use Rattle.std.specs.Prelude.{◌≤◌, IfErr, OnOk};
 ghost use Rattle.slot_files.specs.Files.{IsInitial};
 ghost use Rattle.delta_cli.specs.Tool.{Spares, StopsInit};
+ghost use Rattle.command_tables.specs.Views.{shelf_view};
 
 use command_tables::Refusal;
 use delta_base::Text;
@@ -15,8 +16,8 @@ pub fn init<H: Shelf>(alloc: Global, dir: &Text, slots: u8, shelf: &mut H) -> Re
     requires few { slots ≤ 16 }
     ensures done { OnOk result (H.tells
         → IsInitial dir.now slots (H.files shelf.old) (H.files shelf.new)) }
-    ensures stopped { IfErr result (StopsInit dir.now slots H.tells (H.files shelf.old)
-        (H.files shelf.new) (H.faults shelf.old) (H.faults shelf.new)) }
+    ensures stopped { IfErr result (StopsInit dir.now slots H.tells
+        (shelf_view H.Shelf shelf.old) (shelf_view H.Shelf shelf.new)) }
     ensures spares { Spares dir.now slots H.tells (H.files shelf.old) (H.files shelf.new) }
 {
     match init_slots(alloc, shelf, dir, slots) {

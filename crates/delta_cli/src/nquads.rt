@@ -1,10 +1,11 @@
 //! The command `nquads`: a document in canonical form.
-ghost use Rattle.std.specs.Prelude.{◌≡◌, ◌<◌, ◌^◌, length, IfOk, IfErr, OnOk};
+ghost use Rattle.std.specs.Prelude.{◌≡◌, IfOk, IfErr, OnOk};
 ghost use Rattle.sink_writing.specs.Writing.{joined};
-ghost use Rattle.command_tables.specs.Channels.{WritesText, channel};
+ghost use Rattle.command_tables.specs.Channels.{WritesText};
 ghost use Rattle.delta_cli.specs.Document.{IsShown};
 ghost use Rattle.delta_cli.specs.Results.{AreShown, Prints, ReadsInput, StopsDocument};
 ghost use Rattle.delta_cli.specs.Results.{StopsNquads, StopsPrinting, StopsReading};
+ghost use Rattle.command_tables.specs.Views.{input_view, output_view};
 
 use crate::input::{InputFault, read_all};
 use command_tables::Refusal;
@@ -17,15 +18,11 @@ use stream_replay::STREAM_LIMIT;
 /// Reads a document to its end, and writes its canonical form.
 pub fn nquads<S: Source, K: Sink>(alloc: Global, input: &mut S, out: &mut K) -> Result<(), Refusal>
     ensures done { OnOk result (ReadsInput
-        (channel (S.left input.old) (S.faults input.old))
-        (channel (S.left input.new) (S.faults input.new))
-        (Prints IsShown (channel (K.written out.old) (K.faults out.old))
-        (channel (K.written out.new) (K.faults out.new)))) }
+        (input_view S.Source input.old) (input_view S.Source input.new)
+        (Prints IsShown (output_view K.Sink out.old) (output_view K.Sink out.new))) }
     ensures stopped { IfErr result (λ refusal. StopsNquads refusal
-        (channel (S.left input.old) (S.faults input.old))
-        (channel (S.left input.new) (S.faults input.new))
-        (channel (K.written out.old) (K.faults out.old))
-        (channel (K.written out.new) (K.faults out.new))) }
+        (input_view S.Source input.old) (input_view S.Source input.new)
+        (output_view K.Sink out.old) (output_view K.Sink out.new)) }
 {
     let text = match read_text(alloc, input) {
         Ok(text) => text,
@@ -40,11 +37,10 @@ pub fn nquads<S: Source, K: Sink>(alloc: Global, input: &mut S, out: &mut K) -> 
 
 // Writes the texts.
 fn print_texts<K: Sink>(alloc: Global, texts: &[&[u8]], out: &mut K) -> Result<(), Refusal>
-    ensures done { OnOk result (WritesText (channel (K.written out.old) (K.faults out.old))
-        (channel (K.written out.new) (K.faults out.new)) (joined texts.now)) }
-    ensures stopped { IfErr result
-        (StopsPrinting (joined texts.now) (channel (K.written out.old) (K.faults out.old))
-        (channel (K.written out.new) (K.faults out.new))) }
+    ensures done { OnOk result (WritesText
+        (output_view K.Sink out.old) (output_view K.Sink out.new) (joined texts.now)) }
+    ensures stopped { IfErr result (StopsPrinting (joined texts.now)
+        (output_view K.Sink out.old) (output_view K.Sink out.new)) }
 {
     let room = Room::new(alloc)?;
     write_texts(out, texts, room).map_err(|_| Refusal::OutputFailed)
@@ -52,10 +48,11 @@ fn print_texts<K: Sink>(alloc: Global, texts: &[&[u8]], out: &mut K) -> Result<(
 
 // The input to its end.
 fn read_text<S: Source>(alloc: Global, input: &mut S) -> Result<Vec<u8>, Refusal>
-    ensures ok { IfOk result (λ text. ReadsInput (channel (S.left input.old) (S.faults input.old))
-        (channel (S.left input.new) (S.faults input.new)) (λ bytes. bytes ≡ text.items)) }
-    ensures stopped { IfErr result (StopsReading (channel (S.left input.old) (S.faults input.old))
-        (channel (S.left input.new) (S.faults input.new))) }
+    ensures ok { IfOk result (λ text. ReadsInput
+        (input_view S.Source input.old) (input_view S.Source input.new)
+        (λ bytes. bytes ≡ text.items)) }
+    ensures stopped { IfErr result (StopsReading
+        (input_view S.Source input.old) (input_view S.Source input.new)) }
 {
     match read_all(alloc, input, STREAM_LIMIT) {
         Ok(text) => Ok(text),

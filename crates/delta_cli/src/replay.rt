@@ -1,8 +1,9 @@
 //! The command `replay`: the canonical lines of the dataset that a stream of patches makes.
 ghost use Rattle.std.specs.Prelude.{◌≡◌, IfErr, OnOk};
-ghost use Rattle.command_tables.specs.Channels.{WritesText, channel};
+ghost use Rattle.command_tables.specs.Channels.{WritesText};
 ghost use Rattle.delta_cli.specs.Results.{HasReplayLines, Prints, ReadsInput, StopsPrinting};
 ghost use Rattle.delta_cli.specs.Results.{StopsReplay, refusal_of};
+ghost use Rattle.command_tables.specs.Views.{input_view, output_view};
 ghost use Rattle.delta_cli.specs.Zones.{bytes_of};
 
 use command_tables::Refusal;
@@ -15,15 +16,11 @@ use stream_replay::{ReplayFault, STREAM_LIMIT, replay_source, write_lines};
 /// Reads a stream to its end, and writes the lines of its replay.
 pub fn replay<S: Source, K: Sink>(alloc: Global, input: &mut S, out: &mut K) -> Result<(), Refusal>
     ensures done { OnOk result (ReadsInput
-        (channel (S.left input.old) (S.faults input.old))
-        (channel (S.left input.new) (S.faults input.new))
-        (Prints HasReplayLines (channel (K.written out.old) (K.faults out.old))
-        (channel (K.written out.new) (K.faults out.new)))) }
+        (input_view S.Source input.old) (input_view S.Source input.new)
+        (Prints HasReplayLines (output_view K.Sink out.old) (output_view K.Sink out.new))) }
     ensures stopped { IfErr result (λ refusal. StopsReplay refusal
-        (channel (S.left input.old) (S.faults input.old))
-        (channel (S.left input.new) (S.faults input.new))
-        (channel (K.written out.old) (K.faults out.old))
-        (channel (K.written out.new) (K.faults out.new))) }
+        (input_view S.Source input.old) (input_view S.Source input.new)
+        (output_view K.Sink out.old) (output_view K.Sink out.new)) }
 {
     match replay_source(alloc, input) {
         Ok(replayed) => print_made(alloc, &replayed.lines, out),
@@ -33,11 +30,10 @@ pub fn replay<S: Source, K: Sink>(alloc: Global, input: &mut S, out: &mut K) -> 
 
 // Writes the lines, where there is memory for a room of them.
 fn print_made<K: Sink>(alloc: Global, lines: &MadeLines, out: &mut K) -> Result<(), Refusal>
-    ensures done { OnOk result (WritesText (channel (K.written out.old) (K.faults out.old))
-        (channel (K.written out.new) (K.faults out.new)) (bytes_of lines.now)) }
+    ensures done { OnOk result (WritesText
+        (output_view K.Sink out.old) (output_view K.Sink out.new) (bytes_of lines.now)) }
     ensures stopped { IfErr result (StopsPrinting (bytes_of lines.now)
-        (channel (K.written out.old) (K.faults out.old))
-        (channel (K.written out.new) (K.faults out.new))) }
+        (output_view K.Sink out.old) (output_view K.Sink out.new)) }
 {
     let room = Room::new(alloc)?;
     write_lines(out, lines, room).map_err(|_| Refusal::OutputFailed)

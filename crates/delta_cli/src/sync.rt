@@ -1,12 +1,12 @@
 //! The command `sync`: a zone catches up with a log of a server.
 ghost use Rattle.std.specs.Prelude.{◌≡◌, ◌≢◌, ℕ, IfErr, IfOk, OnOk};
-ghost use Rattle.delta_client.specs.Lines.{told_of};
 ghost use Rattle.follower.specs.declared.ends.SyncEnd.TheVariants as ends;
 ghost use Rattle.command_tables.specs.Addresses.{IsAddress};
-ghost use Rattle.command_tables.specs.Channels.{WritesText, channel};
+ghost use Rattle.command_tables.specs.Channels.{WritesText};
 ghost use Rattle.delta_cli.specs.Results.{StopsPrinting};
 ghost use Rattle.delta_cli.specs.Syncs.{CatchesUp, StopsSync, TellsEnd, caught_up_line};
-ghost use Rattle.delta_cli.specs.Told.{network_of};
+ghost use Rattle.command_tables.specs.Views.{output_view, shelf_view};
+ghost use Rattle.delta_cli.specs.Views.{dial_view};
 
 use chain_core::ChainFault;
 use command_tables::Refusal;
@@ -31,24 +31,14 @@ pub fn sync_zone<H: Shelf, N: Dial, K: Sink>(
     out: &mut K,
 ) -> Result<(), Refusal>
     requires { IsAddress address.now }
-    ensures done { OnOk result (CatchesUp N.L.left N.L.sent H.tells N.tells
-        dir.now address.now name.now
-        (H.files shelf.old) (H.files shelf.new) (H.faults shelf.old) (H.faults shelf.new)
-        (network_of (told_of (N.to_come net.old) (N.addresses net.old) (N.back net.old))
-        (N.tries net.old) (N.faults net.old))
-        (network_of (told_of (N.to_come net.new) (N.addresses net.new) (N.back net.new))
-        (N.tries net.new) (N.faults net.new))
-        (channel (K.written out.old) (K.faults out.old))
-        (channel (K.written out.new) (K.faults out.new))) }
-    ensures stopped { IfErr result (StopsSync N.L.left N.L.sent H.tells N.tells
-        dir.now address.now name.now
-        (H.files shelf.old) (H.files shelf.new) (H.faults shelf.old) (H.faults shelf.new)
-        (network_of (told_of (N.to_come net.old) (N.addresses net.old) (N.back net.old))
-        (N.tries net.old) (N.faults net.old))
-        (network_of (told_of (N.to_come net.new) (N.addresses net.new) (N.back net.new))
-        (N.tries net.new) (N.faults net.new))
-        (channel (K.written out.old) (K.faults out.old))
-        (channel (K.written out.new) (K.faults out.new))) }
+    ensures done { OnOk result (CatchesUp H.Shelf N.Dial N.L.Link dir.now address.now name.now
+        (shelf_view H.Shelf shelf.old) (shelf_view H.Shelf shelf.new)
+        (dial_view N.Dial net.old) (dial_view N.Dial net.new)
+        (output_view K.Sink out.old) (output_view K.Sink out.new)) }
+    ensures stopped { IfErr result (StopsSync H.Shelf N.Dial N.L.Link dir.now address.now name.now
+        (shelf_view H.Shelf shelf.old) (shelf_view H.Shelf shelf.new)
+        (dial_view N.Dial net.old) (dial_view N.Dial net.new)
+        (output_view K.Sink out.old) (output_view K.Sink out.new)) }
 {
     match follow_zone(alloc, shelf, net, dir, address, name) {
         Ok(SyncEnd::CaughtUp { version }) => print_version(alloc, version, out),
@@ -59,11 +49,10 @@ pub fn sync_zone<H: Shelf, N: Dial, K: Sink>(
 
 // Writes the version at which a zone caught up.
 fn print_version<K: Sink>(alloc: Global, version: u32, out: &mut K) -> Result<(), Refusal>
-    ensures done { OnOk result (WritesText (channel (K.written out.old) (K.faults out.old))
-        (channel (K.written out.new) (K.faults out.new)) (caught_up_line version)) }
+    ensures done { OnOk result (WritesText
+        (output_view K.Sink out.old) (output_view K.Sink out.new) (caught_up_line version)) }
     ensures stopped { IfErr result (StopsPrinting (caught_up_line version)
-        (channel (K.written out.old) (K.faults out.old))
-        (channel (K.written out.new) (K.faults out.new))) }
+        (output_view K.Sink out.old) (output_view K.Sink out.new)) }
 {
     let Ok(line) = version_line(alloc, version) else {
         return Err(Refusal::OutOfMemory);

@@ -1,10 +1,11 @@
 //! The top call.
 ghost use Rattle.std.specs.Prelude.{IfErr, OnOk};
-ghost use Rattle.delta_client.specs.Lines.{told_of};
-ghost use Rattle.command_tables.specs.Channels.{channel, words_of};
-ghost use Rattle.delta_cli.specs.Commands.{Asks, Fits};
-ghost use Rattle.delta_cli.specs.Told.{network_of, told};
+ghost use Rattle.command_tables.specs.Channels.{words_of};
+ghost use Rattle.delta_cli.specs.Commands.{Fits};
+ghost use Rattle.delta_cli.specs.Frames.{LeavesBut, frame};
 ghost use Rattle.delta_cli.specs.Tool.{Answers, Does, Stops};
+ghost use Rattle.command_tables.specs.Views.{output_view};
+ghost use Rattle.delta_cli.specs.Views.{outside_of};
 
 use crate::append::append;
 use crate::ask::{ask, describe};
@@ -35,17 +36,10 @@ pub fn run_tool<S: Source, K: Sink, E: Sink, H: Shelf, N: Dial>(
     net: &mut N,
     dice: u128,
 ) -> u8
-    ensures { Answers N.L.left N.L.sent H.tells N.tells (words_of words.now) dice
-        (told (channel (S.left input.old) (S.faults input.old))
-        (channel (K.written out.old) (K.faults out.old)) (H.files shelf.old) (H.faults shelf.old)
-        (network_of (told_of (N.to_come net.old) (N.addresses net.old) (N.back net.old))
-        (N.tries net.old) (N.faults net.old)))
-        (told (channel (S.left input.new) (S.faults input.new))
-        (channel (K.written out.new) (K.faults out.new)) (H.files shelf.new) (H.faults shelf.new)
-        (network_of (told_of (N.to_come net.new) (N.addresses net.new) (N.back net.new))
-        (N.tries net.new) (N.faults net.new)))
-        (channel (E.written err.old) (E.faults err.old))
-        (channel (E.written err.new) (E.faults err.new)) result }
+    ensures { let at = outside_of S.Source K.Sink H.Shelf N.Dial in
+        Answers H.Shelf N.Dial N.L.Link (words_of words.now) dice
+        (at input.old out.old shelf.old net.old) (at input.new out.new shelf.new net.new)
+        (output_view E.Sink err.old) (output_view E.Sink err.new) result }
 {
     match read_command(alloc, words, dice) {
         Ok(command) => {
@@ -70,25 +64,15 @@ fn run_command<S: Source, K: Sink, H: Shelf, N: Dial>(
     net: &mut N,
 ) -> Result<(), Refusal>
     requires { Fits command.now }
-    ensures does { OnOk result (Does N.L.left N.L.sent H.tells N.tells command.now
-        (told (channel (S.left input.old) (S.faults input.old))
-        (channel (K.written out.old) (K.faults out.old)) (H.files shelf.old) (H.faults shelf.old)
-        (network_of (told_of (N.to_come net.old) (N.addresses net.old) (N.back net.old))
-        (N.tries net.old) (N.faults net.old)))
-        (told (channel (S.left input.new) (S.faults input.new))
-        (channel (K.written out.new) (K.faults out.new)) (H.files shelf.new) (H.faults shelf.new)
-        (network_of (told_of (N.to_come net.new) (N.addresses net.new) (N.back net.new))
-        (N.tries net.new) (N.faults net.new)))) }
-    ensures stops { IfErr result (λ refusal.
-        Stops N.L.left N.L.sent H.tells N.tells command.now refusal
-        (told (channel (S.left input.old) (S.faults input.old))
-        (channel (K.written out.old) (K.faults out.old)) (H.files shelf.old) (H.faults shelf.old)
-        (network_of (told_of (N.to_come net.old) (N.addresses net.old) (N.back net.old))
-        (N.tries net.old) (N.faults net.old)))
-        (told (channel (S.left input.new) (S.faults input.new))
-        (channel (K.written out.new) (K.faults out.new)) (H.files shelf.new) (H.faults shelf.new)
-        (network_of (told_of (N.to_come net.new) (N.addresses net.new) (N.back net.new))
-        (N.tries net.new) (N.faults net.new)))) }
+    ensures leaves { let at = outside_of S.Source K.Sink H.Shelf N.Dial in
+        LeavesBut (frame command.now)
+        (at input.old out.old shelf.old net.old) (at input.new out.new shelf.new net.new) }
+    ensures does { let at = outside_of S.Source K.Sink H.Shelf N.Dial in
+        OnOk result (Does H.Shelf N.Dial N.L.Link command.now
+        (at input.old out.old shelf.old net.old) (at input.new out.new shelf.new net.new)) }
+    ensures stops { let at = outside_of S.Source K.Sink H.Shelf N.Dial in
+        IfErr result (Stops H.Shelf N.Dial N.L.Link command.now
+        (at input.old out.old shelf.old net.old) (at input.new out.new shelf.new net.new)) }
 {
     match command {
         Command::Replay => replay(alloc, input, out),

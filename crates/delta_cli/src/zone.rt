@@ -1,11 +1,11 @@
 //! The commands on a zone: its file is made, or what is read of it is written.
-ghost use Rattle.std.specs.Prelude.{◌≡◌, ◌+◌, ◌≤◌, ℕ, List, [], IfErr, IsErr, OnOk};
+ghost use Rattle.std.specs.Prelude.{◌≡◌, ◌≤◌, ℕ, List, [], IfErr, IsErr, OnOk};
 ghost use Rattle.std.specs.Io.KnownBytes.{Appends};
 ghost use Rattle.delta_base.specs.Outside.{Rose};
 ghost use Rattle.sink_writing.specs.Writing.{AppendsFront};
-ghost use Rattle.slot_files.specs.Files.{bytes_at};
-ghost use Rattle.command_tables.specs.Channels.{WritesText, channel};
+ghost use Rattle.command_tables.specs.Channels.{WritesText};
 ghost use Rattle.delta_cli.specs.Results.{StopsPrinting};
+ghost use Rattle.command_tables.specs.Views.{output_view, shelf_view};
 ghost use Rattle.delta_cli.specs.Zones.{IsNewZone, KeepsZone, ReadsZone, SparesZone, StopsMaking};
 ghost use Rattle.delta_cli.specs.Zones.{StopsZone, bytes_of};
 
@@ -23,7 +23,7 @@ pub fn make_zone<H: Shelf>(dir: &Text, shelf: &mut H) -> Result<(), Refusal>
     ensures done { OnOk result (H.tells
         → IsNewZone dir.now (H.files shelf.old) (H.files shelf.new)) }
     ensures stopped { IfErr result (StopsMaking dir.now H.tells
-        (H.files shelf.old) (H.faults shelf.old) (H.faults shelf.new)) }
+        (shelf_view H.Shelf shelf.old) (shelf_view H.Shelf shelf.new)) }
     ensures spares { SparesZone dir.now H.tells (H.files shelf.old) (H.files shelf.new) }
 {
     match format_file(shelf, dir, ZONE_NUMBER) {
@@ -42,12 +42,10 @@ pub fn print_zone<H: Shelf, K: Sink>(
 ) -> Result<(), Refusal>
     ensures done { OnOk result ((lines : List (List ℕ))
         × ReadsZone dir.now reading.now H.tells (H.files shelf.old) lines
-        × WritesText (channel (K.written out.old) (K.faults out.old))
-        (channel (K.written out.new) (K.faults out.new)) (bytes_of lines)) }
-    ensures stopped { IfErr result (StopsZone dir.now reading.now H.tells (H.files shelf.old)
-        (H.faults shelf.old) (H.faults shelf.new)
-        (channel (K.written out.old) (K.faults out.old))
-        (channel (K.written out.new) (K.faults out.new))) }
+        × WritesText (output_view K.Sink out.old) (output_view K.Sink out.new) (bytes_of lines)) }
+    ensures stopped { IfErr result (StopsZone dir.now reading.now H.tells
+        (shelf_view H.Shelf shelf.old) (shelf_view H.Shelf shelf.new)
+        (output_view K.Sink out.old) (output_view K.Sink out.new)) }
     ensures keeps { KeepsZone dir.now H.tells (H.files shelf.old) (H.files shelf.new) }
 {
     match read_zone(alloc, shelf, dir, reading) {
@@ -58,11 +56,10 @@ pub fn print_zone<H: Shelf, K: Sink>(
 
 // Writes the lines, where there is memory for a room of them.
 fn print_lines<K: Sink>(alloc: Global, lines: &Lines, out: &mut K) -> Result<(), Refusal>
-    ensures done { OnOk result (WritesText (channel (K.written out.old) (K.faults out.old))
-        (channel (K.written out.new) (K.faults out.new)) (bytes_of lines.now.keys)) }
+    ensures done { OnOk result (WritesText
+        (output_view K.Sink out.old) (output_view K.Sink out.new) (bytes_of lines.now.keys)) }
     ensures stopped { IfErr result (StopsPrinting (bytes_of lines.now.keys)
-        (channel (K.written out.old) (K.faults out.old))
-        (channel (K.written out.new) (K.faults out.new))) }
+        (output_view K.Sink out.old) (output_view K.Sink out.new)) }
 {
     let room = Room::new(alloc)?;
     write_lines(out, lines, room).map_err(|_| Refusal::OutputFailed)

@@ -23,7 +23,7 @@ use Rattle.delta_session.specs.declared.fault.HallFault.TheVariants as halls
 use Rattle.delta_server.specs.Files.{ArePutBack}
 use Rattle.delta_server.specs.Gates.{HaveFailed}
 use Rattle.delta_server.specs.Serving.{AreDisksAsked, IsHallOver, HasServed}
-use Rattle.delta_server.specs.Views.{ShelfView}
+use Rattle.command_tables.specs.Views.{ShelfView}
 use Rattle.delta_server.specs.Words.{AsksToServe, RefusesToServe}
 
 -- the end of a server whose hall has this fault

@@ -10,7 +10,7 @@ ghost use Rattle.delta_session.specs.Ends.{HasHallRoom};
 ghost use Rattle.delta_server.specs.Ends.{HasNoDisks, StopsServe, hall_refusal};
 ghost use Rattle.delta_server.specs.Files.{AreMarked, AreFilesRead};
 ghost use Rattle.delta_server.specs.Serving.{AreDisksAsked, IsHallOver};
-ghost use Rattle.delta_server.specs.Views.{shelf_view};
+ghost use Rattle.command_tables.specs.Views.{shelf_view};
 
 use crate::files::put_back;
 use command_tables::Refusal;

@@ -4,7 +4,7 @@ ghost use Rattle.command_tables.specs.Channels.{words_of};
 ghost use Rattle.delta_server.specs.Ends.{AnswersServe, FailsServe, StopsServe};
 ghost use Rattle.delta_server.specs.Gates.{HaveFailed};
 ghost use Rattle.delta_server.specs.Serving.{HasServed};
-ghost use Rattle.delta_server.specs.Views.{output_view, shelf_view};
+ghost use Rattle.command_tables.specs.Views.{output_view, shelf_view};
 
 use crate::files::put_back;
 use crate::gates::{counts, gather, have_failed, lay_aside};

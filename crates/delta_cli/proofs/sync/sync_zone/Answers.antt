@@ -1,9 +1,8 @@
 use Rattle.std.proofs.Common.{ap, subst}
 use Rattle.std.proofs.KnownBytes.{Keeps-refl}
-use Rattle.delta_client.specs.Lines.{told_of}
-use Rattle.command_tables.specs.Channels.{channel}
 use Rattle.delta_cli.specs.Syncs.{Synced, ended, unprinted}
-use Rattle.delta_cli.specs.Told.{network_of}
+use Rattle.command_tables.specs.Views.{output_view, shelf_view}
+use Rattle.delta_cli.specs.Views.{dial_view}
 use Rattle.delta_cli.proofs.Printed.{err_weaker}
 use Rattle.delta_cli.proofs.Shown.{all_visible}
 use Rattle.delta_cli.proofs.Synced.{opening_stopped, synced}
@@ -14,29 +13,25 @@ follow_zone-requires g c = all_visible c.args.address.now c.requires.visible
 
 pub returns-in-Ok-CaughtUp-clause-stopped : goal.returns-in-Ok-CaughtUp-clause-stopped
 returns-in-Ok-CaughtUp-clause-stopped g c =
-    let old = c.args.shelf.now in
-    let new = c.follow_zone.new.shelf in
-    let net = λ (n : g.row.N.Denot). network_of (told_of (g.N.Dial.to_come n) (g.N.Dial.addresses n) (g.N.Dial.back n)) (g.N.Dial.tries n) (g.N.Dial.faults n) in
-    let is = Synced g.N.L.Link.left g.N.L.Link.sent g.H.Shelf.tells g.N.Dial.tells c.args.dir.now c.args.address.now c.args.name.now (g.H.Shelf.files old) (g.H.Shelf.files new) (g.H.Shelf.faults old) (g.H.Shelf.faults new)
-    (net c.args.net.now) (net c.follow_zone.new.net) in
-    let end = synced g.N.L.Link.left g.N.L.Link.sent g.H.Shelf.tells g.N.Dial.tells c.args.dir.now c.args.address.now c.args.name.now (g.H.Shelf.files old) (g.H.Shelf.files new) (g.H.Shelf.faults old) (g.H.Shelf.faults new)
-    (net c.args.net.now) (net c.follow_zone.new.net) c.follow_zone.result c.in-Ok-CaughtUp.field-0 c.in-Ok-CaughtUp.is c.in-Ok-CaughtUp.ensures.ok c.follow_zone.ensures.others c.follow_zone.ensures.disk c.follow_zone.ensures.link in
+    let old = shelf_view g.H.Shelf c.args.shelf.now in
+    let new = shelf_view g.H.Shelf c.follow_zone.new.shelf in
+    let is = Synced g.H.Shelf g.N.Dial g.N.L.Link c.args.dir.now c.args.address.now c.args.name.now old new (dial_view g.N.Dial c.args.net.now) (dial_view g.N.Dial c.follow_zone.new.net) in
+    let end = synced g.H.Shelf g.N.Dial g.N.L.Link c.args.dir.now c.args.address.now c.args.name.now old new (dial_view g.N.Dial c.args.net.now) (dial_view g.N.Dial c.follow_zone.new.net)
+    c.follow_zone.result c.in-Ok-CaughtUp.field-0 c.in-Ok-CaughtUp.is c.in-Ok-CaughtUp.ensures.ok c.follow_zone.ensures.others c.follow_zone.ensures.disk c.follow_zone.ensures.link in
     err_weaker c.print_version.result _ _ (λ refusal stops. unprinted c.in-Ok-CaughtUp.version (subst is c.in-Ok-CaughtUp.field-0-is end) stops) c.print_version.ensures.stopped
 
 pub returns-in-Ok : goal.returns-in-Ok
 returns-in-Ok g c =
-    let old = c.args.shelf.now in
-    let new = c.follow_zone.new.shelf in
-    let net = λ (n : g.row.N.Denot). network_of (told_of (g.N.Dial.to_come n) (g.N.Dial.addresses n) (g.N.Dial.back n)) (g.N.Dial.tries n) (g.N.Dial.faults n) in
-    let end = synced g.N.L.Link.left g.N.L.Link.sent g.H.Shelf.tells g.N.Dial.tells c.args.dir.now c.args.address.now c.args.name.now (g.H.Shelf.files old) (g.H.Shelf.files new) (g.H.Shelf.faults old) (g.H.Shelf.faults new)
-    (net c.args.net.now) (net c.follow_zone.new.net) c.follow_zone.result c.in-Ok.end c.in-Ok.is c.in-Ok.ensures.ok c.follow_zone.ensures.others c.follow_zone.ensures.disk c.follow_zone.ensures.link in
+    let old = shelf_view g.H.Shelf c.args.shelf.now in
+    let new = shelf_view g.H.Shelf c.follow_zone.new.shelf in
+    let end = synced g.H.Shelf g.N.Dial g.N.L.Link c.args.dir.now c.args.address.now c.args.name.now old new (dial_view g.N.Dial c.args.net.now) (dial_view g.N.Dial c.follow_zone.new.net)
+    c.follow_zone.result c.in-Ok.end c.in-Ok.is c.in-Ok.ensures.ok c.follow_zone.ensures.others c.follow_zone.ensures.disk c.follow_zone.ensures.link in
     record { done = tt; stopped = ended c.in-Ok.end end c.refusal_of.ensures (Keeps-refl (g.K.Sink.written c.args.out.now)) }
 
 pub returns-in-Err-clause-stopped : goal.returns-in-Err-clause-stopped
 returns-in-Err-clause-stopped g c =
-    let old = c.args.shelf.now in
-    let new = c.follow_zone.new.shelf in
-    let net = λ (n : g.row.N.Denot). network_of (told_of (g.N.Dial.to_come n) (g.N.Dial.addresses n) (g.N.Dial.back n)) (g.N.Dial.tries n) (g.N.Dial.faults n) in
-    opening_stopped g.N.L.Link.left g.N.L.Link.sent g.H.Shelf.tells g.N.Dial.tells c.args.dir.now c.args.address.now c.args.name.now (g.H.Shelf.files old) (g.H.Shelf.files new) (g.H.Shelf.faults old) (g.H.Shelf.faults new)
-    (net c.args.net.now) (net c.follow_zone.new.net) c.follow_zone.result c.in-Err.fault c.of_zone.result (channel (g.K.Sink.written c.args.out.now) (g.K.Sink.faults c.args.out.now)) c.in-Err.is c.of_zone.ensures c.in-Err.ensures.fault
-    c.follow_zone.ensures.cause (λ yes. (c.in-Err.ensures.kept yes, c.follow_zone.ensures.others yes)) (ap net c.in-Err.ensures.unopened)
+    let old = shelf_view g.H.Shelf c.args.shelf.now in
+    let new = shelf_view g.H.Shelf c.follow_zone.new.shelf in
+    opening_stopped g.H.Shelf g.N.Dial g.N.L.Link c.args.dir.now c.args.address.now c.args.name.now old new (dial_view g.N.Dial c.args.net.now) (dial_view g.N.Dial c.follow_zone.new.net)
+    c.follow_zone.result c.in-Err.fault c.of_zone.result (output_view g.K.Sink c.args.out.now) c.in-Err.is c.of_zone.ensures c.in-Err.ensures.fault
+    c.follow_zone.ensures.cause (λ yes. (c.in-Err.ensures.kept yes, c.follow_zone.ensures.others yes)) (ap (dial_view g.N.Dial) c.in-Err.ensures.unopened)

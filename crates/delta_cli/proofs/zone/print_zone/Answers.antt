@@ -1,5 +1,5 @@
 use Rattle.std.proofs.Common.{sym, subst}
-use Rattle.command_tables.specs.Channels.{channel}
+use Rattle.command_tables.specs.Views.{output_view, shelf_view}
 use Rattle.delta_cli.specs.Zones.{StopsZone}
 use Rattle.delta_cli.proofs.Made.{printing_stops, reading_stops}
 use Rattle.delta_cli.proofs.Printed.{err_weaker}
@@ -7,17 +7,15 @@ use Rattle.delta_cli.proofs.zone.print_zone.Goals as goal
 
 pub returns-in-Ok-clause-stopped : goal.returns-in-Ok-clause-stopped
 returns-in-Ok-clause-stopped g c =
-    let old = c.args.shelf.now in
-    let new = c.read_zone.new.shelf in
     err_weaker c.print_lines.result _ _
-    (printing_stops c.args.dir.now g.H.Shelf.tells (g.H.Shelf.files old) (g.H.Shelf.faults old) (g.H.Shelf.faults new) c.args.reading.now c.in-Ok.lines.keys c.in-Ok.ensures.ok
-    (channel (g.K.Sink.written c.args.out.now) (g.K.Sink.faults c.args.out.now)) (channel (g.K.Sink.written c.print_lines.new.out) (g.K.Sink.faults c.print_lines.new.out)))
+    (printing_stops c.args.dir.now g.H.Shelf.tells (shelf_view g.H.Shelf c.args.shelf.now) (shelf_view g.H.Shelf c.read_zone.new.shelf) c.args.reading.now c.in-Ok.lines.keys c.in-Ok.ensures.ok
+    (output_view g.K.Sink c.args.out.now) (output_view g.K.Sink c.print_lines.new.out))
     c.print_lines.ensures.stopped
 
 pub returns-in-Err-clause-stopped : goal.returns-in-Err-clause-stopped
 returns-in-Err-clause-stopped g c =
-    let old = c.args.shelf.now in
-    let new = c.read_zone.new.shelf in
-    let out = channel (g.K.Sink.written c.args.out.now) (g.K.Sink.faults c.args.out.now) in
-    subst (StopsZone c.args.dir.now c.args.reading.now g.H.Shelf.tells (g.H.Shelf.files old) (g.H.Shelf.faults old) (g.H.Shelf.faults new) out out) (sym c.of_zone.ensures)
-    (reading_stops c.args.dir.now g.H.Shelf.tells (g.H.Shelf.files old) (g.H.Shelf.faults old) (g.H.Shelf.faults new) c.args.reading.now out c.read_zone.result c.in-Err.fault c.in-Err.is c.in-Err.ensures.fault c.read_zone.ensures.cause)
+    let old = shelf_view g.H.Shelf c.args.shelf.now in
+    let new = shelf_view g.H.Shelf c.read_zone.new.shelf in
+    let out = output_view g.K.Sink c.args.out.now in
+    subst (StopsZone c.args.dir.now c.args.reading.now g.H.Shelf.tells old new out out) (sym c.of_zone.ensures)
+    (reading_stops c.args.dir.now g.H.Shelf.tells old new c.args.reading.now out c.read_zone.result c.in-Err.fault c.in-Err.is c.in-Err.ensures.fault c.read_zone.ensures.cause)

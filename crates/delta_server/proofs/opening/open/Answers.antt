@@ -1,7 +1,7 @@
 use Rattle.std.proofs.Common.{List, ℕ, sym, subst}
 use Rattle.slot_checks.specs.Checks.{AreKept}
 use Rattle.delta_server.specs.Ends.{StopsServe, at_files, at_hall}
-use Rattle.delta_server.specs.Views.{shelf_view}
+use Rattle.command_tables.specs.Views.{shelf_view}
 use Rattle.delta_server.proofs.Counted.{counted}
 use Rattle.delta_server.proofs.Halls.{refused_failing, refused_length, refused_marked}
 use Rattle.delta_server.proofs.Shelving.{back_over, rose_before}

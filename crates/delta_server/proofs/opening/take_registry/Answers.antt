@@ -6,7 +6,7 @@ use Rattle.slot_checks.specs.Faults.{HasRegistryFileFault}
 use Rattle.slot_checks.specs.declared.fault.CheckFault.{CheckFault}
 use Rattle.command_tables.specs.declared.refusal.Refusal.TheVariants as refusals
 use Rattle.delta_server.specs.Ends.{HasNoDisks, at_registry, at_shelf}
-use Rattle.delta_server.specs.Views.{shelf_view}
+use Rattle.command_tables.specs.Views.{shelf_view}
 use Rattle.delta_server.proofs.Shelving.{err_at, rose_before, put_at}
 use Rattle.delta_server.proofs.Halls.{risen}
 use Rattle.delta_server.proofs.opening.take_registry.Goals as goal
