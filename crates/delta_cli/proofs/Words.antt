@@ -1,10 +1,8 @@
 -- Words, and the commands that they ask for.
-use Rattle.std.proofs.Common.{◌≡◌, ℕ, zero, suc, ◌+◌, ◌*◌, ◌<◌, ◌≤◌, ◌^◌, List, [], ◌∷◌, length, get_or, drop, Some, None, refl, sym, ap, subst, ◌∙◌, arith, ne_eqb, true, false, true≢false}
-use Rattle.std.specs.Prelude.{String, codes, string_bytes}
+use Rattle.std.proofs.Common.{◌≡◌, ℕ, ◌+◌, ◌*◌, ◌<◌, ◌≤◌, ◌^◌, List, [], ◌∷◌, length, get_or, drop, Some, None, refl, sym, ap, subst, ◌∙◌, arith, true, false, true≢false}
+use Rattle.std.specs.Prelude.{codes}
 use Rattle.std.specs.List.{All}
-use Rattle.std.specs.declared.alloc.Global.{Global}
 use Rattle.std.specs.Fmt.{decimal}
-use Rattle.std.proofs.lemmas.Fmt.{decimal_digit, first_decimal}
 use Rattle.std.proofs.lemmas.List.Elements.{All-nil, All-cons}
 use Rattle.command_tables.specs.Positions.{ArePlain, FitPositions, IsPlainWord}
 use Rattle.rpc_calls.specs.declared.call.Call.{Call}
@@ -17,7 +15,6 @@ use Rattle.delta_cli.specs.declared.command.Command.{Command}
 use Rattle.delta_cli.specs.declared.command.Command.TheVariants as commands
 use Rattle.command_tables.specs.declared.name.Name.{Name}
 use Rattle.command_tables.specs.declared.name.Name.TheVariants as names
-use Rattle.command_tables.specs.Channels.{words_of}
 use Rattle.command_tables.specs.Addresses.{IsAddress}
 use Rattle.command_tables.specs.Names.{BeginsWith, FitsName, IsNamed, asks_server, positions_of}
 use Rattle.delta_cli.specs.Commands.{AreCommandWords, Asks, AsksFor, AsksNothing, AsksToRead, IsOfTool}

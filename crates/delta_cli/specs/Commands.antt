@@ -1,6 +1,6 @@
 -- The commands, and the words that ask for them.
-use Rattle.std.specs.Prelude.{◌≡◌, ℕ, ◌≤◌, Bool, true, false, List}
-use Rattle.std.specs.Prelude.{[], ◌∷◌, Option, None, Some, codes}
+use Rattle.std.specs.Prelude.{◌≡◌, ℕ, ◌≤◌, true, List}
+use Rattle.std.specs.Prelude.{[], ◌∷◌, None, Some, codes}
 use Rattle.std.specs.Fmt.{decimal}
 use Rattle.command_tables.specs.Positions.{ArePlain, IsPlainWord}
 use Rattle.delta_base.specs.Ids.{number_of, random_id}

@@ -1,4 +1,4 @@
-use Rattle.std.proofs.Common.{List, ℕ, ◌++◌, ◌-◌, length, map, ap, subst}
+use Rattle.std.proofs.Common.{List, ℕ, ◌++◌, ◌-◌, length, map, subst}
 use Rattle.std.specs.Borrow.{Bor}
 use Rattle.std.specs.Prelude.{codes}
 use Rattle.std.specs.Io.KnownBytes.{Appends}

@@ -4,7 +4,6 @@ use Rattle.std.specs.Prelude.{codes}
 use Rattle.std.specs.List.{flat_map}
 use Rattle.std.proofs.lemmas.List.{drop_more}
 use Rattle.sink_writing.proofs.Pieces.{written_more}
-use Rattle.command_tables.specs.Names.{words_text}
 use Rattle.command_tables.proofs.Printed.{front_next, nothing_yet, two_texts}
 use Rattle.command_tables.proofs.help.print_words.Goals as goal
 
