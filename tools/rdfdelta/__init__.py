@@ -33,7 +33,7 @@ from rdfdelta.server import Log, Server
 if TYPE_CHECKING:
     from rdfdelta.follower import Follower
 
-__version__ = "0.1.0"
+__version__ = "0.2.0"
 __all__ = [
     "Appended", "BadAddress", "BadFile", "BadPatch", "Conflict", "Damaged", "Follower", "Full", "Held", "Journal",
     "Known", "Link", "LinkFailed", "Log", "LogState", "NoPatch", "NoSource", "NotUnderstood", "Parted",
