@@ -102,10 +102,12 @@ class Follower:
         if len(pieces) > 1:
             raise errors.RdfDeltaError(f"the changes are too many for one patch: they would take {len(pieces)}")
         patch_id = draw_id()
-        stands = self.log.append(compose(patch_id, self.head, rows))
+        try:
+            stands = self.log.append(compose(patch_id, self.head, rows))
+        finally:
+            self.log.server.rest()
         self._quads = quads_of(self.dataset)
         self.version, self.head = stands.version, patch_id
-        self.log.server.rest()
         return stands
 
     def _take(self, rows: list[Row]) -> None:
