@@ -3,8 +3,9 @@
 //! All requests are made before the time begins, and of a reply only its status and its length are looked at, so that a client has
 //! little to do. The first connection that has asked for all ends the others, so that all are there for as long as the time runs.
 
-use std::io::{self, Read, Write};
+use std::io::{self, ErrorKind, Read, Write};
 use std::net::TcpStream;
+use std::ops::Range;
 use std::sync::atomic::{AtomicBool, Ordering};
 use std::sync::Barrier;
 use std::thread;
@@ -56,6 +57,12 @@ fn wrong<T>(reply: &[u8]) -> io::Result<T> {
     Err(io::Error::other(String::from_utf8_lossy(reply).into_owned()))
 }
 
+/// Whether a call failed because the server has ended the connection.
+fn has_ended<T>(answer: &io::Result<T>) -> bool {
+    let kind = answer.as_ref().err().map(io::Error::kind);
+    matches!(kind, Some(ErrorKind::BrokenPipe | ErrorKind::ConnectionReset))
+}
+
 /// The value of a field of a head, which has the form that both servers print.
 fn field<'a>(head: &'a str, name: &str) -> Option<&'a str> {
     let (_, rest) = head.split_once(name)?;
@@ -81,14 +88,34 @@ impl Line {
         Ok(())
     }
 
-    /// The body of the reply to a request, which has status 200.
+    /// The body of the reply to a request, which has status 200. A server may end a connection that is kept, so one that
+    /// ends before the reply begins is dialed once more.
     fn ask(&mut self, request: &[u8]) -> io::Result<&[u8]> {
-        self.stream.write_all(request)?;
+        let mut found = self.exchange(request)?;
+        if found.is_none() {
+            self.stream = dial(&self.address)?;
+            found = self.exchange(request)?;
+        }
+        match found {
+            Some(body) => Ok(&self.read[body]),
+            None => wrong(b"ended before a reply"),
+        }
+    }
+
+    /// Where the body of the reply stands; nowhere where the connection ended before it began.
+    fn exchange(&mut self, request: &[u8]) -> io::Result<Option<Range<usize>>> {
+        if has_ended(&self.stream.write_all(request)) {
+            return Ok(None);
+        }
         let (mut had, mut whole) = (0, None);
         loop {
-            let count = self.stream.read(&mut self.read[had..])?;
+            let read = self.stream.read(&mut self.read[had..]);
+            if had == 0 && has_ended(&read) {
+                return Ok(None);
+            }
+            let count = read?;
             if count == 0 {
-                return wrong(&self.read[..had]);
+                return if had == 0 { Ok(None) } else { wrong(&self.read[..had]) };
             }
             had += count;
             if whole.is_none() {
@@ -103,7 +130,7 @@ impl Line {
                 }
             }
             if let Some((begin, end)) = whole.filter(|(_, end)| *end <= had) {
-                return Ok(&self.read[begin..end]);
+                return Ok(Some(begin..end));
             }
         }
     }
