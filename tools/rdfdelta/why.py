@@ -178,7 +178,7 @@ def _of_answer(address: str, port: int) -> list[Finding]:
 
 
 def _of_silence(address: str) -> Finding:
-    remedy = "each worker serves one connection until it ends: end idle ones, or put contrib/nginx before the server"
+    remedy = "each worker serves one request at a time, a slow one for half a minute: put contrib/nginx before the server"
     text = f"{address}: takes connections, but doesn't answer within {ANSWER_SECONDS:.0f} seconds"
     return Finding(text, True, remedy)
 

@@ -143,7 +143,9 @@ def test_workers_that_are_held(serve: Start) -> None:
     running = serve(workers=1)
     running.client.rest()
     host, port = running.address.split(":")
-    hold = f"import socket, time; link = socket.create_connection(('{host}', {port})); time.sleep(60)"
+    # A request that has begun and doesn't go on.
+    begin = f"link = socket.create_connection(('{host}', {port})); link.send(b'GET ')"
+    hold = f"import socket, time; {begin}; time.sleep(60)"
     holder = subprocess.Popen([sys.executable, "-c", hold])
     assert eventually(lambda: any(pid == holder.pid for _, pid in sockets.served(int(port))))
     done = rdfd("why", running.address)
