@@ -2,6 +2,7 @@
 use Rattle.std.specs.Prelude.{◌≤◌, List, [], ◌∷◌, ◌++◌, length}
 use Rattle.std.specs.Prelude.{Option, Some, None, Bool, if◌then◌else◌}
 use Rattle.std.specs.List.{AllByRecursion}
+use Rattle.log_base.specs.OneMore.{with_one_more}
 use Rattle.log_base.specs.declared.limits.LogLimits.{LogLimits}
 use Rattle.log_base.specs.declared.limits.TheConstants.{PATCH_LIMIT}
 use Rattle.chain_core.specs.declared.chain.Patch.{Patch}
@@ -14,11 +15,6 @@ pub data LogPoint : Type 0 where
   up : List Patch → Option Patch → LogPoint
   down : List Patch → LogPoint
 
--- the chain with the patch in doubt
-abbrev pub with_doubt : List Patch → Option Patch → List Patch
-with_doubt chain None = chain
-with_doubt chain (Some patch) = chain ++ patch ∷ []
-
 -- a chain within the limits, no patch of which is too long
 pub record IsLog (limits : LogLimits) (patches : List Patch) : Type 0 where
   pub chain : IsChain (links_of patches)
@@ -28,12 +24,12 @@ pub record IsLog (limits : LogLimits) (patches : List Patch) : Type 0 where
 
 -- whatever its disk holds is a log
 abbrev pub IsPoint : LogLimits → LogPoint → Type 0
-IsPoint limits (up chain doubt) = IsLog limits chain × IsLog limits (with_doubt chain doubt)
+IsPoint limits (up chain doubt) = IsLog limits chain × IsLog limits (with_one_more chain doubt)
 IsPoint limits (down chain) = IsLog limits chain
 
 -- a stop between two stays; the gate in doubt may stand open
 abbrev pub stopped : LogPoint → Bool → LogPoint
-stopped (up chain doubt) opened = down (if opened then with_doubt chain doubt else chain)
+stopped (up chain doubt) opened = down (if opened then with_one_more chain doubt else chain)
 stopped (down chain) opened = down chain
 
 -- an opening that succeeds

@@ -13,7 +13,8 @@ ghost use Rattle.chain_core.specs.Stay.{stay};
 
 /// A chain has no fault.
 pub fn chains_have_no_fault()
-    ensures { (links : List ChainLink) (fault : ChainFault) → Breaks links fault → IsChain links → ⊥ }
+    ensures { (links : List ChainLink) (fault : ChainFault)
+        → Breaks links fault → IsChain links → ⊥ }
 {}
 
 /// Patches have one fault at most.

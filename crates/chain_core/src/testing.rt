@@ -55,8 +55,8 @@ impl ChainTest {
     pub fn fault_of(&self, link: ChainLink) -> Option<ChainFault>
         ensures follows { IfNone result ((links : List ChainLink) → IsTested links self.now
             → IsChain (links ++ link ∷ [])) }
-        ensures breaks { IfSome result (λ fault. (links more : List ChainLink) → IsTested links self.now
-            → Breaks (links ++ link ∷ more) fault) }
+        ensures breaks { IfSome result (λ fault. (links more : List ChainLink)
+            → IsTested links self.now → Breaks (links ++ link ∷ more) fault) }
     {
         if link.prev != self.head {
             return Some(ChainFault::Diverged {

@@ -93,7 +93,7 @@ one_found word (Some found) is name same = ap (λ (n : Name). Some n) (one_name 
 
 -- ---- first words
 
-first_is : (x y : List ℕ) (xs ys : List (List ℕ)) → x ∷ xs ≡ y ∷ ys → x ≡ y
+pub first_is : (x y : List ℕ) (xs ys : List (List ℕ)) → x ∷ xs ≡ y ∷ ys → x ≡ y
 first_is x y xs ys e = cc
 
 pub same_name : (words : List (List ℕ)) (a b : Name) → BeginsWith words a → BeginsWith words b → a ≡ b

@@ -1,5 +1,6 @@
 -- What `--help` prints.
-use Rattle.std.specs.Prelude.{ℕ, ◌-◌, ◌==◌, if◌then◌else◌, List, [], ◌∷◌, ◌++◌, map, take, length, codes}
+use Rattle.std.specs.Prelude.{ℕ, ◌-◌, ◌==◌, if◌then◌else◌, List, [], ◌∷◌, ◌++◌, map, take}
+use Rattle.std.specs.Prelude.{length, codes}
 use Rattle.std.specs.List.{flat_map}
 use Rattle.command_tables.specs.Names.{words_text}
 use Rattle.command_tables.specs.declared.help.TheConstants.{BLANKS, HEAD, INDENT}

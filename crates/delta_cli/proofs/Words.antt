@@ -19,7 +19,7 @@ use Rattle.command_tables.specs.Addresses.{IsAddress}
 use Rattle.command_tables.specs.Names.{BeginsWith, FitsName, IsNamed, asks_server, positions_of}
 use Rattle.delta_cli.specs.Commands.{AreCommandWords, Asks, AsksFor, AsksNothing, AsksToRead, IsOfTool}
 use Rattle.command_tables.specs.Names.{name_text}
-use Rattle.command_tables.proofs.Words.{plain_number, same_name}
+use Rattle.command_tables.proofs.Words.{plain_number, same_name, first_is}
 
 -- ---- commands
 
@@ -169,9 +169,6 @@ no_word name begins = by begins.0 begins.1
 
 pub first_named : (words rest : List (List ℕ)) (first : List ℕ) (name : Name) → words ≡ first ∷ rest → IsNamed first (Some name) → BeginsWith words name
 first_named words rest first name is named = (rest, is ∙ ap (λ (l : List ℕ). l ∷ rest) named)
-
-first_is : (x y : List ℕ) (xs ys : List (List ℕ)) → x ∷ xs ≡ y ∷ ys → x ≡ y
-first_is x y xs ys e = cc
 
 pub first_nameless : (words rest : List (List ℕ)) (first : List ℕ) → words ≡ first ∷ rest → IsNamed first None → (name : Name) → BeginsWith words name → IsOfTool name → ⊥
 first_nameless words rest first is none name begins named = none name (first_is first (name_text name) rest begins.0 (sym is ∙ begins.1))

@@ -5,7 +5,8 @@ use Rattle.httparse.specs.declared.spans.HeaderSpan.{HeaderSpan}
 use Rattle.httparse.specs.declared.spans.RequestSpans.{RequestSpans}
 use Rattle.httparse.specs.declared.spans.ResponseSpans.{ResponseSpans}
 use Rattle.http_heads.specs.declared.heads.HeadStep.{HeadStep}
-use Rattle.http_heads.specs.declared.heads.HeadStep.TheVariants.{Whole, TooManyFields, BadHead, Open}
+use Rattle.http_heads.specs.declared.heads.HeadStep.TheVariants.{Whole, TooManyFields}
+use Rattle.http_heads.specs.declared.heads.HeadStep.TheVariants.{BadHead, Open}
 use Rattle.http_heads.specs.declared.message.Kind.TheVariants.{Requests, Replies}
 use Rattle.http_heads.specs.Heads.{most_fields, HasNoHead, HasTooManyFields, IsBadHead}
 

@@ -6,7 +6,8 @@ use Rattle.httparse.specs.declared.spans.ResponseSpans.{ResponseSpans}
 use Rattle.http_heads.specs.Heads.{Head, print_head, ReadsHead, HasNoHead, IsBadHead, IsInterim}
 use Rattle.http_heads.specs.Fields.{FieldRow, values_of, first_of, closes}
 use Rattle.http_heads.specs.Framing.{expects}
-use Rattle.http_messages.specs.Messages.{message_of, path_of, BeginsWithHead, framing_behind, IsFaultAt}
+use Rattle.http_messages.specs.Messages.{message_of, path_of, BeginsWithHead}
+use Rattle.http_messages.specs.Messages.{framing_behind, IsFaultAt}
 use Rattle.http_heads.specs.declared.message.Kind.{Kind}
 use Rattle.http_heads.specs.declared.message.RawRequest.{RawRequest}
 use Rattle.http_heads.specs.declared.message.RawReply.{RawReply}

@@ -1,2 +1,4 @@
 pub mod Journals
 pub mod Phases
+pub mod Apart
+pub mod OneMore

@@ -17,7 +17,8 @@ use Rattle.registry_core.proofs.Tables.{length-push, has_room}
 use Rattle.log_registry.specs.declared.fault.RegistryFault.{RegistryFault}
 use Rattle.log_registry.specs.declared.fault.RegistryFault.TheVariants.{Failed, Damaged, WrongNumber, OverLimit, OutOfMemory, BrokenEvent}
 use Rattle.log_registry.specs.Fault.{HasRegistryFault}
-use Rattle.log_registry.specs.Stands.{StandsForRegistry, with_event_in_doubt}
+use Rattle.log_registry.specs.Stands.{StandsForRegistry}
+use Rattle.log_base.specs.OneMore.{with_one_more}
 use Rattle.log_registry.proofs.States.{payloads-push}
 
 -- ---- lengths
@@ -85,7 +86,7 @@ no_fault file slots events (BrokenEvent place) holds is has =
 -- the events that an image holds
 record HoldsRegistry (image : List ℕ) (slots : ℕ) (events : List Event) (doubt : Option Event) : Type 0 where
   held : List Event
-  which : (held ≡ events) ⊎ (held ≡ with_event_in_doubt events doubt)
+  which : (held ≡ events) ⊎ (held ≡ with_one_more events doubt)
   is : IsRegistry slots held
   holds : Holds image 0 (registry_payloads slots held)
 
@@ -97,7 +98,7 @@ held_in past slots events (Some doubt) image stands left = ⊎_elim
     (stands.each image left)
 
 pub found_again : (past : Past) (slots found_slots : ℕ) (events found : List Event) (doubt : Option Event) (image : List ℕ) → StandsForRegistry past slots events doubt → MayLeave past image
-    → Holds image 0 (registry_payloads found_slots found) → IsRegistry found_slots found → (found_slots ≡ slots) × ((found ≡ events) ⊎ (found ≡ with_event_in_doubt events doubt))
+    → Holds image 0 (registry_payloads found_slots found) → IsRegistry found_slots found → (found_slots ≡ slots) × ((found ≡ events) ⊎ (found ≡ with_one_more events doubt))
 found_again past slots found_slots events found doubt image stands left holds is =
     let there = held_in past slots events doubt image stands left in
     let payloads = one_list image 0 (registry_payloads found_slots found) (registry_payloads slots there.held) holds there.holds in

@@ -1,6 +1,7 @@
 -- What the disk of a registry stands for.
 use Rattle.std.specs.Prelude.{◌⊎◌, ℕ, List, [], ◌∷◌, ◌++◌, Option, Some, None}
 use Rattle.std.specs.Option.{option_map}
+use Rattle.log_base.specs.OneMore.{with_one_more}
 use Rattle.disk_model.specs.Past.{Past, EveryImage}
 use Rattle.log_journal.specs.File.{Holds}
 use Rattle.log_journal.specs.Journal.{HoldsWithOrWithout}
@@ -8,11 +9,6 @@ use Rattle.log_journal.specs.Writing.{LeavesEither}
 use Rattle.registry_core.specs.declared.event.Event.{Event}
 use Rattle.registry_core.specs.Events.{IsRegistry}
 use Rattle.registry_core.specs.Texts.{event_text, registry_payloads}
-
--- the events with the one in doubt
-abbrev pub with_event_in_doubt : List Event → Option Event → List Event
-with_event_in_doubt events None = events
-with_event_in_doubt events (Some event) = events ++ event ∷ []
 
 -- the payload of an event in doubt
 abbrev pub event_payload : Option Event → Option (List ℕ)
@@ -29,7 +25,7 @@ pub record StandsForRegistry (past : Past) (slots : ℕ) (events : List Event)
     (doubt : Option Event) : Type 0 where
   pub each : EveryImage past (MayHoldEvents slots events doubt)
   pub without : IsRegistry slots events
-  pub having : IsRegistry slots (with_event_in_doubt events doubt)
+  pub having : IsRegistry slots (with_one_more events doubt)
 
 -- While an event is added, an image holds the events, or these and the one in doubt or the new one.
 -- A call that makes none changes nothing.

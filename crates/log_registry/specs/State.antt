@@ -9,7 +9,8 @@ use Rattle.registry_core.specs.declared.event.Event.{Event}
 use Rattle.registry_core.specs.declared.event.Entry.{Entry}
 use Rattle.registry_core.specs.Events.{events_of, IsRegistry}
 use Rattle.registry_core.specs.Texts.{registry_payloads, registry_length}
-use Rattle.log_registry.specs.Stands.{with_event_in_doubt, event_payload}
+use Rattle.log_registry.specs.Stands.{event_payload}
+use Rattle.log_base.specs.OneMore.{with_one_more}
 
 -- the slots, which never change; the entries and the event in doubt; and the disk
 pub record StateView (D : Type 0) : Type 0 where
@@ -28,6 +29,6 @@ pub record JournalKeepsEvents {D : Type 0} {disks : Ghosts D} (journal : Journal
     (events : List Event) (doubt : Option Event) : Type 0 where
   pub stands : StandsWith journal 0 (registry_payloads slots events) (event_payload doubt)
   pub without : IsRegistry slots events
-  pub having : IsRegistry slots (with_event_in_doubt events doubt)
+  pub having : IsRegistry slots (with_one_more events doubt)
   pub length_is : length_of journal ≡ registry_length slots events
   pub limit_is : limit_of journal ≡ REGISTRY_LIMIT

@@ -7,7 +7,7 @@ use Rattle.log_journal.specs.File.{Holds}
 use Rattle.log_journal.proofs.OneReading.{one_list, one_number, never_both}
 use Rattle.chain_core.specs.declared.chain.Patch.{Patch}
 use Rattle.log_base.specs.declared.limits.LogLimits.{LogLimits}
-use Rattle.chain_core.specs.Log.{with_doubt}
+use Rattle.log_base.specs.OneMore.{with_one_more}
 use Rattle.chain_core.specs.Patches.{texts_of}
 use Rattle.patch_log.specs.declared.fault.LogFault.{LogFault}
 use Rattle.patch_log.specs.declared.fault.LogFault.TheVariants.{Failed, Damaged, WrongNumber, OverLimit, OutOfMemory, BrokenChain}
@@ -33,7 +33,7 @@ no_fault file number limits patches (BrokenChain version) fits holds log has =
 -- the patches that an image holds
 record HoldsLog (image : List ℕ) (number : ℕ) (limits : LogLimits) (chain : List Patch) (doubt : Option Patch) : Type 0 where
   patches : List Patch
-  which : (patches ≡ chain) ⊎ (patches ≡ with_doubt chain doubt)
+  which : (patches ≡ chain) ⊎ (patches ≡ with_one_more chain doubt)
   log : IsSoundLog limits patches
   holds : Holds image number (texts_of patches)
 
@@ -46,7 +46,7 @@ held past number limits chain (Some doubt) image stands left = ⊎_elim
 
 -- what is found is the chain, with the patch in doubt or without
 pub found_again : (past : Past) (number : ℕ) (limits : LogLimits) (chain found : List Patch) (doubt : Option Patch) (image : List ℕ) → StandsForLog past number limits chain doubt → MayLeave past image
-    → Holds image number (texts_of found) → AllByRecursion IsSound found → (found ≡ chain) ⊎ (found ≡ with_doubt chain doubt)
+    → Holds image number (texts_of found) → AllByRecursion IsSound found → (found ≡ chain) ⊎ (found ≡ with_one_more chain doubt)
 found_again past number limits chain found doubt image stands left holds sound =
     let there = held past number limits chain doubt image stands left in
     let same : found ≡ there.patches = one_log found there.patches (one_list image number (texts_of found) (texts_of there.patches) holds there.holds) sound there.log.sound in

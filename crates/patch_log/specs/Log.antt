@@ -13,7 +13,8 @@ use Rattle.log_base.specs.declared.limits.LogLimits.{LogLimits}
 use Rattle.chain_core.specs.declared.chain.Patch.{Patch}
 use Rattle.chain_core.specs.Links.{IsChain}
 use Rattle.chain_core.specs.Patches.{links_of, texts_of}
-use Rattle.chain_core.specs.Log.{IsLog, with_doubt}
+use Rattle.chain_core.specs.Log.{IsLog}
+use Rattle.log_base.specs.OneMore.{with_one_more}
 
 -- a patch that was checked, without its changes
 abbrev pub bare : CheckedPatch → Patch
@@ -48,7 +49,7 @@ pub record StandsForLog (past : Past) (number : ℕ) (limits : LogLimits) (chain
     (doubt : Option Patch) : Type 0 where
   pub each : EveryImage past (MayHoldChain number chain doubt)
   pub without : IsSoundLog limits chain
-  pub having : IsSoundLog limits (with_doubt chain doubt)
+  pub having : IsSoundLog limits (with_one_more chain doubt)
 
 -- while a patch is added, an image holds the chain, or the chain with the patch in doubt or with
 -- the new one

@@ -8,7 +8,8 @@ use Rattle.log_base.specs.declared.limits.LogLimits.{LogLimits}
 use Rattle.chain_core.specs.declared.chain.Patch.{Patch}
 use Rattle.chain_core.specs.declared.chain.Entry.{Entry}
 use Rattle.chain_core.specs.Patches.{patches_of, journal_length}
-use Rattle.chain_core.specs.Log.{LogPoint, up, with_doubt}
+use Rattle.chain_core.specs.Log.{LogPoint, up}
+use Rattle.log_base.specs.OneMore.{with_one_more}
 use Rattle.patch_log.specs.Log.{IsSoundLog, payloads_of, patch_payload}
 
 -- the entries and the patch in doubt; what never changes; the places that are ready; and the disk
@@ -34,7 +35,7 @@ pub record JournalKeepsChain {D : Type 0} {disks : Ghosts D} (journal : Journal 
     (doubt : Option Patch) (number : ℕ) (limits : LogLimits) : Type 0 where
   pub stands : StandsWith journal number (payloads_of chain) (patch_payload doubt)
   pub without : IsSoundLog limits chain
-  pub having : IsSoundLog limits (with_doubt chain doubt)
+  pub having : IsSoundLog limits (with_one_more chain doubt)
   pub length_is : length_of journal ≡ journal_length chain
   pub limit_is : limit_of journal ≡ limits.bytes
   pub countable : limits.patches < 2 ^ 32

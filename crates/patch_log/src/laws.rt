@@ -5,7 +5,7 @@ ghost use Rattle.disk_model.specs.Past.{Past, MayLeave};
 ghost use Rattle.log_journal.specs.File.{Holds};
 ghost use Rattle.chain_core.specs.declared.chain.Patch.{Patch};
 ghost use Rattle.log_base.specs.declared.limits.LogLimits.{LogLimits};
-ghost use Rattle.chain_core.specs.Log.{with_doubt};
+ghost use Rattle.log_base.specs.OneMore.{with_one_more};
 ghost use Rattle.chain_core.specs.Patches.{texts_of};
 ghost use Rattle.patch_log.specs.declared.fault.LogFault.{LogFault};
 ghost use Rattle.patch_log.specs.Log.{IsSound, IsSoundLog, StandsForLog};
@@ -27,7 +27,7 @@ pub fn logs_are_found_again()
         (doubt : Option Patch) (image : List ℕ)
         → StandsForLog past number limits chain doubt → MayLeave past image
         → Holds image number (texts_of found) → AllByRecursion IsSound found
-        → (found ≡ chain) ⊎ (found ≡ with_doubt chain doubt) }
+        → (found ≡ chain) ⊎ (found ≡ with_one_more chain doubt) }
     ensures no_fault { (past : Past) (number : ℕ) (limits : LogLimits) (chain : List Patch)
         (doubt : Option Patch) (image : List ℕ) (fault : LogFault) → number < 2 ^ 32
         → StandsForLog past number limits chain doubt → MayLeave past image

@@ -1,20 +1,12 @@
 -- Two events are the same or they aren't.
-use Rattle.std.specs.Prelude.{◌≡◌, ◌≢◌, ◌⊎◌, ℕ, List, [], ◌∷◌}
+use Rattle.std.specs.Prelude.{◌≡◌, ◌≢◌, ◌⊎◌}
 use Rattle.std.proofs.Common.{inl, inr, ap, refl, ⊎_elim}
 use mathlib.Core.Logic.{dite}
 use native.Mathlib.Decide.{ℕ_discrete}
+use Rattle.log_base.specs.Apart.{texts_apart}
 use Rattle.log_base.specs.declared.source_info.SourceInfo.{SourceInfo}
 use Rattle.registry_core.specs.declared.event.Event.{Event}
 use Rattle.registry_core.specs.declared.event.Event.TheVariants.{Created, Renamed, Removed}
-
-texts_apart : (a b : List ℕ) → (a ≡ b) ⊎ (a ≢ b)
-texts_apart [] [] = inl refl
-texts_apart [] (y ∷ ys) = inr (λ e. cc)
-texts_apart (x ∷ xs) [] = inr (λ e. cc)
-texts_apart (x ∷ xs) (y ∷ ys) = dite (ℕ_discrete x y)
-    (λ e. ⊎_elim (λ (f : xs ≡ ys). inl (λ i. e i ∷ f i))
-    (λ (ne : xs ≢ ys). inr (λ g. ne cc)) (texts_apart xs ys))
-    (λ ne. inr (λ g. ne cc))
 
 sources_apart : (a b : SourceInfo) → (a ≡ b) ⊎ (a ≢ b)
 sources_apart a b = dite (ℕ_discrete a.slot b.slot)

@@ -12,7 +12,8 @@ use Rattle.chain_core.specs.declared.answer.Decision.TheVariants.{Accept, Known,
 use Rattle.chain_core.specs.Links.{IsChain}
 use Rattle.chain_core.specs.Patches.{links_of, patch_at}
 use Rattle.chain_core.specs.Decision.{decision}
-use Rattle.chain_core.specs.Log.{LogPoint, up, down, with_doubt, stopped, opened_again}
+use Rattle.chain_core.specs.Log.{LogPoint, up, down, stopped, opened_again}
+use Rattle.log_base.specs.OneMore.{with_one_more}
 use Rattle.chain_core.specs.Stay.{accepted_by, decided_by, stay}
 use Rattle.chain_core.proofs.Decided.{accepted}
 use Rattle.chain_core.proofs.Stays.{links-push}
@@ -32,7 +33,7 @@ GrowsTo before after = (more : List Patch) × (after ≡ before ++ more)
 
 -- all that may be found has P
 abbrev pub Each : (List Patch → Type 0) → LogPoint → Type 0
-Each P (up chain doubt) = P chain × P (with_doubt chain doubt)
+Each P (up chain doubt) = P chain × P (with_one_more chain doubt)
 Each P (down chain) = P chain
 
 abbrev pub AreChains : LogPoint → Type 0
@@ -87,7 +88,7 @@ opened_again_each P (up chain doubt) each = each
 opened_again_each P (down chain) each = (each, each)
 
 pub found_each : (P : List Patch → Type 0) (point : LogPoint) (found : List Patch) → Each P point → MayBeFound point found → P found
-found_each P (up chain doubt) found each may = ⊎_elim (λ (is : found ≡ chain). subst P (sym is) each.0) (λ (is : found ≡ with_doubt chain doubt). subst P (sym is) each.1) may
+found_each P (up chain doubt) found each may = ⊎_elim (λ (is : found ≡ chain). subst P (sym is) each.0) (λ (is : found ≡ with_one_more chain doubt). subst P (sym is) each.1) may
 found_each P (down chain) found each may = subst P (sym may) each
 
 module _ (limits : LogLimits) (chain : List Patch) (doubt : Option Patch) (patch : Patch) where
@@ -185,7 +186,7 @@ still_at before after (suc place) patch grows is = subst (λ (patches : List Pat
 pub found_grows : (point : LogPoint) (found : List Patch) → MayBeFound point found → GrowsTo (chain_of point) found
 found_grows (up chain doubt) found may = ⊎_elim (λ (is : found ≡ chain). ([], is ∙ sym (append-nil chain))) (with_or_without doubt) may
   where
-    with_or_without : (d : Option Patch) → found ≡ with_doubt chain d → GrowsTo chain found
+    with_or_without : (d : Option Patch) → found ≡ with_one_more chain d → GrowsTo chain found
     with_or_without None is = ([], is ∙ sym (append-nil chain))
     with_or_without (Some patch) is = (patch ∷ [], is)
 found_grows (down chain) found may = ([], may ∙ sym (append-nil chain))

@@ -19,7 +19,8 @@ use Rattle.chain_core.specs.declared.answer.LogAnswer.TheVariants.{Accepted, Kno
 use Rattle.chain_core.specs.declared.answer.Decision.{Decision}
 use Rattle.chain_core.specs.declared.answer.Decision.TheVariants.{Accept, Known, Conflict, Full}
 use Rattle.chain_core.specs.Decision.{decision}
-use Rattle.chain_core.specs.Log.{LogPoint, up, down, with_doubt, stopped}
+use Rattle.chain_core.specs.Log.{LogPoint, up, down, stopped}
+use Rattle.log_base.specs.OneMore.{with_one_more}
 use Rattle.chain_core.specs.Patches.{patches_of, texts_of, patch_at}
 use Rattle.chain_core.specs.Stay.{Outcome, accepted_by, decided_by, stay}
 use Rattle.patch_log.specs.Log.{IsSound, IsSoundLog, MayHoldChain, StandsForLog}
@@ -59,7 +60,7 @@ record Left (number : ℕ) (image : List ℕ) (chain : List Patch) : Type 0 wher
   log : IsSoundLog LOG_LIMITS chain
 
 left_by_stop : (number : ℕ) (opened : Bool) (old : PlanDisk) (chain : List Patch) (doubt : Option Patch) (image : List ℕ) → CarriesPart number old chain doubt → image ≡ image_of (plan_past old) (cond opened 257 0) → MayLeave (plan_past old) image
-    → Left number image (cond opened (with_doubt chain doubt) chain)
+    → Left number image (cond opened (with_one_more chain doubt) chain)
 left_by_stop number true old chain None image carries is may = record { holds = carries.stands.each image may; log = carries.stands.without }
 left_by_stop number false old chain None image carries is may = record { holds = carries.stands.each image may; log = carries.stands.without }
 left_by_stop number true old chain (Some patch) image carries is may =
@@ -67,10 +68,10 @@ left_by_stop number true old chain (Some patch) image carries is may =
 left_by_stop number false old chain (Some patch) image carries is may = record { holds = subst (λ (file : List ℕ). Holds file number (texts_of chain)) (sym is) carries.leaves.0; log = carries.stands.without }
 
 pub stop_keeps : (number : ℕ) (opened : Bool) (old : PlanDisk) (chain : List Patch) (doubt : Option Patch) (image : List ℕ) (disk : PlanDisk) → CarriesPart number old chain doubt → image ≡ image_of (plan_past old) (cond opened 257 0) → MayLeave (plan_past old) image
-    → plan_past disk ≡ began image → KeepsChain number disk (cond opened (with_doubt chain doubt) chain)
+    → plan_past disk ≡ began image → KeepsChain number disk (cond opened (with_one_more chain doubt) chain)
 stop_keeps number opened old chain doubt image disk carries is may fresh =
     let left = left_by_stop number opened old chain doubt image carries is may in
-    keeps_image number disk image (cond opened (with_doubt chain doubt) chain) fresh left.holds left.log
+    keeps_image number disk image (cond opened (with_one_more chain doubt) chain) fresh left.holds left.log
 
 -- ---- opening
 

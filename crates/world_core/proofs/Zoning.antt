@@ -10,7 +10,8 @@ use Rattle.disk_model.specs.declared.plan.PlanDisk.{PlanDisk}
 use Rattle.chain_core.specs.declared.chain.Patch.{Patch}
 use Rattle.log_base.specs.declared.limits.LogLimits.{LogLimits}
 use Rattle.chain_core.specs.declared.fate.Fate.{Fate}
-use Rattle.chain_core.specs.Log.{LogPoint, up, down, with_doubt}
+use Rattle.chain_core.specs.Log.{LogPoint, up, down}
+use Rattle.log_base.specs.OneMore.{with_one_more}
 use Rattle.chain_core.specs.Stay.{stay}
 use Rattle.patch_log.specs.Log.{bare}
 use Rattle.zone_state.specs.Brief.{Brief, id_taken}
@@ -60,7 +61,7 @@ zones_push (first ∷ parts) (top ∷ points) part point are is = (are.0, zones_
 
 -- a zone that is up is one of a point that is up
 pub stop_part : (part : ZonePart) (zone : ZoneView PlanDisk) (pool : List Message) (event : WorldEvent) (place : ℕ) (opened : Bool) (disk : PlanDisk) → part ≡ Up zone → event ≡ ZoneStop place opened
-    → ((chain : List Patch) → (doubt : Option Patch) → RunsZone zone chain doubt → KeepsChain ZONE_NUMBER disk (cond opened (with_doubt chain doubt) chain))
+    → ((chain : List Patch) → (doubt : Option Patch) → RunsZone zone chain doubt → KeepsChain ZONE_NUMBER disk (cond opened (with_one_more chain doubt) chain))
     → (point : LogPoint) → IsZoneOf part point → IsZoneOf (Down disk) (zone_after LOG_LIMITS pool event point)
 stop_part part zone pool event place opened disk same stops left point is =
     subst (λ (e : WorldEvent). IsZoneOf (Down disk) (zone_after LOG_LIMITS pool e point)) (sym stops) (by_point point (subst (λ (p : ZonePart). IsZoneOf p point) same is))

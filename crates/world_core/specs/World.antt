@@ -8,7 +8,8 @@ use Rattle.chain_core.specs.declared.answer.LogAnswer.{LogAnswer}
 use Rattle.chain_core.specs.declared.answer.LogAnswer.TheVariants.{Accepted as IsAccepted}
 use Rattle.chain_core.specs.Links.{IsChain}
 use Rattle.chain_core.specs.Patches.{links_of, patch_at, last_id}
-use Rattle.chain_core.specs.Log.{LogPoint, up, down, with_doubt, stopped, opened_again}
+use Rattle.chain_core.specs.Log.{LogPoint, up, down, stopped, opened_again}
+use Rattle.log_base.specs.OneMore.{with_one_more}
 use Rattle.chain_core.specs.Stay.{Outcome, stay}
 use Rattle.patch_log.specs.Log.{bare}
 use Rattle.patch_meaning.specs.Checked.{CheckedPatch}
@@ -125,7 +126,7 @@ world limits events = fold (step limits) start events
 
 -- what a log has, and what opening it finds after a crash now
 abbrev pub MayBeFound : LogPoint → List Patch → Type 0
-MayBeFound (up chain doubt) found = (found ≡ chain) ⊎ (found ≡ with_doubt chain doubt)
+MayBeFound (up chain doubt) found = (found ≡ chain) ⊎ (found ≡ with_one_more chain doubt)
 MayBeFound (down chain) found = found ≡ chain
 
 -- an append of these events was told that its patch is accepted, at this version

@@ -1,7 +1,7 @@
 //! Disks whose syncs fail as planned: new ones, and what a stop leaves.
 ghost use Rattle.std.specs.Prelude.{◌≡◌, ℕ, [], List, Option, IfOk, if◌then◌else◌};
 ghost use Rattle.chain_core.specs.declared.chain.Patch.{Patch};
-ghost use Rattle.chain_core.specs.Log.{with_doubt};
+ghost use Rattle.log_base.specs.OneMore.{with_one_more};
 ghost use Rattle.world_core.specs.Parts.{CarriesPart, KeepsChain};
 
 use delta_base::{Bytes, OutOfMemory};
@@ -37,7 +37,7 @@ pub(crate) fn stopped_disk(
 ) -> Result<PlanDisk, OutOfMemory>
     ensures { IfOk result (λ left. (number : ℕ) (chain : List Patch) (doubt : Option Patch)
         → CarriesPart number disk chain doubt
-        → KeepsChain number left (if opened then with_doubt chain doubt else chain)) }
+        → KeepsChain number left (if opened then with_one_more chain doubt else chain)) }
 {
     let image = disk.image(image_left(opened))?;
     PlanDisk::new(alloc, image)

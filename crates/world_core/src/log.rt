@@ -3,7 +3,8 @@ ghost use Rattle.std.specs.Prelude.{◌≡◌, ℕ, [], ◌∷◌, ◌++◌, Lis
 ghost use Rattle.std.specs.Prelude.{Option, Some, None, IfOk, if◌then◌else◌};
 ghost use Rattle.log_base.specs.declared.limits.TheConstants.{LOG_LIMITS};
 ghost use Rattle.chain_core.specs.declared.chain.Patch.{Patch as OnePatch};
-ghost use Rattle.chain_core.specs.Log.{LogPoint, up, with_doubt};
+ghost use Rattle.chain_core.specs.Log.{LogPoint, up};
+ghost use Rattle.log_base.specs.OneMore.{with_one_more};
 ghost use Rattle.chain_core.specs.Patches.{patch_at, last_id};
 ghost use Rattle.chain_core.specs.Stay.{stay};
 ghost use Rattle.patch_log.specs.Log.{bare};
@@ -67,7 +68,7 @@ pub(crate) fn start(alloc: Global) -> Result<LogState<PlanDisk>, OutOfMemory>
 fn stop(alloc: Global, log: LogState<PlanDisk>, opened: bool) -> Result<PlanDisk, OutOfMemory>
     ensures { IfOk result (λ disk. (chain : List OnePatch) (doubt : Option OnePatch)
         → Runs log chain doubt
-        → KeepsChain LOG_NUMBER disk (if opened then with_doubt chain doubt else chain)) }
+        → KeepsChain LOG_NUMBER disk (if opened then with_one_more chain doubt else chain)) }
 {
     stopped_disk(alloc, log.close(), opened)
 }

@@ -2,7 +2,8 @@
 ghost use Rattle.std.specs.Prelude.{◌≡◌, [], List, Option, Some, None, IfOk, if◌then◌else◌};
 ghost use Rattle.log_base.specs.declared.limits.TheConstants.{LOG_LIMITS};
 ghost use Rattle.chain_core.specs.declared.chain.Patch.{Patch as OnePatch};
-ghost use Rattle.chain_core.specs.Log.{up, with_doubt};
+ghost use Rattle.chain_core.specs.Log.{up};
+ghost use Rattle.log_base.specs.OneMore.{with_one_more};
 ghost use Rattle.chain_core.specs.Stay.{stay};
 ghost use Rattle.patch_log.specs.Log.{bare};
 ghost use Rattle.zone_state.specs.declared.file.TheConstants.{ZONE_NUMBER};
@@ -58,7 +59,7 @@ pub(crate) fn stop(
 ) -> Result<PlanDisk, OutOfMemory>
     ensures { IfOk result (λ disk. (taken : List OnePatch) (doubt : Option OnePatch)
         → RunsZone zone taken doubt
-        → KeepsChain ZONE_NUMBER disk (if opened then with_doubt taken doubt else taken)) }
+        → KeepsChain ZONE_NUMBER disk (if opened then with_one_more taken doubt else taken)) }
 {
     stopped_disk(alloc, zone.close(), opened)
 }

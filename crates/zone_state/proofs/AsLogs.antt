@@ -26,7 +26,8 @@ use Rattle.zone_state.specs.declared.answer.TakeAnswer.{TakeAnswer}
 use Rattle.zone_state.specs.declared.answer.TakeAnswer.TheVariants.{Applied, Diverged, Repeated, Full, TermsFull, OutOfMemory, DiskFault}
 use Rattle.zone_state.specs.Brief.{id_taken, last_of, file_length}
 use Rattle.zone_state.specs.Taking.{taking, taken_by}
-use Rattle.zone_state.specs.Zone.{ZoneView, AreTakenPatches, StandsForZone, with_doubtful, zone_number, doubt_of}
+use Rattle.zone_state.specs.Zone.{ZoneView, AreTakenPatches, StandsForZone, zone_number, doubt_of}
+use Rattle.log_base.specs.OneMore.{with_one_more}
 use Rattle.zone_state.proofs.Decisions.{CanBeTaken, can_be_taken, taking-new, taking-rest}
 use Rattle.zone_state.proofs.Growing.{bare_versions, bare_last, bare_length, bare_texts, bare-push}
 use Rattle.zone_state.proofs.Readings.{sound_checked}
@@ -117,5 +118,5 @@ zone_log tells past zone taken (Some doubt) stands told =
       each = λ image left. subst (λ (ts : List (List ℕ)). HoldsWithOrWithout zone_number ts doubt.text image) (sym (bare_texts taken))
           (either (file_length zone.brief.ids zone.brief.bytes) zone_number (checked_texts taken) doubt.text all.doubt_sized image all.sized (all.each image left));
       without = taken_log zone.limits taken stands.without;
-      having = subst (λ (ps : List Patch). IsSoundLog zone.limits ps) (bare-push taken doubt) (taken_log zone.limits (with_doubtful taken (Some doubt)) stands.having);
+      having = subst (λ (ps : List Patch). IsSoundLog zone.limits ps) (bare-push taken doubt) (taken_log zone.limits (with_one_more taken (Some doubt)) stands.having);
     }

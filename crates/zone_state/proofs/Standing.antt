@@ -22,7 +22,8 @@ use Rattle.zone_state.specs.declared.answer.TakeAnswer.{TakeAnswer}
 use Rattle.zone_state.specs.declared.answer.TakeAnswer.TheVariants.{Applied, DiskFault}
 use Rattle.zone_state.specs.Brief.{brief_of, file_length}
 use Rattle.zone_state.specs.Taking.{taken_by, taken_then}
-use Rattle.zone_state.specs.Zone.{ZoneView, AreTakenPatches, with_doubtful, StandsForZone, zone_number, doubt_of, zone_point}
+use Rattle.zone_state.specs.Zone.{ZoneView, AreTakenPatches, StandsForZone, zone_number, doubt_of, zone_point}
+use Rattle.log_base.specs.OneMore.{with_one_more}
 use Rattle.zone_state.proofs.Growing.{bare_texts, texts-push, bare-push}
 
 -- the text in doubt
@@ -78,8 +79,8 @@ pub without_after : (limits : LogLimits) (r : Result Unit Phase) (version : ℕ)
 without_after limits (Ok done) version taken patch less more = more
 without_after limits (Err phase) version taken patch less more = less
 
-pub having_after : (limits : LogLimits) (r : Result Unit Phase) (version : ℕ) (taken : List CheckedPatch) (doubt : Option CheckedPatch) (patch : CheckedPatch) → AreTakenPatches limits taken → AreTakenPatches limits (with_doubtful taken doubt) → AreTakenPatches limits (taken ++ patch ∷ [])
-    → AreTakenPatches limits (with_doubtful (taken_after r version taken patch) (doubt_left r doubt patch))
+pub having_after : (limits : LogLimits) (r : Result Unit Phase) (version : ℕ) (taken : List CheckedPatch) (doubt : Option CheckedPatch) (patch : CheckedPatch) → AreTakenPatches limits taken → AreTakenPatches limits (with_one_more taken doubt) → AreTakenPatches limits (taken ++ patch ∷ [])
+    → AreTakenPatches limits (with_one_more (taken_after r version taken patch) (doubt_left r doubt patch))
 having_after limits (Ok done) version taken doubt patch less having more = more
 having_after limits (Err Settling) version taken doubt patch less having more = having
 having_after limits (Err Body) version taken doubt patch less having more = less
@@ -98,7 +99,7 @@ module _ {D : Type 0} {disks : Ghosts D} where
 
   -- and the other way round
   pub zone_stands : (journal : Journal D disks) (zone : ZoneView D) (taken : List CheckedPatch) (doubt : Option CheckedPatch) → zone.settled ≡ is_settled journal → length_of journal ≡ file_length zone.brief.ids zone.brief.bytes
-      → zone.brief ≡ brief_of taken → AreTakenPatches zone.limits taken → AreTakenPatches zone.limits (with_doubtful taken doubt) → StandsWith journal zone_number (checked_texts taken) (text_in doubt)
+      → zone.brief ≡ brief_of taken → AreTakenPatches zone.limits taken → AreTakenPatches zone.limits (with_one_more taken doubt) → StandsWith journal zone_number (checked_texts taken) (text_in doubt)
       → StandsForZone disks.tells (disks.past (disk_of journal)) zone taken doubt
   zone_stands journal zone taken None settled is brief without having stands = record {
     brief_is = brief;

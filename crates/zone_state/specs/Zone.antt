@@ -1,6 +1,7 @@
 -- What a zone is, and what its disk holds.
 use Rattle.std.specs.Prelude.{◌≡◌, ℕ, Bool, List, [], ◌∷◌, ◌++◌, Option, Some, None, map, is_none}
 use Rattle.std.specs.Option.{option_map}
+use Rattle.log_base.specs.OneMore.{with_one_more}
 use Rattle.rdf_terms.specs.declared.term.Term.{Term}
 use Rattle.disk_model.specs.Past.{Past}
 use Rattle.log_journal.specs.Journal.{HoldsAll, InDoubt}
@@ -30,10 +31,6 @@ pub record AreTakenPatches (limits : LogLimits) (taken : List CheckedPatch) : Ty
   pub checked : AreChecked taken
   pub log : IsLog limits (map bare taken)
 
-abbrev pub with_doubtful : List CheckedPatch → Option CheckedPatch → List CheckedPatch
-with_doubtful taken None = taken
-with_doubtful taken (Some doubt) = taken ++ doubt ∷ []
-
 -- in every image stand the texts taken, and the one in doubt stands behind them
 abbrev pub DiskHolds : Past → ℕ → List CheckedPatch → Option CheckedPatch → Type 0
 DiskHolds past end taken None = HoldsAll past end zone_number (checked_texts taken)
@@ -47,7 +44,7 @@ pub record StandsForZone {D : Type 0} (tells : Type 0) (past : Past) (zone : Zon
   pub brief_is : zone.brief ≡ brief_of taken
   pub settled_is : zone.settled ≡ is_none doubt
   pub without : AreTakenPatches zone.limits taken
-  pub having : AreTakenPatches zone.limits (with_doubtful taken doubt)
+  pub having : AreTakenPatches zone.limits (with_one_more taken doubt)
   pub on_disk : tells → DiskHolds past (file_length zone.brief.ids zone.brief.bytes) taken doubt
 
 abbrev pub doubt_of : Option CheckedPatch → Option Patch

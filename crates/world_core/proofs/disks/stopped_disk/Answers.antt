@@ -1,6 +1,6 @@
 use Rattle.std.proofs.Common.{◌≡◌, ℕ, List, Option, cond, ◌∙◌, ap}
 use Rattle.chain_core.specs.declared.chain.Patch.{Patch}
-use Rattle.chain_core.specs.Log.{with_doubt}
+use Rattle.log_base.specs.OneMore.{with_one_more}
 use Rattle.disk_model.specs.Past.{began, image_of}
 use Rattle.disk_model.specs.Plan.{plan_past}
 use Rattle.disk_model.specs.declared.plan.PlanDisk.{PlanDisk}
@@ -12,5 +12,5 @@ pub returns : goal.returns
 returns c =
     let old = c.args.disk in
     let value : c.in_ok-image.image ≡ image_of (plan_past old) (cond c.args.opened 257 0) = c.in_ok-image.ensures.value ∙ ap (image_of (plan_past old)) c.image_left.ensures in
-    if_ok-map (λ (disk : PlanDisk). plan_past disk ≡ began c.in_ok-image.image) (λ (disk : PlanDisk). (number : ℕ) (chain : List Patch) (doubt : Option Patch) → CarriesPart number old chain doubt → KeepsChain number disk (cond c.args.opened (with_doubt chain doubt) chain)) c.new.result
+    if_ok-map (λ (disk : PlanDisk). plan_past disk ≡ began c.in_ok-image.image) (λ (disk : PlanDisk). (number : ℕ) (chain : List Patch) (doubt : Option Patch) → CarriesPart number old chain doubt → KeepsChain number disk (cond c.args.opened (with_one_more chain doubt) chain)) c.new.result
     (λ disk fresh number chain doubt carries. stop_keeps number c.args.opened old chain doubt c.in_ok-image.image disk carries value c.in_ok-image.ensures.may_be_left fresh) c.new.ensures.past
