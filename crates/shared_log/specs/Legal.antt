@@ -16,8 +16,7 @@ use Rattle.chain_core.specs.Replies.{LogCall, append, fetch_version, fetch_id, d
 use Rattle.chain_core.specs.Replies.{LogReply, answered, log_reply}
 use Rattle.turn_cell.specs.Knowing.{SeesOn, IsQuiet, Brought}
 use Rattle.turn_cell.specs.Knowing.{seen_of, mine_of, failed_of, own_faults_of}
-use Rattle.shared_log.specs.History.{patches_known}
-use Rattle.shared_log.specs.Passes.{LogSight}
+use Rattle.shared_log.specs.History.{patches_known, LogSight}
 
 -- the history that the pass then knows gives this reply, and the pass did nothing else
 abbrev pub IsReply : LogLimits → LogCall → LogReply → LogSight → LogSight → Type 0

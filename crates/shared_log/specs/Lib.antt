@@ -1,6 +1,5 @@
 pub mod Apart
 pub mod History
-pub mod Passes
 pub mod Replies
-pub mod Appending
+pub mod Stays
 pub mod Legal

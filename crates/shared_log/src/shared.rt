@@ -1,15 +1,14 @@
 //! A log that threads share.
-ghost use Rattle.std.specs.Prelude.{◌≡◌, ◌<◌, ◌≤◌, ℕ, ◌+◌, Some, IfOk, IfErr, OnErr, slice_get};
+ghost use Rattle.std.specs.Prelude.{◌≡◌, ◌≢◌, false, ◌<◌, ◌≤◌, ℕ, ◌+◌, Some, IfOk, IfErr, OnErr, slice_get};
 ghost use Rattle.std.specs.Prelude.{vec_len, vec_capacity};
 ghost use Rattle.std.specs.List.{AllByRecursion};
 ghost use Rattle.chain_core.specs.Replies as asked;
 ghost use Rattle.patch_log.specs.Log.{bare};
 ghost use Rattle.turn_cell.specs.Knowing.{Wants, pass_number};
-ghost use Rattle.shared_log.specs.History.{StandsInTurn};
-ghost use Rattle.shared_log.specs.Passes.{IsPassOf, IsNewPassOf, AreAllPassesOf, IsClosedOf};
+ghost use Rattle.turn_cell.specs.Sharing.{IsPassOf, IsNewPassOf, AreAllPassesOf, IsClosedOf};
+ghost use Rattle.shared_log.specs.History.{shared_log};
 ghost use Rattle.shared_log.specs.Replies.{reply_fetched, reply_described};
-ghost use Rattle.shared_log.specs.Appending.{AppendsInTurn};
-ghost use Rattle.shared_log.specs.Legal.{LegalOnLog};
+ghost use Rattle.shared_log.specs.Stays.{CalledOnLog};
 
 use crate::replies::{Fetched, LogInfo};
 use crate::value::LogValue;
@@ -22,6 +21,14 @@ use std::alloc::Global;
 use std::marker::Model;
 use std::sync::Wait;
 use turn_cell::{Pass, Turn};
+
+// Whether the disk was asked for a patch that got this answer.
+fn asks_the_disk(answer: &LogAnswer) -> bool
+    ensures { result ≡ false → (answer.now ≢ LogAnswer.DiskFault)
+        × ((version : ℕ) → answer.now ≢ LogAnswer.Accepted version) }
+{
+    matches!(answer, LogAnswer::Accepted { .. } | LogAnswer::DiskFault)
+}
 
 /// What a pass knows of one log.
 pub type LogPass<D> = Pass<LogValue<D>>;
@@ -55,7 +62,7 @@ impl<D: Disk> SharedLog<D> {
         ensures passes { IfOk result (λ r.
             (vec_len r.1 ≡ seats) × (vec_capacity r.1 ≡ seats)) }
         ensures new { IfOk result (λ r. (k : ℕ) (p : _) → slice_get r.1.items k ≡ Some p
-            → IsNewPassOf D.mark r.0 (k + 1) p) }
+            → IsNewPassOf (shared_log D.Disk) r.0 (k + 1) p) }
         ensures back { IfErr result (λ b. b.item ≡ state) }
     {
         match Turn::new(alloc, LogValue::of(state), seats) {
@@ -69,29 +76,16 @@ impl<D: Disk> SharedLog<D> {
     /// Adds a patch, or says why not: Known, Conflict, Full, want of memory and a disk fault, in
     /// this order. It copies the patch before it takes the turn.
     pub fn append<R: Wait>(&self, rt: &R, pass: &mut LogPass<D>, patch: &Checked) -> LogAnswer
-        requires of { IsPassOf D.mark self.now pass.old }
-        ensures of { IsPassOf D.mark self.now pass.new }
-        ensures legal { LegalOnLog self.now.origin.limits pass.old
+        requires of { IsPassOf (shared_log D.Disk) self.now pass.old }
+        ensures of { IsPassOf (shared_log D.Disk) self.now pass.new }
+        ensures called { CalledOnLog D.Disk self.now.origin pass.old
             (asked.append (bare patch.now)) (asked.answered result) pass.new }
-        ensures stay { AppendsInTurn D.Disk self.now.origin (bare patch.now) result
-            pass.old pass.new }
     {
         let made = Ready::of(self.alloc, patch, pass.number());
         let mut held = self.turn.enter(rt, pass);
-        match held.value_mut().append(patch, made) {
-            LogAnswer::Accepted { version } => {
-                self.turn.leave(pass, held);
-                LogAnswer::Accepted { version }
-            }
-            LogAnswer::DiskFault => {
-                self.turn.leave(pass, held);
-                LogAnswer::DiskFault
-            }
-            answer => {
-                self.turn.leave_as_found(pass, held);
-                answer
-            }
-        }
+        let answer = held.value_mut().append(patch, made);
+        self.turn.give_back(pass, held, asks_the_disk(&answer));
+        answer
     }
 
     /// The patch of a version, counted from 1.
@@ -101,15 +95,15 @@ impl<D: Disk> SharedLog<D> {
         pass: &mut LogPass<D>,
         version: u32,
     ) -> Result<Fetched, OutOfMemory>
-        requires of { IsPassOf D.mark self.now pass.old }
-        ensures of { IsPassOf D.mark self.now pass.new }
-        ensures legal { IfOk result (λ fetched. LegalOnLog self.now.origin.limits pass.old
+        requires of { IsPassOf (shared_log D.Disk) self.now pass.old }
+        ensures of { IsPassOf (shared_log D.Disk) self.now pass.new }
+        ensures called { IfOk result (λ fetched. CalledOnLog D.Disk self.now.origin pass.old
             (asked.fetch_version version) (reply_fetched fetched) pass.new) }
         ensures want { OnErr result (Wants pass.old pass.new) }
     {
         let held = self.turn.enter(rt, pass);
         let fetched = held.value().fetch_version(version);
-        self.turn.leave_as_found(pass, held);
+        self.turn.give_back(pass, held, false);
         fetched
     }
 
@@ -120,36 +114,36 @@ impl<D: Disk> SharedLog<D> {
         pass: &mut LogPass<D>,
         id: Id,
     ) -> Result<Fetched, OutOfMemory>
-        requires of { IsPassOf D.mark self.now pass.old }
-        ensures of { IsPassOf D.mark self.now pass.new }
-        ensures legal { IfOk result (λ fetched. LegalOnLog self.now.origin.limits pass.old
+        requires of { IsPassOf (shared_log D.Disk) self.now pass.old }
+        ensures of { IsPassOf (shared_log D.Disk) self.now pass.new }
+        ensures called { IfOk result (λ fetched. CalledOnLog D.Disk self.now.origin pass.old
             (asked.fetch_id id) (reply_fetched fetched) pass.new) }
         ensures want { OnErr result (Wants pass.old pass.new) }
     {
         let held = self.turn.enter(rt, pass);
         let fetched = held.value().fetch_id(id);
-        self.turn.leave_as_found(pass, held);
+        self.turn.give_back(pass, held, false);
         fetched
     }
 
     /// How long the log is, and the id of its last patch.
     pub fn describe<R: Wait>(&self, rt: &R, pass: &mut LogPass<D>) -> LogInfo
-        requires of { IsPassOf D.mark self.now pass.old }
-        ensures of { IsPassOf D.mark self.now pass.new }
-        ensures legal { LegalOnLog self.now.origin.limits pass.old
+        requires of { IsPassOf (shared_log D.Disk) self.now pass.old }
+        ensures of { IsPassOf (shared_log D.Disk) self.now pass.new }
+        ensures called { CalledOnLog D.Disk self.now.origin pass.old
             asked.describe (reply_described result) pass.new }
     {
         let held = self.turn.enter(rt, pass);
         let info = held.value().describe();
-        self.turn.leave_as_found(pass, held);
+        self.turn.give_back(pass, held, false);
         info
     }
 
     /// How long the log is. It waits for nobody.
     pub fn version(&self, pass: &mut LogPass<D>) -> u32
-        requires of { IsPassOf D.mark self.now pass.old }
-        ensures of { IsPassOf D.mark self.now pass.new }
-        ensures legal { LegalOnLog self.now.origin.limits pass.old
+        requires of { IsPassOf (shared_log D.Disk) self.now pass.old }
+        ensures of { IsPassOf (shared_log D.Disk) self.now pass.new }
+        ensures called { CalledOnLog D.Disk self.now.origin pass.old
             asked.version (asked.counted result) pass.new }
     {
         self.turn.count(pass) as u32
@@ -158,9 +152,8 @@ impl<D: Disk> SharedLog<D> {
     /// The log, once all passes are back. Its entries begin with what each pass knew, and have just
     /// its own at its places.
     pub fn close(self, passes: Vec<LogPass<D>>) -> LogState<D>
-        requires { AreAllPassesOf D.mark self passes.items }
-        ensures closed { IsClosedOf D.Disk self passes.items result }
-        ensures stands { StandsInTurn D.Disk result }
+        requires { AreAllPassesOf (shared_log D.Disk) self passes.items }
+        ensures closed { IsClosedOf (shared_log D.Disk) self passes.items result }
     {
         let SharedLog { turn, .. } = self;
         turn.close(passes).into_log()

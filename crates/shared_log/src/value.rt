@@ -62,13 +62,6 @@ impl<D: Disk> LogValue<D> {
         log
     }
 
-    /// Its disk stands for it.
-    pub fn stands(&self)
-        ensures { StandsInTurn D.Disk self.now }
-    {
-        let _log = &self.log;
-    }
-
     pub fn version(&self) -> u32
         ensures { result ≡ length self.now.entries }
     {
@@ -139,7 +132,7 @@ impl<D: Disk> LogValue<D> {
 impl<D: Disk> Chained for LogValue<D> {
     ghost use Rattle.std.specs.Prelude.{◌<◌, ◌^◌, length};
     ghost use Rattle.shared_log.specs.Apart.{patches_apart};
-    ghost use Rattle.shared_log.specs.History.{history_of, fixed_of};
+    ghost use Rattle.shared_log.specs.History.{history_of, fixed_of, StandsInTurn};
 
     type Content = Patch;
 
@@ -157,6 +150,8 @@ impl<D: Disk> Chained for LogValue<D> {
 
     ghost fits = { λ f es. length es < 2 ^ 32 };
 
+    ghost stands = { λ v. StandsInTurn D.Disk v };
+
     ghost tells_apart = { patches_apart };
 
     fn count(&self) -> u64 {
@@ -165,5 +160,9 @@ impl<D: Disk> Chained for LogValue<D> {
 
     fn faults(&self) -> u64 {
         self.log.faults()
+    }
+
+    fn standing(&self) {
+        let _log = &self.log;
     }
 }

@@ -73,6 +73,8 @@ impl Chained for Numbers {
 
     ghost fits = { λ f es. Unit {0} };
 
+    ghost stands = { λ n. Unit {0} };
+
     ghost tells_apart = { nothing_apart };
 
     fn count(&self) -> u64 {
@@ -82,4 +84,6 @@ impl Chained for Numbers {
     fn faults(&self) -> u64 {
         self.faults
     }
+
+    fn standing(&self) {}
 }

@@ -66,5 +66,5 @@ fn stay<R: Wait>(rt: &R, turn: &Turn<Numbers>, pass: &mut Pass<Numbers>, number:
     let by = pass.number();
     let mut held = turn.enter(rt, pass);
     held.value_mut().add(number, by);
-    turn.leave(pass, held);
+    turn.give_back(pass, held, true);
 }

@@ -3,3 +3,5 @@ pub mod Turns
 pub mod Steps
 pub mod Sights
 pub mod Knowing
+pub mod Sharing
+pub mod Calls
