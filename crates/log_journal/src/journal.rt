@@ -1,12 +1,12 @@
 //! A file of payloads behind gates. A gate is opened only once what stands behind it is
 //! on the disk.
-ghost use Rattle.std.specs.Prelude.{◌≡◌, ◌≢◌, None, false, ◌⊎◌, ℕ, ◌+◌, ◌<◌, ◌≤◌, ◌↔◌};
+ghost use Rattle.std.specs.Prelude.{◌≡◌, None, false, ◌⊎◌, ℕ, ◌+◌, ◌<◌, ◌≤◌, ◌↔◌};
 ghost use Rattle.std.specs.Prelude.{◌++◌, [], ◌∷◌, List, length, IsTrue, not, OnOk, OnErr};
-ghost use Rattle.std.specs.Prelude.{IsErrOf, IfOk, IfErr, IsOk, is_ok, if◌then◌else◌};
+ghost use Rattle.std.specs.Prelude.{IsErr, IsErrOf, IfOk, IfErr, IsOk, is_ok, if◌then◌else◌};
 ghost use Rattle.log_base.specs.declared.limits.TheConstants.{EMPTY_JOURNAL, PAYLOAD_FRAME};
 ghost use Rattle.log_base.specs.Journals.{payloads_length};
-ghost use Rattle.delta_base.specs.Outside.{Rose, HasCause};
-ghost use Rattle.disk_model.specs.Past.{reads, synced, ok_syncs, synced_bytes, filled, Keeps};
+ghost use Rattle.delta_base.specs.Outside.{Rose};
+ghost use Rattle.disk_model.specs.Past.{reads, synced, ok_syncs, synced_bytes, filled};
 ghost use Rattle.disk_model.specs.Calls.{WroteSome};
 ghost use Rattle.log_journal.specs.File.{Holds, file_of};
 ghost use Rattle.log_journal.specs.Journal.{HoldsWithOrWithout};
@@ -106,6 +106,7 @@ impl<D: Disk> Journal<D> {
     ghost use Rattle.log_journal.specs.StandsFor.{length_of, limit_of, is_settled, disk_of};
     ghost use Rattle.log_journal.specs.Payload.{payload_of};
     ghost use Rattle.log_journal.specs.Append.{syncs_of, DoneByPlan};
+    ghost use Rattle.log_journal.specs.Written.{DiskWent, Reopened, RefusedOpening};
 
     /// Opens a file that a crash may have left. A refusal hands the disk back.
     pub fn open_on(
@@ -121,35 +122,15 @@ impl<D: Disk> Journal<D> {
         ensures fault { IfErr result (λ refusal. D.tells
             → HasFault (reads (D.past disk)) number limit refusal.fault) }
 
-        // A crash at any moment leaves what it might have left before, and a read gives
-        // what it gave.
-        ensures kept { IfOk result (λ opened. D.tells
-            → Keeps (D.past disk) (D.past (disk_of opened.0))) }
-        ensures kept_refused { IfErr result (λ refusal. D.tells
-            → Keeps (D.past disk) (D.past refusal.disk)) }
-
-        // It reads no more than the journal.
-        ensures few { IfOk result (λ opened. D.tells
-            → D.read_bytes (disk_of opened.0) ≤ D.read_bytes disk + (length_of opened.0)) }
+        // What becomes of its disk.
+        ensures reopened { IfOk result (λ opened.
+            Reopened D.Disk disk (disk_of opened.0) (length_of opened.0)) }
+        ensures refused { IfErr result (λ refusal.
+            RefusedOpening D.Disk (refusal.fault ≡ JournalFault.Failed) disk refusal.disk) }
         ensures length { IfOk result
             (λ opened. (length_of opened.0) ≡ payloads_length opened.1.items) }
         ensures limit { IfOk result (λ opened. (limit_of opened.0) ≡ limit) }
         ensures within { IfOk result (λ opened. (length_of opened.0) ≤ limit) }
-        ensures cause { IfErr result (λ refusal. refusal.fault ≡ JournalFault.Failed
-            → Rose (D.faults disk) (D.faults refusal.disk)) }
-
-        // A fault is counted where a call of the disk failed, and else none.
-        ensures faults { IfOk result (λ opened. D.faults (disk_of opened.0) ≡ D.faults disk) }
-        ensures never_falls { IfErr result (λ refusal. D.faults disk ≤ D.faults refusal.disk) }
-        ensures faults_refused { IfErr result (λ refusal. refusal.fault ≢ JournalFault.Failed
-            → D.faults refusal.disk ≡ D.faults disk) }
-
-        // Where no failure is planned, its disk fails for want of memory alone.
-        ensures long { D.plans → IfOk result (λ opened. D.short (disk_of opened.0) ≡ D.short disk) }
-        ensures planned { D.plans → IfErr result (λ refusal. refusal.fault ≡ JournalFault.Failed
-            → D.next_failure disk ≡ None → IsTrue (D.short refusal.disk)) }
-        ensures mark { IfOk result (λ opened. D.mark (disk_of opened.0) ≡ D.mark disk) }
-        ensures mark_refused { IfErr result (λ refusal. D.mark refusal.disk ≡ D.mark disk) }
     {
         let mut payloads = Listing::new(alloc);
         match Journal::open_with(alloc, disk, number, limit, &mut payloads) {
@@ -177,33 +158,13 @@ impl<D: Disk> Journal<D> {
         ensures fault { IfErr result (λ refusal. D.tells
             → HasFault (reads (D.past disk)) number limit refusal.fault) }
 
-        // A crash at any moment leaves what it might have left before, and a read gives
-        // what it gave.
-        ensures kept { IfOk result (λ journal. D.tells
-            → Keeps (D.past disk) (D.past (disk_of journal))) }
-        ensures kept_refused { IfErr result (λ refusal. D.tells
-            → Keeps (D.past disk) (D.past refusal.disk)) }
-
-        // It reads no more than the journal.
-        ensures few { IfOk result (λ journal. D.tells
-            → D.read_bytes (disk_of journal) ≤ D.read_bytes disk + (length_of journal)) }
+        // What becomes of its disk.
+        ensures reopened { IfOk result (λ journal.
+            Reopened D.Disk disk (disk_of journal) (length_of journal)) }
+        ensures refused { IfErr result (λ refusal.
+            RefusedOpening D.Disk (refusal.fault ≡ JournalFault.Failed) disk refusal.disk) }
         ensures limit { IfOk result (λ journal. (limit_of journal) ≡ limit) }
         ensures within { IfOk result (λ journal. (length_of journal) ≤ limit) }
-        ensures cause { IfErr result (λ refusal. refusal.fault ≡ JournalFault.Failed
-            → Rose (D.faults disk) (D.faults refusal.disk)) }
-
-        // A fault is counted where a call of the disk failed, and else none.
-        ensures faults { IfOk result (λ journal. D.faults (disk_of journal) ≡ D.faults disk) }
-        ensures never_falls { IfErr result (λ refusal. D.faults disk ≤ D.faults refusal.disk) }
-        ensures faults_refused { IfErr result (λ refusal. refusal.fault ≢ JournalFault.Failed
-            → D.faults refusal.disk ≡ D.faults disk) }
-
-        // Where no failure is planned, its disk fails for want of memory alone.
-        ensures long { D.plans → IfOk result (λ journal. D.short (disk_of journal) ≡ D.short disk) }
-        ensures planned { D.plans → IfErr result (λ refusal. refusal.fault ≡ JournalFault.Failed
-            → D.next_failure disk ≡ None → IsTrue (D.short refusal.disk)) }
-        ensures mark { IfOk result (λ journal. D.mark (disk_of journal) ≡ D.mark disk) }
-        ensures mark_refused { IfErr result (λ refusal. D.mark refusal.disk ≡ D.mark disk) }
     {
         let mut disk = disk;
         match read_journal(alloc, &mut disk, number, limit, receiver) {
@@ -349,12 +310,8 @@ impl<D: Disk> Journal<D> {
         ensures full_shows { (length limit : ℕ) → IsErrOf result (AppendFault.Full length limit)
             → (length ≡ (length_of self.old)) × (limit ≡ (limit_of self.old))
             × (self.new ≡ self.old) }
-        ensures cause { IsErrOf result AppendFault.Failed
-            → Rose (D.faults (disk_of self.old)) (D.faults (disk_of self.new)) }
-        ensures faults { D.faults (disk_of self.old) ≤ D.faults (disk_of self.new) }
-        ensures well { OnOk result (D.faults (disk_of self.new) ≡ D.faults (disk_of self.old)) }
-        ensures stays_short { D.plans → IsTrue (D.short (disk_of self.old))
-            → IsTrue (D.short (disk_of self.new)) }
+        ensures went { DiskWent D.Disk (IsErrOf result AppendFault.Failed) (disk_of self.old)
+            (disk_of self.new) }
         ensures long { D.plans → OnOk result
             (D.short (disk_of self.new) ≡ D.short (disk_of self.old)) }
         ensures longer { OnOk result
@@ -362,7 +319,6 @@ impl<D: Disk> Journal<D> {
             ≡ (length_of self.old) + PAYLOAD_FRAME + length (payload_of block.now)) }
         ensures same_length { OnErr result ((length_of self.new) ≡ (length_of self.old)) }
         ensures limit { (limit_of self.new) ≡ (limit_of self.old) }
-        ensures mark { D.mark (disk_of self.new) ≡ D.mark (disk_of self.old) }
     {
         let size = block.bytes.len() as u64;
         if self.limit - self.end < size {
@@ -414,16 +370,11 @@ impl<D: Disk> Journal<D> {
             × (Holds (filled 1 (D.past (disk_of self.old))) number (payloads ++ doubt ∷ [])
             → Holds (filled 1 (D.past (disk_of self.new))) number (payloads ++ doubt ∷ [])) }
 
-        ensures cause { HasCause (D.faults (disk_of self.old))
-            (D.faults (disk_of self.new)) result }
-        ensures well { OnOk result (D.faults (disk_of self.new) ≡ D.faults (disk_of self.old)) }
-        ensures stays_short { D.plans → IsTrue (D.short (disk_of self.old))
-            → IsTrue (D.short (disk_of self.new)) }
+        ensures went { DiskWent D.Disk (IsErr result) (disk_of self.old) (disk_of self.new) }
         ensures long { D.plans → OnOk result
             (D.short (disk_of self.new) ≡ D.short (disk_of self.old)) }
         ensures same_length { (length_of self.new) ≡ (length_of self.old) }
         ensures limit { (limit_of self.new) ≡ (limit_of self.old) }
-        ensures mark { D.mark (disk_of self.new) ≡ D.mark (disk_of self.old) }
     {
         if self.settled {
             return Ok(());
