@@ -1,32 +1,26 @@
 -- Patches of a chain, where they stand, and their journal's length.
-use Rattle.std.proofs.Common.{◌≡◌, ℕ, zero, suc, ◌+◌, ◌-◌, ◌*◌, ◌<◌, ◌≤◌, List, [], ◌∷◌, ◌++◌, length, Option, Some, None, refl, ◌∙◌, ap, arith}
+use Rattle.std.proofs.Common.{◌≡◌, ℕ, zero, suc, ◌+◌, ◌-◌, ◌*◌, ◌≤◌, List, [], ◌∷◌, ◌++◌, length, map, refl, sym, ◌∙◌, ap, arith}
 use Rattle.std.specs.Prelude.{slice_get, sum_by}
 use Rattle.std.specs.Option.{option_map}
 use Rattle.std.specs.List.{AllByRecursion}
 use Rattle.std.proofs.lemmas.Option.{slice_get-map}
 use Rattle.std.proofs.lemmas.List.Sums.{sum_by-append, sum_by-cons}
-use Rattle.std.proofs.lemmas.List.{map-append}
+use Rattle.std.proofs.lemmas.List.{length-map, map-append}
+use Rattle.std.proofs.lemmas.Simd.{map-map}
 use Rattle.delta_base.specs.declared.id.Id.{Id}
 use Rattle.log_base.specs.declared.limits.TheConstants.{PATCH_LIMIT, PAYLOAD_FRAME}
 use Rattle.chain_core.specs.declared.chain.Patch.{Patch}
 use Rattle.chain_core.specs.declared.chain.Entry.{Entry}
-use Rattle.chain_core.specs.Links.{last_or}
-use Rattle.chain_core.specs.Patches.{patch_of, patches_of, links_of, texts_of, at_version, patch_at, last_id, journal_length}
+use Rattle.chain_core.specs.Patches.{patch_of, patches_of, patch_ids, texts_of, at_version, patch_at, last_id, journal_length}
 
 abbrev pub id_in : Entry → Id
 id_in entry = entry.patch.id
 
--- the id of the last entry is that of the last patch
-last_behind : (head : Option Id) (entries : List Entry) → 0 < length entries → option_map id_in (slice_get entries (length entries - 1)) ≡ last_or head (links_of (patches_of entries))
-last_behind head [] some = absurd (omega arith)
-last_behind head (entry ∷ []) some = refl
-last_behind head (entry ∷ (next ∷ entries)) some =
-    let at : length (entry ∷ (next ∷ entries)) - 1 ≡ suc (length (next ∷ entries) - 1) = omega arith in
-    ap (λ (n : ℕ). option_map id_in (slice_get (entry ∷ (next ∷ entries)) n)) at ∙ last_behind (Some entry.patch.id) (next ∷ entries) (omega arith)
-
-pub head-patches : (entries : List Entry) → option_map (λ (e : Entry). e.patch.id) (slice_get entries (length entries - 1)) ≡ last_id (patches_of entries)
-head-patches [] = refl
-head-patches (entry ∷ entries) = last_behind None (entry ∷ entries) (omega arith)
+pub head-patches : (entries : List Entry) → option_map id_in (slice_get entries (length entries - 1)) ≡ last_id (patches_of entries)
+head-patches entries =
+    let ids = patch_ids (patches_of entries) in
+    let same : ids ≡ map id_in entries = map-map (λ (p : Patch). p.id) patch_of entries in
+    sym (slice_get-map id_in entries (length entries - 1)) ∙ ap (λ (is : List Id). slice_get is (length entries - 1)) (sym same) ∙ ap (λ (n : ℕ). slice_get ids (n - 1)) (sym (ap length same ∙ length-map entries id_in))
 
 -- the patch of an entry
 pub patch_at-entries : (entries : List Entry) (version : ℕ) → patch_at (patches_of entries) version ≡ option_map patch_of (at_version entries version)

@@ -1,5 +1,5 @@
 -- What a stay leaves is a log.
-use Rattle.std.proofs.Common.{◌≡◌, ℕ, ◌≤◌, Bool, true, false, cond, List, [], ◌∷◌, ◌++◌, length, Option, Some, None, refl, sym, subst, arith, length-append}
+use Rattle.std.proofs.Common.{◌≡◌, ℕ, ◌≤◌, Bool, true, false, cond, List, [], ◌∷◌, ◌++◌, length, Option, Some, None, refl, sym, ap, ◌∙◌, subst, arith, length-append}
 use Rattle.std.specs.List.{AllByRecursion}
 use Rattle.std.proofs.lemmas.List.{map-append}
 use Rattle.log_base.specs.declared.limits.TheConstants.{PATCH_LIMIT}
@@ -10,6 +10,8 @@ use Rattle.chain_core.specs.declared.fate.Fate.{Fate}
 use Rattle.chain_core.specs.declared.fate.Fate.TheVariants.{Done, Fails, Stops}
 use Rattle.chain_core.specs.declared.answer.Decision.{Decision}
 use Rattle.chain_core.specs.declared.answer.Decision.TheVariants.{Accept, Known, Conflict, Full}
+use Rattle.delta_base.specs.declared.id.Id.{Id}
+use Rattle.chain_core.specs.Ids.{last_of, version_among}
 use Rattle.chain_core.specs.Links.{IsChain}
 use Rattle.chain_core.specs.Patches.{links_of, version_of, last_id}
 use Rattle.chain_core.specs.Decision.{decision}
@@ -17,7 +19,7 @@ use Rattle.chain_core.specs.Log.{LogPoint, up, down, IsLog, IsPoint, stopped, op
 use Rattle.chain_core.specs.Stay.{accepted_by, decided_by, stay}
 use Rattle.chain_core.proofs.Chained.{chain-push}
 use Rattle.chain_core.proofs.Decided.{accepted}
-use Rattle.chain_core.proofs.Versions.{link_to}
+use Rattle.chain_core.proofs.Versions.{link_to, same_ids}
 
 pub short-push : (patches : List Patch) (patch : Patch) → AllByRecursion (λ (p : Patch). length p.text ≤ PATCH_LIMIT) patches → length patch.text ≤ PATCH_LIMIT → AllByRecursion (λ (p : Patch). length p.text ≤ PATCH_LIMIT) (patches ++ patch ∷ [])
 short-push [] patch short more = (more, tt)
@@ -26,7 +28,7 @@ short-push (first ∷ patches) patch short more = (short.0, short-push patches p
 -- a patch that names the last one and whose id is new goes on the chain
 pub links-push : (patches : List Patch) (patch : Patch) → IsChain (links_of patches) → patch.prev ≡ last_id patches → version_of patches patch.id ≡ None → IsChain (links_of (patches ++ patch ∷ []))
 links-push patches patch chain follows new =
-    subst IsChain (sym (map-append link_to patches (patch ∷ []))) (chain-push (links_of patches) (link_to patch) chain follows new)
+    subst IsChain (sym (map-append link_to patches (patch ∷ []))) (chain-push (links_of patches) (link_to patch) chain (follows ∙ ap last_of (sym (same_ids patches))) (ap (λ (ids : List Id). version_among ids patch.id) (same_ids patches) ∙ new))
 
 -- what is accepted goes on the log
 pub goes_on : (limits : LogLimits) (patches : List Patch) (patch : Patch) (version : ℕ) → IsLog limits patches → length patch.text ≤ PATCH_LIMIT → decision patches patch limits ≡ Accept version → IsLog limits (patches ++ patch ∷ [])

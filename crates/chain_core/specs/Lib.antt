@@ -1,3 +1,5 @@
+pub mod Ids
+pub mod Index
 pub mod Links
 pub mod Chain
 pub mod Breaks

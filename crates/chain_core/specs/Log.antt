@@ -1,6 +1,6 @@
 -- A log: a chain, and the patch whose gate may stand open on its disk.
-use Rattle.std.specs.Prelude.{◌≤◌, List, [], ◌∷◌, ◌++◌, length}
-use Rattle.std.specs.Prelude.{Option, Some, None, Bool, if◌then◌else◌}
+use Rattle.std.specs.Prelude.{◌≤◌, List, length}
+use Rattle.std.specs.Prelude.{Option, None, Bool, if◌then◌else◌}
 use Rattle.std.specs.List.{AllByRecursion}
 use Rattle.log_base.specs.OneMore.{with_one_more}
 use Rattle.log_base.specs.declared.limits.LogLimits.{LogLimits}

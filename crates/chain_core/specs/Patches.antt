@@ -5,7 +5,7 @@ use Rattle.log_base.specs.Journals.{payloads_length}
 use Rattle.chain_core.specs.declared.chain.Patch.{Patch}
 use Rattle.chain_core.specs.declared.chain.Entry.{Entry}
 use Rattle.log_base.specs.declared.chain_link.ChainLink.{ChainLink}
-use Rattle.chain_core.specs.Links.{last_or, version_in}
+use Rattle.chain_core.specs.Ids.{last_of, version_among}
 
 abbrev pub patch_of : Entry → Patch
 patch_of entry = entry.patch
@@ -16,12 +16,15 @@ patches_of entries = map patch_of entries
 abbrev pub links_of : List Patch → List ChainLink
 links_of patches = map (λ patch. record { id = patch.id; prev = patch.prev }) patches
 
+abbrev pub patch_ids : List Patch → List Id
+patch_ids patches = map (λ patch. patch.id) patches
+
 abbrev pub texts_of : List Patch → List (List ℕ)
 texts_of patches = map (λ patch. patch.text) patches
 
 -- the version of the patch with this id, counted from 1
 abbrev pub version_of : List Patch → Id → Option ℕ
-version_of patches id = version_in (links_of patches) id
+version_of patches id = version_among (patch_ids patches) id
 
 -- what stands at a version, counted from 1
 abbrev pub at_version : {T : Type 0} → List T → ℕ → Option T
@@ -39,7 +42,7 @@ patch_named patches (Some version) = patch_at patches version
 
 -- the id of the last patch
 abbrev pub last_id : List Patch → Option Id
-last_id patches = last_or None (links_of patches)
+last_id patches = last_of (patch_ids patches)
 
 -- the length of a journal that holds the patches
 abbrev pub journal_length : List Patch → ℕ

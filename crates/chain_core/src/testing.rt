@@ -6,10 +6,10 @@ ghost use Rattle.chain_core.specs.Links.{IsChain};
 ghost use Rattle.chain_core.specs.Breaks.{Breaks};
 ghost use Rattle.chain_core.specs.Tested.{IsTested};
 
+use crate::id_index::IdIndex;
 use delta_base::{Id, OutOfMemory};
 use log_base::ChainLink;
 use std::alloc::Global;
-use std::collections::HashMap;
 
 /// Why patches are no chain.
 #[derive(Clone, Copy, Debug, PartialEq, Eq)]
@@ -35,8 +35,7 @@ pub struct ChainTest {
     version: u32,
     /// The id of the last one.
     head: Option<Id>,
-    /// The versions by their ids.
-    versions: HashMap<u128, u32>,
+    index: IdIndex,
 }
 
 impl ChainTest {
@@ -47,7 +46,7 @@ impl ChainTest {
         ChainTest {
             version: 0,
             head: None,
-            versions: HashMap::new(alloc),
+            index: IdIndex::new(alloc),
         }
     }
 
@@ -65,7 +64,7 @@ impl ChainTest {
                 found: link.prev,
             });
         }
-        match self.version_of(link.id) {
+        match self.index.version_of(link.id) {
             Some(version) => Some(ChainFault::Repeated {
                 id: link.id,
                 version,
@@ -83,19 +82,9 @@ impl ChainTest {
         ensures err { OnErr result ((links : List ChainLink)
             → IsTested links self.old → IsTested links self.new) }
     {
-        self.versions.insert(link.id.0, self.version + 1)?;
+        self.index.insert(link.id, self.version + 1)?;
         self.version += 1;
         self.head = Some(link.id);
         Ok(())
-    }
-
-    ghost use Rattle.std.specs.Prelude.{nat_eq};
-    ghost use Rattle.std.specs.HashMap.{get};
-
-    // The version that has an id.
-    fn version_of(&self, id: Id) -> Option<u32>
-        ensures { result ≡ get nat_eq self.now.versions id.0 }
-    {
-        self.versions.get(&id.0).copied()
     }
 }

@@ -10,9 +10,9 @@ returns-then-ne-clause-breaks c = λ links more is.
 pub returns-in-Some-clause-breaks : goal.returns-in-Some-clause-breaks
 returns-in-Some-clause-breaks c = λ links more is.
     repeats links more c.args.link c.args.self.now c.in-Some.version is (ids_same c.args.link.prev c.args.self.now.head (sym c.ne.ensures ∙ c.if-ne.false))
-    (sym (is.versions_are c.args.link.id) ∙ sym c.version_of.ensures ∙ c.in-Some.is)
+    (sym (c.version_of.ensures _ is.index_is) ∙ c.in-Some.is)
 
 pub returns-in-None-clause-follows : goal.returns-in-None-clause-follows
 returns-in-None-clause-follows c = λ links is.
     follows links c.args.link c.args.self.now is (ids_same c.args.link.prev c.args.self.now.head (sym c.ne.ensures ∙ c.if-ne.false))
-    (sym (is.versions_are c.args.link.id) ∙ sym c.version_of.ensures ∙ c.in-None.is)
+    (sym (c.version_of.ensures _ is.index_is) ∙ c.in-None.is)

@@ -4,5 +4,5 @@ use Rattle.chain_core.proofs.testing.ChainTest.push.Goals as goal
 
 pub returns-clause-ok : goal.returns-clause-ok
 returns-clause-ok c = λ links is chain.
-    tested_more links c.args.link c.args.self.now (record { version = c.args.self.now.version + 1; head = Some c.args.link.id; versions = c.insert.new.self }) is chain refl refl
-    c.in_ok-insert.ensures.updates.0
+    tested_more links c.args.link c.args.self.now (record { version = c.args.self.now.version + 1; head = Some c.args.link.id; index = c.insert.new.self }) is chain refl refl
+    c.in_ok-insert.ensures.more
