@@ -30,6 +30,10 @@ module _ {C X F : Type 0} where
   abbrev pub looks_of : Sight C X F → ℕ
   looks_of p = p.view.looks
 
+  -- how often the pass drew a ticket for the turn
+  abbrev pub turns_of : Sight C X F → ℕ
+  turns_of p = p.view.turns
+
   -- the same pass: of that cell, at that place, with that number and fixed part
   abbrev pub IsSame : Sight C X F → Sight C X F → Type 0
   IsSame p q =

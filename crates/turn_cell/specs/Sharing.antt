@@ -7,7 +7,7 @@ use Rattle.turn_cell.specs.Turns.{AllOf, Knew, Continues, own_count, Adds}
 use Rattle.turn_cell.specs.Sights.{Sight, Made, Taken, IsOutside, IsFrom, AreAll, ComesFrom}
 use Rattle.turn_cell.specs.Knowing.{IsSame, IsQuiet, KnowsItsOwn}
 use Rattle.turn_cell.specs.Knowing.{pass_number, seen_of, mine_of, failed_of}
-use Rattle.turn_cell.specs.Knowing.{own_faults_of, looks_of}
+use Rattle.turn_cell.specs.Knowing.{own_faults_of, looks_of, turns_of}
 
 module _ {V C X F : Type 0} (chained : Ghosts V C X F) where
   -- a pass of this cell that doesn't have the turn
@@ -20,6 +20,7 @@ module _ {V C X F : Type 0} (chained : Ghosts V C X F) where
   IsNewPassOf made number p =
       IsPassOf made p × (pass_number p ≡ number) × (seen_of p ≡ chained.entries made.origin)
       × (mine_of p ≡ []) × (own_faults_of p ≡ 0) × (looks_of p ≡ 0) × (failed_of p ≡ [])
+      × (turns_of p ≡ 0)
 
   -- the passes of this cell, of which none has the turn and none is missing
   abbrev pub AreAllPassesOf : Made V → List (Sight C X F) → Type 0
@@ -39,6 +40,8 @@ module _ {V C X F : Type 0} (chained : Ghosts V C X F) where
     pub faults : AllOf (λ p. own_faults_of p ≤ chained.fault_count value) passes
     pub doubt : ComesFrom (chained.doubt made.origin) passes (chained.doubt value)
     pub fixed : chained.fixed value ≡ chained.fixed made.origin
+    -- where no pass ever drew a ticket, it is the value of the making, untouched
+    pub untouched : AllOf (λ p. turns_of p ≡ 0) passes → value ≡ made.origin
 
   -- The pass took the turn: it has looked at the history, and holds the value that stands for it.
   pub record EntersTurn (p : Sight C X F) (held : Taken C X F V) (q : Sight C X F) : Type 0 where
