@@ -5,3 +5,4 @@ pub mod States
 pub mod Told
 pub mod Runs
 pub mod Reopened
+pub mod Writes

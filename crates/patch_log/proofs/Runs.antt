@@ -13,7 +13,8 @@ use Rattle.chain_core.specs.declared.chain.Entry.{Entry}
 use Rattle.chain_core.specs.declared.answer.LogAnswer.{LogAnswer}
 use Rattle.chain_core.specs.declared.answer.LogAnswer.TheVariants.{Accepted, Known, Conflict, Full, DiskFault, OutOfMemory}
 use Rattle.patch_meaning.specs.Checked.{CheckedPatch}
-use Rattle.patch_log.specs.Log.{bare, MayHoldChainDuring}
+use Rattle.log_journal.specs.Writing.{HoldsDuring}
+use Rattle.patch_log.specs.Log.{bare, payloads_of, patch_payload}
 use Rattle.patch_log.specs.State.{LogView, chain_of}
 use Rattle.patch_log.specs.Run.{Appended, Run, GrowsBy, HoldsInRun, is_disk_fault}
 
@@ -36,15 +37,15 @@ module _ {D : Type 0} (disks : Ghosts D) (by : ℕ) where
       → place < length all → patch ≡ get_or all place patch → mid.number ≡ before.number
       → Run disks by before (map bare (take place all)) answers mid
       → LeavesOnly (HoldsInRun disks by before (map bare all)) (disks.past before.disk) (disks.past mid.disk)
-      → LeavesOnly (MayHoldChainDuring mid.number (chain_of mid) mid.doubt (bare patch)) (disks.past mid.disk) (disks.past after.disk)
+      → LeavesOnly (HoldsDuring mid.number (payloads_of (chain_of mid)) (patch_payload mid.doubt) patch.text) (disks.past mid.disk) (disks.past after.disk)
       → LeavesOnly (HoldsInRun disks by before (map bare all)) (disks.past before.disk) (disks.past after.disk)
   moments_more before all place patch answers mid after within is number run so_far more =
       let split = parts all place patch within in
       let all_is : map bare all ≡ map bare (take place all) ++ bare patch ∷ split.0 = split.1 ∙ ap (λ (p : CheckedPatch). map bare (take place all) ++ bare p ∷ split.0) (sym is) in
-      let here : (image : List ℕ) → MayHoldChainDuring mid.number (chain_of mid) mid.doubt (bare patch) image → HoldsInRun disks by before (map bare all) image =
-      λ image holds. inr (map bare (take place all), bare patch, split.0, all_is, answers, mid, run, subst (λ (n : ℕ). MayHoldChainDuring n (chain_of mid) mid.doubt (bare patch) image) number holds) in
+      let here : (image : List ℕ) → HoldsDuring mid.number (payloads_of (chain_of mid)) (patch_payload mid.doubt) patch.text image → HoldsInRun disks by before (map bare all) image =
+      λ image holds. inr (map bare (take place all), bare patch, split.0, all_is, answers, mid, run, subst (λ (n : ℕ). HoldsDuring n (payloads_of (chain_of mid)) (patch_payload mid.doubt) patch.text image) number holds) in
       joined (HoldsInRun disks by before (map bare all)) (disks.past before.disk) (disks.past mid.disk) (disks.past after.disk) so_far
-      (weaker (MayHoldChainDuring mid.number (chain_of mid) mid.doubt (bare patch)) (HoldsInRun disks by before (map bare all)) here (disks.past mid.disk) (disks.past after.disk) more)
+      (weaker (HoldsDuring mid.number (payloads_of (chain_of mid)) (patch_payload mid.doubt) patch.text) (HoldsInRun disks by before (map bare all)) here (disks.past mid.disk) (disks.past after.disk) more)
     where
       parts : (all : List CheckedPatch) (place : ℕ) (other : CheckedPatch) → place < length all → (behind : List Patch) × (map bare all ≡ map bare (take place all) ++ bare (get_or all place other) ∷ behind)
       parts [] place other within = absurd (omega (arith, within))

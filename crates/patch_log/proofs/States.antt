@@ -1,37 +1,38 @@
 -- What a log keeps, call by call.
-use Rattle.std.proofs.Common.{◌≡◌, ◌⊎◌, inl, ℕ, zero, suc, ◌+◌, ◌^◌, ◌<◌, ◌≤◌, true, false, List, [], ◌∷◌, ◌++◌, length, Option, Some, None, refl, sym, ◌∙◌, ap, subst, arith}
+use Rattle.std.proofs.Common.{◌≡◌, inl, ℕ, ◌+◌, ◌^◌, ◌<◌, ◌≤◌, true, false, List, [], ◌∷◌, ◌++◌, length, Option, Some, None, refl, sym, ◌∙◌, ap, subst, arith}
 use Rattle.std.proofs.lemmas.List.{length-map}
 use Rattle.disk_model.specs.declared.disk.Disk.{Ghosts}
-use Rattle.disk_model.specs.Past.{Past, EveryImage, LeavesOnly}
-use Rattle.disk_model.proofs.Moments.{starts}
+use Rattle.disk_model.specs.Past.{EveryImage}
 use Rattle.log_base.specs.Journals.{payloads_length}
-use Rattle.log_journal.specs.Journal.{HoldsWithOrWithout}
 use Rattle.log_journal.specs.declared.journal.Journal.{Journal}
-use Rattle.log_journal.specs.StandsFor.{StandsFor, StandsInDoubt, Leaves, length_of, limit_of, is_settled, disk_of}
-use Rattle.log_journal.specs.Writing.{StandsWith, HoldsDuring}
-use Rattle.log_base.specs.Phases.{phase_by_syncs, phase_by_plan}
+use Rattle.log_journal.specs.StandsFor.{StandsFor, StandsInDoubt, length_of, limit_of, is_settled, disk_of}
+use Rattle.log_journal.specs.Writing.{StandsWith}
+use Rattle.log_journal.specs.Written.{DiskWent, Written}
+use Rattle.log_journal.proofs.Disks.{went_by}
 use Rattle.log_journal.proofs.Steps.{either}
 use Rattle.chain_core.specs.declared.chain.Patch.{Patch}
 use Rattle.chain_core.specs.declared.chain.Entry.{Entry}
 use Rattle.log_base.specs.declared.limits.LogLimits.{LogLimits}
+use Rattle.log_base.specs.declared.phase.Phase.{Phase}
 use Rattle.log_base.specs.declared.phase.Phase.TheVariants.{Settling}
 use Rattle.chain_core.specs.declared.fate.Fate.{Fate}
-use Rattle.chain_core.specs.declared.fate.Fate.TheVariants.{Fails}
+use Rattle.chain_core.specs.declared.fate.Fate.TheVariants.{Done, Fails}
 use Rattle.chain_core.specs.declared.answer.Decision.{Decision}
 use Rattle.chain_core.specs.declared.answer.Decision.TheVariants.{Accept, Known, Conflict, Full}
 use Rattle.chain_core.specs.declared.answer.LogAnswer.{LogAnswer}
 use Rattle.chain_core.specs.declared.answer.LogAnswer.TheVariants.{Accepted, DiskFault, OutOfMemory}
 use Rattle.chain_core.specs.Chain.{IsBoundedChain}
 use Rattle.chain_core.specs.Decision.{decision}
-use Rattle.chain_core.specs.Log.{up}
+use Rattle.chain_core.specs.Log.{LogPoint, up}
 use Rattle.chain_core.specs.Patches.{patch_of, patches_of, texts_of}
-use Rattle.chain_core.specs.Stay.{answer_of, decided_by, accepted_by, fate_of, fate_by_syncs, fate_by_plan}
+use Rattle.chain_core.specs.Stay.{answer_of, decided_by, accepted_by, fate_of, stay}
 use Rattle.chain_core.proofs.Decided.{IsAcceptable, accepted}
 use Rattle.chain_core.proofs.Fronts.{entries_kept}
 use Rattle.chain_core.proofs.Patches.{length-push, patches_of-push}
-use Rattle.patch_log.specs.Log.{patch_payload, IsSound, IsSoundLog, MayHoldChain, MayHoldChainDuring, StandsForLog}
+use Rattle.patch_log.specs.Log.{patch_payload, IsSound, IsSoundLog, MayHoldChain, StandsForLog}
 use Rattle.patch_log.specs.Opening.{AreFoundEntries}
-use Rattle.patch_log.specs.State.{JournalKeepsChain}
+use Rattle.patch_log.specs.State.{LogView, JournalKeepsChain}
+use Rattle.patch_log.specs.Run.{Appended}
 use Rattle.patch_log.proofs.Openings.{found_log}
 use Rattle.patch_log.proofs.Sound.{texts_of-push, log-push}
 
@@ -60,36 +61,12 @@ told_is (Known version same) other = record { not_accepted = λ v is. cc; no_fau
 told_is (Conflict version head prev_version) other = record { not_accepted = λ v is. cc; no_fault = λ is. cc; no_want = λ is. cc }
 told_is (Full what have limit) other = record { not_accepted = λ v is. cc; no_fault = λ is. cc; no_want = λ is. cc }
 
--- the text in doubt tells as much as the patch
-pub same_fate : (doubt : Option Patch) (syncs : ℕ) → fate_of (phase_by_syncs (patch_payload doubt) syncs) ≡ fate_by_syncs doubt syncs
-same_fate None zero = refl
-same_fate None (suc zero) = refl
-same_fate None (suc (suc n)) = refl
-same_fate (Some patch) zero = refl
-same_fate (Some patch) (suc zero) = refl
-same_fate (Some patch) (suc (suc zero)) = refl
-same_fate (Some patch) (suc (suc (suc n))) = refl
-
-pub same_plan : (doubt : Option Patch) (plan : Option ℕ) → fate_of (phase_by_plan (patch_payload doubt) plan) ≡ fate_by_plan doubt plan
-same_plan doubt None = refl
-same_plan doubt (Some syncs) = same_fate doubt syncs
-
 -- ---- images
-
-pub still_during : (number : ℕ) (chain : List Patch) (doubt : Option Patch) (patch : Patch) (image : List ℕ) → MayHoldChain number chain doubt image → MayHoldChainDuring number chain doubt patch image
-still_during number chain None patch image holds = inl holds
-still_during number chain (Some doubt) patch image holds = inl holds
 
 true_or_false : true ≡ false → ⊥
 true_or_false same = cc
 
 module _ {D : Type 0} {disks : Ghosts D} (number : ℕ) where
-  pub during : (old new : Journal D disks) (chain : List Patch) (doubt : Option Patch) (patch : Patch) (payload : List ℕ) → payload ≡ patch.text
-      → Leaves (HoldsDuring number (texts_of chain) (patch_payload doubt) payload) old new → disks.tells → LeavesOnly (MayHoldChainDuring number chain doubt patch) (disks.past (disk_of old)) (disks.past (disk_of new))
-  during old new chain None patch payload is leaves told = subst (λ (text : List ℕ). LeavesOnly (HoldsWithOrWithout number (texts_of chain) text) (disks.past (disk_of old)) (disks.past (disk_of new))) is (leaves told)
-  during old new chain (Some doubt) patch payload is leaves told =
-      subst (λ (text : List ℕ). LeavesOnly (λ image. HoldsWithOrWithout number (texts_of chain) doubt.text image ⊎ HoldsWithOrWithout number (texts_of chain) text image) (disks.past (disk_of old)) (disks.past (disk_of new))) is (leaves told)
-
   pub each_holds : (journal : Journal D disks) (chain : List Patch) (doubt : Option Patch) → StandsWith journal number (texts_of chain) (patch_payload doubt) → disks.tells → EveryImage (disks.past (disk_of journal)) (MayHoldChain number chain doubt)
   each_holds journal chain None stands told = (stands.1 told).each
   each_holds journal chain (Some doubt) stands told = λ image left.
@@ -100,10 +77,6 @@ module _ {D : Type 0} {disks : Ghosts D} (number : ℕ) where
   pub settling_fails : (journal : Journal D disks) (chain : List Patch) (doubt : Option Patch) (patch : Patch) → StandsWith journal number (texts_of chain) (patch_payload doubt) → is_settled journal ≡ false → accepted_by (Fails Settling) chain doubt patch ≡ (up chain doubt, Some DiskFault)
   settling_fails journal chain None patch stands open_gate = absurd (true_or_false (sym stands.0 ∙ open_gate))
   settling_fails journal chain (Some doubt) patch stands open_gate = refl
-
--- before any call
-pub no_call_yet : (past : Past) (number : ℕ) (limits : LogLimits) (chain : List Patch) (doubt : Option Patch) (patch : Patch) → StandsForLog past number limits chain doubt → LeavesOnly (MayHoldChainDuring number chain doubt patch) past past
-no_call_yet past number limits chain doubt patch stands = starts (MayHoldChainDuring number chain doubt patch) past (λ image left. still_during number chain doubt patch image (stands.each image left))
 
 -- ---- opening
 
@@ -176,6 +149,54 @@ module _ {D : Type 0} {disks : Ghosts D} (journal new : Journal D disks) (entrie
       limit_is = limit_is ∙ kept.limit_is;
       countable = kept.countable;
     }
+
+    -- one append was made of it
+    module _ (by spare spare_left : ℕ) (failed : Type 0) (went : DiskWent disks failed (disk_of journal) (disk_of new)) where
+      abbrev before : LogView D
+      before = record { entries = entries; doubt = doubt; number = number; limits = limits; spare = spare; disk = disk_of journal }
+
+      abbrev left_with : List Entry → Option Patch → LogView D
+      left_with items left = record { entries = items; doubt = left; number = number; limits = limits; spare = spare_left; disk = disk_of new }
+
+      writes : (end : Option Phase) (after : LogPoint) (answer : LogAnswer) → accepted_by (fate_of end) chain doubt patch ≡ (after, Some answer) → stay limits (up chain doubt) patch (fate_of end) ≡ (after, Some answer)
+      writes end after answer comes = outcome_of chain doubt patch limits version (fate_of end) is ∙ comes
+
+      written_text : (end : Option Phase) → Written disks (disk_of journal) (disk_of new) number (texts_of chain) (patch_payload doubt) payload end → Written disks (disk_of journal) (disk_of new) number (texts_of chain) (patch_payload doubt) patch.text end
+      written_text end written = subst (λ (text : List ℕ). Written disks (disk_of journal) (disk_of new) number (texts_of chain) (patch_payload doubt) text end) payload_is written
+
+      pub appended_done : (failed → ⊥) → Written disks (disk_of journal) (disk_of new) number (texts_of chain) (patch_payload doubt) payload None
+          → Appended disks before (left_with (entries ++ record { patch = patch; by = by } ∷ []) None) patch by (Accepted version)
+      appended_done none written =
+          let entry : Entry = record { patch = patch; by = by } in
+          let comes : accepted_by Done chain doubt patch ≡ (up (patches_of (entries ++ entry ∷ [])) None, Some (Accepted version)) = rw (patches_of-push entries entry, version_is) refl in
+          let stays = writes None (up (patches_of (entries ++ entry ∷ [])) None) (Accepted version) comes in
+          record {
+            stood = stands_for_log;
+            appends = inl (Done, stays);
+            writes = λ v could want. record { end = None; stay = stays; written = written_text None written };
+            accepted = λ v at. refl;
+            refused = λ never. absurd (never version refl);
+            went = went_by disks (disk_of journal) (disk_of new) failed (Accepted version ≡ DiskFault) (λ at. absurd (cc)) (λ at. absurd (none at)) went;
+            untouched = λ other never. absurd (never version refl);
+            limits = refl;
+            number = refl;
+          }
+
+      pub appended_failed : (phase : Phase) (left : Option Patch) → failed → accepted_by (Fails phase) chain doubt patch ≡ (up chain left, Some DiskFault)
+          → Written disks (disk_of journal) (disk_of new) number (texts_of chain) (patch_payload doubt) payload (Some phase) → Appended disks before (left_with entries left) patch by DiskFault
+      appended_failed phase left is_failed comes written =
+          let stays = writes (Some phase) (up chain left) DiskFault comes in
+          record {
+            stood = stands_for_log;
+            appends = inl (Fails phase, stays);
+            writes = λ v could want. record { end = Some phase; stay = stays; written = written_text (Some phase) written };
+            accepted = λ v at. absurd (cc);
+            refused = λ never. refl;
+            went = went_by disks (disk_of journal) (disk_of new) failed (DiskFault ≡ DiskFault) (λ at. is_failed) (λ at. refl) went;
+            untouched = λ other never. absurd (other refl);
+            limits = refl;
+            number = refl;
+          }
 
   -- as it was, but for the doubt
   pub kept_settled : StandsFor new number (texts_of chain) → length_of new ≡ length_of journal + 0 → limit_of new ≡ limit_of journal → JournalKeepsChain new chain None number limits

@@ -1,12 +1,11 @@
 -- What a log is, and what its disk holds.
-use Rattle.std.specs.Prelude.{◌≡◌, ◌⊎◌, ℕ, ◌≤◌, List, length, Option, Some, None}
+use Rattle.std.specs.Prelude.{◌≡◌, ℕ, ◌≤◌, List, length, Option, Some, None}
 use Rattle.std.specs.List.{AllByRecursion}
 use Rattle.std.specs.Option.{option_map}
 use Rattle.rdf_terms.specs.declared.change.Change.{Change}
 use Rattle.disk_model.specs.Past.{Past, EveryImage}
 use Rattle.log_journal.specs.File.{Holds}
 use Rattle.log_journal.specs.Journal.{HoldsWithOrWithout}
-use Rattle.log_journal.specs.Writing.{LeavesEither}
 use Rattle.patch_meaning.specs.Checked.{CheckedPatch}
 use Rattle.patch_meaning.specs.Patch.{IsPatch}
 use Rattle.log_base.specs.declared.limits.LogLimits.{LogLimits}
@@ -50,21 +49,6 @@ pub record StandsForLog (past : Past) (number : ℕ) (limits : LogLimits) (chain
   pub each : EveryImage past (MayHoldChain number chain doubt)
   pub without : IsSoundLog limits chain
   pub having : IsSoundLog limits (with_one_more chain doubt)
-
--- while a patch is added, an image holds the chain, or the chain with the patch in doubt or with
--- the new one
-abbrev pub MayHoldChainDuring : ℕ → List Patch → Option Patch → Patch → List ℕ → Type 0
-MayHoldChainDuring number chain None patch image =
-    HoldsWithOrWithout number (payloads_of chain) patch.text image
-MayHoldChainDuring number chain (Some doubt) patch image =
-    HoldsWithOrWithout number (payloads_of chain) doubt.text image
-    ⊎ HoldsWithOrWithout number (payloads_of chain) patch.text image
-
--- what was synced is without the patch in doubt, and with 1 for each byte that wasn't synced the
--- file has it
-abbrev pub LeavesEitherChain : Past → ℕ → List Patch → Option Patch → Type 0
-LeavesEitherChain past number chain doubt =
-    LeavesEither past number (payloads_of chain) (patch_payload doubt)
 
 -- texts are those of a chain of patches, of which there are no more than there may be
 pub record AreChained (most : ℕ) (texts : List (List ℕ)) : Type 0 where

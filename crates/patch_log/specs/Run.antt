@@ -1,12 +1,13 @@
 -- Appends to one log, one after another.
-use Rattle.std.specs.Prelude.{◌≡◌, ◌≢◌, ◌⊎◌, ℕ, ◌-◌, ◌≤◌, List, [], ◌∷◌}
-use Rattle.std.specs.Prelude.{◌++◌, Bool, true, false, not, IsTrue, Option}
+use Rattle.std.specs.Prelude.{◌≡◌, ◌≢◌, ◌⊎◌, ℕ, List, [], ◌∷◌}
+use Rattle.std.specs.Prelude.{◌++◌, Bool, true, false, Option}
 use Rattle.std.specs.List.{AllByRecursion}
-use Rattle.delta_base.specs.Outside.{Rose}
 use Rattle.log_base.specs.declared.limits.LogLimits.{LogLimits}
+use Rattle.log_base.specs.declared.phase.Phase.{Phase}
 use Rattle.disk_model.specs.declared.disk.Disk.{Ghosts}
-use Rattle.disk_model.specs.Past.{ok_syncs, MayLeave, EveryImage, LeavesOnly}
-use Rattle.log_journal.specs.File.{Holds}
+use Rattle.disk_model.specs.Past.{MayLeave}
+use Rattle.log_journal.specs.Writing.{HoldsDuring}
+use Rattle.log_journal.specs.Written.{DiskWent, Written}
 use Rattle.chain_core.specs.declared.chain.Patch.{Patch}
 use Rattle.chain_core.specs.declared.chain.Entry.{Entry}
 use Rattle.chain_core.specs.declared.fate.Fate.{Fate}
@@ -16,8 +17,8 @@ use Rattle.chain_core.specs.declared.answer.LogAnswer.TheVariants.{Accepted, Kno
 use Rattle.chain_core.specs.declared.answer.LogAnswer.TheVariants.{Full, DiskFault, OutOfMemory}
 use Rattle.chain_core.specs.Decision.{decision}
 use Rattle.chain_core.specs.Log.{LogPoint, up}
-use Rattle.chain_core.specs.Stay.{Stay, fate_by_syncs, fate_by_plan}
-use Rattle.patch_log.specs.Log.{payloads_of, MayHoldChainDuring, LeavesEitherChain}
+use Rattle.chain_core.specs.Stay.{Stay, fate_of}
+use Rattle.patch_log.specs.Log.{payloads_of, patch_payload, StandsForLog}
 use Rattle.patch_log.specs.State.{LogView, chain_of, point_of}
 
 -- memory ran out before the disk was asked: nothing changed, and the patch could have been accepted
@@ -35,49 +36,34 @@ AppendsPatch limits chain doubt patch after answer =
     ((fate : Fate) × Stay limits (up chain doubt) patch fate after answer)
     ⊎ WantsForAppend limits chain doubt patch after answer
 
--- One append of a patch that this pass brings.
+-- A write of the patch behind the log's payloads. The fate of the stay is that of the phase that
+-- failed, or of none.
+pub record WritesPatch {D : Type 0} (disks : Ghosts D) (before after : LogView D) (patch : Patch)
+    (answer : LogAnswer) : Type 0 where
+  pub end : Option Phase
+  pub stay : Stay before.limits (point_of before) patch (fate_of end) (point_of after) answer
+  pub written : Written disks before.disk after.disk before.number (payloads_of (chain_of before))
+      (patch_payload before.doubt) patch.text end
+
+-- One append of a patch that this pass brings, to a log that its disk stood for.
 pub record Appended {D : Type 0} (disks : Ghosts D) (before after : LogView D) (patch : Patch)
     (by : ℕ) (answer : LogAnswer) : Type 0 where
+  pub stood : disks.tells → StandsForLog (disks.past before.disk) before.number before.limits
+      (chain_of before) before.doubt
   pub appends : AppendsPatch before.limits (chain_of before) before.doubt patch
       (point_of after) answer
-  -- the fate of a patch that can be accepted is that of the syncs which were done
-  pub by_syncs : disks.tells → (version : ℕ)
-      → decision (chain_of before) patch before.limits ≡ Accept version → answer ≢ OutOfMemory
-      → Stay before.limits (point_of before) patch
-      (fate_by_syncs before.doubt
-      (ok_syncs (disks.past after.disk) - ok_syncs (disks.past before.disk)))
-      (point_of after) answer
-  -- where the syncs fail as planned, it is that of the plan
-  pub planned : disks.plans → IsTrue (not (disks.short after.disk)) → answer ≢ OutOfMemory
-      → Stay before.limits (point_of before) patch
-      (fate_by_plan before.doubt (disks.next_failure before.disk)) (point_of after) answer
+  -- a patch that can be accepted is written
+  pub writes : (version : ℕ) → decision (chain_of before) patch before.limits ≡ Accept version
+      → answer ≢ OutOfMemory → WritesPatch disks before after patch answer
   pub accepted : (version : ℕ) → answer ≡ Accepted version
       → after.entries ≡ before.entries ++ record { patch = patch; by = by } ∷ []
   pub refused : ((version : ℕ) → answer ≢ Accepted version) → after.entries ≡ before.entries
-  -- a crash at any moment leaves the chain, or the chain with the patch in doubt or with
-  -- the new one
-  pub any_moment : disks.tells
-      → LeavesOnly (MayHoldChainDuring before.number (chain_of before) before.doubt patch)
-      (disks.past before.disk) (disks.past after.disk)
-  -- what is accepted is in every image
-  pub kept : (version : ℕ) → answer ≡ Accepted version → disks.tells
-      → EveryImage (disks.past after.disk)
-      (λ image. Holds image after.number (payloads_of (chain_of after)))
-  -- as planned, a patch in doubt stands where what wasn't synced is 1, and not in what was synced
-  pub images : disks.plans → disks.tells → IsTrue (not (disks.short after.disk))
-      → LeavesEitherChain (disks.past before.disk) before.number (chain_of before) before.doubt
-      → LeavesEitherChain (disks.past after.disk) after.number (chain_of after) after.doubt
-  -- the disk is asked for a patch that can be accepted, and is told of where its count
-  -- of faults rose
-  pub cause : answer ≡ DiskFault → Rose (disks.faults before.disk) (disks.faults after.disk)
-  pub faults : disks.faults before.disk ≤ disks.faults after.disk
-  pub well : answer ≢ DiskFault → disks.faults after.disk ≡ disks.faults before.disk
+  pub went : DiskWent disks (answer ≡ DiskFault) before.disk after.disk
+  -- a disk that isn't asked stays as it is
   pub untouched : answer ≢ DiskFault → ((version : ℕ) → answer ≢ Accepted version)
       → after.disk ≡ before.disk
-  pub stays_short : disks.plans → IsTrue (disks.short before.disk) → IsTrue (disks.short after.disk)
   pub limits : after.limits ≡ before.limits
   pub number : after.number ≡ before.number
-  pub mark : disks.mark after.disk ≡ disks.mark before.disk
 
 -- some entries more, all brought by this pass
 abbrev pub GrowsBy : ℕ → List Entry → List Entry → Type 0
@@ -102,7 +88,8 @@ HoldsInRun {D} disks by before patches image =
     ⊎ ((done : List Patch) × (patch : Patch) × (behind : List Patch)
     × (patches ≡ done ++ patch ∷ behind) × (answers : List LogAnswer) × (mid : LogView D)
     × Run disks by before done answers mid
-    × MayHoldChainDuring before.number (chain_of mid) mid.doubt patch image)
+    × HoldsDuring before.number (payloads_of (chain_of mid)) (patch_payload mid.doubt) patch.text
+    image)
 
 -- whether it is a fault of the disk
 abbrev pub is_disk_fault : LogAnswer → Bool

@@ -1,43 +1,16 @@
 //! One log in one thread.
-ghost use Rattle.std.specs.Prelude.{
-  ◌≡◌,
-  ◌≢◌,
-  ◌⊎◌,
-  ℕ,
-  ◌+◌,
-  ◌-◌,
-  ◌≤◌,
-  ◌++◌,
-  [],
-  ◌∷◌,
-  IsTrue,
-  not,
-  is_none,
-  None,
-  IfOk,
-  IfErr,
-  OnOk,
-  OnErr,
-};
+ghost use Rattle.std.specs.Prelude.{◌≡◌, ◌≢◌, ℕ, ◌+◌, ◌≤◌, is_none, None, IfOk, IfErr, OnOk, OnErr};
 ghost use Rattle.std.specs.List.{AllByRecursion};
-ghost use Rattle.delta_base.specs.Outside.{Rose};
-ghost use Rattle.disk_model.specs.Past.{reads, ok_syncs, EveryImage, LeavesOnly, Keeps};
+ghost use Rattle.disk_model.specs.Past.{reads};
 ghost use Rattle.log_journal.specs.File.{Holds};
+ghost use Rattle.log_journal.specs.Written.{Reopened, RefusedOpening};
 ghost use Rattle.chain_core.specs.Patches.{version_of, journal_length};
 ghost use Rattle.chain_core.specs.Decision.{decision};
-ghost use Rattle.chain_core.specs.Stay.{Stay, fate_by_syncs, fate_by_plan};
-ghost use Rattle.patch_log.specs.Log.{
-  bare,
-  payloads_of,
-  IsSoundLog,
-  StandsForLog,
-  MayHoldChainDuring,
-  LeavesEitherChain,
-};
+ghost use Rattle.patch_log.specs.Log.{bare, payloads_of, IsSoundLog, StandsForLog};
 ghost use Rattle.patch_log.specs.Fault.{HasLogFault};
 ghost use Rattle.patch_log.specs.Ready.{IsMadeOf};
 ghost use Rattle.patch_log.specs.Run.{Appended};
-ghost use Rattle.patch_log.specs.State.{chain_of, point_of};
+ghost use Rattle.patch_log.specs.State.{chain_of};
 
 use crate::fault::{LogFault, LogRefusal};
 use crate::indexed::IndexedChain;
@@ -104,30 +77,11 @@ impl<D: Disk> LogState<D> {
         ensures fault { D.tells → IfErr result (λ refusal.
             HasLogFault (reads (D.past disk)) number limits refusal.fault) }
 
-        // A crash at any moment leaves what it might have left before, and a read gives
-        // what it gave.
-        ensures kept { D.tells → IfOk result (λ log. Keeps (D.past disk) (D.past log.disk)) }
-        ensures kept_refused { D.tells → IfErr result (λ refusal.
-            Keeps (D.past disk) (D.past refusal.disk)) }
-
-        // It reads no more than the journal.
-        ensures few { D.tells → IfOk result (λ log.
-            D.read_bytes log.disk ≤ D.read_bytes disk + journal_length (chain_of log)) }
-        ensures cause { IfErr result (λ refusal. refusal.fault ≡ LogFault.Failed
-            → Rose (D.faults disk) (D.faults refusal.disk)) }
-
-        // A fault is counted where a call of the disk failed, and else none.
-        ensures faults { IfOk result (λ log. D.faults log.disk ≡ D.faults disk) }
-        ensures never_falls { IfErr result (λ refusal. D.faults disk ≤ D.faults refusal.disk) }
-        ensures faults_refused { IfErr result (λ refusal. refusal.fault ≢ LogFault.Failed
-            → D.faults refusal.disk ≡ D.faults disk) }
-
-        // Where no failure is planned, its disk fails for want of memory alone.
-        ensures long { D.plans → IfOk result (λ log. D.short log.disk ≡ D.short disk) }
-        ensures planned { D.plans → IfErr result (λ refusal. refusal.fault ≡ LogFault.Failed
-            → D.next_failure disk ≡ None → IsTrue (D.short refusal.disk)) }
-        ensures mark { IfOk result (λ log. D.mark log.disk ≡ D.mark disk) }
-        ensures mark_refused { IfErr result (λ refusal. D.mark refusal.disk ≡ D.mark disk) }
+        // What becomes of its disk.
+        ensures reopened { IfOk result (λ log.
+            Reopened D.Disk disk log.disk (journal_length (chain_of log))) }
+        ensures refused { IfErr result (λ refusal.
+            RefusedOpening D.Disk (refusal.fault ≡ LogFault.Failed) disk refusal.disk) }
     {
         let (journal, payloads) = match Journal::open_on(alloc, disk, number, limits.bytes) {
             Ok(opened) => opened,
@@ -242,43 +196,9 @@ impl<D: Disk> LogState<D> {
         requires room { 1 ≤ self.old.spare }
         requires accept { decision (chain_of self.old) ready.patch self.old.limits
             ≡ Decision.Accept version }
-        ensures told { (result ≡ LogAnswer.Accepted version) ⊎ (result ≡ LogAnswer.DiskFault) }
-
-        // It is one stay in the log's turn, whose fate the disk chose.
-        ensures stay { (fate : _) × Stay self.old.limits (point_of self.old) ready.patch fate
-            (point_of self.new) result
-            × (D.tells → fate ≡ fate_by_syncs self.old.doubt
-            (ok_syncs (D.past self.new.disk) - ok_syncs (D.past self.old.disk))) }
-        ensures planned { D.plans → IsTrue (not (D.short self.new.disk))
-            → Stay self.old.limits (point_of self.old) ready.patch
-            (fate_by_plan self.old.doubt (D.next_failure self.old.disk))
-            (point_of self.new) result }
-        ensures accepted { result ≡ LogAnswer.Accepted version
-            → self.new.entries ≡ self.old.entries
-            ++ record { patch = ready.patch; by = ready.by } ∷ [] }
-        ensures refused { result ≡ LogAnswer.DiskFault → self.new.entries ≡ self.old.entries }
-        ensures any_moment { D.tells → LeavesOnly
-            (MayHoldChainDuring self.old.number (chain_of self.old) self.old.doubt ready.patch)
-            (D.past self.old.disk) (D.past self.new.disk) }
-        ensures kept { result ≡ LogAnswer.Accepted version → D.tells
-            → EveryImage (D.past self.new.disk)
-            (λ image. Holds image self.new.number (payloads_of (chain_of self.new))) }
-        ensures images { D.plans → D.tells → IsTrue (not (D.short self.new.disk))
-            → LeavesEitherChain (D.past self.old.disk) self.old.number (chain_of self.old)
-            self.old.doubt
-            → LeavesEitherChain (D.past self.new.disk) self.new.number (chain_of self.new)
-            self.new.doubt }
-        ensures cause { result ≡ LogAnswer.DiskFault
-            → Rose (D.faults self.old.disk) (D.faults self.new.disk) }
-        ensures faults { D.faults self.old.disk ≤ D.faults self.new.disk }
-        ensures well { result ≡ LogAnswer.Accepted version
-            → D.faults self.new.disk ≡ D.faults self.old.disk }
-        ensures stays_short { D.plans → IsTrue (D.short self.old.disk)
-            → IsTrue (D.short self.new.disk) }
+        ensures appended { Appended D.Disk self.old self.new ready.patch ready.by result }
+        ensures memory { result ≢ LogAnswer.OutOfMemory }
         ensures spare { self.old.spare ≤ self.new.spare + 1 }
-        ensures limits { self.new.limits ≡ self.old.limits }
-        ensures number { self.new.number ≡ self.old.number }
-        ensures mark { D.mark self.new.disk ≡ D.mark self.old.disk }
     {
         let Ready { patch, block, by } = ready;
         match write(&mut self.journal, &block) {

@@ -3,6 +3,7 @@ use Rattle.std.proofs.lemmas.List.{map_more}
 use Rattle.patch_meaning.specs.Checked.{CheckedPatch}
 use Rattle.patch_log.specs.Log.{bare}
 use Rattle.patch_log.proofs.Runs.{run_more, no_append_yet, moments_more, grows_none, grows_more, rose_more}
+use Rattle.patch_log.proofs.Writes.{any_moment as append_moments}
 use Rattle.patch_log.proofs.appending.append_all.Goals as goal
 
 pub returns-in_err-reserve-clause-any_moment : goal.returns-in_err-reserve-clause-any_moment
@@ -39,11 +40,11 @@ loop-patch-preserved g c =
     record {
       so_far = rw (taken, c.in-Ok.ensures.ok) longer;
       grown = grows_more c.args.by (bare patch) old.entries mid.entries new.entries c.append-answer.result so.grown e.accepted e.refused;
-      any_moment = λ tells. moments_more g.D.Disk c.args.by old c.args.patches.now place patch answers mid new c.loop-patch-test.true c.patch-item.is so.number so.so_far (so.any_moment tells) (e.any_moment tells);
-      cause = rw c.in-Ok.ensures.ok (rose_more answers c.append-answer.result (g.D.Disk.faults old.disk) (g.D.Disk.faults mid.disk) (g.D.Disk.faults new.disk) so.cause e.cause e.faults);
-      faults = omega (arith, e.faults, so.faults);
+      any_moment = λ tells. moments_more g.D.Disk c.args.by old c.args.patches.now place patch answers mid new c.loop-patch-test.true c.patch-item.is so.number so.so_far (so.any_moment tells) (append_moments g.D.Disk mid new (bare patch) c.args.by c.append-answer.result e tells);
+      cause = rw c.in-Ok.ensures.ok (rose_more answers c.append-answer.result (g.D.Disk.faults old.disk) (g.D.Disk.faults mid.disk) (g.D.Disk.faults new.disk) so.cause e.went.cause e.went.never_falls);
+      faults = omega (arith, e.went.never_falls, so.faults);
       limits = e.limits ∙ so.limits;
       number = e.number ∙ so.number;
-      mark = e.mark ∙ so.mark;
+      mark = e.went.mark ∙ so.mark;
       room = omega (arith, so.room, c.push.ensures.spare);
     }

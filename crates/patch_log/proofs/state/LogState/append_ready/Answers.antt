@@ -2,19 +2,14 @@ use Rattle.std.proofs.Common.{sym, subst, arith}
 use Rattle.chain_core.specs.declared.answer.LogAnswer.TheVariants.{OutOfMemory}
 use Rattle.patch_log.specs.State.{LogView}
 use Rattle.patch_log.specs.Run.{Appended}
-use Rattle.patch_log.proofs.Told.{appended_told, appended_want, appended_written, with_places}
+use Rattle.patch_log.proofs.Told.{appended_told, appended_want, with_places}
 use Rattle.patch_log.proofs.state.LogState.append_ready.Goals as goal
 
 pub returns-in-Ok-clause-appended : goal.returns-in-Ok-clause-appended
 returns-in-Ok-clause-appended g c =
-    let before = c.args.self.now in
-    let mid = c.reserve_place.new.self in
     let after = c.write_accepted.new.self in
-    let e = c.write_accepted.ensures in
-    with_places g.D.Disk before after mid.spare c.args.ready.patch c.args.ready.by c.write_accepted.result
-    (subst (λ (log : LogView g.row.D.Denot). Appended g.D.Disk log after c.args.ready.patch c.args.ready.by c.write_accepted.result) c.reserve_place.ensures.same
-    (appended_written g.D.Disk mid after c.args.ready.patch c.args.ready.by c.write_accepted.result c.in-Accept.version
-    e.told e.stay e.planned e.accepted e.refused e.any_moment e.kept e.images e.cause e.faults e.well e.stays_short e.limits e.number e.mark))
+    with_places g.D.Disk c.args.self.now after c.reserve_place.new.self.spare c.args.ready.patch c.args.ready.by c.write_accepted.result
+    (subst (λ (log : LogView g.row.D.Denot). Appended g.D.Disk log after c.args.ready.patch c.args.ready.by c.write_accepted.result) c.reserve_place.ensures.same c.write_accepted.ensures.appended)
 
 pub returns-in-Err-clause-appended : goal.returns-in-Err-clause-appended
 returns-in-Err-clause-appended g c =

@@ -1,11 +1,27 @@
-use Rattle.std.proofs.Common.{◌≤◌, ⊎_elim, Err, sym, ◌∙◌, ap, subst, arith}
+use Rattle.std.proofs.Common.{◌≡◌, ◌⊎◌, ⊎_elim, ℕ, ◌≤◌, Err, refl, sym, ◌∙◌, ap, subst, arith}
 use Rattle.disk_model.specs.Past.{reads}
 use Rattle.log_base.specs.Journals.{payloads_length}
 use Rattle.patch_log.specs.declared.fault.LogFault.{LogFault}
-use Rattle.patch_log.specs.Fault.{HasLogFault}
+use Rattle.patch_log.specs.declared.fault.LogFault.TheVariants.{Failed, BrokenChain, OutOfMemory}
+use Rattle.patch_log.specs.Fault.{HasLogFault, log_fault}
+use Rattle.log_journal.specs.Written.{Reopened}
+use Rattle.log_journal.specs.declared.fault.JournalFault.{JournalFault}
+use Rattle.log_journal.specs.declared.fault.JournalFault.TheVariants as journal
+use Rattle.log_journal.proofs.Disks.{refused_by, refused_later}
 use Rattle.patch_log.proofs.Openings.{found_log}
 use Rattle.patch_log.proofs.States.{opened_kept}
 use Rattle.patch_log.proofs.state.LogState.open_on.Goals as goal
+
+-- what was read is no fault of the disk
+never_failed : (fault : LogFault) → ((version : ℕ) × (fault ≡ BrokenChain version)) ⊎ (fault ≡ OutOfMemory) → fault ≡ Failed → ⊥
+never_failed fault why is = ⊎_elim (λ (broken : (version : ℕ) × (fault ≡ BrokenChain version)). let no : Failed ≡ BrokenChain broken.0 = sym is ∙ broken.1 in cc) (λ (want : fault ≡ OutOfMemory). let no : Failed ≡ OutOfMemory = sym is ∙ want in cc) why
+
+failed_journal : (fault : JournalFault) → log_fault fault ≡ Failed → fault ≡ journal.Failed
+failed_journal journal.Failed is = refl
+failed_journal (journal.Damaged at) is = absurd (cc)
+failed_journal (journal.WrongNumber found) is = absurd (cc)
+failed_journal (journal.OverLimit length limit) is = absurd (cc)
+failed_journal journal.OutOfMemory is = absurd (cc)
 
 pub invariant_of-result : goal.invariant_of-result
 invariant_of-result g c =
@@ -33,3 +49,16 @@ returns-in-Err-read_log-clause-fault g c told =
     ))
     (λ want. subst (λ (fault : LogFault). HasLogFault file c.args.number limits fault) (sym want) tt)
     c.in-Err-read_log.ensures.faults
+
+pub returns-in-Ok-read_log-clause-reopened : goal.returns-in-Ok-read_log-clause-reopened
+returns-in-Ok-read_log-clause-reopened g c =
+    let texts = c.in-Ok-read_log.ensures.ok.texts_are in
+    subst (λ (n : ℕ). Reopened g.D.Disk c.args.disk c.in-Ok.opened.0.disk n) (c.in-Ok.ensures.length ∙ ap payloads_length (sym texts)) c.in-Ok.ensures.reopened
+
+pub returns-in-Err-read_log-clause-refused : goal.returns-in-Err-read_log-clause-refused
+returns-in-Err-read_log-clause-refused g c =
+    rw c.close.ensures (refused_later g.D.Disk c.args.disk c.in-Ok.opened.0.disk (c.in-Err-read_log.fault ≡ Failed) _ (never_failed c.in-Err-read_log.fault c.in-Err-read_log.ensures.faults) c.in-Ok.ensures.reopened)
+
+pub returns-in-Err-clause-refused : goal.returns-in-Err-clause-refused
+returns-in-Err-clause-refused g c =
+    refused_by g.D.Disk c.args.disk c.in-Err.field-0.disk (c.in-Err.field-0.fault ≡ journal.Failed) (c.from.result ≡ Failed) (λ is. failed_journal c.in-Err.field-0.fault (sym c.from.ensures ∙ is)) (λ is. c.from.ensures ∙ ap log_fault is) c.in-Err.ensures.refused
