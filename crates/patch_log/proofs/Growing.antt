@@ -1,24 +1,20 @@
--- An index that gets one version more.
-use Rattle.std.proofs.Common.{◌≡◌, ℕ, ◌+◌, cond, eqb, List, [], ◌∷◌, ◌++◌, length, Option, Some, None, sym, ◌∙◌, ap}
-use Rattle.std.specs.Prelude.{nat_eq}
-use Rattle.std.specs.HashMap.{HashMap, get}
-use Rattle.chain_core.specs.declared.chain.Patch.{Patch}
+-- An index that gets the id of one patch more.
+use Rattle.std.proofs.Common.{◌≡◌, ℕ, ◌+◌, List, [], ◌∷◌, ◌++◌, length, None, sym, ◌∙◌, ap, subst}
+use Rattle.std.proofs.lemmas.List.{length-map, map-append}
+use Rattle.delta_base.specs.declared.id.Id.{Id}
 use Rattle.chain_core.specs.declared.chain.Entry.{Entry}
-use Rattle.chain_core.specs.Chain.{IsBoundedChain}
-use Rattle.chain_core.specs.Patches.{patches_of, version_of}
+use Rattle.chain_core.specs.declared.chain.Patch.{Patch}
+use Rattle.chain_core.specs.declared.id_index.IdIndex.{IdIndex}
+use Rattle.chain_core.specs.Index.{HasOneMore, IsIndexOf}
+use Rattle.chain_core.specs.Patches.{patch_of, patches_of, patch_ids, version_of}
 use Rattle.chain_core.proofs.Patches.{patches_of-push}
-use Rattle.chain_core.proofs.Versions.{version_of-push, new_entry}
-use Rattle.patch_log.specs.Index.{IsIndexOf}
 
-pub none_new : (entries : List Entry) (entry : Entry) → IsBoundedChain (entries ++ entry ∷ []) → version_of (patches_of entries) entry.patch.id ≡ None
-none_new entries entry kept = new_entry entries entry kept.chain.differ
+abbrev id_of : Patch → Id
+id_of patch = patch.id
 
--- one patch more
-pub index_grown : {S : Type 0} (entries : List Entry) (entry : Entry) (old new : HashMap ℕ ℕ S) (version : ℕ) → IsIndexOf old (patches_of entries) → IsBoundedChain (entries ++ entry ∷ []) → version ≡ length (patches_of entries) + 1
-    → ((q : ℕ) → get nat_eq new q ≡ cond (nat_eq entry.patch.id.0 q) (Some version) (get nat_eq old q)) → IsIndexOf new (patches_of (entries ++ entry ∷ []))
-index_grown entries entry old new version was kept is sets id =
-    sets id.0
-    ∙ ap (λ (before : Option ℕ). cond (eqb entry.patch.id.0 id.0) (Some version) before) (was id)
-    ∙ ap (λ (n : ℕ). cond (eqb entry.patch.id.0 id.0) (Some n) (version_of (patches_of entries) id)) is
-    ∙ sym (version_of-push (patches_of entries) entry.patch id (none_new entries entry kept))
-    ∙ ap (λ (patches : List Patch). version_of patches id) (sym (patches_of-push entries entry))
+pub index_grown : (entries : List Entry) (entry : Entry) (old new : IdIndex) (version : ℕ) → IsIndexOf old (patch_ids (patches_of entries)) → version_of (patches_of entries) entry.patch.id ≡ None → version ≡ length entries + 1
+    → HasOneMore old entry.patch.id version new → IsIndexOf new (patch_ids (patches_of (entries ++ entry ∷ [])))
+index_grown entries entry old new version was is_new is more =
+    let patches = patches_of entries in
+    let longer : patch_ids (patches_of (entries ++ entry ∷ [])) ≡ patch_ids patches ++ entry.patch.id ∷ [] = ap patch_ids (patches_of-push entries entry) ∙ map-append id_of patches (entry.patch ∷ []) in
+    subst (IsIndexOf new) (sym longer) (more (patch_ids patches) was is_new (is ∙ ap (λ (n : ℕ). n + 1) (sym (length-map patches id_of ∙ length-map entries patch_of))))

@@ -1,4 +1,3 @@
-pub mod Index
 pub mod Log
 pub mod Fault
 pub mod Opening

@@ -5,35 +5,31 @@ ghost use Rattle.chain_core.specs.Chain.{IsBoundedChain};
 ghost use Rattle.chain_core.specs.Patches.{patches_of, version_of};
 
 use crate::next_fault::NextFault;
-use chain_core::{Chain, Lookup, Patch};
+use chain_core::{Chain, IdIndex, Lookup, Patch};
 use delta_base::{Id, OutOfMemory};
 use std::alloc::Global;
-use std::collections::HashMap;
 use std::marker::Model;
 
-/// A chain, and its versions by the numbers of their ids.
+/// A chain, and the index of its patches' ids.
 #[derive(Drop)]
 pub struct IndexedChain {
     chain: Chain,
-    versions: HashMap<u128, u32>,
-    /// How many places are ready in both.
-    places: usize,
+    index: IdIndex,
 }
 
 impl Model for IndexedChain {
     ghost use Rattle.std.specs.Prelude.{◌≤◌};
-    ghost use Rattle.std.specs.HashMap.{spare};
     ghost use Rattle.delta_base.specs.Listed.{Listed};
     ghost use Rattle.chain_core.specs.declared.chain.Entry.{Entry};
-    ghost use Rattle.chain_core.specs.Patches.{patches_of};
-    ghost use Rattle.patch_log.specs.Index.{IsIndexOf};
+    ghost use Rattle.chain_core.specs.Index.{IsIndexOf};
+    ghost use Rattle.chain_core.specs.Patches.{patches_of, patch_ids};
 
     ghost Value = { Listed Entry };
 
-    ghost view = { λ c. record { items = c.chain.items; spare = c.places } };
+    ghost view = { λ c. record { items = c.chain.items; spare = c.index.places } };
 
-    ghost invariant = { λ c. IsIndexOf c.versions (patches_of c.chain.items)
-        × (c.places ≤ c.chain.spare) × (c.places ≤ spare c.versions) };
+    ghost invariant = { λ c. IsIndexOf c.index (patch_ids (patches_of c.chain.items))
+        × (c.index.places ≤ c.chain.spare) };
 }
 
 impl IndexedChain {
@@ -43,8 +39,7 @@ impl IndexedChain {
     {
         IndexedChain {
             chain: Chain::new(alloc),
-            versions: HashMap::new(alloc),
-            places: 0,
+            index: IdIndex::new(alloc),
         }
     }
 
@@ -62,20 +57,15 @@ impl IndexedChain {
     {
         let IndexedChain {
             mut chain,
-            mut versions,
-            places: _,
+            mut index,
         } = self;
         chain.reserve()?;
         let version = chain.version() + 1;
-        if versions.insert(patch.id.0, version)?.is_some() {
+        if index.insert(patch.id, version)?.is_some() {
             return Err(NextFault::Broken);
         }
         chain.push(patch, by);
-        Ok(IndexedChain {
-            chain,
-            versions,
-            places: 0,
-        })
+        Ok(IndexedChain { chain, index })
     }
 
     /// Makes a place ready in the chain and in the index.
@@ -85,12 +75,8 @@ impl IndexedChain {
         ensures kept { self.old.spare ≤ self.new.spare }
         ensures err { OnErr result (self.new ≡ self.old) }
     {
-        if self.places == 0 {
-            self.chain.reserve()?;
-            self.versions.reserve(1)?;
-            self.places = 1;
-        }
-        Ok(())
+        self.chain.reserve()?;
+        self.index.reserve()
     }
 
     /// Adds a patch, in places that are ready.
@@ -101,12 +87,11 @@ impl IndexedChain {
         ensures spare { self.new.spare + 1 ≡ self.old.spare }
     {
         let version = self.chain.version() + 1;
-        match self.versions.insert(patch.id.0, version) {
+        match self.index.insert(patch.id, version) {
             Ok(_) => {}
             Err(_) => unreachable!(),
         }
         self.chain.push(patch, by);
-        self.places -= 1;
     }
 }
 
@@ -119,6 +104,6 @@ impl Lookup for IndexedChain {
 
     /// The version of the patch with an id, found by the index.
     fn version_of(&self, id: Id) -> Option<u32> {
-        self.versions.get(&id.0).copied()
+        self.index.version_of(id)
     }
 }
