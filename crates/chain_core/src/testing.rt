@@ -50,6 +50,20 @@ impl ChainTest {
         }
     }
 
+    /// How many patches the chain has.
+    pub fn version(&self) -> u32
+        ensures { result ≡ self.now.version }
+    {
+        self.version
+    }
+
+    /// The id of the last one.
+    pub fn head(&self) -> Option<Id>
+        ensures { result ≡ self.now.head }
+    {
+        self.head
+    }
+
     /// Tests a patch: first the previous one that it names, then its id.
     pub fn fault_of(&self, link: ChainLink) -> Option<ChainFault>
         ensures follows { IfNone result ((links : List ChainLink) → IsTested links self.now

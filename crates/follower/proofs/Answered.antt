@@ -25,7 +25,8 @@ use Rattle.patch_log.specs.Log.{bare}
 use Rattle.rpc_answers.specs.declared.answer.Answer.TheVariants as answers
 use Rattle.zone_state.specs.declared.answer.TakeAnswer.{TakeAnswer}
 use Rattle.zone_state.specs.declared.answer.TakeAnswer.TheVariants as take
-use Rattle.zone_state.specs.Brief.{Brief, last_of, version_among, file_length, with_patch, changes_taken}
+use Rattle.chain_core.specs.Ids.{last_of, version_among}
+use Rattle.zone_state.specs.Brief.{Brief, file_length, with_patch, changes_taken}
 use Rattle.zone_state.specs.Taking.{taking, unless_repeated, taken_then, IsDecidedBy, WantsForTaking, TakeStay}
 use Rattle.zone_state.specs.Stay.{decided, TookOne}
 use Rattle.zone_state.specs.Zone.{ZoneView, doubt_of, zone_point}

@@ -24,7 +24,8 @@ use Rattle.patch_meaning.specs.Checked.{CheckedPatch, checked_texts}
 use Rattle.patch_log.specs.Log.{bare, IsSoundLog, StandsForLog}
 use Rattle.zone_state.specs.declared.answer.TakeAnswer.{TakeAnswer}
 use Rattle.zone_state.specs.declared.answer.TakeAnswer.TheVariants.{Applied, Diverged, Repeated, Full, TermsFull, OutOfMemory, DiskFault}
-use Rattle.zone_state.specs.Brief.{id_taken, last_of, file_length}
+use Rattle.chain_core.specs.Ids.{last_of}
+use Rattle.zone_state.specs.Brief.{id_taken, file_length}
 use Rattle.zone_state.specs.Taking.{taking, taken_by}
 use Rattle.zone_state.specs.Zone.{ZoneView, AreTakenPatches, StandsForZone, zone_number, doubt_of}
 use Rattle.log_base.specs.OneMore.{with_one_more}

@@ -15,7 +15,8 @@ use Rattle.zone_state.specs.declared.answer.TakeAnswer.TheVariants.{Applied, Div
 use Rattle.zone_state.specs.declared.answer.TakeAnswer.TheVariants as answers
 use Rattle.chain_core.specs.declared.fate.Fate.{Fate}
 use Rattle.chain_core.specs.Log.{up}
-use Rattle.zone_state.specs.Brief.{last_of, version_among, file_length}
+use Rattle.chain_core.specs.Ids.{last_of, version_among}
+use Rattle.zone_state.specs.Brief.{file_length}
 use Rattle.zone_state.specs.Taking.{taking, unless_repeated, within_limits, taken_by, taken_then}
 
 true_not_false : true ≡ false → ⊥

@@ -1,23 +1,24 @@
 -- A zone that took one patch more.
-use Rattle.std.proofs.Common.{◌≡◌, ℕ, suc, ◌+◌, ◌-◌, ◌<◌, ◌≤◌, List, [], ◌∷◌, ◌++◌, map, length, Option, Some, None, refl, sym, ◌∙◌, ap, subst, arith, length-append, cond, eqb}
-use Rattle.std.specs.Prelude.{slice_get, sum_by}
-use Rattle.std.specs.Option.{option_map}
+use Rattle.std.proofs.Common.{◌≡◌, ℕ, ◌+◌, ◌≤◌, List, [], ◌∷◌, ◌++◌, map, length, None, refl, sym, ◌∙◌, ap, subst, arith, length-append}
+use Rattle.std.specs.Prelude.{sum_by}
 use Rattle.std.proofs.lemmas.List.{map-append, length-map}
+use Rattle.std.proofs.lemmas.Simd.{map-map}
 use Rattle.std.proofs.lemmas.List.Sums.{sum_by-append, sum_by-cons}
 use Rattle.delta_base.specs.declared.id.Id.{Id}
 use Rattle.rdf_terms.specs.Dataset.{Dataset, apply, empty}
 use Rattle.log_base.specs.declared.limits.LogLimits.{LogLimits}
 use Rattle.log_base.specs.declared.limits.TheConstants.{PATCH_LIMIT, PAYLOAD_FRAME}
 use Rattle.chain_core.specs.declared.chain.Patch.{Patch}
-use Rattle.chain_core.specs.Links.{IsChain, last_or}
-use Rattle.chain_core.specs.Patches.{links_of, texts_of, version_of, last_id, journal_length}
+use Rattle.chain_core.specs.Links.{IsChain}
+use Rattle.chain_core.specs.Patches.{links_of, patch_ids, texts_of, version_of, last_id, journal_length}
 use Rattle.chain_core.proofs.Stays.{links-push, short-push}
 use Rattle.chain_core.proofs.Patches.{length-push}
 use Rattle.patch_meaning.specs.Checked.{CheckedPatch, AreChecked, checked_texts, meanings}
 use Rattle.patch_meaning.specs.Patch.{Meaning, IsPatch}
 use Rattle.patch_meaning.specs.Replay.{replay, replay_from}
 use Rattle.patch_log.specs.Log.{bare}
-use Rattle.zone_state.specs.Brief.{brief_of, with_patch, id_taken, last_of, version_among, file_length}
+use Rattle.chain_core.specs.Ids.{last_of, version_among}
+use Rattle.zone_state.specs.Brief.{brief_of, with_patch, id_taken, file_length}
 use Rattle.zone_state.specs.Zone.{AreTakenPatches}
 use Rattle.zone_state.proofs.Decisions.{CanBeTaken}
 use Rattle.std.specs.List.{AllByRecursion}
@@ -52,21 +53,14 @@ bare_texts (patch ∷ taken) = ap (λ (ts : List (List ℕ)). patch.text ∷ ts)
 pub texts-push : (taken : List CheckedPatch) (patch : CheckedPatch) → checked_texts (taken ++ patch ∷ []) ≡ checked_texts taken ++ patch.text ∷ []
 texts-push taken patch = map-append (λ (p : CheckedPatch). p.text) taken (patch ∷ [])
 
-pub bare_versions : (taken : List CheckedPatch) (id : Id) → version_of (map bare taken) id ≡ version_among (map id_taken taken) id
-bare_versions [] id = refl
-bare_versions (patch ∷ taken) id = ap (λ (later : Option ℕ). cond (eqb patch.meaning.id.0 id.0) (Some 1) (option_map (λ version. version + 1) later)) (bare_versions taken id)
+bare_ids : (taken : List CheckedPatch) → patch_ids (map bare taken) ≡ map id_taken taken
+bare_ids taken = map-map (λ (p : Patch). p.id) bare taken
 
--- the id of the last one is that of the last link
-last_behind : (head : Option Id) (taken : List CheckedPatch) → 0 < length taken → slice_get (map id_taken taken) (length (map id_taken taken) - 1) ≡ last_or head (links_of (map bare taken))
-last_behind head [] some = absurd (omega arith)
-last_behind head (patch ∷ []) some = refl
-last_behind head (patch ∷ (next ∷ taken)) some =
-    let at : length (map id_taken (patch ∷ (next ∷ taken))) - 1 ≡ suc (length (map id_taken (next ∷ taken)) - 1) = omega arith in
-    ap (λ (n : ℕ). slice_get (map id_taken (patch ∷ (next ∷ taken))) n) at ∙ last_behind (Some patch.meaning.id) (next ∷ taken) (omega arith)
+pub bare_versions : (taken : List CheckedPatch) (id : Id) → version_of (map bare taken) id ≡ version_among (map id_taken taken) id
+bare_versions taken id = ap (λ (ids : List Id). version_among ids id) (bare_ids taken)
 
 pub bare_last : (taken : List CheckedPatch) → last_id (map bare taken) ≡ last_of (map id_taken taken)
-bare_last [] = refl
-bare_last (patch ∷ taken) = sym (last_behind None (patch ∷ taken) (omega arith))
+bare_last taken = ap last_of (bare_ids taken)
 
 -- the length of their journal
 abbrev framed : List ℕ → ℕ

@@ -22,7 +22,8 @@ use Rattle.patch_log.specs.Log.{bare, IsSound, AreChained}
 use Rattle.patch_log.specs.Opening.{IsNextInLog, AreFoundEntries}
 use Rattle.patch_log.proofs.Openings.{breaks_at}
 use Rattle.zone_state.specs.declared.opening.Reading.{Reading}
-use Rattle.zone_state.specs.Brief.{Brief, with_patch, id_taken, last_of, version_among, changes_taken}
+use Rattle.chain_core.specs.Ids.{last_of, version_among}
+use Rattle.zone_state.specs.Brief.{Brief, with_patch, id_taken, changes_taken}
 use Rattle.zone_state.specs.Next.{IsNextPatch, AreFoundPatches}
 use Rattle.zone_state.specs.Opening.{HasReadZone, MeetsMore, HasReceived}
 use Rattle.zone_state.specs.State.{brief_in}

@@ -21,7 +21,8 @@ use Rattle.patch_log.specs.Log.{bare, MayHoldChainDuring, LeavesEitherChain}
 use Rattle.zone_state.specs.declared.answer.TakeAnswer.{TakeAnswer}
 use Rattle.zone_state.specs.declared.answer.TakeAnswer.TheVariants.{Applied}
 use Rattle.zone_state.specs.declared.kept.Kept.{Kept}
-use Rattle.zone_state.specs.Brief.{Brief, brief_of, with_patch, id_taken, file_length, version_among}
+use Rattle.chain_core.specs.Ids.{version_among}
+use Rattle.zone_state.specs.Brief.{Brief, brief_of, with_patch, id_taken, file_length}
 use Rattle.zone_state.specs.Taking.{taking, taken_by, TakeStay}
 use Rattle.zone_state.specs.Zone.{ZoneView, AreTakenPatches, StandsForZone, zone_number, doubt_of, zone_point}
 use Rattle.zone_state.specs.State.{brief_in, view_of, IsZoneKept}

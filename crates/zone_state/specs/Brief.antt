@@ -1,8 +1,7 @@
 -- What a zone keeps of the patches that it took.
-use Rattle.std.specs.Prelude.{ℕ, ◌+◌, ◌-◌, ◌*◌, ◌==◌, slice_get, List, [], ◌∷◌, ◌++◌}
-use Rattle.std.specs.Prelude.{Option, None, Some, length, map, sum_by, if◌then◌else◌}
+use Rattle.std.specs.Prelude.{ℕ, ◌+◌, ◌*◌, List, [], ◌∷◌, ◌++◌}
+use Rattle.std.specs.Prelude.{length, map, sum_by}
 use Rattle.std.specs.List.{flat_map}
-use Rattle.std.specs.Option.{option_map}
 use Rattle.delta_base.specs.declared.id.Id.{Id}
 use Rattle.log_base.specs.declared.limits.TheConstants.{EMPTY_JOURNAL, PAYLOAD_FRAME}
 use Rattle.rdf_terms.specs.declared.change.Change.{Change}
@@ -37,16 +36,6 @@ with_patch brief patch = record {
 -- the changes of patches, one after another
 abbrev pub changes_taken : List CheckedPatch → List Change
 changes_taken taken = flat_map (λ patch. patch.meaning.changes) taken
-
--- the id of the last one
-abbrev pub last_of : List Id → Option Id
-last_of ids = slice_get ids (length ids - 1)
-
--- the version of the patch with this id, counted from 1
-abbrev pub version_among : List Id → Id → Option ℕ
-version_among [] id = None
-version_among (first ∷ ids) id =
-    if first.0 == id.0 then Some 1 else option_map (λ version. version + 1) (version_among ids id)
 
 -- the length of a journal that holds patches with these ids and so many bytes
 abbrev pub file_length : List Id → ℕ → ℕ

@@ -1,5 +1,4 @@
 pub mod Brief
-pub mod Ids
 pub mod Taking
 pub mod Zone
 pub mod Stay

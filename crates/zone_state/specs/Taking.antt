@@ -18,7 +18,8 @@ use Rattle.zone_state.specs.declared.answer.TakeAnswer.{TakeAnswer}
 use Rattle.zone_state.specs.declared.answer.TakeAnswer.TheVariants.{Applied, Diverged}
 use Rattle.zone_state.specs.declared.answer.TakeAnswer.TheVariants.{Repeated, Full, TermsFull}
 use Rattle.zone_state.specs.declared.answer.TakeAnswer.TheVariants.{OutOfMemory, DiskFault}
-use Rattle.zone_state.specs.Brief.{last_of, version_among, file_length}
+use Rattle.chain_core.specs.Ids.{last_of, version_among}
+use Rattle.zone_state.specs.Brief.{file_length}
 
 -- of a patch whose id is new
 abbrev pub within_limits : List Id → ℕ → Patch → LogLimits → TakeAnswer

@@ -1,5 +1,5 @@
 -- What a zone is, and what its disk holds.
-use Rattle.std.specs.Prelude.{◌≡◌, ℕ, Bool, List, [], ◌∷◌, ◌++◌, Option, Some, None, map, is_none}
+use Rattle.std.specs.Prelude.{◌≡◌, ℕ, Bool, List, Option, Some, None, map, is_none}
 use Rattle.std.specs.Option.{option_map}
 use Rattle.log_base.specs.OneMore.{with_one_more}
 use Rattle.rdf_terms.specs.declared.term.Term.{Term}

@@ -1,34 +1,31 @@
 //! Ids in the order in which their patches were taken, found without a walk along them.
 ghost use Rattle.std.specs.Prelude.{◌≡◌, ◌+◌, ◌^◌, ◌<◌, ◌≤◌, [], ◌∷◌, ◌++◌, length, OnOk, None};
-ghost use Rattle.zone_state.specs.Brief.{last_of, version_among};
+ghost use Rattle.chain_core.specs.Ids.{last_of, version_among};
 
+use chain_core::IdIndex;
 use delta_base::{Id, Listing, OutOfMemory};
 use std::alloc::Global;
-use std::collections::HashMap;
 use std::marker::Model;
 
-/// Ids, and their versions by the numbers of the ids.
+/// Ids, and their index.
 #[derive(Drop)]
 pub struct Ids {
     list: Listing<Id>,
-    versions: HashMap<u128, u32>,
-    /// How many places are ready in both.
-    places: usize,
+    index: IdIndex,
 }
 
 impl Model for Ids {
     ghost use Rattle.std.specs.Prelude.{◌<◌, ◌≤◌, ◌^◌, length};
-    ghost use Rattle.std.specs.HashMap.{spare};
     ghost use Rattle.delta_base.specs.declared.id.Id.{Id as TheId};
     ghost use Rattle.delta_base.specs.Listed.{Listed};
-    ghost use Rattle.zone_state.specs.Ids.{IsIndexOfIds};
+    ghost use Rattle.chain_core.specs.Index.{IsIndexOf};
 
     ghost Value = { Listed TheId };
 
-    ghost view = { λ s. record { items = s.list.items; spare = s.places } };
+    ghost view = { λ s. record { items = s.list.items; spare = s.index.places } };
 
-    ghost invariant = { λ s. (length s.list.items < 2 ^ 32) × IsIndexOfIds s.versions s.list.items
-        × (s.places ≤ s.list.spare) × (s.places ≤ spare s.versions) };
+    ghost invariant = { λ s. (length s.list.items < 2 ^ 32) × IsIndexOf s.index s.list.items
+        × (s.index.places ≤ s.list.spare) };
 }
 
 impl Ids {
@@ -37,8 +34,7 @@ impl Ids {
     {
         Ids {
             list: Listing::new(alloc),
-            versions: HashMap::new(alloc),
-            places: 0,
+            index: IdIndex::new(alloc),
         }
     }
 
@@ -60,7 +56,7 @@ impl Ids {
     pub fn version_of(&self, id: Id) -> Option<u32>
         ensures { result ≡ version_among self.now.items id }
     {
-        self.versions.get(&id.0).copied()
+        self.index.version_of(id)
     }
 
     /// Makes a place ready.
@@ -68,12 +64,8 @@ impl Ids {
         ensures items { self.new.items ≡ self.old.items }
         ensures spare { OnOk result (1 ≤ self.new.spare) }
     {
-        if self.places == 0 {
-            self.list.reserve(1)?;
-            self.versions.reserve(1)?;
-            self.places = 1;
-        }
-        Ok(())
+        self.list.reserve(1)?;
+        self.index.reserve()
     }
 
     /// Adds an id that is new, in a place that is ready.
@@ -84,7 +76,7 @@ impl Ids {
         ensures items { self.new.items ≡ self.old.items ++ id ∷ [] }
     {
         let version = self.len() + 1;
-        match self.versions.insert(id.0, version) {
+        match self.index.insert(id, version) {
             Ok(_) => {}
             Err(_) => unreachable!(),
         }
@@ -92,6 +84,5 @@ impl Ids {
             Ok(()) => {}
             Err(_) => unreachable!(),
         }
-        self.places -= 1;
     }
 }

@@ -8,7 +8,7 @@ ghost use Rattle.dataset_tx.specs.Held.{AreMet, AreMore};
 ghost use Rattle.log_journal.specs.Payload.{payload_of};
 ghost use Rattle.patch_log.specs.Log.{bare};
 ghost use Rattle.patch_meaning.specs.Patch.{IsPatch};
-ghost use Rattle.zone_state.specs.Brief.{version_among};
+ghost use Rattle.chain_core.specs.Ids.{version_among};
 ghost use Rattle.zone_state.specs.Taking.{taking, within_limits};
 
 use crate::answer::TakeAnswer;

@@ -1,7 +1,7 @@
 use Rattle.std.proofs.Common.{ℕ, [], ◌∷◌, ◌++◌, Option, Ok, refl, subst}
 use Rattle.delta_base.specs.declared.id.Id.{Id}
 use Rattle.rpc_answers.specs.declared.answer.Answer.TheVariants as answer
-use Rattle.zone_state.specs.Brief.{last_of}
+use Rattle.chain_core.specs.Ids.{last_of}
 use Rattle.follower.specs.Exchanges.{WasSaid, net_of}
 use Rattle.follower.specs.Syncing.{Compares, GoesBefore, compared, followed, texts_said}
 use Rattle.follower.proofs.Chains.{asks_none}

@@ -1,8 +1,7 @@
 use Rattle.std.proofs.Common.{◌≡◌, ◌+◌, ◌<◌, ◌≤◌, ◌^◌, ◌∷◌, [], length, None, sym, ap, subst, arith, length-append}
 use Rattle.delta_base.specs.Listed.{Listed}
 use Rattle.delta_base.specs.declared.id.Id.{Id}
-use Rattle.zone_state.specs.Brief.{version_among}
-use Rattle.zone_state.proofs.Versions.{index-push}
+use Rattle.chain_core.specs.Ids.{version_among}
 use Rattle.zone_state.proofs.ids.Ids.push.Goals as goal
 
 pub invariant_of-self : goal.invariant_of-self
@@ -12,10 +11,8 @@ invariant_of-self c =
     let few = subst (λ (l : Listed Id). length l.items + 1 < 2 ^ 32) (sym c.self.view_is) c.requires.few in
     let ready = subst (λ (l : Listed Id). 1 ≤ l.spare) (sym c.self.view_is) c.requires.ready in
     let count = subst (λ (l : Listed Id). c.len-version.result + 1 ≡ length l.items + 1) (sym c.self.view_is) (ap (λ n. n + 1) c.len-version.ensures.len) in
-    let indexed = index-push ids c.args.id c.self.inside.versions c.insert.new.self (c.len-version.result + 1) c.self.invariant.1 new count c.in-Ok.ensures.updates.0 in
     rw c.in-Ok-push.ensures.ok (
       omega (arith, few, length-append ids (c.args.id ∷ [])),
-      indexed,
-      omega (arith, c.push.ensures.spare (omega (arith, ready, c.self.invariant.2)), c.self.invariant.2),
-      omega (arith, c.insert.ensures.spare, c.self.invariant.3),
+      c.in-Ok.ensures.more ids c.self.invariant.1 new count,
+      omega (arith, c.push.ensures.spare (omega (arith, ready, c.self.invariant.2)), c.in-Ok.ensures.places, c.self.invariant.2),
     )
