@@ -1,7 +1,7 @@
 //! The file of one journal.
 ghost use Rattle.std.specs.Prelude.{◌≡◌, ℕ, ◌<◌, ◌≤◌, [], Some, length, OnOk, IsErrOf};
 ghost use Rattle.delta_base.specs.Outside.{Rose};
-ghost use Rattle.disk_model.specs.Past.{reads};
+ghost use Rattle.disk_model.specs.Past.{reads, EveryImage};
 ghost use Rattle.disk_model.specs.Shelf.{SameOthers};
 ghost use Rattle.log_journal.specs.File.{file_of};
 ghost use Rattle.slot_files.specs.Files.{bytes_at};
@@ -16,6 +16,8 @@ use log_journal::{FormatFault, format};
 fn formatted<D: Disk>(disk: D, number: u32) -> (D, Result<(), InitFault>)
     ensures ok { D.tells → OnOk result.1 ((reads (D.past disk) ≡ [])
         × (reads (D.past result.0) ≡ file_of number [])) }
+    ensures synced { D.tells → OnOk result.1
+        (EveryImage (D.past result.0) (λ image. image ≡ file_of number [])) }
     ensures not_empty { D.tells → (found size : ℕ)
         → IsErrOf result.1 (InitFault.NotEmpty found size) → (found ≡ number) × (0 < size)
         × (size ≡ length (reads (D.past disk))) }

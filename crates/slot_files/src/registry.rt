@@ -1,9 +1,9 @@
 //! The file of the registry: a journal whose first payload tells the number of slots.
 ghost use Rattle.std.specs.Prelude.{◌≡◌, ℕ, ◌<◌, ◌≤◌, [], ◌∷◌, Some, length, OnOk, IsErrOf};
 ghost use Rattle.delta_base.specs.Outside.{Rose};
-ghost use Rattle.disk_model.specs.Past.{reads};
+ghost use Rattle.disk_model.specs.Past.{reads, EveryImage};
 ghost use Rattle.disk_model.specs.Shelf.{SameOthers};
-ghost use Rattle.log_journal.specs.File.{file_of};
+ghost use Rattle.log_journal.specs.File.{file_of, Holds};
 ghost use Rattle.log_journal.specs.Payload.{payload_of};
 ghost use Rattle.slot_files.specs.Files.{bytes_at};
 
@@ -19,6 +19,8 @@ fn written<D: Disk>(disk: D, block: &Block) -> (D, Result<(), InitFault>)
     requires { length (payload_of block.now) ≤ 100 }
     ensures ok { D.tells → OnOk result.1 ((reads (D.past disk) ≡ [])
         × (reads (D.past result.0) ≡ file_of 0 (payload_of block.now ∷ []))) }
+    ensures synced { D.tells → OnOk result.1
+        (EveryImage (D.past result.0) (λ image. Holds image 0 (payload_of block.now ∷ []))) }
     ensures not_empty { D.tells → (found size : ℕ)
         → IsErrOf result.1 (InitFault.NotEmpty found size) → (found ≡ 0) × (0 < size)
         × (size ≡ length (reads (D.past disk))) }

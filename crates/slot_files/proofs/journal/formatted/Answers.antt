@@ -8,3 +8,6 @@ returns-in-Ok-clause-ok g c told = (
   c.in-Ok.ensures.was_empty told,
   c.in-Ok.ensures.ok told (reads (g.D.Disk.past c.format.new.disk)) (g.met.D.Disk.reads_may_be_left c.format.new.disk told) ∙ ap (λ (l : List ℕ). l ++ 0 ∷ []) (sym (front-none c.args.number)),
 )
+
+pub returns-in-Ok-clause-synced : goal.returns-in-Ok-clause-synced
+returns-in-Ok-clause-synced g c told = λ image left. c.in-Ok.ensures.ok told image left ∙ ap (λ (l : List ℕ). l ++ 0 ∷ []) (sym (front-none c.args.number))
