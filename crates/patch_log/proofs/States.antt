@@ -1,5 +1,5 @@
 -- What a log keeps, call by call.
-use Rattle.std.proofs.Common.{◌≡◌, inl, ℕ, ◌+◌, ◌^◌, ◌<◌, ◌≤◌, true, false, List, [], ◌∷◌, ◌++◌, length, Option, Some, None, refl, sym, ◌∙◌, ap, subst, arith}
+use Rattle.std.proofs.Common.{◌≡◌, ◌≢◌, inl, ℕ, ◌+◌, ◌^◌, ◌<◌, ◌≤◌, true, false, List, [], ◌∷◌, ◌++◌, length, Option, Some, None, refl, sym, ◌∙◌, ap, subst, arith}
 use Rattle.std.proofs.lemmas.List.{length-map}
 use Rattle.disk_model.specs.declared.disk.Disk.{Ghosts}
 use Rattle.disk_model.specs.Past.{EveryImage}
@@ -23,9 +23,9 @@ use Rattle.chain_core.specs.declared.answer.LogAnswer.{LogAnswer}
 use Rattle.chain_core.specs.declared.answer.LogAnswer.TheVariants.{Accepted, DiskFault, OutOfMemory}
 use Rattle.chain_core.specs.Chain.{IsBoundedChain}
 use Rattle.chain_core.specs.Decision.{decision}
-use Rattle.chain_core.specs.Log.{LogPoint, up}
+use Rattle.chain_core.specs.Log.{up}
 use Rattle.chain_core.specs.Patches.{patch_of, patches_of, texts_of}
-use Rattle.chain_core.specs.Stay.{answer_of, decided_by, accepted_by, fate_of, stay}
+use Rattle.chain_core.specs.Stay.{answer_of, decided_by, accepted_by, fate_of}
 use Rattle.chain_core.proofs.Decided.{IsAcceptable, accepted}
 use Rattle.chain_core.proofs.Fronts.{entries_kept}
 use Rattle.chain_core.proofs.Patches.{length-push, patches_of-push}
@@ -158,45 +158,34 @@ module _ {D : Type 0} {disks : Ghosts D} (journal new : Journal D disks) (entrie
       abbrev left_with : List Entry → Option Patch → LogView D
       left_with items left = record { entries = items; doubt = left; number = number; limits = limits; spare = spare_left; disk = disk_of new }
 
-      writes : (end : Option Phase) (after : LogPoint) (answer : LogAnswer) → accepted_by (fate_of end) chain doubt patch ≡ (after, Some answer) → stay limits (up chain doubt) patch (fate_of end) ≡ (after, Some answer)
-      writes end after answer comes = outcome_of chain doubt patch limits version (fate_of end) is ∙ comes
-
-      written_text : (end : Option Phase) → Written disks (disk_of journal) (disk_of new) number (texts_of chain) (patch_payload doubt) payload end → Written disks (disk_of journal) (disk_of new) number (texts_of chain) (patch_payload doubt) patch.text end
-      written_text end written = subst (λ (text : List ℕ). Written disks (disk_of journal) (disk_of new) number (texts_of chain) (patch_payload doubt) text end) payload_is written
+      made : (end : Option Phase) (items : List Entry) (left : Option Patch) (answer : LogAnswer) → accepted_by (fate_of end) chain doubt patch ≡ (up (patches_of items) left, Some answer)
+          → Written disks (disk_of journal) (disk_of new) number (texts_of chain) (patch_payload doubt) payload end → ((v : ℕ) → answer ≡ Accepted v → items ≡ entries ++ record { patch = patch; by = by } ∷ [])
+          → (((v : ℕ) → answer ≢ Accepted v) → items ≡ entries) → (answer ≢ DiskFault → ((v : ℕ) → answer ≢ Accepted v) → ⊥) → (answer ≡ DiskFault → failed) → (failed → answer ≡ DiskFault) → Appended disks before (left_with items left) patch by answer
+      made end items left answer comes written accepts refuses told to from =
+          let stays = outcome_of chain doubt patch limits version (fate_of end) is ∙ comes in
+          let text_written = subst (λ (text : List ℕ). Written disks (disk_of journal) (disk_of new) number (texts_of chain) (patch_payload doubt) text end) payload_is written in
+          record {
+            stood = stands_for_log;
+            appends = inl (fate_of end, stays);
+            asks = inl (record { version = version; can = sym is; end = end; stay = stays; written = text_written });
+            accepted = accepts;
+            refused = refuses;
+            went = went_by disks (disk_of journal) (disk_of new) failed (answer ≡ DiskFault) to from went;
+            untouched = λ other never. absurd (told other never);
+            limits = refl;
+            number = refl;
+          }
 
       pub appended_done : (failed → ⊥) → Written disks (disk_of journal) (disk_of new) number (texts_of chain) (patch_payload doubt) payload None
           → Appended disks before (left_with (entries ++ record { patch = patch; by = by } ∷ []) None) patch by (Accepted version)
       appended_done none written =
           let entry : Entry = record { patch = patch; by = by } in
           let comes : accepted_by Done chain doubt patch ≡ (up (patches_of (entries ++ entry ∷ [])) None, Some (Accepted version)) = rw (patches_of-push entries entry, version_is) refl in
-          let stays = writes None (up (patches_of (entries ++ entry ∷ [])) None) (Accepted version) comes in
-          record {
-            stood = stands_for_log;
-            appends = inl (Done, stays);
-            writes = λ v could want. record { end = None; stay = stays; written = written_text None written };
-            accepted = λ v at. refl;
-            refused = λ never. absurd (never version refl);
-            went = went_by disks (disk_of journal) (disk_of new) failed (Accepted version ≡ DiskFault) (λ at. absurd (cc)) (λ at. absurd (none at)) went;
-            untouched = λ other never. absurd (never version refl);
-            limits = refl;
-            number = refl;
-          }
+          made None (entries ++ entry ∷ []) None (Accepted version) comes written (λ v at. refl) (λ never. absurd (never version refl)) (λ other never. never version refl) (λ at. absurd (cc)) (λ at. absurd (none at))
 
       pub appended_failed : (phase : Phase) (left : Option Patch) → failed → accepted_by (Fails phase) chain doubt patch ≡ (up chain left, Some DiskFault)
           → Written disks (disk_of journal) (disk_of new) number (texts_of chain) (patch_payload doubt) payload (Some phase) → Appended disks before (left_with entries left) patch by DiskFault
-      appended_failed phase left is_failed comes written =
-          let stays = writes (Some phase) (up chain left) DiskFault comes in
-          record {
-            stood = stands_for_log;
-            appends = inl (Fails phase, stays);
-            writes = λ v could want. record { end = Some phase; stay = stays; written = written_text (Some phase) written };
-            accepted = λ v at. absurd (cc);
-            refused = λ never. refl;
-            went = went_by disks (disk_of journal) (disk_of new) failed (DiskFault ≡ DiskFault) (λ at. is_failed) (λ at. refl) went;
-            untouched = λ other never. absurd (other refl);
-            limits = refl;
-            number = refl;
-          }
+      appended_failed phase left is_failed comes written = made (Some phase) entries left DiskFault comes written (λ v at. absurd (cc)) (λ never. refl) (λ other never. other refl) (λ at. is_failed) (λ at. refl)
 
   -- as it was, but for the doubt
   pub kept_settled : StandsFor new number (texts_of chain) → length_of new ≡ length_of journal + 0 → limit_of new ≡ limit_of journal → JournalKeepsChain new chain None number limits

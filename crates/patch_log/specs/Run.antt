@@ -36,14 +36,25 @@ AppendsPatch limits chain doubt patch after answer =
     ((fate : Fate) × Stay limits (up chain doubt) patch fate after answer)
     ⊎ WantsForAppend limits chain doubt patch after answer
 
--- A write of the patch behind the log's payloads. The fate of the stay is that of the phase that
--- failed, or of none.
+-- A patch that can be accepted is written behind the log's payloads. The fate of the stay is that
+-- of the phase that failed, or of none.
 pub record WritesPatch {D : Type 0} (disks : Ghosts D) (before after : LogView D) (patch : Patch)
     (answer : LogAnswer) : Type 0 where
+  pub version : ℕ
+  pub can : decision (chain_of before) patch before.limits ≡ Accept version
   pub end : Option Phase
   pub stay : Stay before.limits (point_of before) patch (fate_of end) (point_of after) answer
   pub written : Written disks before.disk after.disk before.number (payloads_of (chain_of before))
       (patch_payload before.doubt) patch.text end
+
+-- The disk isn't asked, and the log stays as it is but for the places that are ready. Unless memory
+-- is wanted, the fate is none of the disk's.
+pub record AsksNoDisk {D : Type 0} (before after : LogView D) (patch : Patch)
+    (answer : LogAnswer) : Type 0 where
+  pub same : after ≡ record before { spare = after.spare }
+  pub never : (version : ℕ) → answer ≢ Accepted version
+  pub stays : answer ≢ OutOfMemory → (fate : Fate)
+      → Stay before.limits (point_of before) patch fate (point_of after) answer
 
 -- One append of a patch that this pass brings, to a log that its disk stood for.
 pub record Appended {D : Type 0} (disks : Ghosts D) (before after : LogView D) (patch : Patch)
@@ -52,9 +63,7 @@ pub record Appended {D : Type 0} (disks : Ghosts D) (before after : LogView D) (
       (chain_of before) before.doubt
   pub appends : AppendsPatch before.limits (chain_of before) before.doubt patch
       (point_of after) answer
-  -- a patch that can be accepted is written
-  pub writes : (version : ℕ) → decision (chain_of before) patch before.limits ≡ Accept version
-      → answer ≢ OutOfMemory → WritesPatch disks before after patch answer
+  pub asks : WritesPatch disks before after patch answer ⊎ AsksNoDisk before after patch answer
   pub accepted : (version : ℕ) → answer ≡ Accepted version
       → after.entries ≡ before.entries ++ record { patch = patch; by = by } ∷ []
   pub refused : ((version : ℕ) → answer ≢ Accepted version) → after.entries ≡ before.entries
