@@ -1,5 +1,5 @@
 -- From what was due and what became of it to what a call made of the registry.
-use Rattle.std.proofs.Common.{◌≡◌, inl, inr, ⊎_elim, ℕ, List, Option, Some, refl, sym, ◌∙◌, ap, subst}
+use Rattle.std.proofs.Common.{◌≡◌, inl, inr, ⊎_elim, ℕ, List, Option, Some, Result, Err, refl, sym, ◌∙◌, ap, subst}
 use Rattle.disk_model.specs.declared.disk.Disk.{Ghosts}
 use Rattle.delta_base.specs.declared.id.Id.{Id}
 use Rattle.log_base.specs.declared.source_info.SourceInfo.{SourceInfo}
@@ -14,6 +14,9 @@ use Rattle.registry_core.specs.Checks.{StopsCreate, StopsChange}
 use Rattle.registry_core.specs.Replies.{RegistryCall, RegistryReply, create, answered, changed, create_reply, removal, registry_reply, event_by, ending, MayEnd}
 use Rattle.log_registry.specs.Stands.{StandsForRegistry}
 use Rattle.log_registry.specs.State.{StateView, events_in}
+use Rattle.log_registry.specs.declared.state.NotMade.{NotMade}
+use Rattle.log_registry.specs.declared.state.NotMade.TheVariants.{OutOfMemory as NotMadeWant}
+use Rattle.log_registry.specs.Making.{end_of_making}
 use Rattle.log_registry.specs.Changes.{Changed, Called}
 use Rattle.log_registry.proofs.Made.{unchanged, wanted}
 
@@ -32,8 +35,8 @@ module _ {D : Type 0} (disks : Ghosts D) (registry : StateView D) (by : ℕ) (st
   tells_due : (call : RegistryCall) (reply : RegistryReply) → ending call reply ≡ told → reply ≡ registry_reply registry.slots call (events_in registry) → Called disks registry registry call by reply
   tells_due call reply ends is = record {
     replies = subst (λ (e : Ending). MayEnd e registry.slots call (events_in registry) reply) (sym ends) is;
-    changed = unchanged disks registry (event_by registry.slots call (events_in registry)) by (ending call reply) stands
-        (ends, ap event_in (sym (ap (ending call) is) ∙ ends));
+    changed = subst (λ (e : Ending). Changed disks registry registry (event_by registry.slots call (events_in registry)) by e) (sym ends)
+        (unchanged disks registry (event_by registry.slots call (events_in registry)) by stands (ap event_in (sym (ap (ending call) is) ∙ ends)));
   }
 
   -- a source is created
@@ -88,8 +91,8 @@ module _ {D : Type 0} (disks : Ghosts D) (registry : StateView D) (by : ℕ) (st
 
 -- no memory was found for the event that was due
 pub want_called : {D : Type 0} (disks : Ghosts D) (before after : StateView D) (call : RegistryCall) (by : ℕ) (reply : RegistryReply) (event : Event) → event_by before.slots call (events_in before) ≡ Some event
-    → ending call reply ≡ wanting → Changed disks before after (Some event) by wanting → Called disks before after call by reply
-want_called disks before after call by reply event due ends made_none = record {
+    → ending call reply ≡ wanting → (result : Result Unit NotMade) → result ≡ Err NotMadeWant → Changed disks before after (Some event) by (end_of_making event result) → Called disks before after call by reply
+want_called disks before after call by reply event due ends result want changes = record {
   replies = subst (λ (e : Ending). MayEnd e before.slots call (events_in before) reply) (sym ends) (inl (event, due));
-  changed = subst (λ (z : Option Event × Ending). Changed disks before after z.0 by z.1) (λ i. (sym due i, sym ends i)) made_none;
+  changed = subst (λ (z : Option Event × Ending). Changed disks before after z.0 by z.1) (λ i. (sym due i, (ap (end_of_making event) want ∙ sym ends) i)) changes;
 }

@@ -15,7 +15,7 @@ use Rattle.registry_core.specs.Events.{IsNextEvent, IsRegistry}
 use Rattle.log_base.specs.declared.limits.TheConstants.{REGISTRY_LIMIT}
 use Rattle.registry_core.specs.Texts.{event_text, registry_payloads, registry_length, length_with}
 use Rattle.registry_core.proofs.Tables.{length-push, registry-push, has_room}
-use Rattle.log_registry.specs.Stands.{MayHoldEvents, MayHoldEventsDuring, StandsForRegistry, event_payload}
+use Rattle.log_registry.specs.Stands.{MayHoldEvents, StandsForRegistry, event_payload}
 use Rattle.log_registry.specs.State.{JournalKeepsEvents}
 
 pub payloads-push : (slots : ℕ) (events : List Event) (event : Event) → registry_payloads slots (events ++ event ∷ []) ≡ registry_payloads slots events ++ event_text event ∷ []
@@ -27,28 +27,12 @@ short_text slots events event next = let fits = has_room slots events event next
 
 -- ---- images
 
-pub still_during : (slots : ℕ) (events : List Event) (doubt event : Option Event) (image : List ℕ) → MayHoldEvents slots events doubt image → MayHoldEventsDuring slots events doubt event image
-still_during slots events doubt None image holds = holds
-still_during slots events None (Some event) image holds = inl holds
-still_during slots events (Some doubt) (Some event) image holds = inl holds
-
 module _ {D : Type 0} {disks : Ghosts D} where
-  pub during : (old new : Journal D disks) (slots : ℕ) (events : List Event) (doubt : Option Event) (event : Event) (payload : List ℕ) → payload ≡ event_text event
-      → Leaves (HoldsDuring 0 (registry_payloads slots events) (event_payload doubt) payload) old new → disks.tells → LeavesOnly (MayHoldEventsDuring slots events doubt (Some event)) (disks.past (disk_of old)) (disks.past (disk_of new))
-  during old new slots events None event payload is leaves told = subst (λ (text : List ℕ). LeavesOnly (HoldsWithOrWithout 0 (registry_payloads slots events) text) (disks.past (disk_of old)) (disks.past (disk_of new))) is (leaves told)
-  during old new slots events (Some doubt) event payload is leaves told =
-      subst (λ (text : List ℕ). LeavesOnly (λ image. HoldsWithOrWithout 0 (registry_payloads slots events) (event_text doubt) image ⊎ HoldsWithOrWithout 0 (registry_payloads slots events) text image) (disks.past (disk_of old)) (disks.past (disk_of new))) is (leaves told)
-
   pub each_holds : (journal : Journal D disks) (slots : ℕ) (events : List Event) (doubt : Option Event) → StandsWith journal 0 (registry_payloads slots events) (event_payload doubt) → disks.tells → EveryImage (disks.past (disk_of journal)) (MayHoldEvents slots events doubt)
   each_holds journal slots events None stands told = (stands.1 told).each
   each_holds journal slots events (Some doubt) stands told = λ image left.
       let all = stands.1 told in
       either (length_of journal) 0 (registry_payloads slots events) (event_text doubt) all.doubt_sized image all.sized (all.each image left)
-
-  -- before any call
-  pub no_call_yet : (journal : Journal D disks) (slots : ℕ) (events : List Event) (doubt event : Option Event) → JournalKeepsEvents journal slots events doubt → disks.tells → LeavesOnly (MayHoldEventsDuring slots events doubt event) (disks.past (disk_of journal)) (disks.past (disk_of journal))
-  no_call_yet journal slots events doubt event kept told =
-      starts (MayHoldEventsDuring slots events doubt event) (disks.past (disk_of journal)) (λ image left. still_during slots events doubt event image (each_holds journal slots events doubt kept.stands told image left))
 
   pub stands_for_registry : (journal : Journal D disks) (slots : ℕ) (events : List Event) (doubt : Option Event) → JournalKeepsEvents journal slots events doubt → disks.tells → StandsForRegistry (disks.past (disk_of journal)) slots events doubt
   stands_for_registry journal slots events doubt kept told = record { each = each_holds journal slots events doubt kept.stands told; without = kept.without; having = kept.having }

@@ -1,17 +1,14 @@
 -- One call on a registry: what it makes of the events and of the disk.
-use Rattle.std.specs.Prelude.{◌≡◌, ◌≢◌, ℕ, ◌-◌, ◌≤◌, [], ◌∷◌, ◌++◌, not, IsTrue, Option, Some, None}
+use Rattle.std.specs.Prelude.{◌≡◌, ◌≢◌, ℕ, [], ◌∷◌, ◌++◌, Option, Some, None}
 use Rattle.log_base.specs.declared.phase.Phase.{Phase}
-use Rattle.log_base.specs.declared.phase.Phase.TheVariants.{Settling, Body, Gate}
-use Rattle.delta_base.specs.Outside.{Rose}
-use Rattle.log_base.specs.Phases.{phase_by_syncs, phase_by_plan}
 use Rattle.disk_model.specs.declared.disk.Disk.{Ghosts}
-use Rattle.disk_model.specs.Past.{ok_syncs, EveryImage, LeavesOnly}
-use Rattle.log_journal.specs.File.{Holds}
+use Rattle.log_journal.specs.Writing.{doubt_left}
+use Rattle.log_journal.specs.Written.{DiskWent, Written}
 use Rattle.registry_core.specs.declared.event.Event.{Event}
 use Rattle.registry_core.specs.Answers.{Ending, made, told, failed, wanting}
 use Rattle.registry_core.specs.Replies.{RegistryCall, RegistryReply, event_by, ending, MayReply}
-use Rattle.registry_core.specs.Texts.{registry_payloads}
-use Rattle.log_registry.specs.Stands.{MayHoldEventsDuring, LeavesEitherEvents}
+use Rattle.registry_core.specs.Texts.{event_text, registry_payloads}
+use Rattle.log_registry.specs.Stands.{StandsForRegistry, event_payload}
 use Rattle.log_registry.specs.State.{StateView, events_in}
 
 -- how a call ends whose event is written, by the phase that failed, if one did
@@ -19,18 +16,11 @@ abbrev pub ending_by : Option Phase → Event → Ending
 ending_by None event = made event
 ending_by (Some phase) event = failed
 
--- the event in doubt that is left then
-abbrev pub event_left : Option Phase → Option Event → Event → Option Event
-event_left None doubt event = None
-event_left (Some Settling) doubt event = doubt
-event_left (Some Body) doubt event = None
-event_left (Some Gate) doubt event = Some event
-
 module _ {D : Type 0} where
   -- the event was written, and this phase failed, or none
   abbrev pub IsWritten : Option Phase → Event → StateView D → StateView D → Ending → Type 0
-  IsWritten phase event before after ending =
-      (ending ≡ ending_by phase event) × (after.doubt ≡ event_left phase before.doubt event)
+  IsWritten end event before after ending =
+      (ending ≡ ending_by end event) × (after.doubt ≡ doubt_left end before.doubt event)
 
   -- neither the events nor the disk changed
   abbrev pub IsUntouched : StateView D → StateView D → Type 0
@@ -45,41 +35,30 @@ module _ {D : Type 0} where
   Stays told due by before after = (due ≡ None) × IsUntouched before after
   Stays failed due by before after =
       (event : Event) × (due ≡ Some event) × (after.entries ≡ before.entries)
-      × ((phase : Phase) × (after.doubt ≡ event_left (Some phase) before.doubt event))
+      × ((phase : Phase) × (after.doubt ≡ doubt_left (Some phase) before.doubt event))
   Stays wanting due by before after = IsUntouched before after
 
--- One call, in which an event is due or none, of the pass with this number.
+-- The event was written behind those of the registry.
+pub record WritesEvent {D : Type 0} (disks : Ghosts D) (before after : StateView D)
+    (event : Event) (ending : Ending) : Type 0 where
+  pub end : Option Phase
+  pub is : IsWritten end event before after ending
+  pub written : Written disks before.disk after.disk 0
+      (registry_payloads before.slots (events_in before)) (event_payload before.doubt)
+      (event_text event) end
+
+-- One call, in which an event is due or none, of the pass with this number, on a registry that its
+-- disk stood for.
 pub record Changed {D : Type 0} (disks : Ghosts D) (before after : StateView D)
     (due : Option Event) (by : ℕ) (ending : Ending) : Type 0 where
+  pub stood : disks.tells → StandsForRegistry (disks.past before.disk) before.slots
+      (events_in before) before.doubt
   pub stays : Stays ending due by before after
-  -- the phase of the writing that failed is that of the first sync which wasn't done
-  pub by_syncs : disks.tells → (event : Event) → due ≡ Some event → ending ≢ wanting
-      → IsWritten (phase_by_syncs before.doubt (ok_syncs (disks.past after.disk) - ok_syncs
-      (disks.past before.disk))) event before after ending
-  -- where the syncs fail as planned, it is that of the plan
-  pub planned : disks.plans → IsTrue (not (disks.short after.disk)) → (event : Event)
-      → due ≡ Some event → ending ≢ wanting
-      → IsWritten (phase_by_plan before.doubt
-      (disks.next_failure before.disk)) event before after ending
-  -- a crash at any moment leaves the events, or these with the one in doubt or with the one due
-  pub any_moment : disks.tells
-      → LeavesOnly (MayHoldEventsDuring before.slots (events_in before) before.doubt due)
-      (disks.past before.disk) (disks.past after.disk)
-  -- what is made is in every image
-  pub kept : (event : Event) → ending ≡ made event → disks.tells
-      → EveryImage (disks.past after.disk)
-      (λ image. Holds image 0 (registry_payloads after.slots (events_in after)))
-  -- as planned, an event in doubt stands where what wasn't synced is 1, and not in what was synced
-  pub images : disks.plans → disks.tells → IsTrue (not (disks.short after.disk))
-      → LeavesEitherEvents (disks.past before.disk) before.slots (events_in before) before.doubt
-      → LeavesEitherEvents (disks.past after.disk) after.slots (events_in after) after.doubt
-  -- a fault is told where the disk's count of faults rose, and else none was counted
-  pub cause : ending ≡ failed → Rose (disks.faults before.disk) (disks.faults after.disk)
-  pub faults : disks.faults before.disk ≤ disks.faults after.disk
-  pub well : ending ≢ failed → disks.faults after.disk ≡ disks.faults before.disk
-  pub stays_short : disks.plans → IsTrue (disks.short before.disk) → IsTrue (disks.short after.disk)
+  -- the event that is due is written, unless memory ran out before
+  pub writes : (event : Event) → due ≡ Some event → ending ≢ wanting
+      → WritesEvent disks before after event ending
+  pub went : DiskWent disks (ending ≡ failed) before.disk after.disk
   pub slots : after.slots ≡ before.slots
-  pub mark : disks.mark after.disk ≡ disks.mark before.disk
 
 -- A call of the pass with this number, and its reply.
 pub record Called {D : Type 0} (disks : Ghosts D) (before after : StateView D)

@@ -1,11 +1,10 @@
 -- What the disk of a registry stands for.
-use Rattle.std.specs.Prelude.{◌⊎◌, ℕ, List, [], ◌∷◌, ◌++◌, Option, Some, None}
+use Rattle.std.specs.Prelude.{ℕ, List, Option, Some, None}
 use Rattle.std.specs.Option.{option_map}
 use Rattle.log_base.specs.OneMore.{with_one_more}
 use Rattle.disk_model.specs.Past.{Past, EveryImage}
 use Rattle.log_journal.specs.File.{Holds}
 use Rattle.log_journal.specs.Journal.{HoldsWithOrWithout}
-use Rattle.log_journal.specs.Writing.{LeavesEither}
 use Rattle.registry_core.specs.declared.event.Event.{Event}
 use Rattle.registry_core.specs.Events.{IsRegistry}
 use Rattle.registry_core.specs.Texts.{event_text, registry_payloads}
@@ -26,19 +25,3 @@ pub record StandsForRegistry (past : Past) (slots : ℕ) (events : List Event)
   pub each : EveryImage past (MayHoldEvents slots events doubt)
   pub without : IsRegistry slots events
   pub having : IsRegistry slots (with_one_more events doubt)
-
--- While an event is added, an image holds the events, or these and the one in doubt or the new one.
--- A call that makes none changes nothing.
-abbrev pub MayHoldEventsDuring : ℕ → List Event → Option Event → Option Event → List ℕ → Type 0
-MayHoldEventsDuring slots events doubt None image = MayHoldEvents slots events doubt image
-MayHoldEventsDuring slots events None (Some event) image =
-    HoldsWithOrWithout 0 (registry_payloads slots events) (event_text event) image
-MayHoldEventsDuring slots events (Some doubt) (Some event) image =
-    HoldsWithOrWithout 0 (registry_payloads slots events) (event_text doubt) image
-    ⊎ HoldsWithOrWithout 0 (registry_payloads slots events) (event_text event) image
-
--- what was synced is without the event in doubt, and with 1 for each byte that wasn't synced the
--- file has it
-abbrev pub LeavesEitherEvents : Past → ℕ → List Event → Option Event → Type 0
-LeavesEitherEvents past slots events doubt =
-    LeavesEither past 0 (registry_payloads slots events) (event_payload doubt)

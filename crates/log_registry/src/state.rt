@@ -1,11 +1,11 @@
 //! One registry in one thread.
-ghost use Rattle.std.specs.Prelude.{◌≡◌, ◌≢◌, ℕ, ◌+◌, ◌<◌, ◌≤◌, length, IsTrue};
+ghost use Rattle.std.specs.Prelude.{◌≡◌, ◌<◌, length};
 ghost use Rattle.std.specs.Prelude.{IfSome, None, Some, IfOk, IfErr, OnOk};
 ghost use Rattle.std.specs.List.{AllByRecursion};
-ghost use Rattle.delta_base.specs.Outside.{Rose};
-ghost use Rattle.disk_model.specs.Past.{reads, Keeps};
+ghost use Rattle.disk_model.specs.Past.{reads};
 ghost use Rattle.log_journal.specs.File.{Holds};
 ghost use Rattle.log_journal.specs.Payload.{payload_of};
+ghost use Rattle.log_journal.specs.Written.{Reopened, RefusedOpening};
 ghost use Rattle.registry_core.specs.Events.{events_of, IsNextEvent, IsRegistry};
 ghost use Rattle.registry_core.specs.Replies as asked;
 ghost use Rattle.registry_core.specs.Sources.{sources, HasSlot};
@@ -98,31 +98,11 @@ impl<D: Disk> RegistryState<D> {
         ensures fault { D.tells → IfErr result (λ refusal.
             HasRegistryFault (reads (D.past disk)) refusal.fault) }
 
-        // A crash at any moment leaves what it might have left before, and a read gives what it
-        // gave.
-        ensures kept { D.tells → IfOk result (λ registry.
-            Keeps (D.past disk) (D.past registry.disk)) }
-        ensures kept_refused { D.tells → IfErr result (λ refusal.
-            Keeps (D.past disk) (D.past refusal.disk)) }
-
-        // It reads no more than the journal.
-        ensures few { D.tells → IfOk result (λ registry. D.read_bytes registry.disk
-            ≤ D.read_bytes disk + registry_length registry.slots (events_in registry)) }
-        ensures cause { IfErr result (λ refusal. refusal.fault ≡ RegistryFault.Failed
-            → Rose (D.faults disk) (D.faults refusal.disk)) }
-
-        // A fault is counted where a call of the disk failed, and else none.
-        ensures faults { IfOk result (λ registry. D.faults registry.disk ≡ D.faults disk) }
-        ensures never_falls { IfErr result (λ refusal. D.faults disk ≤ D.faults refusal.disk) }
-        ensures faults_refused { IfErr result (λ refusal. refusal.fault ≢ RegistryFault.Failed
-            → D.faults refusal.disk ≡ D.faults disk) }
-
-        // Where no failure is planned, its disk fails for want of memory alone.
-        ensures long { D.plans → IfOk result (λ registry. D.short registry.disk ≡ D.short disk) }
-        ensures planned { D.plans → IfErr result (λ refusal. refusal.fault ≡ RegistryFault.Failed
-            → D.next_failure disk ≡ None → IsTrue (D.short refusal.disk)) }
-        ensures mark { IfOk result (λ registry. D.mark registry.disk ≡ D.mark disk) }
-        ensures mark_refused { IfErr result (λ refusal. D.mark refusal.disk ≡ D.mark disk) }
+        // What becomes of its disk.
+        ensures reopened { IfOk result (λ registry. Reopened D.Disk disk registry.disk
+            (registry_length registry.slots (events_in registry))) }
+        ensures refused { IfErr result (λ refusal. RefusedOpening D.Disk
+            (refusal.fault ≡ RegistryFault.Failed) disk refusal.disk) }
     {
         let (journal, payloads) = match Journal::open_on(alloc, disk, 0, REGISTRY_LIMIT) {
             Ok(opened) => opened,

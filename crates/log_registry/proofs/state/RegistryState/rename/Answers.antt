@@ -1,36 +1,27 @@
-use Rattle.std.proofs.Common.{◌≡◌, Some, Result, Err, refl, ◌∙◌, ap, subst}
-use Rattle.log_journal.specs.StandsFor.{disk_of}
-use Rattle.registry_core.specs.declared.event.Event.{Event}
-use Rattle.registry_core.specs.declared.event.Event.TheVariants.{Renamed}
+use Rattle.std.proofs.Common.{◌≡◌, Err, refl, ◌∙◌, ap, subst}
 use Rattle.registry_core.specs.Answers.{end_of_change, event_in}
 use Rattle.registry_core.specs.Events.{events_of}
+use Rattle.registry_core.specs.declared.answer.ChangeAnswer.{ChangeAnswer}
+use Rattle.registry_core.specs.declared.answer.ChangeAnswer.TheVariants.{Done}
+use Rattle.registry_core.specs.Replies.{rename, rename_reply, renaming}
 use Rattle.log_registry.specs.declared.state.NotMade.{NotMade}
-use Rattle.log_registry.specs.declared.state.NotMade.TheVariants.{OutOfMemory as NotMadeWant}
-use Rattle.log_registry.specs.Changes.{Changed, Called}
-use Rattle.log_registry.specs.Making.{end_of_making}
 use Rattle.log_registry.specs.State.{StateView}
 use Rattle.log_registry.proofs.States.{stands_for_registry}
-use Rattle.registry_core.specs.declared.answer.ChangeAnswer.{ChangeAnswer}
-use Rattle.registry_core.specs.declared.answer.ChangeAnswer.TheVariants.{Done, OutOfMemory}
-use Rattle.registry_core.specs.Replies.{rename, rename_reply, renaming, changed}
 use Rattle.log_registry.proofs.Answered.{change_stops, change_wants, want_called}
 use Rattle.log_registry.proofs.state.RegistryState.rename.Goals as goal
 
 pub returns-in-Err : goal.returns-in-Err
 returns-in-Err g c =
     let s = c.self.inside in
-    subst (λ (v : StateView g.row.D.Denot). Called g.D.Disk v v (rename c.args.name.now c.args.new_name.now) c.args.by (changed c.in-Err.answer)) c.self.view_is (change_stops g.D.Disk (record { slots = s.registry.slots; entries = s.registry.entries; doubt = s.doubt; disk = disk_of s.journal }) c.args.by (stands_for_registry s.journal s.registry.slots (events_of s.registry.entries) s.doubt c.self.invariant) (rename c.args.name.now c.args.new_name.now) renaming (rename_reply s.registry.slots (events_of s.registry.entries) c.args.name.now c.args.new_name.now) refl (λ answer. refl) c.in-Err.answer c.in-Err.ensures.stopped)
+    rw (← c.self.view_is) (change_stops g.D.Disk _ c.args.by (stands_for_registry s.journal _ _ _ c.self.invariant) (rename c.args.name.now c.args.new_name.now) renaming (rename_reply s.registry.slots (events_of s.registry.entries) c.args.name.now c.args.new_name.now) refl (λ answer. refl) c.in-Err.answer c.in-Err.ensures.stopped)
 
 pub returns-in_default : goal.returns-in_default
 returns-in_default g c =
     let s = c.self.inside in
-    subst (λ (v : StateView g.row.D.Denot). Called g.D.Disk v v (rename c.args.name.now c.args.new_name.now) c.args.by (changed OutOfMemory)) c.self.view_is (change_wants g.D.Disk (record { slots = s.registry.slots; entries = s.registry.entries; doubt = s.doubt; disk = disk_of s.journal }) c.args.by (stands_for_registry s.journal s.registry.slots (events_of s.registry.entries) s.doubt c.self.invariant) (rename c.args.name.now c.args.new_name.now) renaming (rename_reply s.registry.slots (events_of s.registry.entries) c.args.name.now c.args.new_name.now) refl (λ answer. refl) c.in-Ok.source c.in-Ok.ensures.done)
+    rw (← c.self.view_is) (change_wants g.D.Disk _ c.args.by (stands_for_registry s.journal _ _ _ c.self.invariant) (rename c.args.name.now c.args.new_name.now) renaming (rename_reply s.registry.slots (events_of s.registry.entries) c.args.name.now c.args.new_name.now) refl (λ answer. refl) c.in-Ok.source c.in-Ok.ensures.done)
 
 pub returns-in-Err-OutOfMemory : goal.returns-in-Err-OutOfMemory
 returns-in-Err-OutOfMemory g c =
-    let now = c.args.self.now in
-    let after = c.make.new.self in
-    let due = subst (λ (v : StateView g.row.D.Denot). rename_reply v.slots (events_of v.entries) c.args.name.now c.args.new_name.now ≡ Done c.in-Ok.source) c.self.view_is c.in-Ok.ensures.done in
-    let want : c.make.result ≡ Err NotMadeWant = c.in-Err-OutOfMemory.is ∙ ap (λ (fault : NotMade). Err fault) c.in-Err-OutOfMemory.field-0-is in
-    want_called g.D.Disk now after (rename c.args.name.now c.args.new_name.now) c.args.by (changed OutOfMemory) (renaming c.in-Ok.source) (ap (λ (answer : ChangeAnswer). event_in (end_of_change renaming answer)) due) refl
-    (subst (λ (z : Event × Result Unit NotMade). Changed g.D.Disk now after (Some z.0) c.args.by (end_of_making z.0 z.1)) (λ i. (Renamed c.in-Ok.source.slot (c.in-Ok-copy.ensures i), want i)) c.make.ensures)
+    let due = ap (λ (answer : ChangeAnswer). event_in (end_of_change renaming answer)) (subst (λ (v : StateView g.row.D.Denot). rename_reply v.slots (events_of v.entries) c.args.name.now c.args.new_name.now ≡ Done c.in-Ok.source) c.self.view_is c.in-Ok.ensures.done) in
+    let want = c.in-Err-OutOfMemory.is ∙ ap (λ (fault : NotMade). Err fault) c.in-Err-OutOfMemory.field-0-is in
+    want_called g.D.Disk _ _ _ _ _ (renaming c.in-Ok.source) due refl c.make.result want (rw (c.in-Ok-copy.ensures) at c.make.ensures)
