@@ -2,5 +2,3 @@ pub mod Histories
 pub mod Table
 pub mod Stays
 pub mod Telling
-pub mod Asking
-pub mod Appending

@@ -1,5 +1,5 @@
 -- What an append came to, by its answer.
-use Rattle.std.proofs.Common.{◌≡◌, ◌≢◌, ◌⊎◌, ℕ, ◌+◌, List, [], ◌∷◌, ◌++◌, length, sym, refl, ap, ◌∙◌, subst, ⊎_elim, inl, inr, Option, Some, None, Result, Ok, Err, IfOk}
+use Rattle.std.proofs.Common.{◌≡◌, ◌≢◌, ◌⊎◌, ℕ, ◌+◌, List, [], ◌∷◌, ◌++◌, length, sym, refl, ap, ◌∙◌, subst, ⊎_elim, inl, inr, Option, Some, None, Result, Ok, Err, IfOk, true, false}
 use Rattle.log_base.specs.declared.limits.LogLimits.{LogLimits}
 use Rattle.chain_core.specs.declared.chain.Patch.{Patch}
 use Rattle.log_base.specs.declared.phase.Phase.TheVariants.{Settling, Body, Gate}
@@ -22,9 +22,13 @@ use Rattle.patch_log.specs.Ready.{ReadyView, IsMadeOf}
 use Rattle.delta_base.specs.declared.fault.OutOfMemory.{OutOfMemory as Want}
 use Rattle.patch_meaning.specs.Checked.{CheckedPatch}
 use Rattle.turn_cell.specs.Sights.{IsGrownBy}
-use Rattle.shared_log.specs.History.{entry_of, history_of}
+use Rattle.shared_log.specs.History.{entry_of, history_of, IsKeptBy}
+use Rattle.shared_log.specs.Legal.{asks_disk}
 use Rattle.shared_log.proofs.Table.{Stays}
 use Rattle.shared_log.proofs.Histories.{history_push}
+
+true_not_false : true ≡ false → ⊥
+true_not_false e = cc
 
 abbrev CanAccept : Decision → Type 0
 CanAccept made = (place : ℕ) × (made ≡ Accept place)
@@ -111,6 +115,21 @@ module _ {D : Type 0} (disks : Ghosts D) where
 
   pub grows_of : (before after : LogView D) (patch : Patch) (by : ℕ) (answer : LogAnswer) → Appended disks before after patch by answer → IsGrownBy by (history_of before.entries) (history_of after.entries)
   grows_of before after patch by answer a = grows before.limits by patch before after answer (stays_of before after patch by answer a)
+
+  kept_by : (limits : LogLimits) (by : ℕ) (patch : Patch) (before after : LogView D) (answer : LogAnswer) → asks_disk answer ≡ false → Stays limits by patch before after answer → IsKeptBy before after
+  kept_by limits by patch before after (Accepted place) unasked s = absurd (true_not_false unasked)
+  kept_by limits by patch before after (IsKnown place same) unasked s = s.1
+  kept_by limits by patch before after (IsConflict place head named) unasked s = s.1
+  kept_by limits by patch before after (IsFull what have limit) unasked s = s.1
+  kept_by limits by patch before after DiskFault unasked s = absurd (true_not_false unasked)
+  kept_by limits by patch before after OutOfMemory unasked s = s.1
+
+  -- where the disk wasn't asked, all is as it was
+  pub kept_of : (before after : LogView D) (patch : Patch) (by : ℕ) (answer : LogAnswer) → Appended disks before after patch by answer → asks_disk answer ≡ false → IsKeptBy before after × (after.disk ≡ before.disk)
+  kept_of before after patch by answer a unasked = (
+    kept_by before.limits by patch before after answer unasked (stays_of before after patch by answer a),
+    a.untouched (λ is. true_not_false (sym (ap asks_disk is) ∙ unasked)) (λ version is. true_not_false (sym (ap asks_disk is) ∙ unasked)),
+  )
 
 -- what was made ready for a pass is brought by it
 pub made_by : (patch : CheckedPatch) (by number : ℕ) (made : Result ReadyView Want) → IfOk made (IsMadeOf patch by) → by ≡ number

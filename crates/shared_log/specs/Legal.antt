@@ -1,7 +1,7 @@
 -- Which calls of a pass are legal, as a relation over what the pass knew before the call, its
 -- reply, and what the pass knows behind it. A pass knows a history: entries, each with its patch
 -- and the number of the pass that brought it.
-use Rattle.std.specs.Prelude.{◌≡◌, ◌⊎◌, ℕ, [], ◌∷◌, ◌++◌}
+use Rattle.std.specs.Prelude.{◌≡◌, ◌⊎◌, ℕ, [], ◌∷◌, ◌++◌, Bool, true, false}
 use Rattle.delta_base.specs.Outside.{Rose}
 use Rattle.log_base.specs.declared.limits.LogLimits.{LogLimits}
 use Rattle.chain_core.specs.declared.chain.Patch.{Patch}
@@ -38,6 +38,15 @@ IsAccepted limits patch place p q =
 abbrev pub MayLeavePatch : Patch → LogSight → LogSight → Type 0
 MayLeavePatch patch p q =
     (failed_of q ≡ failed_of p) ⊎ (failed_of q ≡ failed_of p ++ patch ∷ [])
+
+-- whether the disk was asked for a patch that got this answer
+abbrev pub asks_disk : LogAnswer → Bool
+asks_disk (Accepted place) = true
+asks_disk (IsKnown place same) = false
+asks_disk (IsConflict place head named) = false
+asks_disk (IsFull what have limit) = false
+asks_disk DiskFault = true
+asks_disk OutOfMemory = false
 
 -- an answer to an append
 abbrev pub IsAppendAnswer : LogLimits → Patch → LogAnswer → LogSight → LogSight → Type 0

@@ -1,8 +1,8 @@
 //! One log that threads share over a turn.
 //!
 //! Each thread has a pass of its own. A call takes the turn, asks the log or appends to it, and
-//! hands the turn on; how long the log is can be asked without waiting. What each call replies is
-//! told by `LegalOnLog` in `specs/`.
+//! hands the turn on; how long the log is can be asked without waiting. What each call replies, and
+//! what it does in its turn, is told by `CalledOnLog` in `specs/`.
 #![tactic(auto)]
 
 mod replies;

@@ -1,5 +1,5 @@
 //! A log that threads share.
-ghost use Rattle.std.specs.Prelude.{◌≡◌, ◌≢◌, false, ◌<◌, ◌≤◌, ℕ, ◌+◌, Some, IfOk, IfErr, OnErr, slice_get};
+ghost use Rattle.std.specs.Prelude.{◌≡◌, ◌<◌, ◌≤◌, ℕ, ◌+◌, Some, IfOk, IfErr, OnErr, slice_get};
 ghost use Rattle.std.specs.Prelude.{vec_len, vec_capacity};
 ghost use Rattle.std.specs.List.{AllByRecursion};
 ghost use Rattle.chain_core.specs.Replies as asked;
@@ -8,6 +8,7 @@ ghost use Rattle.turn_cell.specs.Knowing.{Wants, pass_number};
 ghost use Rattle.turn_cell.specs.Sharing.{IsPassOf, IsNewPassOf, AreAllPassesOf, IsClosedOf};
 ghost use Rattle.shared_log.specs.History.{shared_log};
 ghost use Rattle.shared_log.specs.Replies.{reply_fetched, reply_described};
+ghost use Rattle.shared_log.specs.Legal.{asks_disk};
 ghost use Rattle.shared_log.specs.Stays.{CalledOnLog};
 
 use crate::replies::{Fetched, LogInfo};
@@ -22,10 +23,8 @@ use std::marker::Model;
 use std::sync::Wait;
 use turn_cell::{Pass, Turn};
 
-// Whether the disk was asked for a patch that got this answer.
 fn asks_the_disk(answer: &LogAnswer) -> bool
-    ensures { result ≡ false → (answer.now ≢ LogAnswer.DiskFault)
-        × ((version : ℕ) → answer.now ≢ LogAnswer.Accepted version) }
+    ensures { result ≡ asks_disk answer.now }
 {
     matches!(answer, LogAnswer::Accepted { .. } | LogAnswer::DiskFault)
 }

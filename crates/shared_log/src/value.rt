@@ -1,5 +1,5 @@
 //! A log as the value of a turn.
-ghost use Rattle.std.specs.Prelude.{◌≡◌, ◌≢◌, ◌<◌, ◌≤◌, ◌^◌, ℕ, length, IfOk};
+ghost use Rattle.std.specs.Prelude.{◌≡◌, ◌<◌, ◌≤◌, ◌^◌, ℕ, false, length, IfOk};
 ghost use Rattle.std.specs.Result.{ForOk};
 ghost use Rattle.chain_core.specs.Patches.{patches_of};
 ghost use Rattle.chain_core.specs.Replies as asked;
@@ -7,6 +7,7 @@ ghost use Rattle.patch_log.specs.Log.{bare};
 ghost use Rattle.patch_log.specs.Run.{Appended};
 ghost use Rattle.shared_log.specs.History.{history_of, fixed_of, IsKeptBy, StandsInTurn};
 ghost use Rattle.shared_log.specs.Replies.{reply_fetched, reply_described};
+ghost use Rattle.shared_log.specs.Legal.{asks_disk};
 ghost use Rattle.turn_cell.specs.Sights.{IsGrownBy};
 
 use crate::replies::{Fetched, LogInfo};
@@ -112,14 +113,11 @@ impl<D: Disk> LogValue<D> {
         requires { ForOk made (λ ready. ready.patch ≡ bare patch.now) }
         ensures appended { (by : ℕ) → IfOk made (λ ready. ready.by ≡ by)
             → Appended D.Disk self.old self.new (bare patch.now) by result }
-        ensures found_stands { StandsInTurn D.Disk self.old }
-        ensures left_stands { StandsInTurn D.Disk self.new }
         ensures grown { (by : ℕ) → IfOk made (λ ready. ready.by ≡ by)
             → IsGrownBy by (history_of self.old.entries) (history_of self.new.entries) }
         ensures fixed { fixed_of D.mark self.new ≡ fixed_of D.mark self.old }
         ensures faults { D.faults self.old.disk ≤ D.faults self.new.disk }
-        ensures as_found { result ≢ LogAnswer.DiskFault
-            → ((version : ℕ) → result ≢ LogAnswer.Accepted version)
+        ensures as_found { asks_disk result ≡ false
             → IsKeptBy self.old self.new × (self.new.disk ≡ self.old.disk) }
         ensures few { length (history_of self.new.entries) < 2 ^ 32 }
     {

@@ -1,17 +1,11 @@
-use Rattle.std.proofs.Common.{◌∙◌}
+use Rattle.std.proofs.Common.{refl, ◌∙◌}
 use Rattle.chain_core.specs.Replies as asked
 use Rattle.shared_log.specs.Replies.{reply_described}
-use Rattle.turn_cell.proofs.Knowing.{asked as only_asked}
-use Rattle.shared_log.proofs.Asking.{reply_told}
+use Rattle.shared_log.proofs.Telling.{ask_told}
 use Rattle.shared_log.proofs.shared.SharedLog.describe.Goals as goal
 
-pub returns-clause-legal : goal.returns-clause-legal
-returns-clause-legal g c =
-    let e = c.enter-held.ensures in
-    let l = c.leave_as_found.ensures in
-    let p = c.args.pass.now in
-    let m = c.enter-held.new.pass in
-    let q = c.leave_as_found.new.pass in
-    reply_told g.D.Disk.mark p m q c.args.self.now.origin c.enter-held.result.was c.enter-held.result.value c.value.result.now asked.describe
-    (e.same.3 ∙ c.requires.of.2) e.from.2 e.value c.value.ensures e.entries l.seen
-    (only_asked p m q (record { same = e.same; quiet = e.quiet; later = e.later; own = e.own; looked = e.looks }) l.same l.looks l.own l.seen l.quiet) (reply_described c.describe-info.result) c.describe-info.ensures
+pub returns-clause-called : goal.returns-clause-called
+returns-clause-called g c =
+    let told = ask_told g.D.Disk c.args.pass.now c.enter-held.new.pass c.give_back.new.pass c.enter-held.result c.enter-held.result c.enter-held.ensures.enters c.give_back.ensures.leaves refl c.args.self.now c.requires.of c.enter-held.ensures.enters.value (c.give_back.ensures.quiet refl)
+        c.value.result.now (c.value.ensures ∙ c.enter-held.ensures.enters.value) asked.describe (reply_described c.describe-info.result) c.describe-info.ensures in
+    record { legal = told.0; stay = told.1 }

@@ -1,16 +1,17 @@
-use Rattle.std.proofs.Common.{◌∙◌}
+use Rattle.std.proofs.Common.{◌≡◌, refl, ◌∙◌}
 use Rattle.chain_core.specs.Replies as asked
-use Rattle.turn_cell.proofs.Knowing.{asked as only_asked}
-use Rattle.shared_log.proofs.Asking.{fetched_told}
+use Rattle.chain_core.specs.Patches.{patches_of}
+use Rattle.shared_log.specs.declared.replies.Fetched.{Fetched}
+use Rattle.shared_log.specs.Replies.{reply_fetched}
+use Rattle.shared_log.specs.Stays.{CalledOnLog}
+use Rattle.shared_log.proofs.Telling.{ask_told, if_ok}
 use Rattle.shared_log.proofs.shared.SharedLog.fetch_version.Goals as goal
 
-pub returns-clause-legal : goal.returns-clause-legal
-returns-clause-legal g c =
-    let e = c.enter-held.ensures in
-    let l = c.leave_as_found.ensures in
-    let p = c.args.pass.now in
-    let m = c.enter-held.new.pass in
-    let q = c.leave_as_found.new.pass in
-    fetched_told g.D.Disk.mark p m q c.args.self.now.origin c.enter-held.result.was c.enter-held.result.value c.value.result.now (asked.fetch_version c.args.version)
-    (e.same.3 ∙ c.requires.of.2) e.from.2 e.value c.value.ensures e.entries l.seen
-    (only_asked p m q (record { same = e.same; quiet = e.quiet; later = e.later; own = e.own; looked = e.looks }) l.same l.looks l.own l.seen l.quiet) c.fetch_version-fetched.result c.fetch_version-fetched.ensures
+pub returns-clause-called : goal.returns-clause-called
+returns-clause-called g c =
+    let call = asked.fetch_version c.args.version in
+    let q = c.give_back.new.pass in
+    let told = ask_told g.D.Disk c.args.pass.now c.enter-held.new.pass q c.enter-held.result c.enter-held.result c.enter-held.ensures.enters c.give_back.ensures.leaves refl c.args.self.now c.requires.of c.enter-held.ensures.enters.value (c.give_back.ensures.quiet refl)
+        c.value.result.now (c.value.ensures ∙ c.enter-held.ensures.enters.value) call in
+    if_ok (λ (fetched : Fetched). reply_fetched fetched ≡ asked.log_reply c.value.result.now.limits call (patches_of c.value.result.now.entries)) (λ (fetched : Fetched). CalledOnLog g.D.Disk c.args.self.now.origin c.args.pass.now call (reply_fetched fetched) q)
+        (λ fetched gives. let t = told (reply_fetched fetched) gives in record { legal = t.0; stay = t.1 }) c.fetch_version-fetched.result c.fetch_version-fetched.ensures

@@ -1,16 +1,9 @@
-use Rattle.shared_log.proofs.Stays.{by_some, grows_of, stays_of}
-use Rattle.shared_log.proofs.Telling.{kept_quiet}
+use Rattle.shared_log.proofs.Stays.{by_some, grows_of, stays_of, kept_of}
 use Rattle.patch_log.specs.Log.{bare}
 use Rattle.shared_log.proofs.value.LogValue.append.Goals as goal
 
 pub returns-clause-appended : goal.returns-clause-appended
 returns-clause-appended g c = rw (← c.self.view_is) c.append_made-answer.ensures
-
-pub returns-clause-found_stands : goal.returns-clause-found_stands
-returns-clause-found_stands g c = rw (← c.self.view_is) c.self.invariant
-
-pub returns-clause-left_stands : goal.returns-clause-left_stands
-returns-clause-left_stands g c = record { few = rw (← c.chain.ensures.entries) c.version-version.ensures.kept.few; stands = c.chain.ensures.stands }
 
 pub returns-clause-grown : goal.returns-clause-grown
 returns-clause-grown g c by made = grows_of g.D.Disk c.args.self.now c.append_made-answer.new.log (bare c.args.patch.now) by c.append_made-answer.result (returns-clause-appended g c by made)
@@ -25,13 +18,6 @@ pub returns-clause-faults : goal.returns-clause-faults
 returns-clause-faults g c = let brought = by_some c.args.made in (returns-clause-appended g c brought.0 brought.1).faults
 
 pub returns-clause-as_found : goal.returns-clause-as_found
-returns-clause-as_found g c no_fault not_accepted =
+returns-clause-as_found g c unasked =
     let brought = by_some c.args.made in
-    let patch = bare c.args.patch.now in
-    let before = c.args.self.now in
-    let after = c.append_made-answer.new.log in
-    let answer = c.append_made-answer.result in
-    let a = returns-clause-appended g c brought.0 brought.1 in (
-      kept_quiet before.limits brought.0 patch before after answer no_fault not_accepted (stays_of g.D.Disk before after patch brought.0 answer a),
-      a.untouched no_fault not_accepted,
-    )
+    kept_of g.D.Disk c.args.self.now c.append_made-answer.new.log (bare c.args.patch.now) brought.0 c.append_made-answer.result (returns-clause-appended g c brought.0 brought.1) unasked
