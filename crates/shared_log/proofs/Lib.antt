@@ -2,3 +2,5 @@ pub mod Histories
 pub mod Table
 pub mod Stays
 pub mod Telling
+pub mod OnDisk
+pub mod Adding

@@ -1,5 +1,5 @@
 -- From what a stay found and left to what its pass is told.
-use Rattle.std.proofs.Common.{◌≡◌, ℕ, ◌+◌, ◌⊎◌, List, [], ◌∷◌, ◌++◌, length, sym, refl, ap, ◌∙◌, subst, ⊎_elim, inl, inr, arith, Option, Some, None, false, true}
+use Rattle.std.proofs.Common.{◌≡◌, ℕ, ◌+◌, ◌⊎◌, List, length, sym, refl, ap, ◌∙◌, subst, ⊎_elim, inl, arith, Option, Some, None, false, true}
 use Rattle.std.specs.Prelude.{Result, Ok, Err, IfOk}
 use Rattle.std.proofs.lemmas.List.{length-map}
 use Rattle.log_base.specs.declared.limits.LogLimits.{LogLimits}

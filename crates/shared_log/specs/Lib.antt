@@ -3,3 +3,5 @@ pub mod History
 pub mod Replies
 pub mod Stays
 pub mod Legal
+pub mod Calls
+pub mod Laws

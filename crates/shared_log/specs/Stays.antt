@@ -1,11 +1,11 @@
 -- What a call does with a log in its turn, and that what it tells is on the disk.
-use Rattle.std.specs.Prelude.{◌≡◌, ℕ, ◌-◌, List, Some, slice_get}
+use Rattle.std.specs.Prelude.{◌≡◌, ℕ, List, Some}
 use Rattle.disk_model.specs.declared.disk.Disk.{Ghosts}
 use Rattle.disk_model.specs.Past.{EveryImage}
 use Rattle.log_journal.specs.File.{Holds}
 use Rattle.chain_core.specs.declared.chain.Patch.{Patch}
 use Rattle.chain_core.specs.declared.answer.LogAnswer.{LogAnswer}
-use Rattle.chain_core.specs.Patches.{patches_of, patch_at}
+use Rattle.chain_core.specs.Patches.{patches_of, at_version, patch_at}
 use Rattle.chain_core.specs.Replies.{LogCall, append, fetch_version, fetch_id, describe, version}
 use Rattle.chain_core.specs.Replies.{LogReply, answered, log_reply}
 use Rattle.patch_log.specs.State.{LogView}
@@ -15,11 +15,11 @@ use Rattle.turn_cell.specs.Sharing.{InTurn}
 use Rattle.shared_log.specs.History.{LogSight, history_of, fixed_of, patches_known, shared_log}
 use Rattle.shared_log.specs.Legal.{LegalOnLog}
 
--- an image holds the patch at its version, which is counted from 1
+-- an image holds the patch at its version
 abbrev pub HoldsPatchAt : ℕ → ℕ → Patch → List ℕ → Type 0
 HoldsPatchAt number place patch image =
     (payloads : List (List ℕ)) × Holds image number payloads
-    × (slice_get payloads (place - 1) ≡ Some patch.text)
+    × (at_version payloads place ≡ Some patch.text)
 
 module _ {D : Type 0} (disks : Ghosts D) where
   -- the log is left as it was found, and its chain gives this reply

@@ -5,10 +5,12 @@
 //! what it does in its turn, is told by `CalledOnLog` in `specs/`.
 #![tactic(auto)]
 
+mod laws;
 mod replies;
 mod shared;
 mod value;
 
+pub use laws::{calls_add_up, calls_are_made, calls_compose, stays_in_sight, told_is_on_disk};
 pub use replies::{Fetched, LogInfo};
 pub use shared::{LogPass, SharedLog};
 pub use value::{LogFixed, LogValue};

@@ -1,4 +1,4 @@
-use Rattle.std.proofs.Common.{◌≡◌, ℕ, sym, refl, ◌∙◌, subst}
+use Rattle.std.proofs.Common.{ℕ, sym, refl, ◌∙◌, subst}
 use Rattle.patch_log.specs.Log.{bare}
 use Rattle.patch_log.specs.State.{LogView}
 use Rattle.patch_log.specs.Run.{Appended}
@@ -21,4 +21,4 @@ returns-clause-called g c =
     let made = made_by c.args.patch.now c.number.result p.view.number c.of-made.result c.of-made.ensures c.number.ensures in
     let appended = subst (λ (log : LogView g.row.D.Denot). Appended g.D.Disk log c.append-answer.new.self (bare c.args.patch.now) p.view.number c.append-answer.result) (c.value_mut.ensures.value ∙ c.enter-held.ensures.enters.value) (c.append-answer.ensures.appended p.view.number made) in
     append_told g.D.Disk p c.enter-held.new.pass c.give_back.new.pass c.enter-held.result (record c.enter-held.result { value = c.append-answer.new.self }) c.enter-held.ensures.enters c.give_back.ensures.leaves refl c.args.self.now c.requires.of (bare c.args.patch.now) c.append-answer.result
-        appended (λ unasked. c.give_back.ensures.quiet (c.asks_the_disk.ensures ∙ unasked)) (λ asked. c.give_back.ensures.counts (c.asks_the_disk.ensures ∙ asked))
+    appended (λ unasked. c.give_back.ensures.quiet (c.asks_the_disk.ensures ∙ unasked)) (λ asked. c.give_back.ensures.counts (c.asks_the_disk.ensures ∙ asked))

@@ -12,6 +12,6 @@ returns-clause-called g c =
     let call = asked.fetch_id c.args.id in
     let q = c.give_back.new.pass in
     let told = ask_told g.D.Disk c.args.pass.now c.enter-held.new.pass q c.enter-held.result c.enter-held.result c.enter-held.ensures.enters c.give_back.ensures.leaves refl c.args.self.now c.requires.of c.enter-held.ensures.enters.value (c.give_back.ensures.quiet refl)
-        c.value.result.now (c.value.ensures ∙ c.enter-held.ensures.enters.value) call in
+    c.value.result.now (c.value.ensures ∙ c.enter-held.ensures.enters.value) call in
     if_ok (λ (fetched : Fetched). reply_fetched fetched ≡ asked.log_reply c.value.result.now.limits call (patches_of c.value.result.now.entries)) (λ (fetched : Fetched). CalledOnLog g.D.Disk c.args.self.now.origin c.args.pass.now call (reply_fetched fetched) q)
-        (λ fetched gives. let t = told (reply_fetched fetched) gives in record { legal = t.0; stay = t.1 }) c.fetch_id-fetched.result c.fetch_id-fetched.ensures
+    (λ fetched gives. let t = told (reply_fetched fetched) gives in record { legal = t.0; stay = t.1 }) c.fetch_id-fetched.result c.fetch_id-fetched.ensures

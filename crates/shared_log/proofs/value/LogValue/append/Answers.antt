@@ -1,4 +1,4 @@
-use Rattle.shared_log.proofs.Stays.{by_some, grows_of, stays_of, kept_of}
+use Rattle.shared_log.proofs.Stays.{by_some, grows_of, kept_of}
 use Rattle.patch_log.specs.Log.{bare}
 use Rattle.shared_log.proofs.value.LogValue.append.Goals as goal
 
