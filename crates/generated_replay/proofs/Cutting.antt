@@ -1,28 +1,25 @@
 -- The rows of the stream are cut into its patches.
-use Rattle.std.proofs.Common.{◌≡◌, ℕ, zero, suc, pred, ◌+◌, ◌/◌, ◌%◌, ◌^◌, ◌<◌, ◌≤◌, ◌==◌, ◌||◌, Bool, true, false, cond, List, [], ◌∷◌, ◌++◌, length, map, fold, Option, Some, None, refl, sym, ap, ap₂, subst, ◌∙◌, arith, append_assoc, lit<}
+use Rattle.std.proofs.Common.{◌≡◌, ℕ, zero, suc, pred, ◌+◌, ◌/◌, ◌%◌, ◌^◌, ◌<◌, ◌≤◌, ◌==◌, ◌||◌, Bool, true, false, cond, List, [], ◌∷◌, ◌++◌, length, fold, Option, Some, None, refl, sym, ap, subst, ◌∙◌, arith, append_assoc, lit<}
 use Rattle.std.specs.Prelude.{codes}
 use Rattle.std.proofs.lemmas.List.{append-nil, length-append}
 use Rattle.std.proofs.lemmas.Grind.{flat_map-append}
 use Rattle.std.proofs.lemmas.List.Sums.{fold-append}
 use Rattle.delta_base.specs.declared.id.Id.{Id}
-use Rattle.log_base.specs.declared.limits.TheConstants.{PATCH_LIMIT}
-use Rattle.delta_base.specs.Ids.{number_of, text_of}
+use Rattle.delta_base.specs.Ids.{text_of}
 use Rattle.delta_base.proofs.IdLemmas.{number_of-text_of}
-use Rattle.rdf_terms.specs.declared.change.Change.{Change}
 use Rattle.rdf_terms.specs.declared.change.Change.TheVariants as change
 use Rattle.rdf_terms.specs.declared.term.Term.TheVariants as term
 use Rattle.patch_rows.specs.declared.row.Row.{Row}
 use Rattle.patch_rows.specs.Grammar.{row_limit}
 use Rattle.patch_rows.specs.Printing.{row_text}
 use Rattle.patch_reader.specs.declared.placed.PlacedRow.{PlacedRow}
-use Rattle.patch_meaning.specs.declared.role.Role.{Role}
 use Rattle.patch_meaning.specs.declared.role.Role.TheVariants as roles
 use Rattle.patch_meaning.specs.Patch.{Meaning, IsWell, has_some}
-use Rattle.patch_meaning.specs.Roles.{as_id, header_role, value_id, ids_of, changes_of, role, said}
+use Rattle.patch_meaning.specs.Roles.{header_role, value_id, ids_of, changes_of, role, said}
 use Rattle.patch_meaning.specs.Rows.{RowsTo}
 use Rattle.patch_meaning.specs.Stream.{StreamPart, Cut, begins, cut_with, cut, stop_of, ArePatches, AreStream, IsStream}
 use Rattle.stream_generator.specs.Generator.{patch_number, stream_text}
-use Rattle.generated_replay.specs.Meanings.{quad, patch_id, meaning, meanings_from, meanings_to}
+use Rattle.generated_replay.specs.Meanings.{quad, patch_id, meanings_from, meanings_to}
 use Rattle.generated_replay.proofs.Rows.{line_of, lines_of, named, rows_behind, rows, rows_with, rows_from, patch_size, stream_lines, stream_printed, stream_within}
 use Rattle.generated_replay.proofs.Lines.{placed, placed-append, lines_read}
 

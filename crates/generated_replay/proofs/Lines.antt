@@ -1,7 +1,6 @@
 -- The lines of rows, one behind another, are read as these rows.
-use Rattle.std.proofs.Common.{◌≡◌, ℕ, ◌+◌, ◌-◌, ◌<◌, ◌≤◌, List, [], ◌∷◌, ◌++◌, length, drop, refl, sym, ap, subst, ◌∙◌, arith, append_assoc}
-use Rattle.std.specs.List.{flat_map}
-use Rattle.std.proofs.lemmas.List.{append-nil, length-append, drop_at}
+use Rattle.std.proofs.Common.{◌≡◌, ℕ, ◌+◌, ◌-◌, ◌≤◌, List, [], ◌∷◌, ◌++◌, length, drop, refl, sym, ap, subst, ◌∙◌, arith, append_assoc}
+use Rattle.std.proofs.lemmas.List.{length-append, drop_at}
 use Rattle.std.proofs.Math.Seq.{drop-append-add}
 use Rattle.patch_rows.specs.declared.codes.Code.{Code}
 use Rattle.patch_rows.specs.declared.codes.Code.TheVariants as code
@@ -12,7 +11,7 @@ use Rattle.patch_rows.specs.Reading.{space_behind, skip_space}
 use Rattle.patch_rows.proofs.Printed.{printed_decided}
 use Rattle.patch_rows.proofs.SpaceLaws.{skipped}
 use Rattle.patch_reader.specs.declared.placed.PlacedRow.{PlacedRow}
-use Rattle.patch_reader.specs.Rows.{Gap, RowsUpTo}
+use Rattle.patch_reader.specs.Rows.{Gap}
 use Rattle.patch_meaning.specs.Rows.{RowsTo}
 use Rattle.generated_replay.proofs.Rows.{line_of, lines_of, IsPrinted, ArePrinted, AreWithin}
 

@@ -12,7 +12,7 @@ use Rattle.patch_rows.specs.declared.row.Row.{Row}
 use Rattle.patch_rows.specs.declared.row.Row.TheVariants as row
 use Rattle.patch_rows.specs.Grammar.{IsKey}
 use Rattle.patch_rows.specs.Printing.{row_text, quad_text as terms_text, IsRowValue, IsWritable}
-use Rattle.stream_generator.specs.Generator.{patch_number, id_line, prev_row, quad_line, quad_row, delete_row, block_rows, patch_text, patches_from, stream_text}
+use Rattle.stream_generator.specs.Generator.{patch_number, id_line, quad_line, quad_row, patch_text, patches_from, stream_text}
 use Rattle.stream_generator.proofs.Appending.{patch_short}
 use Rattle.generated_replay.specs.Meanings.{quad}
 use Rattle.generated_replay.proofs.Values.{ascii_text, decimal_plain, id_value, quad_values}

@@ -1,6 +1,6 @@
 -- The terms of the stream are values: its IRIs are ones, and its strings escape nothing.
-use Rattle.std.proofs.Common.{◌≡◌, ℕ, zero, suc, ◌+◌, ◌-◌, ◌%◌, ◌^◌, ◌<◌, ◌==◌, Bool, true, false, cond, not, ◌&&◌, List, [], ◌∷◌, ◌++◌, refl, sym, ap, ap₂, ◌∙◌, inl, arith}
-use Rattle.std.specs.Prelude.{codes, nat_lt, IsTrue, IsUtf8}
+use Rattle.std.proofs.Common.{◌≡◌, ℕ, zero, suc, ◌%◌, ◌^◌, ◌<◌, ◌==◌, Bool, true, false, cond, not, ◌&&◌, List, [], ◌∷◌, ◌++◌, refl, ap, ap₂, ◌∙◌, arith}
+use Rattle.std.specs.Prelude.{codes, nat_lt, IsUtf8}
 use Rattle.std.specs.Fmt.{decimal}
 use Rattle.std.specs.List.{list_all, flat_map}
 use Rattle.std.specs.Char.{digit_value}
@@ -14,7 +14,7 @@ use Rattle.std.proofs.lemmas.List.Sums.{AllPass-from_list_all}
 use Rattle.std.proofs.lemmas.Str.{IsUtf8-append, IsUtf8-from_ascii}
 use Rattle.std.proofs.lemmas.Str.Ascii.{IsAscii-from_all}
 use Rattle.uuid.proofs.TextLemmas.{nibble_small}
-use Rattle.uuid.specs.Text.{by_index, hex_digit, nibble, digit_place, is_hyphen_place, hyphen, hyphenated_text, lower}
+use Rattle.uuid.specs.Text.{by_index, hex_digit, nibble, digit_place, is_hyphen_place, hyphen, lower}
 use Rattle.delta_base.specs.Ids.{text_of}
 use Rattle.delta_base.proofs.IdLemmas.{text_of-utf8}
 use Rattle.rdf_terms.specs.Iri.{is_forbidden, has_scheme, ends_scheme, IsIri}
@@ -22,7 +22,6 @@ use Rattle.rdf_terms.specs.Line.{escaped}
 use Rattle.rdf_terms.specs.declared.term.Term.TheVariants as term
 use Rattle.nquads_text.specs.Printing.{IsTermValue, HasTermValues}
 use Rattle.nquads_documents.specs.Laws.{IsQuadValue}
-use Rattle.stream_generator.specs.Generator.{patch_number}
 use Rattle.generated_replay.specs.Meanings.{quad}
 
 abbrev is_allowed : ℕ → Bool

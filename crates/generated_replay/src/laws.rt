@@ -1,8 +1,8 @@
 //! A law of the definitions. Its function does nothing: its contract is a theorem.
 
 ghost use Rattle.std.specs.Prelude.{◌≡◌, ◌≤◌, ◌-◌, ◌*◌, ◌/◌, ℕ, None, length};
-ghost use Rattle.chain_core.specs.Breaks.{last_or};
-ghost use Rattle.chain_core.specs.Links.{IsChain};
+ghost use Rattle.chain_core.specs.Ids.{last_of};
+ghost use Rattle.chain_core.specs.Links.{IsChain, link_ids};
 ghost use Rattle.patch_meaning.specs.Replay.{links_said, replay};
 ghost use Rattle.patch_meaning.specs.Stream.{IsStream};
 ghost use Rattle.stream_generator.specs.Generator.{stream_text};
@@ -16,5 +16,5 @@ pub fn generated_streams_are_chains()
     ensures chain { (n : ℕ) → n ≤ 65536 → IsChain (links_said (meanings_to n)) }
     ensures patches { (n : ℕ) → length (meanings_to n) ≡ n }
     ensures quads { (n : ℕ) → n ≤ 65536 → length (replay (meanings_to n)).quads ≡ n - n / 3 }
-    ensures head { (n : ℕ) → last_or None (links_said (meanings_to n)) ≡ head n }
+    ensures head { (n : ℕ) → last_of (link_ids (links_said (meanings_to n))) ≡ head n }
 {}

@@ -1,14 +1,13 @@
 -- A replay while patches are taken.
-use Rattle.std.proofs.Common.{◌≡◌, ℕ, ◌+◌, ◌<◌, ◌^◌, ◌-◌, min, true, false, List, [], ◌∷◌, ◌++◌, Option, Some, None, refl, sym, ap, subst, ◌∙◌, append_assoc, append-nil, length-append, arith}
+use Rattle.std.proofs.Common.{◌≡◌, ℕ, ◌+◌, true, false, List, [], ◌∷◌, ◌++◌, Option, Some, None, refl, sym, ap, subst, ◌∙◌, append_assoc, append-nil}
 use Rattle.std.specs.Prelude.{is_some}
-use Rattle.std.proofs.lemmas.List.{map-append, length-map}
-use Rattle.delta_base.specs.declared.id.Id.{Id}
+use Rattle.std.proofs.lemmas.List.{map-append}
 use Rattle.log_base.specs.declared.limits.TheConstants.{PATCH_LIMIT}
 use Rattle.log_base.specs.declared.chain_link.ChainLink.{ChainLink}
 use Rattle.chain_core.specs.declared.testing.ChainFault.{ChainFault}
 use Rattle.chain_core.specs.declared.testing.ChainTest.{ChainTest}
 use Rattle.chain_core.specs.Links.{IsChain}
-use Rattle.chain_core.specs.Breaks.{Breaks, last_or}
+use Rattle.chain_core.specs.Breaks.{Breaks}
 use Rattle.chain_core.specs.Tested.{IsTested}
 use Rattle.rdf_terms.specs.declared.change.Change.{Change}
 use Rattle.rdf_terms.specs.Dataset.{Dataset, apply, empty}
@@ -25,7 +24,7 @@ use Rattle.patch_reader.specs.declared.placed.PlacedRow.{PlacedRow}
 use Rattle.stream_replay.specs.declared.edits.Edits.{Edits}
 use Rattle.stream_replay.specs.declared.replay.Replay.{Replay}
 use Rattle.stream_replay.specs.Edits.{HasEdits, MakesLines}
-use Rattle.stream_replay.specs.Replaying.{IsChainSoFar, HasTakenPatches, IsReplay}
+use Rattle.stream_replay.specs.Replaying.{HasTakenPatches, IsReplay}
 use Rattle.stream_replay.proofs.Edited.{all_made}
 
 links-append : (ms ns : List Meaning) → links_said (ms ++ ns) ≡ links_said ms ++ links_said ns
@@ -35,10 +34,6 @@ links-append ms ns = map-append link_of ms ns
 replay-push : (ms : List Meaning) (m : Meaning) (d : Dataset) → replay_from (ms ++ m ∷ []) d ≡ apply m.changes (replay_from ms d)
 replay-push [] m d = refl
 replay-push (n ∷ ms) m d = replay-push ms m (apply n.changes d)
-
-last-push : (head : Option Id) (ls : List ChainLink) (l : ChainLink) → last_or head (ls ++ l ∷ []) ≡ Some l.id
-last-push head [] l = refl
-last-push head (k ∷ ls) l = last-push (Some k.id) ls l
 
 -- ---- faults
 
@@ -65,28 +60,16 @@ none_met : (fault : Option ChainFault) → is_some fault ≡ false → fault ≡
 none_met None none = refl
 none_met (Some fault) none = absurd cc
 
-pub is_whole : (ms : List Meaning) (r : Replay) → is_some r.fault ≡ false → IsReplay ms r → IsChainSoFar ms r
+pub is_whole : (ms : List Meaning) (r : Replay) → is_some r.fault ≡ false → IsReplay ms r → IsTested (links_said ms) r.chain
 is_whole ms r none has = subst (λ (fault : Option ChainFault). HasTakenPatches ms fault r) (none_met r.fault none) has
 
-pub make_whole : (ms : List Meaning) (r : Replay) → is_some r.fault ≡ false → IsChainSoFar ms r → IsReplay ms r
+pub make_whole : (ms : List Meaning) (r : Replay) → is_some r.fault ≡ false → IsTested (links_said ms) r.chain → IsReplay ms r
 make_whole ms r none is = subst (λ (fault : Option ChainFault). HasTakenPatches ms fault r) (sym (none_met r.fault none)) is
 
--- so few can be counted
-pub no_end : (n : ℕ) → n < 2 ^ 32 → min (n + 1) (2 ^ 64 - 1) ≡ n + 1
-no_end n few = omega arith
-
 -- a patch that goes on
-pub goes_on : (ms : List Meaning) (m : Meaning) (old new : Replay) → IsChainSoFar ms old → old.chain.version < 2 ^ 32 - 1
-    → ((links : List ChainLink) → IsTested links old.chain → IsChain (links ++ link_of m ∷ []))
-    → ((links : List ChainLink) → IsTested links old.chain → IsChain (links ++ link_of m ∷ []) → IsTested (links ++ link_of m ∷ []) new.chain)
-    → (old.patches < 2 ^ 32 → new.patches ≡ old.patches + 1) → new.head ≡ Some m.id → IsChainSoFar (ms ++ m ∷ []) new
-goes_on ms m old new is room follows pushed count head =
-    let few : old.patches < 2 ^ 32 = let v = is.tested.version_is in let n = is.patches_is in let l = length-map ms link_of in omega arith in
-    record {
-      tested = subst (λ (ls : List ChainLink). IsTested ls new.chain) (sym (links-append ms (m ∷ []))) (pushed (links_said ms) is.tested (follows (links_said ms) is.tested));
-      patches_is = count few ∙ ap (λ (n : ℕ). n + 1) is.patches_is ∙ sym (length-append ms (m ∷ []));
-      head_is = head ∙ sym (ap (last_or None) (links-append ms (m ∷ [])) ∙ last-push None (links_said ms) (link_of m));
-    }
+pub goes_on : (ms : List Meaning) (m : Meaning) (old new : ChainTest) → IsTested (links_said ms) old → ((links : List ChainLink) → IsTested links old → IsChain (links ++ link_of m ∷ []))
+    → ((links : List ChainLink) → IsTested links old → IsChain (links ++ link_of m ∷ []) → IsTested (links ++ link_of m ∷ []) new) → IsTested (links_said (ms ++ m ∷ [])) new
+goes_on ms m old new is follows pushed = subst (λ (ls : List ChainLink). IsTested ls new) (sym (links-append ms (m ∷ []))) (pushed (links_said ms) is (follows (links_said ms) is))
 
 -- ---- the dataset
 

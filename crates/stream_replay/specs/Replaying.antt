@@ -2,8 +2,9 @@
 use Rattle.std.specs.Prelude.{◌≡◌, List, ◌++◌, length, Option, None, Some}
 use Rattle.std.specs.List.{flat_map}
 use Rattle.chain_core.specs.declared.testing.ChainFault.{ChainFault}
-use Rattle.chain_core.specs.Breaks.{Breaks, last_or}
-use Rattle.chain_core.specs.Links.{IsChain}
+use Rattle.chain_core.specs.Breaks.{Breaks}
+use Rattle.chain_core.specs.Ids.{last_of}
+use Rattle.chain_core.specs.Links.{IsChain, link_ids}
 use Rattle.chain_core.specs.Tested.{IsTested}
 use Rattle.rdf_terms.specs.Line.{lines}
 use Rattle.patch_meaning.specs.Patch.{Meaning}
@@ -13,15 +14,9 @@ use Rattle.stream_replay.specs.declared.fault.ReplayFault.TheVariants as ends
 use Rattle.stream_replay.specs.declared.replay.Replay.{Replay}
 use Rattle.stream_replay.specs.declared.replay.Replayed.{Replayed}
 
--- a chain so far
-pub record IsChainSoFar (ms : List Meaning) (r : Replay) : Type 0 where
-  pub tested : IsTested (links_said ms) r.chain
-  pub patches_is : r.patches ≡ length ms
-  pub head_is : r.head ≡ last_or None (links_said ms)
-
 -- a chain so far, or the first fault of the chain
 abbrev pub HasTakenPatches : List Meaning → Option ChainFault → Replay → Type 0
-HasTakenPatches ms None r = IsChainSoFar ms r
+HasTakenPatches ms None r = IsTested (links_said ms) r.chain
 HasTakenPatches ms (Some fault) r = (more : List Meaning) → Breaks (links_said (ms ++ more)) fault
 
 -- these patches were taken
@@ -35,7 +30,7 @@ pub record AreReplayed (ms : List Meaning) (r : Replayed) : Type 0 where
   pub lines_are : flat_map (λ l. l) r.lines ≡ lines (replay ms).quads
   pub patches_is : r.patches ≡ length ms
   pub quads_is : r.quads ≡ length (replay ms).quads
-  pub head_is : r.head ≡ last_or None (links_said ms)
+  pub head_is : r.head ≡ last_of (link_ids (links_said ms))
 
 -- the patches are no chain; want of memory is free
 abbrev pub EndsChain : List Meaning → ReplayFault → Type 0

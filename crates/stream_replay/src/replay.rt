@@ -32,8 +32,6 @@ pub struct Replayed {
 #[derive(Drop)]
 pub struct Replay {
     chain: ChainTest,
-    patches: u64,
-    head: Option<Id>,
     /// The first fault of the chain. Behind it no id is taken.
     fault: Option<ChainFault>,
 }
@@ -48,8 +46,6 @@ impl Replay {
     {
         Replay {
             chain: ChainTest::new(alloc),
-            patches: 0,
-            head: None,
             fault: None,
         }
     }
@@ -68,11 +64,7 @@ impl Replay {
         }
         match self.chain.fault_of(link) {
             Some(fault) => self.fault = Some(fault),
-            None => {
-                self.chain.push(link)?;
-                self.patches = self.patches.saturating_add(1);
-                self.head = Some(link.id);
-            }
+            None => self.chain.push(link)?,
         }
         Ok(())
     }
@@ -91,9 +83,9 @@ impl Replay {
         let quads = lines.len();
         Ok(Replayed {
             lines,
-            patches: self.patches,
+            patches: u64::from(self.chain.version()),
             quads,
-            head: self.head,
+            head: self.chain.head(),
         })
     }
 }
