@@ -1,5 +1,5 @@
 -- Why a registry can't be opened.
-use Rattle.std.specs.Prelude.{◌≤◌, ℕ, List}
+use Rattle.std.specs.Prelude.{◌≤◌, ℕ, List, Option, Some, None, IfSome}
 use Rattle.log_base.specs.Journals.{payloads_length}
 use Rattle.log_journal.specs.File.{Holds}
 use Rattle.log_journal.specs.Reading.{HasFault}
@@ -10,24 +10,19 @@ use Rattle.log_base.specs.declared.limits.TheConstants.{REGISTRY_LIMIT}
 use Rattle.log_registry.specs.declared.fault.RegistryFault.{RegistryFault}
 use Rattle.log_registry.specs.declared.fault.RegistryFault.TheVariants as registry
 
--- a fault of the journal, as one of the registry
-abbrev pub registry_fault : JournalFault → RegistryFault
-registry_fault journal.Failed = registry.Failed
-registry_fault (journal.Damaged at) = registry.Damaged at
-registry_fault (journal.WrongNumber found) = registry.WrongNumber found
-registry_fault (journal.OverLimit length limit) = registry.OverLimit length limit
-registry_fault journal.OutOfMemory = registry.OutOfMemory
+-- the fault of the journal that one of the registry is, if it is one
+abbrev pub journal_part : RegistryFault → Option JournalFault
+journal_part registry.Failed = Some journal.Failed
+journal_part (registry.Damaged at) = Some (journal.Damaged at)
+journal_part (registry.WrongNumber found) = Some (journal.WrongNumber found)
+journal_part (registry.OverLimit length limit) = Some (journal.OverLimit length limit)
+journal_part registry.OutOfMemory = Some journal.OutOfMemory
+journal_part (registry.BrokenEvent place) = None
 
--- The file of number 0 has this fault, and none that comes before it. What a file can't tell is
--- free: that its disk failed, and want of memory.
+-- The file of number 0 has this fault, and none that comes before it: one of its journal, or the
+-- first payload that may not stand where it does.
 abbrev pub HasRegistryFault : List ℕ → RegistryFault → Type 0
-HasRegistryFault file (registry.Damaged at) = HasFault file 0 REGISTRY_LIMIT (journal.Damaged at)
-HasRegistryFault file (registry.WrongNumber found) = HasFault file 0 REGISTRY_LIMIT
-    (journal.WrongNumber found)
-HasRegistryFault file (registry.OverLimit length limit) = HasFault file 0 REGISTRY_LIMIT
-    (journal.OverLimit length limit)
 HasRegistryFault file (registry.BrokenEvent place) = (payloads : List (List ℕ))
     × Holds file 0 payloads × (payloads_length payloads ≤ REGISTRY_LIMIT)
     × BreaksAtEvent payloads place
-HasRegistryFault file registry.Failed = Unit {0}
-HasRegistryFault file registry.OutOfMemory = Unit {0}
+HasRegistryFault file fault = IfSome (journal_part fault) (HasFault file 0 REGISTRY_LIMIT)

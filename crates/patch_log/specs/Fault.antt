@@ -1,5 +1,5 @@
 -- Why a log can't be opened.
-use Rattle.std.specs.Prelude.{◌≤◌, ℕ, List}
+use Rattle.std.specs.Prelude.{◌≤◌, ℕ, List, Option, Some, None, IfSome}
 use Rattle.log_base.specs.Journals.{payloads_length}
 use Rattle.log_journal.specs.File.{Holds}
 use Rattle.log_journal.specs.Reading.{HasFault}
@@ -11,26 +11,21 @@ use Rattle.patch_log.specs.declared.fault.LogFault.TheVariants as log
 use Rattle.chain_core.specs.Breaks.{BreaksAt}
 use Rattle.patch_log.specs.Log.{AreChained}
 
--- a fault of the journal, as one of the log
-abbrev pub log_fault : JournalFault → LogFault
-log_fault journal.Failed = log.Failed
-log_fault (journal.Damaged at) = log.Damaged at
-log_fault (journal.WrongNumber found) = log.WrongNumber found
-log_fault (journal.OverLimit length limit) = log.OverLimit length limit
-log_fault journal.OutOfMemory = log.OutOfMemory
+-- the fault of the journal that one of the log is, if it is one
+abbrev pub journal_part : LogFault → Option JournalFault
+journal_part log.Failed = Some journal.Failed
+journal_part (log.Damaged at) = Some (journal.Damaged at)
+journal_part (log.WrongNumber found) = Some (journal.WrongNumber found)
+journal_part (log.OverLimit length limit) = Some (journal.OverLimit length limit)
+journal_part log.OutOfMemory = Some journal.OutOfMemory
+journal_part (log.BrokenChain version) = None
 
--- The file of this number has this fault, and none that comes before it. What a file can't tell is
--- free: that its disk failed, and want of memory.
+-- The file of this number has this fault, and none that comes before it: one of its journal, or
+-- that so many of its payloads are no chain.
 abbrev pub HasLogFault : List ℕ → ℕ → LogLimits → LogFault → Type 0
-HasLogFault file number limits (log.Damaged at) =
-    HasFault file number limits.bytes (journal.Damaged at)
-HasLogFault file number limits (log.WrongNumber found) =
-    HasFault file number limits.bytes (journal.WrongNumber found)
-HasLogFault file number limits (log.OverLimit length limit) =
-    HasFault file number limits.bytes (journal.OverLimit length limit)
 HasLogFault file number limits (log.BrokenChain version) =
     (payloads : List (List ℕ)) × Holds file number payloads
     × (payloads_length payloads ≤ limits.bytes)
     × BreaksAt (AreChained limits.patches) payloads version
-HasLogFault file number limits log.Failed = Unit {0}
-HasLogFault file number limits log.OutOfMemory = Unit {0}
+HasLogFault file number limits fault =
+    IfSome (journal_part fault) (HasFault file number limits.bytes)

@@ -23,10 +23,10 @@ pub struct LogRefusal<D: Disk> {
 }
 
 impl From<JournalFault> for LogFault {
-    ghost use Rattle.std.specs.Prelude.{◌≡◌};
-    ghost use Rattle.patch_log.specs.Fault.{log_fault};
+    ghost use Rattle.std.specs.Prelude.{◌≡◌, Some};
+    ghost use Rattle.patch_log.specs.Fault.{journal_part};
 
-    ghost from_gives = { λ fault e. e ≡ log_fault fault };
+    ghost from_gives = { λ fault e. journal_part e ≡ Some fault };
 
     fn from(fault: JournalFault) -> LogFault {
         match fault {

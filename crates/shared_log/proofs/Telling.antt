@@ -109,7 +109,7 @@ module _ {D : Type 0} (disks : Ghosts D) (p m q : LogSight) (held back : Taken P
       answer_told (IsFull what have limit) is s = as_found (Full what have limit) (IsFull what have limit) refl s.0 s.1.0 (ap asks_disk is)
       answer_told DiskFault is s = (
         would_take made.origin.limits p q was (leaves.sees ∙ ap history_of s.1) patch s.0.0 s.0.1,
-        staying.rose (shared_log disks) p m q held back enters leaves same (counts (ap asks_disk is)) (appended.cause is),
+        staying.rose (shared_log disks) p m q held back enters leaves same (counts (ap asks_disk is)) (appended.went.cause is),
         staying.kept_mine (shared_log disks) p m q held back enters leaves same (ap history_of s.1),
         failed_by s.2,
       )
@@ -122,7 +122,7 @@ module _ {D : Type 0} (disks : Ghosts D) (p m q : LogSight) (held back : Taken P
           record {
             legal = (staying.sees (shared_log disks) p m q held back enters leaves same (grown.0, sym grown.1), (answer, refl, answer_told answer refl here));
             stay = staying.stay_told (shared_log disks) p m q held back enters leaves same (DoesOnLog disks p.view.number (append patch) (answered answer)) made of (answer, refl, appended)
-                (λ i. record { number = appended.number i; limits = appended.limits i; mark = appended.mark i });
+                (λ i. record { number = appended.number i; limits = appended.limits i; mark = appended.went.mark i });
           }
 
 module _ {T E : Type 0} where

@@ -12,10 +12,10 @@ pub returns-clause-fixed : goal.returns-clause-fixed
 returns-clause-fixed g c =
     let brought = by_some c.args.made in
     let a = returns-clause-appended g c brought.0 brought.1 in
-    λ i. record { number = a.number i; limits = a.limits i; mark = a.mark i }
+    λ i. record { number = a.number i; limits = a.limits i; mark = a.went.mark i }
 
 pub returns-clause-faults : goal.returns-clause-faults
-returns-clause-faults g c = let brought = by_some c.args.made in (returns-clause-appended g c brought.0 brought.1).faults
+returns-clause-faults g c = let brought = by_some c.args.made in (returns-clause-appended g c brought.0 brought.1).went.never_falls
 
 pub returns-clause-as_found : goal.returns-clause-as_found
 returns-clause-as_found g c unasked =
