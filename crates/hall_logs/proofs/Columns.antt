@@ -1,12 +1,14 @@
 -- The parts of one log, of all passes.
 use Rattle.std.proofs.Common.{◌≡◌, ℕ, zero, suc, ◌+◌, ◌<◌, List, [], ◌∷◌, ◌++◌, map, length, take, refl, sym, ap, ◌∙◌, subst, ⊎_elim, inl, inr, add-one, arith, Option, Some, None, slice_get}
 use Rattle.std.specs.List.{filter_map, cons_option}
+use Rattle.disk_model.specs.declared.disk.Disk.{Ghosts}
 use Rattle.patch_log.specs.State.{LogView}
 use Rattle.turn_cell.specs.Turns.{IsIn, AllOf}
 use Rattle.turn_cell.specs.Sights.{Made, AreAll}
 use Rattle.turn_cell.specs.Knowing.{pass_number}
 use Rattle.turn_cell.proofs.Views.{all_map}
-use Rattle.shared_log.specs.Passes.{LogSight, IsPassOf, AreAllPassesOf}
+use Rattle.turn_cell.specs.Sharing.{IsPassOf, AreAllPassesOf}
+use Rattle.shared_log.specs.History.{LogSight, shared_log}
 use Rattle.hall_logs.specs.Dealt.{with_items}
 use Rattle.hall_logs.specs.Ends.{parts_at}
 use Rattle.hall_logs.specs.Slots.{ArePartsOf, AreAllHallPasses}
@@ -58,14 +60,14 @@ module _ {A : Type 0} where
       behind None rest i = i
       behind (Some x) rest i = inr i
 
-module _ {D : Type 0} (mark : D → Option (List ℕ × ℕ)) (logs : List (Made (LogView D))) where
+module _ {D : Type 0} (disks : Ghosts D) (logs : List (Made (LogView D))) where
   some_part : (parts : List LogSight) (place : ℕ) → place < length parts → (part : LogSight) × (slice_get parts place ≡ Some part)
   some_part [] place low = absurd (omega (arith, low))
   some_part (part ∷ parts) zero low = (part, refl)
   some_part (part ∷ parts) (suc place) low = some_part parts place (omega (arith, low))
 
-  pub lengths : (passes : List (List LogSight)) → AllOf (ArePartsOf mark logs) passes → AllOf (λ (parts : List LogSight). length parts ≡ length logs) passes
-  lengths passes all = all_map (ArePartsOf mark logs) (λ (parts : List LogSight). length parts ≡ length logs) (λ parts of. zip_length (IsPassOf mark) logs parts of) passes all
+  pub lengths : (passes : List (List LogSight)) → AllOf (ArePartsOf disks logs) passes → AllOf (λ (parts : List LogSight). length parts ≡ length logs) passes
+  lengths passes all = all_map (ArePartsOf disks logs) (λ (parts : List LogSight). length parts ≡ length logs) (λ parts of. zip_length (IsPassOf (shared_log disks)) logs parts of) passes all
 
   all_at : (P : LogSight → Type 0) (parts : List LogSight) (place : ℕ) (part : LogSight) → AllOf P parts → slice_get parts place ≡ Some part → P part
   all_at P [] place part all is = let c = is in cc
@@ -82,21 +84,21 @@ module _ {D : Type 0} (mark : D → Option (List ℕ × ℕ)) (logs : List (Made
 
   module _ (place : ℕ) (log : Made (LogView D)) (at : slice_get logs place ≡ Some log) (low : place < length logs) where
     -- the parts of one log are passes of it
-    column_of : (passes : List (List LogSight)) → AllOf (ArePartsOf mark logs) passes → AllOf (IsPassOf mark log) (parts_at place passes)
+    column_of : (passes : List (List LogSight)) → AllOf (ArePartsOf disks logs) passes → AllOf (IsPassOf (shared_log disks) log) (parts_at place passes)
     column_of [] all = tt
     column_of (parts ∷ passes) all =
-        let some = some_part parts place (omega (arith, low, zip_length (IsPassOf mark) logs parts all.0)) in
-        let of : IsPassOf mark log some.0 = zip_at (IsPassOf mark) logs parts place log some.0 all.0 at some.1 in
-        subst (λ o. AllOf (IsPassOf mark log) (cons_option o (parts_at place passes))) (sym some.1) (of, column_of passes all.1)
+        let some = some_part parts place (omega (arith, low, zip_length (IsPassOf (shared_log disks)) logs parts all.0)) in
+        let of : IsPassOf (shared_log disks) log some.0 = zip_at (IsPassOf (shared_log disks)) logs parts place log some.0 all.0 at some.1 in
+        subst (λ o. AllOf (IsPassOf (shared_log disks) log) (cons_option o (parts_at place passes))) (sym some.1) (of, column_of passes all.1)
 
-    column_all : (seats : ℕ) (passes : List (List LogSight)) → AreAllHallPasses mark logs seats passes → AreAll seats (parts_at place passes)
+    column_all : (seats : ℕ) (passes : List (List LogSight)) → AreAllHallPasses disks logs seats passes → AreAll seats (parts_at place passes)
     column_all seats passes are n positive high =
         let one = are.all n positive high in
-        let of : ArePartsOf mark logs one.0 = in_all (ArePartsOf mark logs) passes one.0 are.of one.1 in
-        let some = some_part one.0 place (omega (arith, low, zip_length (IsPassOf mark) logs one.0 of)) in
+        let of : ArePartsOf disks logs one.0 = in_all (ArePartsOf disks logs) passes one.0 are.of one.1 in
+        let some = some_part one.0 place (omega (arith, low, zip_length (IsPassOf (shared_log disks)) logs one.0 of)) in
         (some.0, in_column passes one.0 some.0 place one.1 some.1, all_at (λ (part : LogSight). pass_number part ≡ n) one.0 place some.0 one.2 some.1)
 
     -- all passes have all parts of it
-    pub column : (seats : ℕ) (passes : List (List LogSight)) → AllOf (λ (log : Made (LogView D)). log.seats ≡ seats) logs → AreAllHallPasses mark logs seats passes → AreAllPassesOf mark log (parts_at place passes)
+    pub column : (seats : ℕ) (passes : List (List LogSight)) → AllOf (λ (log : Made (LogView D)). log.seats ≡ seats) logs → AreAllHallPasses disks logs seats passes → AreAllPassesOf (shared_log disks) log (parts_at place passes)
     column seats passes alike are =
         (column_of passes are.of, subst (λ n. AreAll n (parts_at place passes)) (sym (at_place (λ (log : Made (LogView D)). log.seats ≡ seats) place log alike at)) (column_all seats passes are))

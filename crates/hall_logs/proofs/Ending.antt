@@ -7,27 +7,26 @@ use Rattle.disk_model.specs.Past.{reads, MayLeave}
 use Rattle.patch_log.specs.State.{LogView}
 use Rattle.turn_cell.specs.Turns.{AllOf}
 use Rattle.turn_cell.specs.Sights.{Made}
-use Rattle.shared_log.specs.History.{StandsInTurn}
-use Rattle.shared_log.specs.Passes.{LogSight, AreAllPassesOf, IsClosedOf}
+use Rattle.shared_log.specs.History.{LogSight, shared_log}
+use Rattle.turn_cell.specs.Sharing.{AreAllPassesOf, IsClosedOf}
 use Rattle.hall_logs.specs.Dealt.{with_items}
 use Rattle.hall_logs.specs.Ends.{parts_at, Ends, AreEnded}
 use Rattle.hall_logs.specs.Slots.{AreAllHallPasses}
 use Rattle.hall_logs.proofs.Columns.{take_lasts, lengths, column}
 
 module _ {D : Type 0} (disks : Ghosts D) where
-  pub ended : (log : Made (LogView D)) (parts : List LogSight) (state : LogView D) (disk : D) → disk ≡ state.disk → IsClosedOf disks log parts state → StandsInTurn disks state
+  pub ended : (log : Made (LogView D)) (parts : List LogSight) (state : LogView D) (disk : D) → disk ≡ state.disk → IsClosedOf (shared_log disks) log parts state
       → (disks.tells → MayLeave (disks.past disk) (reads (disks.past disk))) → Ends disks log parts disk
-  ended log parts state disk is closed stands left = record {
+  ended log parts state disk is closed left = record {
     log = state;
     closed = closed;
-    stands = stands;
     disk_is = is;
-    file = λ told. (stands.stands told).each (reads (disks.past disk)) (subst (λ (d : D). MayLeave (disks.past d) (reads (disks.past disk))) is (left told));
+    file = λ told. (closed.stands.stands told).each (reads (disks.past disk)) (subst (λ (d : D). MayLeave (disks.past d) (reads (disks.past disk))) is (left told));
   }
 
   -- some logs are closed, and the passes have their parts of the others still
   pub record Closing (all : List (Made (LogView D))) (seats : ℕ) (whole : List (List LogSight)) (logs : List (Made (LogView D))) (passes : List (List LogSight)) (given : List D) : Type 0 where
-    pub are : AreAllHallPasses disks.mark all seats whole
+    pub are : AreAllHallPasses disks all seats whole
     pub alike : AllOf (λ (log : Made (LogView D)). log.seats ≡ seats) all
     pub closed : List (Made (LogView D))
     pub all_is : all ≡ logs ++ closed
@@ -39,8 +38,8 @@ module _ {D : Type 0} (disks : Ghosts D) where
   all_left n [] all = refl
   all_left n (parts ∷ whole) all = λ i. sym (take_all n parts (omega (arith, all.0))) i ∷ all_left n whole all.1 i
 
-  pub begins : (all : List (Made (LogView D))) (seats : ℕ) (whole : List (List LogSight)) → AreAllHallPasses disks.mark all seats whole → AllOf (λ (log : Made (LogView D)). log.seats ≡ seats) all → Closing all seats whole all whole []
-  begins all seats whole are alike = record { are = are; alike = alike; closed = []; all_is = sym (append-nil all); ends = tt; left = all_left (length all) whole (lengths disks.mark all whole are.of); many = omega arith }
+  pub begins : (all : List (Made (LogView D))) (seats : ℕ) (whole : List (List LogSight)) → AreAllHallPasses disks all seats whole → AllOf (λ (log : Made (LogView D)). log.seats ≡ seats) all → Closing all seats whole all whole []
+  begins all seats whole are alike = record { are = are; alike = alike; closed = []; all_is = sym (append-nil all); ends = tt; left = all_left (length all) whole (lengths disks all whole are.of); many = omega arith }
 
   same_length : (n : ℕ) (whole : List (List LogSight)) → length (map (take n) whole) ≡ length whole
   same_length n [] = refl
@@ -52,7 +51,7 @@ module _ {D : Type 0} (disks : Ghosts D) where
     one_less = length-append rest (log ∷ [])
 
     long : AllOf (λ (parts : List LogSight). length parts ≡ length all) whole
-    long = lengths disks.mark all whole before.are.of
+    long = lengths disks all whole before.are.of
 
     log_at : slice_get all (length rest) ≡ Some log
     log_at = ap (λ l. slice_get l (length rest)) (before.all_is ∙ append_assoc rest (log ∷ []) before.closed) ∙ at rest before.closed
@@ -86,8 +85,8 @@ module _ {D : Type 0} (disks : Ghosts D) where
           longer [] a = tt
           longer (parts ∷ l) a = (omega (arith, within, a.0), longer l a.1)
 
-      pub parts_are : AreAllPassesOf disks.mark log parts
-      parts_are = subst (AreAllPassesOf disks.mark log) (sym lasts.1) (column disks.mark all (length rest) log log_at within seats whole before.alike before.are)
+      pub parts_are : AreAllPassesOf (shared_log disks) log parts
+      parts_are = subst (AreAllPassesOf (shared_log disks) log) (sym lasts.1) (column disks all (length rest) log log_at within seats whole before.alike before.are)
 
       pub one_more : (disk : D) → Ends disks log parts disk → Closing all seats whole rest after (given ++ disk ∷ [])
       one_more disk end = record {

@@ -1,6 +1,5 @@
 pub mod Parts
 pub mod Composing
-pub mod Adding
 pub mod Visiting
 pub mod Deals
 pub mod Columns

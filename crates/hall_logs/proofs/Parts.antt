@@ -2,10 +2,12 @@
 use Rattle.std.proofs.Common.{◌≡◌, ℕ, zero, suc, ◌-◌, ◌<◌, ◌≤◌, List, [], ◌∷◌, length, refl, sym, ap, ◌∙◌, subst, arith, Option, Some, slice_get, slice_index_or}
 use Rattle.std.specs.Prelude.{slice_set, Result, Ok, Err, OnErr}
 use Rattle.std.specs.List.{AllZip}
+use Rattle.disk_model.specs.declared.disk.Disk.{Ghosts}
 use Rattle.patch_log.specs.State.{LogView}
 use Rattle.turn_cell.specs.Sights.{Made}
 use Rattle.turn_cell.specs.Knowing.{SeesOn}
-use Rattle.shared_log.specs.Passes.{LogSight, IsPassOf}
+use Rattle.turn_cell.specs.Sharing.{IsPassOf}
+use Rattle.shared_log.specs.History.{LogSight, shared_log}
 use Rattle.hall_logs.specs.Slots.{ArePartsOf, OnSlot}
 
 module _ {A B : Type 0} (R : A → B → Type 0) where
@@ -37,26 +39,26 @@ module _ {T E : Type 0} where
   on_err P Q f (Ok x) p = tt
   on_err P Q f (Err e) p = f p
 
-module _ {D : Type 0} (mark : D → Option (List ℕ × ℕ)) where
+module _ {D : Type 0} (disks : Ghosts D) where
   -- a call leaves a pass of the same log
-  pub still_pass : (log : Made (LogView D)) (p q : LogSight) → IsPassOf mark log p → SeesOn p q → IsPassOf mark log q
+  pub still_pass : (log : Made (LogView D)) (p q : LogSight) → IsPassOf (shared_log disks) log p → SeesOn p q → IsPassOf (shared_log disks) log q
   still_pass log p q of sees = (sees.0.0 ∙ of.0, sees.1, sees.0.3 ∙ of.2)
 
   -- the parts of contracts, and those that the pass holds
-  module _ (logs : List (Made (LogView D))) (before parts : List LogSight) (slot : ℕ) (same : parts ≡ before) (of : ArePartsOf mark logs before)
+  module _ (logs : List (Made (LogView D))) (before parts : List LogSight) (slot : ℕ) (same : parts ≡ before) (of : ArePartsOf disks logs before)
       (within : (0 < slot) × (slot ≤ length logs)) where
     pub low : slot - 1 < length parts
-    low = omega (arith, within.0, within.1, zip_length (IsPassOf mark) logs before of, ap length same)
+    low = omega (arith, within.0, within.1, zip_length (IsPassOf (shared_log disks)) logs before of, ap length same)
 
     module _ (log : Made (LogView D)) (p : LogSight) (log_is : slice_get logs (slot - 1) ≡ Some log) (p_is : p ≡ slice_index_or parts (slot - 1) p) where
       part_at : slice_get before (slot - 1) ≡ Some p
       part_at = subst (λ l. slice_get l (slot - 1) ≡ Some p) same (get_there parts (slot - 1) p low p_is)
 
-      pub part_of : IsPassOf mark log p
-      part_of = zip_at (IsPassOf mark) logs before (slot - 1) log p of log_is part_at
+      pub part_of : IsPassOf (shared_log disks) log p
+      part_of = zip_at (IsPassOf (shared_log disks)) logs before (slot - 1) log p of log_is part_at
 
-      pub still_parts : (q : LogSight) → IsPassOf mark log q → ArePartsOf mark logs (slice_set parts (slot - 1) q)
-      still_parts q pass = subst (λ l. ArePartsOf mark logs (slice_set l (slot - 1) q)) (sym same) (zip_set (IsPassOf mark) logs before (slot - 1) log q of log_is pass)
+      pub still_parts : (q : LogSight) → IsPassOf (shared_log disks) log q → ArePartsOf disks logs (slice_set parts (slot - 1) q)
+      still_parts q pass = subst (λ l. ArePartsOf disks logs (slice_set l (slot - 1) q)) (sym same) (zip_set (IsPassOf (shared_log disks)) logs before (slot - 1) log q of log_is pass)
 
       pub on_slot : (q : LogSight) (R : Made (LogView D) → LogSight → LogSight → Type 0) → R log p q → OnSlot slot R logs before (slice_set parts (slot - 1) q)
       on_slot q R r = record {

@@ -14,8 +14,8 @@ use Rattle.turn_cell.specs.Sights.{Made, AreAll, ComesFrom}
 use Rattle.turn_cell.specs.Knowing.{mine_of, failed_of}
 use Rattle.turn_cell.proofs.Views.{places_append}
 use Rattle.shared_log.specs.declared.value.LogFixed.{LogFixed}
-use Rattle.shared_log.specs.History.{history_of, patches_known}
-use Rattle.shared_log.specs.Passes.{LogSight, IsNewPassOf, HasSeen}
+use Rattle.shared_log.specs.History.{history_of, patches_known, LogSight, shared_log}
+use Rattle.turn_cell.specs.Sharing.{IsNewPassOf, HasSeen}
 use Rattle.shared_log.proofs.Histories.{known_chain}
 use Rattle.hall_logs.specs.Slots.{AreNew}
 use Rattle.hall_logs.specs.Ends.{parts_at, Ends, AreEnded}
@@ -44,11 +44,11 @@ module _ {C : Type 0} where
       absurd (no_more (places_by n first) (places_from (1 + length first + 1) n later) (1 + length first) (sym places ∙ none n by.0.0 by.0.1))
 
 module _ {D : Type 0} (disks : Ghosts D) (made : Made (LogView D)) (parts : List LogSight) (idle : AllOf IsIdle parts) (all : AreAll made.seats parts) where
-  same_history : (log : LogView D) → Continues (history_of made.origin.entries) made.seats (history_of log.entries) → AllOf (HasSeen log) parts → history_of log.entries ≡ history_of made.origin.entries
+  same_history : (log : LogView D) → Continues (history_of made.origin.entries) made.seats (history_of log.entries) → AllOf (HasSeen (shared_log disks) log) parts → history_of log.entries ≡ history_of made.origin.entries
   same_history log goes seen =
       let none : (n : ℕ) → 0 < n → n ≤ made.seats → places_by n (history_of made.origin.entries ++ goes.0) ≡ [] = λ n positive high.
       let one = all n positive high in
-      let knew : HasSeen log one.0 = in_all (HasSeen log) parts one.0 seen one.1 in
+      let knew : HasSeen (shared_log disks) log one.0 = in_all (HasSeen (shared_log disks) log) parts one.0 seen one.1 in
       let quiet : IsIdle one.0 = in_all IsIdle parts one.0 idle one.1 in
       subst (λ (z : ℕ × List (Known Patch)). places_by z.0 z.1 ≡ []) (λ i. (one.2 i, goes.1 i)) (knew.1 ∙ quiet.0) in
       goes.1 ∙ ap (λ l. history_of made.origin.entries ++ l) (none_later (history_of made.origin.entries) goes.0 made.seats goes.2 none) ∙ append-nil (history_of made.origin.entries)
@@ -66,12 +66,12 @@ module _ {D : Type 0} (disks : Ghosts D) (made : Made (LogView D)) (parts : List
       let number : log.number ≡ made.origin.number = ap (λ (f : LogFixed). f.number) ends.closed.fixed in
       inr (
         ap disks.mark ends.disk_is ∙ ap (λ (f : LogFixed). f.mark) ends.closed.fixed,
-        λ told. subst (λ (z : D × ℕ × List Patch × Option Patch). EveryImage (disks.past z.0) (MayHoldChain z.1 z.2 z.3)) (λ i. (sym ends.disk_is i, number i, same i, none i)) (ends.stands.stands told).each,
+        λ told. subst (λ (z : D × ℕ × List Patch × Option Patch). EveryImage (disks.past z.0) (MayHoldChain z.1 z.2 z.3)) (λ i. (sym ends.disk_is i, number i, same i, none i)) (ends.closed.stands.stands told).each,
       )
 
 module _ {D : Type 0} (disks : Ghosts D) (logs : List (Made (LogView D))) where
   -- new parts are idle
-  idle_parts : (place : ℕ) (log : Made (LogView D)) → slice_get logs place ≡ Some log → (number : ℕ) (passes : List (List LogSight)) → AreNew disks.mark logs number passes → AllOf IsIdle (parts_at place passes)
+  idle_parts : (place : ℕ) (log : Made (LogView D)) → slice_get logs place ≡ Some log → (number : ℕ) (passes : List (List LogSight)) → AreNew disks logs number passes → AllOf IsIdle (parts_at place passes)
   idle_parts place log at number [] new = tt
   idle_parts place log at number (parts ∷ passes) new = behind (slice_get parts place) (one logs parts place new.0) (idle_parts place log at (number + 1) passes new.1)
     where
@@ -79,7 +79,7 @@ module _ {D : Type 0} (disks : Ghosts D) (logs : List (Made (LogView D))) where
       IsIdleIn None = Unit {0}
       IsIdleIn (Some part) = IsIdle part
 
-      one : (xs : List (Made (LogView D))) (ps : List LogSight) (k : ℕ) → AllZip (λ log part. IsNewPassOf disks.mark log number part) xs ps → IsIdleIn (slice_get ps k)
+      one : (xs : List (Made (LogView D))) (ps : List LogSight) (k : ℕ) → AllZip (λ log part. IsNewPassOf (shared_log disks) log number part) xs ps → IsIdleIn (slice_get ps k)
       one xs [] k all = tt
       one [] (p ∷ ps) k all = absurd all
       one (x ∷ xs) (p ∷ ps) zero all = (all.0.3, all.0.6)
@@ -89,7 +89,7 @@ module _ {D : Type 0} (disks : Ghosts D) (logs : List (Made (LogView D))) where
       behind None here rest = rest
       behind (Some part) here rest = (here, rest)
 
-  module _ (seats : ℕ) (passes : List (List LogSight)) (new : AreNew disks.mark logs 1 passes) (count : length passes ≡ seats) (alike : AllOf (λ (log : Made (LogView D)). log.seats ≡ seats) logs) where
+  module _ (seats : ℕ) (passes : List (List LogSight)) (new : AreNew disks logs 1 passes) (count : length passes ≡ seats) (alike : AllOf (λ (log : Made (LogView D)). log.seats ≡ seats) logs) where
     ends_still : (front others : List (Made (LogView D))) → logs ≡ front ++ others → AllOf (λ (log : Made (LogView D)). log.origin.doubt ≡ None) others → (left : List D) → AreEnded disks (length front) others passes left
         → AllZip (IsStill disks) (map (λ (log : Made (LogView D)). log.origin) others) left
     ends_still front [] is settled [] ends = tt
@@ -98,7 +98,7 @@ module _ {D : Type 0} (disks : Ghosts D) (logs : List (Made (LogView D))) where
     ends_still front (log ∷ others) is settled (d ∷ left) ends =
         let at : slice_get logs (length front) ≡ Some log = ap (λ l. slice_get l (length front)) is ∙ there front in
         let low : length front < length logs = omega (arith, ap length is, length-append front (log ∷ others)) in
-        let are = column disks.mark logs (length front) log at low seats passes alike (all_new disks.mark logs seats passes new count) in
+        let are = column disks logs (length front) log at low seats passes alike (all_new disks logs seats passes new count) in
         let rest = ends_still (front ++ log ∷ []) others (is ∙ sym (append_assoc front (log ∷ []) others)) settled.1 left (subst (λ n. AreEnded disks n others passes left) (sym (length-append front (log ∷ []))) ends.1) in
         (is_still disks log (parts_at (length front) passes) (idle_parts (length front) log at 1 passes new) are.1 d settled.0 ends.0, rest)
       where

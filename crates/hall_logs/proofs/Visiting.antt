@@ -4,14 +4,17 @@ use Rattle.std.specs.Prelude.{slice_set}
 use Rattle.std.specs.List.{AllZip}
 use mathlib.Core.Logic.{dite}
 use native.Mathlib.Decide.{ℕ_discrete}
+use Rattle.disk_model.specs.declared.disk.Disk.{Ghosts}
 use Rattle.patch_log.specs.State.{LogView}
 use Rattle.turn_cell.specs.Turns.{IsIn, AllOf}
 use Rattle.turn_cell.specs.Sights.{Made}
 use Rattle.turn_cell.specs.Knowing.{SeesOn, pass_number}
-use Rattle.shared_log.specs.Passes.{LogSight, IsPassOf}
-use Rattle.log_base.specs.declared.limits.LogLimits.{LogLimits}
+use Rattle.turn_cell.specs.Sharing.{IsPassOf}
+use Rattle.shared_log.specs.History.{LogSight, shared_log}
 use Rattle.chain_core.specs.Replies.{LogCall, LogReply}
-use Rattle.hall_logs.specs.Calls.{IsReplied, IsAsked, AreAsked}
+use Rattle.turn_cell.specs.Calls.{IsReplied}
+use Rattle.shared_log.specs.Stays.{CalledOnLog}
+use Rattle.shared_log.specs.Calls.{MayWant, IsCalledOnLog, AreCalledOnLog}
 use Rattle.hall_logs.specs.Slots.{ArePartsOf, AreAllHallPasses}
 use Rattle.hall_logs.specs.Visits.{Visit, asked_at, IsVisit, AreVisits, HasVisited}
 use Rattle.hall_logs.proofs.Parts.{zip_at, zip_set, still_pass}
@@ -37,23 +40,23 @@ module _ {A : Type 0} where
   all_set P (z ∷ xs) zero x y all is f = let same : z ≡ x = cc in (f (subst P same all.0), all.1)
   all_set P (z ∷ xs) (suc k) x y all is f = (all.0, all_set P xs k x y all.1 is f)
 
-module _ {D : Type 0} (logs : List (Made (LogView D))) (place : ℕ) (log : Made (LogView D)) (at : slice_get logs place ≡ Some log) where
+module _ {D : Type 0} (disks : Ghosts D) (logs : List (Made (LogView D))) (place : ℕ) (log : Made (LogView D)) (at : slice_get logs place ≡ Some log) where
   -- a visit on this log
-  here : (p : LogSight) (before next : List LogSight) (visit : Visit) → slice_get before place ≡ Some p → visit.slot ≡ place + 1 → IsVisit logs before visit next
-      → (q : LogSight) × (slice_get next place ≡ Some q) × IsAsked log.origin.limits p visit.asked q
+  here : (p : LogSight) (before next : List LogSight) (visit : Visit) → slice_get before place ≡ Some p → visit.slot ≡ place + 1 → IsVisit disks logs before visit next
+      → (q : LogSight) × (slice_get next place ≡ Some q) × IsCalledOnLog disks log.origin p visit.asked q
   here p before next visit is slot v =
       let same : v.place ≡ place = omega (arith, v.slot_is, slot) in
       let log_is : v.log ≡ log = same_some v.log log (sym v.log_is ∙ ap (slice_get logs) same ∙ at) in
       let p_is : v.old ≡ p = same_some v.old p (sym v.old_is ∙ ap (slice_get before) same ∙ is) in
       let q_is : slice_get next place ≡ Some v.new = ap (λ l. slice_get l place) (v.others ∙ ap (λ k. slice_set before k v.new) same) ∙ get_set before place p v.new is in
-      (v.new, q_is, subst (λ (z : Made (LogView D) × LogSight). IsAsked z.0.origin.limits z.1 visit.asked v.new) (λ i. (log_is i, p_is i)) v.so)
+      (v.new, q_is, subst (λ (z : Made (LogView D) × LogSight). IsCalledOnLog disks z.0.origin z.1 visit.asked v.new) (λ i. (log_is i, p_is i)) v.so)
 
   -- a visit on another log
-  there : (p : LogSight) (before next : List LogSight) (visit : Visit) → slice_get before place ≡ Some p → visit.slot ≢ place + 1 → IsVisit logs before visit next → slice_get next place ≡ Some p
+  there : (p : LogSight) (before next : List LogSight) (visit : Visit) → slice_get before place ≡ Some p → visit.slot ≢ place + 1 → IsVisit disks logs before visit next → slice_get next place ≡ Some p
   there p before next visit is apart v = ap (λ l. slice_get l place) v.others ∙ get_other before v.place place v.new (λ e. apart (v.slot_is ∙ ap (λ k. k + 1) e)) ∙ is
 
-  pub asked_here : (p : LogSight) (before after : List LogSight) (visits : List Visit) → slice_get before place ≡ Some p → AreVisits logs before visits after
-      → (q : LogSight) × (slice_get after place ≡ Some q) × AreAsked log.origin.limits p (asked_at (place + 1) visits) q
+  pub asked_here : (p : LogSight) (before after : List LogSight) (visits : List Visit) → slice_get before place ≡ Some p → AreVisits disks logs before visits after
+      → (q : LogSight) × (slice_get after place ≡ Some q) × AreCalledOnLog disks log.origin p (asked_at (place + 1) visits) q
   asked_here p before after [] is same = (p, ap (λ l. slice_get l place) same ∙ is, refl)
   asked_here p before after (visit ∷ more) is vs = dite (ℕ_discrete visit.slot (place + 1))
       (λ e.
@@ -65,44 +68,44 @@ module _ {D : Type 0} (logs : List (Made (LogView D))) (place : ℕ) (log : Made
       (r.0, r.1, rw (ne_eqb visit.slot (place + 1) ne) r.2))
 
 -- whether it found memory or not, the pass sees on
-pub asked_sees : (limits : LogLimits) (p q : LogSight) (call : LogCall) (reply : Option LogReply) → IsReplied limits p call reply q → SeesOn p q
-asked_sees limits p q call (Some reply) is = is.0
-asked_sees limits p q call None is = is.0
+pub asked_sees : {D : Type 0} (disks : Ghosts D) (origin : LogView D) (p q : LogSight) (call : LogCall) (reply : Option LogReply) → IsReplied (CalledOnLog disks origin) MayWant p call reply q → SeesOn p q
+asked_sees disks origin p q call (Some reply) is = is.legal.0
+asked_sees disks origin p q call None is = is.1.0
 
-module _ {D : Type 0} (mark : D → Option (List ℕ × ℕ)) (logs : List (Made (LogView D))) where
-  module _ (before after : List LogSight) (visit : Visit) (v : IsVisit logs before visit after) where
+module _ {D : Type 0} (disks : Ghosts D) (logs : List (Made (LogView D))) where
+  module _ (before after : List LogSight) (visit : Visit) (v : IsVisit disks logs before visit after) where
     sees : SeesOn v.old v.new
-    sees = asked_sees v.log.origin.limits v.old v.new visit.asked.call visit.asked.reply v.so
+    sees = asked_sees disks v.log.origin v.old v.new visit.asked.call visit.asked.reply v.so.replied
 
-    one_parts : ArePartsOf mark logs before → ArePartsOf mark logs after
-    one_parts of = subst (ArePartsOf mark logs) (sym v.others) (zip_set (IsPassOf mark) logs before v.place v.log v.new of v.log_is
-        (still_pass mark v.log v.old v.new (zip_at (IsPassOf mark) logs before v.place v.log v.old of v.log_is v.old_is) sees))
+    one_parts : ArePartsOf disks logs before → ArePartsOf disks logs after
+    one_parts of = subst (ArePartsOf disks logs) (sym v.others) (zip_set (IsPassOf (shared_log disks)) logs before v.place v.log v.new of v.log_is
+        (still_pass disks v.log v.old v.new (zip_at (IsPassOf (shared_log disks)) logs before v.place v.log v.old of v.log_is v.old_is) sees))
 
     one_number : (n : ℕ) → AllOf (λ (part : LogSight). pass_number part ≡ n) before → AllOf (λ (part : LogSight). pass_number part ≡ n) after
     one_number n all = subst (AllOf (λ (part : LogSight). pass_number part ≡ n)) (sym v.others)
         (all_set (λ (part : LogSight). pass_number part ≡ n) before v.place v.old v.new all v.old_is (λ e. sees.0.2 ∙ e))
 
-  pub parts_stay : (before after : List LogSight) (visits : List Visit) → AreVisits logs before visits after → ArePartsOf mark logs before → ArePartsOf mark logs after
-  parts_stay before after [] same of = subst (ArePartsOf mark logs) (sym same) of
+  pub parts_stay : (before after : List LogSight) (visits : List Visit) → AreVisits disks logs before visits after → ArePartsOf disks logs before → ArePartsOf disks logs after
+  parts_stay before after [] same of = subst (ArePartsOf disks logs) (sym same) of
   parts_stay before after (visit ∷ more) vs of = parts_stay vs.0 after more vs.2 (one_parts before vs.0 visit vs.1 of)
 
-  pub numbers_stay : (n : ℕ) (before after : List LogSight) (visits : List Visit) → AreVisits logs before visits after → AllOf (λ (part : LogSight). pass_number part ≡ n) before → AllOf (λ (part : LogSight). pass_number part ≡ n) after
+  pub numbers_stay : (n : ℕ) (before after : List LogSight) (visits : List Visit) → AreVisits disks logs before visits after → AllOf (λ (part : LogSight). pass_number part ≡ n) before → AllOf (λ (part : LogSight). pass_number part ≡ n) after
   numbers_stay n before after [] same all = subst (AllOf (λ (part : LogSight). pass_number part ≡ n)) (sym same) all
   numbers_stay n before after (visit ∷ more) vs all = numbers_stay n vs.0 after more vs.2 (one_number before vs.0 visit vs.1 n all)
 
-  all_stay : (before after : List (List LogSight)) → AllZip (HasVisited logs) before after → AllOf (ArePartsOf mark logs) before → AllOf (ArePartsOf mark logs) after
+  all_stay : (before after : List (List LogSight)) → AllZip (HasVisited disks logs) before after → AllOf (ArePartsOf disks logs) before → AllOf (ArePartsOf disks logs) after
   all_stay [] [] visited all = tt
   all_stay [] (y ∷ after) visited all = absurd visited
   all_stay (x ∷ before) [] visited all = absurd visited
   all_stay (x ∷ before) (y ∷ after) visited all = (parts_stay x y visited.0.0 visited.0.1 all.0, all_stay before after visited.1 all.1)
 
-  as_many : (before after : List (List LogSight)) → AllZip (HasVisited logs) before after → length after ≡ length before
+  as_many : (before after : List (List LogSight)) → AllZip (HasVisited disks logs) before after → length after ≡ length before
   as_many [] [] visited = refl
   as_many [] (y ∷ after) visited = absurd visited
   as_many (x ∷ before) [] visited = absurd visited
   as_many (x ∷ before) (y ∷ after) visited = ap (λ (n : ℕ). suc n) (as_many before after visited.1)
 
-  one_stays : (n : ℕ) (before after : List (List LogSight)) → AllZip (HasVisited logs) before after → (parts : List LogSight) → IsIn parts before → AllOf (λ (part : LogSight). pass_number part ≡ n) parts
+  one_stays : (n : ℕ) (before after : List (List LogSight)) → AllZip (HasVisited disks logs) before after → (parts : List LogSight) → IsIn parts before → AllOf (λ (part : LogSight). pass_number part ≡ n) parts
       → (left : List LogSight) × IsIn left after × AllOf (λ (part : LogSight). pass_number part ≡ n) left
   one_stays n [] after visited parts there all = absurd there
   one_stays n (x ∷ before) [] visited parts there all = absurd visited
@@ -110,7 +113,7 @@ module _ {D : Type 0} (mark : D → Option (List ℕ × ℕ)) (logs : List (Made
       ⊎_elim (λ (e : parts ≡ x). (y, inl refl, numbers_stay n x y visited.0.0 visited.0.1 (subst (AllOf (λ (part : LogSight). pass_number part ≡ n)) e all)))
       (λ (i : IsIn parts before). let more = one_stays n before after visited.1 parts i all in (more.0, inr more.1, more.2)) there
 
-  pub passes_stay : (seats : ℕ) (before after : List (List LogSight)) → AllZip (HasVisited logs) before after → AreAllHallPasses mark logs seats before → AreAllHallPasses mark logs seats after
+  pub passes_stay : (seats : ℕ) (before after : List (List LogSight)) → AllZip (HasVisited disks logs) before after → AreAllHallPasses disks logs seats before → AreAllHallPasses disks logs seats after
   passes_stay seats before after visited are = record {
     of = all_stay before after visited are.of;
     count = as_many before after visited ∙ are.count;

@@ -6,20 +6,19 @@ use Rattle.disk_model.specs.Past.{reads}
 use Rattle.patch_log.specs.Log.{MayHoldChain}
 use Rattle.patch_log.specs.State.{LogView, chain_of}
 use Rattle.turn_cell.specs.Sights.{Made}
-use Rattle.shared_log.specs.History.{StandsInTurn}
-use Rattle.shared_log.specs.Passes.{LogSight, IsClosedOf}
+use Rattle.shared_log.specs.History.{LogSight, shared_log}
+use Rattle.turn_cell.specs.Sharing.{IsClosedOf}
 
 -- of all passes, the parts of the log at a place
 abbrev pub parts_at : ℕ → List (List LogSight) → List LogSight
 parts_at place passes = filter_map (λ parts. slice_get parts place) passes
 
 module _ {D : Type 0} (disks : Ghosts D) where
-  -- The log was closed with these parts, and its disk stands for it. The file holds its patches, or
-  -- these and the one in doubt, and so does each image that a crash may leave.
+  -- The log was closed with these parts, and its disk stands for it: each image that a crash may
+  -- leave holds its patches, or these and the one in doubt. So does the file.
   pub record Ends (made : Made (LogView D)) (parts : List LogSight) (disk : D) : Type 0 where
     pub log : LogView D
-    pub closed : IsClosedOf disks made parts log
-    pub stands : StandsInTurn disks log
+    pub closed : IsClosedOf (shared_log disks) made parts log
     pub disk_is : disk ≡ log.disk
     pub file :
         disks.tells → MayHoldChain log.number (chain_of log) log.doubt (reads (disks.past disk))

@@ -3,7 +3,5 @@ pub mod Slots
 pub mod Rooms
 pub mod Files
 pub mod Ends
-pub mod Calls
-pub mod Sums
 pub mod Visits
 pub mod Laws

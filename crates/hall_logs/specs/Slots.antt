@@ -2,11 +2,13 @@
 use Rattle.std.specs.Prelude.{◌≡◌, ℕ, ◌+◌, ◌<◌, ◌≤◌, List, [], ◌∷◌, ◌++◌, length, min, Option, Some}
 use Rattle.std.specs.Prelude.{slice_get, slice_set}
 use Rattle.std.specs.List.{AllZip, sum_by}
+use Rattle.disk_model.specs.declared.disk.Disk.{Ghosts}
 use Rattle.patch_log.specs.State.{LogView}
 use Rattle.turn_cell.specs.Turns.{IsIn, AllOf, last_count}
 use Rattle.turn_cell.specs.Sights.{Made}
 use Rattle.turn_cell.specs.Knowing.{pass_number, own_faults_of}
-use Rattle.shared_log.specs.Passes.{LogSight, IsPassOf, IsNewPassOf}
+use Rattle.turn_cell.specs.Sharing.{IsPassOf, IsNewPassOf}
+use Rattle.shared_log.specs.History.{LogSight, shared_log}
 use Rattle.hall_logs.specs.Dealt.{with_items}
 
 -- logs in the order of their slots, which are counted from 1, and how many passes share them
@@ -32,16 +34,16 @@ pub record OnSlot {D : Type 0} (slot : ℕ)
   pub others : after ≡ slice_set before place new
   pub so : R log old new
 
-module _ {D : Type 0} (mark : D → Option (List ℕ × ℕ)) where
+module _ {D : Type 0} (disks : Ghosts D) where
   -- a part of each log
   abbrev pub ArePartsOf : List (Made (LogView D)) → List LogSight → Type 0
-  ArePartsOf logs parts = AllZip (IsPassOf mark) logs parts
+  ArePartsOf logs parts = AllZip (IsPassOf (shared_log disks)) logs parts
 
   -- new passes, whose numbers go up from this one
   abbrev pub AreNew : List (Made (LogView D)) → ℕ → List (List LogSight) → Type 0
   AreNew logs number [] = Unit {0}
   AreNew logs number (parts ∷ passes) =
-      AllZip (λ log part. IsNewPassOf mark log number part) logs parts
+      AllZip (λ log part. IsNewPassOf (shared_log disks) log number part) logs parts
       × AreNew logs (number + 1) passes
 
   -- each is a pass of these logs, and none is missing: each number up to that of the seats has one
@@ -65,4 +67,4 @@ module _ {D : Type 0} (mark : D → Option (List ℕ × ℕ)) where
     pub count : length parts ≡ length before
     pub new_parts :
         (k : ℕ) (part : LogSight) → slice_get parts k ≡ Some part
-        → IsNewPassOf mark log (k + 1) part
+        → IsNewPassOf (shared_log disks) log (k + 1) part

@@ -16,13 +16,13 @@ use disk_model::Disk;
 impl<D: Disk> HallLogs<D> {
     /// The disks in the order of the slots, once all passes are back. It takes no memory.
     pub fn close(self, passes: Vec<LogsPass<D>>, rooms: Rooms<D>) -> Vec<D>
-        requires passes { AreAllHallPasses D.mark self.logs self.seats passes.items }
+        requires passes { AreAllHallPasses D.Disk self.logs self.seats passes.items }
         requires rooms { HasRoom self rooms }
         ensures ends { AreEnded D.Disk 0 self.logs passes.items result.items }
         ensures room { vec_capacity result ≡ rooms.disks }
 
         // Where no pass made a call, each disk still holds its log.
-        ensures idle { AreNew D.mark self.logs 1 passes.items
+        ensures idle { AreNew D.Disk self.logs 1 passes.items
             → AllOf (λ log. log.origin.doubt ≡ None) self.logs
             → AllZip (IsStill D.Disk) (map (λ log. log.origin) self.logs) result.items }
     {

@@ -1,8 +1,8 @@
 //! The logs of a hall, which up to sixteen passes share.
 //!
-//! A pass has a part of each log. A call goes to the log of a slot, is `LegalOnLog` there, and
-//! leaves the other parts of its pass as they were. What many calls of a pass come to together is
-//! told by `AddsUp` in `specs/`.
+//! A pass has a part of each log. A call goes to the log of a slot, is `CalledOnLog` there, and
+//! leaves the other parts of its pass as they were. What many calls of a pass come to on one log
+//! is told by `LogAddsUp` of `shared_log`.
 #![tactic(auto)]
 
 mod closing;
@@ -15,7 +15,7 @@ mod refusal;
 mod rooms;
 mod sharing;
 
-pub use laws::{calls_add_up, calls_compose, passes_stay, visits_are_calls, visits_compose};
+pub use laws::{passes_stay, visits_are_calls, visits_compose};
 pub use logs::HallLogs;
 pub use pass::LogsPass;
 pub use refusal::LogsRefusal;

@@ -3,9 +3,8 @@ ghost use Rattle.std.specs.Prelude.{◌≡◌, ◌-◌, ◌<◌, ◌≤◌, leng
 ghost use Rattle.chain_core.specs.Replies as asked;
 ghost use Rattle.patch_log.specs.Log.{bare};
 ghost use Rattle.turn_cell.specs.Knowing.{Wants};
-ghost use Rattle.shared_log.specs.Appending.{AppendsInTurn};
-ghost use Rattle.shared_log.specs.Legal.{LegalOnLog};
 ghost use Rattle.shared_log.specs.Replies.{reply_fetched, reply_described};
+ghost use Rattle.shared_log.specs.Stays.{CalledOnLog};
 ghost use Rattle.hall_logs.specs.Slots.{ArePartsOf, OnSlot};
 
 use crate::pass::LogsPass;
@@ -55,14 +54,12 @@ impl<D: Disk> HallLogs<D> {
         slot: u32,
         patch: &Checked,
     ) -> LogAnswer
-        requires of { ArePartsOf D.mark self.now.logs pass.old }
+        requires of { ArePartsOf D.Disk self.now.logs pass.old }
         requires slot { (0 < slot) × (slot ≤ length self.now.logs) }
-        ensures of { ArePartsOf D.mark self.now.logs pass.new }
-        ensures legal { OnSlot slot (λ log p q. LegalOnLog log.origin.limits p
+        ensures of { ArePartsOf D.Disk self.now.logs pass.new }
+        ensures called { OnSlot slot (λ log p q. CalledOnLog D.Disk log.origin p
             (asked.append (bare patch.now)) (asked.answered result) q)
             self.now.logs pass.old pass.new }
-        ensures stay { OnSlot slot (λ log p q. AppendsInTurn D.Disk log.origin
-            (bare patch.now) result p q) self.now.logs pass.old pass.new }
     {
         let log = self.log_of(slot);
         log.append(rt, &mut pass.parts[slot as usize - 1], patch)
@@ -76,11 +73,11 @@ impl<D: Disk> HallLogs<D> {
         slot: u32,
         version: u32,
     ) -> Result<Fetched, OutOfMemory>
-        requires of { ArePartsOf D.mark self.now.logs pass.old }
+        requires of { ArePartsOf D.Disk self.now.logs pass.old }
         requires slot { (0 < slot) × (slot ≤ length self.now.logs) }
-        ensures of { ArePartsOf D.mark self.now.logs pass.new }
-        ensures legal { IfOk result
-            (λ fetched. OnSlot slot (λ log p q. LegalOnLog log.origin.limits p
+        ensures of { ArePartsOf D.Disk self.now.logs pass.new }
+        ensures called { IfOk result
+            (λ fetched. OnSlot slot (λ log p q. CalledOnLog D.Disk log.origin p
             (asked.fetch_version version) (reply_fetched fetched) q)
             self.now.logs pass.old pass.new) }
         ensures want { OnErr result (OnSlot slot (λ log p q. Wants p q)
@@ -98,11 +95,11 @@ impl<D: Disk> HallLogs<D> {
         slot: u32,
         id: Id,
     ) -> Result<Fetched, OutOfMemory>
-        requires of { ArePartsOf D.mark self.now.logs pass.old }
+        requires of { ArePartsOf D.Disk self.now.logs pass.old }
         requires slot { (0 < slot) × (slot ≤ length self.now.logs) }
-        ensures of { ArePartsOf D.mark self.now.logs pass.new }
-        ensures legal { IfOk result
-            (λ fetched. OnSlot slot (λ log p q. LegalOnLog log.origin.limits p
+        ensures of { ArePartsOf D.Disk self.now.logs pass.new }
+        ensures called { IfOk result
+            (λ fetched. OnSlot slot (λ log p q. CalledOnLog D.Disk log.origin p
             (asked.fetch_id id) (reply_fetched fetched) q)
             self.now.logs pass.old pass.new) }
         ensures want { OnErr result (OnSlot slot (λ log p q. Wants p q)
@@ -114,10 +111,10 @@ impl<D: Disk> HallLogs<D> {
 
     /// How long the log of a slot is, and the id of its last patch.
     pub fn describe<R: Wait>(&self, rt: &R, pass: &mut LogsPass<D>, slot: u32) -> LogInfo
-        requires of { ArePartsOf D.mark self.now.logs pass.old }
+        requires of { ArePartsOf D.Disk self.now.logs pass.old }
         requires slot { (0 < slot) × (slot ≤ length self.now.logs) }
-        ensures of { ArePartsOf D.mark self.now.logs pass.new }
-        ensures legal { OnSlot slot (λ log p q. LegalOnLog log.origin.limits p
+        ensures of { ArePartsOf D.Disk self.now.logs pass.new }
+        ensures called { OnSlot slot (λ log p q. CalledOnLog D.Disk log.origin p
             asked.describe (reply_described result) q) self.now.logs pass.old pass.new }
     {
         let log = self.log_of(slot);
@@ -126,10 +123,10 @@ impl<D: Disk> HallLogs<D> {
 
     /// How long the log of a slot is. It waits for nobody.
     pub fn version(&self, pass: &mut LogsPass<D>, slot: u32) -> u32
-        requires of { ArePartsOf D.mark self.now.logs pass.old }
+        requires of { ArePartsOf D.Disk self.now.logs pass.old }
         requires slot { (0 < slot) × (slot ≤ length self.now.logs) }
-        ensures of { ArePartsOf D.mark self.now.logs pass.new }
-        ensures legal { OnSlot slot (λ log p q. LegalOnLog log.origin.limits p
+        ensures of { ArePartsOf D.Disk self.now.logs pass.new }
+        ensures called { OnSlot slot (λ log p q. CalledOnLog D.Disk log.origin p
             asked.version (asked.counted result) q) self.now.logs pass.old pass.new }
     {
         let log = self.log_of(slot);

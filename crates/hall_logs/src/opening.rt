@@ -146,8 +146,8 @@ impl<D: Disk> HallLogs<D> {
         ensures logs { IfOk result (λ r. AreOpened D.Disk limits 1 disks.items
             (map (λ log. log.origin) r.0.logs)) }
         ensures seats { IfOk result (λ r. r.0.seats ≡ seats) }
-        ensures passes { IfOk result (λ r. AreAllHallPasses D.mark r.0.logs seats r.1.items) }
-        ensures new { IfOk result (λ r. AreNew D.mark r.0.logs 1 r.1.items) }
+        ensures passes { IfOk result (λ r. AreAllHallPasses D.Disk r.0.logs seats r.1.items) }
+        ensures new { IfOk result (λ r. AreNew D.Disk r.0.logs 1 r.1.items) }
         ensures rooms { IfOk result (λ r. HasRoom r.0 r.2 × (r.2.disks ≡ vec_capacity disks)) }
 
         // The disks come back in their order, in the same list.

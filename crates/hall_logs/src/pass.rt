@@ -18,7 +18,7 @@ pub struct LogsPass<D: Disk> {
 
 impl<D: Disk> Model for LogsPass<D> {
     ghost use Rattle.std.specs.Prelude.{◌≤◌, List, vec_capacity};
-    ghost use Rattle.shared_log.specs.Passes.{LogSight};
+    ghost use Rattle.shared_log.specs.History.{LogSight};
 
     ghost Value = { List LogSight };
 

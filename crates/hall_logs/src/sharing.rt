@@ -48,7 +48,7 @@ impl<D: Disk> HallLogs<D> {
         requires parts { AllOf (λ parts. length parts ≡ length self.old.logs) passes.old.items }
         requires lists { (lists.old.count ≡ length self.old.logs)
             × (lists.old.width ≡ self.old.seats) }
-        ensures ok { OnOk result (IsShared D.mark log self.old passes.old.items
+        ensures ok { OnOk result (IsShared D.Disk log self.old passes.old.items
             self.new passes.new.items) }
         ensures err { IfErr result (λ back. (back.item ≡ log) × (self.new ≡ self.old)
             × (passes.new.items ≡ passes.old.items)) }
@@ -77,7 +77,7 @@ impl<D: Disk> HallLogs<D> {
         requires room { length self.logs + vec_len opened ≤ rooms.disks }
         requires few { length self.logs < 16 }
         requires settled { AllOf (λ log. log.origin.doubt ≡ None) self.logs }
-        requires passes { AreNew D.mark self.logs 1 passes.items
+        requires passes { AreNew D.Disk self.logs 1 passes.items
             × (vec_len passes ≡ self.seats) }
         requires rooms { HasRoom self rooms }
         ensures still { AllZip (IsStill D.Disk)
@@ -116,7 +116,7 @@ impl<D: Disk> HallLogs<D> {
             map (λ log. log.origin) r.0.logs ≡ reverse opened.items) }
         ensures seats { IfOk result (λ r. r.0.seats ≡ self.seats) }
         ensures new { IfOk result (λ r. (vec_len r.1 ≡ self.seats)
-            × AreNew D.mark r.0.logs 1 r.1.items) }
+            × AreNew D.Disk r.0.logs 1 r.1.items) }
         ensures rooms { IfOk result (λ r. HasRoom r.0 r.2 × (r.2.disks ≡ rooms.disks)) }
         ensures still { IfErr result (λ refusal. AllZip (IsStill D.Disk) (reverse opened.items)
             refusal.disks.items) }

@@ -1,5 +1,5 @@
 use Rattle.std.proofs.Common.{◌≡◌, ◌<◌, ◌-◌, ◌++◌, ◌∷◌, [], ℕ, List, length, refl, sym, subst, ◌∙◌, ap, arith}
-use Rattle.shared_log.specs.Passes.{LogSight}
+use Rattle.shared_log.specs.History.{LogSight}
 use Rattle.hall_logs.proofs.Deals.{Deals, deals_none, popped, row, row_is, row_has, deals_one}
 use Rattle.hall_logs.proofs.dealing.deal.Goals as goal
 

@@ -1,6 +1,6 @@
 use Rattle.std.proofs.Common.{◌<◌, ◌+◌, List, length, sym, subst, ◌∙◌, arith}
 use Rattle.std.specs.Prelude.{slice_set}
-use Rattle.shared_log.specs.Passes.{LogSight}
+use Rattle.shared_log.specs.History.{LogSight}
 use Rattle.hall_logs.proofs.Deals.{Gathers, given_is, given_has, gathers_one}
 use Rattle.hall_logs.proofs.dealing.gather.Goals as goal
 

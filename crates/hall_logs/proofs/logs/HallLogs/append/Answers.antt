@@ -3,28 +3,22 @@ use Rattle.chain_core.specs.Replies as asked
 use Rattle.patch_log.specs.State.{LogView}
 use Rattle.turn_cell.specs.Sights.{Made}
 use Rattle.patch_log.specs.Log.{bare}
-use Rattle.shared_log.specs.Passes.{LogSight}
-use Rattle.shared_log.specs.Legal.{LegalOnLog}
-use Rattle.shared_log.specs.Appending.{AppendsInTurn}
+use Rattle.shared_log.specs.History.{LogSight}
+use Rattle.shared_log.specs.Stays.{CalledOnLog}
 use Rattle.hall_logs.proofs.Parts.{low, part_of, still_parts, on_slot}
 use Rattle.hall_logs.proofs.logs.HallLogs.append.Goals as goal
 
 pub index_mut-requires : goal.index_mut-requires
-index_mut-requires g c = omega (arith, c.pass.inside.parts.ok.0, low g.D.Disk.mark c.args.self.now.logs c.args.pass.now c.pass.inside.parts.items c.args.slot c.pass.view_is c.requires.of c.requires.slot)
+index_mut-requires g c = omega (arith, c.pass.inside.parts.ok.0, low g.D.Disk c.args.self.now.logs c.args.pass.now c.pass.inside.parts.items c.args.slot c.pass.view_is c.requires.of c.requires.slot)
 
 pub append-requires : goal.append-requires
-append-requires g c = record { of = part_of g.D.Disk.mark c.args.self.now.logs c.args.pass.now c.pass.inside.parts.items c.args.slot c.pass.view_is c.requires.of c.requires.slot c.log_of-log.result.now c.index_mut.result.now c.log_of-log.ensures c.index_mut.ensures.value }
+append-requires g c = record { of = part_of g.D.Disk c.args.self.now.logs c.args.pass.now c.pass.inside.parts.items c.args.slot c.pass.view_is c.requires.of c.requires.slot c.log_of-log.result.now c.index_mut.result.now c.log_of-log.ensures c.index_mut.ensures.value }
 
 pub returns-clause-of : goal.returns-clause-of
 returns-clause-of g c =
-    still_parts g.D.Disk.mark c.args.self.now.logs c.args.pass.now c.pass.inside.parts.items c.args.slot c.pass.view_is c.requires.of c.requires.slot c.log_of-log.result.now c.index_mut.result.now c.log_of-log.ensures c.index_mut.ensures.value c.append.new.pass c.append.ensures.of
+    still_parts g.D.Disk c.args.self.now.logs c.args.pass.now c.pass.inside.parts.items c.args.slot c.pass.view_is c.requires.of c.requires.slot c.log_of-log.result.now c.index_mut.result.now c.log_of-log.ensures c.index_mut.ensures.value c.append.new.pass c.append.ensures.of
 
-pub returns-clause-legal : goal.returns-clause-legal
-returns-clause-legal g c =
-    on_slot g.D.Disk.mark c.args.self.now.logs c.args.pass.now c.pass.inside.parts.items c.args.slot c.pass.view_is c.requires.of c.requires.slot c.log_of-log.result.now c.index_mut.result.now c.log_of-log.ensures c.index_mut.ensures.value c.append.new.pass
-    (λ (log : Made (LogView g.row.D.Denot)) (p q : LogSight). LegalOnLog log.origin.limits p (asked.append (bare c.args.patch.now)) (asked.answered c.append.result) q) c.append.ensures.legal
-
-pub returns-clause-stay : goal.returns-clause-stay
-returns-clause-stay g c =
-    on_slot g.D.Disk.mark c.args.self.now.logs c.args.pass.now c.pass.inside.parts.items c.args.slot c.pass.view_is c.requires.of c.requires.slot c.log_of-log.result.now c.index_mut.result.now c.log_of-log.ensures c.index_mut.ensures.value c.append.new.pass
-    (λ (log : Made (LogView g.row.D.Denot)) (p q : LogSight). AppendsInTurn g.D.Disk log.origin (bare c.args.patch.now) c.append.result p q) c.append.ensures.stay
+pub returns-clause-called : goal.returns-clause-called
+returns-clause-called g c =
+    on_slot g.D.Disk c.args.self.now.logs c.args.pass.now c.pass.inside.parts.items c.args.slot c.pass.view_is c.requires.of c.requires.slot c.log_of-log.result.now c.index_mut.result.now c.log_of-log.ensures c.index_mut.ensures.value c.append.new.pass
+    (λ (log : Made (LogView g.row.D.Denot)) (p q : LogSight). CalledOnLog g.D.Disk log.origin p (asked.append (bare c.args.patch.now)) (asked.answered c.append.result) q) c.append.ensures.called

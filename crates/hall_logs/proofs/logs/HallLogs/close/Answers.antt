@@ -2,7 +2,7 @@ use Rattle.std.proofs.Common.{◌≡◌, List, length, sym, subst, ap, ◌∙◌
 use Rattle.patch_log.specs.State.{LogView}
 use Rattle.turn_cell.specs.Turns.{AllOf}
 use Rattle.turn_cell.specs.Sights.{Made}
-use Rattle.shared_log.specs.Passes.{LogSight}
+use Rattle.shared_log.specs.History.{LogSight}
 use Rattle.hall_logs.specs.Ends.{AreEnded}
 use Rattle.hall_logs.specs.Slots.{LogsOfHall, AreAllHallPasses}
 use Rattle.hall_logs.specs.Rooms.{Room}
@@ -16,7 +16,7 @@ loop-log-init g c =
     let logs : List (Made (LogView g.row.D.Denot)) = c.self.inside.logs.items in
     let hall : LogsOfHall g.row.D.Denot = c.args.self in
     let is = c.self.view_is in
-    let are = subst (λ (h : LogsOfHall g.row.D.Denot). AreAllHallPasses g.D.Disk.mark h.logs h.seats whole) (sym is) c.requires.passes in
+    let are = subst (λ (h : LogsOfHall g.row.D.Denot). AreAllHallPasses g.D.Disk h.logs h.seats whole) (sym is) c.requires.passes in
     let start = begins g.D.Disk logs c.self.inside.seats whole are c.self.invariant.0 in
     let r = c.requires.rooms in
     let room_is = ap (λ (room : Room). room.disks) c.rooms.view_is in
@@ -62,7 +62,7 @@ loop-log-preserved g c =
     let after : List (List LogSight) = c.gather.new.passes.items in
     let parts : List LogSight = c.gather.new.parts.items in
     let disk = c.close-in-Some.result in
-    let end = ended g.D.Disk c.in-Some.log parts c.close.result disk c.close-in-Some.ensures.disk c.close.ensures.closed c.close.ensures.stands (g.met.D.Disk.reads_may_be_left disk) in
+    let end = ended g.D.Disk c.in-Some.log parts c.close.result disk c.close-in-Some.ensures.disk c.close.ensures.closed (g.met.D.Disk.reads_may_be_left disk) in
     let next = one_more g.D.Disk c.args.self.logs c.args.self.seats c.args.passes.items rest c.in-Some.log l.passes.items l.disks.items before after parts c.gather.ensures.gathered
     (omega (arith, c.gather.new.passes.ok.0, l.passes.ok.0, c.gather.ensures.passes)) (omega (arith, c.gather.new.parts.ok.0, l.passes.ok.0, c.gather.ensures.parts)) disk end in
     let p = c.push_reserved.ensures in

@@ -2,8 +2,8 @@ use Rattle.std.proofs.Common.{arith}
 use Rattle.chain_core.specs.Replies as asked
 use Rattle.patch_log.specs.State.{LogView}
 use Rattle.turn_cell.specs.Sights.{Made}
-use Rattle.shared_log.specs.Passes.{LogSight}
-use Rattle.shared_log.specs.Legal.{LegalOnLog}
+use Rattle.shared_log.specs.History.{LogSight}
+use Rattle.shared_log.specs.Stays.{CalledOnLog}
 use Rattle.turn_cell.specs.Knowing.{Wants}
 use Rattle.shared_log.specs.declared.replies.Fetched.{Fetched}
 use Rattle.shared_log.specs.Replies.{reply_fetched}
@@ -13,24 +13,24 @@ use Rattle.hall_logs.proofs.Parts.{low, part_of, still_parts, on_slot, on_err}
 use Rattle.hall_logs.proofs.logs.HallLogs.fetch_id.Goals as goal
 
 pub index_mut-requires : goal.index_mut-requires
-index_mut-requires g c = omega (arith, c.pass.inside.parts.ok.0, low g.D.Disk.mark c.args.self.now.logs c.args.pass.now c.pass.inside.parts.items c.args.slot c.pass.view_is c.requires.of c.requires.slot)
+index_mut-requires g c = omega (arith, c.pass.inside.parts.ok.0, low g.D.Disk c.args.self.now.logs c.args.pass.now c.pass.inside.parts.items c.args.slot c.pass.view_is c.requires.of c.requires.slot)
 
 pub fetch_id-requires : goal.fetch_id-requires
-fetch_id-requires g c = record { of = part_of g.D.Disk.mark c.args.self.now.logs c.args.pass.now c.pass.inside.parts.items c.args.slot c.pass.view_is c.requires.of c.requires.slot c.log_of-log.result.now c.index_mut.result.now c.log_of-log.ensures c.index_mut.ensures.value }
+fetch_id-requires g c = record { of = part_of g.D.Disk c.args.self.now.logs c.args.pass.now c.pass.inside.parts.items c.args.slot c.pass.view_is c.requires.of c.requires.slot c.log_of-log.result.now c.index_mut.result.now c.log_of-log.ensures c.index_mut.ensures.value }
 
 pub returns-clause-of : goal.returns-clause-of
 returns-clause-of g c =
-    still_parts g.D.Disk.mark c.args.self.now.logs c.args.pass.now c.pass.inside.parts.items c.args.slot c.pass.view_is c.requires.of c.requires.slot c.log_of-log.result.now c.index_mut.result.now c.log_of-log.ensures c.index_mut.ensures.value c.fetch_id.new.pass c.fetch_id.ensures.of
+    still_parts g.D.Disk c.args.self.now.logs c.args.pass.now c.pass.inside.parts.items c.args.slot c.pass.view_is c.requires.of c.requires.slot c.log_of-log.result.now c.index_mut.result.now c.log_of-log.ensures c.index_mut.ensures.value c.fetch_id.new.pass c.fetch_id.ensures.of
 
-pub returns-clause-legal : goal.returns-clause-legal
-returns-clause-legal g c =
-    if_ok (λ (fetched : Fetched). LegalOnLog c.log_of-log.result.now.origin.limits c.index_mut.result.now (asked.fetch_id c.args.id) (reply_fetched fetched) c.fetch_id.new.pass)
-    (λ (fetched : Fetched). OnSlot c.args.slot (λ (log : Made (LogView g.row.D.Denot)) (p q : LogSight). LegalOnLog log.origin.limits p (asked.fetch_id c.args.id) (reply_fetched fetched) q) c.args.self.now.logs c.args.pass.now _)
-    (λ fetched legal. on_slot g.D.Disk.mark c.args.self.now.logs c.args.pass.now c.pass.inside.parts.items c.args.slot c.pass.view_is c.requires.of c.requires.slot c.log_of-log.result.now c.index_mut.result.now c.log_of-log.ensures c.index_mut.ensures.value c.fetch_id.new.pass
-    (λ (log : Made (LogView g.row.D.Denot)) (p q : LogSight). LegalOnLog log.origin.limits p (asked.fetch_id c.args.id) (reply_fetched fetched) q) legal) c.fetch_id.result c.fetch_id.ensures.legal
+pub returns-clause-called : goal.returns-clause-called
+returns-clause-called g c =
+    if_ok (λ (fetched : Fetched). CalledOnLog g.D.Disk c.log_of-log.result.now.origin c.index_mut.result.now (asked.fetch_id c.args.id) (reply_fetched fetched) c.fetch_id.new.pass)
+    (λ (fetched : Fetched). OnSlot c.args.slot (λ (log : Made (LogView g.row.D.Denot)) (p q : LogSight). CalledOnLog g.D.Disk log.origin p (asked.fetch_id c.args.id) (reply_fetched fetched) q) c.args.self.now.logs c.args.pass.now _)
+    (λ fetched called. on_slot g.D.Disk c.args.self.now.logs c.args.pass.now c.pass.inside.parts.items c.args.slot c.pass.view_is c.requires.of c.requires.slot c.log_of-log.result.now c.index_mut.result.now c.log_of-log.ensures c.index_mut.ensures.value c.fetch_id.new.pass
+    (λ (log : Made (LogView g.row.D.Denot)) (p q : LogSight). CalledOnLog g.D.Disk log.origin p (asked.fetch_id c.args.id) (reply_fetched fetched) q) called) c.fetch_id.result c.fetch_id.ensures.called
 
 pub returns-clause-want : goal.returns-clause-want
 returns-clause-want g c =
     on_err (Wants c.index_mut.result.now c.fetch_id.new.pass) _
-    (λ want. on_slot g.D.Disk.mark c.args.self.now.logs c.args.pass.now c.pass.inside.parts.items c.args.slot c.pass.view_is c.requires.of c.requires.slot c.log_of-log.result.now c.index_mut.result.now c.log_of-log.ensures c.index_mut.ensures.value c.fetch_id.new.pass
+    (λ want. on_slot g.D.Disk c.args.self.now.logs c.args.pass.now c.pass.inside.parts.items c.args.slot c.pass.view_is c.requires.of c.requires.slot c.log_of-log.result.now c.index_mut.result.now c.log_of-log.ensures c.index_mut.ensures.value c.fetch_id.new.pass
     (λ (log : Made (LogView g.row.D.Denot)) (p q : LogSight). Wants p q) want) c.fetch_id.result c.fetch_id.ensures.want

@@ -9,7 +9,7 @@ use Rattle.hall_logs.proofs.logs.HallLogs.give_up.Goals as goal
 
 pub close-disks-requires-clause-passes : goal.close-disks-requires-clause-passes
 close-disks-requires-clause-passes g c =
-    all_new g.D.Disk.mark c.args.self.logs c.args.self.seats c.args.passes.items c.requires.passes.0 (omega (arith, c.args.passes.ok.0, c.requires.passes.1))
+    all_new g.D.Disk c.args.self.logs c.args.self.seats c.args.passes.items c.requires.passes.0 (omega (arith, c.args.passes.ok.0, c.requires.passes.1))
 
 pub loop-log-init : goal.loop-log-init
 loop-log-init g c =

@@ -38,8 +38,8 @@ returns-in-Ok-open_files-clause-logs g c =
 
 pub returns-in-Ok-open_files-clause-passes : goal.returns-in-Ok-open_files-clause-passes
 returns-in-Ok-open_files-clause-passes g c =
-    when_ok c.share.result (λ r. (vec_len r.1 ≡ c.args.seats) × AreNew g.D.Disk.mark r.0.logs 1 r.1.items) (λ r. AreAllHallPasses g.D.Disk.mark r.0.logs c.args.seats r.1.items) c.share.ensures.new
-    (λ r new. all_new g.D.Disk.mark r.0.logs c.args.seats r.1.items new.1 (sym r.1.ok.0 ∙ new.0))
+    when_ok c.share.result (λ r. (vec_len r.1 ≡ c.args.seats) × AreNew g.D.Disk r.0.logs 1 r.1.items) (λ r. AreAllHallPasses g.D.Disk r.0.logs c.args.seats r.1.items) c.share.ensures.new
+    (λ r new. all_new g.D.Disk r.0.logs c.args.seats r.1.items new.1 (sym r.1.ok.0 ∙ new.0))
 
 pub returns-in-Ok-open_files-clause-want : goal.returns-in-Ok-open_files-clause-want
 returns-in-Ok-open_files-clause-want g c =

@@ -4,7 +4,7 @@ use Rattle.patch_log.specs.State.{LogView}
 use Rattle.turn_cell.specs.Turns.{AllOf}
 use Rattle.turn_cell.specs.Sights.{Made}
 use Rattle.turn_cell.proofs.PassLists.{all_front}
-use Rattle.shared_log.specs.Passes.{LogSight}
+use Rattle.shared_log.specs.History.{LogSight}
 use Rattle.std.specs.List.{AllZip}
 use Rattle.turn_cell.proofs.Views.{all_map}
 use Rattle.hall_logs.specs.Files.{IsFresh, IsStill}
@@ -17,7 +17,7 @@ use Rattle.hall_logs.proofs.logs.HallLogs.share.Goals as goal
 pub loop-log-init : goal.loop-log-init
 loop-log-init g c =
     let r = c.requires in record {
-      sharing = shares_none g.D.Disk.mark c.args.self c.args.opened.items c.args.passes.items r.none r.passes.1 (omega (arith, r.passes.0, c.args.passes.ok.0));
+      sharing = shares_none g.D.Disk c.args.self c.args.opened.items c.args.passes.items r.none r.passes.1 (omega (arith, r.passes.0, c.args.passes.ok.0));
       seats = refl;
       left = omega (arith, ap length r.none);
       fresh = r.fresh;
@@ -30,7 +30,7 @@ add-requires-clause-fresh g c =
     (all_front (IsFresh g.D.Disk) c.pop.new.self.items c.in-Some.log (subst (AllOf (IsFresh g.D.Disk)) c.in-Some.ensures.items c.loop-log.invariant.fresh)).1
 
 pub add-requires-clause-parts : goal.add-requires-clause-parts
-add-requires-clause-parts g c = lengths_new g.D.Disk.mark c.loop-log.hall.logs 1 c.loop-log.passes.items c.loop-log.invariant.sharing.new
+add-requires-clause-parts g c = lengths_new g.D.Disk c.loop-log.hall.logs 1 c.loop-log.passes.items c.loop-log.invariant.sharing.new
 
 pub give_up-requires-clause-settled : goal.give_up-requires-clause-settled
 give_up-requires-clause-settled g c =
@@ -38,13 +38,13 @@ give_up-requires-clause-settled g c =
     let origins = l.invariant.sharing.order in
     let none = all_map (IsFresh g.D.Disk) (λ (log : LogView g.row.D.Denot). log.doubt ≡ None) (λ log fresh. fresh.1) (reverse c.args.opened.items) (all_reverse (IsFresh g.D.Disk) c.args.opened.items c.requires.fresh) in
     subst (λ (h : LogsOfHall g.row.D.Denot). AllOf (λ (log : Made (LogView g.row.D.Denot)). log.origin.doubt ≡ None) h.logs) (sym c.in-Err.ensures.err.1)
-    (settled g.D.Disk.mark l.hall.logs (reverse l.opened.items) (reverse c.args.opened.items) origins none)
+    (settled g.D.Disk l.hall.logs (reverse l.opened.items) (reverse c.args.opened.items) origins none)
 
 pub give_up-requires-clause-passes : goal.give_up-requires-clause-passes
 give_up-requires-clause-passes g c =
     let l = c.loop-log in
     let e = c.in-Err.ensures.err in
-    let new = subst (λ (z : LogsOfHall g.row.D.Denot × List (List LogSight)). AreNew g.D.Disk.mark z.0.logs 1 z.1) (λ i. (sym e.1 i, sym e.2 i)) l.invariant.sharing.new in
+    let new = subst (λ (z : LogsOfHall g.row.D.Denot × List (List LogSight)). AreNew g.D.Disk z.0.logs 1 z.1) (λ i. (sym e.1 i, sym e.2 i)) l.invariant.sharing.new in
     (new, omega (arith, c.add.ensures.count, l.passes.ok.0, l.invariant.sharing.count, ap (λ (h : LogsOfHall g.row.D.Denot). h.seats) e.1))
 
 pub returns-in-Err-clause-still : goal.returns-in-Err-clause-still
@@ -62,7 +62,7 @@ loop-log-preserved g c =
     let l = c.loop-log in
     let rest : List (LogView g.row.D.Denot) = c.pop.new.self.items in
     let one = c.in-Ok.ensures.ok in record {
-      sharing = shares_one g.D.Disk.mark (reverse c.args.opened.items) l.hall c.add.new.self l.opened.items rest c.in-Some.log l.passes.items c.add.new.passes.items c.in-Some.ensures.items l.invariant.sharing one;
+      sharing = shares_one g.D.Disk (reverse c.args.opened.items) l.hall c.add.new.self l.opened.items rest c.in-Some.log l.passes.items c.add.new.passes.items c.in-Some.ensures.items l.invariant.sharing one;
       seats = one.seats_are ∙ l.invariant.seats;
       left = omega (arith, l.invariant.left, c.in-Some.ensures.cases, ap length one.logs_are, length-append l.hall.logs (one.log ∷ []));
       fresh = (all_front (IsFresh g.D.Disk) rest c.in-Some.log (subst (AllOf (IsFresh g.D.Disk)) c.in-Some.ensures.items l.invariant.fresh)).0;

@@ -7,7 +7,7 @@ use Rattle.hall_logs.proofs.logs.HallLogs.share.Given as goal
 
 abbrev pub invariant-loop-log : goal.invariant-loop-log
 invariant-loop-log g l = record {
-  sharing : Sharing g.D.Disk.mark (reverse l.fn.opened.items) l.hall l.opened.items l.passes.items;
+  sharing : Sharing g.D.Disk (reverse l.fn.opened.items) l.hall l.opened.items l.passes.items;
   seats : l.hall.seats ≡ l.fn.self.seats;
   left : length l.hall.logs + vec_len l.opened ≡ vec_len l.fn.opened;
   fresh : AllOf (IsFresh g.D.Disk) l.opened.items;
