@@ -3,7 +3,6 @@ use Rattle.std.specs.Prelude.{◌≡◌, ◌≢◌, ◌⊎◌, ℕ, ◌+◌, ◌
 use Rattle.std.specs.Prelude.{Ok, Err, List, ◌∷◌, ◌++◌, [], length, drop, Vec}
 use Rattle.std.specs.declared.alloc.Global.{Global}
 use Rattle.log_base.specs.Journals.{payloads_length}
-use Rattle.delta_base.specs.Outside.{Rose}
 use Rattle.log_journal.specs.File.{front, header, block, Holds, AreSized}
 use Rattle.log_journal.specs.File.{BreaksOff, HasNoHeader, HasHeader, Damage}
 use Rattle.log_journal.specs.declared.fault.JournalFault.{JournalFault}
@@ -81,28 +80,6 @@ pub record IsRead (file : List ℕ) (number : ℕ) (payloads : List (List ℕ)) 
   pub place : gate ≡ length (front number payloads)
   pub sized : AreSized payloads
 
--- the disk's count of faults rose where this is a fault of the disk, and else is as it was
-abbrev pub CountsFor : JournalFault → ℕ → ℕ → Type 0
-CountsFor Failed before after = Rose before after
-CountsFor (Damaged at) before after = after ≡ before
-CountsFor (WrongNumber found) before after = after ≡ before
-CountsFor (OverLimit length limit) before after = after ≡ before
-CountsFor OutOfMemory before after = after ≡ before
-
--- reading counts a fault where the disk failed, and else none
-abbrev pub CountsReading : {T : Type 0} → Result T JournalFault → ℕ → ℕ → Type 0
-CountsReading (Ok done) before after = after ≡ before
-CountsReading (Err fault) before after = CountsFor fault before after
-
--- a disk whose failures are planned found no memory where this is a fault of the disk
-abbrev pub ShortFor : JournalFault → Bool → Bool → Type 0
-ShortFor Failed before after = IsTrue after
-ShortFor (Damaged at) before after = after ≡ before
-ShortFor (WrongNumber found) before after = after ≡ before
-ShortFor (OverLimit length limit) before after = after ≡ before
-ShortFor OutOfMemory before after = after ≡ before
-
--- of reading no failure is planned: it fails at the disk for want of memory alone
-abbrev pub ShortReading : {T : Type 0} → Result T JournalFault → Bool → Bool → Type 0
-ShortReading (Ok done) before after = after ≡ before
-ShortReading (Err fault) before after = ShortFor fault before after
+-- of reading no failure is planned: where it fails at the disk, that is for want of memory
+abbrev pub ShortWhere : Type 0 → Bool → Bool → Type 0
+ShortWhere failed before after = (failed → IsTrue after) × ((failed → ⊥) → after ≡ before)

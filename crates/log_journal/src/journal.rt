@@ -6,15 +6,15 @@ ghost use Rattle.std.specs.Prelude.{IsErr, IsErrOf, IfOk, IfErr, IsOk, is_ok, if
 ghost use Rattle.log_base.specs.declared.limits.TheConstants.{EMPTY_JOURNAL, PAYLOAD_FRAME};
 ghost use Rattle.log_base.specs.Journals.{payloads_length};
 ghost use Rattle.delta_base.specs.Outside.{Rose};
-ghost use Rattle.disk_model.specs.Past.{reads, synced, ok_syncs, synced_bytes, filled};
+ghost use Rattle.disk_model.specs.Past.{reads, ok_syncs, synced_bytes, filled};
 ghost use Rattle.disk_model.specs.Calls.{WroteSome};
 ghost use Rattle.log_journal.specs.File.{Holds, file_of};
 ghost use Rattle.log_journal.specs.Journal.{HoldsWithOrWithout};
-ghost use Rattle.log_journal.specs.Reading.{HasFault, CountsReading, ShortReading};
+ghost use Rattle.log_journal.specs.Reading.{HasFault};
 
 use crate::block::Block;
 use crate::fault::{FormatFault, JournalFault};
-use crate::open::{Payloads, format, read_payloads};
+use crate::open::{Payloads, format, read_journal};
 use crate::receiver::Receiver;
 use crate::synced_writes::write_synced;
 use delta_base::{Failed, Listing};
@@ -63,42 +63,6 @@ pub struct OpenRefusal<D: Disk> {
 pub struct StartRefusal<D: Disk> {
     pub disk: D,
     pub fault: FormatFault,
-}
-
-// Hands on the payloads of the journal on a disk, and answers its length.
-fn read_journal<D: Disk, R: Receiver>(
-    alloc: Global,
-    disk: &mut D,
-    number: u32,
-    limit: u64,
-    receiver: &mut R,
-) -> Result<u64, JournalFault>
-    requires { R.received receiver.old [] receiver.old }
-    ensures received { IfOk result (λ length. (payloads : List (List ℕ))
-        × R.received receiver.old payloads receiver.new × (length ≡ payloads_length payloads)
-        × (D.tells → Holds (reads (D.past disk.old)) number payloads)) }
-    ensures fault { D.tells → IfErr result (HasFault (reads (D.past disk.old)) number limit) }
-    ensures few { D.tells
-        → IfOk result (λ length. D.read_bytes disk.new ≤ D.read_bytes disk.old + length) }
-    ensures within { IfOk result (λ length. (EMPTY_JOURNAL ≤ length) × (length ≤ limit)) }
-    ensures synced { D.tells → OnOk result (D.past disk.new ≡ synced (D.past disk.old)) }
-    ensures past { D.tells → (D.past disk.new ≡ D.past disk.old)
-        ⊎ (D.past disk.new ≡ synced (D.past disk.old)) }
-    ensures cause { IsErrOf result JournalFault.Failed
-        → Rose (D.faults disk.old) (D.faults disk.new) }
-    ensures faults { D.faults disk.old ≤ D.faults disk.new }
-    ensures counts { CountsReading result (D.faults disk.old) (D.faults disk.new) }
-    ensures long { D.plans → OnOk result (D.short disk.new ≡ D.short disk.old) }
-    ensures planned { D.plans → D.next_failure disk.old ≡ None
-        → ShortReading result (D.short disk.old) (D.short disk.new) }
-    ensures mark { D.mark disk.new ≡ D.mark disk.old }
-{
-    disk.sync()?;
-    let length = read_payloads(alloc, disk, number, receiver)?;
-    if limit < length {
-        return Err(JournalFault::OverLimit { length, limit });
-    }
-    Ok(length)
 }
 
 impl<D: Disk> Journal<D> {

@@ -1,14 +1,14 @@
 //! Reads a journal's file: the header, and then payload by payload up to a gate that is shut.
 ghost use Rattle.std.specs.Prelude.{◌≡◌, ◌+◌, ◌^◌, ◌<◌, ◌≤◌, ◌↔◌, length, take};
 ghost use Rattle.std.specs.Prelude.{drop, IsTrue, not, IfOk, IfErr, IfSome};
-ghost use Rattle.std.specs.Prelude.{IfNone, OnOk, IsErrOf, is_some, if◌then◌else◌};
+ghost use Rattle.std.specs.Prelude.{IfNone, OnOk, IsErr, IsErrOf, is_some, if◌then◌else◌};
 ghost use Rattle.log_base.specs.declared.limits.TheConstants.{EMPTY_JOURNAL, PAYLOAD_FRAME};
-ghost use Rattle.delta_base.specs.Outside.{CountsFault, HasCause, Rose};
 ghost use Rattle.disk_model.specs.Past.{reads};
 ghost use Rattle.disk_model.specs.Calls.{KeepsPlan};
 ghost use Rattle.std.specs.Int.{w32, to_be_bytes};
 ghost use Rattle.log_journal.specs.Reading.{ReadsHeader, ReadsStart, ReadsPayload};
-ghost use Rattle.log_journal.specs.Reading.{HasByte, CountsReading, ShortReading};
+ghost use Rattle.log_journal.specs.Reading.{HasByte, ShortWhere};
+ghost use Rattle.log_journal.specs.Written.{DiskWent};
 
 use crate::fault::JournalFault;
 use delta_base::Failed;
@@ -26,12 +26,10 @@ fn fetch<D: Disk>(disk: &mut D, file_length: u64, at: u64, into: &mut [u8]) -> R
         → IfOk result (λ whole. IsTrue (not whole)
         → length (reads (D.past disk.old)) < at + length into.old) }
     ensures past { D.past disk.new ≡ D.past disk.old }
-    ensures cause { HasCause (D.faults disk.old) (D.faults disk.new) result }
-    ensures counts { CountsFault (D.faults disk.old) (D.faults disk.new) result }
+    ensures went { DiskWent D.Disk (IsErr result) disk.old disk.new }
     ensures planned { D.plans → KeepsPlan (D.short disk.old) (D.short disk.new)
         (D.next_failure disk.old) (D.next_failure disk.new) result }
     ensures few { D.tells → D.read_bytes disk.new ≤ D.read_bytes disk.old + length into.old }
-    ensures mark { D.mark disk.new ≡ D.mark disk.old }
 {
     if file_length < at || file_length - at < into.len() as u64 {
         return Ok(false);
@@ -51,12 +49,10 @@ fn fetch_size<D: Disk>(disk: &mut D, file_length: u64, at: u64) -> Result<Option
     ensures short { D.tells
         → IfOk result (λ found. IfNone found (length (reads (D.past disk.old)) < at + 4)) }
     ensures past { D.past disk.new ≡ D.past disk.old }
-    ensures cause { HasCause (D.faults disk.old) (D.faults disk.new) result }
-    ensures counts { CountsFault (D.faults disk.old) (D.faults disk.new) result }
+    ensures went { DiskWent D.Disk (IsErr result) disk.old disk.new }
     ensures planned { D.plans → KeepsPlan (D.short disk.old) (D.short disk.new)
         (D.next_failure disk.old) (D.next_failure disk.new) result }
     ensures few { D.tells → D.read_bytes disk.new ≤ D.read_bytes disk.old + 4 }
-    ensures mark { D.mark disk.new ≡ D.mark disk.old }
 {
     let mut bytes = [0u8; 4];
     if !fetch(disk, file_length, at, &mut bytes)? {
@@ -87,14 +83,11 @@ pub fn read_start<D: Disk>(disk: &mut D, file_length: u64, number: u32) -> Resul
     ensures found { D.tells → ReadsStart (reads (D.past disk.old)) number result }
     ensures within { OnOk result (8 < file_length) }
     ensures past { D.past disk.new ≡ D.past disk.old }
-    ensures cause { IsErrOf result JournalFault.Failed
-        → Rose (D.faults disk.old) (D.faults disk.new) }
-    ensures faults { D.faults disk.old ≤ D.faults disk.new }
-    ensures counts { CountsReading result (D.faults disk.old) (D.faults disk.new) }
-    ensures planned { D.plans → ShortReading result (D.short disk.old) (D.short disk.new) }
+    ensures went { DiskWent D.Disk (IsErrOf result JournalFault.Failed) disk.old disk.new }
+    ensures planned { D.plans → ShortWhere (IsErrOf result JournalFault.Failed)
+        (D.short disk.old) (D.short disk.new) }
     ensures few { D.tells
         → OnOk result (D.read_bytes disk.new ≤ D.read_bytes disk.old + EMPTY_JOURNAL) }
-    ensures mark { D.mark disk.new ≡ D.mark disk.old }
 {
     let mut start = [0u8; 9];
     if fetch(disk, file_length, 0, &mut start)? {
@@ -126,14 +119,11 @@ pub fn read_payload<D: Disk>(
     ensures within { IfOk result (λ found.
         at + PAYLOAD_FRAME + length found.0.items < file_length) }
     ensures past { D.past disk.new ≡ D.past disk.old }
-    ensures cause { IsErrOf result JournalFault.Failed
-        → Rose (D.faults disk.old) (D.faults disk.new) }
-    ensures faults { D.faults disk.old ≤ D.faults disk.new }
-    ensures counts { CountsReading result (D.faults disk.old) (D.faults disk.new) }
-    ensures planned { D.plans → ShortReading result (D.short disk.old) (D.short disk.new) }
+    ensures went { DiskWent D.Disk (IsErrOf result JournalFault.Failed) disk.old disk.new }
+    ensures planned { D.plans → ShortWhere (IsErrOf result JournalFault.Failed)
+        (D.short disk.old) (D.short disk.new) }
     ensures few { D.tells → IfOk result (λ found.
         D.read_bytes disk.new ≤ D.read_bytes disk.old + PAYLOAD_FRAME + length found.0.items) }
-    ensures mark { D.mark disk.new ≡ D.mark disk.old }
 {
     let Some(size) = fetch_size(disk, file_length, at + 1)? else {
         return Err(JournalFault::Damaged { at: at + 1 });

@@ -25,14 +25,13 @@ loop-gate-init g c =
       read = λ told. none_read file c.args.number (subst (λ p. reads p ≡ header c.args.number ++ drop 8 (reads p)) c.len.ensures.past (c.in_ok-gate.ensures.found told).1);
       stands = λ told. subst (λ p. HasByte (reads p) 8 c.in_ok-gate.gate) c.len.ensures.past (c.in_ok-gate.ensures.found told).2;
       file_length = c.in_ok-file_length.ensures.length;
-      faults = omega (arith, c.len.ensures.cause.never_falls, c.read_start.ensures.faults);
-      counts = c.in_ok-gate.ensures.counts ∙ c.in_ok-file_length.ensures.faults.well refl;
-      planned = λ plans. c.in_ok-gate.ensures.planned plans ∙ ((c.in_ok-file_length.ensures.planned plans).well refl).0;
+      counts = c.in_ok-gate.ensures.went.well (λ no. cc) ∙ c.in_ok-file_length.ensures.faults.well refl;
+      planned = λ plans. (c.in_ok-gate.ensures.planned plans).1 (λ no. cc) ∙ ((c.in_ok-file_length.ensures.planned plans).well refl).0;
       behind = omega arith;
       within = c.in_ok-gate.ensures.within;
       length_is = refl {a = 9};
       few = λ told. omega (arith, c.len.ensures.read_bytes, c.in_ok-gate.ensures.few told);
-      mark = c.read_start.ensures.mark ∙ c.len.ensures.mark;
+      mark = c.read_start.ensures.went.mark ∙ c.len.ensures.mark;
     }
 
 pub loop-gate-preserved : goal.loop-gate-preserved
@@ -54,12 +53,11 @@ loop-gate-preserved g c =
           let found : HasByte file (place + 5 + length payload) c.in_ok-payload.next = subst (λ p. HasByte (reads p) (place + 5 + length payload) c.in_ok-payload.next) c.loop-gate.invariant.past (c.in_ok-payload.ensures.found told).1 in
           subst (λ (n : ℕ). HasByte file n c.in_ok-payload.next) (omega (arith, size)) found;
       file_length = c.loop-gate.invariant.file_length;
-      faults = omega (arith, c.read_payload.ensures.faults, c.loop-gate.invariant.faults);
-      counts = c.in_ok-payload.ensures.counts ∙ c.loop-gate.invariant.counts;
-      planned = λ plans. c.in_ok-payload.ensures.planned plans ∙ c.loop-gate.invariant.planned plans;
+      counts = c.in_ok-payload.ensures.went.well (λ no. cc) ∙ c.loop-gate.invariant.counts;
+      planned = λ plans. (c.in_ok-payload.ensures.planned plans).1 (λ no. cc) ∙ c.loop-gate.invariant.planned plans;
       behind = omega (arith, c.loop-gate.invariant.behind);
       within = omega (arith, c.in_ok-payload.ensures.within, size);
       length_is = length_more place c.len-in-loop-gate.result before payloads payload c.loop-gate.invariant.length_is refl size;
       few = λ told. omega (arith, c.in_ok-payload.ensures.few told, c.loop-gate.invariant.few told, size);
-      mark = c.read_payload.ensures.mark ∙ c.loop-gate.invariant.mark;
+      mark = c.read_payload.ensures.went.mark ∙ c.loop-gate.invariant.mark;
     }
