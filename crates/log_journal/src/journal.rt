@@ -5,7 +5,6 @@ ghost use Rattle.std.specs.Prelude.{◌++◌, [], ◌∷◌, List, length, IsTru
 ghost use Rattle.std.specs.Prelude.{IsErr, IsErrOf, IfOk, IfErr, IsOk, is_ok, if◌then◌else◌};
 ghost use Rattle.log_base.specs.declared.limits.TheConstants.{EMPTY_JOURNAL, PAYLOAD_FRAME};
 ghost use Rattle.log_base.specs.Journals.{payloads_length};
-ghost use Rattle.delta_base.specs.Outside.{Rose};
 ghost use Rattle.disk_model.specs.Past.{reads, ok_syncs, synced_bytes, filled};
 ghost use Rattle.disk_model.specs.Calls.{WroteSome};
 ghost use Rattle.log_journal.specs.File.{Holds, file_of};
@@ -164,17 +163,13 @@ impl<D: Disk> Journal<D> {
         ensures err { D.tells
             → IfErr result (λ refusal.
             WroteSome 0 EMPTY_JOURNAL (D.past disk) (D.past refusal.disk)) }
-        ensures cause { IfErr result (λ refusal. refusal.fault ≡ FormatFault.Failed
-            → Rose (D.faults disk) (D.faults refusal.disk)) }
+        ensures went { IfErr result (λ refusal.
+            DiskWent D.Disk (refusal.fault ≡ FormatFault.Failed) disk refusal.disk) }
         ensures faults { IfOk result (λ journal. D.faults (disk_of journal) ≡ D.faults disk) }
-        ensures faults_refused { IfErr result (λ refusal. D.faults disk ≤ D.faults refusal.disk) }
-        ensures faults_found { IfErr result (λ refusal. (found : ℕ)
-            → refusal.fault ≡ FormatFault.NotEmpty found → D.faults refusal.disk ≡ D.faults disk) }
         ensures long { D.plans → IfOk result (λ journal. D.short (disk_of journal) ≡ D.short disk) }
         ensures planned { D.plans → IfErr result (λ refusal. refusal.fault ≡ FormatFault.Failed
             → D.next_failure disk ≡ None → IsTrue (D.short refusal.disk)) }
         ensures mark { IfOk result (λ journal. D.mark (disk_of journal) ≡ D.mark disk) }
-        ensures mark_refused { IfErr result (λ refusal. D.mark refusal.disk ≡ D.mark disk) }
     {
         let mut disk = disk;
         match format(&mut disk, number) {

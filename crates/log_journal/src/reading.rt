@@ -1,7 +1,7 @@
 //! Reads a journal's file: the header, and then payload by payload up to a gate that is shut.
-ghost use Rattle.std.specs.Prelude.{◌≡◌, ◌+◌, ◌^◌, ◌<◌, ◌≤◌, ◌↔◌, length, take};
-ghost use Rattle.std.specs.Prelude.{drop, IsTrue, not, IfOk, IfErr, IfSome};
-ghost use Rattle.std.specs.Prelude.{IfNone, OnOk, IsErr, IsErrOf, is_some, if◌then◌else◌};
+ghost use Rattle.std.specs.Prelude.{◌≡◌, ◌+◌, ◌^◌, ◌<◌, ◌≤◌, length, take};
+ghost use Rattle.std.specs.Prelude.{drop, IsTrue, not, IfOk, IfSome};
+ghost use Rattle.std.specs.Prelude.{IfNone, OnOk, IsErr, IsErrOf};
 ghost use Rattle.log_base.specs.declared.limits.TheConstants.{EMPTY_JOURNAL, PAYLOAD_FRAME};
 ghost use Rattle.disk_model.specs.Past.{reads};
 ghost use Rattle.disk_model.specs.Calls.{KeepsPlan};
