@@ -38,28 +38,10 @@ of_shelf shelf.OutOfMemory = check.OutOfMemory
 -- The registry's file has this fault, and none that comes before it. That a call failed, and want
 -- of memory, are free.
 abbrev pub HasRegistryFileFault : List ℕ → CheckFault → Type 0
-HasRegistryFileFault file (check.Damaged number at) =
-    (number ≡ 0) × HasRegistryFault file (registry.Damaged at)
-HasRegistryFileFault file (check.WrongNumber number found) =
-    (number ≡ 0) × HasRegistryFault file (registry.WrongNumber found)
-HasRegistryFileFault file (check.OverLimit number length limit) =
-    (number ≡ 0) × HasRegistryFault file (registry.OverLimit length limit)
-HasRegistryFileFault file (check.BrokenChain number version) = ⊥
-HasRegistryFileFault file (check.BrokenEvent place) =
-    HasRegistryFault file (registry.BrokenEvent place)
-HasRegistryFileFault file check.Failed = Unit {0}
-HasRegistryFileFault file check.OutOfMemory = Unit {0}
+HasRegistryFileFault file fault = (why : RegistryFault)
+    × (fault ≡ check_fault_of_registry why) × HasRegistryFault file why
 
 -- a log's file has this fault, and none that comes before it
 abbrev pub HasFileFault : List ℕ → ℕ → CheckFault → Type 0
-HasFileFault file number (check.Damaged at_file at) =
-    (at_file ≡ number) × HasLogFault file number LOG_LIMITS (log.Damaged at)
-HasFileFault file number (check.WrongNumber at_file found) =
-    (at_file ≡ number) × HasLogFault file number LOG_LIMITS (log.WrongNumber found)
-HasFileFault file number (check.OverLimit at_file length limit) =
-    (at_file ≡ number) × HasLogFault file number LOG_LIMITS (log.OverLimit length limit)
-HasFileFault file number (check.BrokenChain at_file version) =
-    (at_file ≡ number) × HasLogFault file number LOG_LIMITS (log.BrokenChain version)
-HasFileFault file number (check.BrokenEvent place) = ⊥
-HasFileFault file number check.Failed = Unit {0}
-HasFileFault file number check.OutOfMemory = Unit {0}
+HasFileFault file number fault = (why : LogFault)
+    × (fault ≡ check_fault_of_log number why) × HasLogFault file number LOG_LIMITS why

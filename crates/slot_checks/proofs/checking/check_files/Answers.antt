@@ -1,4 +1,5 @@
 use Rattle.std.proofs.Common.{◌+◌, refl}
+use Rattle.log_registry.specs.declared.fault.RegistryFault.TheVariants as registry
 use Rattle.slot_checks.specs.declared.fault.CheckFault.TheVariants.{OutOfMemory}
 use Rattle.slot_checks.specs.Checks.{CheckStops, at_registry}
 use Rattle.slot_checks.proofs.Steps.{has_same, visit_kept, all_kept, stops_behind, kept_behind, told_err}
@@ -38,7 +39,7 @@ returns-in_err-push-clause-fault g c told =
     let old = g.H.Shelf.files c.args.shelf.now in
     let mid = g.H.Shelf.files c.check_registry.new.shelf in
     let dir = c.args.dir.now in
-    told_err (CheckStops dir old mid) c.from_residual-in_err-push.result OutOfMemory c.from_residual-in_err-push.ensures.1 (record { file = 0; stops = at_registry refl tt; kept = visit_kept dir 0 old old mid (all_kept dir 0 old) (c.check_registry.ensures.kept told) (c.check_registry.ensures.others told) })
+    told_err (CheckStops dir old mid) c.from_residual-in_err-push.result OutOfMemory c.from_residual-in_err-push.ensures.1 (record { file = 0; stops = at_registry refl (registry.OutOfMemory, refl, tt); kept = visit_kept dir 0 old old mid (all_kept dir 0 old) (c.check_registry.ensures.kept told) (c.check_registry.ensures.others told) })
 
 pub returns-in_err-add_logs-clause-fault : goal.returns-in_err-add_logs-clause-fault
 returns-in_err-add_logs-clause-fault g c told =
