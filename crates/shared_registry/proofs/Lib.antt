@@ -2,3 +2,4 @@ mod Histories
 mod Calling
 mod Asking
 mod Adding
+mod OnDisk

@@ -1,6 +1,6 @@
 -- Two events are the same or they aren't.
 use Rattle.std.specs.Prelude.{◌≡◌, ◌≢◌, ◌⊎◌}
-use Rattle.std.proofs.Common.{inl, inr, ap, refl, ⊎_elim}
+use Rattle.std.proofs.Common.{inl, inr, ap, ⊎_elim}
 use mathlib.Core.Logic.{dite}
 use native.Mathlib.Decide.{ℕ_discrete}
 use Rattle.log_base.specs.Apart.{texts_apart}

@@ -9,8 +9,7 @@ use Rattle.registry_core.specs.Replies.{RegistryCall, RegistryReply, registry_re
 use Rattle.registry_core.specs.Replies.{ending}
 use Rattle.registry_core.specs.Replies.{MakesEvent, ShowsName}
 use Rattle.turn_cell.specs.Knowing.{SeesOn, IsQuiet, Brought, mine_of, failed_of, own_faults_of}
-use Rattle.shared_registry.specs.History.{known_events}
-use Rattle.shared_registry.specs.Passes.{RegistrySight, events_seen}
+use Rattle.shared_registry.specs.History.{RegistrySight, known_events, events_seen}
 
 -- the event may be left as a doubt
 abbrev pub MayLeaveEvent : Event → RegistrySight → RegistrySight → Type 0

@@ -1,72 +1,78 @@
 -- Many calls of one pass on a registry, and what they come to together.
-use Rattle.std.specs.Prelude.{◌≡◌, ℕ, ◌+◌, ◌≤◌, List, [], ◌∷◌, ◌++◌, length, Option, Some, None}
-use mathlib.Core.List.{IsPrefix}
-use Rattle.delta_base.specs.Outside.{RoseBy}
+use Rattle.std.specs.Prelude.{◌≡◌, ◌⊎◌, ℕ, List, [], ◌∷◌, Bool, true, false, Option, Some, None}
+use Rattle.registry_core.specs.declared.answer.CreateAnswer.TheVariants.{DiskFault}
+use Rattle.registry_core.specs.declared.answer.ChangeAnswer.TheVariants.{DiskFault as Fails}
 use Rattle.registry_core.specs.declared.event.Event.{Event}
 use Rattle.registry_core.specs.Answers.{Ending, made, told, failed, wanting}
-use Rattle.registry_core.specs.Replies.{RegistryCall, RegistryReply, ending}
-use Rattle.turn_cell.specs.Knowing.{IsSame, Wants, seen_of, mine_of}
-use Rattle.turn_cell.specs.Knowing.{failed_of, own_faults_of, looks_of}
-use Rattle.shared_registry.specs.Passes.{RegistrySight}
+use Rattle.registry_core.specs.Replies.{RegistryCall, create, rename, remove, resolve, resolve_id}
+use Rattle.registry_core.specs.Replies.{resolve_uri, list, RegistryReply, answered, changed}
+use Rattle.registry_core.specs.Replies.{ending, event_by}
+use Rattle.turn_cell.specs.Knowing.{Brought}
+use Rattle.turn_cell.specs.Calls.{CallMade, IsReplied, IsCalled, AreCalled, AddsUp}
+use Rattle.shared_registry.specs.History.{RegistrySight, events_seen}
 use Rattle.shared_registry.specs.Legal.{LegalOnRegistry}
 
--- a call with its reply, or without one where memory ran out
-pub record RegistryLookup : Type 0 where
-  pub call : RegistryCall
-  pub reply : Option RegistryReply
+-- a call with its reply or without one, the places of its events, and what it left in doubt
+abbrev pub RegistryLookup : Type 0
+RegistryLookup = CallMade RegistryCall RegistryReply Event
 
-abbrev pub IsLookupReply : ℕ → RegistrySight → RegistryCall → Option RegistryReply
-    → RegistrySight → Type 0
-IsLookupReply slots p call (Some reply) q = LegalOnRegistry slots p call reply q
-IsLookupReply slots p call None q = Wants p q
+-- a look-up goes without a reply where memory runs out; the other calls have an answer for that
+abbrev pub MayWantNames : RegistryCall → Type 0
+MayWantNames (create name uri id) = ⊥
+MayWantNames (rename name new_name) = ⊥
+MayWantNames (remove name) = ⊥
+MayWantNames (resolve name) = Unit {0}
+MayWantNames (resolve_id id) = Unit {0}
+MayWantNames (resolve_uri uri) = Unit {0}
+MayWantNames list = Unit {0}
+
+abbrev pub IsLookupReply :
+    ℕ → RegistrySight → RegistryCall → Option RegistryReply → RegistrySight → Type 0
+IsLookupReply slots p call reply q = IsReplied (LegalOnRegistry slots) MayWantNames p call reply q
 
 -- one legal call
 abbrev pub IsLookup : ℕ → RegistrySight → RegistryLookup → RegistrySight → Type 0
-IsLookup slots p asked q = IsLookupReply slots p asked.call asked.reply q
+IsLookup slots p asked q = IsCalled (LegalOnRegistry slots) MayWantNames p asked q
 
 -- legal calls one after another
 abbrev pub AreLookups : ℕ → RegistrySight → List RegistryLookup → RegistrySight → Type 0
-AreLookups slots p [] q = q ≡ p
-AreLookups slots p (asked ∷ more) q =
-    (next : RegistrySight) × IsLookup slots p asked next × AreLookups slots next more q
+AreLookups slots p asked q = AreCalled (LegalOnRegistry slots) MayWantNames p asked q
 
--- how many events a call that ended so has made, and of how many events the disk failed the writing
-abbrev pub made_by : Ending → ℕ
-made_by (made event) = 1
-made_by told = 0
-made_by failed = 0
-made_by wanting = 0
+-- the disk failed it
+abbrev pub is_registry_fault : RegistryReply → Bool
+is_registry_fault (answered DiskFault) = true
+is_registry_fault (changed Fails) = true
+is_registry_fault reply = false
 
-abbrev pub faulted_by : Ending → ℕ
-faulted_by (made event) = 0
-faulted_by told = 0
-faulted_by failed = 1
-faulted_by wanting = 0
+-- what calls come to: see `AddsUp`
+abbrev pub RegistryAddsUp : RegistrySight → List RegistryLookup → RegistrySight → Type 0
+RegistryAddsUp p asked q = AddsUp is_registry_fault p asked q
 
 abbrev pub ending_of : RegistryCall → Option RegistryReply → Ending
 ending_of call (Some reply) = ending call reply
 ending_of call None = wanting
 
--- how many events these calls have made
-abbrev pub events_made : List RegistryLookup → ℕ
-events_made [] = 0
-events_made (asked ∷ more) = made_by (ending_of asked.call asked.reply) + events_made more
+-- the event that was due came to be a doubt, or nothing did
+abbrev pub DoubtsDue : Option Event → List Event → Type 0
+DoubtsDue due doubted =
+    (doubted ≡ []) ⊎ ((event : Event) × (due ≡ Some event) × (doubted ≡ event ∷ []))
 
--- how many of them met a fault of the disk
-abbrev pub events_faulted : List RegistryLookup → ℕ
-events_faulted [] = 0
-events_faulted (asked ∷ more) = faulted_by (ending_of asked.call asked.reply) + events_faulted more
+-- What a call brought and what it left in doubt, by how it ended and by the event that was due. An
+-- event that was made has one place, at which the pass sees it with its own number.
+abbrev pub EndsWith : Ending → Option Event → List ℕ → List Event → RegistrySight → RegistrySight
+    → Type 0
+EndsWith (made event) due brought doubted p q =
+    (place : ℕ) × Brought event place p q × (brought ≡ place ∷ []) × (doubted ≡ [])
+EndsWith told due brought doubted p q = (brought ≡ []) × (doubted ≡ [])
+EndsWith failed due brought doubted p q = (brought ≡ []) × DoubtsDue due doubted
+EndsWith wanting due brought doubted p q = (brought ≡ []) × (doubted ≡ [])
 
--- It is the same pass, and knows all that it knew. It has looked once for each call at least; its
--- own places grew by as many as made an event; no more came as failed than met a fault of the disk,
--- and its own faults rose by as many as did.
-pub record RegistryAddsUp (p : RegistrySight) (asked : List RegistryLookup)
-    (q : RegistrySight) : Type 0 where
-  pub same : IsSame p q
-  pub seen : IsPrefix (seen_of p) (seen_of q)
-  pub looks : looks_of p + length asked ≤ looks_of q
-  pub mine : (new : List ℕ) × (mine_of q ≡ mine_of p ++ new) × (length new ≡ events_made asked)
-  pub failed :
-      (new : List Event) × (failed_of q ≡ failed_of p ++ new) × (length new ≤ events_faulted asked)
-  pub faults : RoseBy (events_faulted asked) (own_faults_of p) (own_faults_of q)
-  pub never_falls : own_faults_of p ≤ own_faults_of q
+-- a legal call is one of these, with what it brought and left in doubt
+pub record GivesLookup (slots : ℕ) (p : RegistrySight) (call : RegistryCall)
+    (reply : Option RegistryReply) (q : RegistrySight) : Type 0 where
+  pub asked : RegistryLookup
+  pub call_is : asked.call ≡ call
+  pub reply_is : asked.reply ≡ reply
+  pub is : IsLookup slots p asked q
+  pub ends : EndsWith (ending_of call reply) (event_by slots call (events_seen q))
+      asked.brought asked.doubted p q

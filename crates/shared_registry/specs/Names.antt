@@ -1,12 +1,11 @@
 -- The sources that a pass keeps, which live after all that it has seen.
-use Rattle.std.specs.Prelude.{◌≡◌, ℕ, List, length, Option, Some, None}
+use Rattle.std.specs.Prelude.{◌≡◌, length, Option, Some, None}
 use Rattle.std.specs.List.{AllByRecursion}
-use Rattle.log_base.specs.declared.source_info.SourceInfo.{SourceInfo}
 use Rattle.registry_core.specs.Sources.{sources, HasSlot}
 use Rattle.turn_cell.specs.Knowing.{seen_of}
 use Rattle.shared_registry.specs.declared.names.Names.{Names}
 use Rattle.shared_registry.specs.declared.value.RegistryFixed.{RegistryFixed}
-use Rattle.shared_registry.specs.Passes.{RegistrySight, events_seen}
+use Rattle.shared_registry.specs.History.{RegistrySight, events_seen}
 
 -- how many entries the pass had seen, and the sources that live after them
 pub record AreNamesOf (names : Names) (p : RegistrySight) : Type 0 where

@@ -9,7 +9,7 @@ mod names;
 mod shared;
 mod value;
 
-pub use laws::{lookups_add_up, lookups_compose};
+pub use laws::{calls_are_lookups, lookups_add_up, lookups_compose, made_is_on_disk};
 pub use names::{Names, RegistryPass};
 pub use shared::SharedRegistry;
 pub use value::{RegistryFixed, RegistryValue};

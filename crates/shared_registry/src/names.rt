@@ -46,7 +46,7 @@ pub struct RegistryPass<D: Disk> {
 
 impl<D: Disk> Model for RegistryPass<D> {
     ghost use Rattle.shared_registry.specs.Names.{KeepsNames};
-    ghost use Rattle.shared_registry.specs.Passes.{RegistrySight};
+    ghost use Rattle.shared_registry.specs.History.{RegistrySight};
 
     ghost Value = { RegistrySight };
 

@@ -1,17 +1,18 @@
 //! A registry that threads share.
-ghost use Rattle.std.specs.Prelude.{◌≡◌, ◌<◌, ◌≤◌, ℕ, ◌+◌, Some, IfOk};
+ghost use Rattle.std.specs.Prelude.{◌≡◌, ◌⊎◌, ◌<◌, ◌≤◌, ℕ, ◌+◌, Some, IfOk};
 ghost use Rattle.std.specs.Prelude.{IfErr, IfSome, OnOk, OnErr, slice_get};
 ghost use Rattle.std.specs.Prelude.{vec_len, vec_capacity};
 ghost use Rattle.std.specs.List.{AllByRecursion};
+ghost use Rattle.log_base.specs.declared.source_info.SourceInfo.{SourceInfo as AnySource};
+ghost use Rattle.registry_core.specs.declared.event.Event.{Event as AnyEvent};
+ghost use Rattle.registry_core.specs.Answers.{end_of_create, end_of_change};
 ghost use Rattle.registry_core.specs.Replies as asked;
 ghost use Rattle.registry_core.specs.Sources.{HasSlot};
-ghost use Rattle.turn_cell.specs.Knowing.{Wants};
-ghost use Rattle.shared_registry.specs.History.{RegistryStandsInTurn};
-ghost use Rattle.shared_registry.specs.Passes.{IsRegistryPassOf, IsNewRegistryPassOf};
-ghost use Rattle.shared_registry.specs.Passes.{AreAllRegistryPassesOf};
-ghost use Rattle.shared_registry.specs.Passes.{IsClosedRegistryOf};
-ghost use Rattle.shared_registry.specs.Calling.{CallsInTurn};
-ghost use Rattle.shared_registry.specs.Legal.{LegalOnRegistry};
+ghost use Rattle.turn_cell.specs.Knowing.{Wants, seen_of};
+ghost use Rattle.turn_cell.specs.Sharing.{IsPassOf, IsNewPassOf, AreAllPassesOf, IsClosedOf};
+ghost use Rattle.turn_cell.specs.Sharing.{FoundInTurn};
+ghost use Rattle.shared_registry.specs.History.{shared_registry};
+ghost use Rattle.shared_registry.specs.Stays.{CalledOnRegistry, reaches_disk};
 ghost use Rattle.shared_registry.specs.Names.{KeepsNames, HasNames};
 
 use crate::names::{Names, RegistryPass, counts, living_in};
@@ -25,6 +26,21 @@ use std::alloc::Global;
 use std::marker::Model;
 use std::sync::Wait;
 use turn_cell::{Pass, Turn};
+
+// Whether a creation that got this answer reached the disk.
+fn creates(answer: &CreateAnswer) -> bool
+    ensures { result ≡ reaches_disk (end_of_create answer.now) }
+{
+    matches!(answer, CreateAnswer::Made(_) | CreateAnswer::DiskFault)
+}
+
+// Whether a change that got this answer reached the disk.
+fn changes(answer: &ChangeAnswer) -> bool
+    ensures { (made_of : AnySource → AnyEvent)
+        → result ≡ reaches_disk (end_of_change made_of answer.now) }
+{
+    matches!(answer, ChangeAnswer::Done(_) | ChangeAnswer::DiskFault)
+}
 
 /// A registry that threads change and ask, each with a pass of its own.
 #[derive(Drop)]
@@ -59,7 +75,7 @@ impl<D: Disk> SharedRegistry<D> {
         ensures passes { IfOk result (λ r.
             (vec_len r.1 ≡ seats) × (vec_capacity r.1 ≡ seats)) }
         ensures new { IfOk result (λ r. (k : ℕ) (p : _) → slice_get r.1.items k ≡ Some p
-            → IsNewRegistryPassOf D.mark r.0 (k + 1) p) }
+            → IsNewPassOf (shared_registry D.Disk) r.0 (k + 1) p) }
         ensures back { IfErr result (λ b. b.item ≡ state) }
     {
         let slots = state.slots();
@@ -88,13 +104,10 @@ impl<D: Disk> SharedRegistry<D> {
         uri: &Text,
         id: Id,
     ) -> CreateAnswer
-        requires of { IsRegistryPassOf D.mark self.now pass.old }
-        ensures of { IsRegistryPassOf D.mark self.now pass.new }
-        ensures legal { LegalOnRegistry self.now.origin.slots pass.old
-            (asked.create name.now uri.now id)
-            (asked.answered result) pass.new }
-        ensures stay { CallsInTurn D.Disk self.now.origin (asked.create name.now uri.now id)
-            (asked.answered result) pass.old pass.new }
+        requires of { IsPassOf (shared_registry D.Disk) self.now pass.old }
+        ensures of { IsPassOf (shared_registry D.Disk) self.now pass.new }
+        ensures called { CalledOnRegistry D.Disk self.now.origin pass.old
+            (asked.create name.now uri.now id) (asked.answered result) pass.new }
     {
         pass.names = None;
         self.create_by(rt, &mut pass.pass, name, uri, id)
@@ -109,30 +122,16 @@ impl<D: Disk> SharedRegistry<D> {
         uri: &Text,
         id: Id,
     ) -> CreateAnswer
-        requires of { IsRegistryPassOf D.mark self.now pass.old }
-        ensures of { IsRegistryPassOf D.mark self.now pass.new }
-        ensures legal { LegalOnRegistry self.now.origin.slots pass.old
-            (asked.create name.now uri.now id)
-            (asked.answered result) pass.new }
-        ensures stay { CallsInTurn D.Disk self.now.origin (asked.create name.now uri.now id)
-            (asked.answered result) pass.old pass.new }
+        requires of { IsPassOf (shared_registry D.Disk) self.now pass.old }
+        ensures of { IsPassOf (shared_registry D.Disk) self.now pass.new }
+        ensures called { CalledOnRegistry D.Disk self.now.origin pass.old
+            (asked.create name.now uri.now id) (asked.answered result) pass.new }
     {
         let by = pass.number();
         let mut held = self.turn.enter(rt, pass);
-        match held.value_mut().create(name, uri, id, by) {
-            CreateAnswer::Made(source) => {
-                self.turn.leave(pass, held);
-                CreateAnswer::Made(source)
-            }
-            CreateAnswer::DiskFault => {
-                self.turn.leave(pass, held);
-                CreateAnswer::DiskFault
-            }
-            answer => {
-                self.turn.leave_as_found(pass, held);
-                answer
-            }
-        }
+        let answer = held.value_mut().create(name, uri, id, by);
+        self.turn.give_back(pass, held, creates(&answer));
+        answer
     }
 
     /// Gives a source another name, or says why not: no such name, the new name, a source that has
@@ -144,13 +143,10 @@ impl<D: Disk> SharedRegistry<D> {
         name: &Text,
         new_name: &Text,
     ) -> ChangeAnswer
-        requires of { IsRegistryPassOf D.mark self.now pass.old }
-        ensures of { IsRegistryPassOf D.mark self.now pass.new }
-        ensures legal { LegalOnRegistry self.now.origin.slots pass.old
-            (asked.rename name.now new_name.now)
-            (asked.changed result) pass.new }
-        ensures stay { CallsInTurn D.Disk self.now.origin (asked.rename name.now new_name.now)
-            (asked.changed result) pass.old pass.new }
+        requires of { IsPassOf (shared_registry D.Disk) self.now pass.old }
+        ensures of { IsPassOf (shared_registry D.Disk) self.now pass.new }
+        ensures called { CalledOnRegistry D.Disk self.now.origin pass.old
+            (asked.rename name.now new_name.now) (asked.changed result) pass.new }
     {
         pass.names = None;
         self.rename_by(rt, &mut pass.pass, name, new_name)
@@ -164,41 +160,25 @@ impl<D: Disk> SharedRegistry<D> {
         name: &Text,
         new_name: &Text,
     ) -> ChangeAnswer
-        requires of { IsRegistryPassOf D.mark self.now pass.old }
-        ensures of { IsRegistryPassOf D.mark self.now pass.new }
-        ensures legal { LegalOnRegistry self.now.origin.slots pass.old
-            (asked.rename name.now new_name.now)
-            (asked.changed result) pass.new }
-        ensures stay { CallsInTurn D.Disk self.now.origin (asked.rename name.now new_name.now)
-            (asked.changed result) pass.old pass.new }
+        requires of { IsPassOf (shared_registry D.Disk) self.now pass.old }
+        ensures of { IsPassOf (shared_registry D.Disk) self.now pass.new }
+        ensures called { CalledOnRegistry D.Disk self.now.origin pass.old
+            (asked.rename name.now new_name.now) (asked.changed result) pass.new }
     {
         let by = pass.number();
         let mut held = self.turn.enter(rt, pass);
-        match held.value_mut().rename(name, new_name, by) {
-            ChangeAnswer::Done(source) => {
-                self.turn.leave(pass, held);
-                ChangeAnswer::Done(source)
-            }
-            ChangeAnswer::DiskFault => {
-                self.turn.leave(pass, held);
-                ChangeAnswer::DiskFault
-            }
-            answer => {
-                self.turn.leave_as_found(pass, held);
-                answer
-            }
-        }
+        let answer = held.value_mut().rename(name, new_name, by);
+        self.turn.give_back(pass, held, changes(&answer));
+        answer
     }
 
     /// Removes a source, or says why not: no such name, no room, want of memory and a disk fault,
     /// in this order.
     pub fn remove<R: Wait>(&self, rt: &R, pass: &mut RegistryPass<D>, name: &Text) -> ChangeAnswer
-        requires of { IsRegistryPassOf D.mark self.now pass.old }
-        ensures of { IsRegistryPassOf D.mark self.now pass.new }
-        ensures legal { LegalOnRegistry self.now.origin.slots pass.old (asked.remove name.now)
-            (asked.changed result) pass.new }
-        ensures stay { CallsInTurn D.Disk self.now.origin (asked.remove name.now)
-            (asked.changed result) pass.old pass.new }
+        requires of { IsPassOf (shared_registry D.Disk) self.now pass.old }
+        ensures of { IsPassOf (shared_registry D.Disk) self.now pass.new }
+        ensures called { CalledOnRegistry D.Disk self.now.origin pass.old
+            (asked.remove name.now) (asked.changed result) pass.new }
     {
         pass.names = None;
         self.remove_by(rt, &mut pass.pass, name)
@@ -211,29 +191,16 @@ impl<D: Disk> SharedRegistry<D> {
         pass: &mut Pass<RegistryValue<D>>,
         name: &Text,
     ) -> ChangeAnswer
-        requires of { IsRegistryPassOf D.mark self.now pass.old }
-        ensures of { IsRegistryPassOf D.mark self.now pass.new }
-        ensures legal { LegalOnRegistry self.now.origin.slots pass.old (asked.remove name.now)
-            (asked.changed result) pass.new }
-        ensures stay { CallsInTurn D.Disk self.now.origin (asked.remove name.now)
-            (asked.changed result) pass.old pass.new }
+        requires of { IsPassOf (shared_registry D.Disk) self.now pass.old }
+        ensures of { IsPassOf (shared_registry D.Disk) self.now pass.new }
+        ensures called { CalledOnRegistry D.Disk self.now.origin pass.old
+            (asked.remove name.now) (asked.changed result) pass.new }
     {
         let by = pass.number();
         let mut held = self.turn.enter(rt, pass);
-        match held.value_mut().remove(name, by) {
-            ChangeAnswer::Done(source) => {
-                self.turn.leave(pass, held);
-                ChangeAnswer::Done(source)
-            }
-            ChangeAnswer::DiskFault => {
-                self.turn.leave(pass, held);
-                ChangeAnswer::DiskFault
-            }
-            answer => {
-                self.turn.leave_as_found(pass, held);
-                answer
-            }
-        }
+        let answer = held.value_mut().remove(name, by);
+        self.turn.give_back(pass, held, changes(&answer));
+        answer
     }
 
     // Looks the sources up, unless no entry came behind those that the pass has seen.
@@ -243,10 +210,12 @@ impl<D: Disk> SharedRegistry<D> {
         pass: &mut Pass<RegistryValue<D>>,
         names: &mut Option<Names>,
     ) -> Result<(), OutOfMemory>
-        requires of { IsRegistryPassOf D.mark self.now pass.old }
+        requires of { IsPassOf (shared_registry D.Disk) self.now pass.old }
         requires kept { KeepsNames names.old pass.old }
-        ensures of { IsRegistryPassOf D.mark self.now pass.new }
+        ensures of { IsPassOf (shared_registry D.Disk) self.now pass.new }
         ensures looked { Wants pass.old pass.new }
+        ensures stay { FoundInTurn (shared_registry D.Disk) self.now.origin pass.old pass.new
+            ⊎ (seen_of pass.new ≡ seen_of pass.old) }
         ensures kept { KeepsNames names.new pass.new }
         ensures fresh { OnOk result (HasNames names.new pass.new) }
     {
@@ -257,7 +226,7 @@ impl<D: Disk> SharedRegistry<D> {
         *names = None;
         let held = self.turn.enter(rt, pass);
         let found = held.value().names(self.alloc);
-        self.turn.leave_as_found(pass, held);
+        self.turn.give_back(pass, held, false);
         *names = Some(found?);
         Ok(())
     }
@@ -269,9 +238,9 @@ impl<D: Disk> SharedRegistry<D> {
         pass: &mut RegistryPass<D>,
         name: &Text,
     ) -> Result<Option<SourceInfo>, OutOfMemory>
-        requires of { IsRegistryPassOf D.mark self.now pass.old }
-        ensures of { IsRegistryPassOf D.mark self.now pass.new }
-        ensures legal { IfOk result (λ found. LegalOnRegistry self.now.origin.slots pass.old
+        requires of { IsPassOf (shared_registry D.Disk) self.now pass.old }
+        ensures of { IsPassOf (shared_registry D.Disk) self.now pass.new }
+        ensures called { IfOk result (λ found. CalledOnRegistry D.Disk self.now.origin pass.old
             (asked.resolve name.now) (asked.found found) pass.new) }
         ensures slot { IfOk result (λ found.
             IfSome found (HasSlot self.now.origin.slots)) }
@@ -288,9 +257,9 @@ impl<D: Disk> SharedRegistry<D> {
         pass: &mut RegistryPass<D>,
         id: Id,
     ) -> Result<Option<SourceInfo>, OutOfMemory>
-        requires of { IsRegistryPassOf D.mark self.now pass.old }
-        ensures of { IsRegistryPassOf D.mark self.now pass.new }
-        ensures legal { IfOk result (λ found. LegalOnRegistry self.now.origin.slots pass.old
+        requires of { IsPassOf (shared_registry D.Disk) self.now pass.old }
+        ensures of { IsPassOf (shared_registry D.Disk) self.now pass.new }
+        ensures called { IfOk result (λ found. CalledOnRegistry D.Disk self.now.origin pass.old
             (asked.resolve_id id) (asked.found found) pass.new) }
         ensures slot { IfOk result (λ found.
             IfSome found (HasSlot self.now.origin.slots)) }
@@ -307,9 +276,9 @@ impl<D: Disk> SharedRegistry<D> {
         pass: &mut RegistryPass<D>,
         uri: &Text,
     ) -> Result<Option<SourceInfo>, OutOfMemory>
-        requires of { IsRegistryPassOf D.mark self.now pass.old }
-        ensures of { IsRegistryPassOf D.mark self.now pass.new }
-        ensures legal { IfOk result (λ found. LegalOnRegistry self.now.origin.slots pass.old
+        requires of { IsPassOf (shared_registry D.Disk) self.now pass.old }
+        ensures of { IsPassOf (shared_registry D.Disk) self.now pass.new }
+        ensures called { IfOk result (λ found. CalledOnRegistry D.Disk self.now.origin pass.old
             (asked.resolve_uri uri.now) (asked.found found) pass.new) }
         ensures slot { IfOk result (λ found.
             IfSome found (HasSlot self.now.origin.slots)) }
@@ -321,9 +290,9 @@ impl<D: Disk> SharedRegistry<D> {
 
     /// The sources that live, in the order of their names.
     pub fn list<R: Wait>(&self, rt: &R, pass: &mut RegistryPass<D>) -> Result<Sources, OutOfMemory>
-        requires of { IsRegistryPassOf D.mark self.now pass.old }
-        ensures of { IsRegistryPassOf D.mark self.now pass.new }
-        ensures legal { IfOk result (λ found. LegalOnRegistry self.now.origin.slots pass.old
+        requires of { IsPassOf (shared_registry D.Disk) self.now pass.old }
+        ensures of { IsPassOf (shared_registry D.Disk) self.now pass.new }
+        ensures called { IfOk result (λ found. CalledOnRegistry D.Disk self.now.origin pass.old
             asked.list (asked.listed found.items) pass.new) }
         ensures slots { IfOk result (λ found.
             AllByRecursion (HasSlot self.now.origin.slots) found.items) }
@@ -336,9 +305,8 @@ impl<D: Disk> SharedRegistry<D> {
     /// The registry, once all passes are back. Its entries begin with what each pass knew, and have
     /// just its own at its places.
     pub fn close(self, passes: Vec<Pass<RegistryValue<D>>>) -> RegistryState<D>
-        requires { AreAllRegistryPassesOf D.mark self passes.items }
-        ensures closed { IsClosedRegistryOf D.Disk self passes.items result }
-        ensures stands { RegistryStandsInTurn D.Disk result }
+        requires { AreAllPassesOf (shared_registry D.Disk) self passes.items }
+        ensures closed { IsClosedOf (shared_registry D.Disk) self passes.items result }
     {
         let SharedRegistry { turn, .. } = self;
         turn.close(passes).into_registry()

@@ -1,14 +1,11 @@
 //! A registry as the value of a turn.
-ghost use Rattle.std.specs.Prelude.{◌≡◌, ◌≢◌, ◌≤◌, length, IfOk};
+ghost use Rattle.std.specs.Prelude.{◌≡◌, length, IfOk};
 ghost use Rattle.std.specs.List.{AllByRecursion};
-ghost use Rattle.log_base.specs.declared.source_info.SourceInfo.{SourceInfo as AnySource};
 ghost use Rattle.registry_core.specs.Replies as asked;
 ghost use Rattle.registry_core.specs.Sources.{sources, HasSlot};
-ghost use Rattle.log_registry.specs.Changes.{Called, IsUntouched};
+ghost use Rattle.log_registry.specs.Changes.{Called};
 ghost use Rattle.log_registry.specs.State.{events_in};
-ghost use Rattle.shared_registry.specs.History.{event_history, registry_fixed_of};
 ghost use Rattle.shared_registry.specs.History.{RegistryStandsInTurn};
-ghost use Rattle.turn_cell.specs.Sights.{IsGrownBy};
 
 use crate::names::Names;
 use delta_base::{Id, OutOfMemory, Text};
@@ -77,54 +74,27 @@ impl<D: Disk> RegistryValue<D> {
         })
     }
 
-    pub fn create(&mut self, name: &Text, uri: &Text, id: Id, by: u32) -> CreateAnswer
-        ensures called { Called D.Disk self.old self.new (asked.create name.now uri.now id) by
+    pub(crate) fn create(&mut self, name: &Text, uri: &Text, id: Id, by: u32) -> CreateAnswer
+        ensures { Called D.Disk self.old self.new (asked.create name.now uri.now id) by
             (asked.answered result) }
-        ensures found_stands { RegistryStandsInTurn D.Disk self.old }
-        ensures left_stands { RegistryStandsInTurn D.Disk self.new }
-        ensures grown { IsGrownBy by (event_history self.old.entries)
-            (event_history self.new.entries) }
-        ensures fixed { registry_fixed_of D.mark self.new ≡ registry_fixed_of D.mark self.old }
-        ensures faults { D.faults self.old.disk ≤ D.faults self.new.disk }
-        ensures as_found { result ≢ CreateAnswer.DiskFault
-            → ((source : AnySource) → result ≢ CreateAnswer.Made source)
-            → IsUntouched self.old self.new }
     {
         let answer = self.registry.create(name, uri, id, by);
         let _slots = self.registry.slots();
         answer
     }
 
-    pub fn rename(&mut self, name: &Text, new_name: &Text, by: u32) -> ChangeAnswer
-        ensures called { Called D.Disk self.old self.new (asked.rename name.now new_name.now) by
+    pub(crate) fn rename(&mut self, name: &Text, new_name: &Text, by: u32) -> ChangeAnswer
+        ensures { Called D.Disk self.old self.new (asked.rename name.now new_name.now) by
             (asked.changed result) }
-        ensures found_stands { RegistryStandsInTurn D.Disk self.old }
-        ensures left_stands { RegistryStandsInTurn D.Disk self.new }
-        ensures grown { IsGrownBy by (event_history self.old.entries)
-            (event_history self.new.entries) }
-        ensures fixed { registry_fixed_of D.mark self.new ≡ registry_fixed_of D.mark self.old }
-        ensures faults { D.faults self.old.disk ≤ D.faults self.new.disk }
-        ensures as_found { result ≢ ChangeAnswer.DiskFault
-            → ((source : AnySource) → result ≢ ChangeAnswer.Done source)
-            → IsUntouched self.old self.new }
     {
         let answer = self.registry.rename(name, new_name, by);
         let _slots = self.registry.slots();
         answer
     }
 
-    pub fn remove(&mut self, name: &Text, by: u32) -> ChangeAnswer
-        ensures called { Called D.Disk self.old self.new (asked.remove name.now) by
+    pub(crate) fn remove(&mut self, name: &Text, by: u32) -> ChangeAnswer
+        ensures { Called D.Disk self.old self.new (asked.remove name.now) by
             (asked.changed result) }
-        ensures found_stands { RegistryStandsInTurn D.Disk self.old }
-        ensures left_stands { RegistryStandsInTurn D.Disk self.new }
-        ensures grown { IsGrownBy by (event_history self.old.entries)
-            (event_history self.new.entries) }
-        ensures fixed { registry_fixed_of D.mark self.new ≡ registry_fixed_of D.mark self.old }
-        ensures faults { D.faults self.old.disk ≤ D.faults self.new.disk }
-        ensures as_found { result ≢ ChangeAnswer.DiskFault
-            → ((source : AnySource) → result ≢ ChangeAnswer.Done source)
-            → IsUntouched self.old self.new }
     {
         let answer = self.registry.remove(name, by);
         let _slots = self.registry.slots();
@@ -135,6 +105,7 @@ impl<D: Disk> RegistryValue<D> {
 impl<D: Disk> Chained for RegistryValue<D> {
     ghost use Rattle.shared_registry.specs.Apart.{events_apart};
     ghost use Rattle.shared_registry.specs.History.{event_history, registry_fixed_of};
+    ghost use Rattle.shared_registry.specs.History.{RegistryStandsInTurn};
 
     type Content = Event;
 
@@ -152,6 +123,8 @@ impl<D: Disk> Chained for RegistryValue<D> {
 
     ghost fits = { λ f es. Unit {0} };
 
+    ghost stands = { λ v. RegistryStandsInTurn D.Disk v };
+
     ghost tells_apart = { events_apart };
 
     fn count(&self) -> u64 {
@@ -160,5 +133,9 @@ impl<D: Disk> Chained for RegistryValue<D> {
 
     fn faults(&self) -> u64 {
         self.registry.faults()
+    }
+
+    fn standing(&self) {
+        let _registry = &self.registry;
     }
 }
