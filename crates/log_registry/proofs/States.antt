@@ -1,19 +1,16 @@
 -- What a registry keeps, call by call.
-use Rattle.std.proofs.Common.{◌≡◌, ◌⊎◌, inl, ℕ, ◌+◌, ◌^◌, ◌<◌, ◌≤◌, List, [], ◌∷◌, ◌++◌, length, Option, Some, None, sym, ◌∙◌, ap, subst, arith}
+use Rattle.std.proofs.Common.{◌≡◌, ℕ, ◌+◌, ◌^◌, ◌<◌, ◌≤◌, List, [], ◌∷◌, ◌++◌, length, Option, Some, None, sym, ◌∙◌, ap, subst, arith}
 use Rattle.std.proofs.lemmas.List.{map-append}
 use Rattle.disk_model.specs.declared.disk.Disk.{Ghosts}
-use Rattle.disk_model.specs.Past.{EveryImage, LeavesOnly}
-use Rattle.disk_model.proofs.Moments.{starts}
-use Rattle.log_journal.specs.Journal.{HoldsWithOrWithout}
+use Rattle.disk_model.specs.Past.{EveryImage}
 use Rattle.log_journal.specs.declared.journal.Journal.{Journal}
-use Rattle.log_journal.specs.StandsFor.{StandsFor, StandsInDoubt, Leaves, length_of, limit_of, disk_of}
-use Rattle.log_journal.specs.Writing.{StandsWith, HoldsDuring}
+use Rattle.log_journal.specs.StandsFor.{StandsFor, StandsInDoubt, length_of, limit_of, disk_of}
+use Rattle.log_journal.specs.Writing.{StandsWith}
 use Rattle.log_journal.proofs.Steps.{either}
 use Rattle.registry_core.specs.Texts.{slots_payload}
 use Rattle.registry_core.specs.declared.event.Event.{Event}
-use Rattle.registry_core.specs.Events.{IsNextEvent, IsRegistry}
-use Rattle.log_base.specs.declared.limits.TheConstants.{REGISTRY_LIMIT}
-use Rattle.registry_core.specs.Texts.{event_text, registry_payloads, registry_length, length_with}
+use Rattle.registry_core.specs.Events.{IsNextEvent}
+use Rattle.registry_core.specs.Texts.{event_text, registry_payloads, length_with}
 use Rattle.registry_core.proofs.Tables.{length-push, registry-push, has_room}
 use Rattle.log_registry.specs.Stands.{MayHoldEvents, StandsForRegistry, event_payload}
 use Rattle.log_registry.specs.State.{JournalKeepsEvents}
@@ -36,18 +33,6 @@ module _ {D : Type 0} {disks : Ghosts D} where
 
   pub stands_for_registry : (journal : Journal D disks) (slots : ℕ) (events : List Event) (doubt : Option Event) → JournalKeepsEvents journal slots events doubt → disks.tells → StandsForRegistry (disks.past (disk_of journal)) slots events doubt
   stands_for_registry journal slots events doubt kept told = record { each = each_holds journal slots events doubt kept.stands told; without = kept.without; having = kept.having }
-
-  -- ---- opening
-
-  pub opened_kept : (journal : Journal D disks) (slots : ℕ) (events : List Event) (payloads : List (List ℕ)) → StandsFor journal 0 payloads → registry_payloads slots events ≡ payloads → IsRegistry slots events
-      → length_of journal ≡ registry_length slots events → limit_of journal ≡ REGISTRY_LIMIT → JournalKeepsEvents journal slots events None
-  opened_kept journal slots events payloads stands are is length_is limit_is = record {
-    stands = subst (λ (ps : List (List ℕ)). StandsFor journal 0 ps) (sym are) stands;
-    without = is;
-    having = is;
-    length_is = length_is;
-    limit_is = limit_is;
-  }
 
   -- ---- events
 
@@ -80,10 +65,3 @@ module _ {D : Type 0} {disks : Ghosts D} where
         length_is = omega (arith, length_is, kept.length_is);
         limit_is = limit_is ∙ kept.limit_is;
       }
-
-    -- as it was, but for the doubt
-    pub kept_settled : StandsFor new 0 (registry_payloads slots events) → length_of new ≡ length_of journal + 0 → limit_of new ≡ limit_of journal → JournalKeepsEvents new slots events None
-    kept_settled stands length_is limit_is = record { stands = stands; without = kept.without; having = kept.without; length_is = omega (arith, length_is, kept.length_is); limit_is = limit_is ∙ kept.limit_is }
-
-    pub kept_same : StandsWith new 0 (registry_payloads slots events) (event_payload doubt) → length_of new ≡ length_of journal + 0 → limit_of new ≡ limit_of journal → JournalKeepsEvents new slots events doubt
-    kept_same stands length_is limit_is = record { stands = stands; without = kept.without; having = kept.having; length_is = omega (arith, length_is, kept.length_is); limit_is = limit_is ∙ kept.limit_is }
