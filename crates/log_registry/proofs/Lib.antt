@@ -1,5 +1,5 @@
 pub mod States
 pub mod Made
-pub mod Shown
+pub mod Writes
 pub mod Answered
 pub mod Reopened
