@@ -53,3 +53,7 @@ doubt_of doubt = option_map bare doubt
 -- the zone as a log that runs
 abbrev pub zone_point : List CheckedPatch → Option CheckedPatch → LogPoint
 zone_point taken doubt = up (map bare taken) (doubt_of doubt)
+
+-- the text in doubt
+abbrev pub text_in : Option CheckedPatch → Option (List ℕ)
+text_in doubt = option_map (λ patch. patch.text) doubt

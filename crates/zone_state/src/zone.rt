@@ -1,21 +1,20 @@
 //! A zone: its journal on a disk, and what it keeps of the patches that it took.
-ghost use Rattle.std.specs.Prelude.{◌≡◌, ◌≢◌, ◌⊎◌, ℕ, ◌+◌, ◌≤◌, ◌++◌, [], ◌∷◌, List};
-ghost use Rattle.std.specs.Prelude.{Option, None, length, map, IsTrue, IfOk, IfErr};
+ghost use Rattle.std.specs.Prelude.{◌≡◌, ◌≢◌, ◌⊎◌, ℕ, ◌+◌, ◌≤◌, [], List};
+ghost use Rattle.std.specs.Prelude.{Option, None, length, map, IfOk, IfErr};
 ghost use Rattle.std.specs.List.{filter};
-ghost use Rattle.delta_base.specs.Outside.{Rose};
-ghost use Rattle.disk_model.specs.Past.{reads, EveryImage, LeavesOnly, Keeps};
+ghost use Rattle.disk_model.specs.Past.{reads};
 ghost use Rattle.log_journal.specs.File.{Holds};
+ghost use Rattle.log_journal.specs.Written.{DiskWent, Reopened, RefusedOpening};
 ghost use Rattle.rdf_terms.specs.Line.{line};
 ghost use Rattle.term_table.specs.Table.{most};
 ghost use Rattle.dataset_tx.specs.Held.{AreMet, AreMore};
 ghost use Rattle.dataset_tx.specs.Pattern.{matches};
 ghost use Rattle.dataset_tx.specs.Prefixes.{prefix_change};
 ghost use Rattle.patch_meaning.specs.Checked.{CheckedPatch, checked_texts};
-ghost use Rattle.patch_log.specs.Log.{bare, MayHoldChainDuring};
 ghost use Rattle.chain_core.specs.Ids.{last_of};
 ghost use Rattle.zone_state.specs.Brief.{with_patch, file_length, changes_taken};
 ghost use Rattle.zone_state.specs.Taking.{WantsForTaking, IsDecidedBy};
-ghost use Rattle.zone_state.specs.Zone.{zone_number, StandsForZone, doubt_of};
+ghost use Rattle.zone_state.specs.Zone.{zone_number, StandsForZone};
 ghost use Rattle.zone_state.specs.Stay.{decided, TookOne};
 ghost use Rattle.zone_state.specs.Fault.{HasZoneFault};
 
@@ -70,30 +69,11 @@ impl<D: Disk> Zone<D> {
         ensures fault { D.tells → IfErr result (λ refusal.
             HasZoneFault (reads (D.past disk)) limits refusal.fault) }
 
-        // A crash at any moment leaves what it might have left before, and a read gives
-        // what it gave.
-        ensures kept { D.tells → IfOk result (λ zone. Keeps (D.past disk) (D.past zone.disk)) }
-        ensures kept_refused { D.tells → IfErr result (λ refusal.
-            Keeps (D.past disk) (D.past refusal.disk)) }
-
-        // It reads no more than the journal.
-        ensures few { D.tells → IfOk result (λ zone. D.read_bytes zone.disk
-            ≤ D.read_bytes disk + file_length zone.brief.ids zone.brief.bytes) }
-        ensures cause { IfErr result (λ refusal. refusal.fault ≡ ZoneFault.Failed
-            → Rose (D.faults disk) (D.faults refusal.disk)) }
-
-        // A fault is counted where a call of the disk failed, and else none.
-        ensures faults { IfOk result (λ zone. D.faults zone.disk ≡ D.faults disk) }
-        ensures never_falls { IfErr result (λ refusal. D.faults disk ≤ D.faults refusal.disk) }
-        ensures faults_refused { IfErr result (λ refusal. refusal.fault ≢ ZoneFault.Failed
-            → D.faults refusal.disk ≡ D.faults disk) }
-
-        // Where no failure is planned, its disk fails for want of memory alone.
-        ensures long { D.plans → IfOk result (λ zone. D.short zone.disk ≡ D.short disk) }
-        ensures planned { D.plans → IfErr result (λ refusal. refusal.fault ≡ ZoneFault.Failed
-            → D.next_failure disk ≡ None → IsTrue (D.short refusal.disk)) }
-        ensures mark { IfOk result (λ zone. D.mark zone.disk ≡ D.mark disk) }
-        ensures mark_refused { IfErr result (λ refusal. D.mark refusal.disk ≡ D.mark disk) }
+        // What becomes of its disk.
+        ensures reopened { IfOk result (λ zone. Reopened D.Disk disk zone.disk
+            (file_length zone.brief.ids zone.brief.bytes)) }
+        ensures refused { IfErr result (λ refusal. RefusedOpening D.Disk
+            (refusal.fault ≡ ZoneFault.Failed) disk refusal.disk) }
     {
         let mut reading = Reading::new(alloc, limits.patches);
         match Journal::open_with(alloc, disk, ZONE_NUMBER, limits.bytes, &mut reading) {
@@ -213,27 +193,9 @@ impl<D: Disk> Zone<D> {
             → ((version : ℕ) → result ≢ TakeAnswer.Applied version)
             → self.new ≡ record self.old { terms = self.new.terms } }
 
-        // A crash at any moment of the call leaves the patches taken, with the one in doubt, with
-        // the new one, or with neither. What is applied is in every image.
-        ensures any_moment { D.tells → (taken : List CheckedPatch) (doubt : Option CheckedPatch)
-            → StandsForZone D.tells (D.past self.old.disk) self.old taken doubt
-            → LeavesOnly (MayHoldChainDuring zone_number (map bare taken) (doubt_of doubt)
-            (bare patch.now)) (D.past self.old.disk) (D.past self.new.disk) }
-        ensures kept { (version : ℕ) → result ≡ TakeAnswer.Applied version → D.tells
-            → (taken : List CheckedPatch) (doubt : Option CheckedPatch)
-            → StandsForZone D.tells (D.past self.old.disk) self.old taken doubt
-            → EveryImage (D.past self.new.disk) (λ image.
-            Holds image zone_number (checked_texts (taken ++ patch.now ∷ []))) }
-
-        ensures cause { result ≡ TakeAnswer.DiskFault
-            → Rose (D.faults self.old.disk) (D.faults self.new.disk) }
-        ensures faults { D.faults self.old.disk ≤ D.faults self.new.disk }
-        ensures well { result ≢ TakeAnswer.DiskFault
-            → D.faults self.new.disk ≡ D.faults self.old.disk }
-        ensures stays_short { D.plans → IsTrue (D.short self.old.disk)
-            → IsTrue (D.short self.new.disk) }
+        ensures went { DiskWent D.Disk (result ≡ TakeAnswer.DiskFault) self.old.disk
+            self.new.disk }
         ensures limits { self.new.limits ≡ self.old.limits }
-        ensures mark { D.mark self.new.disk ≡ D.mark self.old.disk }
     {
         let decided = self.kept.taking(patch, &self.limits);
         match decided {

@@ -31,13 +31,13 @@ returns-in-Ok-finish-clause-taken g c =
       λ told. subst (λ (ts : List (List ℕ)). Holds (reads (g.D.Disk.past c.args.disk)) zone_number ts) (sym are.texts_are) (e.received.4 told),
     )
 
-pub returns-in-Ok-finish-clause-few : goal.returns-in-Ok-finish-clause-few
-returns-in-Ok-finish-clause-few g c told =
+pub returns-in-Ok-finish-clause-reopened : goal.returns-in-Ok-finish-clause-reopened
+returns-in-Ok-finish-clause-reopened g c =
     let e = c.in-Ok.ensures in
     let payloads = e.received.0 in
     let read = c.in-Ok-finish.ensures.ok c.new-reading.result payloads e.received.1 in
     let are = subst (λ (n : ℕ). AreFoundPatches payloads n read.0) c.new-reading.ensures.most read.1 in
-    omega (arith, e.few told, length_opened c.in-Ok.journal c.in-Ok-finish.kept c.args.limits payloads read.0 are read.2 e.received.2 e.received.3 e.within)
+    rw (← length_opened c.in-Ok.journal c.in-Ok-finish.kept c.args.limits payloads read.0 are read.2 e.received.2 e.received.3 e.within) e.reopened
 
 pub returns-in-Err-finish-clause-fault : goal.returns-in-Err-finish-clause-fault
 returns-in-Err-finish-clause-fault g c told =

@@ -1,17 +1,20 @@
-use Rattle.std.proofs.Common.{◌≡◌, ◌+◌, [], ◌∷◌, ◌++◌, List, Some, Ok, Err, refl, sym, ◌∙◌, ap, subst, length, arith, ⊎_elim, inl}
+use Rattle.std.proofs.Common.{◌≡◌, ◌+◌, [], ◌∷◌, ◌++◌, List, Some, None, Err, refl, sym, ◌∙◌, ap, subst, length, arith, ⊎_elim, inl}
 use Rattle.delta_base.specs.declared.id.Id.{Id}
 use Rattle.rdf_terms.specs.declared.term.Term.{Term}
 use Rattle.dataset_tx.specs.Held.{AreMet}
+use Rattle.log_base.specs.declared.phase.Phase.{Phase}
+use Rattle.log_base.specs.declared.phase.Phase.TheVariants.{Settling}
 use Rattle.log_journal.specs.Payload.{payload_of}
+use Rattle.log_journal.proofs.Disks.{not_asked}
+use Rattle.zone_state.specs.declared.answer.TakeAnswer.TheVariants.{DiskFault}
 use Rattle.log_journal.specs.StandsFor.{disk_of}
 use Rattle.patch_meaning.specs.Checked.{checked_texts}
 use Rattle.patch_log.specs.Log.{bare}
-use Rattle.zone_state.specs.Zone.{zone_number}
+use Rattle.zone_state.specs.Zone.{zone_number, text_in}
 use Rattle.zone_state.specs.State.{view_of}
 use Rattle.zone_state.proofs.Decisions.{IsDecided, decided, is_refused}
 use Rattle.zone_state.proofs.Readings.{meets_none}
-use Rattle.zone_state.proofs.Standing.{text_in, no_call_yet}
-use Rattle.zone_state.proofs.Written.{brief_counted, brief_same, room, is_new, countable_more, journal_is, kept_written, stands_written, took_written, took_nothing, during_written}
+use Rattle.zone_state.proofs.Written.{brief_counted, brief_same, room, is_new, countable_more, journal_is, kept_written, took_written, took_nothing}
 use Rattle.zone_state.proofs.zone.Zone.take_next.Goals as goal
 
 pub write-requires : goal.write-requires
@@ -32,6 +35,9 @@ commit_staged-requires-clause-few g c =
 some_one : {X : Type 0} (a b : X) → Some a ≡ Some b → a ≡ b
 some_one a b same = cc
 
+no_phase : (phase : Phase) → None ≡ Some phase → ⊥
+no_phase phase same = cc
+
 -- ---- it was written
 
 pub invariant_of-self : goal.invariant_of-self
@@ -44,7 +50,7 @@ invariant_of-self g c =
     let bytes : kept.bytes ≡ zone.kept.bytes + length patch.text = omega (arith, c.commit_staged.ensures.bytes, c.prepare.ensures.bytes, c.len-size.ensures, ap length c.text.ensures.text) in
     let contents = some_one kept.contents.contents _ (c.commit_staged.ensures.contents ∙ c.in-Ok.ensures.staged) in
     let brief = brief_counted zone.kept kept patch ids bytes contents in
-    kept_written zone.journal zone.kept zone.limits c.self.invariant patch c.in-Applied.version c.in-Applied.ensures (Ok c.in-Ok-write.field-0) c.write.new.journal kept c.prepare.ensures.checked (payload_of c.in-Ok.block) c.in-Ok.ensures.block brief e.stands e.length e.limit c.commit_staged.ensures.staged
+    kept_written zone.journal zone.kept zone.limits c.self.invariant patch c.in-Applied.version c.in-Applied.ensures None c.write.new.journal kept c.prepare.ensures.checked (payload_of c.in-Ok.block) c.in-Ok.ensures.block brief e.stands e.length e.limit c.commit_staged.ensures.staged
 
 pub returns-in-Ok-write-clause-stay : goal.returns-in-Ok-write-clause-stay
 returns-in-Ok-write-clause-stay g c =
@@ -57,35 +63,13 @@ returns-in-Ok-write-clause-stay g c =
     let contents = some_one kept.contents.contents _ (c.commit_staged.ensures.contents ∙ c.in-Ok.ensures.staged) in
     let brief = brief_counted zone.kept kept patch ids bytes contents in
     rw (← c.self.view_is) (λ taken doubt stands no_terms no_want.
-    let before = journal_is zone.journal zone.kept zone.limits c.self.invariant taken doubt stands in
-    took_written zone.journal zone.kept zone.limits c.self.invariant patch c.in-Applied.version c.in-Applied.ensures (Ok c.in-Ok-write.field-0) c.write.new.journal kept c.prepare.ensures.checked (payload_of c.in-Ok.block) c.in-Ok.ensures.block brief e.stands e.length
-    taken doubt stands e.settling (e.phase zone_number (checked_texts taken) (text_in doubt) before) (λ plans long. e.planned plans long zone_number (checked_texts taken) (text_in doubt) before)
-    (λ plans told long. e.images plans told long zone_number (checked_texts taken) (text_in doubt) before))
+    took_written zone.journal zone.kept zone.limits c.self.invariant patch c.in-Applied.version c.in-Applied.ensures None c.write.new.journal kept c.prepare.ensures.checked (payload_of c.in-Ok.block) c.in-Ok.ensures.block brief e.stands e.length
+    taken doubt stands (λ is. absurd (no_phase Settling is)) (e.written zone_number (checked_texts taken) (text_in doubt) (journal_is zone.journal zone.kept zone.limits c.self.invariant taken doubt stands)))
 
 pub returns-in-Ok-write-clause-terms : goal.returns-in-Ok-write-clause-terms
 returns-in-Ok-write-clause-terms g c =
     let zone = c.self.inside in
     rw (← c.self.view_is) (subst (λ (ts : List Term). AreMet c.args.patch.now.meaning.changes zone.kept.contents.terms ts) (sym c.commit_staged.ensures.terms) c.prepare.ensures.met)
-
-pub returns-in-Ok-write-clause-any_moment : goal.returns-in-Ok-write-clause-any_moment
-returns-in-Ok-write-clause-any_moment g c =
-    let zone = c.self.inside in
-    rw (← c.self.view_is) (λ told taken doubt stands. during_written zone.journal zone.kept zone.limits c.self.invariant c.write.new.journal c.args.patch.now (payload_of c.in-Ok.block) c.in-Ok.ensures.block taken doubt stands c.in-Ok-write.ensures.any_moment told)
-
-pub returns-in-Ok-write-clause-kept : goal.returns-in-Ok-write-clause-kept
-returns-in-Ok-write-clause-kept g c =
-    let zone = c.self.inside in
-    let patch = c.args.patch.now in
-    let e = c.in-Ok-write.ensures in
-    let kept = c.commit_staged.new.self in
-    let ids = c.commit_staged.ensures.ids ∙ ap (λ (is : List Id). is ++ c.id.result ∷ []) c.prepare.ensures.ids ∙ ap (λ (i : Id). zone.kept.ids.items ++ i ∷ []) c.id.ensures in
-    let bytes : kept.bytes ≡ zone.kept.bytes + length patch.text = omega (arith, c.commit_staged.ensures.bytes, c.prepare.ensures.bytes, c.len-size.ensures, ap length c.text.ensures.text) in
-    let contents = some_one kept.contents.contents _ (c.commit_staged.ensures.contents ∙ c.in-Ok.ensures.staged) in
-    let brief = brief_counted zone.kept kept patch ids bytes contents in
-    rw (← c.self.view_is) (λ version is told taken doubt stands image left.
-    let after = stands_written zone.journal zone.kept zone.limits c.self.invariant patch c.in-Applied.version c.in-Applied.ensures (Ok c.in-Ok-write.field-0) c.write.new.journal kept c.prepare.ensures.checked (payload_of c.in-Ok.block) c.in-Ok.ensures.block brief e.stands e.length taken doubt stands in
-    let all = after.on_disk told in
-    all.each image left)
 
 -- ---- it failed
 
@@ -99,7 +83,7 @@ invariant_of-self-in-Err g c =
     let bytes = c.drop_staged.ensures.bytes ∙ c.prepare.ensures.bytes in
     let contents = c.drop_staged.ensures.contents ∙ c.prepare.ensures.contents in
     let brief = brief_same zone.kept kept ids bytes contents in
-    kept_written zone.journal zone.kept zone.limits c.self.invariant patch c.in-Applied.version c.in-Applied.ensures (Err c.in-Err.field-0) c.write.new.journal kept c.prepare.ensures.checked (payload_of c.in-Ok.block) c.in-Ok.ensures.block brief e.stands e.length e.limit c.drop_staged.ensures.staged
+    kept_written zone.journal zone.kept zone.limits c.self.invariant patch c.in-Applied.version c.in-Applied.ensures (Some c.in-Err.field-0) c.write.new.journal kept c.prepare.ensures.checked (payload_of c.in-Ok.block) c.in-Ok.ensures.block brief e.stands e.length e.limit c.drop_staged.ensures.staged
 
 pub returns-in-Ok-clause-stay : goal.returns-in-Ok-clause-stay
 returns-in-Ok-clause-stay g c =
@@ -112,20 +96,13 @@ returns-in-Ok-clause-stay g c =
     let contents = c.drop_staged.ensures.contents ∙ c.prepare.ensures.contents in
     let brief = brief_same zone.kept kept ids bytes contents in
     rw (← c.self.view_is) (λ taken doubt stands no_terms no_want.
-    let before = journal_is zone.journal zone.kept zone.limits c.self.invariant taken doubt stands in
-    took_written zone.journal zone.kept zone.limits c.self.invariant patch c.in-Applied.version c.in-Applied.ensures (Err c.in-Err.field-0) c.write.new.journal kept c.prepare.ensures.checked (payload_of c.in-Ok.block) c.in-Ok.ensures.block brief e.stands e.length
-    taken doubt stands e.settling (e.phase zone_number (checked_texts taken) (text_in doubt) before) (λ plans long. e.planned plans long zone_number (checked_texts taken) (text_in doubt) before)
-    (λ plans told long. e.images plans told long zone_number (checked_texts taken) (text_in doubt) before))
+    took_written zone.journal zone.kept zone.limits c.self.invariant patch c.in-Applied.version c.in-Applied.ensures (Some c.in-Err.field-0) c.write.new.journal kept c.prepare.ensures.checked (payload_of c.in-Ok.block) c.in-Ok.ensures.block brief e.stands e.length
+    taken doubt stands (λ is. e.settling (ap (λ (phase : Phase). Err phase) (some_one c.in-Err.field-0 Settling is))) (e.written zone_number (checked_texts taken) (text_in doubt) (journal_is zone.journal zone.kept zone.limits c.self.invariant taken doubt stands)))
 
 pub returns-in-Ok-clause-terms : goal.returns-in-Ok-clause-terms
 returns-in-Ok-clause-terms g c =
     let zone = c.self.inside in
     rw (← c.self.view_is) (subst (λ (ts : List Term). AreMet c.args.patch.now.meaning.changes zone.kept.contents.terms ts) (sym c.drop_staged.ensures.terms) c.prepare.ensures.met)
-
-pub returns-in-Ok-clause-any_moment : goal.returns-in-Ok-clause-any_moment
-returns-in-Ok-clause-any_moment g c =
-    let zone = c.self.inside in
-    rw (← c.self.view_is) (λ told taken doubt stands. during_written zone.journal zone.kept zone.limits c.self.invariant c.write.new.journal c.args.patch.now (payload_of c.in-Ok.block) c.in-Ok.ensures.block taken doubt stands c.in-Err.ensures.any_moment told)
 
 -- ---- no call of the disk was made
 
@@ -134,20 +111,10 @@ returns-in-Err-TermsFull-clause-terms g c =
     let zone = c.self.inside in
     rw (← c.self.view_is) c.prepare.ensures.met
 
-pub returns-in-Err-TermsFull-clause-any_moment : goal.returns-in-Err-TermsFull-clause-any_moment
-returns-in-Err-TermsFull-clause-any_moment g c =
-    let zone = c.self.inside in
-    rw (← c.self.view_is) (λ told taken doubt stands. no_call_yet g.D.Disk.tells (g.D.Disk.past (disk_of zone.journal)) (view_of zone.journal zone.kept zone.limits) taken doubt c.args.patch.now stands told)
-
 pub returns-in-Applied-clause-terms : goal.returns-in-Applied-clause-terms
 returns-in-Applied-clause-terms g c =
     let zone = c.self.inside in
     rw (← c.self.view_is) c.prepare.ensures.met
-
-pub returns-in-Applied-clause-any_moment : goal.returns-in-Applied-clause-any_moment
-returns-in-Applied-clause-any_moment g c =
-    let zone = c.self.inside in
-    rw (← c.self.view_is) (λ told taken doubt stands. no_call_yet g.D.Disk.tells (g.D.Disk.past (disk_of zone.journal)) (view_of zone.journal zone.kept zone.limits) taken doubt c.args.patch.now stands told)
 
 pub returns : goal.returns
 returns g c =
@@ -164,12 +131,6 @@ returns g c =
       applied = λ version is. absurd (c.in_default.not-Applied version is);
       refused = λ never. refl;
       untouched = λ fault never. refl;
-      any_moment = λ tells taken doubt stands. no_call_yet g.D.Disk.tells (g.D.Disk.past (disk_of zone.journal)) (view_of zone.journal zone.kept zone.limits) taken doubt patch stands tells;
-      kept = λ version is. absurd (c.in_default.not-Applied version is);
-      cause = λ is. absurd (told.no_fault is);
-      faults = omega arith;
-      well = λ fault. refl;
-      stays_short = λ plans short. short;
+      went = not_asked g.D.Disk (disk_of zone.journal) (c.taking-decided.result ≡ DiskFault) (λ is. told.no_fault is);
       limits = refl;
-      mark = refl;
     })
