@@ -1,7 +1,6 @@
 //! A registry that two passes share.
 ghost use Rattle.std.specs.Prelude.{◌≡◌, ◌≤◌, [], IfOk, vec_capacity};
-ghost use Rattle.disk_model.specs.Memory.{memory_mark};
-ghost use Rattle.shared_registry.specs.Passes.{IsRegistryPassOf};
+ghost use Rattle.registry_tests.specs.Sharing.{IsMemoryPassOf};
 ghost use Rattle.turn_cell.specs.Knowing.{pass_number};
 
 use crate::calls::{TWO_SLOTS, Told, changed, created, id_of, open_with};
@@ -25,9 +24,9 @@ struct Passes {
 
 // A registry that two passes share.
 fn share(alloc: Global, failing: &[u64]) -> Result<(SharedRegistry<MemDisk>, Passes), Fail>
-    ensures one { IfOk result (λ r. IsRegistryPassOf memory_mark r.0 r.1.one
+    ensures one { IfOk result (λ r. IsMemoryPassOf r.0 r.1.one
         × (pass_number r.1.one ≡ 1)) }
-    ensures two { IfOk result (λ r. IsRegistryPassOf memory_mark r.0 r.1.two
+    ensures two { IfOk result (λ r. IsMemoryPassOf r.0 r.1.two
         × (pass_number r.1.two ≡ 2)) }
     ensures room { IfOk result (λ r.
         (r.0.seats ≡ 2) × (r.1.room.items ≡ []) × (2 ≤ vec_capacity r.1.room)) }
@@ -52,8 +51,8 @@ fn share(alloc: Global, failing: &[u64]) -> Result<(SharedRegistry<MemDisk>, Pas
 
 // Gives both passes back.
 fn close(registry: SharedRegistry<MemDisk>, passes: Passes) -> RegistryState<MemDisk>
-    requires one { IsRegistryPassOf memory_mark registry passes.one × (pass_number passes.one ≡ 1) }
-    requires two { IsRegistryPassOf memory_mark registry passes.two × (pass_number passes.two ≡ 2) }
+    requires one { IsMemoryPassOf registry passes.one × (pass_number passes.one ≡ 1) }
+    requires two { IsMemoryPassOf registry passes.two × (pass_number passes.two ≡ 2) }
     requires room { (registry.seats ≡ 2) × (passes.room.items ≡ [])
         × (2 ≤ vec_capacity passes.room) }
 {
@@ -72,8 +71,8 @@ fn create<R: Wait>(
     name: &str,
     id: u128,
 ) -> Result<Told, Fail>
-    requires { IsRegistryPassOf memory_mark registry.now pass.old }
-    ensures of { IsRegistryPassOf memory_mark registry.now pass.new }
+    requires { IsMemoryPassOf registry.now pass.old }
+    ensures of { IsMemoryPassOf registry.now pass.new }
     ensures number { pass_number pass.new ≡ pass_number pass.old }
 {
     let name = Text::from_str(alloc, name)?;
@@ -90,8 +89,8 @@ fn slot_of<R: Wait>(
     pass: &mut RegistryPass<MemDisk>,
     name: &str,
 ) -> Result<u32, Fail>
-    requires { IsRegistryPassOf memory_mark registry.now pass.old }
-    ensures of { IsRegistryPassOf memory_mark registry.now pass.new }
+    requires { IsMemoryPassOf registry.now pass.old }
+    ensures of { IsMemoryPassOf registry.now pass.new }
     ensures number { pass_number pass.new ≡ pass_number pass.old }
 {
     let name = Text::from_str(alloc, name)?;
@@ -107,10 +106,10 @@ fn both_make<R: Wait + Abort>(
     one: &mut RegistryPass<MemDisk>,
     two: &mut RegistryPass<MemDisk>,
 ) -> Result<(), Fail>
-    requires one { IsRegistryPassOf memory_mark registry.now one.old }
-    requires two { IsRegistryPassOf memory_mark registry.now two.old }
-    ensures one { IsRegistryPassOf memory_mark registry.now one.new }
-    ensures two { IsRegistryPassOf memory_mark registry.now two.new }
+    requires one { IsMemoryPassOf registry.now one.old }
+    requires two { IsMemoryPassOf registry.now two.old }
+    ensures one { IsMemoryPassOf registry.now one.new }
+    ensures two { IsMemoryPassOf registry.now two.new }
     ensures numbers { (pass_number one.new ≡ pass_number one.old)
         × (pass_number two.new ≡ pass_number two.old) }
 {
@@ -129,10 +128,10 @@ fn each_finds<R: Wait + Abort>(
     one: &mut RegistryPass<MemDisk>,
     two: &mut RegistryPass<MemDisk>,
 ) -> Result<(), Fail>
-    requires one { IsRegistryPassOf memory_mark registry.now one.old }
-    requires two { IsRegistryPassOf memory_mark registry.now two.old }
-    ensures one { IsRegistryPassOf memory_mark registry.now one.new }
-    ensures two { IsRegistryPassOf memory_mark registry.now two.new }
+    requires one { IsMemoryPassOf registry.now one.old }
+    requires two { IsMemoryPassOf registry.now two.old }
+    ensures one { IsMemoryPassOf registry.now one.new }
+    ensures two { IsMemoryPassOf registry.now two.new }
     ensures numbers { (pass_number one.new ≡ pass_number one.old)
         × (pass_number two.new ≡ pass_number two.old) }
 {
@@ -164,8 +163,8 @@ fn remove<R: Wait>(
     pass: &mut RegistryPass<MemDisk>,
     name: &str,
 ) -> Result<Told, Fail>
-    requires { IsRegistryPassOf memory_mark registry.now pass.old }
-    ensures of { IsRegistryPassOf memory_mark registry.now pass.new }
+    requires { IsMemoryPassOf registry.now pass.old }
+    ensures of { IsMemoryPassOf registry.now pass.new }
     ensures number { pass_number pass.new ≡ pass_number pass.old }
 {
     let name = Text::from_str(alloc, name)?;
@@ -179,7 +178,7 @@ fn lists_none<R: Wait + Abort>(
     registry: &SharedRegistry<MemDisk>,
     pass: &mut RegistryPass<MemDisk>,
 ) -> Result<(), Fail>
-    requires { IsRegistryPassOf memory_mark registry.now pass.old }
+    requires { IsMemoryPassOf registry.now pass.old }
 {
     let listed = registry.list(rt, pass)?;
     assert!(rt; listed.is_empty());
@@ -194,9 +193,9 @@ fn is_removed<R: Wait + Abort>(
     one: &mut RegistryPass<MemDisk>,
     two: &mut RegistryPass<MemDisk>,
 ) -> Result<(), Fail>
-    requires one { IsRegistryPassOf memory_mark registry.now one.old }
-    requires two { IsRegistryPassOf memory_mark registry.now two.old }
-    ensures { IsRegistryPassOf memory_mark registry.now one.new }
+    requires one { IsMemoryPassOf registry.now one.old }
+    requires two { IsMemoryPassOf registry.now two.old }
+    ensures { IsMemoryPassOf registry.now one.new }
 {
     create(rt, alloc, registry, one, "b", 1)?;
     assert!(rt; slot_of(rt, alloc, registry, one, "b")? == 1);
@@ -213,8 +212,8 @@ fn is_found_no_more<R: Wait + Abort>(
     one: &mut RegistryPass<MemDisk>,
     two: &mut RegistryPass<MemDisk>,
 ) -> Result<(), Fail>
-    requires one { IsRegistryPassOf memory_mark registry.now one.old }
-    requires two { IsRegistryPassOf memory_mark registry.now two.old }
+    requires one { IsMemoryPassOf registry.now one.old }
+    requires two { IsMemoryPassOf registry.now two.old }
 {
     is_removed(rt, alloc, registry, one, two)?;
     assert!(rt; slot_of(rt, alloc, registry, one, "b")? == 0);
@@ -239,8 +238,8 @@ fn one_fails<R: Wait + Abort>(
     one: &mut RegistryPass<MemDisk>,
     two: &mut RegistryPass<MemDisk>,
 ) -> Result<(), Fail>
-    requires one { IsRegistryPassOf memory_mark registry.now one.old }
-    requires two { IsRegistryPassOf memory_mark registry.now two.old }
+    requires one { IsMemoryPassOf registry.now one.old }
+    requires two { IsMemoryPassOf registry.now two.old }
 {
     let told = create(rt, alloc, registry, one, "b", 1)?;
     assert!(rt; told == Told::DiskFault);

@@ -1,7 +1,6 @@
 use Rattle.std.proofs.Common.{◌≡◌, ◌++◌, ◌∷◌, [], sym, ap, subst, ◌∙◌}
-use Rattle.disk_model.specs.Memory.{memory_mark}
 use Rattle.turn_cell.specs.Turns.{AllOf}
-use Rattle.shared_registry.specs.Passes.{IsRegistryPassOf}
+use Rattle.registry_tests.specs.Sharing.{IsMemoryPassOf}
 use Rattle.registry_tests.proofs.Testing.{both_numbers}
 use Rattle.registry_tests.proofs.shared.close.Goals as goal
 
@@ -16,4 +15,4 @@ close-requires c =
     c.push_reserved-2.ensures.items ∙ ap (λ l. l ++ second ∷ []) (c.push_reserved.ensures.items ∙ ap (λ l. l ++ first ∷ []) r.room.1) in
     let items : c.push_reserved-2.new.self.items ≡ one ∷ two ∷ [] =
     pushed ∙ ap (λ p. p ∷ second ∷ []) c.into_pass.ensures ∙ ap (λ p. one ∷ p ∷ []) c.into_pass-2.ensures in
-    (subst (AllOf (IsRegistryPassOf memory_mark c.args.registry)) (sym items) (r.one.0, (r.two.0, tt)), both_numbers c.args.registry.seats one two c.push_reserved-2.new.self.items items r.room.0 r.one.1 r.two.1)
+    (subst (AllOf (IsMemoryPassOf c.args.registry)) (sym items) (r.one.0, (r.two.0, tt)), both_numbers c.args.registry.seats one two c.push_reserved-2.new.self.items items r.room.0 r.one.1 r.two.1)

@@ -1,6 +1,6 @@
 use Rattle.std.proofs.Common.{◌≡◌, length, sym, subst, arith}
-use Rattle.disk_model.specs.Memory.{memory_mark}
-use Rattle.shared_registry.specs.Passes.{RegistrySight, IsRegistryPassOf}
+use Rattle.shared_registry.specs.History.{RegistrySight}
+use Rattle.registry_tests.specs.Sharing.{IsMemoryPassOf}
 use Rattle.registry_tests.proofs.Testing.{two_popped}
 use Rattle.registry_tests.proofs.shared.share.Goals as goal
 
@@ -12,7 +12,7 @@ returns-clause-one c =
     let two : length c.in-Ok.room.items ≡ 2 = omega arith in
     let t = two_popped c.in-Ok.room.items c.pop.new.self.items c.pop-2.new.self.items c.in-Some-pop.one c.in-Some.two c.in-Some.ensures.items c.in-Some-pop.ensures.items two in
     let n = e.new 0 c.in-Some-pop.one t.1 in
-    subst (λ (pass : RegistrySight). IsRegistryPassOf memory_mark c.in-Ok.registry pass × (pass.view.number ≡ 1))
+    subst (λ (pass : RegistrySight). IsMemoryPassOf c.in-Ok.registry pass × (pass.view.number ≡ 1))
     (sym c.of-one.ensures) (n.0, n.1)
 
 pub returns-clause-two : goal.returns-clause-two
@@ -23,5 +23,5 @@ returns-clause-two c =
     let two : length c.in-Ok.room.items ≡ 2 = omega arith in
     let t = two_popped c.in-Ok.room.items c.pop.new.self.items c.pop-2.new.self.items c.in-Some-pop.one c.in-Some.two c.in-Some.ensures.items c.in-Some-pop.ensures.items two in
     let n = e.new 1 c.in-Some.two t.2 in
-    subst (λ (pass : RegistrySight). IsRegistryPassOf memory_mark c.in-Ok.registry pass × (pass.view.number ≡ 2))
+    subst (λ (pass : RegistrySight). IsMemoryPassOf c.in-Ok.registry pass × (pass.view.number ≡ 2))
     (sym c.of-two.ensures) (n.0, n.1)
