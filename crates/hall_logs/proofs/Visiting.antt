@@ -15,6 +15,8 @@ use Rattle.chain_core.specs.Replies.{LogCall, LogReply}
 use Rattle.turn_cell.specs.Calls.{IsReplied}
 use Rattle.shared_log.specs.Stays.{CalledOnLog}
 use Rattle.shared_log.specs.Calls.{MayWant, IsCalledOnLog, AreCalledOnLog}
+use Rattle.shared_log.proofs.Adding.{each_is_made}
+use Rattle.hall_logs.specs.Laws.{EachIsVisit}
 use Rattle.hall_logs.specs.Slots.{ArePartsOf, AreAllHallPasses}
 use Rattle.hall_logs.specs.Visits.{Visit, asked_at, IsVisit, AreVisits, HasVisited}
 use Rattle.hall_logs.proofs.Parts.{zip_at, zip_set, still_pass}
@@ -66,6 +68,12 @@ module _ {D : Type 0} (disks : Ghosts D) (logs : List (Made (LogView D))) (place
       (λ ne.
       let r = asked_here p vs.0 after more (there p before vs.0 visit is ne vs.1) vs.2 in
       (r.0, r.1, rw (ne_eqb visit.slot (place + 1) ne) r.2))
+
+pub each_is_visit : {D : Type 0} (disks : Ghosts D) (logs : List (Made (LogView D))) (slot : ℕ) (call : LogCall) (before after : List LogSight) → EachIsVisit disks logs slot call before after
+each_is_visit disks logs slot call before after = record {
+  replied = λ reply on. let one = (each_is_made disks on.log.origin on.old call on.new).replied reply on.so in (one.0, record { place = on.place; log = on.log; old = on.old; new = on.new; slot_is = on.slot_is; log_is = on.log_is; old_is = on.old_is; others = on.others; so = one.2 });
+  wanted = λ may on. record { place = on.place; log = on.log; old = on.old; new = on.new; slot_is = on.slot_is; log_is = on.log_is; old_is = on.old_is; others = on.others; so = (each_is_made disks on.log.origin on.old call on.new).wanted may on.so };
+}
 
 -- whether it found memory or not, the pass sees on
 pub asked_sees : {D : Type 0} (disks : Ghosts D) (origin : LogView D) (p q : LogSight) (call : LogCall) (reply : Option LogReply) → IsReplied (CalledOnLog disks origin) MayWant p call reply q → SeesOn p q

@@ -1,15 +1,31 @@
 -- What is true of all calls of passes.
-use Rattle.std.specs.Prelude.{◌≡◌, ℕ, ◌+◌, List, ◌++◌, Some, slice_get}
+use Rattle.std.specs.Prelude.{◌≡◌, ℕ, ◌+◌, List, [], ◌++◌, Some, None, slice_get}
 use Rattle.std.specs.List.{AllZip}
 use Rattle.disk_model.specs.declared.disk.Disk.{Ghosts}
+use Rattle.chain_core.specs.declared.chain.Patch.{Patch}
+use Rattle.chain_core.specs.Replies.{LogCall, LogReply}
 use Rattle.patch_log.specs.State.{LogView}
 use Rattle.turn_cell.specs.Sights.{Made}
+use Rattle.turn_cell.specs.Knowing.{Wants}
 use Rattle.shared_log.specs.History.{LogSight}
-use Rattle.shared_log.specs.Calls.{AreCalledOnLog}
-use Rattle.hall_logs.specs.Slots.{AreAllHallPasses}
-use Rattle.hall_logs.specs.Visits.{Visit, asked_at, AreVisits, HasVisited}
+use Rattle.shared_log.specs.Stays.{CalledOnLog}
+use Rattle.shared_log.specs.Calls.{call_made, MayWant, AreCalledOnLog}
+use Rattle.hall_logs.specs.Slots.{OnSlot, AreAllHallPasses}
+use Rattle.hall_logs.specs.Visits.{Visit, IsVisit, asked_at, AreVisits, HasVisited}
 
 module _ {D : Type 0} (disks : Ghosts D) (logs : List (Made (LogView D))) where
+  -- a call on the log of a slot is a visit there, with a reply or without
+  pub record EachIsVisit (slot : ℕ) (call : LogCall) (before after : List LogSight) : Type 0 where
+    pub replied :
+        (reply : LogReply)
+        → OnSlot slot (λ log p q. CalledOnLog disks log.origin p call reply q) logs before after
+        → (doubted : List Patch)
+        × IsVisit disks logs before
+        (record { slot = slot; asked = call_made call (Some reply) doubted }) after
+    pub wanted :
+        MayWant call → OnSlot slot (λ log p q. Wants p q) logs before after
+        → IsVisit disks logs before (record { slot = slot; asked = call_made call None [] }) after
+
   -- calls on many logs one after another and then others are all of them one after another
   abbrev pub VisitsCompose : Type 0
   VisitsCompose =

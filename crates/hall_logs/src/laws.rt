@@ -1,7 +1,14 @@
 //! Laws of calls on many logs. These functions do nothing: their contracts are theorems.
-ghost use Rattle.hall_logs.specs.Laws.{VisitsCompose, VisitsAreCalls, LogPassesStay};
+ghost use Rattle.hall_logs.specs.Laws.{EachIsVisit, VisitsCompose, VisitsAreCalls};
+ghost use Rattle.hall_logs.specs.Laws.{LogPassesStay};
 
 use disk_model::Disk;
+
+/// What one call on the log of a slot is among the calls on many logs.
+pub fn calls_are_visits<D: Disk>()
+    ensures { (logs : _) (slot : _) (call : _) (before after : _)
+        → EachIsVisit D.Disk logs slot call before after }
+{}
 
 /// Calls of a pass on many logs compose.
 pub fn visits_compose<D: Disk>()

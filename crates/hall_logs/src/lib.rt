@@ -15,7 +15,7 @@ mod refusal;
 mod rooms;
 mod sharing;
 
-pub use laws::{passes_stay, visits_are_calls, visits_compose};
+pub use laws::{calls_are_visits, passes_stay, visits_are_calls, visits_compose};
 pub use logs::HallLogs;
 pub use pass::LogsPass;
 pub use refusal::LogsRefusal;

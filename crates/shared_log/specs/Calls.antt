@@ -43,6 +43,11 @@ abbrev pub place_told : Option LogReply → List ℕ
 place_told (Some (answered (Accepted place))) = place ∷ []
 place_told _ = []
 
+-- a call with its reply, which brought what is told as accepted, and what it left in doubt
+abbrev pub call_made : LogCall → Option LogReply → List Patch → CallOnLog
+call_made call reply doubted =
+    record { call = call; reply = reply; brought = place_told reply; doubted = doubted }
+
 -- the patch whose append met a fault of the disk
 abbrev pub patch_faulted : LogCall → Option LogReply → List Patch
 patch_faulted (append patch) (Some (answered DiskFault)) = patch ∷ []

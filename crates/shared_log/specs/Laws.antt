@@ -13,7 +13,7 @@ use Rattle.turn_cell.specs.Knowing.{Wants, seen_of}
 use Rattle.shared_log.specs.History.{LogSight, patches_known}
 use Rattle.shared_log.specs.Stays.{CalledOnLog, IsOnDisk}
 use Rattle.shared_log.specs.Calls.{CallOnLog, IsCalledOnLog, AreCalledOnLog, MayWant, LogAddsUp}
-use Rattle.shared_log.specs.Calls.{place_told, patch_faulted, AreSomeOf}
+use Rattle.shared_log.specs.Calls.{call_made, patch_faulted, AreSomeOf}
 
 module _ {D : Type 0} (disks : Ghosts D) (origin : LogView D) where
   -- Who is told that a patch was accepted, or is served the patch of a version or with an id, is
@@ -45,17 +45,9 @@ module _ {D : Type 0} (disks : Ghosts D) (origin : LogView D) where
     pub replied :
         (reply : LogReply) → CalledOnLog disks origin p call reply q
         → (doubted : List Patch) × AreSomeOf doubted (patch_faulted call (Some reply))
-        × IsCalledOnLog disks origin p
-        (record {
-          call = call;
-          reply = Some reply;
-          brought = place_told (Some reply);
-          doubted = doubted;
-        }) q
+        × IsCalledOnLog disks origin p (call_made call (Some reply) doubted) q
     pub wanted :
-        MayWant call → Wants p q
-        → IsCalledOnLog disks origin p
-        (record { call = call; reply = None; brought = []; doubted = [] }) q
+        MayWant call → Wants p q → IsCalledOnLog disks origin p (call_made call None []) q
 
   -- calls one after another and then others are all of them one after another
   abbrev pub CallsCompose : Type 0
