@@ -9,7 +9,8 @@ use Rattle.registry_core.specs.declared.event.Event.{Event}
 use Rattle.registry_core.specs.Answers.{Ending, made, told, failed, wanting}
 use Rattle.registry_core.specs.Replies.{RegistryCall, RegistryReply, registry_reply, event_by, ending, MayEnd}
 use Rattle.log_registry.specs.State.{StateView, events_in}
-use Rattle.log_registry.specs.Changes.{Called, Stays, IsUntouched, event_left}
+use Rattle.log_registry.specs.Changes.{Called, Stays, IsUntouched}
+use Rattle.log_journal.specs.Writing.{doubt_left}
 use Rattle.turn_cell.specs.Turns.{own_count, Adds}
 use Rattle.turn_cell.specs.Sights.{Made, Taken, IsGrownBy}
 use Rattle.turn_cell.specs.Knowing.{SeesOn, IsQuiet, pass_number, own_faults_of}
@@ -49,7 +50,7 @@ module _ {D : Type 0} (disks : Ghosts D) (before after : StateView D) (call : Re
   grows_of = grows due_of by before after (ending call reply) called.changed.stays
 
   pub fixed_still : registry_fixed_of disks.mark after ≡ registry_fixed_of disks.mark before
-  fixed_still = λ i. record { slots = called.changed.slots i; mark = called.changed.mark i }
+  fixed_still = λ i. record { slots = called.changed.slots i; mark = called.changed.went.mark i }
 
   -- what the turn publishes is as it was
   pub as_found : reaches_disk (ending call reply) ≡ false → (event_history after.entries ≡ event_history before.entries) × (disks.faults after.disk ≡ disks.faults before.disk) × (after.doubt ≡ before.doubt) × (registry_fixed_of disks.mark after ≡ registry_fixed_of disks.mark before)
@@ -93,7 +94,7 @@ module _ {D : Type 0} (disks : Ghosts D) (origin : Made (StateView D)) (p m q : 
   replied : (end : Ending) → after.entries ≡ was.entries → MayEnd end was.slots call (events_in was) reply → MayEnd end origin.origin.slots call (events_seen q) reply
   replied end none may = subst (λ (z : ℕ × List Event). MayEnd end z.0 call z.1 reply) (here (λ slots events. (slots, events)) none) may
 
-  left_by : (phase : Phase) (event : Event) → event_left (Some phase) was.doubt event ≡ was.doubt ⊎ (event_left (Some phase) was.doubt event ≡ None) ⊎ (event_left (Some phase) was.doubt event ≡ Some event)
+  left_by : (phase : Phase) (event : Event) → doubt_left (Some phase) was.doubt event ≡ was.doubt ⊎ (doubt_left (Some phase) was.doubt event ≡ None) ⊎ (doubt_left (Some phase) was.doubt event ≡ Some event)
   left_by Settling event = inl refl
   left_by Body event = inr (inl refl)
   left_by Gate event = inr (inr refl)
@@ -127,6 +128,6 @@ module _ {D : Type 0} (disks : Ghosts D) (origin : Made (StateView D)) (p m q : 
   -- the call as its pass is told of it
   pub turned : DoesOnRegistry disks (pass_number p) call reply was after → (StayOnRegistry disks origin.origin call reply p q → HasRegistryStay disks origin.origin call reply p q) → CalledOnRegistry disks origin.origin p call reply q
   turned did has = record {
-    legal = (on, told_by (ending call reply) called.changed.stays called.replies called.changed.cause reaches);
+    legal = (on, told_by (ending call reply) called.changed.stays called.replies called.changed.went.cause reaches);
     stay = has (stay.stay_told (shared_registry disks) p m q held back enters leaves same_was (λ found left. DoesOnRegistry disks (pass_number p) call reply found left) origin of did (fixed_still disks was after call (pass_number p) reply called));
   }

@@ -8,11 +8,13 @@ use Rattle.disk_model.specs.Past.{EveryImage}
 use Rattle.log_journal.specs.File.{Holds}
 use Rattle.registry_core.specs.declared.event.Event.{Event}
 use Rattle.registry_core.specs.Answers.{Ending, made, told}
-use Rattle.registry_core.specs.Replies.{RegistryCall, create, rename, remove, resolve, resolve_id, resolve_uri, list, RegistryReply, ending}
+use Rattle.registry_core.specs.Replies.{RegistryCall, create, rename, remove, resolve, resolve_id, resolve_uri, list, RegistryReply, ending, event_by}
 use Rattle.registry_core.specs.Texts.{event_text, registry_payloads}
 use Rattle.log_registry.specs.State.{StateView, events_in}
 use Rattle.turn_cell.specs.declared.view.Known.{Known}
-use Rattle.turn_cell.specs.Knowing.{Brought, seen_of}
+use Rattle.log_registry.specs.Changes.{Called}
+use Rattle.log_registry.proofs.Writes.{kept}
+use Rattle.turn_cell.specs.Knowing.{Brought, seen_of, pass_number}
 use Rattle.shared_registry.specs.History.{RegistrySight, event_entry, event_history, known_events, events_seen, registry_fixed_of}
 use Rattle.shared_registry.specs.Legal.{IsRegistryTold}
 use Rattle.shared_registry.specs.Stays.{HasRegistryStay, CalledOnRegistry, IsEventOnDisk}
@@ -34,10 +36,18 @@ module _ {D : Type 0} (disks : Ghosts D) (origin : StateView D) (p q : RegistryS
   no_event : {A : Type 0} → told ≡ made event → A
   no_event is = absurd (let e : told ≡ made event = is in cc)
 
+  left_by : (call : RegistryCall) (reply : RegistryReply) (found left : StateView D) → registry_fixed_of disks.mark left ≡ registry_fixed_of disks.mark origin → seen_of q ≡ event_history left.entries → Called disks found left call (pass_number p) reply → ending call reply ≡ made event → Left
+  left_by call reply found left file sees did is = record {
+    registry = left;
+    file = file;
+    sees = sees;
+    images = kept disks found left (event_by found.slots call (events_in found)) (pass_number p) (ending call reply) did.changed event is;
+  }
+
   left_of : (call : RegistryCall) (reply : RegistryReply) → HasRegistryStay disks origin call reply p q → ending call reply ≡ made event → Left
-  left_of (create name uri id) reply s is = record { registry = s.left; file = s.left_fixed; sees = s.sees; images = s.did.changed.kept event is }
-  left_of (rename name new_name) reply s is = record { registry = s.left; file = s.left_fixed; sees = s.sees; images = s.did.changed.kept event is }
-  left_of (remove name) reply s is = record { registry = s.left; file = s.left_fixed; sees = s.sees; images = s.did.changed.kept event is }
+  left_of (create name uri id) reply s is = left_by (create name uri id) reply s.found s.left s.left_fixed s.sees s.did is
+  left_of (rename name new_name) reply s is = left_by (rename name new_name) reply s.found s.left s.left_fixed s.sees s.did is
+  left_of (remove name) reply s is = left_by (remove name) reply s.found s.left s.left_fixed s.sees s.did is
   left_of (resolve name) reply s is = no_event is
   left_of (resolve_id id) reply s is = no_event is
   left_of (resolve_uri uri) reply s is = no_event is

@@ -13,4 +13,4 @@ returns-in-Ok-clause-new g c = λ k p is.
     let same = sym c.in-Ok.ensures.turn.0 in
     let seen = n.2 ∙ ap (λ (r : StateView g.row.D.Denot). event_history r.entries) same in
     let fixed = n.7 ∙ ap (λ (r : StateView g.row.D.Denot). Some (registry_fixed_of g.D.Disk.mark r)) same in
-    ((n.0, n.8, fixed), n.1, seen, n.3, n.4, n.5, n.6)
+    ((n.0, n.8, fixed), n.1, seen, n.3, n.4, n.5, n.6, n.9)
