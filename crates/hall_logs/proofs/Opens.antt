@@ -10,7 +10,7 @@ use Rattle.patch_log.specs.declared.fault.LogFault.{LogFault}
 use Rattle.patch_log.specs.State.{LogView}
 use Rattle.turn_cell.specs.Turns.{AllOf}
 use Rattle.turn_cell.proofs.Views.{all_append}
-use Rattle.hall_logs.specs.Files.{IsSameDisk, IsOpened, AreOpened, IsRefusedLog, WasLogOpened, AreRefusedAt, IsFresh, IsStill, AreLeft}
+use Rattle.hall_logs.specs.Files.{IsSameDisk, IsOpened, AreOpened, IsRefusedLog, WasLogOpened, AreRefusedAt, IsFresh, IsDiskOf, AreSameDisks}
 
 module _ {D : Type 0} (disks : Ghosts D) (limits : LogLimits) where
   opened_one : (number file : ℕ) (firsts : List D) (logs : List (LogView D)) (disk : D) (log : LogView D) → file ≡ number + length firsts → AreOpened disks limits number firsts logs → IsOpened disks limits file disk log
@@ -39,30 +39,33 @@ module _ {D : Type 0} (disks : Ghosts D) (limits : LogLimits) where
   as_many number (d ∷ firsts) [] are = absurd are
   as_many number (d ∷ firsts) (l ∷ logs) are = let more = as_many (number + 1) firsts logs are.1 in omega (arith, more)
 
-  -- the disks of logs that are logs still
-  pub left_still : (number : ℕ) (before : List D) (logs : List (LogView D)) (after : List D) → AreOpened disks limits number before logs → AllZip (IsStill disks) logs after → AreLeft disks limits number before after
+  opened_same : (number : ℕ) (disk : D) (log : LogView D) → IsOpened disks limits number disk log → IsSameDisk disks disk log.disk
+  opened_same number disk log one = record { mark = one.reopened.mark; kept = one.reopened.kept }
+
+  -- the disks of logs that were opened
+  pub left_still : (number : ℕ) (before : List D) (logs : List (LogView D)) (after : List D) → AreOpened disks limits number before logs → AllZip (IsDiskOf disks) logs after → AreSameDisks disks before after
   left_still number [] [] [] are still = tt
   left_still number [] [] (a ∷ after) are still = absurd still
   left_still number [] (l ∷ logs) after are still = absurd are
   left_still number (d ∷ before) [] after are still = absurd are
   left_still number (d ∷ before) (l ∷ logs) [] are still = absurd still
-  left_still number (d ∷ before) (l ∷ logs) (a ∷ after) are still = (inr (l, are.0, still.0), left_still (number + 1) before logs after are.1 still.1)
+  left_still number (d ∷ before) (l ∷ logs) (a ∷ after) are still = (subst (IsSameDisk disks d) (sym still.0) (opened_same number d l are.0), left_still (number + 1) before logs after are.1 still.1)
 
   is_kept : (disk : D) → IsSameDisk disks disk disk
   is_kept disk = record { mark = refl; kept = λ told. kept (disks.past disk) }
 
-  pub left_same : (number : ℕ) (before : List D) → AreLeft disks limits number before before
-  left_same number [] = tt
-  left_same number (d ∷ before) = (inl (is_kept d), left_same (number + 1) before)
+  pub left_same : (before : List D) → AreSameDisks disks before before
+  left_same [] = tt
+  left_same (d ∷ before) = (is_kept d, left_same before)
 
-  -- where a file was refused for want of memory
-  pub left_refused : (number file : ℕ) (fault : LogFault) (before after : List D) → AreRefusedAt disks limits number before file fault after → AreLeft disks limits number before after
+  -- where a file was refused
+  pub left_refused : (number file : ℕ) (fault : LogFault) (before after : List D) → AreRefusedAt disks limits number before file fault after → AreSameDisks disks before after
   left_refused number file fault [] [] are = absurd are
   left_refused number file fault [] (a ∷ after) are = absurd are
   left_refused number file fault (d ∷ before) [] are = absurd are
   left_refused number file fault (d ∷ before) (a ∷ after) are =
-      ⊎_elim (λ (z : (file ≡ number) × IsRefusedLog disks limits number d fault a × (after ≡ before)). (inl z.1.kept, subst (AreLeft disks limits (number + 1) before) (sym z.2) (left_same (number + 1) before)))
-      (λ (z : WasLogOpened disks limits number d a × AreRefusedAt disks limits (number + 1) before file fault after). (inr (z.0.0, z.0.1, inl z.0.2), left_refused (number + 1) file fault before after z.1)) are
+      ⊎_elim (λ (z : (file ≡ number) × IsRefusedLog disks limits number d fault a × (after ≡ before)). (record { mark = z.1.refused.mark; kept = z.1.refused.kept }, subst (AreSameDisks disks before) (sym z.2) (left_same before)))
+      (λ (z : WasLogOpened disks limits number d a × AreRefusedAt disks limits (number + 1) before file fault after). (subst (IsSameDisk disks d) (sym z.0.2) (opened_same number d z.0.0 z.0.1), left_refused (number + 1) file fault before after z.1)) are
 
   -- some files are opened; the disks of the others stand in reverse
   pub record Opening (all : List D) (opened : List (LogView D)) (others : List D) (file : ℕ) : Type 0 where

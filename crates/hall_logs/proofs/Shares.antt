@@ -1,5 +1,5 @@
 -- Logs are shared one after another.
-use Rattle.std.proofs.Common.{◌≡◌, ℕ, zero, suc, ◌+◌, ◌<◌, ◌≤◌, List, [], ◌∷◌, ◌++◌, map, length, refl, sym, ap, ◌∙◌, subst, inl, inr, append_assoc, arith, Some, None, slice_get}
+use Rattle.std.proofs.Common.{◌≡◌, ℕ, zero, suc, ◌+◌, ◌<◌, ◌≤◌, List, [], ◌∷◌, ◌++◌, map, length, refl, sym, ap, ◌∙◌, subst, inl, inr, append_assoc, arith, Some, slice_get}
 use Rattle.std.specs.Prelude.{reverse}
 use Rattle.std.specs.List.{AllZip}
 use Rattle.std.proofs.lemmas.List.{append-nil, map-append, reverse-append}
@@ -104,11 +104,3 @@ module _ {D : Type 0} (disks : Ghosts D) where
 
   pub shares_all : (all : List (LogView D)) (hall : LogsOfHall D) (passes : List (List LogSight)) → Sharing all hall [] passes → map (λ (log : Made (LogView D)). log.origin) hall.logs ≡ all
   shares_all all hall passes s = sym (append-nil (map (λ (log : Made (LogView D)). log.origin) hall.logs)) ∙ s.order
-
-  -- none of the logs that are shared had a patch in doubt
-  pub settled : (logs : List (Made (LogView D))) (rest all : List (LogView D)) → map (λ (log : Made (LogView D)). log.origin) logs ++ rest ≡ all → AllOf (λ (log : LogView D). log.doubt ≡ None) all → AllOf (λ (log : Made (LogView D)). log.origin.doubt ≡ None) logs
-  settled logs rest all is none = front logs (subst (AllOf (λ (log : LogView D). log.doubt ≡ None)) (sym is) none)
-    where
-      front : (xs : List (Made (LogView D))) → AllOf (λ (log : LogView D). log.doubt ≡ None) (map (λ (log : Made (LogView D)). log.origin) xs ++ rest) → AllOf (λ (log : Made (LogView D)). log.origin.doubt ≡ None) xs
-      front [] none = tt
-      front (x ∷ xs) none = (none.0, front xs none.1)

@@ -1,11 +1,11 @@
 -- The files of logs, and their disks before and behind an opening.
-use Rattle.std.specs.Prelude.{◌≡◌, ◌≢◌, ◌⊎◌, ℕ, ◌+◌, ◌≤◌, List, [], ◌∷◌, IsTrue, None}
-use Rattle.std.specs.List.{AllByRecursion}
-use Rattle.delta_base.specs.Outside.{Rose}
+use Rattle.std.specs.Prelude.{◌≡◌, ◌⊎◌, ℕ, ◌+◌, List, [], ◌∷◌, None}
+use Rattle.std.specs.List.{AllByRecursion, AllZip}
 use Rattle.log_base.specs.declared.limits.LogLimits.{LogLimits}
 use Rattle.disk_model.specs.declared.disk.Disk.{Ghosts}
-use Rattle.disk_model.specs.Past.{reads, Keeps, EveryImage}
+use Rattle.disk_model.specs.Past.{reads, Keeps}
 use Rattle.log_journal.specs.File.{Holds}
+use Rattle.log_journal.specs.Written.{Reopened, RefusedOpening}
 use Rattle.chain_core.specs.Patches.{journal_length}
 use Rattle.patch_log.specs.declared.fault.LogFault.{LogFault}
 use Rattle.patch_log.specs.declared.fault.LogFault.TheVariants.{Failed}
@@ -20,19 +20,13 @@ module _ {D : Type 0} (disks : Ghosts D) where
     pub mark : disks.mark after ≡ disks.mark before
     pub kept : disks.tells → Keeps (disks.past before) (disks.past after)
 
-  -- The log of a file as it was opened: no pass brought its entries, and no patch is in doubt. Its
-  -- disk didn't fail, and was read no further than the journal.
+  -- the log of a file as it was opened: no pass brought its entries, and no patch is in doubt
   pub record IsOpened (limits : LogLimits) (number : ℕ) (disk : D) (log : LogView D) : Type 0 where
     pub file : disks.tells → Holds (reads (disks.past disk)) number (payloads_of (chain_of log))
     pub sound : IsSoundLog limits (chain_of log)
     pub by_nobody : AllByRecursion (λ entry. entry.by ≡ 0) log.entries
     pub settled : (log.doubt ≡ None) × (log.number ≡ number) × (log.limits ≡ limits)
-    pub kept : IsSameDisk disk log.disk
-    pub faults : disks.faults log.disk ≡ disks.faults disk
-    pub few :
-        disks.tells
-        → disks.read_bytes log.disk ≤ disks.read_bytes disk + journal_length (chain_of log)
-    pub long : disks.plans → disks.short log.disk ≡ disks.short disk
+    pub reopened : Reopened disks disk log.disk (journal_length (chain_of log))
 
   -- logs of files whose numbers go up from this one
   abbrev pub AreOpened : LogLimits → ℕ → List D → List (LogView D) → Type 0
@@ -42,18 +36,11 @@ module _ {D : Type 0} (disks : Ghosts D) where
   AreOpened limits number [] (log ∷ logs) = ⊥
   AreOpened limits number (disk ∷ more) [] = ⊥
 
-  -- The file has this fault. That its disk failed is told where it did, and where no failure is
-  -- planned it failed for want of memory.
+  -- the file has this fault, unless its disk failed or memory ran out
   pub record IsRefusedLog (limits : LogLimits) (number : ℕ) (disk : D) (fault : LogFault)
       (after : D) : Type 0 where
     pub has : disks.tells → HasLogFault (reads (disks.past disk)) number limits fault
-    pub kept : IsSameDisk disk after
-    pub cause : fault ≡ Failed → Rose (disks.faults disk) (disks.faults after)
-    pub never_falls : disks.faults disk ≤ disks.faults after
-    pub well : fault ≢ Failed → disks.faults after ≡ disks.faults disk
-    pub planned :
-        disks.plans → fault ≡ Failed → disks.next_failure disk ≡ None
-        → IsTrue (disks.short after)
+    pub refused : RefusedOpening disks (fault ≡ Failed) disk after
 
   -- the log of the file was opened, and let go
   abbrev pub WasLogOpened : LogLimits → ℕ → D → D → Type 0
@@ -73,23 +60,10 @@ module _ {D : Type 0} (disks : Ghosts D) where
   abbrev pub IsFresh : LogView D → Type 0
   IsFresh log = AllByRecursion (λ entry. entry.by ≡ 0) log.entries × (log.doubt ≡ None)
 
-  -- the log still has its disk, or that disk still holds it in each image that a crash may leave
-  abbrev pub IsStill : LogView D → D → Type 0
-  IsStill log disk =
-      (disk ≡ log.disk)
-      ⊎ ((disks.mark disk ≡ disks.mark log.disk)
-      × (disks.tells → EveryImage (disks.past disk)
-      (λ image. Holds image log.number (payloads_of (chain_of log)))))
+  -- the disk is the one of the log
+  abbrev pub IsDiskOf : LogView D → D → Type 0
+  IsDiskOf log disk = disk ≡ log.disk
 
-  -- memory ran out: the file wasn't asked, or was opened as a log and is one still
-  abbrev pub IsLeft : LogLimits → ℕ → D → D → Type 0
-  IsLeft limits number disk left =
-      IsSameDisk disk left ⊎ ((log : LogView D) × IsOpened limits number disk log
-      × IsStill log left)
-
-  abbrev pub AreLeft : LogLimits → ℕ → List D → List D → Type 0
-  AreLeft limits number [] [] = Unit {0}
-  AreLeft limits number (disk ∷ before) (left ∷ after) =
-      IsLeft limits number disk left × AreLeft limits (number + 1) before after
-  AreLeft limits number [] (left ∷ after) = ⊥
-  AreLeft limits number (disk ∷ before) [] = ⊥
+  -- each disk is the same one still, by its place
+  abbrev pub AreSameDisks : List D → List D → Type 0
+  AreSameDisks before after = AllZip IsSameDisk before after

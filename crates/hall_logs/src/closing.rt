@@ -1,8 +1,7 @@
 //! Logs give their disks back.
-ghost use Rattle.std.specs.Prelude.{◌≡◌, None, map, vec_capacity};
+ghost use Rattle.std.specs.Prelude.{◌≡◌, map, vec_capacity};
 ghost use Rattle.std.specs.List.{AllZip};
-ghost use Rattle.turn_cell.specs.Turns.{AllOf};
-ghost use Rattle.hall_logs.specs.Files.{IsStill};
+ghost use Rattle.hall_logs.specs.Files.{IsDiskOf};
 ghost use Rattle.hall_logs.specs.Slots.{AreAllHallPasses, AreNew};
 ghost use Rattle.hall_logs.specs.Rooms.{HasRoom};
 ghost use Rattle.hall_logs.specs.Ends.{AreEnded};
@@ -21,10 +20,9 @@ impl<D: Disk> HallLogs<D> {
         ensures ends { AreEnded D.Disk 0 self.logs passes.items result.items }
         ensures room { vec_capacity result ≡ rooms.disks }
 
-        // Where no pass made a call, each disk still holds its log.
+        // Where no pass made a call, each disk is that of its log as it was shared.
         ensures idle { AreNew D.Disk self.logs 1 passes.items
-            → AllOf (λ log. log.origin.doubt ≡ None) self.logs
-            → AllZip (IsStill D.Disk) (map (λ log. log.origin) self.logs) result.items }
+            → AllZip (IsDiskOf D.Disk) (map (λ log. log.origin) self.logs) result.items }
     {
         let mut passes = passes;
         let HallLogs { mut logs, seats: _ } = self;

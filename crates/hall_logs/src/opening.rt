@@ -18,7 +18,7 @@ ghost use Rattle.std.specs.Prelude.{
   vec_capacity,
 };
 ghost use Rattle.turn_cell.specs.Turns.{AllOf};
-ghost use Rattle.hall_logs.specs.Files.{AreOpened, AreRefusedAt, AreLeft};
+ghost use Rattle.hall_logs.specs.Files.{AreOpened, AreRefusedAt, AreSameDisks};
 ghost use Rattle.hall_logs.specs.Rooms.{HasRoom};
 ghost use Rattle.hall_logs.specs.Slots.{AreAllHallPasses, AreNew};
 
@@ -155,7 +155,7 @@ impl<D: Disk> HallLogs<D> {
             → AreRefusedAt D.Disk limits 1 disks.items
             refusal.file refusal.fault refusal.disks.items) }
         ensures want { IfErr result (λ refusal. refusal.fault ≡ LogFault.OutOfMemory
-            → AreLeft D.Disk limits 1 disks.items refusal.disks.items) }
+            → AreSameDisks D.Disk disks.items refusal.disks.items) }
         ensures room { IfErr result (λ refusal.
             vec_capacity refusal.disks ≡ vec_capacity disks) }
     {

@@ -12,13 +12,12 @@ ghost use Rattle.std.specs.Prelude.{
   IfOk,
   IfErr,
   OnOk,
-  None,
   vec_len,
   vec_capacity,
 };
 ghost use Rattle.std.specs.List.{AllZip};
 ghost use Rattle.turn_cell.specs.Turns.{AllOf};
-ghost use Rattle.hall_logs.specs.Files.{IsFresh, IsStill};
+ghost use Rattle.hall_logs.specs.Files.{IsFresh, IsDiskOf};
 ghost use Rattle.hall_logs.specs.Rooms.{HasRoom};
 ghost use Rattle.hall_logs.specs.Slots.{AreNew, IsShared};
 
@@ -76,11 +75,10 @@ impl<D: Disk> HallLogs<D> {
     ) -> LogsRefusal<D>
         requires room { length self.logs + vec_len opened ≤ rooms.disks }
         requires few { length self.logs < 16 }
-        requires settled { AllOf (λ log. log.origin.doubt ≡ None) self.logs }
         requires passes { AreNew D.Disk self.logs 1 passes.items
             × (vec_len passes ≡ self.seats) }
         requires rooms { HasRoom self rooms }
-        ensures still { AllZip (IsStill D.Disk)
+        ensures still { AllZip (IsDiskOf D.Disk)
             (map (λ log. log.origin) self.logs ++ reverse opened.items) result.disks.items }
         ensures told { result.fault ≡ LogFault.OutOfMemory }
         ensures room { vec_capacity result.disks ≡ rooms.disks }
@@ -118,7 +116,7 @@ impl<D: Disk> HallLogs<D> {
         ensures new { IfOk result (λ r. (vec_len r.1 ≡ self.seats)
             × AreNew D.Disk r.0.logs 1 r.1.items) }
         ensures rooms { IfOk result (λ r. HasRoom r.0 r.2 × (r.2.disks ≡ rooms.disks)) }
-        ensures still { IfErr result (λ refusal. AllZip (IsStill D.Disk) (reverse opened.items)
+        ensures still { IfErr result (λ refusal. AllZip (IsDiskOf D.Disk) (reverse opened.items)
             refusal.disks.items) }
         ensures told { IfErr result (λ refusal. refusal.fault ≡ LogFault.OutOfMemory) }
         ensures room { IfErr result (λ refusal. vec_capacity refusal.disks ≡ rooms.disks) }

@@ -16,10 +16,7 @@ loop-disk-preserved g c =
       sound = e.log;
       by_nobody = e.by_nobody;
       settled = e.settled;
-      kept = record { mark = e.mark; kept = e.kept };
-      faults = e.faults;
-      few = e.few;
-      long = e.long;
+      reopened = e.reopened;
     } in
     let next = opens_one g.D.Disk c.args.limits c.args.disks.now.items l.opened.items rest c.in-Some.disk l.file before c.in-Ok.log one in
     let p = c.push_reserved.ensures in
@@ -42,11 +39,7 @@ returns-in-Err-clause-refused g c =
     let before = subst (λ (others : List g.row.D.Denot). Opening g.D.Disk c.args.limits c.args.disks.now.items l.opened.items others l.file) c.in-Some.ensures.items l.invariant.opening in
     let one : IsRefusedLog g.D.Disk c.args.limits (l.file + 1) c.in-Some.disk fault after = record {
       has = e.fault;
-      kept = record { mark = e.mark_refused; kept = e.kept_refused };
-      cause = e.cause;
-      never_falls = e.never_falls;
-      well = e.faults_refused;
-      planned = e.planned;
+      refused = e.refused;
     } in
     refused_here g.D.Disk c.args.limits c.args.disks.now.items l.opened.items rest c.in-Some.disk l.file before fault after c.put_back.new.disks.items one
     (c.put_back.ensures.disks ∙ ap (λ (d : List g.row.D.Denot). map (λ (log : LogView g.row.D.Denot). log.disk) l.opened.items ++ reverse d) c.push_reserved-in-Err.ensures.items)

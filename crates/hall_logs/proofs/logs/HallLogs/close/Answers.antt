@@ -1,6 +1,5 @@
 use Rattle.std.proofs.Common.{◌≡◌, List, length, sym, subst, ap, ◌∙◌, arith, rules, vec_len}
 use Rattle.patch_log.specs.State.{LogView}
-use Rattle.turn_cell.specs.Turns.{AllOf}
 use Rattle.turn_cell.specs.Sights.{Made}
 use Rattle.shared_log.specs.History.{LogSight}
 use Rattle.hall_logs.specs.Ends.{AreEnded}
@@ -75,9 +74,7 @@ loop-log-preserved g c =
     }
 
 pub returns-clause-idle : goal.returns-clause-idle
-returns-clause-idle g c = λ new settled.
+returns-clause-idle g c = λ new.
     let hall : LogsOfHall g.row.D.Denot = c.args.self in
-    let disks : List g.row.D.Denot = c.reverse.new.self.items in
-    let alike = subst (λ (h : LogsOfHall g.row.D.Denot). AllOf (λ (log : Made (LogView g.row.D.Denot)). log.seats ≡ h.seats) h.logs) c.self.view_is c.self.invariant.0 in
-    let ends : AreEnded g.D.Disk 0 hall.logs c.args.passes.items disks = search rules in
-    all_still g.D.Disk hall.logs hall.seats c.args.passes.items new c.requires.passes.count alike settled disks ends
+    let ends : AreEnded g.D.Disk 0 hall.logs c.args.passes.items c.reverse.new.self.items = search rules in
+    all_still g.D.Disk hall.logs c.args.passes.items new c.reverse.new.self.items ends

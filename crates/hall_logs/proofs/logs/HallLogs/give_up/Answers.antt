@@ -20,7 +20,7 @@ loop-log-init g c =
       giving = record {
         done = map (λ (log : Made (LogView g.row.D.Denot)). log.origin) hall.logs;
         all_is = refl;
-        still = c.close-disks.ensures.idle c.requires.passes.0 c.requires.settled;
+        still = c.close-disks.ensures.idle c.requires.passes.0;
       };
       capacity = c.close-disks.ensures.room;
       room = omega (arith, many, c.close-disks.result.ok.0, c.requires.room, c.close-disks.ensures.room);

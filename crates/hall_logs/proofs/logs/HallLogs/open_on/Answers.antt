@@ -6,14 +6,14 @@ use Rattle.patch_log.specs.declared.fault.LogFault.TheVariants.{OutOfMemory}
 use Rattle.patch_log.specs.State.{LogView}
 use Rattle.turn_cell.specs.Turns.{AllOf}
 use Rattle.turn_cell.specs.Sights.{Made}
-use Rattle.hall_logs.specs.Files.{AreOpened, IsFresh, IsStill, AreLeft}
+use Rattle.hall_logs.specs.Files.{AreOpened, IsFresh, IsDiskOf, AreSameDisks}
 use Rattle.hall_logs.specs.Slots.{AreNew, AreAllHallPasses}
 use Rattle.hall_logs.proofs.Opens.{all_fresh, as_many, left_still, left_same, left_refused, all_reverse, when_ok, when_err}
 use Rattle.hall_logs.proofs.Shares.{all_new}
 use Rattle.hall_logs.proofs.logs.HallLogs.open_on.Goals as goal
 
 pub returns-in_default-clause-want : goal.returns-in_default-clause-want
-returns-in_default-clause-want g c = λ told. left_same g.D.Disk c.args.limits 1 c.args.disks.items
+returns-in_default-clause-want g c = λ told. left_same g.D.Disk c.args.limits c.args.disks.items
 
 pub share-requires-clause-room : goal.share-requires-clause-room
 share-requires-clause-room g c =
@@ -46,8 +46,8 @@ returns-in-Ok-open_files-clause-want g c =
     let opened : List (LogView g.row.D.Denot) = c.open_files.new.opened.items in
     let turned : List (LogView g.row.D.Denot) = c.reverse.new.self.items in
     let again : reverse turned ≡ opened = ap (λ (l : List (LogView g.row.D.Denot)). reverse l) c.reverse.ensures.items ∙ reverse-reverse opened in
-    when_err c.share.result (λ refusal. AllZip (IsStill g.D.Disk) (reverse turned) refusal.disks.items) (λ refusal. refusal.fault ≡ OutOfMemory → AreLeft g.D.Disk c.args.limits 1 c.args.disks.items refusal.disks.items) c.share.ensures.still
-    (λ refusal still told. left_still g.D.Disk c.args.limits 1 c.args.disks.items opened refusal.disks.items c.in-Ok-open_files.ensures.ok.0 (subst (λ (l : List (LogView g.row.D.Denot)). AllZip (IsStill g.D.Disk) l refusal.disks.items) again still))
+    when_err c.share.result (λ refusal. AllZip (IsDiskOf g.D.Disk) (reverse turned) refusal.disks.items) (λ refusal. refusal.fault ≡ OutOfMemory → AreSameDisks g.D.Disk c.args.disks.items refusal.disks.items) c.share.ensures.still
+    (λ refusal still told. left_still g.D.Disk c.args.limits 1 c.args.disks.items opened refusal.disks.items c.in-Ok-open_files.ensures.ok.0 (subst (λ (l : List (LogView g.row.D.Denot)). AllZip (IsDiskOf g.D.Disk) l refusal.disks.items) again still))
 
 pub returns-in-Err-clause-want : goal.returns-in-Err-clause-want
 returns-in-Err-clause-want g c = λ told.

@@ -1,4 +1,4 @@
-use Rattle.std.proofs.Common.{◌≡◌, ◌++◌, ◌∷◌, [], List, map, length, length-append, None, refl, sym, subst, ap, ◌∙◌, arith}
+use Rattle.std.proofs.Common.{◌≡◌, ◌++◌, ◌∷◌, [], List, map, length, length-append, refl, sym, subst, ap, ◌∙◌, arith}
 use Rattle.std.specs.Prelude.{reverse}
 use Rattle.patch_log.specs.State.{LogView}
 use Rattle.turn_cell.specs.Turns.{AllOf}
@@ -6,12 +6,10 @@ use Rattle.turn_cell.specs.Sights.{Made}
 use Rattle.turn_cell.proofs.PassLists.{all_front}
 use Rattle.shared_log.specs.History.{LogSight}
 use Rattle.std.specs.List.{AllZip}
-use Rattle.turn_cell.proofs.Views.{all_map}
-use Rattle.hall_logs.specs.Files.{IsFresh, IsStill}
+use Rattle.hall_logs.specs.Files.{IsFresh, IsDiskOf}
 use Rattle.hall_logs.specs.Rooms.{Room}
 use Rattle.hall_logs.specs.Slots.{LogsOfHall, AreNew}
-use Rattle.hall_logs.proofs.Opens.{all_reverse}
-use Rattle.hall_logs.proofs.Shares.{lengths_new, shares_none, shares_one, settled}
+use Rattle.hall_logs.proofs.Shares.{lengths_new, shares_none, shares_one}
 use Rattle.hall_logs.proofs.logs.HallLogs.share.Goals as goal
 
 pub loop-log-init : goal.loop-log-init
@@ -32,14 +30,6 @@ add-requires-clause-fresh g c =
 pub add-requires-clause-parts : goal.add-requires-clause-parts
 add-requires-clause-parts g c = lengths_new g.D.Disk c.loop-log.hall.logs 1 c.loop-log.passes.items c.loop-log.invariant.sharing.new
 
-pub give_up-requires-clause-settled : goal.give_up-requires-clause-settled
-give_up-requires-clause-settled g c =
-    let l = c.loop-log in
-    let origins = l.invariant.sharing.order in
-    let none = all_map (IsFresh g.D.Disk) (λ (log : LogView g.row.D.Denot). log.doubt ≡ None) (λ log fresh. fresh.1) (reverse c.args.opened.items) (all_reverse (IsFresh g.D.Disk) c.args.opened.items c.requires.fresh) in
-    subst (λ (h : LogsOfHall g.row.D.Denot). AllOf (λ (log : Made (LogView g.row.D.Denot)). log.origin.doubt ≡ None) h.logs) (sym c.in-Err.ensures.err.1)
-    (settled g.D.Disk l.hall.logs (reverse l.opened.items) (reverse c.args.opened.items) origins none)
-
 pub give_up-requires-clause-passes : goal.give_up-requires-clause-passes
 give_up-requires-clause-passes g c =
     let l = c.loop-log in
@@ -55,7 +45,7 @@ returns-in-Err-clause-still g c =
     let rest : List (LogView g.row.D.Denot) = c.pop.new.self.items in
     let again : c.push_reserved.new.self.items ≡ l.opened.items = c.push_reserved.ensures.items ∙ ap (λ (log : LogView g.row.D.Denot). rest ++ log ∷ []) e.0 ∙ sym c.in-Some.ensures.items in
     let is : map origin c.add.new.self.logs ++ reverse c.push_reserved.new.self.items ≡ reverse c.args.opened.items = (λ i. map origin ((e.1 i).logs) ++ reverse (again i)) ∙ l.invariant.sharing.order in
-    subst (λ (logs : List (LogView g.row.D.Denot)). AllZip (IsStill g.D.Disk) logs c.give_up.result.disks.items) is c.give_up.ensures.still
+    subst (λ (logs : List (LogView g.row.D.Denot)). AllZip (IsDiskOf g.D.Disk) logs c.give_up.result.disks.items) is c.give_up.ensures.still
 
 pub loop-log-preserved : goal.loop-log-preserved
 loop-log-preserved g c =
