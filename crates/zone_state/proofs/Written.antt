@@ -29,7 +29,7 @@ use Rattle.zone_state.proofs.Decisions.{CanBeTaken, can_be_taken, IsRefused}
 use Rattle.zone_state.proofs.Growing.{brief-push, taken-push}
 use Rattle.zone_state.proofs.Standing.{taken_after, outcome_is, without_after, having_after, journal_stands, zone_stands, stands_after}
 use Rattle.delta_base.specs.declared.id.Id.{Id}
-use Rattle.rdf_terms.specs.Dataset.{Dataset, apply}
+use Rattle.rdf_terms.specs.Dataset.{apply}
 
 -- what is kept behind a write
 abbrev pub brief_after : Option Phase → Brief → CheckedPatch → Brief
@@ -176,13 +176,7 @@ took_nothing {D} {disks} zone taken doubt patch answer stands told made =
 
 pub brief_counted : (kept new : Kept) (patch : CheckedPatch) → new.ids.items ≡ kept.ids.items ++ patch.meaning.id ∷ [] → new.bytes ≡ kept.bytes + length patch.text → new.contents.contents ≡ apply patch.meaning.changes kept.contents.contents
     → brief_in new ≡ with_patch (brief_in kept) patch
-brief_counted kept new patch ids bytes contents =
-    ap (λ (is : List Id). record { ids = is; bytes = new.bytes; contents = new.contents.contents }) ids
-    ∙ ap (λ (n : ℕ). record { ids = kept.ids.items ++ patch.meaning.id ∷ []; bytes = n; contents = new.contents.contents }) bytes
-    ∙ ap (λ (d : Dataset). record { ids = kept.ids.items ++ patch.meaning.id ∷ []; bytes = kept.bytes + length patch.text; contents = d }) contents
+brief_counted kept new patch ids bytes contents = λ i. record { ids = ids i; bytes = bytes i; contents = contents i }
 
 pub brief_same : (kept new : Kept) → new.ids.items ≡ kept.ids.items → new.bytes ≡ kept.bytes → new.contents.contents ≡ kept.contents.contents → brief_in new ≡ brief_in kept
-brief_same kept new ids bytes contents =
-    ap (λ (is : List Id). record { ids = is; bytes = new.bytes; contents = new.contents.contents }) ids
-    ∙ ap (λ (n : ℕ). record { ids = kept.ids.items; bytes = n; contents = new.contents.contents }) bytes
-    ∙ ap (λ (d : Dataset). record { ids = kept.ids.items; bytes = kept.bytes; contents = d }) contents
+brief_same kept new ids bytes contents = λ i. record { ids = ids i; bytes = bytes i; contents = contents i }
