@@ -1,4 +1,4 @@
-use Rattle.std.proofs.Common.{◌+◌, arith}
+use Rattle.std.proofs.Common.{arith}
 use Rattle.std.proofs.lemmas.List.{length-map}
 use Rattle.registry_core.specs.declared.event.Entry.{Entry}
 use Rattle.registry_core.specs.Events.{events_of}
