@@ -3,35 +3,36 @@ use Rattle.std.proofs.Common.{◌≡◌, ℕ, zero, suc, ◌<◌, List, [], ◌�
 use Rattle.std.proofs.lemmas.List.{drop_all, take_all, append-nil}
 use Rattle.std.specs.Prelude.{slice_set, Result, Ok, Err, IfOk}
 use Rattle.std.specs.List.{AllZip}
+use Rattle.disk_model.specs.declared.disk.Disk.{Ghosts}
 use Rattle.patch_log.specs.State.{LogView}
 use Rattle.turn_cell.specs.Turns.{AllOf}
 use Rattle.turn_cell.specs.Sights.{Made}
-use Rattle.shared_log.specs.Passes.{LogSight}
+use Rattle.shared_log.specs.History.{LogSight}
 use Rattle.hall_logs.specs.Slots.{AreAllHallPasses}
 use Rattle.hall_logs.specs.Visits.{Visit, AreVisits, HasVisited}
 use Rattle.hall_logs.proofs.Visiting.{passes_stay}
 
-module _ {D : Type 0} (mark : D → Option (List ℕ × ℕ)) (logs : List (Made (LogView D))) where
+module _ {D : Type 0} (disks : Ghosts D) (logs : List (Made (LogView D))) where
   pub at : (P : List LogSight → Type 0) (passes : List (List LogSight)) (k : ℕ) (pass : List LogSight) → AllOf P passes → k < length passes → pass ≡ slice_index_or passes k pass → P pass
   at P [] k pass all low is = absurd (omega (arith, low))
   at P (x ∷ passes) zero pass all low is = subst P (sym is) all.0
   at P (x ∷ passes) (suc k) pass all low is = at P passes k pass all.1 (omega (arith, low)) is
 
-  same : (passes : List (List LogSight)) → AllZip (HasVisited logs) passes passes
+  same : (passes : List (List LogSight)) → AllZip (HasVisited disks logs) passes passes
   same [] = tt
   same (pass ∷ passes) = (([], refl), same passes)
 
-  set_one : (passes : List (List LogSight)) (k : ℕ) (pass after : List LogSight) → k < length passes → pass ≡ slice_index_or passes k pass → HasVisited logs pass after → AllZip (HasVisited logs) passes (slice_set passes k after)
+  set_one : (passes : List (List LogSight)) (k : ℕ) (pass after : List LogSight) → k < length passes → pass ≡ slice_index_or passes k pass → HasVisited disks logs pass after → AllZip (HasVisited disks logs) passes (slice_set passes k after)
   set_one [] k pass after low is visited = absurd (omega (arith, low))
-  set_one (x ∷ passes) zero pass after low is visited = (subst (λ (p : List LogSight). HasVisited logs p after) is visited, same passes)
+  set_one (x ∷ passes) zero pass after low is visited = (subst (λ (p : List LogSight). HasVisited disks logs p after) is visited, same passes)
   set_one (x ∷ passes) (suc k) pass after low is visited = (([], refl), set_one passes k pass after (omega (arith, low)) is visited)
 
-  pub one_visits : (seats : ℕ) (passes : List (List LogSight)) (k : ℕ) (pass after : List LogSight) → AreAllHallPasses mark logs seats passes → k < seats → pass ≡ slice_index_or passes k pass → HasVisited logs pass after → AreAllHallPasses mark logs seats (slice_set passes k after)
+  pub one_visits : (seats : ℕ) (passes : List (List LogSight)) (k : ℕ) (pass after : List LogSight) → AreAllHallPasses disks logs seats passes → k < seats → pass ≡ slice_index_or passes k pass → HasVisited disks logs pass after → AreAllHallPasses disks logs seats (slice_set passes k after)
   one_visits seats passes k pass after all low is visited =
-      passes_stay mark logs seats passes (slice_set passes k after) (set_one passes k pass after (omega (arith, low, all.count)) is visited) all
+      passes_stay disks logs seats passes (slice_set passes k after) (set_one passes k pass after (omega (arith, low, all.count)) is visited) all
 
   pub each_visits : (before after : List (List LogSight)) → length after ≡ length before
-      → ((k : ℕ) (d : List LogSight) → k < length before → HasVisited logs (slice_index_or before k d) (slice_index_or after k d)) → AllZip (HasVisited logs) before after
+      → ((k : ℕ) (d : List LogSight) → k < length before → HasVisited disks logs (slice_index_or before k d) (slice_index_or after k d)) → AllZip (HasVisited disks logs) before after
   each_visits [] [] count each = tt
   each_visits [] (y ∷ after) count each = absurd (omega (arith, count))
   each_visits (x ∷ before) [] count each = absurd (omega (arith, count))

@@ -18,10 +18,10 @@ pub(crate) fn append_by<R: Wait, D: Disk>(
     slot: u32,
     patch: &Checked,
 ) -> LogAnswer
-    requires all { AreAllHallPasses D.mark hall.now.logs 2 passes.old.items }
+    requires all { AreAllHallPasses D.Disk hall.now.logs 2 passes.old.items }
     requires place { place < 2 }
     requires slot { (0 < slot) × (slot ≤ length hall.now.logs) }
-    ensures { AreAllHallPasses D.mark hall.now.logs 2 passes.new.items }
+    ensures { AreAllHallPasses D.Disk hall.now.logs 2 passes.new.items }
 {
     hall.append(rt, &mut passes[place], slot, patch)
 }
@@ -32,10 +32,10 @@ pub(crate) fn version_by<D: Disk>(
     place: usize,
     slot: u32,
 ) -> u32
-    requires all { AreAllHallPasses D.mark hall.now.logs 2 passes.old.items }
+    requires all { AreAllHallPasses D.Disk hall.now.logs 2 passes.old.items }
     requires place { place < 2 }
     requires slot { (0 < slot) × (slot ≤ length hall.now.logs) }
-    ensures { AreAllHallPasses D.mark hall.now.logs 2 passes.new.items }
+    ensures { AreAllHallPasses D.Disk hall.now.logs 2 passes.new.items }
 {
     hall.version(&mut passes[place], slot)
 }

@@ -32,7 +32,7 @@ pub(crate) fn two_disks(alloc: Global, failing: &[u64]) -> Result<Vec<MemDisk>, 
 pub(crate) fn open<D: Disk>(alloc: Global, disks: Vec<D>) -> Result<Shared<D>, LogsRefusal<D>>
     requires { vec_len disks ≡ 2 }
     ensures logs { IfOk result (λ r. (length r.0.logs ≡ 2) × (r.0.seats ≡ 2)) }
-    ensures passes { IfOk result (λ r. AreAllHallPasses D.mark r.0.logs 2 r.1.items) }
+    ensures passes { IfOk result (λ r. AreAllHallPasses D.Disk r.0.logs 2 r.1.items) }
     ensures rooms { IfOk result (λ r. HasRoom r.0 r.2) }
 {
     HallLogs::open_on(alloc, disks, LIMITS, 2)
@@ -41,7 +41,7 @@ pub(crate) fn open<D: Disk>(alloc: Global, disks: Vec<D>) -> Result<Shared<D>, L
 /// The two disks, once all passes are back.
 pub(crate) fn close<D: Disk>(shared: Shared<D>) -> Vec<D>
     requires logs { (length shared.0.logs ≡ 2) × (shared.0.seats ≡ 2) }
-    requires passes { AreAllHallPasses D.mark shared.0.logs 2 shared.1.items }
+    requires passes { AreAllHallPasses D.Disk shared.0.logs 2 shared.1.items }
     requires rooms { HasRoom shared.0 shared.2 }
     ensures { vec_len result ≡ 2 }
 {

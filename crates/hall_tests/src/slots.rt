@@ -1,12 +1,11 @@
 //! Two logs over disks in memory, and two passes.
 ghost use Rattle.std.specs.Prelude.{◌≡◌, ◌<◌, length, IfOk, vec_len};
-ghost use Rattle.disk_model.specs.Memory.{memory_mark};
 ghost use Rattle.hall_logs.specs.Slots.{AreAllHallPasses};
 
 use crate::calls::{append_by, version_by};
 use crate::halls::{LIMITS, close, open, two_disks};
 use chain_core::LogAnswer;
-use disk_model::MemDisk;
+use disk_model::{Disk, MemDisk};
 use hall_logs::{HallLogs, LogsPass, LogsRefusal};
 use patch_log::LogFault;
 use patch_meaning::{Checked, check_patch};
@@ -21,16 +20,16 @@ fn is(rt: &impl Abort, answer: LogAnswer, wanted: LogAnswer) {
 }
 
 // The first log takes the first patch, and the second log both.
-fn both_take<R: Wait + Abort>(
+fn both_take<D: Disk, R: Wait + Abort>(
     rt: &R,
-    hall: &HallLogs<MemDisk>,
-    passes: &mut Vec<LogsPass<MemDisk>>,
+    hall: &HallLogs<D>,
+    passes: &mut Vec<LogsPass<D>>,
     first: &Checked,
     second: &Checked,
 )
-    requires all { AreAllHallPasses memory_mark hall.now.logs 2 passes.old.items }
+    requires all { AreAllHallPasses D.Disk hall.now.logs 2 passes.old.items }
     requires logs { length hall.now.logs ≡ 2 }
-    ensures { AreAllHallPasses memory_mark hall.now.logs 2 passes.new.items }
+    ensures { AreAllHallPasses D.Disk hall.now.logs 2 passes.new.items }
 {
     let answer = append_by(rt, hall, passes, 0, 1, first);
     is(rt, answer, LogAnswer::Accepted { version: 1 });
@@ -41,16 +40,16 @@ fn both_take<R: Wait + Abort>(
 }
 
 // The logs have one patch and two, as the pass of this place is told.
-fn have_one_and_two(
+fn have_one_and_two<D: Disk>(
     rt: &impl Abort,
-    hall: &HallLogs<MemDisk>,
-    passes: &mut Vec<LogsPass<MemDisk>>,
+    hall: &HallLogs<D>,
+    passes: &mut Vec<LogsPass<D>>,
     place: usize,
 )
-    requires all { AreAllHallPasses memory_mark hall.now.logs 2 passes.old.items }
+    requires all { AreAllHallPasses D.Disk hall.now.logs 2 passes.old.items }
     requires logs { length hall.now.logs ≡ 2 }
     requires place { place < 2 }
-    ensures { AreAllHallPasses memory_mark hall.now.logs 2 passes.new.items }
+    ensures { AreAllHallPasses D.Disk hall.now.logs 2 passes.new.items }
 {
     assert!(rt; version_by(hall, passes, place, 1) == 1);
     assert!(rt; version_by(hall, passes, place, 2) == 2);

@@ -16,9 +16,9 @@ use worked_rows::FIRST;
 
 // One append to the first log.
 fn append_one<R: Wait, D: Disk>(rt: &R, hall: &HallLogs<D>, pass: &mut LogsPass<D>, patch: &Checked)
-    requires of { ArePartsOf D.mark hall.now.logs pass.old }
+    requires of { ArePartsOf D.Disk hall.now.logs pass.old }
     requires some { 0 < length hall.now.logs }
-    ensures { HasVisited hall.now.logs pass.old pass.new }
+    ensures { HasVisited D.Disk hall.now.logs pass.old pass.new }
 {
     hall.append(rt, pass, 1, patch);
 }
@@ -30,10 +30,10 @@ fn append_each<R: Threads + Wait + Sync, D: Disk + Send>(
     passes: &mut [LogsPass<D>],
     patch: &Checked,
 )
-    requires of { All (ArePartsOf D.mark hall.now.logs) passes.old }
+    requires of { All (ArePartsOf D.Disk hall.now.logs) passes.old }
     requires some { 0 < length hall.now.logs }
     ensures count { length passes.new ≡ length passes.old }
-    ensures each { (k : ℕ) (d : _) → k < length passes.old → HasVisited hall.now.logs
+    ensures each { (k : ℕ) (d : _) → k < length passes.old → HasVisited D.Disk hall.now.logs
         (slice_index_or passes.old k d) (slice_index_or passes.new k d) }
 {
     thread::for_each_mut(
@@ -41,8 +41,8 @@ fn append_each<R: Threads + Wait + Sync, D: Disk + Send>(
         passes,
         16,
         &|_place: usize, pass: &mut LogsPass<D>|
-            requires { ArePartsOf D.mark hall.now.logs pass.old × (0 < length hall.now.logs) }
-            ensures { HasVisited hall.entry.now.logs pass.old pass.new }
+            requires { ArePartsOf D.Disk hall.now.logs pass.old × (0 < length hall.now.logs) }
+            ensures { HasVisited D.Disk hall.entry.now.logs pass.old pass.new }
         { append_one(rt, hall, pass, patch) },
     );
 }
@@ -54,9 +54,9 @@ fn append_all<R: Threads + Wait + Sync, D: Disk + Send>(
     passes: &mut Vec<LogsPass<D>>,
     patch: &Checked,
 )
-    requires all { AreAllHallPasses D.mark hall.now.logs 2 passes.old.items }
+    requires all { AreAllHallPasses D.Disk hall.now.logs 2 passes.old.items }
     requires some { 0 < length hall.now.logs }
-    ensures { AreAllHallPasses D.mark hall.now.logs 2 passes.new.items }
+    ensures { AreAllHallPasses D.Disk hall.now.logs 2 passes.new.items }
 {
     append_each(rt, hall, passes, patch);
 }

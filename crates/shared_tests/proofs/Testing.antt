@@ -3,7 +3,7 @@ use Rattle.std.proofs.Common.{◌≡◌, ℕ, ◌+◌, List, [], ◌∷◌, ◌+
 use mathlib.Core.Logic.{dite}
 use native.Mathlib.Decide.{ℕ_discrete}
 use Rattle.turn_cell.specs.Sights.{AreAll}
-use Rattle.shared_log.specs.Passes.{LogSight}
+use Rattle.shared_log.specs.History.{LogSight}
 
 pub both_numbers : (seats : ℕ) (a b : LogSight) (items : List LogSight) → items ≡ a ∷ b ∷ [] → seats ≡ 2 → a.view.number ≡ 1 → b.view.number ≡ 2 → AreAll seats items
 both_numbers seats a b items is two one_a two_b = subst (AreAll seats) (sym is) (λ n low high. dite (ℕ_discrete n 1)

@@ -1,9 +1,9 @@
 //! Two passes of one log over a disk in memory.
 ghost use Rattle.std.specs.Prelude.{◌≡◌, ◌<◌, ◌≤◌, ◌^◌, [], IfOk, vec_capacity};
 ghost use Rattle.std.specs.List.{AllByRecursion};
-ghost use Rattle.disk_model.specs.Memory.{memory_mark};
-ghost use Rattle.shared_log.specs.Passes.{IsPassOf};
 ghost use Rattle.turn_cell.specs.Knowing.{pass_number};
+ghost use Rattle.turn_cell.specs.Sharing.{IsPassOf};
+ghost use Rattle.shared_tests.specs.Memory.{log_in_memory};
 
 use chain_core::LogAnswer;
 use delta_base::{Bytes, Id, Listing};
@@ -56,8 +56,8 @@ pub(crate) struct Passes {
 
 // A log that two passes share.
 pub(crate) fn share(alloc: Global, failing: &[u64]) -> Result<(SharedLog<MemDisk>, Passes), Fail>
-    ensures one { IfOk result (λ r. IsPassOf memory_mark r.0 r.1.one × (pass_number r.1.one ≡ 1)) }
-    ensures two { IfOk result (λ r. IsPassOf memory_mark r.0 r.1.two × (pass_number r.1.two ≡ 2)) }
+    ensures one { IfOk result (λ r. IsPassOf log_in_memory r.0 r.1.one × (pass_number r.1.one ≡ 1)) }
+    ensures two { IfOk result (λ r. IsPassOf log_in_memory r.0 r.1.two × (pass_number r.1.two ≡ 2)) }
     ensures room { IfOk result (λ r.
         (r.0.seats ≡ 2) × (r.1.room.items ≡ []) × (2 ≤ vec_capacity r.1.room)) }
 {
@@ -75,8 +75,8 @@ pub(crate) fn share(alloc: Global, failing: &[u64]) -> Result<(SharedLog<MemDisk
 
 // Gives both passes back.
 pub(crate) fn close(log: SharedLog<MemDisk>, passes: Passes) -> LogState<MemDisk>
-    requires one { IsPassOf memory_mark log passes.one × (pass_number passes.one ≡ 1) }
-    requires two { IsPassOf memory_mark log passes.two × (pass_number passes.two ≡ 2) }
+    requires one { IsPassOf log_in_memory log passes.one × (pass_number passes.one ≡ 1) }
+    requires two { IsPassOf log_in_memory log passes.two × (pass_number passes.two ≡ 2) }
     requires room { (log.seats ≡ 2) × (passes.room.items ≡ [])
         × (2 ≤ vec_capacity passes.room) }
 {
@@ -125,10 +125,10 @@ fn both_append<R: Wait + Abort>(
     passes: &mut Passes,
     patches: &Patches,
 )
-    requires one { IsPassOf memory_mark log.now passes.old.one }
-    requires two { IsPassOf memory_mark log.now passes.old.two }
-    ensures one { IsPassOf memory_mark log.now passes.new.one }
-    ensures two { IsPassOf memory_mark log.now passes.new.two }
+    requires one { IsPassOf log_in_memory log.now passes.old.one }
+    requires two { IsPassOf log_in_memory log.now passes.old.two }
+    ensures one { IsPassOf log_in_memory log.now passes.new.one }
+    ensures two { IsPassOf log_in_memory log.now passes.new.two }
     ensures numbers { (pass_number passes.new.one ≡ pass_number passes.old.one)
         × (pass_number passes.new.two ≡ pass_number passes.old.two) }
     ensures room { passes.new.room ≡ passes.old.room }
@@ -192,7 +192,7 @@ fn text_of(fetched: &Fetched) -> Result<&[u8], u32> {
 
 // A log of two patches that the first pass brought.
 fn share_two<R: Wait>(rt: &R, alloc: Global) -> Result<(SharedLog<MemDisk>, Passes), Fail>
-    ensures { IfOk result (λ r. IsPassOf memory_mark r.0 r.1.two) }
+    ensures { IfOk result (λ r. IsPassOf log_in_memory r.0 r.1.two) }
 {
     let first = check_patch(alloc, FIRST)?;
     let second = check_patch(alloc, SECOND)?;
@@ -210,8 +210,8 @@ fn fetches_version<R: Wait + Abort>(
     version: u32,
     text: Result<&[u8], u32>,
 ) -> Result<(), Fail>
-    requires { IsPassOf memory_mark log.now pass.old }
-    ensures { IsPassOf memory_mark log.now pass.new }
+    requires { IsPassOf log_in_memory log.now pass.old }
+    ensures { IsPassOf log_in_memory log.now pass.new }
 {
     let fetched = log.fetch_version(rt, pass, version)?;
     assert!(rt; text_of(&fetched) == text);
@@ -223,7 +223,7 @@ fn fetches_versions<R: Wait + Abort>(
     log: &SharedLog<MemDisk>,
     pass: &mut LogPass<MemDisk>,
 ) -> Result<(), Fail>
-    requires { IsPassOf memory_mark log.now pass.old }
+    requires { IsPassOf log_in_memory log.now pass.old }
 {
     fetches_version(rt, log, pass, 0, Err(2))?;
     fetches_version(rt, log, pass, 1, Ok(FIRST))?;
@@ -248,8 +248,8 @@ fn fetches_id<R: Wait + Abort>(
     id: Id,
     text: Result<&[u8], u32>,
 ) -> Result<(), Fail>
-    requires { IsPassOf memory_mark log.now pass.old }
-    ensures { IsPassOf memory_mark log.now pass.new }
+    requires { IsPassOf log_in_memory log.now pass.old }
+    ensures { IsPassOf log_in_memory log.now pass.new }
 {
     let fetched = log.fetch_id(rt, pass, id)?;
     assert!(rt; text_of(&fetched) == text);
@@ -261,7 +261,7 @@ fn fetches_ids<R: Wait + Abort>(
     log: &SharedLog<MemDisk>,
     pass: &mut LogPass<MemDisk>,
 ) -> Result<(), Fail>
-    requires { IsPassOf memory_mark log.now pass.old }
+    requires { IsPassOf log_in_memory log.now pass.old }
 {
     fetches_id(rt, log, pass, id_of(2), Ok(SECOND))?;
     fetches_id(rt, log, pass, id_of(9), Err(2))?;
@@ -285,7 +285,7 @@ fn describes<R: Wait + Abort>(
     version: u32,
     head: Option<Id>,
 )
-    requires { IsPassOf memory_mark log passes.two }
+    requires { IsPassOf log_in_memory log passes.two }
 {
     let mut passes = passes;
     let told = log.describe(rt, &mut passes.two);

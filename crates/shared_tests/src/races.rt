@@ -1,8 +1,8 @@
 //! Threads that append to one log, each behind the head that its last answer showed.
 ghost use Rattle.std.specs.Prelude.{◌≡◌, ◌<◌, ◌≤◌, ◌^◌, [], vec_capacity};
-ghost use Rattle.disk_model.specs.Memory.{memory_mark};
-ghost use Rattle.shared_log.specs.Passes.{IsPassOf};
 ghost use Rattle.turn_cell.specs.Knowing.{pass_number};
+ghost use Rattle.turn_cell.specs.Sharing.{IsPassOf};
+ghost use Rattle.shared_tests.specs.Memory.{log_in_memory};
 
 use crate::passes::{Passes, close, share};
 use chain_core::LogAnswer;
@@ -42,9 +42,9 @@ fn contend<R: Wait>(
     mut pass: LogPass<MemDisk>,
     base: u32,
 ) -> (LogPass<MemDisk>, u32)
-    requires of { IsPassOf memory_mark log.now pass }
+    requires of { IsPassOf log_in_memory log.now pass }
     requires base { base < 10_000 }
-    ensures { IsPassOf memory_mark log.now result.0 × (pass_number result.0 ≡ pass_number pass) }
+    ensures { IsPassOf log_in_memory log.now result.0 × (pass_number result.0 ≡ pass_number pass) }
 {
     let mut told = 0u32;
     let mut head = None;
@@ -78,8 +78,8 @@ fn race<R: Threads + Wait + Sync>(
     log: SharedLog<MemDisk>,
     passes: Passes,
 ) -> (LogState<MemDisk>, u32, u32)
-    requires one { IsPassOf memory_mark log passes.one × (pass_number passes.one ≡ 1) }
-    requires two { IsPassOf memory_mark log passes.two × (pass_number passes.two ≡ 2) }
+    requires one { IsPassOf log_in_memory log passes.one × (pass_number passes.one ≡ 1) }
+    requires two { IsPassOf log_in_memory log passes.two × (pass_number passes.two ≡ 2) }
     requires room { (log.seats ≡ 2) × (passes.room.items ≡ [])
         × (2 ≤ vec_capacity passes.room) }
 {
@@ -88,13 +88,13 @@ fn race<R: Threads + Wait + Sync>(
     let ((one, first), (two, second)) = join(
         rt,
         || -> (LogPass<MemDisk>, u32)
-            requires { IsPassOf memory_mark shared.now one }
-            ensures { IsPassOf memory_mark shared.entry.now result.0
+            requires { IsPassOf log_in_memory shared.now one }
+            ensures { IsPassOf log_in_memory shared.entry.now result.0
                 × (pass_number result.0 ≡ pass_number one) }
         { contend(rt, alloc, shared, one, 1000) },
         || -> (LogPass<MemDisk>, u32)
-            requires { IsPassOf memory_mark shared.now two }
-            ensures { IsPassOf memory_mark shared.entry.now result.0
+            requires { IsPassOf log_in_memory shared.now two }
+            ensures { IsPassOf log_in_memory shared.entry.now result.0
                 × (pass_number result.0 ≡ pass_number two) }
         { contend(rt, alloc, shared, two, 2000) },
     );

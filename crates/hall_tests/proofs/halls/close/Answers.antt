@@ -5,7 +5,7 @@ use Rattle.hall_tests.proofs.halls.close.Goals as goal
 
 pub close-requires-clause-passes : goal.close-requires-clause-passes
 close-requires-clause-passes g c =
-    subst (λ (seats : ℕ). AreAllHallPasses g.D.Disk.mark c.args.shared.0.logs seats c.args.shared.1.items) (sym c.requires.logs.1) c.requires.passes
+    subst (λ (seats : ℕ). AreAllHallPasses g.D.Disk c.args.shared.0.logs seats c.args.shared.1.items) (sym c.requires.logs.1) c.requires.passes
 
 pub returns : goal.returns
 returns g c =

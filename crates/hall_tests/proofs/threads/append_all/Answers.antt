@@ -1,5 +1,5 @@
 use Rattle.std.proofs.Common.{List, length, ◌≡◌, ◌∙◌, ap, arith, subst, sym}
-use Rattle.shared_log.specs.Passes.{LogSight}
+use Rattle.shared_log.specs.History.{LogSight}
 use Rattle.hall_logs.specs.Slots.{AreAllHallPasses}
 use Rattle.hall_logs.proofs.Visiting.{passes_stay}
 use Rattle.hall_tests.proofs.Passes.{each_visits, whole}
@@ -14,7 +14,7 @@ returns g c =
     let value : before ≡ items = c.deref_mut.ensures.value in
     let e = c.append_each.ensures in
     let count : length after ≡ length items = e.count ∙ ap length value in
-    let all = subst (λ (passes : List (List LogSight)). AreAllHallPasses g.D.Disk.mark logs 2 passes) (sym value) c.requires.all in
-    let stay = passes_stay g.D.Disk.mark logs 2 before after (each_visits g.D.Disk.mark logs before after e.count e.each) all in
-    subst (λ (passes : List (List LogSight)). AreAllHallPasses g.D.Disk.mark logs 2 passes)
+    let all = subst (λ (passes : List (List LogSight)). AreAllHallPasses g.D.Disk logs 2 passes) (sym value) c.requires.all in
+    let stay = passes_stay g.D.Disk logs 2 before after (each_visits g.D.Disk logs before after e.count e.each) all in
+    subst (λ (passes : List (List LogSight)). AreAllHallPasses g.D.Disk logs 2 passes)
     (sym (whole c.args.passes.now.len items after c.args.passes.now.ok.0 count)) stay

@@ -1,7 +1,7 @@
 use Rattle.std.proofs.Common.{◌++◌, ◌∷◌, [], sym, ap, subst, ◌∙◌}
-use Rattle.disk_model.specs.Memory.{memory_mark}
 use Rattle.turn_cell.specs.Turns.{AllOf}
-use Rattle.shared_log.specs.Passes.{IsPassOf}
+use Rattle.turn_cell.specs.Sharing.{IsPassOf}
+use Rattle.shared_tests.specs.Memory.{log_in_memory}
 use Rattle.shared_tests.proofs.Testing.{both_numbers}
 use Rattle.shared_tests.proofs.passes.close.Goals as goal
 
@@ -11,4 +11,4 @@ close-requires c =
     let one = c.args.passes.one in
     let two = c.args.passes.two in
     let items = c.push_reserved-2.ensures.items ∙ ap (λ l. l ++ two ∷ []) (c.push_reserved.ensures.items ∙ ap (λ l. l ++ one ∷ []) r.room.1) in
-    (subst (AllOf (IsPassOf memory_mark c.args.log)) (sym items) (r.one.0, (r.two.0, tt)), both_numbers c.args.log.seats one two c.push_reserved-2.new.self.items items r.room.0 r.one.1 r.two.1)
+    (subst (AllOf (IsPassOf log_in_memory c.args.log)) (sym items) (r.one.0, (r.two.0, tt)), both_numbers c.args.log.seats one two c.push_reserved-2.new.self.items items r.room.0 r.one.1 r.two.1)
