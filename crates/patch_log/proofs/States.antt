@@ -1,12 +1,13 @@
 -- What a log keeps, call by call.
-use Rattle.std.proofs.Common.{◌≡◌, ◌≢◌, inl, ℕ, ◌+◌, ◌^◌, ◌<◌, ◌≤◌, true, false, List, [], ◌∷◌, ◌++◌, length, Option, Some, None, refl, sym, ◌∙◌, ap, subst, arith}
+use Rattle.std.proofs.Common.{◌≡◌, ◌≢◌, inl, ℕ, ◌+◌, ◌^◌, ◌<◌, ◌≤◌, true, false, List, [], ◌∷◌, ◌++◌, length, Option, Some, None, Result, Ok, Err, refl, sym, ◌∙◌, ap, subst, arith}
+use Rattle.std.specs.Prelude.{IsErr, is_err}
 use Rattle.std.proofs.lemmas.List.{length-map}
 use Rattle.disk_model.specs.declared.disk.Disk.{Ghosts}
 use Rattle.disk_model.specs.Past.{EveryImage}
 use Rattle.log_base.specs.Journals.{payloads_length}
 use Rattle.log_journal.specs.declared.journal.Journal.{Journal}
 use Rattle.log_journal.specs.StandsFor.{StandsFor, StandsInDoubt, length_of, limit_of, is_settled, disk_of}
-use Rattle.log_journal.specs.Writing.{StandsWith}
+use Rattle.log_journal.specs.Writing.{StandsWith, payloads_left, doubt_left, failing, longer_by}
 use Rattle.log_journal.specs.Written.{DiskWent, Written}
 use Rattle.log_journal.proofs.Disks.{went_by}
 use Rattle.log_journal.proofs.Steps.{either}
@@ -14,7 +15,7 @@ use Rattle.chain_core.specs.declared.chain.Patch.{Patch}
 use Rattle.chain_core.specs.declared.chain.Entry.{Entry}
 use Rattle.log_base.specs.declared.limits.LogLimits.{LogLimits}
 use Rattle.log_base.specs.declared.phase.Phase.{Phase}
-use Rattle.log_base.specs.declared.phase.Phase.TheVariants.{Settling}
+use Rattle.log_base.specs.declared.phase.Phase.TheVariants.{Settling, Gate}
 use Rattle.chain_core.specs.declared.fate.Fate.{Fate}
 use Rattle.chain_core.specs.declared.fate.Fate.TheVariants.{Done, Fails}
 use Rattle.chain_core.specs.declared.answer.Decision.{Decision}
@@ -25,7 +26,7 @@ use Rattle.chain_core.specs.Chain.{IsBoundedChain}
 use Rattle.chain_core.specs.Decision.{decision}
 use Rattle.chain_core.specs.Log.{up}
 use Rattle.chain_core.specs.Patches.{patch_of, patches_of, texts_of}
-use Rattle.chain_core.specs.Stay.{answer_of, decided_by, accepted_by, fate_of}
+use Rattle.chain_core.specs.Stay.{Outcome, answer_of, decided_by, accepted_by, fate_of}
 use Rattle.chain_core.proofs.Decided.{IsAcceptable, accepted}
 use Rattle.chain_core.proofs.Fronts.{entries_kept}
 use Rattle.chain_core.proofs.Patches.{length-push, patches_of-push}
@@ -140,56 +141,55 @@ module _ {D : Type 0} {disks : Ghosts D} (journal new : Journal D disks) (entrie
         })
 
     -- the gate was left in doubt
-    pub kept_in_doubt : StandsInDoubt new number (texts_of chain) payload → length_of new ≡ length_of journal + 0 → limit_of new ≡ limit_of journal → JournalKeepsChain new chain (Some patch) number limits
-    kept_in_doubt stands length_is limit_is = record {
-      stands = subst (λ (text : List ℕ). StandsInDoubt new number (texts_of chain) text) payload_is stands;
-      without = kept.without;
-      having = more;
-      length_is = omega (arith, length_is, kept.length_is);
-      limit_is = limit_is ∙ kept.limit_is;
-      countable = kept.countable;
-    }
+    pub kept_in_doubt : (result : Result Unit Phase) → result ≡ Err Gate → StandsWith new number (payloads_left (failing result) (texts_of chain) payload) (doubt_left (failing result) (patch_payload doubt) payload) → length_of new ≡ length_of journal + longer_by (failing result) (length payload)
+        → limit_of new ≡ limit_of journal → JournalKeepsChain new chain (Some patch) number limits
+    kept_in_doubt result failed stands length_is limit_is =
+        let here = subst (λ (r : Result Unit Phase). StandsWith new number (payloads_left (failing r) (texts_of chain) payload) (doubt_left (failing r) (patch_payload doubt) payload)) failed stands in
+        record {
+          stands = subst (λ (text : List ℕ). StandsInDoubt new number (texts_of chain) text) payload_is here;
+          without = kept.without;
+          having = more;
+          length_is = omega (arith, length_is, ap (λ (r : Result Unit Phase). longer_by (failing r) (length payload)) failed, kept.length_is);
+          limit_is = limit_is ∙ kept.limit_is;
+          countable = kept.countable;
+        }
 
-    -- one append was made of it
-    module _ (by spare spare_left : ℕ) (failed : Type 0) (went : DiskWent disks failed (disk_of journal) (disk_of new)) where
+    -- one append was made of it, by how the write ended
+    module _ (by spare spare_left : ℕ) (result : Result Unit Phase) (went : DiskWent disks (IsErr result) (disk_of journal) (disk_of new))
+        (written : Written disks (disk_of journal) (disk_of new) number (texts_of chain) (patch_payload doubt) payload (failing result)) where
       abbrev before : LogView D
       before = record { entries = entries; doubt = doubt; number = number; limits = limits; spare = spare; disk = disk_of journal }
 
       abbrev left_with : List Entry → Option Patch → LogView D
       left_with items left = record { entries = items; doubt = left; number = number; limits = limits; spare = spare_left; disk = disk_of new }
 
-      made : (end : Option Phase) (items : List Entry) (left : Option Patch) (answer : LogAnswer) → accepted_by (fate_of end) chain doubt patch ≡ (up (patches_of items) left, Some answer)
-          → Written disks (disk_of journal) (disk_of new) number (texts_of chain) (patch_payload doubt) payload end → ((v : ℕ) → answer ≡ Accepted v → items ≡ entries ++ record { patch = patch; by = by } ∷ [])
-          → (((v : ℕ) → answer ≢ Accepted v) → items ≡ entries) → (answer ≢ DiskFault → ((v : ℕ) → answer ≢ Accepted v) → ⊥) → (answer ≡ DiskFault → failed) → (failed → answer ≡ DiskFault) → Appended disks before (left_with items left) patch by answer
-      made end items left answer comes written accepts refuses told to from =
-          let stays = outcome_of chain doubt patch limits version (fate_of end) is ∙ comes in
-          let text_written = subst (λ (text : List ℕ). Written disks (disk_of journal) (disk_of new) number (texts_of chain) (patch_payload doubt) text end) payload_is written in
+      made : (items : List Entry) (left : Option Patch) (answer : LogAnswer) → accepted_by (fate_of (failing result)) chain doubt patch ≡ (up (patches_of items) left, Some answer) → ((v : ℕ) → answer ≡ Accepted v → items ≡ entries ++ record { patch = patch; by = by } ∷ [])
+          → (((v : ℕ) → answer ≢ Accepted v) → items ≡ entries) → (answer ≢ DiskFault → ((v : ℕ) → answer ≢ Accepted v) → ⊥) → (answer ≡ DiskFault → IsErr result) → (IsErr result → answer ≡ DiskFault) → Appended disks before (left_with items left) patch by answer
+      made items left answer comes accepts refuses told to from =
+          let stays = outcome_of chain doubt patch limits version (fate_of (failing result)) is ∙ comes in
+          let text_written = subst (λ (text : List ℕ). Written disks (disk_of journal) (disk_of new) number (texts_of chain) (patch_payload doubt) text (failing result)) payload_is written in
           record {
             stood = stands_for_log;
-            appends = inl (fate_of end, stays);
-            asks = inl (record { version = version; can = sym is; end = end; stay = stays; written = text_written });
+            appends = inl (fate_of (failing result), stays);
+            asks = inl (record { version = version; can = sym is; end = failing result; stay = stays; written = text_written });
             accepted = accepts;
             refused = refuses;
-            went = went_by disks (disk_of journal) (disk_of new) failed (answer ≡ DiskFault) to from went;
+            went = went_by disks (disk_of journal) (disk_of new) (IsErr result) (answer ≡ DiskFault) to from went;
             untouched = λ other never. absurd (told other never);
             limits = refl;
             number = refl;
           }
 
-      pub appended_done : (failed → ⊥) → Written disks (disk_of journal) (disk_of new) number (texts_of chain) (patch_payload doubt) payload None
-          → Appended disks before (left_with (entries ++ record { patch = patch; by = by } ∷ []) None) patch by (Accepted version)
-      appended_done none written =
+      comes_to : (end : Option Phase) (outcome : Outcome) → failing result ≡ end → accepted_by (fate_of end) chain doubt patch ≡ outcome → accepted_by (fate_of (failing result)) chain doubt patch ≡ outcome
+      comes_to end outcome ends is = ap (λ (e : Option Phase). accepted_by (fate_of e) chain doubt patch) ends ∙ is
+
+      pub appended_done : result ≡ Ok tt → Appended disks before (left_with (entries ++ record { patch = patch; by = by } ∷ []) None) patch by (Accepted version)
+      appended_done ok =
           let entry : Entry = record { patch = patch; by = by } in
           let comes : accepted_by Done chain doubt patch ≡ (up (patches_of (entries ++ entry ∷ [])) None, Some (Accepted version)) = rw (patches_of-push entries entry, version_is) refl in
-          made None (entries ++ entry ∷ []) None (Accepted version) comes written (λ v at. refl) (λ never. absurd (never version refl)) (λ other never. never version refl) (λ at. absurd (cc)) (λ at. absurd (none at))
+          let never : IsErr result → ⊥ = λ failed. let no : false ≡ true = sym (ap is_err ok) ∙ failed in cc in
+          made (entries ++ entry ∷ []) None (Accepted version) (comes_to None _ (ap failing ok) comes) (λ v at. refl) (λ other. absurd (other version refl)) (λ other none. none version refl) (λ at. absurd (cc)) (λ at. absurd (never at))
 
-      pub appended_failed : (phase : Phase) (left : Option Patch) → failed → accepted_by (Fails phase) chain doubt patch ≡ (up chain left, Some DiskFault)
-          → Written disks (disk_of journal) (disk_of new) number (texts_of chain) (patch_payload doubt) payload (Some phase) → Appended disks before (left_with entries left) patch by DiskFault
-      appended_failed phase left is_failed comes written = made (Some phase) entries left DiskFault comes written (λ v at. absurd (cc)) (λ never. refl) (λ other never. other refl) (λ at. is_failed) (λ at. refl)
-
-  -- as it was, but for the doubt
-  pub kept_settled : StandsFor new number (texts_of chain) → length_of new ≡ length_of journal + 0 → limit_of new ≡ limit_of journal → JournalKeepsChain new chain None number limits
-  kept_settled stands length_is limit_is = record { stands = stands; without = kept.without; having = kept.without; length_is = omega (arith, length_is, kept.length_is); limit_is = limit_is ∙ kept.limit_is; countable = kept.countable }
-
-  pub kept_same : StandsWith new number (texts_of chain) (patch_payload doubt) → length_of new ≡ length_of journal + 0 → limit_of new ≡ limit_of journal → JournalKeepsChain new chain doubt number limits
-  kept_same stands length_is limit_is = record { stands = stands; without = kept.without; having = kept.having; length_is = omega (arith, length_is, kept.length_is); limit_is = limit_is ∙ kept.limit_is; countable = kept.countable }
+      pub appended_failed : (phase : Phase) (left : Option Patch) → result ≡ Err phase → accepted_by (Fails phase) chain doubt patch ≡ (up chain left, Some DiskFault) → Appended disks before (left_with entries left) patch by DiskFault
+      appended_failed phase left failed comes =
+          made entries left DiskFault (comes_to (Some phase) _ (ap failing failed) comes) (λ v at. absurd (cc)) (λ other. refl) (λ other none. other refl) (λ at. ap is_err failed) (λ at. refl)

@@ -1,9 +1,5 @@
-use Rattle.std.proofs.Common.{◌≡◌, ◌+◌, length, Some, None, Result, Err, refl, sym, ◌∙◌, ap, subst}
-use Rattle.std.specs.Prelude.{IsErr, is_err}
+use Rattle.std.proofs.Common.{◌≡◌, Some, None, Err, refl, sym, ◌∙◌, ap}
 use Rattle.log_journal.specs.Payload.{payload_of}
-use Rattle.log_journal.specs.StandsFor.{length_of}
-use Rattle.log_journal.specs.Writing.{StandsWith, payloads_left, doubt_left, failing, longer_by}
-use Rattle.log_journal.specs.Written.{Written}
 use Rattle.log_base.specs.declared.phase.Phase.{Phase}
 use Rattle.log_base.specs.declared.phase.Phase.TheVariants.{Settling, Body, Gate}
 use Rattle.chain_core.specs.Patches.{patches_of, texts_of}
@@ -34,47 +30,37 @@ pub returns-in-Ok-clause-appended : goal.returns-in-Ok-clause-appended
 returns-in-Ok-clause-appended g c =
     let log = c.self.inside in
     let patch = c.ready.inside.patch in
-    let written = c.in-Ok.ensures.written log.number (texts_of (patches_of log.chain.items)) (patch_payload log.doubt) c.self.invariant.stands in
-    rw (← c.self.view_is, ← c.ready.view_is, c.push.ensures.items) (appended_done log.journal c.write.new.journal log.chain.items log.doubt log.number log.limits c.self.invariant patch c.args.version (sym (rw (← c.self.view_is, ← c.ready.view_is) at c.requires.accept)) c.ready.invariant.sound (payload_of c.ready.inside.block) c.ready.invariant.block_is c.ready.inside.by
-    log.chain.spare c.push.new.self.spare _ c.in-Ok.ensures.went (λ no. cc) written)
+    rw (← c.self.view_is, ← c.ready.view_is, c.push.ensures.items) (appended_done log.journal c.write.new.journal log.chain.items log.doubt log.number log.limits c.self.invariant patch c.args.version (sym (rw (← c.self.view_is, ← c.ready.view_is) at c.requires.accept)) c.ready.invariant.sound (payload_of c.ready.inside.block) c.ready.invariant.block_is
+    c.ready.inside.by log.chain.spare c.push.new.self.spare c.write.result c.write.ensures.went (c.write.ensures.written log.number (texts_of (patches_of log.chain.items)) (patch_payload log.doubt) c.self.invariant.stands) c.in-Ok.is)
 
 pub returns-in-Err-Settling-clause-appended : goal.returns-in-Err-Settling-clause-appended
 returns-in-Err-Settling-clause-appended g c =
     let log = c.self.inside in
     let patch = c.ready.inside.patch in
-    let chain = patches_of log.chain.items in
     let failed : c.write.result ≡ Err Settling = c.in-Err-Settling.is ∙ ap (λ (phase : Phase). Err phase) c.in-Err-Settling.field-0-is in
-    let written = subst (λ (r : Result Unit Phase). Written g.D.Disk log.journal.disk c.write.new.journal.disk log.number (texts_of chain) (patch_payload log.doubt) (payload_of c.ready.inside.block) (failing r)) failed (c.write.ensures.written log.number (texts_of chain) (patch_payload log.doubt) c.self.invariant.stands) in
-    rw (← c.self.view_is, ← c.ready.view_is) (appended_failed log.journal c.write.new.journal log.chain.items log.doubt log.number log.limits c.self.invariant patch c.args.version (sym (rw (← c.self.view_is, ← c.ready.view_is) at c.requires.accept)) c.ready.invariant.sound (payload_of c.ready.inside.block) c.ready.invariant.block_is c.ready.inside.by
-    log.chain.spare log.chain.spare (IsErr c.write.result) c.write.ensures.went Settling log.doubt (ap is_err failed) (settling_fails log.number log.journal chain log.doubt patch c.self.invariant.stands (c.write.ensures.settling failed)) written)
+    rw (← c.self.view_is, ← c.ready.view_is) (appended_failed log.journal c.write.new.journal log.chain.items log.doubt log.number log.limits c.self.invariant patch c.args.version (sym (rw (← c.self.view_is, ← c.ready.view_is) at c.requires.accept)) c.ready.invariant.sound (payload_of c.ready.inside.block) c.ready.invariant.block_is
+    c.ready.inside.by log.chain.spare log.chain.spare c.write.result c.write.ensures.went (c.write.ensures.written log.number (texts_of (patches_of log.chain.items)) (patch_payload log.doubt) c.self.invariant.stands) Settling log.doubt failed (settling_fails log.number log.journal (patches_of log.chain.items) log.doubt patch c.self.invariant.stands (c.write.ensures.settling failed)))
 
 pub returns-in-Err-Body-clause-appended : goal.returns-in-Err-Body-clause-appended
 returns-in-Err-Body-clause-appended g c =
     let log = c.self.inside in
     let patch = c.ready.inside.patch in
-    let chain = patches_of log.chain.items in
     let failed : c.write.result ≡ Err Body = c.in-Err-Body.is ∙ ap (λ (phase : Phase). Err phase) c.in-Err-Body.field-0-is in
-    let written = subst (λ (r : Result Unit Phase). Written g.D.Disk log.journal.disk c.write.new.journal.disk log.number (texts_of chain) (patch_payload log.doubt) (payload_of c.ready.inside.block) (failing r)) failed (c.write.ensures.written log.number (texts_of chain) (patch_payload log.doubt) c.self.invariant.stands) in
-    rw (← c.self.view_is, ← c.ready.view_is) (appended_failed log.journal c.write.new.journal log.chain.items log.doubt log.number log.limits c.self.invariant patch c.args.version (sym (rw (← c.self.view_is, ← c.ready.view_is) at c.requires.accept)) c.ready.invariant.sound (payload_of c.ready.inside.block) c.ready.invariant.block_is c.ready.inside.by
-    log.chain.spare log.chain.spare (IsErr c.write.result) c.write.ensures.went Body None (ap is_err failed) refl written)
+    rw (← c.self.view_is, ← c.ready.view_is) (appended_failed log.journal c.write.new.journal log.chain.items log.doubt log.number log.limits c.self.invariant patch c.args.version (sym (rw (← c.self.view_is, ← c.ready.view_is) at c.requires.accept)) c.ready.invariant.sound (payload_of c.ready.inside.block) c.ready.invariant.block_is
+    c.ready.inside.by log.chain.spare log.chain.spare c.write.result c.write.ensures.went (c.write.ensures.written log.number (texts_of (patches_of log.chain.items)) (patch_payload log.doubt) c.self.invariant.stands) Body None failed refl)
 
 pub invariant_of-self-in-Gate-1 : goal.invariant_of-self-in-Gate-1
 invariant_of-self-in-Gate-1 g c =
     let log = c.self.inside in
     let patch = c.ready.inside.patch in
-    let chain = patches_of log.chain.items in
-    let payload = payload_of c.ready.inside.block in
     let failed : c.write.result ≡ Err Gate = c.in-Err-Gate.is ∙ ap (λ (phase : Phase). Err phase) c.in-Err-Gate.field-0-is in
-    let stands = subst (λ (r : Result Unit Phase). StandsWith c.write.new.journal log.number (payloads_left (failing r) (texts_of chain) payload) (doubt_left (failing r) (patch_payload log.doubt) payload)) failed (c.write.ensures.stands log.number (texts_of chain) (patch_payload log.doubt) c.self.invariant.stands) in
-    let same_length = subst (λ (r : Result Unit Phase). length_of c.write.new.journal ≡ length_of log.journal + longer_by (failing r) (length payload)) failed c.write.ensures.length in
-    kept_in_doubt log.journal c.write.new.journal log.chain.items log.doubt log.number log.limits c.self.invariant patch c.args.version (sym (rw (← c.self.view_is, ← c.ready.view_is) at c.requires.accept)) c.ready.invariant.sound (payload_of c.ready.inside.block) c.ready.invariant.block_is stands same_length c.write.ensures.limit
+    kept_in_doubt log.journal c.write.new.journal log.chain.items log.doubt log.number log.limits c.self.invariant patch c.args.version (sym (rw (← c.self.view_is, ← c.ready.view_is) at c.requires.accept)) c.ready.invariant.sound (payload_of c.ready.inside.block) c.ready.invariant.block_is
+    c.write.result failed (c.write.ensures.stands log.number (texts_of (patches_of log.chain.items)) (patch_payload log.doubt) c.self.invariant.stands) c.write.ensures.length c.write.ensures.limit
 
 pub returns-in-Err-Gate-clause-appended : goal.returns-in-Err-Gate-clause-appended
 returns-in-Err-Gate-clause-appended g c =
     let log = c.self.inside in
     let patch = c.ready.inside.patch in
-    let chain = patches_of log.chain.items in
     let failed : c.write.result ≡ Err Gate = c.in-Err-Gate.is ∙ ap (λ (phase : Phase). Err phase) c.in-Err-Gate.field-0-is in
-    let written = subst (λ (r : Result Unit Phase). Written g.D.Disk log.journal.disk c.write.new.journal.disk log.number (texts_of chain) (patch_payload log.doubt) (payload_of c.ready.inside.block) (failing r)) failed (c.write.ensures.written log.number (texts_of chain) (patch_payload log.doubt) c.self.invariant.stands) in
-    rw (← c.self.view_is, ← c.ready.view_is) (appended_failed log.journal c.write.new.journal log.chain.items log.doubt log.number log.limits c.self.invariant patch c.args.version (sym (rw (← c.self.view_is, ← c.ready.view_is) at c.requires.accept)) c.ready.invariant.sound (payload_of c.ready.inside.block) c.ready.invariant.block_is c.ready.inside.by
-    log.chain.spare log.chain.spare (IsErr c.write.result) c.write.ensures.went Gate (Some patch) (ap is_err failed) refl written)
+    rw (← c.self.view_is, ← c.ready.view_is) (appended_failed log.journal c.write.new.journal log.chain.items log.doubt log.number log.limits c.self.invariant patch c.args.version (sym (rw (← c.self.view_is, ← c.ready.view_is) at c.requires.accept)) c.ready.invariant.sound (payload_of c.ready.inside.block) c.ready.invariant.block_is
+    c.ready.inside.by log.chain.spare log.chain.spare c.write.result c.write.ensures.went (c.write.ensures.written log.number (texts_of (patches_of log.chain.items)) (patch_payload log.doubt) c.self.invariant.stands) Gate (Some patch) failed refl)
