@@ -19,7 +19,8 @@ use Rattle.chain_core.specs.Log.{LogPoint, up, down}
 use Rattle.chain_core.specs.Patches.{texts_of}
 use Rattle.chain_core.specs.Stay.{Outcome, accepted_by, stay, fate_by_plan}
 use Rattle.patch_meaning.specs.Checked.{CheckedPatch, checked_texts}
-use Rattle.patch_log.specs.Log.{bare, LeavesEitherChain}
+use Rattle.log_journal.specs.Writing.{LeavesEither}
+use Rattle.patch_log.specs.Log.{bare, payloads_of, patch_payload}
 use Rattle.patch_log.specs.declared.fault.LogFault.TheVariants as log
 use Rattle.zone_state.specs.declared.answer.TakeAnswer.{TakeAnswer}
 use Rattle.zone_state.specs.declared.answer.TakeAnswer.TheVariants as take
@@ -30,7 +31,7 @@ use Rattle.zone_state.specs.Brief.{Brief, brief_of, file_length}
 use Rattle.zone_state.specs.Fault.{HasZoneFault}
 use Rattle.zone_state.specs.Stay.{decided}
 use Rattle.zone_state.specs.Taking.{taking, taken_by, taken_then, told_by}
-use Rattle.zone_state.specs.Zone.{ZoneView, StandsForZone, DiskHolds, doubt_of, zone_point}
+use Rattle.zone_state.specs.Zone.{ZoneView, StandsForZone, DiskHolds, doubt_of, text_in, zone_point}
 use Rattle.zone_state.proofs.Decisions.{IsDecided, decided as is_decided}
 use Rattle.zone_state.proofs.Growing.{bare_texts}
 use Rattle.zone_state.proofs.AsLogs.{decided_alike, stays_alike, zone_log}
@@ -42,12 +43,17 @@ use Rattle.world_core.proofs.Running.{HoldsWhatMayBeFound, AsRun, accepted_as_ru
 
 -- ---- disks
 
+leaves_bare : (past : Past) (checked : List CheckedPatch) (left : Option CheckedPatch) → LeavesEither past ZONE_NUMBER (checked_texts checked) (text_in left) → LeavesEither past ZONE_NUMBER (payloads_of (map bare checked)) (patch_payload (doubt_of left))
+leaves_bare past checked None either = tt
+leaves_bare past checked (Some patch) either = subst (λ (texts : List (List ℕ)). LeavesEither past ZONE_NUMBER texts (Some patch.text)) (sym (bare_texts checked)) either
+
 -- the disk of a zone that runs
 pub zone_carries : (zone : ZoneView PlanDisk) (taken : List Patch) (doubt : Option Patch) → RunsZone zone taken doubt → CarriesPart ZONE_NUMBER zone.disk taken doubt
 zone_carries zone taken doubt runs = record {
   stands = stands_along (plan_past zone.disk) ZONE_NUMBER ZONE_NUMBER zone.limits LOG_LIMITS (map bare runs.checked) taken (doubt_of runs.left) doubt refl runs.limits_is runs.taken_is runs.doubt_is
       (zone_log (Unit {0}) (plan_past zone.disk) zone runs.checked runs.left runs.stands tt);
-  leaves = runs.leaves;
+  leaves = subst (λ (d : Option Patch). LeavesEither (plan_past zone.disk) ZONE_NUMBER (payloads_of taken) (patch_payload d)) runs.doubt_is
+      (subst (λ (t : List Patch). LeavesEither (plan_past zone.disk) ZONE_NUMBER (payloads_of t) (patch_payload (doubt_of runs.left))) runs.taken_is (leaves_bare (plan_past zone.disk) runs.checked runs.left runs.leaves));
 }
 
 -- each image of a zone's disk holds what may be found
@@ -184,12 +190,8 @@ planned_runs zone planned taken doubt runs same past = subst (λ (z : ZoneView P
     having = runs.stands.having;
     on_disk = λ told. subst (λ (p : Past). DiskHolds p (file_length zone.brief.ids zone.brief.bytes) runs.checked runs.left) (sym past) (runs.stands.on_disk told);
   };
-  leaves = subst (λ (p : Past). LeavesEitherChain p ZONE_NUMBER taken doubt) (sym past) runs.leaves;
+  leaves = subst (λ (p : Past). LeavesEither p ZONE_NUMBER (checked_texts runs.checked) (text_in runs.left)) (sym past) runs.leaves;
 })
-
-pub leaves_checked : (zone : ZoneView PlanDisk) (taken : List Patch) (doubt : Option Patch) (runs : RunsZone zone taken doubt) → LeavesEitherChain (plan_past zone.disk) ZONE_NUMBER (map bare runs.checked) (doubt_of runs.left)
-leaves_checked zone taken doubt runs =
-    subst (λ (d : Option Patch). LeavesEitherChain (plan_past zone.disk) ZONE_NUMBER (map bare runs.checked) d) (sym runs.doubt_is) (subst (λ (t : List Patch). LeavesEitherChain (plan_past zone.disk) ZONE_NUMBER t doubt) (sym runs.taken_is) runs.leaves)
 
 -- the zone runs on, or stops where it is to stop
 abbrev pub Took : ZoneView PlanDisk → List Patch → Option Patch → Patch → Fate → Option Bool → Type 0
@@ -216,7 +218,7 @@ module _ (zone new : ZoneView PlanDisk) (taken : List Patch) (doubt : Option Pat
   pub took_runs : (left : Option CheckedPatch) → StandsForZone (Unit {0}) (plan_past new.disk) new after left → new.limits ≡ LOG_LIMITS
       → taken_by (decided zone patch) (fate_by_plan runs.left plan) (map bare runs.checked) (doubt_of runs.left) (bare patch) ≡ (zone_point after left, Some answer)
       → fate_by_plan (doubt_of runs.left) plan ≡ run_as (doubt_of runs.left) fate
-      → LeavesEitherChain (plan_past new.disk) ZONE_NUMBER (map bare after) (doubt_of left)
+      → LeavesEither (plan_past new.disk) ZONE_NUMBER (checked_texts after) (text_in left)
       → Took new taken doubt (bare patch) fate (stop_taken fate answer)
   took_runs left stands limits is planned leaves =
       let now : RunsZone new (map bare after) (doubt_of left) = record { checked = after; left = left; taken_is = refl; doubt_is = refl; limits_is = limits; stands = stands; leaves = leaves } in

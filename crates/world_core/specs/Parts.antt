@@ -15,14 +15,15 @@ use Rattle.chain_core.specs.declared.answer.LogAnswer.{LogAnswer}
 use Rattle.chain_core.specs.declared.answer.LogAnswer.TheVariants.{DiskFault}
 use Rattle.chain_core.specs.Log.{LogPoint, up, down, stopped}
 use Rattle.chain_core.specs.Patches.{texts_of}
-use Rattle.patch_meaning.specs.Checked.{CheckedPatch, AreChecked}
-use Rattle.patch_log.specs.Log.{bare, IsSound, StandsForLog, LeavesEitherChain}
+use Rattle.log_journal.specs.Writing.{LeavesEither}
+use Rattle.patch_meaning.specs.Checked.{CheckedPatch, AreChecked, checked_texts}
+use Rattle.patch_log.specs.Log.{bare, IsSound, StandsForLog, payloads_of, patch_payload}
 use Rattle.patch_log.specs.State.{LogView, chain_of}
 use Rattle.zone_state.specs.declared.answer.TakeAnswer.{TakeAnswer}
 use Rattle.zone_state.specs.declared.answer.TakeAnswer.TheVariants as take
 use Rattle.zone_state.specs.declared.file.TheConstants.{ZONE_NUMBER}
 use Rattle.zone_state.specs.Brief.{brief_of}
-use Rattle.zone_state.specs.Zone.{ZoneView, StandsForZone, doubt_of}
+use Rattle.zone_state.specs.Zone.{ZoneView, StandsForZone, doubt_of, text_in}
 use Rattle.world_core.specs.declared.log.TheConstants.{LOG_NUMBER}
 use Rattle.world_core.specs.declared.log.LogPart.{LogPart}
 use Rattle.world_core.specs.declared.log.LogPart.TheVariants.{Up, Down}
@@ -69,7 +70,7 @@ stopped_if point (Some opened) = stopped point opened
 pub record CarriesPart (number : ℕ) (disk : PlanDisk) (chain : List Patch) (doubt : Option Patch)
     : Type 0 where
   pub stands : StandsForLog (plan_past disk) number LOG_LIMITS chain doubt
-  pub leaves : LeavesEitherChain (plan_past disk) number chain doubt
+  pub leaves : LeavesEither (plan_past disk) number (payloads_of chain) (patch_payload doubt)
 
 -- a log that runs
 pub record Runs (log : LogView PlanDisk) (chain : List Patch) (doubt : Option Patch) : Type 0 where
@@ -88,7 +89,7 @@ pub record RunsZone (zone : ZoneView PlanDisk) (taken : List Patch) (doubt : Opt
   pub doubt_is : doubt_of left ≡ doubt
   pub limits_is : zone.limits ≡ LOG_LIMITS
   pub stands : StandsForZone (Unit {0}) (plan_past zone.disk) zone checked left
-  pub leaves : LeavesEitherChain (plan_past zone.disk) ZONE_NUMBER taken doubt
+  pub leaves : LeavesEither (plan_past zone.disk) ZONE_NUMBER (checked_texts checked) (text_in left)
 
 -- a disk that a log or a zone was on, or one that is new: each of its images holds the chain
 abbrev pub KeepsChain : ℕ → PlanDisk → List Patch → Type 0
