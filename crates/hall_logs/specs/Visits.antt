@@ -22,7 +22,8 @@ module _ {D : Type 0} (disks : Ghosts D) (logs : List (Made (LogView D))) where
   -- one legal call of a pass on the log of its slot
   abbrev pub IsVisit : List LogSight → Visit → List LogSight → Type 0
   IsVisit before visit after =
-      OnSlot visit.slot (λ log p q. IsCalledOnLog disks log.origin p visit.asked q) logs before after
+      OnSlot visit.slot (λ log p q. IsCalledOnLog disks log.origin p visit.asked q)
+      logs before after
 
   -- legal calls of a pass one after another
   abbrev pub AreVisits : List LogSight → List Visit → List LogSight → Type 0

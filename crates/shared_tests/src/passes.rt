@@ -56,8 +56,10 @@ pub(crate) struct Passes {
 
 // A log that two passes share.
 pub(crate) fn share(alloc: Global, failing: &[u64]) -> Result<(SharedLog<MemDisk>, Passes), Fail>
-    ensures one { IfOk result (λ r. IsPassOf log_in_memory r.0 r.1.one × (pass_number r.1.one ≡ 1)) }
-    ensures two { IfOk result (λ r. IsPassOf log_in_memory r.0 r.1.two × (pass_number r.1.two ≡ 2)) }
+    ensures one { IfOk result (λ r.
+        IsPassOf log_in_memory r.0 r.1.one × (pass_number r.1.one ≡ 1)) }
+    ensures two { IfOk result (λ r.
+        IsPassOf log_in_memory r.0 r.1.two × (pass_number r.1.two ≡ 2)) }
     ensures room { IfOk result (λ r.
         (r.0.seats ≡ 2) × (r.1.room.items ≡ []) × (2 ≤ vec_capacity r.1.room)) }
 {
