@@ -56,16 +56,18 @@ named chain (Some place) patch is = (place, refl, is)
 
 module _ {D : Type 0} (disks : Ghosts D) (origin : LogView D) (p q : LogSight) where
   -- what stands in the log that was left is on its disk
-  left_on_disk : {Did : LogView D → LogView D → Type 0} → (place : ℕ) (patch : Patch) → InTurn (shared_log disks) Did origin p q → patch_at (patches_known (seen_of q)) place ≡ Some patch → IsOnDisk disks origin place patch q
+  left_on_disk : {Did : LogView D → LogView D → Type 0} → (place : ℕ) (patch : Patch) (stay : InTurn (shared_log disks) Did origin p q) → patch_at (patches_known (seen_of q)) place ≡ Some patch → (on : IsOnDisk disks origin place patch q) × (on.log ≡ stay.left)
   left_on_disk place patch stay is =
-      let there : patch_at (patches_of stay.left.entries) place ≡ Some patch = subst (λ (chain : List Patch). patch_at chain place ≡ Some patch) (ap patches_known stay.sees ∙ known_chain stay.left.entries) is in
-      record {
-        log = stay.left;
-        file = stay.left_fixed;
-        sees = stay.sees;
-        stands_in_it = is;
-        images = λ told image may. held stay.left.number (patches_of stay.left.entries) stay.left.doubt place patch image there ((stay.left_stands.stands told).each image may);
-      }
+      let there : patch_at (patches_of stay.left.entries) place ≡ Some patch = subst (λ (chain : List Patch). patch_at chain place ≡ Some patch) (ap patches_known stay.sees ∙ known_chain stay.left.entries) is in (
+        record {
+          log = stay.left;
+          file = stay.left_fixed;
+          sees = stay.sees;
+          stands_in_it = is;
+          images = λ told image may. held stay.left.number (patches_of stay.left.entries) stay.left.doubt place patch image there ((stay.left_stands.stands told).each image may);
+        },
+        refl,
+      )
 
   abbrev chain : List Patch
   chain = patches_known (seen_of q)

@@ -17,20 +17,21 @@ use Rattle.shared_log.specs.Calls.{call_made, patch_faulted, AreSomeOf}
 
 module _ {D : Type 0} (disks : Ghosts D) (origin : LogView D) where
   -- Who is told that a patch was accepted, or is served the patch of a version or with an id, is
-  -- told of what is on the disk.
+  -- told of what is on the disk of the log that the call left.
   pub record ToldIsOnDisk (p q : LogSight) : Type 0 where
     pub accepted :
         (place : ℕ) (patch : Patch)
-        → CalledOnLog disks origin p (append patch) (answered (Accepted place)) q
-        → IsOnDisk disks origin place patch q
+        → (called : CalledOnLog disks origin p (append patch) (answered (Accepted place)) q)
+        → (on : IsOnDisk disks origin place patch q) × (on.log ≡ called.stay.left)
     pub served :
         (place : ℕ) (patch : Patch)
-        → CalledOnLog disks origin p (fetch_version place) (found patch) q
-        → IsOnDisk disks origin place patch q
+        → (called : CalledOnLog disks origin p (fetch_version place) (found patch) q)
+        → (on : IsOnDisk disks origin place patch q) × (on.log ≡ called.stay.left)
     pub served_by_id :
-        (id : Id) (patch : Patch) → CalledOnLog disks origin p (fetch_id id) (found patch) q
+        (id : Id) (patch : Patch)
+        → (called : CalledOnLog disks origin p (fetch_id id) (found patch) q)
         → (place : ℕ) × (version_of (patches_known (seen_of q)) id ≡ Some place)
-        × IsOnDisk disks origin place patch q
+        × ((on : IsOnDisk disks origin place patch q) × (on.log ≡ called.stay.left))
 
   -- what is on the disk stands at its version in all that the pass sees later
   abbrev pub StaysInSight : LogSight → LogSight → Type 0
