@@ -1,5 +1,5 @@
 mod Histories
 mod Calling
 mod Asking
-mod Adding
+pub mod Adding
 mod OnDisk
