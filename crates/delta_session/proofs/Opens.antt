@@ -16,11 +16,11 @@ use Rattle.patch_log.specs.declared.fault.LogFault.TheVariants as log
 use Rattle.turn_cell.specs.Turns.{AllOf, IsIn}
 use Rattle.turn_cell.specs.Sights.{Made}
 use Rattle.turn_cell.specs.Knowing.{pass_number}
-use Rattle.shared_log.specs.Passes.{LogSight, IsPassOf as IsPartOf, IsNewPassOf as IsNewPart}
-use Rattle.shared_registry.specs.History.{RegistryStandsInTurn}
-use Rattle.shared_registry.specs.Passes.{RegistrySight, IsRegistryPassOf, IsNewRegistryPassOf, AreAllRegistryPassesOf, IsClosedRegistryOf}
+use Rattle.turn_cell.specs.Sharing.{IsPassOf, IsNewPassOf, AreAllPassesOf, IsClosedOf}
+use Rattle.shared_log.specs.History.{LogSight, shared_log}
+use Rattle.shared_registry.specs.History.{RegistrySight, shared_registry}
 use Rattle.hall_logs.proofs.Opens.{as_many, left_refused}
-use Rattle.hall_logs.specs.Files.{AreOpened, AreRefusedAt, AreLeft}
+use Rattle.hall_logs.specs.Files.{AreOpened, AreRefusedAt, AreSameDisks}
 use Rattle.hall_logs.specs.Slots.{ArePartsOf, AreNew, AreAllHallPasses}
 use Rattle.delta_session.specs.Ends.{EndsRegistry}
 use Rattle.delta_session.specs.Halls.{IsHallPass, AreHallPasses, AreNewPasses, paired_sights}
@@ -79,29 +79,29 @@ in_all : {A : Type 0} (P : A → Type 0) (xs : List A) (x : A) → AllOf P xs �
 in_all P [] x all there = absurd there
 in_all P (y ∷ xs) x all there = ⊎_elim (λ (e : x ≡ y). subst P (sym e) all.0) (λ (i : IsIn x xs). in_all P xs x all.1 i) there
 
-module _ {D : Type 0} (mark : D → Option (List ℕ × ℕ)) (hall : HallView D) where
+module _ {D : Type 0} (disks : Ghosts D) (hall : HallView D) where
   -- ---- new passes
 
   pub joined_new : (number : ℕ) (sights : List RegistrySight) (parts : List (List LogSight)) → length sights ≡ length parts
-      → ((k : ℕ) (p : RegistrySight) → slice_get sights k ≡ Some p → IsNewRegistryPassOf mark hall.registry (k + number) p) → AreNew mark hall.logs.logs number parts → AreNewPasses mark hall number (paired_sights sights parts)
+      → ((k : ℕ) (p : RegistrySight) → slice_get sights k ≡ Some p → IsNewPassOf (shared_registry disks) hall.registry (k + number) p) → AreNew disks hall.logs.logs number parts → AreNewPasses disks hall number (paired_sights sights parts)
   joined_new number [] [] same each new = tt
   joined_new number [] (y ∷ parts) same each new = tt
   joined_new number (x ∷ sights) [] same each new = absurd (omega (arith, same))
   joined_new number (x ∷ sights) (y ∷ parts) same each new = (
-    subst (λ (n : ℕ). IsNewRegistryPassOf mark hall.registry n x) (omega arith) (each 0 x refl),
+    subst (λ (n : ℕ). IsNewPassOf (shared_registry disks) hall.registry n x) (omega arith) (each 0 x refl),
     new.0,
-    joined_new (number + 1) sights parts (omega (arith, same)) (λ k p at. subst (λ (n : ℕ). IsNewRegistryPassOf mark hall.registry n p) (omega arith) (each (suc k) p at)) new.1,
+    joined_new (number + 1) sights parts (omega (arith, same)) (λ k p at. subst (λ (n : ℕ). IsNewPassOf (shared_registry disks) hall.registry n p) (omega arith) (each (suc k) p at)) new.1,
   )
 
-  new_parts : (number : ℕ) (logs : List (Made (LogView D))) (parts : List LogSight) → AllZip (λ log part. IsNewPart mark log number part) logs parts
-      → AllZip (IsPartOf mark) logs parts × AllOf (λ (part : LogSight). pass_number part ≡ number) parts
+  new_parts : (number : ℕ) (logs : List (Made (LogView D))) (parts : List LogSight) → AllZip (λ log part. IsNewPassOf (shared_log disks) log number part) logs parts
+      → AllZip (IsPassOf (shared_log disks)) logs parts × AllOf (λ (part : LogSight). pass_number part ≡ number) parts
   new_parts number [] [] all = (tt, tt)
   new_parts number [] (y ∷ parts) all = absurd all
   new_parts number (x ∷ logs) [] all = absurd all
   new_parts number (x ∷ logs) (y ∷ parts) all = let rest = new_parts number logs parts all.1 in ((all.0.0, rest.0), (all.0.1, rest.1))
 
-  one_new : (number : ℕ) (pass : HallSight) → IsNewRegistryPassOf mark hall.registry number pass.lists.registry → AllZip (λ log part. IsNewPart mark log number part) hall.logs.logs pass.lists.logs
-      → IsHallPass mark hall pass.lists
+  one_new : (number : ℕ) (pass : HallSight) → IsNewPassOf (shared_registry disks) hall.registry number pass.lists.registry → AllZip (λ log part. IsNewPassOf (shared_log disks) log number part) hall.logs.logs pass.lists.logs
+      → IsHallPass disks hall pass.lists
   one_new number pass registry logs =
       let parts = new_parts number hall.logs.logs pass.lists.logs logs in record {
         registry = registry.0;
@@ -109,18 +109,18 @@ module _ {D : Type 0} (mark : D → Option (List ℕ × ℕ)) (hall : HallView D
         one = subst (λ (n : ℕ). AllOf (λ (part : LogSight). pass_number part ≡ n) pass.lists.logs) (sym registry.1) parts.1;
       }
 
-  new_passes : (number : ℕ) (passes : List HallSight) → AreNewPasses mark hall number passes → AllOf (λ (pass : HallSight). IsHallPass mark hall pass.lists) passes
+  new_passes : (number : ℕ) (passes : List HallSight) → AreNewPasses disks hall number passes → AllOf (λ (pass : HallSight). IsHallPass disks hall pass.lists) passes
   new_passes number [] new = tt
   new_passes number (pass ∷ passes) new = (one_new number pass new.0 new.1, new_passes (number + 1) passes new.2)
 
-  find_new : (number : ℕ) (passes : List HallSight) → AreNewPasses mark hall number passes → (n : ℕ) → number ≤ n → n < number + length passes
+  find_new : (number : ℕ) (passes : List HallSight) → AreNewPasses disks hall number passes → (n : ℕ) → number ≤ n → n < number + length passes
       → (pass : HallSight) × IsIn pass passes × (pass_number pass.lists.registry ≡ n)
   find_new number [] new n low high = absurd (omega (arith, low, high))
   find_new number (pass ∷ passes) new n low high = dite (ℕ_discrete number n)
       (λ e. (pass, inl refl, new.0.1 ∙ e))
       (λ ne. let rest = find_new (number + 1) passes new.2 n (omega (arith, low, ne)) (omega (arith, high)) in (rest.0, inr rest.1, rest.2))
 
-  pub all_new : (passes : List HallSight) → AreNewPasses mark hall 1 passes → length passes ≡ hall.logs.seats → AreHallPasses mark hall passes
+  pub all_new : (passes : List HallSight) → AreNewPasses disks hall 1 passes → length passes ≡ hall.logs.seats → AreHallPasses disks hall passes
   all_new passes new count = record {
     of = new_passes 1 passes new;
     count = count;
@@ -129,22 +129,22 @@ module _ {D : Type 0} (mark : D → Option (List ℕ × ℕ)) (hall : HallView D
 
   -- ---- the passes of each list
 
-  module _ (passes : List HallSight) (are : AreHallPasses mark hall passes) where
-    pub registry_passes : hall.registry.seats ≡ hall.logs.seats → AreAllRegistryPassesOf mark hall.registry (map (λ (pass : HallSight). pass.lists.registry) passes)
+  module _ (passes : List HallSight) (are : AreHallPasses disks hall passes) where
+    pub registry_passes : hall.registry.seats ≡ hall.logs.seats → AreAllPassesOf (shared_registry disks) hall.registry (map (λ (pass : HallSight). pass.lists.registry) passes)
     registry_passes same = (
-      all_map (λ (pass : HallSight). pass.lists.registry) (λ pass. IsHallPass mark hall pass.lists) (IsRegistryPassOf mark hall.registry) (λ pass is. is.registry) passes are.of,
+      all_map (λ (pass : HallSight). pass.lists.registry) (λ pass. IsHallPass disks hall pass.lists) (IsPassOf (shared_registry disks) hall.registry) (λ pass is. is.registry) passes are.of,
       λ n positive high.
           let one = are.all n positive (omega (arith, high, same)) in
           (one.0.lists.registry, in_map (λ (pass : HallSight). pass.lists.registry) one.0 passes one.1, one.2),
     )
 
-    pub logs_passes : AreAllHallPasses mark hall.logs.logs hall.logs.seats (map (λ (pass : HallSight). pass.lists.logs) passes)
+    pub logs_passes : AreAllHallPasses disks hall.logs.logs hall.logs.seats (map (λ (pass : HallSight). pass.lists.logs) passes)
     logs_passes = record {
-      of = all_map (λ (pass : HallSight). pass.lists.logs) (λ pass. IsHallPass mark hall pass.lists) (ArePartsOf mark hall.logs.logs) (λ pass is. is.logs) passes are.of;
+      of = all_map (λ (pass : HallSight). pass.lists.logs) (λ pass. IsHallPass disks hall pass.lists) (ArePartsOf disks hall.logs.logs) (λ pass is. is.logs) passes are.of;
       count = length_map (λ (pass : HallSight). pass.lists.logs) passes ∙ are.count;
       all = λ n positive high.
           let one = are.all n positive high in
-          let is : IsHallPass mark hall one.0.lists = in_all (λ (pass : HallSight). IsHallPass mark hall pass.lists) passes one.0 are.of one.1 in (
+          let is : IsHallPass disks hall one.0.lists = in_all (λ (pass : HallSight). IsHallPass disks hall pass.lists) passes one.0 are.of one.1 in (
             one.0.lists.logs,
             in_map (λ (pass : HallSight). pass.lists.logs) one.0 passes one.1,
             subst (λ (m : ℕ). AllOf (λ (part : LogSight). pass_number part ≡ m) one.0.lists.logs) one.2 is.one,
@@ -155,7 +155,7 @@ module _ {D : Type 0} (disks : Ghosts D) where
   -- ---- refusals
 
   pub logs_refused : (disk after : D) (more left : List D) (file : ℕ) (why : LogFault) → WasOpened disks (length more) disk after
-      → (why ≢ log.OutOfMemory → AreRefusedAt disks LOG_LIMITS 1 more file why left) → (why ≡ log.OutOfMemory → AreLeft disks LOG_LIMITS 1 more left)
+      → (why ≢ log.OutOfMemory → AreRefusedAt disks LOG_LIMITS 1 more file why left) → (why ≡ log.OutOfMemory → AreSameDisks disks more left)
       → IsHallRefused disks disk more (hall_fault_of_log file why) after left
   logs_refused disk after more left file log.OutOfMemory opened refused kept = wanting refl opened (kept refl)
   logs_refused disk after more left file log.Failed opened refused kept = log_refused file log.Failed refl (λ e. cc) opened (refused (λ e. cc))
@@ -165,30 +165,24 @@ module _ {D : Type 0} (disks : Ghosts D) where
   logs_refused disk after more left file (log.BrokenChain version) opened refused kept = log_refused file (log.BrokenChain version) refl (λ e. cc) opened (refused (λ e. cc))
 
   -- as many disks come back as were given
-  left_count : (limits : LogLimits) (number : ℕ) (before after : List D) → AreLeft disks limits number before after → length after ≡ length before
-  left_count limits number [] [] are = refl
-  left_count limits number [] (a ∷ after) are = absurd are
-  left_count limits number (b ∷ before) [] are = absurd are
-  left_count limits number (b ∷ before) (a ∷ after) are = ap (λ (n : ℕ). suc n) (left_count limits (number + 1) before after are.1)
+  left_count : (before after : List D) → AreSameDisks disks before after → length after ≡ length before
+  left_count [] [] are = refl
+  left_count [] (a ∷ after) are = absurd are
+  left_count (b ∷ before) [] are = absurd are
+  left_count (b ∷ before) (a ∷ after) are = ap (λ (n : ℕ). suc n) (left_count before after are.1)
 
   pub refused_count : (limits : LogLimits) (more left : List D) (file : ℕ) (why : LogFault)
-      → (why ≢ log.OutOfMemory → AreRefusedAt disks limits 1 more file why left) → (why ≡ log.OutOfMemory → AreLeft disks limits 1 more left) → length left ≡ length more
-  refused_count limits more left file log.OutOfMemory refused kept = left_count limits 1 more left (kept refl)
-  refused_count limits more left file log.Failed refused kept = left_count limits 1 more left (left_refused disks limits 1 file log.Failed more left (refused (λ e. cc)))
-  refused_count limits more left file (log.Damaged at) refused kept = left_count limits 1 more left (left_refused disks limits 1 file (log.Damaged at) more left (refused (λ e. cc)))
-  refused_count limits more left file (log.WrongNumber found) refused kept = left_count limits 1 more left (left_refused disks limits 1 file (log.WrongNumber found) more left (refused (λ e. cc)))
-  refused_count limits more left file (log.OverLimit long limit) refused kept = left_count limits 1 more left (left_refused disks limits 1 file (log.OverLimit long limit) more left (refused (λ e. cc)))
-  refused_count limits more left file (log.BrokenChain version) refused kept = left_count limits 1 more left (left_refused disks limits 1 file (log.BrokenChain version) more left (refused (λ e. cc)))
+      → (why ≢ log.OutOfMemory → AreRefusedAt disks limits 1 more file why left) → (why ≡ log.OutOfMemory → AreSameDisks disks more left) → length left ≡ length more
+  refused_count limits more left file log.OutOfMemory refused kept = left_count more left (kept refl)
+  refused_count limits more left file log.Failed refused kept = left_count more left (left_refused disks limits 1 file log.Failed more left (refused (λ e. cc)))
+  refused_count limits more left file (log.Damaged at) refused kept = left_count more left (left_refused disks limits 1 file (log.Damaged at) more left (refused (λ e. cc)))
+  refused_count limits more left file (log.WrongNumber found) refused kept = left_count more left (left_refused disks limits 1 file (log.WrongNumber found) more left (refused (λ e. cc)))
+  refused_count limits more left file (log.OverLimit long limit) refused kept = left_count more left (left_refused disks limits 1 file (log.OverLimit long limit) more left (refused (λ e. cc)))
+  refused_count limits more left file (log.BrokenChain version) refused kept = left_count more left (left_refused disks limits 1 file (log.BrokenChain version) more left (refused (λ e. cc)))
 
-  -- the logs of files are as many, and none has a patch in doubt
+  -- the logs of files are as many
   pub opened_count : (limits : LogLimits) (number : ℕ) (more : List D) (logs : List (Made (LogView D))) → AreOpened disks limits number more (map (λ (log : Made (LogView D)). log.origin) logs) → length logs ≡ length more
   opened_count limits number more logs are = sym (length_map (λ (log : Made (LogView D)). log.origin) logs) ∙ as_many disks limits number more (map (λ (log : Made (LogView D)). log.origin) logs) are
-
-  pub opened_settled : (limits : LogLimits) (number : ℕ) (more : List D) (logs : List (Made (LogView D))) → AreOpened disks limits number more (map (λ (log : Made (LogView D)). log.origin) logs)
-      → AllOf (λ (log : Made (LogView D)). log.origin.doubt ≡ None) logs
-  opened_settled limits number more [] are = tt
-  opened_settled limits number [] (l ∷ logs) are = absurd are
-  opened_settled limits number (d ∷ more) (l ∷ logs) are = (are.0.settled.0, opened_settled limits (number + 1) more logs are.1)
 
   -- the disks of a refusal, in their places
   pub refused_hall : (disk after : D) (more left given : List D) (fault told : HallFault) → given ≡ after ∷ left → told ≡ fault → IsHallRefused disks disk more fault after left → IsRefusedHall disks (disk ∷ more) told given
@@ -197,12 +191,11 @@ module _ {D : Type 0} (disks : Ghosts D) where
 
   -- ---- the end of a registry
 
-  pub registry_ended : (made : Made (StateView D)) (passes : List RegistrySight) (registry : StateView D) (disk : D) → disk ≡ registry.disk → IsClosedRegistryOf disks made passes registry → RegistryStandsInTurn disks registry
+  pub registry_ended : (made : Made (StateView D)) (passes : List RegistrySight) (registry : StateView D) (disk : D) → disk ≡ registry.disk → IsClosedOf (shared_registry disks) made passes registry
       → (disks.tells → MayLeave (disks.past disk) (reads (disks.past disk))) → EndsRegistry disks made passes disk
-  registry_ended made passes registry disk is closed stands left = record {
+  registry_ended made passes registry disk is closed left = record {
     registry = registry;
     closed = closed;
-    stands = stands;
     disk_is = is;
-    file = λ told. (stands told).each (reads (disks.past disk)) (subst (λ (d : D). MayLeave (disks.past d) (reads (disks.past disk))) is (left told));
+    file = λ told. (closed.stands told).each (reads (disks.past disk)) (subst (λ (d : D). MayLeave (disks.past d) (reads (disks.past disk))) is (left told));
   }

@@ -3,6 +3,7 @@ use Rattle.std.proofs.Common.{◌≡◌, ℕ, suc, ◌<◌, refl, sym, ap, ◌�
 use Rattle.std.specs.Prelude.{reverse}
 use Rattle.std.specs.List.{AllZip}
 use Rattle.std.proofs.lemmas.List.{reverse-append}
+use Rattle.disk_model.specs.declared.disk.Disk.{Ghosts}
 use Rattle.delta_base.specs.declared.link.Link.{Ghosts as LinkGhosts}
 use Rattle.turn_cell.specs.Turns.{AllOf}
 use Rattle.worker_pool.specs.Works.{AllServed, Served, Works as AreWorked}
@@ -44,10 +45,10 @@ module _ {D G : Type 0} (hall : HallView D) where
   posted_length (x ∷ passes) [] same = absurd (omega (arith, same))
   posted_length (x ∷ passes) (y ∷ gates) same = ap (λ (n : ℕ). suc n) (posted_length passes gates (omega (arith, same)))
 
-module _ {D L : Type 0} (links : LinkGhosts L) (hall : HallView D) where
+module _ {D L : Type 0} (disks : Ghosts D) (links : LinkGhosts L) (hall : HallView D) where
   -- works one after another are steps of one pass of that hall
-  works_ask : (first last : WorkerView D) (arrivals : List (Arrival L)) (left : List L) → first.hall ≡ hall → AreWorked (WorksSession links) first arrivals last left
-      → HasAsked hall first.pass last.pass
+  works_ask : (first last : WorkerView D) (arrivals : List (Arrival L)) (left : List L) → first.hall ≡ hall → AreWorked (WorksSession disks links) first arrivals last left
+      → HasAsked disks hall first.pass last.pass
   works_ask first last [] [] is same = ([], ap (λ (w : WorkerView D). w.pass.lists) same)
   works_ask first last [] (link ∷ left) is worked = absurd worked
   works_ask first last (arrival ∷ arrivals) [] is worked = absurd worked
@@ -55,15 +56,15 @@ module _ {D L : Type 0} (links : LinkGhosts L) (hall : HallView D) where
       let next = worked.0 in
       let one = worked.1 in
       let talks = one.2.talks.4 in
-      let said = steps_said first.hall (record first.pass { dice = arrival.dice }) next.pass talks.exchanges talks.answered in
-      let steps : AreSteps hall first.pass.lists (all_of said.0) next.pass.lists = subst (λ (h : HallView D). AreSteps h first.pass.lists (all_of said.0) next.pass.lists) is said.2 in
+      let said = steps_said disks first.hall (record first.pass { dice = arrival.dice }) next.pass talks.exchanges talks.answered in
+      let steps : AreSteps disks hall first.pass.lists (all_of said.0) next.pass.lists = subst (λ (h : HallView D). AreSteps disks h first.pass.lists (all_of said.0) next.pass.lists) is said.2 in
       let rest = works_ask next last arrivals left (one.1 ∙ is) worked.2 in
-      (all_of said.0 ++ rest.0, compose_steps hall first.pass.lists next.pass.lists last.pass.lists (all_of said.0) rest.0 steps rest.1)
+      (all_of said.0 ++ rest.0, compose_steps disks hall first.pass.lists next.pass.lists last.pass.lists (all_of said.0) rest.0 steps rest.1)
 
   module _ {G : Type 0} (tells : Type 0) (arrivals : G → List (Arrival L)) (back : G → List L) (faults : G → ℕ) where
     all_asked : (passes : List HallSight) (gates : List G) (posts : List (Post G (WorkerView D))) → length passes ≡ length gates → length posts ≡ length (posts_of hall passes gates)
-        → ((k : ℕ) (d : Post G (WorkerView D)) → k < length (posts_of hall passes gates) → Served tells arrivals back faults (WorksSession links) (slice_index_or (posts_of hall passes gates) k d) (slice_index_or posts k d))
-        → AllZip (HasAsked hall) passes (map (λ (post : Post G (WorkerView D)). post.worker.pass) posts)
+        → ((k : ℕ) (d : Post G (WorkerView D)) → k < length (posts_of hall passes gates) → Served tells arrivals back faults (WorksSession disks links) (slice_index_or (posts_of hall passes gates) k d) (slice_index_or posts k d))
+        → AllZip (HasAsked disks hall) passes (map (λ (post : Post G (WorkerView D)). post.worker.pass) posts)
     all_asked [] [] [] same count each = tt
     all_asked [] [] (z ∷ posts) same count each = absurd (omega (arith, count))
     all_asked [] (y ∷ gates) posts same count each = absurd (omega (arith, same))
@@ -75,6 +76,6 @@ module _ {D L : Type 0} (links : LinkGhosts L) (hall : HallView D) where
           all_asked passes gates posts (omega (arith, same)) (omega (arith, count)) (λ k d low. each (suc k) d (omega (arith, low))),
         )
 
-    pub gates_asked : (passes : List HallSight) (gates : List G) (posts : List (Post G (WorkerView D))) → length passes ≡ length gates → AllServed tells arrivals back faults (WorksSession links) (posts_of hall passes gates) posts
-        → AllZip (HasAsked hall) passes (map (λ (post : Post G (WorkerView D)). post.worker.pass) posts)
+    pub gates_asked : (passes : List HallSight) (gates : List G) (posts : List (Post G (WorkerView D))) → length passes ≡ length gates → AllServed tells arrivals back faults (WorksSession disks links) (posts_of hall passes gates) posts
+        → AllZip (HasAsked disks hall) passes (map (λ (post : Post G (WorkerView D)). post.worker.pass) posts)
     gates_asked passes gates posts same served = all_asked passes gates posts same served.0 served.1

@@ -1,7 +1,10 @@
 -- How a hall answers a request: what it asks of its lists, and what it says.
 use Rattle.std.specs.Prelude.{◌≡◌, ◌⊎◌, ℕ, List, [], ◌∷◌, Option, Some, None, Result, Ok, Err}
 use Rattle.std.specs.Option.{option_copied}
-use Rattle.chain_core.specs.Replies.{LogCall, LogReply, append as appends}
+use Rattle.chain_core.specs.Replies.{LogCall, LogReply, append as appends, describe, version}
+use Rattle.chain_core.specs.Replies.{fetch_version, fetch_id}
+use Rattle.disk_model.specs.declared.disk.Disk.{Ghosts}
+use Rattle.shared_log.specs.Calls.{CallOnLog}
 use Rattle.log_base.specs.declared.source_info.SourceInfo.{SourceInfo}
 use Rattle.http_heads.specs.declared.message.RawRequest.{RawRequest}
 use Rattle.http_session.specs.declared.answerer.Said.{Said}
@@ -18,9 +21,13 @@ use Rattle.rpc_answers.specs.declared.answer.Answer.TheVariants.{NoSource}
 use Rattle.rpc_calls.specs.Calls.{call_of}
 use Rattle.rpc_calls.specs.Outcomes.{CallOutcome}
 use Rattle.rpc_calls.specs.declared.call.Call.{Call}
-use Rattle.delta_session.specs.Asking.{Asking, asks_nobody, asks_registry, asks_log, asks_append}
-use Rattle.delta_session.specs.Asking.{asking_of, dice_behind}
-use Rattle.delta_session.specs.Steps.{HallView, HallSight, Step, lookup, visit, AreSteps}
+use Rattle.shared_registry.specs.Lookups.{RegistryLookup}
+use Rattle.delta_session.specs.declared.logs.SlotCall.{SlotCall}
+use Rattle.delta_session.specs.declared.logs.SlotCall.TheVariants.{Describe, Version, Append}
+use Rattle.delta_session.specs.declared.logs.SlotCall.TheVariants.{FetchVersion, FetchId}
+use Rattle.delta_session.specs.Asking.{Asking, asks_nobody, asks_registry, asks_log}
+use Rattle.delta_session.specs.Asking.{asking_of, dice_behind, version_within}
+use Rattle.delta_session.specs.Steps.{HallView, HallSight, Step, of_registry, of_log, AreSteps}
 use Rattle.delta_session.specs.Telling.{registry_answer, log_answer, patch_answer}
 use Rattle.delta_session.specs.Telling.{refusal_answer, methods_told}
 
@@ -42,13 +49,15 @@ SaysOf answer None said = said ≡ OutOfMemory
 -- the registry is asked, and its reply is said
 abbrev pub ByRegistry : RegistryCall → List Step → Said → Type 0
 ByRegistry call steps said =
-    (reply : Option RegistryReply) × (steps ≡ lookup call reply ∷ [])
-    × SaysOf registry_answer reply said
+    (made : RegistryLookup) × (made.call ≡ call) × (steps ≡ of_registry made ∷ [])
+    × SaysOf registry_answer made.reply said
 
 -- the log of a slot is asked, and its reply is said
 abbrev pub ByLog : ℕ → LogCall → List Step → Said → Type 0
 ByLog slot call steps said =
-    (reply : Option LogReply) × (steps ≡ visit slot call reply ∷ []) × SaysOf log_answer reply said
+    (made : CallOnLog) × (made.call ≡ call)
+    × (steps ≡ of_log (record { slot = slot; asked = made }) ∷ [])
+    × SaysOf log_answer made.reply said
 
 -- a look-up gave no source, and that is said; without a reply memory ran out
 abbrev pub SaysNone : Option RegistryReply → Said → Type 0
@@ -74,8 +83,8 @@ BehindLookup P None rest said = (rest ≡ []) × SaysNone None said
 -- the source is removed in between.
 abbrev pub BySource : List ℕ → (ℕ → List Step → Said → Type 0) → List Step → Said → Type 0
 BySource name P steps said =
-    (reply : Option RegistryReply) × (rest : List Step)
-    × (steps ≡ lookup (resolve name) reply ∷ rest) × BehindLookup P reply rest said
+    (made : RegistryLookup) × (made.call ≡ resolve name) × (rest : List Step)
+    × (steps ≡ of_registry made ∷ rest) × BehindLookup P made.reply rest said
 
 -- A text is appended to the log of a slot, or its first fault is said. Memory may run out before
 -- it is known.
@@ -87,11 +96,19 @@ ByPatch text slot steps said =
     × Says (patch_answer fault) None said)
     ⊎ ((steps ≡ []) × (said ≡ OutOfMemory))
 
+-- what a call on the log of a slot comes to
+abbrev pub BySlot : SlotCall → ℕ → List Step → Said → Type 0
+BySlot Describe slot steps said = ByLog slot describe steps said
+BySlot Version slot steps said = ByLog slot version steps said
+BySlot (FetchVersion place) slot steps said =
+    ByLog slot (fetch_version (version_within place)) steps said
+BySlot (FetchId id) slot steps said = ByLog slot (fetch_id id) steps said
+BySlot (Append text) slot steps said = ByPatch text slot steps said
+
 abbrev pub ComesTo : Asking → List Step → Said → Type 0
 ComesTo (asks_nobody answer) steps said = (steps ≡ []) × Says answer None said
 ComesTo (asks_registry call) steps said = ByRegistry call steps said
-ComesTo (asks_log name call) steps said = BySource name (λ slot. ByLog slot call) steps said
-ComesTo (asks_append name text) steps said = BySource name (ByPatch text) steps said
+ComesTo (asks_log name call) steps said = BySource name (BySlot call) steps said
 
 -- ---- requests
 
@@ -104,10 +121,11 @@ IsSaidTo dice (Ok call) steps said next =
     ⊎ ((steps ≡ []) × (said ≡ OutOfMemory) × (next ≡ dice))
 
 -- Before and behind an answer the pass knows this. The steps were legal, each at its point of its
--- list, and what they gave is said.
-abbrev pub Answered : {D : Type 0} → HallView D → HallSight → RawRequest → Said → HallSight → Type 0
-Answered hall before request said after =
-    (steps : List Step) × AreSteps hall before.lists steps after.lists
+-- list and with its stay, and what they gave is said.
+abbrev pub Answered : {D : Type 0} → Ghosts D → HallView D → HallSight → RawRequest → Said
+    → HallSight → Type 0
+Answered disks hall before request said after =
+    (steps : List Step) × AreSteps disks hall before.lists steps after.lists
     × IsSaidTo before.dice (call_of request) steps said after.dice
 
 -- ---- parts of an answer
@@ -123,23 +141,23 @@ IsLookedUp reply (Ok slot) =
     (source : SourceInfo) × (reply ≡ Some (found (Some source))) × (source.slot ≡ slot)
 IsLookedUp reply (Err said) = SaysNone reply said
 
-module _ {D : Type 0} (hall : HallView D) where
+module _ {D : Type 0} (disks : Ghosts D) (hall : HallView D) where
   -- a call is answered, and a creation takes its number
   abbrev pub ServesCall : Call → HallSight → Said → HallSight → Type 0
   ServesCall call before said after =
-      (steps : List Step) × AreSteps hall before.lists steps after.lists
+      (steps : List Step) × AreSteps disks hall before.lists steps after.lists
       × ComesTo (asking_of before.dice call) steps said
       × (after.dice ≡ dice_behind call before.dice)
 
   -- the slot of the source with a name was found, or why none was is said
   abbrev pub LooksUp : List ℕ → HallSight → Result ℕ Said → HallSight → Type 0
   LooksUp name before result after =
-      (reply : Option RegistryReply)
-      × AreSteps hall before.lists (lookup (resolve name) reply ∷ []) after.lists
-      × (after.dice ≡ before.dice) × IsLookedUp reply result
+      (made : RegistryLookup) × (made.call ≡ resolve name)
+      × AreSteps disks hall before.lists (of_registry made ∷ []) after.lists
+      × (after.dice ≡ before.dice) × IsLookedUp made.reply result
 
   -- steps that come to this, of a part that takes no number
   abbrev pub TakesNoNumber : (List Step → Said → Type 0) → HallSight → Said → HallSight → Type 0
   TakesNoNumber P before said after =
-      (steps : List Step) × AreSteps hall before.lists steps after.lists × P steps said
+      (steps : List Step) × AreSteps disks hall before.lists steps after.lists × P steps said
       × (after.dice ≡ before.dice)

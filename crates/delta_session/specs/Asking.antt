@@ -1,20 +1,20 @@
 -- What each call asks of a hall.
 use Rattle.std.specs.Prelude.{ℕ, ◌+◌, ◌%◌, ◌^◌, List, None, nat_lt, unwrap_or, if◌then◌else◌}
 use Rattle.delta_base.specs.Ids.{random_id}
-use Rattle.chain_core.specs.Replies as log
 use Rattle.registry_core.specs.Replies as registry
 use Rattle.rpc_answers.specs.declared.answer.Answer.{Answer}
 use Rattle.rpc_answers.specs.declared.answer.Answer.TheVariants.{Pong}
 use Rattle.rpc_calls.specs.declared.call.Call.{Call}
 use Rattle.rpc_calls.specs.declared.call.Call.TheVariants as call
+use Rattle.delta_session.specs.declared.logs.SlotCall.{SlotCall}
+use Rattle.delta_session.specs.declared.logs.SlotCall.TheVariants.{Describe, Version, Append}
+use Rattle.delta_session.specs.declared.logs.SlotCall.TheVariants.{FetchVersion, FetchId}
 
--- A call asks nobody, the registry, or the log of the source with a name; or it appends a text to
--- that log.
+-- a call asks nobody, the registry, or the log of the source with a name
 pub data Asking : Type 0 where
   asks_nobody : Answer → Asking
   asks_registry : registry.RegistryCall → Asking
-  asks_log : List ℕ → log.LogCall → Asking
-  asks_append : List ℕ → List ℕ → Asking
+  asks_log : List ℕ → SlotCall → Asking
 
 -- a version past 32 bits is one that no log has, as 0 is
 abbrev pub version_within : ℕ → ℕ
@@ -35,12 +35,11 @@ asking_of dice (call.Create name uri id) =
     asks_registry (registry.create name uri (unwrap_or id (random_id dice)))
 asking_of dice (call.Rename name new_name) = asks_registry (registry.rename name new_name)
 asking_of dice (call.Remove name) = asks_registry (registry.remove name)
-asking_of dice (call.Log name) = asks_log name log.describe
-asking_of dice (call.Version name) = asks_log name log.version
-asking_of dice (call.FetchVersion name version) =
-    asks_log name (log.fetch_version (version_within version))
-asking_of dice (call.FetchId name id) = asks_log name (log.fetch_id id)
-asking_of dice (call.Append name patch) = asks_append name patch
+asking_of dice (call.Log name) = asks_log name Describe
+asking_of dice (call.Version name) = asks_log name Version
+asking_of dice (call.FetchVersion name version) = asks_log name (FetchVersion version)
+asking_of dice (call.FetchId name id) = asks_log name (FetchId id)
+asking_of dice (call.Append name patch) = asks_log name (Append patch)
 
 -- a creation without an id of its own takes the next number
 abbrev pub dice_behind : Call → ℕ → ℕ

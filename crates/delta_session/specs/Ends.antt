@@ -5,8 +5,8 @@ use Rattle.disk_model.specs.declared.disk.Disk.{Ghosts}
 use Rattle.log_registry.specs.Stands.{MayHoldEvents}
 use Rattle.log_registry.specs.State.{StateView, events_in}
 use Rattle.turn_cell.specs.Sights.{Made}
-use Rattle.shared_registry.specs.History.{RegistryStandsInTurn}
-use Rattle.shared_registry.specs.Passes.{RegistrySight, IsClosedRegistryOf}
+use Rattle.turn_cell.specs.Sharing.{IsClosedOf}
+use Rattle.shared_registry.specs.History.{RegistrySight, shared_registry}
 use Rattle.hall_logs.specs.Ends.{AreEnded}
 use Rattle.hall_logs.specs.Rooms.{HasRoom, Room}
 use Rattle.delta_session.specs.Steps.{HallView, HallSight}
@@ -17,8 +17,7 @@ module _ {D : Type 0} (disks : Ghosts D) where
   pub record EndsRegistry (made : Made (StateView D)) (passes : List RegistrySight)
       (disk : D) : Type 0 where
     pub registry : StateView D
-    pub closed : IsClosedRegistryOf disks made passes registry
-    pub stands : RegistryStandsInTurn disks registry
+    pub closed : IsClosedOf (shared_registry disks) made passes registry
     pub disk_is : disk ≡ registry.disk
     pub file :
         disks.tells

@@ -1,10 +1,12 @@
 -- The passes of a hall.
-use Rattle.std.specs.Prelude.{◌≡◌, ℕ, ◌+◌, ◌<◌, ◌≤◌, List, [], ◌∷◌, Option, length, min}
+use Rattle.std.specs.Prelude.{◌≡◌, ℕ, ◌+◌, ◌<◌, ◌≤◌, List, [], ◌∷◌, length, min}
 use Rattle.std.specs.List.{AllZip, sum_by}
+use Rattle.disk_model.specs.declared.disk.Disk.{Ghosts}
 use Rattle.turn_cell.specs.Turns.{AllOf, IsIn, last_count}
 use Rattle.turn_cell.specs.Knowing.{pass_number, own_faults_of}
-use Rattle.shared_log.specs.Passes.{LogSight, IsNewPassOf as IsNewPart}
-use Rattle.shared_registry.specs.Passes.{RegistrySight, IsRegistryPassOf, IsNewRegistryPassOf}
+use Rattle.turn_cell.specs.Sharing.{IsPassOf, IsNewPassOf}
+use Rattle.shared_log.specs.History.{LogSight, shared_log}
+use Rattle.shared_registry.specs.History.{RegistrySight, shared_registry}
 use Rattle.hall_logs.specs.Slots.{ArePartsOf}
 use Rattle.delta_session.specs.Steps.{HallView, HallSight, Lists}
 
@@ -17,11 +19,11 @@ all_hall_faults p =
 abbrev pub HasOneNumber : Lists → Type 0
 HasOneNumber p = AllOf (λ part. pass_number part ≡ pass_number p.registry) p.logs
 
-module _ {D : Type 0} (mark : D → Option (List ℕ × ℕ)) (hall : HallView D) where
+module _ {D : Type 0} (disks : Ghosts D) (hall : HallView D) where
   -- a pass of the hall, of its registry and of each of its logs by one number, without a turn
   pub record IsHallPass (p : Lists) : Type 0 where
-    pub registry : IsRegistryPassOf mark hall.registry p.registry
-    pub logs : ArePartsOf mark hall.logs.logs p.logs
+    pub registry : IsPassOf (shared_registry disks) hall.registry p.registry
+    pub logs : ArePartsOf disks hall.logs.logs p.logs
     pub one : HasOneNumber p
 
   -- each is a pass of the hall, and none is missing: each number up to that of the seats has one
@@ -36,8 +38,9 @@ module _ {D : Type 0} (mark : D → Option (List ℕ × ℕ)) (hall : HallView D
   abbrev pub AreNewPasses : ℕ → List HallSight → Type 0
   AreNewPasses number [] = Unit {0}
   AreNewPasses number (pass ∷ passes) =
-      IsNewRegistryPassOf mark hall.registry number pass.lists.registry
-      × AllZip (λ log part. IsNewPart mark log number part) hall.logs.logs pass.lists.logs
+      IsNewPassOf (shared_registry disks) hall.registry number pass.lists.registry
+      × AllZip (λ log part. IsNewPassOf (shared_log disks) log number part)
+      hall.logs.logs pass.lists.logs
       × AreNewPasses (number + 1) passes
 
 -- what passes know of a registry and what they know of its logs, each joined with the other

@@ -1,11 +1,11 @@
 -- How a hall is opened over its files, and why it isn't.
-use Rattle.std.specs.Prelude.{◌≡◌, ◌≢◌, ℕ, ◌+◌, ◌≤◌, List, [], ◌∷◌, length, map, IsTrue, None}
+use Rattle.std.specs.Prelude.{◌≡◌, ◌≢◌, ℕ, ◌+◌, List, [], ◌∷◌, length, map, None}
 use Rattle.std.specs.List.{AllByRecursion}
-use Rattle.delta_base.specs.Outside.{Rose}
 use Rattle.log_base.specs.declared.limits.TheConstants.{LOG_LIMITS}
 use Rattle.disk_model.specs.Past.{reads}
 use Rattle.disk_model.specs.declared.disk.Disk.{Ghosts}
 use Rattle.log_journal.specs.File.{Holds}
+use Rattle.log_journal.specs.Written.{Reopened, RefusedOpening}
 use Rattle.log_registry.specs.Fault.{HasRegistryFault}
 use Rattle.log_registry.specs.State.{StateView, events_in}
 use Rattle.log_registry.specs.declared.fault.RegistryFault.{RegistryFault}
@@ -14,7 +14,7 @@ use Rattle.patch_log.specs.declared.fault.LogFault.{LogFault}
 use Rattle.patch_log.specs.declared.fault.LogFault.TheVariants as log
 use Rattle.registry_core.specs.Events.{IsRegistry}
 use Rattle.registry_core.specs.Texts.{registry_payloads, registry_length}
-use Rattle.hall_logs.specs.Files.{IsSameDisk, AreOpened, AreRefusedAt, AreLeft}
+use Rattle.hall_logs.specs.Files.{AreOpened, AreRefusedAt, AreSameDisks}
 use Rattle.delta_session.specs.Steps.{HallView}
 use Rattle.delta_session.specs.declared.fault.HallFault.{HallFault}
 use Rattle.delta_session.specs.declared.fault.HallFault.TheVariants as hall
@@ -38,8 +38,7 @@ hall_fault_of_log file (log.BrokenChain version) = hall.BrokenChain file version
 hall_fault_of_log file log.OutOfMemory = hall.OutOfMemory
 
 module _ {D : Type 0} (disks : Ghosts D) where
-  -- The registry of a file as it was opened: no pass brought its events, and none is in doubt. Its
-  -- disk didn't fail, and was read no further than the journal.
+  -- the registry of a file as it was opened: no pass brought its events, and none is in doubt
   pub record IsOpenedRegistry (disk : D) (opened : StateView D) : Type 0 where
     pub file :
         disks.tells
@@ -47,25 +46,13 @@ module _ {D : Type 0} (disks : Ghosts D) where
     pub sound : IsRegistry opened.slots (events_in opened)
     pub by_nobody : AllByRecursion (λ entry. entry.by ≡ 0) opened.entries
     pub settled : opened.doubt ≡ None
-    pub kept : IsSameDisk disks disk opened.disk
-    pub faults : disks.faults opened.disk ≡ disks.faults disk
-    pub few :
-        disks.tells
-        → disks.read_bytes opened.disk
-        ≤ disks.read_bytes disk + registry_length opened.slots (events_in opened)
-    pub long : disks.plans → disks.short opened.disk ≡ disks.short disk
+    pub reopened :
+        Reopened disks disk opened.disk (registry_length opened.slots (events_in opened))
 
-  -- File 0 has this fault. That its disk failed is told where it did, and where no failure is
-  -- planned it failed for want of memory.
+  -- file 0 has this fault, unless its disk failed or memory ran out
   pub record IsRefusedRegistry (disk : D) (fault : RegistryFault) (after : D) : Type 0 where
     pub has : disks.tells → HasRegistryFault (reads (disks.past disk)) fault
-    pub kept : IsSameDisk disks disk after
-    pub cause : fault ≡ registry.Failed → Rose (disks.faults disk) (disks.faults after)
-    pub never_falls : disks.faults disk ≤ disks.faults after
-    pub well : fault ≢ registry.Failed → disks.faults after ≡ disks.faults disk
-    pub planned :
-        disks.plans → fault ≡ registry.Failed → disks.next_failure disk ≡ None
-        → IsTrue (disks.short after)
+    pub refused : RefusedOpening disks (fault ≡ registry.Failed) disk after
 
   -- the registry of the file, with so many slots, was opened and let go
   abbrev pub WasOpened : ℕ → D → D → Type 0
@@ -100,7 +87,7 @@ module _ {D : Type 0} (disks : Ghosts D) where
         → IsHallRefused disk more fault after left
     -- memory ran out behind the opening of file 0
     wanting : fault ≡ hall.OutOfMemory → WasOpened (length more) disk after
-        → AreLeft disks LOG_LIMITS 1 more left
+        → AreSameDisks disks more left
         → IsHallRefused disk more fault after left
 
   -- a hall was refused, and each disk is in its place

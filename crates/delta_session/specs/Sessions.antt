@@ -2,6 +2,7 @@
 use Rattle.std.specs.Prelude.{◌≡◌, ℕ, ◌+◌, ◌≤◌, List, [], ◌∷◌, ◌++◌, Some, slice_get}
 use Rattle.delta_base.specs.Outside.{Rose}
 use Rattle.delta_base.specs.declared.link.Link.{Ghosts as LinkGhosts}
+use Rattle.disk_model.specs.declared.disk.Disk.{Ghosts}
 use Rattle.http_session.specs.Output.{Exchange}
 use Rattle.http_session.specs.Talks.{TalksOn, IsDrained, Moment, moment_of}
 use Rattle.http_text.specs.declared.session.SessionEnd.{SessionEnd}
@@ -9,9 +10,9 @@ use Rattle.http_text.specs.declared.session.SessionEnd.TheVariants.{LinkFault}
 use Rattle.patch_log.specs.State.{LogView}
 use Rattle.rpc_calls.specs.Calls.{call_of}
 use Rattle.turn_cell.specs.Sights.{Made}
-use Rattle.shared_log.specs.Passes.{LogSight}
+use Rattle.shared_log.specs.History.{LogSight}
 use Rattle.shared_registry.specs.Lookups.{RegistryAddsUp}
-use Rattle.hall_logs.specs.Sums.{AddsUp}
+use Rattle.shared_log.specs.Calls.{LogAddsUp}
 use Rattle.hall_logs.specs.Visits.{asked_at}
 use Rattle.delta_session.specs.Answered.{Answered, IsSaidTo}
 use Rattle.delta_session.specs.Steps.{HallView, HallSight, Step, AreSteps, lookups_of, visits_of}
@@ -32,28 +33,29 @@ AreSaid dice (e ∷ exchanges) [] last = ⊥
 
 -- What the answers of a session come to: the steps of all requests, in their order, are the calls
 -- of this pass and no others. What they add up to is told for the registry, and for each log.
-pub record ServedSession {D : Type 0} (hall : HallView D) (before : HallSight)
-    (exchanges : List Exchange) (after : HallSight) : Type 0 where
+pub record ServedSession {D : Type 0} (disks : Ghosts D) (hall : HallView D)
+    (before : HallSight) (exchanges : List Exchange) (after : HallSight) : Type 0 where
   pub steps : List (List Step)
   pub said : AreSaid before.dice exchanges steps after.dice
-  pub taken : AreSteps hall before.lists (all_of steps) after.lists
+  pub taken : AreSteps disks hall before.lists (all_of steps) after.lists
   pub registry :
       RegistryAddsUp before.lists.registry (lookups_of (all_of steps)) after.lists.registry
   pub logs :
       (place : ℕ) (log : Made (LogView D)) (p : LogSight)
       → slice_get hall.logs.logs place ≡ Some log → slice_get before.lists.logs place ≡ Some p
       → (q : LogSight) × (slice_get after.lists.logs place ≡ Some q)
-      × AddsUp p (asked_at (place + 1) (visits_of (all_of steps))) q
+      × LogAddsUp p (asked_at (place + 1) (visits_of (all_of steps))) q
 
 -- the pass asked some of the lists
-abbrev pub HasAsked : {D : Type 0} → HallView D → HallSight → HallSight → Type 0
-HasAsked hall before after = (steps : List Step) × AreSteps hall before.lists steps after.lists
+abbrev pub HasAsked : {D : Type 0} → Ghosts D → HallView D → HallSight → HallSight → Type 0
+HasAsked disks hall before after =
+    (steps : List Step) × AreSteps disks hall before.lists steps after.lists
 
 -- A connection was served: what was read and what was written of it, and why it ended. It has no
 -- byte left where it was closed or cut short, and its link failed where that is told.
-pub record IsSession {D : Type 0} (hall : HallView D) (from to : Moment HallSight)
-    (end : SessionEnd) : Type 0 where
-  pub talks : TalksOn (Answered hall) from to end
+pub record IsSession {D : Type 0} (disks : Ghosts D) (hall : HallView D)
+    (from to : Moment HallSight) (end : SessionEnd) : Type 0 where
+  pub talks : TalksOn (Answered disks hall) from to end
   pub drained : IsDrained to.left end
   pub failed : end ≡ LinkFault → Rose from.faults to.faults
   pub never_falls : from.faults ≤ to.faults
@@ -63,13 +65,13 @@ pub record WorkerView (D : Type 0) : Type 0 where
   pub hall : HallView D
   pub pass : HallSight
 
-module _ {D L : Type 0} (links : LinkGhosts L) where
+module _ {D L : Type 0} (disks : Ghosts D) (links : LinkGhosts L) where
   -- It served the connection as a session of its hall whose next ids are made of the numbers from
   -- these dice on.
   abbrev pub WorksSession : WorkerView D → L → ℕ → WorkerView D → L → Type 0
   WorksSession before link dice after left =
       (end : SessionEnd) × (after.hall ≡ before.hall)
-      × IsSession before.hall
+      × IsSession disks before.hall
       (moment_of (record before.pass { dice = dice }) (links.left link) (links.sent link)
       (links.faults link))
       (moment_of after.pass (links.left left) (links.sent left) (links.faults left)) end

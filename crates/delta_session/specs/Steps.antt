@@ -1,13 +1,14 @@
 -- What a pass of a hall knows, and what it asks of the hall's lists: the registry's,
 -- and each log's.
-use Rattle.std.specs.Prelude.{◌≡◌, ℕ, List, [], ◌∷◌, Option}
-use Rattle.chain_core.specs.Replies.{LogCall, LogReply}
+use Rattle.std.specs.Prelude.{◌≡◌, ℕ, List, [], ◌∷◌}
+use Rattle.disk_model.specs.declared.disk.Disk.{Ghosts}
 use Rattle.log_registry.specs.State.{StateView}
-use Rattle.registry_core.specs.Replies.{RegistryCall, RegistryReply}
 use Rattle.turn_cell.specs.Sights.{Made}
-use Rattle.shared_log.specs.Passes.{LogSight}
-use Rattle.shared_registry.specs.Passes.{RegistrySight}
-use Rattle.shared_registry.specs.Lookups.{RegistryLookup, IsLookup}
+use Rattle.turn_cell.specs.Calls.{IsCalled}
+use Rattle.shared_log.specs.History.{LogSight}
+use Rattle.shared_registry.specs.History.{RegistrySight}
+use Rattle.shared_registry.specs.Stays.{CalledOnRegistry}
+use Rattle.shared_registry.specs.Lookups.{RegistryLookup, MayWantNames}
 use Rattle.hall_logs.specs.Slots.{LogsOfHall}
 use Rattle.hall_logs.specs.Visits.{Visit, IsVisit}
 
@@ -31,15 +32,6 @@ pub data Step : Type 0 where
   of_registry : RegistryLookup → Step
   of_log : Visit → Step
 
--- a step on the registry; its reply is none where memory ran out
-abbrev pub lookup : RegistryCall → Option RegistryReply → Step
-lookup call reply = of_registry (record { call = call; reply = reply })
-
--- a step on the log of a slot; its reply is none where memory ran out
-abbrev pub visit : ℕ → LogCall → Option LogReply → Step
-visit slot call reply =
-    of_log (record { slot = slot; asked = record { call = call; reply = reply } })
-
 -- those that ask the registry, in their order
 abbrev pub lookups_of : List Step → List RegistryLookup
 lookups_of [] = []
@@ -52,13 +44,15 @@ visits_of [] = []
 visits_of (of_registry asked ∷ more) = visits_of more
 visits_of (of_log asked ∷ more) = asked ∷ visits_of more
 
-module _ {D : Type 0} (hall : HallView D) where
-  -- one list is asked by a legal call, and what the pass knows of the others stays
+module _ {D : Type 0} (disks : Ghosts D) (hall : HallView D) where
+  -- one list is asked by a legal call with its stay, and what the pass knows of the others is as it
+  -- was
   abbrev pub IsStep : Lists → Step → Lists → Type 0
-  IsStep p (of_registry asked) q =
-      IsLookup hall.registry.origin.slots p.registry asked q.registry × (q.logs ≡ p.logs)
-  IsStep p (of_log asked) q =
-      IsVisit hall.logs.logs p.logs asked q.logs × (q.registry ≡ p.registry)
+  IsStep p (of_registry made) q =
+      IsCalled (CalledOnRegistry disks hall.registry.origin) MayWantNames p.registry made q.registry
+      × (q.logs ≡ p.logs)
+  IsStep p (of_log visit) q =
+      IsVisit disks hall.logs.logs p.logs visit q.logs × (q.registry ≡ p.registry)
 
   -- one step after another
   abbrev pub AreSteps : Lists → List Step → Lists → Type 0

@@ -24,7 +24,7 @@ module _ {D G L : Type 0} (disks : Ghosts D) (links : LinkGhosts L) (tells : Typ
   pub record HasWorked (hall : HallView D) (passes : List HallSight) (gates after : List G)
       (left : List D) : Type 0 where
     pub posts : List (Post G (WorkerView D))
-    pub served : AllServed tells arrivals back faults (WorksSession links)
+    pub served : AllServed tells arrivals back faults (WorksSession disks links)
         (posts_of hall passes gates) posts
     pub gates_are : after ≡ map (λ post. post.gate) posts
     pub ended : IsEnded disks hall (map (λ post. post.worker.pass) posts) left

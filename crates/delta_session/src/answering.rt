@@ -4,6 +4,7 @@ ghost use Rattle.delta_session.specs.Answered.{ServesCall};
 ghost use Rattle.delta_session.specs.Halls.{IsHallPass};
 
 use crate::hall::Hall;
+use crate::logs::SlotCall;
 use crate::pass::HallPass;
 use crate::refusing::refuse;
 use crate::telling::say;
@@ -27,10 +28,10 @@ impl<D: Disk> Hall<D> {
         uri: Text,
         id: Option<Id>,
     ) -> Said
-        requires ready { IsHallPass D.mark self.now pass.old.lists }
-        ensures serves { ServesCall self.now (Call.Create name uri id) pass.old result pass.new }
+        requires ready { IsHallPass D.Disk self.now pass.old.lists }
+        ensures serves { ServesCall D.Disk self.now (Call.Create name uri id) pass.old result pass.new }
         ensures printable { IsPrintableSaid result }
-        ensures ready { IsHallPass D.mark self.now pass.new.lists }
+        ensures ready { IsHallPass D.Disk self.now pass.new.lists }
     {
         let id = match id {
             Some(id) => id,
@@ -41,10 +42,10 @@ impl<D: Disk> Hall<D> {
 
     // What is said to a call.
     fn serve<R: Wait>(&self, rt: &R, alloc: Global, pass: &mut HallPass<D>, call: Call) -> Said
-        requires ready { IsHallPass D.mark self.now pass.old.lists }
-        ensures serves { ServesCall self.now call pass.old result pass.new }
+        requires ready { IsHallPass D.Disk self.now pass.old.lists }
+        ensures serves { ServesCall D.Disk self.now call pass.old result pass.new }
         ensures printable { IsPrintableSaid result }
-        ensures ready { IsHallPass D.mark self.now pass.new.lists }
+        ensures ready { IsHallPass D.Disk self.now pass.new.lists }
     {
         match call {
             Call::Ping => say(alloc, Answer::Pong),
@@ -52,16 +53,20 @@ impl<D: Disk> Hall<D> {
             Call::Source { name } => self.source(rt, alloc, pass, name),
             Call::SourceById { id } => self.source_by_id(rt, alloc, pass, id),
             Call::SourceByUri { uri } => self.source_by_uri(rt, alloc, pass, uri),
-            Call::Log { name } => self.log(rt, alloc, pass, name),
-            Call::Version { name } => self.version(rt, alloc, pass, name),
+            Call::Log { name } => self.ask_slot(rt, alloc, pass, name, SlotCall::Describe),
+            Call::Version { name } => self.ask_slot(rt, alloc, pass, name, SlotCall::Version),
             Call::Remove { name } => self.remove(rt, alloc, pass, name),
             Call::Create { name, uri, id } => self.create_with(rt, alloc, pass, name, uri, id),
             Call::Rename { name, new_name } => self.rename(rt, alloc, pass, name, new_name),
-            Call::Append { name, patch } => self.append(rt, alloc, pass, name, patch),
-            Call::FetchVersion { name, version } => self.fetch_version(
-                rt, alloc, pass, name, version,
-            ),
-            Call::FetchId { name, id } => self.fetch_id(rt, alloc, pass, name, id),
+            Call::Append { name, patch } => {
+                self.ask_slot(rt, alloc, pass, name, SlotCall::Append(patch))
+            }
+            Call::FetchVersion { name, version } => {
+                self.ask_slot(rt, alloc, pass, name, SlotCall::FetchVersion(version))
+            }
+            Call::FetchId { name, id } => {
+                self.ask_slot(rt, alloc, pass, name, SlotCall::FetchId(id))
+            }
         }
     }
 }
@@ -72,9 +77,9 @@ impl<D: Disk> Answerer for Hall<D> {
 
     type State = HallPass<D>;
 
-    ghost ready = { λ hall pass. IsHallPass D.mark hall pass.lists };
+    ghost ready = { λ hall pass. IsHallPass D.Disk hall pass.lists };
 
-    ghost answers = { λ hall before request said after. Answered hall before request said after };
+    ghost answers = { λ hall before request said after. Answered D.Disk hall before request said after };
 
     fn answer<R: Wait>(
         &self,

@@ -36,7 +36,7 @@ fn part<D: Disk>(
 impl<D: Disk> Hall<D> {
     /// The disks in the order of their files, once all passes are back. It takes no memory.
     pub fn close(self, passes: HallPasses<D>) -> Vec<D>
-        requires passes { AreHallPasses D.mark self passes.passes.items }
+        requires passes { AreHallPasses D.Disk self passes.passes.items }
         requires room { HasHallRoom self passes.room }
         ensures ended { IsEnded D.Disk self passes.passes.items result.items }
     {

@@ -11,21 +11,22 @@ ghost use Rattle.rpc_answers.specs.declared.answer.Answer.{Answer};
 ghost use Rattle.delta_session.specs.Laws.{SessionsAreServed, PassesStay};
 
 use disk_model::Disk;
-use hall_logs::{calls_add_up, visits_are_calls};
+use hall_logs::visits_are_calls;
+use shared_log::calls_add_up;
 use shared_registry::lookups_add_up;
 
 /// Answers one after another are calls of one pass, which add up.
 pub fn sessions_are_served<D: Disk>()
-    ensures { SessionsAreServed D }
+    ensures { SessionsAreServed D.Disk }
 {
     lookups_add_up();
-    calls_add_up();
+    calls_add_up::<D>();
     visits_are_calls::<D>();
 }
 
 /// Whatever legal calls the passes made, all are there and each has its number.
 pub fn passes_stay<D: Disk>()
-    ensures { PassesStay D }
+    ensures { PassesStay D.Disk }
 {}
 
 /// What a session writes by itself is the print of an answer: for want of memory, and for each

@@ -65,8 +65,8 @@ fn open_logs<D: Disk>(
     ensures hall { (disk : D) → IsOpenedRegistry D.Disk disk registry
         → IfOk result (λ r. IsOpenedHall D.Disk (disk ∷ disks.items) r.0) }
     ensures seats { IfOk result (λ r. r.0.logs.seats ≡ workers) }
-    ensures passes { IfOk result (λ r. AreHallPasses D.mark r.0 r.1.passes.items) }
-    ensures new { IfOk result (λ r. AreNewPasses D.mark r.0 1 r.1.passes.items) }
+    ensures passes { IfOk result (λ r. AreHallPasses D.Disk r.0 r.1.passes.items) }
+    ensures new { IfOk result (λ r. AreNewPasses D.Disk r.0 1 r.1.passes.items) }
     ensures room { IfOk result (λ r. HasHallRoom r.0 r.1.room) }
     ensures refused { (disk : D) → IsOpenedRegistry D.Disk disk registry
         → IfErr result (λ refusal.
@@ -97,8 +97,8 @@ pub fn open_hall<D: Disk>(
     requires workers { (0 < workers) × (workers ≤ 16) }
     ensures hall { IfOk result (λ r. IsOpenedHall D.Disk disks.items r.0) }
     ensures seats { IfOk result (λ r. r.0.logs.seats ≡ workers) }
-    ensures passes { IfOk result (λ r. AreHallPasses D.mark r.0 r.1.passes.items) }
-    ensures new { IfOk result (λ r. AreNewPasses D.mark r.0 1 r.1.passes.items) }
+    ensures passes { IfOk result (λ r. AreHallPasses D.Disk r.0 r.1.passes.items) }
+    ensures new { IfOk result (λ r. AreNewPasses D.Disk r.0 1 r.1.passes.items) }
     ensures room { IfOk result (λ r. HasHallRoom r.0 r.1.room) }
     ensures refused { IfErr result (λ refusal.
         IsRefusedHall D.Disk disks.items refusal.fault refusal.disks.items) }

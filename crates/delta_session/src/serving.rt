@@ -30,7 +30,7 @@ fn post<'a, D: Disk, G>(
     gates: &mut Vec<G>,
     posts: &mut Vec<Post<G, HallWorker<'a, D>>>,
 )
-    requires of { AreHallPasses D.mark hall.now passes.old.items }
+    requires of { AreHallPasses D.Disk hall.now passes.old.items }
     requires count { vec_len passes.old ≡ vec_len gates.old }
     requires room { (posts.old.items ≡ []) × (vec_len passes.old ≤ vec_capacity posts.old) }
     ensures posts { posts.new.items ≡ posts_of hall.now passes.old.items gates.old.items }
@@ -83,7 +83,7 @@ pub fn serve_gates<R: Threads + Wait + Sync, D: Disk + Send, G: Gate + Send>(
 ) -> Result<Worked<D, G>, Worked<D, G>>
 where
     G::L: Link + Send,
-    requires passes { AreHallPasses D.mark hall passes.passes.items }
+    requires passes { AreHallPasses D.Disk hall passes.passes.items }
     requires room { HasHallRoom hall passes.room }
     requires gates { length gates.items ≡ hall.logs.seats }
     ensures worked { IfOk result (λ worked. HasWorked D.Disk G.L.Link G.tells G.arrivals G.back

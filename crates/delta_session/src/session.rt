@@ -27,10 +27,10 @@ pub fn serve_session<R: Wait, L: Link, D: Disk>(
     link: &mut L,
     dice: u128,
 ) -> SessionEnd
-    requires ready { IsHallPass D.mark hall.now pass.old.lists }
+    requires ready { IsHallPass D.Disk hall.now pass.old.lists }
 
     // What was read, what was written of it, and why it ended.
-    ensures session { IsSession hall.now
+    ensures session { IsSession D.Disk hall.now
         (moment_of (record pass.old { dice = dice }) (L.left link.old) (L.sent link.old)
         (L.faults link.old))
         (moment_of pass.new (L.left link.new) (L.sent link.new) (L.faults link.new)) result }
@@ -38,10 +38,10 @@ pub fn serve_session<R: Wait, L: Link, D: Disk>(
     // The pass knows all that it knew, has looked for each call, and what is its own grew by these
     // calls alone.
     ensures served { (exchanges : List Exchange)
-        → AnswerChain (Answered hall.now) (record pass.old { dice = dice }) exchanges pass.new
-        → ServedSession hall.now (record pass.old { dice = dice }) exchanges pass.new }
+        → AnswerChain (Answered D.Disk hall.now) (record pass.old { dice = dice }) exchanges pass.new
+        → ServedSession D.Disk hall.now (record pass.old { dice = dice }) exchanges pass.new }
     ensures number { pass_number pass.new.lists.registry ≡ pass_number pass.old.lists.registry }
-    ensures ready { IsHallPass D.mark hall.now pass.new.lists }
+    ensures ready { IsHallPass D.Disk hall.now pass.new.lists }
 {
     sessions_are_served::<D>();
     pass.dice = dice;

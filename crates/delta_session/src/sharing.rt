@@ -3,7 +3,7 @@ ghost use Rattle.std.specs.Prelude.{◌≡◌, ◌<◌, ◌≤◌, [], ◌∷◌
 ghost use Rattle.std.specs.Prelude.{IfOk, IfErr, vec_len, vec_capacity};
 ghost use Rattle.std.specs.List.{AllByRecursion, AllZip};
 ghost use Rattle.turn_cell.specs.Turns.{AllOf};
-ghost use Rattle.hall_logs.specs.Files.{IsStill};
+ghost use Rattle.hall_logs.specs.Files.{IsDiskOf};
 ghost use Rattle.hall_logs.specs.Rooms.{HasRoom};
 ghost use Rattle.hall_logs.specs.Slots.{AreAllHallPasses, AreNew};
 ghost use Rattle.delta_session.specs.Ends.{HasHallRoom};
@@ -59,19 +59,18 @@ pub(crate) fn share<D: Disk>(
 ) -> Result<(Hall<D>, HallPasses<D>), HallRefusal<D>>
     requires seats { (logs.seats ≡ seats) × (0 < seats) × (seats ≤ 16) }
     requires by_nobody { AllByRecursion (λ entry. entry.by ≡ 0) registry.entries }
-    requires settled { AllOf (λ log. log.origin.doubt ≡ None) logs.logs }
     requires count { length logs.logs ≡ registry.slots }
-    requires parts { AreAllHallPasses D.mark logs.logs logs.seats parts.items
-        × AreNew D.mark logs.logs 1 parts.items }
+    requires parts { AreAllHallPasses D.Disk logs.logs logs.seats parts.items
+        × AreNew D.Disk logs.logs 1 parts.items }
     requires rooms { HasRoom logs rooms × (length logs.logs < rooms.disks) }
     requires passes { (passes.items ≡ []) × (logs.seats ≤ vec_capacity passes) }
     ensures lists { IfOk result (λ r. (r.0.registry.origin ≡ registry) × (r.0.logs ≡ logs)) }
-    ensures passes { IfOk result (λ r. AreHallPasses D.mark r.0 r.1.passes.items) }
-    ensures new { IfOk result (λ r. AreNewPasses D.mark r.0 1 r.1.passes.items) }
+    ensures passes { IfOk result (λ r. AreHallPasses D.Disk r.0 r.1.passes.items) }
+    ensures new { IfOk result (λ r. AreNewPasses D.Disk r.0 1 r.1.passes.items) }
     ensures room { IfOk result (λ r. HasHallRoom r.0 r.1.room) }
     ensures want { IfErr result (λ refusal. (refusal.fault ≡ HallFault.OutOfMemory)
         × ((left : List D) × (refusal.disks.items ≡ registry.disk ∷ left)
-        × AllZip (IsStill D.Disk) (map (λ log. log.origin) logs.logs) left)) }
+        × AllZip (IsDiskOf D.Disk) (map (λ log. log.origin) logs.logs) left)) }
 {
     let mut passes = passes;
     let mut parts = parts;

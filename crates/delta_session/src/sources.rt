@@ -34,10 +34,10 @@ fn slot_in(alloc: Global, found: Result<Option<SourceInfo>, OutOfMemory>) -> Res
 
 impl<D: Disk> Hall<D> {
     pub(crate) fn list<R: Wait>(&self, rt: &R, alloc: Global, pass: &mut HallPass<D>) -> Said
-        requires ready { IsHallPass D.mark self.now pass.old.lists }
-        ensures takes { TakesNoNumber self.now (ByRegistry registry.list) pass.old result pass.new }
+        requires ready { IsHallPass D.Disk self.now pass.old.lists }
+        ensures takes { TakesNoNumber D.Disk self.now (ByRegistry registry.list) pass.old result pass.new }
         ensures printable { IsPrintableSaid result }
-        ensures ready { IsHallPass D.mark self.now pass.new.lists }
+        ensures ready { IsHallPass D.Disk self.now pass.new.lists }
     {
         let listed = self.registry.list(rt, &mut pass.registry);
         say_listed(alloc, listed)
@@ -50,11 +50,11 @@ impl<D: Disk> Hall<D> {
         pass: &mut HallPass<D>,
         name: Text,
     ) -> Said
-        requires ready { IsHallPass D.mark self.now pass.old.lists }
-        ensures takes { TakesNoNumber self.now (ByRegistry (registry.resolve name))
+        requires ready { IsHallPass D.Disk self.now pass.old.lists }
+        ensures takes { TakesNoNumber D.Disk self.now (ByRegistry (registry.resolve name))
             pass.old result pass.new }
         ensures printable { IsPrintableSaid result }
-        ensures ready { IsHallPass D.mark self.now pass.new.lists }
+        ensures ready { IsHallPass D.Disk self.now pass.new.lists }
     {
         let found = self.registry.resolve(rt, &mut pass.registry, &name);
         drop(name);
@@ -68,11 +68,11 @@ impl<D: Disk> Hall<D> {
         pass: &mut HallPass<D>,
         id: Id,
     ) -> Said
-        requires ready { IsHallPass D.mark self.now pass.old.lists }
-        ensures takes { TakesNoNumber self.now (ByRegistry (registry.resolve_id id))
+        requires ready { IsHallPass D.Disk self.now pass.old.lists }
+        ensures takes { TakesNoNumber D.Disk self.now (ByRegistry (registry.resolve_id id))
             pass.old result pass.new }
         ensures printable { IsPrintableSaid result }
-        ensures ready { IsHallPass D.mark self.now pass.new.lists }
+        ensures ready { IsHallPass D.Disk self.now pass.new.lists }
     {
         let found = self.registry.resolve_id(rt, &mut pass.registry, id);
         say_found(alloc, found)
@@ -85,11 +85,11 @@ impl<D: Disk> Hall<D> {
         pass: &mut HallPass<D>,
         uri: Text,
     ) -> Said
-        requires ready { IsHallPass D.mark self.now pass.old.lists }
-        ensures takes { TakesNoNumber self.now (ByRegistry (registry.resolve_uri uri))
+        requires ready { IsHallPass D.Disk self.now pass.old.lists }
+        ensures takes { TakesNoNumber D.Disk self.now (ByRegistry (registry.resolve_uri uri))
             pass.old result pass.new }
         ensures printable { IsPrintableSaid result }
-        ensures ready { IsHallPass D.mark self.now pass.new.lists }
+        ensures ready { IsHallPass D.Disk self.now pass.new.lists }
     {
         let found = self.registry.resolve_uri(rt, &mut pass.registry, &uri);
         drop(uri);
@@ -105,11 +105,11 @@ impl<D: Disk> Hall<D> {
         uri: Text,
         id: Id,
     ) -> Said
-        requires ready { IsHallPass D.mark self.now pass.old.lists }
-        ensures takes { TakesNoNumber self.now (ByRegistry (registry.create name uri id))
+        requires ready { IsHallPass D.Disk self.now pass.old.lists }
+        ensures takes { TakesNoNumber D.Disk self.now (ByRegistry (registry.create name uri id))
             pass.old result pass.new }
         ensures printable { IsPrintableSaid result }
-        ensures ready { IsHallPass D.mark self.now pass.new.lists }
+        ensures ready { IsHallPass D.Disk self.now pass.new.lists }
     {
         let answer = self
             .registry
@@ -127,11 +127,11 @@ impl<D: Disk> Hall<D> {
         name: Text,
         new_name: Text,
     ) -> Said
-        requires ready { IsHallPass D.mark self.now pass.old.lists }
-        ensures takes { TakesNoNumber self.now (ByRegistry (registry.rename name new_name))
+        requires ready { IsHallPass D.Disk self.now pass.old.lists }
+        ensures takes { TakesNoNumber D.Disk self.now (ByRegistry (registry.rename name new_name))
             pass.old result pass.new }
         ensures printable { IsPrintableSaid result }
-        ensures ready { IsHallPass D.mark self.now pass.new.lists }
+        ensures ready { IsHallPass D.Disk self.now pass.new.lists }
     {
         let answer = self
             .registry
@@ -148,11 +148,11 @@ impl<D: Disk> Hall<D> {
         pass: &mut HallPass<D>,
         name: Text,
     ) -> Said
-        requires ready { IsHallPass D.mark self.now pass.old.lists }
-        ensures takes { TakesNoNumber self.now (ByRegistry (registry.remove name))
+        requires ready { IsHallPass D.Disk self.now pass.old.lists }
+        ensures takes { TakesNoNumber D.Disk self.now (ByRegistry (registry.remove name))
             pass.old result pass.new }
         ensures printable { IsPrintableSaid result }
-        ensures ready { IsHallPass D.mark self.now pass.new.lists }
+        ensures ready { IsHallPass D.Disk self.now pass.new.lists }
     {
         let answer = self.registry.remove(rt, &mut pass.registry, &name);
         drop(name);
@@ -167,11 +167,11 @@ impl<D: Disk> Hall<D> {
         pass: &mut HallPass<D>,
         name: Text,
     ) -> Result<u32, Said>
-        requires ready { IsHallPass D.mark self.now pass.old.lists }
-        ensures looks { LooksUp self.now name pass.old result pass.new }
+        requires ready { IsHallPass D.Disk self.now pass.old.lists }
+        ensures looks { LooksUp D.Disk self.now name pass.old result pass.new }
         ensures slot { IfOk result (λ slot. (0 < slot) × (slot ≤ length self.now.logs.logs)) }
         ensures printable { IfErr result IsPrintableSaid }
-        ensures ready { IsHallPass D.mark self.now pass.new.lists }
+        ensures ready { IsHallPass D.Disk self.now pass.new.lists }
     {
         let found = self.registry.resolve(rt, &mut pass.registry, &name);
         drop(name);

@@ -25,7 +25,7 @@ impl<'a, D: Disk> Model for HallWorker<'a, D> {
 
     ghost view = { λ w. record { hall = w.hall.now; pass = w.pass } };
 
-    ghost invariant = { λ w. IsHallPass D.mark w.hall.now w.pass.lists };
+    ghost invariant = { λ w. IsHallPass D.Disk w.hall.now w.pass.lists };
 }
 
 impl<'a, D: Disk> HallWorker<'a, D> {
@@ -34,7 +34,7 @@ impl<'a, D: Disk> HallWorker<'a, D> {
 
     /// A worker with a pass of the hall.
     pub fn new(alloc: Global, hall: &'a Hall<D>, pass: HallPass<D>) -> HallWorker<'a, D>
-        requires ready { IsHallPass D.mark hall.now pass.lists }
+        requires ready { IsHallPass D.Disk hall.now pass.lists }
         ensures worker { (result.hall ≡ hall.now) × (result.pass ≡ pass) }
     {
         HallWorker { alloc, hall, pass }
@@ -43,7 +43,7 @@ impl<'a, D: Disk> HallWorker<'a, D> {
     /// Its pass, as it is handed back.
     pub fn into_pass(self) -> HallPass<D>
         ensures pass { result ≡ self.entry.pass }
-        ensures ready { IsHallPass D.mark self.entry.hall result.lists }
+        ensures ready { IsHallPass D.Disk self.entry.hall result.lists }
     {
         let HallWorker { pass, .. } = self;
         pass
@@ -53,8 +53,8 @@ impl<'a, D: Disk> HallWorker<'a, D> {
 impl<'a, D: Disk, L: Link> Worker<L> for HallWorker<'a, D> {
     ghost use Rattle.delta_session.specs.Sessions.{WorksSession};
 
-    ghost works = { λ before link dice after left. WorksSession L.Link before link
-        dice after left };
+    ghost works = { λ before link dice after left. WorksSession D.Disk L.Link before
+        link dice after left };
 
     fn work<R: Wait>(&mut self, rt: &R, link: &mut L, dice: u128) {
         serve_session(rt, self.alloc, self.hall, &mut self.pass, link, dice);

@@ -13,11 +13,7 @@ returns-in-Err-clause-refused g c =
     let r = c.refused in
     let is : IsRefusedRegistry g.D.Disk first stop.fault stop.disk = record {
       has = e.fault;
-      kept = record { mark = e.mark_refused; kept = e.kept_refused };
-      cause = e.cause;
-      never_falls = e.never_falls;
-      well = e.faults_refused;
-      planned = e.planned;
+      refused = e.refused;
     } in
     subst (λ (all : List g.row.D.Denot). IsRefusedHall g.D.Disk all r.result.fault r.result.disks.items) (sym c.take_first-first.ensures.disks)
     (refused_hall g.D.Disk first stop.disk more more r.result.disks.items (hall_fault_of_registry stop.fault) r.result.fault r.ensures.disks (r.ensures.fault ∙ c.of_registry.ensures) (registry_refused stop.fault refl is refl))
@@ -34,10 +30,7 @@ returns-then-len-slots-clause-refused g c =
       sound = e.registry;
       by_nobody = e.by_nobody;
       settled = e.settled;
-      kept = record { mark = e.mark; kept = e.kept };
-      faults = e.faults;
-      few = e.few;
-      long = e.long;
+      reopened = e.reopened;
     } in
     let was : WasOpened g.D.Disk registry.slots first registry.disk = (registry, opened, refl, refl) in
     let count : c.len-then-len-slots.result ≡ length more = omega (arith, c.len-then-len-slots.ensures, c.take_first-first.new.disks.ok.0) in

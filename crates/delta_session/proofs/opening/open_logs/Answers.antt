@@ -4,7 +4,7 @@ use Rattle.log_base.specs.declared.limits.TheConstants.{LOG_LIMITS}
 use Rattle.hall_logs.proofs.Opens.{left_same, left_still}
 use Rattle.delta_session.specs.Opening.{WasOpened, wanting, hall_fault_of_log}
 use Rattle.delta_session.specs.declared.fault.HallFault.TheVariants as hall
-use Rattle.delta_session.proofs.Opens.{logs_refused, refused_count, opened_count, opened_settled, refused_hall}
+use Rattle.delta_session.proofs.Opens.{logs_refused, refused_count, opened_count, refused_hall}
 use Rattle.delta_session.proofs.opening.open_logs.Goals as goal
 
 pub returns-in_default-clause-refused : goal.returns-in_default-clause-refused
@@ -13,10 +13,7 @@ returns-in_default-clause-refused g c = λ disk opened.
     let slots : c.args.registry.slots ≡ length more = omega (arith, c.args.disks.ok.0, c.requires.count) in
     let was : WasOpened g.D.Disk (length more) disk c.args.registry.disk = (c.args.registry, opened, slots, refl) in
     refused_hall g.D.Disk disk c.args.registry.disk more more c.refused.result.disks.items hall.OutOfMemory c.refused.result.fault
-    (c.refused.ensures.disks ∙ ap (λ (d : g.row.D.Denot). d ∷ more) c.close.ensures.disk) c.refused.ensures.fault (wanting refl was (left_same g.D.Disk LOG_LIMITS 1 more))
-
-pub share-requires-clause-settled : goal.share-requires-clause-settled
-share-requires-clause-settled g c = opened_settled g.D.Disk LOG_LIMITS 1 c.args.disks.items c.in-Ok-open_on.logs.logs c.in-Ok-open_on.ensures.logs
+    (c.refused.ensures.disks ∙ ap (λ (d : g.row.D.Denot). d ∷ more) c.close.ensures.disk) c.refused.ensures.fault (wanting refl was (left_same g.D.Disk LOG_LIMITS more))
 
 pub share-requires-clause-count : goal.share-requires-clause-count
 share-requires-clause-count g c = omega (arith, opened_count g.D.Disk LOG_LIMITS 1 c.args.disks.items c.in-Ok-open_on.logs.logs c.in-Ok-open_on.ensures.logs, c.args.disks.ok.0, c.requires.count)

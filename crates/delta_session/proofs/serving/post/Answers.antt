@@ -22,7 +22,7 @@ loop-pass-preserved g c =
     let whole : List (Post g.row.G.Denot (WorkerView g.row.D.Denot)) = posts_of hall c.args.passes.now.items c.args.gates.now.items in
     let one = posts_one hall whole l.passes.items rest l.gates.items others l.posts.items c.in-Some.pass c.in-Some-pop.gate l.invariant.posted popped.items taken.items same in
     let worker = c.new.ensures.worker in record {
-      of = all_but_last (λ (pass : HallSight). IsHallPass g.D.Disk.mark hall pass.lists) rest c.in-Some.pass (subst (AllOf (λ (pass : HallSight). IsHallPass g.D.Disk.mark hall pass.lists)) popped.items l.invariant.of);
+      of = all_but_last (λ (pass : HallSight). IsHallPass g.D.Disk hall pass.lists) rest c.in-Some.pass (subst (AllOf (λ (pass : HallSight). IsHallPass g.D.Disk hall pass.lists)) popped.items l.invariant.of);
       posted = one ∙ (λ i. posts_of hall rest others ++ reverse (l.posts.items ++ record { gate = c.in-Some-pop.gate; worker = record { hall = sym worker.0 i; pass = sym worker.1 i } } ∷ []))
           ∙ ap (λ (posts : List (Post g.row.G.Denot (WorkerView g.row.D.Denot))). posts_of hall rest others ++ reverse posts) (sym p.items);
       count = omega (arith, popped.cases, taken.cases, l.invariant.count);

@@ -8,7 +8,7 @@ use Rattle.delta_session.proofs.serving.post.Given as goal
 
 abbrev pub invariant-loop-pass : goal.invariant-loop-pass
 invariant-loop-pass g l = record {
-  of : AllOf (λ (pass : HallSight). IsHallPass g.D.Disk.mark l.hall pass.lists) l.passes.items;
+  of : AllOf (λ (pass : HallSight). IsHallPass g.D.Disk l.hall pass.lists) l.passes.items;
   posted : posts_of l.hall l.initial.passes.items l.initial.gates.items ≡ posts_of l.hall l.passes.items l.gates.items ++ reverse l.posts.items;
   count : vec_len l.passes ≡ vec_len l.gates;
   room : vec_len l.posts + vec_len l.passes ≤ vec_capacity l.posts;

@@ -31,16 +31,16 @@ close-disks-requires-2-clause-passes g c =
     let gates = c.args.gates in
     let posts : List (Post g.row.G.Denot (WorkerView g.row.D.Denot)) = c.serve_all.result.items in
     let same : length passes.items ≡ length gates.items = c.requires.passes.count ∙ sym c.requires.gates in
-    let served = subst (λ (before : List (Post g.row.G.Denot (WorkerView g.row.D.Denot))). AllServed g.G.Gate.tells g.G.Gate.arrivals g.G.Gate.back g.G.Gate.faults (WorksSession g.G.L.Link) before posts) c.post.ensures.posts c.serve_all.ensures in
-    let asked = gates_asked g.G.L.Link c.args.hall g.G.Gate.tells g.G.Gate.arrivals g.G.Gate.back g.G.Gate.faults passes.items gates.items posts same served in
-    subst (λ (after : List HallSight). AreHallPasses g.D.Disk.mark c.args.hall after) (sym c.relieve.ensures.passes)
-    (passes_stay g.D.Disk.mark c.args.hall passes.items (map (λ (post : Post g.row.G.Denot (WorkerView g.row.D.Denot)). post.worker.pass) posts) asked c.requires.passes)
+    let served = subst (λ (before : List (Post g.row.G.Denot (WorkerView g.row.D.Denot))). AllServed g.G.Gate.tells g.G.Gate.arrivals g.G.Gate.back g.G.Gate.faults (WorksSession g.D.Disk g.G.L.Link) before posts) c.post.ensures.posts c.serve_all.ensures in
+    let asked = gates_asked g.D.Disk g.G.L.Link c.args.hall g.G.Gate.tells g.G.Gate.arrivals g.G.Gate.back g.G.Gate.faults passes.items gates.items posts same served in
+    subst (λ (after : List HallSight). AreHallPasses g.D.Disk c.args.hall after) (sym c.relieve.ensures.passes)
+    (passes_stay g.D.Disk c.args.hall passes.items (map (λ (post : Post g.row.G.Denot (WorkerView g.row.D.Denot)). post.worker.pass) posts) asked c.requires.passes)
 
 pub returns-clause-worked : goal.returns-clause-worked
 returns-clause-worked g c =
     let posts : List (Post g.row.G.Denot (WorkerView g.row.D.Denot)) = c.serve_all.result.items in record {
       posts = posts;
-      served = subst (λ (before : List (Post g.row.G.Denot (WorkerView g.row.D.Denot))). AllServed g.G.Gate.tells g.G.Gate.arrivals g.G.Gate.back g.G.Gate.faults (WorksSession g.G.L.Link) before posts) c.post.ensures.posts c.serve_all.ensures;
+      served = subst (λ (before : List (Post g.row.G.Denot (WorkerView g.row.D.Denot))). AllServed g.G.Gate.tells g.G.Gate.arrivals g.G.Gate.back g.G.Gate.faults (WorksSession g.D.Disk g.G.L.Link) before posts) c.post.ensures.posts c.serve_all.ensures;
       gates_are = c.relieve.ensures.gates;
       ended = subst (λ (after : List HallSight). IsEnded g.D.Disk c.args.hall after c.close-disks-2.result.items) c.relieve.ensures.passes c.close-disks-2.ensures.ended;
     }

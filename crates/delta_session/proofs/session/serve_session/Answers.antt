@@ -12,7 +12,7 @@ returns-clause-session g c =
     let e = c.converse.ensures in
     let link = c.args.link.now in
     let left = c.converse.new.link in record {
-      talks = subst (λ (s : HallSight). TalksOn (Answered c.args.hall.now) (moment_of (record s { dice = c.args.dice }) (g.L.Link.left link) (g.L.Link.sent link) (g.L.Link.faults link))
+      talks = subst (λ (s : HallSight). TalksOn (Answered g.D.Disk c.args.hall.now) (moment_of (record s { dice = c.args.dice }) (g.L.Link.left link) (g.L.Link.sent link) (g.L.Link.faults link))
           (moment_of c.converse.new.state (g.L.Link.left left) (g.L.Link.sent left) (g.L.Link.faults left)) c.converse.result) c.pass.view_is e.talks;
       drained = e.drained;
       failed = e.failed;
@@ -23,5 +23,5 @@ pub returns-clause-number : goal.returns-clause-number
 returns-clause-number g c =
     let from : HallSight = record c.args.pass.now { dice = c.args.dice } in
     let talks = (returns-clause-session g c).talks.4 in
-    let steps = steps_said c.args.hall.now from c.converse.new.state talks.exchanges talks.answered in
-    (has_stayed g.D.Disk.mark c.args.hall.now from c.converse.new.state (all_of steps.0, steps.2) c.requires.ready).1
+    let steps = steps_said g.D.Disk c.args.hall.now from c.converse.new.state talks.exchanges talks.answered in
+    (has_stayed g.D.Disk c.args.hall.now from c.converse.new.state (all_of steps.0, steps.2) c.requires.ready).1

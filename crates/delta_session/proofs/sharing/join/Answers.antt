@@ -1,7 +1,7 @@
 use Rattle.std.proofs.Common.{◌≡◌, ◌∙◌, ◌++◌, ◌∷◌, [], List, length, sym, ap, arith}
 use Rattle.std.specs.Prelude.{reverse}
-use Rattle.shared_log.specs.Passes.{LogSight}
-use Rattle.shared_registry.specs.Passes.{RegistrySight}
+use Rattle.shared_log.specs.History.{LogSight}
+use Rattle.shared_registry.specs.History.{RegistrySight}
 use Rattle.delta_session.specs.Halls.{paired_sights}
 use Rattle.delta_session.specs.Steps.{HallSight}
 use Rattle.delta_session.proofs.Opens.{joins_one, pair}

@@ -14,15 +14,15 @@ pub returns-in-Ok-clause-new : goal.returns-in-Ok-clause-new
 returns-in-Ok-clause-new g c =
     let hall : HallView g.row.D.Denot = record { registry = c.in-Ok.registry; logs = c.args.logs } in
     let same : length c.in-Ok.sights.items ≡ length c.args.parts.items = omega (arith, c.in-Ok.sights.ok.0, c.in-Ok.ensures.passes.0, c.requires.parts.0.count, c.requires.seats.0) in
-    subst (λ (passes : List HallSight). AreNewPasses g.D.Disk.mark hall 1 passes) (sym c.join.ensures.joined)
-    (joined_new g.D.Disk.mark hall 1 c.in-Ok.sights.items c.args.parts.items same c.in-Ok.ensures.new c.requires.parts.1)
+    subst (λ (passes : List HallSight). AreNewPasses g.D.Disk hall 1 passes) (sym c.join.ensures.joined)
+    (joined_new g.D.Disk hall 1 c.in-Ok.sights.items c.args.parts.items same c.in-Ok.ensures.new c.requires.parts.1)
 
 pub returns-in-Ok-clause-passes : goal.returns-in-Ok-clause-passes
 returns-in-Ok-clause-passes g c =
     let hall : HallView g.row.D.Denot = record { registry = c.in-Ok.registry; logs = c.args.logs } in
     let same : length c.in-Ok.sights.items ≡ length c.args.parts.items = omega (arith, c.in-Ok.sights.ok.0, c.in-Ok.ensures.passes.0, c.requires.parts.0.count, c.requires.seats.0) in
     let passes : List HallSight = c.join.new.passes.items in
-    all_new g.D.Disk.mark hall passes (returns-in-Ok-clause-new g c)
+    all_new g.D.Disk hall passes (returns-in-Ok-clause-new g c)
     (ap (λ (l : List HallSight). length l) c.join.ensures.joined ∙ joined_length c.in-Ok.sights.items c.args.parts.items same ∙ c.requires.parts.0.count)
 
 pub returns-in-Err-clause-want : goal.returns-in-Err-clause-want
@@ -30,5 +30,5 @@ returns-in-Err-clause-want g c =
     let left : List g.row.D.Denot = c.close-disks.result.items in
     let first = c.close.ensures.disk ∙ ap (λ registry. registry.disk) c.in-Err.ensures.back in (
       c.refused.ensures.fault,
-      (left, c.refused.ensures.disks ∙ ap (λ (d : g.row.D.Denot). d ∷ left) first, c.close-disks.ensures.idle c.requires.parts.1 c.requires.settled),
+      (left, c.refused.ensures.disks ∙ ap (λ (d : g.row.D.Denot). d ∷ left) first, c.close-disks.ensures.idle c.requires.parts.1),
     )

@@ -13,8 +13,8 @@ returns-in-Ok-clause-takes g c =
     let before : HallSight = record { lists = record { registry = c.pass.inside.registry; logs = c.pass.inside.logs }; dice = c.pass.inside.dice } in
     let after : HallSight = record { lists = record { registry = c.pass.inside.registry; logs = c.append-answer.new.pass }; dice = c.pass.inside.dice } in
     let call = log.append (bare c.in-Ok.patch) in
-    let one = moved c.args.self.now hall c.self.view_is c.args.pass.now before c.pass.view_is (ByLog c.args.slot call) c.say.result after
-    (takes_visit hall before c.append-answer.new.pass c.args.slot call (log.answered c.append-answer.result) c.say.result c.append-answer.ensures.legal
+    let one = moved g.D.Disk c.args.self.now hall c.self.view_is c.args.pass.now before c.pass.view_is (ByLog c.args.slot call) c.say.result after
+    (takes_visit g.D.Disk hall before c.append-answer.new.pass c.args.slot call (log.answered c.append-answer.result) c.say.result c.append-answer.ensures.called
     (subst (λ (a : Answer). Says a None c.say.result) c.append_answer.ensures c.say.ensures.says)) in
     let ok = c.in-Ok.ensures.ok in
     (one.0, one.1, inl (c.in-Ok.patch, ok.0, ok.1, one.2), one.3)
@@ -22,7 +22,7 @@ returns-in-Ok-clause-takes g c =
 pub returns-in-Ok-clause-ready : goal.returns-in-Ok-clause-ready
 returns-in-Ok-clause-ready g c =
     let after : HallSight = record { lists = record { registry = c.pass.inside.registry; logs = c.append-answer.new.pass }; dice = c.pass.inside.dice } in
-    ready_behind g.D.Disk.mark c.args.self.now c.args.pass.now c.requires.ready (ByPatch c.args.text.now c.args.slot) c.say.result after (returns-in-Ok-clause-takes g c)
+    ready_behind g.D.Disk c.args.self.now c.args.pass.now c.requires.ready (ByPatch c.args.text.now c.args.slot) c.say.result after (returns-in-Ok-clause-takes g c)
 
 pub returns-in-Err-clause-takes : goal.returns-in-Err-clause-takes
 returns-in-Err-clause-takes g c = ([], refl, c.say_fault.ensures.says c.args.text.now c.args.slot c.in-Err.ensures.fault, refl)

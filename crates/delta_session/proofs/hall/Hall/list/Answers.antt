@@ -11,10 +11,10 @@ returns-clause-takes g c =
     let hall : HallView g.row.D.Denot = record { registry = c.self.inside.registry; logs = c.self.inside.logs } in
     let before : HallSight = record { lists = record { registry = c.pass.inside.registry; logs = c.pass.inside.logs }; dice = c.pass.inside.dice } in
     let after : HallSight = record { lists = record { registry = c.list-listed.new.pass; logs = c.pass.inside.logs }; dice = c.pass.inside.dice } in
-    moved c.args.self.now hall c.self.view_is c.args.pass.now before c.pass.view_is (ByRegistry registry.list) c.say_listed.result after
-    (takes_found hall before c.list-listed.new.pass (λ (sources : Listed SourceInfo). registry.listed sources.items) registry.list c.list-listed.result c.say_listed.result c.list-listed.ensures.legal c.list-listed.ensures.want c.say_listed.ensures.says c.say_listed.ensures.want)
+    moved g.D.Disk c.args.self.now hall c.self.view_is c.args.pass.now before c.pass.view_is (ByRegistry registry.list) c.say_listed.result after
+    (takes_found g.D.Disk hall before c.list-listed.new.pass (λ (sources : Listed SourceInfo). registry.listed sources.items) registry.list c.list-listed.result c.say_listed.result tt c.list-listed.ensures.called c.list-listed.ensures.want c.say_listed.ensures.says c.say_listed.ensures.want)
 
 pub returns-clause-ready : goal.returns-clause-ready
 returns-clause-ready g c =
     let after : HallSight = record { lists = record { registry = c.list-listed.new.pass; logs = c.pass.inside.logs }; dice = c.pass.inside.dice } in
-    ready_behind g.D.Disk.mark c.args.self.now c.args.pass.now c.requires.ready (ByRegistry registry.list) c.say_listed.result after (returns-clause-takes g c)
+    ready_behind g.D.Disk c.args.self.now c.args.pass.now c.requires.ready (ByRegistry registry.list) c.say_listed.result after (returns-clause-takes g c)

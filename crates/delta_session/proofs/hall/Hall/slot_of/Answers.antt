@@ -8,13 +8,13 @@ returns-clause-looks g c =
     let hall : HallView g.row.D.Denot = record { registry = c.self.inside.registry; logs = c.self.inside.logs } in
     let before : HallSight = record { lists = record { registry = c.pass.inside.registry; logs = c.pass.inside.logs }; dice = c.pass.inside.dice } in
     let after : HallSight = record { lists = record { registry = c.resolve-found.new.pass; logs = c.pass.inside.logs }; dice = c.pass.inside.dice } in
-    moved_looks c.args.self.now hall c.self.view_is c.args.pass.now before c.pass.view_is c.args.name c.slot_in.result after
-    (looks hall before c.resolve-found.new.pass c.args.name c.resolve-found.result c.slot_in.result c.resolve-found.ensures.legal c.resolve-found.ensures.want c.slot_in.ensures.found)
+    moved_looks g.D.Disk c.args.self.now hall c.self.view_is c.args.pass.now before c.pass.view_is c.args.name c.slot_in.result after
+    (looks g.D.Disk hall before c.resolve-found.new.pass c.args.name c.resolve-found.result c.slot_in.result c.resolve-found.ensures.called c.resolve-found.ensures.want c.slot_in.ensures.found)
 
 pub returns-clause-ready : goal.returns-clause-ready
 returns-clause-ready g c =
     let after : HallSight = record { lists = record { registry = c.resolve-found.new.pass; logs = c.pass.inside.logs }; dice = c.pass.inside.dice } in
-    ready_found g.D.Disk.mark c.args.self.now c.args.pass.now c.requires.ready c.args.name c.slot_in.result after (returns-clause-looks g c)
+    ready_found g.D.Disk c.args.self.now c.args.pass.now c.requires.ready c.args.name c.slot_in.result after (returns-clause-looks g c)
 
 pub returns-clause-slot : goal.returns-clause-slot
 returns-clause-slot g c =
