@@ -1,4 +1,5 @@
 pub mod Stepping
+pub mod Keeping
 pub mod Said
 pub mod Asked
 pub mod Refused

@@ -2,6 +2,7 @@ pub mod Steps
 pub mod Asking
 pub mod Telling
 pub mod Answered
+pub mod Kept
 pub mod Sessions
 pub mod Halls
 pub mod Opening

@@ -15,6 +15,7 @@ use Rattle.shared_registry.specs.Lookups.{RegistryAddsUp}
 use Rattle.shared_log.specs.Calls.{LogAddsUp}
 use Rattle.hall_logs.specs.Visits.{asked_at}
 use Rattle.delta_session.specs.Answered.{Answered, IsSaidTo}
+use Rattle.delta_session.specs.Kept.{KeepsWhatItTells}
 use Rattle.delta_session.specs.Steps.{HallView, HallSight, Step, AreSteps, lookups_of, visits_of}
 
 -- the steps of all requests, in their order
@@ -45,6 +46,8 @@ pub record ServedSession {D : Type 0} (disks : Ghosts D) (hall : HallView D)
       → slice_get hall.logs.logs place ≡ Some log → slice_get before.lists.logs place ≡ Some p
       → (q : LogSight) × (slice_get after.lists.logs place ≡ Some q)
       × LogAddsUp p (asked_at (place + 1) (visits_of (all_of steps))) q
+  -- what it told of patches was on their disks, and is seen ever since
+  pub kept : KeepsWhatItTells disks hall (all_of steps) after.lists
 
 -- the pass asked some of the lists
 abbrev pub HasAsked : {D : Type 0} → Ghosts D → HallView D → HallSight → HallSight → Type 0

@@ -44,7 +44,7 @@ module _ {A : Type 0} where
 
 module _ {D : Type 0} (disks : Ghosts D) (logs : List (Made (LogView D))) (place : ℕ) (log : Made (LogView D)) (at : slice_get logs place ≡ Some log) where
   -- a visit on this log
-  here : (p : LogSight) (before next : List LogSight) (visit : Visit) → slice_get before place ≡ Some p → visit.slot ≡ place + 1 → IsVisit disks logs before visit next
+  pub here : (p : LogSight) (before next : List LogSight) (visit : Visit) → slice_get before place ≡ Some p → visit.slot ≡ place + 1 → IsVisit disks logs before visit next
       → (q : LogSight) × (slice_get next place ≡ Some q) × IsCalledOnLog disks log.origin p visit.asked q
   here p before next visit is slot v =
       let same : v.place ≡ place = omega (arith, v.slot_is, slot) in
