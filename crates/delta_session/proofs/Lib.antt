@@ -1,5 +1,6 @@
 pub mod Stepping
 pub mod Keeping
+pub mod Faulting
 pub mod Said
 pub mod Asked
 pub mod Refused

@@ -12,6 +12,7 @@ use Rattle.delta_session.specs.Answered.{Answered}
 use Rattle.delta_session.specs.Sessions.{AreSaid, ServedSession, all_of}
 use Rattle.delta_session.specs.Steps.{HallView, HallSight, Step, AreSteps, visits_of, lookups_of}
 use Rattle.delta_session.proofs.Keeping.{keeps}
+use Rattle.delta_session.proofs.Faulting.{all_said, all_rose}
 use Rattle.delta_session.proofs.Stepping.{compose_steps, visits_taken, lookups_taken}
 
 module _ {D : Type 0} (disks : Ghosts D) (hall : HallView D) where
@@ -34,5 +35,7 @@ module _ {D : Type 0} (disks : Ghosts D) (hall : HallView D) where
         logs = λ place log p at is.
             let one = visits before.lists.logs after.lists.logs (visits_of all) (visits_taken disks hall before.lists after.lists all said.2) place log p at is in
             (one.0, one.1, calls log.origin p one.0 (asked_at (place + 1) (visits_of all)) one.2);
+        fewer_said = all_said before.dice exchanges said.0 after.dice said.1;
+        faults = all_rose disks hall before.lists after.lists all said.2;
         kept = keeps disks hall before.lists after.lists all said.2;
       }

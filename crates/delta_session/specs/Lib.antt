@@ -3,6 +3,7 @@ pub mod Asking
 pub mod Telling
 pub mod Answered
 pub mod Kept
+pub mod Faults
 pub mod Sessions
 pub mod Halls
 pub mod Opening

@@ -1,6 +1,6 @@
 -- What the answers of a session come to for the pass that serves it.
 use Rattle.std.specs.Prelude.{◌≡◌, ℕ, ◌+◌, ◌≤◌, List, [], ◌∷◌, ◌++◌, Some, slice_get}
-use Rattle.delta_base.specs.Outside.{Rose}
+use Rattle.delta_base.specs.Outside.{Rose, RoseBy}
 use Rattle.delta_base.specs.declared.link.Link.{Ghosts as LinkGhosts}
 use Rattle.disk_model.specs.declared.disk.Disk.{Ghosts}
 use Rattle.http_session.specs.Output.{Exchange}
@@ -15,6 +15,8 @@ use Rattle.shared_registry.specs.Lookups.{RegistryAddsUp}
 use Rattle.shared_log.specs.Calls.{LogAddsUp}
 use Rattle.hall_logs.specs.Visits.{asked_at}
 use Rattle.delta_session.specs.Answered.{Answered, IsSaidTo}
+use Rattle.delta_session.specs.Faults.{faults_of, faults_said}
+use Rattle.delta_session.specs.Halls.{all_hall_faults}
 use Rattle.delta_session.specs.Kept.{KeepsWhatItTells}
 use Rattle.delta_session.specs.Steps.{HallView, HallSight, Step, AreSteps, lookups_of, visits_of}
 
@@ -46,6 +48,11 @@ pub record ServedSession {D : Type 0} (disks : Ghosts D) (hall : HallView D)
       → slice_get hall.logs.logs place ≡ Some log → slice_get before.lists.logs place ≡ Some p
       → (q : LogSight) × (slice_get after.lists.logs place ≡ Some q)
       × LogAddsUp p (asked_at (place + 1) (visits_of (all_of steps))) q
+  -- its replies say a fault of a disk at most as often as its steps were told of one, and the pass's
+  -- own count rose by as many at least
+  pub fewer_said : faults_said exchanges ≤ faults_of (all_of steps)
+  pub faults :
+      RoseBy (faults_of (all_of steps)) (all_hall_faults before.lists) (all_hall_faults after.lists)
   -- what it told of patches was on their disks, and is seen ever since
   pub kept : KeepsWhatItTells disks hall (all_of steps) after.lists
 
