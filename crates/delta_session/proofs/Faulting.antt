@@ -1,10 +1,9 @@
 -- How many replies tell a fault of a disk, and how the pass's own count rose.
-use Rattle.std.proofs.Common.{◌≡◌, ℕ, zero, suc, ◌+◌, ◌<◌, ◌≤◌, ◌-◌, ◌^◌, ◌==◌, min, Bool, true, false, if◌then◌else◌, List, [], ◌∷◌, ◌++◌, length, Option, Some, None, Result, Ok, Err, refl, sym, ap, ◌∙◌, subst, ⊎_elim, ◌⊎◌, arith, slice_get}
+use Rattle.std.proofs.Common.{◌≡◌, ℕ, zero, suc, ◌+◌, ◌≤◌, ◌==◌, min, Bool, false, if◌then◌else◌, List, [], ◌∷◌, ◌++◌, Option, Some, None, Ok, Err, refl, sym, ap, ◌∙◌, subst, ⊎_elim, arith, slice_get}
 use Rattle.std.specs.Prelude.{slice_set, sum_by}
 use Rattle.std.proofs.lemmas.List.Sums.{sum_by-cons}
 use Rattle.delta_base.specs.Outside.{RoseBy}
 use Rattle.disk_model.specs.declared.disk.Disk.{Ghosts}
-use Rattle.log_base.specs.declared.source_info.SourceInfo.{SourceInfo}
 use Rattle.chain_core.specs.Replies.{LogReply, answered, found, missing, described, counted}
 use Rattle.chain_core.specs.declared.answer.LogAnswer.TheVariants as appended
 use Rattle.http_session.specs.Output.{Exchange}
@@ -26,12 +25,11 @@ use Rattle.turn_cell.specs.Calls.{faults_told}
 use Rattle.turn_cell.specs.Turns.{last_count}
 use Rattle.turn_cell.specs.Knowing.{own_faults_of}
 use Rattle.shared_log.specs.History.{LogSight}
-use Rattle.shared_log.specs.Calls.{CallOnLog, tells_fault}
+use Rattle.shared_log.specs.Calls.{tells_fault}
 use Rattle.shared_log.proofs.Adding as of_logs
 use Rattle.shared_registry.specs.History.{RegistrySight}
-use Rattle.shared_registry.specs.Lookups.{RegistryLookup, is_registry_fault}
+use Rattle.shared_registry.specs.Lookups.{is_registry_fault}
 use Rattle.shared_registry.proofs.Adding as of_registries
-use Rattle.hall_logs.specs.Visits.{Visit}
 use Rattle.delta_session.specs.Answered.{Says, SaysOf, BehindLookup, ByRegistry, BySource, BySlot, ByLog, ByPatch, ComesTo, IsSaidTo}
 use Rattle.delta_session.specs.Asking.{asking_of}
 use Rattle.delta_session.specs.declared.logs.SlotCall.{SlotCall}

@@ -1,7 +1,5 @@
 -- What the steps of a session told is kept.
-use Rattle.std.proofs.Common.{◌≡◌, ◌⊎◌, ℕ, ◌+◌, List, [], ◌∷◌, Option, Some, sym, subst, ⊎_elim, slice_get}
-use mathlib.Core.List.{IsPrefix}
-use Rattle.delta_base.specs.declared.id.Id.{Id}
+use Rattle.std.proofs.Common.{◌≡◌, ℕ, ◌+◌, List, [], ◌∷◌, Option, Some, sym, subst, ⊎_elim, slice_get}
 use Rattle.disk_model.specs.declared.disk.Disk.{Ghosts}
 use Rattle.chain_core.specs.declared.chain.Patch.{Patch}
 use Rattle.chain_core.specs.declared.answer.LogAnswer.TheVariants.{Accepted}

@@ -6,5 +6,6 @@ pub mod Asked
 pub mod Refused
 pub mod Passing
 pub mod Opens
+pub mod Finding
 pub mod Posts
 pub mod OwnTexts

@@ -1,5 +1,5 @@
 -- What a session writes by itself, as prints of answers.
-use Rattle.std.proofs.Common.{◌≡◌, ◌≢◌, ◌∙◌, ℕ, ◌++◌, List, Bool, true, Some, None, codes, refl, ap, sym}
+use Rattle.std.proofs.Common.{◌≡◌, ◌≢◌, ◌∙◌, ℕ, ◌++◌, List, Bool, true, None, codes, refl, ap, sym}
 use Rattle.serde_json.proofs.OnLiterals.{serde_json_on_literals}
 use Rattle.http_heads.specs.Faults.{frame_name, frame_status}
 use Rattle.http_text.specs.Print.{reply_text}

@@ -1,7 +1,7 @@
 -- How a hall answers a request: what it asks of its lists, and what it says.
 use Rattle.std.specs.Prelude.{◌≡◌, ◌⊎◌, ℕ, List, [], ◌∷◌, Option, Some, None, Result, Ok, Err}
 use Rattle.std.specs.Option.{option_copied}
-use Rattle.chain_core.specs.Replies.{LogCall, LogReply, append as appends, describe, version}
+use Rattle.chain_core.specs.Replies.{LogCall, append as appends, describe, version}
 use Rattle.chain_core.specs.Replies.{fetch_version, fetch_id}
 use Rattle.disk_model.specs.declared.disk.Disk.{Ghosts}
 use Rattle.shared_log.specs.Calls.{CallOnLog}

@@ -15,7 +15,7 @@ use Rattle.shared_log.specs.History.{LogSight, patches_known}
 use Rattle.shared_log.specs.Calls.{CallOnLog}
 use Rattle.shared_log.specs.Stays.{IsOnDisk}
 use Rattle.hall_logs.specs.Visits.{Visit}
-use Rattle.delta_session.specs.Steps.{HallView, Lists, Step, of_log, AreSteps}
+use Rattle.delta_session.specs.Steps.{HallView, Lists, Step, of_log}
 
 -- the reply tells that the patch was accepted at this version, or it serves the patch of it
 abbrev pub TellsPatch : CallOnLog → ℕ → Patch → Type 0

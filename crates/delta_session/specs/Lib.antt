@@ -8,5 +8,6 @@ pub mod Sessions
 pub mod Halls
 pub mod Opening
 pub mod Ends
+pub mod Again
 pub mod Working
 pub mod Laws

@@ -8,7 +8,7 @@ ghost use Rattle.http_heads.specs.declared.message.RawReply.{RawReply};
 ghost use Rattle.http_session.specs.Texts.{memory_text, refusal_text};
 ghost use Rattle.rpc_answers.specs.Prints.{IsCompactPrintOf};
 ghost use Rattle.rpc_answers.specs.declared.answer.Answer.{Answer};
-ghost use Rattle.delta_session.specs.Laws.{SessionsAreServed, PassesStay};
+ghost use Rattle.delta_session.specs.Laws.{SessionsAreServed, PassesStay, HallsAreFoundAgain};
 
 use disk_model::Disk;
 use hall_logs::visits_are_calls;
@@ -27,6 +27,11 @@ pub fn sessions_are_served<D: Disk>()
 /// Whatever legal calls the passes made, all are there and each has its number.
 pub fn passes_stay<D: Disk>()
     ensures { PassesStay D.Disk }
+{}
+
+/// A hall that is opened again over what a stop left of its disks has all that its passes had seen.
+pub fn halls_are_found_again<D: Disk>()
+    ensures { HallsAreFoundAgain D.Disk }
 {}
 
 /// What a session writes by itself is the print of an answer: for want of memory, and for each

@@ -25,7 +25,7 @@ mod worker;
 
 pub use fault::{HallFault, HallRefusal};
 pub use hall::Hall;
-pub use laws::{passes_stay, sessions_are_served, sessions_say_answers};
+pub use laws::{halls_are_found_again, passes_stay, sessions_are_served, sessions_say_answers};
 pub use opening::open_hall;
 pub use pass::{HallPass, HallPasses, HallRoom};
 pub use serving::{Worked, serve_gates};

@@ -1,4 +1,4 @@
-mod Histories
+pub mod Histories
 mod Calling
 mod Asking
 pub mod Adding
