@@ -1,5 +1,5 @@
 -- What a crash leaves while patches are taken.
-use Rattle.std.proofs.Common.{◌≡◌, ◌⊎◌, inl, inr, ℕ, true, List, [], ◌∷◌, ◌++◌, map, Option, Some, None, Ok, refl, sym, ◌∙◌, ap, subst, append_assoc}
+use Rattle.std.proofs.Common.{◌≡◌, ◌⊎◌, inl, inr, ℕ, true, List, [], ◌∷◌, ◌++◌, Option, Some, None, Ok, refl, sym, ◌∙◌, ap, subst, append_assoc}
 use Rattle.std.specs.Prelude.{is_none}
 use Rattle.std.proofs.lemmas.List.{append-nil, map-append}
 use Rattle.disk_model.specs.declared.disk.Disk.{Ghosts}
@@ -7,12 +7,11 @@ use Rattle.disk_model.specs.Past.{LeavesOnly}
 use Rattle.disk_model.proofs.Moments.{starts, weaker, then_other}
 use Rattle.log_journal.specs.File.{Holds}
 use Rattle.log_journal.specs.Journal.{HoldsWithOrWithout}
+use Rattle.log_journal.specs.Writing.{HoldsDuring}
 use Rattle.log_journal.proofs.Steps.{either}
 use Rattle.patch_meaning.specs.Checked.{CheckedPatch, checked_texts}
-use Rattle.patch_log.specs.Log.{bare, MayHoldChainDuring}
 use Rattle.zone_state.specs.Brief.{file_length}
-use Rattle.zone_state.specs.Zone.{ZoneView, zone_number, doubt_of}
-use Rattle.zone_state.proofs.Growing.{bare_texts}
+use Rattle.zone_state.specs.Zone.{ZoneView, zone_number, text_in}
 use Rattle.rpc_answers.specs.declared.answer.Answer.TheVariants as answer
 use Rattle.follower.specs.Exchanges.{WasSaid}
 use Rattle.follower.specs.Grown.{ZoneStands, TookMore, HoldsAmid, LeavesAmid, WasTried, untried, was_last, GrewBy, Stayed}
@@ -42,13 +41,10 @@ module _ (taken : List CheckedPatch) (image : List ℕ) where
   next_one doubt next (inl without) = before_them doubt (next ∷ []) without
   next_one doubt next (inr holds) = inl (next ∷ [], [], refl, with_one next holds)
 
-  during : (doubt : Option CheckedPatch) (next : CheckedPatch) → MayHoldChainDuring zone_number (map bare taken) (doubt_of doubt) (bare next) image → HoldsAmid taken doubt (next ∷ []) image
-  during None next holds =
-      next_one None next (subst (λ (ts : List (List ℕ)). HoldsWithOrWithout zone_number ts next.text image) (bare_texts taken) holds)
-  during (Some one) next (inl holds) =
-      doubted one (next ∷ []) (subst (λ (ts : List (List ℕ)). HoldsWithOrWithout zone_number ts one.text image) (bare_texts taken) holds)
-  during (Some one) next (inr holds) =
-      next_one (Some one) next (subst (λ (ts : List (List ℕ)). HoldsWithOrWithout zone_number ts next.text image) (bare_texts taken) holds)
+  during : (doubt : Option CheckedPatch) (next : CheckedPatch) → HoldsDuring zone_number (checked_texts taken) (text_in doubt) next.text image → HoldsAmid taken doubt (next ∷ []) image
+  during None next holds = next_one None next holds
+  during (Some one) next (inl holds) = doubted one (next ∷ []) holds
+  during (Some one) next (inr holds) = next_one (Some one) next holds
 
   -- more may be taken
   amid_more : (doubt : Option CheckedPatch) (more tried : List CheckedPatch) → HoldsAmid taken doubt more image → HoldsAmid taken doubt (more ++ tried) image
@@ -91,10 +87,10 @@ module _ {D : Type 0} (disks : Ghosts D) where
 
   pub amid_one : (old new : ZoneView D) (next : CheckedPatch)
       → (disks.tells → (taken : List CheckedPatch) (doubt : Option CheckedPatch) → ZoneStands disks old taken doubt
-      → LeavesOnly (MayHoldChainDuring zone_number (map bare taken) (doubt_of doubt) (bare next)) (disks.past old.disk) (disks.past new.disk))
+      → LeavesOnly (HoldsDuring zone_number (checked_texts taken) (text_in doubt) next.text) (disks.past old.disk) (disks.past new.disk))
       → LeavesAmid disks old new (next ∷ [])
   amid_one old new next leaves told taken doubt stands =
-      weaker (MayHoldChainDuring zone_number (map bare taken) (doubt_of doubt) (bare next)) (HoldsAmid taken doubt (next ∷ []))
+      weaker (HoldsDuring zone_number (checked_texts taken) (text_in doubt) next.text) (HoldsAmid taken doubt (next ∷ []))
       (λ image holds. during taken image doubt next holds) (disks.past old.disk) (disks.past new.disk) (leaves told taken doubt stands)
 
   pub amid_both : (old mid new : ZoneView D) (more tried : List CheckedPatch) → TookMore disks old mid more → IsClear old mid more → LeavesAmid disks old mid more

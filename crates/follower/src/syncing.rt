@@ -1,9 +1,10 @@
 //! Catching up with a log of a server.
 ghost use Rattle.std.specs.Prelude.{◌≡◌, ◌≢◌, ◌≤◌, ◌+◌, ◌++◌, ◌∷◌, [], List};
-ghost use Rattle.std.specs.Prelude.{None, Ok, true, length, IsSome, IsTrue};
+ghost use Rattle.std.specs.Prelude.{None, Ok, true, length, IsSome};
 ghost use Rattle.std.specs.Prelude.{IfOk, OnOk, IfErr, IfNone, IfSome, IsErrOf};
 ghost use Rattle.std.specs.List.{list_all};
 ghost use Rattle.delta_base.specs.Outside.{Rose};
+ghost use Rattle.log_journal.specs.Written.{DiskWent};
 ghost use Rattle.http_text.specs.Print.{is_visible};
 ghost use Rattle.patch_meaning.specs.Checked.{CheckedPatch};
 ghost use Rattle.rpc_answers.specs.declared.answer.Answer.TheVariants as given;
@@ -60,15 +61,9 @@ fn take_one<N: Dial, D: Disk>(
     ensures awaits { IsSome line.new.open → N.awaits net.new }
     ensures link { IsErrOf result SyncEnd.LinkFault → Rose (N.faults net.old) (N.faults net.new) }
     ensures never_falls { N.faults net.old ≤ N.faults net.new }
-    ensures disk { IsErrOf result SyncEnd.DiskFault
-        → Rose (D.faults zone.old.disk) (D.faults zone.new.disk) }
-    ensures faults { D.faults zone.old.disk ≤ D.faults zone.new.disk }
-    ensures well { (IsErrOf result SyncEnd.DiskFault → ⊥)
-        → D.faults zone.new.disk ≡ D.faults zone.old.disk }
-    ensures stays_short { D.plans → IsTrue (D.short zone.old.disk)
-        → IsTrue (D.short zone.new.disk) }
+    ensures went { DiskWent D.Disk (IsErrOf result SyncEnd.DiskFault) zone.old.disk
+        zone.new.disk }
     ensures limits { zone.new.limits ≡ zone.old.limits }
-    ensures mark { D.mark zone.new.disk ≡ D.mark zone.old.disk }
 {
     let call = match fetch_call(name, version) {
         Ok(call) => call,
@@ -105,16 +100,10 @@ fn take_rest<N: Dial, D: Disk>(
     ensures awaits { IsSome line.new.open → N.awaits net.new }
     ensures link { result ≡ SyncEnd.LinkFault → Rose (N.faults net.old) (N.faults net.new) }
     ensures never_falls { N.faults net.old ≤ N.faults net.new }
-    ensures disk { result ≡ SyncEnd.DiskFault
-        → Rose (D.faults zone.old.disk) (D.faults zone.new.disk) }
-    ensures faults { D.faults zone.old.disk ≤ D.faults zone.new.disk }
-    ensures well { result ≢ SyncEnd.DiskFault → D.faults zone.new.disk ≡ D.faults zone.old.disk }
+    ensures went { DiskWent D.Disk (result ≡ SyncEnd.DiskFault) zone.old.disk zone.new.disk }
     ensures settled { zone.old.settled ≡ true → result ≢ SyncEnd.DiskFault
         → zone.new.settled ≡ true }
-    ensures stays_short { D.plans → IsTrue (D.short zone.old.disk)
-        → IsTrue (D.short zone.new.disk) }
     ensures limits { zone.new.limits ≡ zone.old.limits }
-    ensures mark { D.mark zone.new.disk ≡ D.mark zone.old.disk }
 {
     let mine = zone.version();
     for before in mine..theirs {
@@ -166,16 +155,10 @@ fn catch_up<N: Dial, D: Disk>(
     ensures awaits { IsSome line.new.open → N.awaits net.new }
     ensures link { result ≡ SyncEnd.LinkFault → Rose (N.faults net.old) (N.faults net.new) }
     ensures never_falls { N.faults net.old ≤ N.faults net.new }
-    ensures disk { result ≡ SyncEnd.DiskFault
-        → Rose (D.faults zone.old.disk) (D.faults zone.new.disk) }
-    ensures faults { D.faults zone.old.disk ≤ D.faults zone.new.disk }
-    ensures well { result ≢ SyncEnd.DiskFault → D.faults zone.new.disk ≡ D.faults zone.old.disk }
+    ensures went { DiskWent D.Disk (result ≡ SyncEnd.DiskFault) zone.old.disk zone.new.disk }
     ensures settled { zone.old.settled ≡ true → result ≢ SyncEnd.DiskFault
         → zone.new.settled ≡ true }
-    ensures stays_short { D.plans → IsTrue (D.short zone.old.disk)
-        → IsTrue (D.short zone.new.disk) }
     ensures limits { zone.new.limits ≡ zone.old.limits }
-    ensures mark { D.mark zone.new.disk ≡ D.mark zone.old.disk }
 {
     match compared(zone.version(), zone.head(), theirs, head) {
         Some(end) => end,
@@ -203,16 +186,10 @@ fn sync_over<N: Dial, D: Disk>(
     ensures awaits { IsSome line.new.open → N.awaits net.new }
     ensures link { result ≡ SyncEnd.LinkFault → Rose (N.faults net.old) (N.faults net.new) }
     ensures never_falls { N.faults net.old ≤ N.faults net.new }
-    ensures disk { result ≡ SyncEnd.DiskFault
-        → Rose (D.faults zone.old.disk) (D.faults zone.new.disk) }
-    ensures faults { D.faults zone.old.disk ≤ D.faults zone.new.disk }
-    ensures well { result ≢ SyncEnd.DiskFault → D.faults zone.new.disk ≡ D.faults zone.old.disk }
+    ensures went { DiskWent D.Disk (result ≡ SyncEnd.DiskFault) zone.old.disk zone.new.disk }
     ensures settled { zone.old.settled ≡ true → result ≢ SyncEnd.DiskFault
         → zone.new.settled ≡ true }
-    ensures stays_short { D.plans → IsTrue (D.short zone.old.disk)
-        → IsTrue (D.short zone.new.disk) }
     ensures limits { zone.new.limits ≡ zone.old.limits }
-    ensures mark { D.mark zone.new.disk ≡ D.mark zone.old.disk }
 {
     match ask_log(alloc, net, line, address, name) {
         Ok((theirs, head)) => catch_up(alloc, net, line, address, name, zone, theirs, head),
@@ -241,16 +218,10 @@ pub fn sync<N: Dial, D: Disk>(
         (net_of N.Dial net.old) (net_of N.Dial net.new)) }
     ensures link { result ≡ SyncEnd.LinkFault → Rose (N.faults net.old) (N.faults net.new) }
     ensures never_falls { N.faults net.old ≤ N.faults net.new }
-    ensures disk { result ≡ SyncEnd.DiskFault
-        → Rose (D.faults zone.old.disk) (D.faults zone.new.disk) }
-    ensures faults { D.faults zone.old.disk ≤ D.faults zone.new.disk }
-    ensures well { result ≢ SyncEnd.DiskFault → D.faults zone.new.disk ≡ D.faults zone.old.disk }
+    ensures went { DiskWent D.Disk (result ≡ SyncEnd.DiskFault) zone.old.disk zone.new.disk }
     ensures settled { zone.old.settled ≡ true → result ≢ SyncEnd.DiskFault
         → zone.new.settled ≡ true }
-    ensures stays_short { D.plans → IsTrue (D.short zone.old.disk)
-        → IsTrue (D.short zone.new.disk) }
     ensures limits { zone.new.limits ≡ zone.old.limits }
-    ensures mark { D.mark zone.new.disk ≡ D.mark zone.old.disk }
 {
     let mut line = Line::new();
     let end = sync_over(alloc, net, &mut line, address, name, zone);

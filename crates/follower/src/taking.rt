@@ -1,7 +1,7 @@
 //! Taking the patch that was fetched.
-ghost use Rattle.std.specs.Prelude.{◌≡◌, ◌≢◌, ◌≤◌, ◌+◌, ◌∷◌, [], Ok};
-ghost use Rattle.std.specs.Prelude.{length, IsTrue, OnOk, IfErr, IsErrOf};
-ghost use Rattle.delta_base.specs.Outside.{Rose};
+ghost use Rattle.std.specs.Prelude.{◌≡◌, ◌≢◌, ◌+◌, ◌∷◌, [], Ok};
+ghost use Rattle.std.specs.Prelude.{length, OnOk, IfErr, IsErrOf};
+ghost use Rattle.log_journal.specs.Written.{DiskWent};
 ghost use Rattle.patch_meaning.specs.Checked.{CheckedPatch};
 ghost use Rattle.rpc_answers.specs.Answers.{NamesItsFault};
 ghost use Rattle.rpc_answers.specs.declared.answer.Answer.TheVariants as given;
@@ -61,16 +61,10 @@ fn take_text<D: Disk>(
         (Ok (given.Patch text.now) ∷ [])) }
     ensures untouched { IfErr result (λ end. end ≢ SyncEnd.DiskFault
         → zone.new ≡ record zone.old { terms = zone.new.terms }) }
-    ensures disk { IsErrOf result SyncEnd.DiskFault
-        → Rose (D.faults zone.old.disk) (D.faults zone.new.disk) }
+    ensures went { DiskWent D.Disk (IsErrOf result SyncEnd.DiskFault) zone.old.disk
+        zone.new.disk }
     ensures link { IsErrOf result SyncEnd.LinkFault → ⊥ }
-    ensures faults { D.faults zone.old.disk ≤ D.faults zone.new.disk }
-    ensures well { (IsErrOf result SyncEnd.DiskFault → ⊥)
-        → D.faults zone.new.disk ≡ D.faults zone.old.disk }
-    ensures stays_short { D.plans → IsTrue (D.short zone.old.disk)
-        → IsTrue (D.short zone.new.disk) }
     ensures limits { zone.new.limits ≡ zone.old.limits }
-    ensures mark { D.mark zone.new.disk ≡ D.mark zone.old.disk }
 {
     let patch = match check_patch(alloc, text) {
         Ok(patch) => patch,
@@ -98,16 +92,10 @@ pub(crate) fn take_answer<D: Disk>(
     ensures stayed { IfErr result (λ _. Stayed D.Disk zone.old zone.new (Ok answer ∷ [])) }
     ensures untouched { IfErr result (λ end. end ≢ SyncEnd.DiskFault
         → zone.new ≡ record zone.old { terms = zone.new.terms }) }
-    ensures disk { IsErrOf result SyncEnd.DiskFault
-        → Rose (D.faults zone.old.disk) (D.faults zone.new.disk) }
+    ensures went { DiskWent D.Disk (IsErrOf result SyncEnd.DiskFault) zone.old.disk
+        zone.new.disk }
     ensures link { IsErrOf result SyncEnd.LinkFault → ⊥ }
-    ensures faults { D.faults zone.old.disk ≤ D.faults zone.new.disk }
-    ensures well { (IsErrOf result SyncEnd.DiskFault → ⊥)
-        → D.faults zone.new.disk ≡ D.faults zone.old.disk }
-    ensures stays_short { D.plans → IsTrue (D.short zone.old.disk)
-        → IsTrue (D.short zone.new.disk) }
     ensures limits { zone.new.limits ≡ zone.old.limits }
-    ensures mark { D.mark zone.new.disk ≡ D.mark zone.old.disk }
 {
     match answer {
         Answer::Patch { text } => {

@@ -35,10 +35,10 @@ loop-before-preserved g c =
       within = omega arith;
       awaits = e.awaits;
       link = omega (arith, so.link, e.never_falls);
-      faults = e.well (λ same. cc) ∙ so.faults;
-      stays_short = λ plans is. e.stays_short plans (so.stays_short plans is);
+      faults = e.went.well (λ same. cc) ∙ so.faults;
+      stays_short = λ plans is. e.went.stays_short plans (so.stays_short plans is);
       limits = e.limits ∙ so.limits;
-      mark = e.mark ∙ so.mark;
+      mark = e.went.mark ∙ so.mark;
     }
 
 pub returns-in-Err-clause-follows : goal.returns-in-Err-clause-follows

@@ -4,6 +4,7 @@ use Rattle.patch_meaning.specs.Checked.{CheckedPatch}
 use Rattle.patch_meaning.specs.Patch.{IsPatch}
 use Rattle.rpc_answers.specs.declared.answer.Answer.TheVariants as answers
 use Rattle.zone_state.specs.Zone.{ZoneView}
+use Rattle.zone_state.proofs.Took.{any_moment}
 use Rattle.follower.specs.declared.ends.SyncEnd.{SyncEnd}
 use Rattle.follower.specs.declared.ends.SyncEnd.TheVariants.{DiskFault}
 use Rattle.follower.specs.Exchanges.{WasSaid}
@@ -36,7 +37,7 @@ returns g c =
       applied = e.applied;
       refused = e.refused;
       limits = e.limits;
-      amid = amid_one g.D.Disk c.args.zone.now c.take_next-answer.new.self next e.any_moment;
+      amid = amid_one g.D.Disk c.args.zone.now c.take_next-answer.new.self next (any_moment g.D.Disk c.args.zone.now c.take_next-answer.new.self next c.take_next-answer.result e.stay e.untouched);
       settled = λ version is. taken_settles g.D.Disk c.args.zone.now c.take_next-answer.new.self stands.0 stands.1 next c.take_next-answer.result e.decided
           (e.stay stands.0 stands.1 stands.2 (λ same. cc) (λ same. cc)) version is;
     } in
@@ -56,11 +57,7 @@ returns g c =
           (took_stayed g.D.Disk old new next said (subst (λ (t : List ℕ). IsPatch t next.meaning) (sym text.0) text.1) is_said c.take_next-answer.result c.id-id.result c.version-mine.result so);
       untouched = subst (λ (r : Result (Unit {0}) SyncEnd). IfErr r (λ end. end ≢ DiskFault → new ≡ record old { terms = new.terms })) (sym ends)
           (took_untouched g.D.Disk old new next c.take_next-answer.result c.id-id.result c.version-mine.result so);
-      disk = search rules;
+      went = search rules;
       link = search rules;
-      faults = search rules;
-      well = search rules;
-      stays_short = search rules;
       limits = search rules;
-      mark = search rules;
     }
