@@ -48,8 +48,8 @@ pub record ServedSession {D : Type 0} (disks : Ghosts D) (hall : HallView D)
       → slice_get hall.logs.logs place ≡ Some log → slice_get before.lists.logs place ≡ Some p
       → (q : LogSight) × (slice_get after.lists.logs place ≡ Some q)
       × LogAddsUp p (asked_at (place + 1) (visits_of (all_of steps))) q
-  -- its replies say a fault of a disk at most as often as its steps were told of one, and the pass's
-  -- own count rose by as many at least
+  -- its replies tell a fault of a disk at most as often as its steps did, and the pass's own count
+  -- rose by as many at least
   pub fewer_said : faults_said exchanges ≤ faults_of (all_of steps)
   pub faults :
       RoseBy (faults_of (all_of steps)) (all_hall_faults before.lists) (all_hall_faults after.lists)

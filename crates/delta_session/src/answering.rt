@@ -29,7 +29,8 @@ impl<D: Disk> Hall<D> {
         id: Option<Id>,
     ) -> Said
         requires ready { IsHallPass D.Disk self.now pass.old.lists }
-        ensures serves { ServesCall D.Disk self.now (Call.Create name uri id) pass.old result pass.new }
+        ensures serves { ServesCall D.Disk self.now (Call.Create name uri id)
+            pass.old result pass.new }
         ensures printable { IsPrintableSaid result }
         ensures ready { IsHallPass D.Disk self.now pass.new.lists }
     {
@@ -79,7 +80,8 @@ impl<D: Disk> Answerer for Hall<D> {
 
     ghost ready = { λ hall pass. IsHallPass D.Disk hall pass.lists };
 
-    ghost answers = { λ hall before request said after. Answered D.Disk hall before request said after };
+    ghost answers = { λ hall before request said after.
+        Answered D.Disk hall before request said after };
 
     fn answer<R: Wait>(
         &self,

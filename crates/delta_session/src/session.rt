@@ -36,9 +36,10 @@ pub fn serve_session<R: Wait, L: Link, D: Disk>(
         (moment_of pass.new (L.left link.new) (L.sent link.new) (L.faults link.new)) result }
 
     // The pass knows all that it knew, has looked for each call, and what is its own grew by these
-    // calls alone.
+    // calls alone. What was told of patches is on the disks of their logs.
     ensures served { (exchanges : List Exchange)
-        → AnswerChain (Answered D.Disk hall.now) (record pass.old { dice = dice }) exchanges pass.new
+        → AnswerChain (Answered D.Disk hall.now) (record pass.old { dice = dice })
+        exchanges pass.new
         → ServedSession D.Disk hall.now (record pass.old { dice = dice }) exchanges pass.new }
     ensures number { pass_number pass.new.lists.registry ≡ pass_number pass.old.lists.registry }
     ensures ready { IsHallPass D.Disk hall.now pass.new.lists }

@@ -35,7 +35,8 @@ fn slot_in(alloc: Global, found: Result<Option<SourceInfo>, OutOfMemory>) -> Res
 impl<D: Disk> Hall<D> {
     pub(crate) fn list<R: Wait>(&self, rt: &R, alloc: Global, pass: &mut HallPass<D>) -> Said
         requires ready { IsHallPass D.Disk self.now pass.old.lists }
-        ensures takes { TakesNoNumber D.Disk self.now (ByRegistry registry.list) pass.old result pass.new }
+        ensures takes { TakesNoNumber D.Disk self.now (ByRegistry registry.list)
+            pass.old result pass.new }
         ensures printable { IsPrintableSaid result }
         ensures ready { IsHallPass D.Disk self.now pass.new.lists }
     {
