@@ -5,13 +5,13 @@ use Rattle.log_base.specs.declared.limits.LogLimits.{LogLimits}
 use Rattle.log_base.specs.declared.limits.TheConstants.{LOG_LIMITS}
 use Rattle.disk_model.specs.declared.disk.Disk.{Ghosts}
 use Rattle.hall_logs.specs.Ends.{AreEnded}
-use Rattle.hall_logs.specs.Files.{AreLeft, AreOpened, AreRefusedAt}
+use Rattle.hall_logs.specs.Files.{AreOpened, AreRefusedAt, AreSameDisks}
 use Rattle.log_registry.specs.declared.fault.RegistryFault.{RegistryFault}
 use Rattle.log_registry.specs.declared.fault.RegistryFault.TheVariants as registry
 use Rattle.patch_log.specs.State.{LogView}
 use Rattle.patch_log.specs.declared.fault.LogFault.{LogFault}
 use Rattle.patch_log.specs.declared.fault.LogFault.TheVariants as log
-use Rattle.shared_log.specs.Passes.{LogSight}
+use Rattle.shared_log.specs.History.{LogSight}
 use Rattle.shared_log.specs.declared.value.LogFixed.{LogFixed}
 use Rattle.shared_registry.specs.declared.value.RegistryFixed.{RegistryFixed}
 use Rattle.turn_cell.specs.Sights.{Made}
@@ -31,40 +31,32 @@ module _ {D : Type 0} (disks : Ghosts D) where
   logs_refused_marked limits dir number file fault [] left refused are = absurd refused
   logs_refused_marked limits dir number file fault (disk ∷ before) [] refused are = absurd refused
   logs_refused_marked limits dir number file fault (disk ∷ before) (after ∷ left) refused are = ⊎_elim
-      (λ here. (here.1.kept.mark ∙ are.0, subst (AreMarked disks dir (number + 1)) (sym here.2) are.1))
+      (λ here. (here.1.refused.mark ∙ are.0, subst (AreMarked disks dir (number + 1)) (sym here.2) are.1))
       (λ later.
       let opened = later.0 in (
-        ap disks.mark opened.2 ∙ opened.1.kept.mark ∙ are.0,
+        ap disks.mark opened.2 ∙ opened.1.reopened.mark ∙ are.0,
         logs_refused_marked limits dir (number + 1) file fault before left later.1 are.1,
       ))
       refused
 
-  logs_left_marked : (limits : LogLimits) (dir : List ℕ) (number : ℕ) (asked left : List D)
-      → AreLeft disks limits number asked left → AreMarked disks dir number asked → AreMarked disks dir number left
-  logs_left_marked limits dir number [] [] are_left are = tt
-  logs_left_marked limits dir number [] (after ∷ left) are_left are = absurd are_left
-  logs_left_marked limits dir number (disk ∷ before) [] are_left are = absurd are_left
-  logs_left_marked limits dir number (disk ∷ before) (after ∷ left) are_left are = (
-    ⊎_elim
-        (λ kept. kept.mark ∙ are.0)
-        (λ opened. ⊎_elim
-        (λ same. ap disks.mark same ∙ opened.1.kept.mark ∙ are.0)
-        (λ still. still.0 ∙ opened.1.kept.mark ∙ are.0)
-        opened.2)
-        are_left.0,
-    logs_left_marked limits dir (number + 1) before left are_left.1 are.1,
-  )
+  logs_left_marked : (dir : List ℕ) (number : ℕ) (asked left : List D)
+      → AreSameDisks disks asked left → AreMarked disks dir number asked → AreMarked disks dir number left
+  logs_left_marked dir number [] [] same are = tt
+  logs_left_marked dir number [] (after ∷ left) same are = absurd same
+  logs_left_marked dir number (disk ∷ before) [] same are = absurd same
+  logs_left_marked dir number (disk ∷ before) (after ∷ left) same are =
+      (same.0.mark ∙ are.0, logs_left_marked dir (number + 1) before left same.1 are.1)
 
   refused_one : (dir : List ℕ) (disk : D) (more : List D) (fault : HallFault) (after : D) (left : List D)
       → IsHallRefused disks disk more fault after left → AreMarked disks dir 0 (disk ∷ more) → AreMarked disks dir 0 (after ∷ left)
   refused_one dir disk more fault after left (registry_refused why is refused same) are =
-      (refused.kept.mark ∙ are.0, subst (AreMarked disks dir 1) (sym same) are.1)
+      (refused.refused.mark ∙ are.0, subst (AreMarked disks dir 1) (sym same) are.1)
   refused_one dir disk more fault after left (miscounted slots is opened count same) are =
-      (ap disks.mark opened.3 ∙ opened.1.kept.mark ∙ are.0, subst (AreMarked disks dir 1) (sym same) are.1)
+      (ap disks.mark opened.3 ∙ opened.1.reopened.mark ∙ are.0, subst (AreMarked disks dir 1) (sym same) are.1)
   refused_one dir disk more fault after left (log_refused file why is other opened refused) are =
-      (ap disks.mark opened.3 ∙ opened.1.kept.mark ∙ are.0, logs_refused_marked LOG_LIMITS dir 1 file why more left refused are.1)
+      (ap disks.mark opened.3 ∙ opened.1.reopened.mark ∙ are.0, logs_refused_marked LOG_LIMITS dir 1 file why more left refused are.1)
   refused_one dir disk more fault after left (wanting is opened are_left) are =
-      (ap disks.mark opened.3 ∙ opened.1.kept.mark ∙ are.0, logs_left_marked LOG_LIMITS dir 1 more left are_left are.1)
+      (ap disks.mark opened.3 ∙ opened.1.reopened.mark ∙ are.0, logs_left_marked dir 1 more left are_left are.1)
 
   -- a hall that was refused gives the disks of the same files
   pub refused_marked : (dir : List ℕ) (asked : List D) (fault : HallFault) (left : List D) → IsRefusedHall disks asked fault left
@@ -82,7 +74,7 @@ module _ {D : Type 0} (disks : Ghosts D) where
   logs_ended_marked limits dir number place (disk ∷ asked) [] passes left opened ended are = absurd opened
   logs_ended_marked limits dir number place (disk ∷ asked) (made ∷ logs) passes [] opened ended are = absurd ended
   logs_ended_marked limits dir number place (disk ∷ asked) (made ∷ logs) passes (after ∷ left) opened ended are = (
-    ap disks.mark ended.0.disk_is ∙ ap (λ (f : LogFixed). f.mark) ended.0.closed.fixed ∙ opened.0.kept.mark ∙ are.0,
+    ap disks.mark ended.0.disk_is ∙ ap (λ (f : LogFixed). f.mark) ended.0.closed.fixed ∙ opened.0.reopened.mark ∙ are.0,
     logs_ended_marked limits dir (number + 1) (place + 1) asked logs passes left opened.1 ended.1 are.1,
   )
 
@@ -92,7 +84,7 @@ module _ {D : Type 0} (disks : Ghosts D) where
   ended_marked dir [] hall passes left opened ended are = absurd opened
   ended_marked dir (disk ∷ more) hall passes [] opened ended are = absurd ended
   ended_marked dir (disk ∷ more) hall passes (after ∷ left) opened ended are = (
-    ap disks.mark ended.0.disk_is ∙ ap (λ (f : RegistryFixed). f.mark) ended.0.closed.fixed ∙ opened.0.kept.mark ∙ are.0,
+    ap disks.mark ended.0.disk_is ∙ ap (λ (f : RegistryFixed). f.mark) ended.0.closed.fixed ∙ opened.0.reopened.mark ∙ are.0,
     logs_ended_marked LOG_LIMITS dir 1 0 more hall.logs.logs (map (λ (pass : HallSight). pass.lists.logs) passes) left opened.1 ended.1 are.1,
   )
 
@@ -107,19 +99,19 @@ module _ {D : Type 0} (disks : Ghosts D) where
       (λ later. let same = logs_refused_length limits (number + 1) file fault before left later.1 in omega (arith, same))
       refused
 
-  logs_left_length : (limits : LogLimits) (number : ℕ) (asked left : List D) → AreLeft disks limits number asked left → length left ≡ length asked
-  logs_left_length limits number [] [] are_left = refl
-  logs_left_length limits number [] (after ∷ left) are_left = absurd are_left
-  logs_left_length limits number (disk ∷ before) [] are_left = absurd are_left
-  logs_left_length limits number (disk ∷ before) (after ∷ left) are_left =
-      let same = logs_left_length limits (number + 1) before left are_left.1 in omega (arith, same)
+  logs_left_length : (asked left : List D) → AreSameDisks disks asked left → length left ≡ length asked
+  logs_left_length [] [] same = refl
+  logs_left_length [] (after ∷ left) same = absurd same
+  logs_left_length (disk ∷ before) [] same = absurd same
+  logs_left_length (disk ∷ before) (after ∷ left) same =
+      let more = logs_left_length before left same.1 in omega (arith, more)
 
   refused_length_one : (disk : D) (more : List D) (fault : HallFault) (after : D) (left : List D)
       → IsHallRefused disks disk more fault after left → length left ≡ length more
   refused_length_one disk more fault after left (registry_refused why is refused same) = ap length same
   refused_length_one disk more fault after left (miscounted slots is opened count same) = ap length same
   refused_length_one disk more fault after left (log_refused file why is other opened refused) = logs_refused_length LOG_LIMITS 1 file why more left refused
-  refused_length_one disk more fault after left (wanting is opened are_left) = logs_left_length LOG_LIMITS 1 more left are_left
+  refused_length_one disk more fault after left (wanting is opened are_left) = logs_left_length more left are_left
 
   pub refused_length : (asked : List D) (fault : HallFault) (left : List D) → IsRefusedHall disks asked fault left → length left ≡ length asked
   refused_length [] fault left refused = absurd refused
@@ -181,7 +173,7 @@ module _ {D : Type 0} (disks : Ghosts D) where
   logs_failing limits number file fault [] left refused failed = absurd refused
   logs_failing limits number file fault (disk ∷ before) [] refused failed = absurd refused
   logs_failing limits number file fault (disk ∷ before) (after ∷ left) refused failed = ⊎_elim
-      (λ here. record { disk = after; stands = inl refl; failed = risen (disks.faults disk) (disks.faults after) (here.1.cause failed) })
+      (λ here. record { disk = after; stands = inl refl; failed = risen (disks.faults disk) (disks.faults after) (here.1.refused.cause failed) })
       (λ later. behind after left (logs_failing limits (number + 1) file fault before left later.1 failed))
       refused
 
@@ -190,7 +182,7 @@ module _ {D : Type 0} (disks : Ghosts D) where
   failing_one disk more fault after left (registry_refused why is refused same) failed = record {
     disk = after;
     stands = inl refl;
-    failed = risen (disks.faults disk) (disks.faults after) (refused.cause (registry_failed why (failed ∙ is)));
+    failed = risen (disks.faults disk) (disks.faults after) (refused.refused.cause (registry_failed why (failed ∙ is)));
   }
   failing_one disk more fault after left (miscounted slots is opened count same) failed = absurd (other (failed ∙ is))
     where

@@ -20,7 +20,7 @@ use Rattle.delta_session.specs.Opening.{IsRefusedHall}
 use Rattle.delta_session.specs.Steps.{HallView, HallSight}
 use Rattle.delta_session.specs.declared.fault.HallFault.{HallFault}
 use Rattle.delta_session.specs.declared.fault.HallFault.TheVariants as halls
-use Rattle.delta_server.specs.Files.{ArePutBack}
+use Rattle.delta_server.specs.Files.{ArePutBack, IsWithinSaid}
 use Rattle.delta_server.specs.Gates.{HaveFailed}
 use Rattle.delta_server.specs.Serving.{AreDisksAsked, IsHallOver, HasServed}
 use Rattle.command_tables.specs.Views.{ShelfView}
@@ -47,10 +47,11 @@ module _ {D H : Type 0} (shelf : ShelfGhosts H D) where
         → (fault ≡ checks.Failed → Rose old.faults new.faults)
         → (shelf.tells → AreKept dir 1 old.files new.files)
         → HasNoDisks dir old new (check_refusal fault)
-    -- the shelf didn't give the disk of a file
+    -- the shelf didn't give the disk of a file; no file was asked for that file 0 doesn't tell of
     at_shelf : (refusal : Refusal) (end : ℕ)
         → ((refusal ≡ refusals.DiskFailed) × Rose old.faults new.faults)
         ⊎ (refusal ≡ refusals.OutOfMemory)
+        → (shelf.tells → IsWithinSaid old.files dir end)
         → (shelf.tells → AreKept dir end old.files new.files)
         → HasNoDisks dir old new refusal
 

@@ -1,8 +1,16 @@
 -- The files of a directory and their disks.
-use Rattle.std.specs.Prelude.{◌≡◌, ℕ, ◌+◌, List, [], ◌∷◌, length, Some}
+use Rattle.std.specs.Prelude.{◌≡◌, ◌⊎◌, ℕ, ◌+◌, ◌≤◌, List, [], ◌∷◌, length, Some}
 use Rattle.disk_model.specs.declared.disk.Disk.{Ghosts}
 use Rattle.disk_model.specs.Past.{reads}
 use Rattle.slot_files.specs.Files.{Files, SameBut, bytes_at}
+use Rattle.slot_checks.specs.Sound.{HoldsRegistry}
+
+-- below this end is file 0 alone, or no file that the registry in file 0 has no slot for
+abbrev pub IsWithinSaid : Files → List ℕ → ℕ → Type 0
+IsWithinSaid files dir end =
+    (end ≤ 1)
+    ⊎ ((slots : ℕ) × (records : ℕ) × HoldsRegistry (bytes_at files dir 0) slots records
+    × (end ≤ slots + 1))
 
 module _ {D : Type 0} (disks : Ghosts D) where
   -- the disks are those of the directory's files from this number on

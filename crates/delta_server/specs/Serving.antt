@@ -30,8 +30,8 @@ module _ {D H : Type 0} (disks : Ghosts D) (shelf : ShelfGhosts H D) where
     pub asked : AreDisksAsked dir files disks_are
     pub opened : IsOpenedHall disks disks_are hall
     pub seats : hall.logs.seats ≡ workers
-    pub all : AreHallPasses disks.mark hall passes
-    pub new : AreNewPasses disks.mark hall 1 passes
+    pub all : AreHallPasses disks hall passes
+    pub new : AreNewPasses disks hall 1 passes
 
 module _ {D H L G : Type 0} (disks : Ghosts D) (shelf : ShelfGhosts H D) (links : LinkGhosts L)
     (gate : GateGhosts G L) where

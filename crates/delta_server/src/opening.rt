@@ -111,6 +111,7 @@ fn take_logs<H: Shelf>(
     ensures kept { H.tells → AreKept dir.now (length disks.new.items)
         (H.files shelf.old) (H.files shelf.new) }
     ensures grown { 1 ≤ length disks.new.items }
+    ensures within { length disks.new.items ≤ slots + 1 }
     ensures cause { IfErr result (λ refusal.
         ((refusal ≡ Refusal.DiskFailed) × Rose (H.faults shelf.old) (H.faults shelf.new))
         ⊎ (refusal ≡ Refusal.OutOfMemory)) }

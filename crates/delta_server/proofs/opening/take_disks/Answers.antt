@@ -8,7 +8,7 @@ use Rattle.delta_server.proofs.opening.take_disks.Goals as goal
 
 pub returns-in_default-clause-stopped : goal.returns-in_default-clause-stopped
 returns-in_default-clause-stopped g c =
-    at_shelf refusals.OutOfMemory 0 (inr refl) (λ told. all_kept c.args.dir.now 0 (g.H.Shelf.files c.args.shelf.now))
+    at_shelf refusals.OutOfMemory 0 (inr refl) (λ told. inl (omega arith)) (λ told. all_kept c.args.dir.now 0 (g.H.Shelf.files c.args.shelf.now))
 
 pub returns-in-Ok-take_logs-clause-asked : goal.returns-in-Ok-take_logs-clause-asked
 returns-in-Ok-take_logs-clause-asked g c =
@@ -47,6 +47,7 @@ returns-in-Err-take_logs-clause-stopped g c =
     ))
     (λ want. inr want)
     c.in-Err-take_logs.ensures.cause)
+    (λ told. let said = first.said told in inr (c.in-Ok-take_registry.slots, said.0, said.1, c.take_logs.ensures.within))
     (λ told.
     let same = λ (n : ℕ). same_bytes dir 1 old mid n (first.kept told) in
     let read = read_same g.H.D.Disk mid old dir 0 left same

@@ -1,4 +1,4 @@
-use Rattle.std.proofs.Common.{List, ℕ, inl, inr, Err, refl, sym, ap, subst, ◌∙◌}
+use Rattle.std.proofs.Common.{List, ℕ, inl, inr, Err, refl, sym, ap, subst, ◌∙◌, arith}
 use Rattle.disk_model.specs.Past.{reads}
 use Rattle.disk_model.specs.declared.shelf.ShelfFault.{ShelfFault}
 use Rattle.slot_checks.proofs.Steps.{all_kept, visit_kept}
@@ -17,6 +17,7 @@ returns-in-Err-Failed-clause-stopped g c =
     let new = g.H.Shelf.files c.disk.new.self in
     at_shelf refusals.DiskFailed 1
     (inl (refl, c.disk.ensures.cause (c.in-Err-Failed.is ∙ ap (λ (f : ShelfFault). Err f) c.in-Err-Failed.field-0-is)))
+    (λ told. inl (omega arith))
     (λ told. visit_kept c.args.dir.now 0 old old new (all_kept c.args.dir.now 0 old) (inl (c.in-Err-Failed.ensures.refused told)) (c.disk.ensures.others told))
 
 pub returns-in-Err-OutOfMemory-clause-stopped : goal.returns-in-Err-OutOfMemory-clause-stopped
@@ -24,6 +25,7 @@ returns-in-Err-OutOfMemory-clause-stopped g c =
     let old = g.H.Shelf.files c.args.shelf.now in
     let new = g.H.Shelf.files c.disk.new.self in
     at_shelf refusals.OutOfMemory 1 (inr refl)
+    (λ told. inl (omega arith))
     (λ told. visit_kept c.args.dir.now 0 old old new (all_kept c.args.dir.now 0 old) (inl (c.in-Err-OutOfMemory.ensures.refused told)) (c.disk.ensures.others told))
 
 pub returns-in-Err-clause-stopped : goal.returns-in-Err-clause-stopped

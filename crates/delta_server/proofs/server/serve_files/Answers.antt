@@ -1,4 +1,4 @@
-use Rattle.std.proofs.Common.{inl, inr, List, map, take, refl, sym, ap, subst, ◌∙◌, true≢false}
+use Rattle.std.proofs.Common.{inl, inr, List, map, take, refl, sym, ap, subst, ◌∙◌, true≢false, arith}
 use Rattle.slot_checks.proofs.Steps.{all_kept}
 use Rattle.command_tables.specs.declared.refusal.Refusal.TheVariants as refusals
 use Rattle.delta_server.specs.Ends.{at_files, at_shelf}
@@ -8,7 +8,7 @@ use Rattle.delta_server.proofs.server.serve_files.Goals as goal
 
 pub returns-in_default-clause-failed : goal.returns-in_default-clause-failed
 returns-in_default-clause-failed g c =
-    inr (at_files refusals.OutOfMemory (at_shelf refusals.OutOfMemory 0 (inr refl) (λ told. all_kept c.args.serve.now.dir 0 (g.H.Shelf.files c.args.shelf.now))), refl)
+    inr (at_files refusals.OutOfMemory (at_shelf refusals.OutOfMemory 0 (inr refl) (λ told. inl (omega arith)) (λ told. all_kept c.args.serve.now.dir 0 (g.H.Shelf.files c.args.shelf.now))), refl)
 
 pub returns-then-have_failed-clause-failed : goal.returns-then-have_failed-clause-failed
 returns-then-have_failed-clause-failed g c =

@@ -1,4 +1,4 @@
-use Rattle.std.proofs.Common.{◌≡◌, inr, ◌≤◌, ◌++◌, List, ℕ, length, map, take, drop, refl, sym, ap, subst, ◌∙◌, arith, take-append-drop}
+use Rattle.std.proofs.Common.{◌≡◌, inl, inr, ◌≤◌, ◌++◌, List, ℕ, length, map, take, drop, refl, sym, ap, subst, ◌∙◌, arith, take-append-drop}
 use Rattle.slot_checks.proofs.Steps.{all_kept}
 use Rattle.slot_checks.specs.Checks.{AreKept}
 use Rattle.command_tables.specs.declared.refusal.Refusal.TheVariants as refusals
@@ -11,7 +11,7 @@ use Rattle.delta_server.proofs.server.serve_hall.Goals as goal
 
 pub returns-in_default-clause-stopped : goal.returns-in_default-clause-stopped
 returns-in_default-clause-stopped g c =
-    at_files refusals.OutOfMemory (at_shelf refusals.OutOfMemory 0 (inr refl) (λ told. all_kept c.args.serve.now.dir 0 (g.H.Shelf.files c.args.shelf.now)))
+    at_files refusals.OutOfMemory (at_shelf refusals.OutOfMemory 0 (inr refl) (λ told. inl (omega arith)) (λ told. all_kept c.args.serve.now.dir 0 (g.H.Shelf.files c.args.shelf.now)))
 
 pub gather-requires : goal.gather-requires
 gather-requires g c =
