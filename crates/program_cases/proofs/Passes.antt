@@ -1,5 +1,5 @@
 -- A hall's passes, of which one was used.
-use Rattle.std.proofs.Common.{◌≡◌, ℕ, zero, suc, ◌<◌, ◌≤◌, refl, sym, ap, ◌∙◌, subst, ⊎_elim, inl, inr, List, [], ◌∷◌, length, Option, Some, slice_get, arith}
+use Rattle.std.proofs.Common.{◌≡◌, ℕ, zero, suc, ◌<◌, ◌≤◌, refl, sym, ap, ◌∙◌, subst, ⊎_elim, inl, inr, List, [], ◌∷◌, length, Some, slice_get, arith}
 use Rattle.std.specs.Prelude.{slice_set}
 use Rattle.disk_model.specs.declared.disk.Disk.{Ghosts}
 use Rattle.turn_cell.specs.Turns.{AllOf, IsIn}
@@ -28,23 +28,23 @@ module _ {A : Type 0} where
   still_in (z ∷ xs) (suc k) p y x at there P has f =
       ⊎_elim (λ (e : x ≡ z). (x, inl e, has)) (λ (i : IsIn x xs). let more = still_in xs k p y x at i P has f in (more.0, inr more.1, more.2)) there
 
-module _ {D : Type 0} (mark : D → Option (List ℕ × ℕ)) (hall : HallView D) where
-  pub one_used : (passes : List HallSight) (k : ℕ) (p q : HallSight) → AreHallPasses mark hall passes → slice_get passes k ≡ Some p → IsHallPass mark hall q.lists
-      → pass_number q.lists.registry ≡ pass_number p.lists.registry → AreHallPasses mark hall (slice_set passes k q)
+module _ {D : Type 0} (disks : Ghosts D) (hall : HallView D) where
+  pub one_used : (passes : List HallSight) (k : ℕ) (p q : HallSight) → AreHallPasses disks hall passes → slice_get passes k ≡ Some p → IsHallPass disks hall q.lists
+      → pass_number q.lists.registry ≡ pass_number p.lists.registry → AreHallPasses disks hall (slice_set passes k q)
   one_used passes k p q are at is same = record {
-    of = set_all (λ (pass : HallSight). IsHallPass mark hall pass.lists) passes k q are.of is;
+    of = set_all (λ (pass : HallSight). IsHallPass disks hall pass.lists) passes k q are.of is;
     count = set_length passes k q ∙ are.count;
     all = λ n positive high.
         let one = are.all n positive high in
         still_in passes k p q one.0 at one.1 (λ (pass : HallSight). pass_number pass.lists.registry ≡ n) one.2 (λ e. same ∙ e);
   }
 
-  pub one_of : (passes : List HallSight) (k : ℕ) (p : HallSight) → AreHallPasses mark hall passes → slice_get passes k ≡ Some p → IsHallPass mark hall p.lists
+  pub one_of : (passes : List HallSight) (k : ℕ) (p : HallSight) → AreHallPasses disks hall passes → slice_get passes k ≡ Some p → IsHallPass disks hall p.lists
   one_of passes k p are at = at_place passes k are.of at
     where
-      at_place : (xs : List HallSight) (j : ℕ) → AllOf (λ (pass : HallSight). IsHallPass mark hall pass.lists) xs → slice_get xs j ≡ Some p → IsHallPass mark hall p.lists
+      at_place : (xs : List HallSight) (j : ℕ) → AllOf (λ (pass : HallSight). IsHallPass disks hall pass.lists) xs → slice_get xs j ≡ Some p → IsHallPass disks hall p.lists
       at_place [] j all is = let c = is in cc
-      at_place (x ∷ xs) zero all is = let same : x ≡ p = cc in subst (λ (pass : HallSight). IsHallPass mark hall pass.lists) same all.0
+      at_place (x ∷ xs) zero all is = let same : x ≡ p = cc in subst (λ (pass : HallSight). IsHallPass disks hall pass.lists) same all.0
       at_place (x ∷ xs) (suc j) all is = at_place xs j all.1 is
 
 pub some_left : {D : Type 0} (disks : Ghosts D) (hall : HallView D) (passes : List HallSight) (left : List D) → IsEnded disks hall passes left → 0 < length left

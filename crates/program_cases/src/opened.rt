@@ -27,7 +27,7 @@ impl<D: Disk> Model for Opened<D> {
 
     ghost view = { λ o. o.hall };
 
-    ghost invariant = { λ o. AreHallPasses D.mark o.hall o.passes.passes.items
+    ghost invariant = { λ o. AreHallPasses D.Disk o.hall o.passes.passes.items
         × HasHallRoom o.hall o.passes.room × (o.hall.logs.seats ≡ 2) };
 }
 
