@@ -1,4 +1,5 @@
 pub mod Stepping
+pub mod Complete
 pub mod Keeping
 pub mod Faulting
 pub mod Said
