@@ -23,9 +23,9 @@ returns g c =
     let after : AreAfter c.args.stays items left = subst (λ l. AreAfter c.args.stays l left) c.deref_mut.ensures.value c.stay_each.ensures in
     let all : take c.in_ok-turn.passes.len (left ++ drop (length left) items) ≡ left = whole c.in_ok-turn.passes.len items left c.in_ok-turn.passes.ok.0 after.0 in
     let each : (n : ℕ) → 0 < n → n ≤ c.args.threads → Numbered c.args.stays n left = λ n low high. numbered c.args.stays 1 items left after.0 after.1 (λ k p is. let new = c.in_ok-turn.ensures.new k p is in (omega (arith, new.1), new.3)) n low (omega (arith, high, c.in_ok-turn.ensures.passes.0, c.in_ok-turn.passes.ok.0, after.0)) in
-    let e = c.close.ensures in
+    let e = c.close.ensures.closed in
     record {
       theirs = search rules;
-      each = have_added c.args.threads c.args.stays c.close.result left each (subst (AllOf (λ (p : NumberSight). Knew c.close.result.entries.items p.view.number p.view.seen p.view.mine)) all e.passes)
+      each = have_added c.args.threads c.args.stays c.close.result left each (subst (AllOf (λ (p : NumberSight). Knew c.close.result.entries.items p.view.number p.view.seen p.view.mine)) all e.seen)
           (subst (AllOf (λ (p : NumberSight). p.view.own_faults ≤ c.close.result.faults)) all e.faults);
     }
