@@ -10,7 +10,8 @@ mod source_info;
 pub use chain_link::ChainLink;
 pub use limits::{
     EMPTY_JOURNAL, FullKind, LOG_BYTES, LOG_LIMITS, LOG_PATCHES, LogLimits, MOST_SLOTS,
-    PATCH_LIMIT, PAYLOAD_FRAME, REGISTRY_LIMIT,
+    OLD_LOG_BYTES, OLD_REGISTRY_LIMIT, OLD_ZONE_FILE_LIMIT, PATCH_LIMIT, PAYLOAD_FRAME,
+    REGISTRY_LIMIT, ZONE_FILE_LIMIT,
 };
 pub use phase::Phase;
 pub use source_info::{SourceInfo, Sources};

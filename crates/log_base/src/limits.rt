@@ -19,10 +19,10 @@ pub struct LogLimits {
 pub const PATCH_LIMIT: u64 = 4_194_304;
 
 /// The most patches of a server's log.
-pub const LOG_PATCHES: u32 = 65_536;
+pub const LOG_PATCHES: u32 = 262_144;
 
 /// The most bytes of the journal of a server's log.
-pub const LOG_BYTES: u64 = 67_108_864;
+pub const LOG_BYTES: u64 = 268_435_456;
 
 /// The limits of a server's logs.
 pub const LOG_LIMITS: LogLimits = LogLimits {
@@ -31,7 +31,7 @@ pub const LOG_LIMITS: LogLimits = LogLimits {
 };
 
 /// The most bytes of a registry's journal.
-pub const REGISTRY_LIMIT: u64 = 1_048_576;
+pub const REGISTRY_LIMIT: u64 = 2_097_152;
 
 /// The most slots of a registry, each with a log.
 pub const MOST_SLOTS: u32 = 16;
@@ -39,6 +39,17 @@ pub const MOST_SLOTS: u32 = 16;
 /// The bytes of a journal without payloads: its header and a gate.
 pub const EMPTY_JOURNAL: u64 = 9;
 
-/// The bytes that a journal has for a payload beside the payload: its length and the
-/// gate behind it.
-pub const PAYLOAD_FRAME: u64 = 5;
+/// The bytes that a journal has for a payload beside the payload: its running number, its
+/// length and the gate behind it.
+pub const PAYLOAD_FRAME: u64 = 9;
+
+/// The most bytes of a zone's file, which has a checkpoint and all later patches.
+pub const ZONE_FILE_LIMIT: u64 = 805_306_368;
+
+/// The most bytes of the journal of a log, of a registry and of a zone in the form of files before
+/// this one.
+pub const OLD_LOG_BYTES: u64 = 67_108_864;
+
+pub const OLD_REGISTRY_LIMIT: u64 = 1_048_576;
+
+pub const OLD_ZONE_FILE_LIMIT: u64 = 268_435_456;

@@ -42,12 +42,13 @@ pub fn link_of(
     Ok(MemLink::new(alloc, content, piece, calls(alloc, failing)?))
 }
 
-// Puts a payload behind a journal's others.
-fn push_payload(journal: &mut Vec<u8>, payload: &[u8]) -> Result<(), OutOfMemory> {
+// Puts a payload with this running number behind a journal's others.
+fn push_payload(journal: &mut Vec<u8>, number: u32, payload: &[u8]) -> Result<(), OutOfMemory> {
     let Ok(length) = u32::try_from(payload.len()) else {
         return Err(OutOfMemory);
     };
     journal.push(1)?;
+    journal.extend_from_slice(&number.to_be_bytes())?;
     journal.extend_from_slice(&length.to_be_bytes())?;
     journal.extend_from_slice(payload)?;
     Ok(())
@@ -55,10 +56,12 @@ fn push_payload(journal: &mut Vec<u8>, payload: &[u8]) -> Result<(), OutOfMemory
 
 /// The bytes of a journal of this number with these payloads.
 pub fn journal_of(alloc: Global, number: u32, payloads: &[&[u8]]) -> Result<Vec<u8>, OutOfMemory> {
-    let mut journal = Vec::from_slice(alloc, b"RDJ1")?;
+    let mut journal = Vec::from_slice(alloc, b"RDJ2")?;
     journal.extend_from_slice(&number.to_be_bytes())?;
+    let mut count = 0u32;
     for payload in payloads {
-        push_payload(&mut journal, payload)?;
+        count = count.saturating_add(1);
+        push_payload(&mut journal, count, payload)?;
     }
     journal.push(0)?;
     Ok(journal)
