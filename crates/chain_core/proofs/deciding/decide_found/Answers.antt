@@ -1,4 +1,5 @@
 use Rattle.std.proofs.Common.{◌≡◌, ◌≢◌, ◌+◌, List, [], ◌∷◌, ◌++◌, length, ℕ, Bool, Option, None, cond, refl, sym, ◌∙◌, ap, arith, true, false, not, ltb}
+use Rattle.log_base.specs.declared.limits.TheConstants.{PAYLOAD_FRAME}
 use Rattle.std.specs.Str.{bytes_eq}
 use Rattle.std.proofs.lemmas.List.{length-map}
 use Rattle.std.proofs.lemmas.Bool.Decides.{nat_tests}
@@ -44,10 +45,10 @@ module _ (entries : List Entry) (patch : Patch) (limits : LogLimits) (head : Opt
 
   -- there is a place: the journal's length decides
   by_length : (journal : ℕ) (long : Bool) → not (same_id patch.prev head) ≡ false → version ≢ limits.patches → journal ≡ journal_length (patches_of entries)
-      → ltb limits.bytes (journal + 5 + length patch.text) ≡ long
-      → decision (patches_of entries) patch limits ≡ cond long (Full Bytes (journal + 5 + length patch.text) limits.bytes) (Accept (version + 1))
+      → ltb limits.bytes (journal + PAYLOAD_FRAME + length patch.text) ≡ long
+      → decision (patches_of entries) patch limits ≡ cond long (Full Bytes (journal + PAYLOAD_FRAME + length patch.text) limits.bytes) (Accept (version + 1))
   by_length journal long ne place journal_is is =
-      let longer : journal + 5 + length patch.text ≡ journal_length (patches_of entries ++ patch ∷ []) = omega (arith, length-push (patches_of entries) patch, journal_is) in
+      let longer : journal + PAYLOAD_FRAME + length patch.text ≡ journal_length (patches_of entries ++ patch ∷ []) = omega (arith, length-push (patches_of entries) patch, journal_is) in
       rw (longer, count) (decision-rest (patches_of entries) patch limits long new (follows ne) (λ same. place (count ∙ same)) (ap (ltb limits.bytes) (sym longer) ∙ is))
 
 pub returns-in-Some-by_version : goal.returns-in-Some-by_version
@@ -77,13 +78,13 @@ returns-then-version-limits c =
 pub returns-then-have-limits : goal.returns-then-have-limits
 returns-then-have-limits c =
     let above = c.if-have-limits.true in
-    let long : ltb c.args.limits.now.bytes (c.journal_length.result + 5 + length c.args.text.now) ≡ true = grind (arith, nat_tests) in
+    let long : ltb c.args.limits.now.bytes (c.journal_length.result + PAYLOAD_FRAME + length c.args.text.now) ≡ true = grind (arith, nat_tests) in
     sym (by_length c.args.chain.now.items (record { id = c.args.link.id; prev = c.args.link.prev; text = c.args.text.now }) c.args.limits.now _ _ c.head-head.ensures c.version-version.ensures.version
     (sym c.requires.known ∙ c.in_default.is) c.journal_length.result true (sym c.ne.ensures ∙ c.if-ne.false) c.if-version-limits.false c.journal_length.ensures.length long)
 
 pub returns : goal.returns
 returns c =
     let within = c.if-have-limits.false in
-    let short : ltb c.args.limits.now.bytes (c.journal_length.result + 5 + length c.args.text.now) ≡ false = grind (arith, nat_tests) in
+    let short : ltb c.args.limits.now.bytes (c.journal_length.result + PAYLOAD_FRAME + length c.args.text.now) ≡ false = grind (arith, nat_tests) in
     sym (by_length c.args.chain.now.items (record { id = c.args.link.id; prev = c.args.link.prev; text = c.args.text.now }) c.args.limits.now _ _ c.head-head.ensures c.version-version.ensures.version
     (sym c.requires.known ∙ c.in_default.is) c.journal_length.result false (sym c.ne.ensures ∙ c.if-ne.false) c.if-version-limits.false c.journal_length.ensures.length short)
