@@ -1,100 +1,114 @@
 -- Reading goes on from block to block.
-use Rattle.std.proofs.Common.{◌≡◌, inl, inr, Err, ℕ, ◌+◌, ◌^◌, ◌<◌, ◌≤◌, List, [], ◌∷◌, ◌++◌, length, take, drop, refl, sym, ◌∙◌, ap, subst, arith, length-append, length-take, take-append-drop}
-use Rattle.log_base.specs.Journals.{payloads_length}
-use Rattle.log_journal.specs.File.{front, header, block, Holds, Damage}
-use Rattle.std.specs.List.{flat_map}
+use Rattle.std.proofs.Common.{◌≡◌, inl, inr, Err, ℕ, ◌+◌, ◌^◌, ◌<◌, ◌≤◌, List, [], ◌∷◌, ◌++◌, length, drop, refl, sym, ◌∙◌, ap, subst, arith, length-append}
 use Rattle.std.proofs.lemmas.List.{drop_all}
-use Rattle.std.specs.Prelude.{sum_by}
-use Rattle.std.proofs.lemmas.List.Sums.{sum_by-cons, sum_by-append}
 use Rattle.std.proofs.lemmas.List.Elements.{All-from_recursion}
-use Rattle.log_journal.specs.Reading.{IsRead, ReadsPayload, ReadsPayloads}
+use Rattle.log_journal.specs.File.{front_in, header, head_size, AreFew, HoldsIn, IsCutShort}
+use Rattle.log_journal.specs.Reading.{IsRead, HasByte, HasPayload, ReadsPayload, ReadsPayloads}
+use Rattle.log_journal.specs.declared.form.Form.{Form}
+use Rattle.log_journal.specs.declared.form.Form.TheVariants.{Old, New}
 use Rattle.log_journal.specs.declared.fault.JournalFault.{JournalFault}
-use Rattle.log_journal.specs.declared.fault.JournalFault.TheVariants.{Failed, Damaged, WrongNumber, OverLimit, OutOfMemory}
-use Rattle.log_journal.proofs.Steps.{front-push, length-front-push, sized-push}
+use Rattle.log_journal.specs.declared.fault.JournalFault.TheVariants.{Failed, Damaged, OldFormat, WrongNumber, OverLimit, OutOfMemory}
+use Rattle.log_journal.proofs.Frames.{front-push, length-front-push, front-none, sized-push}
+use Rattle.log_journal.proofs.Split.{held}
 
-pub none_read : (file : List ℕ) (number : ℕ) → file ≡ header number ++ drop 8 file → IsRead file number [] 8
-unfolding front
-none_read file number is = record { parts = is; place = refl; sized = All-from_recursion (λ (p : List ℕ). length p < 2 ^ 32) [] tt }
+pub none_few : (form : Form) → AreFew form 0
+none_few Old = tt
+none_few New = omega arith
 
-pub one_more : (file : List ℕ) (number gate : ℕ) (payloads : List (List ℕ)) (payload : List ℕ) → IsRead file number payloads gate → length payload < 2 ^ 32
-    → drop gate file ≡ block payload ++ drop (gate + 5 + length payload) file → IsRead file number (payloads ++ payload ∷ []) (gate + (5 + length payload))
-one_more file number gate payloads payload so_far fits is =
-    let next = drop (gate + 5 + length payload) file in
-    let parts : file ≡ front number (payloads ++ payload ∷ []) ++ next =
-    so_far.parts ∙ ap (λ (l : List ℕ). front number payloads ++ l) is ∙ front-push number payloads payload next in
+few_more : (form : Form) (payloads : List (List ℕ)) (payload : List ℕ) → AreFew form (length payloads + 1) → AreFew form (length (payloads ++ payload ∷ []))
+few_more form payloads payload few = let same : length payloads + 1 ≡ length (payloads ++ payload ∷ []) = omega (arith, length-append payloads (payload ∷ [])) in subst (AreFew form) same few
+
+eight : (form : Form) (number : ℕ) → length (header form number) ≡ 8
+eight Old number = refl
+eight New number = refl
+
+pub none_read : (form : Form) (file : List ℕ) (number : ℕ) → file ≡ header form number ++ drop 8 file → IsRead form file number [] 8
+none_read form file number is = record {
+  parts = is ∙ ap (λ (l : List ℕ). l ++ drop 8 file) (sym (front-none form number));
+  place = sym (eight form number) ∙ ap length (sym (front-none form number));
+  sized = All-from_recursion (λ (p : List ℕ). length p < 2 ^ 32) [] tt;
+  few = none_few form;
+}
+
+-- the gate that is shut ends the payloads that were read
+pub all_read : (form : Form) (file : List ℕ) (number gate byte : ℕ) (payloads : List (List ℕ)) → IsRead form file number payloads gate → HasByte file gate byte → (byte ≡ 1 → ⊥) → HoldsIn form file number payloads
+all_read form file number gate byte payloads so_far stands shut =
+    held form number payloads file byte (drop (gate + 1) file) (so_far.parts ∙ ap (λ (l : List ℕ). front_in form number payloads ++ l) stands) shut so_far.sized so_far.few
+
+pub one_more : (form : Form) (file : List ℕ) (number gate : ℕ) (payloads : List (List ℕ)) (payload : List ℕ) → IsRead form file number payloads gate → HasPayload form file gate (length payloads) payload
+    → IsRead form file number (payloads ++ payload ∷ []) (gate + (1 + head_size form + length payload))
+one_more form file number gate payloads payload so_far has =
+    let next = drop (gate + 1 + head_size form + length payload) file in
+    let parts : file ≡ front_in form number (payloads ++ payload ∷ []) ++ next =
+    so_far.parts ∙ ap (λ (l : List ℕ). front_in form number payloads ++ l) has.block_is ∙ front-push form number payloads payload next in
+    let same : gate + 1 + head_size form + length payload ≡ gate + (1 + head_size form + length payload) = omega arith in
     record {
-      parts = parts ∙ ap (λ (k : ℕ). front number (payloads ++ payload ∷ []) ++ drop k file) (omega arith);
-      place = omega (arith, so_far.place, length-front-push number payloads payload);
-      sized = sized-push payloads payload so_far.sized fits;
+      parts = parts ∙ ap (λ (k : ℕ). front_in form number (payloads ++ payload ∷ []) ++ drop k file) same;
+      place = omega (arith, so_far.place, length-front-push form number payloads payload);
+      sized = sized-push payloads payload so_far.sized has.sized;
+      few = few_more form payloads payload has.few;
     }
 
--- the same for the list with the payload pushed, and its length as it was counted
-pub one_more_of : (file : List ℕ) (number gate size : ℕ) (old new : List (List ℕ)) (payload : List ℕ) → IsRead file number old gate → length payload < 2 ^ 32
-    → drop gate file ≡ block payload ++ drop (gate + 5 + length payload) file → new ≡ old ++ payload ∷ [] → size ≡ length payload → IsRead file number new (gate + (5 + size))
-one_more_of file number gate size old new payload so_far fits is pushed sized =
-    let P : List (List ℕ) → Type 0 = λ ps. IsRead file number ps (gate + (5 + size)) in
-    let Q : ℕ → Type 0 = λ n. IsRead file number (old ++ payload ∷ []) (gate + (5 + n)) in
-    subst P (sym pushed) (subst Q (sym sized) (one_more file number gate old payload so_far fits is))
+-- the same with the count and the length as they were counted
+pub one_more_of : (form : Form) (file : List ℕ) (number gate size count : ℕ) (payloads : List (List ℕ)) (payload : List ℕ) → IsRead form file number payloads gate → count ≡ length payloads → HasPayload form file gate count payload → size ≡ length payload → IsRead form file number (payloads ++ payload ∷ []) (gate + (1 + head_size form + size))
+one_more_of form file number gate size count payloads payload so_far counted has sized =
+    let Q : ℕ → Type 0 = λ n. IsRead form file number (payloads ++ payload ∷ []) (gate + (1 + head_size form + n)) in
+    subst Q (sym sized) (one_more form file number gate payloads payload so_far (subst (λ (n : ℕ). HasPayload form file gate n payload) counted has))
 
-length-flat_map-block : (payloads : List (List ℕ)) → length (flat_map block payloads) ≡ sum_by (λ payload. 5 + length payload) payloads
-length-flat_map-block [] = refl
-length-flat_map-block (p ∷ payloads) = omega (arith, length-append (block p) (flat_map block payloads), length-flat_map-block payloads, sum_by-cons (λ (payload : List ℕ). 5 + length payload) p payloads)
-
-pub length-front : (number : ℕ) (payloads : List (List ℕ)) → length (front number payloads) + 1 ≡ payloads_length payloads
-unfolding front
-length-front number payloads = omega (arith, length-append (header number) (flat_map block payloads), length-flat_map-block payloads)
-
--- the length of a journal with one payload more
-pub length_more : (gate size : ℕ) (old new : List (List ℕ)) (payload : List ℕ) → gate + 1 ≡ payloads_length old → new ≡ old ++ payload ∷ [] → size ≡ length payload → gate + (5 + size) + 1 ≡ payloads_length new
-length_more gate size old new payload so_far pushed sized =
-    omega (arith, so_far, sized, ap payloads_length pushed, sum_by-append (λ (payload : List ℕ). 5 + length payload) old (payload ∷ []))
-
--- the gate of a file that holds payloads stands in it
-pub gate_within : (image : List ℕ) (number : ℕ) (payloads : List (List ℕ)) → Holds image number payloads → length (front number payloads) + 1 ≤ length image
-gate_within image number payloads holds = omega (arith, holds.has_gate)
-
--- the file ends with its header
-pub header_alone : (file head : List ℕ) (number : ℕ) → head ≡ take 8 file → head ≡ header number ++ drop 8 head → length file < 9 → Damage file number 8
-header_alone file head number is header_is short =
-    let none : drop 8 file ≡ [] = drop_all 8 file (omega (arith, short)) in
-    let none_behind : drop 8 head ≡ [] = drop_all 8 head (omega (arith, ap length is, length-take 8 file)) in
-    let whole : file ≡ header number ++ drop 8 file =
-    sym (take-append-drop 8 file) ∙ ap (λ (l : List ℕ). l ++ drop 8 file) (sym is ∙ header_is ∙ ap (λ (l : List ℕ). header number ++ l) none_behind) in
-    let start = none_read file number whole in
-    inr (record {
+-- the first gate is missing
+pub gate_missing : (form : Form) (file : List ℕ) (number : ℕ) (fault : JournalFault) → file ≡ header form number ++ drop 8 file → (fault ≡ Failed → ⊥) → (fault ≡ Damaged 8) × (length file ≤ 8) → ReadsPayloads {T = ℕ} form file number (Err fault)
+gate_missing form file number fault begins other missing =
+    let start = none_read form file number begins in
+    let none : drop 8 file ≡ [] = drop_all 8 file (omega (arith, missing.1)) in
+    let cut : IsCutShort form file number 8 = record {
       payloads = [];
       rest = [];
       offset = 0;
-      parts = start.parts ∙ ap (λ (l : List ℕ). front number [] ++ l) none;
+      parts = start.parts ∙ ap (λ (l : List ℕ). front_in form number [] ++ l) none;
       sized = start.sized;
+      few = start.few;
       breaks = refl;
       place = omega (arith, start.place);
-    })
+    } in
+    subst (λ (f : JournalFault). ReadsPayloads {T = ℕ} form file number (Err f)) (sym missing.0) cut
 
 -- behind the payloads that were read the file breaks off, or ends behind one more
-pub payload_missing : (file : List ℕ) (number gate : ℕ) (payloads : List (List ℕ)) (fault : JournalFault) → IsRead file number payloads gate → ReadsPayload file gate (Err fault) → ReadsPayloads {T = ℕ} file number (Err fault)
-payload_missing file number gate payloads (Damaged at) so_far (inl broken) = inr (record {
+pub payload_missing : (form : Form) (file : List ℕ) (number gate : ℕ) (payloads : List (List ℕ)) (fault : JournalFault) → IsRead form file number payloads gate → ReadsPayload form file gate (length payloads) (Err fault) → ReadsPayloads {T = ℕ} form file number (Err fault)
+payload_missing form file number gate payloads (Damaged at) so_far (inl broken) = record {
   payloads = payloads;
   rest = drop gate file;
   offset = broken.0;
   parts = so_far.parts;
   sized = so_far.sized;
+  few = so_far.few;
   breaks = broken.1;
   place = omega (arith, broken.2, so_far.place);
-})
-payload_missing file number gate payloads (Damaged at) so_far (inr ends) =
-    let more = one_more file number gate payloads ends.0 so_far ends.1.sized ends.1.block_is in
-    let none : drop (gate + (5 + length ends.0)) file ≡ [] = ap (λ (k : ℕ). drop k file) (omega arith) ∙ ends.2 in
-    inr (record {
+}
+payload_missing form file number gate payloads (Damaged at) so_far (inr ends) =
+    let more = one_more form file number gate payloads ends.0 so_far ends.1 in
+    let same : gate + (1 + head_size form + length ends.0) ≡ gate + 1 + head_size form + length ends.0 = omega arith in
+    let none : drop (gate + (1 + head_size form + length ends.0)) file ≡ [] = ap (λ (k : ℕ). drop k file) same ∙ ends.2 in
+    record {
       payloads = payloads ++ ends.0 ∷ [];
       rest = [];
       offset = 0;
-      parts = more.parts ∙ ap (λ (l : List ℕ). front number (payloads ++ ends.0 ∷ []) ++ l) none;
+      parts = more.parts ∙ ap (λ (l : List ℕ). front_in form number (payloads ++ ends.0 ∷ []) ++ l) none;
       sized = more.sized;
+      few = more.few;
       breaks = refl;
       place = omega (arith, ends.3, more.place);
-    })
-payload_missing file number gate payloads (WrongNumber found) so_far fails = absurd fails
-payload_missing file number gate payloads (OverLimit length limit) so_far fails = absurd fails
-payload_missing file number gate payloads Failed so_far fails = tt
-payload_missing file number gate payloads OutOfMemory so_far fails = tt
+    }
+payload_missing form file number gate payloads OldFormat so_far fails = absurd fails
+payload_missing form file number gate payloads (WrongNumber found) so_far fails = absurd fails
+payload_missing form file number gate payloads (OverLimit length limit) so_far fails = absurd fails
+payload_missing form file number gate payloads Failed so_far fails = tt
+payload_missing form file number gate payloads OutOfMemory so_far fails = tt
+
+-- the first gate can't be read
+pub gate_fault : (form : Form) (file : List ℕ) (number : ℕ) (fault : JournalFault) → file ≡ header form number ++ drop 8 file → ((fault ≡ Failed → ⊥) → (fault ≡ Damaged 8) × (length file ≤ 8)) → ReadsPayloads {T = ℕ} form file number (Err fault)
+gate_fault form file number Failed begins missing = tt
+gate_fault form file number (Damaged at) begins missing = gate_missing form file number (Damaged at) begins (λ same. cc) (missing (λ same. cc))
+gate_fault form file number OldFormat begins missing = absurd (let m = missing (λ same. cc) in cc m.0)
+gate_fault form file number (WrongNumber found) begins missing = absurd (let m = missing (λ same. cc) in cc m.0)
+gate_fault form file number (OverLimit size limit) begins missing = absurd (let m = missing (λ same. cc) in cc m.0)
+gate_fault form file number OutOfMemory begins missing = tt

@@ -1,21 +1,26 @@
 //! A file of payloads behind gates. A gate is opened only once what stands behind it is
 //! on the disk.
-ghost use Rattle.std.specs.Prelude.{◌≡◌, None, false, ◌⊎◌, ℕ, ◌+◌, ◌<◌, ◌≤◌, ◌↔◌};
-ghost use Rattle.std.specs.Prelude.{◌++◌, [], ◌∷◌, List, length, IsTrue, not, OnOk, OnErr};
-ghost use Rattle.std.specs.Prelude.{IsErr, IsErrOf, IfOk, IfErr, IsOk, is_ok, if◌then◌else◌};
+ghost use Rattle.std.specs.Prelude.{◌≡◌, ◌≢◌, None, false, ◌⊎◌, ℕ, ◌+◌, ◌-◌, ◌*◌, ◌^◌, ◌<◌, ◌≤◌};
+ghost use Rattle.std.specs.Prelude.{◌↔◌, ◌++◌, [], ◌∷◌, List, length, IsTrue, not, OnOk, OnErr};
+ghost use Rattle.std.specs.Prelude.{IsErr, IsErrOf, IfOk, IfErr, IsOk, is_ok, if◌then◌else◌, min};
 ghost use Rattle.log_base.specs.declared.limits.TheConstants.{EMPTY_JOURNAL, PAYLOAD_FRAME};
 ghost use Rattle.log_base.specs.Journals.{payloads_length};
 ghost use Rattle.disk_model.specs.Past.{reads, ok_syncs, synced_bytes, filled};
+ghost use Rattle.disk_model.specs.Past.{EveryImage, LeavesOnly};
 ghost use Rattle.disk_model.specs.Calls.{WroteSome};
-ghost use Rattle.log_journal.specs.File.{Holds, file_of};
+ghost use Rattle.log_journal.specs.File.{Holds, AreSized, file_of};
+ghost use Rattle.log_journal.specs.Filling.{HoldsNoneOrAll};
+ghost use Rattle.log_journal.specs.Front.{HasFront, LeftOrNothing};
 ghost use Rattle.log_journal.specs.Journal.{HoldsWithOrWithout};
 ghost use Rattle.log_journal.specs.Reading.{HasFault};
 
 use crate::block::Block;
 use crate::fault::{FormatFault, JournalFault};
+use crate::filling::{FillFault, fill_behind, filled_length};
 use crate::open::{Payloads, format, read_journal};
 use crate::receiver::Receiver;
-use crate::synced_writes::write_synced;
+use crate::restarting::{empty, write_empty};
+use crate::synced_writes::{write_numbered, write_synced};
 use delta_base::{Failed, Listing};
 use disk_model::{Disk, Planned};
 use log_base::{EMPTY_JOURNAL, PAYLOAD_FRAME};
@@ -42,11 +47,14 @@ impl From<Failed> for AppendFault {
 #[derive(Drop)]
 pub struct Journal<D: Disk> {
     disk: D,
+    /// How long it is, up to the gate behind the last payload and with it.
     end: u64,
+    /// How many payloads it has.
+    count: u32,
     limit: u64,
     settled: bool,
     ghost gate_within: { D.tells → end ≤ length (reads (D.past disk)) },
-    ghost gate_behind: { EMPTY_JOURNAL ≤ end },
+    ghost gate_behind: { EMPTY_JOURNAL + PAYLOAD_FRAME * count ≤ end },
     ghost within_limit: { end ≤ limit },
 }
 
@@ -66,7 +74,7 @@ pub struct StartRefusal<D: Disk> {
 
 impl<D: Disk> Journal<D> {
     ghost use Rattle.log_journal.specs.StandsFor.{StandsFor, StandsInDoubt, Leaves};
-    ghost use Rattle.log_journal.specs.StandsFor.{length_of, limit_of, is_settled, disk_of};
+    ghost use Rattle.log_journal.specs.StandsFor.{length_of, limit_of, count_of, is_settled, disk_of};
     ghost use Rattle.log_journal.specs.Payload.{payload_of};
     ghost use Rattle.log_journal.specs.Append.{syncs_of, DoneByPlan};
     ghost use Rattle.log_journal.specs.Written.{DiskWent, Reopened, RefusedOpening};
@@ -131,13 +139,89 @@ impl<D: Disk> Journal<D> {
     {
         let mut disk = disk;
         match read_journal(alloc, &mut disk, number, limit, receiver) {
-            Ok(end) => Ok(Journal {
+            Ok(extent) => Ok(Journal {
                 disk,
-                end,
+                end: extent.length,
+                count: extent.count as u32,
                 limit,
                 settled: true,
             }),
             Err(fault) => Err(OpenRefusal { disk, fault }),
+        }
+    }
+
+    /// Writes an empty journal over whatever a disk has. The disk is handed back where it fails.
+    pub fn overwrite(disk: D, number: u32, limit: u64) -> Result<Journal<D>, OpenRefusal<D>>
+        requires { EMPTY_JOURNAL ≤ limit }
+        ensures stands { IfOk result (λ journal. StandsFor journal number []) }
+        ensures length { IfOk result (λ journal. (length_of journal) ≡ EMPTY_JOURNAL) }
+        ensures limit { IfOk result (λ journal. (limit_of journal) ≡ limit) }
+        ensures failed { IfErr result (λ refusal. refusal.fault ≡ JournalFault.Failed) }
+        ensures went { IfOk result (λ journal. DiskWent D.Disk ⊥ disk (disk_of journal)) }
+        ensures went_refused { IfErr result (λ refusal.
+            DiskWent D.Disk (refusal.fault ≡ JournalFault.Failed) disk refusal.disk) }
+    {
+        let mut disk = disk;
+        match write_empty(&mut disk, number) {
+            Ok(()) => Ok(Journal {
+                disk,
+                end: EMPTY_JOURNAL,
+                count: 0,
+                limit,
+                settled: true,
+            }),
+            Err(Failed) => Err(OpenRefusal {
+                disk,
+                fault: JournalFault::Failed,
+            }),
+        }
+    }
+
+    /// Makes what is on a disk an empty journal. The disk is handed back where it fails.
+    pub fn restart(disk: D, number: u32, limit: u64) -> Result<Journal<D>, OpenRefusal<D>>
+        requires room { EMPTY_JOURNAL ≤ limit }
+
+        // The front of every image has no fault.
+        requires sound { D.tells → EveryImage (D.past disk) (λ image. HasFront image number) }
+        ensures stands { IfOk result (λ journal. StandsFor journal number []) }
+
+        // A crash at any moment leaves what it might have left before, or a file that holds
+        // nothing.
+        ensures any_moment { IfOk result (λ journal. D.tells
+            → LeavesOnly (LeftOrNothing (D.past disk) number) (D.past disk)
+            (D.past (disk_of journal))) }
+        ensures any_moment_refused { IfErr result (λ refusal. D.tells
+            → LeavesOnly (LeftOrNothing (D.past disk) number) (D.past disk)
+            (D.past refusal.disk)) }
+        ensures failed { IfErr result (λ refusal. refusal.fault ≡ JournalFault.Failed) }
+        ensures length { IfOk result (λ journal. (length_of journal) ≡ EMPTY_JOURNAL) }
+        ensures limit { IfOk result (λ journal. (limit_of journal) ≡ limit) }
+        ensures syncs { D.tells → IfOk result (λ journal.
+            ok_syncs (D.past (disk_of journal)) ≡ ok_syncs (D.past disk) + 1) }
+        ensures syncs_refused { D.tells → IfErr result (λ refusal.
+            ok_syncs (D.past refusal.disk) ≡ ok_syncs (D.past disk)) }
+        ensures few { D.tells → IfOk result (λ journal.
+            D.read_bytes (disk_of journal) ≤ D.read_bytes disk + 1) }
+        ensures went { IfOk result (λ journal. DiskWent D.Disk ⊥ disk (disk_of journal)) }
+        ensures went_refused { IfErr result (λ refusal.
+            DiskWent D.Disk (refusal.fault ≡ JournalFault.Failed) disk refusal.disk) }
+        ensures long { D.plans → IfOk result (λ journal. D.short (disk_of journal) ≡ D.short disk) }
+        ensures planned { D.plans → IfErr result (λ refusal. D.next_failure disk ≡ None
+            → IsTrue (D.short refusal.disk)) }
+    {
+        let mut disk = disk;
+        match empty(&mut disk, number) {
+            Ok(()) => Ok(Journal {
+                disk,
+                end: EMPTY_JOURNAL,
+                count: 0,
+                limit,
+                settled: true,
+            }),
+            Err(Failed) => Err(OpenRefusal {
+                disk,
+                fault: JournalFault::Failed,
+            }),
         }
     }
 
@@ -176,6 +260,7 @@ impl<D: Disk> Journal<D> {
             Ok(()) => Ok(Journal {
                 disk,
                 end: EMPTY_JOURNAL,
+                count: 0,
                 limit,
                 settled: true,
             }),
@@ -198,6 +283,14 @@ impl<D: Disk> Journal<D> {
         room >= PAYLOAD_FRAME && room - PAYLOAD_FRAME >= payload
     }
 
+    /// How many payloads it has.
+    pub fn count(&self) -> u32
+        ensures is { result ≡ (count_of self.now) }
+        ensures few { EMPTY_JOURNAL + PAYLOAD_FRAME * result ≤ (limit_of self.now) }
+    {
+        self.count
+    }
+
     pub fn is_settled(&self) -> bool
         ensures { result ≡ is_settled self.now }
     {
@@ -216,6 +309,7 @@ impl<D: Disk> Journal<D> {
         let Journal {
             disk,
             end: _,
+            count: _,
             limit: _,
             settled: _,
         } = self;
@@ -224,7 +318,8 @@ impl<D: Disk> Journal<D> {
 
     /// Adds a payload. After a failure the payloads are as before.
     pub fn append(&mut self, block: &Block) -> Result<(), AppendFault>
-        requires { IsTrue (is_settled self.old) }
+        requires settled { IsTrue (is_settled self.old) }
+        requires few { (count_of self.old) < 2 ^ 32 - 1 }
 
         // A crash at any moment of the call leaves the payloads, with the new one or without.
         ensures any_moment { (number : ℕ) (payloads : List (List ℕ))
@@ -276,20 +371,74 @@ impl<D: Disk> Journal<D> {
         ensures longer { OnOk result
             ((length_of self.new)
             ≡ (length_of self.old) + PAYLOAD_FRAME + length (payload_of block.now)) }
+        ensures more { OnOk result ((count_of self.new) ≡ (count_of self.old) + 1) }
+        ensures same_count { OnErr result ((count_of self.new) ≡ (count_of self.old)) }
         ensures same_length { OnErr result ((length_of self.new) ≡ (length_of self.old)) }
         ensures limit { (limit_of self.new) ≡ (limit_of self.old) }
     {
-        let size = block.bytes.len() as u64;
+        let size = block.bytes.len() as u64 + 4;
         if self.limit - self.end < size {
             return Err(AppendFault::Full {
                 length: self.end,
                 limit: self.limit,
             });
         }
-        write_synced(&mut self.disk, self.end, &block.bytes)?;
+        let number = self.count + 1;
+        write_numbered(&mut self.disk, self.end, number, &block.bytes)?;
         self.settled = false;
         write_synced(&mut self.disk, self.end - 1, &[1])?;
         self.end += size;
+        self.count = number;
+        self.settled = true;
+        Ok(())
+    }
+
+    /// Adds payloads to an empty journal, all at once. After a failure there are none, or their
+    /// gate is doubtful.
+    pub fn fill(&mut self, payloads: &Payloads) -> Result<(), FillFault>
+        requires settled { IsTrue (is_settled self.old) }
+        requires empty { (count_of self.old) ≡ 0 }
+        requires starts { (length_of self.old) ≡ EMPTY_JOURNAL }
+        requires bounded { (limit_of self.old) < 2 ^ 64 - 1 }
+        requires few { length payloads.now.items < 2 ^ 32 }
+        requires sized { AreSized payloads.now.items }
+
+        // A crash at any moment of the call leaves none of the payloads or all.
+        ensures any_moment { (number : ℕ) → StandsFor self.old number []
+            → Leaves (HoldsNoneOrAll number payloads.now.items) self.old self.new }
+        ensures ok { (number : ℕ) → StandsFor self.old number []
+            → OnOk result (StandsFor self.new number payloads.now.items) }
+        ensures none { payloads.now.items ≡ []
+            → IsOk result × (self.new ≡ self.old) }
+        ensures full { (shown limit : ℕ) → IsErrOf result (FillFault.Full shown limit)
+            → (shown ≡ min (payloads_length payloads.now.items) (2 ^ 64 - 1))
+            × (limit ≡ (limit_of self.old)) × (self.new ≡ self.old) }
+        ensures fits { IsOk result ⊎ IsErrOf result FillFault.Failed
+            → payloads_length payloads.now.items ≤ (limit_of self.old) }
+        ensures longer { OnOk result
+            ((length_of self.new) ≡ payloads_length payloads.now.items) }
+        ensures syncs { D.tells → OnOk result (payloads.now.items ≢ []
+            → ok_syncs (D.past (disk_of self.new)) ≡ ok_syncs (D.past (disk_of self.old)) + 2) }
+        ensures went { DiskWent D.Disk (IsErrOf result FillFault.Failed) (disk_of self.old)
+            (disk_of self.new) }
+        ensures long { D.plans → OnOk result
+            (D.short (disk_of self.new) ≡ D.short (disk_of self.old)) }
+        ensures limit { (limit_of self.new) ≡ (limit_of self.old) }
+    {
+        let length = filled_length(payloads.as_slice());
+        if self.limit < length {
+            return Err(FillFault::Full {
+                length,
+                limit: self.limit,
+            });
+        }
+        if payloads.is_empty() {
+            return Ok(());
+        }
+        self.settled = false;
+        fill_behind(&mut self.disk, payloads.as_slice())?;
+        self.end = length;
+        self.count = payloads.len() as u32;
         self.settled = true;
         Ok(())
     }
@@ -332,6 +481,7 @@ impl<D: Disk> Journal<D> {
         ensures went { DiskWent D.Disk (IsErr result) (disk_of self.old) (disk_of self.new) }
         ensures long { D.plans → OnOk result
             (D.short (disk_of self.new) ≡ D.short (disk_of self.old)) }
+        ensures same_count { (count_of self.new) ≡ (count_of self.old) }
         ensures same_length { (length_of self.new) ≡ (length_of self.old) }
         ensures limit { (limit_of self.new) ≡ (limit_of self.old) }
     {
@@ -346,7 +496,7 @@ impl<D: Disk> Journal<D> {
 
 impl<D: Planned> Journal<D> {
     ghost use Rattle.std.specs.Prelude.{Option};
-    ghost use Rattle.log_journal.specs.StandsFor.{length_of, limit_of, disk_of};
+    ghost use Rattle.log_journal.specs.StandsFor.{length_of, limit_of, count_of, disk_of};
     ghost use Rattle.log_journal.specs.Writing.{StandsWith};
 
     /// Plans which sync of its disk fails, and changes nothing else.
@@ -354,6 +504,7 @@ impl<D: Planned> Journal<D> {
         ensures stands { (number : ℕ) (payloads : List (List ℕ)) (doubt : Option (List ℕ))
             → StandsWith self.old number payloads doubt
             → StandsWith self.new number payloads doubt }
+        ensures count { (count_of self.new) ≡ (count_of self.old) }
         ensures length { (length_of self.new) ≡ (length_of self.old) }
         ensures limit { (limit_of self.new) ≡ (limit_of self.old) }
         ensures next { D.next_failure (disk_of self.new) ≡ next }
