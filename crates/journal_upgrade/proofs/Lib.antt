@@ -1,0 +1,7 @@
+pub mod Sets
+pub mod Marker
+pub mod Lengths
+pub mod Loops
+pub mod Readings
+pub mod Brought
+pub mod Safety
