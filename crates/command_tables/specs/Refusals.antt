@@ -30,6 +30,7 @@ zone_refusal zones.Failed = refusals.DiskFailed
 zone_refusal zones.OutOfMemory = refusals.OutOfMemory
 zone_refusal zones.TermsFull = refusals.ZoneTermsFull
 zone_refusal (zones.Damaged at) = refusals.File (checks.Damaged zone_number at)
+zone_refusal zones.OldFormat = refusals.File (checks.OldFormat zone_number)
 zone_refusal (zones.WrongNumber found) = refusals.File (checks.WrongNumber zone_number found)
 zone_refusal (zones.OverLimit size limit) = refusals.File (checks.OverLimit zone_number size limit)
 zone_refusal (zones.BrokenChain version) = refusals.File (checks.BrokenChain zone_number version)

@@ -137,6 +137,7 @@ impl Refusal {
             ZoneFault::OutOfMemory => Refusal::OutOfMemory,
             ZoneFault::TermsFull => Refusal::ZoneTermsFull,
             ZoneFault::Damaged { at } => Refusal::File(CheckFault::Damaged { file, at }),
+            ZoneFault::OldFormat => Refusal::File(CheckFault::OldFormat { file }),
             ZoneFault::WrongNumber { found } => {
                 Refusal::File(CheckFault::WrongNumber { file, found })
             }

@@ -21,6 +21,7 @@ module _ (dir : List ℕ) (tells : Type 0) (old new : ShelfView) where
   check_stops out result checks.Failed is stops cause = (cause is, some checks.Failed stops, Keeps-refl out.bytes)
   check_stops out result checks.OutOfMemory is stops cause = (some checks.OutOfMemory stops, Keeps-refl out.bytes)
   check_stops out result (checks.Damaged file at) is stops cause = (stops, Keeps-refl out.bytes)
+  check_stops out result (checks.OldFormat file) is stops cause = (stops, Keeps-refl out.bytes)
   check_stops out result (checks.WrongNumber file found) is stops cause = (stops, Keeps-refl out.bytes)
   check_stops out result (checks.OverLimit file length limit) is stops cause = (stops, Keeps-refl out.bytes)
   check_stops out result (checks.BrokenChain file version) is stops cause = (stops, Keeps-refl out.bytes)

@@ -45,6 +45,7 @@ module _ (dir : List ℕ) (tells : Type 0) (old new : ShelfView) where
     reading_stops out result zones.OutOfMemory is has cause = Keeps-refl out.bytes
     reading_stops out result zones.TermsFull is has cause = (has, Keeps-refl out.bytes)
     reading_stops out result (zones.Damaged at) is has cause = ((λ told. (refl, has told)), Keeps-refl out.bytes)
+    reading_stops out result zones.OldFormat is has cause = ((λ told. (refl, has told)), Keeps-refl out.bytes)
     reading_stops out result (zones.WrongNumber found) is has cause = ((λ told. (refl, has told)), Keeps-refl out.bytes)
     reading_stops out result (zones.OverLimit size limit) is has cause = ((λ told. (refl, has told)), Keeps-refl out.bytes)
     reading_stops out result (zones.BrokenChain version) is has cause = ((λ told. (refl, has told)), Keeps-refl out.bytes)

@@ -30,6 +30,7 @@ opening_stops dir tells old new result zones.Failed is has cause = cause is
 opening_stops dir tells old new result zones.OutOfMemory is has cause = tt
 opening_stops dir tells old new result zones.TermsFull is has cause = has
 opening_stops dir tells old new result (zones.Damaged at) is has cause = λ told. (refl, has told)
+opening_stops dir tells old new result zones.OldFormat is has cause = λ told. (refl, has told)
 opening_stops dir tells old new result (zones.WrongNumber found) is has cause = λ told. (refl, has told)
 opening_stops dir tells old new result (zones.OverLimit size limit) is has cause = λ told. (refl, has told)
 opening_stops dir tells old new result (zones.BrokenChain version) is has cause = λ told. (refl, has told)

@@ -63,6 +63,8 @@ KeepsZone dir tells old new = tells
 abbrev pub HasZoneFileFault : List ℕ → CheckFault → Type 0
 HasZoneFileFault file (checks.Damaged number at) =
     (number ≡ zone_number) × HasZoneFault file LOG_LIMITS (zones.Damaged at)
+HasZoneFileFault file (checks.OldFormat number) =
+    (number ≡ zone_number) × HasZoneFault file LOG_LIMITS zones.OldFormat
 HasZoneFileFault file (checks.WrongNumber number found) =
     (number ≡ zone_number) × HasZoneFault file LOG_LIMITS (zones.WrongNumber found)
 HasZoneFileFault file (checks.OverLimit number size limit) =

@@ -10,7 +10,7 @@ use delta_base::Sink;
 use sink_writing::write_all;
 
 /// What `--version` writes.
-pub const VERSION: &str = "rdfdelta 0.2.0\n";
+pub const VERSION: &str = "rdfdelta 0.3.0\n";
 
 /// Writes a text that is known.
 pub fn print<K: Sink>(text: &str, out: &mut K) -> Result<(), Refusal>

@@ -4,6 +4,7 @@ use Rattle.disk_model.specs.Past.{reads}
 use Rattle.disk_model.specs.declared.disk.Disk.{Ghosts}
 use Rattle.disk_model.specs.declared.shelf.Shelf.{Ghosts as ShelfGhosts}
 use Rattle.log_journal.proofs.OneReading.{one_list}
+use Rattle.log_journal.specs.declared.form.Form.TheVariants.{New}
 use Rattle.log_journal.specs.File.{Holds}
 use Rattle.log_registry.specs.State.{events_in}
 use Rattle.log_registry.specs.declared.fault.RegistryFault.{RegistryFault}
@@ -24,12 +25,13 @@ one_count : (file : List ℕ) (slots slots' : ℕ) (records : ℕ) (events : Lis
     → HoldsRegistry file slots records → Holds file 0 (registry_payloads slots' events) → Rattle.registry_core.specs.Events.IsRegistry slots' events → slots ≡ slots'
 one_count file slots slots' records events holds holds' registry' =
     let payloads = registry_payloads slots' events in
-    let same = one_list file 0 (registry_payloads slots holds.events) payloads holds.holds holds' in
+    let same = one_list New file 0 (registry_payloads slots holds.events) payloads holds.holds holds' in
     (one_registry payloads slots slots' holds.events events (same, holds.registry) (refl, registry')).0
 
 registry_counts : (why : RegistryFault) (disks slots : ℕ) → halls.WrongCount disks slots ≡ hall_fault_of_registry why → ⊥
 registry_counts registry.Failed disks slots same = cc
 registry_counts (registry.Damaged at) disks slots same = cc
+registry_counts registry.OldFormat disks slots same = cc
 registry_counts (registry.WrongNumber found) disks slots same = cc
 registry_counts (registry.OverLimit length limit) disks slots same = cc
 registry_counts (registry.BrokenEvent place) disks slots same = cc
@@ -38,6 +40,7 @@ registry_counts registry.OutOfMemory disks slots same = cc
 log_counts : (file : ℕ) (why : LogFault) (disks slots : ℕ) → halls.WrongCount disks slots ≡ hall_fault_of_log file why → ⊥
 log_counts file log.Failed disks slots same = cc
 log_counts file (log.Damaged at) disks slots same = cc
+log_counts file log.OldFormat disks slots same = cc
 log_counts file (log.WrongNumber found) disks slots same = cc
 log_counts file (log.OverLimit length limit) disks slots same = cc
 log_counts file (log.BrokenChain version) disks slots same = cc

@@ -155,6 +155,7 @@ module _ {D : Type 0} (disks : Ghosts D) where
   registry_failed : (why : RegistryFault) → halls.DiskFault ≡ hall_fault_of_registry why → why ≡ registry.Failed
   registry_failed registry.Failed same = refl
   registry_failed (registry.Damaged at) same = absurd (cc)
+  registry_failed registry.OldFormat same = absurd (cc)
   registry_failed (registry.WrongNumber found) same = absurd (cc)
   registry_failed (registry.OverLimit length limit) same = absurd (cc)
   registry_failed (registry.BrokenEvent place) same = absurd (cc)
@@ -163,6 +164,7 @@ module _ {D : Type 0} (disks : Ghosts D) where
   log_failed : (file : ℕ) (why : LogFault) → halls.DiskFault ≡ hall_fault_of_log file why → why ≡ log.Failed
   log_failed file log.Failed same = refl
   log_failed file (log.Damaged at) same = absurd (cc)
+  log_failed file log.OldFormat same = absurd (cc)
   log_failed file (log.WrongNumber found) same = absurd (cc)
   log_failed file (log.OverLimit length limit) same = absurd (cc)
   log_failed file (log.BrokenChain version) same = absurd (cc)

@@ -30,6 +30,7 @@ use Rattle.delta_server.specs.Words.{AsksToServe, RefusesToServe}
 abbrev pub hall_refusal : HallFault → Refusal
 hall_refusal halls.DiskFault = refusals.DiskFailed
 hall_refusal (halls.Damaged file at) = refusals.File (checks.Damaged file at)
+hall_refusal (halls.OldFormat file) = refusals.File (checks.OldFormat file)
 hall_refusal (halls.WrongNumber file found) = refusals.File (checks.WrongNumber file found)
 hall_refusal (halls.OverLimit file length limit) =
     refusals.File (checks.OverLimit file length limit)

@@ -28,6 +28,7 @@ fn refusal_of(fault: HallFault) -> Refusal
     match fault {
         HallFault::DiskFault => Refusal::DiskFailed,
         HallFault::Damaged { file, at } => Refusal::File(CheckFault::Damaged { file, at }),
+        HallFault::OldFormat { file } => Refusal::File(CheckFault::OldFormat { file }),
         HallFault::WrongNumber { file, found } => {
             Refusal::File(CheckFault::WrongNumber { file, found })
         }

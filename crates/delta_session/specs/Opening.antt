@@ -23,6 +23,7 @@ use Rattle.delta_session.specs.declared.fault.HallFault.TheVariants as hall
 abbrev pub hall_fault_of_registry : RegistryFault → HallFault
 hall_fault_of_registry registry.Failed = hall.DiskFault
 hall_fault_of_registry (registry.Damaged at) = hall.Damaged 0 at
+hall_fault_of_registry registry.OldFormat = hall.OldFormat 0
 hall_fault_of_registry (registry.WrongNumber found) = hall.WrongNumber 0 found
 hall_fault_of_registry (registry.OverLimit length limit) = hall.OverLimit 0 length limit
 hall_fault_of_registry (registry.BrokenEvent place) = hall.BrokenEvent place
@@ -32,6 +33,7 @@ hall_fault_of_registry registry.OutOfMemory = hall.OutOfMemory
 abbrev pub hall_fault_of_log : ℕ → LogFault → HallFault
 hall_fault_of_log file log.Failed = hall.DiskFault
 hall_fault_of_log file (log.Damaged at) = hall.Damaged file at
+hall_fault_of_log file log.OldFormat = hall.OldFormat file
 hall_fault_of_log file (log.WrongNumber found) = hall.WrongNumber file found
 hall_fault_of_log file (log.OverLimit length limit) = hall.OverLimit file length limit
 hall_fault_of_log file (log.BrokenChain version) = hall.BrokenChain file version

@@ -11,6 +11,8 @@ use patch_log::LogFault;
 pub enum HallFault {
     DiskFault,
     Damaged { file: u32, at: u64 },
+    /// The file is of the form before this one.
+    OldFormat { file: u32 },
     WrongNumber { file: u32, found: u32 },
     OverLimit { file: u32, length: u64, limit: u64 },
     BrokenChain { file: u32, version: u64 },
@@ -35,6 +37,7 @@ impl HallFault {
         match fault {
             RegistryFault::Failed => HallFault::DiskFault,
             RegistryFault::Damaged { at } => HallFault::Damaged { file: 0, at },
+            RegistryFault::OldFormat => HallFault::OldFormat { file: 0 },
             RegistryFault::WrongNumber { found } => HallFault::WrongNumber { file: 0, found },
             RegistryFault::OverLimit { length, limit } => HallFault::OverLimit {
                 file: 0,
@@ -53,6 +56,7 @@ impl HallFault {
         match fault {
             LogFault::Failed => HallFault::DiskFault,
             LogFault::Damaged { at } => HallFault::Damaged { file, at },
+            LogFault::OldFormat => HallFault::OldFormat { file },
             LogFault::WrongNumber { found } => HallFault::WrongNumber { file, found },
             LogFault::OverLimit { length, limit } => HallFault::OverLimit {
                 file,

@@ -78,7 +78,7 @@ module _ {D : Type 0} (disks : Ghosts D) where
   amid_none zone told taken (Some one) stands =
       let all = stands.on_disk told in
       starts (HoldsAmid taken (Some one) []) (disks.past zone.disk) (λ image left.
-      doubted taken image one [] (either (file_length zone.brief.ids zone.brief.bytes) zone_number (checked_texts taken) one.text all.doubt_sized image all.sized (all.each image left)))
+      doubted taken image one [] (either (file_length zone.brief.ids zone.brief.bytes) zone_number (checked_texts taken) one.text all.doubt_sized all.few image all.sized (all.each image left)))
 
   -- the disk wasn't asked
   pub amid_same : (old new : ZoneView D) → new ≡ record old { terms = new.terms } → LeavesAmid disks old new []

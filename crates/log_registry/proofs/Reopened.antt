@@ -6,16 +6,17 @@ use Rattle.std.proofs.lemmas.List.Sums.{sum_by-cons}
 use Rattle.disk_model.specs.Past.{Past, MayLeave}
 use Rattle.log_base.specs.Journals.{payloads_length}
 use Rattle.log_journal.specs.File.{Holds}
-use Rattle.log_journal.proofs.OneReading.{one_list, one_number, never_both}
+use Rattle.log_journal.proofs.OneReading.{one_list, one_number, never_both, never_old}
+use Rattle.log_journal.specs.declared.form.Form.TheVariants.{New}
 use Rattle.registry_core.specs.Texts.{slots_payload}
 use Rattle.registry_core.specs.declared.event.Event.{Event}
 use Rattle.registry_core.specs.Events.{AreNext, IsRegistry, BreaksAtEvent}
-use Rattle.log_base.specs.declared.limits.TheConstants.{REGISTRY_LIMIT}
+use Rattle.log_base.specs.declared.limits.TheConstants.{PAYLOAD_FRAME, REGISTRY_LIMIT}
 use Rattle.registry_core.specs.Texts.{event_text, registry_payloads, registry_length}
 use Rattle.registry_core.proofs.Openings.{one_registry}
 use Rattle.registry_core.proofs.Tables.{length-push, has_room}
 use Rattle.log_registry.specs.declared.fault.RegistryFault.{RegistryFault}
-use Rattle.log_registry.specs.declared.fault.RegistryFault.TheVariants.{Failed, Damaged, WrongNumber, OverLimit, OutOfMemory, BrokenEvent}
+use Rattle.log_registry.specs.declared.fault.RegistryFault.TheVariants.{Failed, Damaged, OldFormat, WrongNumber, OverLimit, OutOfMemory, BrokenEvent}
 use Rattle.log_registry.specs.Fault.{HasRegistryFault}
 use Rattle.log_registry.specs.Stands.{StandsForRegistry}
 use Rattle.log_base.specs.OneMore.{with_one_more}
@@ -23,12 +24,12 @@ use Rattle.log_registry.proofs.States.{payloads-push}
 
 -- ---- lengths
 
-texts_length : (events : List Event) → sum_by (λ (event : Event). 5 + length (event_text event)) events ≡ sum_by (λ (payload : List ℕ). 5 + length payload) (map event_text events)
+texts_length : (events : List Event) → sum_by (λ (event : Event). PAYLOAD_FRAME + length (event_text event)) events ≡ sum_by (λ (payload : List ℕ). PAYLOAD_FRAME + length payload) (map event_text events)
 texts_length [] = refl
-texts_length (event ∷ events) = omega (arith, sum_by-cons (λ (event : Event). 5 + length (event_text event)) event events, sum_by-cons (λ (payload : List ℕ). 5 + length payload) (event_text event) (map event_text events), texts_length events)
+texts_length (event ∷ events) = omega (arith, sum_by-cons (λ (event : Event). PAYLOAD_FRAME + length (event_text event)) event events, sum_by-cons (λ (payload : List ℕ). PAYLOAD_FRAME + length payload) (event_text event) (map event_text events), texts_length events)
 
 same_length : (slots : ℕ) (events : List Event) → payloads_length (registry_payloads slots events) ≡ registry_length slots events
-same_length slots events = omega (arith, sum_by-cons (λ (payload : List ℕ). 5 + length payload) (slots_payload slots) (map event_text events), texts_length events)
+same_length slots events = omega (arith, sum_by-cons (λ (payload : List ℕ). PAYLOAD_FRAME + length payload) (slots_payload slots) (map event_text events), texts_length events)
 
 fits_behind : (slots : ℕ) (before events : List Event) → registry_length slots before ≤ REGISTRY_LIMIT → AreNext slots before events → registry_length slots (before ++ events) ≤ REGISTRY_LIMIT
 fits_behind slots before [] fits next = subst (λ (es : List Event). registry_length slots es ≤ REGISTRY_LIMIT) (sym (append-nil before)) fits
@@ -40,9 +41,9 @@ fits : (slots : ℕ) (events : List Event) → IsRegistry slots events → regis
 fits slots events is = fits_behind slots [] events (let short = length-decimal-le_succ slots (omega (arith, is.is_slot.1)) in omega (arith, short, is.is_slot.1)) is.are_next
 
 -- each event takes some bytes
-events_length : (events : List Event) → length events ≤ sum_by (λ (event : Event). 5 + length (event_text event)) events
+events_length : (events : List Event) → length events ≤ sum_by (λ (event : Event). PAYLOAD_FRAME + length (event_text event)) events
 events_length [] = omega arith
-events_length (event ∷ events) = omega (arith, sum_by-cons (λ (event : Event). 5 + length (event_text event)) event events, events_length events)
+events_length (event ∷ events) = omega (arith, sum_by-cons (λ (event : Event). PAYLOAD_FRAME + length (event_text event)) event events, events_length events)
 
 pub few_events : (slots : ℕ) (events : List Event) → IsRegistry slots events → length events ≤ REGISTRY_LIMIT
 few_events slots events is = omega (arith, fits slots events is, events_length events)
@@ -74,13 +75,14 @@ never_breaks slots events place is breaks =
 no_fault : (file : List ℕ) (slots : ℕ) (events : List Event) (fault : RegistryFault) → Holds file 0 (registry_payloads slots events) → IsRegistry slots events → HasRegistryFault file fault → (fault ≡ Failed) ⊎ (fault ≡ OutOfMemory)
 no_fault file slots events Failed holds is has = inl refl
 no_fault file slots events OutOfMemory holds is has = inr refl
-no_fault file slots events (Damaged at) holds is has = absurd (never_both file 0 at (registry_payloads slots events) holds has)
-no_fault file slots events (WrongNumber found) holds is has = absurd (has.1 (one_number file 0 found (registry_payloads slots events) (omega arith) holds has.0))
+no_fault file slots events (Damaged at) holds is has = absurd (never_both New file 0 at (registry_payloads slots events) holds has)
+no_fault file slots events OldFormat holds is has = absurd (never_old file 0 (registry_payloads slots events) holds has)
+no_fault file slots events (WrongNumber found) holds is has = absurd (has.1 (one_number New file 0 found (registry_payloads slots events) (omega arith) holds has.0))
 no_fault file slots events (OverLimit size limit) holds is has =
-    let same = ap payloads_length (one_list file 0 has.0 (registry_payloads slots events) has.1 holds) in
+    let same = ap payloads_length (one_list New file 0 has.0 (registry_payloads slots events) has.1 holds) in
     absurd (omega (arith, has.2, has.3, same, same_length slots events, fits slots events is))
 no_fault file slots events (BrokenEvent place) holds is has =
-    let same = one_list file 0 has.0 (registry_payloads slots events) has.1 holds in
+    let same = one_list New file 0 has.0 (registry_payloads slots events) has.1 holds in
     absurd (never_breaks slots events place is (subst (λ (payloads : List (List ℕ)). BreaksAtEvent payloads place) same has.3))
 
 -- the events that an image holds
@@ -101,7 +103,7 @@ pub found_again : (past : Past) (slots found_slots : ℕ) (events found : List E
     → Holds image 0 (registry_payloads found_slots found) → IsRegistry found_slots found → (found_slots ≡ slots) × ((found ≡ events) ⊎ (found ≡ with_one_more events doubt))
 found_again past slots found_slots events found doubt image stands left holds is =
     let there = held_in past slots events doubt image stands left in
-    let payloads = one_list image 0 (registry_payloads found_slots found) (registry_payloads slots there.held) holds there.holds in
+    let payloads = one_list New image 0 (registry_payloads found_slots found) (registry_payloads slots there.held) holds there.holds in
     let same = one_registry (registry_payloads slots there.held) found_slots slots found there.held (payloads, is) (refl, there.is) in
     (same.0, ⊎_elim (λ w. inl (same.1 ∙ w)) (λ w. inr (same.1 ∙ w)) there.which)
 

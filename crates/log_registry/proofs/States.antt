@@ -1,5 +1,6 @@
 -- What a registry keeps, call by call.
 use Rattle.std.proofs.Common.{◌≡◌, ℕ, ◌+◌, ◌^◌, ◌<◌, ◌≤◌, List, [], ◌∷◌, ◌++◌, length, Option, Some, None, sym, ◌∙◌, ap, subst, arith}
+use Rattle.log_base.specs.declared.limits.TheConstants.{PAYLOAD_FRAME}
 use Rattle.std.proofs.lemmas.List.{map-append}
 use Rattle.disk_model.specs.declared.disk.Disk.{Ghosts}
 use Rattle.disk_model.specs.Past.{EveryImage}
@@ -29,7 +30,7 @@ module _ {D : Type 0} {disks : Ghosts D} where
   each_holds journal slots events None stands told = (stands.1 told).each
   each_holds journal slots events (Some doubt) stands told = λ image left.
       let all = stands.1 told in
-      either (length_of journal) 0 (registry_payloads slots events) (event_text doubt) all.doubt_sized image all.sized (all.each image left)
+      either (length_of journal) 0 (registry_payloads slots events) (event_text doubt) all.doubt_sized all.few image all.sized (all.each image left)
 
   pub stands_for_registry : (journal : Journal D disks) (slots : ℕ) (events : List Event) (doubt : Option Event) → JournalKeepsEvents journal slots events doubt → disks.tells → StandsForRegistry (disks.past (disk_of journal)) slots events doubt
   stands_for_registry journal slots events doubt kept told = record { each = each_holds journal slots events doubt kept.stands told; without = kept.without; having = kept.having }
@@ -38,12 +39,12 @@ module _ {D : Type 0} {disks : Ghosts D} where
 
   module _ (journal new : Journal D disks) (slots : ℕ) (events : List Event) (doubt : Option Event) (kept : JournalKeepsEvents journal slots events doubt) where
     module _ (event : Event) (next : IsNextEvent slots events event) (payload : List ℕ) (payload_is : payload ≡ event_text event) where
-      pub room : length_of journal + 5 + length payload ≤ limit_of journal
+      pub room : length_of journal + PAYLOAD_FRAME + length payload ≤ limit_of journal
       unfolding length_with
       room = let fits = has_room slots events event next.1 in omega (arith, fits, kept.length_is, kept.limit_is, ap length payload_is)
 
       -- it was added
-      pub kept_done : StandsWith new 0 (registry_payloads slots events ++ payload ∷ []) None → length_of new ≡ length_of journal + (5 + length payload) → limit_of new ≡ limit_of journal → JournalKeepsEvents new slots (events ++ event ∷ []) None
+      pub kept_done : StandsWith new 0 (registry_payloads slots events ++ payload ∷ []) None → length_of new ≡ length_of journal + (PAYLOAD_FRAME + length payload) → limit_of new ≡ limit_of journal → JournalKeepsEvents new slots (events ++ event ∷ []) None
       unfolding length_with
       kept_done stands length_is limit_is =
           let more = registry-push slots events event kept.without next in

@@ -14,6 +14,7 @@ use Rattle.log_registry.specs.declared.fault.RegistryFault.TheVariants as regist
 abbrev pub journal_part : RegistryFault → Option JournalFault
 journal_part registry.Failed = Some journal.Failed
 journal_part (registry.Damaged at) = Some (journal.Damaged at)
+journal_part registry.OldFormat = Some journal.OldFormat
 journal_part (registry.WrongNumber found) = Some (journal.WrongNumber found)
 journal_part (registry.OverLimit length limit) = Some (journal.OverLimit length limit)
 journal_part registry.OutOfMemory = Some journal.OutOfMemory

@@ -1,12 +1,13 @@
 -- What a log keeps, call by call.
-use Rattle.std.proofs.Common.{◌≡◌, ◌≢◌, inl, ℕ, ◌+◌, ◌^◌, ◌<◌, ◌≤◌, true, false, List, [], ◌∷◌, ◌++◌, length, Option, Some, None, Result, Ok, Err, refl, sym, ◌∙◌, ap, subst, arith}
+use Rattle.std.proofs.Common.{◌≡◌, ◌≢◌, inl, ℕ, ◌+◌, ◌-◌, ◌^◌, ◌<◌, ◌≤◌, true, false, List, [], ◌∷◌, ◌++◌, length, Option, Some, None, Result, Ok, Err, refl, sym, ◌∙◌, ap, subst, arith}
+use Rattle.log_base.specs.declared.limits.TheConstants.{PAYLOAD_FRAME}
 use Rattle.std.specs.Prelude.{IsErr, is_err}
 use Rattle.std.proofs.lemmas.List.{length-map}
 use Rattle.disk_model.specs.declared.disk.Disk.{Ghosts}
 use Rattle.disk_model.specs.Past.{EveryImage}
 use Rattle.log_base.specs.Journals.{payloads_length}
 use Rattle.log_journal.specs.declared.journal.Journal.{Journal}
-use Rattle.log_journal.specs.StandsFor.{StandsFor, StandsInDoubt, length_of, limit_of, is_settled, disk_of}
+use Rattle.log_journal.specs.StandsFor.{StandsFor, StandsInDoubt, length_of, limit_of, count_of, is_settled, disk_of}
 use Rattle.log_journal.specs.Writing.{StandsWith, payloads_left, doubt_left, failing, longer_by}
 use Rattle.log_journal.specs.Written.{DiskWent, Written}
 use Rattle.log_journal.proofs.Disks.{went_by}
@@ -72,7 +73,12 @@ module _ {D : Type 0} {disks : Ghosts D} (number : ℕ) where
   each_holds journal chain None stands told = (stands.1 told).each
   each_holds journal chain (Some doubt) stands told = λ image left.
       let all = stands.1 told in
-      either (length_of journal) number (texts_of chain) doubt.text all.doubt_sized image all.sized (all.each image left)
+      either (length_of journal) number (texts_of chain) doubt.text all.doubt_sized all.few image all.sized (all.each image left)
+
+  -- its journal has a payload for each patch
+  pub counted : (journal : Journal D disks) (chain : List Patch) (doubt : Option Patch) → StandsWith journal number (texts_of chain) (patch_payload doubt) → count_of journal ≡ length chain
+  counted journal chain None stands = stands.2 ∙ length-map chain (λ patch. patch.text)
+  counted journal chain (Some doubt) stands = stands.2 ∙ length-map chain (λ patch. patch.text)
 
   -- a settling that failed had a doubt
   pub settling_fails : (journal : Journal D disks) (chain : List Patch) (doubt : Option Patch) (patch : Patch) → StandsWith journal number (texts_of chain) (patch_payload doubt) → is_settled journal ≡ false → accepted_by (Fails Settling) chain doubt patch ≡ (up chain doubt, Some DiskFault)
@@ -123,11 +129,14 @@ module _ {D : Type 0} {disks : Ghosts D} (journal new : Journal D disks) (entrie
         let log : IsSoundLog limits (patches_of (entries ++ entry ∷ [])) = subst (λ (ps : List Patch). IsSoundLog limits ps) (sym (patches_of-push entries entry)) more in
         entries_kept (entries ++ entry ∷ []) log.log.chain (omega (arith, log.log.few, kept.countable, length-map (entries ++ entry ∷ []) patch_of)) log.log.short
 
-    pub room : length_of journal + 5 + length payload ≤ limit_of journal
+    pub room : length_of journal + PAYLOAD_FRAME + length payload ≤ limit_of journal
     room = omega (arith, can.room, length-push chain patch, kept.length_is, kept.limit_is, ap length payload_is)
 
+    pub numbered : count_of journal < 2 ^ 32 - 1
+    numbered = omega (arith, counted number journal chain doubt kept.stands, can.place, kept.without.log.few, kept.countable)
+
     -- it was added
-    pub kept_done : (by : ℕ) → StandsWith new number (texts_of chain ++ payload ∷ []) None → length_of new ≡ length_of journal + (5 + length payload) → limit_of new ≡ limit_of journal
+    pub kept_done : (by : ℕ) → StandsWith new number (texts_of chain ++ payload ∷ []) None → length_of new ≡ length_of journal + (PAYLOAD_FRAME + length payload) → limit_of new ≡ limit_of journal
         → JournalKeepsChain new (patches_of (entries ++ record { patch = patch; by = by } ∷ [])) None number limits
     kept_done by stands length_is limit_is =
         let entry : Entry = record { patch = patch; by = by } in

@@ -15,6 +15,7 @@ use Rattle.patch_log.specs.Log.{AreChained}
 abbrev pub journal_part : LogFault → Option JournalFault
 journal_part log.Failed = Some journal.Failed
 journal_part (log.Damaged at) = Some (journal.Damaged at)
+journal_part log.OldFormat = Some journal.OldFormat
 journal_part (log.WrongNumber found) = Some (journal.WrongNumber found)
 journal_part (log.OverLimit length limit) = Some (journal.OverLimit length limit)
 journal_part log.OutOfMemory = Some journal.OutOfMemory

@@ -7,6 +7,8 @@ use log_journal::JournalFault;
 pub enum LogFault {
     Failed,
     Damaged { at: u64 },
+    /// The file is of the form before this one.
+    OldFormat,
     WrongNumber { found: u32 },
     OverLimit { length: u64, limit: u64 },
     OutOfMemory,
@@ -32,6 +34,7 @@ impl From<JournalFault> for LogFault {
         match fault {
             JournalFault::Failed => LogFault::Failed,
             JournalFault::Damaged { at } => LogFault::Damaged { at },
+            JournalFault::OldFormat => LogFault::OldFormat,
             JournalFault::WrongNumber { found } => LogFault::WrongNumber { found },
             JournalFault::OverLimit { length, limit } => LogFault::OverLimit { length, limit },
             JournalFault::OutOfMemory => LogFault::OutOfMemory,

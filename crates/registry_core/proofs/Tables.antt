@@ -20,7 +20,7 @@ use Rattle.registry_core.specs.Names.{name_fault, uri_fault}
 use Rattle.registry_core.specs.Sources.{sources, used, makes, after_event, named, renamed, source_named, source_with_id, HasSlot}
 use Rattle.registry_core.specs.Texts.{event_text, registry_length, length_with}
 use Rattle.registry_core.specs.Replies.{created, renamed_to, removal_answer, of_found, too_long, no_slot, create_reply, rename_reply, remove_reply, next_source}
-use Rattle.log_base.specs.declared.limits.TheConstants.{REGISTRY_LIMIT}
+use Rattle.log_base.specs.declared.limits.TheConstants.{PAYLOAD_FRAME, REGISTRY_LIMIT}
 use Rattle.registry_core.specs.Events.{events_of, IsSlot, IsNextEvent, IsMade, AreNext, IsRegistry}
 use Rattle.registry_core.specs.Tables.{SlotsRise, IsTable, ReadyEvent, IsReadyFor}
 
@@ -39,11 +39,11 @@ sources-push events event = folded [] events event
 
 pub length-push : (slots : ℕ) (events : List Event) (event : Event) → registry_length slots (events ++ event ∷ []) ≡ length_with (registry_length slots events) event
 unfolding length_with
-length-push slots events event = omega (arith, sum_by-append (λ (event : Event). 5 + length (event_text event)) events (event ∷ []))
+length-push slots events event = omega (arith, sum_by-append (λ (event : Event). PAYLOAD_FRAME + length (event_text event)) events (event ∷ []))
 
-pub longer_is : (bytes size : ℕ) (event : Event) → size ≡ length (event_text event) → bytes + 5 + size ≡ length_with bytes event
+pub longer_is : (bytes size : ℕ) (event : Event) → size ≡ length (event_text event) → bytes + PAYLOAD_FRAME + size ≡ length_with bytes event
 unfolding length_with
-longer_is bytes size event is = ap (λ (n : ℕ). bytes + 5 + n) is
+longer_is bytes size event is = ap (λ (n : ℕ). bytes + PAYLOAD_FRAME + n) is
 
 pub used-push : (events : List Event) (event : Event) → used (events ++ event ∷ []) ≡ used events + makes event
 used-push events event = omega (arith, sum_by-append makes events (event ∷ []))

@@ -2,6 +2,7 @@
 use Rattle.std.specs.Prelude.{ℕ, ◌+◌, List, [], ◌∷◌, ◌++◌, length, sum_by, map}
 use Rattle.std.specs.Fmt.{decimal}
 use Rattle.delta_base.specs.Ids.{text_of}
+use Rattle.log_base.specs.declared.limits.TheConstants.{EMPTY_JOURNAL, PAYLOAD_FRAME}
 use Rattle.log_base.specs.declared.source_info.SourceInfo.{SourceInfo}
 use Rattle.registry_core.specs.declared.event.Event.{Event}
 use Rattle.registry_core.specs.declared.event.Event.TheVariants.{Created, Renamed, Removed}
@@ -27,9 +28,9 @@ registry_payloads slots events = slots_payload slots ∷ map event_text events
 
 -- the length of a journal that holds the slots and the events
 abbrev pub registry_length : ℕ → List Event → ℕ
-registry_length slots events = 9 + (5 + length (slots_payload slots)) + sum_by
-    (λ event. 5 + length (event_text event)) events
+registry_length slots events = EMPTY_JOURNAL + (PAYLOAD_FRAME + length (slots_payload slots))
+    + sum_by (λ event. PAYLOAD_FRAME + length (event_text event)) events
 
 -- the length of a journal with one more event
 unfoldable pub length_with : ℕ → Event → ℕ
-length_with bytes event = bytes + 5 + length (event_text event)
+length_with bytes event = bytes + PAYLOAD_FRAME + length (event_text event)

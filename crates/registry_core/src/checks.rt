@@ -14,7 +14,7 @@ use crate::lookups::{place_named, place_with_id};
 use crate::names::{name_fault, uri_fault};
 use crate::texts::{created_length, removed_length, renamed_length};
 use delta_base::Id;
-use log_base::{FullKind, REGISTRY_LIMIT, SourceInfo};
+use log_base::{FullKind, PAYLOAD_FRAME, REGISTRY_LIMIT, SourceInfo};
 
 // The answer that shows the name of the source which has an id.
 fn id_taken(source: &SourceInfo) -> CreateAnswer
@@ -67,7 +67,7 @@ pub fn check_create(
             limit: u64::from(slots),
         });
     }
-    let longer = bytes + 5 + created_length(used + 1, name, uri);
+    let longer = bytes + PAYLOAD_FRAME + created_length(used + 1, name, uri);
     if longer > REGISTRY_LIMIT {
         return Some(CreateAnswer::Full {
             what: FullKind::Bytes,
@@ -105,7 +105,7 @@ pub fn check_rename(
             id: living[other].id,
         });
     }
-    let longer = bytes + 5 + renamed_length(living[place].slot, new_name);
+    let longer = bytes + PAYLOAD_FRAME + renamed_length(living[place].slot, new_name);
     if longer > REGISTRY_LIMIT {
         return Err(ChangeAnswer::Full {
             what: FullKind::Bytes,
@@ -130,7 +130,7 @@ pub fn check_remove(living: &[SourceInfo], bytes: u64, name: &[u8]) -> Result<us
     let Some(place) = place_named(living, name) else {
         return Err(ChangeAnswer::NoSuchName);
     };
-    let longer = bytes + 5 + removed_length(living[place].slot);
+    let longer = bytes + PAYLOAD_FRAME + removed_length(living[place].slot);
     if longer > REGISTRY_LIMIT {
         return Err(ChangeAnswer::Full {
             what: FullKind::Bytes,

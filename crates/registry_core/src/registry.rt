@@ -20,7 +20,7 @@ use crate::living::{living_after, with_name};
 use crate::lookups::{listed, place_in};
 use crate::texts::first_payload;
 use delta_base::{Id, Listing, OutOfMemory, Text};
-use log_base::{SourceInfo, Sources};
+use log_base::{EMPTY_JOURNAL, PAYLOAD_FRAME, SourceInfo, Sources};
 use std::alloc::Global;
 use std::marker::Model;
 
@@ -90,7 +90,9 @@ impl Registry {
             entries: Listing::new(alloc),
             living: Vec::new(alloc),
             made: 0,
-            bytes: 14 + first_payload(slots as u8, &mut [0; 4]).len() as u64,
+            bytes: EMPTY_JOURNAL
+                + PAYLOAD_FRAME
+                + first_payload(slots as u8, &mut [0; 4]).len() as u64,
         }
     }
 
@@ -287,7 +289,7 @@ impl Registry {
         Ok(Ready {
             event,
             living,
-            longer: self.bytes + 5 + payload.len() as u64,
+            longer: self.bytes + PAYLOAD_FRAME + payload.len() as u64,
         })
     }
 

@@ -4,13 +4,17 @@ use Rattle.std.specs.Prelude.{unwrap_or, IsErrAnd}
 use Rattle.std.proofs.lemmas.Grind.{flat_map-append}
 use Rattle.std.proofs.lemmas.List.{take_more}
 use Rattle.disk_model.specs.Shelf.{SameOthers}
+use Rattle.disk_model.specs.declared.shelf.ShelfFault.{ShelfFault}
+use Rattle.disk_model.specs.declared.shelf.ShelfFault.TheVariants as shelf
+use Rattle.log_registry.specs.declared.fault.RegistryFault.TheVariants as registry
+use Rattle.patch_log.specs.declared.fault.LogFault.TheVariants as log
 use Rattle.slot_files.specs.Files.{Files, IsKept, bytes_at}
 use Rattle.slot_files.proofs.Steps.{other_number, other_dir, at_or_not}
 use Rattle.slot_checks.specs.declared.fault.CheckFault.{CheckFault}
 use Rattle.slot_checks.specs.declared.lines.FileLine.{FileLine}
 use Rattle.slot_checks.specs.declared.lines.FileLine.TheVariants as line
 use Rattle.slot_checks.specs.Checks.{HasFileLines, StopsAtLog, StopsInLogs, CheckStops, at_log, AreKept}
-use Rattle.slot_checks.specs.Faults.{HasFileFault}
+use Rattle.slot_checks.specs.Faults.{of_shelf, HasFileFault, HasRegistryFileFault}
 use Rattle.slot_checks.specs.Lines.{line_text, lines_text}
 use Rattle.slot_checks.specs.Sound.{IsLogLine, HoldsRegistry, AreLogLines}
 
@@ -118,6 +122,15 @@ module _ (dir : List ℕ) (old mid new : Files) (first : AreKept dir 1 old mid) 
   kept_behind slots records report has kept =
       let count : slots + 1 ≡ length report = omega (arith, has.count, ap length has.report_is) in
       subst (λ (end : ℕ). AreKept dir end old new) count (all_twice dir 1 (slots + 1) old mid new (omega arith) first kept)
+
+-- a failure of the shelf and want of memory are free
+pub log_failed : (file : List ℕ) (number : ℕ) (fault : ShelfFault) → HasFileFault file number (of_shelf fault)
+log_failed file number shelf.Failed = (log.Failed, refl, tt)
+log_failed file number shelf.OutOfMemory = (log.OutOfMemory, refl, tt)
+
+pub registry_failed : (file : List ℕ) (fault : ShelfFault) → HasRegistryFileFault file (of_shelf fault)
+registry_failed file shelf.Failed = (registry.Failed, refl, tt)
+registry_failed file shelf.OutOfMemory = (registry.OutOfMemory, refl, tt)
 
 -- a fault that is handed on
 pub told_err : {T : Type 0} (P : CheckFault → Type 0) (result : Result T CheckFault) (fault : CheckFault) → IsErrAnd result (λ e. e ≡ fault) → P fault → IfErr result P

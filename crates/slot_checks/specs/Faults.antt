@@ -16,6 +16,7 @@ use Rattle.slot_checks.specs.declared.fault.CheckFault.TheVariants as check
 abbrev pub check_fault_of_registry : RegistryFault → CheckFault
 check_fault_of_registry registry.Failed = check.Failed
 check_fault_of_registry (registry.Damaged at) = check.Damaged 0 at
+check_fault_of_registry registry.OldFormat = check.OldFormat 0
 check_fault_of_registry (registry.WrongNumber found) = check.WrongNumber 0 found
 check_fault_of_registry (registry.OverLimit length limit) = check.OverLimit 0 length limit
 check_fault_of_registry (registry.BrokenEvent place) = check.BrokenEvent place
@@ -25,6 +26,7 @@ check_fault_of_registry registry.OutOfMemory = check.OutOfMemory
 abbrev pub check_fault_of_log : ℕ → LogFault → CheckFault
 check_fault_of_log file log.Failed = check.Failed
 check_fault_of_log file (log.Damaged at) = check.Damaged file at
+check_fault_of_log file log.OldFormat = check.OldFormat file
 check_fault_of_log file (log.WrongNumber found) = check.WrongNumber file found
 check_fault_of_log file (log.OverLimit length limit) = check.OverLimit file length limit
 check_fault_of_log file log.OutOfMemory = check.OutOfMemory

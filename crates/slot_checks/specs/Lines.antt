@@ -28,6 +28,8 @@ lines_text lines = flat_map line_text lines
 abbrev pub fault_line : CheckFault → List ℕ
 fault_line (check.Damaged file at) = codes "rdfdelta: file "
     ++ (decimal file ++ (codes ": byte " ++ (decimal at ++ (codes ": damaged" ++ 10 ∷ []))))
+fault_line (check.OldFormat file) =
+    codes "rdfdelta: file " ++ (decimal file ++ (codes ": old format" ++ 10 ∷ []))
 fault_line (check.WrongNumber file found) = codes "rdfdelta: file "
     ++ (decimal file ++ (codes ": wrong number " ++ (decimal found ++ 10 ∷ [])))
 fault_line (check.OverLimit file length limit) =

@@ -8,6 +8,8 @@ use patch_log::LogFault;
 #[derive(Clone, Copy, Debug, PartialEq, Eq)]
 pub enum CheckFault {
     Damaged { file: u32, at: u64 },
+    /// The file is of the form before this one.
+    OldFormat { file: u32 },
     WrongNumber { file: u32, found: u32 },
     OverLimit { file: u32, length: u64, limit: u64 },
     /// A log's first payloads, as many as the version says, are no chain of patches.
@@ -29,6 +31,7 @@ impl CheckFault {
         match fault {
             RegistryFault::Failed => CheckFault::Failed,
             RegistryFault::Damaged { at } => CheckFault::Damaged { file: 0, at },
+            RegistryFault::OldFormat => CheckFault::OldFormat { file: 0 },
             RegistryFault::WrongNumber { found } => CheckFault::WrongNumber { file: 0, found },
             RegistryFault::OverLimit { length, limit } => CheckFault::OverLimit {
                 file: 0,
@@ -47,6 +50,7 @@ impl CheckFault {
         match fault {
             LogFault::Failed => CheckFault::Failed,
             LogFault::Damaged { at } => CheckFault::Damaged { file, at },
+            LogFault::OldFormat => CheckFault::OldFormat { file },
             LogFault::WrongNumber { found } => CheckFault::WrongNumber { file, found },
             LogFault::OverLimit { length, limit } => CheckFault::OverLimit {
                 file,

@@ -13,6 +13,13 @@ fn damaged(alloc: Global, file: u32, at: u64) -> Result<Vec<u8>, OutOfMemory>
     Ok(text.into_bytes())
 }
 
+fn old_format(alloc: Global, file: u32) -> Result<Vec<u8>, OutOfMemory>
+    ensures { IfOk result (λ text. text.items ≡ fault_line (CheckFault.OldFormat file)) }
+{
+    let text = format!(in alloc; "rdfdelta: file {file}: old format\n")?;
+    Ok(text.into_bytes())
+}
+
 fn wrong_number(alloc: Global, file: u32, found: u32) -> Result<Vec<u8>, OutOfMemory>
     ensures { IfOk result (λ text. text.items ≡ fault_line (CheckFault.WrongNumber file found)) }
 {
@@ -56,6 +63,7 @@ pub fn fault_text(alloc: Global, fault: CheckFault) -> Result<Vec<u8>, OutOfMemo
 {
     match fault {
         CheckFault::Damaged { file, at } => damaged(alloc, file, at),
+        CheckFault::OldFormat { file } => old_format(alloc, file),
         CheckFault::WrongNumber { file, found } => wrong_number(alloc, file, found),
         CheckFault::OverLimit {
             file,

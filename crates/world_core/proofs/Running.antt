@@ -6,6 +6,7 @@ use Rattle.disk_model.specs.Past.{Past, began, reads, MayLeave, EveryImage, imag
 use Rattle.disk_model.specs.Plan.{plan_past, plan_reads_left}
 use Rattle.disk_model.specs.declared.plan.PlanDisk.{PlanDisk}
 use Rattle.log_journal.specs.File.{Holds, header}
+use Rattle.log_journal.specs.declared.form.Form.TheVariants.{New}
 use Rattle.log_journal.proofs.Steps.{started}
 use Rattle.log_base.specs.declared.phase.Phase.TheVariants.{Settling, Body, Gate}
 use Rattle.log_base.specs.declared.limits.LogLimits.{LogLimits}
@@ -103,7 +104,7 @@ pub no_fault : (number : ℕ) (disk : PlanDisk) (chain : List Patch) (fault : Lo
 no_fault number disk chain fault keeps fits has = no_fault_again (plan_past disk) number LOG_LIMITS chain None (reads (plan_past disk)) fault fits keeps (plan_reads_left disk) has
 
 -- a new journal keeps no patches
-pub new_keeps : (number : ℕ) (disk : PlanDisk) → EveryImage (plan_past disk) (λ image. image ≡ header number ++ 0 ∷ []) → KeepsChain number disk []
+pub new_keeps : (number : ℕ) (disk : PlanDisk) → EveryImage (plan_past disk) (λ image. image ≡ header New number ++ 0 ∷ []) → KeepsChain number disk []
 new_keeps number disk every =
     let log : IsSoundLog LOG_LIMITS [] = record { log = record { chain = record { follow = tt; differ = tt }; few = omega arith; room = omega arith; short = tt }; sound = tt } in
     record { each = (started (plan_past disk) number every).each; without = log; having = log }

@@ -88,6 +88,7 @@ no_zone_fault disk taken fault.Failed keeps has = inl refl
 no_zone_fault disk taken fault.TermsFull keeps has = inr (inl refl)
 no_zone_fault disk taken fault.OutOfMemory keeps has = inr (inr refl)
 no_zone_fault disk taken (fault.Damaged at) keeps has = absurd (⊎_elim (λ is. cc) (λ is. cc) (no_fault ZONE_NUMBER disk taken (log.Damaged at) keeps (omega arith) has))
+no_zone_fault disk taken fault.OldFormat keeps has = absurd (⊎_elim (λ is. cc) (λ is. cc) (no_fault ZONE_NUMBER disk taken log.OldFormat keeps (omega arith) has))
 no_zone_fault disk taken (fault.WrongNumber found) keeps has = absurd (⊎_elim (λ is. cc) (λ is. cc) (no_fault ZONE_NUMBER disk taken (log.WrongNumber found) keeps (omega arith) has))
 no_zone_fault disk taken (fault.OverLimit size limit) keeps has = absurd (⊎_elim (λ is. cc) (λ is. cc) (no_fault ZONE_NUMBER disk taken (log.OverLimit size limit) keeps (omega arith) has))
 no_zone_fault disk taken (fault.BrokenChain version) keeps has = absurd (⊎_elim (λ is. cc) (λ is. cc) (no_fault ZONE_NUMBER disk taken (log.BrokenChain version) keeps (omega arith) has))

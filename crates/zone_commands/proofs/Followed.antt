@@ -117,7 +117,7 @@ module _ {D : Type 0} where
       ⊎_elim
       (λ without. inl (record { holds = without; chain = within }))
       (λ having_it. inr (doubtful end zone stands.settled_is well, (doubt, record { holds = subst (λ (ts : List (List ℕ)). Holds (reads past) zone_number ts) (sym (texts-push taken doubt)) having_it; chain = having })))
-      (either (file_length zone.brief.ids zone.brief.bytes) zone_number (checked_texts taken) doubt.text all.doubt_sized (reads past) all.sized (all.each (reads past) left))
+      (either (file_length zone.brief.ids zone.brief.bytes) zone_number (checked_texts taken) doubt.text all.doubt_sized all.few (reads past) all.sized (all.each (reads past) left))
 
 -- what a disk reads is left at its last moment
 pub read_last : (P : List ℕ → Type 0) (old new : Past) → LeavesOnly P old new → MayLeave new (reads new) → P (reads new)

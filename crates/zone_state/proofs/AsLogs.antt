@@ -117,7 +117,7 @@ zone_log tells past zone taken (Some doubt) stands told =
     let all = stands.on_disk told in
     record {
       each = λ image left. subst (λ (ts : List (List ℕ)). HoldsWithOrWithout zone_number ts doubt.text image) (sym (bare_texts taken))
-          (either (file_length zone.brief.ids zone.brief.bytes) zone_number (checked_texts taken) doubt.text all.doubt_sized image all.sized (all.each image left));
+          (either (file_length zone.brief.ids zone.brief.bytes) zone_number (checked_texts taken) doubt.text all.doubt_sized all.few image all.sized (all.each image left));
       without = taken_log zone.limits taken stands.without;
       having = subst (λ (ps : List Patch). IsSoundLog zone.limits ps) (bare-push taken doubt) (taken_log zone.limits (with_one_more taken (Some doubt)) stands.having);
     }

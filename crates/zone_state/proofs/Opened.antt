@@ -1,10 +1,10 @@
 -- A zone as it was opened.
-use Rattle.std.proofs.Common.{◌≡◌, ℕ, ◌^◌, ◌<◌, ◌≤◌, List, map, None, refl, sym, ◌∙◌, ap, subst, arith}
+use Rattle.std.proofs.Common.{◌≡◌, ℕ, ◌^◌, ◌<◌, ◌≤◌, List, length, map, None, refl, sym, ◌∙◌, ap, subst, arith}
 use Rattle.std.proofs.lemmas.List.{length-map}
 use Rattle.disk_model.specs.declared.disk.Disk.{Ghosts}
 use Rattle.log_journal.specs.declared.journal.Journal.{Journal}
 use Rattle.log_base.specs.Journals.{payloads_length}
-use Rattle.log_journal.specs.StandsFor.{StandsFor, length_of, limit_of, disk_of}
+use Rattle.log_journal.specs.StandsFor.{StandsFor, length_of, limit_of, count_of, disk_of}
 use Rattle.log_base.specs.declared.limits.LogLimits.{LogLimits}
 use Rattle.chain_core.specs.Patches.{texts_of, journal_length}
 use Rattle.patch_meaning.specs.Checked.{CheckedPatch}
@@ -17,7 +17,7 @@ use Rattle.zone_state.specs.Zone.{AreTakenPatches, StandsForZone, zone_number}
 use Rattle.zone_state.specs.State.{brief_in, view_of, IsZoneKept}
 use Rattle.zone_state.proofs.Growing.{bare_texts, bare_length}
 use Rattle.zone_state.proofs.Readings.{sound_checked}
-use Rattle.zone_state.proofs.Standing.{zone_stands}
+use Rattle.zone_state.proofs.Standing.{counted_by, zone_stands}
 
 texts_are : (found : List (List ℕ)) (most : ℕ) (taken : List CheckedPatch) → AreFoundPatches found most taken → texts_of (map bare taken) ≡ found
 texts_are found most taken are = bare_texts taken ∙ are.texts_are
@@ -49,5 +49,8 @@ module _ {D : Type 0} {disks : Ghosts D} (journal : Journal D disks) (kept : Kep
   pub zone_opened : StandsForZone disks.tells (disks.past (disk_of journal)) (view_of journal kept limits) taken None
   zone_opened = zone_stands journal (view_of journal kept limits) taken None refl length_opened brief taken_opened taken_opened (subst (λ (ts : List (List ℕ)). StandsFor journal zone_number ts) (sym are.texts_are) stands)
 
+  counted_opened : count_of journal ≡ length kept.ids.items
+  counted_opened = counted_by journal taken None (subst (λ (ts : List (List ℕ)). StandsFor journal zone_number ts) (sym are.texts_are) stands) ∙ sym (ap (λ (b : Brief). length b.ids) brief)
+
   pub kept_opened : limit_of journal ≡ limits.bytes → limits.patches < 2 ^ 32 → kept.contents.staged ≡ None → IsZoneKept journal kept limits
-  kept_opened limit_is countable unstaged = record { length_is = length_opened; limit_is = limit_is; countable = countable; unstaged = unstaged; stands = (taken, None, zone_opened) }
+  kept_opened limit_is countable unstaged = record { counted = counted_opened; length_is = length_opened; limit_is = limit_is; countable = countable; unstaged = unstaged; stands = (taken, None, zone_opened) }

@@ -1,6 +1,7 @@
 -- What a zone stands for, when a write was done or failed.
 use Rattle.std.proofs.Common.{◌≡◌, inl, ℕ, zero, suc, ◌+◌, true, false, List, [], ◌∷◌, ◌++◌, map, length, Option, Some, None, refl, sym, ◌∙◌, ap, subst}
 use Rattle.std.specs.Prelude.{is_none}
+use Rattle.std.proofs.lemmas.List.{length-map}
 use Rattle.disk_model.specs.declared.disk.Disk.{Ghosts}
 use Rattle.disk_model.specs.Past.{Past, LeavesOnly}
 use Rattle.disk_model.proofs.Moments.{starts}
@@ -9,7 +10,7 @@ use Rattle.log_base.specs.declared.phase.Phase.{Phase}
 use Rattle.log_base.specs.declared.phase.Phase.TheVariants.{Settling, Body, Gate}
 use Rattle.log_journal.specs.declared.journal.Journal.{Journal}
 use Rattle.log_journal.specs.Journal.{HoldsAll, InDoubt}
-use Rattle.log_journal.specs.StandsFor.{length_of, is_settled, disk_of}
+use Rattle.log_journal.specs.StandsFor.{length_of, count_of, is_settled, disk_of}
 use Rattle.log_journal.specs.Writing.{StandsWith, HoldsDuring, payloads_left, doubt_left, LeavesEither}
 use Rattle.log_journal.proofs.Steps.{either}
 use Rattle.log_base.specs.declared.limits.LogLimits.{LogLimits}
@@ -18,7 +19,7 @@ use Rattle.chain_core.specs.Stay.{fate_of, fate_by_syncs, fate_by_plan}
 use Rattle.patch_meaning.specs.Checked.{CheckedPatch, checked_texts}
 use Rattle.patch_log.specs.Log.{bare, payloads_of, patch_payload}
 use Rattle.zone_state.specs.declared.answer.TakeAnswer.TheVariants.{Applied}
-use Rattle.zone_state.specs.Brief.{brief_of, file_length}
+use Rattle.zone_state.specs.Brief.{Brief, brief_of, id_taken, file_length}
 use Rattle.zone_state.specs.Taking.{taken_by, taken_then}
 use Rattle.zone_state.specs.Zone.{ZoneView, AreTakenPatches, StandsForZone, zone_number, doubt_of, text_in, zone_point}
 use Rattle.zone_state.specs.Stay.{answer_by}
@@ -79,14 +80,22 @@ having_after limits (Some Gate) version taken doubt patch less having more = mor
 
 -- ---- the journal and the zone
 
+texts_counted : (taken : List CheckedPatch) → length (brief_of taken).ids ≡ length (checked_texts taken)
+texts_counted taken = length-map taken id_taken ∙ sym (length-map taken (λ patch. patch.text))
+
 module _ {D : Type 0} {disks : Ghosts D} where
+  -- there is an id for each payload of its journal
+  pub counted_by : (journal : Journal D disks) (taken : List CheckedPatch) (doubt : Option CheckedPatch) → StandsWith journal zone_number (checked_texts taken) (text_in doubt) → count_of journal ≡ length (brief_of taken).ids
+  counted_by journal taken None stands = stands.2 ∙ sym (texts_counted taken)
+  counted_by journal taken (Some doubt) stands = stands.2 ∙ sym (texts_counted taken)
+
   -- the journal of a zone stands for the texts
-  pub journal_stands : (journal : Journal D disks) (zone : ZoneView D) (taken : List CheckedPatch) (doubt : Option CheckedPatch) → zone.settled ≡ is_settled journal → length_of journal ≡ file_length zone.brief.ids zone.brief.bytes
+  pub journal_stands : (journal : Journal D disks) (zone : ZoneView D) (taken : List CheckedPatch) (doubt : Option CheckedPatch) → zone.settled ≡ is_settled journal → count_of journal ≡ length zone.brief.ids → length_of journal ≡ file_length zone.brief.ids zone.brief.bytes
       → StandsForZone disks.tells (disks.past (disk_of journal)) zone taken doubt → StandsWith journal zone_number (checked_texts taken) (text_in doubt)
-  journal_stands journal zone taken None settled is stands =
-      (sym settled ∙ stands.settled_is, λ told. subst (λ (end : ℕ). HoldsAll (disks.past (disk_of journal)) end zone_number (checked_texts taken)) (sym is) (stands.on_disk told))
-  journal_stands journal zone taken (Some doubt) settled is stands =
-      (sym settled ∙ stands.settled_is, λ told. subst (λ (end : ℕ). InDoubt (disks.past (disk_of journal)) end zone_number (checked_texts taken) doubt.text) (sym is) (stands.on_disk told))
+  journal_stands journal zone taken None settled counted is stands =
+      (sym settled ∙ stands.settled_is, λ told. subst (λ (end : ℕ). HoldsAll (disks.past (disk_of journal)) end zone_number (checked_texts taken)) (sym is) (stands.on_disk told), counted ∙ ap (λ (brief : Brief). length brief.ids) stands.brief_is ∙ texts_counted taken)
+  journal_stands journal zone taken (Some doubt) settled counted is stands =
+      (sym settled ∙ stands.settled_is, λ told. subst (λ (end : ℕ). InDoubt (disks.past (disk_of journal)) end zone_number (checked_texts taken) doubt.text) (sym is) (stands.on_disk told), counted ∙ ap (λ (brief : Brief). length brief.ids) stands.brief_is ∙ texts_counted taken)
 
   -- and the other way round
   pub zone_stands : (journal : Journal D disks) (zone : ZoneView D) (taken : List CheckedPatch) (doubt : Option CheckedPatch) → zone.settled ≡ is_settled journal → length_of journal ≡ file_length zone.brief.ids zone.brief.bytes
@@ -131,4 +140,4 @@ pub still : {D : Type 0} (disks : Ghosts D) (zone : ZoneView D) (taken : List Ch
 still disks zone taken None text stands tells = starts (HoldsDuring zone_number (checked_texts taken) None text) (disks.past zone.disk) (λ image left. let all = stands.on_disk tells in inl (all.each image left))
 still disks zone taken (Some doubt) text stands tells = starts (HoldsDuring zone_number (checked_texts taken) (Some doubt.text) text) (disks.past zone.disk) (λ image left.
     let all = stands.on_disk tells in
-    inl (either (file_length zone.brief.ids zone.brief.bytes) zone_number (checked_texts taken) doubt.text all.doubt_sized image all.sized (all.each image left)))
+    inl (either (file_length zone.brief.ids zone.brief.bytes) zone_number (checked_texts taken) doubt.text all.doubt_sized all.few image all.sized (all.each image left)))

@@ -1,12 +1,12 @@
 -- What a zone stands for behind the write of its next patch.
-use Rattle.std.proofs.Common.{◌≡◌, inl, inr, ℕ, ◌+◌, ◌≤◌, ◌<◌, ◌^◌, false, List, [], ◌∷◌, ◌++◌, map, length, Option, Some, None, refl, sym, ◌∙◌, ap, subst, arith, length-append}
+use Rattle.std.proofs.Common.{◌≡◌, inl, inr, ℕ, ◌+◌, ◌-◌, ◌≤◌, ◌<◌, ◌^◌, false, List, [], ◌∷◌, ◌++◌, map, length, Option, Some, None, refl, sym, ◌∙◌, ap, subst, arith, length-append}
 use Rattle.std.specs.Prelude.{is_none}
 use Rattle.std.proofs.lemmas.List.{length-map}
 use Rattle.disk_model.specs.declared.disk.Disk.{Ghosts}
 use Rattle.log_base.specs.declared.phase.Phase.{Phase}
 use Rattle.log_base.specs.declared.phase.Phase.TheVariants.{Settling}
 use Rattle.log_journal.specs.declared.journal.Journal.{Journal}
-use Rattle.log_journal.specs.StandsFor.{length_of, limit_of, is_settled, disk_of}
+use Rattle.log_journal.specs.StandsFor.{length_of, limit_of, count_of, is_settled, disk_of}
 use Rattle.log_journal.specs.Writing.{StandsWith, payloads_left, doubt_left, longer_by}
 use Rattle.log_journal.specs.Written.{Written}
 use Rattle.log_base.specs.declared.limits.LogLimits.{LogLimits}
@@ -27,7 +27,7 @@ use Rattle.zone_state.specs.State.{brief_in, view_of, IsZoneKept}
 use Rattle.zone_state.specs.Stay.{decided, answer_by, TookOne}
 use Rattle.zone_state.proofs.Decisions.{CanBeTaken, can_be_taken, IsRefused}
 use Rattle.zone_state.proofs.Growing.{brief-push, taken-push}
-use Rattle.zone_state.proofs.Standing.{taken_after, outcome_is, without_after, having_after, journal_stands, zone_stands, stands_after}
+use Rattle.zone_state.proofs.Standing.{taken_after, outcome_is, without_after, having_after, counted_by, journal_stands, zone_stands, stands_after}
 use Rattle.delta_base.specs.declared.id.Id.{Id}
 use Rattle.rdf_terms.specs.Dataset.{apply}
 
@@ -51,7 +51,7 @@ module _ {D : Type 0} {disks : Ghosts D} (journal : Journal D disks) (kept : Kep
 
   -- before a write
   pub journal_is : (taken : List CheckedPatch) (doubt : Option CheckedPatch) → StandsForZone disks.tells (disks.past (disk_of journal)) (view_of journal kept limits) taken doubt → StandsWith journal zone_number (checked_texts taken) (text_in doubt)
-  journal_is taken doubt stands = journal_stands journal (view_of journal kept limits) taken doubt refl is.length_is stands
+  journal_is taken doubt stands = journal_stands journal (view_of journal kept limits) taken doubt refl is.counted is.length_is stands
 
   -- another journal that stands for the same
   module _ (new : Journal D disks) (stands : (number : ℕ) (payloads : List (List ℕ)) (doubt : Option (List ℕ)) → StandsWith journal number payloads doubt → StandsWith new number payloads doubt) (length_is : length_of new ≡ length_of journal)
@@ -70,6 +70,7 @@ module _ {D : Type 0} {disks : Ghosts D} (journal : Journal D disks) (kept : Kep
     kept_still =
         let before = is.stands.2 in
         record {
+          counted = counted_by new is.stands.0 is.stands.1 there ∙ sym (ap (λ (brief : Brief). length brief.ids) before.brief_is);
           length_is = length_is ∙ is.length_is;
           limit_is = limit_is ∙ is.limit_is;
           countable = is.countable;
@@ -93,6 +94,9 @@ module _ {D : Type 0} {disks : Ghosts D} (journal : Journal D disks) (kept : Kep
 
     pub countable_more : length kept.ids.items + 1 < 2 ^ 32
     countable_more = let differs = can.place in omega (arith, few, differs, is.countable)
+
+    pub numbered : count_of journal < 2 ^ 32 - 1
+    numbered = omega (arith, is.counted, countable_more)
 
     pub room : (payload : List ℕ) → payload ≡ patch.text → length_of journal + PAYLOAD_FRAME + length payload ≤ limit_of journal
     room payload payload_is = omega (arith, can.room, is.length_is, is.limit_is, ap length payload_is)
@@ -127,8 +131,18 @@ module _ {D : Type 0} {disks : Ghosts D} (journal : Journal D disks) (kept : Kep
           zone_stands new (view_of new kept_new limits) (taken_after end version taken patch) (doubt_left end doubt patch) refl length_written (brief_is ∙ brief_written end taken stands.brief_is)
           (without_after limits end version taken patch stands.without longer) (having_after limits end version taken doubt patch stands.without stands.having longer) (stands_after end version new taken doubt patch carried)
 
+      counted_written : count_of new ≡ length kept_new.ids.items
+      counted_written =
+          let taken = is.stands.0 in
+          let doubt = is.stands.1 in
+          let before = is.stands.2 in
+          let carried = subst (λ (text : List ℕ). StandsWith new zone_number (payloads_left end (checked_texts taken) text) (doubt_left end (text_in doubt) text)) payload_is (carries zone_number (checked_texts taken) (text_in doubt) (journal_is taken doubt before)) in
+          counted_by new (taken_after end version taken patch) (doubt_left end doubt patch) (stands_after end version new taken doubt patch carried)
+          ∙ sym (ap (λ (brief : Brief). length brief.ids) (brief_is ∙ brief_written end taken before.brief_is))
+
       pub kept_written : limit_of new ≡ limit_of journal → kept_new.contents.staged ≡ None → IsZoneKept new kept_new limits
       kept_written limit unstaged = record {
+        counted = counted_written;
         length_is = length_written;
         limit_is = limit ∙ is.limit_is;
         countable = is.countable;

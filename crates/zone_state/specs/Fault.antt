@@ -17,6 +17,7 @@ use Rattle.zone_state.specs.Zone.{zone_number, AreTakenPatches}
 abbrev pub log_part : ZoneFault → Option LogFault
 log_part zone.Failed = Some log.Failed
 log_part (zone.Damaged at) = Some (log.Damaged at)
+log_part zone.OldFormat = Some log.OldFormat
 log_part (zone.WrongNumber found) = Some (log.WrongNumber found)
 log_part (zone.OverLimit length limit) = Some (log.OverLimit length limit)
 log_part zone.OutOfMemory = Some log.OutOfMemory

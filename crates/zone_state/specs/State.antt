@@ -1,8 +1,8 @@
 -- What a zone keeps.
-use Rattle.std.specs.Prelude.{◌≡◌, ◌^◌, ◌<◌, List, Option, None}
+use Rattle.std.specs.Prelude.{◌≡◌, ◌^◌, ◌<◌, List, Option, None, length}
 use Rattle.disk_model.specs.declared.disk.Disk.{Ghosts}
 use Rattle.log_journal.specs.declared.journal.Journal.{Journal}
-use Rattle.log_journal.specs.StandsFor.{length_of, limit_of, is_settled, disk_of}
+use Rattle.log_journal.specs.StandsFor.{length_of, limit_of, count_of, is_settled, disk_of}
 use Rattle.log_base.specs.declared.limits.LogLimits.{LogLimits}
 use Rattle.patch_meaning.specs.Checked.{CheckedPatch}
 use Rattle.zone_state.specs.declared.kept.Kept.{Kept}
@@ -23,10 +23,11 @@ view_of journal kept limits = record {
   disk = disk_of journal;
 }
 
--- the journal's length and limit are those of the patches taken, nothing is staged, and the zone
+-- the journal's count, length and limit are those of the patches taken, nothing is staged, and the zone
 -- stands for some patches
 pub record IsZoneKept {D : Type 0} {disks : Ghosts D} (journal : Journal D disks) (kept : Kept)
     (limits : LogLimits) : Type 0 where
+  pub counted : count_of journal ≡ length kept.ids.items
   pub length_is : length_of journal ≡ file_length kept.ids.items kept.bytes
   pub limit_is : limit_of journal ≡ limits.bytes
   pub countable : limits.patches < 2 ^ 32

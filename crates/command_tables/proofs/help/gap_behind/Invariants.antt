@@ -1,4 +1,4 @@
-use Rattle.std.proofs.Common.{◌≡◌, ◌-◌, ◌+◌, ◌∷◌, ◌++◌, length, map, take}
+use Rattle.std.proofs.Common.{◌≡◌, ◌-◌, length, map, take}
 use Rattle.command_tables.specs.Names.{words_text}
 use Rattle.command_tables.proofs.help.gap_behind.Given as goal
 

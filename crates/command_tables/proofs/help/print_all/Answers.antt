@@ -1,4 +1,4 @@
-use Rattle.std.proofs.Common.{List, ℕ, ◌++◌, ◌+◌, drop, ap, subst, arith, ◌∙◌}
+use Rattle.std.proofs.Common.{List, ℕ, ◌+◌, drop, ap, subst, arith}
 use Rattle.std.specs.Borrow.{Bor}
 use Rattle.std.proofs.lemmas.List.{drop_all, drop_more}
 use Rattle.sink_writing.specs.Writing.{joined}

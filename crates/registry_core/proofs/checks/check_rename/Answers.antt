@@ -5,7 +5,7 @@ use Rattle.registry_core.specs.declared.event.Event.TheVariants.{Renamed}
 use Rattle.registry_core.specs.declared.answer.ChangeAnswer.TheVariants.{Full}
 use Rattle.registry_core.specs.Checks.{IsRefusedChange}
 use Rattle.registry_core.specs.Replies.{renamed_to, of_found}
-use Rattle.log_base.specs.declared.limits.TheConstants.{REGISTRY_LIMIT}
+use Rattle.log_base.specs.declared.limits.TheConstants.{PAYLOAD_FRAME, REGISTRY_LIMIT}
 use Rattle.registry_core.specs.Sources.{source_named}
 use Rattle.registry_core.specs.Texts.{event_text, length_with}
 use Rattle.registry_core.proofs.Checked.{refusal, rename_no_room, can_rename}
@@ -19,7 +19,7 @@ returns-then-longer-gt-REGISTRY_LIMIT-clause-refused c =
     let source = c.index-living-place.result in
     let longer = length_with c.args.bytes (Renamed source.slot c.args.new_name.now) in
     let found : source_named c.args.name.now living ≡ Some source = c.in-Some.ensures.some.1 ∙ get_there living c.in-Some.place source c.in-Some.ensures.some.0 c.index-living-place.is in
-    let have : c.args.bytes + 5 + c.renamed_length.result ≡ longer = longer_is c.args.bytes c.renamed_length.result (Renamed source.slot c.args.new_name.now) (c.renamed_length.ensures.value ∙ ap (λ (s : SourceInfo). length (event_text (Renamed s.slot c.args.new_name.now))) (sym c.index-living-place.is)) in
+    let have : c.args.bytes + PAYLOAD_FRAME + c.renamed_length.result ≡ longer = longer_is c.args.bytes c.renamed_length.result (Renamed source.slot c.args.new_name.now) (c.renamed_length.ensures.value ∙ ap (λ (s : SourceInfo). length (event_text (Renamed s.slot c.args.new_name.now))) (sym c.index-living-place.is)) in
     let above : REGISTRY_LIMIT < longer = subst (λ (n : ℕ). REGISTRY_LIMIT < n) have c.if-longer-gt-REGISTRY_LIMIT.true in
     let full = rename_no_room living c.args.bytes c.args.name.now c.args.new_name.now source found (sym c.in_default-name_fault.ensures.value) c.in_default-place_named.ensures.none above in
     subst (λ (n : ℕ). IsRefusedChange (of_found (renamed_to living c.args.bytes c.args.new_name.now) (source_named c.args.name.now living)) (Full Bytes n REGISTRY_LIMIT)) (sym have) (refusal _ _ full refl)
@@ -30,6 +30,6 @@ returns-clause-ok c =
     let source = c.index-living-place.result in
     let longer = length_with c.args.bytes (Renamed source.slot c.args.new_name.now) in
     let there = get_there living c.in-Some.place source c.in-Some.ensures.some.0 c.index-living-place.is in
-    let have : c.args.bytes + 5 + c.renamed_length.result ≡ longer = longer_is c.args.bytes c.renamed_length.result (Renamed source.slot c.args.new_name.now) (c.renamed_length.ensures.value ∙ ap (λ (s : SourceInfo). length (event_text (Renamed s.slot c.args.new_name.now))) (sym c.index-living-place.is)) in
+    let have : c.args.bytes + PAYLOAD_FRAME + c.renamed_length.result ≡ longer = longer_is c.args.bytes c.renamed_length.result (Renamed source.slot c.args.new_name.now) (c.renamed_length.ensures.value ∙ ap (λ (s : SourceInfo). length (event_text (Renamed s.slot c.args.new_name.now))) (sym c.index-living-place.is)) in
     let within : longer ≤ REGISTRY_LIMIT = subst (λ (n : ℕ). n ≤ REGISTRY_LIMIT) have c.if-longer-gt-REGISTRY_LIMIT.false in
     (source, there, can_rename living c.args.bytes c.args.name.now c.args.new_name.now source (c.in-Some.ensures.some.1 ∙ there) (sym c.in_default-name_fault.ensures.value) c.in_default-place_named.ensures.none within)

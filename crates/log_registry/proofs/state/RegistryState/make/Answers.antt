@@ -14,8 +14,8 @@ use Rattle.log_registry.proofs.state.RegistryState.make.Goals as goal
 pub returns-in_default : goal.returns-in_default
 returns-in_default g c = rw (← c.self.view_is, c.in_default.ensures.same) (wanted g.D.Disk _ _ c.args.by (stands_for_registry c.self.inside.journal _ _ _ c.self.invariant))
 
-pub write-requires : goal.write-requires
-write-requires g c =
+pub write-requires-clause-room : goal.write-requires-clause-room
+write-requires-clause-room g c =
     let s = c.self.inside in
     room s.journal s.journal _ _ s.doubt c.self.invariant c.args.event (rw (← c.self.view_is) at c.requires.next) (payload_of c.in-Ok.block) c.in-Ok.ensures.block
 

@@ -4,14 +4,18 @@ use Rattle.log_base.specs.declared.phase.Phase.{Phase}
 use Rattle.log_base.specs.declared.phase.Phase.TheVariants.{Settling, Body, Gate}
 use Rattle.chain_core.specs.Patches.{patches_of, texts_of}
 use Rattle.patch_log.specs.Log.{patch_payload}
-use Rattle.patch_log.proofs.States.{settling_fails, room, chain_kept, kept_done, kept_in_doubt, appended_done, appended_failed}
+use Rattle.patch_log.proofs.States.{settling_fails, room, numbered, chain_kept, kept_done, kept_in_doubt, appended_done, appended_failed}
 use Rattle.patch_log.proofs.state.LogState.write_accepted.Goals as goal
 
 pub write-requires : goal.write-requires
 write-requires g c =
     let log = c.self.inside in
     let patch = c.ready.inside.patch in
-    room log.journal log.journal log.chain.items log.doubt log.number log.limits c.self.invariant patch c.args.version (sym (rw (← c.self.view_is, ← c.ready.view_is) at c.requires.accept)) c.ready.invariant.sound (payload_of c.ready.inside.block) c.ready.invariant.block_is
+    let accept = sym (rw (← c.self.view_is, ← c.ready.view_is) at c.requires.accept) in
+    record {
+      room = room log.journal log.journal log.chain.items log.doubt log.number log.limits c.self.invariant patch c.args.version accept c.ready.invariant.sound (payload_of c.ready.inside.block) c.ready.invariant.block_is;
+      few = numbered log.journal log.journal log.chain.items log.doubt log.number log.limits c.self.invariant patch c.args.version accept c.ready.invariant.sound (payload_of c.ready.inside.block) c.ready.invariant.block_is;
+    }
 
 pub push-requires-clause-kept : goal.push-requires-clause-kept
 push-requires-clause-kept g c =

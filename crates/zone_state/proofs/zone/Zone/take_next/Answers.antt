@@ -14,13 +14,16 @@ use Rattle.zone_state.specs.Zone.{zone_number, text_in}
 use Rattle.zone_state.specs.State.{view_of}
 use Rattle.zone_state.proofs.Decisions.{IsDecided, decided, is_refused}
 use Rattle.zone_state.proofs.Readings.{meets_none}
-use Rattle.zone_state.proofs.Written.{brief_counted, brief_same, room, is_new, countable_more, journal_is, kept_written, took_written, took_nothing}
+use Rattle.zone_state.proofs.Written.{brief_counted, brief_same, room, numbered, is_new, countable_more, journal_is, kept_written, took_written, took_nothing}
 use Rattle.zone_state.proofs.zone.Zone.take_next.Goals as goal
 
 pub write-requires : goal.write-requires
 write-requires g c =
     let zone = c.self.inside in
-    room zone.journal zone.kept zone.limits c.self.invariant c.args.patch.now c.in-Applied.version c.in-Applied.ensures (payload_of c.in-Ok.block) c.in-Ok.ensures.block
+    record {
+      room = room zone.journal zone.kept zone.limits c.self.invariant c.args.patch.now c.in-Applied.version c.in-Applied.ensures (payload_of c.in-Ok.block) c.in-Ok.ensures.block;
+      few = numbered zone.journal zone.kept zone.limits c.self.invariant c.args.patch.now c.in-Applied.version c.in-Applied.ensures;
+    }
 
 pub commit_staged-requires-clause-new : goal.commit_staged-requires-clause-new
 commit_staged-requires-clause-new g c =
