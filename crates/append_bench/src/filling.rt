@@ -6,7 +6,8 @@ ghost use Rattle.delta_base.specs.Outside.{Rose};
 ghost use Rattle.disk_model.specs.Past.{reads};
 ghost use Rattle.disk_model.specs.Shelf.{SameOthers};
 ghost use Rattle.log_journal.specs.File.{file_of};
-ghost use Rattle.log_journal.specs.StandsFor.{StandsFor, is_settled, length_of, limit_of, disk_of};
+ghost use Rattle.log_journal.specs.StandsFor.{StandsFor, is_settled, length_of, limit_of};
+ghost use Rattle.log_journal.specs.StandsFor.{count_of, disk_of};
 ghost use Rattle.log_journal.specs.Payload.{payload_of};
 ghost use Rattle.slot_files.specs.Files.{bytes_at, KeepsFull};
 ghost use Rattle.append_bench.specs.Filled.{FillsFirst, AreFull};
@@ -42,6 +43,7 @@ fn append_all<D: Disk>(journal: &mut Journal<D>, block: &Block, count: u32) -> R
     requires room { length_of journal.old
         + count * (PAYLOAD_FRAME + length (payload_of block.now))
         ≤ limit_of journal.old }
+    requires few { count_of journal.old + count < 2 ^ 32 }
     ensures ok { OnOk result ((number : ℕ) (payloads : List (List ℕ))
         → StandsFor journal.old number payloads
         → StandsFor journal.new number (payloads ++ replicate count (payload_of block.now))) }

@@ -7,20 +7,15 @@ use delta_base::{Bytes, Calls, MemLink, OutOfMemory, Text};
 use delta_client::MemDial;
 use disk_model::MemDisk;
 use follower::{SyncEnd, sync};
-use log_base::LogLimits;
+use log_base::LOG_LIMITS;
 use patch_meaning::check_patch;
 use std::alloc::Global;
 use std::test::Fail;
 use worked_rows::disk_of;
 use zone_state::Zone;
 
-pub(crate) const LIMITS: LogLimits = LogLimits {
-    patches: 65_536,
-    bytes: 67_108_864,
-};
-
 /// The file of a zone that took nothing.
-const EMPTY: &[u8] = b"RDJ1\0\0\x03\xe8\0";
+const EMPTY: &[u8] = b"RDJ2\0\0\x03\xe8\0";
 
 /// Five patches, each behind the one before it.
 static PATCHES: [&[u8]; 5] = [
@@ -166,7 +161,7 @@ pub(crate) fn new_zone(
     failing: &[u64],
 ) -> Result<Option<Zone<MemDisk>>, OutOfMemory> {
     let disk = disk_of(alloc, EMPTY, failing)?;
-    match Zone::open_on(alloc, disk, LIMITS) {
+    match Zone::open_on(alloc, disk, LOG_LIMITS) {
         Ok(zone) => Ok(Some(zone)),
         Err(_) => Ok(None),
     }

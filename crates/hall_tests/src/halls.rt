@@ -5,15 +5,10 @@ ghost use Rattle.hall_logs.specs.Slots.{AreAllHallPasses};
 
 use disk_model::{Disk, MemDisk};
 use hall_logs::{HallLogs, LogsPass, LogsRefusal, Rooms};
-use log_base::LogLimits;
+use log_base::LOG_LIMITS;
 use std::alloc::Global;
 use std::test::Fail;
 use worked_rows::disk_of;
-
-pub(crate) const LIMITS: LogLimits = LogLimits {
-    patches: 65_536,
-    bytes: 67_108_864,
-};
 
 /// A hall that two passes share, with the passes and the room for what comes back.
 pub(crate) type Shared<D> = (HallLogs<D>, Vec<LogsPass<D>>, Rooms<D>);
@@ -23,8 +18,8 @@ pub(crate) fn two_disks(alloc: Global, failing: &[u64]) -> Result<Vec<MemDisk>, 
     ensures { IfOk result (λ disks. vec_len disks ≡ 2) }
 {
     let mut disks = Vec::new(alloc);
-    disks.push(disk_of(alloc, b"RDJ1\0\0\0\x01\0", &[])?)?;
-    disks.push(disk_of(alloc, b"RDJ1\0\0\0\x02\0", failing)?)?;
+    disks.push(disk_of(alloc, b"RDJ2\0\0\0\x01\0", &[])?)?;
+    disks.push(disk_of(alloc, b"RDJ2\0\0\0\x02\0", failing)?)?;
     Ok(disks)
 }
 
@@ -35,7 +30,7 @@ pub(crate) fn open<D: Disk>(alloc: Global, disks: Vec<D>) -> Result<Shared<D>, L
     ensures passes { IfOk result (λ r. AreAllHallPasses D.Disk r.0.logs 2 r.1.items) }
     ensures rooms { IfOk result (λ r. HasRoom r.0 r.2) }
 {
-    HallLogs::open_on(alloc, disks, LIMITS, 2)
+    HallLogs::open_on(alloc, disks, LOG_LIMITS, 2)
 }
 
 /// The two disks, once all passes are back.

@@ -3,10 +3,11 @@ ghost use Rattle.std.specs.Prelude.{◌≡◌, ◌<◌, length, IfOk, vec_len};
 ghost use Rattle.hall_logs.specs.Slots.{AreAllHallPasses};
 
 use crate::calls::{append_by, version_by};
-use crate::halls::{LIMITS, close, open, two_disks};
+use crate::halls::{close, open, two_disks};
 use chain_core::LogAnswer;
 use disk_model::{Disk, MemDisk};
 use hall_logs::{HallLogs, LogsPass, LogsRefusal};
+use log_base::LOG_LIMITS;
 use patch_log::LogFault;
 use patch_meaning::{Checked, check_patch};
 use std::alloc::Global;
@@ -85,12 +86,12 @@ fn each_slot_has_its_log(rt: HostRuntime) -> Result<(), Fail> {
     Ok(())
 }
 
-// An opening makes three calls, so the first call of an append fails.
+// An opening makes four calls, so the first call of an append fails.
 #[test]
 fn a_pass_has_its_own_faults(rt: HostRuntime) -> Result<(), Fail> {
     let alloc = rt.alloc();
     let first = check_patch(alloc, FIRST)?;
-    let Ok((hall, mut passes, rooms)) = open(alloc, two_disks(alloc, &[3])?) else {
+    let Ok((hall, mut passes, rooms)) = open(alloc, two_disks(alloc, &[4])?) else {
         return Err(Fail::from("not opened"));
     };
     let answer = append_by(&rt, &hall, &mut passes, 0, 2, &first);
@@ -112,9 +113,9 @@ fn three_disks(alloc: Global) -> Result<Vec<MemDisk>, Fail>
     ensures { IfOk result (λ disks. vec_len disks ≡ 3) }
 {
     let mut disks = Vec::new(alloc);
-    disks.push(disk_of(alloc, b"RDJ1\0\0\0\x01\0", &[])?)?;
+    disks.push(disk_of(alloc, b"RDJ2\0\0\0\x01\0", &[])?)?;
     disks.push(disk_of(alloc, b"RDJ2", &[])?)?;
-    disks.push(disk_of(alloc, b"RDJ1\0\0\0\x03\0", &[])?)?;
+    disks.push(disk_of(alloc, b"RDJ2\0\0\0\x03\0", &[])?)?;
     Ok(disks)
 }
 
@@ -122,9 +123,9 @@ fn three_disks(alloc: Global) -> Result<Vec<MemDisk>, Fail>
 fn are_as_they_were(rt: &impl Abort, disks: &[MemDisk]) -> Result<(), Fail> {
     assert!(rt; disks.len() == 3);
     for (disk, bytes) in disks.iter().zip([
-        b"RDJ1\0\0\0\x01\0".as_slice(),
+        b"RDJ2\0\0\0\x01\0".as_slice(),
         b"RDJ2".as_slice(),
-        b"RDJ1\0\0\0\x03\0".as_slice(),
+        b"RDJ2\0\0\0\x03\0".as_slice(),
     ]) {
         assert!(rt; disk.image(1)?.as_slice() == bytes);
     }
@@ -135,7 +136,8 @@ fn are_as_they_were(rt: &impl Abort, disks: &[MemDisk]) -> Result<(), Fail> {
 fn a_refusal_hands_all_disks_back(rt: HostRuntime) -> Result<(), Fail> {
     let alloc = rt.alloc();
     let disks = three_disks(alloc)?;
-    let Err(LogsRefusal { disks, file, fault }) = HallLogs::open_on(alloc, disks, LIMITS, 2) else {
+    let Err(LogsRefusal { disks, file, fault }) = HallLogs::open_on(alloc, disks, LOG_LIMITS, 2)
+    else {
         return Err(Fail::from("opened"));
     };
     assert!(rt; file == 2 && fault == LogFault::Damaged { at: 0 });

@@ -2,10 +2,10 @@
 ghost use Rattle.std.specs.Prelude.{◌≡◌, ◌≤◌, length, IfOk};
 ghost use Rattle.log_base.specs.declared.limits.TheConstants.{PATCH_LIMIT};
 
-use crate::tables::{LIMITS, Place, is};
+use crate::tables::{Place, is};
 use chain_core::{Chain, ChainFault, ChainTest, Decision, LogAnswer, Lookup, Patch, decide};
 use delta_base::{Bytes, Id, OutOfMemory};
-use log_base::{ChainLink, FullKind, LogLimits, PATCH_LIMIT};
+use log_base::{ChainLink, FullKind, LOG_BYTES, LOG_LIMITS, LogLimits, PATCH_LIMIT};
 use patch_log::IndexedChain;
 use std::alloc::Global;
 use std::process::Abort;
@@ -38,7 +38,7 @@ fn one(alloc: Global) -> Result<Chain, OutOfMemory>
     Ok(chain)
 }
 
-// A chain of two patches, whose journal has 281 bytes.
+// A chain of two patches, whose journal has 289 bytes.
 fn two(alloc: Global) -> Result<Chain, OutOfMemory>
     ensures { IfOk result (λ chain. length chain.items ≡ 2) }
 {
@@ -69,7 +69,7 @@ fn two(alloc: Global) -> Result<Chain, OutOfMemory>
 fn has_two(rt: &impl Abort, chain: &Chain) {
     assert!(rt; chain.version() == 2);
     assert!(rt; chain.head() == Some(U2));
-    assert!(rt; chain.journal_length() == 281);
+    assert!(rt; chain.journal_length() == 289);
     assert!(rt; chain.entry(1).is_some_and(|entry| entry.by == 7));
     assert!(rt;
         chain
@@ -108,7 +108,7 @@ static ROWS: [Row; 9] = [
         id: U1,
         prev: None,
         text: FIRST,
-        limits: LIMITS,
+        limits: LOG_LIMITS,
         decision: Decision::Accept { version: 1 },
     },
     Row {
@@ -117,7 +117,7 @@ static ROWS: [Row; 9] = [
         id: U2,
         prev: Some(U1),
         text: SECOND,
-        limits: LIMITS,
+        limits: LOG_LIMITS,
         decision: Decision::Accept { version: 2 },
     },
     Row {
@@ -126,7 +126,7 @@ static ROWS: [Row; 9] = [
         id: U1,
         prev: None,
         text: FIRST,
-        limits: LIMITS,
+        limits: LOG_LIMITS,
         decision: Decision::Known {
             version: 1,
             same: true,
@@ -138,7 +138,7 @@ static ROWS: [Row; 9] = [
         id: U2,
         prev: Some(U9),
         text: FIRST,
-        limits: LIMITS,
+        limits: LOG_LIMITS,
         decision: Decision::Known {
             version: 2,
             same: false,
@@ -150,7 +150,7 @@ static ROWS: [Row; 9] = [
         id: U3,
         prev: Some(U1),
         text: SECOND,
-        limits: LIMITS,
+        limits: LOG_LIMITS,
         decision: Decision::Conflict {
             version: 2,
             head: Some(U2),
@@ -163,7 +163,7 @@ static ROWS: [Row; 9] = [
         id: U2,
         prev: Some(U1),
         text: SECOND,
-        limits: LIMITS,
+        limits: LOG_LIMITS,
         decision: Decision::Conflict {
             version: 0,
             head: None,
@@ -176,7 +176,7 @@ static ROWS: [Row; 9] = [
         id: U9,
         prev: None,
         text: FIRST,
-        limits: LIMITS,
+        limits: LOG_LIMITS,
         decision: Decision::Conflict {
             version: 1,
             head: Some(U1),
@@ -191,7 +191,7 @@ static ROWS: [Row; 9] = [
         text: SECOND,
         limits: LogLimits {
             patches: 2,
-            bytes: 67_108_864,
+            bytes: LOG_BYTES,
         },
         decision: Decision::Full {
             what: FullKind::Patches,
@@ -207,12 +207,12 @@ static ROWS: [Row; 9] = [
         text: SECOND,
         limits: LogLimits {
             patches: 3,
-            bytes: 443,
+            bytes: 455,
         },
         decision: Decision::Full {
             what: FullKind::Bytes,
-            have: 444,
-            limit: 443,
+            have: 456,
+            limit: 455,
         },
     },
 ];
@@ -324,7 +324,7 @@ fn finds_two(rt: &impl Abort, log: &IndexedChain)
         head: Some(Id(2)),
         prev_version: Some(1),
     };
-    assert!(rt; decide(log, &LIMITS, link(3, Some(9)), b"three") == conflict);
+    assert!(rt; decide(log, &LOG_LIMITS, link(3, Some(9)), b"three") == conflict);
 }
 
 #[test]

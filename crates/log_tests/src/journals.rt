@@ -49,58 +49,76 @@ fn fault_of(alloc: Global, disk: MemDisk, limit: u64) -> Option<JournalFault> {
     }
 }
 
-/// A file that is opened within 14 bytes, and its fault.
+/// A file that is opened within 18 bytes, and its fault.
 type Opening = (&'static [u8], JournalFault);
 
-static OPENINGS: [Opening; 13] = [
-    (b"RDJ1\0\0\0\x01\x01", JournalFault::Damaged { at: 9 }),
-    (
-        b"RDJ1\0\0\0\x01\x01\0\0\0\x02a",
-        JournalFault::Damaged { at: 13 },
-    ),
-    (b"RDJ1\0\0\0\x01", JournalFault::Damaged { at: 8 }),
-    (b"RDJ1\0\0\0\x02", JournalFault::WrongNumber { found: 2 }),
+static OPENINGS: [Opening; 20] = [
+    (b"RDJ2\0\0\0\x01", JournalFault::Damaged { at: 8 }),
+    (b"RDJ2\0\0\0\x02", JournalFault::WrongNumber { found: 2 }),
+    (b"RDJ2\0\0\0", JournalFault::Damaged { at: 0 }),
+    (b"RDJ3\0\0\0\x01\0", JournalFault::Damaged { at: 0 }),
+    (b"", JournalFault::Damaged { at: 0 }),
+    (b"RDJ2\0\0\0\x02\0", JournalFault::WrongNumber { found: 2 }),
+    // The form before this one, with any number.
+    (b"RDJ1\0\0\0\x01\x07", JournalFault::OldFormat),
+    (b"RDJ1\0\0\0\x02\0", JournalFault::OldFormat),
+    (b"RDJ1\0\0\0\x01", JournalFault::OldFormat),
     (b"RDJ1\0\0\0", JournalFault::Damaged { at: 0 }),
-    // A length that breaks off, a payload that does, and a whole one without the gate behind it.
-    (b"RDJ1\0\0\0\x01\x01\0\0\0", JournalFault::Damaged { at: 9 }),
+    // A running number that breaks off, and one that isn't the next.
+    (b"RDJ2\0\0\0\x01\x01", JournalFault::Damaged { at: 9 }),
+    (b"RDJ2\0\0\0\x01\x01\0\0\0", JournalFault::Damaged { at: 9 }),
     (
-        b"RDJ1\0\0\0\x01\x01\0\0\0\0",
-        JournalFault::Damaged { at: 13 },
+        b"RDJ2\0\0\0\x01\x01\0\0\0\x02",
+        JournalFault::Damaged { at: 9 },
     ),
     (
-        b"RDJ1\0\0\0\x01\x01\0\0\0\x02ab",
-        JournalFault::Damaged { at: 15 },
-    ),
-    (
-        b"RDJ1\0\0\0\x01\x01\0\0\0\x01a\x01\0\0\0\x01",
+        b"RDJ2\0\0\0\x01\x01\0\0\0\x01\0\0\0\x01a\x01\0\0\0\x01\0\0\0\0\0",
         JournalFault::Damaged { at: 19 },
     ),
-    (b"RDJ2\0\0\0\x01\0", JournalFault::Damaged { at: 0 }),
-    (b"", JournalFault::Damaged { at: 0 }),
-    (b"RDJ1\0\0\0\x02\0", JournalFault::WrongNumber { found: 2 }),
+    // A length that breaks off, a payload that does, and a whole one without the gate behind it.
     (
-        b"RDJ1\0\0\0\x01\x01\0\0\0\x01a\0",
+        b"RDJ2\0\0\0\x01\x01\0\0\0\x01\0\0\0",
+        JournalFault::Damaged { at: 13 },
+    ),
+    (
+        b"RDJ2\0\0\0\x01\x01\0\0\0\x01\0\0\0\x02a",
+        JournalFault::Damaged { at: 17 },
+    ),
+    (
+        b"RDJ2\0\0\0\x01\x01\0\0\0\x01\0\0\0\0",
+        JournalFault::Damaged { at: 17 },
+    ),
+    (
+        b"RDJ2\0\0\0\x01\x01\0\0\0\x01\0\0\0\x02ab",
+        JournalFault::Damaged { at: 19 },
+    ),
+    (
+        b"RDJ2\0\0\0\x01\x01\0\0\0\x01\0\0\0\x01a\x01\0\0\0\x02\0\0\0\x01",
+        JournalFault::Damaged { at: 27 },
+    ),
+    (
+        b"RDJ2\0\0\0\x01\x01\0\0\0\x01\0\0\0\x01a\0",
         JournalFault::OverLimit {
-            length: 15,
-            limit: 14,
+            length: 19,
+            limit: 18,
         },
     ),
 ];
 
 /// A call of an opening that fails, and the fault then. A sync, a look at the length, the header,
-/// and twice two reads: call 7 is none of the opening's.
-static READS: [(u64, Option<JournalFault>); 2] = [(6, Some(JournalFault::Failed)), (7, None)];
+/// the first gate, and twice three reads: call 10 is none of the opening's.
+static READS: [(u64, Option<JournalFault>); 2] = [(9, Some(JournalFault::Failed)), (10, None)];
 
 #[test]
 fn each_fault_of_a_file_has_its_place(rt: HostRuntime) -> Result<(), Fail> {
     let alloc = rt.alloc();
-    let shows = "a file within 14 bytes";
+    let shows = "a file within 18 bytes";
     for (step, (image, fault)) in OPENINGS.iter().enumerate() {
-        let found = fault_of(alloc, disk_of(alloc, image, &[])?, 14);
+        let found = fault_of(alloc, disk_of(alloc, image, &[])?, 18);
         is(&rt, Place { shows, step }, &found, &Some(*fault));
     }
-    let image = b"RDJ1\0\0\0\x01\x01\0\0\0\x01a\x01\0\0\0\x02bc\0tail";
-    let shows = "each payload is read in two";
+    let image = b"RDJ2\0\0\0\x01\x01\0\0\0\x01\0\0\0\x01a\x01\0\0\0\x02\0\0\0\x02bc\0tail";
+    let shows = "each payload is read in three";
     for (step, (call, fault)) in READS.iter().enumerate() {
         let found = fault_of(alloc, disk_of(alloc, image, &[*call])?, 1000);
         is(&rt, Place { shows, step }, &found, fault);
@@ -133,7 +151,7 @@ struct Case {
     /// The file that is opened, or none where one is made of an empty disk.
     file: Option<&'static [u8]>,
     /// The numbers of the calls that fail. The opening of a file without payloads makes a sync,
-    /// a look at the length and a read, and an append four calls.
+    /// a look at the length and two reads, and an append five calls.
     failing: &'static [u64],
     steps: &'static [Step],
     faults: u64,
@@ -143,13 +161,13 @@ struct Case {
 static CASES: [Case; 5] = [
     Case {
         shows: "a gate of seven is shut",
-        file: Some(b"RDJ1\0\0\0\x01\x07"),
+        file: Some(b"RDJ2\0\0\0\x01\x07"),
         failing: &[],
         steps: &[
             Step::Length(9),
             Step::IsSettled(true),
-            Step::HasRoom(986, true),
-            Step::HasRoom(987, false),
+            Step::HasRoom(982, true),
+            Step::HasRoom(983, false),
         ],
         faults: 0,
         left: &[Left::Payloads(0, 0)],
@@ -157,7 +175,7 @@ static CASES: [Case; 5] = [
     Case {
         shows: "a failed gate is in doubt until it is settled",
         file: Some(EMPTY),
-        failing: &[6],
+        failing: &[8],
         steps: &[
             Step::Append(Err(AppendFault::Failed)),
             Step::Length(9),
@@ -174,7 +192,7 @@ static CASES: [Case; 5] = [
     Case {
         shows: "a crash in doubt leaves the payload or not",
         file: Some(EMPTY),
-        failing: &[6],
+        failing: &[8],
         steps: &[
             Step::Append(Err(AppendFault::Failed)),
             Step::Length(9),
@@ -187,13 +205,13 @@ static CASES: [Case; 5] = [
     Case {
         shows: "a write settles first",
         file: Some(EMPTY),
-        failing: &[6, 7, 11],
+        failing: &[8, 9, 14],
         steps: &[
             Step::Write(Err(Phase::Gate)),
             Step::Write(Err(Phase::Settling)),
             Step::Write(Err(Phase::Body)),
             Step::Write(Ok(())),
-            Step::Length(17),
+            Step::Length(21),
         ],
         faults: 3,
         left: &[],
@@ -204,7 +222,7 @@ static CASES: [Case; 5] = [
         failing: &[],
         steps: &[Step::Length(9), Step::Append(Ok(()))],
         faults: 0,
-        left: &[Left::File(0, b"RDJ1\0\0\0\x01\x01\0\0\0\x03abc\0")],
+        left: &[Left::File(0, b"RDJ2\0\0\0\x01\x01\0\0\0\x01\0\0\0\x03abc\0")],
     },
 ];
 
@@ -226,22 +244,31 @@ fn journal_of(alloc: Global, case: &Case) -> Result<Journal<MemDisk>, Fail> {
     }
 }
 
-// What an append of `abc` answers, or a write of it.
-fn append(alloc: Global, journal: &mut Journal<MemDisk>) -> Result<Result<(), AppendFault>, Fail> {
-    if !journal.is_settled() {
-        return Err(Fail::from("not settled"));
+/// What an append of a short payload answers.
+pub fn append_to(
+    alloc: Global,
+    journal: &mut Journal<MemDisk>,
+    payload: &[u8],
+) -> Result<Result<(), AppendFault>, Fail> {
+    if !journal.is_settled() || journal.count() == u32::MAX || payload.len() > 1000 {
+        return Err(Fail::from("not settled, full or long"));
     }
-    let block = make_block(alloc, b"abc")?;
+    let block = make_block(alloc, payload)?;
     let answer = journal.append(&block);
     drop(block);
     Ok(answer)
+}
+
+// What an append of `abc` answers, or a write of it.
+fn append(alloc: Global, journal: &mut Journal<MemDisk>) -> Result<Result<(), AppendFault>, Fail> {
+    append_to(alloc, journal, b"abc")
 }
 
 fn write_abc<D: Disk + Drop>(
     alloc: Global,
     journal: &mut Journal<D>,
 ) -> Result<Result<(), Phase>, Fail> {
-    if !journal.room_for(3) {
+    if !journal.room_for(3) || journal.count() == u32::MAX {
         return Err(Fail::from("no room"));
     }
     let block = make_block(alloc, b"abc")?;
@@ -434,7 +461,7 @@ fn stops(rt: &impl Abort, alloc: Global, fuse: u64) -> Result<(), Fail> {
 
 #[test]
 fn each_stop_leaves_what_was_acknowledged(rt: HostRuntime) -> Result<(), Fail> {
-    for fuse in 3..45u64 {
+    for fuse in 4..56u64 {
         stops(&rt, rt.alloc(), fuse)?;
     }
     Ok(())

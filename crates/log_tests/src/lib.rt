@@ -9,9 +9,15 @@ mod disks;
 #[cfg(test)]
 mod files;
 #[cfg(test)]
+mod forms;
+#[cfg(test)]
+mod fronts;
+#[cfg(test)]
 mod journals;
 #[cfg(test)]
 mod logs;
+#[cfg(test)]
+mod rewrites;
 #[cfg(test)]
 mod shelves;
 #[cfg(test)]

@@ -1,9 +1,9 @@
 //! Logs over disks in memory: what they answer, and what a crash leaves of them.
-use crate::tables::{EMPTY, LIMITS, Place, is, no_calls};
+use crate::tables::{EMPTY, Place, is, no_calls};
 use chain_core::{Decision, LogAnswer};
 use delta_base::{Bytes, Id, OutOfMemory};
 use disk_model::MemDisk;
-use log_base::{FullKind, LogLimits};
+use log_base::{FullKind, LOG_LIMITS, LogLimits};
 use patch_log::{LogFault, LogState, Ready, append, append_all, append_made};
 use patch_meaning::{Checked, check_patch};
 use std::alloc::Global;
@@ -62,8 +62,8 @@ struct Case {
     shows: &'static str,
     /// What is in the log when it is opened.
     payloads: &'static [&'static [u8]],
-    /// The numbers of the calls that fail. The opening of a log without patches makes three calls,
-    /// and an append four.
+    /// The numbers of the calls that fail. The opening of a log without patches makes four calls,
+    /// and an append five.
     failing: &'static [u64],
     limits: LogLimits,
     steps: &'static [Step],
@@ -72,14 +72,14 @@ struct Case {
 }
 
 /// The call of a new log's second append that is the gate's sync.
-const SECOND_GATE: u64 = 10;
+const SECOND_GATE: u64 = 13;
 
 static CASES: [Case; 12] = [
     Case {
         shows: "a log takes the next patch alone",
         payloads: &[],
         failing: &[],
-        limits: LIMITS,
+        limits: LOG_LIMITS,
         steps: &[
             Step::Add(
                 SECOND,
@@ -136,7 +136,7 @@ static CASES: [Case; 12] = [
         shows: "who brought a patch is kept until a crash",
         payloads: &[],
         failing: &[],
-        limits: LIMITS,
+        limits: LOG_LIMITS,
         steps: &[
             Step::Add(FIRST, LogAnswer::Accepted { version: 1 }),
             Step::BroughtBy(7),
@@ -171,7 +171,7 @@ static CASES: [Case; 12] = [
         failing: &[],
         limits: LogLimits {
             patches: 100,
-            bytes: 389,
+            bytes: 401,
         },
         steps: &[
             Step::Add(FIRST, LogAnswer::Accepted { version: 1 }),
@@ -180,8 +180,8 @@ static CASES: [Case; 12] = [
                 BEHIND_SECOND,
                 Decision::Full {
                     what: FullKind::Bytes,
-                    have: 390,
-                    limit: 389,
+                    have: 402,
+                    limit: 401,
                 },
             ),
         ],
@@ -193,7 +193,7 @@ static CASES: [Case; 12] = [
         failing: &[],
         limits: LogLimits {
             patches: 100,
-            bytes: 390,
+            bytes: 402,
         },
         steps: &[
             Step::Add(FIRST, LogAnswer::Accepted { version: 1 }),
@@ -206,7 +206,7 @@ static CASES: [Case; 12] = [
         shows: "a gate left in doubt may stand open",
         payloads: &[],
         failing: &[SECOND_GATE],
-        limits: LIMITS,
+        limits: LOG_LIMITS,
         steps: &[
             Step::Add(FIRST, LogAnswer::Accepted { version: 1 }),
             Step::Add(SECOND, LogAnswer::DiskFault),
@@ -220,7 +220,7 @@ static CASES: [Case; 12] = [
         shows: "what is settled makes way",
         payloads: &[],
         failing: &[SECOND_GATE],
-        limits: LIMITS,
+        limits: LOG_LIMITS,
         steps: &[
             Step::Add(FIRST, LogAnswer::Accepted { version: 1 }),
             Step::Add(SECOND, LogAnswer::DiskFault),
@@ -232,7 +232,7 @@ static CASES: [Case; 12] = [
         shows: "a patch is made ready without a log",
         payloads: &[],
         failing: &[],
-        limits: LIMITS,
+        limits: LOG_LIMITS,
         steps: &[
             Step::Ready(FIRST, LogAnswer::Accepted { version: 1 }),
             Step::BroughtBy(5),
@@ -244,7 +244,7 @@ static CASES: [Case; 12] = [
         shows: "want of memory is told of a patch that could be accepted",
         payloads: &[],
         failing: &[],
-        limits: LIMITS,
+        limits: LOG_LIMITS,
         steps: &[
             Step::Want(FIRST, LogAnswer::OutOfMemory),
             Step::Want(
@@ -270,7 +270,7 @@ static CASES: [Case; 12] = [
         shows: "many appends are answered in order",
         payloads: &[],
         failing: &[],
-        limits: LIMITS,
+        limits: LOG_LIMITS,
         steps: &[Step::All(
             &[FIRST, SECOND, FIRST],
             &[
@@ -284,12 +284,12 @@ static CASES: [Case; 12] = [
         )],
         left: &[],
     },
-    // The first sync of the second append fails, and its patch is sent again.
+    // The write of the second append's gate fails, and its patch is sent again.
     Case {
         shows: "a fault is told once",
         payloads: &[],
-        failing: &[9],
-        limits: LIMITS,
+        failing: &[12],
+        limits: LOG_LIMITS,
         steps: &[
             Step::All(
                 &[FIRST, SECOND, SECOND],
@@ -307,7 +307,7 @@ static CASES: [Case; 12] = [
         shows: "ids that fall are found after an opening",
         payloads: &[NO_PREVIOUS, BEHIND_NINTH],
         failing: &[],
-        limits: LIMITS,
+        limits: LOG_LIMITS,
         steps: &[
             Step::Has(ID9, Some(1)),
             Step::Has(ID4, Some(2)),
@@ -447,7 +447,7 @@ fn goes_through(
 fn log_left(alloc: Global, disk: &MemDisk, choice: u64) -> Result<LogState<MemDisk>, Fail> {
     let image = disk.image(choice)?;
     let left = MemDisk::from_image(alloc, image, no_calls(alloc))?;
-    open(alloc, left, LIMITS)
+    open(alloc, left, LOG_LIMITS)
 }
 
 /// Its version and head, and the pass that brought its first patch.
@@ -499,7 +499,7 @@ enum File {
 }
 
 /// A file, the numbers of the calls that fail, and why it isn't opened.
-static REFUSED: [(File, &[u64], LogFault); 10] = [
+static REFUSED: [(File, &[u64], LogFault); 12] = [
     (
         File::Payloads(&[FIRST, SECOND, THIRD]),
         &[],
@@ -521,22 +521,24 @@ static REFUSED: [(File, &[u64], LogFault); 10] = [
         LogFault::BrokenChain { version: 2 },
     ),
     (
-        File::Payloads(&[&[b'#'; 987], b"X"]),
+        File::Payloads(&[&[b'#'; 983], b"X"]),
         &[],
         LogFault::OverLimit {
-            length: 1007,
+            length: 1011,
             limit: 1000,
         },
     ),
+    (File::Image(b"RDJ1\0\0\0\x01\0"), &[], LogFault::OldFormat),
     (
-        File::Image(b"RDJ1\0\0\0\x02\0"),
+        File::Image(b"RDJ2\0\0\0\x02\0"),
         &[],
         LogFault::WrongNumber { found: 2 },
     ),
-    (File::Image(b"RDJ1"), &[], LogFault::Damaged { at: 0 }),
+    (File::Image(b"RDJ2"), &[], LogFault::Damaged { at: 0 }),
     (File::Image(EMPTY), &[0], LogFault::Failed),
     (File::Image(EMPTY), &[1], LogFault::Failed),
     (File::Image(EMPTY), &[2], LogFault::Failed),
+    (File::Image(EMPTY), &[3], LogFault::Failed),
 ];
 
 fn file_on(alloc: Global, file: &File, failing: &[u64]) -> Result<MemDisk, Fail> {
@@ -577,13 +579,11 @@ fn each_fault_of_a_file_is_told(rt: HostRuntime) -> Result<(), Fail> {
 
 // The patch of this number, behind the one before it.
 fn numbered(alloc: Global, number: u32) -> Result<Checked, Fail> {
-    let mut text = format!(in alloc;
-        "H id <uuid:00000000-0000-4000-8000-0000000000{number:02}> .\n"
-    )?;
+    let mut text = format!(in alloc; "H id <uuid:00000000-0000-4000-8000-{number:012}> .\n")?;
     if number > 11 {
         let before = number - 1;
         text.push_str(format!(in alloc;
-            "H prev <uuid:00000000-0000-4000-8000-0000000000{before:02}> .\n"
+            "H prev <uuid:00000000-0000-4000-8000-{before:012}> .\n"
         )?.as_str())?;
     }
     Ok(check_patch(alloc, text.as_bytes())?)
@@ -604,7 +604,7 @@ fn append_each(log: &mut LogState<MemDisk>, patches: &[Checked]) -> u32 {
 // and the disk.
 fn run_ten(alloc: Global, patches: &[Checked], fuse: u64) -> Result<Option<(u32, MemDisk)>, Fail> {
     let disk = MemDisk::with_fuse(alloc, Bytes::from_slice(alloc, EMPTY)?, fuse)?;
-    match LogState::open_on(alloc, disk, 1, LIMITS) {
+    match LogState::open_on(alloc, disk, 1, LOG_LIMITS) {
         Ok(mut log) => {
             let acknowledged = append_each(&mut log, patches);
             Ok(Some((acknowledged, log.close())))
@@ -668,7 +668,7 @@ fn is_found_again(
 ) -> Result<(), Fail> {
     match run_ten(alloc, patches, fuse)? {
         None => {
-            assert!(rt; fuse < 3);
+            assert!(rt; fuse < 4);
             Ok(())
         }
         Some((acknowledged, disk)) => {
@@ -681,16 +681,16 @@ fn is_found_again(
 
 // The same of each number of calls.
 fn are_found_again(rt: &impl Abort, alloc: Global, patches: &[Checked]) -> Result<(), Fail> {
-    for fuse in 0..46u64 {
+    for fuse in 0..57u64 {
         is_found_again(rt, alloc, fuse, patches)?;
     }
     Ok(())
 }
 
-// Ten patches, each behind the one before it.
-fn ten(alloc: Global) -> Result<Vec<Checked>, Fail> {
+// Patches of these numbers from 11 on, each behind the one before it.
+fn chained(alloc: Global, end: u32) -> Result<Vec<Checked>, Fail> {
     let mut patches = Vec::new(alloc);
-    for number in 11..21u32 {
+    for number in 11..end {
         patches.push(numbered(alloc, number)?)?;
     }
     Ok(patches)
@@ -699,8 +699,49 @@ fn ten(alloc: Global) -> Result<Vec<Checked>, Fail> {
 #[test]
 fn what_was_acknowledged_is_found_again(rt: HostRuntime) -> Result<(), Fail> {
     let alloc = rt.alloc();
-    let patches = ten(alloc)?;
+    let patches = chained(alloc, 21)?;
     let found = are_found_again(&rt, alloc, &patches);
     drop(patches);
     found
+}
+
+// A log that may have a hundred patches takes so many of these, and refuses the last one.
+fn takes_a_hundred(
+    rt: &impl Abort,
+    log: &mut LogState<MemDisk>,
+    patches: &[Checked],
+) -> Result<(), Fail> {
+    let Some(last) = patches.last() else {
+        return Err(Fail::from("no patches"));
+    };
+    assert!(rt; append_each(log, patches) == 100);
+    let full = LogAnswer::Full {
+        what: FullKind::Patches,
+        have: 100,
+        limit: 100,
+    };
+    assert!(rt; append(log, last, 1) == full);
+    assert!(rt; log.chain().version() == 100);
+    Ok(())
+}
+
+// The same of patches and a new log.
+fn is_full_with_a_hundred(rt: &impl Abort, alloc: Global, patches: &[Checked]) -> Result<(), Fail> {
+    let limits = LogLimits {
+        patches: 100,
+        bytes: 100_000,
+    };
+    let mut log = open(alloc, disk_of(alloc, EMPTY, &[])?, limits)?;
+    let taken = takes_a_hundred(rt, &mut log, patches);
+    drop(log);
+    taken
+}
+
+#[test]
+fn a_log_takes_as_many_patches_as_it_may(rt: HostRuntime) -> Result<(), Fail> {
+    let alloc = rt.alloc();
+    let patches = chained(alloc, 112)?;
+    let taken = is_full_with_a_hundred(&rt, alloc, &patches);
+    drop(patches);
+    taken
 }

@@ -42,10 +42,13 @@ struct Case {
     steps: &'static [Step],
 }
 
-/// A new file of the first log, and of the second.
-const NEW1: &[u8] = b"RDJ1\0\0\0\x01\0";
+/// The registry of two logs.
+const REGISTRY: &[u8] = b"RDJ2\0\0\0\0\x01\0\0\0\x01\0\0\0\x03S 2\0";
 
-const NEW2: &[u8] = b"RDJ1\0\0\0\x02\0";
+/// A new file of the first log, and of the second.
+const NEW1: &[u8] = b"RDJ2\0\0\0\x01\0";
+
+const NEW2: &[u8] = b"RDJ2\0\0\0\x02\0";
 
 static SHELVES: [Case; 2] = [
     // A new file is empty, and what is put back stands in the place of what was there.
@@ -75,7 +78,7 @@ static MAKINGS: [Case; 6] = [
         failing: &[],
         steps: &[
             Step::Make(2, Ok(())),
-            Step::Holds(0, Some(b"RDJ1\0\0\0\0\x01\0\0\0\x03S 2\0")),
+            Step::Holds(0, Some(REGISTRY)),
             Step::Holds(1, Some(NEW1)),
             Step::Holds(2, Some(NEW2)),
             Step::Holds(3, None),
@@ -93,8 +96,8 @@ static MAKINGS: [Case; 6] = [
         failing: &[],
         steps: &[
             Step::Make(16, Ok(())),
-            Step::Holds(0, Some(b"RDJ1\0\0\0\0\x01\0\0\0\x04S 16\0")),
-            Step::Holds(16, Some(b"RDJ1\0\0\0\x10\0")),
+            Step::Holds(0, Some(b"RDJ2\0\0\0\0\x01\0\0\0\x01\0\0\0\x04S 16\0")),
+            Step::Holds(16, Some(b"RDJ2\0\0\0\x10\0")),
         ],
     },
     Case {
@@ -131,7 +134,8 @@ static MAKINGS: [Case; 6] = [
 ];
 
 /// The frame of a payload with a patch, behind a journal's number.
-const PATCH: &[u8] = b"\x01\0\0\0\x33H id <uuid:00000000-0000-4000-8000-000000000001> .\n\0";
+const PATCH: &[u8] =
+    b"\x01\0\0\0\x01\0\0\0\x33H id <uuid:00000000-0000-4000-8000-000000000001> .\n\0";
 
 static CHECKS: [Case; 6] = [
     Case {
@@ -372,9 +376,7 @@ type Broken = (
     CheckFault,
 );
 
-const REGISTRY: &[u8] = b"RDJ1\0\0\0\0\x01\0\0\0\x03S 2\0";
-
-static FAULTS: [Broken; 7] = [
+static FAULTS: [Broken; 9] = [
     (
         "another form of file 0",
         0,
@@ -387,7 +389,7 @@ static FAULTS: [Broken; 7] = [
         "a first payload that tells no slots",
         0,
         REGISTRY,
-        13,
+        17,
         b"T",
         CheckFault::BrokenEvent { place: 0 },
     ),
@@ -395,8 +397,8 @@ static FAULTS: [Broken; 7] = [
         "a second payload without an event",
         0,
         REGISTRY,
-        16,
-        b"\x01\0\0\0\0\0",
+        20,
+        b"\x01\0\0\0\x02\0\0\0\0\0",
         CheckFault::BrokenEvent { place: 1 },
     ),
     (
@@ -416,6 +418,22 @@ static FAULTS: [Broken; 7] = [
         CheckFault::Damaged { file: 1, at: 9 },
     ),
     (
+        "a registry of the form before",
+        0,
+        REGISTRY,
+        3,
+        b"1",
+        CheckFault::OldFormat { file: 0 },
+    ),
+    (
+        "a log of the form before, with another file's number",
+        2,
+        NEW2,
+        3,
+        b"1\0\0\0\x05",
+        CheckFault::OldFormat { file: 2 },
+    ),
+    (
         "another file's number",
         2,
         NEW2,
@@ -428,7 +446,7 @@ static FAULTS: [Broken; 7] = [
         2,
         NEW2,
         8,
-        b"\x01\0\0\0\x01X\0",
+        b"\x01\0\0\0\x01\0\0\0\x01X\0",
         CheckFault::BrokenChain {
             file: 2,
             version: 1,
@@ -449,10 +467,14 @@ fn the_first_fault_of_files_is_told(rt: HostRuntime) -> Result<(), Fail> {
     Ok(())
 }
 
-static LINES: [(CheckFault, &str); 7] = [
+static LINES: [(CheckFault, &str); 8] = [
     (
         CheckFault::Damaged { file: 1, at: 9 },
         "rdfdelta: file 1: byte 9: damaged\n",
+    ),
+    (
+        CheckFault::OldFormat { file: 0 },
+        "rdfdelta: file 0: old format\n",
     ),
     (
         CheckFault::WrongNumber { file: 2, found: 5 },
@@ -461,10 +483,10 @@ static LINES: [(CheckFault, &str); 7] = [
     (
         CheckFault::OverLimit {
             file: 0,
-            length: 1_048_577,
-            limit: 1_048_576,
+            length: 2_097_153,
+            limit: 2_097_152,
         },
-        "rdfdelta: file 0: over limit: have 1048577, limit 1048576\n",
+        "rdfdelta: file 0: over limit: have 2097153, limit 2097152\n",
     ),
     (
         CheckFault::BrokenChain {

@@ -1,17 +1,10 @@
 //! What the tests run on, and where in a table they are.
 use delta_base::{Calls, Listing};
-use log_base::LogLimits;
 use std::alloc::Global;
 use std::process::Abort;
 
-/// The limits of a log.
-pub const LIMITS: LogLimits = LogLimits {
-    patches: 65_536,
-    bytes: 67_108_864,
-};
-
 /// The file of a log without patches.
-pub const EMPTY: &[u8] = b"RDJ1\0\0\0\x01\0";
+pub const EMPTY: &[u8] = b"RDJ2\0\0\0\x01\0";
 
 /// A step of a case of a table.
 #[derive(Clone, Copy)]

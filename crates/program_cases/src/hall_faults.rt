@@ -34,6 +34,10 @@ fn tell_fault(fault: HallFault, answer: &mut Answer) {
             tell(b"file ", u64::from(file), answer);
             tell(b": damaged at ", at, answer);
         }
+        HallFault::OldFormat { file } => {
+            tell(b"file ", u64::from(file), answer);
+            answer.push(b": old format");
+        }
         HallFault::WrongNumber { file, found } => {
             tell(b"file ", u64::from(file), answer);
             tell(b": wrong number ", u64::from(found), answer);

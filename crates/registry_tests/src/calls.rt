@@ -11,9 +11,9 @@ use std::alloc::Global;
 use std::process::Abort;
 use std::test::Fail;
 
-pub(crate) const ONE_SLOT: &[u8] = b"RDJ1\0\0\0\0\x01\0\0\0\x03S 1\0";
+pub(crate) const ONE_SLOT: &[u8] = b"RDJ2\0\0\0\0\x01\0\0\0\x01\0\0\0\x03S 1\0";
 
-pub(crate) const TWO_SLOTS: &[u8] = b"RDJ1\0\0\0\0\x01\0\0\0\x03S 2\0";
+pub(crate) const TWO_SLOTS: &[u8] = b"RDJ2\0\0\0\0\x01\0\0\0\x01\0\0\0\x03S 2\0";
 
 /// An answer, by the slot that it shows or by its place.
 #[derive(Clone, Copy, PartialEq, Eq)]

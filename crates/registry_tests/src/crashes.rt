@@ -90,7 +90,7 @@ fn survives_fault(rt: &impl Abort, alloc: Global, failing: u64) -> Result<u64, F
     survives(rt, alloc, registry)
 }
 
-// The first five calls are those of the opening, and each event has four.
+// The first seven calls are those of the opening, and each event has five.
 #[test]
 fn what_was_acknowledged_survives_a_stop_or_a_failing_call(rt: HostRuntime) -> Result<(), Fail> {
     let alloc = rt.alloc();
@@ -99,7 +99,7 @@ fn what_was_acknowledged_survives_a_stop_or_a_failing_call(rt: HostRuntime) -> R
         most = survives_fuse(&rt, alloc, calls)?;
     }
     assert!(rt; most == 10);
-    for failing in 5..45 {
+    for failing in 7..57 {
         let done = survives_fault(&rt, alloc, failing)?;
         assert!(rt; done >= 1 && done <= 10, "call {failing}");
     }

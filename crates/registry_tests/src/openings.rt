@@ -12,12 +12,13 @@ const OTHER_SLOT: &[u8] = b"C 2 00000000-0000-4000-8000-000000000001 A http://e/
 
 const UPPER_ID: &[u8] = b"C 1 00000000-0000-4000-8000-00000000000A A http://e/a";
 
-// Puts a payload behind a file's others.
-fn add(file: &mut Vec<u8>, payload: &[u8]) -> Result<(), Fail> {
+// Puts a payload with this running number behind a file's others.
+fn add(file: &mut Vec<u8>, number: u32, payload: &[u8]) -> Result<(), Fail> {
     let Ok(size) = u32::try_from(payload.len()) else {
         return Err(Fail::from("a long payload"));
     };
     file.push(1)?;
+    file.extend_from_slice(&number.to_be_bytes())?;
     file.extend_from_slice(&size.to_be_bytes())?;
     file.extend_from_slice(payload)?;
     Ok(())
@@ -25,9 +26,11 @@ fn add(file: &mut Vec<u8>, payload: &[u8]) -> Result<(), Fail> {
 
 // A file of these payloads.
 fn file_of(alloc: Global, payloads: &[&[u8]]) -> Result<Bytes, Fail> {
-    let mut file = Vec::from_slice(alloc, b"RDJ1\0\0\0\0")?;
+    let mut file = Vec::from_slice(alloc, b"RDJ2\0\0\0\0")?;
+    let mut count = 0u32;
     for payload in payloads {
-        add(&mut file, payload)?;
+        count = count.saturating_add(1);
+        add(&mut file, count, payload)?;
     }
     file.push(0)?;
     Ok(Bytes::from_vec(file))

@@ -249,11 +249,11 @@ fn one_fails<R: Wait + Abort>(
     Ok(())
 }
 
-// The first five calls are those of the opening.
+// The first seven calls are those of the opening.
 #[test]
 fn a_fault_is_that_of_its_own_pass(rt: HostRuntime) -> Result<(), Fail> {
     let alloc = rt.alloc();
-    let (registry, mut passes) = share(alloc, &[8])?;
+    let (registry, mut passes) = share(alloc, &[11])?;
     let failed = one_fails(&rt, alloc, &registry, &mut passes.one, &mut passes.two);
     drop(passes);
     drop(registry);

@@ -37,8 +37,8 @@ enum Step {
 struct Case {
     shows: &'static str,
     file: &'static [u8],
-    /// The numbers of the calls of the disk that fail. The opening makes the first five, and each
-    /// event four.
+    /// The numbers of the calls of the disk that fail. The opening makes the first seven, and each
+    /// event five.
     failing: &'static [u64],
     steps: &'static [Step],
 }
@@ -52,7 +52,7 @@ const TWICE: &[Step] = &[
     Step::Count(1),
 ];
 
-static CASES: [Case; 10] = [
+static CASES: [Case; 11] = [
     Case {
         shows: "slots are few",
         file: ONE_SLOT,
@@ -136,25 +136,31 @@ static CASES: [Case; 10] = [
     Case {
         shows: "a creation fails at its first call",
         file: TWO_SLOTS,
-        failing: &[5],
+        failing: &[7],
         steps: TWICE,
     },
     Case {
         shows: "a creation fails at its second call",
         file: TWO_SLOTS,
-        failing: &[6],
+        failing: &[8],
         steps: TWICE,
     },
     Case {
         shows: "a creation fails at its third call",
         file: TWO_SLOTS,
-        failing: &[7],
+        failing: &[9],
         steps: TWICE,
     },
     Case {
         shows: "a creation fails at its fourth call",
         file: TWO_SLOTS,
-        failing: &[8],
+        failing: &[10],
+        steps: TWICE,
+    },
+    Case {
+        shows: "a creation fails at its fifth call",
+        file: TWO_SLOTS,
+        failing: &[11],
         steps: TWICE,
     },
 ];

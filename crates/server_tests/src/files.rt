@@ -91,7 +91,7 @@ fn appends<R: Abort + Threads + Wait + Sync>(
 fn holds<R: Abort>(rt: &R, alloc: Global, shelf: &MemShelf) -> Result<(), Fail> {
     let dir = Text::from_str(alloc, "d")?;
     let bytes = shelf.file(&dir, 1).unwrap_or(b"");
-    assert!(rt; bytes.starts_with(b"RDJ1\0\0\0\x01\x01\0\0\0\x68H id"));
+    assert!(rt; bytes.starts_with(b"RDJ2\0\0\0\x01\x01\0\0\0\x01\0\0\0\x68H id"));
     assert!(rt; bytes.ends_with(b"TC .\n\0"));
     Ok(())
 }

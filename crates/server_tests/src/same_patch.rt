@@ -14,9 +14,9 @@ use worker_pool::MemGate;
 
 /// A registry of two slots that has a source, and the logs of its slots.
 const FILES: &[&[u8]] = &[
-    b"RDJ1\0\0\0\0\x01\0\0\0\x03S 2\x01\0\0\0\x39C 1 00000000-0000-4000-8000-000000000009 ABC http://e/abc\0",
-    b"RDJ1\0\0\0\x01\0",
-    b"RDJ1\0\0\0\x02\0",
+    b"RDJ2\0\0\0\0\x01\0\0\0\x01\0\0\0\x03S 2\x01\0\0\0\x02\0\0\0\x39C 1 00000000-0000-4000-8000-000000000009 ABC http://e/abc\0",
+    b"RDJ2\0\0\0\x01\0",
+    b"RDJ2\0\0\0\x02\0",
 ];
 
 const POST: &[u8] =
@@ -30,7 +30,7 @@ const KNOWN: &[u8] =
 
 /// The log of the source behind that.
 const LOG: &[u8] =
-    b"RDJ1\0\0\0\x01\x01\0\0\0\x33H id <uuid:00000000-0000-4000-8000-000000000001> .\n\0";
+    b"RDJ2\0\0\0\x01\x01\0\0\0\x01\0\0\0\x33H id <uuid:00000000-0000-4000-8000-000000000001> .\n\0";
 
 fn add_disks(alloc: Global, disks: &mut Vec<MemDisk>) -> Result<(), OutOfMemory> {
     for file in FILES {

@@ -215,15 +215,16 @@ fn tells_of<R: Abort + Threads + Wait + Sync>(
 
 /// Bytes that files of these numbers have, and what is told of them.
 const BROKEN: &[(u32, &[u8], &str)] = &[
-    (2, b"RDJ1\0\0\0\x03\0", "rdfdelta: file 2: wrong number 3\n"),
+    (0, b"RDJ1\0\0\0\0", "rdfdelta: file 0: old format\n"),
+    (2, b"RDJ2\0\0\0\x03\0", "rdfdelta: file 2: wrong number 3\n"),
     (
         1,
-        b"RDJ1\0\0\0\x01\x01",
+        b"RDJ2\0\0\0\x01\x01",
         "rdfdelta: file 1: byte 9: damaged\n",
     ),
     (
         0,
-        b"RDJ1\0\0\0\0\x01\0\0\0\x03S 0\0",
+        b"RDJ2\0\0\0\0\x01\0\0\0\x01\0\0\0\x03S 0\0",
         "rdfdelta: file 0: broken event at 0\n",
     ),
 ];

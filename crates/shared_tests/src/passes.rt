@@ -8,7 +8,7 @@ ghost use Rattle.shared_tests.specs.Memory.{log_in_memory};
 use chain_core::LogAnswer;
 use delta_base::{Bytes, Id, Listing};
 use disk_model::MemDisk;
-use log_base::LogLimits;
+use log_base::LOG_LIMITS;
 use patch_log::{LogState, Ready};
 use patch_meaning::{Checked, check_patch};
 use shared_log::{Fetched, LogPass, LogValue, SharedLog};
@@ -18,12 +18,7 @@ use std::sync::Wait;
 use std::test::Fail;
 use worked_rows::{FIRST, SECOND};
 
-const LIMITS: LogLimits = LogLimits {
-    patches: 65_536,
-    bytes: 67_108_864,
-};
-
-const EMPTY: &[u8] = b"RDJ1\0\0\0\x01\0";
+const EMPTY: &[u8] = b"RDJ2\0\0\0\x01\0";
 
 const THIRD: &[u8] =
     b"H id <uuid:00000000-0000-4000-8000-000000000003> .\nH prev <uuid:00000000-0000-4000-8000-000000000001> .\nTX .\nA <http://e/s> <http://e/p> <http://e/o3> .\nTC .\n";
@@ -40,7 +35,7 @@ fn open(alloc: Global, failing: &[u64]) -> Result<LogState<MemDisk>, Fail>
     let bytes = Bytes::from_slice(alloc, EMPTY)?;
     let failing = Listing::from_vec(Vec::from_slice(alloc, failing)?);
     let disk = MemDisk::from_image(alloc, bytes, failing)?;
-    match LogState::open_on(alloc, disk, 1, LIMITS) {
+    match LogState::open_on(alloc, disk, 1, LOG_LIMITS) {
         Ok(log) => Ok(log),
         Err(_) => Err(Fail::from("not opened")),
     }
@@ -164,12 +159,12 @@ fn what_one_pass_brings_the_other_sees(rt: HostRuntime) -> Result<(), Fail> {
     Ok(())
 }
 
-// An opening makes three calls, so the first call of an append fails.
+// An opening makes four calls, so the first call of an append fails.
 #[test]
 fn a_fault_is_that_of_its_own_pass(rt: HostRuntime) -> Result<(), Fail> {
     let alloc = rt.alloc();
     let first = check_patch(alloc, FIRST)?;
-    let (log, mut passes) = share(alloc, &[3])?;
+    let (log, mut passes) = share(alloc, &[4])?;
     let answer = log.append(&rt, &mut passes.one, &first);
     is(&rt, answer, LogAnswer::DiskFault);
     assert!(rt; log.version(&mut passes.two) == 0);

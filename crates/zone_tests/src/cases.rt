@@ -99,7 +99,7 @@ static CASES: [Case; 9] = [
         payloads: &[],
         limits: LogLimits {
             patches: 2,
-            bytes: 281,
+            bytes: 289,
         },
         steps: &[
             Step::Take(FIRST, TakeAnswer::Applied { version: 1 }),
@@ -139,7 +139,7 @@ static CASES: [Case; 9] = [
         payloads: &[],
         limits: LogLimits {
             patches: 9,
-            bytes: 281,
+            bytes: 289,
         },
         steps: &[
             Step::Take(FIRST, TakeAnswer::Applied { version: 1 }),
@@ -153,7 +153,7 @@ static CASES: [Case; 9] = [
         payloads: &[],
         limits: LogLimits {
             patches: 9,
-            bytes: 280,
+            bytes: 288,
         },
         steps: &[
             Step::Take(FIRST, TakeAnswer::Applied { version: 1 }),
@@ -161,8 +161,8 @@ static CASES: [Case; 9] = [
                 SECOND,
                 TakeAnswer::Full {
                     what: FullKind::Bytes,
-                    have: 281,
-                    limit: 280,
+                    have: 289,
+                    limit: 288,
                 },
             ),
         ],

@@ -64,18 +64,18 @@ fn survives_stop(rt: &impl Abort, alloc: Global, fuse: u64) -> Result<bool, Fail
         Ok(zone) => leaves(rt, alloc, zone, u64::MAX),
         Err(refusal) => {
             drop(refusal);
-            Ok(fuse < 3)
+            Ok(fuse < 4)
         }
     }
 }
 
-// An opening makes three calls and a taking four, or two more where it settles first.
+// An opening makes four calls and a taking five, or two more where it settles first.
 #[test]
 fn what_was_taken_is_found_after_a_stop_or_a_failing_call(rt: HostRuntime) -> Result<(), Fail> {
-    for failing in 3..14u64 {
+    for failing in 4..17u64 {
         assert!(rt; survives(&rt, rt.alloc(), failing)?, "call {failing}");
     }
-    for fuse in 0..12u64 {
+    for fuse in 0..15u64 {
         assert!(rt; survives_stop(&rt, rt.alloc(), fuse)?, "{fuse} calls");
     }
     Ok(())

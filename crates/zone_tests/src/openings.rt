@@ -14,7 +14,7 @@ enum File {
 }
 
 /// A file, the numbers of the calls that fail, and why it isn't opened.
-static REFUSED: [(File, &[u64], ZoneFault); 11] = [
+static REFUSED: [(File, &[u64], ZoneFault); 13] = [
     (
         File::Payloads(&[FIRST, SECOND, THIRD]),
         &[],
@@ -36,28 +36,34 @@ static REFUSED: [(File, &[u64], ZoneFault); 11] = [
         ZoneFault::BrokenChain { version: 2 },
     ),
     (
-        File::Payloads(&[&[b'#'; 987], b"X"]),
+        File::Payloads(&[&[b'#'; 983], b"X"]),
         &[],
         ZoneFault::OverLimit {
-            length: 1007,
+            length: 1011,
             limit: 1000,
         },
     ),
     (
-        File::Image(b"RDJ1\0\0\0\x01\0"),
+        File::Image(b"RDJ1\0\0\x03\xe8\0"),
+        &[],
+        ZoneFault::OldFormat,
+    ),
+    (
+        File::Image(b"RDJ2\0\0\0\x01\0"),
         &[],
         ZoneFault::WrongNumber { found: 1 },
     ),
-    (File::Image(b"RDJ1"), &[], ZoneFault::Damaged { at: 0 }),
+    (File::Image(b"RDJ2"), &[], ZoneFault::Damaged { at: 0 }),
     // The first payload is no patch, and the second is cut short.
     (
-        File::Image(b"RDJ1\0\0\x03\xe8\x01\0\0\0\x01X\x01\0\0"),
+        File::Image(b"RDJ2\0\0\x03\xe8\x01\0\0\0\x01\0\0\0\x01X\x01\0\0"),
         &[],
-        ZoneFault::Damaged { at: 15 },
+        ZoneFault::Damaged { at: 19 },
     ),
     (File::Image(EMPTY), &[0], ZoneFault::Failed),
     (File::Image(EMPTY), &[1], ZoneFault::Failed),
     (File::Image(EMPTY), &[2], ZoneFault::Failed),
+    (File::Image(EMPTY), &[3], ZoneFault::Failed),
 ];
 
 fn file_on(alloc: Global, file: &File, failing: &[u64]) -> Result<MemDisk, Fail> {

@@ -9,7 +9,7 @@ use std::test::Fail;
 use zone_state::{TakeAnswer, Zone};
 
 /// A file of no patches.
-pub const EMPTY: &[u8] = b"RDJ1\0\0\x03\xe8\0";
+pub const EMPTY: &[u8] = b"RDJ2\0\0\x03\xe8\0";
 
 /// The patch behind `SECOND`, which sets two prefixes and takes a quad away.
 pub const THIRD: &[u8] =
