@@ -9,8 +9,11 @@ BEGINS = re.compile(rb"^H id ", re.MULTILINE)
 
 def framed(number, payloads):
     """A journal file of these payloads."""
-    body = b"".join(b"\1" + len(payload).to_bytes(4, "big") + payload for payload in payloads)
-    return b"RDJ1" + number.to_bytes(4, "big") + body + b"\0"
+    body = b"".join(
+        b"\1" + count.to_bytes(4, "big") + len(payload).to_bytes(4, "big") + payload
+        for count, payload in enumerate(payloads, 1)
+    )
+    return b"RDJ2" + number.to_bytes(4, "big") + body + b"\0"
 
 
 def fill(folder, logs):

@@ -4,7 +4,7 @@
 //! `plain replay` reads a stream of patches of A and D rows with blocks and prints the lines of its dataset.
 //! Both read standard input, check what they read, and stop with status 3 at a fault.
 //! `plain open DIR` opens the registry and the first log of DIR and prints a line for each.
-//! `plain append DIR N` writes N payloads of 200 bytes to a new file of DIR, each with two writes and two syncs.
+//! `plain append DIR N` writes N payloads of 200 bytes to a new file of DIR, each with three writes and two syncs.
 //! `plain keys N` inserts N keys into six ordered sets, matches patterns of them and removes them, and prints the times.
 //! `plain serve DIR ADDR WORKERS SLOTS` serves the logs of DIR over HTTP, until it is stopped.
 //! `plain load ADDR CONNECTIONS KIND COUNT` asks a server so many times over each of so many connections, and prints the times.

@@ -69,7 +69,11 @@ fn field(file: &[u8], at: usize) -> Result<u32, String> {
 
 /// The payloads of a journal, each with its place.
 fn payloads(file: &[u8], slot: u32) -> Result<Vec<&[u8]>, String> {
-    if !file.starts_with(b"RDJ1") || field(file, 4)? != slot {
+    let whole = file.len() >= 8;
+    if whole && file.starts_with(b"RDJ1") {
+        return refused("old format".into());
+    }
+    if !whole || !file.starts_with(b"RDJ2") || field(file, 4)? != slot {
         return refused("byte 0: damaged".into());
     }
     let mut found = Vec::new();
@@ -80,12 +84,15 @@ fn payloads(file: &[u8], slot: u32) -> Result<Vec<&[u8]>, String> {
             Some(1) => {}
             Some(_) => return Ok(found),
         }
-        let size = field(file, gate + 1)? as usize;
-        match file.get(gate + 5..gate + 5 + size) {
-            None => return refused(format!("byte {}: damaged", gate + 5)),
+        if field(file, gate + 1)? as usize != found.len() + 1 {
+            return refused(format!("byte {}: damaged", gate + 1));
+        }
+        let size = field(file, gate + 5)? as usize;
+        match file.get(gate + 9..gate + 9 + size) {
+            None => return refused(format!("byte {}: damaged", gate + 9)),
             Some(payload) => found.push(payload),
         }
-        gate += 5 + size;
+        gate += 9 + size;
     }
 }
 

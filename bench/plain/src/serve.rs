@@ -1,13 +1,13 @@
 //! A server of logs over HTTP: threads that accept on one listener, and for each log an index of ids and texts behind a mutex.
 //! An append makes the writes and syncs of `append`.
 
+use crate::append::add;
 use crate::open;
 use crate::replay::Id;
 use std::collections::HashMap;
 use std::fs::{File, OpenOptions};
 use std::io::{self, Read, Write};
 use std::net::{TcpListener, TcpStream};
-use std::os::unix::fs::FileExt;
 use std::path::Path;
 use std::sync::Mutex;
 use std::thread;
@@ -55,7 +55,7 @@ impl Log {
     fn open(dir: &str, slot: u32) -> Result<Log, String> {
         let bytes = open::file(dir, slot)?;
         let found = open::chain(&bytes, slot)?;
-        let frames: usize = found.patches.iter().map(|(_, text)| text.len() + 5).sum();
+        let frames: usize = found.patches.iter().map(|(_, text)| text.len() + 9).sum();
         let file = OpenOptions::new()
             .write(true)
             .open(Path::new(dir).join(format!("rdj-{slot:04}")))
@@ -70,11 +70,8 @@ impl Log {
     }
 
     fn write(&mut self, block: &[u8]) -> io::Result<()> {
-        self.file.write_all_at(block, self.end)?;
-        self.file.sync_data()?;
-        self.file.write_all_at(&[1], self.end - 1)?;
-        self.file.sync_data()?;
-        self.end += block.len() as u64;
+        add(&self.file, self.end, self.texts.len() as u32 + 1, block)?;
+        self.end += 4 + block.len() as u64;
         Ok(())
     }
 
