@@ -21,6 +21,7 @@ from rdfdelta.errors import (
     NoPatch,
     NoSource,
     NotUnderstood,
+    OldFormat,
     Parted,
     ProgramFailed,
     RdfDeltaError,
@@ -33,11 +34,11 @@ from rdfdelta.server import Log, Server
 if TYPE_CHECKING:
     from rdfdelta.follower import Follower
 
-__version__ = "0.2.0"
+__version__ = "0.3.0"
 __all__ = [
     "Appended", "BadAddress", "BadFile", "BadPatch", "Conflict", "Damaged", "Follower", "Full", "Held", "Journal",
-    "Known", "Link", "LinkFailed", "Log", "LogState", "NoPatch", "NoSource", "NotUnderstood", "Parted",
-    "ProgramFailed", "RdfDeltaError", "Refused", "Registry", "Server", "Source", "read_link",
+    "Known", "Link", "LinkFailed", "Log", "LogState", "NoPatch", "NoSource", "NotUnderstood", "OldFormat",
+    "Parted", "ProgramFailed", "RdfDeltaError", "Refused", "Registry", "Server", "Source", "read_link",
 ]
 
 

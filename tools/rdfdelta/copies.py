@@ -24,7 +24,7 @@ from rdfdelta.server import Log, Server
 SOURCES, CHECK, LOCK = "sources.json", "check", ".lock"
 # Which source, how many of its patches are done, and of how many.
 Look = Callable[[Source, int, int], None]
-_CHECK_LINE = re.compile(r"file ([0-9]{1,2}) patches ([0-9]{1,5}) head (?:none|[0-9a-f-]{36})")
+_CHECK_LINE = re.compile(r"file ([0-9]{1,2}) patches ([0-9]{1,6}) head (?:none|[0-9a-f-]{36})")
 
 
 @dataclass(frozen=True, slots=True)

@@ -89,6 +89,13 @@ class BadFile(RdfDeltaError):
         self.path = path
 
 
+class OldFormat(BadFile):
+    """A file of the form that versions up to 0.2.0 write; `rdfd rewrite` writes it anew."""
+
+    def __init__(self, path: Path) -> None:
+        super().__init__(path, "old format")
+
+
 class Damaged(BadFile):
     """A journal that isn't whole; `at` is the byte at which its form ends."""
 

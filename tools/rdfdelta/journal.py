@@ -1,13 +1,15 @@
 """Journal files, read by docs/FORMATS.md: those of logs, zones and the registry.
 
-Damage is told with its byte and nothing behind it is guessed. A file is read only while no program writes it.
+Damage is told with its byte and nothing behind it is guessed. A file is read only while no program writes it. One of
+the old form is refused, but where it is to be written anew.
 """
 from __future__ import annotations
 
 import re
 import uuid
-from collections.abc import Iterator
+from collections.abc import Iterator, Sequence
 from dataclasses import dataclass
+from enum import Enum
 from pathlib import Path
 from typing import BinaryIO, NoReturn
 
@@ -16,15 +18,45 @@ from rdfdelta.answers import Source
 from rdfdelta.patches import Link, check_patch
 from rdfdelta.server import LOG_LIMIT, REGISTRY_LIMIT
 
-MAGIC = b"RDJ1"
-HEADER, LENGTH = 8, 4
+FIELD, HEADER = 4, 8
 REGISTRY, ZONE = 0, 1000
-OPEN = b"\x01"
+# The files that a folder may have: the registry's, the logs', a zone's.
+NUMBERS = (REGISTRY, *range(1, 17), ZONE)
+OPEN, SHUT = b"\x01", b"\x00"
 _FILE_NAME = re.compile(r"rdj-([0-9]{4})")
+
+
+class Form(Enum):
+    """The forms of a file, by what it begins with."""
+
+    # Behind a gate stands a payload's length.
+    OLD = b"RDJ1"
+    # Behind a gate stand its running number, from 1, and its length.
+    NEW = b"RDJ2"
 
 
 def file_of(folder: Path, number: int) -> Path:
     return folder / f"rdj-{number:04d}"
+
+
+def limit_of(number: int) -> int:
+    """The most bytes of the file of a number."""
+    return REGISTRY_LIMIT if number == REGISTRY else LOG_LIMIT
+
+
+def pieces_of(number: int, payloads: Sequence[bytes]) -> Iterator[bytes]:
+    """The file of these payloads, in the form that is written."""
+    yield Form.NEW.value + number.to_bytes(FIELD, "big")
+    for count, payload in enumerate(payloads, 1):
+        yield OPEN + count.to_bytes(FIELD, "big") + len(payload).to_bytes(FIELD, "big")
+        yield payload
+    yield SHUT
+
+
+def _field(content: bytes, at: int) -> int | None:
+    """The number that stands at a place, or none where it isn't whole."""
+    found = content[at:at + FIELD]
+    return int.from_bytes(found, "big") if len(found) == FIELD else None
 
 
 @dataclass(frozen=True, slots=True)
@@ -48,33 +80,21 @@ class Journal:
             raise errors.BadFile(path, error.strerror or str(error)) from error
 
     @classmethod
-    def parse(cls, path: Path, content: bytes) -> Journal:
+    def parse(cls, path: Path, content: bytes, takes_old: bool = False) -> Journal:
         """The journal that these bytes of a file are."""
-        if len(content) < HEADER or not content.startswith(MAGIC):
+        form = next((form for form in Form if content.startswith(form.value)), None)
+        if len(content) < HEADER or form is None:
             raise errors.Damaged(path, 0)
-        number = int.from_bytes(content[len(MAGIC):HEADER], "big")
+        if form is Form.OLD and not takes_old:
+            raise errors.OldFormat(path)
+        number = int.from_bytes(content[FIELD:HEADER], "big")
         named = _FILE_NAME.fullmatch(path.name)
         if named and int(named[1]) != number:
             raise errors.BadFile(path, f"wrong number {number}")
-        payloads = []
-        at = HEADER
-        while True:
-            if at == len(content):
-                raise errors.Damaged(path, at)
-            if content[at:at + 1] != OPEN:
-                break
-            begin = at + 1 + LENGTH
-            if begin > len(content):
-                raise errors.Damaged(path, at + 1)
-            length = int.from_bytes(content[at + 1:begin], "big")
-            if begin + length > len(content):
-                raise errors.Damaged(path, begin)
-            payloads.append(content[begin:begin + length])
-            at = begin + length
-        limit = REGISTRY_LIMIT if number == REGISTRY else LOG_LIMIT
-        if at > limit:
-            raise errors.BadFile(path, f"over limit: have {at}, limit {limit}")
-        return cls(path, number, tuple(payloads), at)
+        payloads, end = _payloads(path, content, form)
+        if end + 1 > limit_of(number):
+            raise errors.BadFile(path, f"over limit: have {end + 1}, limit {limit_of(number)}")
+        return cls(path, number, payloads, end)
 
     def links(self) -> list[Link]:
         """The ids of the patches, which are seen to be a chain."""
@@ -99,6 +119,29 @@ class Journal:
         yield from ((version, self.payloads[version - 1]) for version in range(start, len(self.payloads) + 1))
 
 
+def _payloads(path: Path, content: bytes, form: Form) -> tuple[tuple[bytes, ...], int]:
+    """The payloads behind a file's header, and the byte of the gate that ends them."""
+    payloads: list[bytes] = []
+    at = HEADER
+    while content[at:at + 1] == OPEN:
+        at += 1
+        if form is Form.NEW:
+            if _field(content, at) != len(payloads) + 1:
+                raise errors.Damaged(path, at)
+            at += FIELD
+        length = _field(content, at)
+        if length is None:
+            raise errors.Damaged(path, at)
+        at += FIELD
+        if at + length > len(content):
+            raise errors.Damaged(path, at)
+        payloads.append(content[at:at + length])
+        at += length
+    if at == len(content):
+        raise errors.Damaged(path, at)
+    return tuple(payloads), at
+
+
 class Counter:
     """Counts the payloads of a journal that another process may be writing: a gate that is open has all that stands
     behind it on the disk, so those in front of one that isn't are whole. It goes on where it stopped."""
@@ -112,9 +155,11 @@ class Counter:
     def look(self) -> int:
         try:
             with self.path.open("rb") as file:
+                if file.read(FIELD) != Form.NEW.value:
+                    return self.count
                 while (length := self._length(file)) is not None:
-                    self._newest = (self._at + 1 + LENGTH, length)
-                    self._at += 1 + LENGTH + length
+                    self._newest = (self._at + 1 + 2 * FIELD, length)
+                    self._at += 1 + 2 * FIELD + length
                     self.count += 1
         except FileNotFoundError:
             pass
@@ -131,8 +176,9 @@ class Counter:
 
     def _length(self, file: BinaryIO) -> int | None:
         file.seek(self._at)
-        found = file.read(1 + LENGTH)
-        return int.from_bytes(found[1:], "big") if len(found) == 1 + LENGTH and found[:1] == OPEN else None
+        found = file.read(1 + 2 * FIELD)
+        is_next = found.startswith(OPEN) and _field(found, 1) == self.count + 1
+        return _field(found, 1 + FIELD) if is_next else None
 
 
 @dataclass(frozen=True, slots=True)

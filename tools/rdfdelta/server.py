@@ -19,9 +19,9 @@ from rdfdelta import answers, errors
 from rdfdelta.answers import Appended, LogState, Members, Source
 from rdfdelta.patches import PATCH_LIMIT, read_link
 
-PATCHES_LIMIT = 65_536
-LOG_LIMIT = 67_108_864
-REGISTRY_LIMIT = 1_048_576
+PATCHES_LIMIT = 262_144
+LOG_LIMIT = 268_435_456
+REGISTRY_LIMIT = 2_097_152
 PATCH_TYPE = "application/rdf-patch"
 # Seconds to connect, and between two bytes of an answer: a busy server lets its clients wait for a worker.
 CONNECT_SECONDS, ANSWER_SECONDS = 5.0, 30.0

@@ -12,12 +12,10 @@ from dataclasses import dataclass
 from pathlib import Path
 
 from rdfdelta import errors, locks, sockets
-from rdfdelta.journal import REGISTRY, ZONE, Journal, Registry, file_of
+from rdfdelta.journal import NUMBERS, REGISTRY, ZONE, Journal, Registry, file_of
 from rdfdelta.server import Server
 
 ROOM = 4_194_304 + 4_096
-# The files that a folder may have: the registry's, the logs', a zone's.
-NUMBERS = (REGISTRY, *range(1, 17), ZONE)
 ANSWER_SECONDS = 5.0
 # Files, listener, standard streams, and a connection for each of sixteen workers.
 DESCRIPTORS = 17 + 1 + 3 + 16
@@ -120,6 +118,8 @@ def _of_file(path: Path) -> list[Finding]:
         return rights
     try:
         Journal.read(path)
+    except errors.OldFormat as error:
+        return [Finding(str(error), True, f"rdfd rewrite {path.parent} NEW; see A new version in OPERATING.md")]
     except errors.RdfDeltaError as error:
         return [Finding(str(error), True, "see Restoring in OPERATING.md")]
     return []

@@ -68,9 +68,11 @@ class Zone:
 
 
 def hint(zone: Path, failed: errors.ProgramFailed) -> str | None:
-    """What to do where the zone and the log have parted, or nobody has that log."""
+    """What to do where the zone and the log have parted, nobody has that log, or the zone is of the old form."""
     if failed.status == 1 and "no_source" in failed.line:
         return "the source was renamed or removed, or the name is wrong: `rdfd logs` shows the names"
+    if failed.status == DAMAGED and "old format" in failed.line:
+        return f"an older version made the zone: `rdfd rewrite {zone} NEW` writes it anew in another folder"
     if failed.status != OTHER_CHAIN:
         return None
     file = file_of(zone, ZONE)

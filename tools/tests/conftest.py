@@ -37,6 +37,12 @@ def id_of(number: int) -> str:
     return f"00000000-0000-4000-8000-{number:012d}"
 
 
+def old_file(number: int, payloads: list[bytes]) -> bytes:
+    """The file of these payloads as versions up to 0.2.0 write it."""
+    parts = (b"\1" + len(payload).to_bytes(4, "big") + payload for payload in payloads)
+    return b"RDJ1" + number.to_bytes(4, "big") + b"".join(parts) + b"\0"
+
+
 @dataclass
 class Running:
     """A server that runs: its folder, its address, and a client of it."""

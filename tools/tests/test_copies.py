@@ -141,7 +141,7 @@ def test_a_log_is_moved(running: Running, program: Program) -> None:
     running.client.log("ABC").append(patch(4, rows))
     before = lines_of(running, program, "ABC")
     refused = rdfd("move-log", "ABC", address=running.address)
-    assert refused.status == 1 and "ABC isn't half full: 4 of 65,536 patches" in refused.err
+    assert refused.status == 1 and "ABC isn't half full: 4 of 262,144 patches" in refused.err
     done = rdfd("move-log", "ABC", "--anyway", address=running.address)
     assert done.status == 0, done.err
     assert versions(running) == {"ABC": 1, "ABC-1": 4} and lines_of(running, program, "ABC") == before

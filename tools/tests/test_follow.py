@@ -8,7 +8,7 @@ import time
 from pathlib import Path
 
 from calling import environment, rdfd, words_of
-from conftest import Running, Start, eventually, id_of, patch
+from conftest import Running, Start, eventually, id_of, old_file, patch
 
 
 def lines(count: int) -> set[str]:
@@ -133,3 +133,14 @@ def test_ctrl_c_ends_it(running: Running, tmp_path: Path) -> None:
     _, said = follower.communicate(timeout=20)
     assert b"Traceback" not in said and follower.returncode in (1, 130)
     assert id_of(1) in rdfd("patches", tmp_path / "zone").out
+
+
+def test_a_zone_of_the_old_form(running: Running, tmp_path: Path) -> None:
+    running.fill("ABC", 3)
+    zone, new = tmp_path / "zone", tmp_path / "new"
+    zone.mkdir()
+    (zone / "rdj-1000").write_bytes(old_file(1000, [patch(1), patch(2)]))
+    done = rdfd("follow", zone, "ABC", "--once", address=running.address)
+    assert done.status == 9 and "file 1000: old format" in done.err and f"rdfd rewrite {zone} NEW" in done.err
+    assert rdfd("rewrite", zone, new).status == 0
+    assert rdfd("follow", new, "ABC", "--once", address=running.address).out == "ABC: version 3\n"

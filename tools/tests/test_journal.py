@@ -7,9 +7,13 @@ from pathlib import Path
 
 import pytest
 
-from conftest import PROGRAM, Running, id_of, patch
-from rdfdelta import BadFile, Damaged, Held, Journal, Registry
-from rdfdelta.journal import Counter
+from conftest import PROGRAM, Running, id_of, old_file, patch
+from rdfdelta import BadFile, Damaged, Held, Journal, OldFormat, Registry, journal
+from rdfdelta.journal import Counter, pieces_of
+
+
+# Where the running number of the second patch stands in the file of a log.
+SECOND = 8 + 9 + len(patch(1)) + 1
 
 
 @pytest.fixture
@@ -30,12 +34,53 @@ def checked(folder: Path) -> str:
     return done.stderr.removeprefix("rdfdelta: ").strip()
 
 
+def test_the_form() -> None:
+    whole = b"RDJ2\0\0\0\1" b"\1\0\0\0\1\0\0\0\2ab" b"\1\0\0\0\2\0\0\0\0" b"\0"
+    assert b"".join(pieces_of(1, [b"ab", b""])) == whole
+    found = Journal.parse(Path("rdj-0001"), whole + b"behind")
+    assert (found.number, found.payloads, found.end) == (1, (b"ab", b""), len(whole) - 1)
+    # The front of each field, and of each gate: there a file that ends too early is damaged.
+    fields = [0] * 8 + [8] + [9] * 4 + [13] * 4 + [17] * 2 + [19] + [20] * 4 + [24] * 4 + [28]
+    for length, at in enumerate(fields):
+        with pytest.raises(Damaged) as damaged:
+            Journal.parse(Path("rdj-0001"), whole[:length])
+        assert damaged.value.at == at
+    assert len(fields) == len(whole)
+
+
+def test_the_old_form() -> None:
+    whole = old_file(2, [b"ab", b""])
+    assert whole == b"RDJ1\0\0\0\2" b"\1\0\0\0\2ab" b"\1\0\0\0\0" b"\0"
+    # It is told before a wrong number, where the header is whole.
+    for length in (8, len(whole)):
+        with pytest.raises(OldFormat, match="rdj-0001: old format"):
+            Journal.parse(Path("rdj-0001"), whole[:length])
+    with pytest.raises(Damaged, match="byte 0"):
+        Journal.parse(Path("rdj-0001"), whole[:7])
+    assert Journal.parse(Path("rdj-0002"), whole, takes_old=True).payloads == (b"ab", b"")
+    fields = [0] * 8 + [8] + [9] * 4 + [13] * 2 + [15] + [16] * 4 + [20]
+    for length, at in enumerate(fields):
+        with pytest.raises(Damaged) as damaged:
+            Journal.parse(Path("rdj-0002"), whole[:length], takes_old=True)
+        assert damaged.value.at == at
+
+
+def test_a_file_that_is_too_long(monkeypatch: pytest.MonkeyPatch) -> None:
+    whole = b"".join(pieces_of(1, [b"ab"]))
+    monkeypatch.setattr(journal, "LOG_LIMIT", len(whole))
+    assert Journal.parse(Path("rdj-0001"), whole).payloads == (b"ab",)
+    monkeypatch.setattr(journal, "LOG_LIMIT", len(whole) - 1)
+    with pytest.raises(BadFile, match="over limit: have 20, limit 19"):
+        Journal.parse(Path("rdj-0001"), whole)
+
+
 def test_a_log(folder: Path) -> None:
-    journal = Journal.read(folder / "rdj-0001")
-    assert journal.number == 1 and journal.payloads == (patch(1), patch(2), patch(3))
-    assert [link.id for link in journal.links()] == [id_of(1), id_of(2), id_of(3)]
-    assert list(journal.patches(3)) == [(3, patch(3))] and list(journal.patches(4)) == []
-    assert journal.end == (folder / "rdj-0001").stat().st_size - 1
+    log = Journal.read(folder / "rdj-0001")
+    assert log.number == 1 and log.payloads == (patch(1), patch(2), patch(3))
+    assert [link.id for link in log.links()] == [id_of(1), id_of(2), id_of(3)]
+    assert list(log.patches(3)) == [(3, patch(3))] and list(log.patches(4)) == []
+    assert log.end == (folder / "rdj-0001").stat().st_size - 1
+    assert b"".join(pieces_of(1, log.payloads)) == (folder / "rdj-0001").read_bytes()
 
 
 def test_the_registry(folder: Path) -> None:
@@ -56,17 +101,21 @@ def test_each_truncation_is_damage_at_the_byte_of_check(folder: Path) -> None:
         with pytest.raises(Damaged) as damaged:
             Journal.parse(path, whole[:length])
         told[length] = f"file 1: byte {damaged.value.at}: damaged"
-    for length in [0, 7, 8, 9, 12, 13, 14, 50, *range(len(whole) - 5, len(whole))]:
+    for length in [0, 7, 8, 9, 12, 13, 16, 17, 18, 50, *range(len(whole) - 5, len(whole))]:
         path.write_bytes(whole[:length])
         assert checked(folder) == told[length]
 
 
 @pytest.mark.parametrize("hurt, said", [
-    (lambda whole: b"RDJ2" + whole[4:], "file 1: byte 0: damaged"),
+    (lambda whole: b"RDJ3" + whole[4:], "file 1: byte 0: damaged"),
+    (lambda whole: b"RDJ1" + whole[4:], "file 1: old format"),
+    (lambda whole: b"RDJ1\0\0\0\x02" + whole[8:], "file 1: old format"),
     (lambda whole: whole[:7] + b"\x02" + whole[8:], "file 1: wrong number 2"),
     (lambda whole: whole.replace(b"000000000002> .\nTX", b"000000000001> .\nTX"), "file 1: broken chain at version 3"),
     (lambda whole: whole.replace(b"H prev", b"H pref"), "file 1: broken chain at version 2"),
-    (lambda whole: whole[:9] + b"\0\0\0\x05" + whole[13:], "file 1: broken chain at version 1"),
+    (lambda whole: whole[:9] + b"\0\0\0\x02" + whole[13:], "file 1: byte 9: damaged"),
+    (lambda whole: whole.replace(b"\1\0\0\0\x02", b"\1\0\0\0\x03"), f"file 1: byte {SECOND}: damaged"),
+    (lambda whole: whole[:13] + b"\0\0\0\x05" + whole[17:], "file 1: broken chain at version 1"),
     (lambda whole: whole.replace(b'A <http://e/s> <http://e/p> "2"', b'a <http://e/s> <http://e/p> "2"'),
      "file 1: broken chain at version 2"),
     (lambda whole: whole.replace(b"TC .", b"TX ."), "file 1: broken chain at version 1"),
@@ -95,8 +144,7 @@ def test_other_damage(folder: Path, hurt: Callable[[bytes], bytes], said: str) -
 ])
 def test_registries_that_are_none(folder: Path, events: list[bytes]) -> None:
     path = folder / "rdj-0000"
-    content = b"RDJ1\0\0\0\0" + b"".join(b"\1" + len(event).to_bytes(4, "big") + event for event in events) + b"\0"
-    path.write_bytes(content)
+    path.write_bytes(b"".join(pieces_of(0, events)))
     with pytest.raises(BadFile) as bad:
         Registry.of(Journal.read(path))
     assert str(bad.value) == checked(folder).replace("file 0", str(path))
@@ -115,3 +163,17 @@ def test_a_counter_goes_on(running: Running) -> None:
     running.fill("ABC", 1, begin=3)
     assert (counter.look(), counter.newest()) == (3, patch(3))
     assert Counter(running.folder / "none").look() == 0
+
+
+def test_a_counter_counts_what_is_whole(tmp_path: Path) -> None:
+    path = tmp_path / "rdj-1000"
+    whole = b"".join(pieces_of(1000, [b"a", b"b"]))
+    # The second one has a gate that is shut, a number that isn't its own, or a front alone.
+    for content in (whole[:18] + b"\0" + whole[19:], whole[:22] + b"\3" + whole[23:], whole[:25]):
+        path.write_bytes(content)
+        counter = Counter(path)
+        assert (counter.look(), counter.newest()) == (1, b"a")
+        path.write_bytes(whole)
+        assert (counter.look(), counter.newest()) == (2, b"b")
+    path.write_bytes(old_file(1000, [b"a", b"b"]))
+    assert Counter(path).look() == 0

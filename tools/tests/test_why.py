@@ -14,7 +14,7 @@ from pathlib import Path
 import pytest
 
 from calling import rdfd
-from conftest import PROGRAM, Running, Start, eventually, free_port
+from conftest import PROGRAM, Running, Start, eventually, free_port, old_file
 from rdfdelta import sockets, why
 
 
@@ -43,6 +43,8 @@ def test_folders(files: Path, tmp_path: Path) -> None:
     assert "no rdj- files" in told(tmp_path / "empty")
     (files / "rdj-0001").write_bytes(b"RDJ1")
     assert "rdj-0001: byte 0: damaged" in told(files)
+    (files / "rdj-0001").write_bytes(old_file(1, []))
+    assert f"rdj-0001: old format: rdfd rewrite {files} NEW" in told(files)
     (files / "rdj-0001").unlink()
     assert "rdj-0001: not there" in told(files)
     (files / "rdj-0001").mkdir()

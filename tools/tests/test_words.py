@@ -27,7 +27,7 @@ def test_logs(running: Running) -> None:
 def test_logs_that_are_nearly_full(running: Running) -> None:
     running.fill("ABC", 1)
     # The file's length is what is looked at: a hole takes no room.
-    os.truncate(running.folder / "rdj-0001", 60_000_000)
+    os.truncate(running.folder / "rdj-0001", 240_000_000)
     done = rdfd("logs", "--files", running.folder, address=running.address)
     assert done.status == 1 and "89.4%" in done.out
     assert [logs.style_of(share) for share in (0.79, 0.8, 0.95)] == ["", "yellow", "bold red"]

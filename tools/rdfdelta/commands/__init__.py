@@ -7,7 +7,7 @@ import sys
 import click
 
 from rdfdelta import __version__, errors
-from rdfdelta.commands import copies, diff, logs, metrics, moves, patches, put, tail, why, zones
+from rdfdelta.commands import copies, diff, logs, metrics, moves, patches, put, rewrite, tail, why, zones
 from rdfdelta.commands.options import line_of, status_of, tell
 
 
@@ -51,6 +51,7 @@ for command in (
     copies.restore,
     moves.move_log,
     patches.patches,
+    rewrite.rewrite,
     why.why,
     metrics.metrics,
 ):

@@ -12,7 +12,7 @@ from rdfdelta.commands.options import bar, program_option, server_option, write
 from rdfdelta.program import Program
 from rdfdelta.server import Server
 
-_OF_LOG = re.compile(r"([A-Za-z0-9_.-]{1,64})@([0-9]{1,5}|head)")
+_OF_LOG = re.compile(r"([A-Za-z0-9_.-]{1,64})@([0-9]{1,6}|head)")
 
 
 def read_dataset(server: Server, program: Program, name: str) -> list[str]:
