@@ -1,8 +1,7 @@
 """Patches to look at: a catalogue of books that grows and is mended, and files of a server with a full log."""
 import random
-import subprocess
 import uuid
-from collections.abc import Iterator
+from collections.abc import Iterable, Iterator
 from pathlib import Path
 
 PREFIXES = {
@@ -80,13 +79,23 @@ def long_patch(number: int, rows: int) -> str:
     return patch(number, 0, ["TX .", *(f"A {quad} ." for quad in quads), "TC ."])
 
 
-def emitted(program: Path, count: int) -> list[bytes]:
-    """The patches of `rdfdelta emit`."""
-    stream = subprocess.run([program, "emit", str(count)], capture_output=True, check=True).stdout
-    return [b"H id" + text for text in stream.split(b"H id")[1:]]
+def generated(count: int) -> Iterator[bytes]:
+    """The patches of the generator of `rdfdelta emit`, which makes no full log."""
+    ids = [uuid.UUID(int=(0x4000 << 64) + (0x8000 << 48) + number) for number in range(count + 1)]
+    for number in range(1, count + 1):
+        rows = [f"H id <uuid:{ids[number]}> ."] + ([f"H prev <uuid:{ids[number - 1]}> ."] if number > 1 else [])
+        rows += ["TX .", f"A {quad(number)} ."] + ([f"D {quad(number // 3)} ."] if number % 3 == 0 else [])
+        yield "\n".join([*rows, "TC .", ""]).encode()
 
 
-def write_journal(file: Path, number: int, payloads: list[bytes]) -> None:
+def quad(number: int) -> str:
+    return f'<http://g/s{number % 100}> <http://g/p{number % 7}> "{number}"'
+
+
+def write_journal(file: Path, number: int, payloads: Iterable[bytes]) -> None:
     """The journal of a log, as FORMATS.md says, in the place of an empty one."""
-    gates = (b"\1" + len(payload).to_bytes(4, "big") + payload for payload in payloads)
-    file.write_bytes(b"RDJ1" + number.to_bytes(4, "big") + b"".join(gates) + b"\0")
+    with file.open("wb") as journal:
+        journal.write(b"RDJ2" + number.to_bytes(4, "big"))
+        for count, payload in enumerate(payloads, 1):
+            journal.write(b"\1" + count.to_bytes(4, "big") + len(payload).to_bytes(4, "big") + payload)
+        journal.write(b"\0")

@@ -5,6 +5,8 @@
 import { element } from './dom.js';
 
 const PAGE = 32;
+// Browsers place nothing that is some millions of pixels farther down, so the boxes of a long log are lower.
+const LONGEST = 12_000_000;
 
 /**
  * Versions from 1 to the newest in pages, the newest first. A page keeps its oldest version when the log grows.
@@ -103,7 +105,7 @@ class Page {
   }
 
   #reserve() {
-    this.element.style.height = `calc(${this.versions.length} * var(--patch-height))`;
+    this.element.style.height = `calc(${this.versions.length} * min(var(--patch-height), var(--most-height)))`;
   }
 
   /**
@@ -148,6 +150,8 @@ export class Feed {
    */
   show(pages) {
     this.close();
+    const count = pages.reduce((sum, { length }) => sum + length, 0);
+    this.container.style.setProperty('--most-height', `${LONGEST / Math.max(count, 1)}px`);
     this.#pages = pages.map((versions) => this.#make(versions));
     this.container.replaceChildren(...this.#pages.map((page) => page.element));
   }
