@@ -1,6 +1,6 @@
 -- What follows from a decision, and what leads to it.
-use Rattle.std.proofs.Common.{◌≡◌, ◌≢◌, ℕ, ◌+◌, ◌≤◌, Bool, true, false, cond, not, eqb, ltb, List, [], ◌∷◌, ◌++◌, length, Option, Some, None, refl, sym, ◌∙◌, ap, arith}
-use Rattle.std.proofs.lemmas.Bool.{eq-eqb, eqb-true}
+use Rattle.std.proofs.Common.{◌≡◌, ℕ, ◌+◌, ◌≤◌, Bool, true, false, cond, not, eqb, ltb, List, [], ◌∷◌, ◌++◌, length, Option, Some, None, refl, sym, ◌∙◌, ap, arith}
+use Rattle.std.proofs.lemmas.Bool.{eq-eqb, eqb-true, ltb-false}
 use Rattle.std.proofs.lemmas.Bool.Decides.{nat_tests}
 use Rattle.delta_base.specs.declared.id.Id.{Id}
 use Rattle.log_base.specs.declared.limits.FullKind.TheVariants.{Patches, Bytes}
@@ -8,8 +8,11 @@ use Rattle.log_base.specs.declared.limits.LogLimits.{LogLimits}
 use Rattle.chain_core.specs.declared.chain.Patch.{Patch}
 use Rattle.chain_core.specs.declared.answer.Decision.{Decision}
 use Rattle.chain_core.specs.declared.answer.Decision.TheVariants.{Accept, Known, Conflict, Full}
-use Rattle.chain_core.specs.Patches.{version_of, patch_at, last_id, journal_length}
-use Rattle.chain_core.specs.Decision.{decision, decision_on, decision_on_new, same_id, has_text, version_named}
+use Rattle.std.specs.Option.{option_map}
+use Rattle.chain_core.specs.Ids.{version_among}
+use Rattle.chain_core.specs.Patches.{patch_ids, version_of, last_id, journal_length}
+use Rattle.chain_core.specs.Runs.{prev_of_run}
+use Rattle.chain_core.specs.Decision.{run_decision, decision_on, decision_on_new, same_id, stands_at, first_found, version_known, version_named}
 
 pub same_id-true : (a b : Option Id) → same_id a b ≡ true → a ≡ b
 same_id-true None None same = refl
@@ -39,64 +42,95 @@ ids_same a b is = same_id-true a b (not_false (same_id a b) is)
 pub ids_differ : (a b : Option Id) → not (same_id a b) ≡ true → a ≡ b → ⊥
 ids_differ a b is same = true_not_false (sym (same_id-refl b) ∙ ap (λ (id : Option Id). same_id id b) (sym same) ∙ not_true (same_id a b) is)
 
--- nothing stands against the patch
-pub record IsAcceptable (patches : List Patch) (patch : Patch) (limits : LogLimits) : Type 0 where
-  pub new : version_of patches patch.id ≡ None
-  pub follows : patch.prev ≡ last_id patches
-  pub place : length patches ≢ limits.patches
-  pub room : journal_length (patches ++ patch ∷ []) ≤ limits.bytes
+-- versions are counted from 1
+version_from_one : (ids : List Id) (id : Id) (version : ℕ) → version_among ids id ≡ Some version → 1 ≤ version
+version_from_one [] id version is = absurd (cc)
+version_from_one (first ∷ ids) id version is = by (eqb first.0 id.0) (version_among ids id) is
+  where
+    later : (found : Option ℕ) → option_map (λ before. before + 1) found ≡ Some version → 1 ≤ version
+    later None e = absurd (cc)
+    later (Some before) e = let same : before + 1 ≡ version = cc in omega (arith, same)
 
-module _ (patches : List Patch) (patch : Patch) (limits : LogLimits) where
-  pub decision-known : (version : ℕ) → version_of patches patch.id ≡ Some version → decision patches patch limits ≡ Known version (has_text (patch_at patches version) patch.text)
-  unfolding decision
-  decision-known version is = ap (λ found. decision_on found patches patch limits) is
+    by : (here : Bool) (found : Option ℕ) → cond here (Some 1) (option_map (λ before. before + 1) found) ≡ Some version → 1 ≤ version
+    by true found e = let same : ◌≡◌ {A = ℕ} 1 version = cc in omega (arith, same)
+    by false found e = later found e
 
-  pub decision-new : version_of patches patch.id ≡ None → decision patches patch limits ≡ decision_on_new patches patch limits
-  unfolding decision
-  decision-new is = ap (λ found. decision_on found patches patch limits) is
+one_or_later : (found later : Option ℕ) (version : ℕ) → (found ≡ Some version → 1 ≤ version) → (later ≡ Some version → 1 ≤ version) → first_found found later ≡ Some version → 1 ≤ version
+one_or_later None later version here behind is = behind is
+one_or_later (Some first) later version here behind is = here is
+
+pub known_from_one : (patches run : List Patch) (version : ℕ) → version_known patches run ≡ Some version → 1 ≤ version
+known_from_one patches [] version is = absurd (cc)
+known_from_one patches (patch ∷ run) version is =
+    one_or_later (version_of patches patch.id) (version_known patches run) version (version_from_one (patch_ids patches) patch.id version) (known_from_one patches run version) is
+
+-- nothing stands against the run
+pub record IsAcceptable (patches run : List Patch) (limits : LogLimits) : Type 0 where
+  pub new : version_known patches run ≡ None
+  pub follows : prev_of_run run ≡ last_id patches
+  pub places : length patches + length run ≤ limits.patches
+  pub room : journal_length (patches ++ run) ≤ limits.bytes
+
+module _ (patches run : List Patch) (limits : LogLimits) where
+  pub decision-known : (version : ℕ) → version_known patches run ≡ Some version → run_decision patches run limits ≡ Known version (stands_at patches version run)
+  unfolding run_decision
+  decision-known version is = ap (λ found. decision_on found patches run limits) is
+
+  pub decision-new : version_known patches run ≡ None → run_decision patches run limits ≡ decision_on_new patches run limits
+  unfolding run_decision
+  decision-new is = ap (λ found. decision_on found patches run limits) is
 
   abbrev longer : ℕ
-  longer = journal_length (patches ++ patch ∷ [])
+  longer = journal_length (patches ++ run)
 
   -- the tests, as they stand in the definition
   abbrev by_tests : Bool → Bool → Bool → Decision
-  by_tests follows full long = cond (not follows) (Conflict (length patches) (last_id patches) (version_named patches patch.prev)) (cond full (Full Patches (length patches) limits.patches) (cond long (Full Bytes longer limits.bytes) (Accept (length patches + 1))))
+  by_tests follows full long = cond (not follows) (Conflict (length patches) (last_id patches) (version_named patches (prev_of_run run))) (cond full (Full Patches (length patches) limits.patches) (cond long (Full Bytes longer limits.bytes) (Accept (length patches + length run))))
 
-  tested : decision_on_new patches patch limits ≡ by_tests (same_id patch.prev (last_id patches)) (eqb (length patches) limits.patches) (ltb limits.bytes longer)
+  tested : decision_on_new patches run limits ≡ by_tests (same_id (prev_of_run run) (last_id patches)) (ltb limits.patches (length patches + length run)) (ltb limits.bytes longer)
   tested = refl
 
-  pub decision-conflict : version_of patches patch.id ≡ None → same_id patch.prev (last_id patches) ≡ false → decision patches patch limits ≡ Conflict (length patches) (last_id patches) (version_named patches patch.prev)
-  decision-conflict new other = decision-new new ∙ ap (λ test. by_tests test (eqb (length patches) limits.patches) (ltb limits.bytes longer)) other
+  pub new-conflict : not (same_id (prev_of_run run) (last_id patches)) ≡ true → decision_on_new patches run limits ≡ Conflict (length patches) (last_id patches) (version_named patches (prev_of_run run))
+  new-conflict other = ap (λ test. by_tests test (ltb limits.patches (length patches + length run)) (ltb limits.bytes longer)) (not_true (same_id (prev_of_run run) (last_id patches)) other)
 
-  pub decision-full_patches : version_of patches patch.id ≡ None → same_id patch.prev (last_id patches) ≡ true → length patches ≡ limits.patches → decision patches patch limits ≡ Full Patches (length patches) limits.patches
-  decision-full_patches new follows full = decision-new new ∙ ap (λ test. by_tests test (eqb (length patches) limits.patches) (ltb limits.bytes longer)) follows ∙ ap (λ test. by_tests true test (ltb limits.bytes longer)) (eq-eqb (length patches) limits.patches full)
+  pub new-follows : (full : Bool) → not (same_id (prev_of_run run) (last_id patches)) ≡ false → ltb limits.patches (length patches + length run) ≡ full → decision_on_new patches run limits ≡ by_tests true full (ltb limits.bytes longer)
+  new-follows full follows is = ap (λ test. by_tests test (ltb limits.patches (length patches + length run)) (ltb limits.bytes longer)) (not_false (same_id (prev_of_run run) (last_id patches)) follows) ∙ ap (λ test. by_tests true test (ltb limits.bytes longer)) is
 
-  pub decision-rest : (long : Bool) → version_of patches patch.id ≡ None → same_id patch.prev (last_id patches) ≡ true → length patches ≢ limits.patches → ltb limits.bytes longer ≡ long → decision patches patch limits ≡ cond long (Full Bytes longer limits.bytes) (Accept (length patches + 1))
-  decision-rest long new follows place is =
-      let free : eqb (length patches) limits.patches ≡ false = grind (arith, nat_tests) in
-      decision-new new ∙ ap (λ test. by_tests test (eqb (length patches) limits.patches) (ltb limits.bytes longer)) follows ∙ ap (λ test. by_tests true test (ltb limits.bytes longer)) free ∙ ap (λ test. by_tests true false test) is
+  pub new-rest : (long : Bool) → not (same_id (prev_of_run run) (last_id patches)) ≡ false → ltb limits.patches (length patches + length run) ≡ false → ltb limits.bytes longer ≡ long
+      → decision_on_new patches run limits ≡ cond long (Full Bytes longer limits.bytes) (Accept (length patches + length run))
+  new-rest long follows few is = new-follows false follows few ∙ ap (λ test. by_tests true false test) is
 
-  accepted_by_tests : (follows full long : Bool) (version : ℕ) → by_tests follows full long ≡ Accept version → (follows ≡ true) × (full ≡ false) × (long ≡ false) × (version ≡ length patches + 1)
+  accepted_by_tests : (follows full long : Bool) (version : ℕ) → by_tests follows full long ≡ Accept version → (follows ≡ true) × (full ≡ false) × (long ≡ false) × (version ≡ length patches + length run)
   accepted_by_tests false full long version is = absurd (cc)
   accepted_by_tests true true long version is = absurd (cc)
   accepted_by_tests true false true version is = absurd (cc)
   accepted_by_tests true false false version is = (refl, refl, refl, cc)
 
-  accepted_if : (found : Option ℕ) (version : ℕ) → decision_on found patches patch limits ≡ Accept version → (found ≡ None) × (decision_on_new patches patch limits ≡ Accept version)
+  accepted_if : (found : Option ℕ) (version : ℕ) → decision_on found patches run limits ≡ Accept version → (found ≡ None) × (decision_on_new patches run limits ≡ Accept version)
   accepted_if None version is = (refl, is)
   accepted_if (Some known) version is = absurd (cc)
 
   -- what is accepted could be
-  pub accepted : (version : ℕ) → decision patches patch limits ≡ Accept version → IsAcceptable patches patch limits × (version ≡ length patches + 1)
-  unfolding decision
+  pub accepted : (version : ℕ) → run_decision patches run limits ≡ Accept version → IsAcceptable patches run limits × (version ≡ length patches + length run)
+  unfolding run_decision
   accepted version is =
-      let new = accepted_if (version_of patches patch.id) version is in
-      let tests = accepted_by_tests (same_id patch.prev (last_id patches)) (eqb (length patches) limits.patches) (ltb limits.bytes longer) version new.1 in (
+      let new = accepted_if (version_known patches run) version is in
+      let tests = accepted_by_tests (same_id (prev_of_run run) (last_id patches)) (ltb limits.patches (length patches + length run)) (ltb limits.bytes longer) version new.1 in (
         record {
           new = new.0;
-          follows = same_id-true patch.prev (last_id patches) tests.0;
-          place = λ same. absurd (true_not_false (sym (eq-eqb (length patches) limits.patches same) ∙ tests.1));
-          room = grind (arith, nat_tests, tests.2);
+          follows = same_id-true (prev_of_run run) (last_id patches) tests.0;
+          places = ltb-false limits.patches (length patches + length run) tests.1;
+          room = ltb-false limits.bytes longer tests.2;
         },
         tests.3,
       )
+
+-- where nothing stands against a run it is accepted
+pub accepts : (patches run : List Patch) (limits : LogLimits) → IsAcceptable patches run limits → run_decision patches run limits ≡ Accept (length patches + length run)
+accepts patches run limits can =
+    let follows : not (same_id (prev_of_run run) (last_id patches)) ≡ false = ap (λ (id : Option Id). not (same_id (prev_of_run run) id)) (sym can.follows) ∙ ap not (same_id-refl (prev_of_run run)) in
+    let places = can.places in
+    let room = can.room in
+    let few : ltb limits.patches (length patches + length run) ≡ false = grind (arith, nat_tests) in
+    let short : ltb limits.bytes (journal_length (patches ++ run)) ≡ false = grind (arith, nat_tests) in
+    decision-new patches run limits can.new ∙ new-rest patches run limits false follows few short

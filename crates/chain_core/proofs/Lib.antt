@@ -3,6 +3,7 @@ pub mod Tested
 pub mod Only
 pub mod Patches
 pub mod Decided
+pub mod Runs
 pub mod Stays
 pub mod Versions
 pub mod Fronts

@@ -6,6 +6,7 @@ pub mod Breaks
 pub mod Tested
 pub mod Patches
 pub mod Counted
+pub mod Runs
 pub mod Decision
 pub mod Log
 pub mod Stay

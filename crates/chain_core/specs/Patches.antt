@@ -1,7 +1,8 @@
 -- The patches of a chain, without who brought them.
-use Rattle.std.specs.Prelude.{ℕ, zero, suc, List, map, slice_get, Option, Some, None}
+use Rattle.std.specs.Prelude.{ℕ, zero, suc, ◌+◌, List, map, length, slice_get, Option, Some, None}
 use Rattle.delta_base.specs.declared.id.Id.{Id}
 use Rattle.log_base.specs.Journals.{payloads_length}
+use Rattle.log_base.specs.declared.limits.TheConstants.{PAYLOAD_FRAME}
 use Rattle.chain_core.specs.declared.chain.Patch.{Patch}
 use Rattle.chain_core.specs.declared.chain.Entry.{Entry}
 use Rattle.log_base.specs.declared.chain_link.ChainLink.{ChainLink}
@@ -43,6 +44,10 @@ patch_named patches (Some version) = patch_at patches version
 -- the id of the last patch
 abbrev pub last_id : List Patch → Option Id
 last_id patches = last_of (patch_ids patches)
+
+-- what a journal has for a payload
+abbrev pub framed : List ℕ → ℕ
+framed text = PAYLOAD_FRAME + length text
 
 -- the length of a journal that holds the patches
 abbrev pub journal_length : List Patch → ℕ

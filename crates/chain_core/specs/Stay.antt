@@ -1,5 +1,5 @@
 -- One stay in a log's turn: what an append makes of the log.
-use Rattle.std.specs.Prelude.{◌≡◌, ℕ, ◌+◌, List, [], ◌∷◌, ◌++◌, length}
+use Rattle.std.specs.Prelude.{◌≡◌, ℕ, List, [], ◌∷◌, ◌++◌}
 use Rattle.std.specs.Prelude.{Option, Some, None, if◌then◌else◌}
 use Rattle.log_base.specs.declared.limits.LogLimits.{LogLimits}
 use Rattle.chain_core.specs.declared.chain.Patch.{Patch}
@@ -15,12 +15,13 @@ use Rattle.chain_core.specs.declared.answer.LogAnswer.TheVariants.{Accepted, Dis
 use Rattle.chain_core.specs.declared.answer.LogAnswer.TheVariants.{Known as IsKnown}
 use Rattle.chain_core.specs.declared.answer.LogAnswer.TheVariants.{Conflict as IsConflict}
 use Rattle.chain_core.specs.declared.answer.LogAnswer.TheVariants.{Full as IsFull}
-use Rattle.chain_core.specs.Decision.{decision}
+use Rattle.chain_core.specs.Decision.{run_decision, decision}
+use Rattle.chain_core.specs.Runs.{patches_in}
 use Rattle.chain_core.specs.Log.{LogPoint, up, down}
 
 -- a log and the answer that was given, if one was
-abbrev pub Outcome : Type 0
-Outcome = LogPoint × Option LogAnswer
+abbrev pub Outcome : Type 0 → Type 0
+Outcome T = LogPoint T × Option LogAnswer
 
 abbrev pub answer_of : Decision → LogAnswer
 answer_of (Accept version) = Accepted version
@@ -28,42 +29,52 @@ answer_of (Known version same) = IsKnown version same
 answer_of (Conflict version head prev_version) = IsConflict version head prev_version
 answer_of (Full what have limit) = IsFull what have limit
 
-abbrev pub done : List Patch → Patch → Outcome
-done chain patch = (up (chain ++ patch ∷ []) None, Some (Accepted (length chain + 1)))
+abbrev pub done : {T : Type 0} → ℕ → List T → T → Outcome T
+done version taken more = (up (taken ++ more ∷ []) None, Some (Accepted version))
 
--- an append that is accepted, by what its device calls come to. Without a doubt there is no
--- settling that could fail.
-abbrev pub accepted_by : Fate → List Patch → Option Patch → Patch → Outcome
-accepted_by Done chain doubt patch = done chain patch
-accepted_by (Fails Settling) chain None patch = done chain patch
-accepted_by (Fails Settling) chain (Some doubtful) patch =
-    (up chain (Some doubtful), Some DiskFault)
-accepted_by (Fails Body) chain doubt patch = (up chain None, Some DiskFault)
-accepted_by (Fails Gate) chain doubt patch = (up chain (Some patch), Some DiskFault)
-accepted_by (Stops Settling opened) chain None patch = done chain patch
-accepted_by (Stops Settling opened) chain (Some doubtful) patch =
-    (down (if opened then chain ++ doubtful ∷ [] else chain), None)
-accepted_by (Stops Body opened) chain doubt patch = (down chain, None)
-accepted_by (Stops Gate opened) chain doubt patch =
-    (down (if opened then chain ++ patch ∷ [] else chain), None)
+-- an append that is accepted at this version, by what its device calls come to. Without a doubt
+-- there is no settling that could fail.
+abbrev pub accepted_by : {T : Type 0} → ℕ → Fate → List T → Option T → T → Outcome T
+accepted_by version Done taken doubt more = done version taken more
+accepted_by version (Fails Settling) taken None more = done version taken more
+accepted_by version (Fails Settling) taken (Some doubtful) more =
+    (up taken (Some doubtful), Some DiskFault)
+accepted_by version (Fails Body) taken doubt more = (up taken None, Some DiskFault)
+accepted_by version (Fails Gate) taken doubt more = (up taken (Some more), Some DiskFault)
+accepted_by version (Stops Settling opened) taken None more = done version taken more
+accepted_by version (Stops Settling opened) taken (Some doubtful) more =
+    (down (if opened then taken ++ doubtful ∷ [] else taken), None)
+accepted_by version (Stops Body opened) taken doubt more = (down taken, None)
+accepted_by version (Stops Gate opened) taken doubt more =
+    (down (if opened then taken ++ more ∷ [] else taken), None)
 
 -- an append of which this was decided
-abbrev pub decided_by : Decision → Fate → List Patch → Option Patch → Patch → Outcome
-decided_by (Accept version) fate chain doubt patch = accepted_by fate chain doubt patch
-decided_by (Known version same) fate chain doubt patch =
-    (up chain doubt, Some (IsKnown version same))
-decided_by (Conflict version head prev_version) fate chain doubt patch =
-    (up chain doubt, Some (IsConflict version head prev_version))
-decided_by (Full what have limit) fate chain doubt patch =
-    (up chain doubt, Some (IsFull what have limit))
+abbrev pub decided_by : {T : Type 0} → Decision → Fate → List T → Option T → T → Outcome T
+decided_by (Accept version) fate taken doubt more = accepted_by version fate taken doubt more
+decided_by (Known version same) fate taken doubt more =
+    (up taken doubt, Some (IsKnown version same))
+decided_by (Conflict version head prev_version) fate taken doubt more =
+    (up taken doubt, Some (IsConflict version head prev_version))
+decided_by (Full what have limit) fate taken doubt more =
+    (up taken doubt, Some (IsFull what have limit))
 
--- a stay that appends; a log that is down stays so
-abbrev pub stay : LogLimits → LogPoint → Patch → Fate → Outcome
+-- a stay that appends a run; a log that is down stays so
+abbrev pub run_stay : LogLimits → LogPoint (List Patch) → List Patch → Fate → Outcome (List Patch)
+run_stay limits (up runs doubt) run fate =
+    decided_by (run_decision (patches_in runs) run limits) fate runs doubt run
+run_stay limits (down runs) run fate = (down runs, None)
+
+abbrev pub RunStay : LogLimits → LogPoint (List Patch) → List Patch → Fate → LogPoint (List Patch)
+    → LogAnswer → Type 0
+RunStay limits before run fate after answer = run_stay limits before run fate ≡ (after, Some answer)
+
+-- a stay of what takes patches one by one
+abbrev pub stay : LogLimits → LogPoint Patch → Patch → Fate → Outcome Patch
 stay limits (up chain doubt) patch fate =
     decided_by (decision chain patch limits) fate chain doubt patch
 stay limits (down chain) patch fate = (down chain, None)
 
-abbrev pub Stay : LogLimits → LogPoint → Patch → Fate → LogPoint → LogAnswer → Type 0
+abbrev pub Stay : LogLimits → LogPoint Patch → Patch → Fate → LogPoint Patch → LogAnswer → Type 0
 Stay limits before patch fate after answer = stay limits before patch fate ≡ (after, Some answer)
 
 -- how the device calls of an append end of which this phase failed, or none

@@ -30,6 +30,11 @@ pub enum LogAnswer {
     Accepted {
         version: u32,
     },
+    /// A run, whose patches have the versions from `first` to `version`.
+    AcceptedRun {
+        first: u32,
+        version: u32,
+    },
     Known {
         version: u32,
         same: bool,
@@ -49,8 +54,27 @@ pub enum LogAnswer {
 }
 
 impl LogAnswer {
-    ghost use Rattle.std.specs.Prelude.{◌≡◌};
+    ghost use Rattle.std.specs.Prelude.{◌≡◌, ◌<◌, ◌≤◌, ℕ};
     ghost use Rattle.chain_core.specs.Stay.{answer_of};
+    ghost use Rattle.chain_core.specs.Replies.{as_run};
+    ghost use Rattle.chain_core.specs.declared.answer.LogAnswer.{LogAnswer as Answer};
+    ghost use Rattle.chain_core.specs.declared.answer.LogAnswer.TheVariants as answers;
+
+    /// The answer as one to a run of so many patches: that it is accepted is told with the version
+    /// of its first patch.
+    pub fn as_run(self, patches: u32) -> LogAnswer
+        requires some { 0 < patches }
+        requires counted { (version : ℕ) → self ≡ answers.Accepted version → patches ≤ version }
+        ensures { result ≡ as_run patches self }
+    {
+        match self {
+            LogAnswer::Accepted { version } => LogAnswer::AcceptedRun {
+                first: version - (patches - 1),
+                version,
+            },
+            answer => answer,
+        }
+    }
 
     /// The answer that tells a decision.
     pub fn told(decision: Decision) -> LogAnswer

@@ -38,15 +38,16 @@ impl IdIndex {
         self.versions.get(&id.0).copied()
     }
 
-    /// Makes a place ready.
-    pub fn reserve(&mut self) -> Result<(), OutOfMemory>
+    /// Makes so many places ready.
+    pub fn reserve(&mut self, need: u32) -> Result<(), OutOfMemory>
         ensures index { HasSameIds self.old self.new }
-        ensures places { OnOk result (self.new.places ≡ max self.old.places 1) }
+        ensures places { OnOk result (self.new.places ≡ max self.old.places need) }
         ensures err { OnErr result (self.new.places ≡ self.old.places) }
     {
-        if self.places == 0 {
-            self.versions.reserve(1)?;
-            self.places = 1;
+        let need = need as usize;
+        if self.places < need {
+            self.versions.reserve(need)?;
+            self.places = need;
         }
         Ok(())
     }

@@ -9,7 +9,8 @@ ghost use Rattle.log_base.specs.declared.limits.TheConstants.{PATCH_LIMIT};
 ghost use Rattle.chain_core.specs.declared.chain.Patch.{Patch};
 ghost use Rattle.chain_core.specs.declared.fate.Fate.{Fate};
 ghost use Rattle.chain_core.specs.Log.{LogPoint, IsPoint, stopped, opened_again};
-ghost use Rattle.chain_core.specs.Stay.{stay};
+ghost use Rattle.chain_core.specs.Runs.{IsRun, run_text};
+ghost use Rattle.chain_core.specs.Stay.{run_stay};
 
 /// A chain has no fault.
 pub fn chains_have_no_fault()
@@ -25,15 +26,15 @@ pub fn patches_have_one_fault()
 
 /// Whatever an append comes to, the chain and what the disk may hold stay logs.
 pub fn stays_keep_logs()
-    ensures { (limits : LogLimits) (point : LogPoint) (patch : Patch) (fate : Fate)
-        → IsPoint limits point → length patch.text ≤ PATCH_LIMIT
-        → IsPoint limits (stay limits point patch fate).0 }
+    ensures { (limits : LogLimits) (point : LogPoint (List Patch)) (run : List Patch)
+        (fate : Fate) → IsPoint limits point → IsRun run → length (run_text run) ≤ PATCH_LIMIT
+        → IsPoint limits (run_stay limits point run fate).0 }
 {}
 
 /// So do they over stops and openings.
 pub fn stops_keep_logs()
-    ensures stop { (limits : LogLimits) (point : LogPoint) (opened : Bool) → IsPoint limits point
-        → IsPoint limits (stopped point opened) }
-    ensures opening { (limits : LogLimits) (point : LogPoint) → IsPoint limits point
-        → IsPoint limits (opened_again point) }
+    ensures stop { (limits : LogLimits) (point : LogPoint (List Patch)) (opened : Bool)
+        → IsPoint limits point → IsPoint limits (stopped point opened) }
+    ensures opening { (limits : LogLimits) (point : LogPoint (List Patch))
+        → IsPoint limits point → IsPoint limits (opened_again point) }
 {}

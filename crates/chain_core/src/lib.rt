@@ -8,11 +8,12 @@ mod fate;
 mod id_index;
 mod laws;
 mod lookup;
+mod sent;
 mod testing;
 
 pub use answer::{Decision, LogAnswer};
 pub use chain::{Chain, Entry, Patch};
-pub use deciding::decide;
+pub use deciding::{decide, decide_run};
 pub use fate::Fate;
 pub use id_index::IdIndex;
 pub use laws::{chains_have_no_fault, patches_have_one_fault, stays_keep_logs, stops_keep_logs};

@@ -5,6 +5,7 @@
 mod chain_link;
 mod limits;
 mod phase;
+mod sent;
 mod source_info;
 
 pub use chain_link::ChainLink;
@@ -14,4 +15,5 @@ pub use limits::{
     REGISTRY_LIMIT, ZONE_FILE_LIMIT,
 };
 pub use phase::Phase;
+pub use sent::Sent;
 pub use source_info::{SourceInfo, Sources};
