@@ -25,7 +25,7 @@ slice_on text a b c low high =
 none_there : (text : List ℕ) (at : ℕ) → slice_range text at at ≡ []
 none_there text at = let none : at - at ≡ 0 = omega arith in ap (λ (n : ℕ). take n (drop at text)) none
 
-slice_all : (text : List ℕ) → slice_range text 0 (length text) ≡ text
+pub slice_all : (text : List ℕ) → slice_range text 0 (length text) ≡ text
 slice_all text = let all : length text - 0 ≡ length text = omega arith in ap (λ (n : ℕ). take n text) all ∙ take-length text
 
 rows_within : (text : List ℕ) (from stop : ℕ) (rs : List PlacedRow) → RowsTo text from rs stop → from ≤ stop

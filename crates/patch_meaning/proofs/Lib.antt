@@ -1,6 +1,7 @@
 pub mod Cuts
 pub mod Drafts
 pub mod Exists
+pub mod Alone
 pub mod Joined
 pub mod OneFault
 pub mod OneStream

@@ -14,7 +14,7 @@ use crate::part::whole;
 use crate::role::Role;
 use crate::rows::{Next, next_row};
 use delta_base::{Bytes, Id, Listing, OutOfMemory};
-use log_base::{ChainLink, PATCH_LIMIT};
+use log_base::{ChainLink, PATCH_LIMIT, Sent};
 use rdf_terms::Changes;
 use std::alloc::Global;
 use std::marker::Model;
@@ -101,6 +101,23 @@ impl Checked {
             text: self.text.copy()?,
             changes: copy_changes(&self.changes)?,
         })
+    }
+}
+
+impl Sent for Checked {
+    ghost link_sent = { λ patch. record { id = patch.meaning.id; prev = patch.meaning.prev } };
+
+    ghost text_sent = { λ patch. patch.text };
+
+    fn link(&self) -> ChainLink {
+        ChainLink {
+            id: self.id,
+            prev: self.prev,
+        }
+    }
+
+    fn text(&self) -> &[u8] {
+        self.text.as_slice()
     }
 }
 

@@ -1,6 +1,6 @@
 //! Laws of the definitions. These functions do nothing: their contracts are theorems.
 
-ghost use Rattle.std.specs.Prelude.{◌≡◌, ◌⊎◌, List, [], ℕ};
+ghost use Rattle.std.specs.Prelude.{◌≡◌, ◌⊎◌, List, [], ◌∷◌, ℕ};
 ghost use Rattle.std.specs.List.{flat_map};
 ghost use Rattle.patch_meaning.specs.declared.fault.PatchFault.{PatchFault};
 ghost use Rattle.patch_meaning.specs.Patch.{Meaning, IsPatch, IsPatchFault};
@@ -36,4 +36,11 @@ pub fn streams_are_their_patches()
     ensures joined { (text : List ℕ) (ps : List CheckedPatch) → IsSplit text ps
         → (ps ≡ [] → ⊥) → flat_map (λ p. p.text) ps ≡ text }
     ensures each { (text : List ℕ) (ps : List CheckedPatch) → IsSplit text ps → AreChecked ps }
+{}
+
+/// A patch is the stream of that patch alone, and a text is the stream of one list of patches.
+pub fn patches_are_streams()
+    ensures alone { (p : CheckedPatch) → IsPatch p.text p.meaning → IsSplit p.text (p ∷ []) }
+    ensures one { (text : List ℕ) (ps qs : List CheckedPatch) → IsSplit text ps → IsSplit text qs
+        → ps ≡ qs }
 {}

@@ -15,7 +15,9 @@ mod stream;
 
 pub use checked::{Checked, check_patch};
 pub use fault::{PatchFault, PatchKind};
-pub use laws::{patches_are_settled, streams_are_settled, streams_are_their_patches};
+pub use laws::{
+    patches_are_settled, patches_are_streams, streams_are_settled, streams_are_their_patches,
+};
 pub use link::check_link;
 pub use part::Part;
 pub use role::{Role, role_of};
