@@ -1,5 +1,6 @@
 pub mod Growing
 pub mod Sound
+pub mod Checking
 pub mod Openings
 pub mod States
 pub mod Told

@@ -10,18 +10,19 @@ use Rattle.disk_model.specs.Past.{LeavesOnly}
 use Rattle.disk_model.proofs.Moments.{starts, joined, weaker}
 use Rattle.chain_core.specs.declared.chain.Patch.{Patch}
 use Rattle.chain_core.specs.declared.chain.Entry.{Entry}
+use Rattle.chain_core.specs.Runs.{entries_of}
 use Rattle.chain_core.specs.declared.answer.LogAnswer.{LogAnswer}
-use Rattle.chain_core.specs.declared.answer.LogAnswer.TheVariants.{Accepted, Known, Conflict, Full, DiskFault, OutOfMemory}
+use Rattle.chain_core.specs.declared.answer.LogAnswer.TheVariants.{Accepted, AcceptedRun, Known, Conflict, Full, DiskFault, OutOfMemory}
 use Rattle.patch_meaning.specs.Checked.{CheckedPatch}
 use Rattle.log_journal.specs.Writing.{HoldsDuring}
-use Rattle.patch_log.specs.Log.{bare, payloads_of, patch_payload}
-use Rattle.patch_log.specs.State.{LogView, chain_of}
-use Rattle.patch_log.specs.Run.{Appended, Run, GrowsBy, HoldsInRun, is_disk_fault}
+use Rattle.patch_log.specs.Log.{bare, payloads_of, run_payload}
+use Rattle.patch_log.specs.State.{LogView, runs_in}
+use Rattle.patch_log.specs.Run.{Appended, AppendedAll, GrowsBy, HoldsInSeries, is_disk_fault}
 
 module _ {D : Type 0} (disks : Ghosts D) (by : ℕ) where
   -- one append more
   pub run_more : (before : LogView D) (patches : List Patch) (answers : List LogAnswer) (mid : LogView D) (patch : Patch) (answer : LogAnswer) (after : LogView D)
-      → Run disks by before patches answers mid → Appended disks mid after patch by answer → Run disks by before (patches ++ patch ∷ []) (answers ++ answer ∷ []) after
+      → AppendedAll disks by before patches answers mid → Appended disks mid after patch by answer → AppendedAll disks by before (patches ++ patch ∷ []) (answers ++ answer ∷ []) after
   run_more before [] [] mid patch answer after run more = (after, subst (λ (log : LogView D). Appended disks log after patch by answer) run more, refl)
   run_more before [] (a ∷ answers) mid patch answer after run more = absurd run
   run_more before (p ∷ patches) [] mid patch answer after run more = absurd run
@@ -29,23 +30,23 @@ module _ {D : Type 0} (disks : Ghosts D) (by : ℕ) where
       (run.0, run.1, run_more run.0 patches answers mid patch answer after run.2 more)
 
   -- before any of them
-  pub no_append_yet : (before : LogView D) (patches : List Patch) → LeavesOnly (HoldsInRun disks by before patches) (disks.past before.disk) (disks.past before.disk)
-  no_append_yet before patches = starts (HoldsInRun disks by before patches) (disks.past before.disk) (λ image left. inl left)
+  pub no_append_yet : (before : LogView D) (patches : List Patch) → LeavesOnly (HoldsInSeries disks by before patches) (disks.past before.disk) (disks.past before.disk)
+  no_append_yet before patches = starts (HoldsInSeries disks by before patches) (disks.past before.disk) (λ image left. inl left)
 
   -- what one append more leaves
   pub moments_more : (before : LogView D) (all : List CheckedPatch) (place : ℕ) (patch : CheckedPatch) (answers : List LogAnswer) (mid after : LogView D)
       → place < length all → patch ≡ get_or all place patch → mid.number ≡ before.number
-      → Run disks by before (map bare (take place all)) answers mid
-      → LeavesOnly (HoldsInRun disks by before (map bare all)) (disks.past before.disk) (disks.past mid.disk)
-      → LeavesOnly (HoldsDuring mid.number (payloads_of (chain_of mid)) (patch_payload mid.doubt) patch.text) (disks.past mid.disk) (disks.past after.disk)
-      → LeavesOnly (HoldsInRun disks by before (map bare all)) (disks.past before.disk) (disks.past after.disk)
+      → AppendedAll disks by before (map bare (take place all)) answers mid
+      → LeavesOnly (HoldsInSeries disks by before (map bare all)) (disks.past before.disk) (disks.past mid.disk)
+      → LeavesOnly (HoldsDuring mid.number (payloads_of (runs_in mid)) (run_payload mid.doubt) patch.text) (disks.past mid.disk) (disks.past after.disk)
+      → LeavesOnly (HoldsInSeries disks by before (map bare all)) (disks.past before.disk) (disks.past after.disk)
   moments_more before all place patch answers mid after within is number run so_far more =
       let split = parts all place patch within in
       let all_is : map bare all ≡ map bare (take place all) ++ bare patch ∷ split.0 = split.1 ∙ ap (λ (p : CheckedPatch). map bare (take place all) ++ bare p ∷ split.0) (sym is) in
-      let here : (image : List ℕ) → HoldsDuring mid.number (payloads_of (chain_of mid)) (patch_payload mid.doubt) patch.text image → HoldsInRun disks by before (map bare all) image =
-      λ image holds. inr (map bare (take place all), bare patch, split.0, all_is, answers, mid, run, subst (λ (n : ℕ). HoldsDuring n (payloads_of (chain_of mid)) (patch_payload mid.doubt) patch.text image) number holds) in
-      joined (HoldsInRun disks by before (map bare all)) (disks.past before.disk) (disks.past mid.disk) (disks.past after.disk) so_far
-      (weaker (HoldsDuring mid.number (payloads_of (chain_of mid)) (patch_payload mid.doubt) patch.text) (HoldsInRun disks by before (map bare all)) here (disks.past mid.disk) (disks.past after.disk) more)
+      let here : (image : List ℕ) → HoldsDuring mid.number (payloads_of (runs_in mid)) (run_payload mid.doubt) patch.text image → HoldsInSeries disks by before (map bare all) image =
+      λ image holds. inr (map bare (take place all), bare patch, split.0, all_is, answers, mid, run, subst (λ (n : ℕ). HoldsDuring n (payloads_of (runs_in mid)) (run_payload mid.doubt) patch.text image) number holds) in
+      joined (HoldsInSeries disks by before (map bare all)) (disks.past before.disk) (disks.past mid.disk) (disks.past after.disk) so_far
+      (weaker (HoldsDuring mid.number (payloads_of (runs_in mid)) (run_payload mid.doubt) patch.text) (HoldsInSeries disks by before (map bare all)) here (disks.past mid.disk) (disks.past after.disk) more)
     where
       parts : (all : List CheckedPatch) (place : ℕ) (other : CheckedPatch) → place < length all → (behind : List Patch) × (map bare all ≡ map bare (take place all) ++ bare (get_or all place other) ∷ behind)
       parts [] place other within = absurd (omega (arith, within))
@@ -61,16 +62,17 @@ module _ (by : ℕ) where
   grows_none entries = ([], sym (append-nil entries), tt)
 
   -- one append adds its patch or nothing
-  grows_once : (patch : Patch) (before after : List Entry) (answer : LogAnswer) → ((version : ℕ) → answer ≡ Accepted version → after ≡ before ++ record { patch = patch; by = by } ∷ [])
+  grows_once : (patch : Patch) (before after : List Entry) (answer : LogAnswer) → ((version : ℕ) → answer ≡ Accepted version → after ≡ before ++ entries_of (patch ∷ []) by)
       → (((version : ℕ) → answer ≢ Accepted version) → after ≡ before) → GrowsBy by before after
-  grows_once patch before after (Accepted version) accepted refused = (record { patch = patch; by = by } ∷ [], accepted version refl, (refl, tt))
+  grows_once patch before after (Accepted version) accepted refused = (entries_of (patch ∷ []) by, accepted version refl, (refl, tt))
+  grows_once patch before after (AcceptedRun first version) accepted refused = subst (GrowsBy by before) (sym (refused (λ v e. cc))) (grows_none before)
   grows_once patch before after (Known version same) accepted refused = subst (GrowsBy by before) (sym (refused (λ v e. cc))) (grows_none before)
   grows_once patch before after (Conflict version head named) accepted refused = subst (GrowsBy by before) (sym (refused (λ v e. cc))) (grows_none before)
   grows_once patch before after (Full what have limit) accepted refused = subst (GrowsBy by before) (sym (refused (λ v e. cc))) (grows_none before)
   grows_once patch before after DiskFault accepted refused = subst (GrowsBy by before) (sym (refused (λ v e. cc))) (grows_none before)
   grows_once patch before after OutOfMemory accepted refused = subst (GrowsBy by before) (sym (refused (λ v e. cc))) (grows_none before)
 
-  pub grows_more : (patch : Patch) (first before after : List Entry) (answer : LogAnswer) → GrowsBy by first before → ((version : ℕ) → answer ≡ Accepted version → after ≡ before ++ record { patch = patch; by = by } ∷ [])
+  pub grows_more : (patch : Patch) (first before after : List Entry) (answer : LogAnswer) → GrowsBy by first before → ((version : ℕ) → answer ≡ Accepted version → after ≡ before ++ entries_of (patch ∷ []) by)
       → (((version : ℕ) → answer ≢ Accepted version) → after ≡ before) → GrowsBy by first after
   grows_more patch first before after answer so_far accepted refused =
       let once = grows_once patch before after answer accepted refused in
@@ -91,6 +93,7 @@ pub rose_more : (answers : List LogAnswer) (answer : LogAnswer) (first before af
 rose_more answers DiskFault first before after so_far cause more = rw (fault_more answers) (⊎_elim
     (λ (rose : before < after). omega (arith, so_far, rose)) (λ (last : after ≡ 2 ^ 64 - 1). omega (arith, last)) (cause refl))
 rose_more answers (Accepted version) first before after so_far cause more = rw (other_more answers (Accepted version) refl) (omega (arith, so_far, more))
+rose_more answers (AcceptedRun start version) first before after so_far cause more = rw (other_more answers (AcceptedRun start version) refl) (omega (arith, so_far, more))
 rose_more answers (Known version same) first before after so_far cause more = rw (other_more answers (Known version same) refl) (omega (arith, so_far, more))
 rose_more answers (Conflict version head named) first before after so_far cause more = rw (other_more answers (Conflict version head named) refl) (omega (arith, so_far, more))
 rose_more answers (Full what have limit) first before after so_far cause more = rw (other_more answers (Full what have limit) refl) (omega (arith, so_far, more))

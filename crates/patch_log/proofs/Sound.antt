@@ -1,103 +1,155 @@
--- Logs of patches that their texts are.
-use Rattle.std.proofs.Common.{◌≡◌, ℕ, zero, suc, ◌≤◌, List, [], ◌∷◌, ◌++◌, length, take, refl, ◌∙◌, ap, subst, arith}
-use Rattle.std.specs.List.{AllByRecursion}
-use Rattle.std.proofs.lemmas.List.{map-append, length-map}
-use Rattle.delta_base.specs.declared.id.Id.{Id}
-use Rattle.patch_meaning.specs.Patch.{Meaning, IsPatch}
-use Rattle.patch_meaning.proofs.Settled.{one_meaning}
+-- Logs of runs that their texts are.
+use Rattle.std.proofs.Common.{◌≡◌, ℕ, zero, suc, ◌+◌, ◌<◌, List, [], ◌∷◌, ◌++◌, length, map, take, drop, refl, sym, ◌∙◌, ap, subst, arith, length-append, append_assoc, append-nil}
+use Rattle.std.specs.List.{AllByRecursion, flat_map}
+use Rattle.std.proofs.lemmas.List.{map-append, take_at}
+use Rattle.std.proofs.lemmas.List.Concat.{flat_map-cons}
+use Rattle.patch_meaning.specs.Checked.{CheckedPatch}
+use Rattle.patch_meaning.specs.Patch.{IsPatch}
+use Rattle.patch_meaning.specs.Stream.{IsSplit}
+use Rattle.patch_meaning.proofs.Joined.{joined}
+use Rattle.patch_meaning.proofs.Alone.{alone, one_split}
 use Rattle.log_base.specs.declared.limits.LogLimits.{LogLimits}
-use Rattle.log_base.specs.declared.limits.TheConstants.{PATCH_LIMIT}
 use Rattle.chain_core.specs.declared.chain.Patch.{Patch}
 use Rattle.chain_core.specs.declared.answer.Decision.TheVariants.{Accept}
-use Rattle.chain_core.specs.Decision.{decision}
-use Rattle.chain_core.specs.Patches.{texts_of}
+use Rattle.chain_core.specs.Decision.{run_decision}
+use Rattle.chain_core.specs.Links.{IsChain}
+use Rattle.chain_core.specs.Patches.{links_of}
+use Rattle.chain_core.specs.Runs.{IsRun, patches_in, run_text, run_texts}
+use Rattle.chain_core.proofs.Runs.{patches_in-push}
 use Rattle.chain_core.proofs.Stays.{goes_on}
 use Rattle.chain_core.proofs.Fronts.{links-take}
-use Rattle.patch_log.specs.Log.{IsSound, IsSoundLog, AreChained}
-use Rattle.chain_core.specs.Breaks.{BreaksAt}
+use Rattle.log_journal.specs.declared.block.Block.{Block}
+use Rattle.log_journal.specs.Payload.{payload_of}
+use Rattle.patch_log.specs.Ready.{IsReady, RunView}
+use Rattle.patch_log.specs.Log.{IsRunOf, IsSoundRun, IsSoundLog, AreChained, BreaksBehind, bare}
 
-pub texts_of-push : (patches : List Patch) (patch : Patch) → texts_of (patches ++ patch ∷ []) ≡ texts_of patches ++ patch.text ∷ []
-texts_of-push patches patch = map-append (λ (patch : Patch). patch.text) patches (patch ∷ [])
+pub texts_of-push : (runs : List (List Patch)) (run : List Patch) → run_texts (runs ++ run ∷ []) ≡ run_texts runs ++ run_text run ∷ []
+texts_of-push runs run = map-append run_text runs (run ∷ [])
 
-pub sound-push : (patches : List Patch) (patch : Patch) → AllByRecursion IsSound patches → IsSound patch → AllByRecursion IsSound (patches ++ patch ∷ [])
-sound-push [] patch sound more = (more, tt)
-sound-push (first ∷ patches) patch sound more = (sound.0, sound-push patches patch sound.1 more)
+pub sound-push : (runs : List (List Patch)) (run : List Patch) → AllByRecursion IsSoundRun runs → IsSoundRun run → AllByRecursion IsSoundRun (runs ++ run ∷ [])
+sound-push [] run sound more = (more, tt)
+sound-push (first ∷ runs) run sound more = (sound.0, sound-push runs run sound.1 more)
 
-pub sound-front : (patches : List Patch) (patch : Patch) → AllByRecursion IsSound (patches ++ patch ∷ []) → AllByRecursion IsSound patches × IsSound patch
-sound-front [] patch sound = (tt, sound.0)
-sound-front (first ∷ patches) patch sound = let rest = sound-front patches patch sound.1 in ((sound.0, rest.0), rest.1)
+pub sound-front : (runs : List (List Patch)) (run : List Patch) → AllByRecursion IsSoundRun (runs ++ run ∷ []) → AllByRecursion IsSoundRun runs × IsSoundRun run
+sound-front [] run sound = (tt, sound.0)
+sound-front (first ∷ runs) run sound = let rest = sound-front runs run sound.1 in ((sound.0, rest.0), rest.1)
 
-sound-take : (patches : List Patch) (n : ℕ) → AllByRecursion IsSound patches → AllByRecursion IsSound (take n patches)
+sound-take : (runs : List (List Patch)) (n : ℕ) → AllByRecursion IsSoundRun runs → AllByRecursion IsSoundRun (take n runs)
 sound-take [] zero sound = tt
 sound-take [] (suc n) sound = tt
-sound-take (patch ∷ patches) zero sound = tt
-sound-take (patch ∷ patches) (suc n) sound = (sound.0, sound-take patches n sound.1)
+sound-take (run ∷ runs) zero sound = tt
+sound-take (run ∷ runs) (suc n) sound = (sound.0, sound-take runs n sound.1)
 
--- their texts are short
-pub sound_short : (patches : List Patch) → AllByRecursion IsSound patches → AllByRecursion (λ (patch : Patch). length patch.text ≤ PATCH_LIMIT) patches
-sound_short [] sound = tt
-sound_short (patch ∷ patches) sound = let first = sound.0 in (first.1.short, sound_short patches sound.1)
+-- ---- runs and their texts
 
--- what is accepted goes on the log
-pub log-push : (limits : LogLimits) (patches : List Patch) (patch : Patch) (version : ℕ) → IsSoundLog limits patches → IsSound patch → decision patches patch limits ≡ Accept version → IsSoundLog limits (patches ++ patch ∷ [])
-log-push limits patches patch version log sound is = record { log = goes_on limits patches patch version log.log sound.1.short is; sound = sound-push patches patch log.sound sound }
+pub run_is : (run : List Patch) → IsSoundRun run → IsRun run
+run_is run sound = subst IsRun sound.bare_is sound.read.run
 
--- ---- a text is the text of one patch
+pub runs_some : (runs : List (List Patch)) → AllByRecursion IsSoundRun runs → AllByRecursion (λ (run : List Patch). 0 < length run) runs
+runs_some [] sound = tt
+runs_some (run ∷ runs) sound = ((run_is run sound.0).some, runs_some runs sound.1)
 
-same_patch : (p q : Patch) → p.text ≡ q.text → p.id ≡ q.id → p.prev ≡ q.prev → p ≡ q
-same_patch p q text id prev =
-    ap (λ (t : List ℕ). record { id = p.id; prev = p.prev; text = t }) text
-    ∙ ap (λ (i : Id). record { id = i; prev = p.prev; text = q.text }) id
-    ∙ ap (λ (o : _). record { id = q.id; prev = o; text = q.text }) prev
+texts_flat : (patches : List CheckedPatch) → run_text (map bare patches) ≡ flat_map (λ (p : CheckedPatch). p.text) patches
+texts_flat [] = refl
+texts_flat (p ∷ []) = sym (append-nil p.text) ∙ sym (flat_map-cons (λ (p : CheckedPatch). p.text) p [])
+texts_flat (p ∷ (q ∷ patches)) = ap (λ (t : List ℕ). p.text ++ t) (texts_flat (q ∷ patches)) ∙ sym (flat_map-cons (λ (p : CheckedPatch). p.text) p (q ∷ patches))
 
-pub one_sound : (p q : Patch) → p.text ≡ q.text → IsSound p → IsSound q → p ≡ q
-one_sound p q same one other =
-    let m : Meaning = record { id = p.id; prev = p.prev; changes = one.0 } in
-    let n : Meaning = record { id = q.id; prev = q.prev; changes = other.0 } in
-    let found = one_meaning q.text m n (subst (λ (text : List ℕ). IsPatch text m) same one.1) other.1 in
-    same_patch p q same (ap (λ (x : Meaning). x.id) found) (ap (λ (x : Meaning). x.prev) found)
+some_not : (patches : List CheckedPatch) → 0 < length (map bare patches) → patches ≡ [] → ⊥
+some_not patches some none = let no : length (map bare patches) ≡ 0 = ap (λ (ps : List CheckedPatch). length (map bare ps)) none in absurd (omega (arith, some, no))
+
+-- the text of a run is that of which it was read
+pub text_is : (text : List ℕ) (patches : List CheckedPatch) → IsRunOf text patches → run_text (map bare patches) ≡ text
+text_is text patches is = texts_flat patches ∙ joined text patches is.split (some_not patches is.run.some)
+
+-- what was read is sound
+pub sound_of : (text : List ℕ) (patches : List CheckedPatch) → IsRunOf text patches → IsSoundRun (map bare patches)
+sound_of text patches is = record {
+  patches = patches;
+  bare_is = refl;
+  read = subst (λ (t : List ℕ). IsRunOf t patches) (sym (text_is text patches is)) is;
+}
+
+-- one patch is a run by itself
+alone_run : (patch : Patch) → IsRun (patch ∷ [])
+alone_run patch = record { some = omega arith; chain = record { follow = (refl, tt); differ = (tt, tt) } }
+
+pub sound_alone : (patch : CheckedPatch) → IsPatch patch.text patch.meaning → IsSoundRun (bare patch ∷ [])
+sound_alone patch is = record {
+  patches = patch ∷ [];
+  bare_is = refl;
+  read = record { short = is.short; split = alone patch is; run = alone_run (bare patch) };
+}
+
+-- ---- a text is the text of one run
+
+pub one_run : (r s : List Patch) → run_text r ≡ run_text s → IsSoundRun r → IsSoundRun s → r ≡ s
+one_run r s same one other =
+    let read : IsSplit (run_text s) one.patches = subst (λ (t : List ℕ). IsSplit t one.patches) same one.read.split in
+    sym one.bare_is ∙ ap (map bare) (one_split (run_text s) one.patches other.patches read other.read.split) ∙ other.bare_is
 
 -- lists that are equal have equal heads and tails
 pub heads : {X : Type 0} (x y : X) (xs ys : List X) → x ∷ xs ≡ y ∷ ys → (x ≡ y) × (xs ≡ ys)
 heads x y xs ys same = (cc, cc)
 
--- so texts are those of one list of patches
-pub one_list : (ps qs : List Patch) → texts_of ps ≡ texts_of qs → AllByRecursion IsSound ps → AllByRecursion IsSound qs → ps ≡ qs
+-- so texts are those of one list of runs
+pub one_list : (rs ss : List (List Patch)) → run_texts rs ≡ run_texts ss → AllByRecursion IsSoundRun rs → AllByRecursion IsSoundRun ss → rs ≡ ss
 one_list [] [] same one other = refl
-one_list [] (q ∷ qs) same one other = absurd (cc)
-one_list (p ∷ ps) [] same one other = absurd (cc)
-one_list (p ∷ ps) (q ∷ qs) same one other =
-    let parts = heads p.text q.text (texts_of ps) (texts_of qs) same in
-    ap (λ (x : Patch). x ∷ ps) (one_sound p q parts.0 one.0 other.0) ∙ ap (λ (xs : List Patch). q ∷ xs) (one_list ps qs parts.1 one.1 other.1)
+one_list [] (s ∷ ss) same one other = absurd (cc)
+one_list (r ∷ rs) [] same one other = absurd (cc)
+one_list (r ∷ rs) (s ∷ ss) same one other =
+    let parts = heads (run_text r) (run_text s) (run_texts rs) (run_texts ss) same in
+    ap (λ (x : List Patch). x ∷ rs) (one_run r s parts.0 one.0 other.0) ∙ ap (λ (xs : List (List Patch)). s ∷ xs) (one_list rs ss parts.1 one.1 other.1)
 
--- ---- lengths
+-- ---- what is accepted goes on the log
 
-length-take : (texts : List (List ℕ)) (n : ℕ) → length (take n texts) ≤ length texts
-length-take [] zero = omega arith
-length-take [] (suc n) = omega arith
-length-take (text ∷ texts) zero = omega arith
-length-take (text ∷ texts) (suc n) = omega (arith, length-take texts n)
+pub log-push : (limits : LogLimits) (runs : List (List Patch)) (run : List Patch) (version : ℕ) → IsSoundLog limits runs → IsSoundRun run → run_decision (patches_in runs) run limits ≡ Accept version → IsSoundLog limits (runs ++ run ∷ [])
+log-push limits runs run version log sound is = record {
+  log = rw (patches_in-push runs run) (goes_on limits (patches_in runs) run version log.log (run_is run sound) sound.read.short is);
+  sound = sound-push runs run log.sound sound;
+}
 
--- ---- the first texts of a chain
+-- ---- the first runs of a chain
 
-texts-take : (patches : List Patch) (n : ℕ) → texts_of (take n patches) ≡ take n (texts_of patches)
+texts-take : (runs : List (List Patch)) (n : ℕ) → run_texts (take n runs) ≡ take n (run_texts runs)
 texts-take [] zero = refl
 texts-take [] (suc n) = refl
-texts-take (patch ∷ patches) zero = refl
-texts-take (patch ∷ patches) (suc n) = ap (λ (ts : List (List ℕ)). patch.text ∷ ts) (texts-take patches n)
+texts-take (run ∷ runs) zero = refl
+texts-take (run ∷ runs) (suc n) = ap (λ (ts : List (List ℕ)). run_text run ∷ ts) (texts-take runs n)
+
+-- the patches of the first runs come first
+patches-front : (runs : List (List Patch)) (n : ℕ) → patches_in runs ≡ patches_in (take n runs) ++ patches_in (drop n runs)
+patches-front [] zero = refl
+patches-front [] (suc n) = refl
+patches-front (run ∷ runs) zero = refl
+patches-front (run ∷ runs) (suc n) = ap (λ (ps : List Patch). run ++ ps) (patches-front runs n) ∙ sym (append_assoc run (patches_in (take n runs)) (patches_in (drop n runs)))
+
+pub chain-front : (front more : List Patch) → IsChain (links_of (front ++ more)) → IsChain (links_of front)
+chain-front front more chain = subst (λ (ps : List Patch). IsChain (links_of ps)) (take_at front more (length front) refl) (links-take (front ++ more) (length front) chain)
 
 pub chained-take : (texts : List (List ℕ)) (most n : ℕ) → AreChained most texts → AreChained most (take n texts)
 chained-take texts most n are = record {
-  patches = take n are.patches;
-  texts_are = texts-take are.patches n ∙ ap (take n) are.texts_are;
-  sound = sound-take are.patches n are.sound;
-  chain = links-take are.patches n are.chain;
-  few = omega (arith, are.few, length-take texts n);
+  runs = take n are.runs;
+  texts_are = texts-take are.runs n ∙ ap (take n) are.texts_are;
+  sound = sound-take are.runs n are.sound;
+  chain = chain-front (patches_in (take n are.runs)) (patches_in (drop n are.runs)) (subst (λ (ps : List Patch). IsChain (links_of ps)) (patches-front are.runs n) are.chain);
+  few = omega (arith, are.few, ap length (patches-front are.runs n), length-append (patches_in (take n are.runs)) (patches_in (drop n are.runs)));
 }
 
-pub log_chained : (limits : LogLimits) (patches : List Patch) → IsSoundLog limits patches → AreChained limits.patches (texts_of patches)
-log_chained limits patches log = record { patches = patches; texts_are = refl; sound = log.sound; chain = log.log.chain; few = omega (arith, log.log.few, length-map patches (λ (patch : Patch). patch.text)) }
+pub log_chained : (limits : LogLimits) (runs : List (List Patch)) → IsSoundLog limits runs → AreChained limits.patches (run_texts runs)
+log_chained limits runs log = record { runs = runs; texts_are = refl; sound = log.sound; chain = log.log.chain; few = log.log.few }
 
 -- a log breaks nowhere
-pub never_breaks : (limits : LogLimits) (patches : List Patch) (version : ℕ) → IsSoundLog limits patches → BreaksAt (AreChained limits.patches) (texts_of patches) version → ⊥
-never_breaks limits patches version log breaks = breaks.broken (chained-take (texts_of patches) limits.patches version (log_chained limits patches log))
+pub never_breaks : (limits : LogLimits) (runs : List (List Patch)) (version : ℕ) → IsSoundLog limits runs → BreaksBehind limits.patches (run_texts runs) version → ⊥
+never_breaks limits runs version log breaks = breaks.broken (chained-take (run_texts runs) limits.patches (breaks.count + 1) (log_chained limits runs log))
+
+pub map_same : (patches : List Patch) → map (λ (p : Patch). p) patches ≡ patches
+map_same [] = refl
+map_same (patch ∷ patches) = ap (λ (ps : List Patch). patch ∷ ps) (map_same patches)
+
+-- a block of one patch's text is ready
+pub ready_alone : (patch : CheckedPatch) (block : Block) → IsPatch patch.text patch.meaning → payload_of block ≡ patch.text → IsReady (bare patch ∷ []) block
+ready_alone patch block is payload = record { block_is = payload; sound = sound_alone patch is }
+
+-- and one of a run's
+pub ready_run : (run : RunView) (block : Block) → IsRunOf run.text run.patches → payload_of block ≡ run.text → IsReady (map bare run.patches) block
+ready_run run block is payload = record { block_is = payload ∙ sym (text_is run.text run.patches is); sound = sound_of run.text run.patches is }

@@ -1,4 +1,5 @@
 pub mod Log
+pub mod RunFaults
 pub mod Fault
 pub mod Opening
 pub mod Ready

@@ -4,26 +4,29 @@ use Rattle.std.specs.List.{AllByRecursion}
 use Rattle.chain_core.specs.declared.chain.Patch.{Patch}
 use Rattle.chain_core.specs.declared.chain.Entry.{Entry}
 use Rattle.chain_core.specs.Links.{IsChain}
-use Rattle.chain_core.specs.Patches.{patches_of, links_of, texts_of, version_of, last_id}
-use Rattle.patch_log.specs.Log.{IsSound}
+use Rattle.chain_core.specs.Patches.{patches_of, links_of, last_id}
+use Rattle.chain_core.specs.Runs.{AreWhole, prev_of_run, run_text, run_texts, runs_of}
+use Rattle.chain_core.specs.Decision.{version_known}
+use Rattle.patch_log.specs.Log.{IsSoundRun}
 
--- the patch of this text goes behind the others, if its id is new
-pub record MayJoin (patches : List Patch) (text : List ℕ) (most : ℕ) (patch : Patch) : Type 0 where
-  pub text_is : patch.text ≡ text
-  pub sound : IsSound patch
-  pub follows : patch.prev ≡ last_id patches
-  pub few : length patches + 1 ≤ most
+-- the run is the one that this text is
+pub record IsRunRead (text : List ℕ) (run : List Patch) : Type 0 where
+  pub text_is : run_text run ≡ text
+  pub sound : IsSoundRun run
 
--- the patch of this text goes behind the others
+-- the run of this text goes behind the patches
 pub record IsNextInLog (patches : List Patch) (text : List ℕ) (most : ℕ)
-    (patch : Patch) : Type 0 where
-  pub goes_on : MayJoin patches text most patch
-  pub new : version_of patches patch.id ≡ None
+    (run : List Patch) : Type 0 where
+  pub read : IsRunRead text run
+  pub follows : prev_of_run run ≡ last_id patches
+  pub few : length patches + length run ≤ most
+  pub new : version_known patches run ≡ None
 
--- entries brought by no pass, whose patches are those of these texts
+-- entries brought by no pass, whose runs are those of these texts
 pub record AreFoundEntries (texts : List (List ℕ)) (most : ℕ) (entries : List Entry) : Type 0 where
-  pub texts_are : texts_of (patches_of entries) ≡ texts
-  pub sound : AllByRecursion IsSound (patches_of entries)
+  pub texts_are : run_texts (runs_of entries) ≡ texts
+  pub sound : AllByRecursion IsSoundRun (runs_of entries)
+  pub whole : AreWhole entries
   pub chain : IsChain (links_of (patches_of entries))
   pub few : length entries ≤ most
   pub by_nobody : AllByRecursion (λ entry. entry.by ≡ 0) entries

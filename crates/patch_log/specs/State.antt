@@ -1,5 +1,7 @@
 -- How contracts see a log, and what it keeps.
 use Rattle.std.specs.Prelude.{◌≡◌, ℕ, ◌^◌, ◌<◌, List, Option}
+use Rattle.std.specs.Option.{option_map}
+use Rattle.delta_base.specs.Listed.{Listed}
 use Rattle.disk_model.specs.declared.disk.Disk.{Ghosts}
 use Rattle.log_journal.specs.declared.journal.Journal.{Journal}
 use Rattle.log_journal.specs.StandsFor.{length_of, limit_of}
@@ -7,35 +9,45 @@ use Rattle.log_journal.specs.Writing.{StandsWith}
 use Rattle.log_base.specs.declared.limits.LogLimits.{LogLimits}
 use Rattle.chain_core.specs.declared.chain.Patch.{Patch}
 use Rattle.chain_core.specs.declared.chain.Entry.{Entry}
-use Rattle.chain_core.specs.Patches.{patches_of, journal_length}
+use Rattle.chain_core.specs.Patches.{patches_of}
+use Rattle.chain_core.specs.Runs.{AreWhole, file_length, runs_of}
 use Rattle.chain_core.specs.Log.{LogPoint, up}
 use Rattle.log_base.specs.OneMore.{with_one_more}
-use Rattle.patch_log.specs.Log.{IsSoundLog, payloads_of, patch_payload}
+use Rattle.patch_log.specs.Log.{IsSoundLog, payloads_of, run_payload}
 
--- the entries and the patch in doubt; what never changes; the places that are ready; and the disk
+-- the entries and the run in doubt; what never changes; the places that are ready; and the disk
 pub record LogView (D : Type 0) : Type 0 where
   pub entries : List Entry
-  pub doubt : Option Patch
+  pub doubt : Option (List Patch)
   pub number : ℕ
   pub limits : LogLimits
   pub spare : ℕ
   pub disk : D
 
+-- the run in doubt
+abbrev pub doubt_of : Option (Listed Patch) → Option (List Patch)
+doubt_of doubt = option_map (λ run. run.items) doubt
+
 -- its chain
 abbrev pub chain_of : {D : Type 0} → LogView D → List Patch
 chain_of log = patches_of log.entries
 
--- its chain and the patch in doubt
-abbrev pub point_of : {D : Type 0} → LogView D → LogPoint
-point_of log = up (chain_of log) log.doubt
+-- its runs
+abbrev pub runs_in : {D : Type 0} → LogView D → List (List Patch)
+runs_in log = runs_of log.entries
 
--- the journal stands for the chain and the patch in doubt
+-- its runs and the one in doubt
+abbrev pub point_of : {D : Type 0} → LogView D → LogPoint (List Patch)
+point_of log = up (runs_in log) log.doubt
+
+-- the entries are whole runs, and the journal stands for these and the one in doubt
 pub record JournalKeepsChain {D : Type 0} {disks : Ghosts D} (journal : Journal D disks)
-    (chain : List Patch)
-    (doubt : Option Patch) (number : ℕ) (limits : LogLimits) : Type 0 where
-  pub stands : StandsWith journal number (payloads_of chain) (patch_payload doubt)
-  pub without : IsSoundLog limits chain
-  pub having : IsSoundLog limits (with_one_more chain doubt)
-  pub length_is : length_of journal ≡ journal_length chain
+    (entries : List Entry)
+    (doubt : Option (List Patch)) (number : ℕ) (limits : LogLimits) : Type 0 where
+  pub whole : AreWhole entries
+  pub stands : StandsWith journal number (payloads_of (runs_of entries)) (run_payload doubt)
+  pub without : IsSoundLog limits (runs_of entries)
+  pub having : IsSoundLog limits (with_one_more (runs_of entries) doubt)
+  pub length_is : length_of journal ≡ file_length (runs_of entries)
   pub limit_is : limit_of journal ≡ limits.bytes
   pub countable : limits.patches < 2 ^ 32

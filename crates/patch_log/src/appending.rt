@@ -1,13 +1,15 @@
 //! Appends: one stay in a log's turn, and many.
-ghost use Rattle.std.specs.Prelude.{◌≡◌, ◌≤◌, ℕ, map, count_by, IfOk, OnErr};
+ghost use Rattle.std.specs.Prelude.{◌≡◌, ◌≤◌, ℕ, [], ◌∷◌, map, count_by, IfOk, OnErr};
 ghost use Rattle.std.specs.Result.{ForOk};
 ghost use Rattle.delta_base.specs.Outside.{RoseBy};
 ghost use Rattle.disk_model.specs.Past.{LeavesOnly};
 ghost use Rattle.patch_log.specs.Log.{bare};
-ghost use Rattle.patch_log.specs.Ready.{IsMadeOf};
-ghost use Rattle.patch_log.specs.Run.{Appended, Run, GrowsBy, HoldsInRun, is_disk_fault};
+ghost use Rattle.patch_log.specs.Ready.{bare_run};
+ghost use Rattle.patch_log.specs.Run.{Appended, AppendedRun, AppendedAll, GrowsBy};
+ghost use Rattle.patch_log.specs.Run.{HoldsInSeries, is_disk_fault};
 
 use crate::ready::Ready;
+use crate::run::Run;
 use crate::state::LogState;
 use chain_core::{Decision, LogAnswer};
 use delta_base::{Listing, OutOfMemory};
@@ -22,13 +24,34 @@ pub fn append_made<D: Disk>(
     patch: &Checked,
     made: Result<Ready, OutOfMemory>,
 ) -> LogAnswer
-    requires { ForOk made (λ ready. ready.patch ≡ bare patch.now) }
+    requires { ForOk made (λ ready. ready.run ≡ bare patch.now ∷ []) }
     ensures { (by : ℕ) → IfOk made (λ ready. ready.by ≡ by)
         → Appended D.Disk log.old log.new (bare patch.now) by result }
 {
     match made {
         Ok(ready) => log.append_ready(ready),
         Err(_) => match log.decide_here(patch) {
+            Decision::Accept { version: _ } => LogAnswer::OutOfMemory,
+            decision => LogAnswer::told(decision),
+        },
+    }
+}
+
+/// Adds a run that was made ready, or for which no memory was found. Says why not in this order:
+/// Known, Conflict, Full, want of memory, a disk fault. That it is accepted is told with the
+/// version of its last patch.
+pub fn append_made_run<D: Disk>(
+    log: &mut LogState<D>,
+    run: &Run,
+    made: Result<Ready, OutOfMemory>,
+) -> LogAnswer
+    requires { ForOk made (λ ready. ready.run ≡ bare_run run.now) }
+    ensures { (by : ℕ) → IfOk made (λ ready. ready.by ≡ by)
+        → AppendedRun D.Disk log.old log.new (bare_run run.now) by result }
+{
+    match made {
+        Ok(ready) => log.append_ready(ready),
+        Err(_) => match log.decide_run_here(run) {
             Decision::Accept { version: _ } => LogAnswer::OutOfMemory,
             decision => LogAnswer::told(decision),
         },
@@ -53,13 +76,14 @@ pub fn append_all<D: Disk>(
     by: u32,
 ) -> Result<Listing<LogAnswer>, OutOfMemory>
     ensures run { IfOk result (λ answers.
-        Run D.Disk by log.old (map bare patches.now) answers.items log.new) }
+        AppendedAll D.Disk by log.old (map bare patches.now) answers.items log.new) }
     ensures grown { GrowsBy by log.old.entries log.new.entries }
     ensures none { OnErr result (log.new ≡ log.old) }
 
     // A crash at any moment leaves what it might have left before, or what an append of the
     // run may leave.
-    ensures any_moment { D.tells → LeavesOnly (HoldsInRun D.Disk by log.old (map bare patches.now))
+    ensures any_moment { D.tells
+        → LeavesOnly (HoldsInSeries D.Disk by log.old (map bare patches.now))
         (D.past log.old.disk) (D.past log.new.disk) }
 
     // Each answer that tells a fault of the disk has a fault of its own.

@@ -10,10 +10,11 @@ pub enum LogFault {
     /// The file is of the form before this one.
     OldFormat,
     WrongNumber { found: u32 },
+    /// The journal is longer than it may be, or would be with a payload for each patch.
     OverLimit { length: u64, limit: u64 },
     OutOfMemory,
-    /// So many first payloads are no chain of patches, or more than there may be, and
-    /// fewer are one.
+    /// A payload is no run that goes behind those before it, or there are more patches than there
+    /// may be. Its first patch would have this version.
     BrokenChain { version: u64 },
 }
 

@@ -1,12 +1,10 @@
 //! A chain whose patches are found by id without a walk along it.
-ghost use Rattle.std.specs.Prelude.{◌≡◌, ◌≢◌, ◌+◌, ◌^◌, ◌<◌, ◌≤◌, [], ◌∷◌, ◌++◌};
-ghost use Rattle.std.specs.Prelude.{None, length, IfOk, OnOk, OnErr, IsErrOf};
+ghost use Rattle.std.specs.Prelude.{◌≡◌, ◌+◌, ◌≤◌, [], ◌∷◌, ◌++◌, length, OnOk, OnErr};
+ghost use Rattle.chain_core.specs.Runs.{entries_of};
 ghost use Rattle.chain_core.specs.Chain.{IsBoundedChain};
-ghost use Rattle.chain_core.specs.Patches.{patches_of, version_of};
 
-use crate::next_fault::NextFault;
 use chain_core::{Chain, IdIndex, Lookup, Patch};
-use delta_base::{Id, OutOfMemory};
+use delta_base::{Id, Listing, OutOfMemory};
 use std::alloc::Global;
 use std::marker::Model;
 
@@ -43,47 +41,24 @@ impl IndexedChain {
         }
     }
 
-    /// The chain with one patch more, unless one of its patches has the id already. The id is
-    /// looked for and put in at once.
-    pub(crate) fn with(self, patch: Patch, by: u32) -> Result<IndexedChain, NextFault>
-        requires few { length self.items + 1 < 2 ^ 32 }
-        requires goes_on { version_of (patches_of self.items) patch.id ≡ None
-            → IsBoundedChain (self.items ++ record { patch = patch; by = by } ∷ []) }
-        ensures new { IfOk result (λ _. version_of (patches_of self.items) patch.id ≡ None) }
-        ensures added { IfOk result (λ chain.
-            chain.items ≡ self.items ++ record { patch = patch; by = by } ∷ []) }
-        ensures broken { IsErrOf result NextFault.Broken
-            → version_of (patches_of self.items) patch.id ≢ None }
-    {
-        let IndexedChain {
-            mut chain,
-            mut index,
-        } = self;
-        chain.reserve()?;
-        let version = chain.version() + 1;
-        if index.insert(patch.id, version)?.is_some() {
-            return Err(NextFault::Broken);
-        }
-        chain.push(patch, by);
-        Ok(IndexedChain { chain, index })
-    }
-
-    /// Makes a place ready in the chain and in the index.
-    pub fn reserve(&mut self) -> Result<(), OutOfMemory>
+    /// Makes so many places ready in the chain and in the index.
+    pub fn reserve(&mut self, need: u32) -> Result<(), OutOfMemory>
         ensures items { self.new.items ≡ self.old.items }
-        ensures spare { OnOk result (1 ≤ self.new.spare) }
+        ensures spare { OnOk result (need ≤ self.new.spare) }
         ensures kept { self.old.spare ≤ self.new.spare }
         ensures err { OnErr result (self.new ≡ self.old) }
     {
-        self.chain.reserve()?;
-        self.index.reserve()
+        self.chain.reserve(need)?;
+        self.index.reserve(need)
     }
 
-    /// Adds a patch, in places that are ready.
-    pub fn push(&mut self, patch: Patch, by: u32)
+    /// Adds a patch, in a place that is ready.
+    pub fn push(&mut self, patch: Patch, by: u32, rest: u32)
         requires ready { 1 ≤ self.old.spare }
-        requires kept { IsBoundedChain (self.old.items ++ record { patch = patch; by = by } ∷ []) }
-        ensures items { self.new.items ≡ self.old.items ++ record { patch = patch; by = by } ∷ [] }
+        requires kept { IsBoundedChain
+            (self.old.items ++ record { patch = patch; by = by; rest = rest } ∷ []) }
+        ensures items { self.new.items
+            ≡ self.old.items ++ record { patch = patch; by = by; rest = rest } ∷ [] }
         ensures spare { self.new.spare + 1 ≡ self.old.spare }
     {
         let version = self.chain.version() + 1;
@@ -91,7 +66,21 @@ impl IndexedChain {
             Ok(_) => {}
             Err(_) => unreachable!(),
         }
-        self.chain.push(patch, by);
+        self.chain.push(patch, by, rest);
+    }
+
+    /// Adds a run, in places that are ready.
+    pub fn push_run(&mut self, run: Listing<Patch>, by: u32)
+        requires ready { length run.items ≤ self.old.spare }
+        requires kept { IsBoundedChain (self.old.items ++ entries_of run.items by) }
+        ensures items { self.new.items ≡ self.old.items ++ entries_of run.items by }
+        ensures spare { self.new.spare + length run.items ≡ self.old.spare }
+    {
+        let mut rest = run.len() as u32;
+        for patch in run.into_vec() {
+            rest -= 1;
+            self.push(patch, by, rest);
+        }
     }
 }
 

@@ -1,87 +1,111 @@
-//! Reads the patches of a journal's payloads.
-ghost use Rattle.std.specs.Prelude.{◌≡◌, ◌⊎◌, ℕ, ◌+◌, ◌^◌, ◌<◌, ◌≤◌, ◌++◌, [], ◌∷◌};
-ghost use Rattle.std.specs.Prelude.{length, IfOk, IfErr, IsErrOf, IsTrue, ◌↔◌};
+//! Reads the runs of a journal's payloads.
+ghost use Rattle.std.specs.Prelude.{◌≡◌, ◌⊎◌, ℕ, ◌^◌, ◌<◌, [], ◌∷◌, ◌++◌, List};
+ghost use Rattle.std.specs.Prelude.{IfOk, IfErr, IsErrOf};
 ghost use Rattle.chain_core.specs.declared.chain.Patch.{Patch as PatchRead};
 ghost use Rattle.chain_core.specs.Chain.{IsBoundedChain};
-ghost use Rattle.chain_core.specs.Patches.{patches_of, last_id};
-ghost use Rattle.chain_core.specs.Breaks.{BreaksAt};
-ghost use Rattle.patch_log.specs.Log.{IsSound, AreChained};
-ghost use Rattle.patch_log.specs.Opening.{MayJoin, IsNextInLog, AreFoundEntries};
+ghost use Rattle.chain_core.specs.Patches.{patches_of};
+ghost use Rattle.chain_core.specs.Runs.{entries_of};
+ghost use Rattle.patch_log.specs.Log.{BreaksBehind};
+ghost use Rattle.patch_log.specs.Opening.{IsRunRead, IsNextInLog, AreFoundEntries};
 
 use crate::fault::LogFault;
 use crate::indexed::IndexedChain;
 use crate::next_fault::NextFault;
-use chain_core::{Chain, Lookup, Patch};
-use delta_base::Bytes;
-use log_base::ChainLink;
+use crate::ready::bare_copies;
+use crate::run::{RunFault, check_run};
+use chain_core::{Decision, Lookup, Patch, decide_run};
+use delta_base::{Bytes, Listing, OutOfMemory};
+use log_base::{ChainLink, LogLimits};
 use log_journal::Payloads;
-use patch_meaning::{PatchFault, check_link};
+use patch_meaning::check_link;
 use std::alloc::Global;
 
-// The id and the previous id that a text names, if it is a patch.
-fn read_link(alloc: Global, text: &[u8]) -> Result<ChainLink, NextFault>
-    ensures ok { IfOk result (λ link.
-        IsSound (record { id = link.id; prev = link.prev; text = text.now })) }
-    ensures broken { IsErrOf result NextFault.Broken
-        → (patch : PatchRead) → patch.text ≡ text.now → IsSound patch → ⊥ }
+// The run of one patch by itself.
+fn alone(alloc: Global, patch: Patch) -> Result<Listing<Patch>, OutOfMemory>
+    ensures { IfOk result (λ run. run.items ≡ patch ∷ []) }
 {
-    match check_link(alloc, text) {
-        Ok(link) => Ok(link),
+    let mut run = Listing::new(alloc);
+    run.push(patch)?;
+    Ok(run)
+}
+
+// The patches that a text is, if they are a run.
+fn read_patches(alloc: Global, text: &[u8]) -> Result<Listing<Patch>, NextFault>
+    ensures ok { IfOk result (λ run. IsRunRead text.now run.items) }
+    ensures broken { IsErrOf result NextFault.Broken
+        → (run : List PatchRead) → IsRunRead text.now run → ⊥ }
+{
+    match check_run(alloc, text) {
+        Ok(run) => Ok(bare_copies(alloc, run.patches().as_slice())?),
         Err(fault) => match fault {
-            PatchFault::OutOfMemory => Err(NextFault::OutOfMemory),
+            RunFault::OutOfMemory => Err(NextFault::OutOfMemory),
             _ => Err(NextFault::Broken),
         },
     }
 }
 
-// Whether it names the last patch.
-fn follows(chain: &Chain, link: ChainLink) -> bool
-    ensures { IsTrue result ↔ (link.prev ≡ last_id (patches_of chain.now.items)) }
+// The run that a text is. Of one patch by itself no change is made, and its text isn't copied.
+fn read_run(alloc: Global, text: Bytes) -> Result<Listing<Patch>, NextFault>
+    ensures ok { IfOk result (λ run. IsRunRead text run.items) }
+    ensures broken { IsErrOf result NextFault.Broken
+        → (run : List PatchRead) → IsRunRead text run → ⊥ }
 {
-    link.prev == chain.head()
+    match check_link(alloc, text.as_slice()) {
+        Ok(ChainLink { id, prev }) => Ok(alone(alloc, Patch { id, prev, text })?),
+        Err(_) => read_patches(alloc, text.as_slice()),
+    }
 }
 
-// The id and the previous id of the patch that a text is, if it goes behind the chain where its
-// id is new.
-fn next_link(alloc: Global, chain: &Chain, text: &[u8], most: u32) -> Result<ChainLink, NextFault>
-    ensures ok { IfOk result (λ link. MayJoin (patches_of chain.now.items) text.now most
-        (record { id = link.id; prev = link.prev; text = text.now })) }
-    ensures broken { IsErrOf result NextFault.Broken → (patch : PatchRead)
-        → IsNextInLog (patches_of chain.now.items) text.now most patch → ⊥ }
+// The run that a text is, if it goes behind the chain.
+fn next_run(
+    alloc: Global,
+    chain: &IndexedChain,
+    text: Bytes,
+    most: u32,
+) -> Result<Listing<Patch>, NextFault>
+    ensures ok { IfOk result (λ run.
+        IsNextInLog (patches_of chain.now.items) text most run.items) }
+    ensures broken { IsErrOf result NextFault.Broken → (run : List PatchRead)
+        → IsNextInLog (patches_of chain.now.items) text most run → ⊥ }
     ensures kept { IsBoundedChain chain.now.items }
 {
-    if chain.version() >= most {
-        return Err(NextFault::Broken);
-    }
-    match read_link(alloc, text) {
-        Ok(link) if follows(chain, link) => Ok(link),
-        Ok(_) => Err(NextFault::Broken),
-        Err(fault) => Err(fault),
+    let _version = chain.chain().version();
+    let run = read_run(alloc, text)?;
+    let limits = LogLimits {
+        patches: most,
+        bytes: u64::MAX,
+    };
+    match decide_run(chain, &limits, run.as_slice()) {
+        Decision::Accept { version: _ } => Ok(run),
+        _ => Err(NextFault::Broken),
     }
 }
 
-// The chain with the patch of a payload behind it.
+// The chain with the run of a payload behind it.
 fn with_next(
     alloc: Global,
     chain: IndexedChain,
     text: Bytes,
     most: u32,
 ) -> Result<IndexedChain, NextFault>
-    ensures ok { IfOk result (λ longer. (patch : PatchRead)
-        × IsNextInLog (patches_of chain.items) text most patch
-        × (longer.items ≡ chain.items ++ record { patch = patch; by = 0 } ∷ [])) }
-    ensures broken { IsErrOf result NextFault.Broken → (patch : PatchRead)
-        → IsNextInLog (patches_of chain.items) text most patch → ⊥ }
+    ensures ok { IfOk result (λ longer. (run : List PatchRead)
+        × IsNextInLog (patches_of chain.items) text most run
+        × (longer.items ≡ chain.items ++ entries_of run 0)) }
+    ensures broken { IsErrOf result NextFault.Broken → (run : List PatchRead)
+        → IsNextInLog (patches_of chain.items) text most run → ⊥ }
 {
-    let ChainLink { id, prev } = next_link(alloc, chain.chain(), text.as_slice(), most)?;
-    chain.with(Patch { id, prev, text }, 0)
+    let run = next_run(alloc, &chain, text, most)?;
+    let mut longer = chain;
+    longer.reserve(run.len() as u32)?;
+    longer.push_run(run, 0);
+    Ok(longer)
 }
 
-/// The chain of the patches that the payloads are.
+/// The chain of the runs that the payloads are.
 pub fn read_log(alloc: Global, payloads: Payloads, most: u32) -> Result<IndexedChain, LogFault>
     ensures ok { IfOk result (λ chain. AreFoundEntries payloads.items most chain.items) }
     ensures broken { (version : ℕ) → IsErrOf result (LogFault.BrokenChain version)
-        → BreaksAt (AreChained most) payloads.items version }
+        → BreaksBehind most payloads.items version }
     ensures countable { most < 2 ^ 32 }
     ensures faults { IfErr result (λ fault.
         ((version : ℕ) × (fault ≡ LogFault.BrokenChain version)) ⊎ (fault ≡ LogFault.OutOfMemory)) }

@@ -40,7 +40,7 @@ loop-patch-preserved g c =
     record {
       so_far = rw (taken, c.in-Ok.ensures.ok) longer;
       grown = grows_more c.args.by (bare patch) old.entries mid.entries new.entries c.append-answer.result so.grown e.accepted e.refused;
-      any_moment = λ tells. moments_more g.D.Disk c.args.by old c.args.patches.now place patch answers mid new c.loop-patch-test.true c.patch-item.is so.number so.so_far (so.any_moment tells) (append_moments g.D.Disk mid new (bare patch) c.args.by c.append-answer.result e tells);
+      any_moment = λ tells. moments_more g.D.Disk c.args.by old c.args.patches.now place patch answers mid new c.loop-patch-test.true c.patch-item.is so.number so.so_far (so.any_moment tells) (append_moments g.D.Disk mid new (bare patch ∷ []) c.args.by c.append-answer.result e tells);
       cause = rw c.in-Ok.ensures.ok (rose_more answers c.append-answer.result (g.D.Disk.faults old.disk) (g.D.Disk.faults mid.disk) (g.D.Disk.faults new.disk) so.cause e.went.cause e.went.never_falls);
       faults = omega (arith, e.went.never_falls, so.faults);
       limits = e.limits ∙ so.limits;

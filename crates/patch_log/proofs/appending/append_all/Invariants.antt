@@ -3,14 +3,14 @@ use Rattle.std.specs.Prelude.{count_by}
 use Rattle.delta_base.specs.Outside.{RoseBy}
 use Rattle.disk_model.specs.Past.{LeavesOnly}
 use Rattle.patch_log.specs.Log.{bare}
-use Rattle.patch_log.specs.Run.{Run, GrowsBy, HoldsInRun, is_disk_fault}
+use Rattle.patch_log.specs.Run.{AppendedAll, GrowsBy, HoldsInSeries, is_disk_fault}
 use Rattle.patch_log.proofs.appending.append_all.Given as goal
 
 abbrev pub invariant-loop-patch : goal.invariant-loop-patch
 invariant-loop-patch g l = record {
-  so_far : Run g.D.Disk l.by l.fn.log (map bare (take l.patch-index l.patches)) l.answers.items l.log;
+  so_far : AppendedAll g.D.Disk l.by l.fn.log (map bare (take l.patch-index l.patches)) l.answers.items l.log;
   grown : GrowsBy l.by l.fn.log.entries l.log.entries;
-  any_moment : g.D.Disk.tells → LeavesOnly (HoldsInRun g.D.Disk l.by l.fn.log (map bare l.patches)) (g.D.Disk.past l.fn.log.disk) (g.D.Disk.past l.log.disk);
+  any_moment : g.D.Disk.tells → LeavesOnly (HoldsInSeries g.D.Disk l.by l.fn.log (map bare l.patches)) (g.D.Disk.past l.fn.log.disk) (g.D.Disk.past l.log.disk);
   cause : RoseBy (count_by is_disk_fault l.answers.items) (g.D.Disk.faults l.fn.log.disk) (g.D.Disk.faults l.log.disk);
   faults : g.D.Disk.faults l.fn.log.disk ≤ g.D.Disk.faults l.log.disk;
   limits : l.log.limits ≡ l.fn.log.limits;

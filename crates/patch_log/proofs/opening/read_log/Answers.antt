@@ -3,8 +3,7 @@ use Rattle.std.specs.Vec.Iter.{into_iter_items}
 use Rattle.patch_log.specs.declared.fault.LogFault.{LogFault}
 use Rattle.patch_log.specs.declared.fault.LogFault.TheVariants.{BrokenChain}
 use Rattle.patch_log.specs.declared.next_fault.NextFault.{NextFault}
-use Rattle.chain_core.specs.Breaks.{BreaksAt}
-use Rattle.patch_log.specs.Log.{AreChained}
+use Rattle.patch_log.specs.Log.{BreaksBehind}
 use Rattle.patch_log.proofs.Openings.{found_more, breaks_at}
 use Rattle.patch_log.proofs.opening.read_log.Goals as goal
 
@@ -31,4 +30,4 @@ returns-in-Err-Broken-clause-broken c version is =
     let all : c.loop-text.yielded ++ c.in-Some.text ∷ into_iter_items c.next.new.self ≡ c.args.payloads.items = ap (λ (l : List (List ℕ)). c.loop-text.yielded ++ l) (sym steps.0) ∙ c.loop-text.invariant.rest in
     let told = same_version (c.from-version.result + 1) version (same_fault (BrokenChain (c.from-version.result + 1)) (BrokenChain version) is) in
     let place : length c.loop-text.chain.items + 1 ≡ version = omega (arith, told, c.from-version.ensures, c.version.ensures.version, ap length c.chain.ensures) in
-    subst (λ (v : ℕ). BreaksAt (AreChained c.args.most) c.args.payloads.items v) place (subst (λ (l : List (List ℕ)). BreaksAt (AreChained c.args.most) l (length c.loop-text.chain.items + 1)) all here)
+    subst (λ (v : ℕ). BreaksBehind c.args.most c.args.payloads.items v) place (subst (λ (l : List (List ℕ)). BreaksBehind c.args.most l (length c.loop-text.chain.items + 1)) all here)
