@@ -1,5 +1,5 @@
 -- What a zone's answer to the next patch comes to.
-use Rattle.std.proofs.Common.{◌≡◌, ◌≢◌, ◌⊎◌, inl, ⊎_elim, ℕ, ◌+◌, Bool, true, false, not, cond, eqb, ltb, List, [], ◌∷◌, ◌++◌, length, map, Option, Some, None, Result, Ok, Err, refl, sym, ◌∙◌, ap, subst}
+use Rattle.std.proofs.Common.{◌≡◌, ◌≢◌, ◌⊎◌, inl, ⊎_elim, ℕ, ◌+◌, Bool, true, false, not, cond, ltb, List, [], ◌∷◌, ◌++◌, length, map, Option, Some, None, Result, Ok, Err, refl, sym, ◌∙◌, ap, subst}
 use Rattle.std.specs.Prelude.{OnOk, IfErr, is_none}
 use Rattle.std.proofs.lemmas.List.{append-nil}
 use Rattle.delta_base.specs.declared.id.Id.{Id}
@@ -77,7 +77,7 @@ module _ (ids : List Id) (bytes : ℕ) (patch : Patch) (limits : LogLimits) wher
 
   made_id : (found : Option ℕ) → IsMade ids patch (unless_repeated found ids bytes patch limits)
   made_id (Some version) = (tt, tt)
-  made_id None = made_size (eqb (length ids) limits.patches) (ltb limits.bytes (file_length ids bytes + (PAYLOAD_FRAME + length patch.text)))
+  made_id None = made_size (ltb limits.patches (length ids + 1)) (ltb limits.bytes (file_length ids bytes + (PAYLOAD_FRAME + length patch.text)))
 
   true_not_false : true ≡ false → ⊥
   true_not_false same = cc
@@ -204,7 +204,7 @@ module _ {D : Type 0} (disks : Ghosts D) (old new : ZoneView D) (next : CheckedP
 
 -- ---- what is left in doubt
 
-abbrev doubt_in : LogPoint → Option Patch
+abbrev doubt_in : LogPoint Patch → Option Patch
 doubt_in (up chain doubt) = doubt
 doubt_in (down chain) = None
 
@@ -213,15 +213,15 @@ module _ (chain after : List Patch) (patch : Patch) (left : Option Patch) (versi
   Leaves doubt fate = TakeStay (take.Applied version) chain doubt patch fate (up after left) (take.Applied version)
 
   none_left : (fate : Fate) (doubt : Option Patch) → Leaves doubt fate → None ≡ left
-  none_left Done doubt is = ap (λ (it : LogPoint × Option TakeAnswer). doubt_in it.0) is
-  none_left (Fails Settling) None is = ap (λ (it : LogPoint × Option TakeAnswer). doubt_in it.0) is
-  none_left (Fails Settling) (Some doubtful) is = let answers : Some take.DiskFault ≡ Some (take.Applied version) = ap (λ (it : LogPoint × Option TakeAnswer). it.1) is in absurd (cc)
-  none_left (Fails Body) doubt is = let answers : Some take.DiskFault ≡ Some (take.Applied version) = ap (λ (it : LogPoint × Option TakeAnswer). it.1) is in absurd (cc)
-  none_left (Fails Gate) doubt is = let answers : Some take.DiskFault ≡ Some (take.Applied version) = ap (λ (it : LogPoint × Option TakeAnswer). it.1) is in absurd (cc)
-  none_left (Stops Settling opened) None is = ap (λ (it : LogPoint × Option TakeAnswer). doubt_in it.0) is
-  none_left (Stops Settling opened) (Some doubtful) is = let answers : None ≡ Some (take.Applied version) = ap (λ (it : LogPoint × Option TakeAnswer). it.1) is in absurd (cc)
-  none_left (Stops Body opened) doubt is = let answers : None ≡ Some (take.Applied version) = ap (λ (it : LogPoint × Option TakeAnswer). it.1) is in absurd (cc)
-  none_left (Stops Gate opened) doubt is = let answers : None ≡ Some (take.Applied version) = ap (λ (it : LogPoint × Option TakeAnswer). it.1) is in absurd (cc)
+  none_left Done doubt is = ap (λ (it : LogPoint Patch × Option TakeAnswer). doubt_in it.0) is
+  none_left (Fails Settling) None is = ap (λ (it : LogPoint Patch × Option TakeAnswer). doubt_in it.0) is
+  none_left (Fails Settling) (Some doubtful) is = let answers : Some take.DiskFault ≡ Some (take.Applied version) = ap (λ (it : LogPoint Patch × Option TakeAnswer). it.1) is in absurd (cc)
+  none_left (Fails Body) doubt is = let answers : Some take.DiskFault ≡ Some (take.Applied version) = ap (λ (it : LogPoint Patch × Option TakeAnswer). it.1) is in absurd (cc)
+  none_left (Fails Gate) doubt is = let answers : Some take.DiskFault ≡ Some (take.Applied version) = ap (λ (it : LogPoint Patch × Option TakeAnswer). it.1) is in absurd (cc)
+  none_left (Stops Settling opened) None is = ap (λ (it : LogPoint Patch × Option TakeAnswer). doubt_in it.0) is
+  none_left (Stops Settling opened) (Some doubtful) is = let answers : None ≡ Some (take.Applied version) = ap (λ (it : LogPoint Patch × Option TakeAnswer). it.1) is in absurd (cc)
+  none_left (Stops Body opened) doubt is = let answers : None ≡ Some (take.Applied version) = ap (λ (it : LogPoint Patch × Option TakeAnswer). it.1) is in absurd (cc)
+  none_left (Stops Gate opened) doubt is = let answers : None ≡ Some (take.Applied version) = ap (λ (it : LogPoint Patch × Option TakeAnswer). it.1) is in absurd (cc)
 
 is_settled : (left : Option CheckedPatch) → None ≡ doubt_of left → is_none left ≡ true
 is_settled None is = refl

@@ -1,5 +1,5 @@
 -- A zone takes what a log of the same patches accepts.
-use Rattle.std.proofs.Common.{◌≡◌, ◌↔◌, ℕ, ◌+◌, true, false, ltb, List, ◌++◌, ◌∷◌, [], map, length, Option, Some, None, refl, sym, ◌∙◌, ap, subst, arith}
+use Rattle.std.proofs.Common.{◌≡◌, ◌↔◌, ℕ, ◌+◌, true, false, ltb, List, ◌∷◌, [], map, length, Option, Some, None, refl, sym, ◌∙◌, ap, subst, arith}
 use Rattle.std.specs.Prelude.{sum_by}
 use Rattle.std.proofs.lemmas.List.{length-map}
 use Rattle.std.proofs.lemmas.Bool.Decides.{nat_tests}
@@ -14,14 +14,15 @@ use Rattle.chain_core.specs.declared.answer.Decision.{Decision}
 use Rattle.chain_core.specs.declared.answer.Decision.TheVariants.{Accept, Known, Conflict, Full as IsFull}
 use Rattle.chain_core.specs.declared.chain.Patch.{Patch}
 use Rattle.chain_core.specs.declared.fate.Fate.{Fate}
-use Rattle.chain_core.specs.Decision.{decision, same_id}
+use Rattle.chain_core.specs.Decision.{decision, same_id, first_found}
 use Rattle.chain_core.specs.Log.{up}
-use Rattle.chain_core.specs.Patches.{last_id, journal_length}
+use Rattle.chain_core.specs.Patches.{version_of}
 use Rattle.chain_core.specs.Stay.{decided_by}
-use Rattle.chain_core.proofs.Decided.{IsAcceptable, accepted, decision-rest, same_id-refl}
+use Rattle.chain_core.proofs.Decided.{IsAcceptable, accepted, accepts, same_id-refl}
 use Rattle.chain_core.proofs.Patches.{length-push}
 use Rattle.patch_meaning.specs.Checked.{CheckedPatch, checked_texts}
-use Rattle.patch_log.specs.Log.{bare, IsSoundLog, StandsForLog}
+use Rattle.patch_log.specs.Log.{bare}
+use Rattle.zone_state.specs.Log.{IsSoundZoneLog, StandsForZoneFile}
 use Rattle.zone_state.specs.declared.answer.TakeAnswer.{TakeAnswer}
 use Rattle.zone_state.specs.declared.answer.TakeAnswer.TheVariants.{Applied, Diverged, Repeated, Full, TermsFull, OutOfMemory, DiskFault}
 use Rattle.chain_core.specs.Ids.{last_of}
@@ -31,7 +32,11 @@ use Rattle.zone_state.specs.Zone.{ZoneView, AreTakenPatches, StandsForZone, zone
 use Rattle.log_base.specs.OneMore.{with_one_more}
 use Rattle.zone_state.proofs.Decisions.{CanBeTaken, can_be_taken, taking-new, taking-rest}
 use Rattle.zone_state.proofs.Growing.{bare_versions, bare_last, bare_length, bare_texts, bare-push}
-use Rattle.zone_state.proofs.Readings.{sound_checked}
+use Rattle.zone_state.proofs.Sound.{sound_checked}
+
+found_none : (found : Option ℕ) → first_found found None ≡ None → found ≡ None
+found_none None is = refl
+found_none (Some version) is = absurd (cc)
 
 module _ (taken : List CheckedPatch) (patch : Patch) (limits : LogLimits) where
   abbrev ids : List Id
@@ -46,19 +51,19 @@ module _ (taken : List CheckedPatch) (patch : Patch) (limits : LogLimits) where
   counts : length chain ≡ length ids
   counts = length-map taken bare ∙ sym (length-map taken id_taken)
 
-  can_accept : CanBeTaken ids bytes patch limits → IsAcceptable chain patch limits
+  can_accept : CanBeTaken ids bytes patch limits → IsAcceptable chain (patch ∷ []) limits
   can_accept can = record {
-    new = bare_versions taken patch.id ∙ can.new;
+    new = ap (λ (found : Option ℕ). first_found found None) (bare_versions taken patch.id ∙ can.new);
     follows = can.follows ∙ sym (bare_last taken);
-    place = λ same. can.place (sym counts ∙ same);
+    places = omega (arith, can.places, counts);
     room = omega (arith, can.room, length-push chain patch, bare_length taken);
   }
 
-  can_take : IsAcceptable chain patch limits → CanBeTaken ids bytes patch limits
+  can_take : IsAcceptable chain (patch ∷ []) limits → CanBeTaken ids bytes patch limits
   can_take can = record {
-    new = sym (bare_versions taken patch.id) ∙ can.new;
+    new = sym (bare_versions taken patch.id) ∙ found_none (version_of chain patch.id) can.new;
     follows = can.follows ∙ bare_last taken;
-    place = λ same. can.place (counts ∙ same);
+    places = omega (arith, can.places, counts);
     room = omega (arith, can.room, length-push chain patch, bare_length taken);
   }
 
@@ -66,18 +71,12 @@ module _ (taken : List CheckedPatch) (patch : Patch) (limits : LogLimits) where
   takes can =
       let follows : same_id patch.prev (last_of ids) ≡ true = ap (λ (id : Option Id). same_id id (last_of ids)) can.follows ∙ same_id-refl (last_of ids) in
       let short : ltb limits.bytes (file_length ids bytes + (PAYLOAD_FRAME + length patch.text)) ≡ false = grind (arith, nat_tests, can.room) in
-      taking-new ids bytes patch limits follows can.new ∙ taking-rest ids bytes patch limits false can.place short
-
-  accepts : IsAcceptable chain patch limits → decision chain patch limits ≡ Accept (length chain + 1)
-  accepts can =
-      let follows = ap (λ (id : Option Id). same_id id (last_id chain)) can.follows ∙ same_id-refl (last_id chain) in
-      let short : ltb limits.bytes (journal_length (chain ++ patch ∷ [])) ≡ false = grind (arith, nat_tests, can.room) in
-      decision-rest chain patch limits false can.new follows can.place short
+      taking-new ids bytes patch limits follows can.new ∙ taking-rest ids bytes patch limits false can.places short
 
   pub decided_alike : (version : ℕ) → (taking ids bytes patch limits ≡ Applied version) ↔ (decision chain patch limits ≡ Accept version)
   decided_alike version = (
-    λ is. let can = can_be_taken ids bytes patch limits version is in accepts (can_accept can.0) ∙ ap (λ (n : ℕ). Accept n) (ap (λ (n : ℕ). n + 1) counts ∙ sym can.1),
-    λ is. let can = accepted chain patch limits version is in takes (can_take can.0) ∙ ap (λ (n : ℕ). Applied n) (ap (λ (n : ℕ). n + 1) (sym counts) ∙ sym can.1),
+    λ is. let can = can_be_taken ids bytes patch limits version is in accepts chain (patch ∷ []) limits (can_accept can.0) ∙ ap (λ (n : ℕ). Accept n) (ap (λ (n : ℕ). n + 1) counts ∙ sym can.1),
+    λ is. let can = accepted chain (patch ∷ []) limits version is in takes (can_take can.0) ∙ ap (λ (n : ℕ). Applied n) (ap (λ (n : ℕ). n + 1) (sym counts) ∙ sym can.1),
   )
 
 -- what a decision comes to, where both decide alike
@@ -100,12 +99,12 @@ module _ (fate : Fate) (chain : List Patch) (doubt : Option Patch) (patch : Patc
   stays_alike OutOfMemory made alike = sym (not_accepted made (λ version is. let no = (alike version).1 is in cc))
   stays_alike DiskFault made alike = sym (not_accepted made (λ version is. let no = (alike version).1 is in cc))
 
-pub taken_log : (limits : LogLimits) (taken : List CheckedPatch) → AreTakenPatches limits taken → IsSoundLog limits (map bare taken)
+pub taken_log : (limits : LogLimits) (taken : List CheckedPatch) → AreTakenPatches limits taken → IsSoundZoneLog limits (map bare taken)
 taken_log limits taken are = record { log = are.log; sound = sound_checked taken are.checked }
 
 -- the disk of a zone stands for the log of its patches
 pub zone_log : {D : Type 0} (tells : Type 0) (past : Past) (zone : ZoneView D) (taken : List CheckedPatch) (doubt : Option CheckedPatch) → StandsForZone tells past zone taken doubt → tells
-    → StandsForLog past zone_number zone.limits (map bare taken) (doubt_of doubt)
+    → StandsForZoneFile past zone_number zone.limits (map bare taken) (doubt_of doubt)
 zone_log tells past zone taken None stands told =
     let all = stands.on_disk told in
     record {
@@ -119,5 +118,5 @@ zone_log tells past zone taken (Some doubt) stands told =
       each = λ image left. subst (λ (ts : List (List ℕ)). HoldsWithOrWithout zone_number ts doubt.text image) (sym (bare_texts taken))
           (either (file_length zone.brief.ids zone.brief.bytes) zone_number (checked_texts taken) doubt.text all.doubt_sized all.few image all.sized (all.each image left));
       without = taken_log zone.limits taken stands.without;
-      having = subst (λ (ps : List Patch). IsSoundLog zone.limits ps) (bare-push taken doubt) (taken_log zone.limits (with_one_more taken (Some doubt)) stands.having);
+      having = subst (λ (ps : List Patch). IsSoundZoneLog zone.limits ps) (bare-push taken doubt) (taken_log zone.limits (with_one_more taken (Some doubt)) stands.having);
     }

@@ -1,6 +1,6 @@
 -- What follows from what a zone decides, and what leads to it.
-use Rattle.std.proofs.Common.{◌≡◌, ◌≢◌, ℕ, ◌+◌, ◌≤◌, Bool, true, false, cond, not, eqb, ltb, List, length, Option, Some, None, refl, sym, ◌∙◌, ap, arith, subst}
-use Rattle.std.proofs.lemmas.Bool.{eq-eqb}
+use Rattle.std.proofs.Common.{◌≡◌, ℕ, ◌+◌, ◌≤◌, Bool, true, false, cond, not, ltb, List, length, Option, Some, None, refl, sym, ◌∙◌, ap, arith, subst}
+use Rattle.std.proofs.lemmas.Bool.{ltb-false}
 use Rattle.std.proofs.lemmas.Bool.Decides.{nat_tests}
 use Rattle.delta_base.specs.declared.id.Id.{Id}
 use Rattle.log_base.specs.declared.limits.FullKind.TheVariants.{Patches, Bytes}
@@ -19,14 +19,11 @@ use Rattle.chain_core.specs.Ids.{last_of, version_among}
 use Rattle.zone_state.specs.Brief.{file_length}
 use Rattle.zone_state.specs.Taking.{taking, unless_repeated, within_limits, taken_by, taken_then}
 
-true_not_false : true ≡ false → ⊥
-true_not_false same = cc
-
 -- nothing stands against the patch
 pub record CanBeTaken (ids : List Id) (bytes : ℕ) (patch : Patch) (limits : LogLimits) : Type 0 where
   pub follows : patch.prev ≡ last_of ids
   pub new : version_among ids patch.id ≡ None
-  pub place : length ids ≢ limits.patches
+  pub places : length ids + 1 ≤ limits.patches
   pub room : file_length ids bytes + (PAYLOAD_FRAME + length patch.text) ≤ limits.bytes
 
 module _ (ids : List Id) (bytes : ℕ) (patch : Patch) (limits : LogLimits) where
@@ -56,12 +53,9 @@ module _ (ids : List Id) (bytes : ℕ) (patch : Patch) (limits : LogLimits) wher
   pub taking-new : same_id patch.prev (last_of ids) ≡ true → version_among ids patch.id ≡ None → taking ids bytes patch limits ≡ within_limits ids bytes patch limits
   taking-new follows new = follows_so follows ∙ ap (λ found. unless_repeated found ids bytes patch limits) new
 
-  pub taking-full_patches : length ids ≡ limits.patches → within_limits ids bytes patch limits ≡ Full Patches (length ids) limits.patches
-  taking-full_patches full = ap (λ test. by_limits test (ltb limits.bytes longer)) (eq-eqb (length ids) limits.patches full)
-
-  pub taking-rest : (long : Bool) → length ids ≢ limits.patches → ltb limits.bytes longer ≡ long → within_limits ids bytes patch limits ≡ cond long (Full Bytes longer limits.bytes) (Applied (length ids + 1))
-  taking-rest long place is =
-      let free : eqb (length ids) limits.patches ≡ false = grind (arith, nat_tests) in
+  pub taking-rest : (long : Bool) → length ids + 1 ≤ limits.patches → ltb limits.bytes longer ≡ long → within_limits ids bytes patch limits ≡ cond long (Full Bytes longer limits.bytes) (Applied (length ids + 1))
+  taking-rest long places is =
+      let free : ltb limits.patches (length ids + 1) ≡ false = grind (arith, nat_tests) in
       ap (λ test. by_limits test (ltb limits.bytes longer)) free ∙ ap (λ test. by_limits false test) is
 
   applied_by_limits : (full long : Bool) (version : ℕ) → by_limits full long ≡ Applied version → (full ≡ false) × (long ≡ false) × (version ≡ length ids + 1)
@@ -78,12 +72,12 @@ module _ (ids : List Id) (bytes : ℕ) (patch : Patch) (limits : LogLimits) wher
   pub can_be_taken : (version : ℕ) → taking ids bytes patch limits ≡ Applied version → CanBeTaken ids bytes patch limits × (version ≡ length ids + 1)
   can_be_taken version is =
       let tests = applied_by_tests (same_id patch.prev (last_of ids)) (version_among ids patch.id) version (sym tested ∙ is) in
-      let sizes = applied_by_limits (eqb (length ids) limits.patches) (ltb limits.bytes longer) version tests.2 in (
+      let sizes = applied_by_limits (ltb limits.patches (length ids + 1)) (ltb limits.bytes longer) version tests.2 in (
         record {
           follows = same_id-true patch.prev (last_of ids) tests.0;
           new = tests.1;
-          place = λ same. absurd (true_not_false (sym (eq-eqb (length ids) limits.patches same) ∙ sizes.0));
-          room = grind (arith, nat_tests, sizes.1);
+          places = ltb-false limits.patches (length ids + 1) sizes.0;
+          room = ltb-false limits.bytes longer sizes.1;
         },
         sizes.2,
       )
@@ -106,7 +100,7 @@ decided ids bytes patch limits = subst IsDecided (sym (tested ids bytes patch li
     by_each : (follows : Bool) (found : Option ℕ) → IsDecided (by_tests ids bytes patch limits follows found)
     by_each false found = tt
     by_each true (Some version) = tt
-    by_each true None = by_size (eqb (length ids) limits.patches) (ltb limits.bytes (longer ids bytes patch limits))
+    by_each true None = by_size (ltb limits.patches (length ids + 1)) (ltb limits.bytes (longer ids bytes patch limits))
 
 -- what is refused changes nothing, and is told
 pub record IsRefused (answer : TakeAnswer) : Type 0 where

@@ -7,10 +7,10 @@ use Rattle.std.proofs.lemmas.List.Sums.{sum_by-append, sum_by-cons}
 use Rattle.delta_base.specs.declared.id.Id.{Id}
 use Rattle.rdf_terms.specs.Dataset.{Dataset, apply, empty}
 use Rattle.log_base.specs.declared.limits.LogLimits.{LogLimits}
-use Rattle.log_base.specs.declared.limits.TheConstants.{PATCH_LIMIT, PAYLOAD_FRAME}
+use Rattle.log_base.specs.declared.limits.TheConstants.{PATCH_LIMIT}
 use Rattle.chain_core.specs.declared.chain.Patch.{Patch}
 use Rattle.chain_core.specs.Links.{IsChain}
-use Rattle.chain_core.specs.Patches.{links_of, patch_ids, texts_of, version_of, last_id, journal_length}
+use Rattle.chain_core.specs.Patches.{links_of, patch_ids, texts_of, version_of, last_id, framed, journal_length}
 use Rattle.chain_core.proofs.Stays.{links-push, short-push}
 use Rattle.chain_core.proofs.Patches.{length-push}
 use Rattle.patch_meaning.specs.Checked.{CheckedPatch, AreChecked, checked_texts, meanings}
@@ -63,9 +63,6 @@ pub bare_last : (taken : List CheckedPatch) → last_id (map bare taken) ≡ las
 bare_last taken = ap last_of (bare_ids taken)
 
 -- the length of their journal
-abbrev framed : List ℕ → ℕ
-framed text = PAYLOAD_FRAME + length text
-
 pub bare_length : (taken : List CheckedPatch) → journal_length (map bare taken) ≡ file_length (map id_taken taken) (sum_by (λ (p : CheckedPatch). length p.text) taken)
 bare_length [] = refl
 bare_length (patch ∷ taken) = omega (arith, bare_length taken, sum_by-cons framed patch.text (texts_of (map bare taken)), sum_by-cons (λ (p : CheckedPatch). length p.text) patch taken)
@@ -84,12 +81,11 @@ pub taken-push : (limits : LogLimits) (taken : List CheckedPatch) (patch : Check
     → CanBeTaken (brief_of taken).ids (brief_of taken).bytes (bare patch) limits → AreTakenPatches limits (taken ++ patch ∷ [])
 taken-push limits taken patch are one can =
     let longer = bare-push taken patch in
-    let differs = can.place in
     record {
       checked = checked-push taken patch are.checked one;
       log = record {
         chain = chain-push taken patch are.log.chain can.follows can.new;
-        few = omega (arith, are.log.few, differs, length-map (taken ++ patch ∷ []) bare, length-append taken (patch ∷ []), length-map taken id_taken, length-map taken bare);
+        few = omega (arith, can.places, length-map (taken ++ patch ∷ []) bare, length-append taken (patch ∷ []), length-map taken id_taken, length-map taken bare);
         room = omega (arith, can.room, ap journal_length longer, length-push (map bare taken) (bare patch), bare_length taken);
         short = subst (λ (ps : List Patch). AllByRecursion (λ (p : Patch). length p.text ≤ PATCH_LIMIT) ps) (sym longer) (short-push (map bare taken) (bare patch) are.log.short one.short);
       };

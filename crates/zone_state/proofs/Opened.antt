@@ -9,14 +9,13 @@ use Rattle.log_base.specs.declared.limits.LogLimits.{LogLimits}
 use Rattle.chain_core.specs.Patches.{texts_of, journal_length}
 use Rattle.patch_meaning.specs.Checked.{CheckedPatch}
 use Rattle.patch_log.specs.Log.{bare}
-use Rattle.patch_log.proofs.Sound.{sound_short}
+use Rattle.zone_state.proofs.Sound.{sound_checked, sound_short}
 use Rattle.zone_state.specs.declared.kept.Kept.{Kept}
 use Rattle.zone_state.specs.Brief.{Brief, brief_of, file_length}
 use Rattle.zone_state.specs.Next.{AreFoundPatches}
 use Rattle.zone_state.specs.Zone.{AreTakenPatches, StandsForZone, zone_number}
 use Rattle.zone_state.specs.State.{brief_in, view_of, IsZoneKept}
 use Rattle.zone_state.proofs.Growing.{bare_texts, bare_length}
-use Rattle.zone_state.proofs.Readings.{sound_checked}
 use Rattle.zone_state.proofs.Standing.{counted_by, zone_stands}
 
 texts_are : (found : List (List ℕ)) (most : ℕ) (taken : List CheckedPatch) → AreFoundPatches found most taken → texts_of (map bare taken) ≡ found

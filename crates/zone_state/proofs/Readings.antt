@@ -1,6 +1,6 @@
 -- Reading a zone goes on from payload to payload.
 use Rattle.std.proofs.Common.{◌≡◌, inl, inr, ⊎_elim, ℕ, ◌+◌, Bool, true, false, List, [], ◌∷◌, ◌++◌, map, length, None, refl, sym, ◌∙◌, ap, subst, arith, length-append}
-use Rattle.std.specs.List.{AllByRecursion, Contains, flat_map}
+use Rattle.std.specs.List.{Contains, flat_map}
 use Rattle.std.proofs.lemmas.List.{map-append, length-map, append-nil}
 use Rattle.std.proofs.lemmas.Grind.{flat_map-append}
 use Rattle.std.proofs.lemmas.List.Elements.{Contains-append_left, Contains-append_right}
@@ -10,24 +10,19 @@ use Rattle.rdf_terms.specs.declared.change.Change.{Change}
 use Rattle.rdf_terms.specs.Dataset.{Dataset, empty}
 use Rattle.term_table.specs.Table.{most}
 use Rattle.dataset_tx.specs.Held.{terms_of, AreMet, AreMore}
-use Rattle.chain_core.specs.declared.chain.Patch.{Patch}
-use Rattle.chain_core.specs.declared.chain.Entry.{Entry}
-use Rattle.chain_core.specs.Links.{IsChain}
-use Rattle.chain_core.specs.Patches.{patches_of, links_of, texts_of}
-use Rattle.patch_meaning.specs.Checked.{CheckedPatch, AreChecked}
+use Rattle.patch_meaning.specs.Checked.{CheckedPatch}
 use Rattle.patch_meaning.specs.Patch.{Meaning, IsPatch}
 use Rattle.patch_meaning.proofs.Settled.{one_meaning}
 use Rattle.chain_core.specs.Breaks.{BreaksAt}
-use Rattle.patch_log.specs.Log.{bare, IsSound, AreChained}
-use Rattle.patch_log.specs.Opening.{IsNextInLog, AreFoundEntries}
-use Rattle.patch_log.proofs.Openings.{breaks_at}
 use Rattle.zone_state.specs.declared.opening.Reading.{Reading}
 use Rattle.chain_core.specs.Ids.{last_of, version_among}
+use Rattle.zone_state.specs.Log.{AreChained}
 use Rattle.zone_state.specs.Brief.{Brief, with_patch, id_taken, changes_taken}
 use Rattle.zone_state.specs.Next.{IsNextPatch, AreFoundPatches}
 use Rattle.zone_state.specs.Opening.{HasReadZone, MeetsMore, HasReceived}
 use Rattle.zone_state.specs.State.{brief_in}
-use Rattle.zone_state.proofs.Growing.{brief-push, texts-push, bare_texts, bare_versions, bare_last, checked-push, chain-push}
+use Rattle.zone_state.proofs.Broken.{breaks}
+use Rattle.zone_state.proofs.Growing.{brief-push, texts-push, checked-push, chain-push}
 
 -- ---- one text
 
@@ -119,49 +114,6 @@ has_read_none reading ids bytes contents full = record {
 
 -- ---- all payloads
 
-abbrev brought : CheckedPatch → Entry
-brought patch = record { patch = bare patch; by = 0 }
-
-patches_brought : (taken : List CheckedPatch) → patches_of (map brought taken) ≡ map bare taken
-patches_brought [] = refl
-patches_brought (patch ∷ taken) = ap (λ (ps : List Patch). bare patch ∷ ps) (patches_brought taken)
-
-pub sound_checked : (taken : List CheckedPatch) → AreChecked taken → AllByRecursion IsSound (map bare taken)
-sound_checked [] all = tt
-sound_checked (patch ∷ taken) all = ((patch.meaning.changes, all.0), sound_checked taken all.1)
-
-by_nobody : (taken : List CheckedPatch) → AllByRecursion (λ (entry : Entry). entry.by ≡ 0) (map brought taken)
-by_nobody [] = tt
-by_nobody (patch ∷ taken) = (refl, by_nobody taken)
-
-as_entries : (found : List (List ℕ)) (most : ℕ) (taken : List CheckedPatch) → AreFoundPatches found most taken → AreFoundEntries found most (map brought taken)
-as_entries found most taken are = record {
-  texts_are = ap texts_of (patches_brought taken) ∙ bare_texts taken ∙ are.texts_are;
-  sound = subst (λ (ps : List Patch). AllByRecursion IsSound ps) (sym (patches_brought taken)) (sound_checked taken are.checked);
-  chain = subst (λ (ps : List Patch). IsChain (links_of ps)) (sym (patches_brought taken)) are.chain;
-  few = omega (arith, are.few, length-map taken brought);
-  by_nobody = by_nobody taken;
-}
-
--- where no patch is the next one, the texts break there
-pub breaks : (found : List (List ℕ)) (text : List ℕ) (rest : List (List ℕ)) (most : ℕ) (taken : List CheckedPatch) → AreFoundPatches found most taken
-    → ((patch : CheckedPatch) → IsNextPatch (map id_taken taken) text most patch → ⊥) → BreaksAt (AreChained most) (found ++ text ∷ rest) (length taken + 1)
-breaks found text rest most taken are none =
-    let count : length (map brought taken) ≡ length taken = length-map taken brought in
-    subst (λ (n : ℕ). BreaksAt (AreChained most) (found ++ text ∷ rest) (n + 1)) count (breaks_at found text rest most (map brought taken) (as_entries found most taken are) no_entry)
-  where
-    no_entry : (patch : Patch) → IsNextInLog (patches_of (map brought taken)) text most patch → ⊥
-    no_entry patch next =
-        let one = subst (λ (ps : List Patch). IsNextInLog ps text most patch) (patches_brought taken) next in
-        let on = one.goes_on in
-        none (record { text = patch.text; meaning = record { id = patch.id; prev = patch.prev; changes = on.sound.0 } }) (record {
-          text_is = on.text_is;
-          checked = on.sound.1;
-          follows = on.follows ∙ bare_last taken;
-          new = sym (bare_versions taken patch.id) ∙ one.new;
-          few = omega (arith, on.few, length-map taken bare, length-map taken id_taken);
-        })
-
 pub found_none : (most : ℕ) → AreFoundPatches [] most []
 found_none most = record { texts_are = refl; checked = tt; chain = record { follow = tt; differ = tt }; few = omega arith }
 
@@ -202,5 +154,5 @@ module _ (first old new : Reading) (payloads : List (List ℕ)) (text : List ℕ
       record {
         most_is = same ∙ has.most_is;
         found = λ is. absurd (true_and_false new.broken broken is);
-        breaks = λ is. subst (λ (n : ℕ). BreaksAt (AreChained first.most) (payloads ++ text ∷ []) n) count (breaks payloads text [] first.most found.0 found.1 no_next);
+        breaks = λ is. subst (λ (n : ℕ). BreaksAt (AreChained first.most) (payloads ++ text ∷ []) n) count (breaks payloads first.most found.0 found.1 text [] no_next);
       }

@@ -1,5 +1,5 @@
 -- What a zone stands for, when a write was done or failed.
-use Rattle.std.proofs.Common.{◌≡◌, inl, ℕ, zero, suc, ◌+◌, true, false, List, [], ◌∷◌, ◌++◌, map, length, Option, Some, None, refl, sym, ◌∙◌, ap, subst}
+use Rattle.std.proofs.Common.{◌≡◌, inl, ℕ, zero, suc, true, false, List, [], ◌∷◌, ◌++◌, map, length, Option, Some, None, refl, sym, ◌∙◌, ap, subst}
 use Rattle.std.specs.Prelude.{is_none}
 use Rattle.std.proofs.lemmas.List.{length-map}
 use Rattle.disk_model.specs.declared.disk.Disk.{Ghosts}
@@ -17,7 +17,8 @@ use Rattle.log_base.specs.declared.limits.LogLimits.{LogLimits}
 use Rattle.chain_core.specs.Patches.{texts_of}
 use Rattle.chain_core.specs.Stay.{fate_of, fate_by_syncs, fate_by_plan}
 use Rattle.patch_meaning.specs.Checked.{CheckedPatch, checked_texts}
-use Rattle.patch_log.specs.Log.{bare, payloads_of, patch_payload}
+use Rattle.patch_log.specs.Log.{bare}
+use Rattle.zone_state.specs.Log.{payloads_of, patch_payload}
 use Rattle.zone_state.specs.declared.answer.TakeAnswer.TheVariants.{Applied}
 use Rattle.zone_state.specs.Brief.{Brief, brief_of, id_taken, file_length}
 use Rattle.zone_state.specs.Taking.{taken_by, taken_then}
@@ -32,16 +33,16 @@ abbrev pub taken_after : Option Phase → ℕ → List CheckedPatch → CheckedP
 taken_after end version taken patch = taken_then (answer_by end version) taken patch
 
 -- the outcome is that of the fate that the write came to
-pub outcome_is : (end : Option Phase) (taken : List CheckedPatch) (doubt : Option CheckedPatch) (patch : CheckedPatch) (version : ℕ) → version ≡ length (map bare taken) + 1 → (end ≡ Some Settling → is_none doubt ≡ false)
+pub outcome_is : (end : Option Phase) (taken : List CheckedPatch) (doubt : Option CheckedPatch) (patch : CheckedPatch) (version : ℕ) → (end ≡ Some Settling → is_none doubt ≡ false)
     → taken_by (Applied version) (fate_of end) (map bare taken) (doubt_of doubt) (bare patch) ≡ (zone_point (taken_after end version taken patch) (doubt_left end doubt patch), Some (answer_by end version))
-outcome_is None taken doubt patch version is settling = rw (bare-push taken patch, is) refl
-outcome_is (Some Settling) taken None patch version is settling = absurd (true_or_false (settling refl))
+outcome_is None taken doubt patch version settling = rw (bare-push taken patch) refl
+outcome_is (Some Settling) taken None patch version settling = absurd (true_or_false (settling refl))
   where
     true_or_false : true ≡ false → ⊥
     true_or_false same = cc
-outcome_is (Some Settling) taken (Some doubt) patch version is settling = refl
-outcome_is (Some Body) taken doubt patch version is settling = refl
-outcome_is (Some Gate) taken doubt patch version is settling = refl
+outcome_is (Some Settling) taken (Some doubt) patch version settling = refl
+outcome_is (Some Body) taken doubt patch version settling = refl
+outcome_is (Some Gate) taken doubt patch version settling = refl
 
 -- the text in doubt tells as much as the patch
 pub same_fate : (doubt : Option CheckedPatch) (syncs : ℕ) → fate_of (phase_by_syncs (text_in doubt) syncs) ≡ fate_by_syncs doubt syncs

@@ -1,7 +1,6 @@
 -- What a zone stands for behind the write of its next patch.
 use Rattle.std.proofs.Common.{◌≡◌, inl, inr, ℕ, ◌+◌, ◌-◌, ◌≤◌, ◌<◌, ◌^◌, false, List, [], ◌∷◌, ◌++◌, map, length, Option, Some, None, refl, sym, ◌∙◌, ap, subst, arith, length-append}
 use Rattle.std.specs.Prelude.{is_none}
-use Rattle.std.proofs.lemmas.List.{length-map}
 use Rattle.disk_model.specs.declared.disk.Disk.{Ghosts}
 use Rattle.log_base.specs.declared.phase.Phase.{Phase}
 use Rattle.log_base.specs.declared.phase.Phase.TheVariants.{Settling}
@@ -20,7 +19,7 @@ use Rattle.zone_state.specs.declared.answer.TakeAnswer.{TakeAnswer}
 use Rattle.zone_state.specs.declared.answer.TakeAnswer.TheVariants.{Applied}
 use Rattle.zone_state.specs.declared.kept.Kept.{Kept}
 use Rattle.chain_core.specs.Ids.{version_among}
-use Rattle.zone_state.specs.Brief.{Brief, brief_of, with_patch, id_taken, file_length}
+use Rattle.zone_state.specs.Brief.{Brief, brief_of, with_patch, file_length}
 use Rattle.zone_state.specs.Taking.{taking, taken_by, TakeStay}
 use Rattle.zone_state.specs.Zone.{ZoneView, AreTakenPatches, StandsForZone, zone_number, doubt_of, text_in, zone_point}
 use Rattle.zone_state.specs.State.{brief_in, view_of, IsZoneKept}
@@ -43,11 +42,6 @@ Carries old new end payload = (number : ℕ) (payloads : List (List ℕ)) (doubt
 module _ {D : Type 0} {disks : Ghosts D} (journal : Journal D disks) (kept : Kept) (limits : LogLimits) (is : IsZoneKept journal kept limits) where
   abbrev ids : List Id
   ids = kept.ids.items
-
-  pub few : length kept.ids.items ≤ limits.patches
-  few =
-      let stands = is.stands.2 in
-      omega (arith, stands.without.log.few, ap (λ (brief : Brief). length brief.ids) stands.brief_is, length-map is.stands.0 id_taken, length-map is.stands.0 bare)
 
   -- before a write
   pub journal_is : (taken : List CheckedPatch) (doubt : Option CheckedPatch) → StandsForZone disks.tells (disks.past (disk_of journal)) (view_of journal kept limits) taken doubt → StandsWith journal zone_number (checked_texts taken) (text_in doubt)
@@ -93,16 +87,13 @@ module _ {D : Type 0} {disks : Ghosts D} (journal : Journal D disks) (kept : Kep
     is_new = can.new
 
     pub countable_more : length kept.ids.items + 1 < 2 ^ 32
-    countable_more = let differs = can.place in omega (arith, few, differs, is.countable)
+    countable_more = omega (arith, can.places, is.countable)
 
     pub numbered : count_of journal < 2 ^ 32 - 1
     numbered = omega (arith, is.counted, countable_more)
 
     pub room : (payload : List ℕ) → payload ≡ patch.text → length_of journal + PAYLOAD_FRAME + length payload ≤ limit_of journal
     room payload payload_is = omega (arith, can.room, is.length_is, is.limit_is, ap length payload_is)
-
-    version_is : (taken : List CheckedPatch) → brief_in kept ≡ brief_of taken → version ≡ length (map bare taken) + 1
-    version_is taken brief = omega (arith, (can_be_taken kept.ids.items kept.bytes (bare patch) limits version next).1, ap (λ (b : Brief). length b.ids) brief, length-map taken id_taken, length-map taken bare)
 
     more : (taken : List CheckedPatch) → IsPatch patch.text patch.meaning → AreTakenPatches limits taken → brief_in kept ≡ brief_of taken → AreTakenPatches limits (taken ++ patch ∷ [])
     more taken checked are brief = taken-push limits taken patch are checked (subst (λ (b : Brief). CanBeTaken b.ids b.bytes (bare patch) limits) brief can)
@@ -155,7 +146,7 @@ module _ {D : Type 0} {disks : Ghosts D} (journal : Journal D disks) (kept : Kep
           → (end ≡ Some Settling → is_settled journal ≡ false) → Written disks (disk_of journal) (disk_of new) zone_number (checked_texts taken) (text_in doubt) payload end
           → TookOne disks (view_of journal kept limits) (view_of new kept_new limits) taken doubt patch (answer_by end version)
       took_written taken doubt stands settling written =
-          let outcome = outcome_is end taken doubt patch version (version_is taken stands.brief_is) (λ failed. sym stands.settled_is ∙ settling failed) in
+          let outcome = outcome_is end taken doubt patch version (λ failed. sym stands.settled_is ∙ settling failed) in
           record {
             left = doubt_left end doubt patch;
             stands = stands_written taken doubt stands;

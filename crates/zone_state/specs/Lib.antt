@@ -1,3 +1,4 @@
+pub mod Log
 pub mod Brief
 pub mod Taking
 pub mod Zone

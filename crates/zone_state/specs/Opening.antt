@@ -6,7 +6,7 @@ use Rattle.term_table.specs.Table.{most}
 use Rattle.dataset_tx.specs.Held.{AreMet, AreMore}
 use Rattle.chain_core.specs.Breaks.{BreaksAt}
 use Rattle.patch_meaning.specs.Checked.{CheckedPatch}
-use Rattle.patch_log.specs.Log.{AreChained}
+use Rattle.zone_state.specs.Log.{AreChained}
 use Rattle.zone_state.specs.declared.opening.Reading.{Reading}
 use Rattle.zone_state.specs.Brief.{brief_of, id_taken, changes_taken}
 use Rattle.zone_state.specs.Next.{AreFoundPatches}

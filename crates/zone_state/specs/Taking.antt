@@ -1,5 +1,5 @@
 -- What a zone makes of one more patch, and what taking it may come to.
-use Rattle.std.specs.Prelude.{◌≡◌, ◌⊎◌, ℕ, ◌+◌, ◌==◌, nat_lt, not, List, [], ◌∷◌}
+use Rattle.std.specs.Prelude.{◌≡◌, ◌⊎◌, ℕ, ◌+◌, nat_lt, not, List, [], ◌∷◌}
 use Rattle.std.specs.Prelude.{◌++◌, length, Option, Some, None, if◌then◌else◌}
 use Rattle.std.specs.Option.{option_map}
 use Rattle.delta_base.specs.declared.id.Id.{Id}
@@ -25,7 +25,7 @@ use Rattle.zone_state.specs.Brief.{file_length}
 abbrev pub within_limits : List Id → ℕ → Patch → LogLimits → TakeAnswer
 within_limits ids bytes patch limits =
     let longer = file_length ids bytes + (PAYLOAD_FRAME + length patch.text) in
-    if length ids == limits.patches then Full Patches (length ids) limits.patches
+    if nat_lt limits.patches (length ids + 1) then Full Patches (length ids) limits.patches
     else (if nat_lt limits.bytes longer then Full Bytes longer limits.bytes
     else Applied (length ids + 1))
 
@@ -47,15 +47,15 @@ told_by other = DiskFault
 
 -- by what the device calls of the next patch come to; what is refused changes nothing
 abbrev pub taken_by : TakeAnswer → Fate → List Patch → Option Patch → Patch
-    → LogPoint × Option TakeAnswer
+    → LogPoint Patch × Option TakeAnswer
 taken_by (Applied version) fate taken doubt patch =
-    let outcome = accepted_by fate taken doubt patch in
+    let outcome = accepted_by version fate taken doubt patch in
     (outcome.0, option_map told_by outcome.1)
 taken_by refused fate taken doubt patch = (up taken doubt, Some refused)
 
 -- a zone that runs takes a patch with this fate
-abbrev pub TakeStay : TakeAnswer → List Patch → Option Patch → Patch → Fate → LogPoint → TakeAnswer
-    → Type 0
+abbrev pub TakeStay : TakeAnswer → List Patch → Option Patch → Patch → Fate → LogPoint Patch
+    → TakeAnswer → Type 0
 TakeStay decided taken doubt patch fate after answer =
     taken_by decided fate taken doubt patch ≡ (after, Some answer)
 

@@ -51,7 +51,7 @@ abbrev pub doubt_of : Option CheckedPatch → Option Patch
 doubt_of doubt = option_map bare doubt
 
 -- the zone as a log that runs
-abbrev pub zone_point : List CheckedPatch → Option CheckedPatch → LogPoint
+abbrev pub zone_point : List CheckedPatch → Option CheckedPatch → LogPoint Patch
 zone_point taken doubt = up (map bare taken) (doubt_of doubt)
 
 -- the text in doubt

@@ -65,7 +65,7 @@ impl Ids {
         ensures spare { OnOk result (1 ≤ self.new.spare) }
     {
         self.list.reserve(1)?;
-        self.index.reserve()
+        self.index.reserve(1)
     }
 
     /// Adds an id that is new, in a place that is ready.

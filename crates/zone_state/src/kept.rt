@@ -46,7 +46,6 @@ impl Kept {
 
     /// What is made of a patch.
     pub fn taking(&self, patch: &Checked, limits: &LogLimits) -> TakeAnswer
-        requires { length self.now.ids.items ≤ limits.now.patches }
         ensures { result ≡ taking self.now.ids.items self.now.bytes (bare patch.now) limits.now }
     {
         let last = self.ids.last();
@@ -62,13 +61,12 @@ impl Kept {
 
     // Whether a text more is within the limits.
     fn within(&self, patch: &Checked, limits: &LogLimits) -> TakeAnswer
-        requires { length self.now.ids.items ≤ limits.now.patches }
         ensures { result
             ≡ within_limits self.now.ids.items self.now.bytes (bare patch.now) limits.now }
     {
         let size = patch.text().len() as u64;
         let count = self.ids.len();
-        if count == limits.patches {
+        if count >= limits.patches {
             return TakeAnswer::Full {
                 what: FullKind::Patches,
                 have: u64::from(count),

@@ -17,5 +17,5 @@ mod zone;
 pub use answer::TakeAnswer;
 pub use fault::{ZoneFault, ZoneRefusal};
 pub use file::ZONE_NUMBER;
-pub use laws::{zones_decide_as_logs, zones_stand_as_logs};
+pub use laws::{zones_are_found_again, zones_decide_as_logs, zones_stand_as_logs};
 pub use zone::Zone;

@@ -6,7 +6,7 @@ ghost use Rattle.dataset_tx.specs.Held.{AreMet, AreMore};
 ghost use Rattle.chain_core.specs.Breaks.{BreaksAt};
 ghost use Rattle.patch_meaning.specs.Checked.{CheckedPatch};
 ghost use Rattle.patch_meaning.specs.Patch.{IsPatch};
-ghost use Rattle.patch_log.specs.Log.{AreChained};
+ghost use Rattle.zone_state.specs.Log.{AreChained};
 ghost use Rattle.chain_core.specs.Ids.{last_of, version_among};
 ghost use Rattle.zone_state.specs.Brief.{brief_of, changes_taken};
 ghost use Rattle.zone_state.specs.Next.{IsNextPatch, AreFoundPatches};

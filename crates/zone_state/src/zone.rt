@@ -28,7 +28,6 @@ use delta_base::{Id, OutOfMemory, Text};
 use disk_model::{Disk, Planned};
 use log_base::LogLimits;
 use log_journal::{Journal, OpenRefusal, write};
-use patch_log::LogFault;
 use patch_meaning::Checked;
 use quad_index::Steps;
 use rdf_terms::{Changes, Quads};
@@ -93,7 +92,7 @@ impl<D: Disk> Zone<D> {
                 drop(reading);
                 Err(ZoneRefusal {
                     disk,
-                    fault: ZoneFault::from(LogFault::from(fault)),
+                    fault: ZoneFault::from(fault),
                 })
             }
         }

@@ -1,4 +1,4 @@
-use Rattle.std.proofs.Common.{◌≡◌, List, ℕ, Option, Some, None, refl, subst}
+use Rattle.std.proofs.Common.{◌≡◌, Option, Some, None, refl, subst}
 use Rattle.rdf_terms.specs.declared.term.Term.{Term}
 use Rattle.dataset_tx.specs.declared.pattern.GraphPart.{GraphPart}
 use Rattle.zone_commands.specs.declared.words.Position.TheVariants as position

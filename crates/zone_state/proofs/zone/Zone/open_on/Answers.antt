@@ -3,7 +3,7 @@ use Rattle.log_base.specs.Journals.{payloads_length}
 use Rattle.disk_model.specs.Past.{reads}
 use Rattle.chain_core.specs.Breaks.{BreaksAt}
 use Rattle.log_journal.specs.File.{Holds}
-use Rattle.patch_log.specs.Log.{AreChained}
+use Rattle.zone_state.specs.Log.{AreChained}
 use Rattle.zone_state.specs.declared.fault.ZoneFault.{ZoneFault}
 use Rattle.zone_state.specs.Fault.{HasZoneFault}
 use Rattle.zone_state.specs.Next.{AreFoundPatches}
