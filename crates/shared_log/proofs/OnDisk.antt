@@ -1,22 +1,27 @@
 -- What a pass is told stands in the log that it left, and so in each image of its disk.
-use Rattle.std.proofs.Common.{◌≡◌, ℕ, zero, suc, List, [], ◌∷◌, ◌++◌, map, length, length-append, refl, sym, ap, ◌∙◌, subst, ⊎_elim, arith, Option, Some, None, slice_get}
-use Rattle.std.specs.Option.{option_map}
+use Rattle.std.proofs.Common.{◌≡◌, ℕ, zero, suc, ◌+◌, ◌-◌, List, [], ◌∷◌, ◌++◌, length, refl, sym, ap, ◌∙◌, subst, ⊎_elim, arith, Option, Some, None, slice_get}
 use Rattle.std.proofs.lemmas.List.{map-append, length-map}
-use Rattle.std.proofs.lemmas.Option.{slice_get-map}
 use Rattle.disk_model.specs.declared.disk.Disk.{Ghosts}
+use Rattle.log_base.specs.OneMore.{with_one_more}
+use Rattle.log_base.specs.declared.limits.LogLimits.{LogLimits}
 use Rattle.log_journal.specs.File.{Holds}
 use Rattle.chain_core.specs.declared.chain.Patch.{Patch}
 use Rattle.chain_core.specs.declared.answer.LogAnswer.{LogAnswer}
-use Rattle.chain_core.specs.declared.answer.LogAnswer.TheVariants.{Accepted}
-use Rattle.chain_core.specs.Patches.{patches_of, texts_of, at_version, version_of, patch_at, patch_named}
-use Rattle.chain_core.specs.Replies.{found, fetched}
-use Rattle.patch_log.specs.Log.{MayHoldChain}
+use Rattle.chain_core.specs.declared.answer.LogAnswer.TheVariants.{Accepted, AcceptedRun, Known as IsKnown, Conflict, Full, DiskFault, OutOfMemory}
+use Rattle.chain_core.specs.Patches.{at_version, version_of, patch_at, patch_named}
+use Rattle.chain_core.specs.Replies.{LogCall, append, append_run, as_run, found, fetched}
+use Rattle.chain_core.specs.Runs.{entries_of, patches_in, run_text, run_texts, runs_of}
+use Rattle.chain_core.proofs.Decided.{accepted}
+use Rattle.chain_core.proofs.Runs.{patches_in-push, patches_in-runs, patches_of-run}
+use Rattle.patch_log.specs.Log.{IsSoundLog, MayHoldChain}
+use Rattle.patch_log.proofs.Sound.{texts_of-push}
 use Rattle.patch_log.specs.State.{LogView}
 use Rattle.turn_cell.specs.declared.view.Known.{Known}
-use Rattle.turn_cell.specs.Knowing.{pass_number, seen_of, Brought}
+use Rattle.turn_cell.specs.Knowing.{pass_number, seen_of}
 use Rattle.turn_cell.specs.Sharing.{InTurn}
-use Rattle.shared_log.specs.History.{LogSight, entry_of, patches_known, shared_log}
-use Rattle.shared_log.specs.Legal.{IsAppendAnswer}
+use Rattle.shared_log.specs.History.{LogSight, history_of, patches_known, shared_log}
+use Rattle.shared_log.specs.declared.value.Placed.{Placed}
+use Rattle.shared_log.specs.Legal.{BroughtRun, IsAccepted, IsAppendAnswer}
 use Rattle.shared_log.specs.Stays.{HoldsPatchAt, IsOnDisk}
 use Rattle.shared_log.specs.Laws.{ToldIsOnDisk, StaysInSight}
 use Rattle.shared_log.proofs.Histories.{known_chain}
@@ -31,20 +36,27 @@ module _ {A : Type 0} where
   stands_on xs ys zero x is = let c = is in cc
   stands_on xs ys (suc k) x is = get_on xs ys k x is
 
-  last_stands : (xs : List A) (x : A) → at_version (xs ++ x ∷ []) (suc (length xs)) ≡ Some x
-  last_stands [] x = refl
-  last_stands (z ∷ xs) x = last_stands xs x
+  get_behind : (xs ys : List A) (k n : ℕ) → n ≡ length xs + k → slice_get (xs ++ ys) n ≡ slice_get ys k
+  get_behind [] ys k n at = let same : n ≡ k = omega (arith, at) in ap (slice_get ys) same
+  get_behind (z ∷ xs) ys k zero at = absurd (omega (arith, at))
+  get_behind (z ∷ xs) ys k (suc n) at = get_behind xs ys k n (omega (arith, at))
 
-  stands_mapped : {B : Type 0} (f : A → B) (xs : List A) (place : ℕ) (x : A) → at_version xs place ≡ Some x → at_version (map f xs) place ≡ Some (f x)
-  stands_mapped f xs zero x is = let c = is in cc
-  stands_mapped f xs (suc k) x is = slice_get-map f xs k ∙ ap (option_map f) is
+  -- what stands behind others, at its version
+  stands_behind : (xs ys : List A) (k place : ℕ) (y : A) → place ≡ length xs + k + 1 → slice_get ys k ≡ Some y → at_version (xs ++ ys) place ≡ Some y
+  stands_behind xs ys k zero y at is = absurd (omega (arith, at))
+  stands_behind xs ys k (suc n) y at is = get_behind xs ys k n (omega (arith, at)) ∙ is
 
-held : (number : ℕ) (chain : List Patch) (doubt : Option Patch) (place : ℕ) (patch : Patch) (image : List ℕ) → patch_at chain place ≡ Some patch → MayHoldChain number chain doubt image → HoldsPatchAt number place patch image
-held number chain None place patch image is holds = (texts_of chain, holds, stands_mapped (λ (p : Patch). p.text) chain place patch is)
-held number chain (Some doubt) place patch image is holds =
-    let there = stands_mapped (λ (p : Patch). p.text) chain place patch is in
-    ⊎_elim (λ (h : Holds image number (texts_of chain)). (texts_of chain, h, there))
-    (λ (h : Holds image number (texts_of chain ++ doubt.text ∷ [])). (texts_of chain ++ doubt.text ∷ [], h, stands_on (texts_of chain) (doubt.text ∷ []) place patch.text there)) holds
+held : (limits : LogLimits) (number : ℕ) (runs : List (List Patch)) (doubt : Option (List Patch)) (place : ℕ) (patch : Patch) (image : List ℕ) → IsSoundLog limits runs → IsSoundLog limits (with_one_more runs doubt) → patch_at (patches_in runs) place ≡ Some patch → MayHoldChain number runs doubt image
+    → HoldsPatchAt number place patch image
+held limits number runs None place patch image without having is holds = (runs, holds, without.sound, is)
+held limits number runs (Some doubt) place patch image without having is holds =
+    ⊎_elim (λ (h : Holds image number (run_texts runs)). (runs, h, without.sound, is))
+    (λ (h : Holds image number (run_texts runs ++ run_text doubt ∷ [])). (
+      runs ++ doubt ∷ [],
+      subst (λ (texts : List (List ℕ)). Holds image number texts) (sym (texts_of-push runs doubt)) h,
+      having.sound,
+      subst (λ (patches : List Patch). patch_at patches place ≡ Some patch) (sym (patches_in-push runs doubt)) (stands_on (patches_in runs) doubt place patch is),
+    )) holds
 
 fetched_found : (there : Option Patch) (count : ℕ) (patch : Patch) → found patch ≡ fetched there count → there ≡ Some patch
 fetched_found None count patch is = let c = is in cc
@@ -58,13 +70,16 @@ module _ {D : Type 0} (disks : Ghosts D) (origin : LogView D) (p q : LogSight) w
   -- what stands in the log that was left is on its disk
   left_on_disk : {Did : LogView D → LogView D → Type 0} → (place : ℕ) (patch : Patch) (stay : InTurn (shared_log disks) Did origin p q) → patch_at (patches_known (seen_of q)) place ≡ Some patch → (on : IsOnDisk disks origin place patch q) × (on.log ≡ stay.left)
   left_on_disk place patch stay is =
-      let there : patch_at (patches_of stay.left.entries) place ≡ Some patch = subst (λ (chain : List Patch). patch_at chain place ≡ Some patch) (ap patches_known stay.sees ∙ known_chain stay.left.entries) is in (
+      let seen : patches_known (seen_of q) ≡ patches_in (runs_of stay.left.entries) = ap patches_known stay.sees ∙ known_chain stay.left.entries ∙ sym (patches_in-runs stay.left.entries) in
+      let there : patch_at (patches_in (runs_of stay.left.entries)) place ≡ Some patch = subst (λ (chain : List Patch). patch_at chain place ≡ Some patch) seen is in (
         record {
           log = stay.left;
           file = stay.left_fixed;
           sees = stay.sees;
           stands_in_it = is;
-          images = λ told image may. held stay.left.number (patches_of stay.left.entries) stay.left.doubt place patch image there ((stay.left_stands.stands told).each image may);
+          images = λ told image may.
+              let stands = stay.left_stands.stands told in
+              held stay.left.limits stay.left.number (runs_of stay.left.entries) stay.left.doubt place patch image stands.without stands.having there (stands.each image may);
         },
         refl,
       )
@@ -72,19 +87,43 @@ module _ {D : Type 0} (disks : Ghosts D) (origin : LogView D) (p q : LogSight) w
   abbrev chain : List Patch
   chain = patches_known (seen_of q)
 
-  brought_stands : (patch : Patch) (place : ℕ) → Brought patch place p q → patch_at chain place ≡ Some patch
-  brought_stands patch place b =
-      let ends : chain ≡ patches_known b.before ++ patch ∷ [] = ap patches_known b.sees ∙ map-append (λ (known : Known Patch). known.content) b.before (entry_of patch (pass_number p) ∷ []) in
-      let at : place ≡ suc (length (patches_known b.before)) = omega (arith, b.at_end, ap length b.sees, length-append b.before (entry_of patch (pass_number p) ∷ []), length-map b.before (λ (known : Known Patch). known.content)) in
-      subst (λ (z : List Patch × ℕ). patch_at z.0 z.1 ≡ Some patch) (λ i. (sym ends i, sym at i)) (last_stands (patches_known b.before) patch)
+  -- each patch of a run that was brought stands at its version
+  brought_stands : (run : List Patch) (last place k : ℕ) (patch : Patch) (b : BroughtRun run last p q) → place ≡ length b.before + k + 1 → slice_get run k ≡ Some patch → patch_at chain place ≡ Some patch
+  brought_stands run last place k patch b at is =
+      let entries = entries_of run (pass_number p) in
+      let ends : chain ≡ patches_known b.before ++ run = ap patches_known b.sees ∙ map-append (λ (known : Known Placed). known.content.patch) b.before (history_of entries) ∙ ap (λ (patches : List Patch). patches_known b.before ++ patches) (known_chain entries ∙ patches_of-run run (pass_number p)) in
+      let before : place ≡ length (patches_known b.before) + k + 1 = omega (arith, at, length-map b.before (λ (known : Known Placed). known.content.patch)) in
+      subst (λ (patches : List Patch). patch_at patches place ≡ Some patch) (sym ends) (stands_behind (patches_known b.before) run k place patch before is)
+
+  -- the last place of a run that was brought
+  last_of : (limits : LogLimits) (run : List Patch) (last : ℕ) (taken : IsAccepted limits run last p q) → last ≡ length taken.0.before + length run
+  last_of limits run last taken =
+      omega (arith, (accepted (patches_known taken.0.before) run limits last taken.1).1, length-map taken.0.before (λ (known : Known Placed). known.content.patch))
+
+  run_accepted : (limits : LogLimits) (call : LogCall) (run : List Patch) (first last : ℕ) (answer : LogAnswer) → AcceptedRun first last ≡ as_run (length run) answer → IsAppendAnswer limits call run answer p q → IsAccepted limits run last p q × (first ≡ last - (length run - 1))
+  run_accepted limits call run first last (Accepted place) is told =
+      let ends : last ≡ place = cc in
+      let begins : first ≡ place - (length run - 1) = cc in
+      (subst (λ (v : ℕ). IsAccepted limits run v p q) (sym ends) told, begins ∙ ap (λ (v : ℕ). v - (length run - 1)) (sym ends))
+  run_accepted limits call run first last (AcceptedRun from to) is told = absurd told
+  run_accepted limits call run first last (IsKnown place same) is told = absurd (cc)
+  run_accepted limits call run first last (Conflict place head named) is told = absurd (cc)
+  run_accepted limits call run first last (Full what have limit) is told = absurd (cc)
+  run_accepted limits call run first last DiskFault is told = absurd (cc)
+  run_accepted limits call run first last OutOfMemory is told = absurd (cc)
 
   pub told_on_disk : ToldIsOnDisk disks origin p q
   told_on_disk = record {
     accepted = λ place patch call.
         let told = call.legal.1 in
         let same : told.0 ≡ Accepted place = let e = told.1 in cc in
-        let accepted = subst (λ (answer : LogAnswer). IsAppendAnswer origin.limits patch answer p q) same told.2 in
-        left_on_disk place patch call.stay (brought_stands patch place accepted.0);
+        let taken : IsAccepted origin.limits (patch ∷ []) place p q = subst (λ (answer : LogAnswer). IsAppendAnswer origin.limits (append patch) (patch ∷ []) answer p q) same told.2 in
+        left_on_disk place patch call.stay (brought_stands (patch ∷ []) place place 0 patch taken.0 (omega (arith, last_of origin.limits (patch ∷ []) place taken)) refl);
+    accepted_run = λ first last run call k patch is.
+        let told = call.legal.1 in
+        let same : AcceptedRun first last ≡ as_run (length run) told.0 = let e = told.1 in cc in
+        let taken = run_accepted origin.limits (append_run run) run first last told.0 same told.2 in
+        left_on_disk (first + k) patch call.stay (brought_stands run last (first + k) k patch taken.0.0 (omega (arith, last_of origin.limits run last taken.0, taken.1, told.3)) is);
     served = λ place patch call. left_on_disk place patch call.stay (fetched_found (patch_at chain place) (length chain) patch call.legal.1.0);
     served_by_id = λ id patch call.
         let there = named chain (version_of chain id) patch (fetched_found (patch_named chain (version_of chain id)) (length chain) patch call.legal.1.0) in
@@ -93,5 +132,5 @@ module _ {D : Type 0} (disks : Ghosts D) (origin : LogView D) (p q : LogSight) w
 
 pub stays_in_sight : {D : Type 0} (disks : Ghosts D) (origin : LogView D) (q later : LogSight) → StaysInSight disks origin q later
 stays_in_sight disks origin q later longer place patch is =
-    subst (λ (history : List (Known Patch)). patch_at (patches_known history) place ≡ Some patch) longer.1
-    (rw (map-append (λ (known : Known Patch). known.content) (seen_of q) longer.0) (stands_on (patches_known (seen_of q)) (patches_known longer.0) place patch is.stands_in_it))
+    subst (λ (history : List (Known Placed)). patch_at (patches_known history) place ≡ Some patch) longer.1
+    (rw (map-append (λ (known : Known Placed). known.content.patch) (seen_of q) longer.0) (stands_on (patches_known (seen_of q)) (patches_known longer.0) place patch is.stands_in_it))

@@ -1,5 +1,5 @@
 -- From what a stay found and left to what its pass is told.
-use Rattle.std.proofs.Common.{◌≡◌, ℕ, ◌+◌, ◌⊎◌, List, length, sym, refl, ap, ◌∙◌, subst, ⊎_elim, inl, arith, Option, Some, None, false, true}
+use Rattle.std.proofs.Common.{◌≡◌, ℕ, ◌+◌, ◌<◌, ◌⊎◌, List, [], ◌∷◌, length, sym, refl, ap, ◌∙◌, subst, ⊎_elim, inl, arith, Option, Some, None, false, true}
 use Rattle.std.specs.Prelude.{Result, Ok, Err, IfOk}
 use Rattle.std.proofs.lemmas.List.{length-map}
 use Rattle.log_base.specs.declared.limits.LogLimits.{LogLimits}
@@ -9,49 +9,72 @@ use Rattle.chain_core.specs.declared.chain.Entry.{Entry}
 use Rattle.chain_core.specs.declared.answer.Decision.{Decision}
 use Rattle.chain_core.specs.declared.answer.Decision.TheVariants.{Accept, Known, Conflict, Full}
 use Rattle.chain_core.specs.declared.answer.LogAnswer.{LogAnswer}
-use Rattle.chain_core.specs.declared.answer.LogAnswer.TheVariants.{Accepted, Known as IsKnown, Conflict as IsConflict, Full as IsFull, DiskFault, OutOfMemory}
-use Rattle.chain_core.specs.Decision.{decision}
+use Rattle.chain_core.specs.declared.answer.LogAnswer.TheVariants.{Accepted, AcceptedRun, Known as IsKnown, Conflict as IsConflict, Full as IsFull, DiskFault, OutOfMemory}
+use Rattle.chain_core.specs.Decision.{run_decision}
 use Rattle.chain_core.specs.Patches.{patches_of}
-use Rattle.chain_core.specs.Replies.{LogCall, append, LogReply, answered, log_reply}
+use Rattle.chain_core.specs.Replies.{LogCall, append, append_run, as_run, LogReply, answered, log_reply}
 use Rattle.chain_core.specs.Stay.{answer_of}
 use Rattle.chain_core.proofs.Decided.{accepted}
 use Rattle.patch_log.specs.State.{LogView}
-use Rattle.patch_log.specs.Run.{Appended}
-use Rattle.turn_cell.specs.declared.view.Known.{Known as KnownPatch}
+use Rattle.patch_log.specs.Run.{Appended, AppendedRun}
+use Rattle.turn_cell.specs.declared.view.Known.{Known as KnownHere}
 use Rattle.turn_cell.specs.Turns.{own_count, Adds}
-use Rattle.turn_cell.specs.Sights.{Made, Taken}
+use Rattle.turn_cell.specs.Sights.{IsGrownBy, Made, Taken}
 use Rattle.turn_cell.specs.Knowing.{IsQuiet, SeesOn, Wants}
 use Rattle.turn_cell.specs.Sharing.{IsPassOf, EntersTurn, LeavesTurn, InTurn}
 use Rattle.turn_cell.proofs.Knowing.{adds_same, adds_one, quiet_on}
 use Rattle.turn_cell.proofs.Staying as staying
 use Rattle.shared_log.specs.declared.value.LogFixed.{LogFixed}
-use Rattle.shared_log.specs.History.{patches_known, history_of, shared_log, LogSight}
-use Rattle.shared_log.specs.Legal.{asks_disk, IsReply, IsAppendAnswer, IsAccepted, WouldTake, MayLeavePatch}
+use Rattle.shared_log.specs.declared.value.Placed.{Placed}
+use Rattle.shared_log.specs.History.{patches_known, history_of, shared_log, KnowsWhole, LogSight, SeesWhole}
+use Rattle.shared_log.specs.Legal.{asks_disk, IsReply, IsAppendAnswer, IsAccepted, WouldTake, MayLeaveRun}
 use Rattle.shared_log.specs.Stays.{Asks, DoesOnLog, CalledOnLog}
+use Rattle.shared_log.proofs.Bringing.{brought_run}
 use Rattle.shared_log.proofs.Table.{Stays}
 use Rattle.shared_log.proofs.Stays.{stays_of, grows_of}
-use Rattle.shared_log.proofs.Histories.{known_chain, history_length, history_push}
+use Rattle.shared_log.proofs.Histories.{known_chain, history_length, history_push, whole_known}
+
+-- what a call replies that appends this run, where the chain doesn't accept it
+abbrev Tells : LogLimits → LogCall → List Patch → Type 0
+Tells limits call run = (chain : List Patch) (made : Decision) → run_decision chain run limits ≡ made → ((version : ℕ) → made ≡ Accept version → ⊥) → log_reply limits call chain ≡ answered (answer_of made)
+
+append_tells : (limits : LogLimits) (patch : Patch) → Tells limits (append patch) (patch ∷ [])
+append_tells limits patch chain made is other = ap (λ (d : Decision). answered (answer_of d)) is
+
+same_told : (count : ℕ) (made : Decision) → ((version : ℕ) → made ≡ Accept version → ⊥) → as_run count (answer_of made) ≡ answer_of made
+same_told count (Accept version) other = absurd (other version refl)
+same_told count (Known version same) other = refl
+same_told count (Conflict version head named) other = refl
+same_told count (Full what have limit) other = refl
+
+run_tells : (limits : LogLimits) (run : List Patch) → Tells limits (append_run run) run
+run_tells limits run chain made is other =
+    ap (λ (d : Decision). answered (as_run (length run) (answer_of d))) is ∙ ap answered (same_told (length run) made other)
 
 module _ {D : Type 0} (limits : LogLimits) (p q : LogSight) (was : LogView D) (sees : q.view.seen ≡ history_of was.entries) where
   chain_seen : patches_known q.view.seen ≡ patches_of was.entries
   chain_seen = ap patches_known sees ∙ known_chain was.entries
 
   -- the decision stands behind the call
-  at_point : (patch : Patch) (made : Decision) → decision (patches_of was.entries) patch limits ≡ made → decision (patches_known q.view.seen) patch limits ≡ made
-  at_point patch made e = ap (λ (chain : List Patch). decision chain patch limits) chain_seen ∙ e
+  at_point : (run : List Patch) (made : Decision) → run_decision (patches_of was.entries) run limits ≡ made → run_decision (patches_known q.view.seen) run limits ≡ made
+  at_point run made e = ap (λ (chain : List Patch). run_decision chain run limits) chain_seen ∙ e
 
   -- what the log found replies is what the history gives
   pub replied : (call : LogCall) (reply : LogReply) → reply ≡ log_reply limits call (patches_of was.entries) → IsQuiet p q → IsReply limits call reply p q
   replied call reply e quiet = (e ∙ ap (log_reply limits call) (sym chain_seen), quiet)
 
-  pub told_of : (patch : Patch) (made : Decision) (answer : LogAnswer) → answer_of made ≡ answer → decision (patches_of was.entries) patch limits ≡ made → IsQuiet p q → IsReply limits (append patch) (answered answer) p q
-  told_of patch made answer e is quiet = (ap answered (sym e) ∙ ap (λ (d : Decision). answered (answer_of d)) (sym (at_point patch made is)), quiet)
+  pub told_of : (call : LogCall) (run : List Patch) (made : Decision) → Tells limits call run → ((version : ℕ) → made ≡ Accept version → ⊥) → run_decision (patches_of was.entries) run limits ≡ made → IsQuiet p q → IsReply limits call (answered (answer_of made)) p q
+  told_of call run made tells other is quiet = (sym (tells (patches_known q.view.seen) made (at_point run made is) other), quiet)
 
-  pub would_take : (patch : Patch) (place : ℕ) → decision (patches_of was.entries) patch limits ≡ Accept place → WouldTake limits patch q
-  would_take patch place is = (place, at_point patch (Accept place) is)
+  pub would_take : (run : List Patch) (place : ℕ) → run_decision (patches_of was.entries) run limits ≡ Accept place → WouldTake limits run q
+  would_take run place is = (place, at_point run (Accept place) is)
+
+-- the runs of the log that a pass left stand whole
+pub sees_whole : {D : Type 0} (disks : Ghosts D) (m q : LogSight) (back : Taken Placed (List Patch) LogFixed (LogView D)) → LeavesTurn (shared_log disks) m back q → SeesWhole q
+sees_whole disks m q back leaves = let stands = leaves.stands in subst KnowsWhole (sym leaves.sees) (whole_known back.value.entries stands.whole)
 
 -- a stay of a pass of the log
-module _ {D : Type 0} (disks : Ghosts D) (p m q : LogSight) (held back : Taken Patch Patch LogFixed (LogView D)) (enters : EntersTurn (shared_log disks) p held m) (leaves : LeavesTurn (shared_log disks) m back q) (same : back.was ≡ held.was)
+module _ {D : Type 0} (disks : Ghosts D) (p m q : LogSight) (held back : Taken Placed (List Patch) LogFixed (LogView D)) (enters : EntersTurn (shared_log disks) p held m) (leaves : LeavesTurn (shared_log disks) m back q) (same : back.was ≡ held.was)
     (made : Made (LogView D)) (of : IsPassOf (shared_log disks) made p) where
   abbrev was : LogView D
   was = held.was
@@ -80,50 +103,79 @@ module _ {D : Type 0} (disks : Ghosts D) (p m q : LogSight) (held back : Taken P
         staying.stay_told (shared_log disks) p m q held back enters leaves same (Asks disks call reply) made of (kept, here) (ap (λ (log : LogView D). (shared_log disks).fixed log) kept),
       )
 
-  module _ (patch : Patch) where
-    failed_by : (left.doubt ≡ was.doubt) ⊎ (left.doubt ≡ None) ⊎ (left.doubt ≡ Some patch) → MayLeavePatch patch p q
+  module _ (run : List Patch) where
+    failed_by : (left.doubt ≡ was.doubt) ⊎ (left.doubt ≡ None) ⊎ (left.doubt ≡ Some run) → MayLeaveRun run p q
     failed_by is =
-        let adds : (d : Option Patch) → left.doubt ≡ d → Adds was.doubt d p.view.failed q.view.failed = λ d is. subst (λ (d : Option Patch). Adds was.doubt d p.view.failed q.view.failed) is (staying.adds (shared_log disks) p m q held back enters leaves same) in
+        let adds : (d : Option (List Patch)) → left.doubt ≡ d → Adds was.doubt d p.view.failed q.view.failed = λ d is. subst (λ (d : Option (List Patch)). Adds was.doubt d p.view.failed q.view.failed) is (staying.adds (shared_log disks) p m q held back enters leaves same) in
         ⊎_elim (λ (is : left.doubt ≡ was.doubt). inl (adds_same was.doubt p.view.failed q.view.failed (adds was.doubt is)))
-        (⊎_elim (λ (is : left.doubt ≡ None). inl (adds None is)) (λ (is : left.doubt ≡ Some patch). adds_one was.doubt patch p.view.failed q.view.failed (adds (Some patch) is))) is
+        (⊎_elim (λ (is : left.doubt ≡ None). inl (adds None is)) (λ (is : left.doubt ≡ Some run). adds_one was.doubt run p.view.failed q.view.failed (adds (Some run) is))) is
 
-    told_accepted : (place : ℕ) → Stays made.origin.limits p.view.number patch was left (Accepted place) → IsAccepted made.origin.limits patch place p q
+    told_accepted : (place : ℕ) → Stays made.origin.limits p.view.number run was left (Accepted place) → IsAccepted made.origin.limits run place p q
     told_accepted place s =
-        let at : place ≡ length (history_of was.entries) + 1 = (accepted (patches_of was.entries) patch made.origin.limits place s.0).1 ∙ omega (arith, history_length was.entries, length-map was.entries (λ (entry : Entry). entry.patch)) in
-        let came = staying.brings (shared_log disks) p m q held back enters leaves same patch place (ap history_of s.1 ∙ history_push was.entries patch p.view.number) at s.2 in
-        (came.0, ap (λ (history : List (KnownPatch Patch)). decision (patches_known history) patch made.origin.limits) came.1 ∙ (ap (λ (chain : List Patch). decision chain patch made.origin.limits) (known_chain was.entries) ∙ s.0))
+        let at : place ≡ length (history_of was.entries) + length run = (accepted (patches_of was.entries) run made.origin.limits place s.0).1 ∙ omega (arith, history_length was.entries, length-map was.entries (λ (entry : Entry). entry.patch)) in
+        let came = brought_run disks p m q held back enters leaves same run place (ap history_of s.1 ∙ history_push was.entries run p.view.number) at s.2 in
+        (came.0, ap (λ (history : List (KnownHere Placed)). run_decision (patches_known history) run made.origin.limits) came.1 ∙ (ap (λ (chain : List Patch). run_decision chain run made.origin.limits) (known_chain was.entries) ∙ s.0))
 
     -- an append
-    module _ (answer : LogAnswer) (appended : Appended disks was left patch p.view.number answer) (quiet : asks_disk answer ≡ false → IsQuiet m q)
+    module _ (call : LogCall) (tells : Tells made.origin.limits call run) (answer : LogAnswer) (appended : AppendedRun disks was left run p.view.number answer) (quiet : asks_disk answer ≡ false → IsQuiet m q)
         (counts : asks_disk answer ≡ true → q.view.own_faults ≡ own_count m.view.own_faults (disks.faults back.was.disk) (disks.faults left.disk)) where
       still : asks_disk answer ≡ false → IsQuiet p q
       still unasked = quiet_on p m q enters.quiet (quiet unasked)
 
-      as_found : (decided : Decision) (a : LogAnswer) → answer_of decided ≡ a → decision (patches_of was.entries) patch made.origin.limits ≡ decided → left.entries ≡ was.entries → asks_disk answer ≡ false → IsReply made.origin.limits (append patch) (answered a) p q
-      as_found decided a e is kept unasked = told_of made.origin.limits p q was (leaves.sees ∙ ap history_of kept) patch decided a e is (still unasked)
+      as_found : (decided : Decision) → ((version : ℕ) → decided ≡ Accept version → ⊥) → run_decision (patches_of was.entries) run made.origin.limits ≡ decided → left.entries ≡ was.entries → asks_disk answer ≡ false → IsReply made.origin.limits call (answered (answer_of decided)) p q
+      as_found decided other is kept unasked = told_of made.origin.limits p q was (leaves.sees ∙ ap history_of kept) call run decided tells other is (still unasked)
 
-      answer_told : (a : LogAnswer) → answer ≡ a → Stays made.origin.limits p.view.number patch was left a → IsAppendAnswer made.origin.limits patch a p q
+      answer_told : (a : LogAnswer) → answer ≡ a → Stays made.origin.limits p.view.number run was left a → IsAppendAnswer made.origin.limits call run a p q
       answer_told (Accepted place) is s = told_accepted place s
-      answer_told (IsKnown place same) is s = as_found (Known place same) (IsKnown place same) refl s.0 s.1.0 (ap asks_disk is)
-      answer_told (IsConflict place head named) is s = as_found (Conflict place head named) (IsConflict place head named) refl s.0 s.1.0 (ap asks_disk is)
-      answer_told (IsFull what have limit) is s = as_found (Full what have limit) (IsFull what have limit) refl s.0 s.1.0 (ap asks_disk is)
+      answer_told (AcceptedRun first place) is s = absurd s
+      answer_told (IsKnown place same) is s = as_found (Known place same) (λ v e. cc) s.0 s.1.0 (ap asks_disk is)
+      answer_told (IsConflict place head named) is s = as_found (Conflict place head named) (λ v e. cc) s.0 s.1.0 (ap asks_disk is)
+      answer_told (IsFull what have limit) is s = as_found (Full what have limit) (λ v e. cc) s.0 s.1.0 (ap asks_disk is)
       answer_told DiskFault is s = (
-        would_take made.origin.limits p q was (leaves.sees ∙ ap history_of s.1) patch s.0.0 s.0.1,
+        would_take made.origin.limits p q was (leaves.sees ∙ ap history_of s.1) run s.0.0 s.0.1,
         staying.rose (shared_log disks) p m q held back enters leaves same (counts (ap asks_disk is)) (appended.went.cause is),
         staying.kept_mine (shared_log disks) p m q held back enters leaves same (ap history_of s.1),
         failed_by s.2,
       )
-      answer_told OutOfMemory is s = (would_take made.origin.limits p q was (leaves.sees ∙ ap history_of s.1.0) patch s.0.0 s.0.1, still (ap asks_disk is))
+      answer_told OutOfMemory is s = (would_take made.origin.limits p q was (leaves.sees ∙ ap history_of s.1.0) run s.0.0 s.0.1, still (ap asks_disk is))
 
-      pub append_told : CalledOnLog disks made.origin p (append patch) (answered answer) q
-      append_told =
-          let grown = grows_of disks was left patch p.view.number answer appended in
-          let here = subst (λ (l : LogLimits). Stays l p.view.number patch was left answer) limits (stays_of disks was left patch p.view.number answer appended) in
-          record {
-            legal = (staying.sees (shared_log disks) p m q held back enters leaves same (grown.0, sym grown.1), (answer, refl, answer_told answer refl here));
-            stay = staying.stay_told (shared_log disks) p m q held back enters leaves same (DoesOnLog disks p.view.number (append patch) (answered answer)) made of (answer, refl, appended)
-                (λ i. record { number = appended.number i; limits = appended.limits i; mark = appended.went.mark i });
-          }
+      grown : IsGrownBy p.view.number (history_of was.entries) (history_of left.entries)
+      grown = grows_of disks was left run p.view.number answer appended
+
+      -- what the pass is told by the log's answer
+      pub run_told : SeesOn p q × IsAppendAnswer made.origin.limits call run answer p q
+      run_told =
+          let here = subst (λ (l : LogLimits). Stays l p.view.number run was left answer) limits (stays_of disks was left run p.view.number answer appended) in
+          (staying.sees (shared_log disks) p m q held back enters leaves same (grown.0, sym grown.1), answer_told answer refl here)
+
+      -- the stay, whatever is told of it
+      pub run_stayed : (Did : LogView D → LogView D → Type 0) → Did was left → InTurn (shared_log disks) Did made.origin p q
+      run_stayed Did did =
+          staying.stay_told (shared_log disks) p m q held back enters leaves same Did made of did
+          (λ i. record { number = appended.number i; limits = appended.limits i; mark = appended.went.mark i })
+
+  module _ (patch : Patch) (answer : LogAnswer) (appended : Appended disks was left patch p.view.number answer) (quiet : asks_disk answer ≡ false → IsQuiet m q)
+      (counts : asks_disk answer ≡ true → q.view.own_faults ≡ own_count m.view.own_faults (disks.faults back.was.disk) (disks.faults left.disk)) where
+    pub append_told : CalledOnLog disks made.origin p (append patch) (answered answer) q
+    append_told =
+        let tells = append_tells made.origin.limits patch in
+        let told = run_told (patch ∷ []) (append patch) tells answer appended quiet counts in
+        record {
+          legal = (told.0, (answer, refl, told.1));
+          stay = run_stayed (patch ∷ []) (append patch) tells answer appended quiet counts (DoesOnLog disks p.view.number (append patch) (answered answer)) (answer, refl, appended);
+        }
+
+  module _ (run : List Patch) (answer : LogAnswer) (appended : AppendedRun disks was left run p.view.number answer) (quiet : asks_disk answer ≡ false → IsQuiet m q)
+      (counts : asks_disk answer ≡ true → q.view.own_faults ≡ own_count m.view.own_faults (disks.faults back.was.disk) (disks.faults left.disk)) where
+    pub append_run_told : 0 < length run → CalledOnLog disks made.origin p (append_run run) (answered (as_run (length run) answer)) q
+    append_run_told some =
+        let tells = run_tells made.origin.limits run in
+        let told = run_told run (append_run run) tells answer appended quiet counts in
+        let reply = answered (as_run (length run) answer) in
+        record {
+          legal = (told.0, (answer, refl, told.1, some));
+          stay = run_stayed run (append_run run) tells answer appended quiet counts (DoesOnLog disks p.view.number (append_run run) reply) (answer, refl, appended);
+        }
 
 module _ {T E : Type 0} where
   pub if_ok : (P Q : T → Type 0) → ((x : T) → P x → Q x) → (result : Result T E) → IfOk result P → IfOk result Q

@@ -4,9 +4,10 @@ ghost use Rattle.std.specs.Prelude.{vec_len, vec_capacity};
 ghost use Rattle.std.specs.List.{AllByRecursion};
 ghost use Rattle.chain_core.specs.Replies as asked;
 ghost use Rattle.patch_log.specs.Log.{bare};
+ghost use Rattle.patch_log.specs.Ready.{bare_run};
 ghost use Rattle.turn_cell.specs.Knowing.{Wants, pass_number};
 ghost use Rattle.turn_cell.specs.Sharing.{IsPassOf, IsNewPassOf, AreAllPassesOf, IsClosedOf};
-ghost use Rattle.shared_log.specs.History.{shared_log};
+ghost use Rattle.shared_log.specs.History.{shared_log, SeesWhole};
 ghost use Rattle.shared_log.specs.Replies.{reply_fetched, reply_described};
 ghost use Rattle.shared_log.specs.Legal.{asks_disk};
 ghost use Rattle.shared_log.specs.Stays.{CalledOnLog};
@@ -16,7 +17,7 @@ use crate::value::LogValue;
 use chain_core::LogAnswer;
 use delta_base::{Back, Id, OutOfMemory};
 use disk_model::Disk;
-use patch_log::{LogState, Ready};
+use patch_log::{LogState, Ready, Run};
 use patch_meaning::Checked;
 use std::alloc::Global;
 use std::marker::Model;
@@ -26,7 +27,10 @@ use turn_cell::{Pass, Turn};
 fn asks_the_disk(answer: &LogAnswer) -> bool
     ensures { result ≡ asks_disk answer.now }
 {
-    matches!(answer, LogAnswer::Accepted { .. } | LogAnswer::DiskFault)
+    matches!(
+        answer,
+        LogAnswer::Accepted { .. } | LogAnswer::AcceptedRun { .. } | LogAnswer::DiskFault
+    )
 }
 
 /// What a pass knows of one log.
@@ -77,6 +81,7 @@ impl<D: Disk> SharedLog<D> {
     pub fn append<R: Wait>(&self, rt: &R, pass: &mut LogPass<D>, patch: &Checked) -> LogAnswer
         requires of { IsPassOf (shared_log D.Disk) self.now pass.old }
         ensures of { IsPassOf (shared_log D.Disk) self.now pass.new }
+        ensures whole { SeesWhole pass.new }
         ensures called { CalledOnLog D.Disk self.now.origin pass.old
             (asked.append (bare patch.now)) (asked.answered result) pass.new }
     {
@@ -85,6 +90,23 @@ impl<D: Disk> SharedLog<D> {
         let answer = held.value_mut().append(patch, made);
         self.turn.give_back(pass, held, asks_the_disk(&answer));
         answer
+    }
+
+    /// Adds a run, or says why not: Known, Conflict, Full, want of memory and a disk fault, in this
+    /// order. It copies the run before it takes the turn. All its patches are added or none, and no
+    /// pass ever sees some of them without the others.
+    pub fn append_run<R: Wait>(&self, rt: &R, pass: &mut LogPass<D>, run: &Run) -> LogAnswer
+        requires of { IsPassOf (shared_log D.Disk) self.now pass.old }
+        ensures of { IsPassOf (shared_log D.Disk) self.now pass.new }
+        ensures whole { SeesWhole pass.new }
+        ensures called { CalledOnLog D.Disk self.now.origin pass.old
+            (asked.append_run (bare_run run.now)) (asked.answered result) pass.new }
+    {
+        let made = Ready::of_run(self.alloc, run, pass.number());
+        let mut held = self.turn.enter(rt, pass);
+        let answer = held.value_mut().append_run(run, made);
+        self.turn.give_back(pass, held, asks_the_disk(&answer));
+        answer.as_run(run.patches().len() as u32)
     }
 
     /// The patch of a version, counted from 1.
@@ -96,6 +118,7 @@ impl<D: Disk> SharedLog<D> {
     ) -> Result<Fetched, OutOfMemory>
         requires of { IsPassOf (shared_log D.Disk) self.now pass.old }
         ensures of { IsPassOf (shared_log D.Disk) self.now pass.new }
+        ensures whole { SeesWhole pass.new }
         ensures called { IfOk result (λ fetched. CalledOnLog D.Disk self.now.origin pass.old
             (asked.fetch_version version) (reply_fetched fetched) pass.new) }
         ensures want { OnErr result (Wants pass.old pass.new) }
@@ -115,6 +138,7 @@ impl<D: Disk> SharedLog<D> {
     ) -> Result<Fetched, OutOfMemory>
         requires of { IsPassOf (shared_log D.Disk) self.now pass.old }
         ensures of { IsPassOf (shared_log D.Disk) self.now pass.new }
+        ensures whole { SeesWhole pass.new }
         ensures called { IfOk result (λ fetched. CalledOnLog D.Disk self.now.origin pass.old
             (asked.fetch_id id) (reply_fetched fetched) pass.new) }
         ensures want { OnErr result (Wants pass.old pass.new) }
@@ -129,6 +153,7 @@ impl<D: Disk> SharedLog<D> {
     pub fn describe<R: Wait>(&self, rt: &R, pass: &mut LogPass<D>) -> LogInfo
         requires of { IsPassOf (shared_log D.Disk) self.now pass.old }
         ensures of { IsPassOf (shared_log D.Disk) self.now pass.new }
+        ensures whole { SeesWhole pass.new }
         ensures called { CalledOnLog D.Disk self.now.origin pass.old
             asked.describe (reply_described result) pass.new }
     {
@@ -142,6 +167,7 @@ impl<D: Disk> SharedLog<D> {
     pub fn version(&self, pass: &mut LogPass<D>) -> u32
         requires of { IsPassOf (shared_log D.Disk) self.now pass.old }
         ensures of { IsPassOf (shared_log D.Disk) self.now pass.new }
+        ensures whole { SeesWhole pass.new }
         ensures called { CalledOnLog D.Disk self.now.origin pass.old
             asked.version (asked.counted result) pass.new }
     {

@@ -1,11 +1,13 @@
 //! A log as the value of a turn.
-ghost use Rattle.std.specs.Prelude.{◌≡◌, ◌<◌, ◌≤◌, ◌^◌, ℕ, false, length, IfOk};
+ghost use Rattle.std.specs.Prelude.{◌≡◌, ◌≤◌, ℕ, [], ◌∷◌, false, length, IfOk};
 ghost use Rattle.std.specs.Result.{ForOk};
 ghost use Rattle.chain_core.specs.Patches.{patches_of};
 ghost use Rattle.chain_core.specs.Replies as asked;
 ghost use Rattle.patch_log.specs.Log.{bare};
-ghost use Rattle.patch_log.specs.Run.{Appended};
-ghost use Rattle.shared_log.specs.History.{history_of, fixed_of, IsKeptBy, StandsInTurn};
+ghost use Rattle.patch_log.specs.Ready.{bare_run};
+ghost use Rattle.patch_log.specs.Run.{Appended, AppendedRun};
+ghost use Rattle.shared_log.specs.History.{history_of, fixed_of, IsKeptBy};
+ghost use Rattle.shared_log.specs.History.{MayBeSeen, StandsInTurn};
 ghost use Rattle.shared_log.specs.Replies.{reply_fetched, reply_described};
 ghost use Rattle.shared_log.specs.Legal.{asks_disk};
 ghost use Rattle.turn_cell.specs.Sights.{IsGrownBy};
@@ -15,7 +17,7 @@ use chain_core::{LogAnswer, Patch};
 use delta_base::{Id, OutOfMemory};
 use disk_model::Disk;
 use log_base::LogLimits;
-use patch_log::{LogState, Ready, append_made};
+use patch_log::{LogState, Ready, Run, append_made, append_made_run};
 use patch_meaning::Checked;
 use std::collections::LinkedList;
 use std::marker::Model;
@@ -29,7 +31,13 @@ pub struct LogFixed {
     pub mark: Option<(LinkedList<u8>, u64)>,
 }
 
-/// A log that lies in a turn. Its disk stands for its chain, with the patch in doubt or without.
+/// A patch of a log, and how many patches of its run stand behind it. No value of it is made.
+pub struct Placed {
+    pub patch: Patch,
+    pub rest: u32,
+}
+
+/// A log that lies in a turn. Its disk stands for its runs, with the one in doubt or without.
 #[derive(Drop)]
 pub struct LogValue<D: Disk> {
     log: LogState<D>,
@@ -49,7 +57,7 @@ impl<D: Disk> Model for LogValue<D> {
 impl<D: Disk> LogValue<D> {
     pub fn of(log: LogState<D>) -> LogValue<D>
         ensures value { result ≡ log }
-        ensures few { length (history_of log.entries) < 2 ^ 32 }
+        ensures test { MayBeSeen (history_of log.entries) }
     {
         let _version = log.chain().version();
         LogValue { log }
@@ -110,7 +118,7 @@ impl<D: Disk> LogValue<D> {
     /// Adds a patch that was made ready, or for which no memory was found, or says why not: Known,
     /// Conflict, Full, want of memory and a disk fault, in this order.
     pub fn append(&mut self, patch: &Checked, made: Result<Ready, OutOfMemory>) -> LogAnswer
-        requires { ForOk made (λ ready. ready.patch ≡ bare patch.now) }
+        requires { ForOk made (λ ready. ready.run ≡ bare patch.now ∷ []) }
         ensures appended { (by : ℕ) → IfOk made (λ ready. ready.by ≡ by)
             → Appended D.Disk self.old self.new (bare patch.now) by result }
         ensures grown { (by : ℕ) → IfOk made (λ ready. ready.by ≡ by)
@@ -119,22 +127,39 @@ impl<D: Disk> LogValue<D> {
         ensures faults { D.faults self.old.disk ≤ D.faults self.new.disk }
         ensures as_found { asks_disk result ≡ false
             → IsKeptBy self.old self.new × (self.new.disk ≡ self.old.disk) }
-        ensures few { length (history_of self.new.entries) < 2 ^ 32 }
+        ensures test { MayBeSeen (history_of self.new.entries) }
     {
         let answer = append_made(&mut self.log, patch, made);
+        let _version = self.log.chain().version();
+        answer
+    }
+
+    /// The same for a run.
+    pub fn append_run(&mut self, run: &Run, made: Result<Ready, OutOfMemory>) -> LogAnswer
+        requires { ForOk made (λ ready. ready.run ≡ bare_run run.now) }
+        ensures appended { (by : ℕ) → IfOk made (λ ready. ready.by ≡ by)
+            → AppendedRun D.Disk self.old self.new (bare_run run.now) by result }
+        ensures grown { (by : ℕ) → IfOk made (λ ready. ready.by ≡ by)
+            → IsGrownBy by (history_of self.old.entries) (history_of self.new.entries) }
+        ensures fixed { fixed_of D.mark self.new ≡ fixed_of D.mark self.old }
+        ensures faults { D.faults self.old.disk ≤ D.faults self.new.disk }
+        ensures as_found { asks_disk result ≡ false
+            → IsKeptBy self.old self.new × (self.new.disk ≡ self.old.disk) }
+        ensures test { MayBeSeen (history_of self.new.entries) }
+    {
+        let answer = append_made_run(&mut self.log, run, made);
         let _version = self.log.chain().version();
         answer
     }
 }
 
 impl<D: Disk> Chained for LogValue<D> {
-    ghost use Rattle.std.specs.Prelude.{◌<◌, ◌^◌, length};
-    ghost use Rattle.shared_log.specs.Apart.{patches_apart};
-    ghost use Rattle.shared_log.specs.History.{history_of, fixed_of, StandsInTurn};
+    ghost use Rattle.shared_log.specs.Apart.{runs_apart};
+    ghost use Rattle.shared_log.specs.History.{history_of, fixed_of, MayBeSeen, StandsInTurn};
 
-    type Content = Patch;
+    type Content = Placed;
 
-    type Doubt = Patch;
+    type Doubt = LinkedList<Patch>;
 
     type Fixed = LogFixed;
 
@@ -146,11 +171,11 @@ impl<D: Disk> Chained for LogValue<D> {
 
     ghost fixed = { λ v. fixed_of D.mark v };
 
-    ghost fits = { λ f es. length es < 2 ^ 32 };
+    ghost fits = { λ f es. MayBeSeen es };
 
     ghost stands = { λ v. StandsInTurn D.Disk v };
 
-    ghost tells_apart = { patches_apart };
+    ghost tells_apart = { runs_apart };
 
     fn count(&self) -> u64 {
         u64::from(self.version())

@@ -5,3 +5,5 @@
 mod passes;
 #[cfg(test)]
 mod races;
+#[cfg(test)]
+mod runs;

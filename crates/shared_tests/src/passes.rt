@@ -6,9 +6,9 @@ ghost use Rattle.turn_cell.specs.Sharing.{IsPassOf};
 ghost use Rattle.shared_tests.specs.Memory.{log_in_memory};
 
 use chain_core::LogAnswer;
-use delta_base::{Bytes, Id, Listing};
+use delta_base::Id;
 use disk_model::MemDisk;
-use log_base::LOG_LIMITS;
+use log_base::{LOG_LIMITS, LogLimits};
 use patch_log::{LogState, Ready};
 use patch_meaning::{Checked, check_patch};
 use shared_log::{Fetched, LogPass, LogValue, SharedLog};
@@ -16,7 +16,7 @@ use std::alloc::Global;
 use std::process::Abort;
 use std::sync::Wait;
 use std::test::Fail;
-use worked_rows::{FIRST, SECOND};
+use worked_rows::{FIRST, SECOND, disk_of};
 
 const EMPTY: &[u8] = b"RDJ2\0\0\0\x01\0";
 
@@ -28,17 +28,25 @@ fn id_of(number: u128) -> Id {
     Id(0x0000_0000_0000_4000_8000_0000_0000_0000 | number)
 }
 
-// An empty log over a disk whose calls of these numbers fail.
-fn open(alloc: Global, failing: &[u64]) -> Result<LogState<MemDisk>, Fail>
+// The log on a disk.
+pub(crate) fn log_on(
+    alloc: Global,
+    disk: MemDisk,
+    limits: LogLimits,
+) -> Result<LogState<MemDisk>, Fail>
     ensures { IfOk result (λ log. AllByRecursion (λ entry. entry.by ≡ 0) log.entries) }
 {
-    let bytes = Bytes::from_slice(alloc, EMPTY)?;
-    let failing = Listing::from_vec(Vec::from_slice(alloc, failing)?);
-    let disk = MemDisk::from_image(alloc, bytes, failing)?;
-    match LogState::open_on(alloc, disk, 1, LOG_LIMITS) {
+    match LogState::open_on(alloc, disk, 1, limits) {
         Ok(log) => Ok(log),
         Err(_) => Err(Fail::from("not opened")),
     }
+}
+
+// An empty log over a disk whose calls of these numbers fail.
+fn open(alloc: Global, failing: &[u64], limits: LogLimits) -> Result<LogState<MemDisk>, Fail>
+    ensures { IfOk result (λ log. AllByRecursion (λ entry. entry.by ≡ 0) log.entries) }
+{
+    log_on(alloc, disk_of(alloc, EMPTY, failing)?, limits)
 }
 
 // Two passes, and the room that they came in.
@@ -50,7 +58,11 @@ pub(crate) struct Passes {
 }
 
 // A log that two passes share.
-pub(crate) fn share(alloc: Global, failing: &[u64]) -> Result<(SharedLog<MemDisk>, Passes), Fail>
+pub(crate) fn share(
+    alloc: Global,
+    failing: &[u64],
+    limits: LogLimits,
+) -> Result<(SharedLog<MemDisk>, Passes), Fail>
     ensures one { IfOk result (λ r.
         IsPassOf log_in_memory r.0 r.1.one × (pass_number r.1.one ≡ 1)) }
     ensures two { IfOk result (λ r.
@@ -58,7 +70,7 @@ pub(crate) fn share(alloc: Global, failing: &[u64]) -> Result<(SharedLog<MemDisk
     ensures room { IfOk result (λ r.
         (r.0.seats ≡ 2) × (r.1.room.items ≡ []) × (2 ≤ vec_capacity r.1.room)) }
 {
-    let Ok((log, mut room)) = SharedLog::new(alloc, open(alloc, failing)?, 2) else {
+    let Ok((log, mut room)) = SharedLog::new(alloc, open(alloc, failing, limits)?, 2) else {
         return Err(Fail::from("no memory"));
     };
     let Some(two) = room.pop() else {
@@ -105,7 +117,7 @@ fn three_patches(alloc: Global) -> Result<Patches, Fail> {
     })
 }
 
-fn is(rt: &impl Abort, answer: LogAnswer, wanted: LogAnswer) {
+pub(crate) fn is(rt: &impl Abort, answer: LogAnswer, wanted: LogAnswer) {
     assert!(rt; answer == wanted);
 }
 
@@ -143,7 +155,7 @@ fn both_append<R: Wait + Abort>(
 #[test]
 fn what_one_pass_brings_the_other_sees(rt: HostRuntime) -> Result<(), Fail> {
     let patches = three_patches(rt.alloc())?;
-    let (log, mut passes) = share(rt.alloc(), &[])?;
+    let (log, mut passes) = share(rt.alloc(), &[], LOG_LIMITS)?;
     both_append(&rt, &log, &mut passes, &patches);
     let answer = log.append(&rt, &mut passes.one, &patches.second);
     drop(patches);
@@ -164,7 +176,7 @@ fn what_one_pass_brings_the_other_sees(rt: HostRuntime) -> Result<(), Fail> {
 fn a_fault_is_that_of_its_own_pass(rt: HostRuntime) -> Result<(), Fail> {
     let alloc = rt.alloc();
     let first = check_patch(alloc, FIRST)?;
-    let (log, mut passes) = share(alloc, &[4])?;
+    let (log, mut passes) = share(alloc, &[4], LOG_LIMITS)?;
     let answer = log.append(&rt, &mut passes.one, &first);
     is(&rt, answer, LogAnswer::DiskFault);
     assert!(rt; log.version(&mut passes.two) == 0);
@@ -193,7 +205,7 @@ fn share_two<R: Wait>(rt: &R, alloc: Global) -> Result<(SharedLog<MemDisk>, Pass
 {
     let first = check_patch(alloc, FIRST)?;
     let second = check_patch(alloc, SECOND)?;
-    let (log, mut passes) = share(alloc, &[])?;
+    let (log, mut passes) = share(alloc, &[], LOG_LIMITS)?;
     log.append(rt, &mut passes.one, &first);
     log.append(rt, &mut passes.one, &second);
     Ok((log, passes))
@@ -293,7 +305,7 @@ fn describes<R: Wait + Abort>(
 
 #[test]
 fn a_log_is_described(rt: HostRuntime) -> Result<(), Fail> {
-    let (log, passes) = share(rt.alloc(), &[])?;
+    let (log, passes) = share(rt.alloc(), &[], LOG_LIMITS)?;
     describes(&rt, log, passes, 0, None);
     let (log, passes) = share_two(&rt, rt.alloc())?;
     describes(&rt, log, passes, 2, Some(id_of(2)));
@@ -312,7 +324,7 @@ fn finds_first(rt: &impl Abort, value: &LogValue<MemDisk>) -> Result<(), Fail> {
 fn a_value_of_a_turn_is_a_log(rt: HostRuntime) -> Result<(), Fail> {
     let alloc = rt.alloc();
     let first = check_patch(alloc, FIRST)?;
-    let mut value = LogValue::of(open(alloc, &[])?);
+    let mut value = LogValue::of(open(alloc, &[], LOG_LIMITS)?);
     let answer = value.append(&first, Ready::of(alloc, &first, 3));
     is(&rt, answer, LogAnswer::Accepted { version: 1 });
     let answer = value.append(&first, Ready::of(alloc, &first, 4));

@@ -8,6 +8,7 @@ use crate::passes::{Passes, close, share};
 use chain_core::LogAnswer;
 use delta_base::{Id, id_text};
 use disk_model::MemDisk;
+use log_base::LOG_LIMITS;
 use patch_log::LogState;
 use patch_meaning::{Checked, check_patch};
 use shared_log::{LogPass, SharedLog};
@@ -115,7 +116,7 @@ fn count_by(log: &LogState<MemDisk>, number: u32) -> usize {
 #[test]
 fn each_thread_has_what_it_was_told(rt: HostRuntime) -> Result<(), Fail> {
     let alloc = rt.alloc();
-    let (log, passes) = share(alloc, &[])?;
+    let (log, passes) = share(alloc, &[], LOG_LIMITS)?;
     let (state, first, second) = race(&rt, alloc, log, passes);
     assert!(rt; (first, second) == (EACH, EACH));
     assert!(rt; count_by(&state, 1) == first as usize);

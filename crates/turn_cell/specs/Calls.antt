@@ -9,7 +9,7 @@ use Rattle.turn_cell.specs.Knowing.{IsSame, IsQuiet, Wants, seen_of, mine_of, fa
 use Rattle.turn_cell.specs.Knowing.{own_faults_of, looks_of}
 
 -- A call with its reply, or without one where memory ran out; the places of the entries that it
--- brought, which are none or one; and what it left as a new doubt, which again is none or one.
+-- brought, in their order; and what it left as a new doubt, which is none or one.
 pub record CallMade (Call Reply X : Type 0) : Type 0 where
   pub call : Call
   pub reply : Option Reply
