@@ -1,18 +1,20 @@
 -- The parts of one log, of all passes.
 use Rattle.std.proofs.Common.{◌≡◌, ℕ, zero, suc, ◌+◌, ◌<◌, List, [], ◌∷◌, ◌++◌, map, length, take, refl, sym, ap, ◌∙◌, subst, ⊎_elim, inl, inr, add-one, arith, Option, Some, None, slice_get}
 use Rattle.std.specs.List.{filter_map, cons_option}
+use Rattle.std.proofs.lemmas.Slice.Zip.{AllZip-long}
 use Rattle.disk_model.specs.declared.disk.Disk.{Ghosts}
 use Rattle.patch_log.specs.State.{LogView}
 use Rattle.turn_cell.specs.Turns.{IsIn, AllOf}
 use Rattle.turn_cell.specs.Sights.{Made, AreAll}
 use Rattle.turn_cell.specs.Knowing.{pass_number}
 use Rattle.turn_cell.proofs.Views.{all_map}
+use Rattle.turn_cell.proofs.Ends.{all_in}
 use Rattle.turn_cell.specs.Sharing.{IsPassOf, AreAllPassesOf}
 use Rattle.shared_log.specs.History.{LogSight, shared_log}
 use Rattle.hall_logs.specs.Dealt.{with_items}
 use Rattle.hall_logs.specs.Ends.{parts_at}
 use Rattle.hall_logs.specs.Slots.{ArePartsOf, AreAllHallPasses}
-use Rattle.hall_logs.proofs.Parts.{zip_at, zip_length}
+use Rattle.hall_logs.proofs.Parts.{zip_at}
 
 module _ {A : Type 0} where
   -- the last item of a front
@@ -44,9 +46,10 @@ module _ {A : Type 0} where
       let more = take_lasts lists fronts items n long.1 (omega (arith, count)) (omega (arith, many)) rest in
       ((λ i. one.0 i ∷ more.0 i), (λ i. item ∷ more.1 i) ∙ ap (λ o. cons_option o (filter_map (λ (list : List A). slice_get list n) lists)) (sym one.1))
 
-  pub in_all : (P : A → Type 0) (xs : List A) (x : A) → AllOf P xs → IsIn x xs → P x
-  in_all P [] x all there = absurd there
-  in_all P (y ∷ xs) x all there = ⊎_elim (λ (e : x ≡ y). subst P (sym e) all.0) (λ (i : IsIn x xs). in_all P xs x all.1 i) there
+  all_at : (P : A → Type 0) (xs : List A) (k : ℕ) (x : A) → AllOf P xs → slice_get xs k ≡ Some x → P x
+  all_at P [] k x all is = let c = is in cc
+  all_at P (y ∷ xs) zero x all is = let same : y ≡ x = cc in subst P same all.0
+  all_at P (y ∷ xs) (suc k) x all is = all_at P xs k x all.1 is
 
   in_column : (lists : List (List A)) (list : List A) (item : A) (n : ℕ) → IsIn list lists → slice_get list n ≡ Some item → IsIn item (filter_map (λ (l : List A). slice_get l n) lists)
   in_column [] list item n there is = absurd there
@@ -67,38 +70,25 @@ module _ {D : Type 0} (disks : Ghosts D) (logs : List (Made (LogView D))) where
   some_part (part ∷ parts) (suc place) low = some_part parts place (omega (arith, low))
 
   pub lengths : (passes : List (List LogSight)) → AllOf (ArePartsOf disks logs) passes → AllOf (λ (parts : List LogSight). length parts ≡ length logs) passes
-  lengths passes all = all_map (ArePartsOf disks logs) (λ (parts : List LogSight). length parts ≡ length logs) (λ parts of. zip_length (IsPassOf (shared_log disks)) logs parts of) passes all
-
-  all_at : (P : LogSight → Type 0) (parts : List LogSight) (place : ℕ) (part : LogSight) → AllOf P parts → slice_get parts place ≡ Some part → P part
-  all_at P [] place part all is = let c = is in cc
-  all_at P (x ∷ parts) zero part all is = let same : x ≡ part = cc in subst P same all.0
-  all_at P (x ∷ parts) (suc place) part all is = all_at P parts place part all.1 is
-
-  pub at_place : (P : Made (LogView D) → Type 0) (place : ℕ) (log : Made (LogView D)) → AllOf P logs → slice_get logs place ≡ Some log → P log
-  at_place P place log all at = there logs place all at
-    where
-      there : (xs : List (Made (LogView D))) (k : ℕ) → AllOf P xs → slice_get xs k ≡ Some log → P log
-      there [] k all at = let c = at in cc
-      there (x ∷ xs) zero all at = let same : x ≡ log = cc in subst P same all.0
-      there (x ∷ xs) (suc k) all at = there xs k all.1 at
+  lengths passes all = all_map (ArePartsOf disks logs) (λ (parts : List LogSight). length parts ≡ length logs) (λ parts of. AllZip-long (IsPassOf (shared_log disks)) logs parts of) passes all
 
   module _ (place : ℕ) (log : Made (LogView D)) (at : slice_get logs place ≡ Some log) (low : place < length logs) where
     -- the parts of one log are passes of it
     column_of : (passes : List (List LogSight)) → AllOf (ArePartsOf disks logs) passes → AllOf (IsPassOf (shared_log disks) log) (parts_at place passes)
     column_of [] all = tt
     column_of (parts ∷ passes) all =
-        let some = some_part parts place (omega (arith, low, zip_length (IsPassOf (shared_log disks)) logs parts all.0)) in
+        let some = some_part parts place (omega (arith, low, AllZip-long (IsPassOf (shared_log disks)) logs parts all.0)) in
         let of : IsPassOf (shared_log disks) log some.0 = zip_at (IsPassOf (shared_log disks)) logs parts place log some.0 all.0 at some.1 in
         subst (λ o. AllOf (IsPassOf (shared_log disks) log) (cons_option o (parts_at place passes))) (sym some.1) (of, column_of passes all.1)
 
     column_all : (seats : ℕ) (passes : List (List LogSight)) → AreAllHallPasses disks logs seats passes → AreAll seats (parts_at place passes)
     column_all seats passes are n positive high =
         let one = are.all n positive high in
-        let of : ArePartsOf disks logs one.0 = in_all (ArePartsOf disks logs) passes one.0 are.of one.1 in
-        let some = some_part one.0 place (omega (arith, low, zip_length (IsPassOf (shared_log disks)) logs one.0 of)) in
+        let of : ArePartsOf disks logs one.0 = all_in (ArePartsOf disks logs) passes one.0 are.of one.1 in
+        let some = some_part one.0 place (omega (arith, low, AllZip-long (IsPassOf (shared_log disks)) logs one.0 of)) in
         (some.0, in_column passes one.0 some.0 place one.1 some.1, all_at (λ (part : LogSight). pass_number part ≡ n) one.0 place some.0 one.2 some.1)
 
     -- all passes have all parts of it
     pub column : (seats : ℕ) (passes : List (List LogSight)) → AllOf (λ (log : Made (LogView D)). log.seats ≡ seats) logs → AreAllHallPasses disks logs seats passes → AreAllPassesOf (shared_log disks) log (parts_at place passes)
     column seats passes alike are =
-        (column_of passes are.of, subst (λ n. AreAll n (parts_at place passes)) (sym (at_place (λ (log : Made (LogView D)). log.seats ≡ seats) place log alike at)) (column_all seats passes are))
+        (column_of passes are.of, subst (λ n. AreAll n (parts_at place passes)) (sym (all_at (λ (log : Made (LogView D)). log.seats ≡ seats) logs place log alike at)) (column_all seats passes are))

@@ -1,7 +1,7 @@
 -- Logs are closed from the last one on.
-use Rattle.std.proofs.Common.{◌≡◌, ℕ, suc, ◌+◌, ◌<◌, List, [], ◌∷◌, ◌++◌, map, length, length-append, length-take, take, refl, sym, ap, ◌∙◌, subst, append_assoc, arith, Some, slice_get}
+use Rattle.std.proofs.Common.{◌≡◌, ℕ, ◌+◌, ◌<◌, List, [], ◌∷◌, ◌++◌, map, length, length-append, length-take, take, refl, sym, ap, ◌∙◌, subst, append_assoc, arith, Some, slice_get}
 use Rattle.std.specs.Prelude.{reverse}
-use Rattle.std.proofs.lemmas.List.{append-nil, reverse-append, take_all}
+use Rattle.std.proofs.lemmas.List.{append-nil, length-map, reverse-append, take_all}
 use Rattle.disk_model.specs.declared.disk.Disk.{Ghosts}
 use Rattle.disk_model.specs.Past.{reads, MayLeave}
 use Rattle.patch_log.specs.State.{LogView}
@@ -12,6 +12,7 @@ use Rattle.turn_cell.specs.Sharing.{AreAllPassesOf, IsClosedOf}
 use Rattle.hall_logs.specs.Dealt.{with_items}
 use Rattle.hall_logs.specs.Ends.{parts_at, Ends, AreEnded}
 use Rattle.hall_logs.specs.Slots.{AreAllHallPasses}
+use Rattle.hall_logs.proofs.Parts.{get_middle}
 use Rattle.hall_logs.proofs.Columns.{take_lasts, lengths, column}
 
 module _ {D : Type 0} (disks : Ghosts D) where
@@ -41,10 +42,6 @@ module _ {D : Type 0} (disks : Ghosts D) where
   pub begins : (all : List (Made (LogView D))) (seats : ℕ) (whole : List (List LogSight)) → AreAllHallPasses disks all seats whole → AllOf (λ (log : Made (LogView D)). log.seats ≡ seats) all → Closing all seats whole all whole []
   begins all seats whole are alike = record { are = are; alike = alike; closed = []; all_is = sym (append-nil all); ends = tt; left = all_left (length all) whole (lengths disks all whole are.of); many = omega arith }
 
-  same_length : (n : ℕ) (whole : List (List LogSight)) → length (map (take n) whole) ≡ length whole
-  same_length n [] = refl
-  same_length n (x ∷ whole) = ap (λ (k : ℕ). suc k) (same_length n whole)
-
   -- before the last of the logs that are left
   module _ (all : List (Made (LogView D))) (seats : ℕ) (whole : List (List LogSight)) (rest : List (Made (LogView D))) (log : Made (LogView D)) (passes : List (List LogSight)) (given : List D) (before : Closing all seats whole (rest ++ log ∷ []) passes given) where
     one_less : length (rest ++ log ∷ []) ≡ length rest + 1
@@ -54,18 +51,14 @@ module _ {D : Type 0} (disks : Ghosts D) where
     long = lengths disks all whole before.are.of
 
     log_at : slice_get all (length rest) ≡ Some log
-    log_at = ap (λ l. slice_get l (length rest)) (before.all_is ∙ append_assoc rest (log ∷ []) before.closed) ∙ at rest before.closed
-      where
-        at : (front behind : List (Made (LogView D))) → slice_get (front ++ (log ∷ behind)) (length front) ≡ Some log
-        at [] behind = refl
-        at (x ∷ front) behind = at front behind
+    log_at = ap (λ l. slice_get l (length rest)) (before.all_is ∙ append_assoc rest (log ∷ []) before.closed) ∙ get_middle rest log before.closed
 
     within : length rest < length all
     within = omega (arith, before.many, one_less, ap length before.all_is, length-append (rest ++ log ∷ []) before.closed)
 
     -- no pass is missing, and each has a part of the log
     pub counted : length passes ≡ seats
-    counted = ap length before.left ∙ same_length (length (rest ++ log ∷ [])) whole ∙ before.are.count
+    counted = ap length before.left ∙ length-map whole (take (length (rest ++ log ∷ []))) ∙ before.are.count
 
     pub longs : AllOf (λ (parts : List LogSight). 0 < length parts) passes
     longs = subst (AllOf (λ (parts : List LogSight). 0 < length parts)) (sym before.left) (each whole long)
@@ -78,7 +71,7 @@ module _ {D : Type 0} (disks : Ghosts D) where
     module _ (after : List (List LogSight)) (parts : List LogSight) (gathered : passes ≡ with_items after parts) (count : length after ≡ length passes) (many : length parts ≡ length passes) where
       lasts : (after ≡ map (take (length rest)) whole) × (parts ≡ parts_at (length rest) whole)
       lasts =
-          let same = ap length before.left ∙ same_length (length (rest ++ log ∷ [])) whole in
+          let same = ap length before.left ∙ length-map whole (take (length (rest ++ log ∷ []))) in
           take_lasts whole after parts (length rest) (longer whole long) (count ∙ same) (many ∙ same) (ap (λ n. map (take n) whole) (sym one_less) ∙ sym before.left ∙ gathered)
         where
           longer : (l : List (List LogSight)) → AllOf (λ (parts : List LogSight). length parts ≡ length all) l → AllOf (λ (parts : List LogSight). length rest < length parts) l

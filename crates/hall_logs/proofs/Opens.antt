@@ -1,6 +1,6 @@
 -- Files are opened one after another.
 use Rattle.std.proofs.Common.{◌≡◌, ℕ, ◌+◌, List, [], ◌∷◌, ◌++◌, map, length, refl, sym, ap, ◌∙◌, subst, ⊎_elim, inl, inr, length-append, append_assoc, arith}
-use Rattle.std.specs.Prelude.{reverse, Result, Ok, Err, IfOk, IfErr}
+use Rattle.std.specs.Prelude.{reverse}
 use Rattle.std.specs.List.{AllZip}
 use Rattle.std.proofs.lemmas.List.{append-nil, reverse-append, reverse-reverse}
 use Rattle.disk_model.specs.declared.disk.Disk.{Ghosts}
@@ -103,12 +103,3 @@ module _ {D : Type 0} (disks : Ghosts D) (limits : LogLimits) where
 pub all_reverse : {A : Type 0} (P : A → Type 0) (xs : List A) → AllOf P xs → AllOf P (reverse xs)
 all_reverse P [] all = tt
 all_reverse P (x ∷ xs) all = subst (AllOf P) (sym (reverse-append (x ∷ []) xs)) (all_append P (reverse xs) (x ∷ []) (all_reverse P xs all.1) (all.0, tt))
-
-module _ {T E : Type 0} where
-  pub when_ok : (result : Result T E) (P Q : T → Type 0) → IfOk result P → ((x : T) → P x → Q x) → IfOk result Q
-  when_ok (Ok x) P Q p f = f x p
-  when_ok (Err e) P Q p f = tt
-
-  pub when_err : (result : Result T E) (P Q : E → Type 0) → IfErr result P → ((e : E) → P e → Q e) → IfErr result Q
-  when_err (Ok x) P Q p f = tt
-  when_err (Err e) P Q p f = f e p

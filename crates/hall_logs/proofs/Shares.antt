@@ -3,6 +3,7 @@ use Rattle.std.proofs.Common.{◌≡◌, ℕ, zero, suc, ◌+◌, ◌<◌, ◌�
 use Rattle.std.specs.Prelude.{reverse}
 use Rattle.std.specs.List.{AllZip}
 use Rattle.std.proofs.lemmas.List.{append-nil, map-append, reverse-append}
+use Rattle.std.proofs.lemmas.Slice.Zip.{AllZip-long}
 use mathlib.Core.Logic.{dite}
 use native.Mathlib.Decide.{ℕ_discrete}
 use Rattle.disk_model.specs.declared.disk.Disk.{Ghosts}
@@ -14,7 +15,6 @@ use Rattle.turn_cell.specs.Sharing.{IsPassOf, IsNewPassOf}
 use Rattle.shared_log.specs.History.{LogSight, shared_log}
 use Rattle.hall_logs.specs.Dealt.{with_items}
 use Rattle.hall_logs.specs.Slots.{LogsOfHall, ArePartsOf, AreNew, IsShared, AreAllHallPasses}
-use Rattle.hall_logs.proofs.Parts.{zip_length}
 
 module _ {A B : Type 0} (R : A → B → Type 0) where
   pub zip_one : (xs : List A) (ys : List B) (x : A) (y : B) → AllZip R xs ys → R x y → AllZip R (xs ++ x ∷ []) (ys ++ y ∷ [])
@@ -50,7 +50,7 @@ module _ {D : Type 0} (disks : Ghosts D) where
 
   pub lengths_new : (logs : List (Made (LogView D))) (number : ℕ) (passes : List (List LogSight)) → AreNew disks logs number passes → AllOf (λ (parts : List LogSight). length parts ≡ length logs) passes
   lengths_new logs number [] are = tt
-  lengths_new logs number (pass ∷ passes) are = (zip_length (IsNewAt number) logs pass are.0, lengths_new logs (number + 1) passes are.1)
+  lengths_new logs number (pass ∷ passes) are = (AllZip-long (IsNewAt number) logs pass are.0, lengths_new logs (number + 1) passes are.1)
 
   parts_new : (logs : List (Made (LogView D))) (number : ℕ) (passes : List (List LogSight)) → AreNew disks logs number passes → AllOf (ArePartsOf disks logs) passes
   parts_new logs number [] are = tt

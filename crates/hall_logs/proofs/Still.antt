@@ -13,6 +13,7 @@ use Rattle.turn_cell.specs.Sharing.{IsNewPassOf}
 use Rattle.hall_logs.specs.Slots.{AreNew}
 use Rattle.hall_logs.specs.Ends.{parts_at, AreEnded}
 use Rattle.hall_logs.specs.Files.{IsDiskOf}
+use Rattle.hall_logs.proofs.Parts.{get_middle}
 use Rattle.hall_logs.proofs.Shares.{zip_one}
 
 -- a pass that never drew a ticket
@@ -46,13 +47,9 @@ module _ {D : Type 0} (disks : Ghosts D) (logs : List (Made (LogView D))) where
     ends_still front [] is (d ∷ left) ends = absurd ends
     ends_still front (log ∷ others) is [] ends = absurd ends
     ends_still front (log ∷ others) is (d ∷ left) ends =
-        let at : slice_get logs (length front) ≡ Some log = ap (λ l. slice_get l (length front)) is ∙ there front in
+        let at : slice_get logs (length front) ≡ Some log = ap (λ l. slice_get l (length front)) is ∙ get_middle front log others in
         let rest = ends_still (front ++ log ∷ []) others (is ∙ sym (append_assoc front (log ∷ []) others)) left (subst (λ n. AreEnded disks n others passes left) (sym (length-append front (log ∷ []))) ends.1) in
         (ends.0.disk_is ∙ ap (λ (l : LogView D). l.disk) (ends.0.closed.untouched (idle_parts (length front) log at 1 passes new)), rest)
-      where
-        there : (xs : List (Made (LogView D))) → slice_get (xs ++ (log ∷ others)) (length xs) ≡ Some log
-        there [] = refl
-        there (x ∷ xs) = there xs
 
     pub all_still : (left : List D) → AreEnded disks 0 logs passes left → AllZip (IsDiskOf disks) (map (λ (log : Made (LogView D)). log.origin) logs) left
     all_still left ends = ends_still [] logs refl left ends

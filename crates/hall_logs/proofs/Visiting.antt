@@ -1,7 +1,8 @@
 -- Calls on many logs are calls on each.
-use Rattle.std.proofs.Common.{◌≡◌, ◌≢◌, ℕ, zero, suc, ◌+◌, eq-eqb, ne_eqb, List, [], ◌∷◌, length, refl, sym, ap, ◌∙◌, subst, ⊎_elim, inl, inr, arith, Option, Some, None, slice_get}
+use Rattle.std.proofs.Common.{◌≡◌, ◌≢◌, ℕ, zero, suc, ◌+◌, eq-eqb, ne_eqb, List, [], ◌∷◌, refl, sym, ap, ◌∙◌, subst, ⊎_elim, inl, inr, arith, Option, Some, None, slice_get}
 use Rattle.std.specs.Prelude.{slice_set}
 use Rattle.std.specs.List.{AllZip}
+use Rattle.std.proofs.lemmas.Slice.Zip.{AllZip-long}
 use mathlib.Core.Logic.{dite}
 use native.Mathlib.Decide.{ℕ_discrete}
 use Rattle.disk_model.specs.declared.disk.Disk.{Ghosts}
@@ -107,12 +108,6 @@ module _ {D : Type 0} (disks : Ghosts D) (logs : List (Made (LogView D))) where
   all_stay (x ∷ before) [] visited all = absurd visited
   all_stay (x ∷ before) (y ∷ after) visited all = (parts_stay x y visited.0.0 visited.0.1 all.0, all_stay before after visited.1 all.1)
 
-  as_many : (before after : List (List LogSight)) → AllZip (HasVisited disks logs) before after → length after ≡ length before
-  as_many [] [] visited = refl
-  as_many [] (y ∷ after) visited = absurd visited
-  as_many (x ∷ before) [] visited = absurd visited
-  as_many (x ∷ before) (y ∷ after) visited = ap (λ (n : ℕ). suc n) (as_many before after visited.1)
-
   one_stays : (n : ℕ) (before after : List (List LogSight)) → AllZip (HasVisited disks logs) before after → (parts : List LogSight) → IsIn parts before → AllOf (λ (part : LogSight). pass_number part ≡ n) parts
       → (left : List LogSight) × IsIn left after × AllOf (λ (part : LogSight). pass_number part ≡ n) left
   one_stays n [] after visited parts there all = absurd there
@@ -124,6 +119,6 @@ module _ {D : Type 0} (disks : Ghosts D) (logs : List (Made (LogView D))) where
   pub passes_stay : (seats : ℕ) (before after : List (List LogSight)) → AllZip (HasVisited disks logs) before after → AreAllHallPasses disks logs seats before → AreAllHallPasses disks logs seats after
   passes_stay seats before after visited are = record {
     of = all_stay before after visited are.of;
-    count = as_many before after visited ∙ are.count;
+    count = AllZip-long (HasVisited disks logs) before after visited ∙ are.count;
     all = λ n positive high. let one = are.all n positive high in one_stays n before after visited one.0 one.1 one.2;
   }

@@ -19,7 +19,7 @@ module _ {D : Type 0} (disks : Ghosts D) (logs : List (Made (LogView D))) where
     pub replied :
         (reply : LogReply)
         → OnSlot slot (λ log p q. CalledOnLog disks log.origin p call reply q) logs before after
-        → (doubted : List Patch)
+        → (doubted : List (List Patch))
         × IsVisit disks logs before
         (record { slot = slot; asked = call_made call (Some reply) doubted }) after
     pub wanted :

@@ -1,5 +1,6 @@
 pub mod Dealt
 pub mod Slots
+pub mod Lent
 pub mod Rooms
 pub mod Files
 pub mod Ends

@@ -1,5 +1,5 @@
 -- Logs by their slots, and passes that each have a part of every log.
-use Rattle.std.specs.Prelude.{◌≡◌, ℕ, ◌+◌, ◌<◌, ◌≤◌, List, [], ◌∷◌, ◌++◌, length, min, Some}
+use Rattle.std.specs.Prelude.{◌≡◌, ℕ, ◌+◌, ◌-◌, ◌<◌, ◌≤◌, List, [], ◌∷◌, ◌++◌, length, min, Some}
 use Rattle.std.specs.Prelude.{slice_get, slice_set}
 use Rattle.std.specs.List.{AllZip, sum_by}
 use Rattle.disk_model.specs.declared.disk.Disk.{Ghosts}
@@ -38,6 +38,19 @@ module _ {D : Type 0} (disks : Ghosts D) where
   -- a part of each log
   abbrev pub ArePartsOf : List (Made (LogView D)) → List LogSight → Type 0
   ArePartsOf logs parts = AllZip (IsPassOf (shared_log disks)) logs parts
+
+  -- It is the log of the slot, and the pass has a part of it. A call that leaves this part as one
+  -- of the same log leaves the pass a part of each log.
+  pub record HasPart (logs : List (Made (LogView D))) (parts : List LogSight) (slot : ℕ)
+      (log : Made (LogView D)) : Type 0 where
+    pub within : (0 < slot) × (slot ≤ length parts)
+    pub log_is : slice_get logs (slot - 1) ≡ Some log
+    pub of :
+        (part : LogSight) → slice_get parts (slot - 1) ≡ Some part
+        → IsPassOf (shared_log disks) log part
+    pub still :
+        (part : LogSight) → IsPassOf (shared_log disks) log part
+        → ArePartsOf logs (slice_set parts (slot - 1) part)
 
   -- new passes, whose numbers go up from this one
   abbrev pub AreNew : List (Made (LogView D)) → ℕ → List (List LogSight) → Type 0

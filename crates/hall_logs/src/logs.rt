@@ -1,16 +1,19 @@
 //! Logs by their slots.
-ghost use Rattle.std.specs.Prelude.{◌≡◌, ◌-◌, ◌<◌, ◌≤◌, length, IfOk, OnErr, Some, slice_get};
+ghost use Rattle.std.specs.Prelude.{◌<◌, ◌≤◌, length, IfOk, OnErr};
 ghost use Rattle.chain_core.specs.Replies as asked;
 ghost use Rattle.patch_log.specs.Log.{bare};
+ghost use Rattle.patch_log.specs.Ready.{bare_run};
 ghost use Rattle.turn_cell.specs.Knowing.{Wants};
+ghost use Rattle.shared_log.specs.History.{SeesWhole};
 ghost use Rattle.shared_log.specs.Replies.{reply_fetched, reply_described};
 ghost use Rattle.shared_log.specs.Stays.{CalledOnLog};
-ghost use Rattle.hall_logs.specs.Slots.{ArePartsOf, OnSlot};
+ghost use Rattle.hall_logs.specs.Slots.{ArePartsOf, HasPart, OnSlot};
 
 use crate::pass::LogsPass;
 use chain_core::LogAnswer;
 use delta_base::{Id, OutOfMemory};
 use disk_model::Disk;
+use patch_log::Run;
 use patch_meaning::Checked;
 use shared_log::{Fetched, LogInfo, SharedLog};
 use std::marker::Model;
@@ -37,10 +40,11 @@ impl<D: Disk> Model for HallLogs<D> {
 }
 
 impl<D: Disk> HallLogs<D> {
-    // The log of a slot.
-    fn log_of(&self, slot: u32) -> &SharedLog<D>
-        requires { (0 < slot) × (slot ≤ length self.now.logs) }
-        ensures { slice_get self.now.logs (slot - 1) ≡ Some result.now }
+    // The log of a slot, of which the pass has a part.
+    fn log_of(&self, pass: &LogsPass<D>, slot: u32) -> &SharedLog<D>
+        requires of { ArePartsOf D.Disk self.now.logs pass.now }
+        requires slot { (0 < slot) × (slot ≤ length self.now.logs) }
+        ensures { HasPart D.Disk self.now.logs pass.now slot result.now }
     {
         &self.logs[slot as usize - 1]
     }
@@ -57,12 +61,34 @@ impl<D: Disk> HallLogs<D> {
         requires of { ArePartsOf D.Disk self.now.logs pass.old }
         requires slot { (0 < slot) × (slot ≤ length self.now.logs) }
         ensures of { ArePartsOf D.Disk self.now.logs pass.new }
+        ensures whole { OnSlot slot (λ log p q. SeesWhole q) self.now.logs pass.old pass.new }
         ensures called { OnSlot slot (λ log p q. CalledOnLog D.Disk log.origin p
             (asked.append (bare patch.now)) (asked.answered result) q)
             self.now.logs pass.old pass.new }
     {
-        let log = self.log_of(slot);
-        log.append(rt, &mut pass.parts[slot as usize - 1], patch)
+        let log = self.log_of(pass, slot);
+        log.append(rt, pass.part_mut(slot), patch)
+    }
+
+    /// Adds a run to the log of a slot, or says why not: Known, Conflict, Full, want of memory and
+    /// a disk fault, in this order. All its patches are added or none.
+    pub fn append_run<R: Wait>(
+        &self,
+        rt: &R,
+        pass: &mut LogsPass<D>,
+        slot: u32,
+        run: &Run,
+    ) -> LogAnswer
+        requires of { ArePartsOf D.Disk self.now.logs pass.old }
+        requires slot { (0 < slot) × (slot ≤ length self.now.logs) }
+        ensures of { ArePartsOf D.Disk self.now.logs pass.new }
+        ensures whole { OnSlot slot (λ log p q. SeesWhole q) self.now.logs pass.old pass.new }
+        ensures called { OnSlot slot (λ log p q. CalledOnLog D.Disk log.origin p
+            (asked.append_run (bare_run run.now)) (asked.answered result) q)
+            self.now.logs pass.old pass.new }
+    {
+        let log = self.log_of(pass, slot);
+        log.append_run(rt, pass.part_mut(slot), run)
     }
 
     /// The patch of a version of the log of a slot.
@@ -76,6 +102,7 @@ impl<D: Disk> HallLogs<D> {
         requires of { ArePartsOf D.Disk self.now.logs pass.old }
         requires slot { (0 < slot) × (slot ≤ length self.now.logs) }
         ensures of { ArePartsOf D.Disk self.now.logs pass.new }
+        ensures whole { OnSlot slot (λ log p q. SeesWhole q) self.now.logs pass.old pass.new }
         ensures called { IfOk result
             (λ fetched. OnSlot slot (λ log p q. CalledOnLog D.Disk log.origin p
             (asked.fetch_version version) (reply_fetched fetched) q)
@@ -83,8 +110,8 @@ impl<D: Disk> HallLogs<D> {
         ensures want { OnErr result (OnSlot slot (λ log p q. Wants p q)
             self.now.logs pass.old pass.new) }
     {
-        let log = self.log_of(slot);
-        log.fetch_version(rt, &mut pass.parts[slot as usize - 1], version)
+        let log = self.log_of(pass, slot);
+        log.fetch_version(rt, pass.part_mut(slot), version)
     }
 
     /// The patch with an id in the log of a slot.
@@ -98,6 +125,7 @@ impl<D: Disk> HallLogs<D> {
         requires of { ArePartsOf D.Disk self.now.logs pass.old }
         requires slot { (0 < slot) × (slot ≤ length self.now.logs) }
         ensures of { ArePartsOf D.Disk self.now.logs pass.new }
+        ensures whole { OnSlot slot (λ log p q. SeesWhole q) self.now.logs pass.old pass.new }
         ensures called { IfOk result
             (λ fetched. OnSlot slot (λ log p q. CalledOnLog D.Disk log.origin p
             (asked.fetch_id id) (reply_fetched fetched) q)
@@ -105,8 +133,8 @@ impl<D: Disk> HallLogs<D> {
         ensures want { OnErr result (OnSlot slot (λ log p q. Wants p q)
             self.now.logs pass.old pass.new) }
     {
-        let log = self.log_of(slot);
-        log.fetch_id(rt, &mut pass.parts[slot as usize - 1], id)
+        let log = self.log_of(pass, slot);
+        log.fetch_id(rt, pass.part_mut(slot), id)
     }
 
     /// How long the log of a slot is, and the id of its last patch.
@@ -114,11 +142,12 @@ impl<D: Disk> HallLogs<D> {
         requires of { ArePartsOf D.Disk self.now.logs pass.old }
         requires slot { (0 < slot) × (slot ≤ length self.now.logs) }
         ensures of { ArePartsOf D.Disk self.now.logs pass.new }
+        ensures whole { OnSlot slot (λ log p q. SeesWhole q) self.now.logs pass.old pass.new }
         ensures called { OnSlot slot (λ log p q. CalledOnLog D.Disk log.origin p
             asked.describe (reply_described result) q) self.now.logs pass.old pass.new }
     {
-        let log = self.log_of(slot);
-        log.describe(rt, &mut pass.parts[slot as usize - 1])
+        let log = self.log_of(pass, slot);
+        log.describe(rt, pass.part_mut(slot))
     }
 
     /// How long the log of a slot is. It waits for nobody.
@@ -126,10 +155,11 @@ impl<D: Disk> HallLogs<D> {
         requires of { ArePartsOf D.Disk self.now.logs pass.old }
         requires slot { (0 < slot) × (slot ≤ length self.now.logs) }
         ensures of { ArePartsOf D.Disk self.now.logs pass.new }
+        ensures whole { OnSlot slot (λ log p q. SeesWhole q) self.now.logs pass.old pass.new }
         ensures called { OnSlot slot (λ log p q. CalledOnLog D.Disk log.origin p
             asked.version (asked.counted result) q) self.now.logs pass.old pass.new }
     {
-        let log = self.log_of(slot);
-        log.version(&mut pass.parts[slot as usize - 1])
+        let log = self.log_of(pass, slot);
+        log.version(pass.part_mut(slot))
     }
 }

@@ -1,5 +1,7 @@
 //! What a thread knows of all logs.
-ghost use Rattle.std.specs.Prelude.{◌≡◌, ◌<◌, ◌++◌, ◌∷◌, [], length, IfOk};
+ghost use Rattle.std.specs.Prelude.{◌≡◌, ◌-◌, ◌<◌, ◌≤◌, ◌++◌, ◌∷◌, [], length, IfOk};
+ghost use Rattle.std.specs.Prelude.{Some, slice_get};
+ghost use Rattle.std.specs.Borrow.{sem};
 ghost use Rattle.hall_logs.specs.Slots.{all_faults};
 
 use delta_base::OutOfMemory;
@@ -35,6 +37,8 @@ impl<D: Disk> Drop for LogsPass<D> {
 }
 
 impl<D: Disk> LogsPass<D> {
+    ghost use Rattle.hall_logs.specs.Lent.{LendsPart};
+
     /// The own faults of all parts together, or the last value of u64 where the sum passes that.
     pub fn own_faults(&self) -> u64
         ensures { result ≡ all_faults self.now }
@@ -53,6 +57,15 @@ impl<D: Disk> LogsPass<D> {
         Ok(LogsPass {
             parts: Vec::with_capacity(alloc, MOST_LOGS)?,
         })
+    }
+
+    // The part of the log of a slot.
+    pub(crate) fn part_mut(&mut self, slot: u32) -> &mut LogPass<D>
+        requires { (0 < slot) × (slot ≤ length self.old) }
+        ensures* writes_back { sem 𝓛 (LendsPart D.row D.Disk self.entry slot result) }
+        ensures value { slice_get self.old (slot - 1) ≡ Some result.now }
+    {
+        &mut self.parts[slot as usize - 1]
     }
 
     pub(crate) fn add(&mut self, part: LogPass<D>)

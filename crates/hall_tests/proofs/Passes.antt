@@ -1,5 +1,5 @@
 -- One of many passes made calls.
-use Rattle.std.proofs.Common.{◌≡◌, ℕ, zero, suc, ◌<◌, List, [], ◌∷◌, ◌++◌, length, take, drop, ◌∙◌, refl, sym, ap, subst, arith, Option, Some, slice_get, slice_index_or}
+use Rattle.std.proofs.Common.{◌≡◌, ℕ, zero, suc, ◌<◌, List, [], ◌∷◌, ◌++◌, length, take, drop, ◌∙◌, refl, sym, ap, subst, arith, slice_index_or}
 use Rattle.std.proofs.lemmas.List.{drop_all, take_all, append-nil}
 use Rattle.std.specs.Prelude.{slice_set, Result, Ok, Err, IfOk}
 use Rattle.std.specs.List.{AllZip}
@@ -7,13 +7,15 @@ use Rattle.disk_model.specs.declared.disk.Disk.{Ghosts}
 use Rattle.patch_log.specs.State.{LogView}
 use Rattle.turn_cell.specs.Turns.{AllOf}
 use Rattle.turn_cell.specs.Sights.{Made}
+use Rattle.chain_core.specs.Replies.{LogCall, LogReply}
 use Rattle.shared_log.specs.History.{LogSight}
-use Rattle.hall_logs.specs.Slots.{AreAllHallPasses}
-use Rattle.hall_logs.specs.Visits.{Visit, AreVisits, HasVisited}
-use Rattle.hall_logs.proofs.Visiting.{passes_stay}
+use Rattle.shared_log.specs.Stays.{CalledOnLog}
+use Rattle.hall_logs.specs.Slots.{ArePartsOf, AreAllHallPasses, OnSlot}
+use Rattle.hall_logs.specs.Visits.{HasVisited}
+use Rattle.hall_logs.proofs.Visiting.{each_is_visit, passes_stay}
 
 module _ {D : Type 0} (disks : Ghosts D) (logs : List (Made (LogView D))) where
-  pub at : (P : List LogSight → Type 0) (passes : List (List LogSight)) (k : ℕ) (pass : List LogSight) → AllOf P passes → k < length passes → pass ≡ slice_index_or passes k pass → P pass
+  at : (P : List LogSight → Type 0) (passes : List (List LogSight)) (k : ℕ) (pass : List LogSight) → AllOf P passes → k < length passes → pass ≡ slice_index_or passes k pass → P pass
   at P [] k pass all low is = absurd (omega (arith, low))
   at P (x ∷ passes) zero pass all low is = subst P (sym is) all.0
   at P (x ∷ passes) (suc k) pass all low is = at P passes k pass all.1 (omega (arith, low)) is
@@ -27,9 +29,19 @@ module _ {D : Type 0} (disks : Ghosts D) (logs : List (Made (LogView D))) where
   set_one (x ∷ passes) zero pass after low is visited = (subst (λ (p : List LogSight). HasVisited disks logs p after) is visited, same passes)
   set_one (x ∷ passes) (suc k) pass after low is visited = (([], refl), set_one passes k pass after (omega (arith, low)) is visited)
 
-  pub one_visits : (seats : ℕ) (passes : List (List LogSight)) (k : ℕ) (pass after : List LogSight) → AreAllHallPasses disks logs seats passes → k < seats → pass ≡ slice_index_or passes k pass → HasVisited disks logs pass after → AreAllHallPasses disks logs seats (slice_set passes k after)
-  one_visits seats passes k pass after all low is visited =
-      passes_stay disks logs seats passes (slice_set passes k after) (set_one passes k pass after (omega (arith, low, all.count)) is visited) all
+  -- a call is a visit
+  pub called : {slot : ℕ} {call : LogCall} {reply : LogReply} {before after : List LogSight} → OnSlot slot (λ log p q. CalledOnLog disks log.origin p call reply q) logs before after → HasVisited disks logs before after
+  called {slot} {call} {reply} {before} {after} on = let one = (each_is_visit disks logs slot call before after).replied reply on in (_ ∷ [], (after, one.1, refl))
+
+  module _ {seats : ℕ} {passes : List (List LogSight)} {pass : List LogSight} where
+    -- one of them has a part of each log
+    pub has_parts : (k : ℕ) → AreAllHallPasses disks logs seats passes → k < seats → pass ≡ slice_index_or passes k pass → ArePartsOf disks logs pass
+    has_parts k all low is = at (ArePartsOf disks logs) passes k pass all.of (omega (arith, low, all.count)) is
+
+    -- one of them made a call
+    pub one_called : {slot : ℕ} {call : LogCall} {reply : LogReply} {after : List LogSight} (k : ℕ) → AreAllHallPasses disks logs seats passes → k < seats → pass ≡ slice_index_or passes k pass → OnSlot slot (λ log p q. CalledOnLog disks log.origin p call reply q) logs pass after
+        → AreAllHallPasses disks logs seats (slice_set passes k after)
+    one_called {after = after} k all low is on = passes_stay disks logs seats passes (slice_set passes k after) (set_one passes k pass after (omega (arith, low, all.count)) is (called on)) all
 
   pub each_visits : (before after : List (List LogSight)) → length after ≡ length before
       → ((k : ℕ) (d : List LogSight) → k < length before → HasVisited disks logs (slice_index_or before k d) (slice_index_or after k d)) → AllZip (HasVisited disks logs) before after

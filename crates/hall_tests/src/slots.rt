@@ -2,13 +2,13 @@
 ghost use Rattle.std.specs.Prelude.{◌≡◌, ◌<◌, length, IfOk, vec_len};
 ghost use Rattle.hall_logs.specs.Slots.{AreAllHallPasses};
 
-use crate::calls::{append_by, version_by};
+use crate::calls::{append_by, append_run_by, version_by};
 use crate::halls::{close, open, two_disks};
 use chain_core::LogAnswer;
 use disk_model::{Disk, MemDisk};
 use hall_logs::{HallLogs, LogsPass, LogsRefusal};
 use log_base::LOG_LIMITS;
-use patch_log::LogFault;
+use patch_log::{LogFault, Run, check_run};
 use patch_meaning::{Checked, check_patch};
 use std::alloc::Global;
 use std::process::Abort;
@@ -80,6 +80,46 @@ fn each_slot_has_its_log(rt: HostRuntime) -> Result<(), Fail> {
         return Err(Fail::from("not opened again"));
     };
     have_one_and_two(&rt, &hall, &mut passes, 1);
+    drop(rooms);
+    drop(passes);
+    drop(hall);
+    Ok(())
+}
+
+// The first two patches as one run.
+fn first_two(alloc: Global) -> Result<Run, Fail> {
+    let mut text = Vec::from_slice(alloc, FIRST)?;
+    text.extend_from_slice(SECOND)?;
+    Ok(check_run(alloc, &text)?)
+}
+
+// The disks of the two logs, of which the second has taken two patches as one run.
+fn filled_at_once<R: Wait + Abort>(rt: &R, alloc: Global) -> Result<Vec<MemDisk>, Fail>
+    ensures { IfOk result (λ disks. vec_len disks ≡ 2) }
+{
+    let run = first_two(alloc)?;
+    let Ok((hall, mut passes, rooms)) = open(alloc, two_disks(alloc, &[])?) else {
+        return Err(Fail::from("not opened"));
+    };
+    let answer = append_run_by(rt, &hall, &mut passes, 0, 2, &run);
+    let first = 1;
+    is(rt, answer, LogAnswer::AcceptedRun { first, version: 2 });
+    let answer = append_run_by(rt, &hall, &mut passes, 1, 2, &run);
+    drop(run);
+    let same = true;
+    is(rt, answer, LogAnswer::Known { version: 1, same });
+    Ok(close((hall, passes, rooms)))
+}
+
+#[test]
+fn a_slot_takes_a_run(rt: HostRuntime) -> Result<(), Fail> {
+    let alloc = rt.alloc();
+    let disks = filled_at_once(&rt, alloc)?;
+    let Ok((hall, mut passes, rooms)) = open(alloc, disks) else {
+        return Err(Fail::from("not opened again"));
+    };
+    assert!(rt; version_by(&hall, &mut passes, 0, 1) == 0);
+    assert!(rt; version_by(&hall, &mut passes, 0, 2) == 2);
     drop(rooms);
     drop(passes);
     drop(hall);

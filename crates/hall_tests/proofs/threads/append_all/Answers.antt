@@ -1,4 +1,4 @@
-use Rattle.std.proofs.Common.{List, length, ◌≡◌, ◌∙◌, ap, arith, subst, sym}
+use Rattle.std.proofs.Common.{List, length, ◌≡◌, ◌∙◌, ap, subst, sym}
 use Rattle.shared_log.specs.History.{LogSight}
 use Rattle.hall_logs.specs.Slots.{AreAllHallPasses}
 use Rattle.hall_logs.proofs.Visiting.{passes_stay}
