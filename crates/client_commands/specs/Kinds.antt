@@ -20,6 +20,7 @@ kind_asked (call.Remove name) = kinds.Source
 kind_asked (call.Create name uri id) = kinds.Source
 kind_asked (call.Rename name new_name) = kinds.Source
 kind_asked (call.Append name patch) = kinds.Version
+kind_asked (call.AppendRun name patches) = kinds.Run
 kind_asked (call.FetchVersion name version) = kinds.Patch
 kind_asked (call.FetchId name id) = kinds.Patch
 
@@ -30,6 +31,7 @@ kind_said (answer.Sources sources) = Some kinds.Sources
 kind_said (answer.Source source) = Some kinds.Source
 kind_said (answer.Info version head) = Some kinds.Info
 kind_said (answer.Version version) = Some kinds.Version
+kind_said (answer.Run first version) = Some kinds.Run
 kind_said (answer.Patch text) = Some kinds.Patch
 kind_said other = None
 

@@ -13,6 +13,7 @@ pub enum Kind {
     Source,
     Info,
     Version,
+    Run,
     Patch,
 }
 
@@ -30,6 +31,7 @@ impl Kind {
             Call::Create { .. } | Call::Rename { .. } | Call::Remove { .. } => Kind::Source,
             Call::Log { .. } => Kind::Info,
             Call::Version { .. } | Call::Append { .. } => Kind::Version,
+            Call::AppendRun { .. } => Kind::Run,
             Call::FetchVersion { .. } | Call::FetchId { .. } => Kind::Patch,
         }
     }
@@ -44,6 +46,7 @@ impl Kind {
             Answer::Source(_) => Some(Kind::Source),
             Answer::Info { .. } => Some(Kind::Info),
             Answer::Version { .. } => Some(Kind::Version),
+            Answer::Run { .. } => Some(Kind::Run),
             Answer::Patch { .. } => Some(Kind::Patch),
             _ => None,
         }

@@ -74,7 +74,9 @@ is name word = pointwise nat_eq name word
 -- a refusal with a place
 abbrev placed : ℕ → List ℕ → Members → Answer
 placed at name (member k value more) = answer.BadPatch at (text_in value)
-placed at name no_members = if is name (codes "bad_name") then answer.BadName at else answer.BadUri at
+placed at name no_members =
+    if is name (codes "bad_run") then answer.BadRun at
+    else (if is name (codes "bad_name") then answer.BadName at else answer.BadUri at)
 
 -- a refusal that says no more than its name
 abbrev named : List ℕ → Answer
@@ -119,7 +121,9 @@ one name value =
 abbrev two : List ℕ → Data → Data → Members → Answer
 two name a b more =
     if is name (codes "at") then placed (number_in a) (text_in b) more
-    else (if is name (codes "head") then answer.Info (number_in b) (id_or_null_in a) else answer.Source (source_in (object (member name a (member name b more)))))
+    else (if is name (codes "head") then answer.Info (number_in b) (id_or_null_in a)
+    else (if is name (codes "first") then answer.Run (number_in a) (number_in b)
+    else answer.Source (source_in (object (member name a (member name b more))))))
 
 abbrev first_of : List ℕ → Data → Members → Answer
 first_of name a no_members = one name a
@@ -167,6 +171,7 @@ back (answer.Sources sources) fits = ap listed (sources_back sources.items fits)
 back (answer.Source source) fits = ap (λ (s : SourceInfo). answer.Source s) (source_back source fits)
 back (answer.Info version head) fits = ap (λ (h : Option Id). answer.Info version h) (id_or_null_back head fits.1)
 back (answer.Version version) fits = refl
+back (answer.Run first version) fits = refl
 back (answer.Patch text) fits = refl
 back answer.NoRoute fits = refl
 back answer.NoSource fits = refl
@@ -176,6 +181,7 @@ back answer.Media fits = refl
 back answer.BadJson fits = refl
 back (answer.BadCall name) fits = refl
 back (answer.BadPatch at kind) fits = refl
+back (answer.BadRun at) fits = refl
 back (answer.BadName at) fits = refl
 back (answer.BadUri at) fits = refl
 back (answer.Known version same) fits = refl

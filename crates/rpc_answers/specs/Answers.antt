@@ -59,6 +59,8 @@ table_row (answer.Source source) = record { status = 200; body = json (source_da
 table_row (answer.Info version head) =
     says 200 ((codes "head", id_or_null head) ∷ (codes "version", whole_number version) ∷ [])
 table_row (answer.Version version) = says 200 ((codes "version", whole_number version) ∷ [])
+table_row (answer.Run first version) =
+    says 200 ((codes "first", whole_number first) ∷ (codes "version", whole_number version) ∷ [])
 table_row (answer.Patch text) = record { status = 200; body = patch text }
 table_row answer.NoRoute = refuses 404 (codes "no_route")
 table_row answer.NoSource = refuses 404 (codes "no_source")
@@ -72,6 +74,8 @@ table_row (answer.BadCall name) =
     says 400 ((codes "error", word (codes "bad_call")) ∷ (codes "member", string name) ∷ [])
 table_row (answer.BadPatch at kind) = says 400 ((codes "at", whole_number at)
     ∷ (codes "error", word (codes "bad_patch")) ∷ (codes "kind", string kind) ∷ [])
+table_row (answer.BadRun at) =
+    says 400 ((codes "at", whole_number at) ∷ (codes "error", word (codes "bad_run")) ∷ [])
 table_row (answer.BadName at) =
     says 400 ((codes "at", whole_number at) ∷ (codes "error", word (codes "bad_name")) ∷ [])
 table_row (answer.BadUri at) =
@@ -119,8 +123,10 @@ CanStand (answer.Sources sources) = All IsAnsweredSource sources.items
 CanStand (answer.Source source) = IsAnsweredSource source
 CanStand (answer.Info version head) = (version < 2 ^ 32) × ForSome head (λ id. IsId id.0)
 CanStand (answer.Version version) = version < 2 ^ 32
+CanStand (answer.Run first version) = (first < 2 ^ 32) × (version < 2 ^ 32)
 CanStand (answer.NoPatch version) = version < 2 ^ 32
 CanStand (answer.BadPatch at kind) = at < 2 ^ 64
+CanStand (answer.BadRun at) = at < 2 ^ 64
 CanStand (answer.BadName at) = at < 2 ^ 64
 CanStand (answer.BadUri at) = at < 2 ^ 64
 CanStand (answer.Known version same) = version < 2 ^ 32

@@ -16,6 +16,11 @@ pub enum Answer {
     Version {
         version: u32,
     },
+    /// The versions of a run's first and last patch.
+    Run {
+        first: u32,
+        version: u32,
+    },
     /// A patch, as it was sent.
     Patch {
         text: Bytes,
@@ -37,6 +42,10 @@ pub enum Answer {
     BadPatch {
         at: u64,
         kind: Text,
+    },
+    /// Which patch, counted from 1, doesn't go on from those before it; 0 where there is none.
+    BadRun {
+        at: u64,
     },
     BadName {
         at: u64,

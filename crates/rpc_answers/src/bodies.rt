@@ -55,6 +55,12 @@ fn version_body(alloc: Global, version: u32) -> Result<Value, OutOfMemory>
     Ok(json!(in alloc; {"version": u64::from(version)})?)
 }
 
+fn run_body(alloc: Global, first: u32, version: u32) -> Result<Value, OutOfMemory>
+    ensures { IfOk result (λ v. MakesAnswer (view v) (Answer.Run first version)) }
+{
+    Ok(json!(in alloc; {"first": u64::from(first), "version": u64::from(version)})?)
+}
+
 fn no_patch_body(alloc: Global, version: u32) -> Result<Value, OutOfMemory>
     ensures { IfOk result (λ v. MakesAnswer (view v) (Answer.NoPatch version)) }
 {
@@ -151,6 +157,7 @@ pub fn answer_value(alloc: Global, answer: &Answer) -> Result<Value, OutOfMemory
         Answer::Source(source) => source_value(alloc, source),
         Answer::Info { version, head } => info_body(alloc, *version, *head),
         Answer::Version { version } => version_body(alloc, *version),
+        Answer::Run { first, version } => run_body(alloc, *first, *version),
         Answer::Patch { .. } => unreachable!(),
         Answer::NoRoute => refusal_body(alloc, "no_route"),
         Answer::NoSource => refusal_body(alloc, "no_source"),
@@ -160,6 +167,7 @@ pub fn answer_value(alloc: Global, answer: &Answer) -> Result<Value, OutOfMemory
         Answer::BadJson => refusal_body(alloc, "bad_json"),
         Answer::BadCall { member } => bad_call_body(alloc, member),
         Answer::BadPatch { at, kind } => bad_patch_body(alloc, *at, kind),
+        Answer::BadRun { at } => place_body(alloc, *at, "bad_run"),
         Answer::BadName { at } => place_body(alloc, *at, "bad_name"),
         Answer::BadUri { at } => place_body(alloc, *at, "bad_uri"),
         Answer::Known { version, same } => known_body(alloc, *version, *same),

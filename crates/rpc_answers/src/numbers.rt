@@ -1,7 +1,7 @@
 //! The answers of numbers and ids.
 ghost use Rattle.std.specs.Prelude.{◌≡◌, ◌<◌, ◌^◌, ℕ, Bool, Option, [], ◌∷◌, IfSome, IfNone, codes};
 ghost use Rattle.serde_json.specs.View.{view};
-ghost use Rattle.rpc_answers.specs.Parts.{IsRowOf, IsOfNumbers};
+ghost use Rattle.rpc_answers.specs.Parts.{IsRowOf, IsOfNumbers, IsPlaced};
 ghost use Rattle.rpc_answers.specs.Values.{object_of, word, whole_number};
 
 use crate::answer::Answer;
@@ -31,6 +31,27 @@ fn place_in(value: &Value, name: &str) -> Option<u64>
     long_in(at)
 }
 
+// The refusal of a status and a value, where it says a place and no more.
+fn placed_in(status: u16, value: &Value) -> Option<Answer>
+    ensures found { IfSome result (λ a. IsRowOf status (view value.now) a) }
+    ensures none { IfNone result ((a : Answer) → IsPlaced a
+        → IsRowOf status (view value.now) a → ⊥) }
+{
+    if status != 400 {
+        return None;
+    }
+    if let Some(at) = place_in(value, "bad_run") {
+        return Some(Answer::BadRun { at });
+    }
+    if let Some(at) = place_in(value, "bad_name") {
+        return Some(Answer::BadName { at });
+    }
+    if let Some(at) = place_in(value, "bad_uri") {
+        return Some(Answer::BadUri { at });
+    }
+    None
+}
+
 fn info_in(status: u16, value: &Value) -> Option<(u32, Option<Id>)>
     ensures found { IfSome result (λ row.
         IsRowOf status (view value.now) (Answer.Info row.0 row.1)) }
@@ -57,6 +78,21 @@ fn version_in(status: u16, value: &Value) -> Option<u32>
         return None;
     }
     short_in(version)
+}
+
+fn run_in(status: u16, value: &Value) -> Option<(u32, u32)>
+    ensures found { IfSome result (λ row.
+        IsRowOf status (view value.now) (Answer.Run row.0 row.1)) }
+    ensures none { IfNone result ((first version : ℕ)
+        → IsRowOf status (view value.now) (Answer.Run first version) → ⊥) }
+{
+    let (first, version) = two_members(value, "first", "version")?;
+    if status != 200 {
+        return None;
+    }
+    let first = short_in(first)?;
+    let version = short_in(version)?;
+    Some((first, version))
 }
 
 fn no_patch_in(status: u16, value: &Value) -> Option<u32>
@@ -152,18 +188,14 @@ pub fn numbers_in(status: u16, value: &Value) -> Option<Answer>
     if let Some(version) = version_in(status, value) {
         return Some(Answer::Version { version });
     }
+    if let Some((first, version)) = run_in(status, value) {
+        return Some(Answer::Run { first, version });
+    }
     if let Some(version) = no_patch_in(status, value) {
         return Some(Answer::NoPatch { version });
     }
-    if let Some(at) = place_in(value, "bad_name")
-        && status == 400
-    {
-        return Some(Answer::BadName { at });
-    }
-    if let Some(at) = place_in(value, "bad_uri")
-        && status == 400
-    {
-        return Some(Answer::BadUri { at });
+    if let Some(answer) = placed_in(status, value) {
+        return Some(answer);
     }
     if let Some((version, same)) = known_in(status, value) {
         return Some(Answer::Known { version, same });

@@ -33,13 +33,13 @@ fn status_of(answer: &Answer) -> u16
     ensures { result ≡ status_of answer.now }
 {
     match answer {
-        Answer::Pong | Answer::Sources(_) | Answer::Source(_) => 200,
-        Answer::Info { .. } | Answer::Version { .. } | Answer::Patch { .. } => 200,
+        Answer::Pong | Answer::Sources(_) | Answer::Source(_) | Answer::Info { .. } => 200,
+        Answer::Version { .. } | Answer::Run { .. } | Answer::Patch { .. } => 200,
         Answer::NoRoute | Answer::NoSource | Answer::NoPatch { .. } => 404,
         Answer::BadMethod => 405,
         Answer::Media => 415,
         Answer::BadJson | Answer::BadCall { .. } | Answer::BadPatch { .. } => 400,
-        Answer::BadName { .. } | Answer::BadUri { .. } => 400,
+        Answer::BadRun { .. } | Answer::BadName { .. } | Answer::BadUri { .. } => 400,
         Answer::Known { .. } | Answer::Conflict { .. } => 409,
         Answer::NameTaken { .. } | Answer::IdTaken { .. } => 409,
         Answer::Full { .. } => 507,

@@ -1,16 +1,15 @@
 -- The methods that a refusal tells may stand in a reply.
-use Rattle.std.proofs.Common.{◌≡◌, ℕ, List, [], ◌∷◌, Bool, true, false, Option, Some, None, Result, Ok, Err, IfErr, codes, refl, subst, if◌then◌else◌}
+use Rattle.std.proofs.Common.{ℕ, List, [], ◌∷◌, Bool, true, false, Option, Some, None, Result, Ok, Err, IfErr, codes, refl, subst, if◌then◌else◌}
 use Rattle.std.specs.Str.{bytes_eq, is_utf8}
 use Rattle.serde_json.specs.Data.{Data, null, boolean, number, string, array, object}
 use Rattle.serde_json.specs.Find.{get}
 use Rattle.serde_json.specs.Read.{read}
 use Rattle.http_text.specs.Print.{IsAllow}
 use Rattle.http_heads.specs.declared.message.RawRequest.{RawRequest}
-use Rattle.rpc_calls.specs.Calls.{asked_by_route, asked_by, asked_by_value, call_of, from_route, got, or_bad_method, posted, unless_refused}
+use Rattle.rpc_calls.specs.Calls.{asked_by_route, asked_by, asked_by_value, from_route, got, or_bad_method, posted, unless_refused}
 use Rattle.rpc_calls.specs.Media.{has_refused_media}
-use Rattle.rpc_calls.specs.Operations.{Operation, asked, asked_of, id_member, given_id, operations, text_member, version_member, with_member}
+use Rattle.rpc_calls.specs.Operations.{Operation, asked_of, id_member, given_id, operations, text_member, version_member, with_member}
 use Rattle.rpc_calls.specs.Outcomes.{CallOutcome, no_route, media, bad_json, bad_method, bad_call, AnswersCall, IsFaultOf, TellsMethods}
-use Rattle.rpc_calls.specs.Routes.{allowed, route_of}
 use Rattle.rpc_calls.specs.declared.call.Call.{Call}
 use Rattle.rpc_calls.specs.declared.call.CallFault.{CallFault}
 use Rattle.rpc_calls.specs.declared.call.CallFault.TheVariants as fault
@@ -70,12 +69,16 @@ all_told = (
                       λ d. member (codes "name") (text_member (codes "name") d) (λ name. with_member (codes "patch") (text_member (codes "patch") d) (λ patch. Ok (call.Append name patch)))
                           (λ name. member (codes "patch") (text_member (codes "patch") d) (λ patch. Ok (call.Append name patch)) (λ patch. tt)),
                       (
-                        λ d. member (codes "name") (text_member (codes "name") d) (λ name. with_member (codes "version") (version_member (codes "version") d) (λ version. Ok (call.FetchVersion name version)))
-                            (λ name. member (codes "version") (version_member (codes "version") d) (λ version. Ok (call.FetchVersion name version)) (λ version. tt)),
+                        λ d. member (codes "name") (text_member (codes "name") d) (λ name. with_member (codes "patches") (text_member (codes "patches") d) (λ patches. Ok (call.AppendRun name patches)))
+                            (λ name. member (codes "patches") (text_member (codes "patches") d) (λ patches. Ok (call.AppendRun name patches)) (λ patches. tt)),
                         (
-                          λ d. member (codes "name") (text_member (codes "name") d) (λ name. with_member (codes "id") (id_member (codes "id") d) (λ id. Ok (call.FetchId name id)))
-                              (λ name. member (codes "id") (id_member (codes "id") d) (λ id. Ok (call.FetchId name id)) (λ id. tt)),
-                          tt,
+                          λ d. member (codes "name") (text_member (codes "name") d) (λ name. with_member (codes "version") (version_member (codes "version") d) (λ version. Ok (call.FetchVersion name version)))
+                              (λ name. member (codes "version") (version_member (codes "version") d) (λ version. Ok (call.FetchVersion name version)) (λ version. tt)),
+                          (
+                            λ d. member (codes "name") (text_member (codes "name") d) (λ name. with_member (codes "id") (id_member (codes "id") d) (λ id. Ok (call.FetchId name id)))
+                                (λ name. member (codes "id") (id_member (codes "id") d) (λ id. Ok (call.FetchId name id)) (λ id. tt)),
+                            tt,
+                          ),
                         ),
                       ),
                     ),
@@ -121,6 +124,7 @@ by_got : (r : Route) → AreToldIn (got r)
 by_got route.Ping = tt
 by_got route.Rpc = tt
 by_got (route.Log name) = tt
+by_got (route.Run name) = tt
 by_got (route.Version name version) = tt
 by_got (route.Patch name id) = tt
 
@@ -128,6 +132,7 @@ by_posted : (r : Route) (body : List ℕ) → AreToldIn (posted r body)
 by_posted route.Ping body = tt
 by_posted route.Rpc body = by_body body
 by_posted (route.Log name) body = tt
+by_posted (route.Run name) body = tt
 by_posted (route.Version name version) body = tt
 by_posted (route.Patch name id) body = tt
 
@@ -140,6 +145,7 @@ by_method r (Some outcome) told = told
 by_method route.Ping None told = refl
 by_method route.Rpc None told = refl
 by_method (route.Log name) None told = refl
+by_method (route.Run name) None told = refl
 by_method (route.Version name version) None told = refl
 by_method (route.Patch name id) None told = refl
 

@@ -19,7 +19,7 @@ use Rattle.http_text.specs.Print.{IsPrintable, is_path_byte, is_visible}
 use Rattle.rpc_calls.specs.Routes.{patch_route, route_of}
 use Rattle.std.specs.Option.{ForSome}
 use Rattle.delta_base.proofs.IdLemmas.{number_of-text_of}
-use Rattle.delta_base.specs.Ids.{IsId, number_of, text_of}
+use Rattle.delta_base.specs.Ids.{IsId, text_of}
 use Rattle.delta_base.specs.declared.id.Id.{Id}
 use Rattle.http_heads.specs.declared.message.RawRequest.{RawRequest}
 use Rattle.rpc_calls.specs.declared.call.Call.{Call}
@@ -115,6 +115,11 @@ pub append_again : (path name patch : List ℕ) → route_of path ≡ Some (rout
 unfolding trim_ows
 append_again path name patch is = ap (λ (r : Option Route). from_route r (post_of path (codes "application/rdf-patch") patch)) is
 
+pub append_run_again : (path name patches : List ℕ) → route_of path ≡ Some (route.Run name)
+    → call_of (post_of path (codes "application/rdf-patch") patches) ≡ Ok (call.AppendRun name patches)
+unfolding trim_ows
+append_run_again path name patches is = ap (λ (r : Option Route). from_route r (post_of path (codes "application/rdf-patch") patches)) is
+
 pub fetch_version_again : (path name : List ℕ) (version : ℕ) → route_of path ≡ Some (route.Version name version)
     → call_of (get_of path) ≡ Ok (call.FetchVersion name version)
 fetch_version_again path name version is = ap (λ (r : Option Route). from_route r (get_of path)) is
@@ -145,6 +150,10 @@ post_printable path rest kind body host kind_bytes slash bytes host_bytes = reco
   asks_nothing = refl;
   encoding = refl;
 }
+
+pub run_utf8 : IsUtf8 (codes "run")
+unfolding is_utf8 chars encode
+run_utf8 = IsUtf8-from_is_utf8 (codes "run") refl
 
 -- the text of a version, and that of an id
 pub decimal_utf8 : (n : ℕ) → n < 2 ^ 64 → IsUtf8 (decimal n)

@@ -15,6 +15,7 @@ use Rattle.delta_base.specs.Ids.{number_of, text_of}
 use Rattle.rpc_calls.specs.Paths.{path_for, segment_of}
 use Rattle.rpc_calls.specs.Requests.{FitsPath}
 use Rattle.rpc_calls.specs.Routes.{is_version, patch_route, route_behind, route_in, route_of, route_of_one, route_of_two}
+use Rattle.rpc_calls.specs.declared.route.Route.{Route}
 use Rattle.rpc_calls.specs.declared.route.Route.TheVariants as route
 use Rattle.delta_base.proofs.IdLemmas.{length-text_of}
 use Rattle.rpc_calls.proofs.PathLemmas.{cut_one, cut_two}
@@ -70,15 +71,26 @@ version_is n small =
     let few : nat_le (length (decimal n)) 10 ≡ true = le-leb _ _ (length-decimal-le 10 n (omega arith) (omega arith) low) in
     ap₂ ◌&&◌ some (ap₂ ◌&&◌ few (are_digits n low))
 
+-- what stands behind a name and is no version
+abbrev behind_no_version : List ℕ → List ℕ → Option Route
+behind_no_version name second = if bytes_eq second (codes "run") then Some (route.Run name) else option_map (patch_route name) (number_of second)
+
 pub version_again : (name : List ℕ) (n : ℕ) → n ≤ 9999999999 → route_behind name (decimal n) ≡ Some (route.Version name n)
 version_again name n small =
-    ap (λ b. if b then Some (route.Version name (digits_value 10 (decimal n))) else option_map (patch_route name) (number_of (decimal n))) (version_is n small)
+    ap (λ b. if b then Some (route.Version name (digits_value 10 (decimal n))) else behind_no_version name (decimal n)) (version_is n small)
     ∙ ap (λ (m : ℕ). Some (route.Version name m)) (decimal_is_IsNumeral n (omega arith)).1
 
 no_version : (n : ℕ) → is_version (text_of n) ≡ false
 no_version n = ap (λ (m : ℕ). nat_le 1 m && (nat_le m 10 && list_all is_ascii_digit (text_of n))) (length-text_of n)
 
+no_run : (n : ℕ) → text_of n ≢ codes "run"
+no_run n is = let long = length-text_of n in let short : length (text_of n) ≡ 3 = ap length is in omega (arith, long, short)
+
 pub id_again : (name : List ℕ) (n : ℕ) → number_of (text_of n) ≡ Some n → route_behind name (text_of n) ≡ Some (patch_route name n)
 id_again name n is =
-    ap (λ b. if b then Some (route.Version name (digits_value 10 (text_of n))) else option_map (patch_route name) (number_of (text_of n))) (no_version n)
+    ap (λ b. if b then Some (route.Version name (digits_value 10 (text_of n))) else behind_no_version name (text_of n)) (no_version n)
+    ∙ ap (λ b. if b then Some (route.Run name) else option_map (patch_route name) (number_of (text_of n))) (other (text_of n) (codes "run") (no_run n))
     ∙ ap (λ (m : Option ℕ). option_map (patch_route name) m) is
+
+pub run_again : (name : List ℕ) → route_behind name (codes "run") ≡ Some (route.Run name)
+run_again name = refl

@@ -14,6 +14,7 @@ pub enum Route {
     Ping,
     Rpc,
     Log(Text),
+    Run(Text),
     Version(Text, u64),
     Patch(Text, Id),
 }
@@ -25,7 +26,7 @@ impl Route {
     {
         match self {
             Route::Ping | Route::Log(_) => "GET, POST",
-            Route::Rpc => "POST",
+            Route::Rpc | Route::Run(_) => "POST",
             Route::Version(_, _) | Route::Patch(_, _) => "GET",
         }
     }
@@ -35,7 +36,7 @@ impl Route {
         ensures { result ≡ has_post self.now }
     {
         match self {
-            Route::Ping | Route::Rpc | Route::Log(_) => true,
+            Route::Ping | Route::Rpc | Route::Log(_) | Route::Run(_) => true,
             Route::Version(_, _) | Route::Patch(_, _) => false,
         }
     }
@@ -65,13 +66,16 @@ fn service_route(second: &str) -> Option<Route>
 }
 
 // The route of a segment behind a name.
-fn route_behind(name: Text, second: &[u8]) -> Option<Route>
+fn route_behind(name: Text, second: &str) -> Option<Route>
     ensures { result ≡ route_behind name second.now }
 {
-    if let Some(version) = version_of(second) {
+    if let Some(version) = version_of(second.as_bytes()) {
         return Some(Route::Version(name, version));
     }
-    match read_id(second) {
+    if second == "run" {
+        return Some(Route::Run(name));
+    }
+    match read_id(second.as_bytes()) {
         Some(id) => Some(Route::Patch(name, id)),
         None => None,
     }
@@ -102,5 +106,5 @@ pub fn read_route(alloc: Global, path: &[u8]) -> Result<Option<Route>, OutOfMemo
     if first.as_str() == "$" {
         return Ok(service_route(second.as_str()));
     }
-    Ok(route_behind(first, second.as_bytes()))
+    Ok(route_behind(first, second.as_str()))
 }

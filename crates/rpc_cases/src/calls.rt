@@ -52,6 +52,9 @@ fn tell_call(call: &Call, told: &mut Told) {
         Call::Append { name, patch } => {
             tell_words(&[b"append", name.as_bytes(), patch.as_slice()], told);
         }
+        Call::AppendRun { name, patches } => {
+            tell_words(&[b"append_run", name.as_bytes(), patches.as_slice()], told);
+        }
         Call::FetchVersion { name, version } => tell_fetched(name, *version, told),
         Call::FetchId { name, id } => {
             tell_words(&[b"fetch_id", name.as_bytes(), &id_text(*id)], told);

@@ -32,6 +32,13 @@ fn log_answer(words: &Words) -> Answer
     let version = number(words, 2).unwrap_or(0);
     match word(words, 1) {
         "version" => Answer::Version { version },
+        "run" => Answer::Run {
+            first: version,
+            version: number(words, 3).unwrap_or(0),
+        },
+        "bad_run" => Answer::BadRun {
+            at: u64::from(version),
+        },
         "conflict" => Answer::Conflict {
             version,
             head: read_id(words.bytes(3)),

@@ -44,6 +44,9 @@ returns-in_ok-renamed-in-Rename-clause-again c =
 pub returns-in-Append-clause-again : goal.returns-in-Append-clause-again
 returns-in-Append-clause-again c = lemma.called_by_path c.append_of.result _ c.args.call.now c.append_of.ensures.again c.in-Append.is
 
+pub returns-in-AppendRun-clause-again : goal.returns-in-AppendRun-clause-again
+returns-in-AppendRun-clause-again c = lemma.called_by_path c.append_run_of.result _ c.args.call.now c.append_run_of.ensures.again c.in-AppendRun.is
+
 pub returns-in-FetchVersion-clause-again : goal.returns-in-FetchVersion-clause-again
 returns-in-FetchVersion-clause-again c = lemma.called_by_path c.fetch_version_of.result _ c.args.call.now c.fetch_version_of.ensures.again c.in-FetchVersion.is
 
