@@ -1,7 +1,9 @@
 -- What the calls of a hall on its lists come to.
-use Rattle.std.proofs.Common.{◌≡◌, ℕ, refl, sym, ◌∙◌, subst, List, [], ◌∷◌, Option, Some, None, Result, Ok, Err, IfOk, OnErr, IsErr}
+use Rattle.std.proofs.Common.{◌≡◌, ℕ, refl, sym, ◌∙◌, subst, inl, List, [], ◌∷◌, Option, Some, None, Result, Ok, Err, IfOk, OnErr, IsErr}
 use Rattle.disk_model.specs.declared.disk.Disk.{Ghosts}
 use Rattle.chain_core.specs.Replies.{LogCall, LogReply}
+use Rattle.chain_core.specs.Replies as asked
+use Rattle.chain_core.specs.declared.answer.LogAnswer.{LogAnswer}
 use Rattle.log_base.specs.declared.source_info.SourceInfo.{SourceInfo}
 use Rattle.http_session.specs.declared.answerer.Said.{Said}
 use Rattle.http_session.specs.declared.answerer.Said.TheVariants.{OutOfMemory}
@@ -20,10 +22,11 @@ use Rattle.shared_registry.specs.Lookups.{RegistryLookup, IsLookupReply, MayWant
 use Rattle.shared_registry.proofs.Adding.{gives}
 use Rattle.hall_logs.specs.Slots.{OnSlot}
 use Rattle.hall_logs.specs.Visits.{IsVisit}
-use Rattle.delta_session.specs.Answered.{BehindLookup, ByLog, ByRegistry, BySource, IsLookedUp, LooksUp, Says, SaysNone, SaysOf, TakesNoNumber, reply_found}
+use Rattle.delta_session.specs.Answered.{BehindLookup, ByLog, ByRegistry, BySource, ByText, IsLookedUp, LooksUp, Says, SaysNone, SaysOf, TakesNoNumber, reply_found}
 use Rattle.delta_session.specs.Halls.{IsHallPass}
 use Rattle.delta_session.specs.Steps.{HallView, HallSight, Step, of_registry, of_log, AreSteps}
-use Rattle.delta_session.specs.Telling.{registry_answer, log_answer}
+use Rattle.rpc_answers.specs.declared.answer.Answer.{Answer}
+use Rattle.delta_session.specs.Telling.{append_answer, registry_answer, log_answer}
 use Rattle.delta_session.proofs.Passing.{still_ready}
 use Rattle.delta_session.proofs.Stepping.{compose_steps}
 
@@ -109,6 +112,14 @@ module _ {D : Type 0} (disks : Ghosts D) (hall : HallView D) (p : HallSight) whe
     takes_visit call reply said called says =
         let v = visited call reply called in
         (of_log (record { slot = slot; asked = v.0 }) ∷ [], ((knows_logs p q).lists, (v.3, refl), refl), (v.0, v.1, refl, subst (λ (r : Option LogReply). SaysOf log_answer r said) (sym v.2) says), refl)
+
+    -- of what a text is
+    pub takes_text : {A F : Type 0} (Is : A → Type 0) (call : A → LogCall) (Has : F → Type 0) (answer : F → Answer) (read : A) (told : LogAnswer) (said : Said) → Is read
+        → OnSlot slot (λ (log : Made (LogView D)) (a b : LogSight). CalledOnLog disks log.origin a (call read) (asked.answered told) b) hall.logs.logs p.lists.logs q
+        → Says (append_answer told) None said → TakesNoNumber disks hall (ByText Is call Has answer slot) p said (knows_logs p q)
+    takes_text Is call Has answer read told said is called says =
+        let one = takes_visit (call read) (asked.answered told) said called says in
+        (one.0, one.1, inl (read, is, one.2), one.3)
 
     takes_want : (call : LogCall) → MayWant call → OnSlot slot (λ (log : Made (LogView D)) (a b : LogSight). Wants a b) hall.logs.logs p.lists.logs q → TakesNoNumber disks hall (ByLog slot call) p OutOfMemory (knows_logs p q)
     takes_want call may o =

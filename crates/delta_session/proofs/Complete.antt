@@ -1,5 +1,5 @@
 -- Where its link works and memory doesn't run out, a session answers all that it read.
-use Rattle.std.proofs.Common.{◌≡◌, ◌≢◌, ℕ, List, [], ◌++◌, sym, ◌∙◌, append-nil, refl}
+use Rattle.std.proofs.Common.{◌≡◌, ◌≢◌, ℕ, List, [], sym, ◌∙◌, append-nil, refl}
 use Rattle.http_session.specs.Output.{Exchange, output}
 use Rattle.http_session.specs.Talks.{Writes}
 use Rattle.http_text.specs.declared.session.SessionEnd.{SessionEnd}

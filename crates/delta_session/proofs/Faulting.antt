@@ -4,13 +4,15 @@ use Rattle.std.specs.Prelude.{slice_set, sum_by}
 use Rattle.std.proofs.lemmas.List.Sums.{sum_by-cons}
 use Rattle.delta_base.specs.Outside.{RoseBy}
 use Rattle.disk_model.specs.declared.disk.Disk.{Ghosts}
-use Rattle.chain_core.specs.Replies.{LogReply, answered, found, missing, described, counted}
+use Rattle.chain_core.specs.Replies.{LogCall, LogReply, answered, found, missing, described, counted}
 use Rattle.chain_core.specs.declared.answer.LogAnswer.TheVariants as appended
 use Rattle.http_session.specs.Output.{Exchange}
 use Rattle.http_session.specs.declared.answerer.Said.{Said}
 use Rattle.http_session.specs.declared.answerer.Said.TheVariants.{Reply, OutOfMemory}
 use Rattle.patch_meaning.specs.declared.fault.PatchFault.{PatchFault}
 use Rattle.patch_meaning.specs.declared.fault.PatchFault.TheVariants as fault
+use Rattle.patch_log.specs.declared.run.RunFault.{RunFault}
+use Rattle.patch_log.specs.declared.run.RunFault.TheVariants as run
 use Rattle.registry_core.specs.Replies as registry
 use Rattle.registry_core.specs.declared.answer.CreateAnswer.TheVariants as created
 use Rattle.registry_core.specs.declared.answer.ChangeAnswer.TheVariants as changed
@@ -30,15 +32,15 @@ use Rattle.shared_log.proofs.Adding as of_logs
 use Rattle.shared_registry.specs.History.{RegistrySight}
 use Rattle.shared_registry.specs.Lookups.{is_registry_fault}
 use Rattle.shared_registry.proofs.Adding as of_registries
-use Rattle.delta_session.specs.Answered.{Says, SaysOf, BehindLookup, ByRegistry, BySource, BySlot, ByLog, ByPatch, ComesTo, IsSaidTo}
+use Rattle.delta_session.specs.Answered.{Says, SaysOf, BehindLookup, ByRegistry, BySource, BySlot, ByLog, ByText, ComesTo, IsSaidTo}
 use Rattle.delta_session.specs.Asking.{asking_of}
 use Rattle.delta_session.specs.declared.logs.SlotCall.{SlotCall}
-use Rattle.delta_session.specs.declared.logs.SlotCall.TheVariants.{Describe, Version, Append, FetchVersion, FetchId}
+use Rattle.delta_session.specs.declared.logs.SlotCall.TheVariants.{Describe, Version, Append, AppendRun, FetchVersion, FetchId}
 use Rattle.delta_session.specs.Faults.{faults_of_step, faults_of, is_fault_said, faults_said}
 use Rattle.delta_session.specs.Halls.{all_hall_faults}
 use Rattle.delta_session.specs.Sessions.{AreSaid, all_of}
 use Rattle.delta_session.specs.Steps.{HallView, Lists, Step, of_registry, of_log, IsStep, AreSteps}
-use Rattle.delta_session.specs.Telling.{registry_answer, log_answer, patch_answer, refusal_answer}
+use Rattle.delta_session.specs.Telling.{registry_answer, log_answer, patch_answer, run_answer, refusal_answer}
 use Rattle.delta_session.proofs.Stepping.{lookups_taken}
 
 -- ---- which answers have the status of a fault
@@ -48,6 +50,7 @@ one_if b = if b then 1 else 0
 
 log_fault : (reply : LogReply) → (status_of (log_answer reply) == 500) ≡ tells_fault reply
 log_fault (answered (appended.Accepted version)) = refl
+log_fault (answered (appended.AcceptedRun first version)) = refl
 log_fault (answered (appended.Known version same)) = refl
 log_fault (answered (appended.Conflict version head named)) = refl
 log_fault (answered (appended.Full what have limit)) = refl
@@ -83,6 +86,12 @@ no_patch_fault (fault.At at kind) = refl
 no_patch_fault (fault.TooLong long limit) = refl
 no_patch_fault fault.OutOfMemory = refl
 
+no_run_fault : (f : RunFault) → (status_of (run_answer f) == 500) ≡ false
+no_run_fault (run.TooLong long limit) = refl
+no_run_fault (run.Patch why) = no_patch_fault why
+no_run_fault (run.BadRun at) = refl
+no_run_fault run.OutOfMemory = refl
+
 no_refusal_fault : (r : CallRefusal) → (status_of (refusal_answer r) == 500) ≡ false
 no_refusal_fault no_route = refl
 no_refusal_fault media = refl
@@ -107,20 +116,21 @@ said_of_registry : (reply : Option registry.RegistryReply) (said : Said) → Say
 said_of_registry (Some reply) said says = said_as (registry_answer reply) None said (is_registry_fault reply) says (registry_fault reply)
 said_of_registry None said says = nothing_said said says
 
-by_log : (slot : ℕ) (call : _) (steps : List Step) (said : Said) → ByLog slot call steps said → one_if (is_fault_said said) ≤ faults_of steps
+by_log : (slot : ℕ) (call : LogCall) (steps : List Step) (said : Said) → ByLog slot call steps said → one_if (is_fault_said said) ≤ faults_of steps
 by_log slot call steps said by = subst (λ (l : List Step). one_if (is_fault_said said) ≤ faults_of l) (sym by.2) (let s = said_of_log by.0.reply said by.3 in omega (arith, s))
 
-by_patch : (text : List ℕ) (slot : ℕ) (steps : List Step) (said : Said) → ByPatch text slot steps said → one_if (is_fault_said said) ≤ faults_of steps
-by_patch text slot steps said by = ⊎_elim
-    (λ z. by_log slot _ steps said z.3)
-    (λ z. ⊎_elim (λ f. let s = said_as (patch_answer f.0) None said false f.3 (no_patch_fault f.0) in omega (arith, s)) (λ w. let s = nothing_said said w.1 in omega (arith, s)) z) by
+by_text : {A F : Type 0} (Is : A → Type 0) (call : A → LogCall) (Has : F → Type 0) (answer : F → Answer) → ((f : F) → (status_of (answer f) == 500) ≡ false) → (slot : ℕ) (steps : List Step) (said : Said) → ByText Is call Has answer slot steps said → one_if (is_fault_said said) ≤ faults_of steps
+by_text Is call Has answer none slot steps said by = ⊎_elim
+    (λ z. by_log slot _ steps said z.2)
+    (λ z. ⊎_elim (λ f. let s = said_as (answer f.0) None said false f.3 (none f.0) in omega (arith, s)) (λ w. let s = nothing_said said w.1 in omega (arith, s)) z) by
 
 by_slot : (call : SlotCall) (slot : ℕ) (steps : List Step) (said : Said) → BySlot call slot steps said → one_if (is_fault_said said) ≤ faults_of steps
 by_slot Describe slot steps said by = by_log slot _ steps said by
 by_slot Version slot steps said by = by_log slot _ steps said by
 by_slot (FetchVersion place) slot steps said by = by_log slot _ steps said by
 by_slot (FetchId id) slot steps said by = by_log slot _ steps said by
-by_slot (Append text) slot steps said by = by_patch text slot steps said by
+by_slot (Append text) slot steps said by = by_text _ _ _ patch_answer no_patch_fault slot steps said by
+by_slot (AppendRun text) slot steps said by = by_text _ _ _ run_answer no_run_fault slot steps said by
 
 behind : (call : SlotCall) (reply : Option registry.RegistryReply) (rest : List Step) (said : Said) → BehindLookup (BySlot call) reply rest said → one_if (is_fault_said said) ≤ faults_of rest
 behind call (Some (registry.found (Some source))) rest said by = by_slot call source.slot rest said by
@@ -150,6 +160,7 @@ comes dice (call.Version name) steps said by = by_source name Version steps said
 comes dice (call.FetchVersion name place) steps said by = by_source name (FetchVersion place) steps said by
 comes dice (call.FetchId name id) steps said by = by_source name (FetchId id) steps said by
 comes dice (call.Append name text) steps said by = by_source name (Append text) steps said by
+comes dice (call.AppendRun name text) steps said by = by_source name (AppendRun text) steps said by
 
 one_said : (dice : ℕ) (outcome : CallOutcome) (steps : List Step) (said : Said) (next : ℕ) → IsSaidTo dice outcome steps said next → one_if (is_fault_said said) ≤ faults_of steps
 one_said dice (Err refusal) steps said next is = let s = said_as (refusal_answer refusal) _ said false is.1 (no_refusal_fault refusal) in omega (arith, s)

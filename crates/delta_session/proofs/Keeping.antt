@@ -2,8 +2,8 @@
 use Rattle.std.proofs.Common.{◌≡◌, ℕ, ◌+◌, List, [], ◌∷◌, Option, Some, sym, subst, ⊎_elim, slice_get}
 use Rattle.disk_model.specs.declared.disk.Disk.{Ghosts}
 use Rattle.chain_core.specs.declared.chain.Patch.{Patch}
-use Rattle.chain_core.specs.declared.answer.LogAnswer.TheVariants.{Accepted}
-use Rattle.chain_core.specs.Replies.{LogCall, append, fetch_version, fetch_id, LogReply, answered, found}
+use Rattle.chain_core.specs.declared.answer.LogAnswer.TheVariants.{Accepted, AcceptedRun}
+use Rattle.chain_core.specs.Replies.{LogCall, append, append_run, fetch_version, fetch_id, LogReply, answered, found}
 use Rattle.patch_log.specs.State.{LogView}
 use Rattle.turn_cell.specs.Turns.{IsIn}
 use Rattle.turn_cell.specs.Sights.{Made}
@@ -15,7 +15,7 @@ use Rattle.shared_log.proofs.OnDisk.{told_on_disk, stays_in_sight}
 use Rattle.shared_log.proofs.Adding.{add_up}
 use Rattle.hall_logs.specs.Visits.{Visit, IsVisit, asked_at}
 use Rattle.hall_logs.proofs.Visiting.{here, asked_here}
-use Rattle.delta_session.specs.Kept.{TellsPatch, ServesById, IsKept, KeepsWhatItTells}
+use Rattle.delta_session.specs.Kept.{TellsInRun, TellsPatch, ServesById, IsKept, KeepsWhatItTells}
 use Rattle.delta_session.specs.Steps.{HallView, Lists, Step, of_log, visits_of, IsStep, AreSteps}
 use Rattle.delta_session.proofs.Stepping.{visits_taken}
 
@@ -46,18 +46,27 @@ module _ {D : Type 0} (disks : Ghosts D) (hall : HallView D) where
     abbrev behind : (q : LogSight) × (slice_get next.logs v.place ≡ Some q) × IsCalledOnLog disks v.log.origin v.old visit.asked q
     behind = here disks hall.logs.logs v.place v.log v.log_is v.old p.logs next.logs visit v.old_is v.slot_is v
 
+    called : (call : LogCall) (reply : LogReply) → visit.asked.call ≡ call → visit.asked.reply ≡ Some reply → CalledOnLog disks v.log.origin v.old call reply behind.0
+    called call reply call_is reply_is = called_so v.log.origin v.old behind.0 visit.asked call reply call_is reply_is behind.2
+
+    told_in_run : (version : ℕ) (patch : Patch) → TellsInRun visit.asked version patch → IsOnDisk disks v.log.origin version patch behind.0
+    told_in_run version patch tells =
+        let called = called (append_run tells.run) (answered (AcceptedRun tells.first tells.last)) tells.call_is tells.reply_is in
+        let on = ((told_on_disk disks v.log.origin v.old behind.0).accepted_run tells.first tells.last tells.run called tells.before patch tells.patch_is).0 in
+        subst (λ (n : ℕ). IsOnDisk disks v.log.origin n patch behind.0) (sym tells.version_is) on
+
     one_told : (version : ℕ) (patch : Patch) → TellsPatch visit.asked version patch → IsKept disks hall visit.slot version patch after
     one_told version patch tells =
+        let told = told_on_disk disks v.log.origin v.old behind.0 in
         let on : IsOnDisk disks v.log.origin version patch behind.0 = ⊎_elim
-        (λ (z : (visit.asked.call ≡ append patch) × (visit.asked.reply ≡ Some (answered (Accepted version)))).
-        ((told_on_disk disks v.log.origin v.old behind.0).accepted version patch (called_so v.log.origin v.old behind.0 visit.asked (append patch) (answered (Accepted version)) z.0 z.1 behind.2)).0)
-        (λ (z : (visit.asked.call ≡ fetch_version version) × (visit.asked.reply ≡ Some (found patch))).
-        ((told_on_disk disks v.log.origin v.old behind.0).served version patch (called_so v.log.origin v.old behind.0 visit.asked (fetch_version version) (found patch) z.0 z.1 behind.2)).0) tells in
+        (λ (z : (visit.asked.call ≡ append patch) × (visit.asked.reply ≡ Some (answered (Accepted version)))). (told.accepted version patch (called (append patch) (answered (Accepted version)) z.0 z.1)).0)
+        (λ z. ⊎_elim (told_in_run version patch)
+        (λ (z : (visit.asked.call ≡ fetch_version version) × (visit.asked.reply ≡ Some (found patch))). (told.served version patch (called (fetch_version version) (found patch) z.0 z.1)).0) z) tells in
         kept visit.slot v.place version patch v.log behind.0 next after more v.slot_is v.log_is behind.1 on are
 
     one_served : (patch : Patch) → ServesById visit.asked patch → (version : ℕ) × IsKept disks hall visit.slot version patch after
     one_served patch serves =
-        let s = (told_on_disk disks v.log.origin v.old behind.0).served_by_id serves.0 patch (called_so v.log.origin v.old behind.0 visit.asked (fetch_id serves.0) (found patch) serves.1 serves.2 behind.2) in
+        let s = (told_on_disk disks v.log.origin v.old behind.0).served_by_id serves.0 patch (called (fetch_id serves.0) (found patch) serves.1 serves.2) in
         (s.0, kept visit.slot v.place s.0 patch v.log behind.0 next after more v.slot_is v.log_is behind.1 s.2.0 are)
 
   visit_of : (p next : Lists) (step : Step) (visit : Visit) → of_log visit ≡ step → IsStep disks hall p step next → IsVisit disks hall.logs.logs p.logs visit next.logs

@@ -1,14 +1,15 @@
--- What is said to what is no call and to what is no patch.
-use Rattle.std.proofs.Common.{◌≡◌, ℕ, refl, sym, subst, ⊎_elim, inl, inr, List, [], None, Ok, Err}
+-- What is said to what is no call, no patch and no run.
+use Rattle.std.proofs.Common.{◌≡◌, ◌⊎◌, ℕ, refl, sym, subst, ⊎_elim, inl, inr, List, [], None, Ok, Err}
 use Rattle.http_session.specs.declared.answerer.Said.{Said}
 use Rattle.http_session.specs.declared.answerer.Said.TheVariants.{OutOfMemory}
-use Rattle.patch_meaning.specs.Checked.{Refuses}
-use Rattle.patch_meaning.specs.Patch.{IsPatchFault}
-use Rattle.patch_meaning.specs.declared.fault.PatchFault.{PatchFault}
-use Rattle.patch_meaning.specs.declared.fault.PatchFault.TheVariants as fault
+use Rattle.chain_core.specs.Replies.{LogCall}
+use Rattle.patch_log.specs.RunFaults.{HasRunFault}
+use Rattle.patch_log.specs.declared.run.RunFault.{RunFault}
+use Rattle.patch_log.specs.declared.run.RunFault.TheVariants as run
+use Rattle.rpc_answers.specs.declared.answer.Answer.{Answer}
 use Rattle.rpc_calls.specs.Outcomes.{CallOutcome, CallRefusal}
-use Rattle.delta_session.specs.Answered.{ByPatch, IsSaidTo, Says}
-use Rattle.delta_session.specs.Telling.{patch_answer, refusal_answer, methods_told}
+use Rattle.delta_session.specs.Answered.{ByText, IsRunFault, IsSaidTo, Says}
+use Rattle.delta_session.specs.Telling.{refusal_answer, methods_told}
 
 -- memory ran out before the request was read
 pub nothing_said : (dice : ℕ) (outcome : CallOutcome) → IsSaidTo dice outcome [] OutOfMemory dice
@@ -18,7 +19,14 @@ nothing_said dice (Err refusal) = (refl, tt, refl)
 pub refusal_said : (dice : ℕ) (outcome : CallOutcome) (refusal : CallRefusal) (said : Said) → outcome ≡ Err refusal → Says (refusal_answer refusal) (methods_told refusal) said → IsSaidTo dice outcome [] said dice
 refusal_said dice outcome refusal said is says = subst (λ (o : CallOutcome). IsSaidTo dice o [] said dice) (sym is) (refl, says, refl)
 
--- a fault at a place, or of a length
-pub fault_said : (why : PatchFault) (said : Said) → (why ≡ fault.OutOfMemory → said ≡ OutOfMemory) → Says (patch_answer why) None said → (text : List ℕ) (slot : ℕ) → Refuses text why → ByPatch text slot [] said
-fault_said why said want says text slot refused =
-    ⊎_elim (λ (e : why ≡ fault.OutOfMemory). inr (inr (refl, want e))) (λ (is : IsPatchFault text why). inr (inl (why, is, refl, says))) refused
+-- the first fault of a text, or want of memory
+pub fault_said : {A F : Type 0} (Is : A → Type 0) (call : A → LogCall) (Has : F → Type 0) (answer : F → Answer) (slot : ℕ) (wanting why : F) (said : Said) → (why ≡ wanting → said ≡ OutOfMemory) → Says (answer why) None said → (why ≡ wanting) ⊎ Has why
+    → ByText Is call Has answer slot [] said
+fault_said Is call Has answer slot wanting why said want says refused =
+    ⊎_elim (λ (e : why ≡ wanting). inr (inr (refl, want e))) (λ (is : Has why). inr (inl (why, is, refl, says))) refused
+
+pub run_refused : (text : List ℕ) (why : RunFault) → HasRunFault text why → (why ≡ run.OutOfMemory) ⊎ IsRunFault text why
+run_refused text (run.TooLong long limit) has = inr (λ e. cc, has)
+run_refused text (run.Patch fault) has = inr (λ e. cc, has)
+run_refused text (run.BadRun at) has = inr (λ e. cc, has)
+run_refused text run.OutOfMemory has = inl refl

@@ -6,9 +6,10 @@ use Rattle.log_base.specs.OneMore.{with_one_more}
 use Rattle.disk_model.specs.Past.{reads, MayLeave}
 use Rattle.disk_model.specs.declared.disk.Disk.{Ghosts}
 use Rattle.chain_core.specs.declared.chain.Patch.{Patch}
+use Rattle.chain_core.specs.Runs.{patches_in}
 use Rattle.registry_core.specs.declared.event.Event.{Event}
 use Rattle.log_registry.specs.State.{StateView, events_in}
-use Rattle.patch_log.specs.State.{LogView, chain_of}
+use Rattle.patch_log.specs.State.{LogView, runs_in}
 use Rattle.turn_cell.specs.Turns.{AllOf}
 use Rattle.turn_cell.specs.Sights.{Made}
 use Rattle.turn_cell.specs.Sharing.{IsClosedOf}
@@ -37,20 +38,21 @@ module _ {D : Type 0} (disks : Ghosts D) where
     pub again : IsFoundAgain (events_in closed) closed.doubt found
     pub seen : AllOf (λ pass. IsPrefix (events_seen pass) found) passes
 
-  -- and so the chain of a log
+  -- and so the runs of a log, whose patches begin with all that each pass has seen
   pub record FindsLog (made : Made (LogView D)) (parts : List LogSight)
-      (found : List Patch) : Type 0 where
+      (found : List (List Patch)) : Type 0 where
     pub closed : LogView D
     pub is : IsClosedOf (shared_log disks) made parts closed
-    pub again : IsFoundAgain (chain_of closed) closed.doubt found
-    pub seen : AllOf (λ part. IsPrefix (patches_known (seen_of part)) found) parts
+    pub again : IsFoundAgain (runs_in closed) closed.doubt found
+    pub seen :
+        AllOf (λ part. IsPrefix (patches_known (seen_of part)) (patches_in found)) parts
 
   -- those of the logs from this place on
   abbrev pub FindsLogs :
       ℕ → List (Made (LogView D)) → List (List LogSight) → List (LogView D) → Type 0
   FindsLogs place [] passes [] = Unit {0}
   FindsLogs place (log ∷ logs) passes (found ∷ more) =
-      FindsLog log (parts_at place passes) (chain_of found) × FindsLogs (place + 1) logs passes more
+      FindsLog log (parts_at place passes) (runs_in found) × FindsLogs (place + 1) logs passes more
   FindsLogs place [] passes (found ∷ more) = ⊥
   FindsLogs place (log ∷ logs) passes [] = ⊥
 

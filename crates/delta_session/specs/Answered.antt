@@ -1,7 +1,7 @@
 -- How a hall answers a request: what it asks of its lists, and what it says.
-use Rattle.std.specs.Prelude.{◌≡◌, ◌⊎◌, ℕ, List, [], ◌∷◌, Option, Some, None, Result, Ok, Err}
+use Rattle.std.specs.Prelude.{◌≡◌, ◌≢◌, ◌⊎◌, ℕ, List, [], ◌∷◌, Option, Some, None, Result, Ok, Err}
 use Rattle.std.specs.Option.{option_copied}
-use Rattle.chain_core.specs.Replies.{LogCall, append as appends, describe, version}
+use Rattle.chain_core.specs.Replies.{LogCall, append, append_run, describe, version}
 use Rattle.chain_core.specs.Replies.{fetch_version, fetch_id}
 use Rattle.disk_model.specs.declared.disk.Disk.{Ghosts}
 use Rattle.shared_log.specs.Calls.{CallOnLog}
@@ -9,10 +9,13 @@ use Rattle.log_base.specs.declared.source_info.SourceInfo.{SourceInfo}
 use Rattle.http_heads.specs.declared.message.RawRequest.{RawRequest}
 use Rattle.http_session.specs.declared.answerer.Said.{Said}
 use Rattle.http_session.specs.declared.answerer.Said.TheVariants.{Reply, OutOfMemory}
-use Rattle.patch_log.specs.Log.{bare}
+use Rattle.patch_log.specs.Log.{bare, IsRunOf}
+use Rattle.patch_log.specs.Ready.{RunView, bare_run}
+use Rattle.patch_log.specs.RunFaults.{HasRunFault}
+use Rattle.patch_log.specs.declared.run.RunFault.{RunFault}
+use Rattle.patch_log.specs.declared.run.RunFault.TheVariants as run
 use Rattle.patch_meaning.specs.Checked.{CheckedPatch}
 use Rattle.patch_meaning.specs.Patch.{IsPatch, IsPatchFault}
-use Rattle.patch_meaning.specs.declared.fault.PatchFault.{PatchFault}
 use Rattle.registry_core.specs.Replies.{RegistryCall, RegistryReply, resolve, found}
 use Rattle.registry_core.specs.Replies.{answered, changed, listed}
 use Rattle.rpc_answers.specs.Prints.{IsCompactPrintOf}
@@ -23,12 +26,13 @@ use Rattle.rpc_calls.specs.Outcomes.{CallOutcome}
 use Rattle.rpc_calls.specs.declared.call.Call.{Call}
 use Rattle.shared_registry.specs.Lookups.{RegistryLookup}
 use Rattle.delta_session.specs.declared.logs.SlotCall.{SlotCall}
-use Rattle.delta_session.specs.declared.logs.SlotCall.TheVariants.{Describe, Version, Append}
+use Rattle.delta_session.specs.declared.logs.SlotCall.TheVariants.{Describe, Version}
 use Rattle.delta_session.specs.declared.logs.SlotCall.TheVariants.{FetchVersion, FetchId}
+use Rattle.delta_session.specs.declared.logs.SlotCall.TheVariants.{Append, AppendRun}
 use Rattle.delta_session.specs.Asking.{Asking, asks_nobody, asks_registry, asks_log}
 use Rattle.delta_session.specs.Asking.{asking_of, dice_behind, version_within}
 use Rattle.delta_session.specs.Steps.{HallView, HallSight, Step, of_registry, of_log, AreSteps}
-use Rattle.delta_session.specs.Telling.{registry_answer, log_answer, patch_answer}
+use Rattle.delta_session.specs.Telling.{registry_answer, log_answer, patch_answer, run_answer}
 use Rattle.delta_session.specs.Telling.{refusal_answer, methods_told}
 
 -- ---- what is said
@@ -86,15 +90,38 @@ BySource name P steps said =
     (made : RegistryLookup) × (made.call ≡ resolve name) × (rest : List Step)
     × (steps ≡ of_registry made ∷ rest) × BehindLookup P made.reply rest said
 
--- A text is appended to the log of a slot, or its first fault is said. Memory may run out before
--- it is known.
-abbrev pub ByPatch : List ℕ → ℕ → List Step → Said → Type 0
-ByPatch text slot steps said =
-    ((patch : CheckedPatch) × (patch.text ≡ text) × IsPatch text patch.meaning
-    × ByLog slot (appends (bare patch)) steps said)
-    ⊎ ((fault : PatchFault) × IsPatchFault text fault × (steps ≡ [])
-    × Says (patch_answer fault) None said)
+-- What a text is goes to the log of a slot by this call, or the first fault of the text is said.
+-- Memory may run out before it is known.
+abbrev pub ByText : {A F : Type 0} → (A → Type 0) → (A → LogCall) → (F → Type 0) → (F → Answer)
+    → ℕ → List Step → Said → Type 0
+ByText {A} {F} IsIt call Has answer slot steps said =
+    ((it : A) × IsIt it × ByLog slot (call it) steps said)
+    ⊎ ((fault : F) × Has fault × (steps ≡ []) × Says (answer fault) None said)
     ⊎ ((steps ≡ []) × (said ≡ OutOfMemory))
+
+-- the text is this patch, and this call appends it
+abbrev pub IsPatchOf : List ℕ → CheckedPatch → Type 0
+IsPatchOf text patch = (patch.text ≡ text) × IsPatch text patch.meaning
+
+abbrev pub append_of : CheckedPatch → LogCall
+append_of patch = append (bare patch)
+
+abbrev pub ByPatch : List ℕ → ℕ → List Step → Said → Type 0
+ByPatch text = ByText (IsPatchOf text) append_of (IsPatchFault text) patch_answer
+
+-- the text is this run of patches, and this call appends it
+abbrev pub IsItsRun : List ℕ → RunView → Type 0
+IsItsRun text run = (run.text ≡ text) × IsRunOf text run.patches
+
+abbrev pub append_run_of : RunView → LogCall
+append_run_of run = append_run (bare_run run)
+
+-- the first fault of a text that is no run
+abbrev pub IsRunFault : List ℕ → RunFault → Type 0
+IsRunFault text fault = (fault ≢ run.OutOfMemory) × HasRunFault text fault
+
+abbrev pub ByRun : List ℕ → ℕ → List Step → Said → Type 0
+ByRun text = ByText (IsItsRun text) append_run_of (IsRunFault text) run_answer
 
 -- what a call on the log of a slot comes to
 abbrev pub BySlot : SlotCall → ℕ → List Step → Said → Type 0
@@ -104,6 +131,7 @@ BySlot (FetchVersion place) slot steps said =
     ByLog slot (fetch_version (version_within place)) steps said
 BySlot (FetchId id) slot steps said = ByLog slot (fetch_id id) steps said
 BySlot (Append text) slot steps said = ByPatch text slot steps said
+BySlot (AppendRun text) slot steps said = ByRun text slot steps said
 
 abbrev pub ComesTo : Asking → List Step → Said → Type 0
 ComesTo (asks_nobody answer) steps said = (steps ≡ []) × Says answer None said

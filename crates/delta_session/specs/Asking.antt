@@ -7,8 +7,9 @@ use Rattle.rpc_answers.specs.declared.answer.Answer.TheVariants.{Pong}
 use Rattle.rpc_calls.specs.declared.call.Call.{Call}
 use Rattle.rpc_calls.specs.declared.call.Call.TheVariants as call
 use Rattle.delta_session.specs.declared.logs.SlotCall.{SlotCall}
-use Rattle.delta_session.specs.declared.logs.SlotCall.TheVariants.{Describe, Version, Append}
+use Rattle.delta_session.specs.declared.logs.SlotCall.TheVariants.{Describe, Version}
 use Rattle.delta_session.specs.declared.logs.SlotCall.TheVariants.{FetchVersion, FetchId}
+use Rattle.delta_session.specs.declared.logs.SlotCall.TheVariants.{Append, AppendRun}
 
 -- a call asks nobody, the registry, or the log of the source with a name
 pub data Asking : Type 0 where
@@ -40,6 +41,7 @@ asking_of dice (call.Version name) = asks_log name Version
 asking_of dice (call.FetchVersion name version) = asks_log name (FetchVersion version)
 asking_of dice (call.FetchId name id) = asks_log name (FetchId id)
 asking_of dice (call.Append name patch) = asks_log name (Append patch)
+asking_of dice (call.AppendRun name patches) = asks_log name (AppendRun patches)
 
 -- a creation without an id of its own takes the next number
 abbrev pub dice_behind : Call → ℕ → ℕ

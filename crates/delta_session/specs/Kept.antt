@@ -4,9 +4,10 @@ use mathlib.Core.List.{IsPrefix}
 use Rattle.delta_base.specs.declared.id.Id.{Id}
 use Rattle.disk_model.specs.declared.disk.Disk.{Ghosts}
 use Rattle.chain_core.specs.declared.chain.Patch.{Patch}
-use Rattle.chain_core.specs.declared.answer.LogAnswer.TheVariants.{Accepted}
+use Rattle.chain_core.specs.declared.answer.LogAnswer.TheVariants.{Accepted, AcceptedRun}
 use Rattle.chain_core.specs.Patches.{patch_at}
-use Rattle.chain_core.specs.Replies.{append, fetch_version, fetch_id, answered, found}
+use Rattle.chain_core.specs.Replies.{append, append_run, fetch_version, fetch_id}
+use Rattle.chain_core.specs.Replies.{answered, found}
 use Rattle.patch_log.specs.State.{LogView}
 use Rattle.turn_cell.specs.Turns.{IsIn}
 use Rattle.turn_cell.specs.Sights.{Made}
@@ -17,10 +18,23 @@ use Rattle.shared_log.specs.Stays.{IsOnDisk}
 use Rattle.hall_logs.specs.Visits.{Visit}
 use Rattle.delta_session.specs.Steps.{HallView, Lists, Step, of_log}
 
--- the reply tells that the patch was accepted at this version, or it serves the patch of it
+-- the reply tells that a run was accepted from a first version on, and the patch has this one
+pub record TellsInRun (made : CallOnLog) (version : ℕ) (patch : Patch) : Type 0 where
+  pub run : List Patch
+  pub first : ℕ
+  pub last : ℕ
+  pub before : ℕ
+  pub call_is : made.call ≡ append_run run
+  pub reply_is : made.reply ≡ Some (answered (AcceptedRun first last))
+  pub patch_is : slice_get run before ≡ Some patch
+  pub version_is : version ≡ first + before
+
+-- the reply tells that the patch was accepted at this version, by itself or in a run, or it serves
+-- the patch of it
 abbrev pub TellsPatch : CallOnLog → ℕ → Patch → Type 0
 TellsPatch made place patch =
     ((made.call ≡ append patch) × (made.reply ≡ Some (answered (Accepted place))))
+    ⊎ TellsInRun made place patch
     ⊎ ((made.call ≡ fetch_version place) × (made.reply ≡ Some (found patch)))
 
 -- the reply serves the patch with an id

@@ -27,8 +27,8 @@ module _ {D : Type 0} (disks : Ghosts D) where
       → AreHallPasses disks hall before → AreHallPasses disks hall after
 
   -- A hall that was opened is closed with its passes, and one is opened over what a crash may leave
-  -- of its disks. Then that one finds each list as it was left, or with the one entry more that was
-  -- in doubt.
+  -- of its disks. Then that one finds each list as it was left, or with the event or the run more
+  -- that was in doubt.
   abbrev pub HallsAreFoundAgain : Type 0
   HallsAreFoundAgain =
       disks.tells → (first left again : List D) (hall opened : HallView D)

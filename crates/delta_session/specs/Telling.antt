@@ -1,4 +1,4 @@
--- The answer that tells each reply of a list, each fault of a patch and each refusal of a request.
+-- The answer that tells each reply of a list, each fault of a text and each refusal of a request.
 use Rattle.std.specs.Prelude.{ℕ, List, Option, Some, None}
 use Rattle.chain_core.specs.Replies as log
 use Rattle.chain_core.specs.declared.answer.LogAnswer.{LogAnswer}
@@ -11,6 +11,8 @@ use Rattle.registry_core.specs.Replies as registry
 use Rattle.patch_meaning.specs.Names.{fault_name}
 use Rattle.patch_meaning.specs.declared.fault.PatchFault.{PatchFault}
 use Rattle.patch_meaning.specs.declared.fault.PatchFault.TheVariants as fault
+use Rattle.patch_log.specs.declared.run.RunFault.{RunFault}
+use Rattle.patch_log.specs.declared.run.RunFault.TheVariants as run
 use Rattle.rpc_answers.specs.declared.answer.Answer.{Answer}
 use Rattle.rpc_answers.specs.declared.answer.Answer.TheVariants as answer
 use Rattle.rpc_calls.specs.Outcomes.{CallRefusal, no_route, media, bad_json, bad_method, bad_call}
@@ -43,6 +45,7 @@ registry_answer (registry.listed sources) = answer.Sources (record { items = sou
 
 abbrev pub append_answer : LogAnswer → Answer
 append_answer (appended.Accepted version) = answer.Version version
+append_answer (appended.AcceptedRun first version) = answer.Run first version
 append_answer (appended.Known version same) = answer.Known version same
 append_answer (appended.Conflict version head prev_version) =
     answer.Conflict version head prev_version
@@ -63,6 +66,13 @@ patch_answer (fault.At at kind) = answer.BadPatch at (fault_name (fault.At at ki
 patch_answer (fault.TooLong length limit) =
     answer.BadPatch length (fault_name (fault.TooLong length limit))
 patch_answer fault.OutOfMemory = answer.OutOfMemory
+
+-- a run that is too long or no stream of patches is refused as a patch is
+abbrev pub run_answer : RunFault → Answer
+run_answer (run.TooLong length limit) = patch_answer (fault.TooLong length limit)
+run_answer (run.Patch why) = patch_answer why
+run_answer (run.BadRun at) = answer.BadRun at
+run_answer run.OutOfMemory = answer.OutOfMemory
 
 abbrev pub refusal_answer : CallRefusal → Answer
 refusal_answer no_route = answer.NoRoute

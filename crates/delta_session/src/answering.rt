@@ -62,6 +62,9 @@ impl<D: Disk> Hall<D> {
             Call::Append { name, patch } => {
                 self.ask_slot(rt, alloc, pass, name, SlotCall::Append(patch))
             }
+            Call::AppendRun { name, patches } => {
+                self.ask_slot(rt, alloc, pass, name, SlotCall::AppendRun(patches))
+            }
             Call::FetchVersion { name, version } => {
                 self.ask_slot(rt, alloc, pass, name, SlotCall::FetchVersion(version))
             }

@@ -1,17 +1,18 @@
 //! What a hall says to the calls that ask one of its logs.
 ghost use Rattle.std.specs.Prelude.{◌≡◌, ◌<◌, ◌≤◌, length};
 ghost use Rattle.http_session.specs.Said.{IsPrintableSaid};
-ghost use Rattle.delta_session.specs.Answered.{ByPatch, BySlot, BySource, TakesNoNumber};
+ghost use Rattle.delta_session.specs.Answered.{ByPatch, ByRun, BySlot, BySource, TakesNoNumber};
 ghost use Rattle.delta_session.specs.Asking.{version_within};
 ghost use Rattle.delta_session.specs.Halls.{IsHallPass};
 
 use crate::hall::Hall;
 use crate::pass::HallPass;
-use crate::refusing::say_fault;
+use crate::refusing::{say_fault, say_run_fault};
 use crate::telling::{append_answer, say, say_fetched};
 use delta_base::{Bytes, Id, Text};
 use disk_model::Disk;
 use http_session::Said;
+use patch_log::check_run;
 use patch_meaning::check_patch;
 use rpc_answers::Answer;
 use shared_log::LogInfo;
@@ -31,6 +32,8 @@ pub enum SlotCall {
     FetchId(Id),
     /// To take the patch that a text is.
     Append(Bytes),
+    /// To take the run of patches that a text is, all or none.
+    AppendRun(Bytes),
 }
 
 // The version, or 0 past 32 bits, since no log has either.
@@ -41,7 +44,7 @@ fn within(version: u64) -> u32
 }
 
 impl<D: Disk> Hall<D> {
-    // Appends a text to the log of a slot.
+    // Appends the patch that a text is to the log of a slot.
     fn append_to<R: Wait>(
         &self,
         rt: &R,
@@ -64,6 +67,32 @@ impl<D: Disk> Hall<D> {
                 say(alloc, append_answer(answer))
             }
             Err(fault) => say_fault(alloc, fault),
+        }
+    }
+
+    // Appends the run of patches that a text is likewise.
+    fn append_run_to<R: Wait>(
+        &self,
+        rt: &R,
+        alloc: Global,
+        pass: &mut HallPass<D>,
+        slot: u32,
+        text: &[u8],
+    ) -> Said
+        requires ready { IsHallPass D.Disk self.now pass.old.lists }
+        requires slot { (0 < slot) × (slot ≤ length self.now.logs.logs) }
+        ensures takes { TakesNoNumber D.Disk self.now (ByRun text.now slot) pass.old
+            result pass.new }
+        ensures printable { IsPrintableSaid result }
+        ensures ready { IsHallPass D.Disk self.now pass.new.lists }
+    {
+        match check_run(alloc, text) {
+            Ok(run) => {
+                let answer = self.logs.append_run(rt, &mut pass.logs, slot, &run);
+                drop(run);
+                say(alloc, append_answer(answer))
+            }
+            Err(fault) => say_run_fault(alloc, fault),
         }
     }
 
@@ -101,6 +130,11 @@ impl<D: Disk> Hall<D> {
             }
             SlotCall::Append(text) => {
                 let said = self.append_to(rt, alloc, pass, slot, text.as_slice());
+                drop(text);
+                said
+            }
+            SlotCall::AppendRun(text) => {
+                let said = self.append_run_to(rt, alloc, pass, slot, text.as_slice());
                 drop(text);
                 said
             }

@@ -1,14 +1,17 @@
-//! What is said to requests that are no call, and to texts that are no patch.
-ghost use Rattle.std.specs.Prelude.{◌≡◌, ℕ, List, [], None, Some};
+//! What is said to requests that are no call, and to texts that are no patch or no run.
+ghost use Rattle.std.specs.Prelude.{◌≡◌, ℕ, [], None, Some};
 ghost use Rattle.http_session.specs.Said.{IsPrintableSaid};
 ghost use Rattle.http_text.specs.Print.{IsAllow};
-ghost use Rattle.patch_meaning.specs.Checked.{Refuses};
+ghost use Rattle.patch_log.specs.declared.run.RunFault.TheVariants as run;
+ghost use Rattle.patch_meaning.specs.declared.fault.PatchFault.TheVariants as patch;
 ghost use Rattle.rpc_calls.specs.Outcomes.{IsFaultOf, CallOutcome, TellsMethods};
-ghost use Rattle.delta_session.specs.Answered.{ByPatch, IsSaidTo, Says};
+ghost use Rattle.delta_session.specs.Answered.{IsSaidTo, Says};
+ghost use Rattle.delta_session.specs.Telling.{patch_answer, run_answer};
 
 use crate::telling::say;
 use delta_base::Text;
 use http_session::Said;
+use patch_log::RunFault;
 use patch_meaning::PatchFault;
 use rpc_answers::{Answer, into_reply};
 use rpc_calls::CallFault;
@@ -27,13 +30,30 @@ fn say_place(alloc: Global, at: u64, kind: &'static str) -> Said
 
 /// Says the first fault of a text that is no patch.
 pub(crate) fn say_fault(alloc: Global, fault: PatchFault) -> Said
-    ensures says { (text : List ℕ) (slot : ℕ) → Refuses text fault → ByPatch text slot [] result }
+    ensures says { Says (patch_answer fault) None result }
+    ensures want { fault ≡ patch.OutOfMemory → result ≡ Said.OutOfMemory }
     ensures printable { IsPrintableSaid result }
 {
     match fault {
         PatchFault::At { at, .. } => say_place(alloc, at, fault.name()),
         PatchFault::TooLong { length, .. } => say_place(alloc, length, fault.name()),
         PatchFault::OutOfMemory => Said::OutOfMemory,
+    }
+}
+
+/// Says the first fault of a text that is no run of patches.
+pub(crate) fn say_run_fault(alloc: Global, fault: RunFault) -> Said
+    ensures says { Says (run_answer fault) None result }
+    ensures want { fault ≡ run.OutOfMemory → result ≡ Said.OutOfMemory }
+    ensures printable { IsPrintableSaid result }
+{
+    match fault {
+        RunFault::TooLong { length, limit } => {
+            say_fault(alloc, PatchFault::TooLong { length, limit })
+        }
+        RunFault::Patch(fault) => say_fault(alloc, fault),
+        RunFault::BadRun { at } => say(alloc, Answer::BadRun { at }),
+        RunFault::OutOfMemory => Said::OutOfMemory,
     }
 }
 

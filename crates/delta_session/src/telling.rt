@@ -51,6 +51,7 @@ pub(crate) fn append_answer(answer: LogAnswer) -> Answer
 {
     match answer {
         LogAnswer::Accepted { version } => Answer::Version { version },
+        LogAnswer::AcceptedRun { first, version } => Answer::Run { first, version },
         LogAnswer::Known { version, same } => Answer::Known { version, same },
         LogAnswer::Conflict {
             version,

@@ -1,5 +1,5 @@
 -- A hall's passes, of which one was used.
-use Rattle.std.proofs.Common.{◌≡◌, ℕ, zero, suc, ◌<◌, ◌≤◌, refl, sym, ap, ◌∙◌, subst, ⊎_elim, inl, inr, List, [], ◌∷◌, length, Some, slice_get, arith}
+use Rattle.std.proofs.Common.{◌≡◌, ℕ, zero, suc, ◌<◌, refl, ap, ◌∙◌, subst, ⊎_elim, inl, inr, List, [], ◌∷◌, length, Some, slice_get, arith}
 use Rattle.std.specs.Prelude.{slice_set}
 use Rattle.disk_model.specs.declared.disk.Disk.{Ghosts}
 use Rattle.turn_cell.specs.Turns.{AllOf, IsIn}

@@ -1,6 +1,5 @@
 use Rattle.std.proofs.Common.{◌≡◌, ◌<◌, length, Some, slice_get, arith}
 use Rattle.hall_logs.proofs.Parts.{get_there}
-use Rattle.delta_session.specs.Steps.{HallSight}
 use Rattle.program_cases.proofs.Passes.{one_used}
 use Rattle.program_cases.proofs.opened.Opened.serve.Goals as goal
 
