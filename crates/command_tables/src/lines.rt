@@ -31,6 +31,7 @@ pub fn line_of(alloc: Global, refusal: &Refusal) -> Result<Vec<u8>, OutOfMemory>
         Refusal::Document { line, at, kind } => {
             place_line(alloc, *line as u64, *at as u64, kind.name().as_bytes())
         }
+        Refusal::BadRun => place_line(alloc, 1, 0, b"BadRun"),
         Refusal::TooLong { limit } => limit_line(alloc, *limit),
         Refusal::InputFailed => line(alloc, b"rdfdelta: input failed\n"),
         Refusal::OutputFailed => line(alloc, b"rdfdelta: output failed\n"),

@@ -33,6 +33,7 @@ pub enum Name {
     /// The version of a log.
     LogVersion,
     Append,
+    AppendRun,
     Fetch,
     Help,
     Version,

@@ -40,6 +40,8 @@ pub enum Refusal {
         at: usize,
         kind: TextKind,
     },
+    /// The input is a stream of patches, and they are no run.
+    BadRun,
     /// The input has more bytes than it may have.
     TooLong {
         limit: u64,
@@ -194,6 +196,7 @@ fn status_of(refusal: &Refusal) -> u8
         Refusal::Stream { .. }
         | Refusal::LongPatch { .. }
         | Refusal::Document { .. }
+        | Refusal::BadRun
         | Refusal::TooLong { .. } => 3,
         Refusal::InputFailed | Refusal::OutputFailed => 4,
         Refusal::DiskFailed => 5,

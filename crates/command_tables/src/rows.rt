@@ -182,6 +182,13 @@ pub const ROWS: &[StaticRow] = &[
         help: &["read a patch, have it appended to a log, print the log's version"],
     },
     CommandRow {
+        name: Name::AppendRun,
+        word: "append_run",
+        positions: &["ADDR", "NAME"],
+        group: Group::Call,
+        help: &["read patches, have all or none appended to a log, print their versions"],
+    },
+    CommandRow {
         name: Name::Fetch,
         word: "fetch",
         positions: &["ADDR", "NAME", "WHICH"],

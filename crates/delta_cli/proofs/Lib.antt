@@ -1,8 +1,9 @@
-mod Appended
+mod Appending
 mod Checked
 mod Generated
 mod Made
 mod Printed
+mod ShortStreams
 mod Shown
 mod Synced
 pub mod Words

@@ -28,27 +28,7 @@ module _ (input input' out out' : Channel) (r : Replayed) (reads : ReadsInput in
     reads_weaker input.bytes input'.bytes (IsReplayed r) (PrintsFront HasReplayLines out out') (λ text is. record { result = bytes_of r.lines; has = has_lines r text is; written = stops.1 }) reads,
   )
   stops_printing refusals.OutOfMemory stops = stops
-  stops_printing refusals.UnknownCommand stops = absurd stops
-  stops_printing (refusals.Usage name) stops = absurd stops
-  stops_printing (refusals.Stream line at kind) stops = absurd stops
-  stops_printing (refusals.LongPatch size limit) stops = absurd stops
-  stops_printing (refusals.Document line at kind) stops = absurd stops
-  stops_printing (refusals.TooLong limit) stops = absurd stops
-  stops_printing refusals.InputFailed stops = absurd stops
-  stops_printing (refusals.NotEmpty file length) stops = absurd stops
-  stops_printing refusals.ZoneTermsFull stops = absurd stops
-  stops_printing (refusals.ZoneFull have limit) stops = absurd stops
-  stops_printing (refusals.File fault) stops = absurd stops
-  stops_printing (refusals.WrongCount disks slots) stops = absurd stops
-  stops_printing refusals.DiskFailed stops = absurd stops
-  stops_printing refusals.LinkFailed stops = absurd stops
-  stops_printing (refusals.Refused status body) stops = absurd stops
-  stops_printing (refusals.NotUnderstood at) stops = absurd stops
-  stops_printing refusals.CutShort stops = absurd stops
-  stops_printing (refusals.BadPatch version fault) stops = absurd stops
-  stops_printing (refusals.PeerBehind mine theirs) stops = absurd stops
-  stops_printing (refusals.NoPatch version) stops = absurd stops
-  stops_printing (refusals.Chain fault) stops = absurd stops
+  stops_printing other stops = absurd stops
 
 -- the next patch, and those behind it
 pub from_more : (k all made : ℕ) → made < all → patches_from k (all - made) ≡ patch_text k ++ patches_from (k + 1) (all - (made + 1))

@@ -1,5 +1,5 @@
 -- Words, and the commands that they ask for.
-use Rattle.std.proofs.Common.{◌≡◌, ℕ, ◌+◌, ◌*◌, ◌<◌, ◌≤◌, ◌^◌, List, [], ◌∷◌, length, get_or, drop, Some, None, refl, sym, ap, subst, ◌∙◌, arith, true, false, true≢false}
+use Rattle.std.proofs.Common.{◌≡◌, ℕ, ◌+◌, List, [], ◌∷◌, length, get_or, drop, Some, None, refl, sym, ap, subst, ◌∙◌, arith, true, false, true≢false}
 use Rattle.std.specs.Prelude.{codes}
 use Rattle.std.specs.List.{All}
 use Rattle.std.specs.Fmt.{decimal}
@@ -11,6 +11,8 @@ use Rattle.dataset_tx.specs.declared.pattern.Pattern.{Pattern}
 use Rattle.zone_commands.specs.Words.{IsPatternOf}
 use Rattle.zone_commands.specs.declared.reading.Reading.{Reading}
 use Rattle.zone_commands.specs.declared.reading.Reading.TheVariants as readings
+use Rattle.delta_cli.specs.declared.append.Appended.{Appended}
+use Rattle.delta_cli.specs.declared.append.Appended.TheVariants as appended
 use Rattle.delta_cli.specs.declared.command.Command.{Command}
 use Rattle.delta_cli.specs.declared.command.Command.TheVariants as commands
 use Rattle.command_tables.specs.declared.name.Name.{Name}
@@ -39,6 +41,10 @@ name_of_reading readings.Dump = names.Dump
 name_of_reading readings.Prefixes = names.Prefixes
 name_of_reading (readings.Match pattern) = names.Match
 
+abbrev append_name : Appended → Name
+append_name appended.Patch = names.Append
+append_name appended.Run = names.AppendRun
+
 abbrev name_of : Command → Name
 name_of commands.Replay = names.Replay
 name_of commands.Nquads = names.Nquads
@@ -51,7 +57,7 @@ name_of (commands.Read dir reading) = name_of_reading reading
 name_of (commands.Sync dir address name) = names.Sync
 name_of (commands.Ask address call) = name_of_call call
 name_of (commands.Describe address name) = names.Describe
-name_of (commands.Append address name) = names.Append
+name_of (commands.Append what address name) = append_name what
 name_of commands.Help = names.Help
 name_of commands.Version = names.Version
 
@@ -81,6 +87,7 @@ call_fits words dice address (calls.SourceById id) asks = absurd asks
 call_fits words dice address (calls.SourceByUri uri) asks = absurd asks
 call_fits words dice address (calls.Log name) asks = absurd asks
 call_fits words dice address (calls.Append name patch) asks = absurd asks
+call_fits words dice address (calls.AppendRun name patches) asks = absurd asks
 
 reading_fits : (words : List (List ℕ)) (dir : List ℕ) (reading : Reading) → AsksToRead words dir reading → FitsName words (name_of_reading reading)
 reading_fits words dir readings.Dump asks = fits_words words names.Dump (dir ∷ []) asks refl
@@ -104,7 +111,8 @@ asks_fit words dice (commands.Read dir reading) asks = reading_fits words dir re
 asks_fit words dice (commands.Sync dir address name) asks = fits_words words names.Sync (dir ∷ address ∷ name ∷ []) asks.0 refl
 asks_fit words dice (commands.Ask address call) asks = call_fits words dice address call asks.0
 asks_fit words dice (commands.Describe address name) asks = fits_words words names.Describe (address ∷ name ∷ []) asks.0 refl
-asks_fit words dice (commands.Append address name) asks = fits_words words names.Append (address ∷ name ∷ []) asks.0 refl
+asks_fit words dice (commands.Append appended.Patch address name) asks = fits_words words names.Append (address ∷ name ∷ []) asks.0 refl
+asks_fit words dice (commands.Append appended.Run address name) asks = fits_words words names.AppendRun (address ∷ name ∷ []) asks.0 refl
 asks_fit words dice commands.Help is = alone words names.Help refl is
 asks_fit words dice commands.Version is = alone words names.Version refl is
 
@@ -128,6 +136,7 @@ call_of_tool (calls.SourceById id) = tt
 call_of_tool (calls.SourceByUri uri) = tt
 call_of_tool (calls.Log name) = tt
 call_of_tool (calls.Append name patch) = tt
+call_of_tool (calls.AppendRun name patches) = tt
 
 reading_of_tool : (reading : Reading) → IsOfTool (name_of_reading reading)
 reading_of_tool readings.Dump = tt
@@ -146,7 +155,8 @@ of_tool (commands.Read dir reading) = reading_of_tool reading
 of_tool (commands.Sync dir address name) = tt
 of_tool (commands.Ask address call) = call_of_tool call
 of_tool (commands.Describe address name) = tt
-of_tool (commands.Append address name) = tt
+of_tool (commands.Append appended.Patch address name) = tt
+of_tool (commands.Append appended.Run address name) = tt
 of_tool commands.Help = tt
 of_tool commands.Version = tt
 
@@ -220,6 +230,7 @@ call_asks (calls.SourceById id) = refl
 call_asks (calls.SourceByUri uri) = refl
 call_asks (calls.Log name) = refl
 call_asks (calls.Append name patch) = refl
+call_asks (calls.AppendRun name patches) = refl
 
 no_call : (call : Call) (name : Name) → asks_server name ≡ false → name_of_call call ≡ name → ⊥
 no_call call name alone is = true≢false (sym (call_asks call) ∙ ap asks_server is ∙ alone)
@@ -244,7 +255,8 @@ module _ (words : List (List ℕ)) (fits : FitsName words names.Match) where
       by (commands.Sync dir address name) is asked = cc
       by (commands.Ask address call) is asked = no_call call names.Match refl is
       by (commands.Describe address name) is asked = cc
-      by (commands.Append address name) is asked = cc
+      by (commands.Append appended.Patch address name) is asked = cc
+      by (commands.Append appended.Run address name) is asked = cc
       by commands.Replay is asked = cc
       by commands.Nquads is asked = cc
       by (commands.Gen patches) is asked = cc
@@ -275,7 +287,8 @@ module _ (words : List (List ℕ)) (fits : FitsName words names.Sync) where
       by (commands.Read dir (readings.Match pattern)) is asked = cc
       by (commands.Ask address call) is asked = no_call call names.Sync refl is
       by (commands.Describe address name) is asked = cc
-      by (commands.Append address name) is asked = cc
+      by (commands.Append appended.Patch address name) is asked = cc
+      by (commands.Append appended.Run address name) is asked = cc
       by commands.Replay is asked = cc
       by commands.Nquads is asked = cc
       by (commands.Gen patches) is asked = cc

@@ -5,7 +5,13 @@ use Rattle.delta_base.specs.Memory.{CountsCall}
 use Rattle.delta_base.specs.Outside.{Rose}
 use Rattle.delta_base.specs.declared.link.Link.{Ghosts as LinkGhosts}
 use Rattle.log_base.specs.declared.limits.TheConstants.{PATCH_LIMIT}
+use Rattle.patch_log.specs.Log.{IsRunOf}
+use Rattle.patch_log.specs.RunFaults.{HasRunFault}
+use Rattle.patch_log.specs.declared.run.RunFault.TheVariants as runs
+use Rattle.patch_meaning.specs.Checked.{CheckedPatch, Refuses}
 use Rattle.patch_meaning.specs.Patch.{IsPatch, IsPatchFault, Meaning}
+use Rattle.patch_meaning.specs.Stream.{IsStreamFault}
+use Rattle.patch_meaning.specs.declared.fault.PatchFault.{PatchFault}
 use Rattle.patch_meaning.specs.declared.fault.PatchFault.TheVariants as patches
 use Rattle.patch_meaning.specs.declared.fault.PatchKind.{PatchKind}
 use Rattle.patch_reader.specs.Places.{line_number}
@@ -17,7 +23,10 @@ use Rattle.client_commands.specs.declared.fault.ClientFault.{ClientFault}
 use Rattle.client_commands.specs.declared.fault.ClientFault.TheVariants as clients
 use Rattle.command_tables.specs.Channels.{Channel, ChannelFailed, IsLonger, IsSilent, WritesText}
 use Rattle.command_tables.specs.Channels.{WritesFront}
+use Rattle.stream_replay.specs.Places.{IsFaultyStream}
 use Rattle.delta_cli.specs.Views.{DialView}
+use Rattle.delta_cli.specs.declared.append.Appended.{Appended}
+use Rattle.delta_cli.specs.declared.append.Appended.TheVariants as appended
 use Rattle.command_tables.specs.declared.refusal.Refusal.{Refusal}
 use Rattle.command_tables.specs.declared.refusal.Refusal.TheVariants as refusals
 
@@ -62,18 +71,23 @@ StopsAsking Ends out out' refusals.OutputFailed =
     ChannelFailed out out' × ((text : List ℕ) × Ends (Ok text) × WritesFront out out' text)
 StopsAsking Ends out out' other = ⊥
 
--- ---- patches of the input
+-- ---- what the input is
+
+-- the text may be appended: it is a patch, or a run of patches
+abbrev pub MayBeAppended : Appended → List ℕ → Type 0
+MayBeAppended appended.Patch text = (meaning : Meaning) × IsPatch text meaning
+MayBeAppended appended.Run text = (patches : List CheckedPatch) × IsRunOf text patches
 
 -- the input was read to its end, and this is its text, where it tells it
 abbrev pub IsReadAs : Channel → Channel → List ℕ → Type 0
 IsReadAs input input' text = Consumes input.bytes input'.bytes text × IsAtEnd input'.bytes
 
--- the input is a patch, and this holds of its text
-pub record IsPatchWith (input input' : Channel) (Has : List ℕ → Type 0) : Type 0 where
+-- the input may be appended, and this holds of its text
+pub record IsInputWith (what : Appended) (input input' : Channel) (Has : List ℕ → Type 0)
+    : Type 0 where
   pub text : List ℕ
-  pub meaning : Meaning
   pub read : IsReadAs input input' text
-  pub is_patch : IsPatch text meaning
+  pub may_be : MayBeAppended what text
   pub has : Has text
 
 -- the first fault of a text that is no patch has this kind and place, and that line
@@ -81,38 +95,61 @@ pub record IsFaultyPatch (line at : ℕ) (kind : PatchKind) (text : List ℕ) : 
   pub fault_is : IsPatchFault text (patches.At at kind)
   pub line_is : line ≡ line_number text at
 
--- why a text is not taken as a patch; want of memory is free
-abbrev pub StopsText : List ℕ → Refusal → Type 0
-StopsText text (refusals.Stream line at kind) = IsFaultyPatch line at kind text
-StopsText text refusals.OutOfMemory = Unit {0}
-StopsText text other = ⊥
+-- the same of a text that is no patch, or no stream of patches
+abbrev pub IsFaultyText : Appended → ℕ → ℕ → PatchKind → List ℕ → Type 0
+IsFaultyText appended.Patch line at kind text = IsFaultyPatch line at kind text
+IsFaultyText appended.Run line at kind text = IsFaultyStream line at kind text
 
--- why the input was not read as a patch
-abbrev pub StopsPatch : Channel → Channel → Refusal → Type 0
-StopsPatch input input' (refusals.Stream line at kind) =
-    (text : List ℕ) × IsReadAs input input' text × IsFaultyPatch line at kind text
-StopsPatch input input' (refusals.TooLong limit) =
+-- the text has this fault, as a patch or as a stream of patches
+abbrev pub HasTextFault : Appended → List ℕ → PatchFault → Type 0
+HasTextFault appended.Patch text fault = Refuses text fault
+HasTextFault appended.Run text fault = IsStreamFault text fault
+
+-- the text is a stream of patches, which are no run
+abbrev pub IsBadRun : Appended → List ℕ → Type 0
+IsBadRun appended.Patch text = ⊥
+IsBadRun appended.Run text = (at : ℕ) × HasRunFault text (runs.BadRun at)
+
+-- why a text is not appended; want of memory is free
+abbrev pub StopsText : Appended → List ℕ → Refusal → Type 0
+StopsText what text (refusals.Stream line at kind) = IsFaultyText what line at kind text
+StopsText what text refusals.BadRun = IsBadRun what text
+StopsText what text refusals.OutOfMemory = Unit {0}
+StopsText what text other = ⊥
+
+-- why the input is not appended
+abbrev pub StopsInput : Appended → Channel → Channel → Refusal → Type 0
+StopsInput what input input' (refusals.Stream line at kind) =
+    (text : List ℕ) × IsReadAs input input' text × IsFaultyText what line at kind text
+StopsInput what input input' refusals.BadRun =
+    (text : List ℕ) × IsReadAs input input' text × IsBadRun what text
+StopsInput what input input' (refusals.TooLong limit) =
     IsLonger input.bytes PATCH_LIMIT × (limit ≡ PATCH_LIMIT)
-StopsPatch input input' refusals.InputFailed = ChannelFailed input input'
-StopsPatch input input' refusals.OutOfMemory = Unit {0}
-StopsPatch input input' other = ⊥
+StopsInput what input input' refusals.InputFailed = ChannelFailed input input'
+StopsInput what input input' refusals.OutOfMemory = Unit {0}
+StopsInput what input input' other = ⊥
 
 -- ---- what was appended
 
-module _ {N L : Type 0} (dial : DialGhosts N L) (links : LinkGhosts L)
+-- the call that appends a text to a log
+abbrev pub append_call : Appended → List ℕ → List ℕ → Call
+append_call appended.Patch name text = calls.Append name text
+append_call appended.Run name text = calls.AppendRun name text
+
+module _ (what : Appended) {N L : Type 0} (dial : DialGhosts N L) (links : LinkGhosts L)
     (address name : List ℕ) where
-  -- the input is a patch, which the server was asked to append, and what it answered is printed
+  -- the input may be appended, the server was asked to append it, and what it answered is printed
   abbrev pub AppendsInput : Channel → Channel → Channel → Channel → DialView L → DialView L
       → Type 0
-  AppendsInput input input' out out' net net' = IsPatchWith input input'
-      (λ text. PrintsEnd (Asked dial links address (calls.Append name text) net net') out out')
+  AppendsInput input input' out out' net net' = IsInputWith what input input' (λ text.
+      PrintsEnd (Asked dial links address (append_call what name text) net net') out out')
 
-  -- Why a patch was not appended: the input was not read as one, and then nobody was connected to;
-  -- or asking for it stopped.
+  -- Why the input was not appended: it was not read, or may not be, and then nobody was connected
+  -- to; or asking for it stopped.
   pub data StopsAppend (input input' out out' : Channel) (net net' : DialView L)
       (refusal : Refusal) : Type 0 where
-    unread : StopsPatch input input' refusal → net' ≡ net → IsSilent out out'
+    unread : StopsInput what input input' refusal → net' ≡ net → IsSilent out out'
         → StopsAppend input input' out out' net net' refusal
-    asked : IsPatchWith input input' (λ text. StopsAsking
-        (Asked dial links address (calls.Append name text) net net') out out' refusal)
+    asked : IsInputWith what input input' (λ text. StopsAsking
+        (Asked dial links address (append_call what name text) net net') out out' refusal)
         → StopsAppend input input' out out' net net' refusal

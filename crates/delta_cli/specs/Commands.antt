@@ -12,6 +12,8 @@ use Rattle.zone_commands.specs.Words.{IsPatternOf}
 use Rattle.zone_commands.specs.declared.reading.Reading.{Reading}
 use Rattle.zone_commands.specs.declared.reading.Reading.TheVariants as readings
 use Rattle.command_tables.specs.Addresses.{IsAddress}
+use Rattle.delta_cli.specs.declared.append.Appended.{Appended}
+use Rattle.delta_cli.specs.declared.append.Appended.TheVariants as appended
 use Rattle.delta_cli.specs.declared.command.Command.{Command}
 use Rattle.delta_cli.specs.declared.command.Command.TheVariants as commands
 use Rattle.command_tables.specs.declared.name.Name.{Name}
@@ -58,6 +60,11 @@ AsksToRead words dir (readings.Match pattern) =
     (g s p o : List ℕ) × AreCommandWords words (codes "match") (dir ∷ g ∷ s ∷ p ∷ o ∷ [])
     × IsPatternOf g s p o pattern
 
+-- the word of the command that appends this
+abbrev pub append_word : Appended → List ℕ
+append_word appended.Patch = codes "append"
+append_word appended.Run = codes "append_run"
+
 -- The words ask for this command, with these dice. Numbers are decimal, without sign and leading
 -- zeros; a directory doesn't begin with `-`.
 abbrev pub Asks : List (List ℕ) → ℕ → Command → Type 0
@@ -77,8 +84,8 @@ Asks words dice (commands.Sync dir address name) =
 Asks words dice (commands.Ask address call) = AsksFor words dice address call × IsAddress address
 Asks words dice (commands.Describe address name) =
     AreCommandWords words (codes "describe") (address ∷ name ∷ []) × IsAddress address
-Asks words dice (commands.Append address name) =
-    AreCommandWords words (codes "append") (address ∷ name ∷ []) × IsAddress address
+Asks words dice (commands.Append what address name) =
+    AreCommandWords words (append_word what) (address ∷ name ∷ []) × IsAddress address
 Asks words dice commands.Help = words ≡ codes "--help" ∷ []
 Asks words dice commands.Version = words ≡ codes "--version" ∷ []
 
@@ -90,7 +97,7 @@ Fits (commands.Init dir slots) = (1 ≤ slots) × (slots ≤ 16)
 Fits (commands.Sync dir address name) = IsAddress address
 Fits (commands.Ask address call) = IsAddress address
 Fits (commands.Describe address name) = IsAddress address
-Fits (commands.Append address name) = IsAddress address
+Fits (commands.Append what address name) = IsAddress address
 Fits other = Unit {0}
 
 -- they ask for no command, whatever the dice
@@ -106,6 +113,7 @@ IsOfTool other = Unit {0}
 abbrev pub IsOfCall : Name → Type 0
 IsOfCall names.Describe = ⊥
 IsOfCall names.Append = ⊥
+IsOfCall names.AppendRun = ⊥
 IsOfCall other = asks_server other ≡ true
 
 -- why words ask for no command; want of memory is free

@@ -45,6 +45,6 @@ frame (commands.Read dir reading) = with_shelf only_out
 frame (commands.Sync dir address name) = with_shelf (with_net only_out)
 frame (commands.Ask address call) = with_net only_out
 frame (commands.Describe address name) = with_net only_out
-frame (commands.Append address name) = with_input (with_net only_out)
+frame (commands.Append what address name) = with_input (with_net only_out)
 frame commands.Help = only_out
 frame commands.Version = only_out

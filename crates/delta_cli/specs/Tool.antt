@@ -96,7 +96,7 @@ module _ {H D N L : Type 0} (shelf : ShelfGhosts H D) (dial : DialGhosts N L)
       PrintsEnd (Asked dial links address call old.net new.net) old.out new.out
   Does (commands.Describe address name) old new =
       PrintsEnd (Described dial links address name old.net new.net) old.out new.out
-  Does (commands.Append address name) old new = AppendsInput dial links address name
+  Does (commands.Append what address name) old new = AppendsInput what dial links address name
       old.input new.input old.out new.out old.net new.net
   Does commands.Help old new = WritesText old.out new.out help_text
   Does commands.Version old new = WritesText old.out new.out VERSION.now
@@ -128,8 +128,8 @@ module _ {H D N L : Type 0} (shelf : ShelfGhosts H D) (dial : DialGhosts N L)
       StopsAsking (Asked dial links address call old.net new.net) old.out new.out refusal
   Stops (commands.Describe address name) old new refusal =
       StopsAsking (Described dial links address name old.net new.net) old.out new.out refusal
-  Stops (commands.Append address name) old new refusal = StopsAppend dial links address name
-      old.input new.input old.out new.out old.net new.net refusal
+  Stops (commands.Append what address name) old new refusal = StopsAppend what dial links address
+      name old.input new.input old.out new.out old.net new.net refusal
   Stops commands.Help old new refusal = StopsWriting help_text refusal old.out new.out
   Stops commands.Version old new refusal = StopsWriting VERSION.now refusal old.out new.out
 

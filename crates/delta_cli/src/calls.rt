@@ -8,6 +8,7 @@ ghost use Rattle.command_tables.specs.Names.{asks_server};
 ghost use Rattle.delta_cli.specs.Commands.{RefusesWords};
 ghost use Rattle.command_tables.specs.declared.name.Name.TheVariants as names;
 
+use crate::append::Appended;
 use crate::command::Command;
 use command_tables::{Name, Refusal, is_address};
 use delta_base::{OutOfMemory, Text, random_id, read_id};
@@ -38,6 +39,12 @@ pub fn make_asking(
             name: text_at(alloc, words, 2)?,
         }),
         Name::Append => Ok(Command::Append {
+            what: Appended::Patch,
+            address,
+            name: text_at(alloc, words, 2)?,
+        }),
+        Name::AppendRun => Ok(Command::Append {
+            what: Appended::Run,
             address,
             name: text_at(alloc, words, 2)?,
         }),

@@ -6,6 +6,7 @@ ghost use Rattle.command_tables.specs.Names.{BeginsWith, FitsName, HasFirst};
 ghost use Rattle.command_tables.specs.Names.{asks_server, is_of_zone, positions_of};
 ghost use Rattle.delta_cli.specs.Commands.{Asks, IsOfTool, RefusesWords};
 
+use crate::append::Appended;
 use crate::calls::make_asking;
 use crate::zone_words::make_of_zone;
 use command_tables::{Name, Refusal, WordsFault, number_in, read_words};
@@ -59,8 +60,9 @@ pub enum Command {
         address: Text,
         name: Text,
     },
-    /// The input, a patch, for a log of the server at an address.
+    /// The input, for a log of the server at an address.
     Append {
+        what: Appended,
         address: Text,
         name: Text,
     },

@@ -17,6 +17,7 @@ mod tool;
 mod zone;
 mod zone_words;
 
+pub use append::Appended;
 pub use command::Command;
 pub use help::VERSION;
 pub use tool::run_tool;

@@ -88,7 +88,11 @@ fn run_command<S: Source, K: Sink, H: Shelf, N: Dial>(
         }
         Command::Ask { address, call } => ask(alloc, address, call, net, out),
         Command::Describe { address, name } => describe(alloc, address, name, net, out),
-        Command::Append { address, name } => append(alloc, address, name, input, net, out),
+        Command::Append {
+            what,
+            address,
+            name,
+        } => append(alloc, *what, address, name, input, net, out),
         Command::Help => write_help(out),
         Command::Version => print(VERSION, out),
     }

@@ -11,8 +11,10 @@ pub enum CheckFault {
     /// The file is of the form before this one.
     OldFormat { file: u32 },
     WrongNumber { file: u32, found: u32 },
+    /// The file's length passes its limit; or that of a log would with a payload for each patch.
     OverLimit { file: u32, length: u64, limit: u64 },
-    /// A log's first payloads, as many as the version says, are no chain of patches.
+    /// A payload is no run of patches that continues the chain. The version is the one that its
+    /// first patch would have.
     BrokenChain { file: u32, version: u64 },
     /// The payload of the registry at this place, counted from 0, isn't one that may stand there.
     BrokenEvent { place: u64 },
