@@ -5,6 +5,8 @@ use Rattle.disk_model.specs.Past.{EveryImage}
 use Rattle.disk_model.specs.Plan.{plan_past}
 use Rattle.disk_model.specs.declared.plan.PlanDisk.{PlanDisk}
 use Rattle.log_journal.specs.File.{Holds}
+use Rattle.log_journal.specs.Journal.{HoldsWithOrWithout}
+use Rattle.log_journal.specs.Writing.{LeavesEither}
 use Rattle.log_base.specs.declared.limits.TheConstants.{LOG_LIMITS}
 use Rattle.log_base.specs.declared.phase.Phase.{Phase}
 use Rattle.log_base.specs.declared.phase.Phase.TheVariants.{Settling, Body, Gate}
@@ -13,16 +15,16 @@ use Rattle.chain_core.specs.declared.fate.Fate.{Fate}
 use Rattle.chain_core.specs.declared.fate.Fate.TheVariants.{Done, Fails, Stops}
 use Rattle.chain_core.specs.declared.answer.LogAnswer.{LogAnswer}
 use Rattle.chain_core.specs.declared.answer.LogAnswer.TheVariants.{DiskFault}
+use Rattle.chain_core.specs.Runs.{run_text}
 use Rattle.chain_core.specs.Log.{LogPoint, up, down, stopped}
-use Rattle.chain_core.specs.Patches.{texts_of}
-use Rattle.log_journal.specs.Writing.{LeavesEither}
 use Rattle.patch_meaning.specs.Checked.{CheckedPatch, AreChecked, checked_texts}
-use Rattle.patch_log.specs.Log.{bare, IsSound, StandsForLog, payloads_of, patch_payload}
-use Rattle.patch_log.specs.State.{LogView, chain_of}
+use Rattle.patch_log.specs.Log.{bare, IsSound, StandsForLog, payloads_of, run_payload}
+use Rattle.patch_log.specs.State.{LogView, runs_in}
 use Rattle.zone_state.specs.declared.answer.TakeAnswer.{TakeAnswer}
 use Rattle.zone_state.specs.declared.answer.TakeAnswer.TheVariants as take
 use Rattle.zone_state.specs.declared.file.TheConstants.{ZONE_NUMBER}
 use Rattle.zone_state.specs.Brief.{brief_of}
+use Rattle.zone_state.specs.Log.{StandsForZoneFile}
 use Rattle.zone_state.specs.Zone.{ZoneView, StandsForZone, doubt_of, text_in}
 use Rattle.world_core.specs.declared.log.TheConstants.{LOG_NUMBER}
 use Rattle.world_core.specs.declared.log.LogPart.{LogPart}
@@ -32,7 +34,7 @@ use Rattle.world_core.specs.declared.zone.ZonePart.TheVariants.{Up as ZoneUp, Do
 use Rattle.world_core.specs.declared.message.Message.{Message}
 use Rattle.world_core.specs.declared.message.Message.TheVariants.{Item}
 use Rattle.world_core.specs.declared.world.World.{World}
-use Rattle.world_core.specs.World.{WorldPoint, BeginsLog}
+use Rattle.world_core.specs.World.{WorldPoint, ZonePoint, BeginsLog}
 
 -- a phase that isn't run is done
 abbrev pub fails_in : {T : Type 0} → Phase → Option T → Fate
@@ -61,24 +63,36 @@ abbrev pub stop_taken : Fate → TakeAnswer → Option Bool
 stop_taken fate take.DiskFault = stop_for fate
 stop_taken fate other = None
 
-abbrev pub stopped_if : LogPoint → Option Bool → LogPoint
+abbrev pub stopped_if : {T : Type 0} → LogPoint T → Option Bool → LogPoint T
 stopped_if point None = point
 stopped_if point (Some opened) = stopped point opened
 
--- A disk under a log or a zone that runs. Each image holds the chain, with the patch in doubt or
+-- an image holds the payloads, or these and the one in doubt
+abbrev pub MayHold : ℕ → List (List ℕ) → Option (List ℕ) → List ℕ → Type 0
+MayHold number payloads None image = Holds image number payloads
+MayHold number payloads (Some doubt) image = HoldsWithOrWithout number payloads doubt image
+
+-- A disk under a log or a zone that runs. Each image holds the payloads, with the one in doubt or
 -- without; a stop leaves the one image or the other.
-pub record CarriesPart (number : ℕ) (disk : PlanDisk) (chain : List Patch) (doubt : Option Patch)
-    : Type 0 where
-  pub stands : StandsForLog (plan_past disk) number LOG_LIMITS chain doubt
-  pub leaves : LeavesEither (plan_past disk) number (payloads_of chain) (patch_payload doubt)
+pub record CarriesPart (number : ℕ) (disk : PlanDisk) (payloads : List (List ℕ))
+    (doubt : Option (List ℕ)) : Type 0 where
+  pub each : EveryImage (plan_past disk) (MayHold number payloads doubt)
+  pub leaves : LeavesEither (plan_past disk) number payloads doubt
+
+-- each image of a disk holds just these payloads
+abbrev pub KeepsPayloads : ℕ → PlanDisk → List (List ℕ) → Type 0
+KeepsPayloads number disk payloads =
+    EveryImage (plan_past disk) (λ image. Holds image number payloads)
 
 -- a log that runs
-pub record Runs (log : LogView PlanDisk) (chain : List Patch) (doubt : Option Patch) : Type 0 where
-  pub chain_is : chain_of log ≡ chain
+pub record Runs (log : LogView PlanDisk) (runs : List (List Patch)) (doubt : Option (List Patch))
+    : Type 0 where
+  pub runs_are : runs_in log ≡ runs
   pub doubt_is : log.doubt ≡ doubt
   pub number_is : log.number ≡ LOG_NUMBER
   pub limits_is : log.limits ≡ LOG_LIMITS
-  pub on_disk : CarriesPart LOG_NUMBER log.disk chain doubt
+  pub stands : StandsForLog (plan_past log.disk) LOG_NUMBER LOG_LIMITS runs doubt
+  pub leaves : LeavesEither (plan_past log.disk) LOG_NUMBER (payloads_of runs) (run_payload doubt)
 
 -- A zone that runs. It stands for patches that were checked, of which its dataset is the replay.
 pub record RunsZone (zone : ZoneView PlanDisk) (taken : List Patch) (doubt : Option Patch)
@@ -91,23 +105,27 @@ pub record RunsZone (zone : ZoneView PlanDisk) (taken : List Patch) (doubt : Opt
   pub stands : StandsForZone (Unit {0}) (plan_past zone.disk) zone checked left
   pub leaves : LeavesEither (plan_past zone.disk) ZONE_NUMBER (checked_texts checked) (text_in left)
 
--- a disk that a log or a zone was on, or one that is new: each of its images holds the chain
-abbrev pub KeepsChain : ℕ → PlanDisk → List Patch → Type 0
-KeepsChain number disk chain = StandsForLog (plan_past disk) number LOG_LIMITS chain None
+-- a disk that a log was on, or one that is new: each of its images holds the runs
+abbrev pub KeepsRuns : PlanDisk → List (List Patch) → Type 0
+KeepsRuns disk runs = StandsForLog (plan_past disk) LOG_NUMBER LOG_LIMITS runs None
+
+-- the same of a zone's patches
+abbrev pub KeepsTaken : PlanDisk → List Patch → Type 0
+KeepsTaken disk taken = StandsForZoneFile (plan_past disk) ZONE_NUMBER LOG_LIMITS taken None
 
 -- a log of the code is one of the world
-abbrev pub IsPartOf : LogPart → LogPoint → Type 0
-IsPartOf (Up log) (up chain doubt) = Runs log chain doubt
-IsPartOf (Down disk) (down chain) = KeepsChain LOG_NUMBER disk chain
+abbrev pub IsPartOf : LogPart → LogPoint (List Patch) → Type 0
+IsPartOf (Up log) (up runs doubt) = Runs log runs doubt
+IsPartOf (Down disk) (down runs) = KeepsRuns disk runs
 IsPartOf part other = ⊥
 
-abbrev pub IsZoneOf : ZonePart → LogPoint → Type 0
+abbrev pub IsZoneOf : ZonePart → ZonePoint → Type 0
 IsZoneOf (ZoneUp zone) (up taken doubt) = RunsZone zone taken doubt
-IsZoneOf (ZoneDown disk) (down taken) = KeepsChain ZONE_NUMBER disk taken
+IsZoneOf (ZoneDown disk) (down taken) = KeepsTaken disk taken
 IsZoneOf part other = ⊥
 
 -- one after another
-abbrev pub AreZonesOf : List ZonePart → List LogPoint → Type 0
+abbrev pub AreZonesOf : List ZonePart → List ZonePoint → Type 0
 AreZonesOf [] [] = Unit {0}
 AreZonesOf (part ∷ parts) (point ∷ points) = IsZoneOf part point × AreZonesOf parts points
 AreZonesOf parts points = ⊥
@@ -136,13 +154,21 @@ abbrev pub EveryImageOfZone : ZonePart → (List ℕ → Type 0) → Type 0
 EveryImageOfZone (ZoneUp zone) P = EveryImage (plan_past zone.disk) P
 EveryImageOfZone (ZoneDown disk) P = EveryImage (plan_past disk) P
 
--- the file of this number holds patches that have P
-abbrev pub HoldsSome : ℕ → (List Patch → Type 0) → List ℕ → Type 0
-HoldsSome number P image = (found : List Patch) × P found × Holds image number (texts_of found)
+-- the file of this number holds what has P, by its texts
+abbrev pub HoldsSome : {T : Type 0} → ℕ → (T → List ℕ) → (List T → Type 0) → List ℕ → Type 0
+HoldsSome {T} number text_of P image =
+    (found : List T) × P found × Holds image number (map text_of found)
+
+-- of a log its runs, of a zone its patches
+abbrev pub HoldsRuns : (List (List Patch) → Type 0) → List ℕ → Type 0
+HoldsRuns P image = HoldsSome LOG_NUMBER run_text P image
+
+abbrev pub HoldsTaken : (List Patch → Type 0) → List ℕ → Type 0
+HoldsTaken P image = HoldsSome ZONE_NUMBER (λ patch. patch.text) P image
 
 -- the dataset of a zone that runs is the replay of so many first patches as its version
 -- says, checked again
-abbrev pub IsZoneReplayed : LogPoint → ZonePart → Type 0
+abbrev pub IsZoneReplayed : LogPoint (List Patch) → ZonePart → Type 0
 IsZoneReplayed log (ZoneUp zone) = (taken : List CheckedPatch) × AreChecked taken
     × BeginsLog log (map bare taken) × (zone.brief ≡ brief_of taken)
 IsZoneReplayed log (ZoneDown disk) = Unit {0}

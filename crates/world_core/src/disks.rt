@@ -1,8 +1,7 @@
 //! Disks whose syncs fail as planned: new ones, and what a stop leaves.
 ghost use Rattle.std.specs.Prelude.{◌≡◌, ℕ, [], List, Option, IfOk, if◌then◌else◌};
-ghost use Rattle.chain_core.specs.declared.chain.Patch.{Patch};
 ghost use Rattle.log_base.specs.OneMore.{with_one_more};
-ghost use Rattle.world_core.specs.Parts.{CarriesPart, KeepsChain};
+ghost use Rattle.world_core.specs.Parts.{CarriesPart, KeepsPayloads};
 
 use delta_base::{Bytes, OutOfMemory};
 use disk_model::PlanDisk;
@@ -11,7 +10,7 @@ use std::alloc::Global;
 
 /// A new disk with an empty journal.
 pub(crate) fn new_disk(alloc: Global, number: u32) -> Result<PlanDisk, OutOfMemory>
-    ensures { IfOk result (λ disk. KeepsChain number disk []) }
+    ensures { IfOk result (λ disk. KeepsPayloads number disk []) }
 {
     let mut disk = PlanDisk::new(alloc, Bytes::from_slice(alloc, &[])?)?;
     match format(&mut disk, number) {
@@ -35,9 +34,9 @@ pub(crate) fn stopped_disk(
     disk: PlanDisk,
     opened: bool,
 ) -> Result<PlanDisk, OutOfMemory>
-    ensures { IfOk result (λ left. (number : ℕ) (chain : List Patch) (doubt : Option Patch)
-        → CarriesPart number disk chain doubt
-        → KeepsChain number left (if opened then with_one_more chain doubt else chain)) }
+    ensures { IfOk result (λ left. (number : ℕ) (payloads : List (List ℕ))
+        (doubt : Option (List ℕ)) → CarriesPart number disk payloads doubt
+        → KeepsPayloads number left (if opened then with_one_more payloads doubt else payloads)) }
 {
     let image = disk.image(image_left(opened))?;
     PlanDisk::new(alloc, image)

@@ -1,13 +1,13 @@
 //! What may happen.
 use chain_core::Fate;
 use delta_base::Listing;
-use patch_meaning::Checked;
+use patch_log::Run;
 
 /// An event. One that doesn't fit the world changes nothing.
 #[derive(Drop)]
 pub enum WorldEvent {
-    /// A client appends, and the device calls come to this fate.
-    Append { patch: Checked, fate: Fate },
+    /// A client appends a run, and the device calls come to this fate.
+    Append { run: Run, fate: Fate },
     /// A client asks for the patch of a version.
     Serve { version: u32 },
     /// A client asks how long the log is.

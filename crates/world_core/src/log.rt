@@ -1,15 +1,17 @@
 //! A log over a disk whose syncs fail as planned, event by event.
-ghost use Rattle.std.specs.Prelude.{◌≡◌, ℕ, [], ◌∷◌, ◌++◌, List, Bool};
+ghost use Rattle.std.specs.Prelude.{◌≡◌, ℕ, ◌≤◌, [], ◌∷◌, ◌++◌, List, Bool, length};
 ghost use Rattle.std.specs.Prelude.{Option, Some, None, IfOk, if◌then◌else◌};
+ghost use Rattle.std.specs.Option.{option_map};
 ghost use Rattle.log_base.specs.declared.limits.TheConstants.{LOG_LIMITS};
 ghost use Rattle.chain_core.specs.declared.chain.Patch.{Patch as OnePatch};
 ghost use Rattle.chain_core.specs.Log.{LogPoint, up};
 ghost use Rattle.log_base.specs.OneMore.{with_one_more};
 ghost use Rattle.chain_core.specs.Patches.{patch_at, last_id};
-ghost use Rattle.chain_core.specs.Stay.{stay};
-ghost use Rattle.patch_log.specs.Log.{bare};
-ghost use Rattle.world_core.specs.declared.log.TheConstants.{LOG_NUMBER};
-ghost use Rattle.world_core.specs.Parts.{run_as, stop_by, Runs, KeepsChain};
+ghost use Rattle.chain_core.specs.Runs.{patches_in};
+ghost use Rattle.chain_core.specs.Stay.{run_stay};
+ghost use Rattle.chain_core.specs.Replies.{as_run};
+ghost use Rattle.patch_log.specs.Ready.{bare_run};
+ghost use Rattle.world_core.specs.Parts.{run_as, stop_by, Runs, KeepsRuns};
 ghost use Rattle.world_core.specs.Parts.{IsPartOf, IsSoundMessage, IsSoundSent};
 ghost use Rattle.world_core.specs.World.{accepted_message, served, appended, while_up, sending};
 
@@ -21,8 +23,7 @@ use chain_core::{Fate, LogAnswer};
 use delta_base::OutOfMemory;
 use disk_model::{PlanDisk, Planned};
 use log_base::LOG_LIMITS;
-use patch_log::{LogFault, LogRefusal, LogState, append};
-use patch_meaning::Checked;
+use patch_log::{LogFault, LogRefusal, LogState, Ready, Run, append_made_run};
 use std::alloc::Global;
 
 /// The number of the log's file.
@@ -40,9 +41,9 @@ pub(crate) type Sent = (LogPart, Option<Message>);
 
 // Opens the log that a disk keeps.
 fn open(alloc: Global, disk: PlanDisk) -> Result<LogState<PlanDisk>, OutOfMemory>
-    requires { (chain : List OnePatch) × KeepsChain LOG_NUMBER disk chain }
-    ensures { IfOk result (λ log. (chain : List OnePatch) → KeepsChain LOG_NUMBER disk chain
-        → Runs log chain None) }
+    requires { (runs : List (List OnePatch)) × KeepsRuns disk runs }
+    ensures { IfOk result (λ log. (runs : List (List OnePatch)) → KeepsRuns disk runs
+        → Runs log runs None) }
 {
     match LogState::open_on(alloc, disk, LOG_NUMBER, LOG_LIMITS) {
         Ok(log) => {
@@ -66,28 +67,33 @@ pub(crate) fn start(alloc: Global) -> Result<LogState<PlanDisk>, OutOfMemory>
 
 // The disk as a stop leaves it: a gate in doubt stands open, or it is shut.
 fn stop(alloc: Global, log: LogState<PlanDisk>, opened: bool) -> Result<PlanDisk, OutOfMemory>
-    ensures { IfOk result (λ disk. (chain : List OnePatch) (doubt : Option OnePatch)
-        → Runs log chain doubt
-        → KeepsChain LOG_NUMBER disk (if opened then with_one_more chain doubt else chain)) }
+    ensures { IfOk result (λ disk. (runs : List (List OnePatch)) (doubt : Option (List OnePatch))
+        → Runs log runs doubt
+        → KeepsRuns disk (if opened then with_one_more runs doubt else runs)) }
 {
     stopped_disk(alloc, log.close(), opened)
 }
 
 // Appends, so that the calls of the disk come to this fate.
 fn append_by_plan(
+    alloc: Global,
     log: &mut LogState<PlanDisk>,
-    patch: &Checked,
+    run: &Run,
     fate: Fate,
 ) -> Result<LogAnswer, OutOfMemory>
-    ensures { IfOk result (λ answer. (chain : List OnePatch) (doubt : Option OnePatch)
-        → Runs log.old chain doubt
-        → (after : List OnePatch) × (left : Option OnePatch) × Runs log.new after left
-        × (stay LOG_LIMITS (up chain doubt) (bare patch.now) (run_as doubt fate)
+    ensures stay { IfOk result (λ answer. (runs : List (List OnePatch))
+        (doubt : Option (List OnePatch)) → Runs log.old runs doubt
+        → (after : List (List OnePatch)) × (left : Option (List OnePatch))
+        × Runs log.new after left
+        × (run_stay LOG_LIMITS (up runs doubt) (bare_run run.now) (run_as doubt fate)
         ≡ (up after left, Some answer))) }
+    ensures counted { IfOk result (λ answer. (version : ℕ) → answer ≡ LogAnswer.Accepted version
+        → length (bare_run run.now) ≤ version) }
 {
     let plan = failing_sync(log.is_settled(), fate);
     log.plan(plan);
-    let answer = append(log, patch, 1);
+    let made = Ready::of_run(alloc, run, 1);
+    let answer = append_made_run(log, run, made);
     if answer == LogAnswer::OutOfMemory || log.is_short() {
         return Err(OutOfMemory);
     }
@@ -105,13 +111,16 @@ fn stop_by(fate: Fate, answer: LogAnswer) -> Option<bool>
     }
 }
 
-// The message that an answer sends.
-fn message_of(answer: LogAnswer) -> Option<Message>
+// The message that the answer to a run sends.
+fn message_of(run: &Run, answer: LogAnswer) -> Option<Message>
+    requires counted { (version : ℕ) → answer ≡ LogAnswer.Accepted version
+        → length (bare_run run.now) ≤ version }
     ensures sound { IsSoundSent result }
-    ensures told { result ≡ accepted_message (Some answer) }
+    ensures told { result
+        ≡ accepted_message (option_map (as_run (length (bare_run run.now))) (Some answer)) }
 {
-    match answer {
-        LogAnswer::Accepted { version } => Some(Message::Accepted { version }),
+    match answer.as_run(run.patches().len() as u32) {
+        LogAnswer::AcceptedRun { first, version } => Some(Message::Accepted { first, version }),
         _ => None,
     }
 }
@@ -120,29 +129,33 @@ fn message_of(answer: LogAnswer) -> Option<Message>
 fn append_as(
     alloc: Global,
     log: LogState<PlanDisk>,
-    patch: &Checked,
+    run: &Run,
     fate: Fate,
 ) -> Result<Sent, OutOfMemory>
     ensures sound { IfOk result (λ sent. IsSoundSent sent.1) }
-    ensures part { IfOk result (λ sent. (chain : List OnePatch)
-        (doubt : Option OnePatch) → Runs log chain doubt
-        → let outcome = stay LOG_LIMITS (up chain doubt) (bare patch.now) fate in
-        IsPartOf sent.0 outcome.0 × (sent.1 ≡ accepted_message outcome.1)) }
+    ensures part { IfOk result (λ sent. (runs : List (List OnePatch))
+        (doubt : Option (List OnePatch)) → Runs log runs doubt
+        → let stayed = run_stay LOG_LIMITS (up runs doubt) (bare_run run.now) fate in
+        let sending = appended (length (bare_run run.now)) stayed in
+        IsPartOf sent.0 sending.0 × (sent.1 ≡ sending.1)) }
 {
     let mut log = log;
-    let answer = append_by_plan(&mut log, patch, fate)?;
+    let answer = append_by_plan(alloc, &mut log, run, fate)?;
     match stop_by(fate, answer) {
         Some(opened) => Ok((LogPart::Down(stop(alloc, log, opened)?), None)),
-        None => Ok((LogPart::Up(log), message_of(answer))),
+        None => {
+            let message = message_of(run, answer);
+            Ok((LogPart::Up(log), message))
+        }
     }
 }
 
 // The patch of a version, as it is sent.
 fn serve(log: &LogState<PlanDisk>, version: u32) -> Result<Option<Message>, OutOfMemory>
     ensures sound { IfOk result IsSoundSent }
-    ensures message { IfOk result (λ message. (chain : List OnePatch)
-        (doubt : Option OnePatch) → Runs log.now chain doubt
-        → message ≡ served version (patch_at chain version)) }
+    ensures message { IfOk result (λ message. (runs : List (List OnePatch))
+        (doubt : Option (List OnePatch)) → Runs log.now runs doubt
+        → message ≡ served version (patch_at (patches_in runs) version)) }
 {
     match log.chain().by_version(version) {
         Some(patch) => Ok(Some(Message::Item {
@@ -156,9 +169,9 @@ fn serve(log: &LogState<PlanDisk>, version: u32) -> Result<Option<Message>, OutO
 // How long the log is, and its head, as they are sent.
 fn describe(log: &LogState<PlanDisk>) -> Message
     ensures sound { IsSoundMessage result }
-    ensures told { (chain : List OnePatch) (doubt : Option OnePatch)
-        → Runs log.now chain doubt
-        → Some result ≡ (while_up LOG_LIMITS chain doubt WorldEvent.Describe).1 }
+    ensures told { (runs : List (List OnePatch)) (doubt : Option (List OnePatch))
+        → Runs log.now runs doubt
+        → Some result ≡ (while_up LOG_LIMITS runs doubt WorldEvent.Describe).1 }
 {
     let chain = log.chain();
     Message::Info {
@@ -170,13 +183,13 @@ fn describe(log: &LogState<PlanDisk>) -> Message
 // Runs an event of a log that is up.
 fn run_up(alloc: Global, log: LogState<PlanDisk>, event: &WorldEvent) -> Result<Sent, OutOfMemory>
     ensures sound { IfOk result (λ sent. IsSoundSent sent.1) }
-    ensures part { IfOk result (λ sent. (chain : List OnePatch)
-        (doubt : Option OnePatch) → Runs log chain doubt
-        → let sending = while_up LOG_LIMITS chain doubt event.now in
+    ensures part { IfOk result (λ sent. (runs : List (List OnePatch))
+        (doubt : Option (List OnePatch)) → Runs log runs doubt
+        → let sending = while_up LOG_LIMITS runs doubt event.now in
         IsPartOf sent.0 sending.0 × (sent.1 ≡ sending.1)) }
 {
     match event {
-        WorldEvent::Append { patch, fate } => append_as(alloc, log, patch, *fate),
+        WorldEvent::Append { run, fate } => append_as(alloc, log, run, *fate),
         WorldEvent::Serve { version } => {
             let message = serve(&log, *version)?;
             Ok((LogPart::Up(log), message))
@@ -196,9 +209,9 @@ fn run_up(alloc: Global, log: LogState<PlanDisk>, event: &WorldEvent) -> Result<
 
 /// Runs an event of a log.
 pub(crate) fn run_log(alloc: Global, log: LogPart, event: &WorldEvent) -> Result<Sent, OutOfMemory>
-    requires { (point : LogPoint) × IsPartOf log point }
+    requires { (point : LogPoint (List OnePatch)) × IsPartOf log point }
     ensures sound { IfOk result (λ sent. IsSoundSent sent.1) }
-    ensures part { IfOk result (λ sent. (point : LogPoint) → IsPartOf log point
+    ensures part { IfOk result (λ sent. (point : LogPoint (List OnePatch)) → IsPartOf log point
         → let sending = sending LOG_LIMITS point event.now in
         IsPartOf sent.0 sending.0 × (sent.1 ≡ sending.1)) }
 {

@@ -1,6 +1,5 @@
 //! How the calls of a disk are made to come to a fate.
-ghost use Rattle.std.specs.Prelude.{◌≡◌, Option, is_none};
-ghost use Rattle.chain_core.specs.declared.chain.Patch.{Patch};
+ghost use Rattle.std.specs.Prelude.{◌≡◌, ℕ, List, Option, is_none};
 ghost use Rattle.chain_core.specs.Stay.{fate_by_plan};
 ghost use Rattle.world_core.specs.Parts.{run_as, stop_for};
 
@@ -10,7 +9,7 @@ use log_base::Phase;
 /// The sync that is to fail for an append to come to this fate, counted from 0. A phase that isn't
 /// run fails nothing.
 pub(crate) fn failing_sync(settled: bool, fate: Fate) -> Option<u64>
-    ensures { (doubt : Option Patch) → settled ≡ is_none doubt
+    ensures { (doubt : Option (List ℕ)) → settled ≡ is_none doubt
         → fate_by_plan doubt result ≡ run_as doubt fate }
 {
     let phase = match fate {

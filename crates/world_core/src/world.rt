@@ -2,11 +2,9 @@
 ghost use Rattle.std.specs.Prelude.{IfOk};
 ghost use Rattle.std.specs.List.{AllByRecursion};
 ghost use Rattle.log_base.specs.declared.limits.TheConstants.{LOG_LIMITS};
-ghost use Rattle.world_core.specs.declared.log.TheConstants.{LOG_NUMBER};
-ghost use Rattle.zone_state.specs.declared.file.TheConstants.{ZONE_NUMBER};
 ghost use Rattle.world_core.specs.World.{WorldPoint, start, step, world, KeepsPromises, BeginsLog};
 ghost use Rattle.world_core.specs.Parts.{IsWorldOf, EveryImageOf};
-ghost use Rattle.world_core.specs.Parts.{EveryImageOfZone, HoldsSome, IsZoneReplayed};
+ghost use Rattle.world_core.specs.Parts.{EveryImageOfZone, HoldsRuns, HoldsTaken, IsZoneReplayed};
 
 use crate::event::{WorldEvent, WorldEvents};
 use crate::log::{LogPart, run_log, start};
@@ -58,14 +56,14 @@ fn run(alloc: Global, world: World, event: &WorldEvent) -> Result<World, OutOfMe
 pub fn world_run(alloc: Global, events: &WorldEvents) -> Result<World, OutOfMemory>
     ensures world { IfOk result (λ w. IsWorldOf w (world LOG_LIMITS events.now.items)) }
 
-    // Whatever a crash leaves of the log now is a chain that has each patch that was accepted or
-    // served at its version. What it leaves of a zone begins that chain, and the dataset of a zone
-    // is the replay of the patches that it took.
+    // Whatever a crash leaves of the log now is a chain of whole runs that has each patch that was
+    // accepted or served at its version. What it leaves of a zone begins that chain, and the
+    // dataset of a zone is the replay of the patches that it took.
     ensures promises { IfOk result (λ w. EveryImageOf w.log
-        (HoldsSome LOG_NUMBER (KeepsPromises LOG_LIMITS events.now.items))) }
+        (HoldsRuns (KeepsPromises LOG_LIMITS events.now.items))) }
     ensures zone_promises { IfOk result (λ w. AllByRecursion
         (λ zone. EveryImageOfZone zone
-        (HoldsSome ZONE_NUMBER (BeginsLog (world LOG_LIMITS events.now.items).log)))
+        (HoldsTaken (BeginsLog (world LOG_LIMITS events.now.items).log)))
         w.zones.items) }
     ensures replays { IfOk result (λ w. AllByRecursion
         (IsZoneReplayed (world LOG_LIMITS events.now.items).log) w.zones.items) }

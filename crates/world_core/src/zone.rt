@@ -6,8 +6,7 @@ ghost use Rattle.chain_core.specs.Log.{up};
 ghost use Rattle.log_base.specs.OneMore.{with_one_more};
 ghost use Rattle.chain_core.specs.Stay.{stay};
 ghost use Rattle.patch_log.specs.Log.{bare};
-ghost use Rattle.zone_state.specs.declared.file.TheConstants.{ZONE_NUMBER};
-ghost use Rattle.world_core.specs.Parts.{stop_taken, stopped_if, KeepsChain, RunsZone, IsZoneOf};
+ghost use Rattle.world_core.specs.Parts.{stop_taken, stopped_if, KeepsTaken, RunsZone, IsZoneOf};
 
 use crate::disks::{new_disk, stopped_disk};
 use crate::plan::{failing_sync, stop_of};
@@ -30,8 +29,8 @@ pub enum ZonePart {
 /// within its limits a zone has fewer terms than there are numbers, but no clause says that a text
 /// has no more terms than bytes.
 pub(crate) fn open(alloc: Global, disk: PlanDisk) -> Result<Zone<PlanDisk>, OutOfMemory>
-    requires { (taken : List OnePatch) × KeepsChain ZONE_NUMBER disk taken }
-    ensures { IfOk result (λ zone. (taken : List OnePatch) → KeepsChain ZONE_NUMBER disk taken
+    requires { (taken : List OnePatch) × KeepsTaken disk taken }
+    ensures { IfOk result (λ zone. (taken : List OnePatch) → KeepsTaken disk taken
         → RunsZone zone taken None) }
 {
     match Zone::open_on(alloc, disk, LOG_LIMITS) {
@@ -59,7 +58,7 @@ pub(crate) fn stop(
 ) -> Result<PlanDisk, OutOfMemory>
     ensures { IfOk result (λ disk. (taken : List OnePatch) (doubt : Option OnePatch)
         → RunsZone zone taken doubt
-        → KeepsChain ZONE_NUMBER disk (if opened then with_one_more taken doubt else taken)) }
+        → KeepsTaken disk (if opened then with_one_more taken doubt else taken)) }
 {
     stopped_disk(alloc, zone.close(), opened)
 }

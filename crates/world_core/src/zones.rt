@@ -3,10 +3,11 @@ ghost use Rattle.std.specs.Prelude.{◌≡◌, List, Option, Some, IfOk};
 ghost use Rattle.std.specs.List.{AllByRecursion};
 ghost use Rattle.log_base.specs.declared.limits.TheConstants.{LOG_LIMITS};
 ghost use Rattle.chain_core.specs.declared.chain.Patch.{Patch as OnePatch};
-ghost use Rattle.chain_core.specs.Log.{LogPoint, up};
+ghost use Rattle.chain_core.specs.Log.{up};
 ghost use Rattle.patch_log.specs.Log.{bare, IsSound};
 ghost use Rattle.world_core.specs.Parts.{RunsZone, IsZoneOf, AreZonesOf, IsSoundMessage};
-ghost use Rattle.world_core.specs.World.{handed, delivered, changed_at, zone_after, zones_after};
+ghost use Rattle.world_core.specs.World.{ZonePoint, handed, delivered, changed_at};
+ghost use Rattle.world_core.specs.World.{zone_after, zones_after};
 
 use crate::event::WorldEvent;
 use crate::message::{Message, Messages};
@@ -66,8 +67,8 @@ fn deliver(
     fate: Fate,
 ) -> Result<ZonePart, OutOfMemory>
     requires sound { IsSoundMessage message.now }
-    requires zone { (point : LogPoint) × IsZoneOf part point }
-    ensures { IfOk result (λ after. (point : LogPoint) → IsZoneOf part point
+    requires zone { (point : ZonePoint) × IsZoneOf part point }
+    ensures { IfOk result (λ after. (point : ZonePoint) → IsZoneOf part point
         → IsZoneOf after (delivered LOG_LIMITS (Some message.now) fate point)) }
 {
     match message {
@@ -87,8 +88,8 @@ fn run_zone(
     event: &WorldEvent,
 ) -> Result<ZonePart, OutOfMemory>
     requires sound { AllByRecursion IsSoundMessage pool.now.items }
-    requires zone { (point : LogPoint) × IsZoneOf part point }
-    ensures { IfOk result (λ after. (point : LogPoint) → IsZoneOf part point
+    requires zone { (point : ZonePoint) × IsZoneOf part point }
+    ensures { IfOk result (λ after. (point : ZonePoint) → IsZoneOf part point
         → IsZoneOf after (zone_after LOG_LIMITS pool.now.items event.now point)) }
 {
     match event {
@@ -117,8 +118,8 @@ fn change(
     event: &WorldEvent,
 ) -> Result<ZoneParts, OutOfMemory>
     requires sound { AllByRecursion IsSoundMessage pool.now.items }
-    requires zones { (points : List LogPoint) × AreZonesOf zones.items points }
-    ensures { IfOk result (λ after. (points : List LogPoint) → AreZonesOf zones.items points
+    requires zones { (points : List ZonePoint) × AreZonesOf zones.items points }
+    ensures { IfOk result (λ after. (points : List ZonePoint) → AreZonesOf zones.items points
         → AreZonesOf after.items
         (changed_at zone (zone_after LOG_LIMITS pool.now.items event.now) points)) }
 {
@@ -143,8 +144,8 @@ pub(crate) fn run_zones(
     event: &WorldEvent,
 ) -> Result<ZoneParts, OutOfMemory>
     requires sound { AllByRecursion IsSoundMessage pool.now.items }
-    requires zones { (points : List LogPoint) × AreZonesOf zones.items points }
-    ensures { IfOk result (λ after. (points : List LogPoint) → AreZonesOf zones.items points
+    requires zones { (points : List ZonePoint) × AreZonesOf zones.items points }
+    ensures { IfOk result (λ after. (points : List ZonePoint) → AreZonesOf zones.items points
         → AreZonesOf after.items (zones_after LOG_LIMITS pool.now.items points event.now)) }
 {
     match event {

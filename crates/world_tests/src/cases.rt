@@ -32,6 +32,21 @@ struct Case {
 
 const ID1: Id = Id(0x0000_0000_0000_4000_8000_0000_0000_0001);
 
+const ID2: Id = Id(0x0000_0000_0000_4000_8000_0000_0000_0002);
+
+const ID3: Id = Id(0x0000_0000_0000_4000_8000_0000_0000_0003);
+
+// Patches that were accepted as runs of one.
+const ONE: Note = Note::Accepted {
+    first: 1,
+    version: 1,
+};
+
+const TWO: Note = Note::Accepted {
+    first: 2,
+    version: 2,
+};
+
 const FIRST: Step = Step::Append {
     number: 1,
     before: 0,
@@ -51,22 +66,30 @@ const DOUBT: Step = Step::Append {
     fate: Fate::Fails(Phase::Gate),
 };
 
-static CASES: [Case; 9] = [
+/// The second patch and the third are a run.
+const RUN: Step = Step::AppendTwo {
+    number: 2,
+    before: 1,
+    fate: Fate::Done,
+};
+
+/// The same run fails at its gate.
+const RUN_IN_DOUBT: Step = Step::AppendTwo {
+    number: 2,
+    before: 1,
+    fate: Fate::Fails(Phase::Gate),
+};
+
+static CASES: [Case; 17] = [
     Case {
         shows: "a doubt is found where its gate stands open",
         steps: &[FIRST, DOUBT, Step::Stop { opened: true }, Step::Open],
-        looks: &[
-            Look::Log(&[1, 2]),
-            Look::Sent(&[Note::Accepted { version: 1 }]),
-        ],
+        looks: &[Look::Log(&[1, 2]), Look::Sent(&[ONE])],
     },
     Case {
         shows: "a doubt is gone where its gate is shut",
         steps: &[FIRST, DOUBT, Step::Stop { opened: false }, Step::Open],
-        looks: &[
-            Look::Log(&[1]),
-            Look::Sent(&[Note::Accepted { version: 1 }]),
-        ],
+        looks: &[Look::Log(&[1]), Look::Sent(&[ONE])],
     },
     Case {
         shows: "the next append settles a doubt",
@@ -80,10 +103,7 @@ static CASES: [Case; 9] = [
             },
             Step::Open,
         ],
-        looks: &[
-            Look::Log(&[1, 3]),
-            Look::Sent(&[Note::Accepted { version: 1 }, Note::Accepted { version: 2 }]),
-        ],
+        looks: &[Look::Log(&[1, 3]), Look::Sent(&[ONE, TWO])],
     },
     Case {
         shows: "what is asked is sent",
@@ -100,7 +120,7 @@ static CASES: [Case; 9] = [
                     version: 0,
                     head: None,
                 },
-                Note::Accepted { version: 1 },
+                ONE,
                 Note::Item {
                     version: 1,
                     patch: ChainLink {
@@ -217,6 +237,125 @@ static CASES: [Case; 9] = [
             Step::ZoneOpen,
         ],
         looks: &[Look::Taken(1)],
+    },
+    Case {
+        shows: "a run is accepted whole",
+        steps: &[FIRST, RUN, Step::Serve { version: 2 }, Step::Describe],
+        looks: &[
+            Look::Log(&[1, 2, 3]),
+            Look::Sent(&[
+                ONE,
+                Note::Accepted {
+                    first: 2,
+                    version: 3,
+                },
+                Note::Item {
+                    version: 2,
+                    patch: ChainLink {
+                        id: ID2,
+                        prev: Some(ID1),
+                    },
+                },
+                Note::Info {
+                    version: 3,
+                    head: Some(ID3),
+                },
+            ]),
+        ],
+    },
+    Case {
+        shows: "a run in doubt is found whole where its gate stands open",
+        steps: &[FIRST, RUN_IN_DOUBT, Step::Stop { opened: true }, Step::Open],
+        looks: &[Look::Log(&[1, 2, 3]), Look::Sent(&[ONE])],
+    },
+    Case {
+        shows: "a run in doubt is gone whole where its gate is shut",
+        steps: &[
+            FIRST,
+            RUN_IN_DOUBT,
+            Step::Stop { opened: false },
+            Step::Open,
+        ],
+        looks: &[Look::Log(&[1]), Look::Sent(&[ONE])],
+    },
+    Case {
+        shows: "a run whose second patch is known is refused whole",
+        steps: &[
+            FIRST,
+            Step::Append {
+                number: 3,
+                before: 1,
+                fate: Fate::Done,
+            },
+            Step::AppendTwo {
+                number: 2,
+                before: 3,
+                fate: Fate::Done,
+            },
+        ],
+        looks: &[Look::Log(&[1, 3]), Look::Sent(&[ONE, TWO])],
+    },
+    Case {
+        shows: "a run that begins inside the chain is refused whole",
+        steps: &[FIRST, SECOND, RUN],
+        looks: &[Look::Log(&[1, 2]), Look::Sent(&[ONE, TWO])],
+    },
+    Case {
+        shows: "the next append settles a run in doubt",
+        steps: &[
+            FIRST,
+            RUN_IN_DOUBT,
+            Step::Append {
+                number: 4,
+                before: 1,
+                fate: Fate::Done,
+            },
+            Step::Open,
+        ],
+        looks: &[Look::Log(&[1, 4]), Look::Sent(&[ONE, TWO])],
+    },
+    Case {
+        shows: "a run in doubt is accepted where it is sent again",
+        steps: &[FIRST, RUN_IN_DOUBT, RUN],
+        looks: &[
+            Look::Log(&[1, 2, 3]),
+            Look::Sent(&[
+                ONE,
+                Note::Accepted {
+                    first: 2,
+                    version: 3,
+                },
+            ]),
+        ],
+    },
+    Case {
+        shows: "a zone takes the patches of a run one by one",
+        steps: &[
+            Step::AppendTwo {
+                number: 1,
+                before: 0,
+                fate: Fate::Done,
+            },
+            Step::Serve { version: 1 },
+            Step::Serve { version: 2 },
+            Step::NewZone,
+            Step::Deliver {
+                message: 2,
+                fate: Fate::Done,
+            },
+            Step::Deliver {
+                message: 1,
+                fate: Fate::Done,
+            },
+            Step::Deliver {
+                message: 2,
+                fate: Fate::Done,
+            },
+        ],
+        looks: &[
+            Look::Taken(2),
+            Look::Zone(2, [false, true, true, false, false]),
+        ],
     },
 ];
 

@@ -3,6 +3,7 @@ ghost use Rattle.std.specs.Prelude.{◌<◌};
 
 use chain_core::Fate;
 use delta_base::{Id, Listing, id_text};
+use patch_log::{Run, check_run};
 use patch_meaning::{Checked, check_patch};
 use std::alloc::Global;
 use std::test::Fail;
@@ -70,12 +71,32 @@ pub fn patch_of(alloc: Global, id: Id, prev: Option<Id>) -> Result<Checked, Fail
     Ok(patch)
 }
 
+/// A run of patches with these ids. Each names the one before it, and the first one names that.
+pub fn run_of(alloc: Global, ids: &[Id], prev: Option<Id>) -> Result<Run, Fail> {
+    let mut text = Vec::new(alloc);
+    let mut before = prev;
+    for id in ids {
+        push_rows(&mut text, *id, before)?;
+        before = Some(*id);
+    }
+    match check_run(alloc, &text) {
+        Ok(run) => Ok(run),
+        Err(_) => Err(Fail::from("no run")),
+    }
+}
+
 /// An event, with the numbers of patches in the place of patches.
 #[derive(Clone, Copy)]
 pub enum Step {
     /// An append of a patch with this number behind the one with that number, or of a first one
     /// where that is 0.
     Append {
+        number: u32,
+        before: u32,
+        fate: Fate,
+    },
+    /// The same of a run of two: the patch with this number, and behind it the one with the next.
+    AppendTwo {
         number: u32,
         before: u32,
         fate: Fate,
@@ -106,6 +127,23 @@ pub fn next(number: u32, fate: Fate) -> Step {
     }
 }
 
+/// The same of this one and the next as a run.
+pub fn next_two(number: u32, fate: Fate) -> Step {
+    Step::AppendTwo {
+        number,
+        before: number.saturating_sub(1),
+        fate,
+    }
+}
+
+// The id of the patch that is named as the one before: none where the number is 0.
+fn named(number: u32) -> Option<Id> {
+    if number == 0 {
+        return None;
+    }
+    Some(id_of(number))
+}
+
 fn event_of(alloc: Global, step: Step) -> Result<WorldEvent, Fail> {
     let event = match step {
         Step::Append {
@@ -113,13 +151,17 @@ fn event_of(alloc: Global, step: Step) -> Result<WorldEvent, Fail> {
             before,
             fate,
         } => {
-            let prev = if before == 0 {
-                None
-            } else {
-                Some(id_of(before))
-            };
-            let patch = patch_of(alloc, id_of(number), prev)?;
-            WorldEvent::Append { patch, fate }
+            let run = run_of(alloc, &[id_of(number)], named(before))?;
+            WorldEvent::Append { run, fate }
+        }
+        Step::AppendTwo {
+            number,
+            before,
+            fate,
+        } => {
+            let ids = [id_of(number), id_of(number.saturating_add(1))];
+            let run = run_of(alloc, &ids, named(before))?;
+            WorldEvent::Append { run, fate }
         }
         Step::Serve { version } => WorldEvent::Serve { version },
         Step::Describe => WorldEvent::Describe,

@@ -11,20 +11,19 @@ use std::test::Fail;
 use world_core::{LOG_NUMBER, LogPart, Message, World, ZonePart};
 use zone_state::{ZONE_NUMBER, Zone};
 
-// The chain has just the patches with these links, in order, and then this one.
-fn has_links(chain: &Chain, links: &[ChainLink], last: Option<ChainLink>) -> bool {
-    let count = chain.version() as usize;
-    let more = if last.is_some() { 1 } else { 0 };
-    if count != links.len() + more {
+// The chain has just the patches with these links, in order, and then these.
+fn has_links(chain: &Chain, links: &[ChainLink], more: &[ChainLink]) -> bool {
+    if chain.version() as usize != links.len() + more.len() {
         return false;
     }
     for version in 1..=chain.version() {
         let Some(patch) = chain.by_version(version) else {
             return false;
         };
-        let wanted = match links.get(version as usize - 1) {
+        let place = version as usize - 1;
+        let wanted = match links.get(place) {
             Some(link) => Some(*link),
-            None => last,
+            None => more.get(place.saturating_sub(links.len())).copied(),
         };
         let found = ChainLink {
             id: patch.id,
@@ -43,11 +42,11 @@ fn keeps(
     disk: PlanDisk,
     number: u32,
     links: &[ChainLink],
-    last: Option<ChainLink>,
+    more: &[ChainLink],
 ) -> Result<bool, Fail> {
     match LogState::open_on(alloc, disk, number, LOG_LIMITS) {
         Ok(log) => {
-            let same = has_links(log.chain(), links, last);
+            let same = has_links(log.chain(), links, more);
             drop(log);
             Ok(same)
         }
@@ -64,19 +63,23 @@ fn holds(
     image: Bytes,
     number: u32,
     links: &[ChainLink],
-    last: Option<ChainLink>,
+    more: &[ChainLink],
 ) -> Result<bool, Fail> {
     let disk = PlanDisk::new(alloc, image)?;
-    keeps(alloc, disk, number, links, last)
+    keeps(alloc, disk, number, links, more)
 }
 
-// What a stop leaves of a disk is the plain one, with the patch in doubt or without.
+// What a stop leaves of a disk is the plain one, with the run in doubt or without.
 fn leaves(alloc: Global, disk: PlanDisk, number: u32, point: &Point) -> Result<bool, Fail> {
     let shut = disk.image(0)?;
     let open = disk.image(257)?;
     drop(disk);
-    let without = holds(alloc, shut, number, &point.chain, None)?;
-    let having = holds(alloc, open, number, &point.chain, point.doubt)?;
+    let doubt = match &point.doubt {
+        Some(run) => run.as_slice(),
+        None => &[],
+    };
+    let without = holds(alloc, shut, number, &point.chain, &[])?;
+    let having = holds(alloc, open, number, &point.chain, doubt)?;
     Ok(without && having)
 }
 
@@ -86,12 +89,12 @@ fn is_log(alloc: Global, part: LogPart, point: &Point) -> Result<bool, Fail> {
         LogPart::Up(log) => {
             let same = point.up
                 && log.is_settled() == point.doubt.is_none()
-                && has_links(log.chain(), &point.chain, None);
+                && has_links(log.chain(), &point.chain, &[]);
             let left = leaves(alloc, log.close(), LOG_NUMBER, point)?;
             Ok(same && left)
         }
         LogPart::Down(disk) => {
-            let same = keeps(alloc, disk, LOG_NUMBER, &point.chain, None)?;
+            let same = keeps(alloc, disk, LOG_NUMBER, &point.chain, &[])?;
             Ok(same && !point.up)
         }
     }
@@ -157,7 +160,10 @@ fn is_zone(alloc: Global, part: ZonePart, point: &Point) -> Result<bool, Fail> {
 // A message says what the plain one does.
 fn is_note(message: &Message, note: Note) -> bool {
     let said = match message {
-        Message::Accepted { version } => Note::Accepted { version: *version },
+        Message::Accepted { first, version } => Note::Accepted {
+            first: *first,
+            version: *version,
+        },
         Message::Info { version, head } => Note::Info {
             version: *version,
             head: *head,

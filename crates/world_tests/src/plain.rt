@@ -4,23 +4,25 @@ use crate::events::values_of;
 use chain_core::Fate;
 use delta_base::Id;
 use log_base::{ChainLink, Phase};
+use patch_log::Run;
 use patch_meaning::Checked;
 use std::alloc::Global;
 use std::test::Fail;
 use world_core::{WorldEvent, WorldEvents};
 
-/// A log or a zone: whether it is up, its patches, and the one in doubt.
+/// A log or a zone: whether it is up, its patches, and the run in doubt, which is one patch of
+/// a zone.
 #[derive(Drop)]
 pub struct Point {
     pub up: bool,
     pub chain: Vec<ChainLink>,
-    pub doubt: Option<ChainLink>,
+    pub doubt: Option<Vec<ChainLink>>,
 }
 
 /// A message that was sent.
 #[derive(Clone, Copy, PartialEq, Eq)]
 pub enum Note {
-    Accepted { version: u32 },
+    Accepted { first: u32, version: u32 },
     Info { version: u32, head: Option<Id> },
     Item { version: u32, patch: ChainLink },
 }
@@ -33,12 +35,19 @@ pub struct Plain {
     pub pool: Vec<Note>,
 }
 
-/// The link of a patch.
-pub fn link_of(patch: &Checked) -> ChainLink {
+fn link_of(patch: &Checked) -> ChainLink {
     ChainLink {
         id: patch.id(),
         prev: patch.prev(),
     }
+}
+
+fn links_of(alloc: Global, run: &Run) -> Result<Vec<ChainLink>, Fail> {
+    let mut links = Vec::new(alloc);
+    for patch in run.patches().as_slice() {
+        links.push(link_of(patch))?;
+    }
+    Ok(links)
 }
 
 impl Point {
@@ -75,78 +84,111 @@ impl Point {
         values
     }
 
-    // The patch names the head, and its id is new. Room there is always.
-    fn fits(&self, patch: ChainLink) -> bool {
+    // No patch has this id.
+    fn is_new(&self, id: Id) -> bool {
         for old in &self.chain {
-            if old.id == patch.id {
+            if old.id == id {
                 return false;
             }
         }
-        patch.prev == self.head()
+        true
     }
 
-    // The patch is behind the others, and none is in doubt.
-    fn accept(&mut self, patch: ChainLink) -> Result<Option<u32>, Fail> {
-        self.chain.push(patch)?;
+    // The first patch names the head, and each id is new. Room there is always.
+    fn fits(&self, run: &[ChainLink]) -> bool {
+        for patch in run {
+            if !self.is_new(patch.id) {
+                return false;
+            }
+        }
+        match run.first() {
+            Some(first) => first.prev == self.head(),
+            None => false,
+        }
+    }
+
+    fn push(&mut self, run: &[ChainLink]) -> Result<(), Fail> {
+        for patch in run {
+            self.chain.push(*patch)?;
+        }
+        Ok(())
+    }
+
+    // The run is behind the others, and none is in doubt.
+    fn accept(&mut self, run: &[ChainLink]) -> Result<Option<Note>, Fail> {
+        let first = self.version().saturating_add(1);
+        self.push(run)?;
         self.doubt = None;
-        Ok(Some(self.version()))
+        let version = self.version();
+        Ok(Some(Note::Accepted { first, version }))
     }
 
-    // It is down, with this patch where its gate stands open.
-    fn halt(&mut self, doubt: Option<ChainLink>, opened: bool) -> Result<(), Fail> {
-        if let (Some(patch), true) = (doubt, opened) {
-            self.chain.push(patch)?;
+    // It is down, with this run where its gate stands open.
+    fn halt(&mut self, doubt: Option<Vec<ChainLink>>, opened: bool) -> Result<(), Fail> {
+        if let (Some(run), true) = (&doubt, opened) {
+            self.push(run)?;
         }
         self.up = false;
         self.doubt = None;
         Ok(())
     }
 
+    // A stop with what is in doubt.
+    fn halt_here(&mut self, opened: bool) -> Result<(), Fail> {
+        let doubt = self.doubt.take();
+        self.halt(doubt, opened)
+    }
+
     // Fails in this phase, or goes on where there is nothing to settle.
-    fn fail(&mut self, patch: ChainLink, phase: Phase) -> Result<Option<u32>, Fail> {
+    fn fail(&mut self, run: Vec<ChainLink>, phase: Phase) -> Result<Option<Note>, Fail> {
         match phase {
             Phase::Settling => {
                 if self.doubt.is_none() {
-                    return self.accept(patch);
+                    return self.accept(&run);
                 }
             }
             Phase::Body => self.doubt = None,
-            Phase::Gate => self.doubt = Some(patch),
+            Phase::Gate => self.doubt = Some(run),
         }
         Ok(None)
     }
 
     // Stops in this phase, or goes on where there is nothing to settle.
-    fn stop(&mut self, patch: ChainLink, phase: Phase, opened: bool) -> Result<Option<u32>, Fail> {
+    fn stop(
+        &mut self,
+        run: Vec<ChainLink>,
+        phase: Phase,
+        opened: bool,
+    ) -> Result<Option<Note>, Fail> {
         match phase {
             Phase::Settling => {
                 if self.doubt.is_none() {
-                    return self.accept(patch);
+                    return self.accept(&run);
                 }
-                self.halt(self.doubt, opened)?;
+                self.halt_here(opened)?;
             }
             Phase::Body => self.halt(None, opened)?,
-            Phase::Gate => self.halt(Some(patch), opened)?,
+            Phase::Gate => self.halt(Some(run), opened)?,
         }
         Ok(None)
     }
 
-    /// An append with this fate: the version where it was accepted.
-    pub fn stay(&mut self, patch: ChainLink, fate: Fate) -> Result<Option<u32>, Fail> {
-        if !self.up || !self.fits(patch) {
+    /// An append with this fate: what is sent where it was accepted.
+    pub fn stay(&mut self, run: Vec<ChainLink>, fate: Fate) -> Result<Option<Note>, Fail> {
+        if !self.up || !self.fits(&run) {
             return Ok(None);
         }
         match fate {
-            Fate::Done => self.accept(patch),
-            Fate::Fails(phase) => self.fail(patch, phase),
-            Fate::Stops { phase, opened } => self.stop(patch, phase, opened),
+            Fate::Done => self.accept(&run),
+            Fate::Fails(phase) => self.fail(run, phase),
+            Fate::Stops { phase, opened } => self.stop(run, phase, opened),
         }
     }
 
     // A stop between two calls.
     fn close(&mut self, opened: bool) -> Result<(), Fail> {
         if self.up {
-            self.halt(self.doubt, opened)?;
+            self.halt_here(opened)?;
         }
         Ok(())
     }
@@ -196,11 +238,12 @@ impl Plain {
     }
 
     // An event of the log.
-    fn run_log(&mut self, event: &WorldEvent) -> Result<(), Fail> {
+    fn run_log(&mut self, alloc: Global, event: &WorldEvent) -> Result<(), Fail> {
         match event {
-            WorldEvent::Append { patch, fate } => {
-                if let Some(version) = self.log.stay(link_of(patch), *fate)? {
-                    self.pool.push(Note::Accepted { version })?;
+            WorldEvent::Append { run, fate } => {
+                let links = links_of(alloc, run)?;
+                if let Some(note) = self.log.stay(links, *fate)? {
+                    self.pool.push(note)?;
                 }
             }
             WorldEvent::Serve { version } => self.serve(*version)?,
@@ -219,14 +262,16 @@ impl Plain {
     }
 
     // A message reaches a zone.
-    fn deliver(&mut self, message: u32, zone: u32, fate: Fate) -> Result<(), Fail> {
+    fn deliver(&mut self, alloc: Global, message: u32, zone: u32, fate: Fate) -> Result<(), Fail> {
         let Some(Note::Item { version, patch }) = self.pool.get(message as usize) else {
             return Ok(());
         };
         let (version, patch) = (*version, *patch);
         if let Some(zone) = self.zones.get_mut(zone as usize) {
             if u64::from(version) == u64::from(zone.version()) + 1 {
-                let _taken = zone.stay(patch, fate)?;
+                let mut run = Vec::new(alloc);
+                run.push(patch)?;
+                let _taken = zone.stay(run, fate)?;
             }
         }
         Ok(())
@@ -240,7 +285,7 @@ impl Plain {
                 message,
                 zone,
                 fate,
-            } => self.deliver(*message, *zone, *fate)?,
+            } => self.deliver(alloc, *message, *zone, *fate)?,
             WorldEvent::ZoneStop { zone, opened } => {
                 if let Some(zone) = self.zones.get_mut(*zone as usize) {
                     zone.close(*opened)?;
@@ -259,7 +304,7 @@ impl Plain {
     /// Any event. One that doesn't fit changes nothing.
     pub fn step(&mut self, alloc: Global, event: &WorldEvent) -> Result<(), Fail> {
         self.run_zone(alloc, event)?;
-        self.run_log(event)
+        self.run_log(alloc, event)
     }
 
     /// The world that these events make.

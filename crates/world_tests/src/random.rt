@@ -1,5 +1,5 @@
 //! Many lists of events, made by rule.
-use crate::events::{add, id_of, patch_of, run_events};
+use crate::events::{add, id_of, run_events, run_of};
 use crate::parts::is_world;
 use crate::plain::Plain;
 use chain_core::Fate;
@@ -54,17 +54,26 @@ impl Rolls {
         }
     }
 
-    // An append, most times behind the head.
+    // An append of one patch, of two or of three, most times behind the head.
     fn append(&mut self, alloc: Global, plain: &Plain) -> Result<WorldEvent, Fail> {
-        let id = id_of(self.roll());
+        let number = self.roll();
         let prev = if self.roll() < 13 {
             plain.log.head()
         } else {
             Some(id_of(self.roll()))
         };
-        let patch = patch_of(alloc, id, prev)?;
+        let ids = [
+            id_of(number),
+            id_of(number.wrapping_add(5) % 16),
+            id_of(number.wrapping_add(9) % 16),
+        ];
+        let run = match self.roll() {
+            0..=7 => run_of(alloc, &ids[..1], prev)?,
+            8..=12 => run_of(alloc, &ids[..2], prev)?,
+            _ => run_of(alloc, &ids, prev)?,
+        };
         let fate = self.fate();
-        Ok(WorldEvent::Append { patch, fate })
+        Ok(WorldEvent::Append { run, fate })
     }
 
     // A version is asked for, most times one that a zone lacks.

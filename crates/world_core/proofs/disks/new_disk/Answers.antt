@@ -1,4 +1,4 @@
-use Rattle.world_core.proofs.Running.{new_keeps}
+use Rattle.world_core.proofs.Carried.{new_keeps}
 use Rattle.world_core.proofs.disks.new_disk.Goals as goal
 
 pub returns-in-Ok : goal.returns-in-Ok

@@ -12,15 +12,15 @@ use Rattle.world_core.proofs.log.run_up.Goals as goal
 
 pub returns-in-Append-clause-part : goal.returns-in-Append-clause-part
 returns-in-Append-clause-part c =
-    subst (λ (event : WorldEvent). IfOk c.append_as.result (λ (sent : LogPart × Option Message). (chain : List Patch) → (doubt : Option Patch) → Runs c.args.log chain doubt
-    → IsPartOf sent.0 (while_up LOG_LIMITS chain doubt event).0 × (sent.1 ≡ (while_up LOG_LIMITS chain doubt event).1))) (sym c.in-Append.is) c.append_as.ensures.part
+    subst (λ (event : WorldEvent). IfOk c.append_as.result (λ (sent : LogPart × Option Message). (runs : List (List Patch)) → (doubt : Option (List Patch)) → Runs c.args.log runs doubt
+    → IsPartOf sent.0 (while_up LOG_LIMITS runs doubt event).0 × (sent.1 ≡ (while_up LOG_LIMITS runs doubt event).1))) (sym c.in-Append.is) c.append_as.ensures.part
 
 pub returns-in_ok-message-in-Serve-clause-part : goal.returns-in_ok-message-in-Serve-clause-part
-returns-in_ok-message-in-Serve-clause-part c chain doubt runs =
-    subst (λ (event : WorldEvent). IsPartOf (Up c.args.log) (while_up LOG_LIMITS chain doubt event).0 × (c.in_ok-message-in-Serve.message ≡ (while_up LOG_LIMITS chain doubt event).1)) (sym c.in-Serve.is)
-    (runs, c.in_ok-message-in-Serve.ensures.message chain doubt runs)
+returns-in_ok-message-in-Serve-clause-part c runs doubt is =
+    subst (λ (event : WorldEvent). IsPartOf (Up c.args.log) (while_up LOG_LIMITS runs doubt event).0 × (c.in_ok-message-in-Serve.message ≡ (while_up LOG_LIMITS runs doubt event).1)) (sym c.in-Serve.is)
+    (is, c.in_ok-message-in-Serve.ensures.message runs doubt is)
 
 pub returns-in_ok-stop-in-Stop-clause-part : goal.returns-in_ok-stop-in-Stop-clause-part
-returns-in_ok-stop-in-Stop-clause-part c chain doubt runs =
-    subst (λ (event : WorldEvent). IsPartOf (Down c.in_ok-stop-in-Stop.field-0) (while_up LOG_LIMITS chain doubt event).0 × (◌≡◌ {A = Option Message} None (while_up LOG_LIMITS chain doubt event).1)) (sym c.in-Stop.is)
-    (c.in_ok-stop-in-Stop.ensures chain doubt runs, refl)
+returns-in_ok-stop-in-Stop-clause-part c runs doubt is =
+    subst (λ (event : WorldEvent). IsPartOf (Down c.in_ok-stop-in-Stop.field-0) (while_up LOG_LIMITS runs doubt event).0 × (◌≡◌ {A = Option Message} None (while_up LOG_LIMITS runs doubt event).1)) (sym c.in-Stop.is)
+    (c.in_ok-stop-in-Stop.ensures runs doubt is, refl)

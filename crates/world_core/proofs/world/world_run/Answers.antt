@@ -2,15 +2,13 @@ use Rattle.std.proofs.Common.{◌≡◌, ◌+◌, [], ◌∷◌, ◌++◌, List,
 use Rattle.std.proofs.lemmas.List.{take_more, take_all}
 use Rattle.std.proofs.lemmas.List.Sums.{fold-append}
 use Rattle.log_base.specs.declared.limits.TheConstants.{LOG_LIMITS}
-use Rattle.world_core.specs.declared.log.TheConstants.{LOG_NUMBER}
-use Rattle.zone_state.specs.declared.file.TheConstants.{ZONE_NUMBER}
 use Rattle.world_core.specs.declared.event.WorldEvent.{WorldEvent}
 use Rattle.world_core.specs.World.{start, step, world, KeepsPromises, BeginsLog}
 use Rattle.std.specs.List.{AllByRecursion}
 use Rattle.world_core.specs.declared.zone.ZonePart.{ZonePart}
-use Rattle.world_core.specs.Parts.{IsWorldOf, EveryImageOf, EveryImageOfZone, HoldsSome, IsZoneReplayed}
-use Rattle.world_core.proofs.Running.{images_found}
-use Rattle.world_core.proofs.Following.{zones_promise, zones_replay, log_promises}
+use Rattle.world_core.specs.Parts.{IsWorldOf, EveryImageOf, EveryImageOfZone, HoldsRuns, HoldsTaken, IsZoneReplayed}
+use Rattle.world_core.proofs.Running.{log_promises}
+use Rattle.world_core.proofs.Following.{zones_promise, zones_replay}
 use Rattle.world_core.proofs.world.world_run.Goals as goal
 
 pub run-requires : goal.run-requires
@@ -37,8 +35,7 @@ returns-clause-promises c =
     let events = c.as_slice-event-items.result.now in
     let so_far = take c.loop-event.event-index events in
     let whole : so_far ≡ c.args.events.now.items = take_all c.loop-event.event-index events c.loop-event-test.false ∙ c.as_slice-event-items.ensures in
-    let images = images_found c.loop-event.world.log (world LOG_LIMITS so_far).log c.loop-event.invariant.log_is in
-    subst (λ (es : List WorldEvent). EveryImageOf c.loop-event.world.log (HoldsSome LOG_NUMBER (KeepsPromises LOG_LIMITS es))) whole (log_promises LOG_LIMITS so_far c.loop-event.world.log images)
+    subst (λ (es : List WorldEvent). EveryImageOf c.loop-event.world.log (HoldsRuns (KeepsPromises LOG_LIMITS es))) whole (log_promises LOG_LIMITS so_far c.loop-event.world.log c.loop-event.invariant.log_is)
 
 pub returns-clause-zone_promises : goal.returns-clause-zone_promises
 returns-clause-zone_promises c =
@@ -46,7 +43,7 @@ returns-clause-zone_promises c =
     let so_far = take c.loop-event.event-index events in
     let whole : so_far ≡ c.args.events.now.items = take_all c.loop-event.event-index events c.loop-event-test.false ∙ c.as_slice-event-items.ensures in
     let are = c.loop-event.invariant.zones_are in
-    subst (λ (es : List WorldEvent). AllByRecursion (λ (zone : ZonePart). EveryImageOfZone zone (HoldsSome ZONE_NUMBER (BeginsLog (world LOG_LIMITS es).log))) c.loop-event.world.zones.items) whole (zones_promise LOG_LIMITS so_far c.loop-event.world.zones.items are)
+    subst (λ (es : List WorldEvent). AllByRecursion (λ (zone : ZonePart). EveryImageOfZone zone (HoldsTaken (BeginsLog (world LOG_LIMITS es).log))) c.loop-event.world.zones.items) whole (zones_promise LOG_LIMITS so_far c.loop-event.world.zones.items are)
 
 pub returns-clause-replays : goal.returns-clause-replays
 returns-clause-replays c =

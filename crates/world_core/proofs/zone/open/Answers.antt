@@ -1,5 +1,9 @@
-use Rattle.std.proofs.Common.{⊎_elim}
-use Rattle.world_core.proofs.Taking.{opened_zone, no_zone_fault}
+use Rattle.std.proofs.Common.{None, ⊎_elim}
+use Rattle.disk_model.specs.Past.{reads}
+use Rattle.disk_model.specs.Plan.{plan_past, plan_reads_left}
+use Rattle.log_base.specs.declared.limits.TheConstants.{LOG_LIMITS}
+use Rattle.zone_state.proofs.Reopened.{no_fault_again}
+use Rattle.world_core.proofs.Taking.{opened_zone}
 use Rattle.world_core.proofs.zone.open.Goals as goal
 
 pub returns-in-Ok : goal.returns-in-Ok
@@ -9,4 +13,6 @@ returns-in-Ok c taken keeps =
 
 pub unreachable-requires : goal.unreachable-requires
 unreachable-requires c =
-    ⊎_elim c.in_default.not-Failed (⊎_elim c.in_default.not-TermsFull c.in_default.not-OutOfMemory) (no_zone_fault c.args.disk c.requires.0 c.in-Err.field-0.fault c.requires.1 (c.in-Err.ensures.fault tt))
+    let past = plan_past c.args.disk in
+    ⊎_elim c.in_default.not-Failed (⊎_elim c.in_default.not-TermsFull c.in_default.not-OutOfMemory)
+    (no_fault_again past LOG_LIMITS c.requires.0 None (reads past) c.in-Err.field-0.fault c.requires.1 (plan_reads_left c.args.disk) (c.in-Err.ensures.fault tt))

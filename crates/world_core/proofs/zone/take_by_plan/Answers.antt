@@ -7,7 +7,8 @@ use Rattle.zone_state.specs.Zone.{ZoneView, doubt_of}
 use Rattle.patch_log.specs.Log.{bare}
 use Rattle.zone_state.proofs.Took.{planned as as_planned, images}
 use Rattle.world_core.specs.Parts.{run_as}
-use Rattle.world_core.proofs.Taking.{Took, planned_runs, took_runs, settled_so}
+use Rattle.world_core.proofs.Planned.{planned_as}
+use Rattle.world_core.proofs.Taking.{text_of, Took, planned_runs, took_runs, settled_so}
 use Rattle.world_core.proofs.zone.take_by_plan.Goals as goal
 
 pub returns-in_default : goal.returns-in_default
@@ -20,7 +21,7 @@ returns-in_default c taken doubt before =
     let long : IsTrue (not (plan_short new.disk)) = ap not (sym c.is_short.ensures ∙ c.if-is_short.false) in
     let settled = c.is_settled.ensures ∙ sym (ap (λ (z : ZoneView PlanDisk). z.settled) c.plan.ensures.same) ∙ settled_so zone runs.checked runs.left runs.stands in
     let planned : fate_by_plan (doubt_of runs.left) (planned_failure zone.disk) ≡ run_as (doubt_of runs.left) c.args.fate =
-    ap (fate_by_plan (doubt_of runs.left)) c.plan.ensures.next ∙ c.failing_sync-plan.ensures (doubt_of runs.left) settled in
+    ap (fate_by_plan (doubt_of runs.left)) c.plan.ensures.next ∙ planned_as text_of c.is_settled.result c.failing_sync-plan.result c.args.fate c.failing_sync-plan.ensures (doubt_of runs.left) settled in
     subst (λ (stop : Option Bool). Took new taken doubt (bare c.args.patch.now) c.args.fate stop) (sym c.stop_by.ensures)
     (took_runs zone new taken doubt c.args.patch.now c.args.fate (planned_failure zone.disk) answer runs took.left took.stands (c.take_next-answer.ensures.limits ∙ runs.limits_is) (as_planned _ zone new runs.checked runs.left c.args.patch.now answer took tt long) planned
     (images _ zone new runs.checked runs.left c.args.patch.now answer took tt tt long runs.leaves))

@@ -1,10 +1,9 @@
 use Rattle.std.proofs.Common.{◌≡◌, ◌<◌, ◌≤◌, List, length, get_or, sym, ◌∙◌, ap, subst, arith}
 use Rattle.std.proofs.Math.ListN.{set}
-use Rattle.chain_core.specs.Log.{LogPoint}
 use Rattle.log_base.specs.declared.limits.TheConstants.{LOG_LIMITS}
 use Rattle.world_core.specs.declared.zone.ZonePart.{ZonePart}
 use Rattle.world_core.specs.Parts.{IsZoneOf, AreZonesOf}
-use Rattle.world_core.specs.World.{changed_at, zone_after}
+use Rattle.world_core.specs.World.{ZonePoint, changed_at, zone_after}
 use Rattle.world_core.proofs.Zoning.{zones_set, zones_past, zone_at}
 use Rattle.world_core.proofs.zones.change.Goals as goal
 
@@ -30,7 +29,7 @@ returns c points are =
     let within : place < length items = omega (arith, ap length c.into_vec-parts.ensures) in
     let found : c.replace-found.result ≡ get_or items place c.index_mut.result.now =
     c.replace-found.ensures.value ∙ c.index_mut.ensures.value ∙ ap (λ (parts : List ZonePart). get_or parts place c.index_mut.result.now) c.into_vec-parts.ensures in
-    let keeps : (point : LogPoint) → IsZoneOf (get_or items place c.index_mut.result.now) point → IsZoneOf c.in_ok-part.part (change point) =
+    let keeps : (point : ZonePoint) → IsZoneOf (get_or items place c.index_mut.result.now) point → IsZoneOf c.in_ok-part.part (change point) =
     λ point is. c.in_ok-part.ensures point (subst (λ (part : ZonePart). IsZoneOf part point) (sym found) is) in
     let whole : c.from_vec-3.result.items ≡ set (set items place c.replace-found.new.dest) place c.in_ok-part.part =
     c.from_vec-3.ensures ∙ ap (λ (parts : List ZonePart). set (set parts place c.replace-found.new.dest) place c.replace-blank.new.dest) c.into_vec-parts.ensures

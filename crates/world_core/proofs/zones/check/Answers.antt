@@ -2,7 +2,7 @@ use Rattle.std.proofs.Common.{ℕ, List, ⊎_elim, sym, ◌∙◌, subst}
 use Rattle.patch_meaning.specs.Patch.{Meaning, IsPatch}
 use Rattle.patch_meaning.proofs.Settled.{never_both}
 use Rattle.patch_log.specs.Log.{bare}
-use Rattle.patch_log.proofs.Sound.{one_sound}
+use Rattle.zone_state.proofs.Sound.{one_sound}
 use Rattle.world_core.proofs.zones.check.Goals as goal
 
 pub returns-in-Ok : goal.returns-in-Ok
