@@ -25,7 +25,7 @@ fn one(alloc: Global) -> Result<Chain, OutOfMemory>
     ensures { IfOk result (λ chain. length chain.items ≡ 1) }
 {
     let mut chain = Chain::new(alloc);
-    chain.reserve()?;
+    chain.reserve(1)?;
     let text = Bytes::from_slice(alloc, FIRST)?;
     chain.push(
         Patch {
@@ -34,6 +34,7 @@ fn one(alloc: Global) -> Result<Chain, OutOfMemory>
             text,
         },
         7,
+        0,
     );
     Ok(chain)
 }
@@ -43,7 +44,7 @@ fn two(alloc: Global) -> Result<Chain, OutOfMemory>
     ensures { IfOk result (λ chain. length chain.items ≡ 2) }
 {
     let mut chain = Chain::new(alloc);
-    chain.reserve()?;
+    chain.reserve(1)?;
     let first = Bytes::from_slice(alloc, FIRST)?;
     chain.push(
         Patch {
@@ -52,8 +53,9 @@ fn two(alloc: Global) -> Result<Chain, OutOfMemory>
             text: first,
         },
         7,
+        0,
     );
-    chain.reserve()?;
+    chain.reserve(1)?;
     let second = Bytes::from_slice(alloc, SECOND)?;
     chain.push(
         Patch {
@@ -61,6 +63,7 @@ fn two(alloc: Global) -> Result<Chain, OutOfMemory>
             prev: Some(U1),
             text: second,
         },
+        0,
         0,
     );
     Ok(chain)
@@ -291,7 +294,7 @@ fn falling(alloc: Global) -> Result<IndexedChain, Fail>
     let one = Bytes::from_slice(alloc, b"one")?;
     let two = Bytes::from_slice(alloc, b"two")?;
     let mut log = IndexedChain::new(alloc);
-    log.reserve()?;
+    log.reserve(1)?;
     log.push(
         Patch {
             id: Id(9),
@@ -299,14 +302,16 @@ fn falling(alloc: Global) -> Result<IndexedChain, Fail>
             text: one,
         },
         7,
+        0,
     );
-    log.reserve()?;
+    log.reserve(1)?;
     log.push(
         Patch {
             id: Id(2),
             prev: Some(Id(9)),
             text: two,
         },
+        0,
         0,
     );
     Ok(log)

@@ -19,6 +19,10 @@ mod logs;
 #[cfg(test)]
 mod rewrites;
 #[cfg(test)]
+mod runs;
+#[cfg(test)]
 mod shelves;
+#[cfg(test)]
+mod steps;
 #[cfg(test)]
 mod tables;

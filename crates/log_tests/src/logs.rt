@@ -1,78 +1,44 @@
 //! Logs over disks in memory: what they answer, and what a crash leaves of them.
-use crate::tables::{EMPTY, Place, is, no_calls};
+use crate::steps::{Case, Step, disk_with, holds, log_left, open};
+use crate::tables::{EMPTY, Place, is};
 use chain_core::{Decision, LogAnswer};
-use delta_base::{Bytes, Id, OutOfMemory};
+use delta_base::{Bytes, Id};
 use disk_model::MemDisk;
 use log_base::{FullKind, LOG_LIMITS, LogLimits};
-use patch_log::{LogFault, LogState, Ready, append, append_all, append_made};
+use patch_log::{LogFault, LogState, append};
 use patch_meaning::{Checked, check_patch};
 use std::alloc::Global;
 use std::process::Abort;
 use std::test::Fail;
-use worked_rows::{FIRST, SECOND, disk_of, journal_of};
+use worked_rows::{FIRST, SECOND, disk_of};
 
-const THIRD: &[u8] =
+pub const THIRD: &[u8] =
     b"H id <uuid:00000000-0000-4000-8000-000000000003> .\nH prev <uuid:00000000-0000-4000-8000-000000000001> .\nTX .\nA <http://e/s> <http://e/p> <http://e/o3> .\nTC .\n";
 
-const OTHER_TEXT: &[u8] = b"H id <uuid:00000000-0000-4000-8000-000000000001> .\n";
+pub const OTHER_TEXT: &[u8] = b"H id <uuid:00000000-0000-4000-8000-000000000001> .\n";
 
-const NO_PREVIOUS: &[u8] = b"H id <uuid:00000000-0000-4000-8000-000000000009> .\n";
+pub const NO_PREVIOUS: &[u8] = b"H id <uuid:00000000-0000-4000-8000-000000000009> .\n";
 
 const BEHIND_NINTH: &[u8] =
     b"H id <uuid:00000000-0000-4000-8000-000000000004> .\nH prev <uuid:00000000-0000-4000-8000-000000000009> .\n";
 
-const BEHIND_SECOND: &[u8] =
+pub const BEHIND_SECOND: &[u8] =
     b"H id <uuid:00000000-0000-4000-8000-000000000003> .\nH prev <uuid:00000000-0000-4000-8000-000000000002> .\n";
 
-const ID1: Id = Id(0x0000_0000_0000_4000_8000_0000_0000_0001);
+pub const ID1: Id = Id(0x0000_0000_0000_4000_8000_0000_0000_0001);
 
-const ID2: Id = Id(0x0000_0000_0000_4000_8000_0000_0000_0002);
+pub const ID2: Id = Id(0x0000_0000_0000_4000_8000_0000_0000_0002);
 
 const ID3: Id = Id(0x0000_0000_0000_4000_8000_0000_0000_0003);
 
-const ID4: Id = Id(0x0000_0000_0000_4000_8000_0000_0000_0004);
+pub const ID4: Id = Id(0x0000_0000_0000_4000_8000_0000_0000_0004);
 
 const ID5: Id = Id(0x0000_0000_0000_4000_8000_0000_0000_0005);
 
 const ID9: Id = Id(0x0000_0000_0000_4000_8000_0000_0000_0009);
 
-/// A call of a log or a look at it, with what that gives.
-enum Step {
-    /// Pass 7 takes the memory for a patch first, and then appends it.
-    Add(&'static [u8], LogAnswer),
-    /// The patch is made ready for pass 5 outside the log.
-    Ready(&'static [u8], LogAnswer),
-    /// The same, or else it is told why not.
-    Made(&'static [u8], LogAnswer),
-    /// There's no memory to make it ready.
-    Want(&'static [u8], LogAnswer),
-    /// Patches are appended one after another.
-    All(&'static [&'static [u8]], &'static [LogAnswer]),
-    Decide(&'static [u8], Decision),
-    /// The pass that brought the first patch.
-    BroughtBy(u32),
-    Has(Id, Option<u32>),
-    /// How many patches it has, and its head.
-    Stands(u32, Option<Id>),
-    IsSettled(bool),
-    Faults(u64),
-}
-
-struct Case {
-    shows: &'static str,
-    /// What is in the log when it is opened.
-    payloads: &'static [&'static [u8]],
-    /// The numbers of the calls that fail. The opening of a log without patches makes four calls,
-    /// and an append five.
-    failing: &'static [u64],
-    limits: LogLimits,
-    steps: &'static [Step],
-    /// The version and the head of what a crash leaves where this is chosen of what isn't synced.
-    left: &'static [(u64, u32, Option<Id>)],
-}
-
 /// The call of a new log's second append that is the gate's sync.
-const SECOND_GATE: u64 = 13;
+pub const SECOND_GATE: u64 = 13;
 
 static CASES: [Case; 12] = [
     Case {
@@ -316,173 +282,6 @@ static CASES: [Case; 12] = [
         left: &[],
     },
 ];
-
-/// A disk with that, whose calls of these numbers fail.
-fn disk_with(alloc: Global, payloads: &[&[u8]], failing: &[u64]) -> Result<MemDisk, Fail> {
-    let file = journal_of(alloc, 1, payloads)?;
-    let disk = disk_of(alloc, &file, failing);
-    drop(file);
-    Ok(disk?)
-}
-
-/// The log of number 1 on a disk.
-fn open(alloc: Global, disk: MemDisk, limits: LogLimits) -> Result<LogState<MemDisk>, Fail> {
-    match LogState::open_on(alloc, disk, 1, limits) {
-        Ok(log) => Ok(log),
-        Err(refusal) => {
-            drop(refusal);
-            Err(Fail::from("not opened"))
-        }
-    }
-}
-
-fn add(alloc: Global, log: &mut LogState<MemDisk>, text: &[u8]) -> Result<LogAnswer, Fail> {
-    let patch = check_patch(alloc, text)?;
-    let ready = log.reserve(&patch, 7);
-    drop(patch);
-    Ok(log.append_reserved(ready?))
-}
-
-fn add_ready(alloc: Global, log: &mut LogState<MemDisk>, text: &[u8]) -> Result<LogAnswer, Fail> {
-    let patch = check_patch(alloc, text)?;
-    let ready = Ready::of(alloc, &patch, 5);
-    drop(patch);
-    Ok(log.append_ready(ready?))
-}
-
-fn add_made(alloc: Global, log: &mut LogState<MemDisk>, text: &[u8]) -> Result<LogAnswer, Fail> {
-    let patch = check_patch(alloc, text)?;
-    let answer = append_made(log, &patch, Ready::of(alloc, &patch, 5));
-    drop(patch);
-    Ok(answer)
-}
-
-fn add_in_want(alloc: Global, log: &mut LogState<MemDisk>, text: &[u8]) -> Result<LogAnswer, Fail> {
-    let patch = check_patch(alloc, text)?;
-    let answer = append_made(log, &patch, Err(OutOfMemory));
-    drop(patch);
-    Ok(answer)
-}
-
-fn decided(alloc: Global, log: &LogState<MemDisk>, text: &[u8]) -> Result<Decision, Fail> {
-    let patch = check_patch(alloc, text)?;
-    let found = log.decide_here(&patch);
-    drop(patch);
-    Ok(found)
-}
-
-/// The patches that these texts are.
-fn patches_of(alloc: Global, texts: &[&[u8]]) -> Result<Vec<Checked>, Fail> {
-    let mut patches = Vec::new(alloc);
-    for text in texts {
-        patches.push(check_patch(alloc, text)?)?;
-    }
-    Ok(patches)
-}
-
-/// Whether these texts have these answers, one after another.
-fn answers_all(
-    alloc: Global,
-    log: &mut LogState<MemDisk>,
-    texts: &[&[u8]],
-    wanted: &[LogAnswer],
-) -> Result<bool, Fail> {
-    let patches = patches_of(alloc, texts)?;
-    let answers = append_all(alloc, log, &patches, 3);
-    drop(patches);
-    let answers = answers?;
-    let same = answers.as_slice() == wanted;
-    drop(answers);
-    Ok(same)
-}
-
-/// Which pass brought the first patch of a log.
-fn brought_by(log: &LogState<MemDisk>) -> Option<u32> {
-    log.chain().entry(1).map(|entry| entry.by)
-}
-
-fn stands(log: &LogState<MemDisk>) -> (u32, Option<Id>) {
-    (log.chain().version(), log.chain().head())
-}
-
-fn goes(
-    rt: &impl Abort,
-    alloc: Global,
-    at: Place,
-    log: &mut LogState<MemDisk>,
-    step: &Step,
-) -> Result<(), Fail> {
-    match step {
-        Step::Add(text, answer) => is(rt, at, &add(alloc, log, text)?, answer),
-        Step::Ready(text, answer) => is(rt, at, &add_ready(alloc, log, text)?, answer),
-        Step::Made(text, answer) => is(rt, at, &add_made(alloc, log, text)?, answer),
-        Step::Want(text, answer) => is(rt, at, &add_in_want(alloc, log, text)?, answer),
-        Step::All(texts, answers) => {
-            is(rt, at, &answers_all(alloc, log, texts, answers)?, &true);
-        }
-        Step::Decide(text, decision) => is(rt, at, &decided(alloc, log, text)?, decision),
-        Step::BroughtBy(pass) => is(rt, at, &brought_by(log), &Some(*pass)),
-        Step::Has(id, version) => is(rt, at, &log.version_of(*id), version),
-        Step::Stands(version, head) => is(rt, at, &stands(log), &(*version, *head)),
-        Step::IsSettled(settled) => is(rt, at, &log.is_settled(), settled),
-        Step::Faults(faults) => is(rt, at, &log.faults(), faults),
-    }
-    Ok(())
-}
-
-fn goes_through(
-    rt: &impl Abort,
-    alloc: Global,
-    log: &mut LogState<MemDisk>,
-    case: &Case,
-) -> Result<(), Fail> {
-    let shows = case.shows;
-    for (step, wanted) in case.steps.iter().enumerate() {
-        goes(rt, alloc, Place { shows, step }, log, wanted)?;
-    }
-    Ok(())
-}
-
-/// The log that a crash leaves.
-fn log_left(alloc: Global, disk: &MemDisk, choice: u64) -> Result<LogState<MemDisk>, Fail> {
-    let image = disk.image(choice)?;
-    let left = MemDisk::from_image(alloc, image, no_calls(alloc))?;
-    open(alloc, left, LOG_LIMITS)
-}
-
-/// Its version and head, and the pass that brought its first patch.
-fn found_in(
-    alloc: Global,
-    disk: &MemDisk,
-    choice: u64,
-) -> Result<(u32, Option<Id>, Option<u32>), Fail> {
-    let log = log_left(alloc, disk, choice)?;
-    let (version, head) = stands(&log);
-    let by = brought_by(&log);
-    drop(log);
-    Ok((version, head, by))
-}
-
-/// What a crash leaves has no patch that a pass brought.
-fn leaves(rt: &impl Abort, alloc: Global, disk: &MemDisk, case: &Case) -> Result<(), Fail> {
-    let shows = case.shows;
-    for (step, (choice, version, head)) in case.left.iter().enumerate() {
-        let found = found_in(alloc, disk, *choice)?;
-        let wanted = (*version, *head, Some(0));
-        is(rt, Place { shows, step }, &found, &wanted);
-    }
-    Ok(())
-}
-
-fn holds(rt: &impl Abort, alloc: Global, case: &Case) -> Result<(), Fail> {
-    let disk = disk_with(alloc, case.payloads, case.failing)?;
-    let mut log = open(alloc, disk, case.limits)?;
-    let gone = goes_through(rt, alloc, &mut log, case);
-    let disk = log.close();
-    let left = gone.and_then(|()| leaves(rt, alloc, &disk, case));
-    drop(disk);
-    left
-}
 
 #[test]
 fn what_a_log_answers_and_a_crash_leaves(rt: HostRuntime) -> Result<(), Fail> {

@@ -137,7 +137,14 @@ static MAKINGS: [Case; 6] = [
 const PATCH: &[u8] =
     b"\x01\0\0\0\x01\0\0\0\x33H id <uuid:00000000-0000-4000-8000-000000000001> .\n\0";
 
-static CHECKS: [Case; 6] = [
+/// The same of a run of two patches, and of a payload behind it that is none.
+const RUN: &[u8] =
+    b"\x01\0\0\0\x01\0\0\0\x9bH id <uuid:00000000-0000-4000-8000-000000000001> .\nH id <uuid:00000000-0000-4000-8000-000000000002> .\nH prev <uuid:00000000-0000-4000-8000-000000000001> .\n\0";
+
+const BEHIND_RUN: &[u8] =
+    b"\x01\0\0\0\x01\0\0\0\x9bH id <uuid:00000000-0000-4000-8000-000000000001> .\nH id <uuid:00000000-0000-4000-8000-000000000002> .\nH prev <uuid:00000000-0000-4000-8000-000000000001> .\n\x01\0\0\0\x02\0\0\0\x01X\0";
+
+static CHECKS: [Case; 7] = [
     Case {
         shows: "files just made are told",
         failing: &[],
@@ -159,6 +166,17 @@ static CHECKS: [Case; 6] = [
             Step::Write(1, NEW1, 8, PATCH),
             Step::Tells(
                 b"file 0 records 1\nfile 1 patches 1 head 00000000-0000-4000-8000-000000000001\nfile 2 patches 0 head none\n",
+            ),
+        ],
+    },
+    Case {
+        shows: "a run is told by its patches",
+        failing: &[],
+        steps: &[
+            Step::Make(2, Ok(())),
+            Step::Write(1, NEW1, 8, RUN),
+            Step::Tells(
+                b"file 0 records 1\nfile 1 patches 2 head 00000000-0000-4000-8000-000000000002\nfile 2 patches 0 head none\n",
             ),
         ],
     },
@@ -376,7 +394,7 @@ type Broken = (
     CheckFault,
 );
 
-static FAULTS: [Broken; 9] = [
+static FAULTS: [Broken; 10] = [
     (
         "another form of file 0",
         0,
@@ -450,6 +468,17 @@ static FAULTS: [Broken; 9] = [
         CheckFault::BrokenChain {
             file: 2,
             version: 1,
+        },
+    ),
+    (
+        "a payload behind a run that is no patch",
+        1,
+        NEW1,
+        8,
+        BEHIND_RUN,
+        CheckFault::BrokenChain {
+            file: 1,
+            version: 3,
         },
     ),
 ];
