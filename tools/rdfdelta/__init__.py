@@ -7,11 +7,12 @@ from __future__ import annotations
 
 from typing import TYPE_CHECKING
 
-from rdfdelta.answers import Appended, LogState, Source
+from rdfdelta.answers import Appended, AppendedRun, LogState, Source
 from rdfdelta.errors import (
     BadAddress,
     BadFile,
     BadPatch,
+    BadRun,
     Conflict,
     Damaged,
     Full,
@@ -19,6 +20,7 @@ from rdfdelta.errors import (
     Known,
     LinkFailed,
     NoPatch,
+    NoRuns,
     NoSource,
     NotUnderstood,
     OldFormat,
@@ -36,9 +38,10 @@ if TYPE_CHECKING:
 
 __version__ = "0.3.0"
 __all__ = [
-    "Appended", "BadAddress", "BadFile", "BadPatch", "Conflict", "Damaged", "Follower", "Full", "Held", "Journal",
-    "Known", "Link", "LinkFailed", "Log", "LogState", "NoPatch", "NoSource", "NotUnderstood", "OldFormat",
-    "Parted", "ProgramFailed", "RdfDeltaError", "Refused", "Registry", "Server", "Source", "read_link",
+    "Appended", "AppendedRun", "BadAddress", "BadFile", "BadPatch", "BadRun", "Conflict", "Damaged", "Follower", "Full",
+    "Held", "Journal", "Known", "Link", "LinkFailed", "Log", "LogState", "NoPatch", "NoRuns", "NoSource",
+    "NotUnderstood", "OldFormat", "Parted", "ProgramFailed", "RdfDeltaError", "Refused", "Registry", "Server", "Source",
+    "read_link",
 ]
 
 

@@ -37,6 +37,15 @@ class Appended:
     known: bool = False
 
 
+@dataclass(frozen=True, slots=True)
+class AppendedRun:
+    """The patches stand at the versions from `first` to `version`; `known` where they had been sent before."""
+
+    first: int
+    version: int
+    known: bool = False
+
+
 def _wrong(member: str) -> NoReturn:
     raise errors.NotUnderstood(f"answer not understood: member {member}")
 
@@ -91,6 +100,12 @@ def state(members: Members) -> LogState:
     return LogState(head, version)
 
 
+def appended_run(members: Members, count: int) -> AppendedRun:
+    """What became of a run of so many patches."""
+    found = AppendedRun(number(members, "first"), number(members, "version"))
+    return found if found.first + count == found.version + 1 else _wrong("first")
+
+
 def refusal(status: int, body: bytes) -> errors.RdfDeltaError:
     """The error that an answer of another status than 200 tells."""
     shown = body[:500].decode("utf-8", "replace").strip()
@@ -100,6 +115,8 @@ def refusal(status: int, body: bytes) -> errors.RdfDeltaError:
         return errors.Refused(status, "", f"not of an rdfdelta server, but of what stands before it: {shown[:100]}")
     error = members.get("error")
     match (status, error):
+        case (400, "bad_run"):
+            return errors.BadRun(400, "bad_run", shown, number(members, "at"))
         case (404, "no_source"):
             return errors.NoSource(404, "no_source", shown)
         case (404, "no_patch"):

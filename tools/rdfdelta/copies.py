@@ -19,6 +19,7 @@ from pathlib import Path
 from rdfdelta import answers, errors, files, locks
 from rdfdelta.answers import LogState, Source
 from rdfdelta.patches import read_link
+from rdfdelta.runs import append_all
 from rdfdelta.server import Log, Server
 
 SOURCES, CHECK, LOCK = "sources.json", "check", ".lock"
@@ -223,9 +224,10 @@ def _give_log(log: Log, copy: Copy, source: Source, look: Look) -> int:
     begun = log.state().version
     until = copy.version(source)
     look(source, begun, until)
-    for version in range(begun + 1, until + 1):
-        stands = log.append(copy.patch(source, version)).version
-        if stands != version:
-            raise errors.Parted(f"{source.name}: patch {version} of the copy stands at version {stands} of the log")
+    patches = (copy.patch(source, version) for version in range(begun + 1, until + 1))
+    for version, stands in enumerate(append_all(log, patches), begun + 1):
+        if stands.version != version:
+            at = stands.version
+            raise errors.Parted(f"{source.name}: patch {version} of the copy stands at version {at} of the log")
         look(source, version, until)
     return until - begun

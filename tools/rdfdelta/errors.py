@@ -41,8 +41,22 @@ class NoPatch(Refused):
         self.version = version
 
 
+class BadRun(Refused):
+    """Patches are no run: `at` is 0 where there is none, else the place, from 2 on, of the first one that doesn't name
+    the one before it or has an id that came already."""
+
+    def __init__(self, status: int, error: str, text: str, at: int) -> None:
+        super().__init__(status, error, text)
+        self.at = at
+
+
+class NoRuns(Refused):
+    """The server takes no runs: it is of version 0.2.0 or older."""
+
+
 class Known(Refused):
-    """The log has the patch's id at `version`, with the same bytes or with others."""
+    """The log has the patch's id at `version`, with the same bytes or with others; of a run, the first of its ids that
+    the log has, and whether the run stands there as a whole."""
 
     def __init__(self, status: int, error: str, text: str, version: int, same: bool) -> None:
         super().__init__(status, error, text)

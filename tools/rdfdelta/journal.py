@@ -1,7 +1,8 @@
 """Journal files, read by docs/FORMATS.md: those of logs, zones and the registry.
 
 Damage is told with its byte and nothing behind it is guessed. A file is read only while no program writes it. One of
-the old form is refused, but where it is to be written anew.
+the old form is refused, but where it is to be written anew. A payload of a log is a run, so it has one patch or more;
+one of a zone is a patch.
 """
 from __future__ import annotations
 
@@ -15,10 +16,12 @@ from typing import BinaryIO, NoReturn
 
 from rdfdelta import errors, locks
 from rdfdelta.answers import Source
-from rdfdelta.patches import Link, check_patch
-from rdfdelta.server import LOG_LIMIT, REGISTRY_LIMIT
+from rdfdelta.patches import PATCH_LIMIT, Link, Patch, split
+from rdfdelta.server import LOG_LIMIT, PATCHES_LIMIT, REGISTRY_LIMIT
 
 FIELD, HEADER = 4, 8
+# What stands before a payload: its gate, its running number and its length.
+FRAME = 1 + 2 * FIELD
 REGISTRY, ZONE = 0, 1000
 # The files that a folder may have: the registry's, the logs', a zone's.
 NUMBERS = (REGISTRY, *range(1, 17), ZONE)
@@ -98,25 +101,42 @@ class Journal:
 
     def links(self) -> list[Link]:
         """The ids of the patches, which are seen to be a chain."""
-        if self.number == REGISTRY:
-            raise errors.BadFile(self.path, "the registry has no patches")
-        links: list[Link] = []
-        seen: set[str] = set()
-        for payload in self.payloads:
-            try:
-                link = check_patch(payload)
-            except errors.BadPatch:
-                link = None
-            if link is None or link.id in seen or link.prev != (links[-1].id if links else None):
-                raise errors.BadFile(self.path, f"broken chain at version {len(links) + 1}")
-            links.append(link)
-            seen.add(link.id)
-        return links
+        return [patch.link for patch in self._chain()]
 
     def patches(self, start: int = 1) -> Iterator[tuple[int, bytes]]:
         """The patches from a version on, once all were seen to be a chain."""
-        self.links()
-        yield from ((version, self.payloads[version - 1]) for version in range(start, len(self.payloads) + 1))
+        found = self._chain()
+        yield from ((version, found[version - 1].text) for version in range(start, len(found) + 1))
+
+    def _chain(self) -> list[Patch]:
+        """The patches, each payload's behind those of the payloads before it."""
+        if self.number == REGISTRY:
+            raise errors.BadFile(self.path, "the registry has no patches")
+        chain: list[Patch] = []
+        seen: set[str] = set()
+        for payload in self.payloads:
+            run = run_of(self.number, payload)
+            ids = [patch.link.id for patch in run]
+            prevs = [chain[-1].link.id if chain else None, *ids[:-1]]
+            is_next = [patch.link.prev for patch in run] == prevs and len(set(ids)) == len(ids)
+            if not is_next or not seen.isdisjoint(ids) or len(chain) + len(run) > PATCHES_LIMIT:
+                raise errors.BadFile(self.path, f"broken chain at version {len(chain) + 1}")
+            chain += run
+            seen.update(ids)
+        # The limit counts each patch as if it stood by itself.
+        size = HEADER + 1 + sum(FRAME + len(patch.text) for patch in chain)
+        if size > limit_of(self.number):
+            raise errors.BadFile(self.path, f"over limit: have {size}, limit {limit_of(self.number)}")
+        return chain
+
+
+def run_of(number: int, payload: bytes) -> list[Patch]:
+    """The patches of a payload in the file of a number; none where it isn't what may stand there."""
+    try:
+        run = split(payload) if len(payload) <= PATCH_LIMIT else []
+    except errors.BadPatch:
+        return []
+    return run if number != ZONE or len(run) == 1 else []
 
 
 def _payloads(path: Path, content: bytes, form: Form) -> tuple[tuple[bytes, ...], int]:
@@ -143,30 +163,31 @@ def _payloads(path: Path, content: bytes, form: Form) -> tuple[tuple[bytes, ...]
 
 
 class Counter:
-    """Counts the payloads of a journal that another process may be writing: a gate that is open has all that stands
-    behind it on the disk, so those in front of one that isn't are whole. It goes on where it stopped."""
+    """Counts the patches of a journal that another process may be writing: a gate that is open has all that stands
+    behind it on the disk, so the payloads in front of one that isn't are whole. It goes on where it stopped."""
 
     def __init__(self, path: Path) -> None:
         self.path = path
         self.count = 0
+        self._payloads = 0
         self._at = HEADER
+        # Where the newest patch stands, and how long it is.
         self._newest = (0, 0)
 
     def look(self) -> int:
         try:
             with self.path.open("rb") as file:
-                if file.read(FIELD) != Form.NEW.value:
-                    return self.count
-                while (length := self._length(file)) is not None:
-                    self._newest = (self._at + 1 + 2 * FIELD, length)
-                    self._at += 1 + 2 * FIELD + length
-                    self.count += 1
+                head = file.read(HEADER)
+                number = _field(head, FIELD)
+                if number is not None and head.startswith(Form.NEW.value):
+                    while self._take(file, number):
+                        pass
         except FileNotFoundError:
             pass
         return self.count
 
     def newest(self) -> bytes | None:
-        """The newest payload of those counted."""
+        """The newest patch of those counted."""
         if self.count == 0:
             return None
         at, length = self._newest
@@ -174,11 +195,23 @@ class Counter:
             file.seek(at)
             return file.read(length)
 
-    def _length(self, file: BinaryIO) -> int | None:
+    def _take(self, file: BinaryIO, number: int) -> bool:
+        """Counts the patches of the next payload; whether its gate is open."""
         file.seek(self._at)
-        found = file.read(1 + 2 * FIELD)
-        is_next = found.startswith(OPEN) and _field(found, 1) == self.count + 1
-        return _field(found, 1 + FIELD) if is_next else None
+        frame = file.read(FRAME)
+        length = _field(frame, 1 + FIELD)
+        if not frame.startswith(OPEN) or _field(frame, 1) != self._payloads + 1 or length is None:
+            return False
+        # A zone's payload isn't read: it is one patch.
+        run = [] if number == ZONE else run_of(number, file.read(length))
+        sizes = [length] if number == ZONE else [len(patch.text) for patch in run]
+        if not sizes:
+            return False
+        self._payloads += 1
+        self._at += FRAME + length
+        self._newest = (self._at - sizes[-1], sizes[-1])
+        self.count += len(sizes)
+        return True
 
 
 @dataclass(frozen=True, slots=True)

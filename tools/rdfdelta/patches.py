@@ -1,9 +1,9 @@
-"""Patches: their ids, the changes that take effect, and making new ones below the limit."""
+"""Patches: their ids, streams of them, the changes that take effect, and making new ones below the limit."""
 from __future__ import annotations
 
 import re
 import uuid
-from collections.abc import Iterable, Iterator
+from collections.abc import Iterable, Iterator, Sequence
 from dataclasses import dataclass
 from itertools import takewhile
 
@@ -14,6 +14,7 @@ PATCH_LIMIT = 4_194_304
 _HEX = "[0-9A-Fa-f]"
 _HYPHENATED = rf"{_HEX}{{8}}(?:-{_HEX}{{4}}){{3}}-{_HEX}{{12}}"
 _UUID = re.compile(rf"(?:urn:)?(?:uuid:)?({_HYPHENATED}|\{{{_HYPHENATED}\}}|{_HEX}{{32}})")
+_ID_ROW = re.compile(rb"H[ \t\r\n]+id(?![A-Za-z0-9_-])")
 
 
 @dataclass(frozen=True, slots=True)
@@ -22,6 +23,14 @@ class Link:
 
     id: str
     prev: str | None
+
+
+@dataclass(frozen=True, slots=True)
+class Patch:
+    """A patch of a stream: its ids, and its text."""
+
+    link: Link
+    text: bytes
 
 
 def draw_id() -> str:
@@ -47,26 +56,63 @@ def read_link(patch: bytes) -> Link:
     return _link_of(takewhile(lambda row: row.code == "H", read_rows(patch)))
 
 
-def check_patch(patch: bytes) -> Link:
-    """The ids of a text that was read to its end as one patch."""
-    if len(patch) > PATCH_LIMIT:
-        raise errors.BadPatch(len(patch), 1, f"too long: limit {PATCH_LIMIT}")
-    rows = list(read_rows(patch))
-    headers = list(takewhile(lambda row: row.code == "H", rows))
+def split(stream: bytes) -> list[Patch]:
+    """The patches of a stream, which is read to its end. The text of each reaches to the first row of the next one."""
+    parts = list(_parts(read_rows(stream)))
+    places = [0, *(rows[0].at for rows in parts[1:]), len(stream)]
+    patches = []
+    for rows, begin, end in zip(parts, places, places[1:]):
+        _check_blocks(rows, end)
+        link = _link_of(takewhile(lambda row: row.code == "H", rows), rows[0])
+        patches.append(Patch(link, stream[begin:end]))
+    return patches
+
+
+def _parts(rows: Iterable[Row]) -> Iterator[list[Row]]:
+    """The rows of each patch of a stream. One begins at a header behind a row of another code, and at an id row where
+    the patch has an id already."""
+    part: list[Row] = []
+    has_id = False
+    for row in rows:
+        is_id = _key_of(row) == "id"
+        if part and row.code == "H" and (part[-1].code != "H" or (is_id and has_id)):
+            yield part
+            part, has_id = [], False
+        part.append(row)
+        has_id = has_id or is_id
+    if part:
+        yield part
+
+
+def _check_blocks(rows: list[Row], end: int) -> None:
+    """Whether the blocks of a patch, which ends there, begin and end one behind another."""
     in_block = False
-    for row in rows[len(headers):]:
-        if row.code == "H":
-            raise errors.BadPatch(row.at, row.line, "a header behind other rows")
+    for row in rows:
         if row.code in ("TX", "TC", "TA"):
             if in_block == (row.code == "TX"):
                 raise errors.BadPatch(row.at, row.line, f"{row.code} {'inside' if in_block else 'outside'} a block")
             in_block = not in_block
     if in_block:
-        raise errors.BadPatch(len(patch), 1 + patch.count(b"\n"), "the text ends inside a block")
-    return _link_of(headers)
+        raise errors.BadPatch(end, rows[-1].line, "the text ends inside a block")
 
 
-def _link_of(headers: Iterable[Row]) -> Link:
+def stand_apart(before: bytes, patch: bytes) -> bool:
+    """Whether a patch behind another one is surely cut off where it begins: that one ends its line, and this one begins
+    with its id."""
+    return before.endswith(b"\n") and _ID_ROW.match(patch) is not None
+
+
+def join(patches: Sequence[bytes]) -> bytes:
+    """Patches as one text. It is refused where it would be cut into others: a comment at the front of a patch, as one,
+    would belong to the patch before it."""
+    text = b"".join(patches)
+    if not all(map(stand_apart, patches, patches[1:])) and [patch.text for patch in split(text)] != list(patches):
+        raise errors.RdfDeltaError("one behind another these texts are other patches: each is to begin with its id")
+    return text
+
+
+def _link_of(headers: Iterable[Row], first: Row | None = None) -> Link:
+    """What the headers of a patch name, which has this first row."""
     found: dict[str, str] = {}
     for row in headers:
         key = _key_of(row)
@@ -76,7 +122,8 @@ def _link_of(headers: Iterable[Row]) -> Link:
                 raise errors.BadPatch(row.at, row.line, f"a second {name}")
             found[name] = _id_of(row)
     if "id" not in found:
-        raise errors.BadPatch(0, 1, "no row names the id before the other rows")
+        at, line = (0, 1) if first is None else (first.at, first.line)
+        raise errors.BadPatch(at, line, "no row names the id before the other rows")
     return Link(found["id"], found.get("prev"))
 
 

@@ -51,7 +51,7 @@ Term = Iri | Blank | Literal
 
 @dataclass(frozen=True, slots=True)
 class Row:
-    """A row: its code, its parts, its text as it was written, and where it begins.
+    """A row: its code, its parts, its text as it was written, and the byte and the line where it begins.
 
     The first part of H is its key and that of PA and PD the prefix, both as plain literals; the IRI of PA is an IRI.
     """
@@ -107,12 +107,15 @@ class _Reader:
     def __init__(self, text: str) -> None:
         self.text = text
         self.at = 0
-        self._counted, self._lines = 0, 1
+        self._counted, self._bytes, self._lines = 0, 0, 1
 
-    def line_of(self, at: int) -> int:
-        self._lines += self.text.count("\n", self._counted, at)
+    def place_of(self, at: int) -> tuple[int, int]:
+        """The byte and the line of a character behind those that were asked for before."""
+        passed = self.text[self._counted:at]
+        self._bytes += len(passed.encode())
+        self._lines += passed.count("\n")
         self._counted = at
-        return self._lines
+        return self._bytes, self._lines
 
     def refuse(self, at: int, what: str) -> NoReturn:
         line = 1 + self.text.count("\n", 0, at)
@@ -200,7 +203,7 @@ class _Reader:
             self.refuse(self.at, "a part is missing")
         self.at += 1
         self.check(begin, code, parts)
-        return Row(code, tuple(parts), self.text[begin:self.at], begin, self.line_of(begin))
+        return Row(code, tuple(parts), self.text[begin:self.at], *self.place_of(begin))
 
     def check(self, at: int, code: str, parts: list[Term]) -> None:
         """Whether each term may stand where it does."""

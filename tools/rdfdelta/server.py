@@ -9,15 +9,15 @@ import json
 import re
 import time
 import uuid
-from collections.abc import Iterator
+from collections.abc import Iterator, Sequence
 from types import TracebackType
 from urllib.parse import quote, urlsplit
 
 import requests
 
 from rdfdelta import answers, errors
-from rdfdelta.answers import Appended, LogState, Members, Source
-from rdfdelta.patches import PATCH_LIMIT, read_link
+from rdfdelta.answers import Appended, AppendedRun, LogState, Members, Source
+from rdfdelta.patches import PATCH_LIMIT, join, read_link
 
 PATCHES_LIMIT = 262_144
 LOG_LIMIT = 268_435_456
@@ -47,6 +47,8 @@ class Server:
 
     def __init__(self, address: str, seconds: float = ANSWER_SECONDS) -> None:
         self.address = address
+        # Until it is told otherwise.
+        self.takes_runs = True
         self._base = base_of(address)
         self._seconds = seconds
         self._session = requests.Session()
@@ -104,8 +106,8 @@ class Server:
     def get(self, path: str) -> Members:
         return self._members(self._ask("GET", path))
 
-    def post(self, path: str, patch: bytes) -> Members:
-        return self._members(self._ask("POST", path, patch, PATCH_TYPE))
+    def post(self, path: str, patches: bytes) -> Members:
+        return self._members(self._ask("POST", path, patches, PATCH_TYPE))
 
     def patch(self, path: str) -> bytes:
         """The bytes of a patch."""
@@ -187,14 +189,39 @@ class Log:
     def append(self, patch: bytes, tries: int = 5) -> Appended:
         """Appends a patch. Where no answer comes, or the server has no memory, the same bytes are sent again, at most
         so often; where they stand already, that is told as well."""
+        try:
+            return Appended(answers.number(self._send(self._path, patch, tries), "version"))
+        except errors.Known as known:
+            if not known.same:
+                raise
+            return Appended(known.version, known=True)
+
+    def append_run(self, patches: Sequence[bytes], tries: int = 5) -> AppendedRun:
+        """Appends patches all or none. Each is to name the one before it, and together they have at most 4,194,304
+        bytes. They are sent again as `append` does. A server that takes no runs is told by `NoRuns`."""
+        text = join(patches)
+        if len(text) > PATCH_LIMIT:
+            raise errors.RdfDeltaError(f"a run of {len(text)} bytes is longer than a request may be: {PATCH_LIMIT}")
+        try:
+            return answers.appended_run(self._send(f"{self._path}/run", text, tries), len(patches))
+        except errors.Known as known:
+            if not known.same:
+                raise
+            return AppendedRun(known.version, known.version + len(patches) - 1, known=True)
+        except errors.NoSource:
+            raise
+        except errors.Refused as error:
+            if error.status not in (404, 405):
+                raise
+            self.server.takes_runs = False
+            raise errors.NoRuns(error.status, error.error, f"{self.server.address} takes no runs of patches") from None
+
+    def _send(self, path: str, body: bytes, tries: int) -> Members:
+        """What is answered to what is appended. Where nothing is, or there is no memory, it is sent again."""
         wait = 0.2
         while True:
             try:
-                return Appended(answers.number(self.server.post(self._path, patch), "version"))
-            except errors.Known as known:
-                if not known.same:
-                    raise
-                return Appended(known.version, known=True)
+                return self.server.post(path, body)
             except (errors.LinkFailed, errors.Refused) as error:
                 tries -= 1
                 if tries <= 0 or (isinstance(error, errors.Refused) and error.status != 503):

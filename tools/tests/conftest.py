@@ -15,6 +15,8 @@ from rdfdelta.program import Program
 
 TOP = Path(__file__).resolve().parents[2]
 PROGRAM = subprocess.run([TOP / "bin/program"], capture_output=True, text=True, check=True).stdout.strip()
+# Whether it is one that takes runs of patches: those up to version 0.2.0 take none.
+TAKES_RUNS = "\n  append_run " in subprocess.run([PROGRAM, "--help"], capture_output=True, text=True, check=True).stdout
 SOURCE_ID = "00000000-0000-4000-8000-000000000009"
 
 

@@ -11,7 +11,7 @@ import pytest
 
 from calling import environment, rdfd, words_of
 from conftest import PROGRAM, Running, Start, id_of, patch
-from rdfdelta import RdfDeltaError, moves
+from rdfdelta import Journal, RdfDeltaError, moves
 from rdfdelta.datasets import of_log
 from rdfdelta.program import Program
 
@@ -70,7 +70,8 @@ def test_a_copy_is_given_back(serve: Start, tmp_path: Path) -> None:
     old.stop()
     new.stop()
     for name in ("rdj-0001", "rdj-0002"):
-        assert (old.folder / name).read_bytes() == (new.folder / name).read_bytes()
+        found = [list(Journal.read(running.folder / name).patches()) for running in (old, new)]
+        assert found[0] == found[1] != []
 
 
 def test_killed_copies_go_on(serve: Start, tmp_path: Path) -> None:

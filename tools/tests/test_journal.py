@@ -7,7 +7,7 @@ from pathlib import Path
 
 import pytest
 
-from conftest import PROGRAM, Running, id_of, old_file, patch
+from conftest import PROGRAM, TAKES_RUNS, Running, id_of, old_file, patch
 from rdfdelta import BadFile, Damaged, Held, Journal, OldFormat, Registry, journal
 from rdfdelta.journal import Counter, pieces_of
 
@@ -72,6 +72,66 @@ def test_a_file_that_is_too_long(monkeypatch: pytest.MonkeyPatch) -> None:
     monkeypatch.setattr(journal, "LOG_LIMIT", len(whole) - 1)
     with pytest.raises(BadFile, match="over limit: have 20, limit 19"):
         Journal.parse(Path("rdj-0001"), whole)
+
+
+RUNS = [patch(1) + patch(2), patch(3), patch(4) + patch(5) + patch(6)]
+
+
+def parsed(number: int, payloads: list[bytes]) -> Journal:
+    return Journal.parse(Path(f"rdj-{number:04d}"), b"".join(pieces_of(number, payloads)))
+
+
+def test_a_payload_is_a_run() -> None:
+    log = parsed(1, RUNS)
+    assert list(log.patches()) == [(number, patch(number)) for number in range(1, 7)]
+    assert list(log.patches(5)) == [(5, patch(5)), (6, patch(6))] and len(log.payloads) == 3
+    assert [link.id for link in log.links()] == [id_of(number) for number in range(1, 7)]
+
+
+@pytest.mark.parametrize("payloads, version", [
+    ([RUNS[0], patch(4)], 3),
+    ([RUNS[0], patch(3) + patch(5)], 3),
+    ([RUNS[0], patch(3) + patch(2, behind=3)], 3),
+    ([patch(1) + patch(1)], 1),
+    ([patch(1) + patch(2, behind=1) + patch(1, behind=2)], 1),
+    ([RUNS[0], b""], 3),
+    ([RUNS[0], b"# no patch\n"], 3),
+    ([RUNS[0], patch(3) + b"TX .\n"], 3),
+    ([RUNS[0], patch(3) + b"H note \"x\" .\n"], 3),
+    ([patch(1), b"# " + b"x" * 4_194_304 + b"\n" + patch(2)], 2),
+])
+def test_payloads_that_are_no_runs(folder: Path, payloads: list[bytes], version: int) -> None:
+    with pytest.raises(BadFile, match=f"rdj-0001: broken chain at version {version}$"):
+        parsed(1, payloads).links()
+    if TAKES_RUNS:
+        (folder / "rdj-0001").write_bytes(b"".join(pieces_of(1, payloads)))
+        assert checked(folder) == f"file 1: broken chain at version {version}"
+
+
+def test_runs_that_pass_a_limit(monkeypatch: pytest.MonkeyPatch) -> None:
+    monkeypatch.setattr(journal, "PATCHES_LIMIT", 6)
+    assert len(parsed(1, RUNS).links()) == 6
+    monkeypatch.setattr(journal, "PATCHES_LIMIT", 5)
+    with pytest.raises(BadFile, match="broken chain at version 4"):
+        parsed(1, RUNS).links()
+    monkeypatch.undo()
+    # The limit of bytes has nine of them for each patch, and the file for each run.
+    size = sum(map(len, pieces_of(1, [patch(number) for number in range(1, 7)])))
+    monkeypatch.setattr(journal, "LOG_LIMIT", size)
+    assert len(parsed(1, RUNS).links()) == 6
+    monkeypatch.setattr(journal, "LOG_LIMIT", size - 1)
+    with pytest.raises(BadFile, match=f"over limit: have {size}, limit {size - 1}"):
+        parsed(1, RUNS).links()
+
+
+def test_a_zone_has_a_payload_for_each_patch(tmp_path: Path) -> None:
+    assert len(parsed(1000, [patch(1), patch(2)]).links()) == 2
+    payloads = [patch(1), patch(2) + patch(3)]
+    with pytest.raises(BadFile, match="broken chain at version 2"):
+        parsed(1000, payloads).links()
+    (tmp_path / "rdj-1000").write_bytes(b"".join(pieces_of(1000, payloads)))
+    done = subprocess.run([PROGRAM, "dump", tmp_path], capture_output=True, text=True)
+    assert done.stderr == "rdfdelta: file 1000: broken chain at version 2\n"
 
 
 def test_a_log(folder: Path) -> None:
@@ -163,6 +223,17 @@ def test_a_counter_goes_on(running: Running) -> None:
     running.fill("ABC", 1, begin=3)
     assert (counter.look(), counter.newest()) == (3, patch(3))
     assert Counter(running.folder / "none").look() == 0
+
+
+def test_a_counter_counts_the_patches_of_runs(tmp_path: Path) -> None:
+    path = tmp_path / "rdj-0001"
+    path.write_bytes(b"".join(pieces_of(1, RUNS[:1])))
+    counter = Counter(path)
+    assert (counter.look(), counter.newest()) == (2, patch(2))
+    path.write_bytes(b"".join(pieces_of(1, RUNS)))
+    assert (counter.look(), counter.newest()) == (6, patch(6))
+    path.write_bytes(b"".join(pieces_of(1, [*RUNS, b"no run"])))
+    assert (counter.look(), counter.newest()) == (6, patch(6))
 
 
 def test_a_counter_counts_what_is_whole(tmp_path: Path) -> None:

@@ -82,7 +82,7 @@ def test_put_nquads(running: Running) -> None:
 
 @pytest.mark.parametrize("text, said", [
     (b"A <http://e/s> .\n", "line 1 byte 15: a part is missing"),
-    (b"# c\nTX . TC .", "line 2 byte 4: a row of TX"),
+    ("# \u00e9\nTX . TC .".encode(), "line 2 byte 5: a row of TX"),
     (b"A <http://e/s> <http://e/p> <o> .", "line 1 byte 28: an IRI without a scheme"),
 ])
 def test_put_sends_nothing_of_what_is_wrong(running: Running, text: bytes, said: str) -> None:

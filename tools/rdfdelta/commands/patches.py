@@ -1,14 +1,18 @@
 """rdfd patches: what stands in the file of a log or a zone."""
 from __future__ import annotations
 
+from collections.abc import Iterator
+from itertools import chain
 from pathlib import Path
 
 import click
 
 from rdfdelta import errors
+from rdfdelta.answers import Appended
 from rdfdelta.commands.options import DEFAULT_ADDRESS, file_type, say, write
 from rdfdelta.journal import Journal
-from rdfdelta.server import Server
+from rdfdelta.runs import append_all
+from rdfdelta.server import Log, Server
 
 
 @click.command()
@@ -29,8 +33,15 @@ def patches(file: Path, start: int, log: str | None, address: str) -> None:
         write(b"".join(patch for _, patch in found))
         return
     target = Server(address).log(log)
-    for version, patch in found:
-        stands = target.append(patch)
+    for (version, _), stands in zip(found, give(target, found)):
         if stands.version != version:
             raise errors.Parted(f"patch {version} of the file stands at version {stands.version} of {log}")
         say(f"{log}: version {version}{', which it had' if stands.known else ''}")
+
+
+def give(log: Log, patches: list[tuple[int, bytes]]) -> Iterator[Appended]:
+    """Appends patches with their versions. Those that the log has already are sent one by one: a run of which it has a
+    part alone would be refused."""
+    has = log.state().version
+    known = [patch for version, patch in patches if version <= has]
+    return chain(map(log.append, known), append_all(log, [patch for version, patch in patches if version > has]))

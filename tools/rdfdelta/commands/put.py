@@ -31,8 +31,8 @@ def put(
     """Append rows or quads from stdin to a log.
 
     The input is rows of A, D, PA and PD. The ids, TX and TC are made here. An input that is longer than a patch may
-    be becomes several, and who reads between them sees a part. Stopped in between, it may be run again: the dataset
-    comes out the same.
+    be becomes several. Those that one request has room for are taken all or none; of others, who reads between them
+    sees a part. Stopped in between, it may be run again: the dataset comes out the same.
     """
     if behind is not None and retry:
         raise click.UsageError("--behind and --retry exclude each other")
@@ -44,7 +44,8 @@ def put(
     try:
         for one in puts.put(target, rows, head, retry, limit):
             if one.count > 1 and one.number == 1:
-                tell(f"{len(rows):,} rows are too long for one patch, and become {one.count}")
+                how = "all or none of them" if one.together == one.count else "who reads meanwhile sees a part"
+                tell(f"{len(rows):,} rows are too long for one patch, and become {one.count}: {how}")
             rows_said = "1 row" if one.rows == 1 else f"{one.rows:,} rows"
             say(f"{log}: version {one.version}: {rows_said}, id {one.id}")
     except errors.Conflict as conflict:
