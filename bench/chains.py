@@ -1,6 +1,7 @@
 """Clients that append to logs until they are stopped, and the test that what was acknowledged stands."""
 import http.client
 import json
+import random
 import re
 import sys
 import threading
@@ -16,6 +17,16 @@ def patch(id, prev):
     return f'H id <uuid:{id}> .\n{link}TX .\nA <http://e/{id}> <http://e/p> "{id}" .\nTC .\n'.encode()
 
 
+def run(head, length):
+    """So many patches, the first one behind a head, and the id of the last one."""
+    texts = []
+    for _ in range(length):
+        id = str(uuid.uuid4())
+        texts.append(patch(id, head))
+        head = id
+    return texts, head
+
+
 def ask(connection, method, path, body=None):
     """The status and body of one request."""
     connection.request(method, path, body)
@@ -29,10 +40,11 @@ def operation(connection, **members):
 
 
 class Log:
-    """What is known of one log: the texts that were served, and the versions that were acknowledged, each with its text."""
+    """What is known of one log: the texts that were served, the versions that were acknowledged, each with its text, and the runs
+    of texts that were sent and not answered."""
 
     def __init__(self, name):
-        self.name, self.texts, self.acknowledged = name, [], []
+        self.name, self.texts, self.acknowledged, self.unanswered = name, [], [], []
 
     def create(self, connection):
         status, body = operation(connection, operation="create", name=self.name, uri=f"http://e/{self.name}")
@@ -60,13 +72,20 @@ class Log:
         for place, text in self.acknowledged:
             if len(self.texts) < place or self.texts[place - 1] != text:
                 sys.exit(f"{self.name}: version {place} was acknowledged and isn't there")
+        standing = set(self.texts)
+        for texts in self.unanswered:
+            if len({text in standing for text in texts}) > 1:
+                sys.exit(f"{self.name}: a run that wasn't answered stands in part")
+        self.unanswered.clear()
         connection.close()
 
 
 class Clients:
-    """Clients that append side by side, each to one of the logs, until they are stopped or the server is gone."""
+    """Clients that append side by side, each to one of the logs, until they are stopped or the server is gone. What they append are
+    patches, or runs of so many of them at most."""
 
-    def __init__(self, server, logs, count):
+    def __init__(self, server, logs, count, most=1):
+        self.most = most
         # The replies that neither acknowledge nor name another head, and the longest time of a reply that acknowledges.
         self.others, self.longest, self.stopped = [], 0, threading.Event()
         self.threads = [threading.Thread(target=self.append, args=(server, logs[n % len(logs)])) for n in range(count)]
@@ -79,16 +98,19 @@ class Clients:
             connection = server.connect(60)
             _, info = operation(connection, operation="log", name=log.name)
             head = info["head"]
+            route = f"/{log.name}" if self.most == 1 else f"/{log.name}/run"
             while not self.stopped.is_set():
-                id = str(uuid.uuid4())
-                text = patch(id, head)
+                texts, last = run(head, random.randint(1, self.most))
+                log.unanswered.append(texts)
                 begun = time.monotonic()
-                status, body = ask(connection, "POST", f"/{log.name}", text)
+                status, body = ask(connection, "POST", route, b"".join(texts))
                 answer = json.loads(body)
+                log.unanswered.remove(texts)
                 if status == 200:
                     self.longest = max(self.longest, time.monotonic() - begun)
-                    log.acknowledged.append((answer["version"], text))
-                    head = id
+                    first = answer["version"] + 1 - len(texts)
+                    log.acknowledged.extend(enumerate(texts, first))
+                    head = last
                 elif answer["error"] == "conflict":
                     head = answer["head"]
                 else:

@@ -16,6 +16,15 @@ def framed(number, payloads):
     return b"RDJ2" + number.to_bytes(4, "big") + body + b"\0"
 
 
+def payloads_of(file):
+    """How many payloads stand before the gate that is shut."""
+    bytes, place, count = file.read_bytes(), 8, 0
+    while bytes[place] == 1:
+        place += 9 + int.from_bytes(bytes[place + 5 : place + 9], "big")
+        count += 1
+    return count
+
+
 def fill(folder, logs):
     """The files of sources named L1 and so on, whose logs hold these patches."""
     sources = [f"C {slot} {uuid.uuid4()} L{slot} http://e/{slot}".encode() for slot in range(1, len(logs) + 1)]

@@ -47,6 +47,15 @@ def program():
     return Path(done.stdout.strip())
 
 
+def takes_runs(program, what):
+    """Whether a program takes runs of patches, as none up to version 0.2.0 does; where not, a line says what is left out."""
+    done = subprocess.run([program, "--help"], stdout=subprocess.PIPE, text=True, check=True)
+    if "\n  append_run " in done.stdout:
+        return True
+    say(f"{program} takes no runs of patches: {what} left out")
+    return False
+
+
 def is_current(program):
     """Whether no source is newer than a program of the crates, as bin/program looks at it."""
     parts = [path for name in ("src", "specs", "proofs") for path in TOP.glob(f"crates/*/{name}")]

@@ -1,8 +1,9 @@
-//! Clients of a server of logs: so many connections, each of which asks and waits for the reply, over and over.
+//! Clients of a server: so many connections, each of which asks and waits for the reply, over and over.
 //!
 //! All requests are made before the time begins, and of a reply only its status and its length are looked at, so that a client has
 //! little to do. The first connection that has asked for all ends the others, so that all are there for as long as the time runs.
 
+use crate::peers::{Postgres, Redis};
 use std::io::{self, ErrorKind, Read, Write};
 use std::net::TcpStream;
 use std::ops::Range;
@@ -16,13 +17,24 @@ const PATIENCE: Duration = Duration::from_secs(75);
 
 const ROWS: u64 = 100;
 
+/// How many patches a run of rows has, how long each is with its ids, and how long what is round its row.
+const LENGTH: u64 = 100;
+const PATCH: usize = 200;
+const AROUND: usize = 114;
+
 /// What the connections ask for.
 #[derive(Clone, Copy, PartialEq, Eq)]
-enum Kind {
+pub enum Kind {
     /// A patch of two headers behind the head, each connection to a log of its own.
     Append,
     /// The same with a block of rows.
     AppendRows,
+    /// So many patches of two headers as one run.
+    Run(u64),
+    /// A hundred patches of one row as one run.
+    RunRows,
+    /// One patch of as many bytes as these have.
+    AppendLong,
     /// A version, each connection of a log of its own.
     Fetch,
     /// A version of the first log.
@@ -33,9 +45,30 @@ fn kind(word: &str) -> Option<Kind> {
     match word {
         "append" => Some(Kind::Append),
         "append-rows" => Some(Kind::AppendRows),
+        "run-1" => Some(Kind::Run(1)),
+        "run-10" => Some(Kind::Run(10)),
+        "run-100" => Some(Kind::Run(100)),
+        "run-rows" => Some(Kind::RunRows),
+        "append-long" => Some(Kind::AppendLong),
         "fetch" => Some(Kind::Fetch),
         "fetch-one" => Some(Kind::FetchOne),
         _ => None,
+    }
+}
+
+/// A connection to a server.
+pub trait Client: Sized {
+    fn open(address: &str) -> io::Result<Self>;
+
+    /// So many requests of a kind, which go behind what a log has now.
+    fn requests(&mut self, kind: Kind, log: u32, count: u64) -> io::Result<Vec<Vec<u8>>>;
+
+    /// Asks, and reads the reply, which has to say that it was done.
+    fn call(&mut self, request: &[u8]) -> io::Result<()>;
+
+    /// Opens it again where the server has closed it.
+    fn ready(&mut self) -> io::Result<()> {
+        Ok(())
     }
 }
 
@@ -46,14 +79,14 @@ struct Line {
     closed: bool,
 }
 
-fn dial(address: &str) -> io::Result<TcpStream> {
+pub fn dial(address: &str) -> io::Result<TcpStream> {
     let stream = TcpStream::connect(address)?;
     stream.set_nodelay(true)?;
     stream.set_read_timeout(Some(PATIENCE))?;
     Ok(stream)
 }
 
-fn wrong<T>(reply: &[u8]) -> io::Result<T> {
+pub fn wrong<T>(reply: &[u8]) -> io::Result<T> {
     Err(io::Error::other(String::from_utf8_lossy(reply).into_owned()))
 }
 
@@ -69,7 +102,7 @@ fn field<'a>(head: &'a str, name: &str) -> Option<&'a str> {
     rest.split("\r\n").next()
 }
 
-impl Line {
+impl Client for Line {
     fn open(address: &str) -> io::Result<Line> {
         Ok(Line {
             address: address.into(),
@@ -79,7 +112,31 @@ impl Line {
         })
     }
 
-    /// Dials again where the server has closed the connection.
+    fn requests(&mut self, kind: Kind, log: u32, count: u64) -> io::Result<Vec<Vec<u8>>> {
+        let log = if kind == Kind::FetchOne { 1 } else { log };
+        let (version, head) = self.log(log)?;
+        match kind {
+            Kind::Fetch | Kind::FetchOne if version < 2 => Err(io::Error::other("nothing to fetch")),
+            // The first patch has no head before it, and so is shorter than all others.
+            Kind::Fetch | Kind::FetchOne => Ok((0..count)
+                .map(|turn| get(log, &format!("/{}", 2 + mixed(turn) % (version - 1))).into_bytes())
+                .collect()),
+            _ => {
+                let (route, length) = match kind {
+                    Kind::Run(length) => ("/run", length),
+                    Kind::RunRows => ("/run", LENGTH),
+                    _ => ("", 1),
+                };
+                let patches = patches(kind, version, head, count * length);
+                Ok(patches.chunks(length as usize).map(|run| post(log, route, &run.concat())).collect())
+            }
+        }
+    }
+
+    fn call(&mut self, request: &[u8]) -> io::Result<()> {
+        self.ask(request).map(|_| ())
+    }
+
     fn ready(&mut self) -> io::Result<()> {
         if self.closed {
             self.stream = dial(&self.address)?;
@@ -87,7 +144,9 @@ impl Line {
         }
         Ok(())
     }
+}
 
+impl Line {
     /// The body of the reply to a request, which has status 200. A server may end a connection that is kept, so one that
     /// ends before the reply begins is dialed once more.
     fn ask(&mut self, request: &[u8]) -> io::Result<&[u8]> {
@@ -160,50 +219,57 @@ fn mixed(number: u64) -> u64 {
     z ^ (z >> 31)
 }
 
+fn post(log: u32, route: &str, body: &str) -> Vec<u8> {
+    let length = body.len();
+    format!(
+        "POST /L{log}{route} HTTP/1.1\r\nHost: a\r\nContent-Type: application/rdf-patch\r\nContent-Length: {length}\r\n\r\n{body}"
+    )
+    .into_bytes()
+}
+
 /// The id of a version.
-fn id(version: u64) -> String {
+pub fn id(version: u64) -> String {
     let hex = format!("{:016x}{:016x}", mixed(version), mixed(!version));
     [&hex[..8], &hex[8..12], &hex[12..16], &hex[16..20], &hex[20..]].join("-")
 }
 
-/// The patches that follow the head of a log, as requests.
-fn appends(log: u32, version: u64, head: Option<String>, rows: u64, count: u64) -> Vec<String> {
-    let (mut prev, mut made) = (head, Vec::new());
-    for version in version + 1..=version + count {
-        let id = id(version);
-        let mut patch = format!("H id <uuid:{id}> .\n");
-        if let Some(prev) = prev {
-            patch += &format!("H prev <uuid:{prev}> .\n");
-        }
-        if rows > 0 {
-            patch += "TX .\n";
-            for row in 0..rows {
-                patch += &format!("A <http://g/s{row}> <http://g/p{}> \"{version}\" .\n", row % 7);
-            }
-            patch += "TC .\n";
-        }
-        made.push(format!(
-            "POST /L{log} HTTP/1.1\r\nHost: a\r\nContent-Type: application/rdf-patch\r\nContent-Length: {}\r\n\r\n{patch}",
-            patch.len()
-        ));
-        prev = Some(id);
-    }
-    made
+/// A row of so many bytes.
+fn row(place: u64, version: u64, length: usize) -> String {
+    let front = format!("A <http://g/s{place}> <http://g/p{}> \"{version}", place % 7);
+    let back = "\" .\n";
+    format!("{front}{}{back}", "x".repeat(length - front.len() - back.len()))
 }
 
-/// The requests of one connection.
-fn requests(line: &mut Line, kind: Kind, log: u32, count: u64) -> io::Result<Vec<String>> {
-    let log = if kind == Kind::FetchOne { 1 } else { log };
-    let (version, head) = line.log(log)?;
-    match kind {
-        Kind::Append => Ok(appends(log, version, head, 0, count)),
-        Kind::AppendRows => Ok(appends(log, version, head, ROWS, count)),
-        Kind::Fetch | Kind::FetchOne if version < 2 => Err(io::Error::other("nothing to fetch")),
-        // The first patch has no head before it, and so is shorter than all others.
-        Kind::Fetch | Kind::FetchOne => Ok((0..count)
-            .map(|turn| get(log, &format!("/{}", 2 + mixed(turn) % (version - 1))))
-            .collect()),
-    }
+/// What stands behind the ids of a patch.
+fn body(kind: Kind, version: u64) -> String {
+    let rows: String = match kind {
+        Kind::AppendRows => (0..ROWS)
+            .map(|row| format!("A <http://g/s{row}> <http://g/p{}> \"{version}\" .\n", row % 7))
+            .collect(),
+        Kind::RunRows => row(0, version, PATCH - AROUND),
+        Kind::AppendLong => {
+            // The last row has what the others leave of its bytes.
+            let (length, bytes) = (PATCH - AROUND, PATCH * LENGTH as usize - AROUND);
+            let count = bytes / length;
+            let lengths = (1..count).map(|_| length).chain([length + bytes % length]);
+            lengths.enumerate().map(|(place, length)| row(place as u64, version, length)).collect()
+        }
+        _ => return String::new(),
+    };
+    format!("TX .\n{rows}TC .\n")
+}
+
+/// The patches that follow the head of a log.
+pub fn patches(kind: Kind, version: u64, head: Option<String>, count: u64) -> Vec<String> {
+    let mut prev = head;
+    let next = |version| {
+        let id = id(version);
+        let link = prev.take().map(|prev| format!("H prev <uuid:{prev}> .\n")).unwrap_or_default();
+        let patch = format!("H id <uuid:{id}> .\n{link}{}", body(kind, version));
+        prev = Some(id);
+        patch
+    };
+    (version + 1..=version + count).map(next).collect()
 }
 
 /// Where the connections wait for each other, and whether one of them has ended.
@@ -213,24 +279,24 @@ struct Race {
 }
 
 /// When one connection began and ended, and how long each of its requests took.
-fn run(address: &str, kind: Kind, log: u32, count: u64, race: &Race) -> io::Result<(Instant, Instant, Vec<Duration>)> {
-    let prepared = Line::open(address).and_then(|mut line| {
-        let requests = requests(&mut line, kind, log, count)?;
-        line.ready()?;
-        Ok((line, requests))
+fn run<C: Client>(address: &str, kind: Kind, log: u32, count: u64, race: &Race) -> io::Result<(Instant, Instant, Vec<Duration>)> {
+    let prepared = C::open(address).and_then(|mut client| {
+        let requests = client.requests(kind, log, count)?;
+        client.ready()?;
+        Ok((client, requests))
     });
     // Who failed waits as well, so that nobody waits for it.
     race.start.wait();
-    let (mut line, requests) = prepared?;
+    let (mut client, requests) = prepared?;
     let mut times = Vec::with_capacity(requests.len());
     let begin = Instant::now();
     for request in &requests {
         if race.over.load(Ordering::Relaxed) {
             break;
         }
-        line.ready()?;
+        client.ready()?;
         let asked = Instant::now();
-        line.ask(request.as_bytes())?;
+        client.call(request)?;
         times.push(asked.elapsed());
     }
     race.over.store(true, Ordering::Relaxed);
@@ -238,9 +304,17 @@ fn run(address: &str, kind: Kind, log: u32, count: u64, race: &Race) -> io::Resu
 }
 
 /// The line that tells what so many connections saw: requests, seconds, and the median and the 99th percentile of the latency in
-/// microseconds.
+/// microseconds. An address may have `redis:` or `postgres:` before it.
 pub fn load(address: &str, connections: u32, word: &str, count: u64) -> Result<String, String> {
-    let kind = kind(word).ok_or("kinds: append, append-rows, fetch, fetch-one")?;
+    let kind = kind(word).ok_or("no such kind")?;
+    match address.split_once(':') {
+        Some(("redis", rest)) => race::<Redis>(rest, connections, kind, count),
+        Some(("postgres", rest)) => race::<Postgres>(rest, connections, kind, count),
+        _ => race::<Line>(address, connections, kind, count),
+    }
+}
+
+fn race<C: Client>(address: &str, connections: u32, kind: Kind, count: u64) -> Result<String, String> {
     let race = Race {
         start: Barrier::new(connections as usize),
         over: AtomicBool::new(false),
@@ -249,7 +323,7 @@ pub fn load(address: &str, connections: u32, word: &str, count: u64) -> Result<S
         let clients: Vec<_> = (1..=connections)
             .map(|log| {
                 let race = &race;
-                scope.spawn(move || run(address, kind, log, count, race))
+                scope.spawn(move || run::<C>(address, kind, log, count, race))
             })
             .collect();
         clients.into_iter().map(|client| client.join().unwrap()).collect()

@@ -14,6 +14,7 @@ mod keys;
 mod load;
 mod nquads;
 mod open;
+mod peers;
 mod replay;
 mod serve;
 

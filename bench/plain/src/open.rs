@@ -1,4 +1,5 @@
-//! Opens a log: reads its journal, checks each payload as a patch, and finds where the patches are no chain, by an index of ids.
+//! Opens a log: reads its journal, cuts and checks each payload as a run of patches, and finds where these are no chain, by an
+//! index of ids.
 
 use crate::nquads::{fault, utf8};
 use crate::replay::{Id, Rows};
@@ -13,20 +14,45 @@ pub struct Link {
     pub prev: Option<Id>,
 }
 
-/// What a log's file holds.
+/// Patches, each with its ids and its text.
+pub type Patches<'a> = Vec<(Link, &'a [u8])>;
+
+/// What a log's file holds, in so many payloads.
 pub struct Chain<'a> {
-    pub patches: Vec<(Link, &'a [u8])>,
+    pub patches: Patches<'a>,
     pub versions: HashMap<Id, usize>,
+    pub payloads: usize,
+}
+
+/// A patch of which some rows were read.
+#[derive(Default)]
+struct Part {
+    begin: usize,
+    id: Option<Id>,
+    prev: Option<Id>,
+    inside: bool,
+    changed: bool,
+}
+
+impl Part {
+    /// Its ids, where it ends here.
+    fn finish(&self, at: usize) -> Result<Link, Fault> {
+        match self.id {
+            _ if self.inside => fault(at, "OpenBlock"),
+            None => fault(at, "NoId"),
+            Some(id) => Ok(Link { id, prev: self.prev }),
+        }
+    }
 }
 
 fn refused<T>(text: String) -> Result<T, String> {
     Err(text)
 }
 
-/// The rows of one patch.
-pub fn link(text: &[u8]) -> Result<Link, Fault> {
+/// The patches of a stream. One begins at a header behind another row, and at an id where there is one already.
+pub fn split(text: &[u8]) -> Result<Patches<'_>, Fault> {
     let mut reader = Rows::new(utf8(text)?);
-    let (mut id, mut prev, mut inside) = (None, None, false);
+    let (mut patches, mut part, mut has_rows) = (Vec::new(), Part::default(), false);
     let mut room = Vec::new();
     loop {
         reader.gap();
@@ -34,29 +60,45 @@ pub fn link(text: &[u8]) -> Result<Link, Fault> {
         if reader.peek().is_none() {
             break;
         }
+        has_rows = true;
         match reader.word() {
             b"H" => {
                 let (key, value) = reader.header(&mut room)?;
                 let Some(value) = value else { return fault(start, "BadId") };
-                let place = if key == b"id" { &mut id } else { &mut prev };
+                if part.changed || (key == b"id" && part.id.is_some()) {
+                    patches.push((part.finish(start)?, &text[part.begin..start]));
+                    part = Part { begin: start, ..Part::default() };
+                }
+                let place = if key == b"id" { &mut part.id } else { &mut part.prev };
                 *place = Some(value);
                 continue;
             }
             b"A" | b"D" => {
+                part.changed = true;
                 room.clear();
                 reader.statement(&mut room)?;
                 continue;
             }
-            b"TX" => inside = true,
-            b"TC" | b"TA" => inside = false,
+            b"TX" => part.inside = true,
+            b"TC" | b"TA" => part.inside = false,
             _ => return fault(start, "UnknownCode"),
         }
+        part.changed = true;
         reader.dot()?;
     }
-    match id {
-        _ if inside => fault(text.len(), "OpenBlock"),
-        None => fault(text.len(), "NoId"),
-        Some(id) => Ok(Link { id, prev }),
+    if has_rows {
+        patches.push((part.finish(text.len())?, &text[part.begin..]));
+    }
+    Ok(patches)
+}
+
+/// The ids of one patch.
+pub fn link(text: &[u8]) -> Result<Link, Fault> {
+    let mut patches = split(text)?;
+    match (patches.pop(), patches.pop()) {
+        (Some((link, _)), None) => Ok(link),
+        (_, Some((_, first))) => fault(first.len(), "TwoIds"),
+        (None, _) => fault(text.len(), "NoId"),
     }
 }
 
@@ -104,19 +146,25 @@ pub fn file(dir: &str, slot: u32) -> Result<Vec<u8>, String> {
 
 /// The chain that a log's file holds.
 pub fn chain(file: &[u8], slot: u32) -> Result<Chain<'_>, String> {
-    let mut patches: Vec<(Link, &[u8])> = Vec::new();
+    let mut patches: Patches = Vec::new();
     let mut versions = HashMap::new();
-    for payload in payloads(file, slot)? {
-        let version = patches.len() + 1;
-        let broken = || format!("broken chain at version {version}");
-        let link = link(payload).map_err(|_| broken())?;
-        let follows = link.prev == patches.last().map(|(last, _)| last.id);
-        if !follows || versions.insert(link.id, version).is_some() {
+    let found = payloads(file, slot)?;
+    for payload in &found {
+        let first = patches.len() + 1;
+        let broken = || format!("broken chain at version {first}");
+        let run = split(payload).map_err(|_| broken())?;
+        if run.is_empty() {
             return refused(broken());
         }
-        patches.push((link, payload));
+        for (link, text) in run {
+            let follows = link.prev == patches.last().map(|(last, _)| last.id);
+            if !follows || versions.insert(link.id, patches.len() + 1).is_some() {
+                return refused(broken());
+            }
+            patches.push((link, text));
+        }
     }
-    Ok(Chain { patches, versions })
+    Ok(Chain { patches, versions, payloads: found.len() })
 }
 
 /// The line that tells what a log's file holds.

@@ -1,10 +1,11 @@
 //! A server of logs over HTTP: threads that accept on one listener, and for each log an index of ids and texts behind a mutex.
-//! An append makes the writes and syncs of `append`.
+//! An append makes the writes and syncs of `append`, and so does a run of patches.
 
 use crate::append::add;
 use crate::open;
 use crate::replay::Id;
-use std::collections::HashMap;
+use crate::Fault;
+use std::collections::{HashMap, HashSet};
 use std::fs::{File, OpenOptions};
 use std::io::{self, Read, Write};
 use std::net::{TcpListener, TcpStream};
@@ -24,6 +25,7 @@ const MOST_BYTES: usize = 4_194_304;
 struct Log {
     file: File,
     end: u64,
+    payloads: u32,
     texts: Vec<Vec<u8>>,
     versions: HashMap<Id, usize>,
     head: Option<Id>,
@@ -55,14 +57,15 @@ impl Log {
     fn open(dir: &str, slot: u32) -> Result<Log, String> {
         let bytes = open::file(dir, slot)?;
         let found = open::chain(&bytes, slot)?;
-        let frames: usize = found.patches.iter().map(|(_, text)| text.len() + 9).sum();
+        let bytes_of: usize = found.patches.iter().map(|(_, text)| text.len()).sum();
         let file = OpenOptions::new()
             .write(true)
             .open(Path::new(dir).join(format!("rdj-{slot:04}")))
             .map_err(|error| error.to_string())?;
         Ok(Log {
             file,
-            end: 9 + frames as u64,
+            end: (9 + 9 * found.payloads + bytes_of) as u64,
+            payloads: found.payloads as u32,
             head: found.patches.last().map(|(link, _)| link.id),
             texts: found.patches.iter().map(|(_, text)| text.to_vec()).collect(),
             versions: found.versions,
@@ -70,8 +73,9 @@ impl Log {
     }
 
     fn write(&mut self, block: &[u8]) -> io::Result<()> {
-        add(&self.file, self.end, self.texts.len() as u32 + 1, block)?;
+        add(&self.file, self.end, self.payloads + 1, block)?;
         self.end += 4 + block.len() as u64;
+        self.payloads += 1;
         Ok(())
     }
 
@@ -86,10 +90,33 @@ impl Log {
         if self.write(block).is_err() {
             return json("500 Internal Server Error", r#"{"error":"disk_fault"}"#.into());
         }
-        self.texts.push(text);
-        self.head = Some(link.id);
-        self.versions.insert(link.id, self.texts.len());
+        self.push(link.id, text);
         json("200 OK", format!(r#"{{"version":{}}}"#, self.texts.len()))
+    }
+
+    fn append_run(&mut self, run: &open::Patches, block: &[u8]) -> Reply {
+        if let Some(version) = run.iter().find_map(|(link, _)| self.versions.get(&link.id)) {
+            let stands = self.texts[version - 1..].iter().map(Vec::as_slice).take(run.len());
+            let same = stands.eq(run.iter().map(|(_, text)| *text));
+            return json("409 Conflict", format!(r#"{{"error":"known","same":{same},"version":{version}}}"#));
+        }
+        if run[0].0.prev != self.head {
+            return json("409 Conflict", format!(r#"{{"error":"conflict","version":{}}}"#, self.texts.len()));
+        }
+        if self.write(block).is_err() {
+            return json("500 Internal Server Error", r#"{"error":"disk_fault"}"#.into());
+        }
+        let first = self.texts.len() + 1;
+        for (link, text) in run {
+            self.push(link.id, text.to_vec());
+        }
+        json("200 OK", format!(r#"{{"first":{first},"version":{}}}"#, self.texts.len()))
+    }
+
+    fn push(&mut self, id: Id, text: Vec<u8>) {
+        self.texts.push(text);
+        self.head = Some(id);
+        self.versions.insert(id, self.texts.len());
     }
 
     fn describe(&self) -> Reply {
@@ -112,15 +139,51 @@ impl Log {
     }
 }
 
+fn bad_patch(fault: Fault) -> Reply {
+    json("400 Bad Request", format!(r#"{{"at":{},"error":"bad_patch","kind":"{}"}}"#, fault.at, fault.kind))
+}
+
+/// What is written behind the running number of a payload.
+fn block(text: &[u8]) -> Vec<u8> {
+    let mut block = (text.len() as u32).to_be_bytes().to_vec();
+    block.extend_from_slice(text);
+    block.push(0);
+    block
+}
+
 fn append(log: &Mutex<Log>, text: Vec<u8>) -> Reply {
     match open::link(&text) {
-        Err(fault) => json("400 Bad Request", format!(r#"{{"at":{},"error":"bad_patch","kind":"{}"}}"#, fault.at, fault.kind)),
+        Err(fault) => bad_patch(fault),
         Ok(link) => {
-            let mut block = (text.len() as u32).to_be_bytes().to_vec();
-            block.extend_from_slice(&text);
-            block.push(0);
+            let block = block(&text);
             log.lock().unwrap().append(&link, text, &block)
         }
+    }
+}
+
+/// The place, from 2 on, of the first patch that doesn't go on a run; 0 where there is no patch.
+fn bad_place(run: &open::Patches) -> Option<usize> {
+    let mut ids = HashSet::new();
+    let mut last = None;
+    for (place, (link, _)) in run.iter().enumerate() {
+        if !ids.insert(link.id) || (place > 0 && link.prev != last) {
+            return Some(place + 1);
+        }
+        last = Some(link.id);
+    }
+    run.is_empty().then_some(0)
+}
+
+fn append_run(log: &Mutex<Log>, text: Vec<u8>) -> Reply {
+    match open::split(&text) {
+        Err(fault) => bad_patch(fault),
+        Ok(run) => match bad_place(&run) {
+            Some(at) => json("400 Bad Request", format!(r#"{{"at":{at},"error":"bad_run"}}"#)),
+            None => {
+                let block = block(&text);
+                log.lock().unwrap().append_run(&run, &block)
+            }
+        },
     }
 }
 
@@ -139,11 +202,12 @@ fn answer(logs: &[Mutex<Log>], request: Request) -> Reply {
     let Some(log) = log_of(logs, name) else {
         return json("404 Not Found", r#"{"error":"no_source"}"#.into());
     };
-    match (request.method.as_str(), version.map(str::parse)) {
-        ("POST", None) => append(log, request.body),
-        ("GET", None) => log.lock().unwrap().describe(),
-        ("GET", Some(Ok(version))) => log.lock().unwrap().fetch(version),
-        (_, Some(Err(_))) => json("404 Not Found", r#"{"error":"no_route"}"#.into()),
+    match (request.method.as_str(), version, version.map(str::parse)) {
+        ("POST", None, _) => append(log, request.body),
+        ("POST", Some("run"), _) => append_run(log, request.body),
+        ("GET", None, _) => log.lock().unwrap().describe(),
+        ("GET", _, Some(Ok(version))) => log.lock().unwrap().fetch(version),
+        (_, _, Some(Err(_))) => json("404 Not Found", r#"{"error":"no_route"}"#.into()),
         _ => json("405 Method Not Allowed", r#"{"error":"bad_method"}"#.into()),
     }
 }
