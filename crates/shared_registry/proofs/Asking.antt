@@ -59,12 +59,12 @@ module _ {D : Type 0} (disks : Ghosts D) where
   }
 
   -- the pass counted, and then only asked in the turn
-  pub behind : (origin : Made (StateView D)) (p m n q : RegistrySight) (held : Taken Event Event RegistryFixed (StateView D)) → IsPassOf (shared_registry disks) origin p → IsSame p m × (m.view.stage ≡ p.view.stage) → IsQuiet p m → IsPrefix (seen_of p) (seen_of m)
+  pub behind : (origin : Made (StateView D)) (p m n q : RegistrySight) (held : Taken Event Event RegistryFixed (StateView D)) → IsPassOf (shared_registry disks) origin p → IsSame p m × (m.view.stage ≡ p.view.stage) × (m.view.list ≡ p.view.list) → IsQuiet p m → IsPrefix (seen_of p) (seen_of m)
       → EntersTurn (shared_registry disks) m held n → LeavesTurn (shared_registry disks) n held q → FoundInTurn (shared_registry disks) origin.origin p q
   behind origin p m n q held of same quiet longer enters leaves =
       let Kept : StateView D → StateView D → Type 0 = λ found left. left ≡ found in
       earlier Kept origin.origin p m q quiet longer
-      (stay_told (shared_registry disks) m n q held held enters leaves refl Kept origin (same.0.0 ∙ of.0, same.1 ∙ of.1, same.0.3 ∙ of.2) enters.value (λ i. registry_fixed_of disks.mark (enters.value i)))
+      (stay_told (shared_registry disks) m n q held held enters leaves refl Kept origin (same.0.0 ∙ of.0, (same.1 ∙ of.1.0, same.2 ∙ of.1.1), same.0.3 ∙ of.2) enters.value (λ i. registry_fixed_of disks.mark (enters.value i)))
 
   -- a look-up that replies what the pass then has seen
   pub looked_up : (origin : StateView D) (p q : RegistrySight) (call : RegistryCall) (reply : RegistryReply) → Wants p q → FoundInTurn (shared_registry disks) origin p q ⊎ (seen_of q ≡ seen_of p)

@@ -39,17 +39,17 @@ module _ {C X F : Type 0} where
   pub quiet_on : (p m q : Sight C X F) → IsQuiet p m → IsQuiet m q → IsQuiet p q
   quiet_on p m q a b = (b.0 ∙ a.0, b.1 ∙ a.1, b.2 ∙ a.2)
 
-  -- the pass before the turn and in it
+  -- the pass before a call, and in a turn that it has entered since
   pub record Entered (p m : Sight C X F) : Type 0 where
     pub same : IsSame p m
     pub quiet : IsQuiet p m
     pub later : IsPrefix p.view.seen m.view.seen
     pub own : KnowsItsOwn m
-    pub looked : m.view.looks ≡ p.view.looks + 1
+    pub looked : p.view.looks < m.view.looks
 
   -- the pass has counted
-  pub counted : (p q : Sight C X F) → IsOutside p → IsSame p q × (q.view.stage ≡ p.view.stage) → IsQuiet p q → IsPrefix p.view.seen q.view.seen → KnowsItsOwn q → q.view.looks ≡ p.view.looks + 1 → Wants p q
-  counted p q out same quiet later own looked = let faults = quiet.1 in ((same.0, same.1 ∙ out, later, own, omega arith, omega arith), quiet)
+  pub counted : (p q : Sight C X F) → IsOutside p → IsSame p q × (q.view.stage ≡ p.view.stage) × (q.view.list ≡ p.view.list) → IsQuiet p q → IsPrefix p.view.seen q.view.seen → KnowsItsOwn q → q.view.looks ≡ p.view.looks + 1 → Wants p q
+  counted p q out same quiet later own looked = let faults = quiet.1 in ((same.0, (same.1 ∙ out.0, same.2 ∙ out.1), later, own, omega arith, omega arith), quiet)
 
   module _ (p m q : Sight C X F) (e : Entered p m) (same : IsSame m q × IsOutside q) (looks : q.view.looks ≡ m.view.looks) (own : KnowsItsOwn q) where
     -- the pass has left the turn as it was found

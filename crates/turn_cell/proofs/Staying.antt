@@ -1,5 +1,5 @@
 -- From the entering and the leaving of a turn to the stay.
-use Rattle.std.proofs.Common.{◌≡◌, ℕ, ◌+◌, List, [], ◌∷◌, ◌++◌, length, sym, ◌∙◌, subst, ⊎_elim, inl, inr, Option, Some, None}
+use Rattle.std.proofs.Common.{◌≡◌, ℕ, ◌+◌, List, [], ◌∷◌, ◌++◌, length, sym, ◌∙◌, arith, subst, ⊎_elim, inl, inr, Option, Some, None}
 use mathlib.Core.List.{IsPrefix}
 use Rattle.delta_base.specs.Outside.{Rose}
 use Rattle.turn_cell.specs.declared.chained.Chained.{Ghosts}
@@ -11,7 +11,7 @@ use Rattle.turn_cell.proofs.Knowing.{Entered, asked, sees_on, quiet_on, same_min
 
 module _ {V C X F : Type 0} (chained : Ghosts V C X F) (p m q : Sight C X F) (held back : Taken C X F V) (enters : EntersTurn chained p held m) (leaves : LeavesTurn chained m back q) (same : back.was ≡ held.was) where
   pub entered : Entered p m
-  entered = record { same = enters.same; quiet = enters.quiet; later = enters.later; own = enters.own; looked = enters.looked }
+  entered = record { same = enters.same; quiet = enters.quiet; later = enters.later; own = enters.own; looked = omega (arith, enters.looked) }
 
   -- the value that was found is that of the origin's cell
   pub fixed_found : (made : Made V) → IsPassOf chained made p → chained.fixed held.was ≡ chained.fixed made.origin

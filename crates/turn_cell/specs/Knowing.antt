@@ -30,7 +30,7 @@ module _ {C X F : Type 0} where
   abbrev pub looks_of : Sight C X F → ℕ
   looks_of p = p.view.looks
 
-  -- how often the pass drew a ticket for the turn
+  -- how often the pass drew a ticket
   abbrev pub turns_of : Sight C X F → ℕ
   turns_of p = p.view.turns
 

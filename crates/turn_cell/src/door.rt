@@ -25,29 +25,31 @@ const AWAITED: u64 = 2;
 // many looks, and a sleep costs a call of the system on both sides.
 const LOOKS: u32 = 100;
 
-// On cache lines of its own, so that passes at one door don't slow those at the next.
+/// A door that one pass at a time goes through. It stands on cache lines of its own, so that
+/// passes at one door don't slow those at the next.
 #[derive(Drop)]
-pub(crate) struct Door {
+pub struct Door {
     word: CachePadded<AtomicU64>,
 }
 
 impl Door {
-    pub(crate) fn new() -> Door {
+    /// An open door.
+    pub fn new() -> Door {
         Door {
             word: CachePadded::new(AtomicU64::new(OPEN)),
         }
     }
 
-    // Waits until nobody is inside, and goes in.
-    pub(crate) fn go_in<R: Wait>(&self, rt: &R) {
+    /// Waits until nobody is inside, and goes in.
+    pub fn go_in<R: Wait>(&self, rt: &R) {
         if !self.shut() {
             self.wait(rt);
         }
     }
 
-    // Opens the door. Where passes may sleep, one is woken: it leaves the door awaited
-    // for the others.
-    pub(crate) fn open(&self) {
+    /// Opens the door. Where passes may sleep, one is woken: it leaves the door awaited for the
+    /// others.
+    pub fn open(&self) {
         if self.word.swap(OPEN, Ordering::SeqCst) == AWAITED {
             self.word.wake_one();
         }

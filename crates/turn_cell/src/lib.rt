@@ -18,6 +18,7 @@ mod view;
 mod wait;
 
 pub use chained::Chained;
+pub use door::Door;
 pub use rule::{Making, TurnRule};
 pub use turn::{Held, Pass, Turn};
-pub use view::{Known, Published, Role, Stage, TakenIn, View};
+pub use view::{Known, Offered, Published, Role, Stage, TakenIn, View};

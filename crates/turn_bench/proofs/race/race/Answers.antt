@@ -1,9 +1,16 @@
-use Rattle.std.proofs.Common.{rules, ◌≡◌, ◌++◌, ℕ, ◌<◌, ◌≤◌, List, subst, sym, length, take, drop, arith}
+use Rattle.std.proofs.Common.{rules, ◌≡◌, ◌++◌, ◌∙◌, ℕ, ◌<◌, ◌≤◌, List, subst, sym, ap, length, take, drop, arith, slice_get}
+use Rattle.std.proofs.lemmas.Option.{slice_get-get_or}
 use Rattle.turn_cell.specs.Turns.{AllOf, Knew}
 use Rattle.turn_cell.specs.Sights.{AreAllPasses}
 use Rattle.turn_bench.specs.After.{NumberSight, AreAfter}
 use Rattle.turn_bench.proofs.Passes.{whole, all_idle, numbered, Numbered, have_added}
 use Rattle.turn_bench.proofs.race.race.Goals as goal
+
+pub stay_each-requires-after_bounds : goal.stay_each-requires-after_bounds
+stay_each-requires-after_bounds g c κs within = λ k d low.
+    let items : List NumberSight = c.deref_mut.result.now in
+    let new = c.in_ok-turn.ensures.new k _ (ap (λ l. slice_get l k) (sym c.deref_mut.ensures.value) ∙ slice_get-get_or items k d low) in
+    (new.0, new.8)
 
 pub close-requires : goal.close-requires
 close-requires g c =
