@@ -1,1 +1,1 @@
-mod Nothing
+mod Asking

@@ -4,10 +4,9 @@ use Rattle.serde_json.specs.Written.{compact_text}
 use Rattle.rpc_answers.specs.declared.answer.Answer.{Answer}
 use Rattle.rpc_answers.specs.Answers.{Body, json, patch, status_of, body_of}
 use Rattle.rpc_answers.specs.Prints.{compact}
-use Rattle.rpc_calls.specs.declared.call.Call.{Call}
+use Rattle.delta_client.specs.Exchanges.{WasSaid}
 use Rattle.delta_client.specs.declared.fault.AskFault.{AskFault}
 use Rattle.delta_client.specs.declared.fault.AskFault.TheVariants as asks
-use Rattle.client_commands.specs.Kinds.{IsAnswerTo}
 use Rattle.client_commands.specs.declared.fault.ClientFault.{ClientFault}
 use Rattle.client_commands.specs.declared.fault.ClientFault.TheVariants as faults
 
@@ -27,18 +26,16 @@ client_fault asks.CutShort = faults.CutShort
 client_fault (asks.NotUnderstood at) = faults.NotUnderstood at
 client_fault asks.OutOfMemory = faults.OutOfMemory
 
--- the end of a call that was answered: what is printed, the refusal that the answer is, or an
--- answer of another kind. Want of memory is free
-abbrev pub EndsAnswered : Call → Answer → Result (List ℕ) ClientFault → Type 0
-EndsAnswered call a (Ok text) = IsAnswerTo call a × (text ≡ printed a)
-EndsAnswered call a (Err (faults.Refused status body)) =
+-- the end of a call that was answered: what is printed, or the refusal that the answer is. Want of
+-- memory is free
+abbrev pub EndsAnswered : Answer → Result (List ℕ) ClientFault → Type 0
+EndsAnswered a (Ok text) = (status_of a ≡ 200) × (text ≡ printed a)
+EndsAnswered a (Err (faults.Refused status body)) =
     (status_of a ≢ 200) × (status ≡ status_of a) × (body ≡ compact (body_of a))
-EndsAnswered call a (Err (faults.NotUnderstood at)) =
-    (status_of a ≡ 200) × (IsAnswerTo call a → ⊥) × (at ≡ 0)
-EndsAnswered call a (Err faults.OutOfMemory) = Unit {0}
-EndsAnswered call a (Err other) = ⊥
+EndsAnswered a (Err faults.OutOfMemory) = Unit {0}
+EndsAnswered a (Err other) = ⊥
 
 -- the end of a call, by what was said to it; a fault of asking is handed on
-abbrev pub EndsCall : Call → Result Answer AskFault → Result (List ℕ) ClientFault → Type 0
-EndsCall call (Ok a) result = EndsAnswered call a result
-EndsCall call (Err fault) result = result ≡ Err (client_fault fault)
+abbrev pub EndsCall : WasSaid → Result (List ℕ) ClientFault → Type 0
+EndsCall (Ok a) result = EndsAnswered a result
+EndsCall (Err fault) result = result ≡ Err (client_fault fault)

@@ -1,11 +1,11 @@
 //! Calls over a connection of their own.
-ghost use Rattle.std.specs.Prelude.{◌≡◌, ◌≤◌, None, true, IsSome, IsNone, IfOk, IsErrOf};
+ghost use Rattle.std.specs.Prelude.{◌≡◌, ◌≤◌, ◌+◌, None, true, IsSome, IsNone, IfOk, IsErrOf};
 ghost use Rattle.std.specs.List.{list_all};
 ghost use Rattle.delta_base.specs.Memory.{CountsCall};
 ghost use Rattle.delta_base.specs.Outside.{Rose};
 ghost use Rattle.http_text.specs.Print.{is_visible};
-ghost use Rattle.delta_client.specs.Lines.{told_of};
-ghost use Rattle.client_commands.specs.Asks.{AsksBoth, AsksOnce, AsksOver, AsksTwo, HangsUp, Joins};
+ghost use Rattle.delta_client.specs.Exchanges.{dial_view};
+ghost use Rattle.client_commands.specs.Asks.{AsksBoth, AsksOnce, AsksOver, AsksTwo, Joins};
 
 use crate::fault::ClientFault;
 use crate::printed::end_of;
@@ -46,36 +46,17 @@ fn ask_over<N: Dial>(
     requires visible { list_all is_visible address.now ≡ true }
     requires awaits { IsSome line.old.open → N.awaits net.old }
     ensures asks { N.tells → AsksOver N.L.left N.L.sent address.now call.now line.old.open
-        (told_of (N.to_come net.old) (N.addresses net.old) (N.back net.old))
-        (told_of (N.to_come net.new) (N.addresses net.new) (N.back net.new))
-        line.new.open result }
+        (dial_view N.Dial net.old) (dial_view N.Dial net.new) line.new.open result }
     ensures awaits { IsSome line.new.open → N.awaits net.new }
     ensures tried { IsNone line.old.open → CountsCall (N.tries net.old) (N.tries net.new) }
+    ensures tries { N.tries net.new ≤ N.tries net.old + 1 }
     ensures cause { IsErrOf result ClientFault.LinkFailed
         → Rose (N.faults net.old) (N.faults net.new) }
     ensures never_falls { N.faults net.old ≤ N.faults net.new }
 {
     match ask_again(alloc, net, line, address, call) {
-        Ok(answer) => end_of(alloc, call, answer),
+        Ok(answer) => end_of(alloc, answer),
         Err(fault) => Err(ClientFault::of_ask(fault)),
-    }
-}
-
-// Hangs up what is open.
-fn end_line<N: Dial>(line: Line<N::L>, net: &mut N)
-    requires { IsSome line.open → N.awaits net.old }
-    ensures hung { N.tells → HangsUp line.open
-        (told_of (N.to_come net.old) (N.addresses net.old) (N.back net.old))
-        (told_of (N.to_come net.new) (N.addresses net.new) (N.back net.new)) }
-    ensures tries { N.tries net.new ≡ N.tries net.old }
-    ensures never_falls { N.faults net.old ≤ N.faults net.new }
-{
-    let mut line = line;
-    line.hang_up(net);
-    let Line { open } = line;
-    match open {
-        None => {}
-        Some(_) => unreachable!(),
     }
 }
 
@@ -89,8 +70,7 @@ pub fn ask_once<N: Dial>(
 ) -> Result<Bytes, ClientFault>
     requires { list_all is_visible address.now ≡ true }
     ensures asks { N.tells → AsksOnce N.L.left N.L.sent address.now call.now
-        (told_of (N.to_come net.old) (N.addresses net.old) (N.back net.old))
-        (told_of (N.to_come net.new) (N.addresses net.new) (N.back net.new)) result }
+        (dial_view N.Dial net.old) (dial_view N.Dial net.new) result }
     ensures tries { CountsCall (N.tries net.old) (N.tries net.new) }
     ensures cause { IsErrOf result ClientFault.LinkFailed
         → Rose (N.faults net.old) (N.faults net.new) }
@@ -98,7 +78,7 @@ pub fn ask_once<N: Dial>(
 {
     let mut line = Line::new();
     let ended = ask_over(alloc, net, &mut line, address, call);
-    end_line(line, net);
+    line.end(net);
     ended
 }
 
@@ -108,20 +88,22 @@ fn ask_two<N: Dial>(
     net: &mut N,
     line: &mut Line<N::L>,
     address: &Text,
-    calls: &TwoCalls,
+    name: &Text,
 ) -> Result<Bytes, ClientFault>
     requires visible { list_all is_visible address.now ≡ true }
     requires none { line.old.open ≡ None }
-    ensures asks { N.tells
-        → AsksTwo N.L.left N.L.sent address.now calls.now.source calls.now.log
-        (told_of (N.to_come net.old) (N.addresses net.old) (N.back net.old))
-        (told_of (N.to_come net.new) (N.addresses net.new) (N.back net.new))
-        line.new.open result }
+    ensures asks { N.tells → AsksTwo N.L.left N.L.sent address.now name.now line.old.open
+        (dial_view N.Dial net.old) (dial_view N.Dial net.new) line.new.open result }
     ensures awaits { IsSome line.new.open → N.awaits net.new }
+    ensures tries { N.tries net.new ≤ N.tries net.old + 2 }
     ensures cause { IsErrOf result ClientFault.LinkFailed
         → Rose (N.faults net.old) (N.faults net.new) }
     ensures never_falls { N.faults net.old ≤ N.faults net.new }
 {
+    let calls = match TwoCalls::of_name(name) {
+        Ok(calls) => calls,
+        Err(_) => return Err(ClientFault::OutOfMemory),
+    };
     match ask_over(alloc, net, line, address, &calls.source) {
         Ok(first) => {
             let second = ask_over(alloc, net, line, address, &calls.log);
@@ -157,19 +139,16 @@ pub fn describe<N: Dial>(
 ) -> Result<Bytes, ClientFault>
     requires { list_all is_visible address.now ≡ true }
     ensures asks { N.tells → AsksBoth N.L.left N.L.sent address.now name.now
-        (told_of (N.to_come net.old) (N.addresses net.old) (N.back net.old))
-        (told_of (N.to_come net.new) (N.addresses net.new) (N.back net.new)) result }
+        (dial_view N.Dial net.old) (dial_view N.Dial net.new) result }
+
+    // Where the dial tells nothing, a connection is tried for twice at most.
+    ensures tries { N.tries net.new ≤ N.tries net.old + 2 }
     ensures cause { IsErrOf result ClientFault.LinkFailed
         → Rose (N.faults net.old) (N.faults net.new) }
     ensures never_falls { N.faults net.old ≤ N.faults net.new }
 {
-    let calls = match TwoCalls::of_name(name) {
-        Ok(calls) => calls,
-        Err(_) => return Err(ClientFault::OutOfMemory),
-    };
     let mut line = Line::new();
-    let ended = ask_two(alloc, net, &mut line, address, &calls);
-    drop(calls);
-    end_line(line, net);
+    let ended = ask_two(alloc, net, &mut line, address, name);
+    line.end(net);
     ended
 }

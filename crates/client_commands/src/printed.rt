@@ -1,13 +1,12 @@
 //! What is printed of an answer.
-ghost use Rattle.std.specs.Prelude.{◌≡◌, ◌≢◌, ◌++◌, ◌∷◌, [], Ok, IfErr, IfOk};
-ghost use Rattle.rpc_answers.specs.Answers.{NamesItsFault};
-ghost use Rattle.client_commands.specs.Answers.{EndsAnswered};
+ghost use Rattle.std.specs.Prelude.{◌≡◌, ◌++◌, ◌∷◌, [], true, false, IfOk};
+ghost use Rattle.rpc_answers.specs.Answers.{NamesItsFault, body_of};
+ghost use Rattle.rpc_answers.specs.Prints.{compact};
+ghost use Rattle.client_commands.specs.Answers.{EndsAnswered, printed};
 
 use crate::fault::ClientFault;
-use crate::kind::Kind;
 use delta_base::{Bytes, OutOfMemory};
 use rpc_answers::{Answer, into_reply};
-use rpc_calls::Call;
 use std::alloc::Global;
 
 // The text and a line feed.
@@ -19,27 +18,23 @@ fn with_line_feed(text: Bytes) -> Result<Bytes, OutOfMemory>
     Ok(Bytes::from_vec(line))
 }
 
-// The text that is printed, of a body: a patch as it is.
-fn print_body(kind: Kind, body: Bytes) -> Result<Bytes, ClientFault>
-    ensures patch { kind ≡ Kind.Patch → result ≡ Ok body }
-    ensures line { kind ≢ Kind.Patch → IfOk result (λ text. text ≡ body ++ 10 ∷ []) }
-    ensures memory { IfErr result (λ fault. fault ≡ ClientFault.OutOfMemory) }
+// Whether an answer's text is printed as it is. A patch's is; behind JSON there is a line feed.
+fn is_patch(answer: &Answer) -> bool
+    ensures yes { result ≡ true → printed answer.now ≡ compact (body_of answer.now) }
+    ensures no { result ≡ false → printed answer.now ≡ compact (body_of answer.now) ++ 10 ∷ [] }
 {
-    if kind == Kind::Patch {
-        return Ok(body);
-    }
-    match with_line_feed(body) {
-        Ok(line) => Ok(line),
-        Err(_) => Err(ClientFault::OutOfMemory),
+    match answer {
+        Answer::Patch { .. } => true,
+        _ => false,
     }
 }
 
 /// The end of a call that was answered.
-pub(crate) fn end_of(alloc: Global, call: &Call, answer: Answer) -> Result<Bytes, ClientFault>
+pub(crate) fn end_of(alloc: Global, answer: Answer) -> Result<Bytes, ClientFault>
     requires { NamesItsFault answer }
-    ensures { EndsAnswered call.now answer result }
+    ensures { EndsAnswered answer result }
 {
-    let said = Kind::said(&answer);
+    let is_patch = is_patch(&answer);
     let reply = match into_reply(alloc, answer, false) {
         Ok(reply) => reply,
         Err(_) => return Err(ClientFault::OutOfMemory),
@@ -49,10 +44,11 @@ pub(crate) fn end_of(alloc: Global, call: &Call, answer: Answer) -> Result<Bytes
     if status != 200 {
         return Err(ClientFault::Refused { status, body });
     }
-    let asked = Kind::asked(call);
-    if said == Some(asked) {
-        print_body(asked, body)
-    } else {
-        Err(ClientFault::NotUnderstood { at: 0 })
+    if is_patch {
+        return Ok(body);
+    }
+    match with_line_feed(body) {
+        Ok(line) => Ok(line),
+        Err(_) => Err(ClientFault::OutOfMemory),
     }
 }

@@ -16,9 +16,9 @@ use Rattle.follower.specs.declared.ends.SyncEnd.{SyncEnd}
 use Rattle.follower.specs.declared.ends.SyncEnd.TheVariants as ends
 use Rattle.zone_commands.specs.Following.{Followed}
 use Rattle.command_tables.specs.Channels.{Channel}
-use Rattle.delta_cli.specs.Syncs.{StopsOpening, StopsSync, Synced, dialled, unopened}
+use Rattle.delta_cli.specs.Syncs.{StopsOpening, StopsSync, Synced, unopened}
 use Rattle.command_tables.specs.Views.{ShelfView}
-use Rattle.delta_cli.specs.Views.{DialView}
+use Rattle.delta_client.specs.Exchanges.{DialView}
 use Rattle.command_tables.specs.Refusals.{zone_refusal}
 use Rattle.delta_cli.specs.Zones.{KeepsZone}
 use Rattle.command_tables.specs.declared.refusal.Refusal.{Refusal}
@@ -38,7 +38,7 @@ opening_stops dir tells old new result (zones.BrokenChain version) is has cause 
 module _ {H D N L : Type 0} (shelf : ShelfGhosts H D) (dial : DialGhosts N L) (links : LinkGhosts L) (dir address name : List ℕ) (old new : ShelfView) (net net' : DialView L) (result : Result SyncEnd ZoneFault) where
   -- a zone that followed a log
   pub synced : (end : SyncEnd) → result ≡ Ok end
-      → Followed links.left links.sent shelf.tells dial.tells address name (bytes_at old.files dir zone_number) (bytes_at new.files dir zone_number) (dialled net) (dialled net') end
+      → Followed links.left links.sent shelf.tells dial.tells address name (bytes_at old.files dir zone_number) (bytes_at new.files dir zone_number) net net' end
       → (shelf.tells → SameOthers (Some (dir, zone_number)) old.files new.files) → (result ≡ Ok ends.DiskFault → Rose old.faults new.faults) → (result ≡ Ok ends.LinkFault → Rose net.faults net'.faults)
       → Synced shelf dial links dir address name old new net net' end
   synced end is followed others disk link = record {

@@ -1,5 +1,5 @@
 -- What commands ask of a server, what they print of its answers, and why they don't.
-use Rattle.std.specs.Prelude.{◌≡◌, ℕ, List, Result, Ok, Err}
+use Rattle.std.specs.Prelude.{◌≡◌, ℕ, ◌+◌, ◌≤◌, List, Result, Ok, Err}
 use Rattle.std.specs.Io.KnownBytes.{Consumes, IsAtEnd}
 use Rattle.delta_base.specs.Memory.{CountsCall}
 use Rattle.delta_base.specs.Outside.{Rose}
@@ -17,6 +17,7 @@ use Rattle.patch_meaning.specs.declared.fault.PatchKind.{PatchKind}
 use Rattle.patch_reader.specs.Places.{line_number}
 use Rattle.rpc_calls.specs.declared.call.Call.{Call}
 use Rattle.rpc_calls.specs.declared.call.Call.TheVariants as calls
+use Rattle.delta_client.specs.Exchanges.{DialView}
 use Rattle.delta_client.specs.declared.dial.Dial.{Ghosts as DialGhosts}
 use Rattle.client_commands.specs.Asks.{AsksBoth, AsksOnce}
 use Rattle.client_commands.specs.declared.fault.ClientFault.{ClientFault}
@@ -24,7 +25,6 @@ use Rattle.client_commands.specs.declared.fault.ClientFault.TheVariants as clien
 use Rattle.command_tables.specs.Channels.{Channel, ChannelFailed, IsLonger, IsSilent, WritesText}
 use Rattle.command_tables.specs.Channels.{WritesFront}
 use Rattle.stream_replay.specs.Places.{IsFaultyStream}
-use Rattle.delta_cli.specs.Views.{DialView}
 use Rattle.delta_cli.specs.declared.append.Appended.{Appended}
 use Rattle.delta_cli.specs.declared.append.Appended.TheVariants as appended
 use Rattle.command_tables.specs.declared.refusal.Refusal.{Refusal}
@@ -42,13 +42,14 @@ module _ {N L : Type 0} (dial : DialGhosts N L) (links : LinkGhosts L) (address 
   pub record Asked (call : Call) (net net' : DialView L) (ended : AskedEnd) : Type 0 where
     pub tries : CountsCall net.tries net'.tries
     pub asks : dial.tells
-        → AsksOnce links.left links.sent address call net.links net'.links ended
+        → AsksOnce links.left links.sent address call net net' ended
     pub cause : ended ≡ Err clients.LinkFailed → Rose net.faults net'.faults
 
-  -- the same of a source and its log, over as many connections as it took
+  -- the same of a source and its log, over as many connections as it took, two at most
   pub record Described (name : List ℕ) (net net' : DialView L) (ended : AskedEnd) : Type 0 where
+    pub tries : net'.tries ≤ net.tries + 2
     pub asks : dial.tells
-        → AsksBoth links.left links.sent address name net.links net'.links ended
+        → AsksBoth links.left links.sent address name net net' ended
     pub cause : ended ≡ Err clients.LinkFailed → Rose net.faults net'.faults
 
 -- ---- what was printed

@@ -9,6 +9,7 @@ use Rattle.chain_core.specs.declared.testing.ChainFault.TheVariants as chains
 use Rattle.disk_model.specs.Shelf.{SameOthers}
 use Rattle.disk_model.specs.declared.shelf.Shelf.{Ghosts as ShelfGhosts}
 use Rattle.slot_files.specs.Files.{bytes_at}
+use Rattle.delta_client.specs.Exchanges.{DialView}
 use Rattle.delta_client.specs.declared.dial.Dial.{Ghosts as DialGhosts}
 use Rattle.rpc_answers.specs.Answers.{body_of}
 use Rattle.rpc_answers.specs.Prints.{compact}
@@ -16,14 +17,12 @@ use Rattle.rpc_answers.specs.declared.answer.Answer.TheVariants.{NoSource}
 use Rattle.zone_state.specs.Fault.{HasZoneFault}
 use Rattle.zone_state.specs.Zone.{zone_number}
 use Rattle.zone_state.specs.declared.fault.ZoneFault.TheVariants as zones
-use Rattle.follower.specs.Exchanges.{Net}
 use Rattle.follower.specs.declared.ends.SyncEnd.{SyncEnd}
 use Rattle.follower.specs.declared.ends.SyncEnd.TheVariants as ends
 use Rattle.zone_commands.specs.Following.{Followed}
 use Rattle.command_tables.specs.Channels.{Channel, IsSilent, WritesText}
 use Rattle.delta_cli.specs.Results.{StopsPrinting}
 use Rattle.command_tables.specs.Views.{ShelfView}
-use Rattle.delta_cli.specs.Views.{DialView}
 use Rattle.delta_cli.specs.Zones.{HasZoneFileFault, KeepsZone}
 use Rattle.command_tables.specs.declared.refusal.Refusal.{Refusal}
 use Rattle.command_tables.specs.declared.refusal.Refusal.TheVariants as refusals
@@ -31,10 +30,6 @@ use Rattle.command_tables.specs.declared.refusal.Refusal.TheVariants as refusals
 -- the zone has so many patches, which are all of the log
 abbrev pub caught_up_line : ℕ → List ℕ
 caught_up_line version = codes "caught up at version " ++ (decimal version ++ 10 ∷ [])
-
--- what is told of a dial, without the count of its faults
-abbrev pub dialled : {L : Type 0} → DialView L → Net L
-dialled net = record { told = net.links; tries = net.tries }
 
 -- which refusal tells this end
 abbrev pub TellsEnd : SyncEnd → Refusal → Type 0
@@ -73,7 +68,7 @@ module _ {H D N L : Type 0} (shelf : ShelfGhosts H D) (dial : DialGhosts N L)
   pub record Synced (old new : ShelfView) (net net' : DialView L) (end : SyncEnd) : Type 0 where
     pub followed : Followed links.left links.sent shelf.tells dial.tells address name
         (bytes_at old.files dir zone_number) (bytes_at new.files dir zone_number)
-        (dialled net) (dialled net') end
+        net net' end
     pub others : shelf.tells → SameOthers (Some (dir, zone_number)) old.files new.files
     pub disk : end ≡ ends.DiskFault → Rose old.faults new.faults
     pub link : end ≡ ends.LinkFault → Rose net.faults net'.faults

@@ -1,25 +1,11 @@
 -- What is told of the objects of the outside before and after a run of the tool.
-use Rattle.std.specs.Prelude.{ℕ}
 use Rattle.delta_base.specs.declared.outside.Sink.{Ghosts as SinkGhosts}
 use Rattle.delta_base.specs.declared.outside.Source.{Ghosts as SourceGhosts}
 use Rattle.disk_model.specs.declared.shelf.Shelf.{Ghosts as ShelfGhosts}
-use Rattle.delta_client.specs.Lines.{Links, told_of}
+use Rattle.delta_client.specs.Exchanges.{DialView, dial_view}
 use Rattle.delta_client.specs.declared.dial.Dial.{Ghosts as DialGhosts}
 use Rattle.command_tables.specs.Channels.{Channel}
 use Rattle.command_tables.specs.Views.{ShelfView, input_view, output_view, shelf_view}
-
--- the connections of a dial, how often one was tried for, and how often a call has failed
-pub record DialView (L : Type 0) : Type 0 where
-  pub links : Links L
-  pub tries : ℕ
-  pub faults : ℕ
-
-abbrev pub dial_view : {N L : Type 0} → DialGhosts N L → N → DialView L
-dial_view dial net = record {
-  links = told_of (dial.to_come net) (dial.addresses net) (dial.back net);
-  tries = dial.tries net;
-  faults = dial.faults net;
-}
 
 -- what is told of all that a command works with: the input, out, the shelf and the dial
 pub record OutsideView (L : Type 0) : Type 0 where

@@ -7,7 +7,7 @@ ghost use Rattle.command_tables.specs.Addresses.{IsAddress};
 ghost use Rattle.delta_cli.specs.Asked.{AppendsInput, IsReadAs, MayBeAppended, append_call};
 ghost use Rattle.delta_cli.specs.Asked.{HasTextFault, StopsAppend, StopsInput, StopsText};
 ghost use Rattle.command_tables.specs.Views.{input_view, output_view};
-ghost use Rattle.delta_cli.specs.Views.{dial_view};
+ghost use Rattle.delta_client.specs.Exchanges.{dial_view};
 
 use crate::ask::ask;
 use crate::input::{InputFault, read_all};

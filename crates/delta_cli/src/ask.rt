@@ -3,7 +3,7 @@ ghost use Rattle.std.specs.Prelude.{◌≡◌, IfErr, OnOk};
 ghost use Rattle.command_tables.specs.Addresses.{IsAddress};
 ghost use Rattle.delta_cli.specs.Asked.{Asked, Described, PrintsEnd, StopsAsking};
 ghost use Rattle.command_tables.specs.Views.{output_view};
-ghost use Rattle.delta_cli.specs.Views.{dial_view};
+ghost use Rattle.delta_client.specs.Exchanges.{dial_view};
 
 use client_commands::{ClientFault, ask_once};
 use command_tables::Refusal;

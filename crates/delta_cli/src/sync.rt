@@ -6,7 +6,7 @@ ghost use Rattle.command_tables.specs.Channels.{WritesText};
 ghost use Rattle.delta_cli.specs.Results.{StopsPrinting};
 ghost use Rattle.delta_cli.specs.Syncs.{CatchesUp, StopsSync, TellsEnd, caught_up_line};
 ghost use Rattle.command_tables.specs.Views.{output_view, shelf_view};
-ghost use Rattle.delta_cli.specs.Views.{dial_view};
+ghost use Rattle.delta_client.specs.Exchanges.{dial_view};
 
 use chain_core::ChainFault;
 use command_tables::Refusal;

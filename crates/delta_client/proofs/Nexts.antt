@@ -12,6 +12,7 @@ use Rattle.http_heads.specs.declared.message.Kind.TheVariants.{Replies}
 use Rattle.http_heads.specs.declared.message.Message.{Message}
 use Rattle.http_heads.specs.declared.message.RawReply.{RawReply}
 use Rattle.http_text.specs.declared.reader.MessageReader.{MessageReader}
+use Rattle.rpc_calls.specs.declared.call.Call.{Call}
 use Rattle.delta_client.specs.declared.fault.AskFault.{AskFault}
 use Rattle.delta_client.specs.declared.fault.AskFault.TheVariants as ask
 use Rattle.rpc_answers.specs.declared.fault.AnswerFault.{AnswerFault}
@@ -82,13 +83,13 @@ consumed_none a b c read piece count one other none =
 
 -- ---- the answers of replies
 
-pub no_answer : (bytes : List ℕ) (taken : List RawReply) (left : Option (List ℕ)) (reader : MessageReader) (fault : AskFault) → NextReplyIs bytes taken left reader (Err fault) → NoAnswer bytes taken left fault
-no_answer bytes taken left reader ask.LinkFault is = tt
-no_answer bytes taken left reader ask.CutShort is = is
-no_answer bytes taken left reader (ask.NotUnderstood at) is = inl is
-no_answer bytes taken left reader ask.OutOfMemory is = tt
+pub no_answer : (call : Call) (bytes : List ℕ) (taken : List RawReply) (left : Option (List ℕ)) (reader : MessageReader) (fault : AskFault) → NextReplyIs bytes taken left reader (Err fault) → NoAnswer call bytes taken left fault
+no_answer call bytes taken left reader ask.LinkFault is = tt
+no_answer call bytes taken left reader ask.CutShort is = is
+no_answer call bytes taken left reader (ask.NotUnderstood at) is = inl is
+no_answer call bytes taken left reader ask.OutOfMemory is = tt
 
-pub refused : (bytes : List ℕ) (taken : List RawReply) (left : Option (List ℕ)) (reply : RawReply) (fault : AnswerFault) → BeginWith bytes (taken ++ reply ∷ []) → IsRefusedReply reply fault
-    → NoAnswer bytes taken left (of_answer fault)
-refused bytes taken left reply (answers.NotUnderstood at) begin is = inr (reply, begin, is)
-refused bytes taken left reply answers.OutOfMemory begin is = tt
+pub refused : (call : Call) (bytes : List ℕ) (taken : List RawReply) (left : Option (List ℕ)) (reply : RawReply) (fault : AnswerFault) → BeginWith bytes (taken ++ reply ∷ []) → IsRefusedReply reply fault
+    → NoAnswer call bytes taken left (of_answer fault)
+refused call bytes taken left reply (answers.NotUnderstood at) begin is = inr (inl (reply, begin, is))
+refused call bytes taken left reply answers.OutOfMemory begin is = tt

@@ -1,3 +1,5 @@
+pub mod Kinds
 pub mod Asking
 pub mod Lines
 pub mod Memory
+pub mod Exchanges

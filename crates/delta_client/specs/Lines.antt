@@ -6,11 +6,12 @@ use Rattle.http_text.specs.Taken.{GaveReplies}
 use Rattle.http_heads.specs.declared.message.RawReply.{RawReply}
 use Rattle.rpc_answers.specs.declared.answer.Answer.{Answer}
 use Rattle.rpc_answers.specs.Prints.{IsPrintOf}
-use Rattle.sink_writing.specs.Writing.{AppendsFront}
+use Rattle.rpc_calls.specs.declared.call.Call.{Call}
 use Rattle.delta_client.specs.declared.fault.AskFault.{AskFault}
 use Rattle.delta_client.specs.declared.fault.AskFault.TheVariants.{LinkFault, OutOfMemory}
 use Rattle.delta_client.specs.declared.line.Open.{Open}
-use Rattle.delta_client.specs.Asking.{BeginWith, NoAnswer}
+use Rattle.delta_client.specs.Asking.{BeginWith, NoAnswer, SendsFirst, SentFor, call_text}
+use Rattle.delta_client.specs.Kinds.{MayAnswer}
 
 -- a connection: as it came, as it is, and the replies that were read of it
 pub record Connection (L : Type 0) : Type 0 where
@@ -94,25 +95,27 @@ module _ {L : Type 0} (left : L → Option (List ℕ)) where
 
 module _ {L : Type 0} (left sent : L → Option (List ℕ)) where
   -- A call's text was sent over the connection, whose link then is this one, and the answer is what
-  -- the next reply prints; or a front of it was sent, there is no answer, and the connection
-  -- is hung up.
-  abbrev pub AnswersOver : List ℕ → Connection L → L → Links L → Links L → Option (Open L)
+  -- the next reply prints; or there is no answer, so much was sent as that fault leaves, and the
+  -- connection is hung up.
+  abbrev pub AnswersOver : List ℕ → Call → Connection L → L → Links L → Links L → Option (Open L)
       → Result Answer AskFault → Type 0
-  AnswersOver text over link made after line (Ok answer) =
+  AnswersOver host call over link made after line (Ok answer) =
       (read : List ℕ) × (reply : RawReply) × Consumes (left over.came) (left link) read
       × BeginWith read (over.replies ++ reply ∷ []) × IsPrintOf reply answer
-      × Appends (sent over.now) (sent link) text
+      × MayAnswer call answer × Appends (sent over.now) (sent link) (call_text host call)
       × IsBehindReply left over link reply made after line
-  AnswersOver text over link made after line (Err fault) =
+  AnswersOver host call over link made after line (Err fault) =
       (read : List ℕ) × Consumes (left over.came) (left link) read
-      × NoAnswer read over.replies (left link) fault
-      × AppendsFront (sent over.now) (sent link) text × IsHungUp link made after line
+      × NoAnswer call read over.replies (left link) fault
+      × SentFor fault (sent over.now) (sent link) (call_text host call)
+      × SendsFirst (left over.now) (left link) (sent over.now) (sent link) (call_text host call)
+      × IsHungUp link made after line
 
   -- the call went over a connection and was answered so, or no connection could be made
-  abbrev pub Over : List ℕ → List ℕ → Option (Connection L) → Links L → Links L → Option (Open L)
+  abbrev pub Over : List ℕ → Call → Option (Connection L) → Links L → Links L → Option (Open L)
       → Result Answer AskFault → Type 0
-  Over address text standing before after line result =
+  Over address call standing before after line result =
       ((over : Connection L) × (made : Links L) × (link : L)
       × GoesOver address standing before over made
-      × AnswersOver text over link made after line result)
+      × AnswersOver address call over link made after line result)
       ⊎ IsNotMade standing before after line result

@@ -1,5 +1,6 @@
 //! One call and its answer.
-ghost use Rattle.std.specs.Prelude.{◌≡◌, ◌≤◌, ◌++◌, ℕ, List, true, OnOk, IfOk, IsErrOf};
+ghost use Rattle.std.specs.Prelude.{◌≡◌, ◌≢◌, ◌≤◌, ◌++◌, ℕ, List, true};
+ghost use Rattle.std.specs.Prelude.{OnOk, IfOk, IfErr, IsErrOf};
 ghost use Rattle.std.specs.List.{list_all};
 ghost use Rattle.std.specs.Io.KnownBytes.{Appends, Consumes};
 ghost use Rattle.delta_base.specs.Outside.{Rose};
@@ -8,9 +9,11 @@ ghost use Rattle.http_text.specs.Taken.{GaveReplies};
 ghost use Rattle.http_text.specs.Print.{is_visible};
 ghost use Rattle.rpc_answers.specs.Answers.{NamesItsFault};
 ghost use Rattle.sink_writing.specs.Writing.{AppendsFront};
-ghost use Rattle.delta_client.specs.Asking.{AnswerIs, call_text};
+ghost use Rattle.delta_client.specs.Kinds.{MayAnswer};
+ghost use Rattle.delta_client.specs.Asking.{AnswerIs, SendsFirst, call_text};
 
 use crate::fault::AskFault;
+use crate::kind::takes;
 use crate::reply::next_reply;
 use delta_base::{Bytes, Link, OutOfMemory, Text};
 use http_text::{ReplyReader, print_request};
@@ -43,12 +46,18 @@ fn request_of(alloc: Global, host: &Text, call: &Call) -> Result<Bytes, OutOfMem
     print_request(alloc, &request, host)
 }
 
-// What the next reply says.
-fn hear<L: Link>(alloc: Global, link: &mut L, reader: &mut ReplyReader) -> Result<Asked, AskFault>
+// What the next reply says to a call.
+fn hear<L: Link>(
+    alloc: Global,
+    link: &mut L,
+    reader: &mut ReplyReader,
+    call: &Call,
+) -> Result<Asked, AskFault>
     ensures answer { (given : List ℕ) (taken : List Reply) → GaveReplies given taken reader.old
         → (read : List ℕ) × Consumes (L.left link.old) (L.left link.new) read
-        × AnswerIs (given ++ read) taken (L.left link.new) reader.new result }
+        × AnswerIs call.now (given ++ read) taken (L.left link.new) reader.new result }
     ensures named { IfOk result (λ asked. NamesItsFault asked.answer) }
+    ensures takes { IfOk result (λ asked. MayAnswer call.now asked.answer) }
     ensures sent { L.sent link.new ≡ L.sent link.old }
     ensures cause { IsErrOf result AskFault.LinkFault
         → Rose (L.faults link.old) (L.faults link.new) }
@@ -58,7 +67,14 @@ fn hear<L: Link>(alloc: Global, link: &mut L, reader: &mut ReplyReader) -> Resul
         Ok(reply) => {
             let close = reply.close;
             match read_answer(alloc, &reply) {
-                Ok(answer) => Ok(Asked { answer, close }),
+                Ok(answer) => {
+                    if takes(call, &answer) {
+                        Ok(Asked { answer, close })
+                    } else {
+                        drop(answer);
+                        Err(AskFault::NotUnderstood { at: 0 })
+                    }
+                }
                 Err(fault) => Err(AskFault::from(fault)),
             }
         }
@@ -66,8 +82,8 @@ fn hear<L: Link>(alloc: Global, link: &mut L, reader: &mut ReplyReader) -> Resul
     }
 }
 
-/// Sends a call's request, and answers what the next reply says. The reader keeps the bytes
-/// behind that reply.
+/// Sends a call's request, and answers what the next reply says. An answer of another kind than
+/// the call takes is not understood. The reader keeps the bytes behind that reply.
 pub fn ask<L: Link>(
     alloc: Global,
     link: &mut L,
@@ -78,12 +94,19 @@ pub fn ask<L: Link>(
     requires { list_all is_visible host.now ≡ true }
     ensures answer { (given : List ℕ) (taken : List Reply) → GaveReplies given taken reader.old
         → (read : List ℕ) × Consumes (L.left link.old) (L.left link.new) read
-        × AnswerIs (given ++ read) taken (L.left link.new) reader.new result }
+        × AnswerIs call.now (given ++ read) taken (L.left link.new) reader.new result }
     ensures named { IfOk result (λ asked. NamesItsFault asked.answer) }
+    ensures takes { IfOk result (λ asked. MayAnswer call.now asked.answer) }
 
-    // The request is sent whole, unless the link fails or memory runs out.
+    // The request is sent whole, unless the link fails or memory runs out, and nothing is read
+    // before that.
     ensures sent { OnOk result
         (Appends (L.sent link.old) (L.sent link.new) (call_text host.now call.now)) }
+    ensures whole { IfErr result (λ fault. fault ≢ AskFault.LinkFault
+        → fault ≢ AskFault.OutOfMemory
+        → Appends (L.sent link.old) (L.sent link.new) (call_text host.now call.now)) }
+    ensures first { SendsFirst (L.left link.old) (L.left link.new)
+        (L.sent link.old) (L.sent link.new) (call_text host.now call.now) }
     ensures front { AppendsFront (L.sent link.old) (L.sent link.new)
         (call_text host.now call.now) }
     ensures cause { IsErrOf result AskFault.LinkFault
@@ -95,7 +118,7 @@ pub fn ask<L: Link>(
         Err(_) => return Err(AskFault::OutOfMemory),
     };
     match send_all(link, text.as_slice()) {
-        Ok(()) => hear(alloc, link, reader),
+        Ok(()) => hear(alloc, link, reader, call),
         Err(_) => Err(AskFault::LinkFault),
     }
 }

@@ -42,7 +42,7 @@ pub trait Dial {
     fn faults(&self) -> u64
         ensures { result ≡ faults self.now };
 
-    /// Makes a connection to an address: the first of those to come.
+    /// Makes a connection to an address: the first of those to come. It has not failed yet.
     fn connect(&mut self, address: &Text) -> Result<Self::L, DialFault>
         ensures made { tells → IfOk result (λ link. to_come self.old ≡ link ∷ to_come self.new) }
         ensures address { tells
@@ -50,6 +50,7 @@ pub trait Dial {
         ensures refused { tells → OnErr result (to_come self.new ≡ to_come self.old) }
         ensures nowhere { tells → OnErr result (addresses self.new ≡ addresses self.old) }
         ensures back { tells → back self.new ≡ back self.old }
+        ensures fresh { IfOk result (λ link. Self.L.faults link ≡ 0) }
         ensures awaits { OnOk result (awaits self.new) }
         ensures tries { CountsCall (tries self.old) (tries self.new) }
         ensures never_falls { faults self.old ≤ faults self.new }

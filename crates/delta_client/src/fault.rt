@@ -12,7 +12,8 @@ pub enum AskFault {
     LinkFault,
     /// The bytes end inside a reply or before it.
     CutShort,
-    /// The bytes begin no reply, or the reply prints no answer.
+    /// The bytes begin no reply, or the reply prints no answer, or one of another kind than the
+    /// call takes.
     NotUnderstood { at: u64 },
     OutOfMemory,
 }

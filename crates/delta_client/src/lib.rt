@@ -10,6 +10,7 @@
 mod asking;
 mod dial;
 mod fault;
+mod kind;
 mod line;
 mod memory_dial;
 mod reply;

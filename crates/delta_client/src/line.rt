@@ -7,7 +7,8 @@ ghost use Rattle.delta_base.specs.Memory.{CountsCall};
 ghost use Rattle.delta_base.specs.Outside.{Rose};
 ghost use Rattle.http_text.specs.Print.{is_visible};
 ghost use Rattle.rpc_answers.specs.Answers.{NamesItsFault};
-ghost use Rattle.delta_client.specs.Asking.{call_text};
+ghost use Rattle.delta_client.specs.Exchanges.{EndsExchanges, dial_view};
+ghost use Rattle.delta_client.specs.Kinds.{MayAnswer};
 ghost use Rattle.delta_client.specs.Lines.{AnswersOver, Connection, IsBegun};
 ghost use Rattle.delta_client.specs.Lines.{IsOpen, Over, links_in, told_of};
 
@@ -68,6 +69,23 @@ impl<L: Link> Line<L> {
             None => {}
         }
     }
+
+    /// Hangs up what is open, behind the last call.
+    pub fn end<N: Dial<L = L>>(self, net: &mut N)
+        requires { IsSome self.open → N.awaits net.old }
+        ensures exchanged { N.tells → (address : List ℕ) → EndsExchanges L.left L.sent address
+            self.open (dial_view N.Dial net.old) (dial_view N.Dial net.new) }
+        ensures tries { N.tries net.new ≡ N.tries net.old }
+        ensures never_falls { N.faults net.old ≤ N.faults net.new }
+    {
+        let mut line = self;
+        line.hang_up(net);
+        let Line { open } = line;
+        match open {
+            None => {}
+            Some(_) => unreachable!(),
+        }
+    }
 }
 
 // Makes a connection, which is open then.
@@ -121,12 +139,13 @@ fn ask_open<N: Dial>(
     requires open { IsSome line.old.open }
     requires awaits { N.awaits net.old }
     ensures over { N.tells → (over : Connection N.L) → IsOpen N.L.left (Some over) line.old.open
-        → (link : N.L) × AnswersOver N.L.left N.L.sent (call_text address.now call.now) over link
+        → (link : N.L) × AnswersOver N.L.left N.L.sent address.now call.now over link
         (told_of (N.to_come net.old) (N.addresses net.old) (N.back net.old))
         (told_of (N.to_come net.new) (N.addresses net.new) (N.back net.new))
         line.new.open result }
     ensures awaits { IsSome line.new.open → N.awaits net.new }
     ensures named { IfOk result (λ answer. NamesItsFault answer) }
+    ensures takes { IfOk result (λ answer. MayAnswer call.now answer) }
     ensures tries { N.tries net.new ≡ N.tries net.old }
     ensures quiet { IsSome line.new.open → N.faults net.new ≡ N.faults net.old }
     ensures cause { IsErrOf result AskFault.LinkFault
@@ -163,12 +182,13 @@ pub fn ask_again<N: Dial>(
     requires awaits { IsSome line.old.open → N.awaits net.old }
     ensures over { N.tells → (standing : Option (Connection N.L))
         → IsOpen N.L.left standing line.old.open
-        → Over N.L.left N.L.sent address.now (call_text address.now call.now) standing
+        → Over N.L.left N.L.sent address.now call.now standing
         (told_of (N.to_come net.old) (N.addresses net.old) (N.back net.old))
         (told_of (N.to_come net.new) (N.addresses net.new) (N.back net.new))
         line.new.open result }
     ensures awaits { IsSome line.new.open → N.awaits net.new }
     ensures named { IfOk result (λ answer. NamesItsFault answer) }
+    ensures takes { IfOk result (λ answer. MayAnswer call.now answer) }
 
     // A connection is tried for exactly where none is open.
     ensures kept { IsSome line.old.open → N.tries net.new ≡ N.tries net.old }

@@ -40,8 +40,8 @@ impl<L> Model for MemDial<L> {
 }
 
 impl<L> MemDial<L> {
-    /// The links are given in their order. The calls of `connect` of the numbers in `failing`, from
-    /// 0, fail, and so does one that finds no memory or no link.
+    /// The links are given in their order. The calls of `connect` of the numbers in `failing`,
+    /// from 0, fail, and so does one that finds no memory, no link, or a link that has failed.
     pub fn new(alloc: Global, links: Vec<L>, failing: Calls) -> Result<MemDial<L>, OutOfMemory>
     where
         L: Drop,
@@ -120,6 +120,11 @@ impl<L: Link> Dial for MemDial<L> {
             self.count.fail();
             return Err(DialFault::Failed);
         };
+        if link.faults() > 0 {
+            self.left.push_reserved(link);
+            self.count.fail();
+            return Err(DialFault::Failed);
+        }
         self.addresses.push_reserved(address);
         Ok(link)
     }

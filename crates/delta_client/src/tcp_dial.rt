@@ -1,5 +1,5 @@
 //! A dial over the system's sockets.
-ghost use Rattle.std.specs.Prelude.{◌≡◌};
+ghost use Rattle.std.specs.Prelude.{◌≡◌, IfOk};
 
 use crate::dial::{Dial, DialFault};
 use delta_base::{Link, StdLink, Text};
@@ -33,7 +33,9 @@ impl<'a, R> TcpDial<'a, R> {
 
 // The link of a connection. Small writes go out at once, and a silent server doesn't hold whoever
 // asks it for ever.
-fn link_over(stream: TcpStream) -> io::Result<StdLink<TcpStream>> {
+fn link_over(stream: TcpStream) -> io::Result<StdLink<TcpStream>>
+    ensures { IfOk result (λ link. link.faults ≡ 0) }
+{
     let patience = Some(Duration::from_secs(PATIENCE));
     stream.set_nodelay(true)?;
     stream.set_read_timeout(patience)?;

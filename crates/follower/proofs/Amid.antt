@@ -13,7 +13,7 @@ use Rattle.patch_meaning.specs.Checked.{CheckedPatch, checked_texts}
 use Rattle.zone_state.specs.Brief.{file_length}
 use Rattle.zone_state.specs.Zone.{ZoneView, zone_number, text_in}
 use Rattle.rpc_answers.specs.declared.answer.Answer.TheVariants as answer
-use Rattle.follower.specs.Exchanges.{WasSaid}
+use Rattle.delta_client.specs.Exchanges.{WasSaid}
 use Rattle.follower.specs.Grown.{ZoneStands, TookMore, HoldsAmid, LeavesAmid, WasTried, untried, was_last, GrewBy, Stayed}
 use Rattle.follower.proofs.Taken.{took_none, met_none}
 

@@ -32,7 +32,7 @@ use Rattle.zone_state.specs.Stay.{decided, TookOne}
 use Rattle.zone_state.specs.Zone.{ZoneView, doubt_of, zone_point}
 use Rattle.follower.specs.declared.ends.SyncEnd.{SyncEnd}
 use Rattle.follower.specs.declared.ends.SyncEnd.TheVariants.{BadPatch, LinkFault, DiskFault}
-use Rattle.follower.specs.Exchanges.{WasSaid}
+use Rattle.delta_client.specs.Exchanges.{WasSaid}
 use Rattle.follower.specs.Grown.{ZoneStands, Took, Stayed, LeavesAmid, WasTried, untried, was_last}
 use Rattle.follower.specs.Syncing.{IsNextForZone, IsText, TextEnds, end_of, of_patch}
 use Rattle.follower.proofs.Amid.{amid_same}

@@ -11,7 +11,7 @@ use Rattle.chain_core.specs.Ids.{last_of}
 use Rattle.zone_state.specs.Zone.{ZoneView}
 use Rattle.follower.specs.declared.ends.SyncEnd.{SyncEnd}
 use Rattle.follower.specs.declared.ends.SyncEnd.TheVariants.{CaughtUp, NoSuchName, PeerBehind, NoPatch, PeerRefused, Diverged, Repeated, BadPatch, LinkFault, CutShort, NotUnderstood, Full, TermsFull, DiskFault, OutOfMemory}
-use Rattle.follower.specs.Exchanges.{WasSaid}
+use Rattle.delta_client.specs.Exchanges.{WasSaid}
 use Rattle.follower.specs.Ends.{sync_end, IsRefusal, LogEnds}
 use Rattle.follower.specs.Ends as log
 use Rattle.follower.specs.Syncing.{IsText, TextEnds, FetchEnds, told, no_source, no_patch, refused, answered, faulty, not_asked, texts_said, came, Compares, stopped, caught_up, EndIs, unanswered, compared, followed}

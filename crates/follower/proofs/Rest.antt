@@ -14,7 +14,8 @@ use Rattle.zone_state.specs.Brief.{Brief, changes_taken}
 use Rattle.zone_state.specs.Zone.{ZoneView}
 use Rattle.follower.specs.declared.ends.SyncEnd.{SyncEnd}
 use Rattle.follower.specs.declared.ends.SyncEnd.TheVariants.{CaughtUp, NoSuchName, PeerBehind, NoPatch, PeerRefused, Diverged, Repeated, BadPatch, LinkFault, CutShort, NotUnderstood, Full, TermsFull, DiskFault, OutOfMemory}
-use Rattle.follower.specs.Exchanges.{WasSaid, Net, fetches, AsksAll}
+use Rattle.delta_client.specs.Exchanges.{WasSaid, DialView, AsksAll}
+use Rattle.follower.specs.Calls.{fetches}
 use Rattle.follower.specs.Grown.{TookMore, LeavesAmid, untried, GrewBy, Took, Stayed}
 use Rattle.follower.specs.Syncing.{TextEnds, FetchRefuses, told, no_source, no_patch, refused, FetchEnds, answered, faulty, not_asked, texts_said, RestIs, stopped, caught_up}
 use Rattle.follower.proofs.Chains.{fetches_append, asks_none, asks_both}
@@ -59,7 +60,7 @@ text_said patch = Ok (answer.Patch patch.text)
 
 -- these patches were fetched and taken, one after another
 pub record Gone {D L : Type 0} (disks : Ghosts D) (net_tells : Type 0) (left sent : L → Option (List ℕ)) (address name : List ℕ)
-    (old now : ZoneView D) (talk line : Option (Open L)) (before after : Net L) (more : List CheckedPatch) : Type 0 where
+    (old now : ZoneView D) (talk line : Option (Open L)) (before after : DialView L) (more : List CheckedPatch) : Type 0 where
   pub took : TookMore disks old now more
   pub clear : IsClear old now more
   pub amid : LeavesAmid disks old now more
@@ -67,12 +68,12 @@ pub record Gone {D L : Type 0} (disks : Ghosts D) (net_tells : Type 0) (left sen
   pub count : length now.brief.ids ≡ length old.brief.ids + length more
   pub asks : net_tells → AsksAll left sent address (fetches name (length old.brief.ids + 1) (texts_said more)) (texts_said more) talk before after line
 
-module _ {D L : Type 0} (disks : Ghosts D) (net_tells : Type 0) (left sent : L → Option (List ℕ)) (address name : List ℕ) (old : ZoneView D) (talk : Option (Open L)) (before : Net L) where
-  abbrev pub GoneTo : ZoneView D → Option (Open L) → Net L → List CheckedPatch → Type 0
+module _ {D L : Type 0} (disks : Ghosts D) (net_tells : Type 0) (left sent : L → Option (List ℕ)) (address name : List ℕ) (old : ZoneView D) (talk : Option (Open L)) (before : DialView L) where
+  abbrev pub GoneTo : ZoneView D → Option (Open L) → DialView L → List CheckedPatch → Type 0
   GoneTo now line after more = Gone disks net_tells left sent address name old now talk line before after more
 
   -- what was asked, with one list more
-  asks_more : (more : List CheckedPatch) (said : List WasSaid) (version : ℕ) (next line : Option (Open L)) (between after : Net L) → version ≡ length old.brief.ids + length more + 1
+  asks_more : (more : List CheckedPatch) (said : List WasSaid) (version : ℕ) (next line : Option (Open L)) (between after : DialView L) → version ≡ length old.brief.ids + length more + 1
       → AsksAll left sent address (fetches name (length old.brief.ids + 1) (texts_said more)) (texts_said more) talk before between next → AsksAll left sent address (fetches name version said) said next between after line
       → AsksAll left sent address (fetches name (length old.brief.ids + 1) (texts_said more ++ said)) (texts_said more ++ said) talk before after line
   asks_more more said version next line between after is first second =
@@ -93,7 +94,7 @@ module _ {D L : Type 0} (disks : Ghosts D) (net_tells : Type 0) (left sent : L �
   }
 
   -- one patch more
-  pub gone_on : (now new : ZoneView D) (next line : Option (Open L)) (between after : Net L) (more : List CheckedPatch) (one : CheckedPatch) (version : ℕ) → version ≡ length now.brief.ids + 1
+  pub gone_on : (now new : ZoneView D) (next line : Option (Open L)) (between after : DialView L) (more : List CheckedPatch) (one : CheckedPatch) (version : ℕ) → version ≡ length now.brief.ids + 1
       → GoneTo now next between more → Took disks now new one → (net_tells → AsksAll left sent address (fetches name version (texts_said (one ∷ []))) (texts_said (one ∷ [])) next between after line)
       → GoneTo new line after (more ++ one ∷ [])
   gone_on now new next line between after more one version is so took asks =
@@ -110,12 +111,12 @@ module _ {D L : Type 0} (disks : Ghosts D) (net_tells : Type 0) (left sent : L �
       }
 
   -- what the fetches come to: what was said last, and the patches taken
-  abbrev pub Ended : ZoneView D → Option (Open L) → Net L → ℕ → List WasSaid → List CheckedPatch → SyncEnd → Type 0
+  abbrev pub Ended : ZoneView D → Option (Open L) → DialView L → ℕ → List WasSaid → List CheckedPatch → SyncEnd → Type 0
   Ended new line after theirs last more end = GrewBy disks old new more last × RestIs old new theirs last more end
       × (net_tells → AsksAll left sent address (fetches name (length old.brief.ids + 1) (texts_said more ++ last)) (texts_said more ++ last) talk before after line)
 
   -- a fetch that ends it
-  pub gone_stopped : (now new : ZoneView D) (next line : Option (Open L)) (between after : Net L) (more : List CheckedPatch) (said : List WasSaid) (version theirs : ℕ) (end : SyncEnd)
+  pub gone_stopped : (now new : ZoneView D) (next line : Option (Open L)) (between after : DialView L) (more : List CheckedPatch) (said : List WasSaid) (version theirs : ℕ) (end : SyncEnd)
       → version ≡ length now.brief.ids + 1 → version ≤ theirs → GoneTo now next between more → FetchEnds now.terms [] new said end → Stayed disks now new said
       → (net_tells → AsksAll left sent address (fetches name version said) said next between after line) → Ended new line after theirs said more end
   gone_stopped now new next line between after more said version theirs end is within so ends stays asks =
@@ -128,7 +129,7 @@ module _ {D L : Type 0} (disks : Ghosts D) (net_tells : Type 0) (left sent : L �
       )
 
   -- none is left to fetch
-  pub gone_through : (now : ZoneView D) (line : Option (Open L)) (after : Net L) (more : List CheckedPatch) (theirs : ℕ) → theirs ≡ length now.brief.ids → GoneTo now line after more
+  pub gone_through : (now : ZoneView D) (line : Option (Open L)) (after : DialView L) (more : List CheckedPatch) (theirs : ℕ) → theirs ≡ length now.brief.ids → GoneTo now line after more
       → Ended now line after theirs [] more (CaughtUp theirs)
   gone_through now line after more theirs is so = (
     record {

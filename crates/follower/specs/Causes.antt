@@ -22,7 +22,7 @@ use Rattle.follower.specs.declared.ends.SyncEnd.TheVariants.{NoPatch, PeerRefuse
 use Rattle.follower.specs.declared.ends.SyncEnd.TheVariants.{Repeated, BadPatch, LinkFault}
 use Rattle.follower.specs.declared.ends.SyncEnd.TheVariants.{CutShort, NotUnderstood, Full}
 use Rattle.follower.specs.declared.ends.SyncEnd.TheVariants.{TermsFull, DiskFault, OutOfMemory}
-use Rattle.follower.specs.Exchanges.{WasSaid}
+use Rattle.delta_client.specs.Exchanges.{WasSaid}
 use Rattle.follower.specs.Syncing.{IsNextForZone, came}
 
 -- this was said last

@@ -10,7 +10,7 @@ use Rattle.rpc_answers.specs.Prints.{compact}
 use Rattle.follower.specs.declared.ends.SyncEnd.{SyncEnd}
 use Rattle.follower.specs.declared.ends.SyncEnd.TheVariants.{NoSuchName, NotUnderstood, PeerRefused}
 use Rattle.follower.specs.declared.ends.SyncEnd.TheVariants.{LinkFault, CutShort, OutOfMemory}
-use Rattle.follower.specs.Exchanges.{WasSaid}
+use Rattle.delta_client.specs.Exchanges.{WasSaid}
 
 -- a call without an answer, as an end
 abbrev pub sync_end : AskFault → SyncEnd

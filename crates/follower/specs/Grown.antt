@@ -9,7 +9,7 @@ use Rattle.patch_meaning.specs.Patch.{IsPatch}
 use Rattle.rpc_answers.specs.declared.answer.Answer.TheVariants as answer
 use Rattle.zone_state.specs.Brief.{with_patch, changes_taken}
 use Rattle.zone_state.specs.Zone.{ZoneView, StandsForZone, zone_number}
-use Rattle.follower.specs.Exchanges.{WasSaid}
+use Rattle.delta_client.specs.Exchanges.{WasSaid}
 
 -- no patch was tried, or the one whose text was said last
 pub data WasTried (said : List WasSaid) (tried : List CheckedPatch) : Type 0 where

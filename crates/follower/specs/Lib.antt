@@ -1,4 +1,4 @@
-pub mod Exchanges
+pub mod Calls
 pub mod Ends
 pub mod Grown
 pub mod Syncing

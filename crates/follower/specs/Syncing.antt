@@ -24,7 +24,7 @@ use Rattle.follower.specs.declared.ends.SyncEnd.TheVariants.{NoPatch, Diverged, 
 use Rattle.follower.specs.declared.ends.SyncEnd.TheVariants.{BadPatch, Full, TermsFull}
 use Rattle.follower.specs.declared.ends.SyncEnd.TheVariants.{DiskFault, OutOfMemory}
 use Rattle.follower.specs.Ends.{IsRefusal, LogEnds, sync_end}
-use Rattle.follower.specs.Exchanges.{WasSaid}
+use Rattle.delta_client.specs.Exchanges.{WasSaid}
 
 -- ---- a fetch
 

@@ -1,12 +1,12 @@
 //! Asking a log's server.
-ghost use Rattle.std.specs.Prelude.{◌≡◌, ◌≤◌, ◌++◌, ℕ, true, List, IsSome, IfOk, IsErrOf};
+ghost use Rattle.std.specs.Prelude.{◌≡◌, ◌≤◌, ℕ, true, List, IsSome, IfOk, IsErrOf};
 ghost use Rattle.std.specs.List.{list_all};
 ghost use Rattle.delta_base.specs.Outside.{Rose};
 ghost use Rattle.http_text.specs.Print.{is_visible};
 ghost use Rattle.rpc_answers.specs.Answers.{NamesItsFault};
-ghost use Rattle.delta_client.specs.Lines.{links_in};
 ghost use Rattle.follower.specs.Ends.{IsRefusal, LogSays, LogTold};
-ghost use Rattle.follower.specs.Exchanges.{AsksAll, WasSaid, calls_of, net_of};
+ghost use Rattle.delta_client.specs.Exchanges.{AsksAll, WasSaid, dial_view};
+ghost use Rattle.follower.specs.Calls.{calls_of};
 
 use crate::ends::SyncEnd;
 use delta_base::{Id, OutOfMemory, Text};
@@ -63,7 +63,7 @@ pub(crate) fn ask_log<N: Dial>(
     ensures asked { (said : List WasSaid) × LogSays said result
         × ((mine : ℕ) → N.tells → AsksAll N.L.left N.L.sent address.now
         (calls_of name.now mine said) said
-        line.old.open (net_of N.Dial net.old) (net_of N.Dial net.new) line.new.open) }
+        line.old.open (dial_view N.Dial net.old) (dial_view N.Dial net.new) line.new.open) }
     ensures awaits { IsSome line.new.open → N.awaits net.new }
     ensures link { IsErrOf result SyncEnd.LinkFault → Rose (N.faults net.old) (N.faults net.new) }
     ensures disk { IsErrOf result SyncEnd.DiskFault → ⊥ }
@@ -78,23 +78,5 @@ pub(crate) fn ask_log<N: Dial>(
     match said {
         Ok(answer) => log_told(alloc, answer),
         Err(fault) => Err(SyncEnd::from(fault)),
-    }
-}
-
-/// Hangs up what is open.
-pub(crate) fn end_line<N: Dial>(line: Line<N::L>, net: &mut N)
-    requires { IsSome line.open → N.awaits net.old }
-    ensures back { N.tells → N.back net.new ≡ N.back net.old ++ links_in line.open }
-    ensures to_come { N.tells → N.to_come net.new ≡ N.to_come net.old }
-    ensures addresses { N.tells → N.addresses net.new ≡ N.addresses net.old }
-    ensures tries { N.tries net.new ≡ N.tries net.old }
-    ensures never_falls { N.faults net.old ≤ N.faults net.new }
-{
-    let mut line = line;
-    line.hang_up(net);
-    let Line { open } = line;
-    match open {
-        None => {}
-        Some(_) => unreachable!(),
     }
 }

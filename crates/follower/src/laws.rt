@@ -4,7 +4,7 @@ ghost use Rattle.patch_meaning.specs.Checked.{CheckedPatch};
 ghost use Rattle.zone_state.specs.Zone.{ZoneView};
 ghost use Rattle.follower.specs.declared.ends.SyncEnd.{SyncEnd as End};
 ghost use Rattle.follower.specs.Causes.{Cause};
-ghost use Rattle.follower.specs.Exchanges.{WasSaid};
+ghost use Rattle.delta_client.specs.Exchanges.{WasSaid};
 ghost use Rattle.follower.specs.Syncing.{EndIs};
 
 use disk_model::Disk;

@@ -8,13 +8,13 @@ ghost use Rattle.log_journal.specs.Written.{DiskWent};
 ghost use Rattle.http_text.specs.Print.{is_visible};
 ghost use Rattle.patch_meaning.specs.Checked.{CheckedPatch};
 ghost use Rattle.rpc_answers.specs.declared.answer.Answer.TheVariants as given;
-ghost use Rattle.follower.specs.Exchanges.{AsksAll, Exchanged, WasSaid};
-ghost use Rattle.follower.specs.Exchanges.{calls_of, fetches, net_of};
+ghost use Rattle.delta_client.specs.Exchanges.{AsksAll, Exchanged, WasSaid, dial_view};
+ghost use Rattle.follower.specs.Calls.{calls_of, fetches};
 ghost use Rattle.follower.specs.Grown.{GrewBy, Stayed, Took};
 ghost use Rattle.follower.specs.Syncing.{Compares, EndIs, FetchEnds, GoesBefore};
 ghost use Rattle.follower.specs.Syncing.{IsText, RestIs, texts_said};
 
-use crate::asking::{ask_log, end_line};
+use crate::asking::ask_log;
 use crate::ends::SyncEnd;
 use crate::taking::take_answer;
 use delta_base::{Id, OutOfMemory, Text};
@@ -51,11 +51,11 @@ fn take_one<N: Dial, D: Disk>(
     ensures ok { OnOk result ((next : CheckedPatch) × IsText next.text next
         × Took D.Disk zone.old zone.new next × (N.tells → AsksAll N.L.left N.L.sent address.now
         (fetches name.now version (texts_said (next ∷ []))) (texts_said (next ∷ []))
-        line.old.open (net_of N.Dial net.old) (net_of N.Dial net.new) line.new.open)) }
+        line.old.open (dial_view N.Dial net.old) (dial_view N.Dial net.new) line.new.open)) }
     ensures err { IfErr result (λ end. (said : List WasSaid)
         × FetchEnds zone.old.terms [] zone.new said end × Stayed D.Disk zone.old zone.new said
         × (N.tells → AsksAll N.L.left N.L.sent address.now (fetches name.now version said) said
-        line.old.open (net_of N.Dial net.old) (net_of N.Dial net.new) line.new.open)) }
+        line.old.open (dial_view N.Dial net.old) (dial_view N.Dial net.new) line.new.open)) }
     ensures untouched { IfErr result (λ end. end ≢ SyncEnd.DiskFault
         → zone.new ≡ record zone.old { terms = zone.new.terms }) }
     ensures awaits { IsSome line.new.open → N.awaits net.new }
@@ -96,7 +96,7 @@ fn take_rest<N: Dial, D: Disk>(
         × (N.tells → AsksAll N.L.left N.L.sent address.now
         (fetches name.now (length zone.old.brief.ids + 1) (texts_said more ++ last))
         (texts_said more ++ last)
-        line.old.open (net_of N.Dial net.old) (net_of N.Dial net.new) line.new.open) }
+        line.old.open (dial_view N.Dial net.old) (dial_view N.Dial net.new) line.new.open) }
     ensures awaits { IsSome line.new.open → N.awaits net.new }
     ensures link { result ≡ SyncEnd.LinkFault → Rose (N.faults net.old) (N.faults net.new) }
     ensures never_falls { N.faults net.old ≤ N.faults net.new }
@@ -151,7 +151,7 @@ fn catch_up<N: Dial, D: Disk>(
         × EndIs zone.old zone.new (Ok (given.Info theirs head) ∷ rest) more result
         × (N.tells → AsksAll N.L.left N.L.sent address.now
         (fetches name.now (length zone.old.brief.ids + 1) rest) rest
-        line.old.open (net_of N.Dial net.old) (net_of N.Dial net.new) line.new.open) }
+        line.old.open (dial_view N.Dial net.old) (dial_view N.Dial net.new) line.new.open) }
     ensures awaits { IsSome line.new.open → N.awaits net.new }
     ensures link { result ≡ SyncEnd.LinkFault → Rose (N.faults net.old) (N.faults net.new) }
     ensures never_falls { N.faults net.old ≤ N.faults net.new }
@@ -182,7 +182,7 @@ fn sync_over<N: Dial, D: Disk>(
         × EndIs zone.old zone.new said more result
         × (N.tells → AsksAll N.L.left N.L.sent address.now
         (calls_of name.now (length zone.old.brief.ids) said) said
-        line.old.open (net_of N.Dial net.old) (net_of N.Dial net.new) line.new.open) }
+        line.old.open (dial_view N.Dial net.old) (dial_view N.Dial net.new) line.new.open) }
     ensures awaits { IsSome line.new.open → N.awaits net.new }
     ensures link { result ≡ SyncEnd.LinkFault → Rose (N.faults net.old) (N.faults net.new) }
     ensures never_falls { N.faults net.old ≤ N.faults net.new }
@@ -215,7 +215,7 @@ pub fn sync<N: Dial, D: Disk>(
         × EndIs zone.old zone.new said more result
         × (N.tells → Exchanged N.L.left N.L.sent address.now
         (calls_of name.now (length zone.old.brief.ids) said) said None
-        (net_of N.Dial net.old) (net_of N.Dial net.new)) }
+        (dial_view N.Dial net.old) (dial_view N.Dial net.new)) }
     ensures link { result ≡ SyncEnd.LinkFault → Rose (N.faults net.old) (N.faults net.new) }
     ensures never_falls { N.faults net.old ≤ N.faults net.new }
     ensures went { DiskWent D.Disk (result ≡ SyncEnd.DiskFault) zone.old.disk zone.new.disk }
@@ -225,6 +225,6 @@ pub fn sync<N: Dial, D: Disk>(
 {
     let mut line = Line::new();
     let end = sync_over(alloc, net, &mut line, address, name, zone);
-    end_line(line, net);
+    line.end(net);
     end
 }

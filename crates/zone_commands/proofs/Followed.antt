@@ -18,7 +18,8 @@ use Rattle.zone_state.specs.declared.fault.ZoneFault.{ZoneFault}
 use Rattle.zone_state.proofs.Growing.{texts-push}
 use Rattle.follower.specs.declared.ends.SyncEnd.{SyncEnd}
 use Rattle.follower.specs.declared.ends.SyncEnd.TheVariants.{CaughtUp, NoSuchName, PeerBehind, NoPatch, PeerRefused, Diverged, Repeated, BadPatch, LinkFault, CutShort, NotUnderstood, Full, TermsFull, DiskFault, OutOfMemory}
-use Rattle.follower.specs.Exchanges.{Exchanged, Net, WasSaid, calls_of}
+use Rattle.delta_client.specs.Exchanges.{Exchanged, DialView, WasSaid}
+use Rattle.follower.specs.Calls.{calls_of}
 use Rattle.follower.specs.Grown.{GrewBy, HoldsAmid}
 use Rattle.follower.specs.Syncing.{TextEnds, FetchRefuses, told, no_source, no_patch, refused, FetchEnds, answered, faulty, not_asked, RestIs, stopped, caught_up, EndIs, unanswered, compared, followed}
 use Rattle.zone_commands.specs.Files.{IsZoneFile}
@@ -123,7 +124,7 @@ module _ {D : Type 0} where
 pub read_last : (P : List ℕ → Type 0) (old new : Past) → LeavesOnly P old new → MayLeave new (reads new) → P (reads new)
 read_last P old new only left = only.each (reads new) (new, only.goes_on, went_nowhere new, left)
 
-module _ {D L : Type 0} (disks : Ghosts D) (net_tells : Type 0) (left sent : L → Option (List ℕ)) (address name file : List ℕ) (net net' : Net L) where
+module _ {D L : Type 0} (disks : Ghosts D) (net_tells : Type 0) (left sent : L → Option (List ℕ)) (address name file : List ℕ) (net net' : DialView L) where
   -- a zone was opened, caught up and was closed
   pub of_disk : (old new : ZoneView D) (end : SyncEnd)
       → (taken : List CheckedPatch) × StandsForZone disks.tells (disks.past old.disk) old taken None × AreMet (changes_taken taken) [] old.terms × (disks.tells → Holds file zone_number (checked_texts taken))
@@ -151,7 +152,7 @@ module _ {D L : Type 0} (disks : Ghosts D) (net_tells : Type 0) (left sent : L �
       })
 
 -- a file of a shelf is what its disk read
-module _ {L : Type 0} (left sent : L → Option (List ℕ)) (tells shelf_tells net_tells : Type 0) (tell : shelf_tells → tells) (address name file file' bytes bytes' : List ℕ) (net net' : Net L) where
+module _ {L : Type 0} (left sent : L → Option (List ℕ)) (tells shelf_tells net_tells : Type 0) (tell : shelf_tells → tells) (address name file file' bytes bytes' : List ℕ) (net net' : DialView L) where
   pub of_shelf : (result : Result SyncEnd ZoneFault) → (shelf_tells → file ≡ bytes) → (shelf_tells → file' ≡ bytes')
       → IfOk result (Followed left sent tells net_tells address name file file' net net') → IfOk result (Followed left sent shelf_tells net_tells address name bytes bytes' net net')
   of_shelf (Ok end) was is came = record {

@@ -6,7 +6,8 @@ use Rattle.dataset_tx.specs.Held.{AreMet}
 use Rattle.patch_meaning.specs.Checked.{CheckedPatch}
 use Rattle.zone_state.specs.Brief.{brief_of, changes_taken}
 use Rattle.zone_state.specs.Zone.{ZoneView}
-use Rattle.follower.specs.Exchanges.{Exchanged, Net, WasSaid, calls_of}
+use Rattle.delta_client.specs.Exchanges.{Exchanged, DialView, WasSaid}
+use Rattle.follower.specs.Calls.{calls_of}
 use Rattle.follower.specs.Grown.{HoldsAmid, WasTried}
 use Rattle.follower.specs.Syncing.{EndIs}
 use Rattle.follower.specs.declared.ends.SyncEnd.{SyncEnd}
@@ -34,7 +35,7 @@ IsLeftFile file taken end =
 -- more. Catching up ended so by what was said, and where the dial tells, these calls were made
 -- and no other.
 pub record Followed {L : Type 0} (left sent : L → Option (List ℕ)) (tells net_tells : Type 0)
-    (address name file file' : List ℕ) (net net' : Net L) (end : SyncEnd) : Type 0 where
+    (address name file file' : List ℕ) (net net' : DialView L) (end : SyncEnd) : Type 0 where
   pub taken : List CheckedPatch
   pub more : List CheckedPatch
   pub was : tells → IsZoneFile file taken

@@ -9,7 +9,7 @@ ghost use Rattle.http_text.specs.Print.{is_visible};
 ghost use Rattle.slot_files.specs.Files.{IsKept, bytes_at};
 ghost use Rattle.zone_state.specs.Fault.{HasZoneFault};
 ghost use Rattle.zone_state.specs.Zone.{zone_number};
-ghost use Rattle.follower.specs.Exchanges.{net_of};
+ghost use Rattle.delta_client.specs.Exchanges.{dial_view};
 ghost use Rattle.zone_commands.specs.Following.{Followed};
 
 use delta_base::Text;
@@ -31,7 +31,7 @@ pub fn follow_file<D: Disk, N: Dial>(
     requires { list_all is_visible address.now ≡ true }
     ensures ok { IfOk result.1 (Followed N.L.left N.L.sent D.tells N.tells address.now name.now
         (reads (D.past disk)) (reads (D.past result.0))
-        (net_of N.Dial net.old) (net_of N.Dial net.new)) }
+        (dial_view N.Dial net.old) (dial_view N.Dial net.new)) }
     ensures link { result.1 ≡ Ok SyncEnd.LinkFault → Rose (N.faults net.old) (N.faults net.new) }
     ensures never_falls { N.faults net.old ≤ N.faults net.new }
     ensures disk { result.1 ≡ Ok SyncEnd.DiskFault → Rose (D.faults disk) (D.faults result.0) }
@@ -68,7 +68,7 @@ pub fn follow_zone<H: Shelf, N: Dial>(
     ensures ok { IfOk result (Followed N.L.left N.L.sent H.tells N.tells address.now name.now
         (bytes_at (H.files shelf.old) dir.now zone_number)
         (bytes_at (H.files shelf.new) dir.now zone_number)
-        (net_of N.Dial net.old) (net_of N.Dial net.new)) }
+        (dial_view N.Dial net.old) (dial_view N.Dial net.new)) }
     ensures link { result ≡ Ok SyncEnd.LinkFault → Rose (N.faults net.old) (N.faults net.new) }
     ensures never_falls { N.faults net.old ≤ N.faults net.new }
     ensures disk { result ≡ Ok SyncEnd.DiskFault → Rose (H.faults shelf.old) (H.faults shelf.new) }

@@ -1,7 +1,16 @@
-use Rattle.delta_client.specs.Lines.{told_of}
-use Rattle.client_commands.proofs.Nothing.{describes_none}
+use Rattle.std.proofs.Common.{Option, None, length, take, sym, subst}
+use Rattle.delta_client.specs.Exchanges.{dial_view}
+use Rattle.delta_client.specs.Lines.{IsOpen}
+use Rattle.delta_client.specs.declared.line.Open.{Open}
+use Rattle.client_commands.specs.Asks.{both_calls}
 use Rattle.client_commands.proofs.commands.describe.Goals as goal
 
-pub returns-in-Err-clause-asks : goal.returns-in-Err-clause-asks
-returns-in-Err-clause-asks g c tells =
-    describes_none g.N.L.Link.left g.N.L.Link.sent c.args.address.now (told_of (g.N.Dial.to_come c.args.net.now) (g.N.Dial.addresses c.args.net.now) (g.N.Dial.back c.args.net.now)) c.args.name.now
+pub returns-clause-asks : goal.returns-clause-asks
+returns-clause-asks g c tells =
+    let asked = c.ask_two-ended.ensures.asks tells in
+    let none = subst (λ (o : Option (Open g.row.N-L.Denot)). IsOpen g.N.L.Link.left None o) (sym c.new-line.ensures) tt in
+    record {
+      said = asked.said;
+      asks = c.end.ensures.exchanged tells c.args.address.now (take (length asked.said) (both_calls c.args.name.now)) asked.said None c.new-line.result.open (dial_view g.N.Dial c.args.net.now) none asked.asks;
+      ends = asked.ends;
+    }

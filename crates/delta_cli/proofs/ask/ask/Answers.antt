@@ -1,6 +1,6 @@
 use Rattle.delta_cli.specs.Asked.{Asked}
 use Rattle.command_tables.specs.Views.{output_view}
-use Rattle.delta_cli.specs.Views.{dial_view}
+use Rattle.delta_client.specs.Exchanges.{dial_view}
 use Rattle.delta_cli.proofs.Printed.{err_weaker}
 use Rattle.delta_cli.proofs.Shown.{all_visible, stops_asking}
 use Rattle.delta_cli.proofs.ask.ask.Goals as goal

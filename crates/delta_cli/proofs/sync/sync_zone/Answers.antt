@@ -2,7 +2,7 @@ use Rattle.std.proofs.Common.{ap, subst}
 use Rattle.std.proofs.KnownBytes.{Keeps-refl}
 use Rattle.delta_cli.specs.Syncs.{Synced, ended, unprinted}
 use Rattle.command_tables.specs.Views.{output_view, shelf_view}
-use Rattle.delta_cli.specs.Views.{dial_view}
+use Rattle.delta_client.specs.Exchanges.{dial_view}
 use Rattle.delta_cli.proofs.Printed.{err_weaker}
 use Rattle.delta_cli.proofs.Shown.{all_visible}
 use Rattle.delta_cli.proofs.Synced.{opening_stopped, synced}

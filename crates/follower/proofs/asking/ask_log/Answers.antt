@@ -4,7 +4,7 @@ use Rattle.rpc_answers.specs.declared.answer.Answer.{Answer}
 use Rattle.rpc_calls.specs.declared.call.Call.TheVariants as calls
 use Rattle.follower.specs.declared.ends.SyncEnd.{SyncEnd}
 use Rattle.follower.specs.Ends.{LogSays, LogTold, answered, faulty, not_asked}
-use Rattle.follower.specs.Exchanges.{WasSaid, net_of}
+use Rattle.delta_client.specs.Exchanges.{WasSaid, dial_view}
 use Rattle.follower.proofs.Chains.{asks_none, asks_call}
 use Rattle.follower.proofs.asking.ask_log.Goals as goal
 
@@ -14,12 +14,12 @@ says a (Err end) is = answered a refl is
 
 pub returns-in-Err-clause-asked : goal.returns-in-Err-clause-asked
 returns-in-Err-clause-asked g c =
-    let told = λ (net : g.row.N.Denot). net_of g.N.Dial net in
+    let told = λ (net : g.row.N.Denot). dial_view g.N.Dial net in
     ([], not_asked refl refl, λ mine tells. asks_none g.N.L.Link.left g.N.L.Link.sent c.args.address.now c.args.line.now.open (told c.args.net.now))
 
 pub returns-in-Ok-said-clause-asked : goal.returns-in-Ok-said-clause-asked
 returns-in-Ok-said-clause-asked g c =
-    let told = λ (net : g.row.N.Denot). net_of g.N.Dial net in
+    let told = λ (net : g.row.N.Denot). dial_view g.N.Dial net in
     let e = c.in-Ok-said.ensures in
     let said : WasSaid = Ok c.in-Ok-said.answer in (
       said ∷ [],
@@ -30,7 +30,7 @@ returns-in-Ok-said-clause-asked g c =
 
 pub returns-in-Err-said-clause-asked : goal.returns-in-Err-said-clause-asked
 returns-in-Err-said-clause-asked g c =
-    let told = λ (net : g.row.N.Denot). net_of g.N.Dial net in
+    let told = λ (net : g.row.N.Denot). dial_view g.N.Dial net in
     let e = c.in-Err-said.ensures in
     let said : WasSaid = Err c.in-Err-said.fault in (
       said ∷ [],

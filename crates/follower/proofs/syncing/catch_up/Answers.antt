@@ -2,7 +2,7 @@ use Rattle.std.proofs.Common.{ℕ, [], ◌∷◌, ◌++◌, Option, Ok, refl, su
 use Rattle.delta_base.specs.declared.id.Id.{Id}
 use Rattle.rpc_answers.specs.declared.answer.Answer.TheVariants as answer
 use Rattle.chain_core.specs.Ids.{last_of}
-use Rattle.follower.specs.Exchanges.{WasSaid, net_of}
+use Rattle.delta_client.specs.Exchanges.{WasSaid, dial_view}
 use Rattle.follower.specs.Syncing.{Compares, GoesBefore, compared, followed, texts_said}
 use Rattle.follower.proofs.Chains.{asks_none}
 use Rattle.follower.proofs.Amid.{grew_none, grew_behind}
@@ -10,7 +10,7 @@ use Rattle.follower.proofs.syncing.catch_up.Goals as goal
 
 pub returns-in-Some-clause-follows : goal.returns-in-Some-clause-follows
 returns-in-Some-clause-follows g c =
-    let told = λ (net : g.row.N.Denot). net_of g.N.Dial net in
+    let told = λ (net : g.row.N.Denot). dial_view g.N.Dial net in
     let info : WasSaid = Ok (answer.Info c.args.theirs c.args.head) in
     let ends = subst (λ (have : Option Id). Compares c.version.result have c.args.theirs c.args.head c.in-Some.end) c.head.ensures c.in-Some.ensures.ends in
     let ends_now = subst (λ (mine : ℕ). Compares mine (last_of c.args.zone.now.brief.ids) c.args.theirs c.args.head c.in-Some.end) c.version.ensures.version ends in (

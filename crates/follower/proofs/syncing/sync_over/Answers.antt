@@ -1,7 +1,8 @@
 use Rattle.std.proofs.Common.{◌+◌, [], ◌∷◌, List, Ok, length, refl, subst}
 use Rattle.rpc_answers.specs.declared.answer.Answer.TheVariants as answer
 use Rattle.rpc_calls.specs.declared.call.Call.TheVariants as calls
-use Rattle.follower.specs.Exchanges.{WasSaid, AsksAll, net_of, calls_of, fetches}
+use Rattle.delta_client.specs.Exchanges.{WasSaid, AsksAll, dial_view}
+use Rattle.follower.specs.Calls.{calls_of, fetches}
 use Rattle.follower.specs.Syncing.{unanswered}
 use Rattle.follower.proofs.Chains.{asks_both}
 use Rattle.follower.proofs.Amid.{grew_none}
@@ -14,7 +15,7 @@ returns-in-Err-clause-follows g c =
 
 pub returns-in-Ok-clause-follows : goal.returns-in-Ok-clause-follows
 returns-in-Ok-clause-follows g c =
-    let told = λ (net : g.row.N.Denot). net_of g.N.Dial net in
+    let told = λ (net : g.row.N.Denot). dial_view g.N.Dial net in
     let asked = c.in-Ok.ensures.asked in
     let rest = c.catch_up.ensures.follows in
     let mine = length c.args.zone.now.brief.ids in

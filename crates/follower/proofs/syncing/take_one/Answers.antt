@@ -2,7 +2,7 @@ use Rattle.std.proofs.Common.{[], ◌∷◌, Ok, Err, refl, ap}
 use Rattle.rpc_answers.specs.declared.answer.Answer.{Answer}
 use Rattle.rpc_answers.specs.declared.answer.Answer.TheVariants as answer
 use Rattle.rpc_calls.specs.declared.call.Call.TheVariants as calls
-use Rattle.follower.specs.Exchanges.{WasSaid, net_of}
+use Rattle.delta_client.specs.Exchanges.{WasSaid, dial_view}
 use Rattle.follower.specs.Grown.{Stayed}
 use Rattle.follower.specs.Syncing.{FetchRefuses, answered, faulty, not_asked}
 use Rattle.follower.proofs.Amid.{stayed_none}
@@ -12,12 +12,12 @@ use Rattle.follower.proofs.syncing.take_one.Goals as goal
 
 pub returns-in-Err-clause-err : goal.returns-in-Err-clause-err
 returns-in-Err-clause-err g c =
-    let told = λ (net : g.row.N.Denot). net_of g.N.Dial net in
+    let told = λ (net : g.row.N.Denot). dial_view g.N.Dial net in
     ([], not_asked refl refl, stayed_none g.D.Disk c.args.zone.now [], λ tells. asks_none g.N.L.Link.left g.N.L.Link.sent c.args.address.now c.args.line.now.open (told c.args.net.now))
 
 pub returns-in-Ok-said-clause-ok : goal.returns-in-Ok-said-clause-ok
 returns-in-Ok-said-clause-ok g c =
-    let told = λ (net : g.row.N.Denot). net_of g.N.Dial net in
+    let told = λ (net : g.row.N.Denot). dial_view g.N.Dial net in
     let e = c.in-Ok-said.ensures in
     let said : WasSaid = Ok c.in-Ok-said.answer in
     on_ok c.take_answer.result (λ is. (
@@ -31,7 +31,7 @@ returns-in-Ok-said-clause-ok g c =
 
 pub returns-in-Ok-said-clause-err : goal.returns-in-Ok-said-clause-err
 returns-in-Ok-said-clause-err g c =
-    let told = λ (net : g.row.N.Denot). net_of g.N.Dial net in
+    let told = λ (net : g.row.N.Denot). dial_view g.N.Dial net in
     let e = c.in-Ok-said.ensures in
     let said : WasSaid = Ok c.in-Ok-said.answer in
     on_err c.take_answer.result (λ end is. (
@@ -45,7 +45,7 @@ returns-in-Ok-said-clause-err g c =
 
 pub returns-in-Err-said-clause-err : goal.returns-in-Err-said-clause-err
 returns-in-Err-said-clause-err g c =
-    let told = λ (net : g.row.N.Denot). net_of g.N.Dial net in
+    let told = λ (net : g.row.N.Denot). dial_view g.N.Dial net in
     let e = c.in-Err-said.ensures in
     let said : WasSaid = Err c.in-Err-said.fault in (
       said ∷ [],

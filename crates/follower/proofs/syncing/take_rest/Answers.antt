@@ -1,13 +1,13 @@
 use Rattle.std.proofs.Common.{◌≡◌, ◌≤◌, ◌+◌, [], ◌∷◌, ◌++◌, length, refl, arith, sym, ◌∙◌}
 use Rattle.std.proofs.lemmas.List.{length_push}
 use Rattle.patch_meaning.specs.Checked.{CheckedPatch}
-use Rattle.follower.specs.Exchanges.{net_of}
+use Rattle.delta_client.specs.Exchanges.{dial_view}
 use Rattle.follower.proofs.Rest.{gone_none, gone_on, gone_stopped, gone_through}
 use Rattle.follower.proofs.syncing.take_rest.Goals as goal
 
 pub loop-before-init : goal.loop-before-init
 loop-before-init g c =
-    let told = λ (net : g.row.N.Denot). net_of g.N.Dial net in
+    let told = λ (net : g.row.N.Denot). dial_view g.N.Dial net in
     record {
       gone = ([], gone_none g.D.Disk g.N.Dial.tells g.N.L.Link.left g.N.L.Link.sent c.args.address.now c.args.name.now c.args.zone.now c.args.line.now.open (told c.args.net.now));
       version = sym c.version-mine.ensures.version;
@@ -22,7 +22,7 @@ loop-before-init g c =
 
 pub loop-before-preserved : goal.loop-before-preserved
 loop-before-preserved g c =
-    let told = λ (net : g.row.N.Denot). net_of g.N.Dial net in
+    let told = λ (net : g.row.N.Denot). dial_view g.N.Dial net in
     let so = c.loop-before.invariant in
     let e = c.in-Ok.ensures in
     let next : CheckedPatch = e.ok.0 in
@@ -43,7 +43,7 @@ loop-before-preserved g c =
 
 pub returns-in-Err-clause-follows : goal.returns-in-Err-clause-follows
 returns-in-Err-clause-follows g c =
-    let told = λ (net : g.row.N.Denot). net_of g.N.Dial net in
+    let told = λ (net : g.row.N.Denot). dial_view g.N.Dial net in
     let so = c.loop-before.invariant in
     let e = c.in-Err.ensures in
     let version : c.loop-before.before + 1 ≡ length c.loop-before.zone.brief.ids + 1 = omega (arith, so.version) in
@@ -54,7 +54,7 @@ returns-in-Err-clause-follows g c =
 
 pub returns-clause-follows : goal.returns-clause-follows
 returns-clause-follows g c =
-    let told = λ (net : g.row.N.Denot). net_of g.N.Dial net in
+    let told = λ (net : g.row.N.Denot). dial_view g.N.Dial net in
     let so = c.loop-before.invariant in
     let version : c.args.theirs ≡ length c.loop-before.zone.brief.ids = omega (arith, so.version, so.within) in
     let it = gone_through g.D.Disk g.N.Dial.tells g.N.L.Link.left g.N.L.Link.sent c.args.address.now c.args.name.now c.args.zone.now c.args.line.now.open (told c.args.net.now)

@@ -1,13 +1,13 @@
 use Rattle.std.proofs.Common.{◌≡◌, ◌≤◌, List, length}
 use Rattle.std.specs.Prelude.{IsSome, IsTrue}
 use Rattle.patch_meaning.specs.Checked.{CheckedPatch}
-use Rattle.follower.specs.Exchanges.{net_of}
+use Rattle.delta_client.specs.Exchanges.{dial_view}
 use Rattle.follower.proofs.Rest.{GoneTo}
 use Rattle.follower.proofs.syncing.take_rest.Given as goal
 
 abbrev pub invariant-loop-before : goal.invariant-loop-before
 invariant-loop-before g l =
-    let told = λ (net : g.row.N.Denot). net_of g.N.Dial net in
+    let told = λ (net : g.row.N.Denot). dial_view g.N.Dial net in
     record {
       gone : (more : List CheckedPatch) × GoneTo g.D.Disk g.N.Dial.tells g.N.L.Link.left g.N.L.Link.sent l.address l.name l.fn.zone l.fn.line.open (told l.fn.net) l.zone l.line.open (told l.net) more;
       version : length l.zone.brief.ids ≡ l.before;

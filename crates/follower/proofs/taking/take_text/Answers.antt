@@ -7,7 +7,7 @@ use Rattle.zone_state.specs.Zone.{ZoneView}
 use Rattle.zone_state.proofs.Took.{any_moment}
 use Rattle.follower.specs.declared.ends.SyncEnd.{SyncEnd}
 use Rattle.follower.specs.declared.ends.SyncEnd.TheVariants.{DiskFault}
-use Rattle.follower.specs.Exchanges.{WasSaid}
+use Rattle.delta_client.specs.Exchanges.{WasSaid}
 use Rattle.follower.specs.Grown.{Stayed, Took}
 use Rattle.follower.specs.Syncing.{IsText, TextEnds, end_of}
 use Rattle.follower.proofs.Answered.{Answers, no_patch_ends, took_ok, took_err, took_stayed, took_untouched, taken_settles, on_ok}

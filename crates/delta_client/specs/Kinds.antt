@@ -2,10 +2,11 @@
 use Rattle.std.specs.Prelude.{◌≡◌, Option, Some, None}
 use Rattle.rpc_answers.specs.declared.answer.Answer.{Answer}
 use Rattle.rpc_answers.specs.declared.answer.Answer.TheVariants as answer
+use Rattle.rpc_answers.specs.Answers.{status_of}
 use Rattle.rpc_calls.specs.declared.call.Call.{Call}
 use Rattle.rpc_calls.specs.declared.call.Call.TheVariants as call
-use Rattle.client_commands.specs.declared.kind.Kind.{Kind}
-use Rattle.client_commands.specs.declared.kind.Kind.TheVariants as kinds
+use Rattle.delta_client.specs.declared.kind.Kind.{Kind}
+use Rattle.delta_client.specs.declared.kind.Kind.TheVariants as kinds
 
 -- the kind of answer that a call takes
 abbrev pub kind_asked : Call → Kind
@@ -35,6 +36,10 @@ kind_said (answer.Run first version) = Some kinds.Run
 kind_said (answer.Patch text) = Some kinds.Patch
 kind_said other = None
 
--- the call takes the answer
+-- the answer is of the call's kind
 abbrev pub IsAnswerTo : Call → Answer → Type 0
 IsAnswerTo c a = kind_said a ≡ Some (kind_asked c)
+
+-- the call takes the answer: it is of the call's kind, or a refusal
+abbrev pub MayAnswer : Call → Answer → Type 0
+MayAnswer c a = status_of a ≡ 200 → IsAnswerTo c a

@@ -1,6 +1,7 @@
 //! Which answers a call takes.
-ghost use Rattle.std.specs.Prelude.{◌≡◌};
-ghost use Rattle.client_commands.specs.Kinds.{kind_asked, kind_said};
+ghost use Rattle.std.specs.Prelude.{◌≡◌, true, false};
+ghost use Rattle.rpc_answers.specs.Answers.{status_of};
+ghost use Rattle.delta_client.specs.Kinds.{IsAnswerTo, MayAnswer, kind_asked, kind_said};
 
 use rpc_answers::Answer;
 use rpc_calls::Call;
@@ -18,8 +19,8 @@ pub enum Kind {
 }
 
 impl Kind {
-    /// The kind of answer that a call takes.
-    pub(crate) fn asked(call: &Call) -> Kind
+    // The kind of answer that a call takes.
+    fn asked(call: &Call) -> Kind
         ensures { result ≡ kind_asked call.now }
     {
         match call {
@@ -36,8 +37,8 @@ impl Kind {
         }
     }
 
-    /// The kind of an answer, where it is no refusal.
-    pub(crate) fn said(answer: &Answer) -> Option<Kind>
+    // The kind of an answer, where it is no refusal.
+    fn said(answer: &Answer) -> Option<Kind>
         ensures { result ≡ kind_said answer.now }
     {
         match answer {
@@ -50,5 +51,17 @@ impl Kind {
             Answer::Patch { .. } => Some(Kind::Patch),
             _ => None,
         }
+    }
+}
+
+/// Whether a call takes an answer: a refusal, or one of the call's own kind.
+pub(crate) fn takes(call: &Call, answer: &Answer) -> bool
+    ensures yes { result ≡ true → MayAnswer call.now answer.now }
+    ensures no { result ≡ false → status_of answer.now ≡ 200 }
+    ensures other { result ≡ false → IsAnswerTo call.now answer.now → ⊥ }
+{
+    match Kind::said(answer) {
+        Some(said) => said == Kind::asked(call),
+        None => true,
     }
 }
