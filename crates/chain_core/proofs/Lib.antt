@@ -7,3 +7,4 @@ pub mod Runs
 pub mod Stays
 pub mod Versions
 pub mod Fronts
+pub mod Among

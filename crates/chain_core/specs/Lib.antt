@@ -5,6 +5,7 @@ pub mod Chain
 pub mod Breaks
 pub mod Tested
 pub mod Patches
+pub mod Among
 pub mod Counted
 pub mod Runs
 pub mod Decision

@@ -61,7 +61,8 @@ file_length runs = payloads_length (run_texts runs)
 -- the entries of a run that one pass brings; each says how many of it stand behind
 abbrev pub entries_of : List Patch → ℕ → List Entry
 entries_of [] by = []
-entries_of (patch ∷ run) by = record { patch = patch; by = by; rest = length run } ∷ entries_of run by
+entries_of (patch ∷ run) by =
+    record { patch = patch; by = by; rest = length run } ∷ entries_of run by
 
 module _ {T : Type 0} (by_of rest_of : T → ℕ) where
   -- where some of a run are behind it, the next one is of that pass and has one less behind it

@@ -21,7 +21,8 @@ use log_base::{ChainLink, FullKind, LogLimits, PAYLOAD_FRAME, Sent};
 
 // The version of the first patch of a run whose id the chain has.
 fn version_known<L: Lookup, S: Sent>(chain: &L, run: &[S]) -> Option<u32>
-    ensures { result ≡ version_known (patches_of (L.entries chain.now)) (patches_sent S.link_sent S.text_sent run.now) }
+    ensures { result ≡ version_known (patches_of (L.entries chain.now))
+        (patches_sent S.link_sent S.text_sent run.now) }
 {
     for (place, sent) in run.iter().enumerate() {
         let found = chain.version_of(sent.link().id);
@@ -36,7 +37,8 @@ fn version_known<L: Lookup, S: Sent>(chain: &L, run: &[S]) -> Option<u32>
 fn stands_at<S: Sent>(chain: &Chain, version: u32, run: &[S]) -> bool
     requires version { 1 ≤ version }
     requires few { length run.now < 2 ^ 63 }
-    ensures { result ≡ stands_at (patches_of chain.now.items) version (patches_sent S.link_sent S.text_sent run.now) }
+    ensures { result ≡ stands_at (patches_of chain.now.items) version
+        (patches_sent S.link_sent S.text_sent run.now) }
 {
     for (place, sent) in run.iter().enumerate() {
         if !chain.has_text_at(version as usize - 1 + place, sent.text()) {
@@ -82,10 +84,10 @@ fn framed_length<S: Sent>(run: &[S]) -> u64
 fn decide_new<S: Sent>(chain: &Chain, limits: &LogLimits, named: Option<u32>, run: &[S]) -> Decision
     requires text { length (run_text (patches_sent S.link_sent S.text_sent run.now)) ≤ PATCH_LIMIT }
     requires few { length run.now < 2 ^ 63 }
-    requires named { named
-        ≡ version_named (patches_of chain.now.items) (prev_of_run (patches_sent S.link_sent S.text_sent run.now)) }
-    ensures { result
-        ≡ decision_on_new (patches_of chain.now.items) (patches_sent S.link_sent S.text_sent run.now) limits.now }
+    requires named { named ≡ version_named (patches_of chain.now.items)
+        (prev_of_run (patches_sent S.link_sent S.text_sent run.now)) }
+    ensures { result ≡ decision_on_new (patches_of chain.now.items)
+        (patches_sent S.link_sent S.text_sent run.now) limits.now }
 {
     let version = chain.version();
     let head = chain.head();
@@ -121,8 +123,8 @@ fn decide_new<S: Sent>(chain: &Chain, limits: &LogLimits, named: Option<u32>, ru
 pub fn decide_run<L: Lookup, S: Sent>(chain: &L, limits: &LogLimits, run: &[S]) -> Decision
     requires text { length (run_text (patches_sent S.link_sent S.text_sent run.now)) ≤ PATCH_LIMIT }
     requires few { length run.now < 2 ^ 63 }
-    ensures { result
-        ≡ run_decision (patches_of (L.entries chain.now)) (patches_sent S.link_sent S.text_sent run.now) limits.now }
+    ensures { result ≡ run_decision (patches_of (L.entries chain.now))
+        (patches_sent S.link_sent S.text_sent run.now) limits.now }
 {
     match version_known(chain, run) {
         Some(version) => Decision::Known {

@@ -1,5 +1,6 @@
 //! Laws of chains and their faults.
 ghost use Rattle.std.specs.Prelude.{◌≡◌, ◌≤◌, List, Bool, length};
+ghost use mathlib.Core.List.{IsPrefix};
 ghost use Rattle.log_base.specs.declared.chain_link.ChainLink.{ChainLink};
 ghost use Rattle.chain_core.specs.declared.testing.ChainFault.{ChainFault};
 ghost use Rattle.chain_core.specs.Links.{IsChain};
@@ -8,6 +9,8 @@ ghost use Rattle.log_base.specs.declared.limits.LogLimits.{LogLimits};
 ghost use Rattle.log_base.specs.declared.limits.TheConstants.{PATCH_LIMIT};
 ghost use Rattle.chain_core.specs.declared.chain.Patch.{Patch};
 ghost use Rattle.chain_core.specs.declared.fate.Fate.{Fate};
+ghost use Rattle.chain_core.specs.Among.{AreAmong};
+ghost use Rattle.chain_core.specs.Patches.{links_of};
 ghost use Rattle.chain_core.specs.Log.{LogPoint, IsPoint, stopped, opened_again};
 ghost use Rattle.chain_core.specs.Runs.{IsRun, run_text};
 ghost use Rattle.chain_core.specs.Stay.{run_stay};
@@ -37,4 +40,11 @@ pub fn stops_keep_logs()
         → IsPoint limits point → IsPoint limits (stopped point opened) }
     ensures opening { (limits : LogLimits) (point : LogPoint (List Patch))
         → IsPoint limits point → IsPoint limits (opened_again point) }
+{}
+
+/// A chain whose patches are all among those of another chain begins it, in whatever order they came:
+/// each patch says which one stands before it.
+pub fn chain_of_its_patches_begins_it()
+    ensures { (some whole : List Patch) → IsChain (links_of some) → IsChain (links_of whole)
+        → AreAmong some whole → IsPrefix some whole }
 {}

@@ -16,6 +16,9 @@ pub use chain::{Chain, Entry, Patch};
 pub use deciding::{decide, decide_run};
 pub use fate::Fate;
 pub use id_index::IdIndex;
-pub use laws::{chains_have_no_fault, patches_have_one_fault, stays_keep_logs, stops_keep_logs};
+pub use laws::{
+    chain_of_its_patches_begins_it, chains_have_no_fault, patches_have_one_fault, stays_keep_logs,
+    stops_keep_logs,
+};
 pub use lookup::Lookup;
 pub use testing::{ChainFault, ChainTest};

@@ -74,7 +74,8 @@ pub struct StartRefusal<D: Disk> {
 
 impl<D: Disk> Journal<D> {
     ghost use Rattle.log_journal.specs.StandsFor.{StandsFor, StandsInDoubt, Leaves};
-    ghost use Rattle.log_journal.specs.StandsFor.{length_of, limit_of, count_of, is_settled, disk_of};
+    ghost use Rattle.log_journal.specs.StandsFor.{length_of, limit_of, count_of, is_settled};
+    ghost use Rattle.log_journal.specs.StandsFor.{disk_of};
     ghost use Rattle.log_journal.specs.Payload.{payload_of};
     ghost use Rattle.log_journal.specs.Append.{syncs_of, DoneByPlan};
     ghost use Rattle.log_journal.specs.Written.{DiskWent, Reopened, RefusedOpening};

@@ -23,8 +23,8 @@ view_of journal kept limits = record {
   disk = disk_of journal;
 }
 
--- the journal's count, length and limit are those of the patches taken, nothing is staged, and the zone
--- stands for some patches
+-- the journal's count, length and limit are those of the patches taken, nothing is staged, and the
+-- zone stands for some patches
 pub record IsZoneKept {D : Type 0} {disks : Ghosts D} (journal : Journal D disks) (kept : Kept)
     (limits : LogLimits) : Type 0 where
   pub counted : count_of journal ≡ length kept.ids.items
