@@ -12,10 +12,10 @@ use crate::telling::{append_answer, say, say_fetched};
 use delta_base::{Bytes, Id, Text};
 use disk_model::Disk;
 use http_session::Said;
+use log_base::LogInfo;
 use patch_log::check_run;
 use patch_meaning::check_patch;
 use rpc_answers::Answer;
-use shared_log::LogInfo;
 use std::alloc::Global;
 use std::sync::Wait;
 

@@ -13,9 +13,10 @@ use crate::pass::LogsPass;
 use chain_core::LogAnswer;
 use delta_base::{Id, OutOfMemory};
 use disk_model::Disk;
+use log_base::LogInfo;
 use patch_log::Run;
 use patch_meaning::Checked;
-use shared_log::{Fetched, LogInfo, SharedLog};
+use shared_log::{Fetched, SharedLog};
 use std::marker::Model;
 use std::sync::Wait;
 

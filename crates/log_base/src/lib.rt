@@ -4,6 +4,7 @@
 
 mod chain_link;
 mod limits;
+mod log_info;
 mod phase;
 mod sent;
 mod source_info;
@@ -14,6 +15,7 @@ pub use limits::{
     OLD_LOG_BYTES, OLD_REGISTRY_LIMIT, OLD_ZONE_FILE_LIMIT, PATCH_LIMIT, PAYLOAD_FRAME,
     REGISTRY_LIMIT, ZONE_FILE_LIMIT,
 };
+pub use log_info::LogInfo;
 pub use phase::Phase;
 pub use sent::Sent;
 pub use source_info::{SourceInfo, Sources};

@@ -2,7 +2,7 @@
 use Rattle.chain_core.specs.Replies.{LogReply, found, missing, described}
 use Rattle.shared_log.specs.declared.replies.Fetched.{Fetched}
 use Rattle.shared_log.specs.declared.replies.Fetched.TheVariants.{Found, Missing}
-use Rattle.shared_log.specs.declared.replies.LogInfo.{LogInfo}
+use Rattle.log_base.specs.declared.log_info.LogInfo.{LogInfo}
 
 abbrev pub reply_fetched : Fetched → LogReply
 reply_fetched (Found patch) = found patch

@@ -11,6 +11,6 @@ mod shared;
 mod value;
 
 pub use laws::{calls_add_up, calls_are_made, calls_compose, stays_in_sight, told_is_on_disk};
-pub use replies::{Fetched, LogInfo};
+pub use replies::Fetched;
 pub use shared::{LogPass, SharedLog};
 pub use value::{LogFixed, LogValue};

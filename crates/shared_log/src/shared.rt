@@ -12,11 +12,12 @@ ghost use Rattle.shared_log.specs.Replies.{reply_fetched, reply_described};
 ghost use Rattle.shared_log.specs.Legal.{asks_disk};
 ghost use Rattle.shared_log.specs.Stays.{CalledOnLog};
 
-use crate::replies::{Fetched, LogInfo};
+use crate::replies::Fetched;
 use crate::value::LogValue;
 use chain_core::LogAnswer;
 use delta_base::{Back, Id, OutOfMemory};
 use disk_model::Disk;
+use log_base::LogInfo;
 use patch_log::{LogState, Ready, Run};
 use patch_meaning::Checked;
 use std::alloc::Global;

@@ -12,11 +12,11 @@ ghost use Rattle.shared_log.specs.Replies.{reply_fetched, reply_described};
 ghost use Rattle.shared_log.specs.Legal.{asks_disk};
 ghost use Rattle.turn_cell.specs.Sights.{IsGrownBy};
 
-use crate::replies::{Fetched, LogInfo};
+use crate::replies::Fetched;
 use chain_core::{LogAnswer, Patch};
 use delta_base::{Id, OutOfMemory};
 use disk_model::Disk;
-use log_base::LogLimits;
+use log_base::{LogInfo, LogLimits};
 use patch_log::{LogState, Ready, Run, append_made, append_made_run};
 use patch_meaning::Checked;
 use std::collections::LinkedList;
