@@ -37,8 +37,8 @@ pub enum Kind {
     AppendLong,
     /// A version, each connection of a log of its own.
     Fetch,
-    /// A version of the first log.
-    FetchOne,
+    /// A version of the log with this number.
+    FetchOf(u32),
 }
 
 fn kind(word: &str) -> Option<Kind> {
@@ -51,7 +51,8 @@ fn kind(word: &str) -> Option<Kind> {
         "run-rows" => Some(Kind::RunRows),
         "append-long" => Some(Kind::AppendLong),
         "fetch" => Some(Kind::Fetch),
-        "fetch-one" => Some(Kind::FetchOne),
+        "fetch-one" => Some(Kind::FetchOf(1)),
+        "fetch-two" => Some(Kind::FetchOf(2)),
         _ => None,
     }
 }
@@ -113,12 +114,12 @@ impl Client for Line {
     }
 
     fn requests(&mut self, kind: Kind, log: u32, count: u64) -> io::Result<Vec<Vec<u8>>> {
-        let log = if kind == Kind::FetchOne { 1 } else { log };
+        let log = if let Kind::FetchOf(log) = kind { log } else { log };
         let (version, head) = self.log(log)?;
         match kind {
-            Kind::Fetch | Kind::FetchOne if version < 2 => Err(io::Error::other("nothing to fetch")),
+            Kind::Fetch | Kind::FetchOf(_) if version < 2 => Err(io::Error::other("nothing to fetch")),
             // The first patch has no head before it, and so is shorter than all others.
-            Kind::Fetch | Kind::FetchOne => Ok((0..count)
+            Kind::Fetch | Kind::FetchOf(_) => Ok((0..count)
                 .map(|turn| get(log, &format!("/{}", 2 + mixed(turn) % (version - 1))).into_bytes())
                 .collect()),
             _ => {
