@@ -1,8 +1,8 @@
 //! What the rows of a patch say together, and how a stream is cut.
 use case_scripts::Answer;
 use delta_base::{Id, id_text};
-use log_base::ChainLink;
-use patch_meaning::{Checked, PatchFault, check_link, check_patch, split_stream};
+use log_base::Sent;
+use patch_meaning::{Checked, Linked, PatchFault, check_link, check_patch, split_links};
 use std::alloc::Global;
 use std::fmt::Write;
 
@@ -47,12 +47,7 @@ pub(crate) fn patch(alloc: Global, text: &[u8], answer: &mut Answer) {
     let link = check_link(alloc, text);
     match check_patch(alloc, text) {
         Ok(patch) => {
-            if link
-                != Ok(ChainLink {
-                    id: patch.id(),
-                    prev: patch.prev(),
-                })
-            {
+            if link != Ok(patch.link()) {
                 answer.push(b"otherwise by its ids, ");
             }
             tell_copy(patch, answer);
@@ -66,12 +61,26 @@ pub(crate) fn patch(alloc: Global, text: &[u8], answer: &mut Answer) {
     }
 }
 
+// Writes what the text of a patch of a stream says as a patch by itself.
+fn tell_linked(alloc: Global, patch: &Linked, answer: &mut Answer) {
+    match check_patch(alloc, patch.text()) {
+        Ok(alone) => {
+            if alone.link() != patch.link() {
+                answer.push(b"otherwise by its ids, ");
+            }
+            tell_patch(&alone, answer);
+            drop(alone);
+        }
+        Err(fault) => tell_fault(fault, answer),
+    }
+}
+
 /// `stream TEXT`: its patches, each with its text and a line feed, or its first fault.
 pub(crate) fn stream(alloc: Global, text: &[u8], answer: &mut Answer) {
-    match split_stream(alloc, text) {
+    match split_links(alloc, text) {
         Ok(patches) => {
             for patch in patches.as_slice() {
-                tell_patch(patch, answer);
+                tell_linked(alloc, patch, answer);
                 answer.push(b"\n");
             }
             let _ = write!(answer, "{} patches", patches.len());

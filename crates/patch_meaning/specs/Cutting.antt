@@ -1,6 +1,6 @@
 -- A stream of which some rows were taken.
-use Rattle.std.specs.Prelude.{◌≡◌, ◌⊎◌, ℕ, ◌+◌, ◌≤◌, true, false, List}
-use Rattle.std.specs.Prelude.{[], ◌∷◌, ◌++◌, Option, Some, None, length}
+use Rattle.std.specs.Prelude.{◌≡◌, ◌⊎◌, ℕ, ◌+◌, ◌<◌, ◌≤◌, true, false, List}
+use Rattle.std.specs.Prelude.{[], ◌∷◌, ◌++◌, Option, Some, None, Result, Ok, Err, length, map}
 use Rattle.log_base.specs.declared.limits.TheConstants.{PATCH_LIMIT}
 use Rattle.log_base.specs.declared.chain_link.ChainLink.{ChainLink}
 use Rattle.rdf_terms.specs.declared.change.Change.{Change}
@@ -13,16 +13,19 @@ use Rattle.patch_meaning.specs.declared.part.Part.{Part as PartRead}
 use Rattle.patch_meaning.specs.declared.role.Role.{Role}
 use Rattle.patch_meaning.specs.declared.rows.Next.{Next}
 use Rattle.patch_meaning.specs.declared.stream.Cutting.{Cutting}
+use Rattle.patch_meaning.specs.declared.stream.Linked.{Linked}
 use Rattle.patch_meaning.specs.Next.{IsNextRow}
 use Rattle.patch_meaning.specs.Checked.{CheckedPatch, meanings, checked_texts}
 use Rattle.patch_meaning.specs.PartRead.{HasPart, IsComplete, meaning_of}
-use Rattle.patch_meaning.specs.Patch.{Meaning, IsPatch, AreTaken, refusal, has_some}
+use Rattle.patch_meaning.specs.Patch.{Meaning, AreTaken, refusal, has_some}
 use Rattle.patch_meaning.specs.Roles.{role, said, change_of, changes_of}
 use Rattle.patch_meaning.specs.Rows.{AreUpTo}
 use Rattle.patch_reader.specs.declared.placed.PlacedRow.{PlacedRow}
 use Rattle.patch_reader.specs.Rows.{Gap, RowsUpTo, NoRowAt}
 use Rattle.patch_meaning.specs.Stream.{ArePatches, AreStream, IsEndFault}
-use Rattle.patch_meaning.specs.Stream.{IsStreamFault, begins, cut, part_texts, within}
+use Rattle.patch_meaning.specs.Stream.{IsStreamFault, begins, cut, linked, part_texts, within}
+use Rattle.row_scan.specs.Rows.{HasRow}
+use Rattle.row_scan.specs.declared.row.ScannedRow.{ScannedRow}
 
 -- ---- rows that come one at a time
 
@@ -128,32 +131,40 @@ IsBrokenAtEnd p stop fault =
 
 -- ---- a whole text
 
--- the rows up to this place were cut into patches that are complete, with their texts, and one that
--- may go on
+-- the rows up to this place were cut into patches that are complete, with their ids and texts, and
+-- one that may go on
 pub record HasCut (text : List ℕ) (at : ℕ) (k : Cutting) : Type 0 where
   pub rs : List PlacedRow
+  pub patches : List CheckedPatch
+  pub changes : List Change
   pub reads : RowsUpTo text 0 rs at
   pub within : at ≤ length text
-  pub parts : IsCutInto rs (meanings k.patches.items) k.changes.items k.part
-  pub texts_are : checked_texts k.patches.items ≡ part_texts text (cut rs).done (cut rs).last.from
+  pub parts : IsCutInto rs (meanings patches) changes k.part
+  pub texts_are : checked_texts patches ≡ part_texts text (cut rs).done (cut rs).last.from
+  pub links_are : k.patches.items ≡ map linked patches
 
 -- the rows up to some place were cut, and this is the next one
 abbrev pub IsNextToCut : List ℕ → Next → Cutting → Type 0
 IsNextToCut text next k = (at : ℕ) × HasCut text at k × IsNextRow text at next
 
+-- the same of a row that the scan found at a place
+abbrev pub IsFoundToCut : List ℕ → ℕ → ScannedRow → Cutting → Type 0
+IsFoundToCut text at found k =
+    (from : ℕ) × HasCut text from k × Gap text from at × HasRow text at found
+
 -- all rows were cut
 abbrev pub HasCutAll : List ℕ → Cutting → Type 0
 HasCutAll text k = (at : ℕ) × HasCut text at k × Gap text at (length text)
-
--- the text is the patch with these changes, if there is one
-abbrev pub IsPatchText : List ℕ → Option ChainLink → List Change → Type 0
-IsPatchText text None changes = Unit {0}
-IsPatchText text (Some link) changes = IsPatch text (meaning_of link changes)
 
 -- the patch with its text, if there is one
 abbrev pub checked_of : List ℕ → Option ChainLink → List Change → List CheckedPatch
 checked_of text None changes = []
 checked_of text (Some link) changes = record { text = text; meaning = meaning_of link changes } ∷ []
+
+-- the same without its changes
+abbrev pub linked_of : List ℕ → Option ChainLink → List Linked
+linked_of text None = []
+linked_of text (Some link) = record { link = link; text = text } ∷ []
 
 -- the next row, or none up to the text's end
 abbrev pub IsNextOrEnd : List ℕ → ℕ → Option Next → Type 0
@@ -170,3 +181,10 @@ StopsCutting text at part fault =
 -- the first fault of a text that is no stream; want of memory is free
 abbrev pub RefusesStream : List ℕ → PatchFault → Type 0
 RefusesStream text fault = (fault ≡ faults.OutOfMemory) ⊎ IsStreamFault text fault
+
+-- The next row behind a place was cut, and this is the place behind it; or all were cut; or it is
+-- the first fault of the text.
+abbrev pub CutsNext : List ℕ → ℕ → Cutting → Result (Option ℕ) PatchFault → Type 0
+CutsNext text from k (Ok (Some end)) = (from < end) × HasCut text end k
+CutsNext text from k (Ok None) = HasCutAll text k
+CutsNext text from k (Err fault) = RefusesStream text fault

@@ -75,6 +75,15 @@ IsFoundRole says.Abort r = r ≡ roles.Change change.Abort
 IsFoundRole (says.Id id) r = r ≡ roles.Id (Some id)
 IsFoundRole (says.Prev id) r = r ≡ roles.Prev (Some id)
 
+-- what such a row says, unless it adds or deletes a quad
+abbrev pub found_role : Says → Option Role
+found_role (says.Quad adds line) = None
+found_role says.Begin = Some (roles.Change change.Begin)
+found_role says.Commit = Some (roles.Change change.Commit)
+found_role says.Abort = Some (roles.Change change.Abort)
+found_role (says.Id id) = Some (roles.Id (Some id))
+found_role (says.Prev id) = Some (roles.Prev (Some id))
+
 -- what the rows of a text say
 abbrev pub said : List PlacedRow → List Role
 said rs = map (λ r. role r.row) rs

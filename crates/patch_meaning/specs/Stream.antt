@@ -11,6 +11,7 @@ use Rattle.patch_meaning.specs.declared.fault.PatchKind.{PatchKind}
 use Rattle.patch_meaning.specs.declared.fault.PatchKind.TheVariants as kinds
 use Rattle.patch_meaning.specs.declared.role.Role.{Role}
 use Rattle.patch_meaning.specs.declared.role.Role.TheVariants as roles
+use Rattle.patch_meaning.specs.declared.stream.Linked.{Linked}
 use Rattle.patch_meaning.specs.Checked.{CheckedPatch, meanings, checked_texts}
 use Rattle.log_base.specs.declared.limits.TheConstants.{PATCH_LIMIT}
 use Rattle.patch_meaning.specs.Patch.{Meaning, IsWell, AreTaken, refusal, has_some}
@@ -97,6 +98,13 @@ pub record IsSplit (text : List ℕ) (ps : List CheckedPatch) : Type 0 where
   pub reads : RowsTo text 0 rows_ (length text)
   pub stream : AreStream rows_ (length text) (meanings ps)
   pub texts_are : checked_texts ps ≡ cut_texts text rows_
+
+-- a patch without its changes: its ids and its text
+abbrev pub linked : CheckedPatch → Linked
+linked p = record {
+  link = record { id = p.meaning.id; prev = p.meaning.prev };
+  text = p.text;
+}
 
 -- ---- faults
 

@@ -20,6 +20,6 @@ pub use laws::{
 };
 pub use link::check_link;
 pub use part::Part;
-pub use role::{Role, role_of};
+pub use role::{Role, found_role, role_of};
 pub use rows::{Next, next_row};
-pub use stream::{Patches, split_stream};
+pub use stream::{Linked, split_links};

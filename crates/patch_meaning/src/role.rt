@@ -1,11 +1,13 @@
 //! What a row of a patch says.
 
 ghost use Rattle.std.specs.Prelude.{◌≡◌};
-ghost use Rattle.patch_meaning.specs.Roles.{id_in, iri_id, string_id, value_id, header_role, role};
+ghost use Rattle.patch_meaning.specs.Roles.{found_role, header_role, id_in, iri_id, role};
+ghost use Rattle.patch_meaning.specs.Roles.{string_id, value_id};
 
 use delta_base::{Id, Text, read_id};
 use patch_rows::Row;
 use rdf_terms::{Change, LiteralKind, Term};
+use row_scan::Says;
 
 /// What a row says.
 #[derive(Drop)]
@@ -27,6 +29,21 @@ pub fn role_of(row: Row) -> Role
     match row {
         Row::Header { key, value } => header_role(&key, &value),
         Row::Change(change) => Role::Change(change),
+    }
+}
+
+/// What a row says that a scan found, unless it adds or deletes a quad, of which no term is made.
+#[inline(always)]
+pub fn found_role(says: Says) -> Option<Role>
+    ensures { result ≡ found_role says }
+{
+    match says {
+        Says::Quad { .. } => None,
+        Says::Begin => Some(Role::Change(Change::Begin)),
+        Says::Commit => Some(Role::Change(Change::Commit)),
+        Says::Abort => Some(Role::Change(Change::Abort)),
+        Says::Id(id) => Some(Role::Id(Some(id))),
+        Says::Prev(id) => Some(Role::Prev(Some(id))),
     }
 }
 

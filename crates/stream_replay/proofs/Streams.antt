@@ -34,8 +34,7 @@ use Rattle.patch_meaning.specs.Cutting.{HasTakenNext, AreRefused, EndsWith, Ends
 use Rattle.patch_meaning.specs.PartRead.{HasPart}
 use Rattle.patch_meaning.specs.Patch.{Meaning}
 use Rattle.patch_meaning.specs.Replay.{replay}
-use Rattle.patch_meaning.specs.Roles.{header_role, role, said, value_id}
-use Rattle.stream_replay.specs.Found.{found_role}
+use Rattle.patch_meaning.specs.Roles.{found_role, header_role, role, said, value_id}
 use Rattle.patch_meaning.specs.Rows.{AreUpTo, RowsTo}
 use Rattle.patch_meaning.specs.Stream.{IsStream, IsStreamFault, begins, cut, next, over}
 use Rattle.patch_meaning.proofs.Cuts.{taken_next, with_changes}

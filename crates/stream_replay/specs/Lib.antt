@@ -1,4 +1,3 @@
-pub mod Found
 pub mod Replaying
 pub mod Places
 pub mod Edits

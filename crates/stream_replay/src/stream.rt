@@ -9,34 +9,17 @@ ghost use Rattle.patch_reader.specs.Places.{IsNotBefore};
 ghost use Rattle.patch_reader.specs.Rows.{Gap, RowsStand, StopsRows};
 ghost use Rattle.patch_reader.specs.Window.{RowBegins};
 ghost use Rattle.row_scan.specs.Rows.{HasRow};
-ghost use Rattle.stream_replay.specs.Found.{found_role};
 
 use crate::fault::ReplayFault;
 use crate::progress::StreamProgress;
 use crate::replay::Replayed;
 use delta_base::OutOfMemory;
 use log_base::ChainLink;
-use patch_meaning::{PatchFault, Role, role_of};
+use patch_meaning::{PatchFault, Role, found_role, role_of};
 use patch_reader::{PlacedRow, RowWindow};
 use patch_rows::{RowFault, TextEnd};
-use rdf_terms::Change;
 use row_scan::{Says, ScannedRow, scan_row};
 use std::alloc::Global;
-
-/// What a row says, unless it adds or deletes a quad, of which no term is made.
-#[inline(always)]
-fn found_role(says: Says) -> Option<Role>
-    ensures { result ≡ found_role says }
-{
-    match says {
-        Says::Quad { .. } => None,
-        Says::Begin => Some(Role::Change(Change::Begin)),
-        Says::Commit => Some(Role::Change(Change::Commit)),
-        Says::Abort => Some(Role::Change(Change::Abort)),
-        Says::Id(id) => Some(Role::Id(Some(id))),
-        Says::Prev(id) => Some(Role::Prev(Some(id))),
-    }
-}
 
 /// A stream of which some pieces were read.
 #[derive(Drop)]

@@ -1,7 +1,7 @@
-use Rattle.std.proofs.Common.{ℕ, ◌++◌, List, sym, ap, subst, ◌∙◌, arith}
+use Rattle.std.proofs.Common.{ℕ, ◌++◌, List, ap, ◌∙◌, arith}
 use Rattle.std.proofs.lemmas.Result.{err_from_is_err_and}
-use Rattle.patch_meaning.specs.Cutting.{IsPatchText, checked_of}
-use Rattle.patch_meaning.proofs.Splits.{last_piece, part_before, unfinished, finished}
+use Rattle.patch_meaning.specs.Cutting.{linked_of}
+use Rattle.patch_meaning.proofs.Splits.{part_before, unfinished, finished}
 use Rattle.patch_meaning.proofs.stream.Cutting.finish.Goals as goal
 
 pub piece-text-requires : goal.piece-text-requires
@@ -15,13 +15,8 @@ returns-in_err-done-clause-fault c =
     let r = c.requires in
     rw (p.1, p.2) (unfinished c.args.text.now r.0 c.args.self c.in_err-done.field-0.0 r.1 r.2 c.in_err-done.ensures.fault)
 
-pub put-requires : goal.put-requires
-put-requires c =
-    let r = c.requires in
-    subst (λ (text : List ℕ). IsPatchText text c.in_ok-done.done c.args.self.changes.items) (sym c.piece-text.ensures) (last_piece c.args.text.now r.0 c.args.self c.in_ok-done.done r.1 r.2 c.in_ok-done.ensures.last)
-
 pub returns-clause-split : goal.returns-clause-split
 returns-clause-split c =
     let r = c.requires in
     finished c.args.text.now r.0 c.args.self c.in_ok-done.done c.put.new.self.patches.items r.1 r.2 c.in_ok-done.ensures.ok c.in_ok-done.ensures.last
-    (c.in_ok-put.ensures.patches ∙ ap (λ (text : List ℕ). c.args.self.patches.items ++ checked_of text c.in_ok-done.done c.args.self.changes.items) c.piece-text.ensures)
+    (c.in_ok-put.ensures.patches ∙ ap (λ (text : List ℕ). c.args.self.patches.items ++ linked_of text c.in_ok-done.done) c.piece-text.ensures)

@@ -1,7 +1,7 @@
 use Rattle.std.proofs.Common.{ℕ, ◌++◌, List, sym, ap, subst, ◌∙◌, arith}
 use Rattle.patch_meaning.specs.declared.part.Part.{Part}
-use Rattle.patch_meaning.specs.Cutting.{HasTakenNext, IsPatchText, checked_of}
-use Rattle.patch_meaning.proofs.Splits.{next_piece, part_before, broken_row, taken_behind}
+use Rattle.patch_meaning.specs.Cutting.{HasTakenNext, linked_of}
+use Rattle.patch_meaning.proofs.Splits.{part_before, broken_row, taken_behind}
 use Rattle.patch_meaning.proofs.stream.Cutting.take.Goals as goal
 
 pub piece-text-requires : goal.piece-text-requires
@@ -10,20 +10,14 @@ piece-text-requires c =
     let gap = r.2.1 in
     record { order = omega (arith, part_before c.args.text.now r.0 c.args.self.now r.1, gap.1); within = gap.2 }
 
-pub go_on-requires : goal.go_on-requires
-go_on-requires c =
-    let r = c.requires in
-    subst (λ (text : List ℕ). IsPatchText text c.in-Ok.done c.args.self.now.changes.items) (sym c.piece-text.ensures)
-    (next_piece c.args.text.now r.0 c.args.self.now c.args.next c.in-Ok.done r.1 r.2 c.in-Ok.ensures.cut)
-
-pub returns-in_ok-go_on-in-Ok-clause-ok : goal.returns-in_ok-go_on-in-Ok-clause-ok
-returns-in_ok-go_on-in-Ok-clause-ok c =
+pub returns-in_ok-put-in-Ok-clause-ok : goal.returns-in_ok-put-in-Ok-clause-ok
+returns-in_ok-put-in-Ok-clause-ok c =
     let r = c.requires in
     let old = c.args.self.now in
-    let went = c.in_ok-go_on-in-Ok.ensures in
-    taken_behind c.args.text.now r.0 old c.go_on.new.self c.args.next c.in-Ok.done r.2 r.1 c.in-Ok.ensures.cut
-    (subst (λ (p : Part). HasTakenNext old.part c.args.next.role c.args.next.at c.in-Ok.done p) (sym went.part) c.in-Ok.ensures.ok)
-    (went.patches ∙ ap (λ (text : List ℕ). old.patches.items ++ checked_of text c.in-Ok.done old.changes.items) c.piece-text.ensures) went.changes
+    let put = c.in_ok-put-in-Ok.ensures in
+    taken_behind c.args.text.now r.0 old c.put.new.self c.args.next c.in-Ok.done r.2 r.1 c.in-Ok.ensures.cut
+    (subst (λ (p : Part). HasTakenNext old.part c.args.next.role c.args.next.at c.in-Ok.done p) (sym put.part) c.in-Ok.ensures.ok)
+    (put.patches ∙ ap (λ (text : List ℕ). old.patches.items ++ linked_of text c.in-Ok.done) c.piece-text.ensures)
 
 pub returns-in-Err-clause-fault : goal.returns-in-Err-clause-fault
 returns-in-Err-clause-fault c =

@@ -1,6 +1,6 @@
 use Rattle.std.proofs.Common.{◌-◌, length}
 use Rattle.patch_meaning.specs.Cutting.{HasCut}
-use Rattle.patch_meaning.proofs.stream.split_stream.Given as goal
+use Rattle.patch_meaning.proofs.stream.split_links.Given as goal
 
 -- the rows so far were cut
 abbrev pub invariant-loop-cutting : goal.invariant-loop-cutting
