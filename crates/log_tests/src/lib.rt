@@ -17,6 +17,8 @@ mod journals;
 #[cfg(test)]
 mod logs;
 #[cfg(test)]
+mod parts;
+#[cfg(test)]
 mod rewrites;
 #[cfg(test)]
 mod runs;

@@ -1,12 +1,11 @@
 //! Logs over disks in memory: what they answer, and what a crash leaves of them.
 use crate::steps::{Case, Step, disk_with, holds, log_left, open};
 use crate::tables::{EMPTY, Place, is};
-use chain_core::{Decision, LogAnswer};
+use chain_core::{Decision, LogAnswer, Patch};
 use delta_base::{Bytes, Id};
 use disk_model::MemDisk;
 use log_base::{FullKind, LOG_LIMITS, LogLimits};
-use patch_log::{LogFault, LogState, append};
-use patch_meaning::{Checked, check_patch};
+use patch_log::{LogFault, LogState, Run, append, read_patch};
 use std::alloc::Global;
 use std::process::Abort;
 use std::test::Fail;
@@ -48,39 +47,39 @@ static CASES: [Case; 12] = [
         limits: LOG_LIMITS,
         steps: &[
             Step::Add(
-                SECOND,
+                &[SECOND],
                 LogAnswer::Conflict {
                     version: 0,
                     head: None,
                     prev_version: None,
                 },
             ),
-            Step::Add(FIRST, LogAnswer::Accepted { version: 1 }),
+            Step::Add(&[FIRST], LogAnswer::Accepted { version: 1 }),
             Step::Add(
-                FIRST,
+                &[FIRST],
                 LogAnswer::Known {
                     version: 1,
                     same: true,
                 },
             ),
             Step::Add(
-                OTHER_TEXT,
+                &[OTHER_TEXT],
                 LogAnswer::Known {
                     version: 1,
                     same: false,
                 },
             ),
             Step::Add(
-                NO_PREVIOUS,
+                &[NO_PREVIOUS],
                 LogAnswer::Conflict {
                     version: 1,
                     head: Some(ID1),
                     prev_version: Some(0),
                 },
             ),
-            Step::Add(SECOND, LogAnswer::Accepted { version: 2 }),
+            Step::Add(&[SECOND], LogAnswer::Accepted { version: 2 }),
             Step::Add(
-                THIRD,
+                &[THIRD],
                 LogAnswer::Conflict {
                     version: 2,
                     head: Some(ID2),
@@ -88,7 +87,7 @@ static CASES: [Case; 12] = [
                 },
             ),
             Step::Add(
-                BEHIND_NINTH,
+                &[BEHIND_NINTH],
                 LogAnswer::Conflict {
                     version: 2,
                     head: Some(ID2),
@@ -104,7 +103,7 @@ static CASES: [Case; 12] = [
         failing: &[],
         limits: LOG_LIMITS,
         steps: &[
-            Step::Add(FIRST, LogAnswer::Accepted { version: 1 }),
+            Step::Add(&[FIRST], LogAnswer::Accepted { version: 1 }),
             Step::BroughtBy(7),
         ],
         left: &[(1, 1, Some(ID1))],
@@ -118,10 +117,10 @@ static CASES: [Case; 12] = [
             bytes: 10_000,
         },
         steps: &[
-            Step::Add(FIRST, LogAnswer::Accepted { version: 1 }),
-            Step::Add(SECOND, LogAnswer::Accepted { version: 2 }),
+            Step::Add(&[FIRST], LogAnswer::Accepted { version: 1 }),
+            Step::Add(&[SECOND], LogAnswer::Accepted { version: 2 }),
             Step::Decide(
-                BEHIND_SECOND,
+                &[BEHIND_SECOND],
                 Decision::Full {
                     what: FullKind::Patches,
                     have: 2,
@@ -140,10 +139,10 @@ static CASES: [Case; 12] = [
             bytes: 401,
         },
         steps: &[
-            Step::Add(FIRST, LogAnswer::Accepted { version: 1 }),
-            Step::Add(SECOND, LogAnswer::Accepted { version: 2 }),
+            Step::Add(&[FIRST], LogAnswer::Accepted { version: 1 }),
+            Step::Add(&[SECOND], LogAnswer::Accepted { version: 2 }),
             Step::Decide(
-                BEHIND_SECOND,
+                &[BEHIND_SECOND],
                 Decision::Full {
                     what: FullKind::Bytes,
                     have: 402,
@@ -162,9 +161,9 @@ static CASES: [Case; 12] = [
             bytes: 402,
         },
         steps: &[
-            Step::Add(FIRST, LogAnswer::Accepted { version: 1 }),
-            Step::Add(SECOND, LogAnswer::Accepted { version: 2 }),
-            Step::Decide(BEHIND_SECOND, Decision::Accept { version: 3 }),
+            Step::Add(&[FIRST], LogAnswer::Accepted { version: 1 }),
+            Step::Add(&[SECOND], LogAnswer::Accepted { version: 2 }),
+            Step::Decide(&[BEHIND_SECOND], Decision::Accept { version: 3 }),
         ],
         left: &[],
     },
@@ -174,8 +173,8 @@ static CASES: [Case; 12] = [
         failing: &[SECOND_GATE],
         limits: LOG_LIMITS,
         steps: &[
-            Step::Add(FIRST, LogAnswer::Accepted { version: 1 }),
-            Step::Add(SECOND, LogAnswer::DiskFault),
+            Step::Add(&[FIRST], LogAnswer::Accepted { version: 1 }),
+            Step::Add(&[SECOND], LogAnswer::DiskFault),
             Step::Faults(1),
             Step::Stands(1, Some(ID1)),
         ],
@@ -188,9 +187,9 @@ static CASES: [Case; 12] = [
         failing: &[SECOND_GATE],
         limits: LOG_LIMITS,
         steps: &[
-            Step::Add(FIRST, LogAnswer::Accepted { version: 1 }),
-            Step::Add(SECOND, LogAnswer::DiskFault),
-            Step::Add(THIRD, LogAnswer::Accepted { version: 2 }),
+            Step::Add(&[FIRST], LogAnswer::Accepted { version: 1 }),
+            Step::Add(&[SECOND], LogAnswer::DiskFault),
+            Step::Add(&[THIRD], LogAnswer::Accepted { version: 2 }),
         ],
         left: &[(0, 2, Some(ID3)), (1, 2, Some(ID3)), (7, 2, Some(ID3))],
     },
@@ -200,7 +199,7 @@ static CASES: [Case; 12] = [
         failing: &[],
         limits: LOG_LIMITS,
         steps: &[
-            Step::Ready(FIRST, LogAnswer::Accepted { version: 1 }),
+            Step::Ready(&[FIRST], LogAnswer::Accepted { version: 1 }),
             Step::BroughtBy(5),
             Step::IsSettled(true),
         ],
@@ -212,18 +211,18 @@ static CASES: [Case; 12] = [
         failing: &[],
         limits: LOG_LIMITS,
         steps: &[
-            Step::Want(FIRST, LogAnswer::OutOfMemory),
+            Step::Want(&[FIRST], LogAnswer::OutOfMemory),
             Step::Want(
-                SECOND,
+                &[SECOND],
                 LogAnswer::Conflict {
                     version: 0,
                     head: None,
                     prev_version: None,
                 },
             ),
-            Step::Made(FIRST, LogAnswer::Accepted { version: 1 }),
+            Step::Made(&[FIRST], LogAnswer::Accepted { version: 1 }),
             Step::Want(
-                FIRST,
+                &[FIRST],
                 LogAnswer::Known {
                     version: 1,
                     same: true,
@@ -376,8 +375,8 @@ fn each_fault_of_a_file_is_told(rt: HostRuntime) -> Result<(), Fail> {
     Ok(())
 }
 
-// The patch of this number, behind the one before it.
-fn numbered(alloc: Global, number: u32) -> Result<Checked, Fail> {
+// The run of the patch of this number, behind the one before it.
+fn numbered(alloc: Global, number: u32) -> Result<Run, Fail> {
     let mut text = format!(in alloc; "H id <uuid:00000000-0000-4000-8000-{number:012}> .\n")?;
     if number > 11 {
         let before = number - 1;
@@ -385,28 +384,29 @@ fn numbered(alloc: Global, number: u32) -> Result<Checked, Fail> {
             "H prev <uuid:00000000-0000-4000-8000-{before:012}> .\n"
         )?.as_str())?;
     }
-    Ok(check_patch(alloc, text.as_bytes())?)
+    Ok(read_patch(alloc, Bytes::from_vec(text.into_bytes()))?)
 }
 
 // The version of the last of these patches that is acknowledged.
-fn append_each(log: &mut LogState<MemDisk>, patches: &[Checked]) -> u32 {
+fn append_each(log: &mut LogState<MemDisk>, runs: &[Run]) -> Result<u32, Fail> {
     let mut acknowledged = 0u32;
-    for patch in patches {
-        if let LogAnswer::Accepted { version } = append(log, patch, 1) {
+    for run in runs {
+        if let LogAnswer::Accepted { version } = append(log, run.copy()?, 1) {
             acknowledged = version;
         }
     }
-    acknowledged
+    Ok(acknowledged)
 }
 
 // How many of ten chained appends are acknowledged over a disk whose calls all fail after so many,
 // and the disk.
-fn run_ten(alloc: Global, patches: &[Checked], fuse: u64) -> Result<Option<(u32, MemDisk)>, Fail> {
+fn run_ten(alloc: Global, runs: &[Run], fuse: u64) -> Result<Option<(u32, MemDisk)>, Fail> {
     let disk = MemDisk::with_fuse(alloc, Bytes::from_slice(alloc, EMPTY)?, fuse)?;
     match LogState::open_on(alloc, disk, 1, LOG_LIMITS) {
         Ok(mut log) => {
-            let acknowledged = append_each(&mut log, patches);
-            Ok(Some((acknowledged, log.close())))
+            let acknowledged = append_each(&mut log, runs);
+            let disk = log.close();
+            Ok(Some((acknowledged?, disk)))
         }
         Err(refusal) => {
             drop(refusal);
@@ -415,14 +415,22 @@ fn run_ten(alloc: Global, patches: &[Checked], fuse: u64) -> Result<Option<(u32,
     }
 }
 
+// Whether a patch has the text of a run of one.
+fn is_text_of(patch: &Patch, run: &Run) -> bool {
+    run.patches()
+        .as_slice()
+        .iter()
+        .all(|sent| sent.text == patch.text)
+}
+
 // Whether the log's patches are the first of these.
-fn is_front(log: &LogState<MemDisk>, patches: &[Checked]) -> bool {
+fn is_front(log: &LogState<MemDisk>, runs: &[Run]) -> bool {
     (1..=log.chain().version()).all(|version| {
         match (
             log.chain().by_version(version),
-            patches.get(version as usize - 1),
+            runs.get(version as usize - 1),
         ) {
-            (Some(found), Some(sent)) => found.text.as_slice() == sent.text().as_slice(),
+            (Some(found), Some(sent)) => is_text_of(found, sent),
             _ => false,
         }
     })
@@ -433,12 +441,12 @@ fn holds_acknowledged(
     alloc: Global,
     disk: &MemDisk,
     choice: u64,
-    patches: &[Checked],
+    runs: &[Run],
     acknowledged: u32,
 ) -> Result<bool, Fail> {
     let log = log_left(alloc, disk, choice)?;
     let more = log.chain().version().wrapping_sub(acknowledged);
-    let holds = more <= 1 && is_front(&log, patches);
+    let holds = more <= 1 && is_front(&log, runs);
     drop(log);
     Ok(holds)
 }
@@ -448,30 +456,25 @@ fn keeps_acknowledged(
     rt: &impl Abort,
     alloc: Global,
     fuse: u64,
-    patches: &[Checked],
+    runs: &[Run],
     (acknowledged, disk): (u32, &MemDisk),
 ) -> Result<(), Fail> {
     for choice in [0, 1, 7] {
-        let holds = holds_acknowledged(alloc, disk, choice, patches, acknowledged)?;
+        let holds = holds_acknowledged(alloc, disk, choice, runs, acknowledged)?;
         assert!(rt; holds, "after {fuse} calls");
     }
     Ok(())
 }
 
 // What was acknowledged before all calls failed is found again.
-fn is_found_again(
-    rt: &impl Abort,
-    alloc: Global,
-    fuse: u64,
-    patches: &[Checked],
-) -> Result<(), Fail> {
-    match run_ten(alloc, patches, fuse)? {
+fn is_found_again(rt: &impl Abort, alloc: Global, fuse: u64, runs: &[Run]) -> Result<(), Fail> {
+    match run_ten(alloc, runs, fuse)? {
         None => {
             assert!(rt; fuse < 4);
             Ok(())
         }
         Some((acknowledged, disk)) => {
-            let kept = keeps_acknowledged(rt, alloc, fuse, patches, (acknowledged, &disk));
+            let kept = keeps_acknowledged(rt, alloc, fuse, runs, (acknowledged, &disk));
             drop(disk);
             kept
         }
@@ -479,59 +482,55 @@ fn is_found_again(
 }
 
 // The same of each number of calls.
-fn are_found_again(rt: &impl Abort, alloc: Global, patches: &[Checked]) -> Result<(), Fail> {
+fn are_found_again(rt: &impl Abort, alloc: Global, runs: &[Run]) -> Result<(), Fail> {
     for fuse in 0..57u64 {
-        is_found_again(rt, alloc, fuse, patches)?;
+        is_found_again(rt, alloc, fuse, runs)?;
     }
     Ok(())
 }
 
 // Patches of these numbers from 11 on, each behind the one before it.
-fn chained(alloc: Global, end: u32) -> Result<Vec<Checked>, Fail> {
-    let mut patches = Vec::new(alloc);
+fn chained(alloc: Global, end: u32) -> Result<Vec<Run>, Fail> {
+    let mut runs = Vec::new(alloc);
     for number in 11..end {
-        patches.push(numbered(alloc, number)?)?;
+        runs.push(numbered(alloc, number)?)?;
     }
-    Ok(patches)
+    Ok(runs)
 }
 
 #[test]
 fn what_was_acknowledged_is_found_again(rt: HostRuntime) -> Result<(), Fail> {
     let alloc = rt.alloc();
-    let patches = chained(alloc, 21)?;
-    let found = are_found_again(&rt, alloc, &patches);
-    drop(patches);
+    let runs = chained(alloc, 21)?;
+    let found = are_found_again(&rt, alloc, &runs);
+    drop(runs);
     found
 }
 
 // A log that may have a hundred patches takes so many of these, and refuses the last one.
-fn takes_a_hundred(
-    rt: &impl Abort,
-    log: &mut LogState<MemDisk>,
-    patches: &[Checked],
-) -> Result<(), Fail> {
-    let Some(last) = patches.last() else {
+fn takes_a_hundred(rt: &impl Abort, log: &mut LogState<MemDisk>, runs: &[Run]) -> Result<(), Fail> {
+    let Some(last) = runs.last() else {
         return Err(Fail::from("no patches"));
     };
-    assert!(rt; append_each(log, patches) == 100);
+    assert!(rt; append_each(log, runs)? == 100);
     let full = LogAnswer::Full {
         what: FullKind::Patches,
         have: 100,
         limit: 100,
     };
-    assert!(rt; append(log, last, 1) == full);
+    assert!(rt; append(log, last.copy()?, 1) == full);
     assert!(rt; log.chain().version() == 100);
     Ok(())
 }
 
 // The same of patches and a new log.
-fn is_full_with_a_hundred(rt: &impl Abort, alloc: Global, patches: &[Checked]) -> Result<(), Fail> {
+fn is_full_with_a_hundred(rt: &impl Abort, alloc: Global, runs: &[Run]) -> Result<(), Fail> {
     let limits = LogLimits {
         patches: 100,
         bytes: 100_000,
     };
     let mut log = open(alloc, disk_of(alloc, EMPTY, &[])?, limits)?;
-    let taken = takes_a_hundred(rt, &mut log, patches);
+    let taken = takes_a_hundred(rt, &mut log, runs);
     drop(log);
     taken
 }
@@ -539,8 +538,8 @@ fn is_full_with_a_hundred(rt: &impl Abort, alloc: Global, patches: &[Checked]) -
 #[test]
 fn a_log_takes_as_many_patches_as_it_may(rt: HostRuntime) -> Result<(), Fail> {
     let alloc = rt.alloc();
-    let patches = chained(alloc, 112)?;
-    let taken = is_full_with_a_hundred(&rt, alloc, &patches);
-    drop(patches);
+    let runs = chained(alloc, 112)?;
+    let taken = is_full_with_a_hundred(&rt, alloc, &runs);
+    drop(runs);
     taken
 }

@@ -1,13 +1,13 @@
 //! Runs: which texts are one, what a log answers to them, how they stand in its file, and what a
 //! crash leaves of them.
 use crate::logs::{BEHIND_SECOND, ID1, ID2, ID4, NO_PREVIOUS, OTHER_TEXT, SECOND_GATE, THIRD};
-use crate::steps::{Case, Step, Texts, add_run, found_in, has_entries, holds, joined, open};
+use crate::steps::{Case, Step, Texts, add, found_in, has_entries, holds, joined, open};
 use crate::tables::{EMPTY, Place, are_bytes, is};
 use chain_core::{Decision, LogAnswer};
 use delta_base::{Bytes, Id};
 use disk_model::MemDisk;
 use log_base::{FullKind, LOG_BYTES, LOG_LIMITS, LogLimits};
-use patch_log::{LogFault, LogState, RunFault, check_run};
+use patch_log::{LogFault, LogState, RunFault, read_run};
 use patch_meaning::{PatchFault, PatchKind};
 use patch_rows::RowKind;
 use std::alloc::Global;
@@ -101,8 +101,8 @@ static LONG: [(usize, RunFault); 2] = [
 ];
 
 // Why a text is no run.
-fn fault_of(alloc: Global, text: &[u8]) -> Option<RunFault> {
-    match check_run(alloc, text) {
+fn fault_of(alloc: Global, text: Vec<u8>) -> Option<RunFault> {
+    match read_run(alloc, Bytes::from_vec(text)) {
         Ok(run) => {
             drop(run);
             None
@@ -117,7 +117,7 @@ fn which_texts_are_runs(rt: HostRuntime) -> Result<(), Fail> {
     let shows = "texts one behind another";
     for (step, (texts, fault)) in TEXTS.iter().enumerate() {
         let text = joined(alloc, texts)?;
-        is(&rt, Place { shows, step }, &fault_of(alloc, &text), fault);
+        is(&rt, Place { shows, step }, &fault_of(alloc, text), fault);
     }
     let shows = "a text of a comment alone";
     for (step, (length, fault)) in LONG.iter().enumerate() {
@@ -125,7 +125,7 @@ fn which_texts_are_runs(rt: HostRuntime) -> Result<(), Fail> {
         is(
             &rt,
             Place { shows, step },
-            &fault_of(alloc, &text),
+            &fault_of(alloc, text),
             &Some(*fault),
         );
     }
@@ -144,11 +144,11 @@ static CASES: [Case; 15] = [
         failing: &[],
         limits: LOG_LIMITS,
         steps: &[
-            Step::DecideRun(&[FIRST, SECOND], Decision::Accept { version: 2 }),
-            Step::AddRun(&[FIRST, SECOND], LogAnswer::Accepted { version: 2 }),
+            Step::Decide(&[FIRST, SECOND], Decision::Accept { version: 2 }),
+            Step::Add(&[FIRST, SECOND], LogAnswer::Accepted { version: 2 }),
             Step::Stands(2, Some(ID2)),
             Step::Entries(&[(7, 1), (7, 0)]),
-            Step::AddRun(
+            Step::Add(
                 &[FIRST, SECOND],
                 LogAnswer::Known {
                     version: 1,
@@ -156,21 +156,21 @@ static CASES: [Case; 15] = [
                 },
             ),
             Step::Add(
-                FIRST,
+                &[FIRST],
                 LogAnswer::Known {
                     version: 1,
                     same: true,
                 },
             ),
             // It begins within the log and goes on behind it.
-            Step::AddRun(
+            Step::Add(
                 &[SECOND, BEHIND_SECOND],
                 LogAnswer::Known {
                     version: 2,
                     same: false,
                 },
             ),
-            Step::AddRun(
+            Step::Add(
                 &[SECOND],
                 LogAnswer::Known {
                     version: 2,
@@ -186,14 +186,14 @@ static CASES: [Case; 15] = [
         failing: &[],
         limits: LOG_LIMITS,
         steps: &[
-            Step::DecideRun(
+            Step::Decide(
                 &[SECOND, BEHIND_SECOND],
                 Decision::Known {
                     version: 2,
                     same: true,
                 },
             ),
-            Step::DecideRun(
+            Step::Decide(
                 &[FIRST, OTHER_SECOND],
                 Decision::Known {
                     version: 1,
@@ -209,21 +209,21 @@ static CASES: [Case; 15] = [
         failing: &[],
         limits: LOG_LIMITS,
         steps: &[
-            Step::AddRun(
+            Step::Add(
                 &[NO_PREVIOUS, FIRST_BEHIND_NINTH],
                 LogAnswer::Known {
                     version: 1,
                     same: false,
                 },
             ),
-            Step::AddRun(
+            Step::Add(
                 &[BEHIND_SECOND, SECOND_BEHIND_THIRD],
                 LogAnswer::Known {
                     version: 2,
                     same: false,
                 },
             ),
-            Step::AddRun(
+            Step::Add(
                 &[SECOND, FIRST_BEHIND_SECOND],
                 LogAnswer::Known {
                     version: 2,
@@ -239,7 +239,7 @@ static CASES: [Case; 15] = [
         failing: &[],
         limits: LOG_LIMITS,
         steps: &[
-            Step::AddRun(
+            Step::Add(
                 &[SECOND, BEHIND_SECOND],
                 LogAnswer::Conflict {
                     version: 0,
@@ -247,9 +247,9 @@ static CASES: [Case; 15] = [
                     prev_version: None,
                 },
             ),
-            Step::Add(FIRST, LogAnswer::Accepted { version: 1 }),
-            Step::AddRun(&[SECOND], LogAnswer::Accepted { version: 2 }),
-            Step::AddRun(
+            Step::Add(&[FIRST], LogAnswer::Accepted { version: 1 }),
+            Step::Add(&[SECOND], LogAnswer::Accepted { version: 2 }),
+            Step::Add(
                 &[THIRD, BEHIND_THIRD],
                 LogAnswer::Conflict {
                     version: 2,
@@ -257,7 +257,7 @@ static CASES: [Case; 15] = [
                     prev_version: Some(1),
                 },
             ),
-            Step::AddRun(
+            Step::Add(
                 &[BEHIND_SECOND, BEHIND_THIRD],
                 LogAnswer::Accepted { version: 4 },
             ),
@@ -274,8 +274,8 @@ static CASES: [Case; 15] = [
             bytes: LOG_BYTES,
         },
         steps: &[
-            Step::Add(FIRST, LogAnswer::Accepted { version: 1 }),
-            Step::AddRun(
+            Step::Add(&[FIRST], LogAnswer::Accepted { version: 1 }),
+            Step::Add(
                 &[SECOND, BEHIND_SECOND],
                 LogAnswer::Full {
                     what: FullKind::Patches,
@@ -284,7 +284,7 @@ static CASES: [Case; 15] = [
                 },
             ),
             Step::Stands(1, Some(ID1)),
-            Step::AddRun(&[SECOND], LogAnswer::Accepted { version: 2 }),
+            Step::Add(&[SECOND], LogAnswer::Accepted { version: 2 }),
         ],
         left: &[],
     },
@@ -297,7 +297,7 @@ static CASES: [Case; 15] = [
             bytes: 288,
         },
         steps: &[
-            Step::AddRun(
+            Step::Add(
                 &[FIRST, SECOND],
                 LogAnswer::Full {
                     what: FullKind::Bytes,
@@ -317,7 +317,7 @@ static CASES: [Case; 15] = [
             patches: 2,
             bytes: 289,
         },
-        steps: &[Step::AddRun(&[FIRST, SECOND], LogAnswer::Accepted { version: 2 })],
+        steps: &[Step::Add(&[FIRST, SECOND], LogAnswer::Accepted { version: 2 })],
         left: &[(0, 2, Some(ID2))],
     },
     Case {
@@ -326,8 +326,8 @@ static CASES: [Case; 15] = [
         failing: &[],
         limits: LOG_LIMITS,
         steps: &[
-            Step::WantRun(&[FIRST, SECOND], LogAnswer::OutOfMemory),
-            Step::WantRun(
+            Step::Want(&[FIRST, SECOND], LogAnswer::OutOfMemory),
+            Step::Want(
                 &[SECOND, BEHIND_SECOND],
                 LogAnswer::Conflict {
                     version: 0,
@@ -335,9 +335,9 @@ static CASES: [Case; 15] = [
                     prev_version: None,
                 },
             ),
-            Step::MadeRun(&[FIRST, SECOND], LogAnswer::Accepted { version: 2 }),
+            Step::Made(&[FIRST, SECOND], LogAnswer::Accepted { version: 2 }),
             Step::Entries(&[(5, 1), (5, 0)]),
-            Step::WantRun(
+            Step::Want(
                 &[FIRST, SECOND],
                 LogAnswer::Known {
                     version: 1,
@@ -353,7 +353,7 @@ static CASES: [Case; 15] = [
         failing: &[GATE],
         limits: LOG_LIMITS,
         steps: &[
-            Step::AddRun(&[FIRST, SECOND], LogAnswer::DiskFault),
+            Step::Add(&[FIRST, SECOND], LogAnswer::DiskFault),
             Step::Stands(0, None),
             Step::IsSettled(false),
             Step::Faults(1),
@@ -366,7 +366,7 @@ static CASES: [Case; 15] = [
         failing: &[BODY],
         limits: LOG_LIMITS,
         steps: &[
-            Step::AddRun(&[FIRST, SECOND], LogAnswer::DiskFault),
+            Step::Add(&[FIRST, SECOND], LogAnswer::DiskFault),
             Step::Stands(0, None),
             Step::IsSettled(true),
             Step::Faults(1),
@@ -379,8 +379,8 @@ static CASES: [Case; 15] = [
         failing: &[GATE],
         limits: LOG_LIMITS,
         steps: &[
-            Step::AddRun(&[FIRST, SECOND], LogAnswer::DiskFault),
-            Step::Add(OTHER_TEXT, LogAnswer::Accepted { version: 1 }),
+            Step::Add(&[FIRST, SECOND], LogAnswer::DiskFault),
+            Step::Add(&[OTHER_TEXT], LogAnswer::Accepted { version: 1 }),
             Step::IsSettled(true),
         ],
         left: &[(0, 1, Some(ID1)), (1, 1, Some(ID1)), (7, 1, Some(ID1))],
@@ -391,8 +391,8 @@ static CASES: [Case; 15] = [
         failing: &[GATE],
         limits: LOG_LIMITS,
         steps: &[
-            Step::Add(OTHER_TEXT, LogAnswer::DiskFault),
-            Step::AddRun(&[FIRST, SECOND], LogAnswer::Accepted { version: 2 }),
+            Step::Add(&[OTHER_TEXT], LogAnswer::DiskFault),
+            Step::Add(&[FIRST, SECOND], LogAnswer::Accepted { version: 2 }),
         ],
         left: &[(0, 2, Some(ID2)), (1, 2, Some(ID2)), (7, 2, Some(ID2))],
     },
@@ -402,8 +402,8 @@ static CASES: [Case; 15] = [
         failing: &[GATE],
         limits: LOG_LIMITS,
         steps: &[
-            Step::AddRun(&[FIRST, SECOND], LogAnswer::DiskFault),
-            Step::AddRun(&[FIRST, SECOND], LogAnswer::Accepted { version: 2 }),
+            Step::Add(&[FIRST, SECOND], LogAnswer::DiskFault),
+            Step::Add(&[FIRST, SECOND], LogAnswer::Accepted { version: 2 }),
         ],
         left: &[(0, 2, Some(ID2)), (1, 2, Some(ID2)), (7, 2, Some(ID2))],
     },
@@ -414,10 +414,10 @@ static CASES: [Case; 15] = [
         failing: &[GATE, 10],
         limits: LOG_LIMITS,
         steps: &[
-            Step::AddRun(&[FIRST, SECOND], LogAnswer::DiskFault),
-            Step::AddRun(&[FIRST], LogAnswer::DiskFault),
+            Step::Add(&[FIRST, SECOND], LogAnswer::DiskFault),
+            Step::Add(&[FIRST], LogAnswer::DiskFault),
             Step::IsSettled(false),
-            Step::AddRun(&[FIRST], LogAnswer::Accepted { version: 1 }),
+            Step::Add(&[FIRST], LogAnswer::Accepted { version: 1 }),
         ],
         left: &[(0, 1, Some(ID1)), (1, 1, Some(ID1)), (7, 1, Some(ID1))],
     },
@@ -427,8 +427,8 @@ static CASES: [Case; 15] = [
         failing: &[SECOND_GATE],
         limits: LOG_LIMITS,
         steps: &[
-            Step::AddRun(&[FIRST, SECOND], LogAnswer::Accepted { version: 2 }),
-            Step::AddRun(&[BEHIND_SECOND, BEHIND_THIRD], LogAnswer::DiskFault),
+            Step::Add(&[FIRST, SECOND], LogAnswer::Accepted { version: 2 }),
+            Step::Add(&[BEHIND_SECOND, BEHIND_THIRD], LogAnswer::DiskFault),
             Step::Entries(&[(7, 1), (7, 0)]),
         ],
         left: &[(0, 2, Some(ID2)), (1, 4, Some(ID4)), (7, 2, Some(ID2))],
@@ -608,7 +608,7 @@ static FILES: [(Runs, usize); 4] = [
 fn append_each(alloc: Global, log: &mut LogState<MemDisk>, runs: &[Texts]) -> Result<u32, Fail> {
     let mut acknowledged = 0u32;
     for run in runs {
-        if let LogAnswer::Accepted { version } = add_run(alloc, log, run)? {
+        if let LogAnswer::Accepted { version } = add(alloc, log, run)? {
             acknowledged = version;
         }
     }

@@ -1,11 +1,10 @@
 //! What is done with a log over a disk in memory, step by step, and what a crash leaves of it.
 use crate::tables::{Place, is, no_calls};
 use chain_core::{Decision, LogAnswer};
-use delta_base::{Id, OutOfMemory};
+use delta_base::{Bytes, Id, Listing, OutOfMemory};
 use disk_model::MemDisk;
 use log_base::{LOG_LIMITS, LogLimits};
-use patch_log::{LogState, Ready, Run, append_all, append_made, append_made_run, check_run};
-use patch_meaning::{Checked, check_patch};
+use patch_log::{LogState, Ready, Run, append_all, append_made, read_run};
 use std::alloc::Global;
 use std::process::Abort;
 use std::test::Fail;
@@ -16,24 +15,17 @@ pub type Texts = &'static [&'static [u8]];
 
 /// A call of a log or a look at it, with what that gives.
 pub enum Step {
-    /// Pass 7 takes the memory for a patch first, and then appends it.
-    Add(&'static [u8], LogAnswer),
-    /// The patch is made ready for pass 5 outside the log.
-    Ready(&'static [u8], LogAnswer),
+    /// Pass 7 takes the memory for a run first, and then appends it.
+    Add(Texts, LogAnswer),
+    /// The run is made ready for pass 5 outside the log.
+    Ready(Texts, LogAnswer),
     /// The same, or else it is told why not.
-    Made(&'static [u8], LogAnswer),
+    Made(Texts, LogAnswer),
     /// There's no memory to make it ready.
-    Want(&'static [u8], LogAnswer),
+    Want(Texts, LogAnswer),
     /// Patches are appended one after another.
     All(Texts, &'static [LogAnswer]),
-    Decide(&'static [u8], Decision),
-    /// Pass 7 takes the memory for a run first, and then appends it.
-    AddRun(Texts, LogAnswer),
-    /// The run is made ready for pass 5 outside the log, or else it is told why not.
-    MadeRun(Texts, LogAnswer),
-    /// There's no memory to make it ready.
-    WantRun(Texts, LogAnswer),
-    DecideRun(Texts, Decision),
+    Decide(Texts, Decision),
     /// The pass that brought each patch, and how many of its run are behind it.
     Entries(&'static [(u32, u32)]),
     /// The pass that brought the first patch.
@@ -87,48 +79,63 @@ pub fn open(alloc: Global, disk: MemDisk, limits: LogLimits) -> Result<LogState<
     }
 }
 
-fn add(alloc: Global, log: &mut LogState<MemDisk>, text: &[u8]) -> Result<LogAnswer, Fail> {
-    let patch = check_patch(alloc, text)?;
-    let ready = log.reserve(&patch, 7);
-    drop(patch);
-    Ok(log.append_reserved(ready?))
+/// The run of these patches.
+fn run_of(alloc: Global, texts: &[&[u8]]) -> Result<Run, Fail> {
+    let text = joined(alloc, texts)?;
+    Ok(read_run(alloc, Bytes::from_vec(text))?)
 }
 
-fn add_ready(alloc: Global, log: &mut LogState<MemDisk>, text: &[u8]) -> Result<LogAnswer, Fail> {
-    let patch = check_patch(alloc, text)?;
-    let ready = Ready::of(alloc, &patch, 5);
-    drop(patch);
-    Ok(log.append_ready(ready?))
-}
-
-fn add_made(alloc: Global, log: &mut LogState<MemDisk>, text: &[u8]) -> Result<LogAnswer, Fail> {
-    let patch = check_patch(alloc, text)?;
-    let answer = append_made(log, &patch, Ready::of(alloc, &patch, 5));
-    drop(patch);
-    Ok(answer)
-}
-
-fn add_in_want(alloc: Global, log: &mut LogState<MemDisk>, text: &[u8]) -> Result<LogAnswer, Fail> {
-    let patch = check_patch(alloc, text)?;
-    let answer = append_made(log, &patch, Err(OutOfMemory));
-    drop(patch);
-    Ok(answer)
-}
-
-fn decided(alloc: Global, log: &LogState<MemDisk>, text: &[u8]) -> Result<Decision, Fail> {
-    let patch = check_patch(alloc, text)?;
-    let found = log.decide_here(&patch);
-    drop(patch);
-    Ok(found)
-}
-
-/// The patches that these texts are.
-fn patches_of(alloc: Global, texts: &[&[u8]]) -> Result<Vec<Checked>, Fail> {
-    let mut patches = Vec::new(alloc);
-    for text in texts {
-        patches.push(check_patch(alloc, text)?)?;
+// What was made ready.
+fn ready_of(made: Result<Ready, Run>) -> Result<Ready, Fail> {
+    match made {
+        Ok(ready) => Ok(ready),
+        Err(run) => {
+            drop(run);
+            Err(Fail::from("no memory"))
+        }
     }
-    Ok(patches)
+}
+
+/// What pass 7 is answered of a run for which it has taken the memory.
+pub fn add(alloc: Global, log: &mut LogState<MemDisk>, texts: &[&[u8]]) -> Result<LogAnswer, Fail> {
+    let run = run_of(alloc, texts)?;
+    let ready = ready_of(log.reserve(run, 7))?;
+    Ok(log.append_reserved(ready))
+}
+
+fn add_ready(
+    alloc: Global,
+    log: &mut LogState<MemDisk>,
+    texts: &[&[u8]],
+) -> Result<LogAnswer, Fail> {
+    let run = run_of(alloc, texts)?;
+    let ready = ready_of(Ready::of(alloc, run, 5))?;
+    Ok(log.append_ready(ready))
+}
+
+fn add_made(
+    alloc: Global,
+    log: &mut LogState<MemDisk>,
+    texts: &[&[u8]],
+) -> Result<LogAnswer, Fail> {
+    let run = run_of(alloc, texts)?;
+    Ok(append_made(log, Ready::of(alloc, run, 5)))
+}
+
+fn add_in_want(
+    alloc: Global,
+    log: &mut LogState<MemDisk>,
+    texts: &[&[u8]],
+) -> Result<LogAnswer, Fail> {
+    let run = run_of(alloc, texts)?;
+    Ok(append_made(log, Err(run)))
+}
+
+fn decided(alloc: Global, log: &LogState<MemDisk>, texts: &[&[u8]]) -> Result<Decision, Fail> {
+    let run = run_of(alloc, texts)?;
+    let found = log.decide_here(&run);
+    drop(run);
+    Ok(found)
 }
 
 /// Whether these texts have these answers, one after another.
@@ -138,60 +145,17 @@ fn answers_all(
     texts: &[&[u8]],
     wanted: &[LogAnswer],
 ) -> Result<bool, Fail> {
-    let patches = patches_of(alloc, texts)?;
-    let answers = append_all(alloc, log, &patches, 3);
-    drop(patches);
-    let answers = answers?;
+    let mut runs = Listing::new(alloc);
+    for text in texts {
+        let run = run_of(alloc, &[text])?;
+        if runs.push(run).is_err() {
+            return Err(Fail::from("no memory for a run"));
+        }
+    }
+    let answers = append_all(alloc, log, runs, 3)?;
     let same = answers.as_slice() == wanted;
     drop(answers);
     Ok(same)
-}
-
-/// The run of these patches.
-fn run_of(alloc: Global, texts: &[&[u8]]) -> Result<Run, Fail> {
-    let text = joined(alloc, texts)?;
-    Ok(check_run(alloc, &text)?)
-}
-
-/// What pass 7 is answered of a run for which it has taken the memory.
-pub fn add_run(
-    alloc: Global,
-    log: &mut LogState<MemDisk>,
-    texts: &[&[u8]],
-) -> Result<LogAnswer, Fail> {
-    let run = run_of(alloc, texts)?;
-    let ready = log.reserve_run(&run, 7);
-    drop(run);
-    Ok(log.append_reserved(ready?))
-}
-
-fn add_made_run(
-    alloc: Global,
-    log: &mut LogState<MemDisk>,
-    texts: &[&[u8]],
-) -> Result<LogAnswer, Fail> {
-    let run = run_of(alloc, texts)?;
-    let answer = append_made_run(log, &run, Ready::of_run(alloc, &run, 5));
-    drop(run);
-    Ok(answer)
-}
-
-fn add_run_in_want(
-    alloc: Global,
-    log: &mut LogState<MemDisk>,
-    texts: &[&[u8]],
-) -> Result<LogAnswer, Fail> {
-    let run = run_of(alloc, texts)?;
-    let answer = append_made_run(log, &run, Err(OutOfMemory));
-    drop(run);
-    Ok(answer)
-}
-
-fn run_decided(alloc: Global, log: &LogState<MemDisk>, texts: &[&[u8]]) -> Result<Decision, Fail> {
-    let run = run_of(alloc, texts)?;
-    let found = log.decide_run_here(&run);
-    drop(run);
-    Ok(found)
 }
 
 /// Whether each patch of a log was brought by this pass, and has so many of its run behind it.
@@ -222,20 +186,14 @@ fn goes(
     step: &Step,
 ) -> Result<(), Fail> {
     match step {
-        Step::Add(text, answer) => is(rt, at, &add(alloc, log, text)?, answer),
-        Step::Ready(text, answer) => is(rt, at, &add_ready(alloc, log, text)?, answer),
-        Step::Made(text, answer) => is(rt, at, &add_made(alloc, log, text)?, answer),
-        Step::Want(text, answer) => is(rt, at, &add_in_want(alloc, log, text)?, answer),
+        Step::Add(texts, answer) => is(rt, at, &add(alloc, log, texts)?, answer),
+        Step::Ready(texts, answer) => is(rt, at, &add_ready(alloc, log, texts)?, answer),
+        Step::Made(texts, answer) => is(rt, at, &add_made(alloc, log, texts)?, answer),
+        Step::Want(texts, answer) => is(rt, at, &add_in_want(alloc, log, texts)?, answer),
         Step::All(texts, answers) => {
             is(rt, at, &answers_all(alloc, log, texts, answers)?, &true);
         }
-        Step::Decide(text, decision) => is(rt, at, &decided(alloc, log, text)?, decision),
-        Step::AddRun(texts, answer) => is(rt, at, &add_run(alloc, log, texts)?, answer),
-        Step::MadeRun(texts, answer) => is(rt, at, &add_made_run(alloc, log, texts)?, answer),
-        Step::WantRun(texts, answer) => is(rt, at, &add_run_in_want(alloc, log, texts)?, answer),
-        Step::DecideRun(texts, decision) => {
-            is(rt, at, &run_decided(alloc, log, texts)?, decision);
-        }
+        Step::Decide(texts, decision) => is(rt, at, &decided(alloc, log, texts)?, decision),
         Step::Entries(entries) => is(rt, at, &has_entries(log, entries), &true),
         Step::BroughtBy(pass) => is(rt, at, &brought_by(log), &Some(*pass)),
         Step::Has(id, version) => is(rt, at, &log.version_of(*id), version),

@@ -3,7 +3,7 @@ use Rattle.std.proofs.Common.{◌≡◌, ℕ, zero, suc, ◌+◌, ◌<◌, ◌�
 use Rattle.std.specs.Prelude.{is_some, IfNone, IfSome}
 use Rattle.std.specs.List.{AllByRecursion}
 use Rattle.std.proofs.Math.Seq.{take-append-add}
-use Rattle.std.proofs.lemmas.List.{map-append, map_more, take_at, take-append-le, length-map}
+use Rattle.std.proofs.lemmas.List.{map-append, take_more, take_at, take-append-le, length-map}
 use Rattle.log_base.specs.declared.limits.TheConstants.{PATCH_LIMIT}
 use Rattle.chain_core.specs.declared.chain.Patch.{Patch}
 use Rattle.chain_core.specs.declared.chain.Entry.{Entry}
@@ -25,11 +25,14 @@ use Rattle.patch_meaning.specs.Checked.{CheckedPatch, AreChecked}
 use Rattle.patch_meaning.specs.Patch.{Meaning, IsPatch, IsWell}
 use Rattle.patch_meaning.specs.Roles.{said}
 use Rattle.patch_meaning.specs.Rows.{RowsTo}
-use Rattle.patch_meaning.specs.Stream.{IsSplit}
+use Rattle.patch_meaning.specs.Stream.{IsSplit, linked}
 use Rattle.patch_meaning.proofs.Joined.{checked_by_itself, joined}
 use Rattle.patch_meaning.proofs.Rowed.{row_within}
 use Rattle.patch_log.specs.Log.{bare, IsSoundRun}
-use Rattle.patch_log.specs.RunFaults.{link_in_run}
+use Rattle.patch_log.specs.Opening.{patch_linked}
+use Rattle.patch_log.specs.RunFaults.{HasLinkFault, HasRunFault, link_in_run}
+use Rattle.patch_log.specs.declared.run.RunFault.{RunFault}
+use Rattle.patch_log.specs.declared.run.RunFault.TheVariants as faults
 
 -- ---- a text has a byte for each of its patches
 
@@ -59,8 +62,8 @@ few_in_run run sound =
 -- ---- the links of the first patches
 
 -- the links of the first patches, of which the first one names nothing
-abbrev pub links_to : List CheckedPatch → ℕ → List ChainLink
-links_to patches place = headless (links_of (map bare (take place patches)))
+abbrev pub links_to : List Patch → ℕ → List ChainLink
+links_to patches place = headless (links_of (take place patches))
 
 headless-push : (ls : List ChainLink) (l : ChainLink) (place : ℕ) → length ls ≡ place → headless (ls ++ l ∷ []) ≡ headless ls ++ link_in_run place l ∷ []
 headless-push [] l zero at = refl
@@ -68,56 +71,56 @@ headless-push [] l (suc place) at = absurd (omega (arith, at))
 headless-push (first ∷ ls) l zero at = absurd (omega (arith, at))
 headless-push (first ∷ ls) l (suc place) at = refl
 
-length-take_at : (patches : List CheckedPatch) (place : ℕ) → place ≤ length patches → length (take place patches) ≡ place
+length-take_at : (patches : List Patch) (place : ℕ) → place ≤ length patches → length (take place patches) ≡ place
 length-take_at [] zero fits = refl
 length-take_at [] (suc place) fits = absurd (omega (arith, fits))
 length-take_at (p ∷ patches) zero fits = refl
 length-take_at (p ∷ patches) (suc place) fits = ap suc (length-take_at patches place (omega (arith, fits)))
 
-length-links : (patches : List CheckedPatch) (place : ℕ) → place ≤ length patches → length (links_of (map bare (take place patches))) ≡ place
-length-links patches place fits = length-map (map bare (take place patches)) link_to ∙ length-map (take place patches) bare ∙ length-take_at patches place fits
+length-links : (patches : List Patch) (place : ℕ) → place ≤ length patches → length (links_of (take place patches)) ≡ place
+length-links patches place fits = length-map (take place patches) link_to ∙ length-take_at patches place fits
 
 length-headless : (ls : List ChainLink) → length (headless ls) ≡ length ls
 length-headless [] = refl
 length-headless (l ∷ ls) = refl
 
-pub length-links_to : (patches : List CheckedPatch) (place : ℕ) → place ≤ length patches → length (links_to patches place) ≡ place
-length-links_to patches place fits = length-headless (links_of (map bare (take place patches))) ∙ length-links patches place fits
+pub length-links_to : (patches : List Patch) (place : ℕ) → place ≤ length patches → length (links_to patches place) ≡ place
+length-links_to patches place fits = length-headless (links_of (take place patches)) ∙ length-links patches place fits
 
 -- with one patch more
-pub links_more : (patches : List CheckedPatch) (place : ℕ) (patch : CheckedPatch) → place < length patches → patch ≡ get_or patches place patch
-    → links_to patches (place + 1) ≡ links_to patches place ++ link_in_run place (link_to (bare patch)) ∷ []
+pub links_more : (patches : List Patch) (place : ℕ) (patch : Patch) → place < length patches → patch ≡ get_or patches place patch
+    → links_to patches (place + 1) ≡ links_to patches place ++ link_in_run place (link_to patch) ∷ []
 links_more patches place patch within is =
-    let more : map bare (take (place + 1) patches) ≡ map bare (take place patches) ++ bare patch ∷ [] =
-    map_more bare patches place patch within ∙ ap (λ (p : CheckedPatch). map bare (take place patches) ++ bare p ∷ []) (sym is) in
+    let more : take (place + 1) patches ≡ take place patches ++ patch ∷ [] =
+    take_more patches place patch within ∙ ap (λ (p : Patch). take place patches ++ p ∷ []) (sym is) in
     ap (λ (ps : List Patch). headless (links_of ps)) more
-    ∙ ap headless (map-append link_to (map bare (take place patches)) (bare patch ∷ []))
-    ∙ headless-push (links_of (map bare (take place patches))) (link_to (bare patch)) place (length-links patches place (omega (arith, within)))
+    ∙ ap headless (map-append link_to (take place patches) (patch ∷ []))
+    ∙ headless-push (links_of (take place patches)) (link_to patch) place (length-links patches place (omega (arith, within)))
 
 -- all of them
-pub links_all : (patches : List CheckedPatch) (place : ℕ) → length patches ≤ place → links_to patches place ≡ headless (links_of (map bare patches))
-links_all patches place past = ap (λ (ps : List CheckedPatch). headless (links_of (map bare ps))) (all patches place past)
+pub links_all : (patches : List Patch) (place : ℕ) → length patches ≤ place → links_to patches place ≡ headless (links_of patches)
+links_all patches place past = ap (λ (ps : List Patch). headless (links_of ps)) (all patches place past)
   where
-    all : (ps : List CheckedPatch) (n : ℕ) → length ps ≤ n → take n ps ≡ ps
+    all : (ps : List Patch) (n : ℕ) → length ps ≤ n → take n ps ≡ ps
     all [] zero past = refl
     all [] (suc n) past = refl
     all (p ∷ ps) zero past = absurd (omega (arith, past))
-    all (p ∷ ps) (suc n) past = ap (λ (l : List CheckedPatch). p ∷ l) (all ps n (omega (arith, past)))
+    all (p ∷ ps) (suc n) past = ap (λ (l : List Patch). p ∷ l) (all ps n (omega (arith, past)))
 
 -- the links from a place on
-from_place : (patches : List CheckedPatch) (place : ℕ) (patch : CheckedPatch) → place < length patches → patch ≡ get_or patches place patch
-    → (more : List ChainLink) × (headless (links_of (map bare patches)) ≡ links_to patches place ++ link_in_run place (link_to (bare patch)) ∷ more)
+from_place : (patches : List Patch) (place : ℕ) (patch : Patch) → place < length patches → patch ≡ get_or patches place patch
+    → (more : List ChainLink) × (headless (links_of patches) ≡ links_to patches place ++ link_in_run place (link_to patch) ∷ more)
 from_place patches place patch within is = by patches place within is
   where
-    later : (ps : List CheckedPatch) (n : ℕ) → n < length ps → patch ≡ get_or ps n patch → (more : List ChainLink) × (links_of (map bare ps) ≡ links_of (map bare (take n ps)) ++ link_to (bare patch) ∷ more)
+    later : (ps : List Patch) (n : ℕ) → n < length ps → patch ≡ get_or ps n patch → (more : List ChainLink) × (links_of ps ≡ links_of (take n ps) ++ link_to patch ∷ more)
     later [] n low at = absurd (omega (arith, low))
-    later (p ∷ ps) zero low at = (links_of (map bare ps), ap (λ (q : CheckedPatch). link_to (bare q) ∷ links_of (map bare ps)) (sym at))
-    later (p ∷ ps) (suc n) low at = let rest = later ps n (omega (arith, low)) at in (rest.0, ap (λ (ls : List ChainLink). link_to (bare p) ∷ ls) rest.1)
+    later (p ∷ ps) zero low at = (links_of ps, ap (λ (q : Patch). link_to q ∷ links_of ps) (sym at))
+    later (p ∷ ps) (suc n) low at = let rest = later ps n (omega (arith, low)) at in (rest.0, ap (λ (ls : List ChainLink). link_to p ∷ ls) rest.1)
 
-    by : (ps : List CheckedPatch) (n : ℕ) → n < length ps → patch ≡ get_or ps n patch → (more : List ChainLink) × (headless (links_of (map bare ps)) ≡ headless (links_of (map bare (take n ps))) ++ link_in_run n (link_to (bare patch)) ∷ more)
+    by : (ps : List Patch) (n : ℕ) → n < length ps → patch ≡ get_or ps n patch → (more : List ChainLink) × (headless (links_of ps) ≡ headless (links_of (take n ps)) ++ link_in_run n (link_to patch) ∷ more)
     by [] n low at = absurd (omega (arith, low))
-    by (p ∷ ps) zero low at = (links_of (map bare ps), ap (λ (q : CheckedPatch). headless (link_to (bare q) ∷ links_of (map bare ps))) (sym at))
-    by (p ∷ ps) (suc n) low at = let rest = later ps n (omega (arith, low)) at in (rest.0, ap (λ (ls : List ChainLink). headless (link_to (bare p) ∷ ls)) rest.1)
+    by (p ∷ ps) zero low at = (links_of ps, ap (λ (q : Patch). headless (link_to q ∷ links_of ps)) (sym at))
+    by (p ∷ ps) (suc n) low at = let rest = later ps n (omega (arith, low)) at in (rest.0, ap (λ (ls : List ChainLink). headless (link_to p ∷ ls)) rest.1)
 
 -- ---- the first one that doesn't follow
 
@@ -128,21 +131,21 @@ breaks_behind ls more x chain none = record {
   broken = λ longer. none (subst IsChain (take-append-add ls (x ∷ more) 1) longer);
 }
 
-pub breaks_there : (patches : List CheckedPatch) (place : ℕ) (patch : CheckedPatch) (t : ChainTest) (link : ChainLink) → place < length patches → patch ≡ get_or patches place patch → IsTested (links_to patches place) t
-    → link ≡ link_in_run place (link_to (bare patch)) → (fault : ChainFault) × Breaks (links_to patches place ++ link ∷ []) fault → BreaksAt IsChain (headless (links_of (map bare patches))) (place + 1)
+pub breaks_there : (patches : List Patch) (place : ℕ) (patch : Patch) (t : ChainTest) (link : ChainLink) → place < length patches → patch ≡ get_or patches place patch → IsTested (links_to patches place) t
+    → link ≡ link_in_run place (link_to patch) → (fault : ChainFault) × Breaks (links_to patches place ++ link ∷ []) fault → BreaksAt IsChain (headless (links_of patches)) (place + 1)
 breaks_there patches place patch t link within is tested link_is broken =
     let fault = broken.0 in
     let breaks = subst (λ (l : ChainLink). Breaks (links_to patches place ++ l ∷ []) fault) link_is broken.1 in
-    let x = link_in_run place (link_to (bare patch)) in
+    let x = link_in_run place (link_to patch) in
     let ls = links_to patches place in
     let behind = from_place patches place patch within is in
     let here = breaks_behind ls behind.0 x tested.chain (λ longer. no_fault (ls ++ x ∷ []) fault breaks longer) in
-    subst (λ (n : ℕ). BreaksAt IsChain (headless (links_of (map bare patches))) (n + 1)) (length-links_to patches place (omega (arith, within)))
+    subst (λ (n : ℕ). BreaksAt IsChain (headless (links_of patches)) (n + 1)) (length-links_to patches place (omega (arith, within)))
     (subst (λ (all : List ChainLink). BreaksAt IsChain all (length ls + 1)) (sym behind.1) here)
 
-pub run_of : (patches : List CheckedPatch) (place : ℕ) (t : ChainTest) → 0 < length patches → length patches ≤ place → IsTested (links_to patches place) t → IsRun (map bare patches)
+pub run_of : (patches : List Patch) (place : ℕ) (t : ChainTest) → 0 < length patches → length patches ≤ place → IsTested (links_to patches place) t → IsRun patches
 run_of patches place t some past tested = record {
-  some = omega (arith, some, length-map patches bare);
+  some = some;
   chain = subst IsChain (links_all patches place past) tested.chain;
 }
 
@@ -171,7 +174,19 @@ if_some None P is p = absurd (cc)
 if_some (Some x) P is p = (x, p)
 
 -- with one more the test goes on
-pub tested_there : (patches : List CheckedPatch) (place : ℕ) (patch : CheckedPatch) (link : ChainLink) (t : ChainTest) → place < length patches → patch ≡ get_or patches place patch → link ≡ link_in_run place (link_to (bare patch))
+pub tested_there : (patches : List Patch) (place : ℕ) (patch : Patch) (link : ChainLink) (t : ChainTest) → place < length patches → patch ≡ get_or patches place patch → link ≡ link_in_run place (link_to patch)
     → IsTested (links_to patches place ++ link ∷ []) t → IsTested (links_to patches (place + 1)) t
 tested_there patches place patch link t within is link_is tested =
     subst (λ (ls : List ChainLink). IsTested ls t) (ap (λ (l : ChainLink). links_to patches place ++ l ∷ []) link_is ∙ sym (links_more patches place patch within is)) tested
+
+-- what is wrong with the patches is wrong with their text
+pub link_fault : (text : List ℕ) (read : List CheckedPatch) (patches : List Patch) (fault : RunFault) → length text ≤ PATCH_LIMIT → IsSplit text read → patches ≡ map bare read → HasLinkFault patches fault → HasRunFault text fault
+link_fault text read patches (faults.TooLong have limit) short split are has = absurd has
+link_fault text read patches (faults.Patch fault) short split are has = absurd has
+link_fault text read patches (faults.BadRun at) short split are has = (short, (read, split, rw (sym are) has))
+link_fault text read patches faults.OutOfMemory short split are has = tt
+
+-- patches that were read as links and texts are these without their changes
+pub unlinked : (read : List CheckedPatch) → map patch_linked (map linked read) ≡ map bare read
+unlinked [] = refl
+unlinked (patch ∷ read) = ap (λ (ps : List Patch). bare patch ∷ ps) (unlinked read)

@@ -1,5 +1,6 @@
 pub mod Growing
 pub mod Sound
+pub mod Texts
 pub mod Checking
 pub mod Openings
 pub mod States
@@ -7,3 +8,4 @@ pub mod Told
 pub mod Runs
 pub mod Reopened
 pub mod Writes
+pub mod Tails

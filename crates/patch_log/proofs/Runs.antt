@@ -1,5 +1,5 @@
 -- A run goes on by one append.
-use Rattle.std.proofs.Common.{◌≡◌, ◌≢◌, ℕ, zero, suc, ◌+◌, ◌-◌, ◌^◌, ◌<◌, ◌≤◌, Bool, false, cond, List, [], ◌∷◌, ◌++◌, map, take, length, get_or, refl, sym, ap, ◌∙◌, subst, ⊎_elim, inl, inr, arith, append_assoc}
+use Rattle.std.proofs.Common.{◌≡◌, ◌≢◌, ℕ, ◌+◌, ◌-◌, ◌^◌, ◌<◌, ◌≤◌, Bool, false, cond, List, [], ◌∷◌, ◌++◌, refl, sym, ap, ◌∙◌, subst, ⊎_elim, inl, inr, arith, append_assoc}
 use Rattle.std.specs.Prelude.{count_by}
 use Rattle.std.specs.List.{AllByRecursion}
 use Rattle.std.proofs.lemmas.List.{append-nil}
@@ -10,48 +10,40 @@ use Rattle.disk_model.specs.Past.{LeavesOnly}
 use Rattle.disk_model.proofs.Moments.{starts, joined, weaker}
 use Rattle.chain_core.specs.declared.chain.Patch.{Patch}
 use Rattle.chain_core.specs.declared.chain.Entry.{Entry}
-use Rattle.chain_core.specs.Runs.{entries_of}
+use Rattle.chain_core.specs.Runs.{entries_of, run_text}
 use Rattle.chain_core.specs.declared.answer.LogAnswer.{LogAnswer}
 use Rattle.chain_core.specs.declared.answer.LogAnswer.TheVariants.{Accepted, AcceptedRun, Known, Conflict, Full, DiskFault, OutOfMemory}
-use Rattle.patch_meaning.specs.Checked.{CheckedPatch}
 use Rattle.log_journal.specs.Writing.{HoldsDuring}
-use Rattle.patch_log.specs.Log.{bare, payloads_of, run_payload}
+use Rattle.patch_log.specs.Log.{payloads_of, run_payload}
 use Rattle.patch_log.specs.State.{LogView, runs_in}
-use Rattle.patch_log.specs.Run.{Appended, AppendedAll, GrowsBy, HoldsInSeries, is_disk_fault}
+use Rattle.patch_log.specs.Run.{AppendedRun, AppendedAll, GrowsBy, HoldsInSeries, is_disk_fault}
 
 module _ {D : Type 0} (disks : Ghosts D) (by : ℕ) where
   -- one append more
-  pub run_more : (before : LogView D) (patches : List Patch) (answers : List LogAnswer) (mid : LogView D) (patch : Patch) (answer : LogAnswer) (after : LogView D)
-      → AppendedAll disks by before patches answers mid → Appended disks mid after patch by answer → AppendedAll disks by before (patches ++ patch ∷ []) (answers ++ answer ∷ []) after
-  run_more before [] [] mid patch answer after run more = (after, subst (λ (log : LogView D). Appended disks log after patch by answer) run more, refl)
-  run_more before [] (a ∷ answers) mid patch answer after run more = absurd run
-  run_more before (p ∷ patches) [] mid patch answer after run more = absurd run
-  run_more before (p ∷ patches) (a ∷ answers) mid patch answer after run more =
-      (run.0, run.1, run_more run.0 patches answers mid patch answer after run.2 more)
+  pub run_more : (before : LogView D) (runs : List (List Patch)) (answers : List LogAnswer) (mid : LogView D) (run : List Patch) (answer : LogAnswer) (after : LogView D)
+      → AppendedAll disks by before runs answers mid → AppendedRun disks mid after run by answer → AppendedAll disks by before (runs ++ run ∷ []) (answers ++ answer ∷ []) after
+  run_more before [] [] mid run answer after all more = (after, subst (λ (log : LogView D). AppendedRun disks log after run by answer) all more, refl)
+  run_more before [] (a ∷ answers) mid run answer after all more = absurd all
+  run_more before (r ∷ runs) [] mid run answer after all more = absurd all
+  run_more before (r ∷ runs) (a ∷ answers) mid run answer after all more =
+      (all.0, all.1, run_more all.0 runs answers mid run answer after all.2 more)
 
   -- before any of them
-  pub no_append_yet : (before : LogView D) (patches : List Patch) → LeavesOnly (HoldsInSeries disks by before patches) (disks.past before.disk) (disks.past before.disk)
-  no_append_yet before patches = starts (HoldsInSeries disks by before patches) (disks.past before.disk) (λ image left. inl left)
+  pub no_append_yet : (before : LogView D) (runs : List (List Patch)) → LeavesOnly (HoldsInSeries disks by before runs) (disks.past before.disk) (disks.past before.disk)
+  no_append_yet before runs = starts (HoldsInSeries disks by before runs) (disks.past before.disk) (λ image left. inl left)
 
   -- what one append more leaves
-  pub moments_more : (before : LogView D) (all : List CheckedPatch) (place : ℕ) (patch : CheckedPatch) (answers : List LogAnswer) (mid after : LogView D)
-      → place < length all → patch ≡ get_or all place patch → mid.number ≡ before.number
-      → AppendedAll disks by before (map bare (take place all)) answers mid
-      → LeavesOnly (HoldsInSeries disks by before (map bare all)) (disks.past before.disk) (disks.past mid.disk)
-      → LeavesOnly (HoldsDuring mid.number (payloads_of (runs_in mid)) (run_payload mid.doubt) patch.text) (disks.past mid.disk) (disks.past after.disk)
-      → LeavesOnly (HoldsInSeries disks by before (map bare all)) (disks.past before.disk) (disks.past after.disk)
-  moments_more before all place patch answers mid after within is number run so_far more =
-      let split = parts all place patch within in
-      let all_is : map bare all ≡ map bare (take place all) ++ bare patch ∷ split.0 = split.1 ∙ ap (λ (p : CheckedPatch). map bare (take place all) ++ bare p ∷ split.0) (sym is) in
-      let here : (image : List ℕ) → HoldsDuring mid.number (payloads_of (runs_in mid)) (run_payload mid.doubt) patch.text image → HoldsInSeries disks by before (map bare all) image =
-      λ image holds. inr (map bare (take place all), bare patch, split.0, all_is, answers, mid, run, subst (λ (n : ℕ). HoldsDuring n (payloads_of (runs_in mid)) (run_payload mid.doubt) patch.text image) number holds) in
-      joined (HoldsInSeries disks by before (map bare all)) (disks.past before.disk) (disks.past mid.disk) (disks.past after.disk) so_far
-      (weaker (HoldsDuring mid.number (payloads_of (runs_in mid)) (run_payload mid.doubt) patch.text) (HoldsInSeries disks by before (map bare all)) here (disks.past mid.disk) (disks.past after.disk) more)
-    where
-      parts : (all : List CheckedPatch) (place : ℕ) (other : CheckedPatch) → place < length all → (behind : List Patch) × (map bare all ≡ map bare (take place all) ++ bare (get_or all place other) ∷ behind)
-      parts [] place other within = absurd (omega (arith, within))
-      parts (p ∷ all) zero other within = (map bare all, refl)
-      parts (p ∷ all) (suc place) other within = let rest = parts all place other (omega (arith, within)) in (rest.0, ap (λ (ps : List Patch). bare p ∷ ps) rest.1)
+  pub moments_more : (before : LogView D) (all done : List (List Patch)) (run : List Patch) (behind : List (List Patch)) (answers : List LogAnswer) (mid after : LogView D)
+      → all ≡ done ++ run ∷ behind → mid.number ≡ before.number
+      → AppendedAll disks by before done answers mid
+      → LeavesOnly (HoldsInSeries disks by before all) (disks.past before.disk) (disks.past mid.disk)
+      → LeavesOnly (HoldsDuring mid.number (payloads_of (runs_in mid)) (run_payload mid.doubt) (run_text run)) (disks.past mid.disk) (disks.past after.disk)
+      → LeavesOnly (HoldsInSeries disks by before all) (disks.past before.disk) (disks.past after.disk)
+  moments_more before all done run behind answers mid after is number appended so_far more =
+      let here : (image : List ℕ) → HoldsDuring mid.number (payloads_of (runs_in mid)) (run_payload mid.doubt) (run_text run) image → HoldsInSeries disks by before all image =
+      λ image holds. inr (done, run, behind, is, answers, mid, appended, subst (λ (n : ℕ). HoldsDuring n (payloads_of (runs_in mid)) (run_payload mid.doubt) (run_text run) image) number holds) in
+      joined (HoldsInSeries disks by before all) (disks.past before.disk) (disks.past mid.disk) (disks.past after.disk) so_far
+      (weaker (HoldsDuring mid.number (payloads_of (runs_in mid)) (run_payload mid.doubt) (run_text run)) (HoldsInSeries disks by before all) here (disks.past mid.disk) (disks.past after.disk) more)
 
 both : (P : Entry → Type 0) (xs ys : List Entry) → AllByRecursion P xs → AllByRecursion P ys → AllByRecursion P (xs ++ ys)
 both P [] ys p q = q
@@ -61,21 +53,25 @@ module _ (by : ℕ) where
   pub grows_none : (entries : List Entry) → GrowsBy by entries entries
   grows_none entries = ([], sym (append-nil entries), tt)
 
-  -- one append adds its patch or nothing
-  grows_once : (patch : Patch) (before after : List Entry) (answer : LogAnswer) → ((version : ℕ) → answer ≡ Accepted version → after ≡ before ++ entries_of (patch ∷ []) by)
-      → (((version : ℕ) → answer ≢ Accepted version) → after ≡ before) → GrowsBy by before after
-  grows_once patch before after (Accepted version) accepted refused = (entries_of (patch ∷ []) by, accepted version refl, (refl, tt))
-  grows_once patch before after (AcceptedRun first version) accepted refused = subst (GrowsBy by before) (sym (refused (λ v e. cc))) (grows_none before)
-  grows_once patch before after (Known version same) accepted refused = subst (GrowsBy by before) (sym (refused (λ v e. cc))) (grows_none before)
-  grows_once patch before after (Conflict version head named) accepted refused = subst (GrowsBy by before) (sym (refused (λ v e. cc))) (grows_none before)
-  grows_once patch before after (Full what have limit) accepted refused = subst (GrowsBy by before) (sym (refused (λ v e. cc))) (grows_none before)
-  grows_once patch before after DiskFault accepted refused = subst (GrowsBy by before) (sym (refused (λ v e. cc))) (grows_none before)
-  grows_once patch before after OutOfMemory accepted refused = subst (GrowsBy by before) (sym (refused (λ v e. cc))) (grows_none before)
+  by_it : (run : List Patch) → AllByRecursion (λ (entry : Entry). entry.by ≡ by) (entries_of run by)
+  by_it [] = tt
+  by_it (patch ∷ run) = (refl, by_it run)
 
-  pub grows_more : (patch : Patch) (first before after : List Entry) (answer : LogAnswer) → GrowsBy by first before → ((version : ℕ) → answer ≡ Accepted version → after ≡ before ++ entries_of (patch ∷ []) by)
+  -- one append adds its run or nothing
+  grows_once : (run : List Patch) (before after : List Entry) (answer : LogAnswer) → ((version : ℕ) → answer ≡ Accepted version → after ≡ before ++ entries_of run by)
+      → (((version : ℕ) → answer ≢ Accepted version) → after ≡ before) → GrowsBy by before after
+  grows_once run before after (Accepted version) accepted refused = (entries_of run by, accepted version refl, by_it run)
+  grows_once run before after (AcceptedRun first version) accepted refused = subst (GrowsBy by before) (sym (refused (λ v e. cc))) (grows_none before)
+  grows_once run before after (Known version same) accepted refused = subst (GrowsBy by before) (sym (refused (λ v e. cc))) (grows_none before)
+  grows_once run before after (Conflict version head named) accepted refused = subst (GrowsBy by before) (sym (refused (λ v e. cc))) (grows_none before)
+  grows_once run before after (Full what have limit) accepted refused = subst (GrowsBy by before) (sym (refused (λ v e. cc))) (grows_none before)
+  grows_once run before after DiskFault accepted refused = subst (GrowsBy by before) (sym (refused (λ v e. cc))) (grows_none before)
+  grows_once run before after OutOfMemory accepted refused = subst (GrowsBy by before) (sym (refused (λ v e. cc))) (grows_none before)
+
+  pub grows_more : (run : List Patch) (first before after : List Entry) (answer : LogAnswer) → GrowsBy by first before → ((version : ℕ) → answer ≡ Accepted version → after ≡ before ++ entries_of run by)
       → (((version : ℕ) → answer ≢ Accepted version) → after ≡ before) → GrowsBy by first after
-  grows_more patch first before after answer so_far accepted refused =
-      let once = grows_once patch before after answer accepted refused in
+  grows_more run first before after answer so_far accepted refused =
+      let once = grows_once run before after answer accepted refused in
       (so_far.0 ++ once.0, once.1 ∙ (ap (λ (entries : List Entry). entries ++ once.0) so_far.1 ∙ append_assoc first so_far.0 once.0), both (λ entry. entry.by ≡ by) so_far.0 once.0 so_far.2 once.2)
 
 -- ---- faults of the disk

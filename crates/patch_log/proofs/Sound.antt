@@ -18,9 +18,6 @@ use Rattle.chain_core.specs.Runs.{IsRun, patches_in, run_text, run_texts}
 use Rattle.chain_core.proofs.Runs.{patches_in-push}
 use Rattle.chain_core.proofs.Stays.{goes_on}
 use Rattle.chain_core.proofs.Fronts.{links-take}
-use Rattle.log_journal.specs.declared.block.Block.{Block}
-use Rattle.log_journal.specs.Payload.{payload_of}
-use Rattle.patch_log.specs.Ready.{IsReady, RunView}
 use Rattle.patch_log.specs.Log.{IsRunOf, IsSoundRun, IsSoundLog, AreChained, BreaksBehind, bare}
 
 pub texts_of-push : (runs : List (List Patch)) (run : List Patch) → run_texts (runs ++ run ∷ []) ≡ run_texts runs ++ run_text run ∷ []
@@ -145,11 +142,3 @@ never_breaks limits runs version log breaks = breaks.broken (chained-take (run_t
 pub map_same : (patches : List Patch) → map (λ (p : Patch). p) patches ≡ patches
 map_same [] = refl
 map_same (patch ∷ patches) = ap (λ (ps : List Patch). patch ∷ ps) (map_same patches)
-
--- a block of one patch's text is ready
-pub ready_alone : (patch : CheckedPatch) (block : Block) → IsPatch patch.text patch.meaning → payload_of block ≡ patch.text → IsReady (bare patch ∷ []) block
-ready_alone patch block is payload = record { block_is = payload; sound = sound_alone patch is }
-
--- and one of a run's
-pub ready_run : (run : RunView) (block : Block) → IsRunOf run.text run.patches → payload_of block ≡ run.text → IsReady (map bare run.patches) block
-ready_run run block is payload = record { block_is = payload ∙ sym (text_is run.text run.patches is); sound = sound_of run.text run.patches is }

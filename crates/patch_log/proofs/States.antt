@@ -7,8 +7,8 @@ use Rattle.std.proofs.lemmas.List.{length-map}
 use Rattle.disk_model.specs.declared.disk.Disk.{Ghosts}
 use Rattle.disk_model.specs.Past.{EveryImage}
 use Rattle.log_journal.specs.declared.journal.Journal.{Journal}
-use Rattle.log_journal.specs.StandsFor.{StandsFor, StandsInDoubt, length_of, limit_of, count_of, is_settled, disk_of}
-use Rattle.log_journal.specs.Writing.{StandsWith, payloads_left, doubt_left, failing, longer_by}
+use Rattle.log_journal.specs.StandsFor.{StandsFor, length_of, limit_of, count_of, is_settled, disk_of}
+use Rattle.log_journal.specs.Writing.{StandsWith, failing}
 use Rattle.log_journal.specs.Written.{DiskWent, Written}
 use Rattle.log_journal.proofs.Disks.{went_by}
 use Rattle.log_journal.proofs.Steps.{either}
@@ -16,7 +16,7 @@ use Rattle.chain_core.specs.declared.chain.Patch.{Patch}
 use Rattle.chain_core.specs.declared.chain.Entry.{Entry}
 use Rattle.log_base.specs.declared.limits.LogLimits.{LogLimits}
 use Rattle.log_base.specs.declared.phase.Phase.{Phase}
-use Rattle.log_base.specs.declared.phase.Phase.TheVariants.{Settling, Gate}
+use Rattle.log_base.specs.declared.phase.Phase.TheVariants.{Settling}
 use Rattle.chain_core.specs.declared.fate.Fate.{Fate}
 use Rattle.chain_core.specs.declared.fate.Fate.TheVariants.{Done, Fails}
 use Rattle.chain_core.specs.declared.answer.Decision.{Decision}
@@ -102,6 +102,12 @@ module _ {D : Type 0} {disks : Ghosts D} (journal new : Journal D disks) (entrie
   pub stands_for_log : disks.tells → StandsForLog (disks.past (disk_of journal)) number limits runs doubt
   stands_for_log told = record { each = each_holds number journal runs doubt kept.stands told; without = kept.without; having = kept.having }
 
+  -- the entries are a chain that can be kept
+  pub bounded : IsBoundedChain entries
+  bounded =
+      let log : IsLog limits (patches_of entries) = subst (λ (ps : List Patch). IsLog limits ps) (patches_in-runs entries) kept.without.log in
+      entries_kept entries log.chain (omega (arith, log.few, kept.countable, length-map entries patch_of)) log.short
+
   module _ (run : List Patch) (version : ℕ) (is : Accept version ≡ run_decision (patches_in runs) run limits) (sound : IsSoundRun run) (payload : List ℕ) (payload_is : payload ≡ run_text run) where
     can : IsAcceptable (patches_in runs) run limits
     can = (accepted (patches_in runs) run limits version (sym is)).0
@@ -146,21 +152,6 @@ module _ {D : Type 0} {disks : Ghosts D} (journal new : Journal D disks) (entrie
       limit_is = limit_is ∙ kept.limit_is;
       countable = kept.countable;
     }
-
-    -- the gate was left in doubt
-    pub kept_in_doubt : (result : Result Unit Phase) → result ≡ Err Gate → StandsWith new number (payloads_left (failing result) (run_texts runs) payload) (doubt_left (failing result) (run_payload doubt) payload) → length_of new ≡ length_of journal + longer_by (failing result) (length payload)
-        → limit_of new ≡ limit_of journal → JournalKeepsChain new entries (Some run) number limits
-    kept_in_doubt result failed stands length_is limit_is =
-        let here = subst (λ (r : Result Unit Phase). StandsWith new number (payloads_left (failing r) (run_texts runs) payload) (doubt_left (failing r) (run_payload doubt) payload)) failed stands in
-        record {
-          whole = kept.whole;
-          stands = subst (λ (text : List ℕ). StandsInDoubt new number (run_texts runs) text) payload_is here;
-          without = kept.without;
-          having = more;
-          length_is = omega (arith, length_is, ap (λ (r : Result Unit Phase). longer_by (failing r) (length payload)) failed, kept.length_is);
-          limit_is = limit_is ∙ kept.limit_is;
-          countable = kept.countable;
-        }
 
     -- one append was made of it, by how the write ended
     module _ (by spare spare_left : ℕ) (result : Result Unit Phase) (went : DiskWent disks (IsErr result) (disk_of journal) (disk_of new))

@@ -5,3 +5,4 @@ pub mod Opening
 pub mod Ready
 pub mod State
 pub mod Run
+pub mod Tail

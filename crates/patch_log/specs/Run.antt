@@ -91,24 +91,25 @@ GrowsBy by before after =
     (more : List Entry) × (after ≡ before ++ more) × AllByRecursion (λ entry. entry.by ≡ by) more
 
 -- appends one after another, with their answers
-abbrev pub AppendedAll : {D : Type 0} → Ghosts D → ℕ → LogView D → List Patch → List LogAnswer
-    → LogView D → Type 0
+abbrev pub AppendedAll : {D : Type 0} → Ghosts D → ℕ → LogView D → List (List Patch)
+    → List LogAnswer → LogView D → Type 0
 AppendedAll disks by before [] [] after = after ≡ before
-AppendedAll {D} disks by before (patch ∷ patches) (answer ∷ answers) after =
-    (mid : LogView D) × Appended disks before mid patch by answer
-    × AppendedAll disks by mid patches answers after
+AppendedAll {D} disks by before (run ∷ runs) (answer ∷ answers) after =
+    (mid : LogView D) × AppendedRun disks before mid run by answer
+    × AppendedAll disks by mid runs answers after
 AppendedAll disks by before [] (answer ∷ answers) after = ⊥
-AppendedAll disks by before (patch ∷ patches) [] after = ⊥
+AppendedAll disks by before (run ∷ runs) [] after = ⊥
 
--- while these patches are added, one after another, an image holds what it may hold during one of
--- the appends, or is as before them all
-abbrev pub HoldsInSeries : {D : Type 0} → Ghosts D → ℕ → LogView D → List Patch → List ℕ → Type 0
-HoldsInSeries {D} disks by before patches image =
+-- while these runs are added, one after another, an image holds what it may hold during one of the
+-- appends, or is as before them all
+abbrev pub HoldsInSeries : {D : Type 0} → Ghosts D → ℕ → LogView D → List (List Patch) → List ℕ
+    → Type 0
+HoldsInSeries {D} disks by before runs image =
     MayLeave (disks.past before.disk) image
-    ⊎ ((done : List Patch) × (patch : Patch) × (behind : List Patch)
-    × (patches ≡ done ++ patch ∷ behind) × (answers : List LogAnswer) × (mid : LogView D)
+    ⊎ ((done : List (List Patch)) × (run : List Patch) × (behind : List (List Patch))
+    × (runs ≡ done ++ run ∷ behind) × (answers : List LogAnswer) × (mid : LogView D)
     × AppendedAll disks by before done answers mid
-    × HoldsDuring before.number (payloads_of (runs_in mid)) (run_payload mid.doubt) patch.text
+    × HoldsDuring before.number (payloads_of (runs_in mid)) (run_payload mid.doubt) (run_text run)
     image)
 
 -- whether it is a fault of the disk

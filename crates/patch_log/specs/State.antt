@@ -1,7 +1,5 @@
 -- How contracts see a log, and what it keeps.
 use Rattle.std.specs.Prelude.{◌≡◌, ℕ, ◌^◌, ◌<◌, List, Option}
-use Rattle.std.specs.Option.{option_map}
-use Rattle.delta_base.specs.Listed.{Listed}
 use Rattle.disk_model.specs.declared.disk.Disk.{Ghosts}
 use Rattle.log_journal.specs.declared.journal.Journal.{Journal}
 use Rattle.log_journal.specs.StandsFor.{length_of, limit_of}
@@ -23,10 +21,6 @@ pub record LogView (D : Type 0) : Type 0 where
   pub limits : LogLimits
   pub spare : ℕ
   pub disk : D
-
--- the run in doubt
-abbrev pub doubt_of : Option (Listed Patch) → Option (List Patch)
-doubt_of doubt = option_map (λ run. run.items) doubt
 
 -- its chain
 abbrev pub chain_of : {D : Type 0} → LogView D → List Patch

@@ -2,9 +2,13 @@
 ghost use Rattle.std.specs.Prelude.{◌≡◌, ◌+◌, ◌≤◌, [], ◌∷◌, ◌++◌, length, OnOk, OnErr};
 ghost use Rattle.chain_core.specs.Runs.{entries_of};
 ghost use Rattle.chain_core.specs.Chain.{IsBoundedChain};
+ghost use Rattle.chain_core.specs.Decision.{run_decision};
+ghost use Rattle.chain_core.specs.Patches.{patches_of};
 
-use chain_core::{Chain, IdIndex, Lookup, Patch};
-use delta_base::{Id, Listing, OutOfMemory};
+use crate::run::Run;
+use chain_core::{Chain, Decision, IdIndex, Lookup, Patch, decide_run};
+use delta_base::{Id, OutOfMemory};
+use log_base::LogLimits;
 use std::alloc::Global;
 use std::marker::Model;
 
@@ -52,6 +56,13 @@ impl IndexedChain {
         self.index.reserve(need)
     }
 
+    /// What the chain makes of the run, found by the index. It takes no memory.
+    pub fn decide(&self, limits: &LogLimits, run: &Run) -> Decision
+        ensures { result ≡ run_decision (patches_of self.now.items) run.now limits.now }
+    {
+        decide_run(self, limits, run.patches().as_slice())
+    }
+
     /// Adds a patch, in a place that is ready.
     pub fn push(&mut self, patch: Patch, by: u32, rest: u32)
         requires ready { 1 ≤ self.old.spare }
@@ -70,14 +81,15 @@ impl IndexedChain {
     }
 
     /// Adds a run, in places that are ready.
-    pub fn push_run(&mut self, run: Listing<Patch>, by: u32)
-        requires ready { length run.items ≤ self.old.spare }
-        requires kept { IsBoundedChain (self.old.items ++ entries_of run.items by) }
-        ensures items { self.new.items ≡ self.old.items ++ entries_of run.items by }
-        ensures spare { self.new.spare + length run.items ≡ self.old.spare }
+    pub fn push_run(&mut self, run: Run, by: u32)
+        requires ready { length run ≤ self.old.spare }
+        requires kept { IsBoundedChain (self.old.items ++ entries_of run by) }
+        ensures items { self.new.items ≡ self.old.items ++ entries_of run by }
+        ensures spare { self.new.spare + length run ≡ self.old.spare }
     {
-        let mut rest = run.len() as u32;
-        for patch in run.into_vec() {
+        let mut rest = run.count();
+        let Run { patches } = run;
+        for patch in patches.into_vec() {
             rest -= 1;
             self.push(patch, by, rest);
         }

@@ -11,32 +11,22 @@ ghost use Rattle.patch_log.specs.Opening.{IsRunRead, IsNextInLog, AreFoundEntrie
 use crate::fault::LogFault;
 use crate::indexed::IndexedChain;
 use crate::next_fault::NextFault;
-use crate::ready::bare_copies;
-use crate::run::{RunFault, check_run};
-use chain_core::{Decision, Lookup, Patch, decide_run};
-use delta_base::{Bytes, Listing, OutOfMemory};
-use log_base::{ChainLink, LogLimits};
+use crate::reading::read_run;
+use crate::run::{Run, RunFault};
+use chain_core::{Decision, Lookup};
+use delta_base::Bytes;
+use log_base::LogLimits;
 use log_journal::Payloads;
-use patch_meaning::check_link;
 use std::alloc::Global;
 
-// The run of one patch by itself.
-fn alone(alloc: Global, patch: Patch) -> Result<Listing<Patch>, OutOfMemory>
-    ensures { IfOk result (λ run. run.items ≡ patch ∷ []) }
-{
-    let mut run = Listing::new(alloc);
-    run.push(patch)?;
-    Ok(run)
-}
-
-// The patches that a text is, if they are a run.
-fn read_patches(alloc: Global, text: &[u8]) -> Result<Listing<Patch>, NextFault>
-    ensures ok { IfOk result (λ run. IsRunRead text.now run.items) }
+// The run that a payload is.
+fn run_of(alloc: Global, text: Bytes) -> Result<Run, NextFault>
+    ensures ok { IfOk result (IsRunRead text) }
     ensures broken { IsErrOf result NextFault.Broken
-        → (run : List PatchRead) → IsRunRead text.now run → ⊥ }
+        → (run : List PatchRead) → IsRunRead text run → ⊥ }
 {
-    match check_run(alloc, text) {
-        Ok(run) => Ok(bare_copies(alloc, run.patches().as_slice())?),
+    match read_run(alloc, text) {
+        Ok(run) => Ok(run),
         Err(fault) => match fault {
             RunFault::OutOfMemory => Err(NextFault::OutOfMemory),
             _ => Err(NextFault::Broken),
@@ -44,38 +34,20 @@ fn read_patches(alloc: Global, text: &[u8]) -> Result<Listing<Patch>, NextFault>
     }
 }
 
-// The run that a text is. Of one patch by itself no change is made, and its text isn't copied.
-fn read_run(alloc: Global, text: Bytes) -> Result<Listing<Patch>, NextFault>
-    ensures ok { IfOk result (λ run. IsRunRead text run.items) }
-    ensures broken { IsErrOf result NextFault.Broken
-        → (run : List PatchRead) → IsRunRead text run → ⊥ }
-{
-    match check_link(alloc, text.as_slice()) {
-        Ok(ChainLink { id, prev }) => Ok(alone(alloc, Patch { id, prev, text })?),
-        Err(_) => read_patches(alloc, text.as_slice()),
-    }
-}
-
 // The run that a text is, if it goes behind the chain.
-fn next_run(
-    alloc: Global,
-    chain: &IndexedChain,
-    text: Bytes,
-    most: u32,
-) -> Result<Listing<Patch>, NextFault>
-    ensures ok { IfOk result (λ run.
-        IsNextInLog (patches_of chain.now.items) text most run.items) }
+fn next_run(alloc: Global, chain: &IndexedChain, text: Bytes, most: u32) -> Result<Run, NextFault>
+    ensures ok { IfOk result (IsNextInLog (patches_of chain.now.items) text most) }
     ensures broken { IsErrOf result NextFault.Broken → (run : List PatchRead)
         → IsNextInLog (patches_of chain.now.items) text most run → ⊥ }
     ensures kept { IsBoundedChain chain.now.items }
 {
     let _version = chain.chain().version();
-    let run = read_run(alloc, text)?;
+    let run = run_of(alloc, text)?;
     let limits = LogLimits {
         patches: most,
         bytes: u64::MAX,
     };
-    match decide_run(chain, &limits, run.as_slice()) {
+    match chain.decide(&limits, &run) {
         Decision::Accept { version: _ } => Ok(run),
         _ => Err(NextFault::Broken),
     }
@@ -96,7 +68,7 @@ fn with_next(
 {
     let run = next_run(alloc, &chain, text, most)?;
     let mut longer = chain;
-    longer.reserve(run.len() as u32)?;
+    longer.reserve(run.count())?;
     longer.push_run(run, 0);
     Ok(longer)
 }

@@ -1,19 +1,21 @@
 //! A run that can be added without asking for memory of its own.
-ghost use Rattle.std.specs.Prelude.{◌≡◌, IfOk, map};
-ghost use Rattle.patch_log.specs.Log.{bare};
+ghost use Rattle.std.specs.Prelude.{◌≡◌, ◌≤◌, length, IfOk};
+ghost use Rattle.log_base.specs.declared.limits.TheConstants.{PATCH_LIMIT};
+ghost use Rattle.chain_core.specs.Runs.{run_text};
+ghost use Rattle.log_journal.specs.Payload.{payload_of};
+ghost use Rattle.patch_log.specs.Ready.{IsMadeOf};
 
 use crate::run::Run;
 use chain_core::Patch;
-use delta_base::{Listing, OutOfMemory};
+use delta_base::OutOfMemory;
 use log_journal::{Block, make_block};
-use patch_meaning::Checked;
 use std::alloc::Global;
 use std::marker::Model;
 
 /// A run with its block, and the pass that brings it. It is made without a log.
 #[derive(Drop)]
 pub struct Ready {
-    pub(crate) patches: Listing<Patch>,
+    pub(crate) run: Run,
     pub(crate) block: Block,
     pub(crate) by: u32,
 }
@@ -23,53 +25,61 @@ impl Model for Ready {
 
     ghost Value = { ReadyView };
 
-    ghost view = { λ r. record { run = r.patches.items; by = r.by } };
+    ghost view = { λ r. record { run = r.run; by = r.by } };
 
-    ghost invariant = { λ r. IsReady r.patches.items r.block };
+    ghost invariant = { λ r. IsReady r.run r.block };
 }
 
 impl Ready {
-    ghost use Rattle.std.specs.Prelude.{◌≡◌, IfOk, map};
-    ghost use Rattle.patch_log.specs.Ready.{IsMadeOf, IsMadeOfRun, bare_run};
-
-    /// Takes all the memory that one patch needs, for its copy and for its block.
-    pub fn of(alloc: Global, patch: &Checked, by: u32) -> Result<Ready, OutOfMemory>
-        ensures { IfOk result (IsMadeOf patch.now by) }
+    /// Takes all the memory that adding the run needs beside its place in the list. Where there is
+    /// none, the run is handed back.
+    pub fn of(alloc: Global, run: Run, by: u32) -> Result<Ready, Run>
+        ensures { IsMadeOf run by result }
     {
-        let block = make_block(alloc, patch.text().as_slice())?;
-        let mut patches = Listing::new(alloc);
-        patches.push(bare_copy(patch)?)?;
-        Ok(Ready { patches, block, by })
+        match block_of(alloc, run.patches().as_slice()) {
+            Ok(block) => Ok(Ready { run, block, by }),
+            Err(_) => Err(run),
+        }
     }
 
-    /// Takes all the memory that a run needs.
-    pub fn of_run(alloc: Global, run: &Run, by: u32) -> Result<Ready, OutOfMemory>
-        ensures { IfOk result (IsMadeOfRun (bare_run run.now) by) }
+    pub fn run(&self) -> &Run
+        ensures { result.now ≡ self.now.run }
     {
-        let block = make_block(alloc, run.text().as_slice())?;
-        let patches = bare_copies(alloc, run.patches().as_slice())?;
-        Ok(Ready { patches, block, by })
+        &self.run
+    }
+
+    pub fn into_run(self) -> Run
+        ensures { result ≡ self.run }
+    {
+        let Ready { run, .. } = self;
+        run
     }
 }
 
-// A copy of a patch without its changes.
-fn bare_copy(patch: &Checked) -> Result<Patch, OutOfMemory>
-    ensures { IfOk result (λ copy. copy ≡ bare patch.now) }
+// The block of the text of a run. That of one patch isn't copied first.
+fn block_of(alloc: Global, run: &[Patch]) -> Result<Block, OutOfMemory>
+    requires { length (run_text run.now) ≤ PATCH_LIMIT }
+    ensures { IfOk result (λ block. payload_of block ≡ run_text run.now) }
 {
-    Ok(Patch {
-        id: patch.id(),
-        prev: patch.prev(),
-        text: patch.text().copy()?,
-    })
+    match run {
+        [patch] => make_block(alloc, patch.text.as_slice()),
+        _ => make_block(alloc, &joined(alloc, run)?),
+    }
 }
 
-// Copies of patches without their changes.
-pub(crate) fn bare_copies(alloc: Global, patches: &[Checked]) -> Result<Listing<Patch>, OutOfMemory>
-    ensures { IfOk result (λ copies. copies.items ≡ map bare patches.now) }
+// The texts of patches, one behind another.
+fn joined(alloc: Global, run: &[Patch]) -> Result<Vec<u8>, OutOfMemory>
+    requires { length (run_text run.now) ≤ PATCH_LIMIT }
+    ensures { IfOk result (λ text. text.items ≡ run_text run.now) }
 {
-    let mut copies = Listing::new(alloc);
-    for patch in patches {
-        copies.push(bare_copy(patch)?)?;
+    let mut length = 0;
+    for patch in run {
+        length += patch.text.len();
     }
-    Ok(copies)
+    let mut text = Vec::new(alloc);
+    text.reserve(length)?;
+    for patch in run {
+        text.extend_from_slice(patch.text.as_slice())?;
+    }
+    Ok(text)
 }

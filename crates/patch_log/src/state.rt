@@ -7,56 +7,44 @@ ghost use Rattle.log_journal.specs.File.{Holds};
 ghost use Rattle.log_journal.specs.Written.{Reopened, RefusedOpening};
 ghost use Rattle.chain_core.specs.Patches.{version_of};
 ghost use Rattle.chain_core.specs.Runs.{AreWhole, file_length, patches_in};
-ghost use Rattle.chain_core.specs.Decision.{decision, run_decision};
-ghost use Rattle.patch_log.specs.Log.{bare, payloads_of, IsSoundLog, StandsForLog};
+ghost use Rattle.chain_core.specs.Decision.{run_decision};
+ghost use Rattle.patch_log.specs.Log.{payloads_of, IsSoundLog, StandsForLog};
 ghost use Rattle.patch_log.specs.Fault.{HasLogFault};
-ghost use Rattle.patch_log.specs.Ready.{IsMadeOf, IsMadeOfRun, bare_run};
+ghost use Rattle.patch_log.specs.Ready.{IsMadeOf};
 ghost use Rattle.patch_log.specs.Run.{AppendedRun};
 ghost use Rattle.patch_log.specs.State.{chain_of, runs_in};
+ghost use Rattle.patch_log.specs.Tail.{StandsForChain, log_of};
 
 use crate::fault::{LogFault, LogRefusal};
 use crate::indexed::IndexedChain;
 use crate::opening::read_log;
 use crate::ready::Ready;
 use crate::run::Run;
-use chain_core::{Chain, Decision, LogAnswer, Lookup, Patch, decide, decide_run};
-use delta_base::{Id, Listing, OutOfMemory};
+use crate::tail::LogTail;
+use chain_core::{Chain, Decision, LogAnswer, Lookup};
+use delta_base::{Id, OutOfMemory};
 use disk_model::{Disk, Planned};
-use log_base::{ChainLink, LogLimits, Phase};
-use log_journal::{Journal, OpenRefusal, write};
-use patch_meaning::Checked;
+use log_base::LogLimits;
+use log_journal::{Journal, OpenRefusal};
 use std::alloc::Global;
 use std::marker::Model;
 
-/// A log: its chain with an index by id, and its journal on a disk. A run whose gate was left in
-/// doubt is kept beside the chain.
+/// A log: the list of its patches with an index by id, and its tail, which stands for the list.
 #[derive(Drop)]
 pub struct LogState<D: Disk> {
-    alloc: Global,
+    tail: LogTail<D>,
     chain: IndexedChain,
-    journal: Journal<D>,
-    doubt: Option<Listing<Patch>>,
-    number: u32,
-    limits: LogLimits,
 }
 
 impl<D: Disk> Model for LogState<D> {
-    ghost use Rattle.log_journal.specs.StandsFor.{disk_of};
-    ghost use Rattle.patch_log.specs.State.{LogView, JournalKeepsChain, doubt_of};
+    ghost use Rattle.patch_log.specs.State.{LogView};
+    ghost use Rattle.patch_log.specs.Tail.{StandsForChain, log_of};
 
     ghost Value = { LogView D };
 
-    ghost view = { λ s. record {
-      entries = s.chain.items;
-      doubt = doubt_of s.doubt;
-      number = s.number;
-      limits = s.limits;
-      spare = s.chain.spare;
-      disk = disk_of s.journal;
-    } };
+    ghost view = { λ s. log_of s.tail s.chain.items s.chain.spare };
 
-    ghost invariant = { λ s.
-        JournalKeepsChain s.journal s.chain.items (doubt_of s.doubt) s.number s.limits };
+    ghost invariant = { λ s. StandsForChain s.tail s.chain.items };
 }
 
 impl<D: Disk> LogState<D> {
@@ -111,12 +99,14 @@ impl<D: Disk> LogState<D> {
             });
         }
         Ok(LogState {
-            alloc,
+            tail: LogTail {
+                alloc,
+                journal,
+                doubt: None,
+                number,
+                limits,
+            },
             chain,
-            journal,
-            doubt: None,
-            number,
-            limits,
         })
     }
 
@@ -141,57 +131,32 @@ impl<D: Disk> LogState<D> {
 
     // Where its memory comes from.
     pub(crate) fn alloc(&self) -> Global {
-        self.alloc
+        self.tail.alloc()
     }
 
-    /// No patch is in doubt.
+    /// No run is in doubt.
     pub fn is_settled(&self) -> bool
         ensures { result ≡ is_none self.now.doubt }
     {
-        self.doubt.is_none()
+        self.tail.is_settled()
     }
 
     /// How often its disk has failed.
     pub fn faults(&self) -> u64
         ensures { result ≡ D.faults self.now.disk }
     {
-        self.journal.faults()
-    }
-
-    /// What the chain makes of the patch, found by the index. It takes no memory.
-    pub fn decide_here(&self, patch: &Checked) -> Decision
-        ensures decision { result ≡ decision (chain_of self.now) (bare patch.now) self.now.limits }
-        ensures whole { AreWhole self.now.entries }
-        ensures stands { D.tells → StandsForLog (D.past self.now.disk) self.now.number
-            self.now.limits (runs_in self.now) self.now.doubt }
-    {
-        let link = ChainLink {
-            id: patch.id(),
-            prev: patch.prev(),
-        };
-        decide(&self.chain, &self.limits, link, patch.text().as_slice())
+        self.tail.faults()
     }
 
     /// What the chain makes of the run, found by the index. It takes no memory.
-    pub fn decide_run_here(&self, run: &Run) -> Decision
+    pub fn decide_here(&self, run: &Run) -> Decision
         ensures decision { result
-            ≡ run_decision (patches_in (runs_in self.now)) (bare_run run.now) self.now.limits }
+            ≡ run_decision (patches_in (runs_in self.now)) run.now self.now.limits }
         ensures stands { D.tells → StandsForLog (D.past self.now.disk) self.now.number
             self.now.limits (runs_in self.now) self.now.doubt }
         ensures whole { AreWhole self.now.entries }
     {
-        decide_run(&self.chain, &self.limits, run.patches().as_slice())
-    }
-
-    // What the chain makes of a run that is ready.
-    fn decide_ready(&self, ready: &Ready) -> Decision
-        ensures decision { result
-            ≡ run_decision (patches_in (runs_in self.now)) ready.now.run self.now.limits }
-        ensures whole { AreWhole self.now.entries }
-        ensures stands { D.tells → StandsForLog (D.past self.now.disk) self.now.number
-            self.now.limits (runs_in self.now) self.now.doubt }
-    {
-        decide_run(&self.chain, &self.limits, ready.patches.as_slice())
+        self.tail.decide(&self.chain, run)
     }
 
     // Makes so many places ready.
@@ -204,30 +169,20 @@ impl<D: Disk> LogState<D> {
         self.chain.reserve(need)
     }
 
-    /// Takes all the memory that adding the patch needs.
-    pub fn reserve(&mut self, patch: &Checked, by: u32) -> Result<Ready, OutOfMemory>
-        ensures ready { IfOk result (IsMadeOf patch.now by) }
-        ensures spare { OnOk result (1 ≤ self.new.spare) }
+    /// Takes all the memory that adding the run needs. Where there is none, the run is handed back.
+    pub fn reserve(&mut self, run: Run, by: u32) -> Result<Ready, Run>
+        ensures made { IsMadeOf run by result }
+        ensures spare { OnOk result (length run ≤ self.new.spare) }
         ensures kept { self.old.spare ≤ self.new.spare }
         ensures same { self.new ≡ record self.old { spare = self.new.spare } }
         ensures err { OnErr result (self.new ≡ self.old) }
     {
-        let ready = Ready::of(self.alloc, patch, by)?;
-        self.reserve_places(1)?;
-        Ok(ready)
-    }
-
-    /// Takes all the memory that adding the run needs.
-    pub fn reserve_run(&mut self, run: &Run, by: u32) -> Result<Ready, OutOfMemory>
-        ensures ready { IfOk result (IsMadeOfRun (bare_run run.now) by) }
-        ensures spare { OnOk result (length run.now.patches ≤ self.new.spare) }
-        ensures kept { self.old.spare ≤ self.new.spare }
-        ensures same { self.new ≡ record self.old { spare = self.new.spare } }
-        ensures err { OnErr result (self.new ≡ self.old) }
-    {
-        let ready = Ready::of_run(self.alloc, run, by)?;
-        self.reserve_places(run.patches().len() as u32)?;
-        Ok(ready)
+        let need = run.count();
+        let ready = Ready::of(self.tail.alloc(), run, by)?;
+        match self.reserve_places(need) {
+            Ok(()) => Ok(ready),
+            Err(_) => Err(ready.into_run()),
+        }
     }
 
     // Writes a run that was accepted, in places that are ready.
@@ -239,22 +194,13 @@ impl<D: Disk> LogState<D> {
         ensures memory { result ≢ LogAnswer.OutOfMemory }
         ensures spare { self.old.spare ≤ self.new.spare + length ready.run }
     {
-        let Ready { patches, block, by } = ready;
-        match write(&mut self.journal, &block) {
-            Ok(()) => {
-                self.doubt = None;
-                self.chain.push_run(patches, by);
+        let by = ready.by;
+        match self.tail.write(ready) {
+            Some(run) => {
+                self.chain.push_run(run, by);
                 LogAnswer::Accepted { version }
             }
-            Err(Phase::Settling) => LogAnswer::DiskFault,
-            Err(Phase::Body) => {
-                self.doubt = None;
-                LogAnswer::DiskFault
-            }
-            Err(Phase::Gate) => {
-                self.doubt = Some(patches);
-                LogAnswer::DiskFault
-            }
+            None => LogAnswer::DiskFault,
         }
     }
 
@@ -265,7 +211,7 @@ impl<D: Disk> LogState<D> {
         ensures memory { result ≢ LogAnswer.OutOfMemory }
         ensures spare { self.old.spare ≤ self.new.spare + length ready.run }
     {
-        match self.decide_ready(&ready) {
+        match self.decide_here(ready.run()) {
             Decision::Accept { version } => self.write_accepted(version, ready),
             decision => LogAnswer::told(decision),
         }
@@ -276,8 +222,8 @@ impl<D: Disk> LogState<D> {
         ensures appended { AppendedRun D.Disk self.old self.new ready.run ready.by result }
         ensures spare { self.old.spare ≤ self.new.spare + length ready.run }
     {
-        match self.decide_ready(&ready) {
-            Decision::Accept { version } => match self.reserve_places(ready.patches.len() as u32) {
+        match self.decide_here(ready.run()) {
+            Decision::Accept { version } => match self.reserve_places(ready.run().count()) {
                 Ok(()) => self.write_accepted(version, ready),
                 Err(_) => LogAnswer::OutOfMemory,
             },
@@ -291,8 +237,25 @@ impl<D: Disk> LogState<D> {
         ensures stands { D.tells → StandsForLog (D.past result) self.number self.limits
             (runs_in self) self.doubt }
     {
-        let LogState { journal, .. } = self;
-        journal.close()
+        let LogState { tail, .. } = self;
+        tail.close()
+    }
+
+    /// The log in two parts: its tail, and the list for which that stands.
+    pub fn split(self) -> (LogTail<D>, IndexedChain)
+        ensures stands { StandsForChain result.0 result.1.items }
+        ensures log { self ≡ log_of result.0 result.1.items result.1.spare }
+    {
+        let LogState { tail, chain } = self;
+        (tail, chain)
+    }
+
+    /// The log of a tail and of a list for which it stands.
+    pub fn join(tail: LogTail<D>, chain: IndexedChain) -> LogState<D>
+        requires { StandsForChain tail chain.items }
+        ensures { result ≡ log_of tail chain.items chain.spare }
+    {
+        LogState { tail, chain }
     }
 }
 
@@ -306,13 +269,13 @@ impl<D: Planned> LogState<D> {
         ensures faults { D.faults self.new.disk ≡ D.faults self.old.disk }
         ensures mark { D.mark self.new.disk ≡ D.mark self.old.disk }
     {
-        self.journal.plan(next);
+        self.tail.plan(next);
     }
 
     /// Whether a call of its disk has failed for want of memory.
     pub fn is_short(&self) -> bool
         ensures { result ≡ D.short self.now.disk }
     {
-        self.journal.is_short()
+        self.tail.is_short()
     }
 }

@@ -18,7 +18,6 @@ use Rattle.log_base.specs.OneMore.{with_one_more}
 use Rattle.chain_core.specs.Stay.{accepted_by, decided_by}
 use Rattle.chain_core.proofs.Decided.{accepted}
 use Rattle.chain_core.proofs.Runs.{patches_in-push, run_goes_on}
-use Rattle.patch_log.specs.Ready.{bare_run}
 use Rattle.world_core.specs.declared.event.WorldEvent.{WorldEvent}
 use Rattle.world_core.specs.declared.event.WorldEvent.TheVariants.{Append, Serve, Describe, Stop, Open, NewZone, Deliver, ZoneStop, ZoneOpen}
 use Rattle.world_core.specs.World.{sending, MayBeFound, BringsRun, StandsAt}
@@ -144,7 +143,7 @@ chain_more limits runs run is linked version same =
 
 pub sending_chains : (limits : LogLimits) (point : LogPoint (List Patch)) (event : WorldEvent) → BringsRun event → AreChains point → AreChains (sending limits point event).0
 sending_chains limits (up runs doubt) (Append run fate) linked are =
-    decided_each runs doubt (bare_run run) AreChained are fate (run_decision (patches_in runs) (bare_run run) limits) (chain_more limits runs (bare_run run) are.0 linked)
+    decided_each runs doubt run AreChained are fate (run_decision (patches_in runs) run limits) (chain_more limits runs run are.0 linked)
 sending_chains limits (up runs doubt) (Serve version) linked are = are
 sending_chains limits (up runs doubt) Describe linked are = are
 sending_chains limits (up runs doubt) (Stop opened) linked are = stopped_each AreChained (up runs doubt) opened are
@@ -169,7 +168,7 @@ stopped_grows taken (Some doubtful) true = (doubtful ∷ [], refl)
 stopped_grows taken doubt false = stays_same taken
 
 runs_grow : (limits : LogLimits) (point : LogPoint (List Patch)) (event : WorldEvent) → GrowsTo (taken_of point) (taken_of (sending limits point event).0)
-runs_grow limits (up runs doubt) (Append run fate) = decided_grows runs doubt (bare_run run) fate (run_decision (patches_in runs) (bare_run run) limits)
+runs_grow limits (up runs doubt) (Append run fate) = decided_grows runs doubt run fate (run_decision (patches_in runs) run limits)
 runs_grow limits (up runs doubt) (Serve version) = stays_same runs
 runs_grow limits (up runs doubt) Describe = stays_same runs
 runs_grow limits (up runs doubt) (Stop opened) = stopped_grows runs doubt opened

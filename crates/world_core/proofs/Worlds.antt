@@ -24,7 +24,6 @@ use Rattle.chain_core.specs.Replies.{as_run}
 use Rattle.chain_core.specs.Stay.{Outcome, accepted_by, decided_by, run_stay}
 use Rattle.chain_core.proofs.Decided.{accepted}
 use Rattle.chain_core.proofs.Runs.{patches_in-push}
-use Rattle.patch_log.specs.Ready.{RunView, bare_run}
 use Rattle.world_core.specs.declared.event.WorldEvent.{WorldEvent}
 use Rattle.world_core.specs.declared.event.WorldEvent.TheVariants.{Append, Serve, Describe, Stop, Open, NewZone, Deliver, ZoneStop, ZoneOpen}
 use Rattle.world_core.specs.declared.message.Message.{Message}
@@ -86,7 +85,7 @@ told_is count (Some OutOfMemory) version patch is = cc
 
 -- what is served stands already
 sent_stands : (limits : LogLimits) (point : LogPoint (List Patch)) (event : WorldEvent) (version : ℕ) (patch : Patch) → (sending limits point event).1 ≡ Some (Item version patch) → patch_at (chain_of point) version ≡ Some patch
-sent_stands limits (up runs doubt) (Append run fate) version patch is = absurd (told_is (length (bare_run run)) (run_stay limits (up runs doubt) (bare_run run) fate).1 version patch is)
+sent_stands limits (up runs doubt) (Append run fate) version patch is = absurd (told_is (length run) (run_stay limits (up runs doubt) run fate).1 version patch is)
 sent_stands limits (up runs doubt) (Serve asked) version patch is = served_is (patches_in runs) asked version patch (patch_at (patches_in runs) asked) refl is
 sent_stands limits (up runs doubt) Describe version patch is = absurd (cc)
 sent_stands limits (up runs doubt) (Stop opened) version patch is = absurd (cc)
@@ -167,15 +166,15 @@ module _ (runs : List (List Patch)) (doubt : Option (List Patch)) (run : List Pa
   decided_stands fate (Conflict at head named) counts is = absurd (cc)
   decided_stands fate (Full what have limit) counts is = absurd (cc)
 
-appended_stands : (limits : LogLimits) (point : LogPoint (List Patch)) (run : RunView) (fate : Fate) (first version : ℕ) → (sending limits point (Append run fate)).1 ≡ Some (Accepted first version)
-    → StandsAt (chain_of (sending limits point (Append run fate)).0) (bare_run run) first version
+appended_stands : (limits : LogLimits) (point : LogPoint (List Patch)) (run : List Patch) (fate : Fate) (first version : ℕ) → (sending limits point (Append run fate)).1 ≡ Some (Accepted first version)
+    → StandsAt (chain_of (sending limits point (Append run fate)).0) run first version
 appended_stands limits (up runs doubt) run fate first version is =
-    let patches = bare_run run in
+    let patches = run in
     decided_stands runs doubt patches first version fate (run_decision (patches_in runs) patches limits) (λ at same. (accepted (patches_in runs) patches limits at same).1) is
 appended_stands limits (down runs) run fate first version is = absurd (cc)
 
-pub always_accepted : (limits : LogLimits) (events more : List WorldEvent) (run : RunView) (first version : ℕ) (found : List (List Patch)) → WasAccepted limits events run first version
-    → MayBeFound (world limits (events ++ more)).log found → StandsAt (patches_in found) (bare_run run) first version
+pub always_accepted : (limits : LogLimits) (events more : List WorldEvent) (run : List Patch) (first version : ℕ) (found : List (List Patch)) → WasAccepted limits events run first version
+    → MayBeFound (world limits (events ++ more)).log found → StandsAt (patches_in found) run first version
 always_accepted limits events more run first version found was may =
     let point = world limits was.before in
     let event = Append run was.fate in
@@ -183,7 +182,7 @@ always_accepted limits events more run first version found was may =
     let rest = was.after ++ more in
     let whole : events ++ more ≡ was.before ++ event ∷ rest = ap (λ (es : List WorldEvent). es ++ more) was.parts ∙ append_assoc was.before (event ∷ was.after) more in
     let grows = found_later limits next rest found (subst (λ (w : WorldPoint). MayBeFound w.log found) (ap (world limits) whole ∙ fold-append (step limits) start was.before (event ∷ rest)) may) in
-    still_stands (chain_of next.log) (patches_in found) (bare_run run) first version grows (appended_stands limits point.log run was.fate first version was.told)
+    still_stands (chain_of next.log) (patches_in found) run first version grows (appended_stands limits point.log run was.fate first version was.told)
 
 -- ---- all of it
 

@@ -15,7 +15,6 @@ use Rattle.chain_core.specs.Log.{LogPoint, up, down, stopped, opened_again}
 use Rattle.log_base.specs.OneMore.{with_one_more}
 use Rattle.chain_core.specs.Stay.{Outcome, run_stay, stay}
 use Rattle.chain_core.specs.Replies.{as_run}
-use Rattle.patch_log.specs.Ready.{RunView, bare_run}
 use Rattle.world_core.specs.declared.event.WorldEvent.{WorldEvent}
 use Rattle.world_core.specs.declared.event.WorldEvent.TheVariants.{Append, Serve, Describe}
 use Rattle.world_core.specs.declared.event.WorldEvent.TheVariants.{Stop, Open, NewZone}
@@ -55,7 +54,7 @@ appended count (point, answer) = (point, accepted_message (option_map (as_run co
 -- what an event makes of a log that is up
 abbrev pub while_up : LogLimits → List (List Patch) → Option (List Patch) → WorldEvent → Sending
 while_up limits runs doubt (Append run fate) =
-    appended (length (bare_run run)) (run_stay limits (up runs doubt) (bare_run run) fate)
+    appended (length run) (run_stay limits (up runs doubt) run fate)
 while_up limits runs doubt (Serve version) =
     (up runs doubt, served version (patch_at (patches_in runs) version))
 while_up limits runs doubt Describe =
@@ -139,11 +138,11 @@ MayBeFound (down taken) found = found ≡ taken
 
 -- what an event appends is a run
 abbrev pub BringsRun : WorldEvent → Type 0
-BringsRun (Append run fate) = IsRun (bare_run run)
+BringsRun (Append run fate) = IsRun run
 BringsRun other = Unit {0}
 
 -- an append was told that its run is accepted, with the versions from `first` to `version`
-pub record WasAccepted (limits : LogLimits) (events : List WorldEvent) (run : RunView)
+pub record WasAccepted (limits : LogLimits) (events : List WorldEvent) (run : List Patch)
     (first version : ℕ) : Type 0 where
   pub before : List WorldEvent
   pub fate : Fate
@@ -166,8 +165,9 @@ pub record StandsAt (chain run : List Patch) (first version : ℕ) : Type 0 wher
 pub record KeepsPromises (limits : LogLimits) (events : List WorldEvent)
     (found : List (List Patch)) : Type 0 where
   pub chain : IsChain (links_of (patches_in found))
-  pub accepted : (run : RunView) (first version : ℕ) → WasAccepted limits events run first version
-      → StandsAt (patches_in found) (bare_run run) first version
+  pub accepted : (run : List Patch) (first version : ℕ)
+      → WasAccepted limits events run first version
+      → StandsAt (patches_in found) run first version
   pub served : (patch : Patch) (version : ℕ) → WasServed limits events patch version
       → patch_at (patches_in found) version ≡ Some patch
 

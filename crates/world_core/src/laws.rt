@@ -6,7 +6,6 @@ ghost use Rattle.chain_core.specs.declared.chain.Patch.{Patch};
 ghost use Rattle.chain_core.specs.Links.{IsChain};
 ghost use Rattle.chain_core.specs.Patches.{links_of, patch_at};
 ghost use Rattle.chain_core.specs.Runs.{patches_in};
-ghost use Rattle.patch_log.specs.Ready.{RunView, bare_run};
 ghost use Rattle.world_core.specs.declared.event.WorldEvent.{WorldEvent};
 ghost use Rattle.world_core.specs.World.{world, MayBeFound, BringsRun, WasAccepted, StandsAt};
 ghost use Rattle.world_core.specs.World.{ZonePoint, WasServed, BeginsLog};
@@ -22,11 +21,11 @@ pub fn chains_stay_chains()
 /// The patches of a run whose append was told to be accepted stand at the versions told, whatever
 /// happens then and whatever a crash leaves.
 pub fn accepted_patches_stay()
-    ensures { (limits : LogLimits) (events more : List WorldEvent) (run : RunView)
+    ensures { (limits : LogLimits) (events more : List WorldEvent) (run : List Patch)
         (first version : ℕ) (found : List (List Patch))
         → WasAccepted limits events run first version
         → MayBeFound (world limits (events ++ more)).log found
-        → StandsAt (patches_in found) (bare_run run) first version }
+        → StandsAt (patches_in found) run first version }
 {}
 
 /// So does a patch that was served.

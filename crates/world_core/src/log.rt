@@ -10,7 +10,6 @@ ghost use Rattle.chain_core.specs.Patches.{patch_at, last_id};
 ghost use Rattle.chain_core.specs.Runs.{patches_in};
 ghost use Rattle.chain_core.specs.Stay.{run_stay};
 ghost use Rattle.chain_core.specs.Replies.{as_run};
-ghost use Rattle.patch_log.specs.Ready.{bare_run};
 ghost use Rattle.world_core.specs.Parts.{run_as, stop_by, Runs, KeepsRuns};
 ghost use Rattle.world_core.specs.Parts.{IsPartOf, IsSoundMessage, IsSoundSent};
 ghost use Rattle.world_core.specs.World.{accepted_message, served, appended, while_up, sending};
@@ -23,7 +22,7 @@ use chain_core::{Fate, LogAnswer};
 use delta_base::OutOfMemory;
 use disk_model::{PlanDisk, Planned};
 use log_base::LOG_LIMITS;
-use patch_log::{LogFault, LogRefusal, LogState, Ready, Run, append_made_run};
+use patch_log::{LogFault, LogRefusal, LogState, Ready, Run, append_made};
 use std::alloc::Global;
 
 /// The number of the log's file.
@@ -85,15 +84,15 @@ fn append_by_plan(
         (doubt : Option (List OnePatch)) → Runs log.old runs doubt
         → (after : List (List OnePatch)) × (left : Option (List OnePatch))
         × Runs log.new after left
-        × (run_stay LOG_LIMITS (up runs doubt) (bare_run run.now) (run_as doubt fate)
+        × (run_stay LOG_LIMITS (up runs doubt) run.now (run_as doubt fate)
         ≡ (up after left, Some answer))) }
     ensures counted { IfOk result (λ answer. (version : ℕ) → answer ≡ LogAnswer.Accepted version
-        → length (bare_run run.now) ≤ version) }
+        → length run.now ≤ version) }
 {
     let plan = failing_sync(log.is_settled(), fate);
     log.plan(plan);
-    let made = Ready::of_run(alloc, run, 1);
-    let answer = append_made_run(log, run, made);
+    let made = Ready::of(alloc, run.copy()?, 1);
+    let answer = append_made(log, made);
     if answer == LogAnswer::OutOfMemory || log.is_short() {
         return Err(OutOfMemory);
     }
@@ -114,12 +113,12 @@ fn stop_by(fate: Fate, answer: LogAnswer) -> Option<bool>
 // The message that the answer to a run sends.
 fn message_of(run: &Run, answer: LogAnswer) -> Option<Message>
     requires counted { (version : ℕ) → answer ≡ LogAnswer.Accepted version
-        → length (bare_run run.now) ≤ version }
+        → length run.now ≤ version }
     ensures sound { IsSoundSent result }
     ensures told { result
-        ≡ accepted_message (option_map (as_run (length (bare_run run.now))) (Some answer)) }
+        ≡ accepted_message (option_map (as_run (length run.now)) (Some answer)) }
 {
-    match answer.as_run(run.patches().len() as u32) {
+    match answer.as_run(run.count()) {
         LogAnswer::AcceptedRun { first, version } => Some(Message::Accepted { first, version }),
         _ => None,
     }
@@ -135,8 +134,8 @@ fn append_as(
     ensures sound { IfOk result (λ sent. IsSoundSent sent.1) }
     ensures part { IfOk result (λ sent. (runs : List (List OnePatch))
         (doubt : Option (List OnePatch)) → Runs log runs doubt
-        → let stayed = run_stay LOG_LIMITS (up runs doubt) (bare_run run.now) fate in
-        let sending = appended (length (bare_run run.now)) stayed in
+        → let stayed = run_stay LOG_LIMITS (up runs doubt) run.now fate in
+        let sending = appended (length run.now) stayed in
         IsPartOf sent.0 sending.0 × (sent.1 ≡ sending.1)) }
 {
     let mut log = log;

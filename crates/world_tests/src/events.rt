@@ -2,8 +2,8 @@
 ghost use Rattle.std.specs.Prelude.{◌<◌};
 
 use chain_core::Fate;
-use delta_base::{Id, Listing, id_text};
-use patch_log::{Run, check_run};
+use delta_base::{Bytes, Id, Listing, id_text};
+use patch_log::{Run, read_run};
 use patch_meaning::{Checked, check_patch};
 use std::alloc::Global;
 use std::test::Fail;
@@ -79,7 +79,7 @@ pub fn run_of(alloc: Global, ids: &[Id], prev: Option<Id>) -> Result<Run, Fail> 
         push_rows(&mut text, *id, before)?;
         before = Some(*id);
     }
-    match check_run(alloc, &text) {
+    match read_run(alloc, Bytes::from_vec(text)) {
         Ok(run) => Ok(run),
         Err(_) => Err(Fail::from("no run")),
     }

@@ -1,11 +1,10 @@
 //! What events make of a world, computed plainly by the cases of the definition. Patches are told
 //! by their links.
 use crate::events::values_of;
-use chain_core::Fate;
+use chain_core::{Fate, Patch};
 use delta_base::Id;
 use log_base::{ChainLink, Phase};
 use patch_log::Run;
-use patch_meaning::Checked;
 use std::alloc::Global;
 use std::test::Fail;
 use world_core::{WorldEvent, WorldEvents};
@@ -35,10 +34,10 @@ pub struct Plain {
     pub pool: Vec<Note>,
 }
 
-fn link_of(patch: &Checked) -> ChainLink {
+fn link_of(patch: &Patch) -> ChainLink {
     ChainLink {
-        id: patch.id(),
-        prev: patch.prev(),
+        id: patch.id,
+        prev: patch.prev,
     }
 }
 

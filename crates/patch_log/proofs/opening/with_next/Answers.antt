@@ -7,5 +7,5 @@ use Rattle.patch_log.proofs.opening.with_next.Goals as goal
 
 pub push_run-requires-clause-kept : goal.push_run-requires-clause-kept
 push_run-requires-clause-kept c =
-    subst (λ (es : List Entry). IsBoundedChain (es ++ entries_of c.in_ok-run.run'.items 0)) (sym c.reserve.ensures.items)
-    (next_kept c.args.chain.items c.args.text c.args.most c.in_ok-run.run'.items c.next_run.ensures.kept c.in_ok-run.ensures.ok c.ranges.most.fits)
+    subst (λ (es : List Entry). IsBoundedChain (es ++ entries_of c.in_ok-run.run' 0)) (sym c.reserve.ensures.items)
+    (next_kept c.args.chain.items c.args.text c.args.most c.in_ok-run.run' c.next_run.ensures.kept c.in_ok-run.ensures.ok c.ranges.most.fits)

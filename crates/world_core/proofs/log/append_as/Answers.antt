@@ -3,7 +3,6 @@ use Rattle.chain_core.specs.declared.chain.Patch.{Patch}
 use Rattle.chain_core.specs.Decision.{run_decision}
 use Rattle.chain_core.specs.Runs.{patches_in}
 use Rattle.chain_core.specs.Stay.{Outcome}
-use Rattle.patch_log.specs.Ready.{bare_run}
 use Rattle.log_base.specs.declared.limits.TheConstants.{LOG_LIMITS}
 use Rattle.world_core.specs.declared.log.LogPart.TheVariants.{Up, Down}
 use Rattle.world_core.specs.Parts.{IsPartOf}
@@ -13,7 +12,7 @@ use Rattle.world_core.proofs.log.append_as.Goals as goal
 
 pub returns-in_ok-stop-in-Some-clause-part : goal.returns-in_ok-stop-in-Some-clause-part
 returns-in_ok-stop-in-Some-clause-part c runs doubt is =
-    let patches = bare_run c.args.run.now in
+    let patches = c.args.run.now in
     let went = c.in_ok-answer.ensures.stay runs doubt is in
     let as_run = decided_as_run runs patches (run_decision (patches_in runs) patches LOG_LIMITS) c.args.fate doubt went.0 went.1 c.in_ok-answer.answer went.3 in
     let outcome = as_run.0 c.in-Some.opened (sym c.stop_by.ensures ∙ c.in-Some.is) in
@@ -21,7 +20,7 @@ returns-in_ok-stop-in-Some-clause-part c runs doubt is =
 
 pub returns-in-None-clause-part : goal.returns-in-None-clause-part
 returns-in-None-clause-part c runs doubt is =
-    let patches = bare_run c.args.run.now in
+    let patches = c.args.run.now in
     let went = c.in_ok-answer.ensures.stay runs doubt is in
     let as_run = decided_as_run runs patches (run_decision (patches_in runs) patches LOG_LIMITS) c.args.fate doubt went.0 went.1 c.in_ok-answer.answer went.3 in
     let outcome = as_run.1 (sym c.stop_by.ensures ∙ c.in-None.is) in

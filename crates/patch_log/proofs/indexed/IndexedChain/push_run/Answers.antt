@@ -1,16 +1,11 @@
-use Rattle.std.proofs.Common.{◌≡◌, ℕ, ◌-◌, List, [], ◌∷◌, ◌++◌, length, sym, ◌∙◌, ap, subst, length-append, append_assoc, arith}
+use Rattle.std.proofs.Common.{◌≡◌, ℕ, ◌-◌, List, [], ◌∷◌, ◌++◌, length, sym, ◌∙◌, ap, subst, append_assoc, arith}
 use Rattle.std.specs.Vec.Iter.{into_iter_items}
 use Rattle.chain_core.specs.declared.chain.Entry.{Entry}
 use Rattle.chain_core.specs.declared.chain.Patch.{Patch}
 use Rattle.chain_core.specs.Chain.{IsBoundedChain}
 use Rattle.chain_core.specs.Runs.{entries_of}
-use Rattle.chain_core.proofs.Runs.{length-run}
 use Rattle.patch_log.proofs.Checking.{bounded_front}
 use Rattle.patch_log.proofs.indexed.IndexedChain.push_run.Goals as goal
-
-pub overflow_cast-rest : goal.overflow_cast-rest
-overflow_cast-rest c =
-    omega (arith, c.len-rest.ensures, c.requires.kept.few, length-append c.args.self.now.items (entries_of c.args.run.items c.args.by), length-run c.args.run.items c.args.by)
 
 -- the entry that is pushed, and those that are left
 split : (entries : List Entry) (patch : Patch) (rest : List Patch) (left : List Patch) (by count : ℕ) (whole : List Entry) → entries ++ entries_of left by ≡ whole → left ≡ patch ∷ rest → count ≡ length left
@@ -25,5 +20,5 @@ pub push-requires-clause-kept : goal.push-requires-clause-kept
 push-requires-clause-kept c =
     let so = c.loop-patch.invariant in
     let rest = into_iter_items c.next.new.self in
-    let whole = split c.loop-patch.self.items c.in-Some.patch rest (into_iter_items c.loop-patch.patch-iterator) c.args.by c.loop-patch.rest (c.args.self.now.items ++ entries_of c.args.run.items c.args.by) so.items c.in-Some.ensures.steps.0 so.rest in
+    let whole = split c.loop-patch.self.items c.in-Some.patch rest (into_iter_items c.loop-patch.patch-iterator) c.args.by c.loop-patch.rest (c.args.self.now.items ++ entries_of c.args.run c.args.by) so.items c.in-Some.ensures.steps.0 so.rest in
     bounded_front (c.loop-patch.self.items ++ record { patch = c.in-Some.patch; by = c.args.by; rest = c.loop-patch.rest - 1 } ∷ []) (entries_of rest c.args.by) (subst IsBoundedChain (sym whole) c.requires.kept)

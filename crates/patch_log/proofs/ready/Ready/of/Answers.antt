@@ -1,14 +1,15 @@
-use Rattle.std.proofs.Common.{◌≡◌, [], ◌∷◌, ◌++◌, List, sym, ap, subst, ◌∙◌}
+use Rattle.std.proofs.Common.{◌≤◌, List, length, sym, ap, subst, ◌∙◌}
+use Rattle.log_base.specs.declared.limits.TheConstants.{PATCH_LIMIT}
 use Rattle.chain_core.specs.declared.chain.Patch.{Patch}
-use Rattle.patch_log.specs.Log.{bare}
-use Rattle.patch_log.specs.Ready.{IsReady}
-use Rattle.patch_log.proofs.Sound.{ready_alone}
+use Rattle.chain_core.specs.Runs.{run_text}
 use Rattle.patch_log.proofs.ready.Ready.of.Goals as goal
 
+pub block_of-requires : goal.block_of-requires
+block_of-requires c =
+    subst (λ (ps : List Patch). length (run_text ps) ≤ PATCH_LIMIT) (sym (c.as_slice.ensures ∙ c.patches.ensures.patches)) c.patches.ensures.sound.read.short
+
 pub invariant_of-result : goal.invariant_of-result
-invariant_of-result c =
-    let patch = c.args.patch.now in
-    let items : c.push.new.self.items ≡ bare patch ∷ [] =
-    c.in_ok-push.ensures.ok ∙ ap (λ (ps : List Patch). ps ++ c.in_ok-bare_copy.field-0 ∷ []) c.new-patches.ensures ∙ ap (λ (p : Patch). p ∷ []) c.in_ok-bare_copy.ensures in
-    subst (λ (run : List Patch). IsReady run c.in_ok-block.block) (sym items)
-    (ready_alone patch c.in_ok-block.block c.text.ensures.is_patch (c.in_ok-block.ensures ∙ c.as_slice.ensures ∙ c.text.ensures.text))
+invariant_of-result c = record {
+  block_is = c.in-Ok.ensures ∙ ap run_text (c.as_slice.ensures ∙ c.patches.ensures.patches);
+  sound = c.patches.ensures.sound;
+}

@@ -1,7 +1,7 @@
 use Rattle.std.proofs.Common.{[], sym, ◌∙◌, arith}
 use Rattle.patch_log.specs.RunFaults.{breaks}
 use Rattle.patch_log.proofs.Checking.{breaks_there, if_none, if_some, length-links_to, links_to, tested_there}
-use Rattle.patch_log.proofs.run.check_links.Goals as goal
+use Rattle.patch_log.proofs.reading.check_links.Goals as goal
 
 pub returns-then-is_some-clause-fault : goal.returns-then-is_some-clause-fault
 returns-then-is_some-clause-fault c =
