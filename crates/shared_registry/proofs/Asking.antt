@@ -15,7 +15,7 @@ use Rattle.turn_cell.specs.Sights.{Made, Taken}
 use Rattle.turn_cell.specs.Knowing.{IsSame, Wants, IsQuiet, pass_number, seen_of}
 use Rattle.turn_cell.specs.Sharing.{IsPassOf, EntersTurn, LeavesTurn, InTurn, FoundInTurn}
 use Rattle.turn_cell.proofs.Knowing.{quiet_on}
-use Rattle.turn_cell.proofs.Staying.{stay_told}
+use Rattle.turn_cell.proofs.Staying.{finds, stay_told}
 use Rattle.turn_cell.proofs.Views.{prefix_trans}
 use Rattle.shared_registry.specs.declared.names.Names.{Names}
 use Rattle.shared_registry.specs.declared.value.RegistryFixed.{RegistryFixed}
@@ -64,7 +64,7 @@ module _ {D : Type 0} (disks : Ghosts D) where
   behind origin p m n q held of same quiet longer enters leaves =
       let Kept : StateView D → StateView D → Type 0 = λ found left. left ≡ found in
       earlier Kept origin.origin p m q quiet longer
-      (stay_told (shared_registry disks) m n q held held enters leaves refl Kept origin (same.0.0 ∙ of.0, (same.1 ∙ of.1.0, same.2 ∙ of.1.1), same.0.3 ∙ of.2) enters.value (λ i. registry_fixed_of disks.mark (enters.value i)))
+      (stay_told (shared_registry disks) m n q held.was held (finds (shared_registry disks) m n held enters) leaves refl Kept origin (same.0.0 ∙ of.0, (same.1 ∙ of.1.0, same.2 ∙ of.1.1), same.0.3 ∙ of.2) enters.value (λ i. registry_fixed_of disks.mark (enters.value i)))
 
   -- a look-up that replies what the pass then has seen
   pub looked_up : (origin : StateView D) (p q : RegistrySight) (call : RegistryCall) (reply : RegistryReply) → Wants p q → FoundInTurn (shared_registry disks) origin p q ⊎ (seen_of q ≡ seen_of p)

@@ -71,18 +71,21 @@ module _ {D : Type 0} (disks : Ghosts D) (origin : Made (StateView D)) (p m q : 
   abbrev after : StateView D
   after = back.value
 
+  came : stay.Finds (shared_registry disks) p was m
+  came = stay.finds (shared_registry disks) p m held enters
+
   e : Entered p m
-  e = stay.entered (shared_registry disks) p m q held back enters leaves same_was
+  e = came.entered
 
   fixed : registry_fixed_of disks.mark was ≡ registry_fixed_of disks.mark origin.origin
-  fixed = stay.fixed_found (shared_registry disks) p m q held back enters leaves same_was origin of
+  fixed = stay.fixed_found (shared_registry disks) p m q was back came leaves same_was origin of
 
   slots_same : was.slots ≡ origin.origin.slots
   slots_same = ap (λ (f : RegistryFixed). f.slots) fixed
 
   on : SeesOn p q
   on = let grown = grows_of disks was after call (pass_number p) reply called in
-      stay.sees (shared_registry disks) p m q held back enters leaves same_was (grown.0, sym grown.1)
+      stay.sees (shared_registry disks) p m q was back came leaves same_was (grown.0, sym grown.1)
 
   doubt : Adds was.doubt after.doubt m.view.failed q.view.failed
   doubt = subst (λ (w : StateView D). Adds w.doubt after.doubt m.view.failed q.view.failed) same_was leaves.failed
@@ -129,5 +132,5 @@ module _ {D : Type 0} (disks : Ghosts D) (origin : Made (StateView D)) (p m q : 
   pub turned : DoesOnRegistry disks (pass_number p) call reply was after → (StayOnRegistry disks origin.origin call reply p q → HasRegistryStay disks origin.origin call reply p q) → CalledOnRegistry disks origin.origin p call reply q
   turned did has = record {
     legal = (on, told_by (ending call reply) called.changed.stays called.replies called.changed.went.cause reaches);
-    stay = has (stay.stay_told (shared_registry disks) p m q held back enters leaves same_was (λ found left. DoesOnRegistry disks (pass_number p) call reply found left) origin of did (fixed_still disks was after call (pass_number p) reply called));
+    stay = has (stay.stay_told (shared_registry disks) p m q was back came leaves same_was (λ found left. DoesOnRegistry disks (pass_number p) call reply found left) origin of did (fixed_still disks was after call (pass_number p) reply called));
   }

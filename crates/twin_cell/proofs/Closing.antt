@@ -88,6 +88,7 @@ module _ {C X F W R : Type 0} (stands : W → List (Known C) → Type 0) (fault_
       each_promise = λ j v p. let l = lone first v j p in subst (IsPromised 0) l.1 (λ t y e. let q : ◌≡◌ {A = Stage (Published C X)} Outside (Inside t y) = e in cc);
       known = first_known (doubt_of work);
       test = subst fits same test;
+      backed = (work, subst (stands work) same stands_now, refl);
       few = omega arith;
       untouched = λ _. (refl, refl);
     };

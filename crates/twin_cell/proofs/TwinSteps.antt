@@ -26,7 +26,7 @@ use Rattle.turn_cell.proofs.Doubts.{Apart, adds, own_below, known_after, same_st
 use Rattle.turn_cell.proofs.Views.{prefix_refl, still_leads, others_fit, known_still, view_there, all_map, all_append, places_beside, same_view, no_places, not_spent, last_at, at_below}
 use Rattle.twin_cell.specs.declared.parts.Kept.{Kept}
 use Rattle.twin_cell.specs.declared.parts.Kept.TheVariants.{Work, Items, Nothing}
-use Rattle.twin_cell.specs.Twins.{Cells, words_of, homes_of, as_offered, list_of, IsPromised, IsListOf, IsWorkOf, RuleOfTwin, HoldsTwinRule}
+use Rattle.twin_cell.specs.Twins.{Cells, words_of, homes_of, as_offered, list_of, IsPromised, IsListOf, IsWorkOf, IsBacked, RuleOfTwin, HoldsTwinRule}
 use Rattle.twin_cell.specs.Steps.{InList, Agrees, at_list, in_work, DrawsWork, DrawsList, HandsOnWork, CountsList, LooksList, published, PublishesList, HandsOnList, LooksWork, reported, ReportsWork}
 
 module _ {C X F W R : Type 0} (stands : W → List (Known C) → Type 0) (fault_count : W → ℕ) (doubt_of : W → Option X) (fixed : W → F) (entries : R → List (Known C)) (spare : R → ℕ) (fits : List (Known C) → Type 0) (work : W) (list : R) (seats : ℕ) where
@@ -53,6 +53,9 @@ module _ {C X F W R : Type 0} (stands : W → List (Known C) → Type 0) (fault_
 
   abbrev pub ListKind : Offered C → S → Type 0
   ListKind = IsListOf entries spare
+
+  abbrev pub Backs : Option F → List (Known C) → Type 0
+  Backs = IsBacked stands fixed
 
   abbrev pub Fit : List V → List (Known C) → ℕ → ℕ → V → Role → Type 0
   Fit vs log q = FitsRole (λ f. fits) (fixed work) vs log q
@@ -98,11 +101,11 @@ module _ {C X F W R : Type 0} (stands : W → List (Known C) → Type 0) (fault_
 
     -- a step of the seat
     goes_on : (w : V) (later : List (Known C)) (c' : Cells S) (d' : Option X) (promised : ℕ) → w.role ≡ Pass → IsPrefix log (opening ++ later) → ((k : ℕ) → k ≢ id + 1 → places_by k (opening ++ later) ≡ places_by k log)
-        → AllOf (λ (e : Known C). (0 < e.by) × (e.by ≤ length vs)) later → c.faults ≤ c'.faults → Knowing (opening ++ later) c'.faults id w → w.next ≡ v.next → w.past ≡ v.past → IsKnown (doubt_of work) (set vs id w) d' → fits (opening ++ later) → c'.count ≡ length (opening ++ later)
+        → AllOf (λ (e : Known C). (0 < e.by) × (e.by ≤ length vs)) later → c.faults ≤ c'.faults → Knowing (opening ++ later) c'.faults id w → w.next ≡ v.next → w.past ≡ v.past → IsKnown (doubt_of work) (set vs id w) d' → fits (opening ++ later) → Backs (Some (fixed work)) (opening ++ later) → c'.count ≡ length (opening ++ later)
         → Lane WorkKind c'.ticket c'.serving c'.work_home (set stages id w.stage) (as_published (opening ++ later) c'.faults d')
         → Lane ListKind c'.list_ticket c'.list_serving c'.list_home (set lists id w.list) (as_offered (opening ++ later) promised)
         → IsPromised promised w → ((j : ℕ) (u : V) → j ≢ id → get_elem? vs j ≡ home.some u → IsPromised promised u) → (w.turns ≡ 0 → (v.turns ≡ 0) × (c'.work_home ≡ c.work_home) × (c'.list_home ≡ c.list_home)) → Ruled c' (set vs id w)
-    goes_on w later c' d' promised role longer beside those more mine next past known test count lane list_lane own others untouched =
+    goes_on w later c' d' promised role longer beside those more mine next past known test back count lane list_lane own others untouched =
         let lead : Leads (set vs id w) (opening ++ later) c'.faults id w = still_leads vs id v w at is_pass (λ f. fits) (fixed work) log (opening ++ later) c.faults c'.faults longer beside more id w (subst (λ (z : ℕ × List (TakenIn C X)). (0 < z.0 → (id + 1 ≡ length vs) × (z.0 ≡ length vs + 1)) × AllOf (FitsPast vs log c.faults) z.1) (λ i. (sym next i, sym past i)) fit.1) in record {
           later = later;
           doubt = d';
@@ -122,6 +125,7 @@ module _ {C X F W R : Type 0} (stands : W → List (Known C) → Type 0) (fault_
               (at_set vs id j w u p);
           known = known;
           test = test;
+          backed = back;
           few = let f = r.few in let l = length-set vs id w in omega arith;
           untouched = λ all. let now : IsFresh w = all id w (view_there vs id v w at) in let was = untouched now.0 in
               let still = r.untouched (λ j u p. dite (ℕ_discrete j id)
@@ -137,7 +141,7 @@ module _ {C X F W R : Type 0} (stands : W → List (Known C) → Type 0) (fault_
         → Ruled (record c { ticket = t'; serving = s'; list_ticket = lt'; list_serving = ls'; work_home = h'; list_home = lh' }) (set vs id w)
     quiet w t' s' lt' ls' h' lh' promised role failed past mine next lane list_lane own others untouched =
         let known = known_still vs id v w at is_pass (doubt_of work) r.doubt (λ d k. subst (λ (z : List X × List (TakenIn C X)). IsIn d z.0 ⊎ IsFailedOf d z.1) (λ i. (sym failed i, sym past i)) k) r.known in
-        goes_on w r.later (record c { ticket = t'; serving = s'; list_ticket = lt'; list_serving = ls'; work_home = h'; list_home = lh' }) r.doubt promised role (prefix_refl log) (λ _ _. refl) r.later_ones (le_refl c.faults) mine next past known r.test r.count_is lane list_lane own others untouched
+        goes_on w r.later (record c { ticket = t'; serving = s'; list_ticket = lt'; list_serving = ls'; work_home = h'; list_home = lh' }) r.doubt promised role (prefix_refl log) (λ _ _. refl) r.later_ones (le_refl c.faults) mine next past known r.test r.backed r.count_is lane list_lane own others untouched
 
     pub stage_at : (x : Stage (Published C X)) → v.stage ≡ x → get_elem? stages id ≡ home.some x
     stage_at x e = at_map stage_of vs id v at ∙ ap home.some e
@@ -295,20 +299,20 @@ module _ {C X F W R : Type 0} (stands : W → List (Known C) → Type 0) (fault_
       ))
 
   abbrev pub LookedList : ℕ → M → ℕ → M → Type 0
-  LookedList slots me = LooksList {W = W} entries spare (step slots 3 0 0 home.none) me
+  LookedList slots me = LooksList stands fixed entries spare (step slots 3 0 0 home.none) me
 
-  takes_list : (slots id : ℕ) (me : M) (u : ℕ) (c : Cells S) (vs : List V) → me.0.list ≡ Waiting u → c.list_serving ≡ u % 2 ^ 64 → (y : Offered C) (o : S) → c.list_home ≡ home.some o → ListKind y o → Agrees me.0.stage me.0.spare y
+  takes_list : (slots id : ℕ) (me : M) (u : ℕ) (c : Cells S) (vs : List V) → me.0.list ≡ Waiting u → c.list_serving ≡ u % 2 ^ 64 → (y : Offered C) (o : S) → c.list_home ≡ home.some o → ListKind y o → Agrees me.0.stage me.0.spare y → Backs me.0.fixed y.entries
       → Ruled (record c { list_home = home.none }) (set vs id (at_list me.0 (Inside u y))) → Goes id me 3 (λ k. k) (LookedList slots me) (words_of c) (homes_of c) vs
-  takes_list slots id me u c vs stage hit y (Work w) is k agree r = absurd k
-  takes_list slots id me u c vs stage hit y (Items x) is stands_here agree r = (
+  takes_list slots id me u c vs stage hit y (Work w) is k agree back r = absurd k
+  takes_list slots id me u c vs stage hit y (Items x) is stands_here agree back r = (
     at_list me.0 (Inside u y),
     takes 1 (Items x),
     ap home.some is,
     holds (record c { list_home = home.none }) (set vs id (at_list me.0 (Inside u y))) r,
     λ u' e. let q : Waiting u ≡ Waiting u' = sym stage ∙ e in let same : u ≡ u' = cc in
-        ((λ miss. absurd (miss (hit ∙ ap (λ (k : ℕ). k % 2 ^ 64) same))), λ _. (x, y, stands_here, agree, ap (λ (k : ℕ). (at_list me.0 (Inside k y), (1, Items x) ∷ me.1)) same)),
+        ((λ miss. absurd (miss (hit ∙ ap (λ (k : ℕ). k % 2 ^ 64) same))), λ _. (x, y, stands_here, agree, ap (λ (k : ℕ). (at_list me.0 (Inside k y), (1, Items x) ∷ me.1)) same, back)),
   )
-  takes_list slots id me u c vs stage hit y Nothing is k agree r = absurd k
+  takes_list slots id me u c vs stage hit y Nothing is k agree back r = absurd k
 
   pub looks_list : seats ≤ 16 → (slots id : ℕ) (me : M) (u : ℕ) → me.0.role ≡ Pass → me.0.list ≡ Waiting u → Allows H slots id me 3 (λ k. k) (LookedList slots me)
   looks_list few_seats slots id me u is_pass stage = moves slots id me 3 (λ k. k) (LookedList slots me) (λ c vs r at.
@@ -316,7 +320,8 @@ module _ {C X F W R : Type 0} (stands : W → List (Known C) → Type 0) (fault_
       dite (ℕ_discrete c.list_serving (u % 2 ^ 64))
       (λ hit. let f = r.few in let count : length (map list_of vs) ≡ length vs = length-map vs list_of in
       let l = lanes.takes_turn ListKind c.list_ticket c.list_serving c.list_home (map list_of vs) y r.list_lane id u (list_at c vs r id me.0 at is_pass (Waiting u) stage) hit (omega arith) in
-      takes_list slots id me u c vs stage hit y l.0 l.1 l.2 (agrees c vs r id me.0 at is_pass me.0.stage refl)
+      let b = r.backed in
+      takes_list slots id me u c vs stage hit y l.0 l.1 l.2 (agrees c vs r id me.0 at is_pass me.0.stage refl) (b.0, b.1, (fit c vs r id me.0 at is_pass).0.4 ∙ b.2)
       (on_list c vs r id me.0 at is_pass (Inside u y) me.0.spare c.list_ticket c.list_serving home.none r.promised (le_refl 1) (drew_list c vs r id me.0 at is_pass (Waiting u) stage) l.3 (r.each_promise id me.0 at) (promises c vs r id me.0 at is_pass)))
       (λ miss. (
         me.0,
@@ -376,9 +381,9 @@ module _ {C X F W R : Type 0} (stands : W → List (Known C) → Type 0) (fault_
       ))
 
   pub publishes : (slots id : ℕ) (me : M) (x : R) (others : List (ℕ × S)) (t u : ℕ) (y : Published C X) (o : Offered C) (new : List (Known C)) → me.1 ≡ (1, Items x) ∷ others → me.0.role ≡ Pass → me.0.stage ≡ Inside t y → me.0.list ≡ Inside u o
-      → entries x ≡ y.entries ++ new → AllOf (λ (e : Known C). e.by ≡ me.0.number) new → fits (entries x) → (k : ℕ) → k ≡ length (entries x)
+      → entries x ≡ y.entries ++ new → AllOf (λ (e : Known C). e.by ≡ me.0.number) new → fits (entries x) → Backs me.0.fixed (entries x) → (k : ℕ) → k ≡ length (entries x)
       → Allows H slots id me 4 (λ _. k) (PublishesList entries spare (step slots 4 k 0 home.none) me)
-  publishes slots id me x others t u y o new carried is_pass stage stage_list grown own test k k_is = moves slots id me 4 (λ _. k) (PublishesList entries spare (step slots 4 k 0 home.none) me) (λ c vs r at.
+  publishes slots id me x others t u y o new carried is_pass stage stage_list grown own test back k k_is = moves slots id me 4 (λ _. k) (PublishesList entries spare (step slots 4 k 0 home.none) me) (λ c vs r at.
       let v : V = me.0 in let g = (fit c vs r id v at is_pass).0 in
       let in_stage = stage_at c vs r id v at is_pass (Inside t y) stage in
       let y_is : y ≡ here c vs r id v at is_pass = knows_here c vs r id v at is_pass t y stage in
@@ -400,13 +405,14 @@ module _ {C X F W R : Type 0} (stands : W → List (Known C) → Type 0) (fault_
       let some : 1 + tickets v.list ≤ v.turns = drew c vs r id v at is_pass (Inside t y) stage in
       let both : 2 ≤ v.turns = subst (λ (z : Stage (Offered C)). 1 + tickets z ≤ v.turns) stage_list some in
       let mine : Knowing (opening ++ later) c.faults id w = (g.0, ([], append-nil (entries x) ∙ all), ap (places_by v.number) (sym all), g.3, g.4, test, both) in
-      let tested : fits (opening ++ later) = subst fits all test in (
+      let tested : fits (opening ++ later) = subst fits all test in
+      let backed : Backs (Some (fixed work)) (opening ++ later) = (back.0, subst (stands back.0) all back.1, sym g.4 ∙ back.2) in (
         w,
         keeps,
         tt,
         holds c' (set vs id w)
             (goes_on c vs r id v at is_pass w later c' r.doubt (spare x) is_pass longer beside those (le_refl c.faults) mine refl refl
-            (known_still vs id v w at is_pass (doubt_of work) r.doubt (λ d z. z) r.known) tested (k_is ∙ ap length all) lane list_lane (λ _ _ _. le_refl (spare x)) (unpromised c vs r id v at is_pass t y stage (spare x)) (λ none. absurd (omega arith))),
+            (known_still vs id v w at is_pass (doubt_of work) r.doubt (λ d z. z) r.known) tested backed (k_is ∙ ap length all) lane list_lane (λ _ _ _. le_refl (spare x)) (unpromised c vs r id v at is_pass t y stage (spare x)) (λ none. absurd (omega arith))),
         λ t' u' y' o' x' e f l. let a = same_stay t t' y y' (sym stage ∙ e) in let b = same_stay u u' o o' (sym stage_list ∙ f) in let d = same_items x x' others (rest me.1) me.1 carried l in (λ i. (published entries spare v (d i) (a.0 i) (a.1 i) (b.0 i), me.1)),
       ))
 
@@ -433,7 +439,7 @@ module _ {C X F W R : Type 0} (stands : W → List (Known C) → Type 0) (fault_
         tt,
         holds c' (set vs id w)
             (goes_on c vs r id v at is_pass w r.later c' (doubt_of x) r.promised is_pass (prefix_refl all) (λ _ _. refl) r.later_ones (omega arith) mine refl refl
-            (known_after (doubt_of work) vs id v w at is_pass refl y.doubt (doubt_of x) a.1 (subst (IsKnown (doubt_of work) vs) (sym d_is) r.known)) r.test r.count_is lane (list_still c vs r id v at is_pass)
+            (known_after (doubt_of work) vs id v w at is_pass refl y.doubt (doubt_of x) a.1 (subst (IsKnown (doubt_of work) vs) (sym d_is) r.known)) r.test r.backed r.count_is lane (list_still c vs r id v at is_pass)
             (λ t z e. r.each_promise id v at u y stage) (promises c vs r id v at is_pass) (λ none. absurd (omega arith))),
         λ u' y' x' e l. let b = same_stay u u' y y' (sym stage ∙ e) in let o = same_work x x' others (rest me.1) me.1 carried l in
             subst (λ (z : ℕ × Published C X × W). (c.faults ≡ z.1.faults) × (v.own_faults ≤ c.faults) × ((failed : List X) × Adds z.1.doubt (doubt_of z.2) v.failed failed × ◌≡◌ {A = M} (w, me.1) (reported fault_count doubt_of v z.2 z.0 z.1 failed, me.1))) (λ i. (b.0 i, b.1 i, o i))
@@ -512,6 +518,7 @@ module _ {C X F W R : Type 0} (stands : W → List (Known C) → Type 0) (fault_
           (last_at first_part (newcomer v) u j p);
       known = known_with_new r.doubt r.known;
       test = r.test;
+      backed = r.backed;
       few = omega arith;
       untouched = λ every. r.untouched (λ j u p. dite (ℕ_discrete j id)
           (λ e. subst IsFresh (sym (same_view vs j id u v e p at)) (every id (dealt v) (at_longer first_part (newcomer v ∷ []) id (dealt v) (view_there vs id v (dealt v) at))))
@@ -606,6 +613,7 @@ module _ {C X F W R : Type 0} (stands : W → List (Known C) → Type 0) (fault_
           (at_set kept other j spent u p);
       known = known_left r.doubt r.known;
       test = r.test;
+      backed = r.backed;
       few = let l = r.few in omega arith;
       untouched = λ every. let both = every id (taken_in v w) dealer_left in r.untouched (λ j u p. dite (ℕ_discrete j id)
           (λ e. subst IsFresh (sym (same_view vs j id u v e p at)) (both.0, both.1.1))

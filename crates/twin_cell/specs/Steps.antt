@@ -16,7 +16,7 @@ use Rattle.turn_cell.specs.Steps.{at_stage, InTurn}
 use Rattle.twin_cell.specs.declared.parts.Kept.{Kept}
 use Rattle.twin_cell.specs.declared.parts.Kept.TheVariants.{Work, Items}
 use Rattle.twin_cell.specs.declared.rule.Making.{Making}
-use Rattle.twin_cell.specs.Twins.{IsListOf, IsWorkOf, as_offered}
+use Rattle.twin_cell.specs.Twins.{IsListOf, IsWorkOf, IsBacked, as_offered}
 
 module _ {S V : Type 0} where
   -- a seat of a twin's cell, which has six words and at most 16 seats
@@ -95,15 +95,19 @@ module _ {C X F : Type 0} where
         × (length log ≡ found) × IsPrefix m.0.seen log × (places_by m.0.number log ≡ m.0.mine)
         × InTurn m.0.stage log × InList m.0.list log × fits log × (st.word ≡ 4)
 
-  module _ {W R : Type 0} (entries : R → List (Known C)) (spare : R → ℕ) where
-    -- the seat's ticket is served, and it has the list; or nothing changed
+  module _ {W R : Type 0} (stands : W → List (Known C) → Type 0) (fixed : W → F)
+      (entries : R → List (Known C)) (spare : R → ℕ) where
+    -- The seat's ticket is served, and it has the list, for whose entries a work of the cell's
+    -- fixed part stands; or nothing changed.
     abbrev pub LooksList : TellsTwin C X F W R
     LooksList st m found n =
         (t : ℕ) → m.0.list ≡ Waiting t → (found ≢ t % 2 ^ 64 → n ≡ m)
         × (found ≡ t % 2 ^ 64
         → (l : R) × (o : Offered C) × IsListOf {W = W} entries spare o (Items l)
-        × Agrees m.0.stage m.0.spare o × (n ≡ (at_list m.0 (Inside t o), (1, Items l) ∷ m.1)))
+        × Agrees m.0.stage m.0.spare o × (n ≡ (at_list m.0 (Inside t o), (1, Items l) ∷ m.1))
+        × IsBacked stands fixed m.0.fixed o.entries)
 
+  module _ {W R : Type 0} (entries : R → List (Known C)) (spare : R → ℕ) where
     abbrev pub PublishesList : TellsTwin C X F W R
     PublishesList st m found n =
         (t u : ℕ) (y : Published C X) (o : Offered C) (l : R) → m.0.stage ≡ Inside t y

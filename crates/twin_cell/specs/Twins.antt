@@ -2,7 +2,7 @@
 -- It has two lanes, one for the work and one for the list, each with a ticket word, a serving word
 -- and a slot. The words are the ticket and the serving of the work, those of the list, the count
 -- and the faults; the slots are for the work and for the list.
-use Rattle.std.specs.Prelude.{◌≡◌, ℕ, ◌<◌, ◌≤◌, List, [], ◌∷◌, ◌++◌, map, length, Option}
+use Rattle.std.specs.Prelude.{◌≡◌, ℕ, ◌<◌, ◌≤◌, List, [], ◌∷◌, ◌++◌, map, length, Option, Some}
 use mathlib.Core.Option as home
 use lib.ListN.{get_elem?}
 use Rattle.atomic_table.specs.Table.{State}
@@ -56,6 +56,11 @@ module _ {C R W : Type 0} (entries : R → List (Known C)) (spare : R → ℕ) w
   IsListOf o (Items l) = (entries l ≡ o.entries) × (o.spare ≤ spare l)
   IsListOf o Nothing = ⊥
 
+module _ {C F W : Type 0} (stands : W → List (Known C) → Type 0) (fixed : W → F) where
+  -- a work with this fixed part stands for these entries
+  abbrev pub IsBacked : Option F → List (Known C) → Type 0
+  IsBacked part es = (w : W) × stands w es × (part ≡ Some (fixed w))
+
 module _ {C X F W R : Type 0} (stands : W → List (Known C) → Type 0) (fault_count : W → ℕ)
     (doubt_of : W → Option X) (fixed : W → F) where
   -- the work stands for the published history, faults and doubt
@@ -88,6 +93,8 @@ module _ {C X F W R : Type 0} (stands : W → List (Known C) → Type 0) (fault_
           (seat : ℕ) (v : View C X F) → get_elem? views seat ≡ home.some v → IsPromised promised v
       pub known : IsKnown (doubt_of work) views doubt
       pub test : fits (entries list ++ later)
+      -- entries are published only once the work stands for them
+      pub backed : IsBacked stands fixed (Some (fixed work)) (entries list ++ later)
       pub few : length views ≤ seats
       -- until a ticket is drawn, the work and the list are those of the making
       pub untouched :

@@ -8,7 +8,7 @@ ghost use Rattle.turn_cell.specs.Steps.{at_stage, StaysAt};
 ghost use Rattle.turn_cell.specs.Sights.{IsGrownBy};
 ghost use Rattle.twin_cell.specs.declared.parts.Kept.TheVariants.{Nothing as IsNothing};
 ghost use Rattle.twin_cell.specs.declared.parts.Kept.TheVariants.{Work as IsWork};
-ghost use Rattle.twin_cell.specs.Twins.{IsWorkOf};
+ghost use Rattle.twin_cell.specs.Twins.{IsWorkOf, IsBacked};
 ghost use Rattle.twin_cell.specs.Steps.{IsTwinSeat};
 
 use crate::parts::{Backed, Kept, Listed};
@@ -35,7 +35,8 @@ pub(crate) fn give_list<W: Backed<R>, R: Listed>(
     hand_on_list(cell, door, seat);
 }
 
-// Puts the list into its slot, publishes it and hands its turn on. The pass has the work too.
+// Puts the list into its slot, publishes it and hands its turn on. The pass has the work too, which
+// stands for it.
 pub(crate) fn tell<W: Backed<R>, R: Listed>(
     cell: &Cell<W, R>,
     door: &Door,
@@ -46,7 +47,8 @@ pub(crate) fn tell<W: Backed<R>, R: Listed>(
     requires turn { (t : ℕ) × (u : ℕ) × (y : _) × (o : _) × (seat.old.me.0.stage ≡ Inside t y)
         × (seat.old.me.0.list ≡ Inside u o)
         × (seat.old.me.1 ≡ (1, IsNothing) ∷ rest seat.old.me.1) × (seat.old.me.0.role ≡ Pass)
-        × IsGrownBy seat.old.me.0.number y.entries (R.entries list) × R.fits (R.entries list) }
+        × IsGrownBy seat.old.me.0.number y.entries (R.entries list) × R.fits (R.entries list)
+        × IsBacked W.stands W.fixed seat.old.me.0.fixed (R.entries list) }
     ensures same { StaysAt seat.old seat.new }
     ensures told { (t : ℕ) (y : _) → seat.old.me.0.stage ≡ Inside t y
         → seat.new.me ≡ (

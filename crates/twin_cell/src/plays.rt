@@ -32,7 +32,7 @@ pub(crate) struct LookList;
 impl<W: Backed<R>, R: Listed> Play<Kept<W, R>, View<R::Content, W::Doubt, W::Fixed>> for LookList {
     ghost use Rattle.twin_cell.specs.Steps.{LooksList};
 
-    ghost then = { LooksList R.entries R.spare };
+    ghost then = { LooksList W.stands W.fixed R.entries R.spare };
 }
 
 pub(crate) struct Count;

@@ -9,7 +9,7 @@ ghost use Rattle.turn_cell.specs.Steps.{at_stage, StaysAt};
 ghost use Rattle.turn_cell.specs.Sights.{IsGrownBy};
 ghost use Rattle.twin_cell.specs.declared.parts.Kept.TheVariants.{Work as IsWork};
 ghost use Rattle.twin_cell.specs.declared.parts.Kept.TheVariants.{Items as IsItems};
-ghost use Rattle.twin_cell.specs.Twins.{IsWorkOf};
+ghost use Rattle.twin_cell.specs.Twins.{IsWorkOf, IsBacked};
 ghost use Rattle.twin_cell.specs.Steps.{IsTwinSeat, DrawsWork, DrawsList, LooksWork, LooksList};
 ghost use Rattle.twin_cell.specs.Steps.{CountsList, PublishesList, ReportsWork};
 ghost use Rattle.twin_cell.specs.Steps.{HandsOnWork, HandsOnList};
@@ -88,7 +88,7 @@ pub(crate) fn look_list<W: Backed<R>, R: Listed>(cell: &Cell<W, R>, seat: &mut P
     requires cell { IsTwinSeat cell.now seat.old }
     requires waits { (seat.old.me.0.role ≡ Pass) × ((t : ℕ) × (seat.old.me.0.list ≡ Waiting t)) }
     ensures same { StaysAt seat.old seat.new }
-    ensures looked { LooksList R.entries R.spare
+    ensures looked { LooksList W.stands W.fixed R.entries R.spare
         (step cell.now.table_id.slots 3 0 0 none) seat.old.me result seat.new.me }
 {
     cell.load::<LookList>(seat, LIST_SERVING)
@@ -105,7 +105,7 @@ pub(crate) fn see<W: Backed<R>, R: Listed>(cell: &Cell<W, R>, seat: &mut Place<W
     cell.load::<Count>(seat, COUNT)
 }
 
-// Publishes the entries of the list in its slot. The seat has both turns.
+// Publishes the entries of the list in its slot, for which a work stands. The seat has both turns.
 pub(crate) fn publish<W: Backed<R>, R: Listed>(
     cell: &Cell<W, R>,
     seat: &mut Place<W, R>,
@@ -117,7 +117,8 @@ pub(crate) fn publish<W: Backed<R>, R: Listed>(
         × ((t : ℕ) × (u : ℕ) × (y : _) × (o : _) × (seat.old.me.0.stage ≡ Inside t y)
         × (seat.old.me.0.list ≡ Inside u o)
         × IsGrownBy seat.old.me.0.number y.entries (R.entries l) × R.fits (R.entries l))
-        × (count ≡ length (R.entries l)) }
+        × (count ≡ length (R.entries l))
+        × IsBacked W.stands W.fixed seat.old.me.0.fixed (R.entries l) }
     ensures same { StaysAt seat.old seat.new }
     ensures published { (found : ℕ) × PublishesList R.entries R.spare
         (step cell.now.table_id.slots 4 count 0 none) seat.old.me found seat.new.me }

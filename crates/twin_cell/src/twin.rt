@@ -9,6 +9,7 @@ ghost use Rattle.turn_cell.specs.Knowing.{IsSame, IsQuiet, KnowsItsOwn, pass_num
 ghost use Rattle.turn_cell.specs.Knowing.{mine_of, failed_of, own_faults_of, looks_of, turns_of};
 ghost use Rattle.twin_cell.specs.Sights.{HasWork, spare_of, LeavesSpare, IsWorkFrom, IsListFrom};
 ghost use Rattle.twin_cell.specs.Sights.{IsWorkAsFound};
+ghost use Rattle.twin_cell.specs.Twins.{IsBacked};
 
 use crate::ends::{give_list, give_work, put_work, tell};
 use crate::makes::gather;
@@ -202,7 +203,8 @@ impl<W: Backed<R>, R: Listed> Twin<W, R> {
         }
     }
 
-    /// Waits for the turn of the list, which the pass has until it leaves it or publishes.
+    /// Waits for the turn of the list, which the pass has until it leaves it or publishes. What it
+    /// finds was published, so a work of the making's fixed part stands for it.
     pub fn enter_list<T: Wait>(&self, rt: &T, pass: &mut TwinPass<W, R>) -> HeldList<W, R>
         requires cell { pass.old.cell ≡ self.now.cell }
         requires outside { pass.old.view.list ≡ Outside }
@@ -211,6 +213,7 @@ impl<W: Backed<R>, R: Listed> Twin<W, R> {
         ensures from { IsListFrom R.entries R.spare pass.new result }
         ensures value { result.value ≡ result.was }
         ensures entries { R.entries result.value ≡ seen_of pass.new }
+        ensures backed { IsBacked W.stands W.fixed pass.old.view.fixed (seen_of pass.new) }
         ensures later { IsPrefix (seen_of pass.old) (seen_of pass.new) }
         ensures with_work { HasWork pass.old → seen_of pass.new ≡ seen_of pass.old }
         ensures spare { HasWork pass.old → spare_of pass.old ≤ R.spare result.value }

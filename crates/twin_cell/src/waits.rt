@@ -6,7 +6,7 @@ ghost use Rattle.turn_cell.specs.Steps.{StaysAt};
 ghost use Rattle.twin_cell.specs.declared.parts.Kept.TheVariants.{Work as IsWork};
 ghost use Rattle.twin_cell.specs.declared.parts.Kept.TheVariants.{Items as IsItems};
 ghost use Rattle.twin_cell.specs.declared.parts.Kept.TheVariants.{Nothing as IsNothing};
-ghost use Rattle.twin_cell.specs.Twins.{IsWorkOf, IsListOf};
+ghost use Rattle.twin_cell.specs.Twins.{IsWorkOf, IsListOf, IsBacked};
 ghost use Rattle.twin_cell.specs.Steps.{IsTwinSeat, Agrees, at_list, in_work};
 
 use crate::parts::{Backed, Kept, Listed};
@@ -53,7 +53,8 @@ pub(crate) fn wait_list<T: Wait, W: Backed<R>, R: Listed>(
     ensures taken { (t : ℕ) × (o : _) × IsListOf {W = W} R.entries R.spare o (IsItems result)
         × Agrees seat.old.me.0.stage seat.old.me.0.spare o
         × (seat.new.me
-        ≡ (at_list seat.old.me.0 (Inside t o), (1, IsNothing) ∷ seat.old.me.1)) }
+        ≡ (at_list seat.old.me.0 (Inside t o), (1, IsNothing) ∷ seat.old.me.1))
+        × IsBacked W.stands W.fixed seat.old.me.0.fixed o.entries }
 {
     for _ in rt.forever() {
         let found = look_list(cell, seat);
