@@ -6,19 +6,22 @@ use Rattle.std.specs.contracts.collections.LinkedList as list
 use Rattle.std.specs.contracts.impls.GlobalAllocator.TheImpl.{ghosts}
 use Rattle.disk_model.specs.declared.disk.Disk.{Ghosts}
 use Rattle.chain_core.specs.contracts.chain.Patch as patch
-use Rattle.turn_cell.specs.contracts.turn.Pass as pass
+use Rattle.twin_cell.specs.contracts.twin.TwinPass as pass
 use Rattle.shared_log.specs.contracts.value.LogFixed as fixed
-use Rattle.shared_log.specs.contracts.value.LogValue as value
+use Rattle.shared_log.specs.contracts.value.LogList as listed
+use Rattle.shared_log.specs.contracts.value.LogWork as work
 use Rattle.shared_log.specs.contracts.value.Placed as placed
-use Rattle.shared_log.specs.History.{LogSight, shared_log}
+use Rattle.shared_log.specs.History.{LogSight}
+use Rattle.shared_log.specs.Parts.{log_list, log_work}
 use Rattle.hall_logs.specs.contracts.pass.LogsPass as parts
 
 module _ (D : RattleType) (disks : Ghosts D.Denot) where
   -- the type of a part
   abbrev pub log_pass : RattleType
   log_pass =
-      pass.the_row (value.the_row D disks) placed.the_row
-      (list.the_row patch.the_row global.the_row ghosts) fixed.the_row (shared_log disks)
+      pass.the_row (work.the_row D disks) listed.the_row
+      (list.the_row patch.the_row global.the_row ghosts) fixed.the_row placed.the_row
+      (log_work disks) log_list
 
   -- the part of a slot ends as what is last written there, and the others as they were
   abbrev pub LendsPart : MutBor (List LogSight) → ℕ → MutBor LogSight → Fml

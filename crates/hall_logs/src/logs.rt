@@ -1,8 +1,8 @@
 //! Logs by their slots.
-ghost use Rattle.std.specs.Prelude.{◌<◌, ◌≤◌, length, IfOk, OnErr};
+ghost use Rattle.std.specs.Prelude.{◌≡◌, ◌<◌, ◌≤◌, ℕ, [], ◌∷◌, length, IfOk, OnErr};
 ghost use Rattle.chain_core.specs.Replies as asked;
-ghost use Rattle.patch_log.specs.Log.{bare};
-ghost use Rattle.patch_log.specs.Ready.{bare_run};
+ghost use Rattle.chain_core.specs.declared.answer.LogAnswer.TheVariants as answers;
+ghost use Rattle.chain_core.specs.declared.chain.Patch.{Patch};
 ghost use Rattle.turn_cell.specs.Knowing.{Wants};
 ghost use Rattle.shared_log.specs.History.{SeesWhole};
 ghost use Rattle.shared_log.specs.Replies.{reply_fetched, reply_described};
@@ -15,7 +15,6 @@ use delta_base::{Id, OutOfMemory};
 use disk_model::Disk;
 use log_base::LogInfo;
 use patch_log::Run;
-use patch_meaning::Checked;
 use shared_log::{Fetched, SharedLog};
 use std::marker::Model;
 use std::sync::Wait;
@@ -50,46 +49,27 @@ impl<D: Disk> HallLogs<D> {
         &self.logs[slot as usize - 1]
     }
 
-    /// Adds a patch to the log of a slot, or says why not: Known, Conflict, Full, want of memory
-    /// and a disk fault, in this order.
-    pub fn append<R: Wait>(
-        &self,
-        rt: &R,
-        pass: &mut LogsPass<D>,
-        slot: u32,
-        patch: &Checked,
-    ) -> LogAnswer
-        requires of { ArePartsOf D.Disk self.now.logs pass.old }
-        requires slot { (0 < slot) × (slot ≤ length self.now.logs) }
-        ensures of { ArePartsOf D.Disk self.now.logs pass.new }
-        ensures whole { OnSlot slot (λ log p q. SeesWhole q) self.now.logs pass.old pass.new }
-        ensures called { OnSlot slot (λ log p q. CalledOnLog D.Disk log.origin p
-            (asked.append (bare patch.now)) (asked.answered result) q)
-            self.now.logs pass.old pass.new }
-    {
-        let log = self.log_of(pass, slot);
-        log.append(rt, pass.part_mut(slot), patch)
-    }
-
     /// Adds a run to the log of a slot, or says why not: Known, Conflict, Full, want of memory and
-    /// a disk fault, in this order. All its patches are added or none.
-    pub fn append_run<R: Wait>(
-        &self,
-        rt: &R,
-        pass: &mut LogsPass<D>,
-        slot: u32,
-        run: &Run,
-    ) -> LogAnswer
+    /// a disk fault, in this order. All its patches are added or none. That it is accepted is told
+    /// with the version of its last patch.
+    pub fn append<R: Wait>(&self, rt: &R, pass: &mut LogsPass<D>, slot: u32, run: Run) -> LogAnswer
         requires of { ArePartsOf D.Disk self.now.logs pass.old }
         requires slot { (0 < slot) × (slot ≤ length self.now.logs) }
         ensures of { ArePartsOf D.Disk self.now.logs pass.new }
         ensures whole { OnSlot slot (λ log p q. SeesWhole q) self.now.logs pass.old pass.new }
         ensures called { OnSlot slot (λ log p q. CalledOnLog D.Disk log.origin p
-            (asked.append_run (bare_run run.now)) (asked.answered result) q)
+            (asked.append_run run) (asked.answered (asked.as_run (length run) result)) q)
             self.now.logs pass.old pass.new }
+        ensures alone { (patch : Patch) → run ≡ patch ∷ []
+            → OnSlot slot (λ log p q. CalledOnLog D.Disk log.origin p
+            (asked.append patch) (asked.answered result) q) self.now.logs pass.old pass.new }
+
+        // So the answer can be told as one to a run.
+        ensures counted { (version : ℕ) → result ≡ answers.Accepted version
+            → length run ≤ version }
     {
         let log = self.log_of(pass, slot);
-        log.append_run(rt, pass.part_mut(slot), run)
+        log.append(rt, pass.part_mut(slot), run)
     }
 
     /// The patch of a version of the log of a slot.

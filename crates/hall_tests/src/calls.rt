@@ -6,7 +6,6 @@ use chain_core::LogAnswer;
 use disk_model::Disk;
 use hall_logs::{HallLogs, LogsPass};
 use patch_log::Run;
-use patch_meaning::Checked;
 use std::sync::Wait;
 
 pub(crate) fn append_by<R: Wait, D: Disk>(
@@ -15,30 +14,14 @@ pub(crate) fn append_by<R: Wait, D: Disk>(
     passes: &mut Vec<LogsPass<D>>,
     place: usize,
     slot: u32,
-    patch: &Checked,
+    run: Run,
 ) -> LogAnswer
     requires all { AreAllHallPasses D.Disk hall.now.logs 2 passes.old.items }
     requires place { place < 2 }
     requires slot { (0 < slot) × (slot ≤ length hall.now.logs) }
     ensures { AreAllHallPasses D.Disk hall.now.logs 2 passes.new.items }
 {
-    hall.append(rt, &mut passes[place], slot, patch)
-}
-
-pub(crate) fn append_run_by<R: Wait, D: Disk>(
-    rt: &R,
-    hall: &HallLogs<D>,
-    passes: &mut Vec<LogsPass<D>>,
-    place: usize,
-    slot: u32,
-    run: &Run,
-) -> LogAnswer
-    requires all { AreAllHallPasses D.Disk hall.now.logs 2 passes.old.items }
-    requires place { place < 2 }
-    requires slot { (0 < slot) × (slot ≤ length hall.now.logs) }
-    ensures { AreAllHallPasses D.Disk hall.now.logs 2 passes.new.items }
-{
-    hall.append_run(rt, &mut passes[place], slot, run)
+    hall.append(rt, &mut passes[place], slot, run)
 }
 
 pub(crate) fn version_by<D: Disk>(

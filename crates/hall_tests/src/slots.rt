@@ -2,14 +2,14 @@
 ghost use Rattle.std.specs.Prelude.{◌≡◌, ◌<◌, length, IfOk, vec_len};
 ghost use Rattle.hall_logs.specs.Slots.{AreAllHallPasses};
 
-use crate::calls::{append_by, append_run_by, version_by};
+use crate::calls::{append_by, version_by};
 use crate::halls::{close, open, two_disks};
 use chain_core::LogAnswer;
+use delta_base::Bytes;
 use disk_model::{Disk, MemDisk};
 use hall_logs::{HallLogs, LogsPass, LogsRefusal};
 use log_base::LOG_LIMITS;
-use patch_log::{LogFault, Run, check_run};
-use patch_meaning::{Checked, check_patch};
+use patch_log::{LogFault, Run, read_run};
 use std::alloc::Global;
 use std::process::Abort;
 use std::sync::Wait;
@@ -20,13 +20,19 @@ fn is(rt: &impl Abort, answer: LogAnswer, wanted: LogAnswer) {
     assert!(rt; answer == wanted);
 }
 
+// The run that a text is.
+fn run_of(alloc: Global, text: &[u8]) -> Result<Run, Fail> {
+    Ok(read_run(alloc, Bytes::from_slice(alloc, text)?)?)
+}
+
 // The first log takes the first patch, and the second log both.
 fn both_take<D: Disk, R: Wait + Abort>(
     rt: &R,
     hall: &HallLogs<D>,
     passes: &mut Vec<LogsPass<D>>,
-    first: &Checked,
-    second: &Checked,
+    first: Run,
+    again: Run,
+    second: Run,
 )
     requires all { AreAllHallPasses D.Disk hall.now.logs 2 passes.old.items }
     requires logs { length hall.now.logs ≡ 2 }
@@ -34,7 +40,7 @@ fn both_take<D: Disk, R: Wait + Abort>(
 {
     let answer = append_by(rt, hall, passes, 0, 1, first);
     is(rt, answer, LogAnswer::Accepted { version: 1 });
-    let answer = append_by(rt, hall, passes, 1, 2, first);
+    let answer = append_by(rt, hall, passes, 1, 2, again);
     is(rt, answer, LogAnswer::Accepted { version: 1 });
     let answer = append_by(rt, hall, passes, 1, 2, second);
     is(rt, answer, LogAnswer::Accepted { version: 2 });
@@ -60,14 +66,13 @@ fn have_one_and_two<D: Disk>(
 fn filled<R: Wait + Abort>(rt: &R, alloc: Global) -> Result<Vec<MemDisk>, Fail>
     ensures { IfOk result (λ disks. vec_len disks ≡ 2) }
 {
-    let first = check_patch(alloc, FIRST)?;
-    let second = check_patch(alloc, SECOND)?;
+    let first = run_of(alloc, FIRST)?;
+    let again = first.copy()?;
+    let second = run_of(alloc, SECOND)?;
     let Ok((hall, mut passes, rooms)) = open(alloc, two_disks(alloc, &[])?) else {
         return Err(Fail::from("not opened"));
     };
-    both_take(rt, &hall, &mut passes, &first, &second);
-    drop(second);
-    drop(first);
+    both_take(rt, &hall, &mut passes, first, again, second);
     have_one_and_two(rt, &hall, &mut passes, 0);
     Ok(close((hall, passes, rooms)))
 }
@@ -90,7 +95,7 @@ fn each_slot_has_its_log(rt: HostRuntime) -> Result<(), Fail> {
 fn first_two(alloc: Global) -> Result<Run, Fail> {
     let mut text = Vec::from_slice(alloc, FIRST)?;
     text.extend_from_slice(SECOND)?;
-    Ok(check_run(alloc, &text)?)
+    run_of(alloc, &text)
 }
 
 // The disks of the two logs, of which the second has taken two patches as one run.
@@ -98,14 +103,13 @@ fn filled_at_once<R: Wait + Abort>(rt: &R, alloc: Global) -> Result<Vec<MemDisk>
     ensures { IfOk result (λ disks. vec_len disks ≡ 2) }
 {
     let run = first_two(alloc)?;
+    let again = run.copy()?;
     let Ok((hall, mut passes, rooms)) = open(alloc, two_disks(alloc, &[])?) else {
         return Err(Fail::from("not opened"));
     };
-    let answer = append_run_by(rt, &hall, &mut passes, 0, 2, &run);
-    let first = 1;
-    is(rt, answer, LogAnswer::AcceptedRun { first, version: 2 });
-    let answer = append_run_by(rt, &hall, &mut passes, 1, 2, &run);
-    drop(run);
+    let answer = append_by(rt, &hall, &mut passes, 0, 2, run);
+    is(rt, answer, LogAnswer::Accepted { version: 2 });
+    let answer = append_by(rt, &hall, &mut passes, 1, 2, again);
     let same = true;
     is(rt, answer, LogAnswer::Known { version: 1, same });
     Ok(close((hall, passes, rooms)))
@@ -130,15 +134,15 @@ fn a_slot_takes_a_run(rt: HostRuntime) -> Result<(), Fail> {
 #[test]
 fn a_pass_has_its_own_faults(rt: HostRuntime) -> Result<(), Fail> {
     let alloc = rt.alloc();
-    let first = check_patch(alloc, FIRST)?;
+    let first = run_of(alloc, FIRST)?;
+    let again = first.copy()?;
     let Ok((hall, mut passes, rooms)) = open(alloc, two_disks(alloc, &[4])?) else {
         return Err(Fail::from("not opened"));
     };
-    let answer = append_by(&rt, &hall, &mut passes, 0, 2, &first);
+    let answer = append_by(&rt, &hall, &mut passes, 0, 2, first);
     is(&rt, answer, LogAnswer::DiskFault);
-    let answer = append_by(&rt, &hall, &mut passes, 0, 1, &first);
+    let answer = append_by(&rt, &hall, &mut passes, 0, 1, again);
     is(&rt, answer, LogAnswer::Accepted { version: 1 });
-    drop(first);
     let mut faults = passes.iter().map(|pass| pass.own_faults());
     assert!(rt; faults.next() == Some(1));
     assert!(rt; faults.next() == Some(0));

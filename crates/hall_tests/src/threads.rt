@@ -5,30 +5,33 @@ ghost use Rattle.hall_logs.specs.Visits.{HasVisited};
 
 use crate::calls::version_by;
 use crate::halls::{close, open, two_disks};
+use delta_base::Bytes;
 use disk_model::Disk;
 use hall_logs::{HallLogs, LogsPass};
-use patch_meaning::{Checked, check_patch};
+use patch_log::{Run, read_run};
 use std::sync::Wait;
 use std::test::Fail;
 use std::thread;
 use std::thread::Threads;
 use worked_rows::FIRST;
 
-// One append to the first log.
-fn append_one<R: Wait, D: Disk>(rt: &R, hall: &HallLogs<D>, pass: &mut LogsPass<D>, patch: &Checked)
+// One append to the first log, of a copy of the run.
+fn append_one<R: Wait, D: Disk>(rt: &R, hall: &HallLogs<D>, pass: &mut LogsPass<D>, run: &Run)
     requires of { ArePartsOf D.Disk hall.now.logs pass.old }
     requires some { 0 < length hall.now.logs }
     ensures { HasVisited D.Disk hall.now.logs pass.old pass.new }
 {
-    hall.append(rt, pass, 1, patch);
+    if let Ok(run) = run.copy() {
+        hall.append(rt, pass, 1, run);
+    }
 }
 
-// Each pass appends the patch, on a thread where one can be made.
+// Each pass appends the run, on a thread where one can be made.
 fn append_each<R: Threads + Wait + Sync, D: Disk + Send>(
     rt: &R,
     hall: &HallLogs<D>,
     passes: &mut [LogsPass<D>],
-    patch: &Checked,
+    run: &Run,
 )
     requires of { All (ArePartsOf D.Disk hall.now.logs) passes.old }
     requires some { 0 < length hall.now.logs }
@@ -43,33 +46,33 @@ fn append_each<R: Threads + Wait + Sync, D: Disk + Send>(
         &|_place: usize, pass: &mut LogsPass<D>|
             requires { ArePartsOf D.Disk hall.now.logs pass.old × (0 < length hall.now.logs) }
             ensures { HasVisited D.Disk hall.entry.now.logs pass.old pass.new }
-        { append_one(rt, hall, pass, patch) },
+        { append_one(rt, hall, pass, run) },
     );
 }
 
-// All passes append the patch at once, and are there behind it.
+// All passes append the run at once, and are there behind it.
 fn append_all<R: Threads + Wait + Sync, D: Disk + Send>(
     rt: &R,
     hall: &HallLogs<D>,
     passes: &mut Vec<LogsPass<D>>,
-    patch: &Checked,
+    run: &Run,
 )
     requires all { AreAllHallPasses D.Disk hall.now.logs 2 passes.old.items }
     requires some { 0 < length hall.now.logs }
     ensures { AreAllHallPasses D.Disk hall.now.logs 2 passes.new.items }
 {
-    append_each(rt, hall, passes, patch);
+    append_each(rt, hall, passes, run);
 }
 
 #[test]
 fn threads_share_a_hall(rt: HostRuntime) -> Result<(), Fail> {
     let alloc = rt.alloc();
-    let patch = check_patch(alloc, FIRST)?;
+    let run = read_run(alloc, Bytes::from_slice(alloc, FIRST)?)?;
     let Ok((hall, mut passes, rooms)) = open(alloc, two_disks(alloc, &[])?) else {
         return Err(Fail::from("not opened"));
     };
-    append_all(&rt, &hall, &mut passes, &patch);
-    drop(patch);
+    append_all(&rt, &hall, &mut passes, &run);
+    drop(run);
     let Ok((hall, mut passes, rooms)) = open(alloc, close((hall, passes, rooms))) else {
         return Err(Fail::from("not opened again"));
     };

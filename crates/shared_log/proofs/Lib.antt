@@ -2,6 +2,10 @@ pub mod Histories
 pub mod Table
 pub mod Stays
 pub mod Bringing
+pub mod Turns
+pub mod Preparing
 pub mod Telling
+pub mod Asking
+pub mod Appending
 pub mod OnDisk
 pub mod Adding

@@ -1,5 +1,5 @@
 -- What an append came to, by its answer.
-use Rattle.std.proofs.Common.{◌≡◌, ◌≢◌, ◌≤◌, ◌⊎◌, ℕ, List, [], ◌++◌, length, sym, refl, ap, ◌∙◌, subst, ⊎_elim, inl, inr, Option, Some, None, Result, Ok, Err, IfOk, true, false, arith}
+use Rattle.std.proofs.Common.{◌≡◌, ◌≢◌, ◌≤◌, ◌⊎◌, ℕ, List, [], ◌++◌, length, sym, refl, ap, ◌∙◌, subst, ⊎_elim, inl, inr, Option, Some, None, true, false, arith}
 use Rattle.log_base.specs.declared.limits.LogLimits.{LogLimits}
 use Rattle.chain_core.specs.declared.chain.Patch.{Patch}
 use Rattle.log_base.specs.declared.phase.Phase.TheVariants.{Settling, Body, Gate}
@@ -20,8 +20,6 @@ use Rattle.std.proofs.lemmas.List.{append-nil}
 use Rattle.disk_model.specs.declared.disk.Disk.{Ghosts}
 use Rattle.patch_log.specs.State.{LogView}
 use Rattle.patch_log.specs.Run.{AppendedRun, AppendsRun, WantsForAppend}
-use Rattle.patch_log.specs.Ready.{ReadyView, IsMadeOfRun}
-use Rattle.delta_base.specs.declared.fault.OutOfMemory.{OutOfMemory as Want}
 use Rattle.turn_cell.specs.Sights.{IsGrownBy}
 use Rattle.shared_log.specs.History.{history_of, IsKeptBy}
 use Rattle.shared_log.specs.Legal.{asks_disk}
@@ -143,14 +141,3 @@ module _ {D : Type 0} (disks : Ghosts D) where
   counted before after run by answer a version is =
       let here = subst (Stays before.limits by run before after) is (stays_of before after run by answer a) in
       omega (arith, (accepted (patches_of before.entries) run before.limits version here.0).1)
-
--- what was made ready for a pass is brought by it
-pub made_by : (run : List Patch) (by number : ℕ) (made : Result ReadyView Want) → IfOk made (IsMadeOfRun run by) → by ≡ number
-    → IfOk made (λ ready. ready.by ≡ number)
-made_by run by number (Ok ready) is same = is.1 ∙ same
-made_by run by number (Err want) is same = tt
-
--- some pass brings it, where it was made ready
-pub by_some : (made : Result ReadyView Want) → (by : ℕ) × IfOk made (λ ready. ready.by ≡ by)
-by_some (Ok ready) = (ready.by, refl)
-by_some (Err want) = (0, tt)

@@ -1,6 +1,6 @@
 -- From what a stay found and left to what its pass is told.
-use Rattle.std.proofs.Common.{◌≡◌, ℕ, ◌+◌, ◌<◌, ◌⊎◌, List, [], ◌∷◌, length, sym, refl, ap, ◌∙◌, subst, ⊎_elim, inl, arith, Option, Some, None, false, true}
-use Rattle.std.specs.Prelude.{Result, Ok, Err, IfOk}
+use Rattle.std.proofs.Common.{◌≡◌, ℕ, ◌+◌, ◌<◌, ◌≤◌, ◌⊎◌, List, [], ◌∷◌, length, sym, refl, ap, ◌∙◌, subst, ⊎_elim, inl, arith, Option, Some, None, false, true}
+use Rattle.std.specs.Prelude.{Result, Ok, Err, IfOk, OnErr}
 use Rattle.std.proofs.lemmas.List.{length-map}
 use Rattle.log_base.specs.declared.limits.LogLimits.{LogLimits}
 use Rattle.disk_model.specs.declared.disk.Disk.{Ghosts}
@@ -21,7 +21,7 @@ use Rattle.turn_cell.specs.declared.view.Known.{Known as KnownHere}
 use Rattle.turn_cell.specs.Turns.{own_count, Adds}
 use Rattle.turn_cell.specs.Sights.{IsGrownBy, Made, Taken}
 use Rattle.turn_cell.specs.Knowing.{IsQuiet, SeesOn, Wants}
-use Rattle.turn_cell.specs.Sharing.{IsPassOf, EntersTurn, LeavesTurn, InTurn}
+use Rattle.turn_cell.specs.Sharing.{IsPassOf, LeavesTurn, InTurn}
 use Rattle.turn_cell.proofs.Knowing.{adds_same, adds_one, quiet_on}
 use Rattle.turn_cell.proofs.Staying as staying
 use Rattle.shared_log.specs.declared.value.LogFixed.{LogFixed}
@@ -29,9 +29,9 @@ use Rattle.shared_log.specs.declared.value.Placed.{Placed}
 use Rattle.shared_log.specs.History.{patches_known, history_of, shared_log, KnowsWhole, LogSight, SeesWhole}
 use Rattle.shared_log.specs.Legal.{asks_disk, IsReply, IsAppendAnswer, IsAccepted, WouldTake, MayLeaveRun}
 use Rattle.shared_log.specs.Stays.{Asks, DoesOnLog, CalledOnLog}
-use Rattle.shared_log.proofs.Bringing.{brought_run}
+use Rattle.shared_log.proofs.Bringing.{brought_run, taken}
 use Rattle.shared_log.proofs.Table.{Stays}
-use Rattle.shared_log.proofs.Stays.{stays_of, grows_of}
+use Rattle.shared_log.proofs.Stays.{stays_of, grows_of, counted}
 use Rattle.shared_log.proofs.Histories.{known_chain, history_length, history_push, whole_known}
 
 -- what a call replies that appends this run, where the chain doesn't accept it
@@ -74,21 +74,18 @@ pub sees_whole : {D : Type 0} (disks : Ghosts D) (m q : LogSight) (back : Taken 
 sees_whole disks m q back leaves = let stands = leaves.stands in subst KnowsWhole (sym leaves.sees) (whole_known back.value.entries stands.whole)
 
 -- a stay of a pass of the log
-module _ {D : Type 0} (disks : Ghosts D) (p m q : LogSight) (held back : Taken Placed (List Patch) LogFixed (LogView D)) (enters : EntersTurn (shared_log disks) p held m) (leaves : LeavesTurn (shared_log disks) m back q) (same : back.was ≡ held.was)
+module _ {D : Type 0} (disks : Ghosts D) (p m q : LogSight) (was left : LogView D) (came : staying.Finds (shared_log disks) p was m) (leaves : LeavesTurn (shared_log disks) m (taken m was left) q)
     (made : Made (LogView D)) (of : IsPassOf (shared_log disks) made p) where
-  abbrev was : LogView D
-  was = held.was
-
-  abbrev left : LogView D
-  left = back.value
+  abbrev back : Taken Placed (List Patch) LogFixed (LogView D)
+  back = taken m was left
 
   limits : was.limits ≡ made.origin.limits
-  limits = ap (λ (f : LogFixed). f.limits) (staying.fixed_found (shared_log disks) p m q held back enters leaves same made of)
+  limits = ap (λ (f : LogFixed). f.limits) (staying.fixed_found (shared_log disks) p m q was back came leaves refl made of)
 
   -- a call that left the log as it was found
   module _ (kept : left ≡ was) (quiet : IsQuiet m q) where
     pub wants : Wants p q
-    wants = staying.wants (shared_log disks) p m q held back enters leaves same (ap (λ (log : LogView D). history_of log.entries) kept) quiet
+    wants = staying.wants (shared_log disks) p m q was back came leaves refl (ap (λ (log : LogView D). history_of log.entries) kept) quiet
 
     module _ (log : LogView D) (at : log ≡ was) (call : LogCall) (reply : LogReply) (gives : reply ≡ log_reply log.limits call (patches_of log.entries)) where
       here : reply ≡ log_reply was.limits call (patches_of was.entries)
@@ -100,27 +97,27 @@ module _ {D : Type 0} (disks : Ghosts D) (p m q : LogSight) (held back : Taken P
           wants.0,
           replied made.origin.limits p q was (leaves.sees ∙ ap (λ (log : LogView D). history_of log.entries) kept) call reply (here ∙ ap (λ (l : LogLimits). log_reply l call (patches_of was.entries)) limits) wants.1,
         ),
-        staying.stay_told (shared_log disks) p m q held back enters leaves same (Asks disks call reply) made of (kept, here) (ap (λ (log : LogView D). (shared_log disks).fixed log) kept),
+        staying.stay_told (shared_log disks) p m q was back came leaves refl (Asks disks call reply) made of (kept, here) (ap (λ (log : LogView D). (shared_log disks).fixed log) kept),
       )
 
   module _ (run : List Patch) where
     failed_by : (left.doubt ≡ was.doubt) ⊎ (left.doubt ≡ None) ⊎ (left.doubt ≡ Some run) → MayLeaveRun run p q
     failed_by is =
-        let adds : (d : Option (List Patch)) → left.doubt ≡ d → Adds was.doubt d p.view.failed q.view.failed = λ d is. subst (λ (d : Option (List Patch)). Adds was.doubt d p.view.failed q.view.failed) is (staying.adds (shared_log disks) p m q held back enters leaves same) in
+        let adds : (d : Option (List Patch)) → left.doubt ≡ d → Adds was.doubt d p.view.failed q.view.failed = λ d is. subst (λ (d : Option (List Patch)). Adds was.doubt d p.view.failed q.view.failed) is (staying.adds (shared_log disks) p m q was back came leaves refl) in
         ⊎_elim (λ (is : left.doubt ≡ was.doubt). inl (adds_same was.doubt p.view.failed q.view.failed (adds was.doubt is)))
         (⊎_elim (λ (is : left.doubt ≡ None). inl (adds None is)) (λ (is : left.doubt ≡ Some run). adds_one was.doubt run p.view.failed q.view.failed (adds (Some run) is))) is
 
     told_accepted : (place : ℕ) → Stays made.origin.limits p.view.number run was left (Accepted place) → IsAccepted made.origin.limits run place p q
     told_accepted place s =
         let at : place ≡ length (history_of was.entries) + length run = (accepted (patches_of was.entries) run made.origin.limits place s.0).1 ∙ omega (arith, history_length was.entries, length-map was.entries (λ (entry : Entry). entry.patch)) in
-        let came = brought_run disks p m q held back enters leaves same run place (ap history_of s.1 ∙ history_push was.entries run p.view.number) at s.2 in
+        let came = brought_run disks p m q was left came leaves run place (ap history_of s.1 ∙ history_push was.entries run p.view.number) at s.2 in
         (came.0, ap (λ (history : List (KnownHere Placed)). run_decision (patches_known history) run made.origin.limits) came.1 ∙ (ap (λ (chain : List Patch). run_decision chain run made.origin.limits) (known_chain was.entries) ∙ s.0))
 
     -- an append
     module _ (call : LogCall) (tells : Tells made.origin.limits call run) (answer : LogAnswer) (appended : AppendedRun disks was left run p.view.number answer) (quiet : asks_disk answer ≡ false → IsQuiet m q)
-        (counts : asks_disk answer ≡ true → q.view.own_faults ≡ own_count m.view.own_faults (disks.faults back.was.disk) (disks.faults left.disk)) where
+        (counts : asks_disk answer ≡ true → q.view.own_faults ≡ own_count m.view.own_faults (disks.faults was.disk) (disks.faults left.disk)) where
       still : asks_disk answer ≡ false → IsQuiet p q
-      still unasked = quiet_on p m q enters.quiet (quiet unasked)
+      still unasked = quiet_on p m q came.entered.quiet (quiet unasked)
 
       as_found : (decided : Decision) → ((version : ℕ) → decided ≡ Accept version → ⊥) → run_decision (patches_of was.entries) run made.origin.limits ≡ decided → left.entries ≡ was.entries → asks_disk answer ≡ false → IsReply made.origin.limits call (answered (answer_of decided)) p q
       as_found decided other is kept unasked = told_of made.origin.limits p q was (leaves.sees ∙ ap history_of kept) call run decided tells other is (still unasked)
@@ -133,8 +130,8 @@ module _ {D : Type 0} (disks : Ghosts D) (p m q : LogSight) (held back : Taken P
       answer_told (IsFull what have limit) is s = as_found (Full what have limit) (λ v e. cc) s.0 s.1.0 (ap asks_disk is)
       answer_told DiskFault is s = (
         would_take made.origin.limits p q was (leaves.sees ∙ ap history_of s.1) run s.0.0 s.0.1,
-        staying.rose (shared_log disks) p m q held back enters leaves same (counts (ap asks_disk is)) (appended.went.cause is),
-        staying.kept_mine (shared_log disks) p m q held back enters leaves same (ap history_of s.1),
+        staying.rose (shared_log disks) p m q was back came leaves refl (counts (ap asks_disk is)) (appended.went.cause is),
+        staying.kept_mine (shared_log disks) p m q was back came leaves refl (ap history_of s.1),
         failed_by s.2,
       )
       answer_told OutOfMemory is s = (would_take made.origin.limits p q was (leaves.sees ∙ ap history_of s.1.0) run s.0.0 s.0.1, still (ap asks_disk is))
@@ -146,16 +143,16 @@ module _ {D : Type 0} (disks : Ghosts D) (p m q : LogSight) (held back : Taken P
       pub run_told : SeesOn p q × IsAppendAnswer made.origin.limits call run answer p q
       run_told =
           let here = subst (λ (l : LogLimits). Stays l p.view.number run was left answer) limits (stays_of disks was left run p.view.number answer appended) in
-          (staying.sees (shared_log disks) p m q held back enters leaves same (grown.0, sym grown.1), answer_told answer refl here)
+          (staying.sees (shared_log disks) p m q was back came leaves refl (grown.0, sym grown.1), answer_told answer refl here)
 
       -- the stay, whatever is told of it
       pub run_stayed : (Did : LogView D → LogView D → Type 0) → Did was left → InTurn (shared_log disks) Did made.origin p q
       run_stayed Did did =
-          staying.stay_told (shared_log disks) p m q held back enters leaves same Did made of did
+          staying.stay_told (shared_log disks) p m q was back came leaves refl Did made of did
           (λ i. record { number = appended.number i; limits = appended.limits i; mark = appended.went.mark i })
 
   module _ (patch : Patch) (answer : LogAnswer) (appended : Appended disks was left patch p.view.number answer) (quiet : asks_disk answer ≡ false → IsQuiet m q)
-      (counts : asks_disk answer ≡ true → q.view.own_faults ≡ own_count m.view.own_faults (disks.faults back.was.disk) (disks.faults left.disk)) where
+      (counts : asks_disk answer ≡ true → q.view.own_faults ≡ own_count m.view.own_faults (disks.faults was.disk) (disks.faults left.disk)) where
     pub append_told : CalledOnLog disks made.origin p (append patch) (answered answer) q
     append_told =
         let tells = append_tells made.origin.limits patch in
@@ -166,7 +163,7 @@ module _ {D : Type 0} (disks : Ghosts D) (p m q : LogSight) (held back : Taken P
         }
 
   module _ (run : List Patch) (answer : LogAnswer) (appended : AppendedRun disks was left run p.view.number answer) (quiet : asks_disk answer ≡ false → IsQuiet m q)
-      (counts : asks_disk answer ≡ true → q.view.own_faults ≡ own_count m.view.own_faults (disks.faults back.was.disk) (disks.faults left.disk)) where
+      (counts : asks_disk answer ≡ true → q.view.own_faults ≡ own_count m.view.own_faults (disks.faults was.disk) (disks.faults left.disk)) where
     pub append_run_told : 0 < length run → CalledOnLog disks made.origin p (append_run run) (answered (as_run (length run) answer)) q
     append_run_told some =
         let tells = run_tells made.origin.limits run in
@@ -177,7 +174,29 @@ module _ {D : Type 0} (disks : Ghosts D) (p m q : LogSight) (held back : Taken P
           stay = run_stayed run (append_run run) tells answer appended quiet counts (DoesOnLog disks p.view.number (append_run run) reply) (answer, refl, appended);
         }
 
+-- what a pass is told whose run was appended, or not
+pub record AppendTold {D : Type 0} (disks : Ghosts D) (made : Made (LogView D)) (p : LogSight) (run : List Patch) (answer : LogAnswer) (q : LogSight) : Type 0 where
+  pub of : IsPassOf (shared_log disks) made q
+  pub whole : SeesWhole q
+  pub called : CalledOnLog disks made.origin p (append_run run) (answered (as_run (length run) answer)) q
+  pub alone : (patch : Patch) → run ≡ patch ∷ [] → CalledOnLog disks made.origin p (append patch) (answered answer) q
+  pub counted : (version : ℕ) → answer ≡ Accepted version → length run ≤ version
+
+pub all_told : {D : Type 0} (disks : Ghosts D) (p m q : LogSight) (was left : LogView D) (came : staying.Finds (shared_log disks) p was m) (leaves : LeavesTurn (shared_log disks) m (taken m was left) q) (made : Made (LogView D)) → IsPassOf (shared_log disks) made p
+    → (run : List Patch) → 0 < length run → (answer : LogAnswer) → AppendedRun disks was left run p.view.number answer → (asks_disk answer ≡ false → IsQuiet m q) → (asks_disk answer ≡ true → q.view.own_faults ≡ own_count m.view.own_faults (disks.faults was.disk) (disks.faults left.disk)) → AppendTold disks made p run answer q
+all_told disks p m q was left came leaves made of run some answer appended quiet counts = record {
+  of = staying.passes_on (shared_log disks) p m q was (taken m was left) came leaves refl made of;
+  whole = sees_whole disks m q (taken m was left) leaves;
+  called = append_run_told disks p m q was left came leaves made of run answer appended quiet counts some;
+  alone = λ patch is. append_told disks p m q was left came leaves made of patch answer (subst (λ (r : List Patch). AppendedRun disks was left r p.view.number answer) is appended) quiet counts;
+  counted = counted disks was left run p.view.number answer appended;
+}
+
 module _ {T E : Type 0} where
   pub if_ok : (P Q : T → Type 0) → ((x : T) → P x → Q x) → (result : Result T E) → IfOk result P → IfOk result Q
   if_ok P Q f (Ok x) p = f x p
   if_ok P Q f (Err e) p = tt
+
+  pub on_err : (result : Result T E) {P : Type 0} → P → OnErr result P
+  on_err (Ok x) p = tt
+  on_err (Err e) p = p

@@ -1,4 +1,4 @@
--- A log as the passes of its turn know it.
+-- A log as its passes know it.
 use Rattle.std.specs.Prelude.{◌≡◌, ℕ, ◌<◌, ◌^◌, List, length, map, Option}
 use Rattle.disk_model.specs.declared.disk.Disk.{Ghosts}
 use Rattle.chain_core.specs.declared.chain.Patch.{Patch}
@@ -22,6 +22,15 @@ entry_of entry = record {
 
 abbrev pub history_of : List Entry → List (Known Placed)
 history_of entries = map entry_of entries
+
+-- the entries of a history
+abbrev pub entries_known : List (Known Placed) → List Entry
+entries_known history =
+    map (λ known. record {
+      patch = known.content.patch;
+      by = known.by;
+      rest = known.content.rest;
+    }) history
 
 -- what a pass of a log shows
 abbrev pub LogSight : Type 0

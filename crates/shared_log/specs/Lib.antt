@@ -1,5 +1,6 @@
 pub mod Apart
 pub mod History
+pub mod Parts
 pub mod Replies
 pub mod Stays
 pub mod Legal

@@ -1,27 +1,24 @@
-//! A log as the value of a turn.
-ghost use Rattle.std.specs.Prelude.{◌≡◌, ◌≤◌, ℕ, [], ◌∷◌, false, length, IfOk};
-ghost use Rattle.std.specs.Result.{ForOk};
+//! The two values of a shared log: its list, and the work behind the list.
+ghost use Rattle.std.specs.Prelude.{◌≡◌, ◌≤◌, ◌<◌, ◌^◌, ℕ, List, length, false};
+ghost use Rattle.std.specs.Prelude.{IfOk, IfErr};
+ghost use Rattle.chain_core.specs.declared.chain.Patch.{Patch as LogPatch};
 ghost use Rattle.chain_core.specs.Patches.{patches_of};
 ghost use Rattle.chain_core.specs.Replies as asked;
-ghost use Rattle.patch_log.specs.Log.{bare};
-ghost use Rattle.patch_log.specs.Ready.{bare_run};
-ghost use Rattle.patch_log.specs.Run.{Appended, AppendedRun};
-ghost use Rattle.shared_log.specs.History.{history_of, fixed_of, IsKeptBy};
-ghost use Rattle.shared_log.specs.History.{MayBeSeen, StandsInTurn};
-ghost use Rattle.shared_log.specs.Replies.{reply_fetched, reply_described};
+ghost use Rattle.log_base.specs.declared.limits.LogLimits.{LogLimits as Limits};
+ghost use Rattle.patch_log.specs.Ready.{IsMadeOf};
+ghost use Rattle.patch_log.specs.Run.{AppendedRun};
+ghost use Rattle.patch_log.specs.Tail.{StandsForChain, TakesRun, log_of};
 ghost use Rattle.shared_log.specs.Legal.{asks_disk};
-ghost use Rattle.turn_cell.specs.Sights.{IsGrownBy};
+ghost use Rattle.shared_log.specs.Replies.{reply_fetched, reply_described};
 
 use crate::replies::Fetched;
-use chain_core::{LogAnswer, Patch};
+use chain_core::{Decision, LogAnswer, Lookup, Patch};
 use delta_base::{Id, OutOfMemory};
 use disk_model::Disk;
 use log_base::{LogInfo, LogLimits};
-use patch_log::{LogState, Ready, Run, append_made, append_made_run};
-use patch_meaning::Checked;
+use patch_log::{IndexedChain, LogTail, Ready, Run};
 use std::collections::LinkedList;
-use std::marker::Model;
-use turn_cell::Chained;
+use twin_cell::{Backed, Listed};
 
 /// What never changes of a log. No value of it is made.
 pub struct LogFixed {
@@ -37,63 +34,43 @@ pub struct Placed {
     pub rest: u32,
 }
 
-/// A log that lies in a turn. Its disk stands for its runs, with the one in doubt or without.
+/// The list of a shared log. It has all texts of the log, and its index by id.
 #[derive(Drop)]
-pub struct LogValue<D: Disk> {
-    log: LogState<D>,
+pub struct LogList {
+    pub(crate) chain: IndexedChain,
 }
 
-impl<D: Disk> Model for LogValue<D> {
-    ghost use Rattle.patch_log.specs.State.{LogView};
-    ghost use Rattle.shared_log.specs.History.{StandsInTurn};
-
-    ghost Value = { LogView D };
-
-    ghost view = { λ v. v.log };
-
-    ghost invariant = { λ v. StandsInTurn D.Disk v.log };
+/// The work behind the list: a tail, whose disk stands for it.
+#[derive(Drop)]
+pub struct LogWork<D: Disk> {
+    pub(crate) tail: LogTail<D>,
 }
 
-impl<D: Disk> LogValue<D> {
-    pub fn of(log: LogState<D>) -> LogValue<D>
-        ensures value { result ≡ log }
-        ensures test { MayBeSeen (history_of log.entries) }
+impl LogList {
+    pub(crate) fn version(&self) -> u32
+        ensures version { result ≡ length self.now.chain.items }
+        ensures few { length self.now.chain.items < 2 ^ 32 }
     {
-        let _version = log.chain().version();
-        LogValue { log }
+        self.chain.chain().version()
     }
 
-    pub fn into_log(self) -> LogState<D>
-        ensures same { result ≡ self }
-        ensures stands { StandsInTurn D.Disk self }
+    pub(crate) fn describe(&self) -> LogInfo
+        ensures { (limits : Limits) → reply_described result
+            ≡ asked.log_reply limits asked.describe (patches_of self.now.chain.items) }
     {
-        let LogValue { log } = self;
-        log
-    }
-
-    pub fn version(&self) -> u32
-        ensures { result ≡ length self.now.entries }
-    {
-        self.log.chain().version()
-    }
-
-    pub fn describe(&self) -> LogInfo
-        ensures { reply_described result
-            ≡ asked.log_reply self.now.limits asked.describe (patches_of self.now.entries) }
-    {
-        let chain = self.log.chain();
+        let chain = self.chain.chain();
         LogInfo {
             version: chain.version(),
             head: chain.head(),
         }
     }
 
-    pub fn fetch_version(&self, version: u32) -> Result<Fetched, OutOfMemory>
-        ensures { IfOk result (λ fetched. reply_fetched fetched
-            ≡ asked.log_reply self.now.limits (asked.fetch_version version)
-            (patches_of self.now.entries)) }
+    pub(crate) fn fetch_version(&self, version: u32) -> Result<Fetched, OutOfMemory>
+        ensures { IfOk result (λ fetched. (limits : Limits) → reply_fetched fetched
+            ≡ asked.log_reply limits (asked.fetch_version version)
+            (patches_of self.now.chain.items)) }
     {
-        match self.log.chain().by_version(version) {
+        match self.chain.chain().by_version(version) {
             Some(patch) => Ok(Fetched::Found {
                 patch: patch.copy()?,
             }),
@@ -103,11 +80,11 @@ impl<D: Disk> LogValue<D> {
         }
     }
 
-    pub fn fetch_id(&self, id: Id) -> Result<Fetched, OutOfMemory>
-        ensures { IfOk result (λ fetched. reply_fetched fetched
-            ≡ asked.log_reply self.now.limits (asked.fetch_id id) (patches_of self.now.entries)) }
+    pub(crate) fn fetch_id(&self, id: Id) -> Result<Fetched, OutOfMemory>
+        ensures { IfOk result (λ fetched. (limits : Limits) → reply_fetched fetched
+            ≡ asked.log_reply limits (asked.fetch_id id) (patches_of self.now.chain.items)) }
     {
-        match self.log.version_of(id) {
+        match self.chain.version_of(id) {
             Some(version) => self.fetch_version(version),
             None => Ok(Fetched::Missing {
                 version: self.version(),
@@ -115,77 +92,80 @@ impl<D: Disk> LogValue<D> {
         }
     }
 
-    /// Adds a patch that was made ready, or for which no memory was found, or says why not: Known,
-    /// Conflict, Full, want of memory and a disk fault, in this order.
-    pub fn append(&mut self, patch: &Checked, made: Result<Ready, OutOfMemory>) -> LogAnswer
-        requires { ForOk made (λ ready. ready.run ≡ bare patch.now ∷ []) }
-        ensures appended { (by : ℕ) → IfOk made (λ ready. ready.by ≡ by)
-            → Appended D.Disk self.old self.new (bare patch.now) by result }
-        ensures grown { (by : ℕ) → IfOk made (λ ready. ready.by ≡ by)
-            → IsGrownBy by (history_of self.old.entries) (history_of self.new.entries) }
-        ensures fixed { fixed_of D.mark self.new ≡ fixed_of D.mark self.old }
-        ensures faults { D.faults self.old.disk ≤ D.faults self.new.disk }
-        ensures as_found { asks_disk result ≡ false
-            → IsKeptBy self.old self.new × (self.new.disk ≡ self.old.disk) }
-        ensures test { MayBeSeen (history_of self.new.entries) }
+    // Makes places ready for a run that the list takes, or says why it isn't added: Known, Conflict,
+    // Full or want of memory.
+    pub(crate) fn prepare<D: Disk>(
+        &mut self,
+        work: &LogWork<D>,
+        made: Result<Ready, Run>,
+    ) -> Result<(u32, Ready), LogAnswer>
+        requires stands { StandsForChain work.now.tail self.old.chain.items }
+        ensures items { self.new.chain.items ≡ self.old.chain.items }
+        ensures ready { IfOk result (λ r. length r.1.run ≤ self.new.chain.spare) }
+        ensures takes { IfOk result (λ r.
+            TakesRun work.now.tail self.old.chain.items r.1.run r.0) }
+        ensures made { (run : List LogPatch) (by : ℕ) → IsMadeOf run by made
+            → IfOk result (λ r. (r.1.run ≡ run) × (r.1.by ≡ by)) }
+        ensures as_found { IfErr result (λ answer.
+            (self.new ≡ self.old) × (asks_disk answer ≡ false)) }
+        ensures told { (run : List LogPatch) (by : ℕ) → IsMadeOf run by made
+            → IfErr result (λ answer. let log = log_of work.now.tail self.old.chain.items
+            self.old.chain.spare in AppendedRun D.Disk log log run by answer) }
     {
-        let answer = append_made(&mut self.log, patch, made);
-        let _version = self.log.chain().version();
-        answer
-    }
-
-    /// The same for a run.
-    pub fn append_run(&mut self, run: &Run, made: Result<Ready, OutOfMemory>) -> LogAnswer
-        requires { ForOk made (λ ready. ready.run ≡ bare_run run.now) }
-        ensures appended { (by : ℕ) → IfOk made (λ ready. ready.by ≡ by)
-            → AppendedRun D.Disk self.old self.new (bare_run run.now) by result }
-        ensures grown { (by : ℕ) → IfOk made (λ ready. ready.by ≡ by)
-            → IsGrownBy by (history_of self.old.entries) (history_of self.new.entries) }
-        ensures fixed { fixed_of D.mark self.new ≡ fixed_of D.mark self.old }
-        ensures faults { D.faults self.old.disk ≤ D.faults self.new.disk }
-        ensures as_found { asks_disk result ≡ false
-            → IsKeptBy self.old self.new × (self.new.disk ≡ self.old.disk) }
-        ensures test { MayBeSeen (history_of self.new.entries) }
-    {
-        let answer = append_made_run(&mut self.log, run, made);
-        let _version = self.log.chain().version();
-        answer
+        match made {
+            Ok(ready) => match work.tail.decide(&self.chain, ready.run()) {
+                Decision::Accept { version } => match self.chain.reserve(ready.run().count()) {
+                    Ok(()) => Ok((version, ready)),
+                    Err(_) => Err(LogAnswer::OutOfMemory),
+                },
+                decision => Err(LogAnswer::told(decision)),
+            },
+            Err(run) => match work.tail.decide(&self.chain, &run) {
+                Decision::Accept { version: _ } => Err(LogAnswer::OutOfMemory),
+                decision => Err(LogAnswer::told(decision)),
+            },
+        }
     }
 }
 
-impl<D: Disk> Chained for LogValue<D> {
-    ghost use Rattle.shared_log.specs.Apart.{runs_apart};
-    ghost use Rattle.shared_log.specs.History.{history_of, fixed_of, MayBeSeen, StandsInTurn};
+impl Listed for LogList {
+    ghost use Rattle.shared_log.specs.History.{history_of, MayBeSeen};
 
     type Content = Placed;
+
+    ghost entries = { λ list. history_of list.chain.items };
+
+    ghost spare = { λ list. list.chain.spare };
+
+    ghost fits = { MayBeSeen };
+
+    fn count(&self) -> u64 {
+        u64::from(self.version())
+    }
+}
+
+impl<D: Disk> Backed<LogList> for LogWork<D> {
+    ghost use Rattle.log_journal.specs.StandsFor.{disk_of};
+    ghost use Rattle.patch_log.specs.Tail.{StandsForChain, log_of};
+    ghost use Rattle.std.specs.Prelude.{[]};
+    ghost use Rattle.shared_log.specs.Apart.{runs_apart};
+    ghost use Rattle.shared_log.specs.History.{entries_known, fixed_of};
 
     type Doubt = LinkedList<Patch>;
 
     type Fixed = LogFixed;
 
-    ghost entries = { λ v. history_of v.entries };
+    ghost stands = { λ work history. StandsForChain work.tail (entries_known history) };
 
-    ghost fault_count = { λ v. D.faults v.disk };
+    ghost fault_count = { λ work. D.faults (disk_of work.tail.journal) };
 
-    ghost doubt = { λ v. v.doubt };
+    ghost doubt = { λ work. work.tail.doubt };
 
-    ghost fixed = { λ v. fixed_of D.mark v };
-
-    ghost fits = { λ f es. MayBeSeen es };
-
-    ghost stands = { λ v. StandsInTurn D.Disk v };
+    ghost fixed = { λ work. fixed_of D.mark (log_of work.tail [] 0) };
 
     ghost tells_apart = { runs_apart };
 
-    fn count(&self) -> u64 {
-        u64::from(self.version())
-    }
-
     fn faults(&self) -> u64 {
-        self.log.faults()
-    }
-
-    fn standing(&self) {
-        let _log = &self.log;
+        self.tail.faults()
     }
 }

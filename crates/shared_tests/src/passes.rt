@@ -6,19 +6,18 @@ ghost use Rattle.turn_cell.specs.Sharing.{IsPassOf};
 ghost use Rattle.shared_tests.specs.Memory.{log_in_memory};
 
 use chain_core::LogAnswer;
-use delta_base::Id;
+use delta_base::{Bytes, Id};
 use disk_model::MemDisk;
 use log_base::{LOG_LIMITS, LogLimits};
-use patch_log::{LogState, Ready};
-use patch_meaning::{Checked, check_patch};
-use shared_log::{Fetched, LogPass, LogValue, SharedLog};
+use patch_log::{LogState, Run, read_run};
+use shared_log::{Fetched, LogPass, SharedLog};
 use std::alloc::Global;
 use std::process::Abort;
 use std::sync::Wait;
 use std::test::Fail;
 use worked_rows::{FIRST, SECOND, disk_of};
 
-const EMPTY: &[u8] = b"RDJ2\0\0\0\x01\0";
+pub(crate) const EMPTY: &[u8] = b"RDJ2\0\0\0\x01\0";
 
 const THIRD: &[u8] =
     b"H id <uuid:00000000-0000-4000-8000-000000000003> .\nH prev <uuid:00000000-0000-4000-8000-000000000001> .\nTX .\nA <http://e/s> <http://e/p> <http://e/o3> .\nTC .\n";
@@ -101,19 +100,27 @@ fn entry_of(log: &LogState<MemDisk>, version: u32) -> Option<(u32, Id)> {
     Some((entry.by, entry.patch.id))
 }
 
-// The patches of which the second and the third both name the first.
-#[derive(Drop)]
-struct Patches {
-    first: Checked,
-    second: Checked,
-    third: Checked,
+// The run that a text is.
+pub(crate) fn run_of(alloc: Global, text: &[u8]) -> Result<Run, Fail> {
+    Ok(read_run(alloc, Bytes::from_slice(alloc, text)?)?)
 }
 
-fn three_patches(alloc: Global) -> Result<Patches, Fail> {
-    Ok(Patches {
-        first: check_patch(alloc, FIRST)?,
-        second: check_patch(alloc, SECOND)?,
-        third: check_patch(alloc, THIRD)?,
+// Runs of one patch each, of which the second and the third both name the first.
+#[derive(Drop)]
+struct Runs {
+    first: Run,
+    again: Run,
+    second: Run,
+    third: Run,
+}
+
+fn four_runs(alloc: Global) -> Result<Runs, Fail> {
+    let first = run_of(alloc, FIRST)?;
+    Ok(Runs {
+        again: first.copy()?,
+        first,
+        second: run_of(alloc, SECOND)?,
+        third: run_of(alloc, THIRD)?,
     })
 }
 
@@ -132,7 +139,9 @@ fn both_append<R: Wait + Abort>(
     rt: &R,
     log: &SharedLog<MemDisk>,
     passes: &mut Passes,
-    patches: &Patches,
+    first: Run,
+    again: Run,
+    third: Run,
 )
     requires one { IsPassOf log_in_memory log.now passes.old.one }
     requires two { IsPassOf log_in_memory log.now passes.old.two }
@@ -142,23 +151,27 @@ fn both_append<R: Wait + Abort>(
         × (pass_number passes.new.two ≡ pass_number passes.old.two) }
     ensures room { passes.new.room ≡ passes.old.room }
 {
-    let answer = log.append(rt, &mut passes.one, &patches.first);
+    let answer = log.append(rt, &mut passes.one, first);
     is(rt, answer, LogAnswer::Accepted { version: 1 });
     assert!(rt; log.version(&mut passes.two) == 1);
-    let answer = log.append(rt, &mut passes.two, &patches.first);
+    let answer = log.append(rt, &mut passes.two, again);
     let same = true;
     is(rt, answer, LogAnswer::Known { version: 1, same });
-    let answer = log.append(rt, &mut passes.two, &patches.third);
+    let answer = log.append(rt, &mut passes.two, third);
     is(rt, answer, LogAnswer::Accepted { version: 2 });
 }
 
 #[test]
 fn what_one_pass_brings_the_other_sees(rt: HostRuntime) -> Result<(), Fail> {
-    let patches = three_patches(rt.alloc())?;
+    let Runs {
+        first,
+        again,
+        second,
+        third,
+    } = four_runs(rt.alloc())?;
     let (log, mut passes) = share(rt.alloc(), &[], LOG_LIMITS)?;
-    both_append(&rt, &log, &mut passes, &patches);
-    let answer = log.append(&rt, &mut passes.one, &patches.second);
-    drop(patches);
+    both_append(&rt, &log, &mut passes, first, again, third);
+    let answer = log.append(&rt, &mut passes.one, second);
     let conflict = LogAnswer::Conflict {
         version: 2,
         head: Some(id_of(3)),
@@ -175,19 +188,19 @@ fn what_one_pass_brings_the_other_sees(rt: HostRuntime) -> Result<(), Fail> {
 #[test]
 fn a_fault_is_that_of_its_own_pass(rt: HostRuntime) -> Result<(), Fail> {
     let alloc = rt.alloc();
-    let first = check_patch(alloc, FIRST)?;
+    let first = run_of(alloc, FIRST)?;
+    let again = first.copy()?;
     let (log, mut passes) = share(alloc, &[4], LOG_LIMITS)?;
-    let answer = log.append(&rt, &mut passes.one, &first);
+    let answer = log.append(&rt, &mut passes.one, first);
     is(&rt, answer, LogAnswer::DiskFault);
     assert!(rt; log.version(&mut passes.two) == 0);
     assert!(rt; log.describe(&rt, &mut passes.two).version == 0);
     assert!(rt; passes.one.own_faults() > 0 && passes.two.own_faults() == 0);
-    let answer = log.append(&rt, &mut passes.two, &first);
+    let answer = log.append(&rt, &mut passes.two, again);
     is(&rt, answer, LogAnswer::Accepted { version: 1 });
     assert!(rt; passes.two.own_faults() == 0);
     drop(passes);
     drop(log);
-    drop(first);
     Ok(())
 }
 
@@ -203,11 +216,11 @@ fn text_of(fetched: &Fetched) -> Result<&[u8], u32> {
 fn share_two<R: Wait>(rt: &R, alloc: Global) -> Result<(SharedLog<MemDisk>, Passes), Fail>
     ensures { IfOk result (λ r. IsPassOf log_in_memory r.0 r.1.two) }
 {
-    let first = check_patch(alloc, FIRST)?;
-    let second = check_patch(alloc, SECOND)?;
+    let first = run_of(alloc, FIRST)?;
+    let second = run_of(alloc, SECOND)?;
     let (log, mut passes) = share(alloc, &[], LOG_LIMITS)?;
-    log.append(rt, &mut passes.one, &first);
-    log.append(rt, &mut passes.one, &second);
+    log.append(rt, &mut passes.one, first);
+    log.append(rt, &mut passes.one, second);
     Ok((log, passes))
 }
 
@@ -310,31 +323,4 @@ fn a_log_is_described(rt: HostRuntime) -> Result<(), Fail> {
     let (log, passes) = share_two(&rt, rt.alloc())?;
     describes(&rt, log, passes, 2, Some(id_of(2)));
     Ok(())
-}
-
-// The text of the first patch, by its id.
-fn finds_first(rt: &impl Abort, value: &LogValue<MemDisk>) -> Result<(), Fail> {
-    let fetched = value.fetch_id(id_of(1))?;
-    assert!(rt; text_of(&fetched) == Ok(FIRST));
-    Ok(())
-}
-
-// What a pass finds in the turn is a log by itself.
-#[test]
-fn a_value_of_a_turn_is_a_log(rt: HostRuntime) -> Result<(), Fail> {
-    let alloc = rt.alloc();
-    let first = check_patch(alloc, FIRST)?;
-    let mut value = LogValue::of(open(alloc, &[], LOG_LIMITS)?);
-    let answer = value.append(&first, Ready::of(alloc, &first, 3));
-    is(&rt, answer, LogAnswer::Accepted { version: 1 });
-    let answer = value.append(&first, Ready::of(alloc, &first, 4));
-    drop(first);
-    let same = true;
-    is(&rt, answer, LogAnswer::Known { version: 1, same });
-    assert!(rt; value.version() == 1);
-    let found = finds_first(&rt, &value);
-    let log = value.into_log();
-    assert!(rt; entry_of(&log, 1) == Some((3, id_of(1))));
-    drop(log);
-    found
 }

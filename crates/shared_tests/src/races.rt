@@ -6,11 +6,10 @@ ghost use Rattle.shared_tests.specs.Memory.{log_in_memory};
 
 use crate::passes::{Passes, close, share};
 use chain_core::LogAnswer;
-use delta_base::{Id, id_text};
+use delta_base::{Bytes, Id, id_text};
 use disk_model::MemDisk;
 use log_base::LOG_LIMITS;
-use patch_log::LogState;
-use patch_meaning::{Checked, check_patch};
+use patch_log::{LogState, Run, read_run};
 use shared_log::{LogPass, SharedLog};
 use std::alloc::Global;
 use std::sync::Wait;
@@ -20,8 +19,8 @@ use std::thread::{Threads, join};
 /// How many patches each thread brings.
 const EACH: u32 = 50;
 
-// The patch of this number, behind that one.
-fn numbered(alloc: Global, number: u32, prev: Option<Id>) -> Option<Checked> {
+// The patch of this number behind that one, as a run by itself, and its id.
+fn numbered(alloc: Global, number: u32, prev: Option<Id>) -> Option<(Run, Id)> {
     let row = format!(in alloc;
         "H id <uuid:00000000-0000-4000-8000-00000000{number:04}> .\n"
     ).ok()?;
@@ -31,7 +30,9 @@ fn numbered(alloc: Global, number: u32, prev: Option<Id>) -> Option<Checked> {
         text.extend_from_slice(&id_text(id)).ok()?;
         text.extend_from_slice(b"> .\n").ok()?;
     }
-    check_patch(alloc, &text).ok()
+    let run = read_run(alloc, Bytes::from_vec(text)).ok()?;
+    let id = run.patches().as_slice().first()?.id;
+    Some((run, id))
 }
 
 // Brings patches of its own until each is accepted or too many tries are made, and answers
@@ -53,13 +54,13 @@ fn contend<R: Wait>(
         if told >= EACH {
             break;
         }
-        let Some(patch) = numbered(alloc, base + told, head) else {
+        let Some((patch, id)) = numbered(alloc, base + told, head) else {
             break;
         };
-        match log.append(rt, &mut pass, &patch) {
+        match log.append(rt, &mut pass, patch) {
             LogAnswer::Accepted { version: _ } => {
                 told += 1;
-                head = Some(patch.id());
+                head = Some(id);
             }
             LogAnswer::Conflict {
                 version: _,

@@ -1,5 +1,9 @@
+use Rattle.std.proofs.Common.{[], refl}
 use Rattle.hall_tests.proofs.Passes.{called}
 use Rattle.hall_tests.proofs.threads.append_one.Goals as goal
 
-pub returns : goal.returns
-returns g c = called g.D.Disk c.args.hall.now.logs c.append.ensures.called
+pub returns-in-Ok : goal.returns-in-Ok
+returns-in-Ok g c = called g.D.Disk c.args.hall.now.logs c.append.ensures.called
+
+pub returns-in-Err : goal.returns-in-Err
+returns-in-Err g c = ([], refl)

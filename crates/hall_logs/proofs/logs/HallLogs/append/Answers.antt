@@ -6,3 +6,6 @@ returns-clause-whole g c = on_slot g.D.Disk c.log_of-log.ensures c.part_mut.ensu
 
 pub returns-clause-called : goal.returns-clause-called
 returns-clause-called g c = on_slot g.D.Disk c.log_of-log.ensures c.part_mut.ensures.value _ c.append.ensures.called
+
+pub returns-clause-alone : goal.returns-clause-alone
+returns-clause-alone g c = λ patch is. on_slot g.D.Disk c.log_of-log.ensures c.part_mut.ensures.value _ (c.append.ensures.alone patch is)
