@@ -32,9 +32,9 @@ fn printed_reply(alloc: Global) -> Result<Bytes, OutOfMemory> {
         content_type: Some(content_type),
         body,
     };
-    let text = print_reply(alloc, &reply, None);
+    let front = print_reply(alloc, &reply, None);
     drop(reply);
-    text
+    Ok(front?.text)
 }
 
 /// `print request`, `print reply`: the text of the one request, and of the one reply.

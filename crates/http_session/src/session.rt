@@ -1,5 +1,5 @@
 //! One connection from its first byte to its end.
-ghost use Rattle.std.specs.Prelude.{◌≡◌, ◌+◌, ◌<◌, ◌≤◌, ℕ, Bool, List, []};
+ghost use Rattle.std.specs.Prelude.{◌≡◌, ◌+◌, ◌<◌, ◌≤◌, ◌++◌, ℕ, Bool, List, []};
 ghost use Rattle.std.specs.Prelude.{false, None, Ok, Err, OnOk, IfErr};
 ghost use Rattle.std.specs.Io.KnownBytes.{Appends, IsAtEnd};
 ghost use Rattle.delta_base.specs.Outside.{Rose};
@@ -17,7 +17,7 @@ use crate::texts::{continue_text, memory_text, refusal_text};
 use delta_base::Link;
 use http_heads::{FrameFault, RawRequest};
 use http_text::{RequestReader, SessionEnd, print_reply};
-use sink_writing::send_all;
+use sink_writing::{send_all, send_both};
 use std::alloc::Global;
 use std::sync::Wait;
 
@@ -27,17 +27,18 @@ pub const MOST_REQUESTS: u32 = 10_000;
 /// How many bytes are read at once.
 const PIECE: usize = 8_192;
 
-// Sends a whole text.
-fn send<L: Link>(link: &mut L, text: &[u8]) -> Result<(), SessionEnd>
-    ensures sent { OnOk result (Appends (L.sent link.old) (L.sent link.new) text.now) }
+// Sends a whole text, of which the rest stands elsewhere.
+fn send<L: Link>(link: &mut L, front: &[u8], rest: &[u8]) -> Result<(), SessionEnd>
+    ensures sent { OnOk result
+        (Appends (L.sent link.old) (L.sent link.new) (front.now ++ rest.now)) }
     ensures stops { IfErr result (λ end.
-        StopsSending (L.sent link.old) (L.sent link.new) text.now end) }
+        StopsSending (L.sent link.old) (L.sent link.new) (front.now ++ rest.now) end) }
     ensures keeps { L.left link.new ≡ L.left link.old }
     ensures failed { result ≡ Err SessionEnd.LinkFault
         → Rose (L.faults link.old) (L.faults link.new) }
     ensures never_falls { L.faults link.old ≤ L.faults link.new }
 {
-    match send_all(link, text) {
+    match send_both(link, front, rest) {
         Ok(()) => Ok(()),
         Err(_) => Err(SessionEnd::LinkFault),
     }
@@ -82,11 +83,14 @@ fn send_said<L: Link>(
         Said::Reply { mut reply, allow } => {
             reply.close = close;
             match print_reply(alloc, &reply, allow) {
-                Ok(text) => send(link, text.as_slice()),
+                Ok(front) => {
+                    let rest = &reply.body.as_slice()[front.of_body..];
+                    send(link, front.text.as_slice(), rest)
+                }
                 Err(_) => Err(SessionEnd::OutOfMemory),
             }
         }
-        Said::OutOfMemory => send(link, memory_text(close)),
+        Said::OutOfMemory => send(link, memory_text(close), &[]),
     }
 }
 

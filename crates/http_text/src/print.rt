@@ -1,5 +1,5 @@
 //! The requests that a client writes, and the replies of a server.
-ghost use Rattle.std.specs.Prelude.{◌≡◌, ◌++◌, ◌∷◌, IfOk, OnOk, List, ℕ};
+ghost use Rattle.std.specs.Prelude.{◌≡◌, ◌≤◌, ◌++◌, ◌∷◌, IfOk, OnOk, List, ℕ, drop, length};
 ghost use Rattle.std.specs.List.{flat_map};
 ghost use Rattle.std.specs.Option.{option_copied};
 ghost use Rattle.httparse.specs.Ascii.{crlf_bytes};
@@ -145,28 +145,48 @@ fn push_close(text: &mut Vec<u8>, close: bool) -> Result<(), AllocError>
     Ok(())
 }
 
-/// The text of a reply, with the methods that are allowed where they are given. A reader takes the
-/// reply from it again, whatever follows.
+/// How many bytes of a body are sent together with the head before it.
+const FRONT: usize = 8_192;
+
+/// The front of a reply's text: its head with the first bytes of its body.
+#[derive(Debug, Drop)]
+pub struct ReplyFront {
+    pub text: Bytes,
+    /// How many bytes of the body it has. The others follow it.
+    pub of_body: usize,
+}
+
+/// The front of the text of a reply, with the methods that are allowed where they are given. The
+/// rest of the body is sent from where it stands. A reader takes the reply from the text again,
+/// whatever follows.
 pub fn print_reply(
     alloc: Global,
     reply: &RawReply,
     allow: Option<&'static str>,
-) -> Result<Bytes, OutOfMemory>
+) -> Result<ReplyFront, OutOfMemory>
     requires { IsPrintableReply reply.now (option_copied allow) }
-    ensures text { IfOk result (λ text. text ≡ reply_text reply.now (option_copied allow.entry)) }
-    ensures again { IfOk result (λ text. FitsReader
+    ensures text { IfOk result (λ front. front.text ++ drop front.of_body reply.now.body
+        ≡ reply_text reply.now (option_copied allow.entry)) }
+    ensures within { IfOk result (λ front. front.of_body ≤ length reply.now.body) }
+    ensures again { IfOk result (λ front. FitsReader
         (print_response (reply_head reply.now (option_copied allow.entry))) reply.now.body
-        → IsMessage kinds.Replies text (forms.Reply reply.now)) }
+        → IsMessage kinds.Replies (front.text ++ drop front.of_body reply.now.body)
+        (forms.Reply reply.now)) }
 {
     let status = StatusCode::from_u16(reply.status).unwrap();
     let methods = bytes_of(allow);
     let kind = slice_of(&reply.content_type);
+    let body = reply.body.as_slice();
+    let of_body = body.len().min(FRONT);
     let mut text = Vec::new(alloc);
     push_status_line(&mut text, status)?;
     push_allow(&mut text, methods)?;
     push_close(&mut text, reply.close)?;
-    push_body_fields(alloc, &mut text, kind, reply.body.len())?;
+    push_body_fields(alloc, &mut text, kind, body.len())?;
     text.extend_from_slice(b"\r\n")?;
-    text.extend_from_slice(reply.body.as_slice())?;
-    Ok(Bytes::from_vec(text))
+    text.extend_from_slice(&body[..of_body])?;
+    Ok(ReplyFront {
+        text: Bytes::from_vec(text),
+        of_body,
+    })
 }

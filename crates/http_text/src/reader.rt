@@ -150,10 +150,11 @@ fn begin_body(
                 queue.push_back(message)?;
                 return Ok(at_start());
             }
+            // Its bytes are kept where they stay, so none is moved while it comes.
             let left = size as usize;
             Ok(Stage::Body {
                 message,
-                body: Vec::new(alloc),
+                body: Vec::with_capacity(alloc, left)?,
                 part: BodyPart::Sized { left },
             })
         }
@@ -184,13 +185,14 @@ fn step_part(
     }
 }
 
-// The message with its body.
-fn with_body(message: Message, body: Vec<u8>) -> Message
+// The message with its body. What is kept of it takes no more room than its bytes.
+fn with_body(message: Message, mut body: Vec<u8>) -> Message
     ensures request { (request : RawRequest) → message ≡ forms.Request request
         → result ≡ forms.Request (record request { body = body.items }) }
     ensures reply { (reply : RawReply) → message ≡ forms.Reply reply
         → result ≡ forms.Reply (record reply { body = body.items }) }
 {
+    body.shrink_to_fit();
     let body = Bytes::from_vec(body);
     match message {
         Message::Request(request) => Message::Request(RawRequest { body, ..request }),

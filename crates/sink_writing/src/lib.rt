@@ -7,6 +7,6 @@ mod texts;
 mod whole;
 
 pub use room::{PIECE, Room};
-pub use sending::send_all;
+pub use sending::{send_all, send_both};
 pub use texts::write_texts;
 pub use whole::write_all;

@@ -11,9 +11,12 @@ returns-then-size-eq0 c = λ kind text whole.
       c.at_start.ensures.held kind,
     )
 
-pub returns-else-size-eq0 : goal.returns-else-size-eq0
-returns-else-size-eq0 c = λ kind text whole.
-    inl (refl, sized_begins kind text c.args.message c.args.framing c.in-Sized.size c.new-in-Sized.result whole c.in-Sized.is (omega arith) c.new-in-Sized.ensures.items)
+pub returns-in_ok-with_capacity-in-Sized : goal.returns-in_ok-with_capacity-in-Sized
+returns-in_ok-with_capacity-in-Sized c = λ kind text whole.
+    inl (
+      refl,
+      sized_begins kind text c.args.message c.args.framing c.in-Sized.size c.in_ok-with_capacity-in-Sized.field-0 whole c.in-Sized.is (omega arith) c.in_ok-with_capacity-in-Sized.ensures.items,
+    )
 
 pub returns-in-Chunked : goal.returns-in-Chunked
 returns-in-Chunked c = λ kind text whole. inl (refl, chunked_begins kind text c.args.message c.args.framing c.new.result whole c.in-Chunked.is c.new.ensures.items)
