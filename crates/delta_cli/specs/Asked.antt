@@ -5,10 +5,11 @@ use Rattle.delta_base.specs.Memory.{CountsCall}
 use Rattle.delta_base.specs.Outside.{Rose}
 use Rattle.delta_base.specs.declared.link.Link.{Ghosts as LinkGhosts}
 use Rattle.log_base.specs.declared.limits.TheConstants.{PATCH_LIMIT}
-use Rattle.patch_log.specs.Log.{IsRunOf}
+use Rattle.chain_core.specs.declared.chain.Patch.{Patch}
+use Rattle.patch_log.specs.Opening.{IsRunRead}
 use Rattle.patch_log.specs.RunFaults.{HasRunFault}
 use Rattle.patch_log.specs.declared.run.RunFault.TheVariants as runs
-use Rattle.patch_meaning.specs.Checked.{CheckedPatch, Refuses}
+use Rattle.patch_meaning.specs.Checked.{Refuses}
 use Rattle.patch_meaning.specs.Patch.{IsPatch, IsPatchFault, Meaning}
 use Rattle.patch_meaning.specs.Stream.{IsStreamFault}
 use Rattle.patch_meaning.specs.declared.fault.PatchFault.{PatchFault}
@@ -77,7 +78,7 @@ StopsAsking Ends out out' other = ⊥
 -- the text may be appended: it is a patch, or a run of patches
 abbrev pub MayBeAppended : Appended → List ℕ → Type 0
 MayBeAppended appended.Patch text = (meaning : Meaning) × IsPatch text meaning
-MayBeAppended appended.Run text = (patches : List CheckedPatch) × IsRunOf text patches
+MayBeAppended appended.Run text = (run : List Patch) × IsRunRead text run
 
 -- the input was read to its end, and this is its text, where it tells it
 abbrev pub IsReadAs : Channel → Channel → List ℕ → Type 0

@@ -9,8 +9,8 @@ use Rattle.log_base.specs.declared.source_info.SourceInfo.{SourceInfo}
 use Rattle.http_heads.specs.declared.message.RawRequest.{RawRequest}
 use Rattle.http_session.specs.declared.answerer.Said.{Said}
 use Rattle.http_session.specs.declared.answerer.Said.TheVariants.{Reply, OutOfMemory}
-use Rattle.patch_log.specs.Log.{bare, IsRunOf}
-use Rattle.patch_log.specs.Ready.{RunView, bare_run}
+use Rattle.patch_log.specs.Log.{bare}
+use Rattle.patch_log.specs.Opening.{IsRunRead}
 use Rattle.patch_log.specs.RunFaults.{HasRunFault}
 use Rattle.patch_log.specs.declared.run.RunFault.{RunFault}
 use Rattle.patch_log.specs.declared.run.RunFault.TheVariants as run
@@ -109,19 +109,12 @@ append_of patch = append (bare patch)
 abbrev pub ByPatch : List ℕ → ℕ → List Step → Said → Type 0
 ByPatch text = ByText (IsPatchOf text) append_of (IsPatchFault text) patch_answer
 
--- the text is this run of patches, and this call appends it
-abbrev pub IsItsRun : List ℕ → RunView → Type 0
-IsItsRun text run = (run.text ≡ text) × IsRunOf text run.patches
-
-abbrev pub append_run_of : RunView → LogCall
-append_run_of run = append_run (bare_run run)
-
 -- the first fault of a text that is no run
 abbrev pub IsRunFault : List ℕ → RunFault → Type 0
 IsRunFault text fault = (fault ≢ run.OutOfMemory) × HasRunFault text fault
 
 abbrev pub ByRun : List ℕ → ℕ → List Step → Said → Type 0
-ByRun text = ByText (IsItsRun text) append_run_of (IsRunFault text) run_answer
+ByRun text = ByText (IsRunRead text) append_run (IsRunFault text) run_answer
 
 -- what a call on the log of a slot comes to
 abbrev pub BySlot : SlotCall → ℕ → List Step → Said → Type 0

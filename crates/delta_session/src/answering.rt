@@ -93,9 +93,7 @@ impl<D: Disk> Answerer for Hall<D> {
         state: &mut HallPass<D>,
         request: RawRequest,
     ) -> Said {
-        let call = read_call(alloc, &request);
-        drop(request);
-        match call {
+        match read_call(alloc, request) {
             Ok(call) => self.serve(rt, alloc, state, call),
             Err(fault) => refuse(alloc, fault),
         }

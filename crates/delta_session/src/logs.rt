@@ -13,8 +13,7 @@ use delta_base::{Bytes, Id, Text};
 use disk_model::Disk;
 use http_session::Said;
 use log_base::LogInfo;
-use patch_log::check_run;
-use patch_meaning::check_patch;
+use patch_log::{read_patch, read_run};
 use rpc_answers::Answer;
 use std::alloc::Global;
 use std::sync::Wait;
@@ -51,19 +50,18 @@ impl<D: Disk> Hall<D> {
         alloc: Global,
         pass: &mut HallPass<D>,
         slot: u32,
-        text: &[u8],
+        text: Bytes,
     ) -> Said
         requires ready { IsHallPass D.Disk self.now pass.old.lists }
         requires slot { (0 < slot) × (slot ≤ length self.now.logs.logs) }
-        ensures takes { TakesNoNumber D.Disk self.now (ByPatch text.now slot) pass.old
+        ensures takes { TakesNoNumber D.Disk self.now (ByPatch text slot) pass.old
             result pass.new }
         ensures printable { IsPrintableSaid result }
         ensures ready { IsHallPass D.Disk self.now pass.new.lists }
     {
-        match check_patch(alloc, text) {
-            Ok(patch) => {
-                let answer = self.logs.append(rt, &mut pass.logs, slot, &patch);
-                drop(patch);
+        match read_patch(alloc, text) {
+            Ok(run) => {
+                let answer = self.logs.append(rt, &mut pass.logs, slot, run);
                 say(alloc, append_answer(answer))
             }
             Err(fault) => say_fault(alloc, fault),
@@ -77,20 +75,20 @@ impl<D: Disk> Hall<D> {
         alloc: Global,
         pass: &mut HallPass<D>,
         slot: u32,
-        text: &[u8],
+        text: Bytes,
     ) -> Said
         requires ready { IsHallPass D.Disk self.now pass.old.lists }
         requires slot { (0 < slot) × (slot ≤ length self.now.logs.logs) }
-        ensures takes { TakesNoNumber D.Disk self.now (ByRun text.now slot) pass.old
+        ensures takes { TakesNoNumber D.Disk self.now (ByRun text slot) pass.old
             result pass.new }
         ensures printable { IsPrintableSaid result }
         ensures ready { IsHallPass D.Disk self.now pass.new.lists }
     {
-        match check_run(alloc, text) {
+        match read_run(alloc, text) {
             Ok(run) => {
-                let answer = self.logs.append_run(rt, &mut pass.logs, slot, &run);
-                drop(run);
-                say(alloc, append_answer(answer))
+                let count = run.count();
+                let answer = self.logs.append(rt, &mut pass.logs, slot, run);
+                say(alloc, append_answer(answer.as_run(count)))
             }
             Err(fault) => say_run_fault(alloc, fault),
         }
@@ -128,16 +126,8 @@ impl<D: Disk> Hall<D> {
             SlotCall::FetchId(id) => {
                 say_fetched(alloc, logs.fetch_id(rt, &mut pass.logs, slot, id))
             }
-            SlotCall::Append(text) => {
-                let said = self.append_to(rt, alloc, pass, slot, text.as_slice());
-                drop(text);
-                said
-            }
-            SlotCall::AppendRun(text) => {
-                let said = self.append_run_to(rt, alloc, pass, slot, text.as_slice());
-                drop(text);
-                said
-            }
+            SlotCall::Append(text) => self.append_to(rt, alloc, pass, slot, text),
+            SlotCall::AppendRun(text) => self.append_run_to(rt, alloc, pass, slot, text),
         }
     }
 

@@ -1,6 +1,7 @@
 mod MediaLemmas
 mod MethodLemmas
 mod PathLemmas
+mod PostLemmas
 mod RequestLemmas
 mod RouteLemmas
 mod RowLemmas

@@ -75,7 +75,7 @@ pub(crate) fn tell_fault(fault: CallFault, told: &mut Told) {
 }
 
 /// Tells what a request asks, or why it is no call.
-pub(crate) fn tell_asked(alloc: Global, request: &RawRequest, told: &mut Told) {
+pub(crate) fn tell_asked(alloc: Global, request: RawRequest, told: &mut Told) {
     match read_call(alloc, request) {
         Ok(call) => {
             tell_call(&call, told);

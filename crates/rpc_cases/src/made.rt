@@ -1,12 +1,13 @@
 //! Answers that are made of words, as whole replies.
 ghost use Rattle.std.specs.Option.{option_copied};
-ghost use Rattle.http_text.specs.Print.{IsAllow};
+ghost use Rattle.http_text.specs.Print.{IsAllow, IsPrintableReply};
 ghost use Rattle.rpc_answers.specs.Answers.{NamesItsFault};
 
 use crate::values::{bytes_of, tell_text, text_at, word};
 use case_scripts::{Answer as Told, Words};
-use delta_base::{Id, Listing, read_id};
-use http_text::print_reply;
+use delta_base::{Bytes, Id, Listing, OutOfMemory, read_id};
+use http_heads::RawReply;
+use http_text::{ReplyFront, print_reply};
 use log_base::{FullKind, SourceInfo};
 use rpc_answers::{Answer, into_reply};
 use std::alloc::Global;
@@ -86,12 +87,26 @@ fn allow(words: &Words) -> Option<&'static str>
     }
 }
 
+// The whole text of a reply.
+fn text_of(
+    alloc: Global,
+    reply: &RawReply,
+    allow: Option<&'static str>,
+) -> Result<Bytes, OutOfMemory>
+    requires { IsPrintableReply reply.now (option_copied allow) }
+{
+    let ReplyFront { text, of_body } = print_reply(alloc, reply, allow)?;
+    let mut text = text.into_vec();
+    text.extend_from_slice(&reply.body.as_slice()[of_body..])?;
+    Ok(Bytes::from_vec(text))
+}
+
 /// `reply ANSWER ..`, `last ANSWER ..`: the text of an answer's reply, behind which the connection stays or ends.
 pub(crate) fn reply(alloc: Global, words: &Words, close: bool, told: &mut Told) {
     let allow = allow(words);
     match into_reply(alloc, answer(alloc, words), close) {
         Ok(reply) => {
-            let text = print_reply(alloc, &reply, allow);
+            let text = text_of(alloc, &reply, allow);
             drop(reply);
             tell_text(text, told);
         }

@@ -44,9 +44,7 @@ fn request(alloc: Global, words: &Words) -> RawRequest {
 
 /// `call METHOD PATH [BODY [TYPE [CODING]]]`: what a request asks, or why it is no call.
 pub(crate) fn call(alloc: Global, words: &Words, told: &mut Told) {
-    let request = request(alloc, words);
-    tell_asked(alloc, &request, told);
-    drop(request);
+    tell_asked(alloc, request(alloc, words), told);
 }
 
 // The text of the request that a client sends for a call.
@@ -59,7 +57,7 @@ fn printed(alloc: Global, call: &Call) -> Result<Bytes, OutOfMemory> {
 }
 
 // Tells the text of the request for the call that a request is, or why it is none.
-fn tell_sent(alloc: Global, request: &RawRequest, told: &mut Told) {
+fn tell_sent(alloc: Global, request: RawRequest, told: &mut Told) {
     match read_call(alloc, request) {
         Ok(call) => {
             let text = printed(alloc, &call);
@@ -79,18 +77,15 @@ fn tell_read(alloc: Global, text: &[u8], told: &mut Told) {
     let request = reader.take();
     drop(reader);
     if let Some(request) = request {
-        tell_asked(alloc, &request, told);
-        drop(request);
+        tell_asked(alloc, request, told);
     }
 }
 
 /// `sends METHOD PATH [BODY]`: the text that a client sends for the call that a request is. The text asks the same.
 pub(crate) fn sends(alloc: Global, words: &Words, told: &mut Told) {
-    let request = request(alloc, words);
-    tell_sent(alloc, &request, told);
+    tell_sent(alloc, request(alloc, words), told);
     let mut asked = Told::new(alloc);
-    tell_asked(alloc, &request, &mut asked);
-    drop(request);
+    tell_asked(alloc, request(alloc, words), &mut asked);
     let mut again = Told::new(alloc);
     tell_read(alloc, told.bytes(), &mut again);
     if again.bytes() != asked.bytes() {

@@ -1,7 +1,9 @@
 use Rattle.std.proofs.Common.{[], refl, subst, None}
 use Rattle.patch_log.specs.declared.run.RunFault.TheVariants as fault
 use Rattle.rpc_answers.specs.declared.answer.Answer.{Answer}
-use Rattle.delta_session.specs.Answered.{ByRun, IsItsRun, IsRunFault, Says, append_run_of}
+use Rattle.chain_core.specs.Replies.{append_run, as_run}
+use Rattle.patch_log.specs.Opening.{IsRunRead}
+use Rattle.delta_session.specs.Answered.{ByRun, IsRunFault, Says}
 use Rattle.delta_session.specs.Steps.{HallView, HallSight}
 use Rattle.delta_session.specs.Telling.{run_answer}
 use Rattle.delta_session.proofs.Asked.{takes_text, moved, ready_behind}
@@ -12,17 +14,17 @@ pub returns-in-Ok-clause-takes : goal.returns-in-Ok-clause-takes
 returns-in-Ok-clause-takes g c =
     let hall : HallView g.row.D.Denot = record { registry = c.self.inside.registry; logs = c.self.inside.logs } in
     let before : HallSight = record { lists = record { registry = c.pass.inside.registry; logs = c.pass.inside.logs }; dice = c.pass.inside.dice } in
-    let after : HallSight = record { lists = record { registry = c.pass.inside.registry; logs = c.append_run-answer.new.pass }; dice = c.pass.inside.dice } in
-    moved g.D.Disk c.args.self.now hall c.self.view_is c.args.pass.now before c.pass.view_is (ByRun c.args.text.now c.args.slot) c.say.result after
-    (takes_text g.D.Disk hall before c.append_run-answer.new.pass c.args.slot (IsItsRun c.args.text.now) append_run_of (IsRunFault c.args.text.now) run_answer c.in-Ok.run' c.append_run-answer.result c.say.result c.in-Ok.ensures.ok c.append_run-answer.ensures.called
+    let after : HallSight = record { lists = record { registry = c.pass.inside.registry; logs = c.append-answer.new.pass }; dice = c.pass.inside.dice } in
+    moved g.D.Disk c.args.self.now hall c.self.view_is c.args.pass.now before c.pass.view_is (ByRun c.args.text c.args.slot) c.say.result after
+    (takes_text g.D.Disk hall before c.append-answer.new.pass c.args.slot (IsRunRead c.args.text) append_run (IsRunFault c.args.text) run_answer c.in-Ok.run' c.as_run.result c.say.result c.in-Ok.ensures.ok (rw (c.as_run.ensures, c.count-count.ensures.count) c.append-answer.ensures.called)
     (subst (λ (a : Answer). Says a None c.say.result) c.append_answer.ensures c.say.ensures.says))
 
 pub returns-in-Ok-clause-ready : goal.returns-in-Ok-clause-ready
 returns-in-Ok-clause-ready g c =
-    let after : HallSight = record { lists = record { registry = c.pass.inside.registry; logs = c.append_run-answer.new.pass }; dice = c.pass.inside.dice } in
-    ready_behind g.D.Disk c.args.self.now c.args.pass.now c.requires.ready (ByRun c.args.text.now c.args.slot) c.say.result after (returns-in-Ok-clause-takes g c)
+    let after : HallSight = record { lists = record { registry = c.pass.inside.registry; logs = c.append-answer.new.pass }; dice = c.pass.inside.dice } in
+    ready_behind g.D.Disk c.args.self.now c.args.pass.now c.requires.ready (ByRun c.args.text c.args.slot) c.say.result after (returns-in-Ok-clause-takes g c)
 
 pub returns-in-Err-clause-takes : goal.returns-in-Err-clause-takes
 returns-in-Err-clause-takes g c =
     let said = c.say_run_fault.ensures in
-    ([], refl, fault_said (IsItsRun c.args.text.now) append_run_of (IsRunFault c.args.text.now) run_answer c.args.slot fault.OutOfMemory c.in-Err.fault c.say_run_fault.result said.want said.says (run_refused c.args.text.now c.in-Err.fault c.in-Err.ensures.fault), refl)
+    ([], refl, fault_said (IsRunRead c.args.text) append_run (IsRunFault c.args.text) run_answer c.args.slot fault.OutOfMemory c.in-Err.fault c.say_run_fault.result said.want said.says (run_refused c.args.text c.in-Err.fault c.in-Err.ensures.fault), refl)

@@ -1,9 +1,9 @@
-use Rattle.std.proofs.Common.{ℕ, List, sym, subst}
+use Rattle.std.proofs.Common.{ℕ, sym, subst}
 use Rattle.chain_core.specs.Replies as log
 use Rattle.shared_log.specs.Replies.{reply_fetched}
 use Rattle.shared_log.specs.declared.replies.Fetched.{Fetched}
 use Rattle.delta_session.specs.declared.logs.SlotCall.{SlotCall}
-use Rattle.delta_session.specs.Answered.{ByLog, ByPatch, ByRun, BySlot, TakesNoNumber}
+use Rattle.delta_session.specs.Answered.{ByLog, BySlot, TakesNoNumber}
 use Rattle.delta_session.specs.Steps.{HallView, HallSight}
 use Rattle.delta_session.proofs.Asked.{takes_visit, takes_fetched, moved, ready_behind}
 use Rattle.delta_session.proofs.hall.Hall.ask_at.Goals as goal
@@ -67,10 +67,8 @@ returns-in-FetchId-clause-ready g c =
 
 pub returns-in-Append-clause-takes : goal.returns-in-Append-clause-takes
 returns-in-Append-clause-takes g c =
-    subst (λ (call : SlotCall). TakesNoNumber g.D.Disk c.args.self.now (BySlot call c.args.slot) c.args.pass.now c.append_to-said.result c.append_to-said.new.pass) (sym c.in-Append.is)
-    (subst (λ (text : List ℕ). TakesNoNumber g.D.Disk c.args.self.now (ByPatch text c.args.slot) c.args.pass.now c.append_to-said.result c.append_to-said.new.pass) c.as_slice.ensures c.append_to-said.ensures.takes)
+    subst (λ (call : SlotCall). TakesNoNumber g.D.Disk c.args.self.now (BySlot call c.args.slot) c.args.pass.now c.append_to.result c.append_to.new.pass) (sym c.in-Append.is) c.append_to.ensures.takes
 
 pub returns-in-AppendRun-clause-takes : goal.returns-in-AppendRun-clause-takes
 returns-in-AppendRun-clause-takes g c =
-    subst (λ (call : SlotCall). TakesNoNumber g.D.Disk c.args.self.now (BySlot call c.args.slot) c.args.pass.now c.append_run_to-said.result c.append_run_to-said.new.pass) (sym c.in-AppendRun.is)
-    (subst (λ (text : List ℕ). TakesNoNumber g.D.Disk c.args.self.now (ByRun text c.args.slot) c.args.pass.now c.append_run_to-said.result c.append_run_to-said.new.pass) c.as_slice-in-AppendRun.ensures c.append_run_to-said.ensures.takes)
+    subst (λ (call : SlotCall). TakesNoNumber g.D.Disk c.args.self.now (BySlot call c.args.slot) c.args.pass.now c.append_run_to.result c.append_run_to.new.pass) (sym c.in-AppendRun.is) c.append_run_to.ensures.takes
