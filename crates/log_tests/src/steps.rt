@@ -99,8 +99,13 @@ fn ready_of(made: Result<Ready, Run>) -> Result<Ready, Fail> {
 /// What pass 7 is answered of a run for which it has taken the memory.
 pub fn add(alloc: Global, log: &mut LogState<MemDisk>, texts: &[&[u8]]) -> Result<LogAnswer, Fail> {
     let run = run_of(alloc, texts)?;
-    let ready = ready_of(log.reserve(run, 7))?;
-    Ok(log.append_reserved(ready))
+    match log.reserve(run, 7) {
+        Ok(ready) => Ok(log.append_reserved(ready)),
+        Err(run) => {
+            drop(run);
+            Err(Fail::from("no memory"))
+        }
+    }
 }
 
 fn add_ready(
