@@ -40,7 +40,7 @@ fn main(rt: HostRuntime) -> io::Result<ExitCode> {
         start.elapsed(&rt)?.as_micros()
     )?;
     let start = Instant::now(&rt)?;
-    let Ok(matched) = match_keys::<Brand>(&index, count, Blank::new(1)) else {
+    let Ok(matched) = match_keys::<Brand>(&mut index, count, Blank::new(1)) else {
         return Ok(ExitCode::from(4));
     };
     println!(rt;

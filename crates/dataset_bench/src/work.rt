@@ -19,7 +19,7 @@ pub fn insert_keys(index: &mut QuadIndex, count: u32) -> Result<u32, OutOfMemory
 
 /// Matches the patterns of so many numbers, and counts what is found.
 pub fn match_keys<L: Ledger>(
-    index: &QuadIndex,
+    index: &mut QuadIndex,
     count: u32,
     blank: Blank,
 ) -> Result<usize, OutOfMemory>

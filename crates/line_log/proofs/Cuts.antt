@@ -2,8 +2,10 @@
 use Rattle.std.proofs.Common.{◌≡◌, ℕ, zero, suc, ◌+◌, ◌-◌, ◌<◌, ◌≤◌, ◌==◌, Bool, List, [], ◌∷◌, ◌++◌, length, take, drop, get_or, refl, sym, ap, subst, ◌∙◌, length-append, arith}
 use Rattle.std.proofs.Math.Seq.{take-length}
 use Rattle.std.specs.Prelude.{IsTrue}
-use Rattle.std.proofs.lemmas.List.{take-append-le, drop-append-le, take-take, drop-take, take_all, length-take-le}
+use Rattle.std.proofs.lemmas.List.Sums.{sum_by-cons}
+use Rattle.std.proofs.lemmas.List.{take-append-le, drop-append-le, take-take, drop-take, take_all, length-drop, length-take-le}
 use Rattle.line_log.specs.declared.edits.Edit.{Edit}
+use Rattle.line_log.specs.Edits.{bytes_of}
 use Rattle.line_log.specs.Held.{Fill, cut_edits, start_of}
 use Rattle.line_log.specs.Sorting.{adds_at, line_at}
 
@@ -124,3 +126,14 @@ module _ (es fs : List Edit) (text front : List ℕ) (count left : ℕ) (few : c
   fill_truncated =
       let long : length front ≡ left = ap length f ∙ length-take-le left text (omega (arith, h, start_to 0 (length text) count es fill (omega (arith, few)))) in
       subst (λ (l : List Edit). Fill 0 l (length front)) (sym e) (subst (Fill 0 (take count es)) (sym long) filled)
+
+-- ---- the bytes of all lines
+
+pub bytes-cut : (s t : ℕ) (es : List Edit) (text : List ℕ) → Fill s es t → t ≤ length text → bytes_of (cut_edits s es text) + s ≡ t
+bytes-cut s t [] text f high = omega (arith, f)
+bytes-cut s t (e ∷ es) text f high =
+    let inside : e.end ≤ t = fill_to e.end t es f.1 in
+    let left : length (drop s text) ≡ length text - s = length-drop s text in
+    let one : length (take (e.end - s) (drop s text)) ≡ e.end - s = length-take-le (e.end - s) (drop s text) (omega (arith, left, inside, high, f.0)) in
+    let sum : bytes_of (cut_edits s (e ∷ es) text) ≡ length (take (e.end - s) (drop s text)) + bytes_of (cut_edits e.end es text) = sum_by-cons (λ (e : Bool × List ℕ). length e.1) (e.adds, take (e.end - s) (drop s text)) (cut_edits e.end es text) in
+    omega (arith, one, sum, f.0, bytes-cut e.end t es text f.1 high)

@@ -1,5 +1,5 @@
 -- What edits make that are sorted by their lines: the line of the last edit of each, where that one adds.
-use Rattle.std.proofs.Common.{◌≡◌, ℕ, Bool, true, false, cond, not, ◌&&◌, List, [], ◌∷◌, ◌++◌, length, ◌+◌, ◌≤◌, arith, refl, sym, ap, ◌∙◌, append_assoc, append-nil}
+use Rattle.std.proofs.Common.{◌≡◌, ℕ, Bool, true, false, cond, not, ◌&&◌, List, [], ◌∷◌, ◌++◌, refl, sym, ap, ◌∙◌, append_assoc, append-nil}
 use Rattle.std.specs.BTreeMap.{is_at}
 use Rattle.std.specs.BTreeSet.{insert_key}
 use Rattle.std.specs.Cmp.{alike_right}
@@ -11,13 +11,12 @@ use Rattle.std.specs.Set.{remove_key}
 use Rattle.std.specs.declared.cmp.Ordering.{Ordering}
 use Rattle.std.specs.declared.cmp.Ordering.TheVariants.{Less, Equal, Greater}
 use Rattle.std.proofs.lemmas.Cmp.{tied_itself}
-use Rattle.std.proofs.lemmas.List.{length-map}
 use Rattle.std.proofs.lemmas.Map.Lookups.{exact_bytes}
 use Rattle.line_log.specs.Edits.{edit_lines, edited, made}
 use Rattle.line_log.specs.Sorting.{additions, edits_at, keep}
 use Rattle.line_log.proofs.Rows.{row_cmp}
 use Rattle.line_log.proofs.Sets.{all_more, equal}
-use Rattle.line_log.proofs.Standing.{AreRising, same}
+use Rattle.line_log.proofs.Standing.{AreRising, rising_made, same}
 
 abbrev cmp : List ℕ → List ℕ → Ordering
 cmp = slice_cmp nat_cmp
@@ -161,32 +160,6 @@ added_rise (l ∷ lines) s = (all_up lines s.0, added_rise lines s.1)
 pub made_added : (lines : List (List ℕ)) → AreRising lines → made (additions lines) ≡ lines
 made_added lines s = made_keep (additions lines) (added_rise lines s) ∙ keep_added lines s
 
--- ---- there are no more lines than edits
-
-insert-length : (l : List ℕ) (lines : List (List ℕ)) → length (insert_key cmp lines l) ≤ length lines + 1
-insert-length l [] = omega arith
-insert-length l (k ∷ lines) = by (cmp l k) (insert-length l lines)
-  where
-    by : (r : Ordering) → length (insert_key cmp lines l) ≤ length lines + 1 → length (match_ordering r (l ∷ k ∷ lines) (k ∷ lines) (k ∷ insert_key cmp lines l)) ≤ length (k ∷ lines) + 1
-    by Less h = omega arith
-    by Equal h = omega arith
-    by Greater h = omega (arith, h)
-
-remove-length : (test : List ℕ → Bool) (lines : List (List ℕ)) → length (remove_key test lines) ≤ length lines
-remove-length test [] = omega arith
-remove-length test (k ∷ lines) = by (test k) (remove-length test lines)
-  where
-    by : (b : Bool) → length (remove_key test lines) ≤ length lines → length (cond b lines (k ∷ remove_key test lines)) ≤ length (k ∷ lines)
-    by true h = omega arith
-    by false h = omega (arith, h)
-
-edit-length : (e : Bool × List ℕ) (lines : List (List ℕ)) → length (edit_lines e lines) ≤ length lines + 1
-edit-length (true, l) lines = insert-length l lines
-edit-length (false, l) lines = omega (arith, remove-length (is_at (cmp l)) lines)
-
-edited-length : (es : List (Bool × List ℕ)) (lines : List (List ℕ)) → length (edited es lines) ≤ length lines + length es
-edited-length [] lines = omega arith
-edited-length (e ∷ es) lines = omega (arith, edited-length es (edit_lines e lines), edit-length e lines)
-
-pub fewer : (es : List (Bool × List ℕ)) → length (additions (made es)) ≤ length es
-fewer es = let add : List ℕ → Bool × List ℕ = λ l. (true, l) in omega (arith, edited-length es [], length-map (made es) add)
+-- what stays of edits makes their lines
+pub made_settled : (es : List (Bool × List ℕ)) → made (additions (made es)) ≡ made es
+made_settled es = made_added (made es) (rising_made es)

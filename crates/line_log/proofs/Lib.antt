@@ -2,6 +2,6 @@ pub mod Folds
 mod Sets
 mod Standing
 mod Rows
-mod Keeping
+pub mod Keeping
 mod Cuts
 mod Shown

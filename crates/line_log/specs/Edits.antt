@@ -1,5 +1,5 @@
 -- Lines in the order of their bytes, each once, and what edits make of them.
-use Rattle.std.specs.Prelude.{ℕ, Bool, true, false, List, [], ◌∷◌}
+use Rattle.std.specs.Prelude.{ℕ, Bool, true, false, List, [], ◌∷◌, length, sum_by}
 use Rattle.std.specs.Ordering.{nat_cmp}
 use Rattle.std.specs.Cmp.Lexicographic.{slice_cmp}
 use Rattle.std.specs.BTreeMap.{is_at}
@@ -19,3 +19,7 @@ edited (e ∷ es) lines = edited es (edit_lines e lines)
 -- the lines that edits, one after another, make of none, in the order of their bytes
 abbrev pub made : List (Bool × List ℕ) → List (List ℕ)
 made edits = edited edits []
+
+-- how many bytes the lines of edits have together
+abbrev pub bytes_of : List (Bool × List ℕ) → ℕ
+bytes_of edits = sum_by (λ e. length e.1) edits

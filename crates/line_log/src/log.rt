@@ -1,8 +1,8 @@
 //! A log of edits of lines.
-ghost use Rattle.std.specs.Prelude.{◌≡◌, ◌≤◌, ◌<◌, ◌++◌, ◌∷◌, ◌↔◌, []};
+ghost use Rattle.std.specs.Prelude.{◌≡◌, ◌<◌, ◌++◌, ◌∷◌, ◌↔◌, []};
 ghost use Rattle.std.specs.Prelude.{length, take, IfOk, OnOk, OnErr, IsTrue};
 ghost use Rattle.std.specs.List.{AllByRecursion};
-ghost use Rattle.line_log.specs.Edits.{made};
+ghost use Rattle.line_log.specs.Edits.{bytes_of, made};
 ghost use Rattle.line_log.specs.Sorting.{HasLinesOf, IsRow, additions, edits_at, keep, line_at};
 ghost use Rattle.line_log.specs.Sorting.{lines_at, numbered, lines_numbered, stands_at};
 
@@ -104,10 +104,17 @@ impl LineLog {
         }
     }
 
-    /// Keeps of the edits only what the lines need. Where memory is wanting, all stays as it was.
+    /// How many bytes the lines of the edits have together.
+    pub fn bytes(&self) -> usize
+        ensures { result ≡ bytes_of self.now }
+    {
+        self.text.len()
+    }
+
+    /// Keeps one edit a line that stands, in the order of the lines' bytes, and nothing else. Where
+    /// memory is wanting, all stays as it was.
     pub fn settle(&mut self) -> Result<(), OutOfMemory>
-        ensures ok { OnOk result (made self.new ≡ made self.old) }
-        ensures fewer { length self.new ≤ length self.old }
+        ensures ok { OnOk result (self.new ≡ additions (made self.old)) }
         ensures err { OnErr result (self.new ≡ self.old) }
     {
         let settled = self.settled()?;

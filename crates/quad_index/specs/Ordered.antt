@@ -1,15 +1,15 @@
--- One order of the keys.
-use Rattle.std.specs.Prelude.{◌≡◌, Bool, List, [], ◌∷◌, map}
-use Rattle.std.specs.List.{list_any}
+-- The keys in an order.
+use Rattle.std.specs.Prelude.{◌≡◌, Bool, List, map}
+use Rattle.std.specs.List.{AllByRecursion, filter, list_any}
 use Rattle.std.specs.BTreeMap.{is_at}
+use Rattle.std.specs.BTreeMap.Range.{range_contains}
 use Rattle.std.specs.BTreeSet.{insert_key}
 use Rattle.std.specs.Set.{remove_key}
+use Rattle.std.specs.declared.ops.Bound.TheVariants.{Included, Unbounded}
 use Rattle.quad_index.specs.declared.key.QuadKey.{QuadKey}
 use Rattle.quad_index.specs.declared.order.Order.{Order}
-use Rattle.quad_index.specs.Six.{six}
-use Rattle.std.specs.List.{AllByRecursion}
+use Rattle.quad_index.specs.declared.order.Order.TheVariants.{Gspo}
 use Rattle.quad_index.specs.declared.order.Placed.{Placed}
-use Rattle.quad_index.specs.Key.{has_key}
 use Rattle.quad_index.specs.Order.{placed_cmp, arranged, restored}
 
 -- an order, and the keys in it
@@ -30,13 +30,20 @@ without_key key kept = record {
   keys = remove_key (is_at (placed_cmp (arranged kept.order key))) kept.keys;
 }
 
--- the keys of the first of several orders
-abbrev pub keys_of : List OrderedKeys → List QuadKey
-keys_of [] = []
-keys_of (kept ∷ _) = map (restored kept.order) kept.keys
+-- the keys as they stand in the order
+abbrev pub keys_of : OrderedKeys → List QuadKey
+keys_of kept = map (restored kept.order) kept.keys
 
--- all six orders hold the same keys
-pub record AreSix (orders : List OrderedKeys) : Type 0 where
-  pub tags : map (λ kept. kept.order) orders ≡ six
-  pub same : AllByRecursion
-      (λ kept. (key : QuadKey) → keeps kept key ≡ has_key (keys_of orders) key) orders
+-- those of the keys that aren't below one
+abbrev pub from_key : Placed → List Placed → List Placed
+from_key low keys = filter (range_contains placed_cmp (Included low) Unbounded) keys
+
+-- each of the orders holds the keys of this one
+abbrev pub HoldSame : OrderedKeys → List OrderedKeys → Type 0
+HoldSame first others =
+    AllByRecursion (λ kept. (key : QuadKey) → keeps kept key ≡ keeps first key) others
+
+-- the first order is by graph, subject, predicate and object, and the others hold its keys
+pub record AreSame (first : OrderedKeys) (others : List OrderedKeys) : Type 0 where
+  pub leads : first.order ≡ Gspo
+  pub same : HoldSame first others

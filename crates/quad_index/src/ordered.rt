@@ -1,20 +1,18 @@
 //! The keys in one order.
-ghost use Rattle.std.specs.Prelude.{◌≡◌, ◌+◌, ◌≤◌, [], IsTrue, IfOk, OnOk, OnErr, length, map, not};
+ghost use Rattle.std.specs.Prelude.{◌≡◌, [], IfOk, OnOk, OnErr, not};
 ghost use Rattle.std.specs.Bool.{OnFalse};
-ghost use Rattle.std.specs.List.{filter};
 ghost use Rattle.std.specs.List.Sorted.{IsStrictlySortedBy};
-ghost use Rattle.quad_index.specs.Key.{matches_key};
-ghost use Rattle.quad_index.specs.Order.{placed_cmp, restored, binds_front};
-ghost use Rattle.quad_index.specs.Ordered.{keeps, with_key, without_key};
+ghost use Rattle.quad_index.specs.declared.key.QuadKey.{QuadKey as Key};
+ghost use Rattle.quad_index.specs.Order.{placed_cmp, arranged};
+ghost use Rattle.quad_index.specs.Ordered.{keeps, with_key, without_key, keys_of, from_key};
 
-use crate::key::{KeyPattern, QuadKey, matches};
-use crate::order::{Order, Placed, arranged, lowest, restored};
-use crate::steps::Steps;
+use crate::key::QuadKey;
+use crate::order::{Order, Placed, arranged, restored};
+use crate::steps::Walk;
 use delta_base::OutOfMemory;
 use std::alloc::Global;
 use std::collections::BTreeSet;
 use std::marker::Model;
-use std::sync::ledger::Ledger;
 
 /// An order, and the keys in it.
 #[derive(Drop)]
@@ -39,6 +37,12 @@ impl Ordered {
             order,
             keys: BTreeSet::new(alloc),
         }
+    }
+
+    pub(crate) fn order(&self) -> Order
+        ensures { result ≡ self.now.order }
+    {
+        self.order
     }
 
     pub(crate) fn contains(&self, key: &QuadKey) -> bool
@@ -69,7 +73,7 @@ impl Ordered {
 
     /// All keys, in the order.
     pub(crate) fn all(&self, alloc: Global) -> Result<Vec<QuadKey>, OutOfMemory>
-        ensures { IfOk result (λ all. all.items ≡ map (restored self.now.order) self.now.keys) }
+        ensures { IfOk result (λ all. all.items ≡ keys_of self.now) }
     {
         let order = self.order;
         Ok(
@@ -80,48 +84,25 @@ impl Ordered {
         )
     }
 
-    /// The keys that match, each looked at once, and one more at most.
-    pub(crate) fn matching<L: Ledger>(
-        &self,
-        alloc: Global,
-        pattern: &KeyPattern,
-        steps: &mut Steps<L>,
-    ) -> Result<Vec<QuadKey>, OutOfMemory>
-        requires { IsTrue (binds_front self.now.order pattern.now) }
-        ensures found { IfOk result (λ found. found.items
-            ≡ filter (matches_key pattern.now) (map (restored self.now.order) self.now.keys)) }
-        ensures cost { IfOk result (λ found. steps.new ≤ steps.old + length found.items + 1) }
-        ensures counted { IfOk result (λ found. steps.old + length found.items ≤ steps.new) }
+    /// A walk over the keys, from where this key stands or would stand.
+    pub(crate) fn walk(&self, low: &QuadKey) -> Walk<'_>
+        ensures left { result ≡ from_key (arranged self.now.order low.now) self.now.keys }
         ensures sorted { IsStrictlySortedBy placed_cmp self.now.keys }
     {
-        self.keys.len();
-        scan(alloc, self.order, &self.keys, pattern, steps)
+        Walk::new(&self.keys, arranged(self.order, low))
     }
-}
 
-// Looks at the keys from the lowest that may match on, up to the first that doesn't.
-fn scan<L: Ledger>(
-    alloc: Global,
-    order: Order,
-    keys: &BTreeSet<Placed>,
-    pattern: &KeyPattern,
-    steps: &mut Steps<L>,
-) -> Result<Vec<QuadKey>, OutOfMemory>
-    requires { IsTrue (binds_front order pattern.now) }
-    ensures found { IfOk result (λ found.
-        found.items ≡ filter (matches_key pattern.now) (map (restored order) keys.now.keys)) }
-    ensures cost { IfOk result (λ found. steps.new ≤ steps.old + length found.items + 1) }
-    ensures counted { IfOk result (λ found. steps.old + length found.items ≤ steps.new) }
-{
-    let mut found = Vec::new(alloc);
-    let low = arranged(order, &lowest(pattern));
-    for placed in keys.range(low..) {
-        steps.tick();
-        let key = restored(order, placed);
-        if !matches(pattern, &key) {
-            break;
-        }
-        found.push(key)?;
+    /// The same keys in another order.
+    pub(crate) fn in_order(&self, alloc: Global, order: Order) -> Result<Ordered, OutOfMemory>
+        ensures order { IfOk result (λ made. made.order ≡ order) }
+        ensures same { IfOk result (λ made. (key : Key) → keeps made key ≡ keeps self.now key) }
+    {
+        let from = self.order;
+        let keys = self
+            .keys
+            .iter()
+            .map(|placed| arranged(order, &restored(from, placed)))
+            .collect(alloc)?;
+        Ok(Ordered { order, keys })
     }
-    Ok(found)
 }

@@ -1,15 +1,16 @@
 //! The lines of keys, in order, without a copy of their quads.
-ghost use Rattle.std.specs.Prelude.{◌≡◌, ◌++◌, [], OnOk, IfOk, IsSome, map};
+ghost use Rattle.std.specs.Prelude.{◌≡◌, ◌∷◌, ◌++◌, [], true, OnOk, IfOk, IsSome, map};
+ghost use Rattle.line_log.specs.Edits.{made};
 ghost use Rattle.rdf_terms.specs.Line.{line, graph_text};
 ghost use Rattle.term_table.specs.Table.{term_numbered};
 ghost use Rattle.quad_keys.specs.Keys.{term_of_number, quad_of_key, quads_of, AreKnown, IsNumbered};
 
 use delta_base::{OutOfMemory, Text};
+use line_log::{LineLog, MadeLines};
 use nquads_text::push_term;
 use quad_index::{Keys, QuadKey};
 use rdf_terms::Term;
 use std::alloc::Global;
-use std::collections::BTreeSet;
 use term_table::TermTable;
 
 /// The term of a number.
@@ -64,31 +65,46 @@ pub(crate) fn key_line(
     Text::from_str(alloc, unsafe { str::from_utf8_unchecked(room) })
 }
 
-// Puts the lines of keys in their order, from the last key on.
-fn put_lines(
+// Logs the line of a key's quad, made in a room that lines share.
+fn log_line(
+    terms: &TermTable,
+    key: &QuadKey,
+    room: &mut Vec<u8>,
+    log: &mut LineLog,
+) -> Result<(), OutOfMemory>
+    requires { IsNumbered terms.now key.now }
+    ensures { OnOk result (log.new ≡ log.old ++ (true, line (quad_of_key terms.now key.now)) ∷ []) }
+{
+    room.clear();
+    push_key(room, terms, key)?;
+    log.push(true, room)
+}
+
+// Logs the lines of keys, from the last key on.
+fn log_lines(
     alloc: Global,
     terms: &TermTable,
     keys: &mut Vec<QuadKey>,
-    lines: &mut BTreeSet<Text>,
+    log: &mut LineLog,
 ) -> Result<(), OutOfMemory>
     requires known { AreKnown terms.now keys.old.items }
-    requires empty { lines.old.keys ≡ [] }
-    ensures { OnOk result (lines.new.keys ≡ map line (quads_of terms.now keys.old.items)) }
+    requires empty { log.old ≡ [] }
+    ensures { OnOk result (made log.new ≡ map line (quads_of terms.now keys.old.items)) }
 {
     let mut room = Vec::new(alloc);
     'keys: while let Some(key) = keys.pop() {
-        lines.insert(key_line(alloc, terms, &key, &mut room)?)?;
+        log_line(terms, &key, &mut room, log)?;
     }
     Ok(())
 }
 
-/// The canonical lines of the quads of keys, in the order of their bytes.
-pub fn lines(alloc: Global, terms: &TermTable, keys: Keys) -> Result<BTreeSet<Text>, OutOfMemory>
+/// The canonical lines of the quads of keys, in the order of their bytes. No quad is copied.
+pub fn lines(alloc: Global, terms: &TermTable, keys: Keys) -> Result<MadeLines, OutOfMemory>
     requires { AreKnown terms.now keys.items }
-    ensures { IfOk result (λ lines. lines.keys ≡ map line (quads_of terms.now keys.items)) }
+    ensures { IfOk result (λ lines. lines ≡ map line (quads_of terms.now keys.items)) }
 {
     let mut keys = keys.into_vec();
-    let mut lines = BTreeSet::new(alloc);
-    put_lines(alloc, terms, &mut keys, &mut lines)?;
-    Ok(lines)
+    let mut log = LineLog::new(alloc);
+    log_lines(alloc, terms, &mut keys, &mut log)?;
+    log.into_lines()
 }

@@ -1,6 +1,6 @@
 use Rattle.std.proofs.Common.{rules, ◌≡◌, refl, sym, ap, subst, ◌∙◌, map, List, length, ◌<◌, ◌∷◌}
-use Rattle.quad_index.specs.Ordered.{OrderedKeys, with_key, without_key, keys_of, AreSix}
-use Rattle.quad_index.proofs.Six.{out_again}
+use Rattle.quad_index.specs.Ordered.{OrderedKeys, with_key, without_key}
+use Rattle.quad_index.proofs.Same.{out_again}
 use Rattle.quad_index.proofs.index.+insert_new.Goals as goal
 
 pub returns-in-Err-clause-err : goal.returns-in-Err-clause-err

@@ -1,17 +1,17 @@
--- The six orders together.
-use Rattle.std.proofs.Common.{◌≡◌, ℕ, zero, suc, ◌<◌, arith, Bool, true, false, cond, not, ◌&&◌, ◌||◌, List, [], ◌∷◌, map, length, get_or, refl, sym, ◌∙◌, ap, subst}
+-- The orders together.
+use Rattle.std.proofs.Common.{◌≡◌, ℕ, zero, suc, ◌<◌, arith, Bool, true, false, cond, not, ◌&&◌, ◌||◌, List, [], ◌∷◌, ◌++◌, map, length, take, drop, append-nil, get_or, refl, sym, ◌∙◌, ap, subst}
 use mathlib.Core.Bool.{true≢false}
 use Rattle.std.specs.declared.cmp.Ordering.{Ordering}
 use Rattle.std.specs.declared.cmp.Ordering.TheVariants.{Less, Equal, Greater}
 use Rattle.std.specs.Ordering.{is_eq, eq_by_cmp, match_ordering, nat_cmp, ordering_then}
 use Rattle.std.specs.Cmp.{IsTotalOrder, eq_by_cmp_equiv, both_ways, nat_cmp_total, then_total}
 use Rattle.std.specs.List.{list_any, filter, IsDistinct, AllByRecursion}
-use Rattle.std.specs.Prelude.{Result, Ok, Err, IfOk, OnOk, OnErr}
-use Rattle.std.specs.Bool.{OnTrue, OnFalse}
 use Rattle.std.specs.List.Sorted.{IsStrictlySortedBy}
 use Rattle.std.specs.BTreeMap.{is_at}
-use Rattle.std.specs.BTreeSet.{insert_key}
+use Rattle.std.specs.BTreeSet.{BTreeSet, insert_key, IsFromIterResult}
 use Rattle.std.specs.Set.{remove_key}
+use Rattle.std.proofs.Math.ListN.{drop_of_length-le}
+use Rattle.std.proofs.lemmas.List.{take_all, length-map}
 use Rattle.std.proofs.lemmas.Cmp.{on_total}
 use Rattle.std.proofs.lemmas.Map.Lookups.{CmpEqualImpliesEq, exact_unsigned, exact_pairs}
 use Rattle.std.proofs.lemmas.Map.Keys.{IsDistinct-from_sorted}
@@ -23,8 +23,7 @@ use Rattle.quad_index.specs.declared.order.Order.TheVariants.{Gspo, Gpos, Gosp, 
 use Rattle.quad_index.specs.declared.order.Placed.{Placed}
 use Rattle.quad_index.specs.Key.{key_cmp, has_key, matches_key, AreMatches}
 use Rattle.quad_index.specs.Order.{placed_cmp, arranged, restored}
-use Rattle.quad_index.specs.Six.{six}
-use Rattle.quad_index.specs.Ordered.{OrderedKeys, keeps, with_key, without_key, keys_of, AreSix}
+use Rattle.quad_index.specs.Ordered.{OrderedKeys, keeps, with_key, without_key, keys_of, HoldSame, AreSame}
 use Rattle.quad_index.proofs.Fronts.{filter_mapped}
 use Rattle.quad_index.proofs.Members.{any_inserted, any_removed, removed_inserted}
 
@@ -109,83 +108,96 @@ unfolding IsStrictlySortedBy
 sorted_restored [] h = tt
 sorted_restored (x ∷ xs) h = (all_restored x xs h.0, sorted_restored xs h.1)
 
-leads_six : (kept : OrderedKeys) (rest : List OrderedKeys) → map (λ k. k.order) (kept ∷ rest) ≡ six → kept.order ≡ Gspo
-leads_six kept rest h = cc
+-- ---- an order keeps a key exactly where its keys have it
+any_restored : (o : Order) (q : QuadKey) (xs : List Placed) → list_any (eq_by_cmp key_cmp q) (map (restored o) xs) ≡ list_any (is_at (placed_cmp (arranged o q))) xs
+any_restored o q [] = refl
+any_restored o q (x ∷ xs) =
+    ap (λ b. b || list_any (eq_by_cmp key_cmp q) (map (restored o) xs)) (same_restored o q x) ∙ ap (λ b. is_at (placed_cmp (arranged o q)) x || b) (any_restored o q xs)
 
-pub first_sorted : (orders : List OrderedKeys) (d : OrderedKeys) → AreSix orders → IsStrictlySortedBy placed_cmp (get_or orders 0 d).keys → IsStrictlySortedBy key_cmp (keys_of orders)
-first_sorted [] d six_of s = absurd (let h = six_of.tags in cc)
-first_sorted (kept ∷ rest) d six_of s =
-    subst (λ (o : Order). IsStrictlySortedBy key_cmp (map (restored o) kept.keys)) (sym (leads_six kept rest six_of.tags)) (sorted_restored kept.keys s)
+pub keeps_key : (kept : OrderedKeys) (key : QuadKey) → keeps kept key ≡ has_key (keys_of kept) key
+keeps_key kept key = sym (any_restored kept.order key kept.keys)
+
+pub first_sorted : (first : OrderedKeys) → first.order ≡ Gspo → IsStrictlySortedBy placed_cmp first.keys → IsStrictlySortedBy key_cmp (keys_of first)
+first_sorted first o s = subst (λ (o : Order). IsStrictlySortedBy key_cmp (map (restored o) first.keys)) (sym o) (sorted_restored first.keys s)
 
 -- ---- an insertion into all
-pub all_absent : (orders : List OrderedKeys) (keys : List QuadKey) (key : QuadKey) → AllByRecursion (λ kept. (k : QuadKey) → keeps kept k ≡ has_key keys k) orders → has_key keys key ≡ false → AllByRecursion (λ kept. keeps kept key ≡ false) orders
-all_absent [] keys key h a = tt
-all_absent (kept ∷ rest) keys key h a = (h.0 key ∙ a, all_absent rest keys key h.1 a)
+pub all_absent : (first : OrderedKeys) (others : List OrderedKeys) (key : QuadKey) → HoldSame first others → keeps first key ≡ false → AllByRecursion (λ kept. keeps kept key ≡ false) others
+all_absent first [] key h a = tt
+all_absent first (kept ∷ rest) key h a = (h.0 key ∙ a, all_absent first rest key h.1 a)
 
-pub keys_with : (orders : List OrderedKeys) (key : QuadKey) → AreSix orders → keys_of (map (with_key key) orders) ≡ insert_key key_cmp (keys_of orders) key
-keys_with [] key h = absurd (let e = h.tags in cc)
-keys_with (kept ∷ rest) key h =
-    subst (λ (o : Order). map (restored o) (insert_key placed_cmp kept.keys (arranged o key)) ≡ insert_key key_cmp (map (restored o) kept.keys) key) (sym (leads_six kept rest h.tags)) (insert_restored key kept.keys)
+pub keys_with : (first : OrderedKeys) (key : QuadKey) → first.order ≡ Gspo → keys_of (with_key key first) ≡ insert_key key_cmp (keys_of first) key
+keys_with first key o =
+    subst (λ (o : Order). map (restored o) (insert_key placed_cmp first.keys (arranged o key)) ≡ insert_key key_cmp (map (restored o) first.keys) key) (sym o) (insert_restored key first.keys)
 
-tags_with : (orders : List OrderedKeys) (key : QuadKey) → map (λ k. k.order) (map (with_key key) orders) ≡ map (λ k. k.order) orders
-tags_with [] key = refl
-tags_with (kept ∷ rest) key = ap (λ l. kept.order ∷ l) (tags_with rest key)
+keeps_with : (kept : OrderedKeys) (key k : QuadKey) → keeps (with_key key kept) k ≡ (eq_by_cmp key_cmp k key || keeps kept k)
+keeps_with kept key k =
+    any_inserted placed_total (arranged kept.order k) (arranged kept.order key) kept.keys ∙ ap (λ b. b || keeps kept k) (same_arranged kept.order k key)
 
-same_with : (orders : List OrderedKeys) (keys : List QuadKey) (key : QuadKey) → AllByRecursion (λ kept. (k : QuadKey) → keeps kept k ≡ has_key keys k) orders → AllByRecursion (λ kept. (k : QuadKey) → keeps kept k ≡ has_key (insert_key key_cmp keys key) k) (map (with_key key) orders)
-same_with [] keys key h = tt
-same_with (kept ∷ rest) keys key h = (
-  (λ k. any_inserted placed_total (arranged kept.order k) (arranged kept.order key) kept.keys
-      ∙ ap (λ b. b || keeps kept k) (same_arranged kept.order k key)
-      ∙ ap (λ b. eq_by_cmp key_cmp k key || b) (h.0 k)
-      ∙ sym (any_inserted key_total k key keys)),
-  same_with rest keys key h.1,
-)
-
-pub six_with : (orders : List OrderedKeys) (key : QuadKey) → AreSix orders → AreSix (map (with_key key) orders)
-six_with orders key h = record {
-  tags = tags_with orders key ∙ h.tags;
-  same = subst (λ (keys : List QuadKey). AllByRecursion (λ kept. (k : QuadKey) → keeps kept k ≡ has_key keys k) (map (with_key key) orders)) (sym (keys_with orders key h)) (same_with orders (keys_of orders) key h.same);
-}
+pub same_with : (first : OrderedKeys) (others : List OrderedKeys) (key : QuadKey) → HoldSame first others → HoldSame (with_key key first) (map (with_key key) others)
+same_with first [] key h = tt
+same_with first (kept ∷ rest) key h =
+    ((λ k. keeps_with kept key k ∙ ap (λ b. eq_by_cmp key_cmp k key || b) (h.0 k) ∙ sym (keeps_with first key k)), same_with first rest key h.1)
 
 -- a new key goes out of an order again
 pub out_again : (kept : OrderedKeys) (key : QuadKey) → keeps kept key ≡ false → without_key key (with_key key kept) ≡ kept
 out_again kept key h = ap (λ (l : List Placed). record { order = kept.order; keys = l }) (removed_inserted placed_total (arranged kept.order key) kept.keys h)
 
--- whatever an insertion comes to, all six orders hold the same keys
-pub six_after : {E : Type 0} (result : Result Bool E) (orders after : List OrderedKeys) (key : QuadKey) → AreSix orders → IfOk result (λ added. OnTrue added (after ≡ map (with_key key) orders)) → IfOk result (λ added. OnFalse added (after ≡ orders)) → OnErr result (after ≡ orders) → AreSix after
-six_after (Ok true) orders after key h new again err = subst AreSix (sym new) (six_with orders key h)
-six_after (Ok false) orders after key h new again err = subst AreSix (sym again) h
-six_after (Err e) orders after key h new again err = subst AreSix (sym err) h
-
-pub keys_after : {E : Type 0} (result : Result Bool E) (orders : List OrderedKeys) (keys before : List QuadKey) (key : QuadKey) → AreSix orders → keys_of orders ≡ before → OnOk result (keys ≡ keys_of (map (with_key key) orders)) → OnOk result (keys ≡ insert_key key_cmp before key)
-keys_after (Ok _) orders keys before key h e k = k ∙ keys_with orders key h ∙ ap (λ (l : List QuadKey). insert_key key_cmp l key) e
-keys_after (Err _) orders keys before key h e k = tt
-
 -- ---- a removal from all
-pub keys_without : (orders : List OrderedKeys) (key : QuadKey) → AreSix orders → keys_of (map (without_key key) orders) ≡ remove_key (is_at (key_cmp key)) (keys_of orders)
-keys_without [] key h = absurd (let e = h.tags in cc)
-keys_without (kept ∷ rest) key h =
-    subst (λ (o : Order). map (restored o) (remove_key (is_at (placed_cmp (arranged o key))) kept.keys) ≡ remove_key (is_at (key_cmp key)) (map (restored o) kept.keys)) (sym (leads_six kept rest h.tags)) (remove_restored key kept.keys)
+pub keys_without : (first : OrderedKeys) (key : QuadKey) → first.order ≡ Gspo → keys_of (without_key key first) ≡ remove_key (is_at (key_cmp key)) (keys_of first)
+keys_without first key o =
+    subst (λ (o : Order). map (restored o) (remove_key (is_at (placed_cmp (arranged o key))) first.keys) ≡ remove_key (is_at (key_cmp key)) (map (restored o) first.keys)) (sym o) (remove_restored key first.keys)
 
-tags_without : (orders : List OrderedKeys) (key : QuadKey) → map (λ k. k.order) (map (without_key key) orders) ≡ map (λ k. k.order) orders
-tags_without [] key = refl
-tags_without (kept ∷ rest) key = ap (λ l. kept.order ∷ l) (tags_without rest key)
+keeps_without : (kept : OrderedKeys) (key k : QuadKey) → IsStrictlySortedBy placed_cmp kept.keys → keeps (without_key key kept) k ≡ (not (eq_by_cmp key_cmp key k) && keeps kept k)
+keeps_without kept key k s =
+    any_removed placed_total (arranged kept.order k) (arranged kept.order key) kept.keys s ∙ ap (λ b. not b && keeps kept k) (same_arranged kept.order key k)
 
-same_without : (orders : List OrderedKeys) (keys : List QuadKey) (key : QuadKey) → IsStrictlySortedBy key_cmp keys → AllByRecursion (λ kept. IsStrictlySortedBy placed_cmp kept.keys) orders → AllByRecursion (λ kept. (k : QuadKey) → keeps kept k ≡ has_key keys k) orders → AllByRecursion (λ kept. (k : QuadKey) → keeps kept k ≡ has_key (remove_key (is_at (key_cmp key)) keys) k) (map (without_key key) orders)
-same_without [] keys key t s h = tt
-same_without (kept ∷ rest) keys key t s h = (
-  (λ k. any_removed placed_total (arranged kept.order k) (arranged kept.order key) kept.keys s.0
-      ∙ ap (λ b. not b && keeps kept k) (same_arranged kept.order key k)
-      ∙ ap (λ b. not (eq_by_cmp key_cmp key k) && b) (h.0 k)
-      ∙ sym (any_removed key_total k key keys t)),
-  same_without rest keys key t s.1 h.1,
-)
+pub same_without : (first : OrderedKeys) (others : List OrderedKeys) (key : QuadKey) → IsStrictlySortedBy placed_cmp first.keys → AllByRecursion (λ kept. IsStrictlySortedBy placed_cmp kept.keys) others → HoldSame first others → HoldSame (without_key key first) (map (without_key key) others)
+same_without first [] key t s h = tt
+same_without first (kept ∷ rest) key t s h =
+    ((λ k. keeps_without kept key k s.0 ∙ ap (λ b. not (eq_by_cmp key_cmp key k) && b) (h.0 k) ∙ sym (keeps_without first key k t)), same_without first rest key t s.1 h.1)
 
-pub six_without : (orders : List OrderedKeys) (key : QuadKey) → AreSix orders → IsStrictlySortedBy key_cmp (keys_of orders) → AllByRecursion (λ kept. IsStrictlySortedBy placed_cmp kept.keys) orders → AreSix (map (without_key key) orders)
-six_without orders key h t s = record {
-  tags = tags_without orders key ∙ h.tags;
-  same = subst (λ (keys : List QuadKey). AllByRecursion (λ kept. (k : QuadKey) → keeps kept k ≡ has_key keys k) (map (without_key key) orders)) (sym (keys_without orders key h)) (same_without orders (keys_of orders) key t s h.same);
-}
+-- ---- one more order
+pub same_behind : (first : OrderedKeys) (others : List OrderedKeys) (made : OrderedKeys) → HoldSame first others → ((key : QuadKey) → keeps made key ≡ keeps first key) → HoldSame first (others ++ made ∷ [])
+same_behind first [] made h m = (m, tt)
+same_behind first (kept ∷ rest) made h m = (h.0, same_behind first rest made h.1 m)
+
+pub same_at : (first : OrderedKeys) (others : List OrderedKeys) (i : ℕ) (d : OrderedKeys) → HoldSame first others → i < length others → (key : QuadKey) → keeps (get_or others i d) key ≡ keeps first key
+same_at first [] i d h l key = absurd (omega arith)
+same_at first (kept ∷ rest) zero d h l key = h.0 key
+same_at first (kept ∷ rest) (suc i) d h l key = same_at first rest i d h.1 (omega arith) key
+
+-- the same keys, arranged otherwise
+any_moved : (o p : Order) (key : QuadKey) (xs : List Placed) → list_any (is_at (placed_cmp (arranged p key))) (map (λ x. arranged p (restored o x)) xs) ≡ list_any (is_at (placed_cmp (arranged o key))) xs
+any_moved o p key [] = refl
+any_moved o p key (x ∷ xs) =
+    ap (λ b. b || list_any (is_at (placed_cmp (arranged p key))) (map (λ x. arranged p (restored o x)) xs)) (same_arranged p key (restored o x) ∙ same_restored o key x)
+    ∙ ap (λ b. is_at (placed_cmp (arranged o key)) x || b) (any_moved o p key xs)
+
+pub keeps_moved : (kept : OrderedKeys) (p : Order) (made : BTreeSet Placed) (key : QuadKey) → IsFromIterResult placed_cmp (map (λ x. arranged p (restored kept.order x)) kept.keys) made → list_any (is_at (placed_cmp (arranged p key))) made.keys ≡ keeps kept key
+keeps_moved kept p made key h = h.0 (arranged p key) ∙ any_moved kept.order p key kept.keys
+
+-- ---- orders that are written back to the list that lent them
+pub written_back : {X : Type 0} (n : ℕ) (xs ys : List X) → n ≡ length xs → length ys ≡ length xs → take n (ys ++ drop (length ys) xs) ≡ ys
+written_back n xs ys e l =
+    ap (λ (zs : List _). take n (ys ++ zs)) (drop_of_length-le xs (omega arith)) ∙ ap (take n) (append-nil ys) ∙ take_all n ys (omega arith)
+
+pub written_map : {X : Type 0} (f : X → X) (n : ℕ) (xs lent ys : List X) → n ≡ length xs → lent ≡ xs → ys ≡ map f lent → take n (ys ++ drop (length ys) xs) ≡ map f xs
+written_map f n xs lent ys e l m = written_back n xs ys e (ap length (m ∙ ap (map f) l) ∙ length-map xs f) ∙ m ∙ ap (map f) l
+
+pub written_same : {X : Type 0} (n : ℕ) (xs lent ys : List X) → n ≡ length xs → lent ≡ xs → ys ≡ lent → take n (ys ++ drop (length ys) xs) ≡ xs
+written_same n xs lent ys e l m = written_back n xs ys e (ap length (m ∙ l)) ∙ m ∙ l
+
+-- ---- what becomes of the rule
+pub after_insertion : (first first' : OrderedKeys) (others others' : List OrderedKeys) (key : QuadKey) → AreSame first others → first' ≡ with_key key first → others' ≡ map (with_key key) others → AreSame first' others'
+after_insertion first first' others others' key h f o =
+    subst (λ (k : OrderedKeys). AreSame k others') (sym f) (subst (AreSame (with_key key first)) (sym o) record { leads = h.leads; same = same_with first others key h.same })
+
+pub after_removal : (first first' : OrderedKeys) (others others' : List OrderedKeys) (key : QuadKey) → AreSame first others → IsStrictlySortedBy placed_cmp first.keys → AllByRecursion (λ kept. IsStrictlySortedBy placed_cmp kept.keys) others → first' ≡ without_key key first → others' ≡ map (without_key key) others → AreSame first' others'
+after_removal first first' others others' key h s t f o =
+    subst (λ (k : OrderedKeys). AreSame k others') (sym f) (subst (AreSame (without_key key first)) (sym o) record { leads = h.leads; same = same_without first others key s t h.same })
+
+pub as_before : (first first' : OrderedKeys) (others others' : List OrderedKeys) → AreSame first others → first' ≡ first → others' ≡ others → AreSame first' others'
+as_before first first' others others' h f o = subst (λ (k : OrderedKeys). AreSame k others') (sym f) (subst (AreSame first) (sym o) h)
 
 -- ---- what matches in an order is what matches
 any_filtered_at : (q : QuadKey) (test : QuadKey → Bool) (x : QuadKey) (rest : Bool) (xs : List QuadKey) → list_any (eq_by_cmp key_cmp q) xs ≡ (rest && test q) → (b : Bool) → test x ≡ b → (c : Bool) → eq_by_cmp key_cmp q x ≡ c → list_any (eq_by_cmp key_cmp q) (cond b (x ∷ xs) xs) ≡ ((c || rest) && test q)
@@ -205,11 +217,6 @@ pub any_filtered : (q : QuadKey) (test : QuadKey → Bool) (xs : List QuadKey) �
 any_filtered q test [] = refl
 any_filtered q test (x ∷ xs) = any_filtered_at q test x (list_any (eq_by_cmp key_cmp q) xs) (filter test xs) (any_filtered q test xs) (test x) refl (eq_by_cmp key_cmp q x) refl
 
-any_restored : (o : Order) (q : QuadKey) (xs : List Placed) → list_any (eq_by_cmp key_cmp q) (map (restored o) xs) ≡ list_any (is_at (placed_cmp (arranged o q))) xs
-any_restored o q [] = refl
-any_restored o q (x ∷ xs) =
-    ap (λ b. b || list_any (eq_by_cmp key_cmp q) (map (restored o) xs)) (same_restored o q x) ∙ ap (λ b. is_at (placed_cmp (arranged o q)) x || b) (any_restored o q xs)
-
 apart_restored : (o : Order) (x : Placed) (xs : List Placed) → AllByRecursion (λ y. eq_by_cmp placed_cmp x y ≡ false) xs → AllByRecursion (λ k. eq_by_cmp key_cmp (restored o x) k ≡ false) (map (restored o) xs)
 apart_restored o x [] h = tt
 apart_restored o x (y ∷ ys) h =
@@ -228,9 +235,3 @@ are_matches pattern keys found kept h s e = record {
   each_once = subst (IsDistinct (eq_by_cmp key_cmp)) (filter_mapped (restored kept.order) (matches_key pattern) kept.keys ∙ sym e)
       (distinct_restored kept.order _ (IsDistinct-from_sorted placed_cmp _ (IsStrictlySortedBy-filter placed_cmp (λ x. matches_key pattern (restored kept.order x)) kept.keys s)));
 }
-
--- the order at a place keeps the same keys
-pub same_at : (orders : List OrderedKeys) (keys : List QuadKey) (i : ℕ) (d : OrderedKeys) → AllByRecursion (λ kept. (k : QuadKey) → keeps kept k ≡ has_key keys k) orders → i < length orders → (k : QuadKey) → keeps (get_or orders i d) k ≡ has_key keys k
-same_at [] keys i d h l k = absurd (omega arith)
-same_at (kept ∷ rest) keys zero d h l k = h.0 k
-same_at (kept ∷ rest) keys (suc i) d h l k = same_at rest keys i d h.1 (omega arith) k
