@@ -193,7 +193,7 @@ fn prefixes_change(rt: &impl Abort, alloc: Global) -> Result<(), OutOfMemory> {
         &[
             (
                 &["PA a <a:9> <g:1>", "PD b"],
-                &["a a:0\n", "a a:9 <g:1>\n", "a a:2 <g:2>\n"],
+                &["a a:0\n", "a a:2 <g:2>\n", "a a:9 <g:1>\n"],
             ),
             (
                 &["TX", "PD a", "PA c <c:0>", "TA"],
@@ -207,7 +207,7 @@ fn prefixes_change(rt: &impl Abort, alloc: Global) -> Result<(), OutOfMemory> {
                     "PA b <b:1> <g:1>",
                     "PD a <g:1>",
                 ],
-                &["a a:7\n", "a a:2 <g:2>\n", "b b:0\n", "b b:1 <g:1>\n"],
+                &["a a:2 <g:2>\n", "a a:7\n", "b b:0\n", "b b:1 <g:1>\n"],
             ),
         ],
     )

@@ -2,16 +2,16 @@
 ghost use Rattle.std.specs.Prelude.{◌≡◌, None, IsSome, OnOk, OnErr};
 
 use dataset_tx::{DataFault, Dataset};
-use delta_base::{OutOfMemory, Text};
+use delta_base::OutOfMemory;
+use line_log::MadeLines;
 use nquads_text::print_term;
 use rdf_terms::{Change, Changes, Term};
 use std::alloc::Global;
-use std::collections::BTreeSet;
 use std::process::Abort;
 
-fn push_all(text: &mut Vec<u8>, lines: &BTreeSet<Text>) -> Result<(), OutOfMemory> {
-    for line in lines {
-        text.extend_from_slice(line.as_bytes())?;
+fn push_all(text: &mut Vec<u8>, lines: &MadeLines) -> Result<(), OutOfMemory> {
+    for at in 0..lines.len() {
+        text.extend_from_slice(lines.line(at))?;
     }
     Ok(())
 }

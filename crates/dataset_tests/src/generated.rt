@@ -69,11 +69,11 @@ fn begins_with(
 fn find<L: Ledger>(
     rt: &impl Abort,
     alloc: Global,
-    dataset: &Dataset,
+    dataset: &mut Dataset,
     pattern: &Pattern,
     steps: &mut Steps<L>,
 ) -> Result<(), OutOfMemory>
-    requires staged { dataset.now.staged ≡ None }
+    requires staged { dataset.old.staged ≡ None }
     requires none { steps.old ≡ 0 }
     ensures { OnOk result (steps.new ≤ 1430) }
 {
@@ -88,11 +88,11 @@ fn find<L: Ledger>(
 fn find_anew<L: Ledger>(
     rt: &impl Abort,
     alloc: Global,
-    dataset: &Dataset,
+    dataset: &mut Dataset,
     pattern: &Pattern,
     blank: Blank,
 ) -> Result<(), OutOfMemory>
-    requires staged { dataset.now.staged ≡ None }
+    requires staged { dataset.old.staged ≡ None }
     requires name { blank.name ≡ L.name }
     requires parts { blank.parts ≡ L.parts }
     requires some { 0 < L.parts }

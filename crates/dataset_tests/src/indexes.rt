@@ -24,7 +24,7 @@ fn is_chosen(key: &QuadKey) -> bool {
     (key.g % 3 + 2 * (key.s % 3) + key.p % 3 + key.o % 3) % 3 != 0
 }
 
-// A new key is inserted. Where memory is wanting it is in no order, and comes in at a second try.
+// A new key is inserted. Where memory is wanting it isn't there, and comes in at a second try.
 fn insert(rt: &impl Abort, index: &mut QuadIndex, key: QuadKey) {
     let mut added = index.insert(key);
     if added.is_err() {
@@ -91,7 +91,7 @@ fn are_those(found: &[QuadKey], all: &[QuadKey], pattern: &KeyPattern) -> bool {
 }
 
 fn finds<L: Ledger>(
-    index: &QuadIndex,
+    index: &mut QuadIndex,
     all: &[QuadKey],
     pattern: &KeyPattern,
     steps: &mut Steps<L>,
@@ -102,7 +102,7 @@ fn finds<L: Ledger>(
 
 // Whether each pattern finds what a walk finds: each part is free, or bound in three ways.
 fn all_found<L: Ledger>(
-    index: &QuadIndex,
+    index: &mut QuadIndex,
     all: &[QuadKey],
     blank: Blank,
 ) -> Result<bool, OutOfMemory>
@@ -119,8 +119,9 @@ fn all_found<L: Ledger>(
     Ok(true)
 }
 
-// The index has these keys alone, by whichever pattern they are asked for.
-fn has_all(rt: &impl Abort, index: &QuadIndex, keys: &[QuadKey]) -> Result<(), OutOfMemory> {
+// The index has these keys alone, by whichever pattern they are asked for. The first search over an
+// order makes it.
+fn has_all(rt: &impl Abort, index: &mut QuadIndex, keys: &[QuadKey]) -> Result<(), OutOfMemory> {
     let all = index.all()?;
     assert!(rt; all.as_slice() == keys);
     assert!(rt; all_found::<Brand>(index, keys, Blank::new(1))?);
@@ -143,7 +144,11 @@ fn searched(rt: &impl Abort, index: &mut QuadIndex) -> Result<(), OutOfMemory> {
     has_all(rt, index, all.as_slice())?;
     let (gone, left) = all.as_slice().split_at(20);
     remove(rt, index, gone);
-    has_all(rt, index, left)
+    has_all(rt, index, left)?;
+    for key in gone {
+        insert(rt, index, *key);
+    }
+    has_all(rt, index, all.as_slice())
 }
 
 fn keys_are_searched(rt: &impl Abort, alloc: Global) -> Result<(), OutOfMemory> {

@@ -6,6 +6,8 @@ use crate::patches::{HEAD, patch_of};
 use crate::terms::term;
 use dataset_tx::{Dataset, GraphPart, Pattern};
 use delta_base::OutOfMemory;
+use line_log::MadeLines;
+use nquads_documents::push_line;
 use quad_index::Steps;
 use rdf_terms::{Quad, Term};
 use std::alloc::Global;
@@ -160,15 +162,20 @@ fn are_those(found: &[Quad], all: &[Quad], pattern: &Pattern) -> bool {
     rest.is_empty()
 }
 
-// How many quads are found, in at most as many steps and one more, where a walk finds them too.
+// How many quads are found, in at least as many steps and at most one more, where a walk finds them
+// too.
 fn finds<L: Ledger>(
-    dataset: &Dataset,
+    dataset: &mut Dataset,
     all: &[Quad],
     pattern: &Pattern,
     steps: &mut Steps<L>,
 ) -> Result<Option<usize>, OutOfMemory>
-    requires { dataset.now.staged ≡ None }
-    ensures { IfOk result (λ those. IfSome those (λ count. steps.new ≤ steps.old + count + 1)) }
+    requires { dataset.old.staged ≡ None }
+    ensures most { IfOk result
+        (λ those. IfSome those (λ count. steps.new ≤ steps.old + count + 1)) }
+    ensures least { IfOk result
+        (λ those. IfSome those (λ count. steps.old + count ≤ steps.new)) }
+    ensures same { dataset.new ≡ dataset.old }
 {
     let found = dataset.matching(pattern, steps)?;
     let count = found.len();
@@ -177,17 +184,72 @@ fn finds<L: Ledger>(
     if those { Ok(Some(count)) } else { Ok(None) }
 }
 
+// Whether these are the lines of the quads that a walk finds.
+fn are_lines(
+    alloc: Global,
+    lines: &MadeLines,
+    all: &[Quad],
+    pattern: &Pattern,
+) -> Result<bool, OutOfMemory> {
+    let mut at = 0;
+    let mut line = Vec::new(alloc);
+    for quad in all {
+        if fits_quad(pattern, quad) {
+            line.clear();
+            push_line(&mut line, quad)?;
+            if at >= lines.len() || lines.line(at) != line.as_slice() {
+                return Ok(false);
+            }
+            at += 1;
+        }
+    }
+    Ok(at == lines.len())
+}
+
+// Whether the lines of what a walk finds are found.
+fn finds_lines<L: Ledger>(
+    alloc: Global,
+    dataset: &mut Dataset,
+    all: &[Quad],
+    pattern: &Pattern,
+    steps: &mut Steps<L>,
+) -> Result<bool, OutOfMemory>
+    requires { dataset.old.staged ≡ None }
+    ensures { dataset.new ≡ dataset.old }
+{
+    let lines = dataset.matching_lines(pattern, steps)?;
+    let those = are_lines(alloc, &lines, all, pattern);
+    drop(lines);
+    those
+}
+
+// Whether both find what a walk finds.
+fn both_find<L: Ledger>(
+    alloc: Global,
+    dataset: &mut Dataset,
+    all: &[Quad],
+    pattern: &Pattern,
+    steps: &mut Steps<L>,
+) -> Result<bool, OutOfMemory>
+    requires { dataset.old.staged ≡ None }
+    ensures { dataset.new ≡ dataset.old }
+{
+    let found = finds(dataset, all, pattern, steps)?;
+    Ok(found.is_some() && finds_lines(alloc, dataset, all, pattern, steps)?)
+}
+
 // What a walk finds is found.
 fn is_found<L: Ledger>(
     rt: &impl Abort,
     alloc: Global,
-    dataset: &Dataset,
+    dataset: &mut Dataset,
     all: &[Quad],
     steps: &mut Steps<L>,
     mask: u8,
     graph: &str,
 ) -> Result<(), OutOfMemory>
-    requires { dataset.now.staged ≡ None }
+    requires { dataset.old.staged ≡ None }
+    ensures { dataset.new ≡ dataset.old }
 {
     let mut pattern = Pattern {
         graph: GraphPart::Any,
@@ -196,11 +258,11 @@ fn is_found<L: Ledger>(
         object: None,
     };
     let found = match bind(rt, alloc, &mut pattern, mask, graph) {
-        Ok(()) => finds(dataset, all, &pattern, steps),
+        Ok(()) => both_find(alloc, dataset, all, &pattern, steps),
         Err(error) => Err(error),
     };
     drop(pattern);
-    assert!(rt; found?.is_some(), "at {mask} {graph}");
+    assert!(rt; found?, "at {mask} {graph}");
     Ok(())
 }
 
@@ -208,11 +270,11 @@ fn is_found<L: Ledger>(
 fn are_found<L: Ledger>(
     rt: &impl Abort,
     alloc: Global,
-    dataset: &Dataset,
+    dataset: &mut Dataset,
     all: &[Quad],
     blank: Blank,
 ) -> Result<(), OutOfMemory>
-    requires staged { dataset.now.staged ≡ None }
+    requires staged { dataset.old.staged ≡ None }
     requires name { blank.name ≡ L.name }
     requires parts { blank.parts ≡ L.parts }
     requires some { 0 < L.parts }

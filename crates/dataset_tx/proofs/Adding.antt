@@ -11,7 +11,7 @@ use Rattle.rdf_terms.specs.Line.{line_cmp}
 use Rattle.quad_index.specs.declared.key.QuadKey.{QuadKey}
 use Rattle.quad_index.specs.Key.{key_cmp}
 use Rattle.quad_index.proofs.Members.{sorted_inserted}
-use Rattle.quad_index.proofs.Six.{key_total}
+use Rattle.quad_index.proofs.Same.{key_total}
 use Rattle.quad_keys.specs.Keys.{quad_of_key, quads_of, IsNumbered, AreKnown}
 use Rattle.quad_keys.proofs.Quads.{quads_inserted, quads_grow, all_grow}
 use Rattle.dataset_tx.specs.Numbering.{Grows}

@@ -5,6 +5,7 @@ use Rattle.std.specs.Cmp.{both_ways, eq_by_cmp_equiv}
 use Rattle.std.specs.declared.cmp.Ordering.{Ordering}
 use Rattle.std.specs.declared.cmp.Ordering.TheVariants.{Less, Equal, Greater}
 use Rattle.std.specs.Ordering.{eq_by_cmp, is_eq, match_ordering}
+use Rattle.std.specs.Prelude.{Result, Ok, Err, IfOk}
 use Rattle.std.specs.Option.{IsSome, option_map}
 use Rattle.std.specs.List.{AllByRecursion, IsDistinct, filter, list_any}
 use Rattle.std.specs.BTreeMap.{is_at}
@@ -17,7 +18,7 @@ use Rattle.rdf_terms.specs.Line.{line_cmp}
 use Rattle.quad_index.specs.declared.key.QuadKey.{QuadKey}
 use Rattle.quad_index.specs.declared.key.KeyPattern.{KeyPattern}
 use Rattle.quad_index.specs.Key.{key_cmp, has_key, AreMatches, matches_key}
-use Rattle.quad_index.proofs.Six.{key_total, exact_key, from_tied}
+use Rattle.quad_index.proofs.Same.{key_total, exact_key, from_tied}
 use Rattle.quad_keys.specs.Keys.{term_of_number, quad_of_key, quads_of, IsNumbered, AreKnown}
 use Rattle.quad_keys.proofs.Quads.{any_quads, own, quads_found}
 use Rattle.term_table.specs.Table.{same, term_numbered, number_in}
@@ -99,6 +100,10 @@ all_known terms m keys found ks e = known_found terms keys found ks (λ key h. (
 pub none_match : (terms : List Term) (pattern : Statement → Bool) (keys : List QuadKey) → IsDistinct same terms → AreKnown terms keys → ((key : QuadKey) → IsNumbered terms key → pattern (quad_of_key terms key) ≡ false) → [] ≡ filter pattern (quads_of terms keys)
 none_match terms pattern keys d ks agrees = quads_found terms d pattern (λ key. false) agrees keys [] ks tt (λ key. sym (and_false (has_key keys key)))
 
+pub both_ok : {T E : Type 0} (r : Result T E) (P Q R : T → Type 0) → ((x : T) → P x → Q x → R x) → IfOk r P → IfOk r Q → IfOk r R
+both_ok (Ok x) P Q R f p q = f x p q
+both_ok (Err e) P Q R f p q = tt
+
 -- ---- as many quads as keys
 
 length_inserted : (q : Statement) (xs : List Statement) → list_any (is_at (line_cmp q)) xs ≡ false → length (insert_key line_cmp xs q) ≡ length xs + 1
@@ -136,8 +141,5 @@ module _ (terms : List Term) (pattern : Pattern) (wanted : KeyPattern) (keys ind
   pub match_quads : quads_of terms found ≡ filter (matches pattern) (quads_of terms keys)
   match_quads = quads_found terms d (matches pattern) (matches_key wanted) agrees keys found ks match_known exactly
 
-  pub match_cost : (before after : ℕ) (quads : List Statement) → quads ≡ quads_of terms found → after ≤ before + length found + 1 → after ≤ before + length quads + 1
-  match_cost before after quads e c =
-      let same_length = ap length e in
-      let count = count_quads terms found d match_known h.each_once in
-      omega (arith, same_length, count, c)
+  pub match_count : length (filter (matches pattern) (quads_of terms keys)) ≡ length found
+  match_count = ap length (sym match_quads) ∙ count_quads terms found d match_known h.each_once

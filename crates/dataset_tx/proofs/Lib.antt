@@ -6,6 +6,7 @@ pub mod Numbered
 pub mod Deleting
 pub mod Adding
 pub mod Meeting
+pub mod Rowed
 pub mod Rows
 pub mod Settling
 pub mod Finding

@@ -12,7 +12,7 @@ use Rattle.std.proofs.lemmas.List.Kept.{IsStrictlySortedBy-filter}
 use Rattle.quad_index.specs.declared.key.QuadKey.{QuadKey}
 use Rattle.quad_index.specs.Key.{key_cmp, has_key}
 use Rattle.quad_index.proofs.Members.{any_inserted, inserted_again, any_removed, sorted_inserted, sorted_removed}
-use Rattle.quad_index.proofs.Six.{key_total, exact_key, any_filtered, from_tied}
+use Rattle.quad_index.proofs.Same.{key_total, exact_key, any_filtered, from_tied}
 use Rattle.dataset_tx.specs.Staging.{without, AreStaged}
 
 abbrev IsSet : List QuadKey → Type 0

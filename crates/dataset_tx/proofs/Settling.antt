@@ -18,6 +18,7 @@ use Rattle.std.proofs.lemmas.Map.Lookups.{exact_bytes}
 use Rattle.rdf_terms.specs.Dataset.{PrefixKey, prefix_cmp}
 use Rattle.dataset_tx.specs.declared.prefixes.PrefixEntry.{PrefixEntry}
 use Rattle.rdf_terms.specs.declared.change.Change.{Change}
+use Rattle.dataset_tx.specs.Rows.{change_row, rows_added}
 use Rattle.dataset_tx.specs.Prefixes.{PrefixRow, RowBytes, prefix_change, bytes_cmp, row_cmp, at_bytes, has_row, row_bytes, StandsAt, AreRows, AreStagedRows, setting, with_entry, settings_by, settings, becomes, next_settings, standing, set_to, settled}
 use Rattle.dataset_tx.proofs.Rows.{Stand, none_above, same_above, above_equal, row_set, row_gone, no_row}
 
@@ -307,3 +308,10 @@ change_pushed changes changes' xs x e p =
     p ∙ ap (λ (l : List Change). l ++ map prefix_change (with_entry x.now [])) e
     ∙ sym (map-append prefix_change (settings_of (map deref xs)) (with_entry x.now []))
     ∙ ap (map prefix_change) (sym (one_more_shown xs x))
+
+pub rows_logged : (log log' : List (Bool × List ℕ)) (xs : List (Bor (Option PrefixEntry))) (x : Bor (Option PrefixEntry)) → log ≡ rows_added (map prefix_change (settings_of (map deref xs))) → log' ≡ log ++ rows_added (map prefix_change (with_entry x.now []))
+    → log' ≡ rows_added (map prefix_change (settings_of (map deref (xs ++ x ∷ []))))
+rows_logged log log' xs x e p =
+    p ∙ ap (λ (l : List (Bool × List ℕ)). l ++ rows_added (map prefix_change (with_entry x.now []))) e
+    ∙ sym (map-append (λ (c : Change). (true, change_row c)) (map prefix_change (settings_of (map deref xs))) (map prefix_change (with_entry x.now [])))
+    ∙ ap rows_added (sym (map-append prefix_change (settings_of (map deref xs)) (with_entry x.now [])) ∙ ap (map prefix_change) (sym (one_more_shown xs x)))

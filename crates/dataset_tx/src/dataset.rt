@@ -2,6 +2,7 @@
 ghost use Rattle.std.specs.Prelude.{◌≡◌, ◌+◌, ◌≤◌, [], Some, None, length};
 ghost use Rattle.std.specs.Prelude.{map, IfOk, OnOk, OnErr, IsErrOf, IsSome};
 ghost use Rattle.std.specs.List.{filter};
+ghost use Rattle.std.specs.List.Sorted.{IsPermutation, IsSorted};
 ghost use Rattle.rdf_terms.specs.Dataset.{apply as applied, empty};
 ghost use Rattle.rdf_terms.specs.Line.{line};
 ghost use Rattle.term_table.specs.Table.{most};
@@ -9,15 +10,16 @@ ghost use Rattle.dataset_tx.specs.declared.dataset.DataFault.TheVariants as faul
 ghost use Rattle.dataset_tx.specs.Held.{AreMet, AreMore};
 ghost use Rattle.dataset_tx.specs.Pattern.{matches};
 ghost use Rattle.dataset_tx.specs.Prefixes.{prefix_change};
+ghost use Rattle.dataset_tx.specs.Rows.{change_cmp, rows_in_order};
 
 use crate::pattern::Pattern;
 use crate::store::Store;
-use delta_base::{OutOfMemory, Text};
+use delta_base::OutOfMemory;
+use line_log::MadeLines;
 use quad_index::Steps;
 use quad_keys::{in_line_order, lines};
 use rdf_terms::{Changes, Quads};
 use std::alloc::Global;
-use std::collections::BTreeSet;
 use std::marker::Model;
 use std::sync::ledger::Ledger;
 
@@ -141,9 +143,9 @@ impl Dataset {
     }
 
     /// The lines of the quads, in the order of their bytes. No quad is copied.
-    pub fn lines(&self) -> Result<BTreeSet<Text>, OutOfMemory>
+    pub fn lines(&self) -> Result<MadeLines, OutOfMemory>
         requires { self.now.staged ≡ None }
-        ensures { IfOk result (λ lines. lines.keys ≡ map line self.now.contents.quads) }
+        ensures { IfOk result (λ lines. lines ≡ map line self.now.contents.quads) }
     {
         lines(
             self.alloc,
@@ -155,23 +157,53 @@ impl Dataset {
     /// The changes that set the prefixes, in the order of their rows.
     pub fn prefixes(&self) -> Result<Changes, OutOfMemory>
         requires { self.now.staged ≡ None }
-        ensures { IfOk result
-            (λ changes. changes.items ≡ map prefix_change self.now.contents.prefixes) }
+        ensures each { IfOk result (λ changes.
+            IsPermutation (map prefix_change self.now.contents.prefixes) changes.items) }
+        ensures in_order { IfOk result (λ changes. IsSorted change_cmp changes.items) }
     {
         self.store.prefixes.changes()
     }
 
-    /// The quads that match, in the order of their lines. A step is a key looked at.
+    /// The rows of these changes, in the order of their bytes.
+    pub fn prefix_rows(&self) -> Result<MadeLines, OutOfMemory>
+        requires { self.now.staged ≡ None }
+        ensures { IfOk result
+            (λ rows. rows ≡ rows_in_order (map prefix_change self.now.contents.prefixes)) }
+    {
+        self.store.prefixes.change_rows()
+    }
+
+    /// The quads that match, in the order of their lines. A step is a key looked at. All stays as
+    /// it was, an `Err` or not.
     pub fn matching<L: Ledger>(
-        &self,
+        &mut self,
         pattern: &Pattern,
         steps: &mut Steps<L>,
     ) -> Result<Quads, OutOfMemory>
-        requires { self.now.staged ≡ None }
+        requires { self.old.staged ≡ None }
         ensures found { IfOk result
-            (λ quads. quads.items ≡ filter (matches pattern.now) self.now.contents.quads) }
+            (λ quads. quads.items ≡ filter (matches pattern.now) self.old.contents.quads) }
         ensures cost { IfOk result (λ quads. steps.new ≤ steps.old + length quads.items + 1) }
+        ensures counted { IfOk result (λ quads. steps.old + length quads.items ≤ steps.new) }
+        ensures same { self.new ≡ self.old }
     {
         self.store.matching(self.alloc, pattern, steps)
+    }
+
+    /// The lines of the quads that match, in the order of their bytes, where no quad is copied. A
+    /// step is a key looked at. All stays as it was, an `Err` or not.
+    pub fn matching_lines<L: Ledger>(
+        &mut self,
+        pattern: &Pattern,
+        steps: &mut Steps<L>,
+    ) -> Result<MadeLines, OutOfMemory>
+        requires { self.old.staged ≡ None }
+        ensures found { IfOk result
+            (λ lines. lines ≡ map line (filter (matches pattern.now) self.old.contents.quads)) }
+        ensures cost { IfOk result (λ lines. steps.new ≤ steps.old + length lines + 1) }
+        ensures counted { IfOk result (λ lines. steps.old + length lines ≤ steps.new) }
+        ensures same { self.new ≡ self.old }
+    {
+        self.store.matching_lines(self.alloc, pattern, steps)
     }
 }

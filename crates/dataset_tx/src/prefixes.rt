@@ -1,19 +1,26 @@
-//! The prefixes of a dataset, in the order of their rows.
+//! The prefixes of a dataset.
 ghost use Rattle.std.specs.Prelude.{◌≡◌, ◌++◌, [], List, true, false, map};
 ghost use Rattle.std.specs.Prelude.{IfOk, OnOk, OnErr, option_copied};
 ghost use Rattle.std.specs.BTreeMap.{is_at, insert_entry};
 ghost use Rattle.std.specs.Map.{keys_of, remove_entry};
-ghost use Rattle.std.specs.List.Sorted.{IsStrictlySortedBy};
+ghost use Rattle.std.specs.Cmp.Lexicographic.{slice_cmp};
+ghost use Rattle.std.specs.List.{All};
+ghost use Rattle.std.specs.List.Sorted.{IsPermutation, IsSorted, IsStrictlySortedBy};
+ghost use Rattle.std.specs.Ordering.{nat_cmp};
 ghost use Rattle.rdf_terms.specs.Dataset.{prefix_cmp};
 ghost use Rattle.dataset_tx.specs.Prefixes.{PrefixRow, RowBytes, prefix_change, row_bytes};
 ghost use Rattle.dataset_tx.specs.Prefixes.{row_cmp, has_row, at_bytes, AreRows};
 ghost use Rattle.dataset_tx.specs.Prefixes.{AreStagedRows, setting, with_entry, settings};
 ghost use Rattle.dataset_tx.specs.Prefixes.{next_settings, standing, set_to, settled};
+ghost use Rattle.dataset_tx.specs.Rows.{change_cmp, rows_added, rows_in_order, HasItsRow};
 
 use delta_base::{Listing, OutOfMemory, Text};
+use line_log::{LineLog, MadeLines};
 use nquads_text::{push_graph, push_quoted};
+use patch_rows::{Row, print_row};
 use rdf_terms::{Change, Changes, Iri, Term, copy_graph};
 use std::alloc::Global;
+use std::cmp::Ordering;
 use std::collections::BTreeMap;
 use std::marker::Model;
 
@@ -102,16 +109,55 @@ impl PrefixMap {
         give_back_all(&mut self.rows, &mut self.staged);
     }
 
+    // The changes that set the contents, each with its row.
+    fn rows(&self) -> Result<Vec<(Text, Change)>, OutOfMemory>
+        ensures changes { IfOk result (λ rows.
+            map (λ row. row.1) rows.items ≡ map prefix_change self.now.contents) }
+        ensures rows { IfOk result (λ rows. All HasItsRow rows.items) }
+    {
+        let mut rows = Vec::new(self.alloc);
+        for entry in self.rows.values() {
+            push_row(self.alloc, &mut rows, entry)?;
+        }
+        Ok(rows)
+    }
+
     /// The changes that set the contents, in the order of their rows.
     pub fn changes(&self) -> Result<Changes, OutOfMemory>
-        ensures { IfOk result (λ changes. changes.items ≡ map prefix_change self.now.contents) }
+        ensures each { IfOk result
+            (λ changes. IsPermutation (map prefix_change self.now.contents) changes.items) }
+        ensures in_order { IfOk result (λ changes. IsSorted change_cmp changes.items) }
     {
-        let mut changes = Vec::new(self.alloc);
-        for entry in self.rows.values() {
-            push_change(&mut changes, entry)?;
-        }
-        Ok(Listing::from_vec(changes))
+        let mut rows = self.rows()?;
+        rows.sort_unstable_by(by_row);
+        Ok(Listing::from_vec(changes_of(self.alloc, rows)?))
     }
+
+    /// The rows of these changes, in the order of their bytes.
+    pub fn change_rows(&self) -> Result<MadeLines, OutOfMemory>
+        ensures { IfOk result
+            (λ rows. rows ≡ rows_in_order (map prefix_change self.now.contents)) }
+    {
+        let mut log = LineLog::new(self.alloc);
+        for entry in self.rows.values() {
+            log_row(self.alloc, &mut log, entry)?;
+        }
+        log.into_lines()
+    }
+}
+
+// Compares rows by their bytes.
+fn by_row(a: &(Text, Change), b: &(Text, Change)) -> Ordering
+    ensures { result ≡ slice_cmp nat_cmp a.now.0 b.now.0 }
+{
+    a.0.cmp(&b.0)
+}
+
+// The changes of rows, as they stand.
+fn changes_of(alloc: Global, rows: Vec<(Text, Change)>) -> Result<Vec<Change>, OutOfMemory>
+    ensures { IfOk result (λ changes. changes.items ≡ map (λ row. row.1) rows.items) }
+{
+    Ok(rows.into_iter().map(|(_, change)| change).collect(alloc)?)
 }
 
 // The bytes of a prefix and its graph, as a row writes them.
@@ -294,13 +340,35 @@ fn give_back(rows: &mut Rows, row: &[u8])
     }
 }
 
-// Adds the change that sets what stands at a row, if anything does.
-fn push_change(changes: &mut Vec<Change>, entry: &Option<PrefixEntry>) -> Result<(), OutOfMemory>
-    ensures { OnOk result
-        (changes.new.items ≡ changes.old.items ++ map prefix_change (with_entry entry.now [])) }
+// Adds the change that sets what stands at a row, if anything does, and the row of the change.
+fn push_row(
+    alloc: Global,
+    rows: &mut Vec<(Text, Change)>,
+    entry: &Option<PrefixEntry>,
+) -> Result<(), OutOfMemory>
+    ensures changes { OnOk result (map (λ row. row.1) rows.new.items
+        ≡ map (λ row. row.1) rows.old.items ++ map prefix_change (with_entry entry.now [])) }
+    ensures rows { OnOk result (All HasItsRow rows.old.items → All HasItsRow rows.new.items) }
 {
     if let Some(entry) = entry {
-        changes.push(change_of(entry)?)?;
+        let row = Row::Change(change_of(entry)?);
+        let text = print_row(alloc, &row);
+        drop(row);
+        rows.push((text?, change_of(entry)?))?;
+    }
+    Ok(())
+}
+
+// Logs the row of the change that sets what stands at a row, if anything does.
+fn log_row(alloc: Global, log: &mut LineLog, entry: &Option<PrefixEntry>) -> Result<(), OutOfMemory>
+    ensures { OnOk result (log.new
+        ≡ log.old ++ rows_added (map prefix_change (with_entry entry.now []))) }
+{
+    if let Some(entry) = entry {
+        let row = Row::Change(change_of(entry)?);
+        let text = print_row(alloc, &row);
+        drop(row);
+        log.push(true, text?.as_bytes())?;
     }
     Ok(())
 }

@@ -1,9 +1,11 @@
 //! What a dataset keeps: its terms, their quads and its prefixes, with what is staged beside them.
-ghost use Rattle.std.specs.Prelude.{◌≡◌, ◌+◌, ◌≤◌, [], length, IfOk, OnOk, IsErrOf};
+ghost use Rattle.std.specs.Prelude.{◌≡◌, ◌+◌, ◌≤◌, [], length, map, IfOk, OnOk, IsErrOf};
 ghost use Rattle.std.specs.List.{filter};
 ghost use Rattle.rdf_terms.specs.Dataset.{effect, effects, empty, kept};
 ghost use Rattle.rdf_terms.specs.declared.change.Change.TheVariants.{Add, Delete};
+ghost use Rattle.rdf_terms.specs.Line.{line};
 ghost use Rattle.term_table.specs.Table.{most};
+ghost use Rattle.quad_keys.specs.Keys.{quads_of, AreKnown};
 ghost use Rattle.dataset_tx.specs.Held.{AreMet, AreMore, terms_of};
 ghost use Rattle.dataset_tx.specs.Numbering.{Grows, AreMoreThan};
 ghost use Rattle.dataset_tx.specs.Modes.{effect_in};
@@ -16,9 +18,10 @@ use crate::numbering::{find_quad, number_quad};
 use crate::pattern::{Pattern, key_pattern};
 use crate::prefixes::PrefixMap;
 use delta_base::{Listing, OutOfMemory};
+use line_log::MadeLines;
 use nquads_documents::quad_is_value;
-use quad_index::Steps;
-use quad_keys::in_line_order;
+use quad_index::{Keys, Steps};
+use quad_keys::{in_line_order, lines};
 use rdf_terms::{Change, Quad, Quads};
 use std::alloc::Global;
 use std::sync::ledger::Ledger;
@@ -156,23 +159,65 @@ impl Store {
         self.prefixes.give_up();
     }
 
-    /// The quads that match, in the order of their lines. A step is a key looked at.
-    pub fn matching<L: Ledger>(
-        &self,
+    // The keys of the quads that match. A step is a key looked at.
+    fn found<L: Ledger>(
+        &mut self,
         alloc: Global,
         pattern: &Pattern,
         steps: &mut Steps<L>,
-    ) -> Result<Quads, OutOfMemory>
-        requires store { IsStore self.now }
-        requires settled { IsSettled self.now }
-        ensures found { IfOk result
-            (λ quads. quads.items ≡ filter (matches pattern.now) (contents_of self.now).quads) }
-        ensures cost { IfOk result (λ quads. steps.new ≤ steps.old + length quads.items + 1) }
+    ) -> Result<Keys, OutOfMemory>
+        requires store { IsStore self.old }
+        requires settled { IsSettled self.old }
+        ensures known { IfOk result (λ found. AreKnown self.old.terms found.items) }
+        ensures found { IfOk result (λ found. quads_of self.old.terms found.items
+            ≡ filter (matches pattern.now) (contents_of self.old).quads) }
+        ensures cost { OnOk result (steps.new
+            ≤ steps.old + length (filter (matches pattern.now) (contents_of self.old).quads) + 1) }
+        ensures counted { OnOk result (steps.old
+            + length (filter (matches pattern.now) (contents_of self.old).quads) ≤ steps.new) }
+        ensures same { self.new ≡ self.old }
     {
         let Some(pattern) = key_pattern(&self.terms, pattern) else {
             return Ok(Listing::new(alloc));
         };
-        let found = self.quads.index().matching(&pattern, steps)?;
+        self.quads.matching(&pattern, steps)
+    }
+
+    /// The quads that match, in the order of their lines. A step is a key looked at.
+    pub fn matching<L: Ledger>(
+        &mut self,
+        alloc: Global,
+        pattern: &Pattern,
+        steps: &mut Steps<L>,
+    ) -> Result<Quads, OutOfMemory>
+        requires store { IsStore self.old }
+        requires settled { IsSettled self.old }
+        ensures found { IfOk result
+            (λ quads. quads.items ≡ filter (matches pattern.now) (contents_of self.old).quads) }
+        ensures cost { IfOk result (λ quads. steps.new ≤ steps.old + length quads.items + 1) }
+        ensures counted { IfOk result (λ quads. steps.old + length quads.items ≤ steps.new) }
+        ensures same { self.new ≡ self.old }
+    {
+        let found = self.found(alloc, pattern, steps)?;
         in_line_order(alloc, &self.terms, found)
+    }
+
+    /// The lines of the quads that match, in the order of their bytes. A step is a key looked at.
+    pub fn matching_lines<L: Ledger>(
+        &mut self,
+        alloc: Global,
+        pattern: &Pattern,
+        steps: &mut Steps<L>,
+    ) -> Result<MadeLines, OutOfMemory>
+        requires store { IsStore self.old }
+        requires settled { IsSettled self.old }
+        ensures found { IfOk result
+            (λ lines. lines ≡ map line (filter (matches pattern.now) (contents_of self.old).quads)) }
+        ensures cost { IfOk result (λ lines. steps.new ≤ steps.old + length lines + 1) }
+        ensures counted { IfOk result (λ lines. steps.old + length lines ≤ steps.new) }
+        ensures same { self.new ≡ self.old }
+    {
+        let found = self.found(alloc, pattern, steps)?;
+        lines(alloc, &self.terms, found)
     }
 }

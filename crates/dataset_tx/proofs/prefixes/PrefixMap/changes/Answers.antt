@@ -1,16 +1,16 @@
-use Rattle.std.proofs.Common.{rules, ◌≡◌, map, ap, ◌∙◌}
-use Rattle.std.specs.Map.{values_of}
-use Rattle.std.specs.Map.Iter.{deref}
-use Rattle.std.proofs.lemmas.Map.Iter.{iter_end}
-use Rattle.dataset_tx.specs.Prefixes.{StagedPrefixes, prefix_change}
-use Rattle.dataset_tx.proofs.Settling.{settings_of, settings_read, change_pushed}
+use Rattle.std.proofs.Common.{rules, sym, subst, ◌∙◌, List}
+use Rattle.std.specs.List.Sorted.{IsSorted}
+use Rattle.std.proofs.lemmas.List.Sorted.{answers_always, All-permutation}
+use Rattle.rdf_terms.specs.declared.change.Change.{Change}
+use Rattle.dataset_tx.specs.Rows.{change_cmp, HasItsRow}
+use Rattle.dataset_tx.proofs.Rowed.{moved_changes, rises, rises_weakly, sorted_changes}
 use Rattle.dataset_tx.proofs.prefixes.PrefixMap.changes.Goals as goal
 
-pub loop-entry-preserved : goal.loop-entry-preserved
-loop-entry-preserved c = change_pushed _ _ c.loop-entry.yielded c.in-Some.entry c.loop-entry.invariant c.in_ok-push_change.ensures
+pub returns-clause-each : goal.returns-clause-each
+returns-clause-each c =
+    moved_changes _ _ _ _ c.sort_unstable_by.ensures.permutation c.in_ok-rows.ensures.changes (c.from_vec.ensures ∙ c.in_ok-changes_of.ensures)
 
-pub returns : goal.returns
-returns c =
-    let whole : map deref c.loop-entry.yielded ≡ values_of c.self.inside.rows.entries = search (rules, iter_end) in
-    c.from_vec.ensures ∙ c.loop-entry.invariant ∙ ap (λ v. map prefix_change (settings_of v)) whole ∙ ap (map prefix_change) (settings_read c.self.inside.rows.entries)
-    ∙ ap (λ (s : StagedPrefixes). map prefix_change s.contents) c.self.view_is
+pub returns-clause-in_order : goal.returns-clause-in_order
+returns-clause-in_order c =
+    subst (λ (l : List Change). IsSorted change_cmp l) (sym (c.from_vec.ensures ∙ c.in_ok-changes_of.ensures))
+    (sorted_changes _ (All-permutation HasItsRow _ _ c.sort_unstable_by.ensures.permutation c.in_ok-rows.ensures.rows) (c.sort_unstable_by.ensures.sorted rises rises_weakly (answers_always _ _ _ (λ f a r h k. search rules))))
