@@ -1,10 +1,11 @@
 //! Calls over a connection of their own.
-ghost use Rattle.std.specs.Prelude.{◌≡◌, ◌≤◌, ◌+◌, None, true, IsSome, IsNone, IfOk, IsErrOf};
+ghost use Rattle.std.specs.Prelude.{◌≡◌, ◌≤◌, ◌+◌, None, true, IsNone, IfOk, IsErrOf};
 ghost use Rattle.std.specs.List.{list_all};
 ghost use Rattle.delta_base.specs.Memory.{CountsCall};
 ghost use Rattle.delta_base.specs.Outside.{Rose};
 ghost use Rattle.http_text.specs.Print.{is_visible};
 ghost use Rattle.delta_client.specs.Exchanges.{dial_view};
+ghost use Rattle.delta_client.specs.Lines.{opens};
 ghost use Rattle.client_commands.specs.Asks.{AsksBoth, AsksOnce, AsksOver, AsksTwo, Joins};
 
 use crate::fault::ClientFault;
@@ -44,10 +45,10 @@ fn ask_over<N: Dial>(
     call: &Call,
 ) -> Result<Bytes, ClientFault>
     requires visible { list_all is_visible address.now ≡ true }
-    requires awaits { IsSome line.old.open → N.awaits net.old }
+    requires count { opens line.old.open ≤ N.held net.old }
     ensures asks { N.tells → AsksOver N.L.left N.L.sent address.now call.now line.old.open
         (dial_view N.Dial net.old) (dial_view N.Dial net.new) line.new.open result }
-    ensures awaits { IsSome line.new.open → N.awaits net.new }
+    ensures count { N.held net.new + opens line.old.open ≡ N.held net.old + opens line.new.open }
     ensures tried { IsNone line.old.open → CountsCall (N.tries net.old) (N.tries net.new) }
     ensures tries { N.tries net.new ≤ N.tries net.old + 1 }
     ensures cause { IsErrOf result ClientFault.LinkFailed
@@ -94,7 +95,7 @@ fn ask_two<N: Dial>(
     requires none { line.old.open ≡ None }
     ensures asks { N.tells → AsksTwo N.L.left N.L.sent address.now name.now line.old.open
         (dial_view N.Dial net.old) (dial_view N.Dial net.new) line.new.open result }
-    ensures awaits { IsSome line.new.open → N.awaits net.new }
+    ensures count { N.held net.new + opens line.old.open ≡ N.held net.old + opens line.new.open }
     ensures tries { N.tries net.new ≤ N.tries net.old + 2 }
     ensures cause { IsErrOf result ClientFault.LinkFailed
         → Rose (N.faults net.old) (N.faults net.new) }

@@ -1,3 +1,4 @@
 mod LineLemmas
 mod Nexts
 mod Exchanging
+pub mod Served

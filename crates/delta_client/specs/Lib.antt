@@ -3,3 +3,4 @@ pub mod Asking
 pub mod Lines
 pub mod Memory
 pub mod Exchanges
+pub mod Serving

@@ -45,6 +45,11 @@ abbrev pub links_in : {L : Type 0} → Option (Open L) → List L
 links_in None = []
 links_in (Some talk) = talk.link ∷ []
 
+-- how many connections are open
+abbrev pub opens : {L : Type 0} → Option (Open L) → ℕ
+opens None = 0
+opens (Some talk) = 1
+
 -- the connection was hung up as it was then, and nothing is open
 abbrev pub IsHungUp : {L : Type 0} → L → Links L → Links L → Option (Open L) → Type 0
 IsHungUp link made after line =

@@ -1,5 +1,5 @@
 //! Where connections are made.
-ghost use Rattle.std.specs.Prelude.{◌≡◌, ◌<◌, ◌≤◌, ◌++◌, ◌∷◌, [], List};
+ghost use Rattle.std.specs.Prelude.{◌≡◌, ◌<◌, ◌≤◌, ◌+◌, ◌++◌, ◌∷◌, [], List};
 ghost use Rattle.std.specs.Prelude.{ℕ, IfOk, OnOk, OnErr, IsErrOf};
 ghost use Rattle.delta_base.specs.Memory.{CountsCall};
 ghost use Rattle.delta_base.specs.Outside.{Rose};
@@ -30,8 +30,8 @@ pub trait Dial {
     /// The connections hung up, in their order.
     ghost back: { Self → List Self.L };
 
-    /// A connection that it made isn't hung up yet.
-    ghost awaits: { Self → Type 0 };
+    /// How many connections that it made aren't hung up yet.
+    ghost held: { Self → ℕ };
 
     /// How often a connection was tried for, up to the last value of u64.
     ghost tries: { Self → ℕ };
@@ -51,7 +51,8 @@ pub trait Dial {
         ensures nowhere { tells → OnErr result (addresses self.new ≡ addresses self.old) }
         ensures back { tells → back self.new ≡ back self.old }
         ensures fresh { IfOk result (λ link. Self.L.faults link ≡ 0) }
-        ensures awaits { OnOk result (awaits self.new) }
+        ensures held { OnOk result (held self.new ≡ held self.old + 1) }
+        ensures not_held { OnErr result (held self.new ≡ held self.old) }
         ensures tries { CountsCall (tries self.old) (tries self.new) }
         ensures never_falls { faults self.old ≤ faults self.new }
         ensures cause { IsErrOf result DialFault.Failed
@@ -66,7 +67,8 @@ pub trait Dial {
 
     /// Ends a connection. One that has failed counts one fault.
     fn hang_up(&mut self, link: Self::L)
-        requires { awaits self.old }
+        requires { 0 < held self.old }
+        ensures held { held self.new + 1 ≡ held self.old }
         ensures back { tells → back self.new ≡ back self.old ++ link ∷ [] }
         ensures to_come { tells → to_come self.new ≡ to_come self.old }
         ensures addresses { tells → addresses self.new ≡ addresses self.old }

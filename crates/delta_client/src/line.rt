@@ -1,5 +1,5 @@
 //! Calls to one address one after another. A connection is kept until a reply closes it.
-ghost use Rattle.std.specs.Prelude.{◌≡◌, ◌⊎◌, ◌<◌, ◌≤◌, ◌++◌, ℕ, List, Option};
+ghost use Rattle.std.specs.Prelude.{◌≡◌, ◌⊎◌, ◌<◌, ◌≤◌, ◌+◌, ◌++◌, ℕ, List, Option};
 ghost use Rattle.std.specs.Prelude.{Some, None, true, IfOk, IfErr, IfSome};
 ghost use Rattle.std.specs.Prelude.{IfNone, IsErrOf, IsNone, IsSome, OnErr, OnOk};
 ghost use Rattle.std.specs.List.{list_all};
@@ -10,7 +10,7 @@ ghost use Rattle.rpc_answers.specs.Answers.{NamesItsFault};
 ghost use Rattle.delta_client.specs.Exchanges.{EndsExchanges, dial_view};
 ghost use Rattle.delta_client.specs.Kinds.{MayAnswer};
 ghost use Rattle.delta_client.specs.Lines.{AnswersOver, Connection, IsBegun};
-ghost use Rattle.delta_client.specs.Lines.{IsOpen, Over, links_in, told_of};
+ghost use Rattle.delta_client.specs.Lines.{IsOpen, Over, links_in, opens, told_of};
 
 use crate::asking::ask;
 use crate::dial::{Dial, DialFault};
@@ -45,8 +45,9 @@ impl<L: Link> Line<L> {
 
     /// Hangs up what is open.
     pub fn hang_up<N: Dial<L = L>>(&mut self, net: &mut N)
-        requires { IsSome self.old.open → N.awaits net.old }
+        requires { opens self.old.open ≤ N.held net.old }
         ensures ended { self.new.open ≡ None }
+        ensures count { N.held net.new + opens self.old.open ≡ N.held net.old }
         ensures back { N.tells → N.back net.new ≡ N.back net.old ++ links_in self.old.open }
         ensures to_come { N.tells → N.to_come net.new ≡ N.to_come net.old }
         ensures addresses { N.tells → N.addresses net.new ≡ N.addresses net.old }
@@ -72,7 +73,8 @@ impl<L: Link> Line<L> {
 
     /// Hangs up what is open, behind the last call.
     pub fn end<N: Dial<L = L>>(self, net: &mut N)
-        requires { IsSome self.open → N.awaits net.old }
+        requires { opens self.open ≤ N.held net.old }
+        ensures count { N.held net.new + opens self.open ≡ N.held net.old }
         ensures exchanged { N.tells → (address : List ℕ) → EndsExchanges L.left L.sent address
             self.open (dial_view N.Dial net.old) (dial_view N.Dial net.new) }
         ensures tries { N.tries net.new ≡ N.tries net.old }
@@ -101,7 +103,7 @@ fn begin<N: Dial>(
         (told_of (N.to_come net.old) (N.addresses net.old) (N.back net.old))
         (told_of (N.to_come net.new) (N.addresses net.new) (N.back net.new)) line.new.open) }
     ensures open { OnOk result (IsSome line.new.open) }
-    ensures awaits { OnOk result (N.awaits net.new) }
+    ensures count { N.held net.new + opens line.old.open ≡ N.held net.old + opens line.new.open }
     ensures refused { N.tells → OnErr result
         (told_of (N.to_come net.new) (N.addresses net.new) (N.back net.new)
         ≡ told_of (N.to_come net.old) (N.addresses net.old) (N.back net.old)) }
@@ -137,13 +139,13 @@ fn ask_open<N: Dial>(
 ) -> Result<Answer, AskFault>
     requires visible { list_all is_visible address.now ≡ true }
     requires open { IsSome line.old.open }
-    requires awaits { N.awaits net.old }
+    requires count { opens line.old.open ≤ N.held net.old }
     ensures over { N.tells → (over : Connection N.L) → IsOpen N.L.left (Some over) line.old.open
         → (link : N.L) × AnswersOver N.L.left N.L.sent address.now call.now over link
         (told_of (N.to_come net.old) (N.addresses net.old) (N.back net.old))
         (told_of (N.to_come net.new) (N.addresses net.new) (N.back net.new))
         line.new.open result }
-    ensures awaits { IsSome line.new.open → N.awaits net.new }
+    ensures count { N.held net.new + opens line.old.open ≡ N.held net.old + opens line.new.open }
     ensures named { IfOk result (λ answer. NamesItsFault answer) }
     ensures takes { IfOk result (λ answer. MayAnswer call.now answer) }
     ensures tries { N.tries net.new ≡ N.tries net.old }
@@ -179,14 +181,14 @@ pub fn ask_again<N: Dial>(
     call: &Call,
 ) -> Result<Answer, AskFault>
     requires visible { list_all is_visible address.now ≡ true }
-    requires awaits { IsSome line.old.open → N.awaits net.old }
+    requires count { opens line.old.open ≤ N.held net.old }
     ensures over { N.tells → (standing : Option (Connection N.L))
         → IsOpen N.L.left standing line.old.open
         → Over N.L.left N.L.sent address.now call.now standing
         (told_of (N.to_come net.old) (N.addresses net.old) (N.back net.old))
         (told_of (N.to_come net.new) (N.addresses net.new) (N.back net.new))
         line.new.open result }
-    ensures awaits { IsSome line.new.open → N.awaits net.new }
+    ensures count { N.held net.new + opens line.old.open ≡ N.held net.old + opens line.new.open }
     ensures named { IfOk result (λ answer. NamesItsFault answer) }
     ensures takes { IfOk result (λ answer. MayAnswer call.now answer) }
 

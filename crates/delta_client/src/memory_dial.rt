@@ -86,7 +86,7 @@ impl<L> MemDial<L> {
 }
 
 impl<L: Link> Dial for MemDial<L> {
-    ghost use Rattle.std.specs.Prelude.{◌<◌, length};
+    ghost use Rattle.std.specs.Prelude.{◌-◌, length};
 
     type L = L;
 
@@ -98,7 +98,7 @@ impl<L: Link> Dial for MemDial<L> {
 
     ghost back = { λ d. d.back };
 
-    ghost awaits = { λ d. length d.to_come < d.room };
+    ghost held = { λ d. d.room - length d.to_come };
 
     ghost tries = { λ d. d.calls };
 

@@ -10,21 +10,25 @@ use std::time::Duration;
 /// How long a server may be silent, in seconds: a read or write that waits longer fails.
 const PATIENCE: u64 = 75;
 
-/// Connections to servers. It tells nothing of them.
+/// Connections to servers. It tells nothing of them. It counts those that are open in a u64: one
+/// more than that fails.
 #[derive(Drop)]
 pub struct TcpDial<'a, R> {
     rt: &'a R,
+    held: u64,
     tries: u64,
     faults: u64,
 }
 
 impl<'a, R> TcpDial<'a, R> {
     pub fn new(rt: &'a R) -> TcpDial<'a, R>
+        ensures held { result.held ≡ 0 }
         ensures tries { result.tries ≡ 0 }
         ensures faults { result.faults ≡ 0 }
     {
         TcpDial {
             rt,
+            held: 0,
             tries: 0,
             faults: 0,
         }
@@ -56,7 +60,7 @@ impl<'a, R: Net<Stream = TcpStream, Listener = TcpListener>> Dial for TcpDial<'a
 
     ghost back = { λ d. [] };
 
-    ghost awaits = { λ d. Unit {0} };
+    ghost held = { λ d. d.held };
 
     ghost tries = { λ d. d.tries };
 
@@ -68,8 +72,15 @@ impl<'a, R: Net<Stream = TcpStream, Listener = TcpListener>> Dial for TcpDial<'a
 
     fn connect(&mut self, address: &Text) -> Result<StdLink<TcpStream>, DialFault> {
         self.tries = self.tries.saturating_add(1);
+        let Some(held) = self.held.checked_add(1) else {
+            self.faults = self.faults.saturating_add(1);
+            return Err(DialFault::Failed);
+        };
         match TcpStream::connect(self.rt, address.as_str()).and_then(link_over) {
-            Ok(link) => Ok(link),
+            Ok(link) => {
+                self.held = held;
+                Ok(link)
+            }
             Err(_) => {
                 self.faults = self.faults.saturating_add(1);
                 Err(DialFault::Failed)
@@ -81,6 +92,7 @@ impl<'a, R: Net<Stream = TcpStream, Listener = TcpListener>> Dial for TcpDial<'a
         if link.faults() > 0 {
             self.faults = self.faults.saturating_add(1);
         }
+        self.held -= 1;
         drop(link);
     }
 }

@@ -86,7 +86,7 @@ not_nothing kind text more message one is =
     omega arith
 
 -- no message stands at an end
-end_no_message : (kind : Kind) (rest : List ℕ) (end : End) → EndsAs kind rest end → BeginsNoMessage kind rest
+pub end_no_message : (kind : Kind) (rest : List ℕ) (end : End) → EndsAs kind rest end → BeginsNoMessage kind rest
 end_no_message kind rest between ends text more message one is = not_nothing kind text more message one (sym ends ∙ is)
 end_no_message kind rest (faulty fault) ends text more message one is = fault_no_message kind rest fault ends text more message one is
 end_no_message kind rest inside ends text more message one is = ends.1 text more message one is

@@ -8,7 +8,8 @@ ghost use Rattle.http_text.specs.Readers.{IsHeadOfMessage};
 ghost use Rattle.http_text.specs.Readers.{IsReader, ReadsPiece, ReaderStandsFor, asks_first};
 ghost use Rattle.http_text.specs.Readers.{fault_of};
 ghost use Rattle.http_text.specs.Readers.{stage_expects, stage_fault, waiting, was_told};
-ghost use Rattle.http_messages.specs.Messages.{End, ReadsMessages, between, inside};
+ghost use Rattle.http_messages.specs.Messages.{AreMessages, End, ReadsMessages, between};
+ghost use Rattle.http_messages.specs.Messages.{faulty, inside};
 ghost use Rattle.http_text.specs.Taken.{AsksBehind, taken_after};
 ghost use Rattle.http_heads.specs.declared.progress.HeadProgress.{HeadProgress as At};
 ghost use Rattle.http_heads.specs.declared.framing.FrameFault.{FrameFault as Fault};
@@ -476,4 +477,18 @@ pub fn one_reading()
     ensures { (kind : Kind) (bytes : List ℕ) (xs ys : List Message) (end other : End)
         → ReadsMessages kind bytes xs end
         → ReadsMessages kind bytes ys other → (xs ≡ ys) × (end ≡ other) }
+{}
+
+/// Behind the messages taken a stream has one next message at most, however many of its bytes have
+/// come. Where it has one, it doesn't end there and isn't at fault.
+pub fn one_next_message()
+    ensures same { (kind : Kind) (bytes more rest last : List ℕ) (taken : List Message)
+        (x y : Message) → AreMessages kind bytes (taken ++ x ∷ []) rest
+        → AreMessages kind (bytes ++ more) (taken ++ y ∷ []) last → x ≡ y }
+    ensures no_end { (kind : Kind) (bytes last : List ℕ) (taken : List Message) (x : Message)
+        (end : End) → AreMessages kind bytes (taken ++ x ∷ []) last
+        → ReadsMessages kind bytes taken end → ⊥ }
+    ensures no_fault { (kind : Kind) (bytes more last : List ℕ) (taken : List Message)
+        (x : Message) (fault : Fault) → AreMessages kind (bytes ++ more) (taken ++ x ∷ []) last
+        → ReadsMessages kind bytes taken (faulty fault) → ⊥ }
 {}

@@ -1,6 +1,6 @@
 mod FoundLemmas
 mod AnswerLemmas
-mod Readings
+pub mod Readings
 mod StatusLemmas
 mod SourceLemmas
 mod PrintLemmas

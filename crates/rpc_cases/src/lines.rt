@@ -1,7 +1,8 @@
 //! Calls one after another, and the connections that they go over.
-ghost use Rattle.std.specs.Prelude.{◌≡◌, true, IsSome};
+ghost use Rattle.std.specs.Prelude.{◌≡◌, ◌≤◌, ◌+◌, true};
 ghost use Rattle.std.specs.List.{list_all};
 ghost use Rattle.http_text.specs.Print.{is_visible};
+ghost use Rattle.delta_client.specs.Lines.{opens};
 
 use crate::asking::{WHOLE, link_of, tell_fault, tell_version, version_call};
 use crate::changes::Changes;
@@ -74,8 +75,8 @@ fn tell_asked<N: Dial>(
     told: &mut Told,
 )
     requires visible { list_all is_visible host.now ≡ true }
-    requires awaits { IsSome line.old.open → N.awaits net.old }
-    ensures { IsSome line.new.open → N.awaits net.new }
+    requires count { opens line.old.open ≤ N.held net.old }
+    ensures { N.held net.new + opens line.old.open ≡ N.held net.old + opens line.new.open }
 {
     tell_answer(ask_again(alloc, net, line, host, call), told);
 }
