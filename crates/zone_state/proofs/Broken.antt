@@ -8,9 +8,9 @@ use Rattle.chain_core.specs.Breaks.{BreaksAt}
 use Rattle.chain_core.specs.Links.{IsChain}
 use Rattle.chain_core.specs.Patches.{links_of, texts_of, version_of, last_id}
 use Rattle.chain_core.proofs.Fronts.{links-front}
-use Rattle.patch_log.specs.Log.{bare}
+use Rattle.patch_log.specs.Log.{bare, IsSound}
 use Rattle.zone_state.specs.Brief.{id_taken}
-use Rattle.zone_state.specs.Log.{IsSound, AreChained}
+use Rattle.zone_state.specs.Log.{AreChained}
 use Rattle.zone_state.specs.Next.{IsNextPatch, AreFoundPatches}
 use Rattle.zone_state.proofs.Growing.{bare_texts, bare_versions, bare_last}
 use Rattle.zone_state.proofs.Sound.{heads, one_list, sound_checked, sound-front, chained-take}

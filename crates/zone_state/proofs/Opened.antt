@@ -45,11 +45,11 @@ module _ {D : Type 0} {disks : Ghosts D} (journal : Journal D disks) (kept : Kep
   taken_opened : AreTakenPatches limits taken
   taken_opened = taken_found found limits taken are (omega (arith, length_is, within))
 
-  pub zone_opened : StandsForZone disks.tells (disks.past (disk_of journal)) (view_of journal kept limits) taken None
-  zone_opened = zone_stands journal (view_of journal kept limits) taken None refl length_opened brief taken_opened taken_opened (subst (λ (ts : List (List ℕ)). StandsFor journal zone_number ts) (sym are.texts_are) stands)
+  pub zone_opened : StandsForZone disks.tells (disks.past (disk_of journal)) (view_of journal kept limits None) taken None
+  zone_opened = zone_stands journal (view_of journal kept limits None) taken None refl length_opened brief taken_opened taken_opened (subst (λ (ts : List (List ℕ)). StandsFor journal zone_number ts) (sym are.texts_are) stands)
 
   counted_opened : count_of journal ≡ length kept.ids.items
   counted_opened = counted_by journal taken None (subst (λ (ts : List (List ℕ)). StandsFor journal zone_number ts) (sym are.texts_are) stands) ∙ sym (ap (λ (b : Brief). length b.ids) brief)
 
-  pub kept_opened : limit_of journal ≡ limits.bytes → limits.patches < 2 ^ 32 → kept.contents.staged ≡ None → IsZoneKept journal kept limits
-  kept_opened limit_is countable unstaged = record { counted = counted_opened; length_is = length_opened; limit_is = limit_is; countable = countable; unstaged = unstaged; stands = (taken, None, zone_opened) }
+  pub kept_opened : limit_of journal ≡ limits.bytes → limits.patches < 2 ^ 32 → kept.contents.staged ≡ None → IsZoneKept journal kept limits None
+  kept_opened limit_is countable unstaged = record { counted = counted_opened; length_is = length_opened; limit_is = limit_is; settled_is = stands.0; countable = countable; unstaged = unstaged; stands = (taken, zone_opened) }

@@ -14,7 +14,8 @@ use Rattle.chain_core.specs.Patches.{texts_of}
 use Rattle.zone_state.specs.declared.fault.ZoneFault.{ZoneFault}
 use Rattle.zone_state.specs.declared.fault.ZoneFault.TheVariants.{Failed, Damaged, OldFormat, WrongNumber, OverLimit, OutOfMemory, BrokenChain, TermsFull}
 use Rattle.zone_state.specs.Fault.{HasZoneFault}
-use Rattle.zone_state.specs.Log.{IsSound, IsSoundZoneLog, StandsForZoneFile, AreChained}
+use Rattle.zone_state.specs.Log.{IsSoundZoneLog, StandsForZoneFile, AreChained}
+use Rattle.patch_log.specs.Log.{IsSound}
 use Rattle.zone_state.specs.Zone.{zone_number}
 use Rattle.zone_state.proofs.Sound.{one_list as one_log, never_breaks, texts_of-push}
 

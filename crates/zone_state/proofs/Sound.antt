@@ -12,8 +12,8 @@ use Rattle.chain_core.specs.declared.chain.Patch.{Patch}
 use Rattle.chain_core.specs.Breaks.{BreaksAt}
 use Rattle.chain_core.specs.Patches.{texts_of}
 use Rattle.chain_core.proofs.Fronts.{links-take}
-use Rattle.patch_log.specs.Log.{bare}
-use Rattle.zone_state.specs.Log.{IsSound, IsSoundZoneLog, AreChained}
+use Rattle.patch_log.specs.Log.{bare, IsSound}
+use Rattle.zone_state.specs.Log.{IsSoundZoneLog, AreChained}
 
 pub texts_of-push : (patches : List Patch) (patch : Patch) → texts_of (patches ++ patch ∷ []) ≡ texts_of patches ++ patch.text ∷ []
 texts_of-push patches patch = map-append (λ (patch : Patch). patch.text) patches (patch ∷ [])

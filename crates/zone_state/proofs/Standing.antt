@@ -18,7 +18,7 @@ use Rattle.chain_core.specs.Patches.{texts_of}
 use Rattle.chain_core.specs.Stay.{fate_of, fate_by_syncs, fate_by_plan}
 use Rattle.patch_meaning.specs.Checked.{CheckedPatch, checked_texts}
 use Rattle.patch_log.specs.Log.{bare}
-use Rattle.zone_state.specs.Log.{payloads_of, patch_payload}
+use Rattle.zone_state.specs.Log.{patch_payload}
 use Rattle.zone_state.specs.declared.answer.TakeAnswer.TheVariants.{Applied}
 use Rattle.zone_state.specs.Brief.{Brief, brief_of, id_taken, file_length}
 use Rattle.zone_state.specs.Taking.{taken_by, taken_then}
@@ -91,27 +91,27 @@ module _ {D : Type 0} {disks : Ghosts D} where
   counted_by journal taken (Some doubt) stands = stands.2 ∙ sym (texts_counted taken)
 
   -- the journal of a zone stands for the texts
-  pub journal_stands : (journal : Journal D disks) (zone : ZoneView D) (taken : List CheckedPatch) (doubt : Option CheckedPatch) → zone.settled ≡ is_settled journal → count_of journal ≡ length zone.brief.ids → length_of journal ≡ file_length zone.brief.ids zone.brief.bytes
+  pub journal_stands : (journal : Journal D disks) (zone : ZoneView D) (taken : List CheckedPatch) (doubt : Option CheckedPatch) → is_settled journal ≡ is_none zone.doubt → count_of journal ≡ length zone.brief.ids → length_of journal ≡ file_length zone.brief.ids zone.brief.bytes
       → StandsForZone disks.tells (disks.past (disk_of journal)) zone taken doubt → StandsWith journal zone_number (checked_texts taken) (text_in doubt)
   journal_stands journal zone taken None settled counted is stands =
-      (sym settled ∙ stands.settled_is, λ told. subst (λ (end : ℕ). HoldsAll (disks.past (disk_of journal)) end zone_number (checked_texts taken)) (sym is) (stands.on_disk told), counted ∙ ap (λ (brief : Brief). length brief.ids) stands.brief_is ∙ texts_counted taken)
+      (settled ∙ ap is_none stands.doubt_is, λ told. subst (λ (end : ℕ). HoldsAll (disks.past (disk_of journal)) end zone_number (checked_texts taken)) (sym is) (stands.on_disk told), counted ∙ ap (λ (brief : Brief). length brief.ids) stands.brief_is ∙ texts_counted taken)
   journal_stands journal zone taken (Some doubt) settled counted is stands =
-      (sym settled ∙ stands.settled_is, λ told. subst (λ (end : ℕ). InDoubt (disks.past (disk_of journal)) end zone_number (checked_texts taken) doubt.text) (sym is) (stands.on_disk told), counted ∙ ap (λ (brief : Brief). length brief.ids) stands.brief_is ∙ texts_counted taken)
+      (settled ∙ ap is_none stands.doubt_is, λ told. subst (λ (end : ℕ). InDoubt (disks.past (disk_of journal)) end zone_number (checked_texts taken) doubt.text) (sym is) (stands.on_disk told), counted ∙ ap (λ (brief : Brief). length brief.ids) stands.brief_is ∙ texts_counted taken)
 
   -- and the other way round
-  pub zone_stands : (journal : Journal D disks) (zone : ZoneView D) (taken : List CheckedPatch) (doubt : Option CheckedPatch) → zone.settled ≡ is_settled journal → length_of journal ≡ file_length zone.brief.ids zone.brief.bytes
+  pub zone_stands : (journal : Journal D disks) (zone : ZoneView D) (taken : List CheckedPatch) (doubt : Option CheckedPatch) → zone.doubt ≡ doubt → length_of journal ≡ file_length zone.brief.ids zone.brief.bytes
       → zone.brief ≡ brief_of taken → AreTakenPatches zone.limits taken → AreTakenPatches zone.limits (with_one_more taken doubt) → StandsWith journal zone_number (checked_texts taken) (text_in doubt)
       → StandsForZone disks.tells (disks.past (disk_of journal)) zone taken doubt
-  zone_stands journal zone taken None settled is brief without having stands = record {
+  zone_stands journal zone taken None doubt_is is brief without having stands = record {
     brief_is = brief;
-    settled_is = settled ∙ stands.0;
+    doubt_is = doubt_is;
     without = without;
     having = having;
     on_disk = λ told. subst (λ (end : ℕ). HoldsAll (disks.past (disk_of journal)) end zone_number (checked_texts taken)) is (stands.1 told);
   }
-  zone_stands journal zone taken (Some doubt) settled is brief without having stands = record {
+  zone_stands journal zone taken (Some doubt) doubt_is is brief without having stands = record {
     brief_is = brief;
-    settled_is = settled ∙ stands.0;
+    doubt_is = doubt_is;
     without = without;
     having = having;
     on_disk = λ told. subst (λ (end : ℕ). InDoubt (disks.past (disk_of journal)) end zone_number (checked_texts taken) doubt.text) is (stands.1 told);
@@ -130,7 +130,7 @@ in_doubt : (doubt : Option CheckedPatch) → patch_payload (doubt_of doubt) ≡ 
 in_doubt None = refl
 in_doubt (Some patch) = refl
 
-pub leaves_is : (past : Past) (taken : List CheckedPatch) (doubt : Option CheckedPatch) → LeavesEither past zone_number (checked_texts taken) (text_in doubt) ≡ LeavesEither past zone_number (payloads_of (map bare taken)) (patch_payload (doubt_of doubt))
+pub leaves_is : (past : Past) (taken : List CheckedPatch) (doubt : Option CheckedPatch) → LeavesEither past zone_number (checked_texts taken) (text_in doubt) ≡ LeavesEither past zone_number (texts_of (map bare taken)) (patch_payload (doubt_of doubt))
 leaves_is past taken doubt =
     ap (λ (ts : List (List ℕ)). LeavesEither past zone_number ts (text_in doubt)) (sym (bare_texts taken))
     ∙ ap (λ (d : Option (List ℕ)). LeavesEither past zone_number (texts_of (map bare taken)) d) (sym (in_doubt doubt))

@@ -25,10 +25,10 @@ applied_by (Some phase) version other is = absurd (cc)
 
 module _ {D : Type 0} (disks : Ghosts D) (before after : ZoneView D) (taken : List CheckedPatch) (doubt : Option CheckedPatch) (patch : CheckedPatch) (answer : TakeAnswer) (t : TookOne disks before after taken doubt patch answer) where
   abbrev Writes : Type 0
-  Writes = WritesNext disks before after taken doubt t.left patch t.fate answer
+  Writes = WritesNext disks before after taken doubt patch t.fate answer
 
   abbrev Refuses : Type 0
-  Refuses = RefusesPatch before after doubt t.left patch answer
+  Refuses = RefusesPatch before after doubt patch answer
 
   refused : Refuses → IsRefused answer
   refused r = is_refused answer (subst IsDecided (sym r.told) (is_decided before.brief.ids before.brief.bytes (bare patch) before.limits)) r.never
@@ -38,14 +38,14 @@ module _ {D : Type 0} (disks : Ghosts D) (before after : ZoneView D) (taken : Li
   by_syncs tells version is = ⊎_elim (λ (w : Writes). w.fate_is ∙ ap fate_of (w.written.by_syncs tells) ∙ same_fate doubt _) (λ (r : Refuses). absurd (r.never version (r.told ∙ is))) t.asks
 
   -- where the syncs fail as planned, it is that of the plan
-  pub planned : disks.plans → IsTrue (not (disks.short after.disk)) → TakeStay (decided before patch) (map bare taken) (doubt_of doubt) (bare patch) (fate_by_plan doubt (disks.next_failure before.disk)) (zone_point (taken_then answer taken patch) t.left) answer
+  pub planned : disks.plans → IsTrue (not (disks.short after.disk)) → TakeStay (decided before patch) (map bare taken) (doubt_of doubt) (bare patch) (fate_by_plan doubt (disks.next_failure before.disk)) (zone_point (taken_then answer taken patch) after.doubt) answer
   planned plans long = ⊎_elim
-      (λ (w : Writes). subst (λ (fate : Fate). TakeStay (decided before patch) (map bare taken) (doubt_of doubt) (bare patch) fate (zone_point (taken_then answer taken patch) t.left) answer)
+      (λ (w : Writes). subst (λ (fate : Fate). TakeStay (decided before patch) (map bare taken) (doubt_of doubt) (bare patch) fate (zone_point (taken_then answer taken patch) after.doubt) answer)
       (w.fate_is ∙ ap fate_of (w.written.planned plans long) ∙ same_plan doubt (disks.next_failure before.disk)) t.stay)
       (λ (r : Refuses).
       let fate = fate_by_plan doubt (disks.next_failure before.disk) in
       subst (λ (z : TakeAnswer × List CheckedPatch × Option CheckedPatch). TakeStay z.0 (map bare taken) (doubt_of doubt) (bare patch) fate (zone_point z.1 z.2) answer)
-      (λ i. (r.told i, sym ((refused r).same taken patch) i, sym r.left_same i)) ((refused r).outcome fate (map bare taken) (doubt_of doubt) (bare patch)))
+      (λ i. (r.told i, sym ((refused r).same taken patch) i, sym r.doubt_is i)) ((refused r).outcome fate (map bare taken) (doubt_of doubt) (bare patch)))
       t.asks
 
   -- what is applied is in every image
@@ -58,14 +58,14 @@ module _ {D : Type 0} (disks : Ghosts D) (before after : ZoneView D) (taken : Li
   -- as planned, a patch that is left in doubt stands where what wasn't synced is 1, and not in what
   -- was synced
   pub images : disks.plans → disks.tells → IsTrue (not (disks.short after.disk)) → LeavesEither (disks.past before.disk) zone_number (checked_texts taken) (text_in doubt)
-      → LeavesEither (disks.past after.disk) zone_number (checked_texts (taken_then answer taken patch)) (text_in t.left)
+      → LeavesEither (disks.past after.disk) zone_number (checked_texts (taken_then answer taken patch)) (text_in after.doubt)
   images plans tells long either = ⊎_elim
       (λ (w : Writes).
       let texts : payloads_left w.end (checked_texts taken) patch.text ≡ checked_texts (taken_then answer taken patch) = payloads_are w.end w.version taken patch ∙ ap (λ (a : TakeAnswer). checked_texts (taken_then a taken patch)) (sym w.answer_is) in
-      let left : doubt_left w.end (text_in doubt) patch.text ≡ text_in t.left = doubts_are w.end doubt patch ∙ ap text_in (sym w.left_is) in
+      let left : doubt_left w.end (text_in doubt) patch.text ≡ text_in after.doubt = doubts_are w.end doubt patch ∙ ap text_in (sym w.doubt_is) in
       subst (λ (z : List (List ℕ) × Option (List ℕ)). LeavesEither (disks.past after.disk) zone_number z.0 z.1) (λ i. (texts i, left i)) (w.written.images plans tells long either))
       (λ (r : Refuses). subst (λ (z : ZoneView D × List CheckedPatch × Option CheckedPatch). LeavesEither (disks.past z.0.disk) zone_number (checked_texts z.1) (text_in z.2))
-      (λ i. (sym r.same i, sym ((refused r).same taken patch) i, sym r.left_same i)) either)
+      (λ i. (sym r.same i, sym ((refused r).same taken patch) i, sym r.doubt_is i)) either)
       t.asks
 
   during : disks.tells → StandsForZone disks.tells (disks.past before.disk) before taken doubt → LeavesOnly (HoldsDuring zone_number (checked_texts taken) (text_in doubt) patch.text) (disks.past before.disk) (disks.past after.disk)

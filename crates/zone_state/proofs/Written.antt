@@ -39,41 +39,36 @@ brief_after (Some phase) brief patch = brief
 abbrev pub Carries : {D : Type 0} {disks : Ghosts D} → Journal D disks → Journal D disks → Option Phase → List ℕ → Type 0
 Carries old new end payload = (number : ℕ) (payloads : List (List ℕ)) (doubt : Option (List ℕ)) → StandsWith old number payloads doubt → StandsWith new number (payloads_left end payloads payload) (doubt_left end doubt payload)
 
-module _ {D : Type 0} {disks : Ghosts D} (journal : Journal D disks) (kept : Kept) (limits : LogLimits) (is : IsZoneKept journal kept limits) where
+-- a journal is settled where no patch is in doubt
+settled_by : {D : Type 0} {disks : Ghosts D} (journal : Journal D disks) (payloads : List (List ℕ)) (doubt : Option CheckedPatch) → StandsWith journal zone_number payloads (text_in doubt) → is_settled journal ≡ is_none doubt
+settled_by journal payloads None stands = stands.0
+settled_by journal payloads (Some doubt) stands = stands.0
+
+module _ {D : Type 0} {disks : Ghosts D} (journal : Journal D disks) (kept : Kept) (limits : LogLimits) (doubtful : Option CheckedPatch) (is : IsZoneKept journal kept limits doubtful) where
   abbrev ids : List Id
   ids = kept.ids.items
 
   -- before a write
-  pub journal_is : (taken : List CheckedPatch) (doubt : Option CheckedPatch) → StandsForZone disks.tells (disks.past (disk_of journal)) (view_of journal kept limits) taken doubt → StandsWith journal zone_number (checked_texts taken) (text_in doubt)
-  journal_is taken doubt stands = journal_stands journal (view_of journal kept limits) taken doubt refl is.counted is.length_is stands
+  pub journal_is : (taken : List CheckedPatch) (doubt : Option CheckedPatch) → StandsForZone disks.tells (disks.past (disk_of journal)) (view_of journal kept limits doubtful) taken doubt → StandsWith journal zone_number (checked_texts taken) (text_in doubt)
+  journal_is taken doubt stands = journal_stands journal (view_of journal kept limits doubtful) taken doubt is.settled_is is.counted is.length_is stands
 
   -- another journal that stands for the same
   module _ (new : Journal D disks) (stands : (number : ℕ) (payloads : List (List ℕ)) (doubt : Option (List ℕ)) → StandsWith journal number payloads doubt → StandsWith new number payloads doubt) (length_is : length_of new ≡ length_of journal)
       (limit_is : limit_of new ≡ limit_of journal) where
-    settled_by : (j : Journal D disks) (payloads : List (List ℕ)) (doubt : Option (List ℕ)) → StandsWith j zone_number payloads doubt → is_settled j ≡ is_none doubt
-    settled_by j payloads None stands = stands.0
-    settled_by j payloads (Some doubt) stands = stands.0
+    there : StandsWith new zone_number (checked_texts is.stands.0) (text_in doubtful)
+    there = stands zone_number (checked_texts is.stands.0) (text_in doubtful) (journal_is is.stands.0 doubtful is.stands.1)
 
-    there : StandsWith new zone_number (checked_texts is.stands.0) (text_in is.stands.1)
-    there = stands zone_number (checked_texts is.stands.0) (text_in is.stands.1) (journal_is is.stands.0 is.stands.1 is.stands.2)
-
-    pub settled_still : is_settled new ≡ is_settled journal
-    settled_still = settled_by new (checked_texts is.stands.0) (text_in is.stands.1) there ∙ sym (settled_by journal (checked_texts is.stands.0) (text_in is.stands.1) (journal_is is.stands.0 is.stands.1 is.stands.2))
-
-    pub kept_still : IsZoneKept new kept limits
+    pub kept_still : IsZoneKept new kept limits doubtful
     kept_still =
-        let before = is.stands.2 in
+        let before = is.stands.1 in
         record {
-          counted = counted_by new is.stands.0 is.stands.1 there ∙ sym (ap (λ (brief : Brief). length brief.ids) before.brief_is);
+          counted = counted_by new is.stands.0 doubtful there ∙ sym (ap (λ (brief : Brief). length brief.ids) before.brief_is);
           length_is = length_is ∙ is.length_is;
           limit_is = limit_is ∙ is.limit_is;
+          settled_is = settled_by new (checked_texts is.stands.0) doubtful there;
           countable = is.countable;
           unstaged = is.unstaged;
-          stands = (
-            is.stands.0,
-            is.stands.1,
-            zone_stands new (view_of new kept limits) is.stands.0 is.stands.1 refl (length_is ∙ is.length_is) before.brief_is before.without before.having there,
-          );
+          stands = (is.stands.0, zone_stands new (view_of new kept limits doubtful) is.stands.0 doubtful refl (length_is ∙ is.length_is) before.brief_is before.without before.having there);
         }
 
   module _ (patch : CheckedPatch) (version : ℕ) (decided_so : Applied version ≡ taking kept.ids.items kept.bytes (bare patch) limits) where
@@ -98,7 +93,7 @@ module _ {D : Type 0} {disks : Ghosts D} (journal : Journal D disks) (kept : Kep
     more : (taken : List CheckedPatch) → IsPatch patch.text patch.meaning → AreTakenPatches limits taken → brief_in kept ≡ brief_of taken → AreTakenPatches limits (taken ++ patch ∷ [])
     more taken checked are brief = taken-push limits taken patch are checked (subst (λ (b : Brief). CanBeTaken b.ids b.bytes (bare patch) limits) brief can)
 
-    module _ (end : Option Phase) (new : Journal D disks) (kept_new : Kept) (checked : IsPatch patch.text patch.meaning) (payload : List ℕ) (payload_is : payload ≡ patch.text) (brief_is : brief_in kept_new ≡ brief_after end (brief_in kept) patch)
+    module _ (end : Option Phase) (new : Journal D disks) (kept_new : Kept) (left : Option CheckedPatch) (left_is : left ≡ doubt_left end doubtful patch) (checked : IsPatch patch.text patch.meaning) (payload : List ℕ) (payload_is : payload ≡ patch.text) (brief_is : brief_in kept_new ≡ brief_after end (brief_in kept) patch)
         (carries : Carries journal new end payload) (length_is : length_of new ≡ length_of journal + longer_by end (length payload)) where
       file_after : (end : Option Phase) → brief_in kept_new ≡ brief_after end (brief_in kept) patch → file_length kept_new.ids.items kept_new.bytes ≡ file_length kept.ids.items kept.bytes + longer_by end (length patch.text)
       file_after None same = omega (arith, ap (λ (b : Brief). length b.ids) same, ap (λ (b : Brief). b.bytes) same, length-append kept.ids.items (patch.meaning.id ∷ []))
@@ -114,51 +109,62 @@ module _ {D : Type 0} {disks : Ghosts D} (journal : Journal D disks) (kept : Kep
       brief_written None taken same = ap (λ (b : Brief). with_patch b patch) same ∙ sym (brief-push taken patch)
       brief_written (Some phase) taken same = same
 
-      pub stands_written : (taken : List CheckedPatch) (doubt : Option CheckedPatch) → StandsForZone disks.tells (disks.past (disk_of journal)) (view_of journal kept limits) taken doubt
-          → StandsForZone disks.tells (disks.past (disk_of new)) (view_of new kept_new limits) (taken_after end version taken patch) (doubt_left end doubt patch)
-      stands_written taken doubt stands =
+      -- the journal stands for what is left
+      carried : (taken : List CheckedPatch) (doubt : Option CheckedPatch) → StandsForZone disks.tells (disks.past (disk_of journal)) (view_of journal kept limits doubtful) taken doubt
+          → StandsWith new zone_number (checked_texts (taken_after end version taken patch)) (text_in (doubt_left end doubt patch))
+      carried taken doubt stands = stands_after end version new taken doubt patch
+          (subst (λ (text : List ℕ). StandsWith new zone_number (payloads_left end (checked_texts taken) text) (doubt_left end (text_in doubt) text)) payload_is (carries zone_number (checked_texts taken) (text_in doubt) (journal_is taken doubt stands)))
+
+      -- the patch in doubt is that of the zone
+      same_left : (doubt : Option CheckedPatch) → doubtful ≡ doubt → left ≡ doubt_left end doubt patch
+      same_left doubt same = left_is ∙ ap (λ (d : Option CheckedPatch). doubt_left end d patch) same
+
+      stands_left : (taken : List CheckedPatch) (doubt : Option CheckedPatch) → StandsForZone disks.tells (disks.past (disk_of journal)) (view_of journal kept limits doubtful) taken doubt
+          → StandsForZone disks.tells (disks.past (disk_of new)) (view_of new kept_new limits left) (taken_after end version taken patch) (doubt_left end doubt patch)
+      stands_left taken doubt stands =
           let longer = more taken checked stands.without stands.brief_is in
-          let carried = subst (λ (text : List ℕ). StandsWith new zone_number (payloads_left end (checked_texts taken) text) (doubt_left end (text_in doubt) text)) payload_is (carries zone_number (checked_texts taken) (text_in doubt) (journal_is taken doubt stands)) in
-          zone_stands new (view_of new kept_new limits) (taken_after end version taken patch) (doubt_left end doubt patch) refl length_written (brief_is ∙ brief_written end taken stands.brief_is)
-          (without_after limits end version taken patch stands.without longer) (having_after limits end version taken doubt patch stands.without stands.having longer) (stands_after end version new taken doubt patch carried)
+          zone_stands new (view_of new kept_new limits left) (taken_after end version taken patch) (doubt_left end doubt patch) (same_left doubt stands.doubt_is) length_written (brief_is ∙ brief_written end taken stands.brief_is)
+          (without_after limits end version taken patch stands.without longer) (having_after limits end version taken doubt patch stands.without stands.having longer) (carried taken doubt stands)
 
-      counted_written : count_of new ≡ length kept_new.ids.items
-      counted_written =
+      pub stands_written : (taken : List CheckedPatch) (doubt : Option CheckedPatch) → StandsForZone disks.tells (disks.past (disk_of journal)) (view_of journal kept limits doubtful) taken doubt
+          → StandsForZone disks.tells (disks.past (disk_of new)) (view_of new kept_new limits left) (taken_after end version taken patch) left
+      stands_written taken doubt stands = subst (λ (d : Option CheckedPatch). StandsForZone disks.tells (disks.past (disk_of new)) (view_of new kept_new limits left) (taken_after end version taken patch) d)
+          (sym (same_left doubt stands.doubt_is)) (stands_left taken doubt stands)
+
+      pub kept_written : limit_of new ≡ limit_of journal → kept_new.contents.staged ≡ None → IsZoneKept new kept_new limits left
+      kept_written limit unstaged =
           let taken = is.stands.0 in
-          let doubt = is.stands.1 in
-          let before = is.stands.2 in
-          let carried = subst (λ (text : List ℕ). StandsWith new zone_number (payloads_left end (checked_texts taken) text) (doubt_left end (text_in doubt) text)) payload_is (carries zone_number (checked_texts taken) (text_in doubt) (journal_is taken doubt before)) in
-          counted_by new (taken_after end version taken patch) (doubt_left end doubt patch) (stands_after end version new taken doubt patch carried)
-          ∙ sym (ap (λ (brief : Brief). length brief.ids) (brief_is ∙ brief_written end taken before.brief_is))
-
-      pub kept_written : limit_of new ≡ limit_of journal → kept_new.contents.staged ≡ None → IsZoneKept new kept_new limits
-      kept_written limit unstaged = record {
-        counted = counted_written;
-        length_is = length_written;
-        limit_is = limit ∙ is.limit_is;
-        countable = is.countable;
-        unstaged = unstaged;
-        stands = (taken_after end version is.stands.0 patch, doubt_left end is.stands.1 patch, stands_written is.stands.0 is.stands.1 is.stands.2);
-      }
+          let before = is.stands.1 in
+          let there = carried taken doubtful before in
+          record {
+            counted = counted_by new (taken_after end version taken patch) (doubt_left end doubtful patch) there ∙ sym (ap (λ (brief : Brief). length brief.ids) (brief_is ∙ brief_written end taken before.brief_is));
+            length_is = length_written;
+            limit_is = limit ∙ is.limit_is;
+            settled_is = settled_by new (checked_texts (taken_after end version taken patch)) (doubt_left end doubtful patch) there ∙ sym (ap is_none left_is);
+            countable = is.countable;
+            unstaged = unstaged;
+            stands = (taken_after end version taken patch, stands_written taken doubtful before);
+          }
 
       -- the stay that it was
-      pub took_written : (taken : List CheckedPatch) (doubt : Option CheckedPatch) → StandsForZone disks.tells (disks.past (disk_of journal)) (view_of journal kept limits) taken doubt
+      pub took_written : (taken : List CheckedPatch) (doubt : Option CheckedPatch) → StandsForZone disks.tells (disks.past (disk_of journal)) (view_of journal kept limits doubtful) taken doubt
           → (end ≡ Some Settling → is_settled journal ≡ false) → Written disks (disk_of journal) (disk_of new) zone_number (checked_texts taken) (text_in doubt) payload end
-          → TookOne disks (view_of journal kept limits) (view_of new kept_new limits) taken doubt patch (answer_by end version)
+          → TookOne disks (view_of journal kept limits doubtful) (view_of new kept_new limits left) taken doubt patch (answer_by end version)
       took_written taken doubt stands settling written =
-          let outcome = outcome_is end taken doubt patch version (λ failed. sym stands.settled_is ∙ settling failed) in
+          let outcome = outcome_is end taken doubt patch version (λ failed. sym (ap is_none stands.doubt_is) ∙ sym is.settled_is ∙ settling failed) in
+          let comes = ap (λ (d : TakeAnswer). taken_by d (fate_of end) (map bare taken) (doubt_of doubt) (bare patch)) next ∙ outcome in
           record {
-            left = doubt_left end doubt patch;
             stands = stands_written taken doubt stands;
             fate = fate_of end;
-            stay = ap (λ (d : TakeAnswer). taken_by d (fate_of end) (map bare taken) (doubt_of doubt) (bare patch)) next ∙ outcome;
+            stay = subst (λ (d : Option CheckedPatch). TakeStay (taking kept.ids.items kept.bytes (bare patch) limits) (map bare taken) (doubt_of doubt) (bare patch) (fate_of end) (zone_point (taken_after end version taken patch) d) (answer_by end version))
+                (sym (same_left doubt stands.doubt_is)) comes;
             asks = inl (record {
               version = version;
               can = next;
               end = end;
               fate_is = refl;
               answer_is = refl;
-              left_is = refl;
+              doubt_is = same_left doubt stands.doubt_is;
               written = subst (λ (text : List ℕ). Written disks (disk_of journal) (disk_of new) zone_number (checked_texts taken) (text_in doubt) text end) payload_is written;
             });
           }
@@ -169,12 +175,11 @@ pub took_nothing : {D : Type 0} {disks : Ghosts D} (zone : ZoneView D) (taken : 
 took_nothing {D} {disks} zone taken doubt patch answer stands told made =
     let same = sym (told.same taken patch) in
     record {
-      left = doubt;
-      stands = subst (λ (ts : List CheckedPatch). StandsForZone disks.tells (disks.past zone.disk) zone ts doubt) same stands;
+      stands = subst (λ (z : List CheckedPatch × Option CheckedPatch). StandsForZone disks.tells (disks.past zone.disk) zone z.0 z.1) (λ i. (same i, sym stands.doubt_is i)) stands;
       fate = Done;
-      stay = subst (λ (ts : List CheckedPatch). TakeStay (decided zone patch) (map bare taken) (doubt_of doubt) (bare patch) Done (zone_point ts doubt) answer) same
+      stay = subst (λ (z : List CheckedPatch × Option CheckedPatch). TakeStay (decided zone patch) (map bare taken) (doubt_of doubt) (bare patch) Done (zone_point z.0 z.1) answer) (λ i. (same i, sym stands.doubt_is i))
           (subst (λ (d : TakeAnswer). taken_by d Done (map bare taken) (doubt_of doubt) (bare patch) ≡ (zone_point taken doubt, Some answer)) made (told.outcome Done (map bare taken) (doubt_of doubt) (bare patch)));
-      asks = inr (record { told = made; never = told.no_version; same = refl; left_same = refl });
+      asks = inr (record { told = made; never = told.no_version; same = refl; doubt_is = stands.doubt_is });
     }
 
 -- ---- what is kept, field by field
@@ -185,3 +190,10 @@ brief_counted kept new patch ids bytes contents = λ i. record { ids = ids i; by
 
 pub brief_same : (kept new : Kept) → new.ids.items ≡ kept.ids.items → new.bytes ≡ kept.bytes → new.contents.contents ≡ kept.contents.contents → brief_in new ≡ brief_in kept
 brief_same kept new ids bytes contents = λ i. record { ids = ids i; bytes = bytes i; contents = contents i }
+
+-- what is kept may know more terms
+pub terms_known : {D : Type 0} {disks : Ghosts D} (journal : Journal D disks) (kept new : Kept) (limits : LogLimits) (doubt : Option CheckedPatch) → new.ids.items ≡ kept.ids.items → new.bytes ≡ kept.bytes → new.contents.contents ≡ kept.contents.contents
+    → view_of journal new limits doubt ≡ record (view_of journal kept limits doubt) { terms = new.contents.terms }
+terms_known journal kept new limits doubt ids bytes contents =
+    let brief = brief_same kept new ids bytes contents in
+    λ i. record { brief = brief i; terms = new.contents.terms; doubt = doubt; limits = limits; disk = disk_of journal }

@@ -3,6 +3,7 @@ pub mod Brief
 pub mod Taking
 pub mod Zone
 pub mod Stay
+pub mod Takes
 pub mod Fault
 pub mod Next
 pub mod State

@@ -2,11 +2,10 @@
 use Rattle.std.specs.Prelude.{◌≡◌, ℕ, ◌≤◌, List, length, Option, Some, None}
 use Rattle.std.specs.List.{AllByRecursion}
 use Rattle.std.specs.Option.{option_map}
-use Rattle.rdf_terms.specs.declared.change.Change.{Change}
 use Rattle.disk_model.specs.Past.{Past, EveryImage}
 use Rattle.log_journal.specs.File.{Holds}
 use Rattle.log_journal.specs.Journal.{HoldsWithOrWithout}
-use Rattle.patch_meaning.specs.Patch.{IsPatch}
+use Rattle.patch_log.specs.Log.{IsSound}
 use Rattle.log_base.specs.declared.limits.LogLimits.{LogLimits}
 use Rattle.log_base.specs.OneMore.{with_one_more}
 use Rattle.chain_core.specs.declared.chain.Patch.{Patch}
@@ -14,18 +13,9 @@ use Rattle.chain_core.specs.Links.{IsChain}
 use Rattle.chain_core.specs.Patches.{links_of, texts_of}
 use Rattle.chain_core.specs.Log.{IsLog}
 
--- what a journal holds of a chain: a payload for each patch, its text
-abbrev pub payloads_of : List Patch → List (List ℕ)
-payloads_of chain = texts_of chain
-
 -- the payload of a patch in doubt
 abbrev pub patch_payload : Option Patch → Option (List ℕ)
 patch_payload doubt = option_map (λ patch. patch.text) doubt
-
--- a patch's id and previous id are those that its text names
-abbrev pub IsSound : Patch → Type 0
-IsSound patch = (changes : List Change)
-    × IsPatch patch.text (record { id = patch.id; prev = patch.prev; changes = changes })
 
 -- a log each patch of which is the one that its text is
 pub record IsSoundZoneLog (limits : LogLimits) (patches : List Patch) : Type 0 where
@@ -33,15 +23,15 @@ pub record IsSoundZoneLog (limits : LogLimits) (patches : List Patch) : Type 0 w
   pub sound : AllByRecursion IsSound patches
 
 -- an image holds the chain, or the chain with the patch in doubt
-abbrev pub MayHoldChain : ℕ → List Patch → Option Patch → List ℕ → Type 0
-MayHoldChain number chain None image = Holds image number (payloads_of chain)
-MayHoldChain number chain (Some doubt) image =
-    HoldsWithOrWithout number (payloads_of chain) doubt.text image
+abbrev pub MayHoldPatches : ℕ → List Patch → Option Patch → List ℕ → Type 0
+MayHoldPatches number chain None image = Holds image number (texts_of chain)
+MayHoldPatches number chain (Some doubt) image =
+    HoldsWithOrWithout number (texts_of chain) doubt.text image
 
 -- a disk stands for a zone's log that runs, with its chain and the patch in doubt
 pub record StandsForZoneFile (past : Past) (number : ℕ) (limits : LogLimits) (chain : List Patch)
     (doubt : Option Patch) : Type 0 where
-  pub each : EveryImage past (MayHoldChain number chain doubt)
+  pub each : EveryImage past (MayHoldPatches number chain doubt)
   pub without : IsSoundZoneLog limits chain
   pub having : IsSoundZoneLog limits (with_one_more chain doubt)
 

@@ -25,7 +25,7 @@ answer_by (Some phase) version = DiskFault
 
 -- The patch is the next one, and was written behind those taken.
 pub record WritesNext {D : Type 0} (disks : Ghosts D) (before after : ZoneView D)
-    (taken : List CheckedPatch) (doubt left : Option CheckedPatch) (patch : CheckedPatch)
+    (taken : List CheckedPatch) (doubt : Option CheckedPatch) (patch : CheckedPatch)
     (fate : Fate) (answer : TakeAnswer) : Type 0 where
   pub version : ℕ
   pub can : decided before patch ≡ Applied version
@@ -33,28 +33,26 @@ pub record WritesNext {D : Type 0} (disks : Ghosts D) (before after : ZoneView D
   pub end : Option Phase
   pub fate_is : fate ≡ fate_of end
   pub answer_is : answer ≡ answer_by end version
-  pub left_is : left ≡ doubt_left end doubt patch
+  pub doubt_is : after.doubt ≡ doubt_left end doubt patch
   pub written : Written disks before.disk after.disk zone_number (checked_texts taken)
       (text_in doubt) patch.text end
 
 -- The patch isn't the next one: that is told, and nothing changes.
-pub record RefusesPatch {D : Type 0} (before after : ZoneView D) (doubt left : Option CheckedPatch)
+pub record RefusesPatch {D : Type 0} (before after : ZoneView D) (doubt : Option CheckedPatch)
     (patch : CheckedPatch) (answer : TakeAnswer) : Type 0 where
   pub told : answer ≡ decided before patch
   pub never : (version : ℕ) → answer ≢ Applied version
   pub same : after ≡ before
-  pub left_same : left ≡ doubt
+  pub doubt_is : after.doubt ≡ doubt
 
 -- A zone that stood for these patches and this doubt stands for those of the stay.
 pub record TookOne {D : Type 0} (disks : Ghosts D) (before after : ZoneView D)
     (taken : List CheckedPatch) (doubt : Option CheckedPatch) (patch : CheckedPatch)
     (answer : TakeAnswer) : Type 0 where
-  -- the patch that is left in doubt
-  pub left : Option CheckedPatch
   pub stands : StandsForZone disks.tells (disks.past after.disk) after
-      (taken_then answer taken patch) left
+      (taken_then answer taken patch) after.doubt
   pub fate : Fate
   pub stay : TakeStay (decided before patch) (map bare taken) (doubt_of doubt) (bare patch) fate
-      (zone_point (taken_then answer taken patch) left) answer
-  pub asks : WritesNext disks before after taken doubt left patch fate answer
-      ⊎ RefusesPatch before after doubt left patch answer
+      (zone_point (taken_then answer taken patch) after.doubt) answer
+  pub asks : WritesNext disks before after taken doubt patch fate answer
+      ⊎ RefusesPatch before after doubt patch answer

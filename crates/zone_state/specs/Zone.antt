@@ -1,5 +1,5 @@
 -- What a zone is, and what its disk holds.
-use Rattle.std.specs.Prelude.{◌≡◌, ℕ, Bool, List, Option, Some, None, map, is_none}
+use Rattle.std.specs.Prelude.{◌≡◌, ℕ, List, Option, Some, None, map}
 use Rattle.std.specs.Option.{option_map}
 use Rattle.log_base.specs.OneMore.{with_one_more}
 use Rattle.rdf_terms.specs.declared.term.Term.{Term}
@@ -17,12 +17,12 @@ use Rattle.zone_state.specs.Brief.{Brief, brief_of, file_length}
 abbrev pub zone_number : ℕ
 zone_number = ZONE_NUMBER
 
--- what is kept of the patches taken; terms that its dataset has met; whether no gate is in doubt;
--- the limits; and the disk
+-- what is kept of the patches taken; terms that its dataset has met; the patch whose gate may stand
+-- open, if there is one; the limits; and the disk
 pub record ZoneView (D : Type 0) : Type 0 where
   pub brief : Brief
   pub terms : List Term
-  pub settled : Bool
+  pub doubt : Option CheckedPatch
   pub limits : LogLimits
   pub disk : D
 
@@ -42,7 +42,7 @@ DiskHolds past end taken (Some doubt) =
 pub record StandsForZone {D : Type 0} (tells : Type 0) (past : Past) (zone : ZoneView D)
     (taken : List CheckedPatch) (doubt : Option CheckedPatch) : Type 0 where
   pub brief_is : zone.brief ≡ brief_of taken
-  pub settled_is : zone.settled ≡ is_none doubt
+  pub doubt_is : zone.doubt ≡ doubt
   pub without : AreTakenPatches zone.limits taken
   pub having : AreTakenPatches zone.limits (with_one_more taken doubt)
   pub on_disk : tells → DiskHolds past (file_length zone.brief.ids zone.brief.bytes) taken doubt

@@ -6,6 +6,7 @@
 #![tactic(auto)]
 
 mod answer;
+mod doubt;
 mod fault;
 mod file;
 mod ids;

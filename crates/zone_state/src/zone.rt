@@ -1,38 +1,40 @@
 //! A zone: its journal on a disk, and what it keeps of the patches that it took.
-ghost use Rattle.std.specs.Prelude.{◌≡◌, ◌≢◌, ◌⊎◌, ℕ, ◌+◌, ◌≤◌, [], List};
-ghost use Rattle.std.specs.Prelude.{Option, None, length, map, IfOk, IfErr};
+ghost use Rattle.std.specs.Prelude.{◌≡◌, ◌+◌, ◌≤◌, [], List, None, is_none};
+ghost use Rattle.std.specs.Prelude.{length, map, IfOk, IfErr};
 ghost use Rattle.std.specs.List.{filter};
+ghost use Rattle.std.specs.List.Sorted.{IsPermutation, IsSorted};
 ghost use Rattle.disk_model.specs.Past.{reads};
 ghost use Rattle.log_journal.specs.File.{Holds};
-ghost use Rattle.log_journal.specs.Written.{DiskWent, Reopened, RefusedOpening};
+ghost use Rattle.log_journal.specs.Written.{Reopened, RefusedOpening};
 ghost use Rattle.rdf_terms.specs.Line.{line};
 ghost use Rattle.term_table.specs.Table.{most};
 ghost use Rattle.dataset_tx.specs.Held.{AreMet, AreMore};
 ghost use Rattle.dataset_tx.specs.Pattern.{matches};
 ghost use Rattle.dataset_tx.specs.Prefixes.{prefix_change};
+ghost use Rattle.dataset_tx.specs.Rows.{change_cmp, rows_in_order};
 ghost use Rattle.patch_meaning.specs.Checked.{CheckedPatch, checked_texts};
 ghost use Rattle.chain_core.specs.Ids.{last_of};
-ghost use Rattle.zone_state.specs.Brief.{with_patch, file_length, changes_taken};
-ghost use Rattle.zone_state.specs.Taking.{WantsForTaking, IsDecidedBy};
-ghost use Rattle.zone_state.specs.Zone.{zone_number, StandsForZone};
-ghost use Rattle.zone_state.specs.Stay.{decided, TookOne};
+ghost use Rattle.zone_state.specs.Brief.{file_length, changes_taken};
+ghost use Rattle.zone_state.specs.Zone.{zone_number, AreTakenPatches, StandsForZone};
+ghost use Rattle.zone_state.specs.Takes.{TakesPatch};
 ghost use Rattle.zone_state.specs.Fault.{HasZoneFault};
 
 use crate::answer::TakeAnswer;
+use crate::doubt::Doubtful;
 use crate::fault::{ZoneFault, ZoneRefusal};
 use crate::file::ZONE_NUMBER;
 use crate::kept::Kept;
 use crate::opening::Reading;
 use dataset_tx::{DataFault, Pattern};
-use delta_base::{Id, OutOfMemory, Text};
+use delta_base::{Id, OutOfMemory};
 use disk_model::{Disk, Planned};
+use line_log::MadeLines;
 use log_base::LogLimits;
 use log_journal::{Journal, OpenRefusal, write};
 use patch_meaning::Checked;
 use quad_index::Steps;
 use rdf_terms::{Changes, Quads};
 use std::alloc::Global;
-use std::collections::BTreeSet;
 use std::marker::Model;
 use std::sync::ledger::Ledger;
 
@@ -43,6 +45,7 @@ pub struct Zone<D: Disk> {
     kept: Kept,
     journal: Journal<D>,
     limits: LogLimits,
+    doubt: Doubtful,
 }
 
 impl<D: Disk> Model for Zone<D> {
@@ -51,9 +54,9 @@ impl<D: Disk> Model for Zone<D> {
 
     ghost Value = { ZoneView D };
 
-    ghost view = { λ z. view_of z.journal z.kept z.limits };
+    ghost view = { λ z. view_of z.journal z.kept z.limits z.doubt.patch };
 
-    ghost invariant = { λ z. IsZoneKept z.journal z.kept z.limits };
+    ghost invariant = { λ z. IsZoneKept z.journal z.kept z.limits z.doubt.patch };
 }
 
 impl<D: Disk> Zone<D> {
@@ -67,6 +70,9 @@ impl<D: Disk> Zone<D> {
         ensures limits { IfOk result (λ zone. zone.limits ≡ limits) }
         ensures fault { D.tells → IfErr result (λ refusal.
             HasZoneFault (reads (D.past disk)) limits refusal.fault) }
+        ensures terms_full { IfErr result (λ refusal. refusal.fault ≡ ZoneFault.TermsFull
+            → (taken : List CheckedPatch) × AreTakenPatches limits taken
+            × AreMore most (changes_taken taken) []) }
 
         // What becomes of its disk.
         ensures reopened { IfOk result (λ zone. Reopened D.Disk disk zone.disk
@@ -82,6 +88,7 @@ impl<D: Disk> Zone<D> {
                     kept,
                     journal,
                     limits,
+                    doubt: Doubtful::none(),
                 }),
                 Err(fault) => Err(ZoneRefusal {
                     disk: journal.close(),
@@ -101,8 +108,8 @@ impl<D: Disk> Zone<D> {
     /// How many patches it took.
     pub fn version(&self) -> u32
         ensures version { result ≡ length self.now.brief.ids }
-        ensures stands { (taken : List CheckedPatch) × (doubt : Option CheckedPatch)
-            × StandsForZone D.tells (D.past self.now.disk) self.now taken doubt }
+        ensures stands { (taken : List CheckedPatch)
+            × StandsForZone D.tells (D.past self.now.disk) self.now taken self.now.doubt }
     {
         self.kept.ids.len()
     }
@@ -116,7 +123,7 @@ impl<D: Disk> Zone<D> {
 
     /// No patch is in doubt.
     pub fn is_settled(&self) -> bool
-        ensures { result ≡ self.now.settled }
+        ensures { result ≡ is_none self.now.doubt }
     {
         self.journal.is_settled()
     }
@@ -136,80 +143,85 @@ impl<D: Disk> Zone<D> {
     }
 
     /// The lines of the quads, in the order of their bytes. No quad is copied.
-    pub fn lines(&self) -> Result<BTreeSet<Text>, OutOfMemory>
-        ensures { IfOk result (λ lines. lines.keys ≡ map line self.now.brief.contents.quads) }
+    pub fn lines(&self) -> Result<MadeLines, OutOfMemory>
+        ensures { IfOk result (λ lines. lines ≡ map line self.now.brief.contents.quads) }
     {
         self.kept.contents.lines()
     }
 
     /// The changes that set the prefixes, in the order of their rows.
     pub fn prefixes(&self) -> Result<Changes, OutOfMemory>
-        ensures { IfOk result (λ changes.
-            changes.items ≡ map prefix_change self.now.brief.contents.prefixes) }
+        ensures each { IfOk result (λ changes. IsPermutation
+            (map prefix_change self.now.brief.contents.prefixes) changes.items) }
+        ensures in_order { IfOk result (λ changes. IsSorted change_cmp changes.items) }
     {
         self.kept.contents.prefixes()
     }
 
-    /// The quads that match, in the order of their lines. A step is a key looked at.
+    /// The rows of these changes, in the order of their bytes.
+    pub fn prefix_rows(&self) -> Result<MadeLines, OutOfMemory>
+        ensures { IfOk result (λ rows.
+            rows ≡ rows_in_order (map prefix_change self.now.brief.contents.prefixes)) }
+    {
+        self.kept.contents.prefix_rows()
+    }
+
+    /// The quads that match, in the order of their lines. A step is a key looked at. All stays as
+    /// it was, an `Err` or not.
     pub fn matching<L: Ledger>(
-        &self,
+        &mut self,
         pattern: &Pattern,
         steps: &mut Steps<L>,
     ) -> Result<Quads, OutOfMemory>
         ensures found { IfOk result (λ quads.
-            quads.items ≡ filter (matches pattern.now) self.now.brief.contents.quads) }
+            quads.items ≡ filter (matches pattern.now) self.old.brief.contents.quads) }
         ensures cost { IfOk result (λ quads. steps.new ≤ steps.old + length quads.items + 1) }
+        ensures counted { IfOk result (λ quads. steps.old + length quads.items ≤ steps.new) }
+        ensures same { self.new ≡ self.old }
     {
         self.kept.contents.matching(pattern, steps)
+    }
+
+    /// The lines of the quads that match, in the order of their bytes, where no quad is copied. A
+    /// step is a key looked at. All stays as it was, an `Err` or not.
+    pub fn matching_lines<L: Ledger>(
+        &mut self,
+        pattern: &Pattern,
+        steps: &mut Steps<L>,
+    ) -> Result<MadeLines, OutOfMemory>
+        ensures found { IfOk result (λ lines.
+            lines ≡ map line (filter (matches pattern.now) self.old.brief.contents.quads)) }
+        ensures cost { IfOk result (λ lines. steps.new ≤ steps.old + length lines + 1) }
+        ensures counted { IfOk result (λ lines. steps.old + length lines ≤ steps.new) }
+        ensures same { self.new ≡ self.old }
+    {
+        self.kept.contents.matching_lines(pattern, steps)
     }
 
     /// Takes the next patch, or says why not. It diverges, its id is repeated, a limit is reached,
     /// memory is wanted or numbers for its terms are, or the disk failed: in this order, but that
     /// want of memory may come before the numbers.
     pub fn take_next(&mut self, patch: &Checked) -> TakeAnswer
-        ensures decided { IsDecidedBy (decided self.old patch.now) result }
-
-        // It is one stay of the zone, whatever patches it stood for.
-        ensures stay { (taken : List CheckedPatch) (doubt : Option CheckedPatch)
-            → StandsForZone D.tells (D.past self.old.disk) self.old taken doubt
-            → result ≢ TakeAnswer.TermsFull → result ≢ TakeAnswer.OutOfMemory
-            → TookOne D.Disk self.old self.new taken doubt patch.now result }
-
-        // Where memory or numbers for terms are wanted, the patch is the next one.
-        ensures want { (result ≡ TakeAnswer.TermsFull) ⊎ (result ≡ TakeAnswer.OutOfMemory)
-            → WantsForTaking (decided self.old patch.now) result }
-        ensures terms_full { result ≡ TakeAnswer.TermsFull
-            → AreMore most patch.now.meaning.changes self.old.terms }
-        ensures terms { AreMet patch.now.meaning.changes self.old.terms self.new.terms }
-
-        ensures applied { (version : ℕ) → result ≡ TakeAnswer.Applied version
-            → self.new.brief ≡ with_patch self.old.brief patch.now }
-        ensures refused { ((version : ℕ) → result ≢ TakeAnswer.Applied version)
-            → self.new.brief ≡ self.old.brief }
-
-        // Where its disk wasn't asked, nothing changes but what is known of terms.
-        ensures untouched { result ≢ TakeAnswer.DiskFault
-            → ((version : ℕ) → result ≢ TakeAnswer.Applied version)
-            → self.new ≡ record self.old { terms = self.new.terms } }
-
-        ensures went { DiskWent D.Disk (result ≡ TakeAnswer.DiskFault) self.old.disk
-            self.new.disk }
-        ensures limits { self.new.limits ≡ self.old.limits }
+        ensures { TakesPatch D.Disk self.old self.new patch.now result }
     {
         let decided = self.kept.taking(patch, &self.limits);
         match decided {
             TakeAnswer::Applied { version } => match self.kept.prepare(self.alloc, patch) {
-                Ok(block) => match write(&mut self.journal, &block) {
-                    Ok(()) => {
-                        let size = patch.text().len() as u64;
-                        self.kept.commit_staged(patch.id(), size);
-                        TakeAnswer::Applied { version }
+                Ok(block) => {
+                    let written = write(&mut self.journal, &block);
+                    self.doubt.follow(written, patch);
+                    match written {
+                        Ok(()) => {
+                            let size = patch.text().len() as u64;
+                            self.kept.commit_staged(patch.id(), size);
+                            TakeAnswer::Applied { version }
+                        }
+                        Err(_) => {
+                            self.kept.drop_staged();
+                            TakeAnswer::DiskFault
+                        }
                     }
-                    Err(_) => {
-                        self.kept.drop_staged();
-                        TakeAnswer::DiskFault
-                    }
-                },
+                }
                 Err(DataFault::TermsFull) => TakeAnswer::TermsFull,
                 Err(DataFault::OutOfMemory) => TakeAnswer::OutOfMemory,
             },
@@ -220,8 +232,8 @@ impl<D: Disk> Zone<D> {
     /// Gives the disk back.
     pub fn close(self) -> D
         ensures disk { result ≡ self.disk }
-        ensures stands { (taken : List CheckedPatch) × (doubt : Option CheckedPatch)
-            × StandsForZone D.tells (D.past result) self taken doubt }
+        ensures stands { (taken : List CheckedPatch)
+            × StandsForZone D.tells (D.past result) self taken self.doubt }
     {
         let Zone { journal, .. } = self;
         journal.close()

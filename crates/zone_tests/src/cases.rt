@@ -221,14 +221,17 @@ static CASES: [Case; 9] = [
         faults: 1,
         left: &[Left::Patches(0, 1), Left::Patches(257, 2)],
     },
+    // Behind the gate's sync that of the settling fails, and then that of the body behind it.
     Case {
-        shows: "what is settled makes way",
+        shows: "a gate is in doubt until it is settled",
         payloads: &[],
         limits: LOG_LIMITS,
         steps: &[
             Step::Take(FIRST, TakeAnswer::Applied { version: 1 }),
+            Step::IsSettled(true),
             Step::Plan(1),
             Step::Take(SECOND, TakeAnswer::DiskFault),
+            Step::IsSettled(false),
             Step::Take(
                 THIRD,
                 TakeAnswer::Diverged {
@@ -236,10 +239,17 @@ static CASES: [Case; 9] = [
                     prev: Some(ID2),
                 },
             ),
+            Step::IsSettled(false),
+            Step::Plan(0),
+            Step::Take(SECOND, TakeAnswer::DiskFault),
+            Step::IsSettled(false),
+            Step::Plan(1),
+            Step::Take(SECOND, TakeAnswer::DiskFault),
+            Step::IsSettled(true),
             Step::Take(SECOND, TakeAnswer::Applied { version: 2 }),
             Step::IsSettled(true),
         ],
-        faults: 1,
+        faults: 3,
         left: &[Left::Patches(0, 2)],
     },
 ];

@@ -54,7 +54,7 @@ fn pattern_of(alloc: Global, object: &[u8]) -> Result<Pattern, Fail> {
 // How many quads a zone has with this object.
 fn found_with<L: Ledger>(
     alloc: Global,
-    zone: &Zone<PlanDisk>,
+    zone: &mut Zone<PlanDisk>,
     object: &[u8],
     blank: Blank,
 ) -> Result<usize, Fail>
@@ -73,7 +73,7 @@ fn found_with<L: Ledger>(
 }
 
 /// The same, by steps of its own.
-pub fn finds(alloc: Global, zone: &Zone<PlanDisk>, object: &[u8]) -> Result<usize, Fail> {
+pub fn finds(alloc: Global, zone: &mut Zone<PlanDisk>, object: &[u8]) -> Result<usize, Fail> {
     found_with::<Brand>(alloc, zone, object, Blank::new(1))
 }
 
@@ -91,11 +91,13 @@ pub fn dumps(alloc: Global, zone: &Zone<PlanDisk>, document: &str) -> Result<boo
 /// Whether a zone has these lines.
 pub fn has_lines(zone: &Zone<PlanDisk>, lines: &[&str]) -> Result<bool, Fail> {
     let found = zone.lines()?;
-    let same = found.len() == lines.len()
-        && found
-            .iter()
-            .zip(lines)
-            .all(|(found, line)| found.as_str() == *line);
+    let mut same = found.len() == lines.len();
+    for at in 0..found.len() {
+        same = same
+            && lines
+                .get(at)
+                .is_some_and(|line| found.line(at) == line.as_bytes());
+    }
     drop(found);
     Ok(same)
 }
