@@ -1,6 +1,5 @@
 -- What a crash leaves while patches are taken.
-use Rattle.std.proofs.Common.{◌≡◌, ◌⊎◌, inl, inr, ℕ, true, List, [], ◌∷◌, ◌++◌, Option, Some, None, Ok, refl, sym, ◌∙◌, ap, subst, append_assoc}
-use Rattle.std.specs.Prelude.{is_none}
+use Rattle.std.proofs.Common.{◌≡◌, ◌⊎◌, inl, inr, ℕ, List, [], ◌∷◌, ◌++◌, Option, Some, None, refl, sym, ◌∙◌, ap, subst, append_assoc}
 use Rattle.std.proofs.lemmas.List.{append-nil, map-append}
 use Rattle.disk_model.specs.declared.disk.Disk.{Ghosts}
 use Rattle.disk_model.specs.Past.{LeavesOnly}
@@ -11,10 +10,8 @@ use Rattle.log_journal.specs.Writing.{HoldsDuring}
 use Rattle.log_journal.proofs.Steps.{either}
 use Rattle.patch_meaning.specs.Checked.{CheckedPatch, checked_texts}
 use Rattle.zone_state.specs.Brief.{file_length}
-use Rattle.zone_state.specs.Zone.{ZoneView, zone_number, text_in}
-use Rattle.rpc_answers.specs.declared.answer.Answer.TheVariants as answer
-use Rattle.delta_client.specs.Exchanges.{WasSaid}
-use Rattle.follower.specs.Grown.{ZoneStands, TookMore, HoldsAmid, LeavesAmid, WasTried, untried, was_last, GrewBy, Stayed}
+use Rattle.zone_state.specs.Zone.{ZoneView, StandsForZone, zone_number, text_in}
+use Rattle.follower.specs.Grown.{TookMore, HoldsAmid, LeavesAmid, as_before, Stayed}
 use Rattle.follower.proofs.Taken.{took_none, met_none}
 
 -- ---- images
@@ -62,71 +59,50 @@ module _ (taken : List CheckedPatch) (image : List ℕ) where
 
 -- ---- zones
 
-nothing_left : (left : Option CheckedPatch) → is_none left ≡ true → left ≡ None
-nothing_left None is = refl
-nothing_left (Some one) is = absurd (cc)
-
 -- nothing was taken yet, or nothing is in doubt
 abbrev pub IsClear : {D : Type 0} → ZoneView D → ZoneView D → List CheckedPatch → Type 0
-IsClear old now more = ((more ≡ []) × (now ≡ old)) ⊎ (now.settled ≡ true)
+IsClear old now more = ((more ≡ []) × (now ≡ old)) ⊎ (now.doubt ≡ None)
 
 module _ {D : Type 0} (disks : Ghosts D) where
-  pub amid_none : (zone : ZoneView D) → LeavesAmid disks zone zone []
-  amid_none zone told taken None stands =
+  stands_here : (zone : ZoneView D) (taken : List CheckedPatch) (doubt : Option CheckedPatch) → disks.tells → StandsForZone disks.tells (disks.past zone.disk) zone taken doubt
+      → LeavesOnly (HoldsAmid taken doubt []) (disks.past zone.disk) (disks.past zone.disk)
+  stands_here zone taken None told stands =
       let all = stands.on_disk told in
       starts (HoldsAmid taken None []) (disks.past zone.disk) (λ image left. before_them taken image None [] (all.each image left))
-  amid_none zone told taken (Some one) stands =
+  stands_here zone taken (Some one) told stands =
       let all = stands.on_disk told in
       starts (HoldsAmid taken (Some one) []) (disks.past zone.disk) (λ image left.
       doubted taken image one [] (either (file_length zone.brief.ids zone.brief.bytes) zone_number (checked_texts taken) one.text all.doubt_sized all.few image all.sized (all.each image left)))
 
+  pub amid_none : (zone : ZoneView D) → LeavesAmid disks zone zone []
+  amid_none zone told taken stands = stands_here zone taken zone.doubt told stands
+
   -- the disk wasn't asked
   pub amid_same : (old new : ZoneView D) → new ≡ record old { terms = new.terms } → LeavesAmid disks old new []
-  amid_same old new is told taken doubt stands =
-      subst (λ (zone : ZoneView D). LeavesOnly (HoldsAmid taken doubt []) (disks.past old.disk) (disks.past zone.disk)) (sym is) (amid_none old told taken doubt stands)
+  amid_same old new is told taken stands =
+      subst (λ (zone : ZoneView D). LeavesOnly (HoldsAmid taken old.doubt []) (disks.past old.disk) (disks.past zone.disk)) (sym is) (amid_none old told taken stands)
 
   pub amid_one : (old new : ZoneView D) (next : CheckedPatch)
-      → (disks.tells → (taken : List CheckedPatch) (doubt : Option CheckedPatch) → ZoneStands disks old taken doubt
+      → (disks.tells → (taken : List CheckedPatch) (doubt : Option CheckedPatch) → StandsForZone disks.tells (disks.past old.disk) old taken doubt
       → LeavesOnly (HoldsDuring zone_number (checked_texts taken) (text_in doubt) next.text) (disks.past old.disk) (disks.past new.disk))
       → LeavesAmid disks old new (next ∷ [])
-  amid_one old new next leaves told taken doubt stands =
-      weaker (HoldsDuring zone_number (checked_texts taken) (text_in doubt) next.text) (HoldsAmid taken doubt (next ∷ []))
-      (λ image holds. during taken image doubt next holds) (disks.past old.disk) (disks.past new.disk) (leaves told taken doubt stands)
+  amid_one old new next leaves told taken stands =
+      weaker (HoldsDuring zone_number (checked_texts taken) (text_in old.doubt) next.text) (HoldsAmid taken old.doubt (next ∷ []))
+      (λ image holds. during taken image old.doubt next holds) (disks.past old.disk) (disks.past new.disk) (leaves told taken old.doubt stands)
 
   pub amid_both : (old mid new : ZoneView D) (more tried : List CheckedPatch) → TookMore disks old mid more → IsClear old mid more → LeavesAmid disks old mid more
       → LeavesAmid disks mid new tried → LeavesAmid disks old new (more ++ tried)
-  amid_both old mid new more tried took (inl same) first second told taken doubt stands =
+  amid_both old mid new more tried took (inl same) first second told taken stands =
       let here = subst (λ (zone : ZoneView D). LeavesAmid disks zone new tried) same.1 second in
-      subst (λ (ps : List CheckedPatch). LeavesOnly (HoldsAmid taken doubt (ps ++ tried)) (disks.past old.disk) (disks.past new.disk)) (sym same.0) (here told taken doubt stands)
-  amid_both old mid new more tried took (inr settled) first second told taken doubt stands =
-      let there = took taken doubt stands in
-      let none : there.0 ≡ None = nothing_left there.0 (sym there.1.settled_is ∙ settled) in
-      then_other (HoldsAmid taken doubt more) (HoldsAmid (taken ++ more) there.0 tried) (HoldsAmid taken doubt (more ++ tried)) (disks.past old.disk) (disks.past mid.disk) (disks.past new.disk)
-      (λ image holds. amid_more taken image doubt more tried holds) (λ image holds. amid_behind taken image doubt there.0 more tried none holds)
-      (first told taken doubt stands) (second told (taken ++ more) there.0 there.1)
+      subst (λ (ps : List CheckedPatch). LeavesOnly (HoldsAmid taken old.doubt (ps ++ tried)) (disks.past old.disk) (disks.past new.disk)) (sym same.0) (here told taken stands)
+  amid_both old mid new more tried took (inr settled) first second told taken stands =
+      then_other (HoldsAmid taken old.doubt more) (HoldsAmid (taken ++ more) mid.doubt tried) (HoldsAmid taken old.doubt (more ++ tried)) (disks.past old.disk) (disks.past mid.disk) (disks.past new.disk)
+      (λ image holds. amid_more taken image old.doubt more tried holds) (λ image holds. amid_behind taken image old.doubt mid.doubt more tried settled holds)
+      (first told taken stands) (second told (taken ++ more) (took taken stands))
 
-  -- ---- what a zone grew by
+  -- nothing was tried of the text, and nothing happened
+  pub stayed_none : (zone : ZoneView D) (text : List ℕ) → Stayed disks zone zone text
+  stayed_none zone text = record { brief = refl; took = took_none disks zone; tried = []; was_tried = inl refl; amid = amid_none zone; met = met_none zone.terms; left_is = as_before refl refl }
 
-  -- nothing happened
-  pub grew_none : (zone : ZoneView D) (said : List WasSaid) → GrewBy disks zone zone [] said
-  grew_none zone said = record { took = took_none disks zone; amid = ([], untried refl, amid_none zone); met = ([], untried refl, met_none zone.terms) }
-
-  pub stayed_none : (zone : ZoneView D) (said : List WasSaid) → Stayed disks zone zone said
-  stayed_none zone said = record { brief = refl; grew = grew_none zone said }
-
-  -- something was said before
-  was_behind : (front said : List WasSaid) (tried : List CheckedPatch) → WasTried said tried → WasTried (front ++ said) tried
-  was_behind front said tried (untried is) = untried is
-  was_behind front said tried (was_last before next is_said is checked) =
-      was_last (front ++ before) next (ap (λ (ss : List WasSaid). front ++ ss) is_said ∙ sym (append_assoc front before (Ok (answer.Patch next.text) ∷ []))) is checked
-
-  pub grew_behind : (front said : List WasSaid) (old new : ZoneView D) (more : List CheckedPatch) → GrewBy disks old new more said → GrewBy disks old new more (front ++ said)
-  grew_behind front said old new more grew = record {
-    took = grew.took;
-    amid = (grew.amid.0, was_behind front said grew.amid.0 grew.amid.1, grew.amid.2);
-    met = (grew.met.0, was_behind front said grew.met.0 grew.met.1, grew.met.2);
-  }
-
-pub clear_settles : {D : Type 0} (old now : ZoneView D) (more : List CheckedPatch) → IsClear old now more → old.settled ≡ true → now.settled ≡ true
-clear_settles {D} old now more (inl same) settled = ap (λ (zone : ZoneView D). zone.settled) same.1 ∙ settled
-clear_settles old now more (inr is) settled = is
+  pub stayed_same : (old new : ZoneView D) (text : List ℕ) → new ≡ old → Stayed disks old new text
+  stayed_same old new text same = subst (λ (zone : ZoneView D). Stayed disks old zone text) (sym same) (stayed_none old text)

@@ -1,41 +1,38 @@
 -- What a zone's answer to the next patch comes to.
-use Rattle.std.proofs.Common.{◌≡◌, ◌≢◌, ◌⊎◌, inl, ⊎_elim, ℕ, ◌+◌, Bool, true, false, not, cond, ltb, List, [], ◌∷◌, ◌++◌, length, map, Option, Some, None, Result, Ok, Err, refl, sym, ◌∙◌, ap, subst}
-use Rattle.std.specs.Prelude.{OnOk, IfErr, is_none}
+use Rattle.std.proofs.Common.{◌≡◌, ◌≢◌, inl, inr, ⊎_elim, ℕ, ◌+◌, Bool, true, false, not, cond, ltb, List, [], ◌∷◌, ◌++◌, length, Option, Some, None, Result, Ok, Err, refl, sym, ◌∙◌, ap, subst}
+use Rattle.std.specs.Prelude.{OnOk, IfErr}
 use Rattle.std.proofs.lemmas.List.{append-nil}
 use Rattle.delta_base.specs.declared.id.Id.{Id}
 use Rattle.rdf_terms.specs.declared.change.Change.{Change}
 use Rattle.term_table.specs.Table.{most}
 use Rattle.dataset_tx.specs.Held.{AreMet, AreMore}
 use Rattle.chain_core.specs.declared.chain.Patch.{Patch}
+use Rattle.chain_core.specs.Decision.{same_id}
+use Rattle.chain_core.specs.Ids.{last_of, version_among}
+use Rattle.chain_core.proofs.Decided.{same_id-refl}
 use Rattle.log_base.specs.declared.limits.FullKind.TheVariants.{Patches, Bytes}
 use Rattle.log_base.specs.declared.limits.LogLimits.{LogLimits}
 use Rattle.log_base.specs.declared.limits.TheConstants.{PAYLOAD_FRAME}
+use Rattle.log_base.specs.declared.phase.Phase.{Phase}
 use Rattle.log_base.specs.declared.phase.Phase.TheVariants.{Settling, Body, Gate}
+use Rattle.log_journal.specs.Writing.{doubt_left}
 use Rattle.disk_model.specs.declared.disk.Disk.{Ghosts}
-use Rattle.chain_core.specs.declared.fate.Fate.{Fate}
-use Rattle.chain_core.specs.declared.fate.Fate.TheVariants.{Done, Fails, Stops}
-use Rattle.chain_core.specs.Log.{LogPoint, up, down}
-use Rattle.chain_core.specs.Decision.{same_id}
-use Rattle.chain_core.proofs.Decided.{same_id-refl}
 use Rattle.patch_meaning.specs.Checked.{CheckedPatch, Refuses}
-use Rattle.patch_meaning.specs.Patch.{IsPatch}
 use Rattle.patch_meaning.specs.declared.fault.PatchFault.{PatchFault}
 use Rattle.patch_meaning.specs.declared.fault.PatchFault.TheVariants as faults
 use Rattle.patch_log.specs.Log.{bare}
-use Rattle.rpc_answers.specs.declared.answer.Answer.TheVariants as answers
 use Rattle.zone_state.specs.declared.answer.TakeAnswer.{TakeAnswer}
 use Rattle.zone_state.specs.declared.answer.TakeAnswer.TheVariants as take
-use Rattle.chain_core.specs.Ids.{last_of, version_among}
-use Rattle.zone_state.specs.Brief.{Brief, file_length, with_patch, changes_taken}
-use Rattle.zone_state.specs.Taking.{taking, unless_repeated, taken_then, IsDecidedBy, WantsForTaking, TakeStay}
-use Rattle.zone_state.specs.Stay.{decided, TookOne}
-use Rattle.zone_state.specs.Zone.{ZoneView, doubt_of, zone_point}
-use Rattle.follower.specs.declared.ends.SyncEnd.{SyncEnd}
-use Rattle.follower.specs.declared.ends.SyncEnd.TheVariants.{BadPatch, LinkFault, DiskFault}
-use Rattle.delta_client.specs.Exchanges.{WasSaid}
-use Rattle.follower.specs.Grown.{ZoneStands, Took, Stayed, LeavesAmid, WasTried, untried, was_last}
-use Rattle.follower.specs.Syncing.{IsNextForZone, IsText, TextEnds, end_of, of_patch}
-use Rattle.follower.proofs.Amid.{amid_same}
+use Rattle.zone_state.specs.Brief.{Brief, file_length}
+use Rattle.zone_state.specs.Taking.{taking, unless_repeated}
+use Rattle.zone_state.specs.Stay.{decided, answer_by, RefusesPatch, WritesNext}
+use Rattle.zone_state.specs.Takes.{TakesPatch}
+use Rattle.zone_state.specs.Zone.{ZoneView}
+use Rattle.zone_state.proofs.Took.{any_moment}
+use Rattle.follower.specs.declared.ends.TextRefusal.TheVariants.{BadPatch, DiskFault}
+use Rattle.follower.specs.Grown.{ZoneStands, Took, Stayed, LeavesAmid, LeftInDoubt, none, as_before, tried_last, IsText, IsNextForZone}
+use Rattle.follower.specs.Syncing.{RefusesText, taken_or_refused, no_patch_at}
+use Rattle.follower.proofs.Amid.{amid_one, stayed_same}
 use Rattle.follower.proofs.Taken.{took_same, took_want}
 
 -- ---- results
@@ -47,10 +44,6 @@ on_ok (Err fault) then is = tt
 pub on_err : {T E : Type 0} {P Q : E → Type 0} (result : Result T E) → ((fault : E) → P fault → Q fault) → IfErr result P → IfErr result Q
 on_err (Ok done) then is = tt
 on_err (Err fault) then is = then fault is
-
-pub both_err : {T E : Type 0} (P Q : E → Type 0) (result : Result T E) → IfErr result P → IfErr result Q → IfErr result (λ fault. P fault × Q fault)
-both_err P Q (Ok done) one other = tt
-both_err P Q (Err fault) one other = (one, other)
 
 -- ---- decisions
 
@@ -92,20 +85,15 @@ module _ (ids : List Id) (bytes : ℕ) (patch : Patch) (limits : LogLimits) wher
 
 -- ---- an answer
 
--- what taking a patch comes to, by its answer
-pub record Answers {D : Type 0} (disks : Ghosts D) (old new : ZoneView D) (next : CheckedPatch) (answer : TakeAnswer) : Type 0 where
-  pub by : IsDecidedBy (decided old next) answer
-  pub stay : (taken : List CheckedPatch) (doubt : Option CheckedPatch) → ZoneStands disks old taken doubt → answer ≢ take.TermsFull → answer ≢ take.OutOfMemory
-      → (left : Option CheckedPatch) × ZoneStands disks new (taken_then answer taken next) left
-  pub want : (answer ≡ take.TermsFull) ⊎ (answer ≡ take.OutOfMemory) → WantsForTaking (decided old next) answer
-  pub untouched : answer ≢ take.DiskFault → ((version : ℕ) → answer ≢ take.Applied version) → new ≡ record old { terms = new.terms }
-  pub terms_full : answer ≡ take.TermsFull → AreMore most next.meaning.changes old.terms
-  pub terms : AreMet next.meaning.changes old.terms new.terms
-  pub applied : (version : ℕ) → answer ≡ take.Applied version → new.brief ≡ with_patch old.brief next
-  pub refused : ((version : ℕ) → answer ≢ take.Applied version) → new.brief ≡ old.brief
-  pub limits : new.limits ≡ old.limits
-  pub amid : LeavesAmid disks old new (next ∷ [])
-  pub settled : (version : ℕ) → answer ≡ take.Applied version → new.settled ≡ true
+-- what was written was applied, or the disk failed
+written_by : (end : Option Phase) (version : ℕ) (answer : TakeAnswer) → answer ≡ answer_by end version → answer ≢ take.DiskFault → ((at : ℕ) → answer ≢ take.Applied at) → ⊥
+written_by None version answer is no_fault refused = refused version is
+written_by (Some phase) version answer is no_fault refused = no_fault is
+
+doubt_by : (phase : Phase) (before after : Option CheckedPatch) (next : CheckedPatch) → after ≡ doubt_left (Some phase) before next → LeftInDoubt before after [] (next ∷ [])
+doubt_by Settling before after next is = as_before refl is
+doubt_by Body before after next is = none is
+doubt_by Gate before after next is = tried_last next is refl
 
 module _ {D : Type 0} (disks : Ghosts D) (old new : ZoneView D) (next : CheckedPatch) where
   -- what was decided of the zone as it was is decided of it as it is
@@ -116,13 +104,41 @@ module _ {D : Type 0} (disks : Ghosts D) (old new : ZoneView D) (next : CheckedP
   changes_one : next.meaning.changes ≡ next.meaning.changes ++ []
   changes_one = sym (append-nil next.meaning.changes)
 
-  pub took_ok : (answer : TakeAnswer) (id : Id) (mine : ℕ) → Answers disks old new next answer → OnOk (end_of answer id mine) (Took disks old new next)
+  module _ (answer : TakeAnswer) (so : TakesPatch disks old new next answer) where
+    amid : LeavesAmid disks old new (next ∷ [])
+    amid = amid_one disks old new next (any_moment disks old new next answer so.stay so.untouched)
+
+    met : AreMet (next.meaning.changes ++ []) old.terms new.terms
+    met = subst (λ (cs : List Change). AreMet cs old.terms new.terms) changes_one so.terms
+
+    -- where the zone was settled or not, a refusal leaves it as it was
+    refused_same : (taken : List CheckedPatch) → ZoneStands disks old taken → answer ≢ take.DiskFault → ((at : ℕ) → answer ≢ take.Applied at) → answer ≢ take.TermsFull → answer ≢ take.OutOfMemory → new ≡ old
+    refused_same taken stands no_fault refused no_terms no_want =
+        let one = so.stay taken old.doubt stands no_terms no_want in
+        ⊎_elim (λ (w : WritesNext disks old new taken old.doubt next one.fate answer). absurd (written_by w.end w.version answer w.answer_is no_fault refused))
+        (λ (r : RefusesPatch old new old.doubt next answer). r.same) one.asks
+
+    -- a refusal is what the zone decides, as it is then
+    decided_now : answer ≢ take.DiskFault → ((at : ℕ) → answer ≢ take.Applied at) → answer ≢ take.TermsFull → answer ≢ take.OutOfMemory → decided new next ≡ answer
+    decided_now no_fault refused no_terms no_want =
+        ⊎_elim (λ is. same_decision (so.refused refused) so.limits ∙ sym is) (λ other. absurd (⊎_elim no_fault (λ rest. ⊎_elim no_terms no_want rest) other.1)) so.decided
+
+    is_next : ((at : ℕ) → answer ≢ take.Applied at) → (version : ℕ) × (decided old next ≡ take.Applied version) → IsNextForZone new next
+    is_next refused one = (one.0, same_decision (so.refused refused) so.limits ∙ one.1)
+
+  no_decision : take.DiskFault ≡ decided old next → ⊥
+  no_decision is = subst (λ (answer : TakeAnswer). IsDecision answer) (sym is) (made old.brief.ids old.brief.bytes (bare next) old.limits).0
+
+  failed_next : (so : TakesPatch disks old new next take.DiskFault) → IsNextForZone new next
+  failed_next so = is_next take.DiskFault so (λ version same. cc) (⊎_elim (λ is. absurd (no_decision is)) (λ other. other.0) so.decided)
+
+  pub took_ok : (answer : TakeAnswer) (id : Id) (mine : ℕ) → TakesPatch disks old new next answer → OnOk (taken_or_refused answer id mine) (Took disks old new next)
   took_ok (take.Applied version) id mine so = record {
     brief = so.applied version refl;
-    took = λ taken doubt stands. so.stay taken doubt stands (λ same. cc) (λ same. cc);
-    amid = so.amid;
-    settled = so.settled version refl;
-    met = subst (λ (cs : List Change). AreMet cs old.terms new.terms) changes_one so.terms;
+    took = λ taken stands. (so.stay taken old.doubt stands (λ same. cc) (λ same. cc)).stands;
+    amid = amid (take.Applied version) so;
+    settled = so.doubt;
+    met = met (take.Applied version) so;
   }
   took_ok (take.Diverged have prev) id mine so = tt
   took_ok (take.Repeated version) id mine so = tt
@@ -131,69 +147,60 @@ module _ {D : Type 0} (disks : Ghosts D) (old new : ZoneView D) (next : CheckedP
   took_ok take.OutOfMemory id mine so = tt
   took_ok take.DiskFault id mine so = tt
 
-  module _ (said : List WasSaid) (checked : IsPatch next.text next.meaning) (is_said : said ≡ Ok (answers.Patch next.text) ∷ []) where
-    tried : WasTried said (next ∷ [])
-    tried = was_last [] next is_said refl checked
-
-    met : AreMet next.meaning.changes old.terms new.terms → (ps : List CheckedPatch) × WasTried said ps × AreMet (changes_taken ([] ++ ps)) old.terms new.terms
-    met are = (next ∷ [], tried, subst (λ (cs : List Change). AreMet cs old.terms new.terms) changes_one are)
-
-    -- its disk wasn't asked
-    still : (answer : TakeAnswer) → answer ≢ take.DiskFault → ((version : ℕ) → answer ≢ take.Applied version) → Answers disks old new next answer → Stayed disks old new said
-    still answer no_fault refused so =
+  module _ (text : List ℕ) (is_text : IsText text next) where
+    -- the patch was the next one, and what it needs isn't there
+    wanted : (answer : TakeAnswer) → answer ≢ take.DiskFault → ((version : ℕ) → answer ≢ take.Applied version) → (version : ℕ) × (decided old next ≡ take.Applied version) → TakesPatch disks old new next answer → Stayed disks old new text
+    wanted answer no_fault refused can so =
         let same = so.untouched no_fault refused in
         record {
           brief = so.refused refused;
-          grew = record { took = took_want disks old new same; amid = ([], untried refl, amid_same disks old new same); met = met so.terms };
+          took = took_want disks old new same;
+          tried = next ∷ [];
+          was_tried = inr (next, refl, is_text, is_next answer so refused can);
+          amid = amid answer so;
+          met = met answer so;
+          left_is = as_before refl (ap (λ (zone : ZoneView D). zone.doubt) same);
         }
 
-    pub took_stayed : (answer : TakeAnswer) (id : Id) (mine : ℕ) → Answers disks old new next answer → IfErr (end_of answer id mine) (λ _. Stayed disks old new said)
-    took_stayed (take.Applied version) id mine so = tt
-    took_stayed (take.Diverged have prev) id mine so = still (take.Diverged have prev) (λ same. cc) (λ version same. cc) so
-    took_stayed (take.Repeated version) id mine so = still (take.Repeated version) (λ same. cc) (λ version same. cc) so
-    took_stayed (take.Full what have limit) id mine so = still (take.Full what have limit) (λ same. cc) (λ version same. cc) so
-    took_stayed take.TermsFull id mine so = still take.TermsFull (λ same. cc) (λ version same. cc) so
-    took_stayed take.OutOfMemory id mine so = still take.OutOfMemory (λ same. cc) (λ version same. cc) so
-    took_stayed take.DiskFault id mine so = record {
-      brief = so.refused (λ version same. cc);
-      grew = record {
-        took = took_same disks old new (λ taken doubt stands. so.stay taken doubt stands (λ same. cc) (λ same. cc));
-        amid = (next ∷ [], tried, so.amid);
-        met = met so.terms;
-      };
-    }
+    module _ (taken : List CheckedPatch) (stands : ZoneStands disks old taken) where
+      refuses : (answer : TakeAnswer) → TakesPatch disks old new next answer → answer ≢ take.DiskFault → ((at : ℕ) → answer ≢ take.Applied at) → answer ≢ take.TermsFull → answer ≢ take.OutOfMemory → Stayed disks old new text
+      refuses answer so no_fault refused no_terms no_want = stayed_same disks old new text (refused_same answer so taken stands no_fault refused no_terms no_want)
 
-  -- a refusal is what the zone decides, as it is then
-  decided_now : (answer : TakeAnswer) → IsDecidedBy (decided old next) answer → new.brief ≡ old.brief → new.limits ≡ old.limits
-      → answer ≢ take.DiskFault → answer ≢ take.TermsFull → answer ≢ take.OutOfMemory → decided new next ≡ answer
-  decided_now answer by brief limits no_fault no_terms no_want =
-      ⊎_elim (λ is. same_decision brief limits ∙ sym is) (λ other. absurd (⊎_elim no_fault (λ rest. ⊎_elim no_terms no_want rest) other.1)) by
+      pub took_stayed : (answer : TakeAnswer) (id : Id) (mine : ℕ) → TakesPatch disks old new next answer → IfErr (taken_or_refused answer id mine) (λ _. Stayed disks old new text)
+      took_stayed (take.Applied version) id mine so = tt
+      took_stayed (take.Diverged have prev) id mine so = refuses (take.Diverged have prev) so (λ same. cc) (λ version same. cc) (λ same. cc) (λ same. cc)
+      took_stayed (take.Repeated version) id mine so = refuses (take.Repeated version) so (λ same. cc) (λ version same. cc) (λ same. cc) (λ same. cc)
+      took_stayed (take.Full what have limit) id mine so = refuses (take.Full what have limit) so (λ same. cc) (λ version same. cc) (λ same. cc) (λ same. cc)
+      took_stayed take.TermsFull id mine so = wanted take.TermsFull (λ same. cc) (λ version same. cc) (so.want (inl refl)).0 so
+      took_stayed take.OutOfMemory id mine so = wanted take.OutOfMemory (λ same. cc) (λ version same. cc) (so.want (inr refl)).0 so
+      took_stayed take.DiskFault id mine so = record {
+        brief = so.refused (λ version same. cc);
+        took = took_same disks old new (λ before is. (so.stay before old.doubt is (λ same. cc) (λ same. cc)).stands);
+        tried = next ∷ [];
+        was_tried = inr (next, refl, is_text, failed_next so);
+        amid = amid take.DiskFault so;
+        met = met take.DiskFault so;
+        left_is = doubt_by so.doubt.0 old.doubt new.doubt next so.doubt.1;
+      }
 
-  no_decision : take.DiskFault ≡ decided old next → ⊥
-  no_decision is = subst (λ (answer : TakeAnswer). IsDecision answer) (sym is) (made old.brief.ids old.brief.bytes (bare next) old.limits).0
-
-  is_next : (version : ℕ) × (decided old next ≡ take.Applied version) → new.brief ≡ old.brief → new.limits ≡ old.limits → IsNextForZone new next
-  is_next one brief limits = (one.0, same_decision brief limits ∙ one.1)
-
-  module _ (text : List ℕ) (is_text : IsText text next) (id : Id) (id_is : id ≡ next.meaning.id) (mine : ℕ) (mine_is : mine ≡ length old.brief.ids) where
-    pub took_err : (answer : TakeAnswer) → Answers disks old new next answer → IfErr (end_of answer id mine) (λ end. TextEnds old.terms [] new text end)
-    took_err (take.Applied version) so = tt
-    took_err (take.Diverged have prev) so =
-        let is = decided_now (take.Diverged have prev) so.by (so.refused (λ version same. cc)) so.limits (λ same. cc) (λ same. cc) (λ same. cc) in
-        let named = subst (λ (answer : TakeAnswer). NamesAnother new.brief.ids (bare next) answer) is (made new.brief.ids new.brief.bytes (bare next) new.limits).1 in
-        (next, is_text, mine_is ∙ sym (ap (λ (b : Brief). length b.ids) (so.refused (λ version same. cc))), named.0, named.1, named.2)
-    took_err (take.Repeated version) so =
-        (next, is_text, id_is, decided_now (take.Repeated version) so.by (so.refused (λ version same. cc)) so.limits (λ same. cc) (λ same. cc) (λ same. cc))
-    took_err (take.Full what have limit) so =
-        (next, is_text, decided_now (take.Full what have limit) so.by (so.refused (λ version same. cc)) so.limits (λ same. cc) (λ same. cc) (λ same. cc))
-    took_err take.TermsFull so =
-        let want = so.want (inl refl) in
-        (next, is_text, is_next want.0 (so.refused (λ version same. cc)) so.limits, subst (λ (cs : List Change). AreMore most cs old.terms) changes_one (so.terms_full refl))
-    took_err take.OutOfMemory so = tt
-    took_err take.DiskFault so = (next, is_text, is_next (⊎_elim (λ is. absurd (no_decision is)) (λ other. other.0) so.by) (so.refused (λ version same. cc)) so.limits)
+    module _ (id : Id) (id_is : id ≡ next.meaning.id) (mine : ℕ) (mine_is : mine ≡ length old.brief.ids) where
+      pub took_err : (answer : TakeAnswer) → TakesPatch disks old new next answer → IfErr (taken_or_refused answer id mine) (λ why. RefusesText old.terms [] new text why)
+      took_err (take.Applied version) so = tt
+      took_err (take.Diverged have prev) so =
+          let is = decided_now (take.Diverged have prev) so (λ same. cc) (λ version same. cc) (λ same. cc) (λ same. cc) in
+          let named = subst (λ (answer : TakeAnswer). NamesAnother new.brief.ids (bare next) answer) is (made new.brief.ids new.brief.bytes (bare next) new.limits).1 in
+          (next, is_text, mine_is ∙ sym (ap (λ (b : Brief). length b.ids) (so.refused (λ version same. cc))), named.0, named.1, named.2)
+      took_err (take.Repeated version) so =
+          (next, is_text, id_is, decided_now (take.Repeated version) so (λ same. cc) (λ version same. cc) (λ same. cc) (λ same. cc))
+      took_err (take.Full what have limit) so =
+          (next, is_text, decided_now (take.Full what have limit) so (λ same. cc) (λ version same. cc) (λ same. cc) (λ same. cc))
+      took_err take.TermsFull so =
+          (next, is_text, is_next take.TermsFull so (λ version same. cc) (so.want (inl refl)).0, subst (λ (cs : List Change). AreMore most cs old.terms) changes_one (so.terms_full refl))
+      took_err take.OutOfMemory so = tt
+      took_err take.DiskFault so = (next, is_text, failed_next so)
 
   -- where the disk didn't fail, and nothing was taken
-  pub took_untouched : (answer : TakeAnswer) (id : Id) (mine : ℕ) → Answers disks old new next answer → IfErr (end_of answer id mine) (λ end. end ≢ DiskFault → new ≡ record old { terms = new.terms })
+  pub took_untouched : (answer : TakeAnswer) (id : Id) (mine : ℕ) → TakesPatch disks old new next answer → IfErr (taken_or_refused answer id mine) (λ why. why ≢ DiskFault → new ≡ record old { terms = new.terms })
   took_untouched (take.Applied version) id mine so = tt
   took_untouched (take.Diverged have prev) id mine so = λ other. so.untouched (λ same. cc) (λ version same. cc)
   took_untouched (take.Repeated version) id mine so = λ other. so.untouched (λ same. cc) (λ version same. cc)
@@ -202,51 +209,13 @@ module _ {D : Type 0} (disks : Ghosts D) (old new : ZoneView D) (next : CheckedP
   took_untouched take.OutOfMemory id mine so = λ other. so.untouched (λ same. cc) (λ version same. cc)
   took_untouched take.DiskFault id mine so = λ other. absurd (other refl)
 
--- ---- what is left in doubt
-
-abbrev doubt_in : LogPoint Patch → Option Patch
-doubt_in (up chain doubt) = doubt
-doubt_in (down chain) = None
-
-module _ (chain after : List Patch) (patch : Patch) (left : Option Patch) (version : ℕ) where
-  abbrev Leaves : Option Patch → Fate → Type 0
-  Leaves doubt fate = TakeStay (take.Applied version) chain doubt patch fate (up after left) (take.Applied version)
-
-  none_left : (fate : Fate) (doubt : Option Patch) → Leaves doubt fate → None ≡ left
-  none_left Done doubt is = ap (λ (it : LogPoint Patch × Option TakeAnswer). doubt_in it.0) is
-  none_left (Fails Settling) None is = ap (λ (it : LogPoint Patch × Option TakeAnswer). doubt_in it.0) is
-  none_left (Fails Settling) (Some doubtful) is = let answers : Some take.DiskFault ≡ Some (take.Applied version) = ap (λ (it : LogPoint Patch × Option TakeAnswer). it.1) is in absurd (cc)
-  none_left (Fails Body) doubt is = let answers : Some take.DiskFault ≡ Some (take.Applied version) = ap (λ (it : LogPoint Patch × Option TakeAnswer). it.1) is in absurd (cc)
-  none_left (Fails Gate) doubt is = let answers : Some take.DiskFault ≡ Some (take.Applied version) = ap (λ (it : LogPoint Patch × Option TakeAnswer). it.1) is in absurd (cc)
-  none_left (Stops Settling opened) None is = ap (λ (it : LogPoint Patch × Option TakeAnswer). doubt_in it.0) is
-  none_left (Stops Settling opened) (Some doubtful) is = let answers : None ≡ Some (take.Applied version) = ap (λ (it : LogPoint Patch × Option TakeAnswer). it.1) is in absurd (cc)
-  none_left (Stops Body opened) doubt is = let answers : None ≡ Some (take.Applied version) = ap (λ (it : LogPoint Patch × Option TakeAnswer). it.1) is in absurd (cc)
-  none_left (Stops Gate opened) doubt is = let answers : None ≡ Some (take.Applied version) = ap (λ (it : LogPoint Patch × Option TakeAnswer). it.1) is in absurd (cc)
-
-is_settled : (left : Option CheckedPatch) → None ≡ doubt_of left → is_none left ≡ true
-is_settled None is = refl
-is_settled (Some patch) is = absurd (cc)
-
--- behind a patch that was taken nothing is in doubt
-pub taken_settles : {D : Type 0} (disks : Ghosts D) (old new : ZoneView D) (taken : List CheckedPatch) (doubt : Option CheckedPatch) (next : CheckedPatch) (answer : TakeAnswer)
-    → IsDecidedBy (decided old next) answer → TookOne disks old new taken doubt next answer → (version : ℕ) → answer ≡ take.Applied version → new.settled ≡ true
-taken_settles disks old new taken doubt next answer by took version is =
-    let made_so : take.Applied version ≡ decided old next = ⊎_elim (λ same. sym is ∙ same) (λ other. absurd (⊎_elim (λ same. cc) (λ rest. ⊎_elim (λ same. cc) (λ same. cc) rest) other.1)) by in
-    let stay = subst (λ (a : TakeAnswer). TakeStay (decided old next) (map bare taken) (doubt_of doubt) (bare next) took.fate (zone_point (taken_then a taken next) took.left) a) is took.stay in
-    let stays = subst (λ (d : TakeAnswer). TakeStay d (map bare taken) (doubt_of doubt) (bare next) took.fate (zone_point (taken ++ next ∷ []) took.left) (take.Applied version)) (sym made_so) stay in
-    took.stands.settled_is ∙ is_settled took.left (none_left (map bare taken) (map bare (taken ++ next ∷ [])) (bare next) (doubt_of took.left) version took.fate (doubt_of doubt) stays)
-
 -- ---- a text that is no patch
 
--- it ends catching up so, and by no failing disk or link
-abbrev EndsText : {D : Type 0} → ZoneView D → List ℕ → SyncEnd → Type 0
-EndsText zone text end = TextEnds zone.terms [] zone text end × (end ≡ DiskFault → ⊥) × (end ≡ LinkFault → ⊥)
-
 module _ {D : Type 0} (zone : ZoneView D) (text : List ℕ) (version : ℕ) (is : version ≡ length zone.brief.ids + 1) where
-  bad : (fault : PatchFault) → (fault ≡ faults.OutOfMemory → ⊥) → Refuses text fault → EndsText zone text (BadPatch version fault)
-  bad fault other refuses = ((is, ⊎_elim (λ want. absurd (other want)) (λ is. is) refuses), (λ same. cc), (λ same. cc))
+  bad : (fault : PatchFault) → (fault ≡ faults.OutOfMemory → ⊥) → Refuses text fault → RefusesText zone.terms [] zone text (BadPatch version fault)
+  bad fault other refuses = (is, ⊎_elim (λ want. absurd (other want)) (λ is. is) refuses)
 
-  pub no_patch_ends : (fault : PatchFault) → Refuses text fault → EndsText zone text (of_patch version fault)
-  no_patch_ends faults.OutOfMemory refuses = (tt, (λ same. cc), (λ same. cc))
+  pub no_patch_ends : (fault : PatchFault) → Refuses text fault → RefusesText zone.terms [] zone text (no_patch_at version fault)
+  no_patch_ends faults.OutOfMemory refuses = tt
   no_patch_ends (faults.At at kind) refuses = bad (faults.At at kind) (λ same. cc) refuses
   no_patch_ends (faults.TooLong length limit) refuses = bad (faults.TooLong length limit) (λ same. cc) refuses

@@ -1,6 +1,8 @@
-mod Chains
 mod Taken
 mod Amid
 mod Answered
-mod Rest
+mod Regained
 mod Causes
+pub mod Fronts
+mod Completing
+pub mod Serving

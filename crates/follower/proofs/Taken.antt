@@ -1,5 +1,5 @@
 -- What a zone took, step by step.
-use Rattle.std.proofs.Common.{◌≡◌, ◌⊎◌, inl, inr, ⊎_elim, ℕ, List, [], ◌++◌, Option, sym, subst, append_assoc}
+use Rattle.std.proofs.Common.{◌≡◌, ◌⊎◌, inl, inr, ⊎_elim, ℕ, List, [], ◌++◌, sym, subst, append_assoc}
 use Rattle.std.specs.List.{Contains, flat_map}
 use Rattle.std.proofs.lemmas.List.{append-nil}
 use Rattle.std.proofs.lemmas.Grind.{flat_map-append}
@@ -14,20 +14,15 @@ use Rattle.zone_state.specs.Zone.{ZoneView}
 use Rattle.follower.specs.Grown.{ZoneStands, TookMore}
 
 module _ {D : Type 0} (disks : Ghosts D) where
-  pub took_same : (old new : ZoneView D) → ((taken : List CheckedPatch) (doubt : Option CheckedPatch) → ZoneStands disks old taken doubt
-      → (left : Option CheckedPatch) × ZoneStands disks new taken left) → TookMore disks old new []
-  took_same old new same taken doubt stands =
-      let here = same taken doubt stands in
-      (here.0, subst (λ (ps : List CheckedPatch). ZoneStands disks new ps here.0) (sym (append-nil taken)) here.1)
+  pub took_same : (old new : ZoneView D) → ((taken : List CheckedPatch) → ZoneStands disks old taken → ZoneStands disks new taken) → TookMore disks old new []
+  took_same old new same taken stands = subst (λ (ps : List CheckedPatch). ZoneStands disks new ps) (sym (append-nil taken)) (same taken stands)
 
   pub took_none : (zone : ZoneView D) → TookMore disks zone zone []
-  took_none zone = took_same zone zone (λ taken doubt stands. (doubt, stands))
+  took_none zone = took_same zone zone (λ taken stands. stands)
 
   pub took_both : (old mid new : ZoneView D) (more next : List CheckedPatch) → TookMore disks old mid more → TookMore disks mid new next → TookMore disks old new (more ++ next)
-  took_both old mid new more next first second taken doubt stands =
-      let there = first taken doubt stands in
-      let here = second (taken ++ more) there.0 there.1 in
-      (here.0, subst (λ (ps : List CheckedPatch). ZoneStands disks new ps here.0) (append_assoc taken more next) here.1)
+  took_both old mid new more next first second taken stands =
+      subst (λ (ps : List CheckedPatch). ZoneStands disks new ps) (append_assoc taken more next) (second (taken ++ more) (first taken stands))
 
   -- a zone that stays
   pub took_still : (old mid new : ZoneView D) (more : List CheckedPatch) → TookMore disks old mid more → TookMore disks mid new [] → TookMore disks old new more
@@ -36,10 +31,10 @@ module _ {D : Type 0} (disks : Ghosts D) where
 
   -- where what it needs isn't there, a zone learns of terms alone
   pub took_want : (old new : ZoneView D) → new ≡ record old { terms = new.terms } → TookMore disks old new []
-  took_want old new is = took_same old new (λ taken doubt stands.
-      let here : ZoneStands disks (record old { terms = new.terms }) taken doubt =
-      record { brief_is = stands.brief_is; settled_is = stands.settled_is; without = stands.without; having = stands.having; on_disk = stands.on_disk } in
-      (doubt, subst (λ (zone : ZoneView D). ZoneStands disks zone taken doubt) (sym is) here))
+  took_want old new is = took_same old new (λ taken stands.
+      let here : ZoneStands disks (record old { terms = new.terms }) taken =
+      record { brief_is = stands.brief_is; doubt_is = stands.doubt_is; without = stands.without; having = stands.having; on_disk = stands.on_disk } in
+      subst (λ (zone : ZoneView D). ZoneStands disks zone taken) (sym is) here)
 
 -- ---- terms
 

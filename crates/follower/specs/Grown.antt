@@ -1,5 +1,7 @@
 -- What a zone goes through while patches are taken.
-use Rattle.std.specs.Prelude.{◌≡◌, ◌⊎◌, ℕ, true, List, [], ◌∷◌, ◌++◌, Option, Some, Ok}
+use Rattle.std.specs.Prelude.{◌≡◌, ◌⊎◌, ℕ, ◌<◌, List, [], ◌∷◌, ◌++◌, Option, Some, None, Ok}
+use Rattle.std.specs.Prelude.{length}
+use Rattle.delta_base.specs.declared.id.Id.{Id}
 use Rattle.disk_model.specs.declared.disk.Disk.{Ghosts}
 use Rattle.disk_model.specs.Past.{LeavesOnly}
 use Rattle.log_journal.specs.File.{Holds}
@@ -7,16 +9,18 @@ use Rattle.dataset_tx.specs.Held.{AreMet}
 use Rattle.patch_meaning.specs.Checked.{CheckedPatch, checked_texts}
 use Rattle.patch_meaning.specs.Patch.{IsPatch}
 use Rattle.rpc_answers.specs.declared.answer.Answer.TheVariants as answer
+use Rattle.zone_state.specs.declared.answer.TakeAnswer.TheVariants as take
 use Rattle.zone_state.specs.Brief.{with_patch, changes_taken}
+use Rattle.zone_state.specs.Stay.{decided}
 use Rattle.zone_state.specs.Zone.{ZoneView, StandsForZone, zone_number}
 use Rattle.delta_client.specs.Exchanges.{WasSaid}
+use Rattle.follower.specs.Calls.{came}
 
--- no patch was tried, or the one whose text was said last
-pub data WasTried (said : List WasSaid) (tried : List CheckedPatch) : Type 0 where
-  untried : tried ≡ [] → WasTried said tried
-  was_last : (before : List WasSaid) (next : CheckedPatch)
-      → said ≡ before ++ Ok (answer.Patch next.text) ∷ [] → tried ≡ next ∷ []
-      → IsPatch next.text next.meaning → WasTried said tried
+-- ---- the patch tried last
+
+-- the text is that of this patch
+abbrev pub IsText : List ℕ → CheckedPatch → Type 0
+IsText text next = (next.text ≡ text) × IsPatch text next.meaning
 
 -- while patches are taken an image holds those before and a front of these, or those before and the
 -- one that was in doubt
@@ -27,32 +31,64 @@ HoldsAmid taken doubt more image =
     ⊎ ((one : CheckedPatch) × (doubt ≡ Some one)
     × Holds image zone_number (checked_texts (taken ++ one ∷ [])))
 
+-- the patch left in doubt behind those taken and the one tried then: none; where none was taken,
+-- the one before; or the one tried
+pub data LeftInDoubt (before after : Option CheckedPatch) (more tried : List CheckedPatch)
+    : Type 0 where
+  none : after ≡ None → LeftInDoubt before after more tried
+  as_before : more ≡ [] → after ≡ before → LeftInDoubt before after more tried
+  tried_last : (one : CheckedPatch) → after ≡ Some one → tried ≡ one ∷ []
+      → LeftInDoubt before after more tried
+
+module _ {D : Type 0} (zone : ZoneView D) where
+  -- the patch is the next one
+  abbrev pub IsNextForZone : CheckedPatch → Type 0
+  IsNextForZone next = (version : ℕ) × (decided zone next ≡ take.Applied version)
+
+  -- behind the patches taken this was said to the fetch of the zone's next version
+  abbrev pub SaidToFetch : List CheckedPatch → List WasSaid → WasSaid → Type 0
+  SaidToFetch more said last =
+      (theirs : ℕ) × (head : Option Id) × (said ≡ came theirs head more (last ∷ []))
+      × (length zone.brief.ids < theirs)
+
+  -- it is the text of this patch
+  abbrev pub Fetched : List CheckedPatch → List WasSaid → CheckedPatch → Type 0
+  Fetched more said next =
+      SaidToFetch more said (Ok (answer.Patch next.text)) × IsPatch next.text next.meaning
+
+  -- no patch was tried behind those taken, or the one that was fetched, which is the next one
+  pub data WasTried (more : List CheckedPatch) (said : List WasSaid) (tried : List CheckedPatch)
+      : Type 0 where
+    untried : tried ≡ [] → WasTried more said tried
+    was_next : (next : CheckedPatch) → tried ≡ next ∷ [] → Fetched more said next
+        → IsNextForZone next → WasTried more said tried
+
 module _ {D : Type 0} (disks : Ghosts D) where
-  abbrev pub ZoneStands : ZoneView D → List CheckedPatch → Option CheckedPatch → Type 0
-  ZoneStands zone taken doubt = StandsForZone disks.tells (disks.past zone.disk) zone taken doubt
+  -- the zone stands for these patches, and for the one that it has in doubt
+  abbrev pub ZoneStands : ZoneView D → List CheckedPatch → Type 0
+  ZoneStands zone taken = StandsForZone disks.tells (disks.past zone.disk) zone taken zone.doubt
 
   -- for whatever patches the zone stood, it stands for them and these
   abbrev pub TookMore : ZoneView D → ZoneView D → List CheckedPatch → Type 0
   TookMore old new more =
-      (taken : List CheckedPatch) (doubt : Option CheckedPatch) → ZoneStands old taken doubt
-      → (left : Option CheckedPatch) × ZoneStands new (taken ++ more) left
+      (taken : List CheckedPatch) → ZoneStands old taken → ZoneStands new (taken ++ more)
 
   -- a crash at any moment leaves an image of these
   abbrev pub LeavesAmid : ZoneView D → ZoneView D → List CheckedPatch → Type 0
   LeavesAmid old new more =
-      disks.tells → (taken : List CheckedPatch) (doubt : Option CheckedPatch)
-      → ZoneStands old taken doubt
-      → LeavesOnly (HoldsAmid taken doubt more) (disks.past old.disk) (disks.past new.disk)
+      disks.tells → (taken : List CheckedPatch) → ZoneStands old taken
+      → LeavesOnly (HoldsAmid taken old.doubt more) (disks.past old.disk) (disks.past new.disk)
 
-  -- The zone took these patches. A crash at any moment leaves a front of them, or them and the one
-  -- whose text was said last; and the terms that it met are those of them, and maybe of that one.
+  -- The zone took these patches, and tried one more, or none. A crash at any moment leaves a front
+  -- of them all; the terms that it met are theirs; and which patch is left in doubt is known.
   pub record GrewBy (old new : ZoneView D) (more : List CheckedPatch) (said : List WasSaid)
       : Type 0 where
     pub took : TookMore old new more
-    pub amid : (tried : List CheckedPatch) × WasTried said tried
-        × LeavesAmid old new (more ++ tried)
-    pub met : (tried : List CheckedPatch) × WasTried said tried
-        × AreMet (changes_taken (more ++ tried)) old.terms new.terms
+    pub tried : List CheckedPatch
+    pub was_tried : WasTried new more said tried
+    pub amid : LeavesAmid old new (more ++ tried)
+    pub met : AreMet (changes_taken (more ++ tried)) old.terms new.terms
+    pub left_is : LeftInDoubt old.doubt new.doubt more tried
 
   -- the zone took this patch
   pub record Took (old new : ZoneView D) (next : CheckedPatch) : Type 0 where
@@ -60,9 +96,15 @@ module _ {D : Type 0} (disks : Ghosts D) where
     pub took : TookMore old new (next ∷ [])
     pub amid : LeavesAmid old new (next ∷ [])
     pub met : AreMet (changes_taken (next ∷ [])) old.terms new.terms
-    pub settled : new.settled ≡ true
+    pub settled : new.doubt ≡ None
 
-  -- the zone took nothing
-  pub record Stayed (old new : ZoneView D) (said : List WasSaid) : Type 0 where
+  -- the zone took nothing of this text: it tried its patch as the next one, or none
+  pub record Stayed (old new : ZoneView D) (text : List ℕ) : Type 0 where
     pub brief : new.brief ≡ old.brief
-    pub grew : GrewBy old new [] said
+    pub took : TookMore old new []
+    pub tried : List CheckedPatch
+    pub was_tried : (tried ≡ [])
+        ⊎ ((next : CheckedPatch) × (tried ≡ next ∷ []) × IsText text next × IsNextForZone new next)
+    pub amid : LeavesAmid old new tried
+    pub met : AreMet (changes_taken tried) old.terms new.terms
+    pub left_is : LeftInDoubt old.doubt new.doubt [] tried

@@ -1,5 +1,6 @@
 pub mod Calls
-pub mod Ends
 pub mod Grown
 pub mod Syncing
+pub mod Replicas
 pub mod Causes
+pub mod Chains

@@ -1,6 +1,5 @@
 //! How catching up ends.
 use delta_base::{Bytes, Id};
-use delta_client::AskFault;
 use log_base::FullKind;
 use patch_meaning::PatchFault;
 
@@ -55,18 +54,31 @@ pub enum SyncEnd {
     OutOfMemory,
 }
 
-impl From<AskFault> for SyncEnd {
-    ghost use Rattle.std.specs.Prelude.{◌≡◌};
-    ghost use Rattle.follower.specs.Ends.{sync_end};
-
-    ghost from_gives = { λ fault e. e ≡ sync_end fault };
-
-    fn from(fault: AskFault) -> SyncEnd {
-        match fault {
-            AskFault::LinkFault => SyncEnd::LinkFault,
-            AskFault::CutShort => SyncEnd::CutShort,
-            AskFault::NotUnderstood { at } => SyncEnd::NotUnderstood { at },
-            AskFault::OutOfMemory => SyncEnd::OutOfMemory,
-        }
-    }
+/// Why a zone doesn't take the text of the next version.
+#[derive(Drop)]
+pub enum TextRefusal {
+    /// It is no patch.
+    BadPatch {
+        version: u32,
+        fault: PatchFault,
+    },
+    /// It names another patch than the zone's last one, which has this version and the id `have`.
+    Diverged {
+        version: u32,
+        have: Option<Id>,
+        theirs: Option<Id>,
+    },
+    /// It has the id of this version.
+    Repeated {
+        version: u32,
+        id: Id,
+    },
+    Full {
+        what: FullKind,
+        have: u64,
+        limit: u64,
+    },
+    TermsFull,
+    DiskFault,
+    OutOfMemory,
 }

@@ -1,17 +1,17 @@
-//! A zone that catches up with a log of a server.
+//! A zone that catches up with a log of a server, as a replica of `catch_up`.
 //!
 //! `specs/Calls.antt` says which calls are made (what is sent and answered on which connections is
 //! said by `Exchanged` of `delta_client`); `specs/Grown.antt` what a zone has gone through then;
-//! `specs/Ends.antt` and `specs/Syncing.antt` why catching up ended, and `specs/Causes.antt` the
-//! cause of each end.
+//! `specs/Syncing.antt` why catching up ended, and `specs/Causes.antt` the cause of each end.
+//! `specs/Chains.antt` says what follows where the peer answers as a log does.
 #![tactic(auto)]
 
-mod asking;
 mod ends;
 mod laws;
+mod own_zone;
 mod syncing;
 mod taking;
 
-pub use ends::SyncEnd;
-pub use laws::ends_have_causes;
+pub use ends::{SyncEnd, TextRefusal};
+pub use laws::{catching_up_completes, ends_have_causes, followers_follow, runs_are_syncs};
 pub use syncing::sync;

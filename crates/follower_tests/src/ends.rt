@@ -1,5 +1,6 @@
 //! How catching up ends, by what the peer answers.
 use crate::peers::{Reply, caught_up, dial_of};
+use log_base::{LOG_LIMITS, LogLimits};
 use std::alloc::Global;
 use std::process::Abort;
 use std::test::Fail;
@@ -236,7 +237,7 @@ static ROWS: [Row; 24] = [
 
 fn ends(rt: &impl Abort, alloc: Global, row: &Row) -> Result<(), Fail> {
     let mut net = dial_of(alloc, row.links, row.less)?;
-    let ended = caught_up(alloc, row.mine, &mut net);
+    let ended = caught_up(alloc, row.mine, LOG_LIMITS, &mut net);
     drop(net);
     let (told, version) = ended?;
     assert!(rt; told.0 == row.end.0, "{}: {}", row.shows, told.0);
@@ -249,6 +250,58 @@ fn ends(rt: &impl Abort, alloc: Global, row: &Row) -> Result<(), Fail> {
 fn each_answer_of_a_peer_has_its_end(rt: HostRuntime) -> Result<(), Fail> {
     for row in &ROWS {
         ends(&rt, rt.alloc(), row)?;
+    }
+    Ok(())
+}
+
+/// A zone of these limits that took two patches fetches a third; how that ends.
+struct Full {
+    shows: &'static str,
+    limits: LogLimits,
+    end: (&'static str, u64, u64),
+}
+
+static FULL: [Full; 3] = [
+    Full {
+        shows: "a third patch is one too many",
+        limits: LogLimits {
+            patches: 2,
+            bytes: LOG_LIMITS.bytes,
+        },
+        end: ("Full", 2, 2),
+    },
+    Full {
+        shows: "a third patch is one byte too long",
+        limits: LogLimits {
+            patches: LOG_LIMITS.patches,
+            bytes: 434,
+        },
+        end: ("Full", 435, 434),
+    },
+    Full {
+        shows: "a third patch fits",
+        limits: LogLimits {
+            patches: 3,
+            bytes: 435,
+        },
+        end: ("CaughtUp", 3, 0),
+    },
+];
+
+fn fills(rt: &impl Abort, alloc: Global, row: &Full) -> Result<(), Fail> {
+    let mut net = dial_of(alloc, &[&[Reply::Log(3), Reply::Patch(3)]], 0)?;
+    let ended = caught_up(alloc, 2, row.limits, &mut net);
+    drop(net);
+    let (told, version) = ended?;
+    assert!(rt; told == row.end, "{}: {} {}", row.shows, told.0, told.1);
+    assert!(rt; (version == 2) == (told.0 == "Full"), "{}", row.shows);
+    Ok(())
+}
+
+#[test]
+fn a_zone_takes_no_more_than_its_limits(rt: HostRuntime) -> Result<(), Fail> {
+    for row in &FULL {
+        fills(&rt, rt.alloc(), row)?;
     }
     Ok(())
 }

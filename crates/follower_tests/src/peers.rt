@@ -7,7 +7,7 @@ use delta_base::{Bytes, Calls, MemLink, OutOfMemory, Text};
 use delta_client::MemDial;
 use disk_model::MemDisk;
 use follower::{SyncEnd, sync};
-use log_base::LOG_LIMITS;
+use log_base::LogLimits;
 use patch_meaning::check_patch;
 use std::alloc::Global;
 use std::test::Fail;
@@ -159,9 +159,10 @@ pub(crate) fn dial_of(
 pub(crate) fn new_zone(
     alloc: Global,
     failing: &[u64],
+    limits: LogLimits,
 ) -> Result<Option<Zone<MemDisk>>, OutOfMemory> {
     let disk = disk_of(alloc, EMPTY, failing)?;
-    match Zone::open_on(alloc, disk, LOG_LIMITS) {
+    match Zone::open_on(alloc, disk, limits) {
         Ok(zone) => Ok(Some(zone)),
         Err(_) => Ok(None),
     }
@@ -178,8 +179,12 @@ fn takes(alloc: Global, zone: &mut Zone<MemDisk>, patches: &[&[u8]]) -> Result<(
 }
 
 /// A zone that took the first so many of the five.
-pub(crate) fn zone_at(alloc: Global, version: usize) -> Result<Zone<MemDisk>, Fail> {
-    let Some(mut zone) = new_zone(alloc, &[])? else {
+pub(crate) fn zone_at(
+    alloc: Global,
+    version: usize,
+    limits: LogLimits,
+) -> Result<Zone<MemDisk>, Fail> {
+    let Some(mut zone) = new_zone(alloc, &[], limits)? else {
         return Err(Fail::from("not opened"));
     };
     match takes(alloc, &mut zone, &PATCHES[..version.min(5)]) {
@@ -221,13 +226,14 @@ pub(crate) fn synced_in_short(
     Ok(told)
 }
 
-/// How a zone of this version ends catching up with the log ABC, and its version then.
+/// How a zone of this version and these limits ends catching up with the log ABC, and its version then.
 pub(crate) fn caught_up(
     alloc: Global,
     mine: usize,
+    limits: LogLimits,
     net: &mut MemDial<MemLink>,
 ) -> Result<((&'static str, u64, u64), u32), Fail> {
-    let mut zone = zone_at(alloc, mine)?;
+    let mut zone = zone_at(alloc, mine, limits)?;
     let end = synced_in_short(alloc, net, &mut zone);
     let after = zone.version();
     drop(zone);

@@ -3,8 +3,9 @@ use crate::peers::{LOG_ASKED, Reply, caught_up, dial_of, new_zone, synced_in_sho
 use delta_base::{MemLink, OutOfMemory, Text};
 use delta_client::{Dial, MemDial};
 use disk_model::MemDisk;
+use line_log::MadeLines;
+use log_base::LOG_LIMITS;
 use std::alloc::Global;
-use std::collections::BTreeSet;
 use std::process::Abort;
 use std::test::Fail;
 use zone_state::Zone;
@@ -100,7 +101,7 @@ fn catches_up(
     net: &mut MemDial<MemLink>,
     row: &Row,
 ) -> Result<(), Fail> {
-    let (told, _) = caught_up(alloc, 2, net)?;
+    let (told, _) = caught_up(alloc, 2, LOG_LIMITS, net)?;
     assert!(rt; told.0 == row.end, "{}: {}", row.shows, told.0);
     assert!(rt;
         net.tries() == row.tries && net.faults() == row.faults,
@@ -127,8 +128,8 @@ fn what_is_asked_over_which_connections(rt: HostRuntime) -> Result<(), Fail> {
 }
 
 /// The lines of a new zone that caught up over a dial.
-fn lines_behind(alloc: Global, net: &mut MemDial<MemLink>) -> Result<BTreeSet<Text>, Fail> {
-    let mut zone = zone_at(alloc, 0)?;
+fn lines_behind(alloc: Global, net: &mut MemDial<MemLink>) -> Result<MadeLines, Fail> {
+    let mut zone = zone_at(alloc, 0, LOG_LIMITS)?;
     let lines = reads_lines(alloc, net, &mut zone);
     drop(zone);
     lines
@@ -138,16 +139,16 @@ fn reads_lines(
     alloc: Global,
     net: &mut MemDial<MemLink>,
     zone: &mut Zone<MemDisk>,
-) -> Result<BTreeSet<Text>, Fail> {
+) -> Result<MadeLines, Fail> {
     synced_in_short(alloc, net, zone)?;
     Ok(zone.lines()?)
 }
 
 /// Lines one behind another.
-fn joined_lines(alloc: Global, lines: &BTreeSet<Text>) -> Result<Vec<u8>, OutOfMemory> {
+fn joined_lines(alloc: Global, lines: &MadeLines) -> Result<Vec<u8>, OutOfMemory> {
     let mut found = Vec::new(alloc);
-    for line in lines {
-        found.extend_from_slice(line.as_bytes())?;
+    for at in 0..lines.len() {
+        found.extend_from_slice(lines.line(at))?;
     }
     Ok(found)
 }
@@ -171,7 +172,7 @@ fn told_behind(
     net: &mut MemDial<MemLink>,
     number: u64,
 ) -> Result<Option<(&'static str, u32, u64)>, OutOfMemory> {
-    match new_zone(alloc, &[number])? {
+    match new_zone(alloc, &[number], LOG_LIMITS)? {
         Some(zone) => {
             let mut zone = zone;
             let end = synced_in_short(alloc, net, &mut zone);
@@ -213,7 +214,7 @@ fn a_disk_that_fails_is_told(rt: HostRuntime) -> Result<(), Fail> {
 
 /// A zone at version 2 that catches up tells its end by what failed.
 fn tells_want<R: Abort>(rt: &R, alloc: Global, net: &mut MemDial<MemLink>) -> Result<(), Fail> {
-    let (told, version) = caught_up(alloc, 2, net)?;
+    let (told, version) = caught_up(alloc, 2, LOG_LIMITS, net)?;
     assert!(rt; net.addresses().len() == net.back().len());
     is_want(rt, told.0, net.faults(), version);
     Ok(())

@@ -1,3 +1,2 @@
-pub mod Popping
-pub mod Sorted
 mod Followed
+mod Fronts

@@ -1,4 +1,3 @@
-pub mod Order
 pub mod Readings
 pub mod Words
 pub mod Files

@@ -3,13 +3,13 @@
 #![tactic(auto)]
 
 mod following;
-mod lines;
+mod laws;
 mod reading;
 mod visiting;
 mod words;
 
 pub use following::{follow_file, follow_zone};
-pub use lines::{quad_lines, row_lines};
+pub use laws::files_follow;
 pub use reading::Reading;
-pub use visiting::{Lines, read_zone, read_zone_file};
+pub use visiting::{read_zone, read_zone_file};
 pub use words::{Position, graph_of, part_of, read_pattern, term_of};

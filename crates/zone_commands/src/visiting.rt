@@ -8,51 +8,47 @@ ghost use Rattle.slot_files.specs.Files.{IsKept, bytes_at};
 ghost use Rattle.zone_state.specs.Fault.{HasZoneFault};
 ghost use Rattle.zone_state.specs.Zone.{zone_number};
 ghost use Rattle.zone_commands.specs.Files.{HasZoneLines};
-ghost use Rattle.zone_commands.specs.Order.{IsInOrder};
 ghost use Rattle.zone_commands.specs.Readings.{lines_read};
 
-use crate::lines::{quad_lines, row_lines};
 use crate::reading::Reading;
 use dataset_tx::Pattern;
 use delta_base::{OutOfMemory, Text};
 use disk_model::{Disk, Shelf, ShelfFault};
+use line_log::MadeLines;
 use log_base::LOG_LIMITS;
 use quad_index::Steps;
 use std::alloc::Global;
-use std::collections::BTreeSet;
 use std::marker::Brand;
 use std::sync::ledger::{Blank, Ledger};
 use zone_state::{ZONE_NUMBER, Zone, ZoneFault, ZoneRefusal};
 
-/// Lines in the order of their bytes.
-pub type Lines = BTreeSet<Text>;
-
 // The lines of the quads that match.
 fn matching<D: Disk, L: Ledger>(
-    alloc: Global,
-    zone: &Zone<D>,
+    zone: &mut Zone<D>,
     pattern: &Pattern,
     blank: Blank,
-) -> Result<Lines, OutOfMemory>
+) -> Result<MadeLines, OutOfMemory>
     requires name { blank.name ≡ L.name }
     requires parts { blank.parts ≡ L.parts }
     requires some { 0 < L.parts }
-    ensures { IsInOrder zone.now.brief.contents → IfOk result (λ lines.
-        lines.keys ≡ lines_read (Reading.Match pattern.now) zone.now.brief.contents) }
+    ensures lines { IfOk result (λ lines.
+        lines ≡ lines_read (Reading.Match pattern.now) zone.old.brief.contents) }
+    ensures same { zone.new ≡ zone.old }
 {
     let mut steps = Steps::<L>::new(blank);
-    quad_lines(alloc, zone.matching(pattern, &mut steps)?)
+    zone.matching_lines(pattern, &mut steps)
 }
 
 // What is read of the dataset of a zone.
-fn lines_of<D: Disk>(alloc: Global, zone: &Zone<D>, reading: &Reading) -> Result<Lines, OutOfMemory>
-    ensures { IsInOrder zone.now.brief.contents → IfOk result (λ lines.
-        lines.keys ≡ lines_read reading.now zone.now.brief.contents) }
+fn lines_of<D: Disk>(zone: &mut Zone<D>, reading: &Reading) -> Result<MadeLines, OutOfMemory>
+    ensures lines { IfOk result (λ lines.
+        lines ≡ lines_read reading.now zone.old.brief.contents) }
+    ensures same { zone.new ≡ zone.old }
 {
     match reading {
         Reading::Dump => zone.lines(),
-        Reading::Prefixes => row_lines(alloc, zone.prefixes()?),
-        Reading::Match(pattern) => matching::<D, Brand>(alloc, zone, pattern, Blank::new(1)),
+        Reading::Prefixes => zone.prefix_rows(),
+        Reading::Match(pattern) => matching::<D, Brand>(zone, pattern, Blank::new(1)),
     }
 }
 
@@ -61,9 +57,9 @@ pub fn read_zone_file<D: Disk>(
     alloc: Global,
     disk: D,
     reading: &Reading,
-) -> (D, Result<Lines, ZoneFault>)
+) -> (D, Result<MadeLines, ZoneFault>)
     ensures ok { D.tells
-        → IfOk result.1 (λ lines. HasZoneLines (reads (D.past disk)) reading.now lines.keys) }
+        → IfOk result.1 (λ lines. HasZoneLines (reads (D.past disk)) reading.now lines) }
     ensures fault { D.tells → IfErr result.1 (HasZoneFault (reads (D.past disk)) LOG_LIMITS) }
     ensures kept { D.tells → reads (D.past result.0) ≡ reads (D.past disk) }
     ensures cause { IsErrOf result.1 ZoneFault.Failed → Rose (D.faults disk) (D.faults result.0) }
@@ -71,7 +67,8 @@ pub fn read_zone_file<D: Disk>(
 {
     match Zone::open_on(alloc, disk, LOG_LIMITS) {
         Ok(zone) => {
-            let lines = lines_of(alloc, &zone, reading);
+            let mut zone = zone;
+            let lines = lines_of(&mut zone, reading);
             let disk = zone.close();
             match lines {
                 Ok(lines) => (disk, Ok(lines)),
@@ -88,10 +85,10 @@ pub fn read_zone<H: Shelf>(
     shelf: &mut H,
     dir: &Text,
     reading: &Reading,
-) -> Result<Lines, ZoneFault>
+) -> Result<MadeLines, ZoneFault>
     ensures ok { H.tells → IfOk result
         (λ lines.
-        HasZoneLines (bytes_at (H.files shelf.old) dir.now zone_number) reading.now lines.keys) }
+        HasZoneLines (bytes_at (H.files shelf.old) dir.now zone_number) reading.now lines) }
     ensures fault { H.tells → IfErr result
         (HasZoneFault (bytes_at (H.files shelf.old) dir.now zone_number) LOG_LIMITS) }
     ensures kept { H.tells → IsKept (H.files shelf.old dir.now zone_number)
