@@ -1,5 +1,5 @@
 //! What the changes of patches do to the lines of a dataset.
-ghost use Rattle.std.specs.Prelude.{◌≡◌, ◌++◌, ◌∷◌, [], Bool, List, IfOk, OnOk, length};
+ghost use Rattle.std.specs.Prelude.{◌≡◌, ◌≤◌, ◌+◌, ◌*◌, ◌++◌, ◌∷◌, [], Bool, List, IfOk, OnOk, length};
 ghost use Rattle.std.specs.List.{flat_map};
 ghost use Rattle.rdf_terms.specs.declared.change.Change.{Change as Changed};
 ghost use Rattle.rdf_terms.specs.declared.change.Change.TheVariants as change;
@@ -7,7 +7,8 @@ ghost use Rattle.rdf_terms.specs.Dataset.{Dataset, apply, empty};
 ghost use Rattle.rdf_terms.specs.Line.{line, lines};
 ghost use Rattle.rdf_terms.specs.Quad.{Statement};
 ghost use Rattle.row_scan.specs.Found.{change_by};
-ghost use Rattle.stream_replay.specs.Edits.{HasEdits, MakesLines};
+ghost use Rattle.line_log.specs.Edits.{bytes_of};
+ghost use Rattle.stream_replay.specs.Edits.{HasEdits, IsSettledOrShort, MakesLines};
 
 use delta_base::OutOfMemory;
 use line_log::{LineLog, MadeLines};
@@ -16,7 +17,9 @@ use rdf_terms::{Change, Quad};
 use std::alloc::Global;
 
 /// How many edits a log may have beyond twice those that its lines need.
-const SPARE: usize = 65_536;
+const SPARE_EDITS: usize = 65_536;
+/// How many bytes their lines may have beyond twice those of the lines that stand.
+pub(crate) const SPARE_BYTES: usize = 8_388_608;
 
 /// What all changes so far do, also those of the patch that may go on. Of a block that TA ended
 /// nothing is left.
@@ -25,9 +28,18 @@ pub struct Edits {
     log: LineLog,
     /// How many of them stand before the block that is open, if one is.
     before_block: Option<usize>,
-    /// With more of them the log is settled, so that it grows with the dataset and not
-    /// with the stream.
-    enough: usize,
+    /// With more edits, or more bytes of them, the log is settled, so that it grows with the
+    /// dataset and not with the stream.
+    enough_edits: usize,
+    enough_bytes: usize,
+}
+
+// Twice so many and some more.
+fn twice(count: usize, spare: usize) -> usize
+    ensures least { count ≤ result }
+    ensures most { result ≤ 2 * count + spare }
+{
+    count.saturating_mul(2).saturating_add(spare)
 }
 
 impl Edits {
@@ -38,7 +50,8 @@ impl Edits {
         Edits {
             log: LineLog::new(alloc),
             before_block: None,
-            enough: SPARE,
+            enough_edits: SPARE_EDITS,
+            enough_bytes: SPARE_BYTES,
         }
     }
 
@@ -107,15 +120,19 @@ impl Edits {
         }
     }
 
-    /// The patch is complete, and the next one begins.
+    /// The patch is complete, and the next one begins. Between patches the edits have no more bytes
+    /// than twice those of the lines that stood when they were settled last, and the spare.
     pub fn complete(&mut self) -> Result<(), OutOfMemory>
-        ensures { OnOk result ((changes : List Changed) (d : Dataset) → HasEdits changes d self.old
-            → HasEdits [] (apply changes d) self.new) }
+        ensures edits { OnOk result ((changes : List Changed) (d : Dataset)
+            → HasEdits changes d self.old → HasEdits [] (apply changes d) self.new) }
+        ensures short { OnOk result (bytes_of self.new.log ≤ self.new.enough_bytes) }
+        ensures settled { OnOk result (IsSettledOrShort self.old self.new) }
     {
         self.before_block = None;
-        if self.log.len() > self.enough {
+        if self.log.len() > self.enough_edits || self.log.bytes() > self.enough_bytes {
             self.log.settle()?;
-            self.enough = self.log.len().saturating_mul(2).saturating_add(SPARE);
+            self.enough_edits = twice(self.log.len(), SPARE_EDITS);
+            self.enough_bytes = twice(self.log.bytes(), SPARE_BYTES);
         }
         Ok(())
     }

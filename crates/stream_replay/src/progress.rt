@@ -1,6 +1,7 @@
 //! Rows that become patches, and patches that are applied.
 ghost use Rattle.std.specs.Prelude.{◌≡◌, ◌+◌, ◌-◌, ◌<◌, ◌≤◌, ◌^◌, ◌++◌};
-ghost use Rattle.std.specs.Prelude.{ℕ, List, [], IfOk, IfErr, OnOk};
+ghost use Rattle.std.specs.Prelude.{ℕ, nat_lt, true, List, [], IfOk, IfErr, OnOk};
+ghost use Rattle.log_base.specs.declared.limits.TheConstants.{PATCH_LIMIT};
 ghost use Rattle.patch_meaning.specs.declared.role.Role.TheVariants as roles;
 ghost use Rattle.patch_meaning.specs.Cutting.{changes_left, meanings_of};
 ghost use Rattle.patch_meaning.specs.PartRead.{IsToldAt};
@@ -69,13 +70,16 @@ impl StreamProgress {
         }
     }
 
-    /// Takes the next row, which adds or deletes the quad of a line.
+    /// Takes the next row, which adds or deletes the quad of a line. Of a patch that is too long no
+    /// row behind the limit is held.
     #[inline]
     pub fn take_quad(&mut self, adds: bool, bytes: &[u8], at: u64) -> Result<(), OutOfMemory>
         ensures ok { OnOk result ((end : TextEnd) (text : List ℕ) (stop : ℕ) (quad : Statement)
             → bytes.now ≡ line quad
             → AwaitsRow end text self.old (roles.Change (change_by adds quad)) at stop
             → HasStreamed end text stop self.new) }
+        ensures beyond { nat_lt (self.old.part.from + PATCH_LIMIT) at ≡ true
+            → self.new.edits ≡ self.old.edits }
         ensures replay { self.new.replay ≡ self.old.replay }
     {
         self.part.take_quad();
@@ -108,11 +112,13 @@ impl StreamProgress {
         }
     }
 
-    // Holds what the change of the row at a place does, where its patch may still be one.
+    // Holds what the change of the row at a place does, where its patch isn't too long.
     fn hold(&mut self, alloc: Global, says: &Role, at: u64) -> Result<(), OutOfMemory>
         ensures edits { OnOk result ((changes : List Change) (d : Dataset)
             → HasEdits changes d self.old.edits
             → HoldsMore self.old.part changes d says.now at self.new.edits) }
+        ensures beyond { nat_lt (self.old.part.from + PATCH_LIMIT) at ≡ true
+            → self.new.edits ≡ self.old.edits }
         ensures part { self.new.part ≡ self.old.part }
         ensures replay { self.new.replay ≡ self.old.replay }
     {

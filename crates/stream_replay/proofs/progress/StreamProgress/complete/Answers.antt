@@ -13,4 +13,4 @@ returns-in_ok-take-in-Some-clause-edits c =
     (λ done ms changes has.
     subst (λ (last : Option ChainLink). HasEdits (changes_left last changes) (replay (ms ++ meanings_of last changes)) c.complete.new.self) (sym c.in-Some.is)
     (edits_left ms changes c.complete.new.self c.in-Some.link (done changes (replay ms) has)))
-    c.complete.ensures
+    c.complete.ensures.edits
