@@ -1,5 +1,5 @@
 -- The line on err and the status of each way in which a command ends without its result.
-use Rattle.std.specs.Prelude.{ℕ, List, [], ◌∷◌, ◌++◌, codes}
+use Rattle.std.specs.Prelude.{ℕ, Bool, true, false, List, [], ◌∷◌, ◌++◌, codes}
 use Rattle.std.specs.Fmt.{decimal}
 use Rattle.delta_base.specs.Ids.{text_of}
 use Rattle.chain_core.specs.declared.testing.ChainFault.{ChainFault}
@@ -97,6 +97,19 @@ refusal_line (refusals.PeerBehind mine theirs) = peer_behind_line mine theirs
 refusal_line (refusals.NoPatch version) = no_patch_line version
 refusal_line (refusals.Chain fault) = chain_line fault
 refusal_line refusals.OutOfMemory = out_of_memory_line
+
+-- the line tells no more than what happened: no number, no id and no word of the command's
+abbrev pub has_fixed_line : Refusal → Bool
+has_fixed_line refusals.UnknownCommand = true
+has_fixed_line refusals.BadRun = true
+has_fixed_line refusals.InputFailed = true
+has_fixed_line refusals.OutputFailed = true
+has_fixed_line refusals.ZoneTermsFull = true
+has_fixed_line refusals.DiskFailed = true
+has_fixed_line refusals.LinkFailed = true
+has_fixed_line refusals.CutShort = true
+has_fixed_line refusals.OutOfMemory = true
+has_fixed_line other = false
 
 -- the status
 abbrev pub exit_status : Refusal → ℕ

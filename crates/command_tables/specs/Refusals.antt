@@ -1,5 +1,5 @@
 -- Which refusals faults are, and what a refusal tells.
-use Rattle.std.specs.Prelude.{◌≡◌, ◌⊎◌, ℕ}
+use Rattle.std.specs.Prelude.{◌≡◌, ◌⊎◌, ℕ, false}
 use Rattle.slot_checks.specs.declared.fault.CheckFault.{CheckFault}
 use Rattle.slot_checks.specs.declared.fault.CheckFault.TheVariants as checks
 use Rattle.slot_files.specs.declared.fault.InitFault.{InitFault}
@@ -10,7 +10,8 @@ use Rattle.zone_state.specs.declared.fault.ZoneFault.TheVariants as zones
 use Rattle.command_tables.specs.declared.refusal.Refusal.{Refusal}
 use Rattle.command_tables.specs.declared.refusal.Refusal.TheVariants as refusals
 use Rattle.command_tables.specs.Channels.{Channel, TellsLine}
-use Rattle.command_tables.specs.Lines.{refusal_line, exit_status, out_of_memory_line}
+use Rattle.command_tables.specs.Lines.{refusal_line, exit_status, has_fixed_line}
+use Rattle.command_tables.specs.Lines.{out_of_memory_line}
 
 -- the end of a command that makes files, and why it couldn't
 abbrev pub init_refusal : InitFault → Refusal
@@ -35,8 +36,8 @@ zone_refusal (zones.WrongNumber found) = refusals.File (checks.WrongNumber zone_
 zone_refusal (zones.OverLimit size limit) = refusals.File (checks.OverLimit zone_number size limit)
 zone_refusal (zones.BrokenChain version) = refusals.File (checks.BrokenChain zone_number version)
 
--- the line was told with its status, or there was no memory to make it
+-- the line was told with its status; or it had to be made, and there was no memory for it
 abbrev pub ReportsRefusal : Refusal → Channel → Channel → ℕ → Type 0
 ReportsRefusal refusal err err' status =
     ((status ≡ exit_status refusal) × TellsLine err err' (refusal_line refusal))
-    ⊎ ((status ≡ 8) × TellsLine err err' out_of_memory_line)
+    ⊎ ((has_fixed_line refusal ≡ false) × (status ≡ 8) × TellsLine err err' out_of_memory_line)

@@ -1,8 +1,8 @@
 //! The lines on err.
-ghost use Rattle.std.specs.Prelude.{◌≡◌, ◌++◌, ◌∷◌, [], IfOk, codes};
+ghost use Rattle.std.specs.Prelude.{◌≡◌, ◌++◌, ◌∷◌, [], false, IfOk, IfSome, IfNone, codes};
 ghost use Rattle.std.specs.Fmt.{decimal};
 ghost use Rattle.patch_meaning.specs.Names.{fault_name};
-ghost use Rattle.command_tables.specs.Lines.{bad_patch_line, chain_line, fault_at};
+ghost use Rattle.command_tables.specs.Lines.{bad_patch_line, chain_line, fault_at, has_fixed_line};
 ghost use Rattle.command_tables.specs.Lines.{limit_line, refusal_line, no_patch_line};
 ghost use Rattle.command_tables.specs.Lines.{not_understood_line, peer_behind_line, place_line};
 ghost use Rattle.command_tables.specs.Names.{usage_text};
@@ -16,13 +16,33 @@ use patch_meaning::PatchFault;
 use slot_checks::{fault_text, push_id};
 use std::alloc::Global;
 
-/// The line of a refusal.
+/// The line of a refusal that tells no more than what happened: nothing is made for it.
 #[tactic(auto, unfolding(crate::specs::Lines::refusal_line))]
-pub fn line_of(alloc: Global, refusal: &Refusal) -> Result<Vec<u8>, OutOfMemory>
+pub fn fixed_line(refusal: &Refusal) -> Option<&'static [u8]>
+    ensures line { IfSome result (λ line. line.now ≡ refusal_line refusal.now) }
+    ensures fixed { IfNone result (has_fixed_line refusal.now ≡ false) }
+{
+    match refusal {
+        Refusal::UnknownCommand => Some(b"rdfdelta: unknown command\n"),
+        Refusal::BadRun => Some(b"rdfdelta: input: line 1 byte 0: BadRun\n"),
+        Refusal::InputFailed => Some(b"rdfdelta: input failed\n"),
+        Refusal::OutputFailed => Some(b"rdfdelta: output failed\n"),
+        Refusal::ZoneTermsFull => Some(b"rdfdelta: refused: zone terms full\n"),
+        Refusal::DiskFailed => Some(b"rdfdelta: disk failed\n"),
+        Refusal::LinkFailed => Some(b"rdfdelta: link failed\n"),
+        Refusal::CutShort => Some(b"rdfdelta: answer cut short\n"),
+        Refusal::OutOfMemory => Some(b"rdfdelta: out of memory\n"),
+        _ => None,
+    }
+}
+
+/// The line of a refusal that tells numbers, ids or words.
+#[tactic(auto, unfolding(crate::specs::Lines::refusal_line))]
+pub fn made_line(alloc: Global, refusal: &Refusal) -> Result<Vec<u8>, OutOfMemory>
+    requires { has_fixed_line refusal.now ≡ false }
     ensures { IfOk result (λ text. text.items ≡ refusal_line refusal.now) }
 {
     match refusal {
-        Refusal::UnknownCommand => line(alloc, b"rdfdelta: unknown command\n"),
         Refusal::Usage(name) => usage_line(alloc, *name),
         Refusal::Stream { line, at, kind } => {
             place_line(alloc, *line, *at, kind.name().as_bytes())
@@ -31,32 +51,19 @@ pub fn line_of(alloc: Global, refusal: &Refusal) -> Result<Vec<u8>, OutOfMemory>
         Refusal::Document { line, at, kind } => {
             place_line(alloc, *line as u64, *at as u64, kind.name().as_bytes())
         }
-        Refusal::BadRun => place_line(alloc, 1, 0, b"BadRun"),
         Refusal::TooLong { limit } => limit_line(alloc, *limit),
-        Refusal::InputFailed => line(alloc, b"rdfdelta: input failed\n"),
-        Refusal::OutputFailed => line(alloc, b"rdfdelta: output failed\n"),
         Refusal::NotEmpty { file, length } => not_empty_line(alloc, *file, *length),
-        Refusal::ZoneTermsFull => line(alloc, b"rdfdelta: refused: zone terms full\n"),
         Refusal::ZoneFull { have, limit } => zone_full_line(alloc, *have, *limit),
         Refusal::File(fault) => fault_text(alloc, *fault),
         Refusal::WrongCount { disks, slots } => wrong_count_line(alloc, *disks, *slots),
-        Refusal::DiskFailed => line(alloc, b"rdfdelta: disk failed\n"),
-        Refusal::LinkFailed => line(alloc, b"rdfdelta: link failed\n"),
         Refusal::Refused { status, body } => refused_line(alloc, *status, body),
         Refusal::NotUnderstood { at } => not_understood_line(alloc, *at),
-        Refusal::CutShort => line(alloc, b"rdfdelta: answer cut short\n"),
         Refusal::BadPatch { version, fault } => bad_patch_line(alloc, *version, *fault),
         Refusal::PeerBehind { mine, theirs } => peer_behind_line(alloc, *mine, *theirs),
         Refusal::NoPatch { version } => no_patch_line(alloc, *version),
         Refusal::Chain(fault) => chain_line(alloc, *fault),
-        Refusal::OutOfMemory => line(alloc, b"rdfdelta: out of memory\n"),
+        _ => unreachable!(),
     }
-}
-
-fn line(alloc: Global, text: &[u8]) -> Result<Vec<u8>, OutOfMemory>
-    ensures { IfOk result (λ line. line.items ≡ text.now) }
-{
-    Ok(Vec::from_slice(alloc, text)?)
 }
 
 fn usage_line(alloc: Global, name: Name) -> Result<Vec<u8>, OutOfMemory>

@@ -4,7 +4,7 @@ ghost use Rattle.command_tables.specs.Lines.{exit_status};
 ghost use Rattle.command_tables.specs.Refusals.{ReportsRefusal};
 ghost use Rattle.command_tables.specs.Views.{output_view};
 
-use crate::lines::line_of;
+use crate::lines::{fixed_line, made_line};
 use crate::name::Name;
 use chain_core::ChainFault;
 use delta_base::{Bytes, OutOfMemory, Sink};
@@ -166,13 +166,19 @@ impl From<OutOfMemory> for Refusal {
     }
 }
 
-/// Writes the line of a refusal on `err`, and gives its status.
+/// Writes the line of a refusal on `err`, and gives its status. Where a line is to be made and no
+/// memory is found for it, that is told in its place, with status 8.
 pub fn report<E: Sink>(alloc: Global, refusal: Refusal, err: &mut E) -> u8
     ensures { ReportsRefusal refusal
         (output_view E.Sink err.old) (output_view E.Sink err.new) result }
 {
     let status = status_of(&refusal);
-    let line = line_of(alloc, &refusal);
+    if let Some(line) = fixed_line(&refusal) {
+        drop(refusal);
+        let _ = write_all(err, line);
+        return status;
+    }
+    let line = made_line(alloc, &refusal);
     drop(refusal);
     match line {
         Ok(line) => {

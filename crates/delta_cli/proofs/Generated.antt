@@ -6,30 +6,32 @@ use Rattle.patch_meaning.specs.Patch.{Meaning}
 use Rattle.patch_meaning.specs.Replay.{links_said}
 use Rattle.patch_meaning.specs.Stream.{IsStream}
 use Rattle.patch_meaning.proofs.OneStream.{same_stream, stream_or_fault}
-use Rattle.stream_replay.specs.Replaying.{AreReplayed}
 use Rattle.stream_replay.specs.Source.{EndsReplay, IsReplayed}
 use Rattle.stream_replay.specs.declared.fault.ReplayFault.{ReplayFault}
 use Rattle.stream_replay.specs.declared.fault.ReplayFault.TheVariants as ends
 use Rattle.stream_replay.specs.declared.replay.Replayed.{Replayed}
 use Rattle.stream_generator.specs.Generator.{stream_text}
 use Rattle.generated_replay.specs.Meanings.{meanings_to}
-use Rattle.generated_replay.proofs.Chained.{chained, counted, last_is}
-use Rattle.generated_replay.proofs.Counted.{quads_left}
+use Rattle.generated_replay.proofs.Chained.{chained}
 use Rattle.generated_replay.proofs.Cutting.{stream_is}
 use Rattle.generated_replay.proofs.Rows.{stream_short}
-use Rattle.delta_cli.specs.Results.{counts_line, generated_line}
+use Rattle.delta_cli.specs.Results.{IsGeneratedLine, counts_line}
 
 -- the text is the stream of no other patches
 one_stream : (n : ℕ) → n ≤ 65536 → (ms : List Meaning) → IsStream (stream_text n) ms → ms ≡ meanings_to n
 one_stream n small ms is = same_stream (stream_text n) ms (meanings_to n) is (stream_is n small)
 
-pub counts_are : (n : ℕ) → n ≤ 65536 → (r : Replayed) → IsReplayed r (stream_text n) → counts_line r.patches r.quads r.head ≡ generated_line n
-counts_are n small r is =
-    let a : AreReplayed (meanings_to n) r = subst (λ (ms : List Meaning). AreReplayed ms r) (one_stream n small is.meanings is.stream) is.replayed in
-    let patches = a.patches_is ∙ counted n in
-    let quads = a.quads_is ∙ quads_left n small in
-    let last = a.head_is ∙ last_is n in
-    λ i. counts_line (patches i) (quads i) (last i)
+pub counts_are : (n : ℕ) (r : Replayed) (line : List ℕ) → IsReplayed r (stream_text n) → line ≡ counts_line r.patches r.quads r.head → IsGeneratedLine n line
+counts_are n r line is printed = record {
+  meanings = is.meanings;
+  stream = is.stream;
+  chain = is.replayed.chain;
+  text_is = printed ∙ (λ i. counts_line (is.replayed.patches_is i) (is.replayed.quads_is i) (is.replayed.head_is i));
+}
+
+-- there are such counts
+pub has_counts : (n : ℕ) → n ≤ 65536 → (line : List ℕ) × IsGeneratedLine n line
+has_counts n small = (_, record { meanings = meanings_to n; stream = stream_is n small; chain = chained n; text_is = refl })
 
 -- only the source's own failure and want of memory are left
 pub only_memory : (n : ℕ) → n ≤ 65536 → (left : Option (List ℕ)) (faults faults' : ℕ) (fault : ReplayFault)

@@ -7,4 +7,3 @@ mod ShortStreams
 mod Shown
 mod Synced
 pub mod Words
-mod WrittenLines

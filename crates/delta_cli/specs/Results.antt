@@ -1,9 +1,10 @@
 -- What commands print of a text, or why they don't.
-use Rattle.std.specs.Prelude.{◌≡◌, ℕ, ◌-◌, ◌/◌, List, [], ◌∷◌, ◌++◌, Option, codes}
+use Rattle.std.specs.Prelude.{◌≡◌, ℕ, List, [], ◌∷◌, ◌++◌, length, Option, codes}
 use Rattle.std.specs.Fmt.{decimal}
 use Rattle.delta_base.specs.declared.id.Id.{Id}
 use Rattle.rdf_terms.specs.Line.{lines}
-use Rattle.chain_core.specs.Links.{IsChain}
+use Rattle.chain_core.specs.Ids.{last_of}
+use Rattle.chain_core.specs.Links.{IsChain, link_ids}
 use Rattle.patch_meaning.specs.Patch.{Meaning}
 use Rattle.patch_meaning.specs.Replay.{links_said, replay}
 use Rattle.patch_meaning.specs.Stream.{IsStream}
@@ -13,7 +14,7 @@ use Rattle.std.specs.Borrow.{Bor}
 use Rattle.sink_writing.specs.Writing.{joined}
 use Rattle.stream_replay.specs.declared.fault.ReplayFault.{ReplayFault}
 use Rattle.stream_replay.specs.declared.fault.ReplayFault.TheVariants as replays
-use Rattle.generated_replay.specs.Meanings.{head}
+use Rattle.stream_generator.specs.Generator.{stream_text}
 use Rattle.command_tables.specs.Channels.{Channel, ChannelFailed, IsSilent, WritesText, WritesFront}
 use Rattle.delta_cli.specs.Document.{IsShown, IsFaultyDocument}
 use Rattle.slot_checks.specs.Lines.{id_or_none}
@@ -52,9 +53,14 @@ abbrev pub counts_line : ℕ → ℕ → Option Id → List ℕ
 counts_line patches quads head = codes "patches " ++ (decimal patches
     ++ (codes " quads " ++ (decimal quads ++ (codes " head " ++ (id_or_none head ++ 10 ∷ [])))))
 
--- what the stream of so many generated patches comes to: a third of them delete a quad
-abbrev pub generated_line : ℕ → List ℕ
-generated_line patches = counts_line patches (patches - patches / 3) (head patches)
+-- the generator's stream of so many patches, replayed: how many they are, how many quads they leave,
+-- and the last one's id
+pub record IsGeneratedLine (patches : ℕ) (text : List ℕ) : Type 0 where
+  pub meanings : List Meaning
+  pub stream : IsStream (stream_text patches) meanings
+  pub chain : IsChain (links_said meanings)
+  pub text_is : text ≡ counts_line (length meanings) (length (replay meanings).quads)
+      (last_of (link_ids (links_said meanings)))
 
 -- these are the canonical lines of the text
 abbrev pub AreShown : List (Bor (List ℕ)) → List ℕ → Type 0
@@ -75,6 +81,11 @@ StopsPrinting text out out' refusals.OutputFailed =
     ChannelFailed out out' × WritesFront out out' text
 StopsPrinting text out out' refusals.OutOfMemory = IsSilent out out'
 StopsPrinting text out out' other = ⊥
+
+-- why the counts of a generated stream are not printed
+abbrev pub StopsGenerating : ℕ → Channel → Channel → Refusal → Type 0
+StopsGenerating patches out out' refusal =
+    (text : List ℕ) × IsGeneratedLine patches text × StopsPrinting text out out' refusal
 
 -- why a text has no canonical form
 abbrev pub StopsDocument : List ℕ → Refusal → Type 0

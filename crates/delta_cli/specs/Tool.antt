@@ -16,8 +16,9 @@ use Rattle.command_tables.specs.Help.{help_text}
 use Rattle.delta_cli.specs.Commands.{Asks, RefusesWords}
 use Rattle.delta_cli.specs.Document.{IsShown}
 use Rattle.command_tables.specs.Refusals.{ReportsRefusal}
-use Rattle.delta_cli.specs.Results.{ReadsInput, Prints, HasReplayLines, generated_line, StopsReplay}
-use Rattle.delta_cli.specs.Results.{StopsNquads, StopsPrinting, StopsEmitting, StopsWriting}
+use Rattle.delta_cli.specs.Results.{ReadsInput, Prints, HasReplayLines, IsGeneratedLine}
+use Rattle.delta_cli.specs.Results.{StopsReplay, StopsNquads, StopsGenerating, StopsEmitting}
+use Rattle.delta_cli.specs.Results.{StopsWriting}
 use Rattle.delta_cli.specs.Frames.{LeavesBut, frame}
 use Rattle.command_tables.specs.Views.{ShelfView}
 use Rattle.delta_cli.specs.Views.{OutsideView}
@@ -75,7 +76,8 @@ module _ {H D N L : Type 0} (shelf : ShelfGhosts H D) (dial : DialGhosts N L)
   Does commands.Replay old new =
       ReadsInput old.input new.input (Prints HasReplayLines old.out new.out)
   Does commands.Nquads old new = ReadsInput old.input new.input (Prints IsShown old.out new.out)
-  Does (commands.Gen patches) old new = WritesText old.out new.out (generated_line patches)
+  Does (commands.Gen patches) old new =
+      (text : List ℕ) × IsGeneratedLine patches text × WritesText old.out new.out text
   Does (commands.Emit patches) old new = WritesText old.out new.out (stream_text patches)
   Does (commands.Init dir slots) old new =
       (shelf.tells → IsInitial dir slots old.shelf.files new.shelf.files)
@@ -108,7 +110,7 @@ module _ {H D N L : Type 0} (shelf : ShelfGhosts H D) (dial : DialGhosts N L)
   Stops commands.Nquads old new refusal =
       StopsNquads refusal old.input new.input old.out new.out
   Stops (commands.Gen patches) old new refusal =
-      StopsPrinting (generated_line patches) old.out new.out refusal
+      StopsGenerating patches old.out new.out refusal
   Stops (commands.Emit patches) old new refusal =
       StopsEmitting (stream_text patches) refusal old.out new.out
   Stops (commands.Init dir slots) old new refusal =

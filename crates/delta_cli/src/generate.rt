@@ -1,9 +1,9 @@
 //! The commands `gen` and `emit`: the stream of the generator, replayed to its counts, or written.
-ghost use Rattle.std.specs.Prelude.{◌≡◌, ◌≤◌, IfOk, IfErr, OnOk};
+ghost use Rattle.std.specs.Prelude.{◌≡◌, ◌≤◌, ℕ, List, IfOk, IfErr, OnOk};
 ghost use Rattle.stream_generator.specs.Generator.{stream_text};
 ghost use Rattle.command_tables.specs.Channels.{WritesText};
-ghost use Rattle.delta_cli.specs.Results.{StopsEmitting, StopsPrinting};
-ghost use Rattle.delta_cli.specs.Results.{counts_line, generated_line};
+ghost use Rattle.delta_cli.specs.Results.{IsGeneratedLine, StopsEmitting, StopsGenerating};
+ghost use Rattle.delta_cli.specs.Results.{counts_line};
 ghost use Rattle.command_tables.specs.Views.{output_view};
 
 use command_tables::Refusal;
@@ -18,20 +18,22 @@ use stream_replay::{ReplayFault, replay_source};
 /// last patch's id.
 pub fn generate<K: Sink>(alloc: Global, patches: u32, out: &mut K) -> Result<(), Refusal>
     requires { patches ≤ 65536 }
-    ensures done { OnOk result (WritesText
-        (output_view K.Sink out.old) (output_view K.Sink out.new) (generated_line patches)) }
-    ensures stopped { IfErr result (StopsPrinting (generated_line patches)
+    ensures done { OnOk result ((text : List ℕ) × IsGeneratedLine patches text
+        × WritesText (output_view K.Sink out.old) (output_view K.Sink out.new) text) }
+    ensures stopped { IfErr result (StopsGenerating patches
         (output_view K.Sink out.old) (output_view K.Sink out.new)) }
 {
-    let line = count(alloc, patches)?;
-    write_all(out, line.as_slice()).map_err(|_| Refusal::OutputFailed)
+    match count(alloc, patches) {
+        Ok(line) => write_all(out, line.as_slice()).map_err(|_| Refusal::OutputFailed),
+        Err(OutOfMemory) => Err(Refusal::OutOfMemory),
+    }
 }
 
 // The line with the counts of so many patches. Their stream has no fault, and the generator fails
 // only where there is no memory for its next patch; so only want of memory stops their replay.
 fn count(alloc: Global, patches: u32) -> Result<Vec<u8>, OutOfMemory>
     requires { patches ≤ 65536 }
-    ensures { IfOk result (λ line. line.items ≡ generated_line patches) }
+    ensures { IfOk result (λ line. IsGeneratedLine patches line.items) }
 {
     let mut source = GeneratedSource::new(alloc, patches);
     match replay_source(alloc, &mut source) {

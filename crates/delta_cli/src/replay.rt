@@ -28,8 +28,12 @@ pub fn replay<S: Source, K: Sink>(alloc: Global, input: &mut S, out: &mut K) -> 
     }
 }
 
-// Writes the lines, where there is memory for a room of them.
-fn print_made<K: Sink>(alloc: Global, lines: &MadeLines, out: &mut K) -> Result<(), Refusal>
+/// Writes the lines, where there is memory for a room of them.
+pub(crate) fn print_made<K: Sink>(
+    alloc: Global,
+    lines: &MadeLines,
+    out: &mut K,
+) -> Result<(), Refusal>
     ensures done { OnOk result (WritesText
         (output_view K.Sink out.old) (output_view K.Sink out.new) (bytes_of lines.now)) }
     ensures stopped { IfErr result (StopsPrinting (bytes_of lines.now)

@@ -1,21 +1,17 @@
 //! The commands on a zone: its file is made, or what is read of it is written.
-ghost use Rattle.std.specs.Prelude.{◌≡◌, ◌≤◌, ℕ, List, [], IfErr, IsErr, OnOk};
-ghost use Rattle.std.specs.Io.KnownBytes.{Appends};
-ghost use Rattle.delta_base.specs.Outside.{Rose};
-ghost use Rattle.sink_writing.specs.Writing.{AppendsFront};
+ghost use Rattle.std.specs.Prelude.{ℕ, List, IfErr, OnOk};
 ghost use Rattle.command_tables.specs.Channels.{WritesText};
-ghost use Rattle.delta_cli.specs.Results.{StopsPrinting};
 ghost use Rattle.command_tables.specs.Views.{output_view, shelf_view};
 ghost use Rattle.delta_cli.specs.Zones.{IsNewZone, KeepsZone, ReadsZone, SparesZone, StopsMaking};
 ghost use Rattle.delta_cli.specs.Zones.{StopsZone, bytes_of};
 
+use crate::replay::print_made;
 use command_tables::Refusal;
-use delta_base::{Failed, Sink, Text};
+use delta_base::{Sink, Text};
 use disk_model::Shelf;
-use sink_writing::Room;
 use slot_files::format_file;
 use std::alloc::Global;
-use zone_commands::{Lines, Reading, read_zone};
+use zone_commands::{Reading, read_zone};
 use zone_state::ZONE_NUMBER;
 
 /// Makes the file of a directory's zone.
@@ -49,34 +45,7 @@ pub fn print_zone<H: Shelf, K: Sink>(
     ensures keeps { KeepsZone dir.now H.tells (H.files shelf.old) (H.files shelf.new) }
 {
     match read_zone(alloc, shelf, dir, reading) {
-        Ok(lines) => print_lines(alloc, &lines, out),
+        Ok(lines) => print_made(alloc, &lines, out),
         Err(fault) => Err(Refusal::of_zone(fault)),
     }
-}
-
-// Writes the lines, where there is memory for a room of them.
-fn print_lines<K: Sink>(alloc: Global, lines: &Lines, out: &mut K) -> Result<(), Refusal>
-    ensures done { OnOk result (WritesText
-        (output_view K.Sink out.old) (output_view K.Sink out.new) (bytes_of lines.now.keys)) }
-    ensures stopped { IfErr result (StopsPrinting (bytes_of lines.now.keys)
-        (output_view K.Sink out.old) (output_view K.Sink out.new)) }
-{
-    let room = Room::new(alloc)?;
-    write_lines(out, lines, room).map_err(|_| Refusal::OutputFailed)
-}
-
-// Writes the lines one after another, a room of them at once.
-fn write_lines<K: Sink>(out: &mut K, lines: &Lines, mut room: Room) -> Result<(), Failed>
-    requires { room ≡ [] }
-    ensures whole { OnOk result (Appends (K.written out.old) (K.written out.new)
-        (bytes_of lines.now.keys)) }
-    ensures front { AppendsFront (K.written out.old) (K.written out.new)
-        (bytes_of lines.now.keys) }
-    ensures failed { IsErr result → Rose (K.faults out.old) (K.faults out.new) }
-    ensures never_falls { K.faults out.old ≤ K.faults out.new }
-{
-    for line in lines {
-        room.put(out, line.as_bytes())?;
-    }
-    room.write_out(out)
 }

@@ -1,7 +1,8 @@
 //! Two calls for a version, and what is answered in short.
-ghost use Rattle.std.specs.Prelude.{◌≡◌, true, IsSome};
+ghost use Rattle.std.specs.Prelude.{◌≡◌, ◌≤◌, ◌+◌, true};
 ghost use Rattle.std.specs.List.{list_all};
 ghost use Rattle.http_text.specs.Print.{is_visible};
+ghost use Rattle.delta_client.specs.Lines.{opens};
 
 use delta_base::{OutOfMemory, Text};
 use delta_client::{AskFault, Dial, Line, ask_again};
@@ -56,8 +57,8 @@ fn asks<N: Dial>(
     host: &Text,
 ) -> Result<Result<u32, AskFault>, OutOfMemory>
     requires visible { list_all is_visible host.now ≡ true }
-    requires awaits { IsSome line.old.open → N.awaits net.old }
-    ensures { IsSome line.new.open → N.awaits net.new }
+    requires count { opens line.old.open ≤ N.held net.old }
+    ensures { N.held net.new + opens line.old.open ≡ N.held net.old + opens line.new.open }
 {
     let call = call(alloc)?;
     let told = ask_again(alloc, net, line, host, &call);
@@ -73,8 +74,8 @@ pub(crate) fn asks_twice<N: Dial>(
     host: &Text,
 ) -> Result<Both, OutOfMemory>
     requires visible { list_all is_visible host.now ≡ true }
-    requires awaits { IsSome line.old.open → N.awaits net.old }
-    ensures { IsSome line.new.open → N.awaits net.new }
+    requires count { opens line.old.open ≤ N.held net.old }
+    ensures { N.held net.new + opens line.old.open ≡ N.held net.old + opens line.new.open }
 {
     let first = asks(alloc, net, line, host)?;
     let second = asks(alloc, net, line, host)?;

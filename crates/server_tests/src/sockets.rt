@@ -1,6 +1,6 @@
 //! Calls over the system's sockets, to a server in the same thread: its replies are there before
 //! they are asked for.
-ghost use Rattle.std.specs.Prelude.{◌≡◌, true, IfOk};
+ghost use Rattle.std.specs.Prelude.{◌≡◌, ◌≤◌, true, IfOk};
 ghost use Rattle.std.specs.List.{list_all};
 ghost use Rattle.http_text.specs.Print.{is_visible};
 
@@ -46,7 +46,8 @@ fn asked_over<R: Net<Stream = TcpStream, Listener = TcpListener>>(
     link: StdLink<TcpStream>,
     address: &Text,
 ) -> Result<Both, OutOfMemory>
-    requires { list_all is_visible address.now ≡ true }
+    requires visible { list_all is_visible address.now ≡ true }
+    requires dialled { 1 ≤ net.old.held }
 {
     let reader = ReplyReader::new(alloc);
     let mut line = Line {
@@ -83,7 +84,8 @@ fn are_answered<R: Net<Stream = TcpStream, Listener = TcpListener> + Abort>(
     address: &Text,
     net: &mut TcpDial<'_, R>,
 ) -> Result<(), Fail>
-    requires { list_all is_visible address.now ≡ true }
+    requires visible { list_all is_visible address.now ≡ true }
+    requires dialled { 1 ≤ net.old.held }
 {
     let told = asked_over(alloc, net, link, address)?;
     are_told(rt, told, [Ok(1), Ok(2)]);

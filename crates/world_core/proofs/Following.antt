@@ -1,5 +1,5 @@
 -- What a zone took begins the log.
-use Rattle.std.proofs.Common.{◌≡◌, ℕ, zero, suc, ◌+◌, Bool, true, false, cond, eqb, List, [], ◌∷◌, ◌++◌, length, Option, Some, None, refl, sym, subst}
+use Rattle.std.proofs.Common.{◌≡◌, ℕ, zero, suc, ◌+◌, Bool, true, false, cond, eqb, List, [], ◌∷◌, ◌++◌, map, length, Option, Some, None, refl, subst}
 use Rattle.std.specs.Prelude.{fold, slice_get, Contains}
 use Rattle.std.specs.List.{AllByRecursion}
 use Rattle.std.proofs.lemmas.Bool.{eqb-true}
@@ -8,6 +8,7 @@ use Rattle.chain_core.specs.declared.chain.Patch.{Patch}
 use Rattle.log_base.specs.declared.limits.LogLimits.{LogLimits}
 use Rattle.chain_core.specs.declared.fate.Fate.{Fate}
 use Rattle.chain_core.specs.Patches.{patch_at}
+use Rattle.patch_log.specs.Log.{bare}
 use Rattle.chain_core.specs.Runs.{patches_in}
 use Rattle.chain_core.specs.Decision.{decision}
 use Rattle.chain_core.specs.Log.{up, down}
@@ -22,7 +23,7 @@ use Rattle.world_core.proofs.Worlds.{AreServed, none_served, step_serves}
 use Rattle.world_core.specs.declared.zone.ZonePart.{ZonePart}
 use Rattle.world_core.specs.declared.zone.ZonePart.TheVariants.{Up as ZoneUp, Down as ZoneDown}
 use Rattle.world_core.specs.Parts.{IsZoneOf, AreZonesOf, EveryImageOfZone, HoldsTaken, IsZoneReplayed}
-use Rattle.world_core.proofs.Taking.{zone_images}
+use Rattle.world_core.proofs.Taking.{zone_images, kept_found}
 
 -- all that may be found of a zone begins the chain
 abbrev Follows : List Patch → ZonePoint → Type 0
@@ -97,6 +98,9 @@ fold_follows limits point (event ∷ events) served all =
 begins_log : (point : WorldPoint) (taken : List Patch) → GrowsTo taken (chain_of point.log) → BeginsLog point.log taken
 begins_log point taken grows found may = grows_on taken (chain_of point.log) (patches_in found) grows (found_grows point.log found may)
 
+found_begins : (point : WorldPoint) (zone : ZonePoint) (taken : List Patch) → Follows (chain_of point.log) zone → MayBeFound zone taken → BeginsLog point.log taken
+found_begins point zone taken follows may = begins_log point taken (found_each (λ patches. GrowsTo patches (chain_of point.log)) zone taken follows may)
+
 always_all : (limits : LogLimits) (events : List WorldEvent) → AllFollow (world limits events)
 always_all limits events = fold_follows limits start events none_served tt
 
@@ -104,8 +108,7 @@ pub always_follow : (limits : LogLimits) (events : List WorldEvent) (place : ℕ
     → BeginsLog (world limits events).log taken
 always_follow limits events place zone taken is may =
     let point = world limits events in
-    let follows = one_of_all (Follows (chain_of point.log)) point.zones place zone (always_all limits events) is in
-    begins_log point taken (found_each (λ patches. GrowsTo patches (chain_of point.log)) zone taken follows may)
+    found_begins point zone taken (one_of_all (Follows (chain_of point.log)) point.zones place zone (always_all limits events) is) may
 
 -- ---- in each image
 
@@ -119,7 +122,7 @@ zones_begin point [] zones all are = tt
 zones_begin point (part ∷ parts) [] all are = absurd are
 zones_begin point (part ∷ parts) (zone ∷ zones) all are = (
   weaker_zone_images part (HoldsTaken (MayBeFound zone)) (HoldsTaken (BeginsLog point.log))
-      (λ image holds. (holds.0, begins_log point holds.0 (found_each (λ patches. GrowsTo patches (chain_of point.log)) zone holds.0 all.0 holds.1), holds.2)) (zone_images part zone are.0),
+      (λ image holds. (holds.0, (holds.1.0, found_begins point zone (map bare holds.0) all.0 holds.1.1), holds.2)) (zone_images part zone are.0),
   zones_begin point parts zones all.1 are.1,
 )
 
@@ -130,10 +133,9 @@ zones_promise limits events parts are = zones_begin (world limits events) parts 
 -- ---- datasets
 
 zone_replayed : (point : WorldPoint) (part : ZonePart) (zone : ZonePoint) → Follows (chain_of point.log) zone → IsZoneOf part zone → IsZoneReplayed point.log part
-zone_replayed point (ZoneUp zone) (up taken doubt) follows runs =
-    (runs.checked, runs.stands.without.checked, subst (λ (patches : List Patch). BeginsLog point.log patches) (sym runs.taken_is) (begins_log point taken follows.0), runs.stands.brief_is)
-zone_replayed point (ZoneUp zone) (down taken) follows runs = absurd runs
-zone_replayed point (ZoneDown disk) zone follows keeps = tt
+zone_replayed point part zone follows is brief kept =
+    let found = kept_found part zone brief is kept in
+    (found.0, found.1, found_begins point zone (map bare found.0) follows found.2, found.3)
 
 zones_replayed : (point : WorldPoint) (parts : List ZonePart) (zones : List ZonePoint) → AllByRecursion (Follows (chain_of point.log)) zones → AreZonesOf parts zones → AllByRecursion (IsZoneReplayed point.log) parts
 zones_replayed point [] zones all are = tt

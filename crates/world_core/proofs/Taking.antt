@@ -1,6 +1,7 @@
 -- The calls of a zone keep up with the patches that reach it.
-use Rattle.std.proofs.Common.{◌≡◌, ⊎_elim, ℕ, Bool, true, false, cond, List, [], map, Option, Some, None, refl, sym, ◌∙◌, ap, subst, arith}
+use Rattle.std.proofs.Common.{◌≡◌, ◌⊎◌, inl, inr, ⊎_elim, ℕ, Bool, true, false, cond, List, [], ◌∷◌, map, Option, Some, None, refl, sym, ◌∙◌, ap, subst, arith}
 use Rattle.std.specs.Prelude.{is_none}
+use Rattle.std.specs.List.{AllByRecursion}
 use Rattle.std.specs.Option.{option_map}
 use Rattle.disk_model.specs.Past.{Past, MayLeave, reads}
 use Rattle.disk_model.specs.Plan.{plan_past, plan_reads_left}
@@ -20,8 +21,8 @@ use Rattle.chain_core.specs.Decision.{decision}
 use Rattle.chain_core.specs.Log.{up, down}
 use Rattle.chain_core.specs.Patches.{texts_of}
 use Rattle.chain_core.specs.Stay.{Outcome, accepted_by, stay, fate_by_plan}
-use Rattle.patch_meaning.specs.Checked.{CheckedPatch, checked_texts}
-use Rattle.patch_log.specs.Log.{bare}
+use Rattle.patch_meaning.specs.Checked.{CheckedPatch, AreChecked, checked_texts}
+use Rattle.patch_log.specs.Log.{bare, IsSound}
 use Rattle.zone_state.specs.declared.answer.TakeAnswer.{TakeAnswer}
 use Rattle.zone_state.specs.declared.answer.TakeAnswer.TheVariants as take
 use Rattle.zone_state.specs.declared.file.TheConstants.{ZONE_NUMBER}
@@ -37,9 +38,9 @@ use Rattle.zone_state.proofs.Reopened.{found_again}
 use Rattle.zone_state.proofs.Sound.{sound_checked}
 use Rattle.world_core.specs.declared.zone.ZonePart.{ZonePart}
 use Rattle.world_core.specs.declared.zone.ZonePart.TheVariants.{Up, Down}
-use Rattle.world_core.specs.Parts.{run_as, stop_by, stop_taken, stopped_if, MayHold, CarriesPart, KeepsPayloads, RunsZone, KeepsTaken, IsZoneOf, EveryImageOfZone, HoldsTaken}
+use Rattle.world_core.specs.Parts.{run_as, stop_by, stop_taken, stopped_if, MayHold, CarriesPart, KeepsPayloads, RunsZone, KeepsTaken, IsZoneOf, EveryImageOfZone, HoldsTaken, MayBeKept}
 use Rattle.world_core.specs.World.{ZonePoint, MayBeFound}
-use Rattle.world_core.proofs.Carried.{carried_images, kept_images, kept_texts}
+use Rattle.world_core.proofs.Carried.{carried_images, kept_texts}
 use Rattle.world_core.proofs.Planned.{same_plan}
 use Rattle.world_core.proofs.Running.{AsRun, accepted_as_run}
 
@@ -60,13 +61,13 @@ module _ (zone : ZoneView PlanDisk) (taken : List Patch) (doubt : Option Patch) 
   -- the disk of a zone that runs
   zone_file : StandsForZoneFile (plan_past zone.disk) ZONE_NUMBER LOG_LIMITS taken doubt
   zone_file =
-      let stands = zone_log (Unit {0}) (plan_past zone.disk) zone runs.checked runs.left runs.stands tt in
+      let stands = zone_log (Unit {0}) (plan_past zone.disk) zone runs.checked zone.doubt runs.stands tt in
       subst (λ (z : LogLimits × List Patch × Option Patch). StandsForZoneFile (plan_past zone.disk) ZONE_NUMBER z.0 z.1 z.2) (λ i. (runs.limits_is i, runs.taken_is i, runs.doubt_is i)) stands
 
   zone_carries : CarriesPart ZONE_NUMBER zone.disk (texts_of taken) (patch_payload doubt)
   zone_carries = record {
     each = λ image left. each_held (plan_past zone.disk) LOG_LIMITS taken doubt image zone_file left;
-    leaves = subst (λ (z : List Patch × Option Patch). LeavesEither (plan_past zone.disk) ZONE_NUMBER (texts_of z.0) (patch_payload z.1)) (λ i. (runs.taken_is i, runs.doubt_is i)) (leaves_bare (plan_past zone.disk) runs.checked runs.left runs.leaves);
+    leaves = subst (λ (z : List Patch × Option Patch). LeavesEither (plan_past zone.disk) ZONE_NUMBER (texts_of z.0) (patch_payload z.1)) (λ i. (runs.taken_is i, runs.doubt_is i)) (leaves_bare (plan_past zone.disk) runs.checked zone.doubt runs.leaves);
   }
 
 keeps_zone : (disk : PlanDisk) (taken : List Patch) → KeepsPayloads ZONE_NUMBER disk (texts_of taken) → IsSoundZoneLog LOG_LIMITS taken → KeepsTaken disk taken
@@ -87,28 +88,68 @@ stopped_zone zone taken doubt opened disk runs keeps =
 pub new_zone : (disk : PlanDisk) → KeepsPayloads ZONE_NUMBER disk [] → KeepsTaken disk []
 new_zone disk keeps = keeps_zone disk [] keeps (record { log = record { chain = record { follow = tt; differ = tt }; few = omega arith; room = omega arith; short = tt }; sound = tt })
 
+-- ---- what is found of it
+
+-- patches that their texts are, with their changes
+checked_again : (patches : List Patch) → AllByRecursion IsSound patches → (checked : List CheckedPatch) × AreChecked checked × (map bare checked ≡ patches)
+checked_again [] sound = ([], tt, refl)
+checked_again (patch ∷ patches) sound =
+    let rest = checked_again patches sound.1 in
+    let first : CheckedPatch = record { text = patch.text; meaning = record { id = patch.id; prev = patch.prev; changes = sound.0.0 } } in
+    (first ∷ rest.0, (sound.0.1, rest.1), ap (λ (ps : List Patch). patch ∷ ps) rest.2)
+
+taken_checked : (P : List Patch → Type 0) (image : List ℕ) (found : List Patch) → AllByRecursion IsSound found → P found → Holds image ZONE_NUMBER (texts_of found) → HoldsTaken P image
+taken_checked P image found sound has holds =
+    let again = checked_again found sound in
+    (again.0, (again.1, subst P (sym again.2) has), subst (λ (texts : List (List ℕ)). Holds image ZONE_NUMBER texts) (ap texts_of (sym again.2) ∙ bare_texts again.0) holds)
+
 -- each image of a zone's disk holds what may be found
 pub zone_images : (part : ZonePart) (point : ZonePoint) → IsZoneOf part point → EveryImageOfZone part (HoldsTaken (MayBeFound point))
-zone_images (Up zone) (up taken doubt) runs = carried_images text_of ZONE_NUMBER zone.disk taken doubt (zone_carries zone taken doubt runs)
+zone_images (Up zone) (up taken doubt) runs = λ image left.
+    let file = zone_file zone taken doubt runs in
+    let held = carried_images text_of ZONE_NUMBER zone.disk taken doubt (zone_carries zone taken doubt runs) image left in
+    let sound : AllByRecursion IsSound held.0 = ⊎_elim
+    (λ (is : held.0 ≡ taken). subst (λ (ps : List Patch). AllByRecursion IsSound ps) (sym is) file.without.sound)
+    (λ (is : held.0 ≡ with_one_more taken doubt). subst (λ (ps : List Patch). AllByRecursion IsSound ps) (sym is) file.having.sound) held.1 in
+    taken_checked (MayBeFound (up taken doubt)) image held.0 sound held.1 held.2
 zone_images (Up zone) (down taken) runs = absurd runs
 zone_images (Down disk) (up taken doubt) keeps = absurd keeps
-zone_images (Down disk) (down taken) keeps = kept_images text_of ZONE_NUMBER disk taken keeps.each
+zone_images (Down disk) (down taken) keeps = λ image left. taken_checked (MayBeFound (down taken)) image taken keeps.without.sound refl (keeps.each image left)
+
+-- and so does opening it
+pub zone_reopened : (past : Past) (taken : List Patch) (doubt : Option Patch) (found : List CheckedPatch) (image : List ℕ) → StandsForZoneFile past ZONE_NUMBER LOG_LIMITS taken doubt → MayLeave past image
+    → Holds image ZONE_NUMBER (checked_texts found) → AreChecked found → (map bare found ≡ taken) ⊎ (map bare found ≡ with_one_more taken doubt)
+zone_reopened past taken doubt found image file left holds checked =
+    found_again past ZONE_NUMBER LOG_LIMITS taken (map bare found) doubt image file left (subst (λ (texts : List (List ℕ)). Holds image ZONE_NUMBER texts) (sym (bare_texts found)) holds) (sound_checked found checked)
+
+-- what may be kept is that of patches which may be found
+pub kept_found : (part : ZonePart) (point : ZonePoint) (brief : Brief) → IsZoneOf part point → MayBeKept part brief → (taken : List CheckedPatch) × AreChecked taken × MayBeFound point (map bare taken) × (brief ≡ brief_of taken)
+kept_found (Up zone) (up taken doubt) brief runs (inl now) = (runs.checked, runs.stands.without.checked, inl runs.taken_is, now ∙ runs.stands.brief_is)
+kept_found (Up zone) (up taken doubt) brief runs (inr opened) =
+    (opened.found, opened.checked, zone_reopened (plan_past zone.disk) taken doubt opened.found opened.image (zone_file zone taken doubt runs) opened.left opened.holds opened.checked, opened.brief_is)
+kept_found (Up zone) (down taken) brief runs kept = absurd runs
+kept_found (Down disk) (up taken doubt) brief keeps kept = absurd keeps
+kept_found (Down disk) (down taken) brief keeps opened = (
+  opened.found,
+  opened.checked,
+  ⊎_elim (λ (is : map bare opened.found ≡ taken). is) (λ (is : map bare opened.found ≡ taken). is) (zone_reopened (plan_past disk) taken None opened.found opened.image keeps opened.left opened.holds opened.checked),
+  opened.brief_is,
+)
 
 -- ---- opening
 
 pub opened_zone : (disk : PlanDisk) (zone : ZoneView PlanDisk) (checked : List CheckedPatch) (taken : List Patch) → KeepsTaken disk taken → Holds (reads (plan_past disk)) ZONE_NUMBER (checked_texts checked)
     → StandsForZone (Unit {0}) (plan_past zone.disk) zone checked None → zone.limits ≡ LOG_LIMITS → RunsZone zone taken None
 opened_zone disk zone checked taken keeps holds stands limits =
-    let held : Holds (reads (plan_past disk)) ZONE_NUMBER (texts_of (map bare checked)) = subst (λ (ts : List (List ℕ)). Holds (reads (plan_past disk)) ZONE_NUMBER ts) (sym (bare_texts checked)) holds in
-    let found = found_again (plan_past disk) ZONE_NUMBER LOG_LIMITS taken (map bare checked) None (reads (plan_past disk)) keeps (plan_reads_left disk) held (sound_checked checked stands.without.checked) in
+    let found = zone_reopened (plan_past disk) taken None checked (reads (plan_past disk)) keeps (plan_reads_left disk) holds stands.without.checked in
+    let none : None ≡ zone.doubt = sym stands.doubt_is in
     record {
       checked = checked;
-      left = None;
       taken_is = ⊎_elim (λ (is : map bare checked ≡ taken). is) (λ (is : map bare checked ≡ taken). is) found;
-      doubt_is = refl;
+      doubt_is = ap doubt_of stands.doubt_is;
       limits_is = limits;
-      stands = stands;
-      leaves = tt;
+      stands = subst (λ (doubt : Option CheckedPatch). StandsForZone (Unit {0}) (plan_past zone.disk) zone checked doubt) none stands;
+      leaves = subst (λ (doubt : Option CheckedPatch). LeavesEither (plan_past zone.disk) ZONE_NUMBER (checked_texts checked) (text_in doubt)) none tt;
     }
 
 -- ---- a taking, as it was run
@@ -178,26 +219,25 @@ module _ (fate : Fate) (taken : List Patch) (doubt : Option Patch) (patch : Patc
 
 -- ---- a taking by a plan
 
-pub settled_so : (zone : ZoneView PlanDisk) (checked : List CheckedPatch) (left : Option CheckedPatch) → StandsForZone (Unit {0}) (plan_past zone.disk) zone checked left → zone.settled ≡ is_none (doubt_of left)
-settled_so zone checked None stands = stands.settled_is
-settled_so zone checked (Some patch) stands = stands.settled_is
+pub settled_so : (doubt : Option CheckedPatch) → is_none doubt ≡ is_none (doubt_of doubt)
+settled_so None = refl
+settled_so (Some patch) = refl
 
 -- the plan changes nothing but the disk's next failure
 pub planned_runs : (zone planned : ZoneView PlanDisk) (taken : List Patch) (doubt : Option Patch) → RunsZone zone taken doubt → planned ≡ record zone { disk = planned.disk } → plan_past planned.disk ≡ plan_past zone.disk → RunsZone planned taken doubt
 planned_runs zone planned taken doubt runs same past = subst (λ (z : ZoneView PlanDisk). RunsZone z taken doubt) (sym same) (record {
   checked = runs.checked;
-  left = runs.left;
   taken_is = runs.taken_is;
   doubt_is = runs.doubt_is;
   limits_is = runs.limits_is;
   stands = record {
     brief_is = runs.stands.brief_is;
-    settled_is = runs.stands.settled_is;
+    doubt_is = runs.stands.doubt_is;
     without = runs.stands.without;
     having = runs.stands.having;
-    on_disk = λ told. subst (λ (p : Past). DiskHolds p (file_length zone.brief.ids zone.brief.bytes) runs.checked runs.left) (sym past) (runs.stands.on_disk told);
+    on_disk = λ told. subst (λ (p : Past). DiskHolds p (file_length zone.brief.ids zone.brief.bytes) runs.checked zone.doubt) (sym past) (runs.stands.on_disk told);
   };
-  leaves = subst (λ (p : Past). LeavesEither p ZONE_NUMBER (checked_texts runs.checked) (text_in runs.left)) (sym past) runs.leaves;
+  leaves = subst (λ (p : Past). LeavesEither p ZONE_NUMBER (checked_texts runs.checked) (text_in zone.doubt)) (sym past) runs.leaves;
 })
 
 -- the zone runs on, or stops where it is to stop
@@ -209,25 +249,25 @@ module _ (zone new : ZoneView PlanDisk) (taken : List Patch) (doubt : Option Pat
   after = taken_then answer runs.checked patch
 
   -- the stay of the patches that were checked
-  stay_checked : (left : Option CheckedPatch) → taken_by (decided zone patch) (fate_by_plan runs.left plan) (map bare runs.checked) (doubt_of runs.left) (bare patch) ≡ (zone_point after left, Some answer)
-      → fate_by_plan (doubt_of runs.left) plan ≡ run_as (doubt_of runs.left) fate
-      → (stay LOG_LIMITS (up (map bare runs.checked) (doubt_of runs.left)) (bare patch) fate).0 ≡ stopped_if (zone_point after left) (stop_taken fate answer)
-  stay_checked left is planned =
-      let as_planned : taken_by (decided zone patch) (run_as (doubt_of runs.left) fate) (map bare runs.checked) (doubt_of runs.left) (bare patch) ≡ (zone_point after left, Some answer) =
-      subst (λ (f : Fate). taken_by (decided zone patch) f (map bare runs.checked) (doubt_of runs.left) (bare patch) ≡ (zone_point after left, Some answer)) (sym (same_plan bare runs.left plan) ∙ planned) is in
-      let took = took_as_run fate (map bare runs.checked) (doubt_of runs.left) (bare patch) (map bare after) (doubt_of left) answer (decided zone patch) (is_decided zone.brief.ids zone.brief.bytes (bare patch) zone.limits) as_planned in
-      let same : (taken_by (decided zone patch) fate (map bare runs.checked) (doubt_of runs.left) (bare patch)).0 ≡ (stay LOG_LIMITS (up (map bare runs.checked) (doubt_of runs.left)) (bare patch) fate).0 =
-      ap (λ (brief : Brief). (taken_by (taking brief.ids brief.bytes (bare patch) zone.limits) fate (map bare runs.checked) (doubt_of runs.left) (bare patch)).0) runs.stands.brief_is
-      ∙ stays_alike fate (map bare runs.checked) (doubt_of runs.left) (bare patch) (taking (brief_of runs.checked).ids (brief_of runs.checked).bytes (bare patch) zone.limits) (decision (map bare runs.checked) (bare patch) zone.limits) (decided_alike runs.checked (bare patch) zone.limits)
-      ∙ ap (λ (limits : LogLimits). (stay limits (up (map bare runs.checked) (doubt_of runs.left)) (bare patch) fate).0) runs.limits_is in
+  stay_checked : taken_by (decided zone patch) (fate_by_plan zone.doubt plan) (map bare runs.checked) (doubt_of zone.doubt) (bare patch) ≡ (zone_point after new.doubt, Some answer)
+      → fate_by_plan (doubt_of zone.doubt) plan ≡ run_as (doubt_of zone.doubt) fate
+      → (stay LOG_LIMITS (up (map bare runs.checked) (doubt_of zone.doubt)) (bare patch) fate).0 ≡ stopped_if (zone_point after new.doubt) (stop_taken fate answer)
+  stay_checked is planned =
+      let as_planned : taken_by (decided zone patch) (run_as (doubt_of zone.doubt) fate) (map bare runs.checked) (doubt_of zone.doubt) (bare patch) ≡ (zone_point after new.doubt, Some answer) =
+      subst (λ (f : Fate). taken_by (decided zone patch) f (map bare runs.checked) (doubt_of zone.doubt) (bare patch) ≡ (zone_point after new.doubt, Some answer)) (sym (same_plan bare zone.doubt plan) ∙ planned) is in
+      let took = took_as_run fate (map bare runs.checked) (doubt_of zone.doubt) (bare patch) (map bare after) (doubt_of new.doubt) answer (decided zone patch) (is_decided zone.brief.ids zone.brief.bytes (bare patch) zone.limits) as_planned in
+      let same : (taken_by (decided zone patch) fate (map bare runs.checked) (doubt_of zone.doubt) (bare patch)).0 ≡ (stay LOG_LIMITS (up (map bare runs.checked) (doubt_of zone.doubt)) (bare patch) fate).0 =
+      ap (λ (brief : Brief). (taken_by (taking brief.ids brief.bytes (bare patch) zone.limits) fate (map bare runs.checked) (doubt_of zone.doubt) (bare patch)).0) runs.stands.brief_is
+      ∙ stays_alike fate (map bare runs.checked) (doubt_of zone.doubt) (bare patch) (taking (brief_of runs.checked).ids (brief_of runs.checked).bytes (bare patch) zone.limits) (decision (map bare runs.checked) (bare patch) zone.limits) (decided_alike runs.checked (bare patch) zone.limits)
+      ∙ ap (λ (limits : LogLimits). (stay limits (up (map bare runs.checked) (doubt_of zone.doubt)) (bare patch) fate).0) runs.limits_is in
       sym same ∙ took
 
-  pub took_runs : (left : Option CheckedPatch) → StandsForZone (Unit {0}) (plan_past new.disk) new after left → new.limits ≡ LOG_LIMITS
-      → taken_by (decided zone patch) (fate_by_plan runs.left plan) (map bare runs.checked) (doubt_of runs.left) (bare patch) ≡ (zone_point after left, Some answer)
-      → fate_by_plan (doubt_of runs.left) plan ≡ run_as (doubt_of runs.left) fate
-      → LeavesEither (plan_past new.disk) ZONE_NUMBER (checked_texts after) (text_in left)
+  pub took_runs : StandsForZone (Unit {0}) (plan_past new.disk) new after new.doubt → new.limits ≡ LOG_LIMITS
+      → taken_by (decided zone patch) (fate_by_plan zone.doubt plan) (map bare runs.checked) (doubt_of zone.doubt) (bare patch) ≡ (zone_point after new.doubt, Some answer)
+      → fate_by_plan (doubt_of zone.doubt) plan ≡ run_as (doubt_of zone.doubt) fate
+      → LeavesEither (plan_past new.disk) ZONE_NUMBER (checked_texts after) (text_in new.doubt)
       → Took new taken doubt (bare patch) fate (stop_taken fate answer)
-  took_runs left stands limits is planned leaves =
-      let now : RunsZone new (map bare after) (doubt_of left) = record { checked = after; left = left; taken_is = refl; doubt_is = refl; limits_is = limits; stands = stands; leaves = leaves } in
-      let checked : Took new (map bare runs.checked) (doubt_of runs.left) (bare patch) fate (stop_taken fate answer) = (map bare after, doubt_of left, now, stay_checked left is planned) in
-      subst (λ (d : Option Patch). Took new taken d (bare patch) fate (stop_taken fate answer)) runs.doubt_is (subst (λ (t : List Patch). Took new t (doubt_of runs.left) (bare patch) fate (stop_taken fate answer)) runs.taken_is checked)
+  took_runs stands limits is planned leaves =
+      let now : RunsZone new (map bare after) (doubt_of new.doubt) = record { checked = after; taken_is = refl; doubt_is = refl; limits_is = limits; stands = stands; leaves = leaves } in
+      let checked : Took new (map bare runs.checked) (doubt_of zone.doubt) (bare patch) fate (stop_taken fate answer) = (map bare after, doubt_of new.doubt, now, stay_checked is planned) in
+      subst (λ (d : Option Patch). Took new taken d (bare patch) fate (stop_taken fate answer)) runs.doubt_is (subst (λ (t : List Patch). Took new t (doubt_of zone.doubt) (bare patch) fate (stop_taken fate answer)) runs.taken_is checked)

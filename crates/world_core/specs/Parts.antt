@@ -1,7 +1,7 @@
 -- The values of the code as the world that they stand for.
-use Rattle.std.specs.Prelude.{◌≡◌, ℕ, Bool, List, [], ◌∷◌, map, Option, Some, None}
+use Rattle.std.specs.Prelude.{◌≡◌, ◌⊎◌, ℕ, Bool, List, [], ◌∷◌, map, Option, Some, None}
 use Rattle.std.specs.List.{AllByRecursion}
-use Rattle.disk_model.specs.Past.{EveryImage}
+use Rattle.disk_model.specs.Past.{EveryImage, MayLeave}
 use Rattle.disk_model.specs.Plan.{plan_past}
 use Rattle.disk_model.specs.declared.plan.PlanDisk.{PlanDisk}
 use Rattle.log_journal.specs.File.{Holds}
@@ -23,7 +23,7 @@ use Rattle.patch_log.specs.State.{LogView, runs_in}
 use Rattle.zone_state.specs.declared.answer.TakeAnswer.{TakeAnswer}
 use Rattle.zone_state.specs.declared.answer.TakeAnswer.TheVariants as take
 use Rattle.zone_state.specs.declared.file.TheConstants.{ZONE_NUMBER}
-use Rattle.zone_state.specs.Brief.{brief_of}
+use Rattle.zone_state.specs.Brief.{Brief, brief_of}
 use Rattle.zone_state.specs.Log.{StandsForZoneFile}
 use Rattle.zone_state.specs.Zone.{ZoneView, StandsForZone, doubt_of, text_in}
 use Rattle.world_core.specs.declared.log.TheConstants.{LOG_NUMBER}
@@ -98,12 +98,12 @@ pub record Runs (log : LogView PlanDisk) (runs : List (List Patch)) (doubt : Opt
 pub record RunsZone (zone : ZoneView PlanDisk) (taken : List Patch) (doubt : Option Patch)
     : Type 0 where
   pub checked : List CheckedPatch
-  pub left : Option CheckedPatch
   pub taken_is : map bare checked ≡ taken
-  pub doubt_is : doubt_of left ≡ doubt
+  pub doubt_is : doubt_of zone.doubt ≡ doubt
   pub limits_is : zone.limits ≡ LOG_LIMITS
-  pub stands : StandsForZone (Unit {0}) (plan_past zone.disk) zone checked left
-  pub leaves : LeavesEither (plan_past zone.disk) ZONE_NUMBER (checked_texts checked) (text_in left)
+  pub stands : StandsForZone (Unit {0}) (plan_past zone.disk) zone checked zone.doubt
+  pub leaves : LeavesEither (plan_past zone.disk) ZONE_NUMBER (checked_texts checked)
+      (text_in zone.doubt)
 
 -- a disk that a log was on, or one that is new: each of its images holds the runs
 abbrev pub KeepsRuns : PlanDisk → List (List Patch) → Type 0
@@ -159,16 +159,32 @@ abbrev pub HoldsSome : {T : Type 0} → ℕ → (T → List ℕ) → (List T →
 HoldsSome {T} number text_of P image =
     (found : List T) × P found × Holds image number (map text_of found)
 
--- of a log its runs, of a zone its patches
+-- of a log its runs
 abbrev pub HoldsRuns : (List (List Patch) → Type 0) → List ℕ → Type 0
 HoldsRuns P image = HoldsSome LOG_NUMBER run_text P image
 
+-- of a zone its patches, which their texts are
 abbrev pub HoldsTaken : (List Patch → Type 0) → List ℕ → Type 0
-HoldsTaken P image = HoldsSome ZONE_NUMBER (λ patch. patch.text) P image
+HoldsTaken P image = HoldsSome ZONE_NUMBER (λ patch. patch.text)
+    (λ found. AreChecked found × P (map bare found)) image
 
--- the dataset of a zone that runs is the replay of so many first patches as its version
--- says, checked again
+-- What opening a zone keeps that a crash leaves now: what the patches make that its file holds.
+pub record Reopens (disk : PlanDisk) (brief : Brief) : Type 0 where
+  pub image : List ℕ
+  pub left : MayLeave (plan_past disk) image
+  pub found : List CheckedPatch
+  pub checked : AreChecked found
+  pub holds : Holds image ZONE_NUMBER (checked_texts found)
+  pub brief_is : brief ≡ brief_of found
+
+-- what a zone keeps, or what opening it keeps behind a crash now
+abbrev pub MayBeKept : ZonePart → Brief → Type 0
+MayBeKept (ZoneUp zone) brief = (brief ≡ zone.brief) ⊎ Reopens zone.disk brief
+MayBeKept (ZoneDown disk) brief = Reopens disk brief
+
+-- whatever a zone keeps, or opening it keeps behind a crash now, are the ids and the replay of first
+-- patches of the log, as many as its version says, checked again
 abbrev pub IsZoneReplayed : LogPoint (List Patch) → ZonePart → Type 0
-IsZoneReplayed log (ZoneUp zone) = (taken : List CheckedPatch) × AreChecked taken
-    × BeginsLog log (map bare taken) × (zone.brief ≡ brief_of taken)
-IsZoneReplayed log (ZoneDown disk) = Unit {0}
+IsZoneReplayed log part = (brief : Brief) → MayBeKept part brief
+    → (taken : List CheckedPatch) × AreChecked taken × BeginsLog log (map bare taken)
+    × (brief ≡ brief_of taken)

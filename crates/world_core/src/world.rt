@@ -57,8 +57,9 @@ pub fn world_run(alloc: Global, events: &WorldEvents) -> Result<World, OutOfMemo
     ensures world { IfOk result (λ w. IsWorldOf w (world LOG_LIMITS events.now.items)) }
 
     // Whatever a crash leaves of the log now is a chain of whole runs that has each patch that was
-    // accepted or served at its version. What it leaves of a zone begins that chain, and the
-    // dataset of a zone is the replay of the patches that it took.
+    // accepted or served at its version. What it leaves of a zone begins that chain; and the
+    // dataset of a zone that runs, and of whatever opens what a crash leaves of one, is the replay
+    // of as many first patches of the chain as its version says.
     ensures promises { IfOk result (λ w. EveryImageOf w.log
         (HoldsRuns (KeepsPromises LOG_LIMITS events.now.items))) }
     ensures zone_promises { IfOk result (λ w. AllByRecursion

@@ -103,18 +103,16 @@ fn is_log(alloc: Global, part: LogPart, point: &Point) -> Result<bool, Fail> {
 /// The zone's dataset has just these values.
 pub fn has_values(zone: &Zone<PlanDisk>, values: &[bool; 5]) -> Result<bool, Fail> {
     let lines = zone.lines()?;
-    let mut rest = lines.iter();
+    let mut at: usize = 0;
     let mut same = true;
     for (value, is_there) in values.iter().enumerate() {
         if *is_there {
             let wanted = line_of(value as u8);
-            same = same
-                && rest
-                    .next()
-                    .is_some_and(|line| line.as_bytes() == wanted.as_slice());
+            same = same && at < lines.len() && lines.line(at) == wanted.as_slice();
+            at = at.saturating_add(1);
         }
     }
-    let is_all = rest.next().is_none();
+    let is_all = at == lines.len();
     drop(lines);
     Ok(same && is_all)
 }

@@ -1,6 +1,6 @@
 use Rattle.std.proofs.Common.{◌≡◌, List, ℕ, Some, subst, inl, inr}
-use Rattle.std.specs.Prelude.{IfOk}
 use Rattle.stream_replay.specs.Source.{EndsReplay, IsReplayed}
+use Rattle.patch_meaning.proofs.Cuts.{if_ok}
 use Rattle.delta_cli.proofs.Generated.{counts_are, only_memory}
 use Rattle.delta_cli.proofs.generate.count.Goals as goal
 use Rattle.delta_cli.proofs.generate.count.Goals.{in-Failed, in_default}
@@ -8,8 +8,7 @@ use Rattle.delta_cli.proofs.generate.count.Goals.{in-Failed, in_default}
 pub returns-in-Ok : goal.returns-in-Ok
 returns-in-Ok c =
     let is = subst (IsReplayed c.in-Ok.replayed) c.new-source.ensures.left c.in-Ok.ensures.ok.2 in
-    subst (λ (text : List ℕ). IfOk c.counts_line.result (λ line. line.items ≡ text))
-    (counts_are c.args.patches c.requires c.in-Ok.replayed is) c.counts_line.ensures
+    if_ok c.counts_line.result _ _ c.counts_line.ensures (λ line printed. counts_are c.args.patches c.in-Ok.replayed line.items is printed)
 
 pub prove-unreachable-requires : goal.prove-unreachable-requires
 prove-unreachable-requires c =

@@ -7,10 +7,10 @@ use Rattle.delta_cli.proofs.zone.print_zone.Goals as goal
 
 pub returns-in-Ok-clause-stopped : goal.returns-in-Ok-clause-stopped
 returns-in-Ok-clause-stopped g c =
-    err_weaker c.print_lines.result _ _
-    (printing_stops c.args.dir.now g.H.Shelf.tells (shelf_view g.H.Shelf c.args.shelf.now) (shelf_view g.H.Shelf c.read_zone.new.shelf) c.args.reading.now c.in-Ok.lines.keys c.in-Ok.ensures.ok
-    (output_view g.K.Sink c.args.out.now) (output_view g.K.Sink c.print_lines.new.out))
-    c.print_lines.ensures.stopped
+    err_weaker c.print_made.result _ _
+    (printing_stops c.args.dir.now g.H.Shelf.tells (shelf_view g.H.Shelf c.args.shelf.now) (shelf_view g.H.Shelf c.read_zone.new.shelf) c.args.reading.now c.in-Ok.lines c.in-Ok.ensures.ok
+    (output_view g.K.Sink c.args.out.now) (output_view g.K.Sink c.print_made.new.out))
+    c.print_made.ensures.stopped
 
 pub returns-in-Err-clause-stopped : goal.returns-in-Err-clause-stopped
 returns-in-Err-clause-stopped g c =
