@@ -1,0 +1,206 @@
+"""Journal files, and what the commands over a directory print, as docs/FORMATS.md states it."""
+import re
+from collections.abc import Callable
+from pathlib import Path
+
+from reading.hall import MOST_BYTES, MOST_PATCHES, MOST_REGISTRY, Hall, Log
+from reading.texts import (
+    Blank,
+    Dataset,
+    Fault,
+    Iri,
+    Literal,
+    NoRun,
+    Term,
+    read_document,
+    read_patch,
+    read_run,
+    read_stream,
+    read_term,
+    uuid,
+)
+
+ZONE = 1000
+Outcome = tuple[int, bytes, str]
+
+
+class Broken(Exception):
+    """A file that isn't as it is to be: the rest of the line that tells it."""
+
+
+def file_name(number: int) -> str:
+    return f"rdj-{number:04}"
+
+
+def payloads_of(data: bytes, number: int, limit: int) -> list[bytes]:
+    """The payloads of a file with this number and limit."""
+    if len(data) < 8 or data[:4] not in (b"RDJ1", b"RDJ2"):
+        raise Broken(f"file {number}: byte 0: damaged")
+    if data[:4] == b"RDJ1":
+        raise Broken(f"file {number}: old format")
+    found, at = int.from_bytes(data[4:8], "big"), 8
+    if found != number:
+        raise Broken(f"file {number}: wrong number {found}")
+    payloads: list[bytes] = []
+
+    def part(length: int) -> bytes:
+        if len(data) < at + length:
+            raise Broken(f"file {number}: byte {at}: damaged")
+        return data[at : at + length]
+
+    while part(1) == b"\1":
+        at += 1
+        if int.from_bytes(part(4), "big") != len(payloads) + 1:
+            raise Broken(f"file {number}: byte {at}: damaged")
+        at += 4
+        length = int.from_bytes(part(4), "big")
+        at += 4
+        payloads.append(part(length))
+        at += length
+    if at + 1 > limit:
+        raise Broken(f"file {number}: over limit: have {at + 1}, limit {limit}")
+    return payloads
+
+
+def log_of(data: bytes, number: int, is_zone: bool = False) -> Log:
+    """The log in a file, or the patches of a zone."""
+    log = Log()
+    for payload in payloads_of(data, number, MOST_BYTES):
+        try:
+            run = [read_patch(payload)] if is_zone else read_run(payload)
+        except (Fault, NoRun):
+            run = []
+        follows = bool(run) and run[0].prev == log.head() and not any(patch.id in log.versions for patch in run)
+        if not follows or len(log.patches) + len(run) > MOST_PATCHES:
+            raise Broken(f"file {number}: broken chain at version {len(log.patches) + 1}")
+        log.take(run, payload)
+    if log.size > MOST_BYTES:
+        raise Broken(f"file {number}: over limit: have {log.size}, limit {MOST_BYTES}")
+    return log
+
+
+NUMBER = "[1-9][0-9]{0,18}"
+SLOTS = re.compile(f"S ({NUMBER})")
+CREATED = re.compile(f"C ({NUMBER}) ([^ ]*) ([^ ]*) (.*)", re.DOTALL)
+RENAMED, REMOVED = re.compile(f"R ({NUMBER}) (.*)", re.DOTALL), re.compile(f"D ({NUMBER})")
+
+
+def registry_of(data: bytes) -> Hall:
+    """The sources of the registry's file, with empty logs."""
+    payloads = payloads_of(data, 0, MOST_REGISTRY)
+    hall = Hall(0)
+    for place, payload in enumerate(payloads or [b""]):
+        try:
+            hall = took_event(hall, place, payload.decode())
+        except ValueError:
+            raise Broken(f"file 0: broken event at {place}") from None
+    return hall
+
+
+def require(holds: object) -> None:
+    if not holds:
+        raise ValueError
+
+
+def took_event(hall: Hall, place: int, text: str) -> Hall:
+    """The registry with an event more, or ValueError where it isn't one that may stand there."""
+    if place == 0:
+        found = SLOTS.fullmatch(text)
+        require(found and int(found[1]) <= 16)
+        return Hall(int(found[1]))
+    names = {str(source.slot): source.name for source in hall.sources.values()}
+    if found := CREATED.fullmatch(text):
+        slot, id, name, uri = found.groups()
+        require(uuid(id) == id and slot == str(hall.made + 1) and hall.create(name, uri, id).status == 200)
+    elif found := RENAMED.fullmatch(text):
+        require(found[1] in names and hall.rename(names[found[1]], found[2]).status == 200)
+    else:
+        found = REMOVED.fullmatch(text)
+        require(found and found[1] in names and hall.remove(names[found[1]]).status == 200)
+    return hall
+
+
+def hall_of(folder: Path) -> Hall:
+    """What a server over a directory has. A file that isn't there is one without bytes."""
+    hall = registry_of(bytes_of(folder, 0))
+    for slot in hall.logs:
+        hall.logs[slot] = log_of(bytes_of(folder, slot), slot)
+    return hall
+
+
+def bytes_of(folder: Path, number: int) -> bytes:
+    path = folder / file_name(number)
+    return path.read_bytes() if path.exists() else b""
+
+
+def outcome(printed: Callable[[], bytes]) -> Outcome:
+    """Status, out and err of a command that prints this or finds a file broken."""
+    try:
+        return 0, printed(), ""
+    except Broken as fault:
+        return 9, b"", f"rdfdelta: {fault}\n"
+
+
+def checked(hall: Hall) -> bytes:
+    lines = [f"file 0 records {len(hall.events)}"]
+    for slot, log in hall.logs.items():
+        lines.append(f"file {slot} patches {len(log.patches)} head {log.head() or 'none'}")
+    return "".join(f"{line}\n" for line in lines).encode()
+
+
+def dataset_of(folder: Path) -> Dataset:
+    """The dataset of a directory's zone."""
+    dataset = Dataset()
+    for patch in log_of(bytes_of(folder, ZONE), ZONE, is_zone=True).patches:
+        dataset.apply(patch)
+    return dataset
+
+
+def matched(folder: Path, words: list[bytes]) -> Outcome:
+    """What `match` prints for a graph, a subject, a predicate and an object."""
+    kinds: list[tuple[type, ...]] = [(Iri, Blank), (Iri, Blank), (Iri,), (Iri, Blank, Literal)]
+    try:
+        pattern = [wanted(word, kind, place == 0) for place, (word, kind) in enumerate(zip(words, kinds))]
+    except (Fault, ValueError):
+        return 2, b"", "rdfdelta: usage: match DIR G S P O\n"
+    return outcome(lambda: dataset_of(folder).lines(tuple(pattern)))
+
+
+def wanted(word: bytes, kinds: tuple[type, ...], is_graph: bool) -> Term | str | None:
+    """What a word of a pattern stands for: None where it is free."""
+    if word == b"*" or is_graph and word == b"default":
+        return None if word == b"*" else "default"
+    term = read_term(word)
+    require(isinstance(term, kinds))
+    return term
+
+
+def input_fault(text: bytes, fault: Fault) -> Outcome:
+    line = 1 + text.count(b"\n", 0, fault.at)
+    return 3, b"", f"rdfdelta: input: line {line} byte {fault.at}: {fault.kind}\n"
+
+
+def canonical(text: bytes) -> Outcome:
+    """What `nquads` prints of a document."""
+    try:
+        return 0, read_document(text), ""
+    except Fault as fault:
+        return input_fault(text, fault)
+
+
+def replayed(text: bytes) -> Outcome:
+    """What `replay` prints of a stream."""
+    try:
+        patches = read_stream(text)
+    except Fault as fault:
+        return input_fault(text, fault)
+    dataset, log = Dataset(), Log()
+    for version, patch in enumerate(patches):
+        if patch.prev != log.head():
+            ids = f"have {log.head() or 'none'}, found {patch.prev or 'none'}"
+            return 10, b"", f"rdfdelta: diverged at version {version}: {ids}\n"
+        if patch.id in log.versions:
+            return 10, b"", f"rdfdelta: repeated id {patch.id} at version {log.versions[patch.id]}\n"
+        dataset.apply(patch)
+        log.take([patch], patch.text)
+    return 0, dataset.lines(), ""
