@@ -148,6 +148,9 @@ fn push_close(text: &mut Vec<u8>, close: bool) -> Result<(), AllocError>
 /// How many bytes of a body are sent together with the head before it.
 const FRONT: usize = 8_192;
 
+/// The room that the head of a reply takes, but for one of many methods.
+const HEAD_ROOM: usize = 192;
+
 /// The front of a reply's text: its head with the first bytes of its body.
 #[derive(Debug, Drop)]
 pub struct ReplyFront {
@@ -178,7 +181,7 @@ pub fn print_reply(
     let kind = slice_of(&reply.content_type);
     let body = reply.body.as_slice();
     let of_body = body.len().min(FRONT);
-    let mut text = Vec::new(alloc);
+    let mut text = Vec::with_capacity(alloc, HEAD_ROOM + of_body)?;
     push_status_line(&mut text, status)?;
     push_allow(&mut text, methods)?;
     push_close(&mut text, reply.close)?;

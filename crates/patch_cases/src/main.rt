@@ -7,6 +7,7 @@ mod patches;
 mod pieces;
 mod replays;
 mod rows;
+mod scans;
 
 use case_scripts::{Answer, Layer, Words, run_script};
 use std::alloc::Global;
@@ -18,6 +19,8 @@ enum Command {
     Row,
     Decided,
     Fronts,
+    Scan,
+    Places,
     Pieces,
     Feed,
     Patch,
@@ -28,11 +31,13 @@ enum Command {
     Emitted,
 }
 
-const COMMANDS: [(&str, Command); 12] = [
+const COMMANDS: [(&str, Command); 14] = [
     ("space", Command::Space),
     ("row", Command::Row),
     ("decided", Command::Decided),
     ("fronts", Command::Fronts),
+    ("scan", Command::Scan),
+    ("places", Command::Places),
     ("pieces", Command::Pieces),
     ("feed", Command::Feed),
     ("patch", Command::Patch),
@@ -59,6 +64,8 @@ impl Layer for Texts {
             Some(Command::Row) => rows::row(self.alloc, text, answer),
             Some(Command::Decided) => rows::decided(self.alloc, text, answer),
             Some(Command::Fronts) => rows::fronts(self.alloc, text, answer),
+            Some(Command::Scan) => scans::scan(text, answer),
+            Some(Command::Places) => scans::places(self.alloc, words, answer),
             Some(Command::Pieces) => pieces::pieces(self.alloc, text, answer),
             Some(Command::Feed) => pieces::feed(self.alloc, words, answer),
             Some(Command::Patch) => patches::patch(self.alloc, text, answer),

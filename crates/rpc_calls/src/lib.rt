@@ -6,6 +6,7 @@
 #![tactic(auto)]
 
 mod call;
+mod count;
 mod media;
 mod members;
 mod operations;

@@ -18,7 +18,7 @@ returns c =
     let head : List ℕ = c.extend_from_slice.new.self.items in
     let whole = all_reply_text c.args.reply.now (option_copied c.args.allow) c.push_status_line.new.text.items c.push_allow.new.text.items c.push_close.new.text.items
     c.push_body_fields.new.text.items head (head ++ body)
-    (rw (c.in_ok-push_status_line.ensures, c.new-text.ensures.items, status) refl)
+    (rw (c.in_ok-push_status_line.ensures, c.in_ok-text.ensures.items, status) refl)
     (c.in_ok-push_allow.ensures ∙ ap (λ (m : Option (List ℕ)). c.push_status_line.new.text.items ++ flat_map print_field (allow_fields m)) c.bytes_of-methods.ensures)
     c.in_ok-push_close.ensures
     (c.in_ok-push_body_fields.ensures
