@@ -4,9 +4,9 @@ use Rattle.std.specs.Ordering.{is_lt}
 use Rattle.line_order.specs.Moves.{AreMoved, lines_of}
 use Rattle.line_order.proofs.presort.+presort.Given as goal
 
--- how far down a run may still be told apart
+-- how often a run may still be sorted by keys
 abbrev pub decreases-presort : goal.decreases-presort
-decreases-presort g l = 512 - l.depth
+decreases-presort g l = l.levels
 
 abbrev pub invariant-loop-start : goal.invariant-loop-start
 invariant-loop-start g l = record {
