@@ -13,8 +13,7 @@ use Rattle.std.specs.declared.cmp.Ordering.TheVariants.{Less, Equal, Greater}
 use Rattle.std.proofs.lemmas.Cmp.{tied_itself}
 use Rattle.std.proofs.lemmas.Map.Lookups.{exact_bytes}
 use Rattle.line_log.specs.Edits.{edit_lines, edited, made}
-use Rattle.line_log.specs.Sorting.{additions, edits_at, keep}
-use Rattle.line_log.proofs.Rows.{row_cmp}
+use Rattle.line_log.specs.Sorting.{additions, edits_at, keep, row_cmp}
 use Rattle.line_log.proofs.Sets.{all_more, equal}
 use Rattle.line_log.proofs.Standing.{AreRising, rising_made, same}
 
@@ -76,7 +75,7 @@ follow_more k lines [] f a = tt
 follow_more k lines (e ∷ es) f a = (behind_more e.1 k lines f.0 a.0, follow_more k lines es f.1 a.1)
 
 -- a line below the first is below those behind it
-less_on : (k l m : List ℕ) → cmp k l ≡ Less → (cmp l m ≡ Greater → ⊥) → cmp k m ≡ Less
+pub less_on : (k l m : List ℕ) → cmp k l ≡ Less → (cmp l m ≡ Greater → ⊥) → cmp k m ≡ Less
 less_on k l m less up = by (cmp l m) refl
   where
     by : (r : Ordering) → cmp l m ≡ r → cmp k m ≡ Less

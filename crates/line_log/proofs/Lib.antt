@@ -5,3 +5,6 @@ mod Rows
 pub mod Keeping
 mod Cuts
 mod Shown
+mod Merging
+mod Fronts
+mod Taking

@@ -9,12 +9,11 @@ use Rattle.std.specs.declared.cmp.Ordering.{Ordering}
 use Rattle.std.specs.declared.cmp.Ordering.TheVariants.{Less, Equal, Greater}
 use Rattle.std.proofs.Math.Seq.{get_or-append_seam}
 use Rattle.std.proofs.lemmas.List.Kept.{IsStrictlySortedBy-filter}
-use Rattle.std.proofs.lemmas.List.Sorted.{list_any-IsPermutation}
 use Rattle.std.proofs.lemmas.Map.Keys.{IsDistinct-IsPermutation}
 use Rattle.std.proofs.lemmas.Map.Lookups.{CmpEqualImpliesEq, exact_bytes, exact_unsigned}
 use Rattle.std.proofs.lemmas.Map.Views.{any-filter_same}
 use Rattle.line_log.specs.Edits.{made}
-use Rattle.line_log.specs.Sorting.{adds_at, edits_at, numbered}
+use Rattle.line_log.specs.Sorting.{adds_at, edits_at, numbered, row_cmp}
 use Rattle.line_log.proofs.Sets.{all_more, equal, has, same_set}
 use Rattle.line_log.proofs.Standing.{same, same_made, stands, stands_only}
 
@@ -29,7 +28,7 @@ module _ {K : Type 0} {R : K → K → Ordering} (o : IsTotalOrder R) where
       by Equal g e = absurd cc
       by Greater g e = let back : R y x ≡ Less = o.antisymm y x ∙ ap ordering_reverse g in let bad : true ≡ false = sym (ap is_lt back) ∙ h in absurd cc
 
-  below_all : (x y : K) (ys : List K) → R x y ≡ Less → AllByRecursion (λ z. R y z ≡ Less) ys → AllByRecursion (λ z. R x z ≡ Less) (y ∷ ys)
+  pub below_all : (x y : K) (ys : List K) → R x y ≡ Less → AllByRecursion (λ z. R y z ≡ Less) ys → AllByRecursion (λ z. R x z ≡ Less) (y ∷ ys)
   below_all x y ys l a = (l, all_more (λ z. R y z ≡ Less) (λ z. R x z ≡ Less) (λ z m. o.trans x y z l m) ys a)
 
   pub rising_sorted : (xs : List K) → IsSorted R xs → IsDistinct (eq_by_cmp R) xs → IsStrictlySortedBy R xs
@@ -45,10 +44,7 @@ module _ {K : Type 0} {R : K → K → Ordering} (o : IsTotalOrder R) where
 
 -- ---- rows: lines with the numbers of their edits
 
-abbrev pub row_cmp : List ℕ × ℕ → List ℕ × ℕ → Ordering
-row_cmp x y = ordering_then (slice_cmp nat_cmp x.0 y.0) (nat_cmp x.1 y.1)
-
-row_total : IsTotalOrder row_cmp
+pub row_total : IsTotalOrder row_cmp
 row_total = then_total (on_total (λ t. t.0) nat_list_cmp_total) (on_total (λ t. t.1) nat_cmp_total)
 
 both_equal : (r s : Ordering) → ordering_then r s ≡ Equal → (r ≡ Equal) × (s ≡ Equal)
@@ -61,7 +57,7 @@ row_exact x y e =
     let both = both_equal (slice_cmp nat_cmp x.0 y.0) (nat_cmp x.1 y.1) e in
     ap (λ (l : List ℕ). (l, x.1)) (exact_bytes x.0 y.0 both.0) ∙ ap (λ (n : ℕ). (y.0, n)) (exact_unsigned x.1 y.1 both.1)
 
-nat_less : (m n : ℕ) → m < n → nat_cmp m n ≡ Less
+pub nat_less : (m n : ℕ) → m < n → nat_cmp m n ≡ Less
 nat_less m n h = grind arith
 
 then_less : (r : Ordering) → is_eq (ordering_then r Less) ≡ false
@@ -118,14 +114,15 @@ has_only : (q : List ℕ) (r : List ℕ × ℕ) (rows : List (List ℕ × ℕ)) 
 has_only q r rows =
     any-filter_same (eq_by_cmp row_cmp r) (λ x. same q x.0) (same q r.0) (λ x t. ap (λ (y : List ℕ × ℕ). same q y.0) (sym (row_exact r x (equal (row_cmp r x) t)))) rows
 
-module _ (es : List (Bool × List ℕ)) (rows : List (List ℕ × ℕ)) (moved : IsPermutation (numbered 0 es) rows) (sorted : IsSorted row_cmp rows) where
-  pub rising_rows : IsStrictlySortedBy row_cmp rows
-  rising_rows = rising_sorted row_total rows sorted (IsDistinct-IsPermutation (eq_by_cmp row_cmp) flips (numbered 0 es) rows moved (distinct_numbered 0 es))
+-- sorted rows of edits rise
+pub rising_rows : (n : ℕ) (es : List (Bool × List ℕ)) (rows : List (List ℕ × ℕ)) → IsPermutation (numbered n es) rows → IsSorted row_cmp rows → IsStrictlySortedBy row_cmp rows
+rising_rows n es rows moved sorted = rising_sorted row_total rows sorted (IsDistinct-IsPermutation (eq_by_cmp row_cmp) flips (numbered n es) rows moved (distinct_numbered n es))
 
+module _ (es : List (Bool × List ℕ)) (rows : List (List ℕ × ℕ)) (rising : IsStrictlySortedBy row_cmp rows) (those : (r : List ℕ × ℕ) → has row_total r (numbered 0 es) ≡ has row_total r rows) where
   same_only : (q : List ℕ) → only q (numbered 0 es) ≡ only q rows
   same_only q =
-      same_set row_total row_exact (only q (numbered 0 es)) (only q rows) (rising_only q 0 es) (IsStrictlySortedBy-filter row_cmp (λ r. same q r.0) rows rising_rows)
-      (λ r. has_only q r (numbered 0 es) ∙ ap (λ (b : Bool). same q r.0 && b) (list_any-IsPermutation (eq_by_cmp row_cmp r) (numbered 0 es) rows moved) ∙ sym (has_only q r rows))
+      same_set row_total row_exact (only q (numbered 0 es)) (only q rows) (rising_only q 0 es) (IsStrictlySortedBy-filter row_cmp (λ r. same q r.0) rows rising)
+      (λ r. has_only q r (numbered 0 es) ∙ ap (λ (b : Bool). same q r.0 && b) (those r) ∙ sym (has_only q r rows))
 
 -- ---- the edits of rows
 
@@ -147,10 +144,10 @@ numbered_behind before (e ∷ es) =
     (subst (λ (all : List (Bool × List ℕ)). edits_at all (numbered (length (before ++ e ∷ [])) es) ≡ es) (append_assoc before (e ∷ []) es) (numbered_behind (before ++ e ∷ []) es)) in
     ap (λ (b : Bool). (b, e.1) ∷ edits_at (before ++ e ∷ es) (numbered (length before + 1) es)) first ∙ ap (λ (l : List (Bool × List ℕ)). e ∷ l) next
 
--- sorted rows of edits make what the edits make
-pub made_sorted : (es : List (Bool × List ℕ)) (rows : List (List ℕ × ℕ)) → IsPermutation (numbered 0 es) rows → IsSorted row_cmp rows → made (edits_at es rows) ≡ made es
-made_sorted es rows moved sorted =
+-- rising rows that are those of all edits make what the edits make
+pub made_sorted : (es : List (Bool × List ℕ)) (rows : List (List ℕ × ℕ)) → IsStrictlySortedBy row_cmp rows → ((r : List ℕ × ℕ) → has row_total r (numbered 0 es) ≡ has row_total r rows) → made (edits_at es rows) ≡ made es
+made_sorted es rows rising those =
     same_made (edits_at es rows) es (λ q.
-    stands_only q false (edits_at es rows) ∙ ap (stands q false) (only_edits es q rows) ∙ ap (λ (l : List (List ℕ × ℕ)). stands q false (edits_at es l)) (sym (same_only es rows moved sorted q))
+    stands_only q false (edits_at es rows) ∙ ap (stands q false) (only_edits es q rows) ∙ ap (λ (l : List (List ℕ × ℕ)). stands q false (edits_at es l)) (sym (same_only es rows rising those q))
     ∙ ap (stands q false) (sym (only_edits es q (numbered 0 es))) ∙ ap (λ (l : List (Bool × List ℕ)). stands q false (filter (λ e. same q e.1) l)) (numbered_behind [] es)
     ∙ sym (stands_only q false es))

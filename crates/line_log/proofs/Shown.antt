@@ -1,16 +1,15 @@
 -- Rows as lines with numbers: those of all edits, and what a sort leaves of them.
-use Rattle.std.proofs.Common.{◌≡◌, ℕ, ◌<◌, ◌≤◌, ◌+◌, Bool, false, List, [], ◌∷◌, ◌++◌, length, drop, map, refl, sym, ap, subst, ◌∙◌, append-nil, append_assoc, length-append, arith}
+use Rattle.std.proofs.Common.{◌≡◌, ℕ, ◌<◌, ◌≤◌, ◌+◌, Bool, false, List, [], ◌∷◌, ◌++◌, length, take, drop, map, refl, sym, ap, subst, ◌∙◌, append-nil, append_assoc, length-append, arith}
 use Rattle.std.specs.Borrow.{Bor}
 use Rattle.std.specs.List.{All, AllByRecursion}
 use Rattle.std.specs.List.Sorted.{IsPermutation, IsSorted}
 use Rattle.std.proofs.Math.Seq.{get_or-append_seam}
-use Rattle.std.proofs.lemmas.List.{drop_all, drop_more, get_or-map, map-append, length-map, map-id}
+use Rattle.std.proofs.lemmas.List.{drop_all, drop_more, get_or-map, length-map, length-take-le, map-append, map-id, take-append-drop}
 use Rattle.std.proofs.lemmas.List.Elements.{All-from_recursion, recursion_from_All}
 use Rattle.std.proofs.lemmas.List.Sorted.{IsPermutation-map}
 use Rattle.std.proofs.lemmas.Map.Views.{All-map-IsPermutation}
 use Rattle.line_order.specs.Moves.{AreMoved, lines_of}
-use Rattle.line_log.specs.Sorting.{IsRow, NumberedLine, line_at, numbered, lines_numbered}
-use Rattle.line_log.proofs.Rows.{row_cmp}
+use Rattle.line_log.specs.Sorting.{IsRow, IsRowBehind, NumberedLine, line_at, numbered, lines_numbered, row_cmp}
 
 -- ---- rows that were sorted
 
@@ -47,12 +46,28 @@ rows_behind before (e ∷ es) =
           (subst (λ (all : List (Bool × List ℕ)). AllByRecursion (IsRow all) (numbered (length (before ++ e ∷ [])) es)) (append_assoc before (e ∷ []) es) (rows_behind (before ++ e ∷ []) es)),
     )
 
+numbers_from : (n m : ℕ) (es : List (Bool × List ℕ)) → n ≤ m → AllByRecursion (λ r. n ≤ r.1) (numbered m es)
+numbers_from n m [] h = tt
+numbers_from n m (e ∷ es) h = (h, numbers_from n (m + 1) es (omega arith))
+
+both : {X : Type 0} (P Q : X → Type 0) (xs : List X) → AllByRecursion P xs → AllByRecursion Q xs → AllByRecursion (λ x. P x × Q x) xs
+both P Q [] a b = tt
+both P Q (x ∷ xs) a b = ((a.0, b.0), both P Q xs a.1 b.1)
+
+rows_from : (es : List (Bool × List ℕ)) (front : ℕ) → front ≤ length es → AllByRecursion (IsRowBehind es front) (numbered front (drop front es))
+rows_from es front within =
+    let lines : AllByRecursion (IsRow es) (numbered front (drop front es)) =
+    subst (λ (n : ℕ). AllByRecursion (IsRow es) (numbered n (drop front es))) (length-take-le front es within)
+    (subst (λ (all : List (Bool × List ℕ)). AllByRecursion (IsRow all) (numbered (length (take front es)) (drop front es))) (take-append-drop front es) (rows_behind (take front es) (drop front es))) in
+    both (IsRow es) (λ r. front ≤ r.1) (numbered front (drop front es)) lines (numbers_from front front (drop front es) (omega arith))
+
 -- rows that were moved have the lines of their edits
-pub rows_are : (es : List (Bool × List ℕ)) (rows : List (List ℕ × ℕ)) → IsPermutation (numbered 0 es) rows → AllByRecursion (IsRow es) rows
-rows_are es rows moved =
+pub rows_are : (es : List (Bool × List ℕ)) (front : ℕ) (rows : List (List ℕ × ℕ)) → front ≤ length es → IsPermutation (numbered front (drop front es)) rows → AllByRecursion (IsRowBehind es front) rows
+rows_are es front rows within moved =
+    let P = IsRowBehind es front in
     let same : (l : List (List ℕ × ℕ)) → map (λ r. r) l ≡ l = λ l. map-id l in
-    recursion_from_All (IsRow es) rows
-    (subst (All (IsRow es)) (same rows) (All-map-IsPermutation (λ r. r) (IsRow es) (numbered 0 es) rows moved (subst (All (IsRow es)) (sym (same (numbered 0 es))) (All-from_recursion (IsRow es) (numbered 0 es) (rows_behind [] es)))))
+    let old = numbered front (drop front es) in
+    recursion_from_All P rows (subst (All P) (same rows) (All-map-IsPermutation (λ r. r) P old rows moved (subst (All P) (sym (same old)) (All-from_recursion P old (rows_from es front within)))))
 
 -- the row of the next edit
 next_row : (es : List (Bool × List ℕ)) (n : ℕ) (rows whole : List (List ℕ × ℕ)) (line : List ℕ) → n < length es → line ≡ line_at es n → rows ++ numbered n (drop n es) ≡ whole

@@ -1,9 +1,12 @@
 -- Lines of edits, sorted with the number of their edit.
-use Rattle.std.specs.Prelude.{◌≡◌, ℕ, ◌+◌, ◌<◌, Bool, true, false, cond, not, ◌&&◌}
-use Rattle.std.specs.Prelude.{List, [], ◌∷◌, length, map, slice_index_or}
+use Rattle.std.specs.Prelude.{◌≡◌, ℕ, ◌+◌, ◌-◌, ◌<◌, ◌≤◌, Bool, true, false, cond, not, ◌&&◌}
+use Rattle.std.specs.Prelude.{List, [], ◌∷◌, length, map, take, drop, slice_index_or}
 use Rattle.std.specs.List.{AllByRecursion}
 use Rattle.std.specs.Cmp.Lexicographic.{slice_cmp}
-use Rattle.std.specs.Ordering.{eq_by_cmp, nat_cmp}
+use Rattle.std.specs.Ordering.{eq_by_cmp, nat_cmp, ordering_then}
+use Rattle.std.specs.Set.{sorted_merge}
+use Rattle.std.specs.declared.cmp.Ordering.{Ordering}
+use Rattle.std.specs.declared.cmp.Ordering.TheVariants.{Less, Greater}
 use Rattle.std.specs.Borrow.{Bor}
 use Rattle.line_order.specs.declared.presort.Keyed.{Keyed}
 
@@ -32,6 +35,10 @@ line_at es n = (slice_index_or es n (false, [])).1
 abbrev pub IsRow : List (Bool × List ℕ) → List ℕ × ℕ → Type 0
 IsRow es row = (row.1 < length es) × (line_at es row.1 ≡ row.0)
 
+-- the same, and its edit isn't among so many at the front
+abbrev pub IsRowBehind : List (Bool × List ℕ) → ℕ → List ℕ × ℕ → Type 0
+IsRowBehind es front row = IsRow es row × (front ≤ row.1)
+
 -- the lines of the edits of these numbers
 abbrev pub lines_at : List (Bool × List ℕ) → List ℕ → List (List ℕ)
 lines_at es order = map (line_at es) order
@@ -39,6 +46,33 @@ lines_at es order = map (line_at es) order
 -- all are numbers of edits, and these are their lines
 abbrev pub HasLinesOf : List (Bool × List ℕ) → List ℕ → List (List ℕ) → Type 0
 HasLinesOf es order lines = AllByRecursion (λ n. n < length es) order × (lines_at es order ≡ lines)
+
+-- rows by their lines, those of one line by their numbers
+abbrev pub row_cmp : List ℕ × ℕ → List ℕ × ℕ → Ordering
+row_cmp x y = ordering_then (slice_cmp nat_cmp x.0 y.0) (nat_cmp x.1 y.1)
+
+-- the line of an edit is behind that of the one before it, if there is one
+abbrev pub LineRises : List (Bool × List ℕ) → ℕ → Type 0
+LineRises es n = 0 < n → slice_cmp nat_cmp (line_at es (n - 1)) (line_at es n) ≡ Less
+
+-- the lines of so many edits at the front rise
+abbrev pub FrontRises : List (Bool × List ℕ) → ℕ → Type 0
+FrontRises es front = (k : ℕ) → k + 1 < front
+    → slice_cmp nat_cmp (line_at es k) (line_at es (k + 1)) ≡ Less
+
+-- the rows of so many edits at the front, from a number on
+abbrev pub front_rows : List (Bool × List ℕ) → ℕ → ℕ → List (List ℕ × ℕ)
+front_rows es front n = numbered n (drop n (take front es))
+
+-- the rows of the front from a number on and others, all in order where both are
+abbrev pub merged : List (Bool × List ℕ) → ℕ → ℕ → List (List ℕ × ℕ) → List (List ℕ × ℕ)
+merged es front n rows = sorted_merge row_cmp true (front_rows es front n) rows
+
+-- how the first line of some rows compares with that of others, where it comes after none
+abbrev pub first_cmp : List (List ℕ × ℕ) → List (List ℕ × ℕ) → Ordering
+first_cmp [] rows = Greater
+first_cmp (x ∷ xs) [] = Less
+first_cmp (x ∷ xs) (y ∷ ys) = slice_cmp nat_cmp x.0 y.0
 
 -- the edits that stand at the numbers of rows
 abbrev pub edits_at : List (Bool × List ℕ) → List (List ℕ × ℕ) → List (Bool × List ℕ)

@@ -1,10 +1,11 @@
 //! A log of edits of lines.
-ghost use Rattle.std.specs.Prelude.{◌≡◌, ◌<◌, ◌++◌, ◌∷◌, ◌↔◌, []};
-ghost use Rattle.std.specs.Prelude.{length, take, IfOk, OnOk, OnErr, IsTrue};
+ghost use Rattle.std.specs.Prelude.{◌≡◌, ◌<◌, ◌≤◌, ◌++◌, ◌∷◌, ◌↔◌, []};
+ghost use Rattle.std.specs.Prelude.{length, take, drop, cond, IfOk, OnOk, OnErr, IsTrue};
 ghost use Rattle.std.specs.List.{AllByRecursion};
 ghost use Rattle.line_log.specs.Edits.{bytes_of, made};
-ghost use Rattle.line_log.specs.Sorting.{HasLinesOf, IsRow, additions, edits_at, keep, line_at};
-ghost use Rattle.line_log.specs.Sorting.{lines_at, numbered, lines_numbered, stands_at};
+ghost use Rattle.line_log.specs.Sorting.{FrontRises, HasLinesOf, IsRowBehind, LineRises, additions};
+ghost use Rattle.line_log.specs.Sorting.{adds_at, edits_at, first_cmp, front_rows, keep, line_at, lines_at};
+ghost use Rattle.line_log.specs.Sorting.{lines_numbered, merged, numbered, stands_at};
 
 use crate::edits::{Edit, start_of};
 use crate::lines::MadeLines;
@@ -12,6 +13,7 @@ use crate::sorting::{Row, ends};
 use delta_base::OutOfMemory;
 use line_order::{Keyed, sort_keyed};
 use std::alloc::Global;
+use std::cmp::Ordering;
 use std::marker::Model;
 
 /// Edits in their order, which contracts see as a list: whether a line is put among the others or
@@ -150,52 +152,103 @@ impl LineLog {
         Ok(log)
     }
 
-    // The numbers of the edits whose lines stay, in the order of the lines' bytes.
+    // The numbers of the edits whose lines stay, in the order of the lines' bytes. Those that were
+    // settled stand in order at the front, so only the others are sorted.
     fn order(&self) -> Result<Vec<u32>, OutOfMemory>
         ensures { IfOk result (λ order. HasLinesOf self.now order.items (made self.now)) }
     {
-        let mut rows = self.rows()?;
-        self.order_of(&mut rows)
+        let front = self.rising();
+        let mut rows = self.rows(front)?;
+        self.order_of(front, &mut rows)
     }
 
-    // The line of each edit.
-    fn rows(&self) -> Result<Vec<Row<'_>>, OutOfMemory>
-        ensures { IfOk result (λ rows. lines_numbered rows.items ≡ numbered 0 self.now) }
+    // How many edits at the front have lines that rise.
+    fn rising(&self) -> usize
+        ensures within { result ≤ length self.now }
+        ensures rise { FrontRises self.now result }
     {
-        let mut rows = Vec::with_capacity(*self.edits.allocator(), self.edits.len())?;
-        for number in 0..self.edits.len() {
+        let mut front = 0;
+        while front < self.len() && self.rises_at(front) {
+            front += 1;
+        }
+        front
+    }
+
+    // Whether the line of an edit is behind that of the one before it, if there is one.
+    #[inline]
+    fn rises_at(&self, number: usize) -> bool
+        requires { number < length self.now }
+        ensures { IsTrue result → LineRises self.now number }
+    {
+        number == 0 || self.line(number - 1).cmp(self.line(number)).is_lt()
+    }
+
+    // The lines of the edits behind those at the front.
+    fn rows(&self, front: usize) -> Result<Vec<Row<'_>>, OutOfMemory>
+        requires { front ≤ length self.now }
+        ensures { IfOk result (λ rows. lines_numbered rows.items
+            ≡ numbered front (drop front self.now)) }
+    {
+        let mut rows = Vec::with_capacity(*self.edits.allocator(), self.len() - front)?;
+        for number in front..self.len() {
             rows.push(Keyed::new((self.line(number), number)))?;
         }
         Ok(rows)
     }
 
-    // The same, where these are the edits' rows.
-    fn order_of(&self, rows: &mut [Row]) -> Result<Vec<u32>, OutOfMemory>
-        requires { lines_numbered rows.old ≡ numbered 0 self.now }
+    // The same as `order`, where these are the rows behind the front.
+    fn order_of(&self, front: usize, rows: &mut [Row]) -> Result<Vec<u32>, OutOfMemory>
+        requires within { front ≤ length self.now }
+        requires rise { FrontRises self.now front }
+        requires rows { lines_numbered rows.old ≡ numbered front (drop front self.now) }
         ensures { IfOk result (λ order. HasLinesOf self.now order.items (made self.now)) }
     {
         sort_keyed(rows);
-        self.kept(rows)
+        self.kept(front, rows)
     }
 
-    // The numbers of the lines that stay.
-    fn kept(&self, rows: &[Row]) -> Result<Vec<u32>, OutOfMemory>
-        requires { AllByRecursion (IsRow self.now) (lines_numbered rows.now) }
+    // The numbers of the lines that stay of the front and of rows behind it, merged.
+    fn kept(&self, front: usize, rows: &[Row]) -> Result<Vec<u32>, OutOfMemory>
+        requires within { front ≤ length self.now }
+        requires rise { FrontRises self.now front }
+        requires rows { AllByRecursion (IsRowBehind self.now front) (lines_numbered rows.now) }
         ensures { IfOk result (λ order. HasLinesOf self.now order.items
-            (keep (edits_at self.now (lines_numbered rows.now)))) }
+            (keep (edits_at self.now (merged self.now front 0 (lines_numbered rows.now))))) }
     {
         let mut kept = Vec::new(*self.edits.allocator());
+        let mut next = 0;
         let mut rest = rows;
-        while let [row, behind @ ..] = rest {
-            if self.stays(row, behind) {
-                let Ok(number) = u32::try_from(row.line.1) else {
-                    return Err(OutOfMemory);
-                };
-                kept.push(number)?;
+        loop {
+            match self.compares(front, next, rest) {
+                Ordering::Less => {
+                    push_if(next, self.adds(next), &mut kept)?;
+                    next += 1;
+                }
+                Ordering::Equal => next += 1,
+                Ordering::Greater => match rest {
+                    [] => return Ok(kept),
+                    [row, behind @ ..] => {
+                        push_if(row.line.1, self.stays(row, behind), &mut kept)?;
+                        rest = behind;
+                    }
+                },
             }
-            rest = behind;
         }
-        Ok(kept)
+    }
+
+    // How the line of an edit at the front compares with that of the next row, if there are such.
+    #[inline]
+    fn compares(&self, front: usize, number: usize, rows: &[Row]) -> Ordering
+        requires { front ≤ length self.now }
+        ensures { result ≡ first_cmp (front_rows self.now front number) (lines_numbered rows.now) }
+    {
+        if number >= front {
+            return Ordering::Greater;
+        }
+        match rows {
+            [] => Ordering::Less,
+            [row, ..] => self.line(number).cmp(row.line.0),
+        }
     }
 
     // Whether a row's edit is the last of its line, and adds it.
@@ -205,6 +258,29 @@ impl LineLog {
         ensures { result ≡ stands_at self.now row.now behind.now }
     {
         let (line, number) = row.line;
-        self.edits[number].adds && ends(line, behind)
+        self.adds(number) && ends(line, behind)
     }
+
+    // Whether an edit adds its line.
+    #[inline]
+    fn adds(&self, number: usize) -> bool
+        requires { number < length self.now }
+        ensures { result ≡ adds_at self.now number }
+    {
+        self.edits[number].adds
+    }
+}
+
+// Puts a number behind others, if it stays.
+#[inline]
+fn push_if(number: usize, stays: bool, kept: &mut Vec<u32>) -> Result<(), OutOfMemory>
+    ensures { OnOk result (kept.new.items ≡ cond stays (kept.old.items ++ number ∷ []) kept.old.items) }
+{
+    if stays {
+        let Ok(number) = u32::try_from(number) else {
+            return Err(OutOfMemory);
+        };
+        kept.push(number)?;
+    }
+    Ok(())
 }
