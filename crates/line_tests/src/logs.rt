@@ -1,6 +1,7 @@
 //! What the edits of a log come to.
 use delta_base::OutOfMemory;
 use line_log::LineLog;
+use std::alloc::Global;
 use std::test::Fail;
 
 // Adds the lines behind a plus, and takes out those behind a minus.
@@ -67,5 +68,51 @@ fn a_log_that_was_settled_goes_on(rt: HostRuntime) -> Result<(), Fail> {
     assert!(rt; log.len() == 2);
     push_all(&mut log, &["-a\n", "+b\n"])?;
     assert!(rt; comes_to(log, &["b\n", "c\n"])?);
+    Ok(())
+}
+
+// Whether edits of which the first ones were settled come to these lines, settled and as they are.
+fn goes_on(
+    alloc: Global,
+    first: &[&str],
+    second: &[&str],
+    lines: &[&str],
+) -> Result<bool, OutOfMemory> {
+    let mut log = LineLog::new(alloc);
+    push_all(&mut log, first)?;
+    log.settle()?;
+    push_all(&mut log, second)?;
+    log.settle()?;
+    let is_settled = log.len() == lines.len();
+    push_all(&mut log, second)?;
+    let comes = comes_to(log, lines)?;
+    Ok(is_settled && comes)
+}
+
+#[test]
+fn settled_lines_go_and_come_again(rt: HostRuntime) -> Result<(), Fail> {
+    let first = ["+b", "+d", "+f", "+a"];
+    let nothing: [&str; 0] = [];
+    assert!(rt; goes_on(rt.alloc(), &first, &nothing, &["a", "b", "d", "f"])?);
+    assert!(rt; goes_on(rt.alloc(), &first, &["-b", "+b"], &["a", "b", "d", "f"])?);
+    assert!(rt; goes_on(rt.alloc(), &first, &["-b", "+b", "-b"], &["a", "d", "f"])?);
+    assert!(rt;
+        goes_on(
+            rt.alloc(),
+            &first,
+            &["+f", "-f", "-a", "+c", "+d"],
+            &["b", "c", "d"]
+        )?
+    );
+    assert!(rt;
+        goes_on(
+            rt.alloc(),
+            &first,
+            &["+g", "+", "+e", "-e"],
+            &["", "a", "b", "d", "f", "g"]
+        )?
+    );
+    assert!(rt; goes_on(rt.alloc(), &first, &["-f", "-d", "-b", "-a"], &nothing)?);
+    assert!(rt; goes_on(rt.alloc(), &nothing, &["+b", "+a", "-b"], &["a"])?);
     Ok(())
 }

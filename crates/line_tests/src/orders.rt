@@ -47,6 +47,52 @@ fn lines_with_equal_fronts_are_sorted(rt: HostRuntime) -> Result<(), Fail> {
     Ok(())
 }
 
+// A line that begins with so many bytes alike.
+fn line_behind(alloc: Global, front: usize, rest: &[u8]) -> Result<Vec<u8>, OutOfMemory> {
+    let mut line = Vec::new(alloc);
+    line.resize(front, b'x')?;
+    line.extend_from_slice(rest)?;
+    Ok(line)
+}
+
+// Lines in their order, of which most have a front of one size, and some leave it at each eighth.
+fn lines_with_front(alloc: Global, front: usize) -> Result<Vec<Vec<u8>>, OutOfMemory> {
+    let mut lines = Vec::new(alloc);
+    for eighths in 0..8 {
+        let size = (front / 8).saturating_mul(eighths);
+        lines.push(line_behind(alloc, size, b"")?)?;
+        lines.push(line_behind(alloc, size, b"w")?)?;
+    }
+    for rest in [b"".as_slice(), b"\0", b"\0\0", b"\0\0\0\0\0\0\0\0", b"\0a"] {
+        lines.push(line_behind(alloc, front, rest)?)?;
+    }
+    for digit in b'0'..=b'9' {
+        lines.push(line_behind(alloc, front, &[digit])?)?;
+        lines.push(line_behind(alloc, front, &[digit, digit])?)?;
+    }
+    for eighths in (0..8).rev() {
+        let size = (front / 8).saturating_mul(eighths);
+        lines.push(line_behind(alloc, size, b"y")?)?;
+    }
+    Ok(lines)
+}
+
+#[test]
+fn lines_that_leave_a_front_are_sorted(rt: HostRuntime) -> Result<(), Fail> {
+    for front in [8, 9, 126, 4_096, 70_000] {
+        let lines = lines_with_front(rt.alloc(), front)?;
+        let mut slices = Vec::new(rt.alloc());
+        for line in &lines {
+            slices.push(line.as_slice())?;
+        }
+        let is_sorted = sorts(rt.alloc(), &slices)?;
+        drop(slices);
+        drop(lines);
+        assert!(rt; is_sorted);
+    }
+    Ok(())
+}
+
 #[test]
 fn equal_lines_are_sorted(rt: HostRuntime) -> Result<(), Fail> {
     let mut lines = Vec::new(rt.alloc());
