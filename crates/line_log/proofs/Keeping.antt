@@ -13,7 +13,7 @@ use Rattle.std.specs.declared.cmp.Ordering.TheVariants.{Less, Equal, Greater}
 use Rattle.std.proofs.lemmas.Cmp.{tied_itself}
 use Rattle.std.proofs.lemmas.Map.Lookups.{exact_bytes}
 use Rattle.line_log.specs.Edits.{edit_lines, edited, made}
-use Rattle.line_log.specs.Sorting.{additions, edits_at, keep, row_cmp}
+use Rattle.line_log.specs.Sorting.{additions, edits_at, keep, numbered_cmp}
 use Rattle.line_log.proofs.Sets.{all_more, equal}
 use Rattle.line_log.proofs.Standing.{AreRising, rising_made, same}
 
@@ -125,12 +125,12 @@ not_greater Less s e g = absurd cc
 not_greater Equal s e g = absurd cc
 not_greater Greater s e g = absurd cc
 
-pub rows_rise : (es : List (Bool × List ℕ)) (rows : List (List ℕ × ℕ)) → IsStrictlySortedBy row_cmp rows → Rises (edits_at es rows)
+pub rows_rise : (es : List (Bool × List ℕ)) (rows : List (List ℕ × ℕ)) → IsStrictlySortedBy numbered_cmp rows → Rises (edits_at es rows)
 unfolding IsStrictlySortedBy
 rows_rise es [] s = tt
 rows_rise es (x ∷ rows) s = (all_up rows s.0, rows_rise es rows s.1)
   where
-    all_up : (ys : List (List ℕ × ℕ)) → AllByRecursion (λ y. row_cmp x y ≡ Less) ys → AllByRecursion (λ f. cmp x.0 f.1 ≡ Greater → ⊥) (edits_at es ys)
+    all_up : (ys : List (List ℕ × ℕ)) → AllByRecursion (λ y. numbered_cmp x y ≡ Less) ys → AllByRecursion (λ f. cmp x.0 f.1 ≡ Greater → ⊥) (edits_at es ys)
     all_up [] a = tt
     all_up (y ∷ ys) a = (not_greater (cmp x.0 y.0) (nat_cmp x.1 y.1) a.0, all_up ys a.1)
 

@@ -9,7 +9,7 @@ use Rattle.std.proofs.lemmas.List.Elements.{All-from_recursion, recursion_from_A
 use Rattle.std.proofs.lemmas.List.Sorted.{IsPermutation-map}
 use Rattle.std.proofs.lemmas.Map.Views.{All-map-IsPermutation}
 use Rattle.line_order.specs.Moves.{AreMoved, lines_of}
-use Rattle.line_log.specs.Sorting.{IsRow, IsRowBehind, NumberedLine, line_at, numbered, lines_numbered, row_cmp}
+use Rattle.line_log.specs.Sorting.{IsRow, IsRowBehind, NumberedLine, line_at, numbered, lines_numbered, numbered_cmp}
 
 -- ---- rows that were sorted
 
@@ -25,8 +25,8 @@ shown_moved xs ys h =
     subst (IsPermutation (lines_numbered xs)) (shown-plain ys)
     (subst (λ (l : List (List ℕ × ℕ)). IsPermutation l (map plain (lines_of ys))) (shown-plain xs) (IsPermutation-map plain (lines_of xs) (lines_of ys) h))
 
-pub shown_sorted : (rows : List NumberedLine) → IsSorted (λ x y. row_cmp (plain x) (plain y)) (lines_of rows) → IsSorted row_cmp (lines_numbered rows)
-shown_sorted rows s = subst (IsSorted row_cmp) (shown-plain rows) (λ k d low below.
+pub shown_sorted : (rows : List NumberedLine) → IsSorted (λ x y. numbered_cmp (plain x) (plain y)) (lines_of rows) → IsSorted numbered_cmp (lines_numbered rows)
+shown_sorted rows s = subst (IsSorted numbered_cmp) (shown-plain rows) (λ k d low below.
     let any : Bor (List ℕ) × ℕ = (record { ref_ptr = (0, 0); now = d.0 }, d.1) in
     let lines = lines_of rows in
     let inside = subst (λ (n : ℕ). k + 1 < n) (length-map lines plain) below in

@@ -11,7 +11,7 @@ use Rattle.std.proofs.Math.Seq.{take-length}
 use Rattle.std.proofs.lemmas.Bool.{cases_lt}
 use Rattle.std.proofs.lemmas.List.{map-append}
 use Rattle.std.proofs.lemmas.Map.Lookups.{exact_bytes}
-use Rattle.line_log.specs.Sorting.{FrontRises, IsRowBehind, NumberedLine, adds_at, edits_at, ends, first_cmp, front_rows, keep, line_at, lines_at, lines_numbered, merged, row_cmp, stands_at}
+use Rattle.line_log.specs.Sorting.{FrontRises, IsRowBehind, NumberedLine, adds_at, edits_at, ends, first_cmp, front_rows, keep, line_at, lines_at, lines_numbered, merged, numbered_cmp, stands_at}
 use Rattle.line_log.proofs.Fronts.{no_more, one_more, rises_on}
 use Rattle.line_log.proofs.Keeping.{less_on}
 use Rattle.line_log.proofs.Merging.{merge_none}
@@ -24,7 +24,7 @@ abbrev cmp : List ℕ → List ℕ → Ordering
 cmp = slice_cmp nat_cmp
 
 abbrev merge : Rows → Rows → Rows
-merge = sorted_merge row_cmp true
+merge = sorted_merge numbered_cmp true
 
 -- ---- the first of merged rows
 
@@ -51,7 +51,7 @@ module _ (es : List (Bool × List ℕ)) where
   ends_both : (l : List ℕ) (xs ys : Rows) → ends l (edits_at es xs) ≡ true → ends l (edits_at es ys) ≡ true → ends l (edits_at es (merge xs ys)) ≡ true
   ends_both l [] ys a b = b
   ends_both l (x ∷ xs) [] a b = a
-  ends_both l (x ∷ xs) (y ∷ ys) a b = by (row_cmp x y)
+  ends_both l (x ∷ xs) (y ∷ ys) a b = by (numbered_cmp x y)
     where
       by : (r : Ordering) → ends l (edits_at es (match_ordering r (x ∷ merge xs (y ∷ ys)) (x ∷ merge xs ys) (y ∷ merge (x ∷ xs) ys))) ≡ true
       by Less = a
@@ -81,7 +81,7 @@ module _ (es : List (Bool × List ℕ)) where
   ends_behind : (y : List ℕ × ℕ) (xs ys : Rows) → first_cmp xs (y ∷ []) ≡ Greater → ends y.0 (edits_at es (merge xs ys)) ≡ ends y.0 (edits_at es ys)
   ends_behind y [] ys e = refl
   ends_behind y (x ∷ xs) [] e = ap (λ (r : Ordering). not (is_eq r)) (nat_list_cmp_total.antisymm y.0 x.0 ∙ ap ordering_reverse e)
-  ends_behind y (x ∷ xs) (z ∷ zs) e = by (row_cmp x z) refl
+  ends_behind y (x ∷ xs) (z ∷ zs) e = by (numbered_cmp x z) refl
     where
       less : cmp y.0 x.0 ≡ Less
       less = nat_list_cmp_total.antisymm y.0 x.0 ∙ ap ordering_reverse e
@@ -89,7 +89,7 @@ module _ (es : List (Bool × List ℕ)) where
       apart : (cmp x.0 z.0 ≡ Greater → ⊥) → ends y.0 (edits_at es (x ∷ xs)) ≡ ends y.0 (edits_at es (z ∷ zs))
       apart h = ap (λ (r : Ordering). not (is_eq r)) (less ∙ sym (less_on y.0 x.0 z.0 less h))
 
-      by : (r : Ordering) → row_cmp x z ≡ r → ends y.0 (edits_at es (match_ordering r (x ∷ merge xs (z ∷ zs)) (x ∷ merge xs zs) (z ∷ merge (x ∷ xs) zs))) ≡ ends y.0 (edits_at es (z ∷ zs))
+      by : (r : Ordering) → numbered_cmp x z ≡ r → ends y.0 (edits_at es (match_ordering r (x ∷ merge xs (z ∷ zs)) (x ∷ merge xs zs) (z ∷ merge (x ∷ xs) zs))) ≡ ends y.0 (edits_at es (z ∷ zs))
       by Less g = apart (not_above (cmp x.0 z.0) (nat_cmp x.1 z.1) g)
       by Equal g = apart (not_above_equal (cmp x.0 z.0) (nat_cmp x.1 z.1) g)
       by Greater g = refl

@@ -48,8 +48,8 @@ abbrev pub HasLinesOf : List (Bool × List ℕ) → List ℕ → List (List ℕ)
 HasLinesOf es order lines = AllByRecursion (λ n. n < length es) order × (lines_at es order ≡ lines)
 
 -- rows by their lines, those of one line by their numbers
-abbrev pub row_cmp : List ℕ × ℕ → List ℕ × ℕ → Ordering
-row_cmp x y = ordering_then (slice_cmp nat_cmp x.0 y.0) (nat_cmp x.1 y.1)
+abbrev pub numbered_cmp : List ℕ × ℕ → List ℕ × ℕ → Ordering
+numbered_cmp x y = ordering_then (slice_cmp nat_cmp x.0 y.0) (nat_cmp x.1 y.1)
 
 -- the line of an edit is behind that of the one before it, if there is one
 abbrev pub LineRises : List (Bool × List ℕ) → ℕ → Type 0
@@ -66,11 +66,11 @@ front_rows es front n = numbered n (drop n (take front es))
 
 -- the rows of the front from a number on and others, all in order where both are
 abbrev pub merged : List (Bool × List ℕ) → ℕ → ℕ → List (List ℕ × ℕ) → List (List ℕ × ℕ)
-merged es front n rows = sorted_merge row_cmp true (front_rows es front n) rows
+merged es front n rows = sorted_merge numbered_cmp true (front_rows es front n) rows
 
--- how the first line of some rows compares with that of others, where it comes after none
+-- how rows compare with others by the first line of each, where no line is behind all
 abbrev pub first_cmp : List (List ℕ × ℕ) → List (List ℕ × ℕ) → Ordering
-first_cmp [] rows = Greater
+first_cmp [] ys = Greater
 first_cmp (x ∷ xs) [] = Less
 first_cmp (x ∷ xs) (y ∷ ys) = slice_cmp nat_cmp x.0 y.0
 

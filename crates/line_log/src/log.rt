@@ -4,8 +4,8 @@ ghost use Rattle.std.specs.Prelude.{length, take, drop, cond, IfOk, OnOk, OnErr,
 ghost use Rattle.std.specs.List.{AllByRecursion};
 ghost use Rattle.line_log.specs.Edits.{bytes_of, made};
 ghost use Rattle.line_log.specs.Sorting.{FrontRises, HasLinesOf, IsRowBehind, LineRises, additions};
-ghost use Rattle.line_log.specs.Sorting.{adds_at, edits_at, first_cmp, front_rows, keep, line_at, lines_at};
-ghost use Rattle.line_log.specs.Sorting.{lines_numbered, merged, numbered, stands_at};
+ghost use Rattle.line_log.specs.Sorting.{adds_at, edits_at, first_cmp, front_rows, keep, line_at};
+ghost use Rattle.line_log.specs.Sorting.{lines_at, lines_numbered, merged, numbered, stands_at};
 
 use crate::edits::{Edit, start_of};
 use crate::lines::MadeLines;
@@ -274,7 +274,8 @@ impl LineLog {
 // Puts a number behind others, if it stays.
 #[inline]
 fn push_if(number: usize, stays: bool, kept: &mut Vec<u32>) -> Result<(), OutOfMemory>
-    ensures { OnOk result (kept.new.items ≡ cond stays (kept.old.items ++ number ∷ []) kept.old.items) }
+    ensures { OnOk result (kept.new.items
+        ≡ cond stays (kept.old.items ++ number ∷ []) kept.old.items) }
 {
     if stays {
         let Ok(number) = u32::try_from(number) else {
