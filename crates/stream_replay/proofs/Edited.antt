@@ -20,7 +20,7 @@ use Rattle.rdf_terms.specs.Line.{line, lines}
 use Rattle.rdf_terms.specs.Quad.{Statement}
 use Rattle.rdf_terms.specs.Dataset.{Dataset, apply, effect, effects, kept, kept_behind}
 use Rattle.row_scan.specs.Found.{change_by}
-use Rattle.stream_replay.specs.Edits.{AreEditsBehind, MakesLines}
+use Rattle.stream_replay.specs.Edits.{AreEditsBehind, MakesLines, edits_by}
 
 -- ---- a key goes in where its image goes in
 
@@ -43,19 +43,13 @@ map-remove_key f test (y ∷ ys) =
 
 -- ---- one more change
 
--- what one change does
-abbrev edits_of : Change → List (Bool × List ℕ)
-edits_of (Add q) = (true, line q) ∷ []
-edits_of (Delete q) = (false, line q) ∷ []
-edits_of _ = []
-
-effect_edited : (c : Change) (d : Dataset) → map line (effect c d).quads ≡ edited (edits_of c) (map line d.quads)
+effect_edited : (c : Change) (d : Dataset) → map line (effect c d).quads ≡ edited (edits_by c) (map line d.quads)
 effect_edited (Add q) d = map-insert_key line (slice_cmp nat_cmp) d.quads q
 effect_edited (Delete q) d = map-remove_key line (λ l. is_eq (slice_cmp nat_cmp (line q) l)) d.quads
 effect_edited _ d = refl
 
-makes_more : (c : Change) (d : Dataset) (edits : List (Bool × List ℕ)) → MakesLines edits d → MakesLines (edits ++ edits_of c) (effect c d)
-makes_more c d edits makes = made_append edits (edits_of c) ∙ ap (edited (edits_of c)) makes ∙ sym (effect_edited c d)
+makes_more : (c : Change) (d : Dataset) (edits : List (Bool × List ℕ)) → MakesLines edits d → MakesLines (edits ++ edits_by c) (effect c d)
+makes_more c d edits makes = made_append edits (edits_by c) ∙ ap (edited (edits_by c)) makes ∙ sym (effect_edited c d)
 
 effects-append : (cs ds : List Change) (d : Dataset) → effects (cs ++ ds) d ≡ effects ds (effects cs d)
 effects-append [] ds d = refl
@@ -71,15 +65,15 @@ goes_on : (cs : List Change) (c : Change) (d after : Dataset) → ((more : List 
 goes_on cs c d after plain all more =
     ap (λ (l : List Change). apply l d) (append_assoc cs (c ∷ []) more) ∙ all (c ∷ more) ∙ ap (λ (l : List Change). effects l after) (plain more)
 
-plain_more : (block : Option ℕ) (cs : List Change) (c : Change) (d : Dataset) (es : List (Bool × List ℕ)) → IsPlain c → AreEditsBehind block cs d es → AreEditsBehind block (cs ++ c ∷ []) d (es ++ edits_of c)
+plain_more : (block : Option ℕ) (cs : List Change) (c : Change) (d : Dataset) (es : List (Bool × List ℕ)) → IsPlain c → AreEditsBehind block cs d es → AreEditsBehind block (cs ++ c ∷ []) d (es ++ edits_by c)
 plain_more None cs c d es plain (after, all, makes) = (effect c after, goes_on cs c d after plain.0 all, makes_more c after es makes)
 plain_more (Some count) cs c d es plain (after, inside, all, front, whole, within) = (
   after,
   inside ++ c ∷ [],
   λ more. ap (λ (l : List Change). apply l d) (append_assoc cs (c ∷ []) more) ∙ all (c ∷ more) ∙ ap (λ (l : List Change). effects l after) (plain.1 inside more),
-  subst (λ (l : List (Bool × List ℕ)). MakesLines l after) (sym (take-append-le count es (edits_of c) within)) front,
-  subst (MakesLines (es ++ edits_of c)) (sym (effects-append inside (c ∷ []) after)) (makes_more c (effects inside after) es whole),
-  omega (arith, within, length-append es (edits_of c)),
+  subst (λ (l : List (Bool × List ℕ)). MakesLines l after) (sym (take-append-le count es (edits_by c) within)) front,
+  subst (MakesLines (es ++ edits_by c)) (sym (effects-append inside (c ∷ []) after)) (makes_more c (effects inside after) es whole),
+  omega (arith, within, length-append es (edits_by c)),
 )
 
 -- a quad is added or deleted
@@ -91,7 +85,7 @@ quad_more block cs d es new false bytes quad is of are =
     subst (AreEditsBehind block (cs ++ Delete quad ∷ []) d) (sym (is ∙ ap (λ (l : List ℕ). es ++ (false, l) ∷ []) of)) (plain_more block cs (Delete quad) d es ((λ more. refl), λ held more. refl) are)
 
 -- a change that does nothing to lines
-silent_more : (block : Option ℕ) (cs : List Change) (c : Change) (d : Dataset) (es : List (Bool × List ℕ)) → IsPlain c → edits_of c ≡ [] → AreEditsBehind block cs d es → AreEditsBehind block (cs ++ c ∷ []) d es
+silent_more : (block : Option ℕ) (cs : List Change) (c : Change) (d : Dataset) (es : List (Bool × List ℕ)) → IsPlain c → edits_by c ≡ [] → AreEditsBehind block cs d es → AreEditsBehind block (cs ++ c ∷ []) d es
 silent_more block cs c d es plain none are =
     subst (AreEditsBehind block (cs ++ c ∷ []) d) (ap (λ (l : List (Bool × List ℕ)). es ++ l) none ∙ append-nil es) (plain_more block cs c d es plain are)
 

@@ -2,6 +2,7 @@
 use Rattle.std.proofs.Common.{◌≡◌, ℕ, ◌+◌, ◌<◌, ◌≤◌, List, [], ◌++◌, length, Option, Some, None, refl, sym, ap, subst, ◌∙◌, append-nil, length-append, arith}
 use Rattle.std.specs.Io.KnownBytes.{Consumes, IsAtEnd}
 use Rattle.std.proofs.KnownBytes.{Consumes-nil, Consumes-trans}
+use Rattle.sink_writing.specs.declared.room.TheConstants.{PIECE}
 use Rattle.stream_replay.specs.declared.fault.ReplayFault.{ReplayFault}
 use Rattle.stream_replay.specs.declared.fault.ReplayFault.TheVariants as ends
 use Rattle.stream_replay.specs.declared.stream.Streaming.{Streaming}
@@ -50,10 +51,5 @@ ends_input before mid after faults now text piece (ends.Chain fault) consumed no
 ends_input before mid after faults now text piece ends.OutOfMemory consumed none empty end short is = tt
 ends_input before mid after faults now text piece _ consumed none empty end short is = absurd is
 
-pub too_long : (before now : Option (List ℕ)) (s : Streaming) (size : ℕ) → HasRead before now s size → stream_limit < size → IsTooLong before
-too_long before now s size h long = by before now h.text h.consumed (let a = h.size_is in omega arith)
-  where
-    by : (before now : Option (List ℕ)) (text : List ℕ) → Consumes before now text → stream_limit < length text → IsTooLong before
-    by None now text consumed more = tt
-    by (Some all) None text consumed more = absurd consumed
-    by (Some all) (Some rest) text consumed more = omega (arith, ap length consumed, length-append text rest, more)
+pub too_long : (before now : Option (List ℕ)) (s : Streaming) (size : ℕ) → HasRead before now s size → stream_limit < size → size ≤ stream_limit + PIECE → IsTooLong before now
+too_long before now s size h long short = (h.text, h.consumed, omega (arith, h.size_is, long), omega (arith, h.size_is, short))

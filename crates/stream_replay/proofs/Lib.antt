@@ -1,6 +1,9 @@
+pub mod RowBytes
 pub mod Edited
 pub mod Taken
+pub mod Bounds
 pub mod Streams
+pub mod Held
 pub mod Fed
 pub mod Inputs
 pub mod WrittenLines

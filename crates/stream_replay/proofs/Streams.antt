@@ -6,7 +6,6 @@ use Rattle.std.proofs.lemmas.List.{drop-drop, drop-append-le}
 use Rattle.log_base.specs.declared.limits.TheConstants.{PATCH_LIMIT}
 use Rattle.log_base.specs.declared.chain_link.ChainLink.{ChainLink}
 use Rattle.rdf_terms.specs.declared.change.Change.{Change}
-use Rattle.rdf_terms.specs.Dataset.{Dataset}
 use Rattle.rdf_terms.specs.Quad.{Statement}
 use Rattle.row_scan.specs.declared.row.Says.{Says}
 use Rattle.row_scan.specs.declared.row.Says.TheVariants as says
@@ -28,27 +27,29 @@ use Rattle.patch_reader.specs.Rows.{Gap, FaultBehind, GivesNext, RowsStand, Rows
 use Rattle.patch_reader.specs.Window.{Window, ReadsOn, RowBegins, front_text}
 use Rattle.patch_reader.proofs.Adding.{stand_joined}
 use Rattle.patch_meaning.specs.declared.fault.PatchFault.{PatchFault}
+use Rattle.patch_meaning.specs.declared.part.Part.{Part}
 use Rattle.patch_meaning.specs.declared.role.Role.{Role}
 use Rattle.patch_meaning.specs.declared.role.Role.TheVariants as roles
-use Rattle.patch_meaning.specs.Cutting.{HasTakenNext, AreRefused, EndsWith, EndsStream, IsBrokenAt, IsBrokenAtEnd, IsBrokenBy, RefusesStream, changes_left, meanings_of}
+use Rattle.patch_meaning.specs.Cutting.{HasTakenNext, IsCutAt, IsCutInto, AreRefused, EndsWith, EndsStream, IsBrokenAt, IsBrokenAtEnd, IsBrokenBy, RefusesStream, changes_left, meanings_of}
 use Rattle.patch_meaning.specs.PartRead.{HasPart}
 use Rattle.patch_meaning.specs.Patch.{Meaning}
-use Rattle.patch_meaning.specs.Replay.{replay}
 use Rattle.patch_meaning.specs.Roles.{found_role, header_role, role, said, value_id}
 use Rattle.patch_meaning.specs.Rows.{AreUpTo, RowsTo}
-use Rattle.patch_meaning.specs.Stream.{IsStream, IsStreamFault, begins, cut, next, over}
-use Rattle.patch_meaning.proofs.Cuts.{taken_next, with_changes}
+use Rattle.patch_meaning.specs.Stream.{Cut, IsStream, IsStreamFault, begins, cut, next, over}
+use Rattle.patch_meaning.proofs.Cuts.{cut_begun, cut_longer, taken_next, with_changes}
 use Rattle.patch_meaning.proofs.Rowed.{front_up_to, row_within as row_ends, rows_more, rows_up_to}
 use Rattle.patch_reader.proofs.Holding.{row_within}
 use Rattle.patch_meaning.proofs.StreamFaults.{refused_fault, no_row_fault, end_fault}
+use Rattle.stream_replay.specs.declared.edits.Edits.{Edits}
 use Rattle.stream_replay.specs.declared.fault.ReplayFault.{ReplayFault}
 use Rattle.stream_replay.specs.declared.fault.ReplayFault.TheVariants as ends
 use Rattle.stream_replay.specs.declared.progress.StreamProgress.{StreamProgress}
 use Rattle.stream_replay.specs.declared.replay.Replay.{Replay}
-use Rattle.stream_replay.specs.Edits.{HasEdits}
+use Rattle.stream_replay.specs.Edits.{GrowsBy}
 use Rattle.stream_replay.specs.Replaying.{IsReplay, EndsChain}
 use Rattle.stream_replay.specs.Source.{EndsText}
-use Rattle.stream_replay.specs.Streaming.{AwaitsRow, HasStreamed, HoldsMore, IsRefusedStream, MayBe}
+use Rattle.stream_replay.specs.Streaming.{AwaitsRow, GoesByDataset, HasStreamed, HoldsEdits, HoldsMore, IsRefusedStream, IsShortBehind, MayBe, edits_said}
+use Rattle.stream_replay.proofs.Bounds.{BeginsAt, IsSmall, bounded_next, row_small}
 
 -- ---- what the whole text may be
 
@@ -84,6 +85,7 @@ streamed_in end text longer at p may h = record {
   reads = rows_stand end longer 0 at h.rs (λ whole is. rows_there cuts.Open text whole 0 at h.rs (may whole is) h.reads);
   parts = h.parts;
   edits = h.edits;
+  memory = h.memory;
   replayed = h.replayed;
 }
 
@@ -126,35 +128,55 @@ up_to_next end text rs passed stop r before there =
 not_behind : (limit : ℕ) (rs : List PlacedRow) (r : PlacedRow) → AreUpTo (rs ++ r ∷ []) limit → nat_lt limit r.at ≡ false
 not_behind limit rs r up = let here = (front_up_to rs r limit up).1 in grind (arith, nat_tests)
 
-pub streamed_more : (end : TextEnd) (text : List ℕ) (at stop : ℕ) (old new : StreamProgress) (says : Role) (done : Option ChainLink) → AwaitsRow end text old says at stop → HasTakenNext old.part says at done new.part
-    → ((ms : List Meaning) (changes : List Change) → IsReplay ms old.replay → IsReplay (ms ++ meanings_of done changes) new.replay)
-    → ((ms : List Meaning) (changes : List Change) → HasEdits changes (replay ms) old.edits → HoldsMore new.part (changes_left done changes) (replay (ms ++ meanings_of done changes)) says at new.edits)
-    → HasStreamed end text stop new
-streamed_more end text at stop old new says done a taken applied holds =
+-- where the patch begins that may go on behind the row
+from_next : (rs : List PlacedRow) (ms ns : List Meaning) (changes others : List Change) (r : PlacedRow) (old new : Part) (says : Role) (at : ℕ) (done : Option ChainLink) → IsCutInto rs ms changes old → IsCutInto (rs ++ r ∷ []) ns others new
+    → IsCutAt old says at done → role r.row ≡ says → r.at ≡ at → BeginsAt done old at new
+from_next rs ms ns changes others r old new says at None h g cuts is place =
+    sym g.from_is ∙ ap (λ (c : Cut). c.last.from) (cut_longer rs r (ap (begins (said (cut rs).last.rows_)) is ∙ cuts (cut rs).last.rows_ h.part)) ∙ h.from_is
+from_next rs ms ns changes others r old new says at (Some link) h g cuts is place =
+    sym g.from_is ∙ ap (λ (c : Cut). c.last.from) (cut_begun rs r (ap (begins (said (cut rs).last.rows_)) is ∙ cuts.0 (cut rs).last.rows_ h.part)) ∙ place
+
+-- the row stands behind others, and adds little
+stands_small : (end : TextEnd) (text : List ℕ) (passed at stop : ℕ) (r : Row) (says : Role) → RowsStand end text passed (placed r at stop ∷ []) stop → role r ≡ says → IsSmall passed at stop (edits_said says)
+stands_small end text passed at stop r says stands is =
+    let there = rows_there end text text passed stop (placed r at stop ∷ []) (now end text) stands in row_small text passed at stop r says there.0.1 there.1 is
+
+-- how the edits go on with a row: what they have behind a patch that it completes, and then what it is
+pub record GoOn (old new : StreamProgress) (says : Role) (at : ℕ) (done : Option ChainLink) : Type 0 where
+  pub mid : Edits
+  pub holds : (ms : List Meaning) (changes : List Change) → HoldsEdits old.replay.fault ms changes old.edits → HoldsMore new.replay.fault new.part (ms ++ meanings_of done changes) (changes_left done changes) says at new.edits
+  pub short : (ms : List Meaning) (changes : List Change) → HoldsEdits old.replay.fault ms changes old.edits → GoesByDataset ms old.edits → IsShortBehind done (ms ++ meanings_of done changes) old.edits mid
+  pub grows : GrowsBy (edits_said says) mid new.edits
+  pub beyond : nat_lt (new.part.from + PATCH_LIMIT) at ≡ true → new.edits ≡ mid
+
+pub streamed_more : (end : TextEnd) (text : List ℕ) (at stop : ℕ) (old new : StreamProgress) (says : Role) (done : Option ChainLink) → AwaitsRow end text old says at stop → HasTakenNext old.part says at done new.part → IsCutAt old.part says at done
+    → ((ms : List Meaning) (changes : List Change) → IsReplay ms old.replay → IsReplay (ms ++ meanings_of done changes) new.replay) → GoOn old new says at done → HasStreamed end text stop new
+streamed_more end text at stop old new says done a taken cuts applied goes =
     let h = a.before in
     let r : PlacedRow = placed a.row_ at stop in
-    let more_held = holds h.ms h.changes h.edits in
+    let more_held = goes.holds h.ms h.changes h.edits in
+    let into = taken h.rs h.ms h.changes r h.parts (up_to_next end text h.rs a.passed stop r h.reads a.stands) a.says_is refl in
     record {
       rs = h.rs ++ r ∷ [];
       ms = h.ms ++ meanings_of done h.changes;
       changes = more_held.0;
       reads = stand_joined end text 0 a.passed stop h.rs (r ∷ []) h.reads a.stands;
-      parts = with_changes _ _ _ more_held.0 new.part (λ up. sym (more_held.2 (not_behind (new.part.from + PATCH_LIMIT) h.rs r up)))
-          (taken h.rs h.ms h.changes r h.parts (up_to_next end text h.rs a.passed stop r h.reads a.stands) a.says_is refl);
+      parts = with_changes _ _ _ more_held.0 new.part (λ up. sym (more_held.2 (not_behind (new.part.from + PATCH_LIMIT) h.rs r up))) into;
       edits = more_held.1;
+      memory =
+          bounded_next h.ms h.changes done old.part new.part a.passed at stop (edits_said says) old.edits goes.mid new.edits h.memory (goes.short h.ms h.changes h.edits h.memory.enough) (stands_small end text a.passed at stop a.row_ says a.stands a.says_is)
+          (from_next h.rs h.ms _ h.changes _ r old.part new.part says at done h.parts into cuts a.says_is refl) goes.grows goes.beyond;
       replayed = applied h.ms h.changes h.replayed;
     }
 
 -- one more row, with a quad
 pub streamed_quad : (end : TextEnd) (text : List ℕ) (at stop : ℕ) (old new : StreamProgress) (adds : Bool) (quad : Statement) → AwaitsRow end text old (roles.Change (change_by adds quad)) at stop
     → ((rs : List PlacedRow) (r : PlacedRow) (adds : Bool) (quad : Statement) → HasPart rs old.part → role r.row ≡ roles.Change (change_by adds quad) → HasPart (rs ++ r ∷ []) new.part) → new.part.from ≡ old.part.from
-    → new.replay ≡ old.replay
-    → ((changes : List Change) (d : Dataset) → HasEdits changes d old.edits → HoldsMore new.part changes d (roles.Change (change_by adds quad)) at new.edits) → HasStreamed end text stop new
-streamed_quad end text at stop old new adds quad a part same replayed holds =
+    → new.replay ≡ old.replay → GoOn old new (roles.Change (change_by adds quad)) at None → HasStreamed end text stop new
+streamed_quad end text at stop old new adds quad a part same replayed goes =
     streamed_more end text at stop old new (roles.Change (change_by adds quad)) None a
-    (taken_next old.part old.part new.part (roles.Change (change_by adds quad)) at None (λ rs has. refl) refl (λ rs r has says. part rs r adds quad has says) same)
-    (λ ms changes taken. subst (λ (r : Replay). IsReplay (ms ++ []) r) (sym replayed) (subst (λ (l : List Meaning). IsReplay l old.replay) (sym (append-nil ms)) taken))
-    (λ ms changes edits. subst (λ (l : List Meaning). HoldsMore new.part changes (replay l) (roles.Change (change_by adds quad)) at new.edits) (sym (append-nil ms)) (holds changes (replay ms) edits))
+    (taken_next old.part old.part new.part (roles.Change (change_by adds quad)) at None (λ rs has. refl) refl (λ rs r has says. part rs r adds quad has says) same) (λ rs has. refl)
+    (λ ms changes taken. subst (λ (r : Replay). IsReplay (ms ++ []) r) (sym replayed) (subst (λ (l : List Meaning). IsReplay l old.replay) (sym (append-nil ms)) taken)) goes
 
 pub front_there : (w : Window) (at : ℕ) → w.front ≡ Some at → front_text w ≡ drop at w.fed
 front_there w at is = rw is refl

@@ -31,7 +31,7 @@ links-append : (ms ns : List Meaning) → links_said (ms ++ ns) ≡ links_said m
 links-append ms ns = map-append link_of ms ns
 
 -- one patch more
-replay-push : (ms : List Meaning) (m : Meaning) (d : Dataset) → replay_from (ms ++ m ∷ []) d ≡ apply m.changes (replay_from ms d)
+pub replay-push : (ms : List Meaning) (m : Meaning) (d : Dataset) → replay_from (ms ++ m ∷ []) d ≡ apply m.changes (replay_from ms d)
 replay-push [] m d = refl
 replay-push (n ∷ ms) m d = replay-push ms m (apply n.changes d)
 

@@ -1,11 +1,13 @@
 -- What the replay of an input says of its text.
-use Rattle.std.specs.Prelude.{◌≡◌, ℕ, ◌<◌, ◌≤◌, List, [], length, Option, Some, None}
+use Rattle.std.specs.Prelude.{◌≡◌, ℕ, ◌+◌, ◌<◌, ◌≤◌, List, [], length, Option, Some, None}
+use Rattle.std.specs.Io.KnownBytes.{Consumes}
 use Rattle.delta_base.specs.Outside.{Rose}
 use Rattle.chain_core.specs.declared.testing.ChainFault.{ChainFault}
 use Rattle.chain_core.specs.Breaks.{Breaks}
 use Rattle.patch_meaning.specs.Patch.{Meaning}
 use Rattle.patch_meaning.specs.Replay.{links_said}
 use Rattle.patch_meaning.specs.Stream.{IsStream}
+use Rattle.sink_writing.specs.declared.room.TheConstants.{PIECE}
 use Rattle.stream_replay.specs.declared.replay.Replayed.{Replayed}
 use Rattle.stream_replay.specs.declared.fault.ReplayFault.{ReplayFault}
 use Rattle.stream_replay.specs.declared.fault.ReplayFault.TheVariants as ends
@@ -21,10 +23,14 @@ abbrev pub ReadsBytes : Option (List ℕ) → Option (List ℕ) → (List ℕ �
 ReadsBytes None left IsSuch = Unit {0}
 ReadsBytes (Some text) left IsSuch = (left ≡ Some []) × (length text ≤ stream_limit) × IsSuch text
 
--- where an input tells its bytes, they are too many
-abbrev pub IsTooLong : Option (List ℕ) → Type 0
-IsTooLong None = Unit {0}
-IsTooLong (Some text) = stream_limit < length text
+-- more bytes were read than the limit, and then no more: at most a piece too many
+abbrev pub ReadsPast : ℕ → Option (List ℕ) → Option (List ℕ) → Type 0
+ReadsPast limit before after = (front : List ℕ) × Consumes before after front
+    × (limit < length front) × (length front ≤ limit + PIECE)
+
+-- an input was found to have more bytes than a stream may have
+abbrev pub IsTooLong : Option (List ℕ) → Option (List ℕ) → Type 0
+IsTooLong before after = ReadsPast stream_limit before after
 
 -- the text is a stream, and this is the replay of its patches
 pub record IsReplayed (r : Replayed) (text : List ℕ) : Type 0 where
@@ -56,6 +62,6 @@ EndsReplay before after faults faults' (ends.LongPatch size limit) =
     ReadsBytes before after (IsLong size limit)
 EndsReplay before after faults faults' (ends.Chain fault) =
     ReadsBytes before after (IsUnchained fault)
-EndsReplay before after faults faults' ends.TooLong = IsTooLong before
+EndsReplay before after faults faults' ends.TooLong = IsTooLong before after
 EndsReplay before after faults faults' ends.Failed = Rose faults faults'
 EndsReplay before after faults faults' ends.OutOfMemory = Unit {0}

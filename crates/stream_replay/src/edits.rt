@@ -1,5 +1,5 @@
 //! What the changes of patches do to the lines of a dataset.
-ghost use Rattle.std.specs.Prelude.{◌≡◌, ◌≤◌, ◌+◌, ◌*◌, ◌++◌, ◌∷◌, [], Bool, List, IfOk, OnOk, length};
+ghost use Rattle.std.specs.Prelude.{◌≡◌, ◌≤◌, ◌+◌, ◌*◌, ◌++◌, ◌∷◌, [], List, IfOk, OnOk, length};
 ghost use Rattle.std.specs.List.{flat_map};
 ghost use Rattle.rdf_terms.specs.declared.change.Change.{Change as Changed};
 ghost use Rattle.rdf_terms.specs.declared.change.Change.TheVariants as change;
@@ -7,8 +7,8 @@ ghost use Rattle.rdf_terms.specs.Dataset.{Dataset, apply, empty};
 ghost use Rattle.rdf_terms.specs.Line.{line, lines};
 ghost use Rattle.rdf_terms.specs.Quad.{Statement};
 ghost use Rattle.row_scan.specs.Found.{change_by};
-ghost use Rattle.line_log.specs.Edits.{bytes_of};
-ghost use Rattle.stream_replay.specs.Edits.{HasEdits, IsSettledOrShort, MakesLines};
+ghost use Rattle.stream_replay.specs.Edits.{GrowsBy, HasEdits, IsEnoughFor, IsSettledOrShort};
+ghost use Rattle.stream_replay.specs.Edits.{IsShort, MakesLines, edits_by};
 
 use delta_base::OutOfMemory;
 use line_log::{LineLog, MadeLines};
@@ -17,7 +17,7 @@ use rdf_terms::{Change, Quad};
 use std::alloc::Global;
 
 /// How many edits a log may have beyond twice those that its lines need.
-const SPARE_EDITS: usize = 65_536;
+pub(crate) const SPARE_EDITS: usize = 65_536;
 /// How many bytes their lines may have beyond twice those of the lines that stand.
 pub(crate) const SPARE_BYTES: usize = 8_388_608;
 
@@ -45,7 +45,9 @@ fn twice(count: usize, spare: usize) -> usize
 impl Edits {
     /// No change so far.
     pub fn new(alloc: Global) -> Edits
-        ensures { HasEdits [] empty result }
+        ensures edits { HasEdits [] empty result }
+        ensures none { result.log ≡ [] }
+        ensures enough { IsEnoughFor empty result }
     {
         Edits {
             log: LineLog::new(alloc),
@@ -57,8 +59,9 @@ impl Edits {
 
     /// Holds what one more change does.
     pub fn take(&mut self, alloc: Global, change: &Change) -> Result<(), OutOfMemory>
-        ensures { OnOk result ((changes : List Changed) (d : Dataset) → HasEdits changes d self.old
-            → HasEdits (changes ++ change.now ∷ []) d self.new) }
+        ensures edits { OnOk result ((changes : List Changed) (d : Dataset)
+            → HasEdits changes d self.old → HasEdits (changes ++ change.now ∷ []) d self.new) }
+        ensures grows { OnOk result (GrowsBy (edits_by change.now) self.old self.new) }
     {
         match change {
             Change::Add(quad) => self.print(alloc, true, quad),
@@ -81,8 +84,11 @@ impl Edits {
 
     // A quad is added or deleted.
     fn print(&mut self, alloc: Global, adds: bool, quad: &Quad) -> Result<(), OutOfMemory>
-        ensures { OnOk result ((changes : List Changed) (d : Dataset) → HasEdits changes d self.old
+        ensures edits { OnOk result ((changes : List Changed) (d : Dataset)
+            → HasEdits changes d self.old
             → HasEdits (changes ++ change_by adds quad.now ∷ []) d self.new) }
+        ensures grows { OnOk result
+            (GrowsBy ((adds, line quad.now) ∷ []) self.old self.new) }
     {
         let line = print_line(alloc, quad)?;
         self.put(adds, line.as_bytes())
@@ -91,17 +97,19 @@ impl Edits {
     /// The quad of a line is added or deleted.
     #[inline]
     pub fn put(&mut self, adds: bool, bytes: &[u8]) -> Result<(), OutOfMemory>
-        ensures { OnOk result ((quad : Statement) → bytes.now ≡ line quad
+        ensures edits { OnOk result ((quad : Statement) → bytes.now ≡ line quad
             → (changes : List Changed) (d : Dataset) → HasEdits changes d self.old
             → HasEdits (changes ++ change_by adds quad ∷ []) d self.new) }
+        ensures grows { OnOk result (GrowsBy ((adds, bytes.now) ∷ []) self.old self.new) }
     {
         self.log.push(adds, bytes)
     }
 
     // A block begins here, if none is open.
     fn begin(&mut self)
-        ensures { (changes : List Changed) (d : Dataset) → HasEdits changes d self.old
+        ensures edits { (changes : List Changed) (d : Dataset) → HasEdits changes d self.old
             → HasEdits (changes ++ change.Begin ∷ []) d self.new }
+        ensures grows { GrowsBy [] self.old self.new }
     {
         if self.before_block.is_some() {
             return;
@@ -111,8 +119,9 @@ impl Edits {
 
     // Lets go what the open block does, if one is.
     fn abort(&mut self)
-        ensures { (changes : List Changed) (d : Dataset) → HasEdits changes d self.old
+        ensures edits { (changes : List Changed) (d : Dataset) → HasEdits changes d self.old
             → HasEdits (changes ++ change.Abort ∷ []) d self.new }
+        ensures grows { GrowsBy [] self.old self.new }
     {
         if let Some(count) = self.before_block {
             self.log.truncate(count);
@@ -120,12 +129,12 @@ impl Edits {
         }
     }
 
-    /// The patch is complete, and the next one begins. Between patches the edits have no more bytes
-    /// than twice those of the lines that stood when they were settled last, and the spare.
+    /// The patch is complete, and the next one begins. Between patches the edits have no more than
+    /// twice what the lines had that stood when they were settled last, and the spare.
     pub fn complete(&mut self) -> Result<(), OutOfMemory>
         ensures edits { OnOk result ((changes : List Changed) (d : Dataset)
             → HasEdits changes d self.old → HasEdits [] (apply changes d) self.new) }
-        ensures short { OnOk result (bytes_of self.new.log ≤ self.new.enough_bytes) }
+        ensures short { OnOk result (IsShort self.new) }
         ensures settled { OnOk result (IsSettledOrShort self.old self.new) }
     {
         self.before_block = None;

@@ -1,6 +1,6 @@
 //! The dataset that a chain of patches makes.
 ghost use Rattle.std.specs.Prelude.{◌≡◌, ◌+◌, ◌-◌, ◌<◌, ◌≤◌, ◌^◌, ◌++◌};
-ghost use Rattle.std.specs.Prelude.{◌∷◌, List, [], IfOk, IfErr, OnOk};
+ghost use Rattle.std.specs.Prelude.{◌∷◌, List, [], None, true, is_some, IfOk, IfErr, OnOk};
 ghost use Rattle.rdf_terms.specs.declared.change.Change.{Change};
 ghost use Rattle.patch_meaning.specs.Patch.{Meaning};
 ghost use Rattle.patch_meaning.specs.PartRead.{meaning_of};
@@ -42,12 +42,21 @@ impl Replay {
     /// No patch so far.
     pub fn new(alloc: Global) -> Replay
         ensures replay { IsReplay [] result }
+        ensures whole { result.fault ≡ None }
         ensures version { result.chain.version ≡ 0 }
     {
         Replay {
             chain: ChainTest::new(alloc),
             fault: None,
         }
+    }
+
+    /// Whether the chain has a fault.
+    #[inline]
+    pub fn is_broken(&self) -> bool
+        ensures { result ≡ is_some self.now.fault }
+    {
+        self.fault.is_some()
     }
 
     /// Tests a patch against the chain. Most rows complete none, so this stays out of the
@@ -57,9 +66,11 @@ impl Replay {
         requires room { self.old.chain.version < 2 ^ 32 - 1 }
         ensures replay { OnOk result ((ms : List Meaning) (changes : List Change)
             → IsReplay ms self.old → IsReplay (ms ++ meaning_of link changes ∷ []) self.new) }
+        ensures broken { OnOk result
+            (is_some self.old.fault ≡ true → is_some self.new.fault ≡ true) }
         ensures version { OnOk result (self.new.chain.version ≤ self.old.chain.version + 1) }
     {
-        if self.fault.is_some() {
+        if self.is_broken() {
             return Ok(());
         }
         match self.chain.fault_of(link) {
@@ -73,6 +84,7 @@ impl Replay {
     pub fn finish(self, edits: Edits) -> Result<Replayed, ReplayFault>
         ensures ok { IfOk result (λ replayed. (ms : List Meaning) → IsReplay ms self
             → MakesLines edits.log (replay ms) → AreReplayed ms replayed) }
+        ensures whole { OnOk result (self.fault ≡ None) }
         ensures fault { IfErr result (λ fault. (ms : List Meaning) → IsReplay ms self
             → EndsChain ms fault) }
     {

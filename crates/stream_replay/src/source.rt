@@ -18,8 +18,10 @@ pub const STREAM_LIMIT: usize = 268_435_456;
 /// `STREAM_LIMIT` bytes comes before both, and then at most a piece more is read.
 ///
 /// It reads the input once. Of the input it holds a piece and what stands behind the last row that
-/// was read, but for white space and the lines of comments; of the patches the lines that the open
-/// one changes up to the limit of a patch, the ids, and the lines of the dataset.
+/// was read, but for white space and the lines of comments (clause `kept` of `Streaming::feed`). Of
+/// the patches it holds the ids and a log of the lines that they add and delete; as long as there
+/// is no fault, this has at most twice the bytes of the dataset's lines behind one of the patches,
+/// and 20 MiB (clause `memory`). Behind a fault of the chain it holds none of them.
 pub fn replay_source<S: Source>(alloc: Global, input: &mut S) -> Result<Replayed, ReplayFault>
     ensures ok { IfOk result (λ replayed.
         ReadsBytes (S.left input.old) (S.left input.new) (IsReplayed replayed)) }

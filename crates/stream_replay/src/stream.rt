@@ -32,8 +32,10 @@ pub struct Streaming {
 
 impl Streaming {
     ghost use Rattle.stream_replay.specs.Source.{EndsText, IsReplayed};
-    ghost use Rattle.stream_replay.specs.Streaming.{AwaitsRow, HasFed, IsStreamRead};
-    ghost use Rattle.stream_replay.specs.Streaming.{HasStreamed, IsFew, IsRefusedStream, IsToldEnd};
+    ghost use Rattle.patch_meaning.specs.Patch.{Meaning};
+    ghost use Rattle.stream_replay.specs.Streaming.{AwaitsRow, HasBoundedLog, HasFed};
+    ghost use Rattle.stream_replay.specs.Streaming.{HasStreamed, IsFew, IsRefusedStream};
+    ghost use Rattle.stream_replay.specs.Streaming.{IsStreamRead, IsToldEnd};
 
     /// No byte so far.
     pub fn new(alloc: Global) -> Streaming
@@ -48,7 +50,8 @@ impl Streaming {
         }
     }
 
-    /// The text goes on with a piece.
+    /// The text goes on with a piece. Behind it the window keeps nothing of the rows that were
+    /// read, and the log of edits goes with the dataset, whatever the stream.
     pub fn feed(&mut self, alloc: Global, piece: &[u8]) -> Result<(), OutOfMemory>
         requires room { length self.old.window.fed + length piece.now ≤ 2 ^ 31 }
         requires few { IsFew self.old }
@@ -57,6 +60,11 @@ impl Streaming {
         ensures few { OnOk result (IsFew self.new) }
         ensures end { OnOk result (length self.new.window.fed
             ≤ length self.old.window.fed + length piece.now) }
+        ensures kept { OnOk result
+            (self.new.fault ≡ None → self.new.window.passed ≤ self.new.window.kept) }
+        ensures memory { OnOk result ((text : List ℕ) → HasFed text self.old
+            → self.new.fault ≡ None
+            → (ms : List Meaning) × HasBoundedLog ms self.new.progress) }
     {
         if let Some(_) = self.fault {
             return Ok(());

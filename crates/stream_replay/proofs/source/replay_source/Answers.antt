@@ -20,4 +20,5 @@ reading-preserved g c =
 
 pub returns-clause-fault : goal.returns-clause-fault
 returns-clause-fault g c =
-    too_long (g.S.Source.left c.args.input.now) (g.S.Source.left c.reading.input) c.reading.stream c.reading.length c.reading.invariant.read (omega (arith, c.reading-test.false))
+    let i = c.reading.invariant in
+    too_long (g.S.Source.left c.args.input.now) (g.S.Source.left c.reading.input) c.reading.stream c.reading.length i.read (omega (arith, c.reading-test.false)) i.short

@@ -6,6 +6,7 @@ use Rattle.stream_replay.specs.declared.fault.ReplayFault.{ReplayFault}
 use Rattle.stream_replay.specs.Source.{EndsText, IsReplayed}
 use Rattle.stream_replay.specs.Streaming.{HasMet}
 use Rattle.stream_replay.proofs.Fed.{faulty_whole, fed_whole}
+use Rattle.stream_replay.proofs.Held.{has_held}
 use Rattle.stream_replay.proofs.Streams.{ends_chain, stream_at_end}
 use Rattle.stream_replay.proofs.Taken.{makes_last, no_change}
 use Rattle.stream_replay.proofs.stream.Streaming.finish.Goals as goal
@@ -43,7 +44,8 @@ returns-clause-ok c =
     (record {
       meanings = h.ms ++ meanings_of last h.changes;
       stream = stream_at_end now.window.fed now.window.passed now.progress last h done.stops c.in_ok-done.ensures.ok;
-      replayed = is h.ms h.changes h.replayed (makes_last h.ms h.changes now.progress.edits last (no_change now.progress.part _ last h.rs h.ms h.changes c.in_ok-done.ensures.last h.parts) h.edits);
+      replayed = is h.ms h.changes h.replayed (λ none.
+          makes_last h.ms h.changes now.progress.edits last (no_change now.progress.part _ last h.rs h.ms h.changes c.in_ok-done.ensures.last h.parts) (has_held now.progress.replay.fault h.ms h.changes now.progress.edits none h.edits));
     }))
 
 pub returns-clause-fault : goal.returns-clause-fault
