@@ -1,6 +1,5 @@
 -- What is told of the objects of the outside that a command works with.
-use Rattle.std.specs.Prelude.{◌⊎◌, ℕ, ◌<◌, List, length, Option}
-use Rattle.std.specs.Prelude.{None, Some, map, String, string_bytes}
+use Rattle.std.specs.Prelude.{◌⊎◌, ℕ, List, Option, map, String, string_bytes}
 use Rattle.std.specs.declared.alloc.Global.{Global}
 use Rattle.std.specs.Io.KnownBytes.{Appends, Keeps}
 use Rattle.delta_base.specs.Outside.{Rose}
@@ -32,11 +31,6 @@ WritesFront before after text = AppendsFront before.bytes after.bytes text
 -- the line was written, unless the object failed
 abbrev pub TellsLine : Channel → Channel → List ℕ → Type 0
 TellsLine before after line = ChannelFailed before after ⊎ WritesText before after line
-
--- what was left is longer, where it is told
-abbrev pub IsLonger : Option (List ℕ) → ℕ → Type 0
-IsLonger None limit = Unit {0}
-IsLonger (Some text) limit = limit < length text
 
 abbrev pub words_of : List (String Global) → List (List ℕ)
 words_of words = map string_bytes words

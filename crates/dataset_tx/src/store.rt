@@ -211,8 +211,8 @@ impl Store {
     ) -> Result<MadeLines, OutOfMemory>
         requires store { IsStore self.old }
         requires settled { IsSettled self.old }
-        ensures found { IfOk result
-            (λ lines. lines ≡ map line (filter (matches pattern.now) (contents_of self.old).quads)) }
+        ensures found { IfOk result (λ lines. lines
+            ≡ map line (filter (matches pattern.now) (contents_of self.old).quads)) }
         ensures cost { IfOk result (λ lines. steps.new ≤ steps.old + length lines + 1) }
         ensures counted { IfOk result (λ lines. steps.old + length lines ≤ steps.new) }
         ensures same { self.new ≡ self.old }

@@ -1,12 +1,12 @@
 -- What the replay of the generator's stream comes to, and what can't stop it.
-use Rattle.std.proofs.Common.{◌≡◌, ◌⊎◌, ℕ, ◌≤◌, List, Option, Some, refl, sym, ◌∙◌, subst, inl, inr, arith}
+use Rattle.std.proofs.Common.{◌≡◌, ◌⊎◌, ℕ, ◌≤◌, List, length, Option, None, Some, refl, sym, ap, ◌∙◌, subst, inl, inr, length-append, arith}
 use Rattle.chain_core.specs.Links.{IsChain}
 use Rattle.chain_core.proofs.Only.{no_fault}
 use Rattle.patch_meaning.specs.Patch.{Meaning}
 use Rattle.patch_meaning.specs.Replay.{links_said}
 use Rattle.patch_meaning.specs.Stream.{IsStream}
 use Rattle.patch_meaning.proofs.OneStream.{same_stream, stream_or_fault}
-use Rattle.stream_replay.specs.Source.{EndsReplay, IsReplayed}
+use Rattle.stream_replay.specs.Source.{EndsReplay, IsReplayed, IsTooLong}
 use Rattle.stream_replay.specs.declared.fault.ReplayFault.{ReplayFault}
 use Rattle.stream_replay.specs.declared.fault.ReplayFault.TheVariants as ends
 use Rattle.stream_replay.specs.declared.replay.Replayed.{Replayed}
@@ -43,6 +43,10 @@ only_memory n small left faults faults' (ends.LongPatch size limit) why =
 only_memory n small left faults faults' (ends.Chain fault) why =
     let is = one_stream n small why.2.meanings why.2.stream in
     absurd (no_fault (links_said why.2.meanings) fault why.2.breaks (subst (λ (ms : List Meaning). IsChain (links_said ms)) (sym is) (chained n)))
-only_memory n small left faults faults' ends.TooLong why = absurd (omega (arith, why, stream_short n small))
+only_memory n small left faults faults' ends.TooLong why = absurd (no_more left why)
+  where
+    no_more : (left : Option (List ℕ)) → IsTooLong (Some (stream_text n)) left → ⊥
+    no_more None long = long.1
+    no_more (Some rest) long = omega (arith, long.2, ap length long.1, length-append long.0 rest, stream_short n small)
 only_memory n small left faults faults' ends.Failed why = inl refl
 only_memory n small left faults faults' ends.OutOfMemory why = inr refl

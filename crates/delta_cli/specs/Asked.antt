@@ -23,9 +23,10 @@ use Rattle.delta_client.specs.declared.dial.Dial.{Ghosts as DialGhosts}
 use Rattle.client_commands.specs.Asks.{AsksBoth, AsksOnce}
 use Rattle.client_commands.specs.declared.fault.ClientFault.{ClientFault}
 use Rattle.client_commands.specs.declared.fault.ClientFault.TheVariants as clients
-use Rattle.command_tables.specs.Channels.{Channel, ChannelFailed, IsLonger, IsSilent, WritesText}
+use Rattle.command_tables.specs.Channels.{Channel, ChannelFailed, IsSilent, WritesText}
 use Rattle.command_tables.specs.Channels.{WritesFront}
 use Rattle.stream_replay.specs.Places.{IsFaultyStream}
+use Rattle.stream_replay.specs.Source.{ReadsPast}
 use Rattle.delta_cli.specs.declared.append.Appended.{Appended}
 use Rattle.delta_cli.specs.declared.append.Appended.TheVariants as appended
 use Rattle.command_tables.specs.declared.refusal.Refusal.{Refusal}
@@ -126,7 +127,7 @@ StopsInput what input input' (refusals.Stream line at kind) =
 StopsInput what input input' refusals.BadRun =
     (text : List ℕ) × IsReadAs input input' text × IsBadRun what text
 StopsInput what input input' (refusals.TooLong limit) =
-    IsLonger input.bytes PATCH_LIMIT × (limit ≡ PATCH_LIMIT)
+    ReadsPast PATCH_LIMIT input.bytes input'.bytes × (limit ≡ PATCH_LIMIT)
 StopsInput what input input' refusals.InputFailed = ChannelFailed input input'
 StopsInput what input input' refusals.OutOfMemory = Unit {0}
 StopsInput what input input' other = ⊥

@@ -53,8 +53,8 @@ abbrev pub counts_line : ℕ → ℕ → Option Id → List ℕ
 counts_line patches quads head = codes "patches " ++ (decimal patches
     ++ (codes " quads " ++ (decimal quads ++ (codes " head " ++ (id_or_none head ++ 10 ∷ [])))))
 
--- the generator's stream of so many patches, replayed: how many they are, how many quads they leave,
--- and the last one's id
+-- the generator's stream of so many patches, replayed: how many they are, how many quads they
+-- leave, and the last one's id
 pub record IsGeneratedLine (patches : ℕ) (text : List ℕ) : Type 0 where
   pub meanings : List Meaning
   pub stream : IsStream (stream_text patches) meanings
@@ -95,7 +95,8 @@ StopsDocument text other = ⊥
 
 -- why an input is not read to its end
 abbrev pub StopsReading : Channel → Channel → Refusal → Type 0
-StopsReading input input' (refusals.TooLong limit) = IsTooLong input.bytes × (limit ≡ stream_limit)
+StopsReading input input' (refusals.TooLong limit) =
+    IsTooLong input.bytes input'.bytes × (limit ≡ stream_limit)
 StopsReading input input' refusals.InputFailed = ChannelFailed input input'
 StopsReading input input' refusals.OutOfMemory = Unit {0}
 StopsReading input input' other = ⊥
@@ -109,7 +110,7 @@ StopsReplay (refusals.LongPatch size limit) input input' out out' =
 StopsReplay (refusals.Chain fault) input input' out out' =
     ReadsInput input input' (IsUnchained fault) × IsSilent out out'
 StopsReplay (refusals.TooLong limit) input input' out out' =
-    IsTooLong input.bytes × (limit ≡ stream_limit) × IsSilent out out'
+    IsTooLong input.bytes input'.bytes × (limit ≡ stream_limit) × IsSilent out out'
 StopsReplay refusals.InputFailed input input' out out' =
     ChannelFailed input input' × IsSilent out out'
 StopsReplay refusals.OutputFailed input input' out out' =
@@ -122,7 +123,7 @@ abbrev pub StopsNquads : Refusal → Channel → Channel → Channel → Channel
 StopsNquads (refusals.Document line at kind) input input' out out' =
     ReadsInput input input' (IsFaultyDocument line at kind) × IsSilent out out'
 StopsNquads (refusals.TooLong limit) input input' out out' =
-    IsTooLong input.bytes × (limit ≡ stream_limit) × IsSilent out out'
+    IsTooLong input.bytes input'.bytes × (limit ≡ stream_limit) × IsSilent out out'
 StopsNquads refusals.InputFailed input input' out out' =
     ChannelFailed input input' × IsSilent out out'
 StopsNquads refusals.OutputFailed input input' out out' =

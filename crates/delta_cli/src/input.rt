@@ -2,7 +2,7 @@
 ghost use Rattle.std.specs.Prelude.{◌≡◌, ◌+◌, ◌<◌, ◌≤◌, ◌^◌, ℕ, length, IsErrOf, IfOk, OnOk};
 ghost use Rattle.std.specs.Io.KnownBytes.{Consumes, IsAtEnd};
 ghost use Rattle.delta_base.specs.Outside.{Rose};
-ghost use Rattle.command_tables.specs.Channels.{IsLonger};
+ghost use Rattle.stream_replay.specs.Source.{ReadsPast};
 
 use delta_base::Source;
 use sink_writing::PIECE;
@@ -27,7 +27,7 @@ impl From<AllocError> for InputFault {
     }
 }
 
-/// All that is left, where it has at most `limit` bytes.
+/// All that is left, where it has at most `limit` bytes; else at most a piece more is read.
 pub fn read_all<S: Source>(
     alloc: Global,
     input: &mut S,
@@ -37,7 +37,8 @@ pub fn read_all<S: Source>(
     ensures bytes { IfOk result (λ text.
         Consumes (S.left input.old) (S.left input.new) text.items) }
     ensures end { OnOk result (IsAtEnd (S.left input.new)) }
-    ensures too_long { IsErrOf result InputFault.TooLong → IsLonger (S.left input.old) limit }
+    ensures too_long { IsErrOf result InputFault.TooLong
+        → ReadsPast limit (S.left input.old) (S.left input.new) }
     ensures within { IfOk result (λ text. length text.items ≤ limit) }
     ensures failed { IsErrOf result InputFault.Failed
         → Rose (S.faults input.old) (S.faults input.new) }

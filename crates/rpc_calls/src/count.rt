@@ -23,7 +23,8 @@ fn place_behind(place: Place, byte: u8) -> Place {
     }
 }
 
-/// Whether a body has more values than are read, by the bytes outside its strings that begin or part values.
+/// Whether a body has more values than are read, by the bytes outside its strings that begin or
+/// part values.
 pub(crate) fn has_too_many_values(body: &[u8]) -> bool {
     let mut place = Place::Outside;
     let mut count = 0usize;

@@ -9,8 +9,8 @@ use Rattle.dataset_tx.specs.Rows.{rows_in_order}
 use Rattle.zone_commands.specs.declared.reading.Reading.{Reading}
 use Rattle.zone_commands.specs.declared.reading.Reading.TheVariants as reading
 
--- the lines of the quads; the rows that set the prefixes; or the lines of the quads that match; each
--- in the order of their bytes
+-- the lines of the quads; the rows that set the prefixes; or the lines of the quads that match;
+-- each in the order of their bytes
 abbrev pub lines_read : Reading → Dataset → List (List ℕ)
 lines_read reading.Dump dataset = map line dataset.quads
 lines_read reading.Prefixes dataset = rows_in_order (map prefix_change dataset.prefixes)

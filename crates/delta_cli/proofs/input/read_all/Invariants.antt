@@ -7,6 +7,7 @@ abbrev pub invariant-reading : goal.invariant-reading
 invariant-reading g l = record {
   read : Consumes (g.S.Source.left l.fn.input) (g.S.Source.left l.input) l.text.items;
   faults : g.S.Source.faults l.fn.input ≤ g.S.Source.faults l.input;
+  short : length l.text.items ≤ l.limit + 65536;
   piece : length l.piece ≡ 65536;
 }
 
