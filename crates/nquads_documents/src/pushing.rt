@@ -16,10 +16,11 @@ use canonical_scan::iri_end;
 use nquads_text::{ReadFault, TextKind, char_at, copy_term, skip_blanks};
 use std::alloc::Global;
 
-// Appends the canonical text of the term at a place, and gives the place behind it. A canonical IRI
-// is copied as it stands. No other term is looked at for that, since a line is read here because
-// one of its terms isn't canonical, and that is seldom an IRI.
-fn push_next_term(
+/// Appends the canonical text of the term at a place, and gives the place behind it.
+///
+/// A canonical IRI is copied as it stands. No other term is looked at for that, since a line is
+/// read here because one of its terms isn't canonical, and that is seldom an IRI.
+pub fn push_next_term(
     alloc: Global,
     text: &[u8],
     at: usize,
@@ -36,8 +37,13 @@ fn push_next_term(
     copy_term(alloc, text, at, out)
 }
 
-// The same of an IRI or a blank node.
-fn push_node(alloc: Global, text: &[u8], at: usize, out: &mut Vec<u8>) -> Result<usize, ReadFault>
+/// The same of an IRI or a blank node.
+pub fn push_node(
+    alloc: Global,
+    text: &[u8],
+    at: usize,
+    out: &mut Vec<u8>,
+) -> Result<usize, ReadFault>
     requires { at ≤ length text.now }
     ensures { Pushes term_text text.now out.old.items out.new.items result
         (node_at (drop at text.now)) }
@@ -52,8 +58,8 @@ fn push_node(alloc: Global, text: &[u8], at: usize, out: &mut Vec<u8>) -> Result
     Ok(end)
 }
 
-// The same of an IRI.
-fn push_predicate(
+/// The same of an IRI.
+pub fn push_predicate(
     alloc: Global,
     text: &[u8],
     at: usize,
