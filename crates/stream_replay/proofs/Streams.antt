@@ -10,8 +10,7 @@ use Rattle.rdf_terms.specs.Quad.{Statement}
 use Rattle.row_scan.specs.declared.row.Says.{Says}
 use Rattle.row_scan.specs.declared.row.Says.TheVariants as says
 use Rattle.row_scan.specs.Found.{change_by}
-use Rattle.row_scan.specs.declared.row.ScannedRow.{ScannedRow}
-use Rattle.row_scan.specs.Rows.{HasRow, IsSaid, id_row}
+use Rattle.row_scan.specs.Rows.{IsSaid, id_row}
 use Rattle.delta_base.specs.declared.id.Id.{Id}
 use Rattle.delta_base.specs.Ids.{number_of}
 use Rattle.rdf_terms.specs.declared.change.Change.TheVariants as change
@@ -227,18 +226,6 @@ row_found text at end says.Commit r is e = (row.Change change.Commit, is.row, cc
 row_found text at end says.Abort r is e = (row.Change change.Abort, is.row, cc)
 row_found text at end (says.Id id) r is e = let named = id_role is.0 id is.1 in (id_row (codes "id") is.0, is.2.row, cc)
 row_found text at end (says.Prev id) r is e = let named = prev_role is.0 id is.1 in (id_row (codes "prev") is.0, is.2.row, cc)
-
-said_further : (text : List ℕ) (at end : ℕ) (s : Says) → IsSaid text at end s → at < end
-said_further text at end (says.Quad adds line) is = is.1.further
-said_further text at end (says.Id id) is = is.2.further
-said_further text at end (says.Prev id) is = is.2.further
-said_further text at end _ is = is.further
-
--- a row was found in front, and it ends further on
-pub found_further : (w : Window) (place : Option ℕ) (at : ℕ) (front : List ℕ) (found : ScannedRow) → place ≡ w.front → place ≡ Some at → RowBegins w at → front ≡ front_text w → HasRow front 0 found → (w.passed ≤ at) × (at < length w.fed) × (0 < found.end)
-found_further w place at front found value is begins there row =
-    let gap = begins.0 [] in
-    (gap.1, begins.2, said_further (drop at w.fed) 0 found.end found.says (subst (λ (t : List ℕ). IsSaid t 0 found.end found.says) (there ∙ front_there w at (sym value ∙ is)) row))
 
 -- ---- faults
 

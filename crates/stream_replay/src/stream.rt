@@ -1,6 +1,6 @@
 //! A stream that is read in pieces.
 ghost use Rattle.std.specs.Prelude.{◌≡◌, ◌+◌, ◌-◌, ◌<◌, ◌≤◌, ◌^◌, ◌++◌, ◌∷◌, ℕ, List, []};
-ghost use Rattle.std.specs.Prelude.{None, Some, Err, IfOk, IfErr, OnOk, drop, length};
+ghost use Rattle.std.specs.Prelude.{None, Some, Ok, Err, IfSome, IfOk, IfErr, OnOk, drop, length};
 ghost use Rattle.patch_meaning.specs.Cutting.{EndsStream, IsLastPatch};
 ghost use Rattle.patch_meaning.specs.PartRead.{IsToldAt};
 ghost use Rattle.patch_rows.specs.declared.cut.TextEnd.{TextEnd as End};
@@ -18,6 +18,7 @@ use log_base::ChainLink;
 use patch_meaning::{PatchFault, Role, found_role, role_of};
 use patch_reader::{PlacedRow, RowWindow};
 use patch_rows::{RowFault, TextEnd};
+use row_lines::write_row;
 use row_scan::{Says, ScannedRow, scan_row};
 use std::alloc::Global;
 
@@ -116,7 +117,7 @@ impl Streaming {
         }
     }
 
-    // Takes the canonical rows that come next.
+    // Takes the rows that come next as long as each is found in its text, without being read.
     fn take_found_rows(&mut self, alloc: Global) -> Result<(), ReplayFault>
         requires room { length self.old.window.fed ≤ 2 ^ 31 }
         requires few { self.old.progress.replay.chain.version ≤ self.old.window.passed }
@@ -130,16 +131,53 @@ impl Streaming {
         ensures fed { self.new.window.fed ≡ self.old.window.fed }
         ensures same { self.new.fault ≡ self.old.fault }
     {
+        let mut line = Vec::new(alloc);
         'rows: while let Some(place) = self.window.row_place() {
-            match scan_row(self.window.row_front(), 0) {
-                Some(found) => {
-                    self.take_found(alloc, found, place)?;
-                    self.window.pass_row(place + found.end as u64);
-                }
+            match self.take_front(alloc, place, &mut line)? {
+                Some(size) => self.window.pass_row(place + size as u64),
                 None => return Ok(()),
             }
         }
         Ok(())
+    }
+
+    // Takes the row that stands where the next one begins, if it is canonical, or adds or deletes a
+    // quad in any form, and gives how many bytes it has. The quad's line is written into `line`.
+    #[inline]
+    fn take_front(
+        &mut self,
+        alloc: Global,
+        place: u64,
+        line: &mut Vec<u8>,
+    ) -> Result<Option<usize>, ReplayFault>
+        requires room { self.old.progress.replay.chain.version < 2 ^ 32 - 1 }
+        requires begins { RowBegins self.old.window place }
+        requires front { self.old.window.front ≡ Some place }
+        ensures ok { IfOk result (λ taken. IfSome taken (λ size. (end : End)
+            → IsStreamRead end self.old
+            → HasStreamed end self.old.window.fed (place + size) self.new.progress)) }
+        ensures further { IfOk result (λ taken. IfSome taken (λ size. 0 < size)) }
+        ensures within { IfOk result (λ taken. IfSome taken (λ size.
+            place + size ≤ length self.old.window.fed)) }
+        ensures none { result ≡ Ok None → self.new.progress ≡ self.old.progress }
+        ensures fault { IfErr result (λ told. (end : End) → IsStreamRead end self.old
+            → IsToldEnd end self.old.window.fed told) }
+        ensures version { OnOk result (self.new.progress.replay.chain.version
+            ≤ self.old.progress.replay.chain.version + 1) }
+        ensures window { self.new.window ≡ self.old.window }
+        ensures same { self.new.fault ≡ self.old.fault }
+    {
+        if let Some(found) = scan_row(self.window.row_front(), 0) {
+            self.take_found(alloc, found, place)?;
+            return Ok(Some(found.end));
+        }
+        match write_row(alloc, self.window.row_front(), 0, line)? {
+            Some(row) => {
+                self.progress.take_quad(row.adds, line, place)?;
+                Ok(Some(row.end))
+            }
+            None => Ok(None),
+        }
     }
 
     // Takes a canonical row that was found where the next one begins.
