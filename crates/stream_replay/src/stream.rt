@@ -93,7 +93,7 @@ impl Streaming {
     }
 
     // Takes all rows that are known. Each piece begins with the row that was unfinished, which the
-    // window follows; behind it canonical rows are found first.
+    // window follows; behind it come those that the reader of rows needn't read.
     fn advance(&mut self, alloc: Global, end: TextEnd) -> Result<(), ReplayFault>
         requires room { length self.old.window.fed ≤ 2 ^ 31 }
         requires few { self.old.progress.replay.chain.version ≤ self.old.window.passed }
@@ -117,7 +117,7 @@ impl Streaming {
         }
     }
 
-    // Takes the rows that come next as long as each is found in its text, without being read.
+    // Takes the rows that come next, up to one that the reader of rows is to read.
     fn take_found_rows(&mut self, alloc: Global) -> Result<(), ReplayFault>
         requires room { length self.old.window.fed ≤ 2 ^ 31 }
         requires few { self.old.progress.replay.chain.version ≤ self.old.window.passed }
