@@ -21,6 +21,7 @@ enum Command {
     Fronts,
     Scan,
     Places,
+    Written,
     Pieces,
     Feed,
     Patch,
@@ -31,13 +32,14 @@ enum Command {
     Emitted,
 }
 
-const COMMANDS: [(&str, Command); 14] = [
+const COMMANDS: [(&str, Command); 15] = [
     ("space", Command::Space),
     ("row", Command::Row),
     ("decided", Command::Decided),
     ("fronts", Command::Fronts),
     ("scan", Command::Scan),
     ("places", Command::Places),
+    ("written", Command::Written),
     ("pieces", Command::Pieces),
     ("feed", Command::Feed),
     ("patch", Command::Patch),
@@ -66,6 +68,7 @@ impl Layer for Texts {
             Some(Command::Fronts) => rows::fronts(self.alloc, text, answer),
             Some(Command::Scan) => scans::scan(text, answer),
             Some(Command::Places) => scans::places(self.alloc, words, answer),
+            Some(Command::Written) => rows::written(self.alloc, text, answer),
             Some(Command::Pieces) => pieces::pieces(self.alloc, text, answer),
             Some(Command::Feed) => pieces::feed(self.alloc, words, answer),
             Some(Command::Patch) => patches::patch(self.alloc, text, answer),

@@ -3,6 +3,7 @@
 use case_scripts::Answer;
 use patch_reader::{decided_row, read_row};
 use patch_rows::{Row, RowFault, print_row, skip_space};
+use row_lines::write_row;
 use std::alloc::Global;
 use std::fmt::Write;
 
@@ -109,4 +110,19 @@ pub(crate) fn fronts(alloc: Global, text: &[u8], answer: &mut Answer) {
         answer.push(b"never decided, ");
     }
     tell_end(whole, answer);
+}
+
+/// `written TEXT`: whether the row in front adds or deletes a quad, where it ends, and the quad's line, which is written
+/// while the row is read.
+pub(crate) fn written(alloc: Global, text: &[u8], answer: &mut Answer) {
+    let mut line = Vec::new(alloc);
+    match write_row(alloc, text, 0, &mut line) {
+        Ok(Some(row)) => {
+            let change = if row.adds { "adds" } else { "deletes" };
+            let _ = write!(answer, "{change} to {}: ", row.end);
+            answer.push(&line);
+        }
+        Ok(None) => answer.push(b"none"),
+        Err(_) => answer.push(b"out of memory"),
+    }
 }
