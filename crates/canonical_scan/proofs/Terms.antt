@@ -13,7 +13,7 @@ use Rattle.rdf_terms.specs.declared.term.Term.{Term}
 use Rattle.rdf_terms.specs.declared.term.Term.TheVariants as term
 use Rattle.nquads_text.specs.Printing.{EndsTerm}
 use Rattle.nquads_text.proofs.Printed.{space_ends}
-use Rattle.canonical_scan.specs.Found.{HasTerm, HasNode, HasIri}
+use Rattle.canonical_scan.specs.Found.{HasNode, HasIri, HasPlaces}
 use Rattle.canonical_scan.specs.Parts.{Between, Stands, InString, IsIriText, Closed, HasString, HasKind, IsSpaced}
 use Rattle.canonical_scan.proofs.Places.{at_byte, enclosed, behind_byte, stands_joined, stands_slice}
 
@@ -36,7 +36,7 @@ pub language_there : (text : List ℕ) (at : ℕ) (o : Option ℕ) → at < leng
 language_there text at None lt opens found = tt
 language_there text at (Some end) lt opens found =
     let tag : List ℕ = slice_range text (at + 1) end in
-    (Tagged tag, found.form, behind_byte 64 tag text at (at + 1) end lt refl opens (stands_slice text (at + 1) end found.low found.high))
+    (Tagged tag, (found.form, behind_byte 64 tag text at (at + 1) end lt refl opens (stands_slice text (at + 1) end found.low found.high)))
 
 other : (b : Bool) → not b ≡ true → b ≡ false
 other true e = absurd cc
@@ -51,8 +51,10 @@ datatype_there text at hat less from close lt a b d first second opens c tests =
     let s = enclosed 60 62 text less from close (close + 1) lt d c.0.low c.1 refl opens c.2 in
     let whole : List ℕ = (60 ∷ iri) ++ (62 ∷ []) in (
       Typed iri,
-      (c.0.form.0, (c.0.form.1, other _ t.0, other _ t.1)),
-      behind_byte 94 (94 ∷ whole) text at hat (close + 1) (omega arith) a first (behind_byte 94 whole text hat less (close + 1) (omega arith) b second s),
+      (
+        (c.0.form.0, (c.0.form.1, other _ t.0, other _ t.1)),
+        behind_byte 94 (94 ∷ whole) text at hat (close + 1) (omega arith) a first (behind_byte 94 whole text hat less (close + 1) (omega arith) b second s),
+      ),
     )
 
 -- ---- what ends a term
@@ -70,11 +72,13 @@ spaced_there text at next behind lt a b space no_space no_tab no_hat = (
 ends_there : (t : Term) (text : List ℕ) (end : ℕ) → IsSpaced text end → EndsTerm t (drop end text)
 ends_there t text end s = subst (EndsTerm t) (sym s.2) (space_ends t s.0 s.1 s.3 s.4)
 
-pub literal_there : (text : List ℕ) (at behind end : ℕ) → HasString text at behind → HasKind text behind end → IsSpaced text end → HasTerm text at end
-literal_there text at behind end s k spaced =
+pub literal_there : (text : List ℕ) (at string end : ℕ) → HasString text at string → HasKind text string end → IsSpaced text end → HasPlaces text at (record { string = Some string; end = end })
+literal_there text at string end s k spaced =
     let t : Term = term.Literal (record { lexical = s.0; kind = k.0 }) in
-    let whole = stands_joined (quoted s.0) (kind_text k.0) text at behind end s.2 k.2 in
-    (t, record { value = (s.1, k.1); stands = whole.is; ends = ends_there t text end spaced; further = omega (arith, s.3, k.2.low); within = whole.high })
+    let whole = stands_joined (quoted s.0) (kind_text k.0) text at string end s.2 k.1.1 in (
+      (t, record { value = (s.1, k.1.0); stands = whole.is; ends = ends_there t text end spaced; further = omega (arith, s.3, k.1.1.low); within = whole.high }),
+      (s, k),
+    )
 
 -- ---- blank nodes
 

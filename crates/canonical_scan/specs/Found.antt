@@ -5,6 +5,8 @@ use Rattle.rdf_terms.specs.declared.term.Term.{Term}
 use Rattle.rdf_terms.specs.Line.{line, term_text}
 use Rattle.rdf_terms.specs.Quad.{Statement, is_iri, is_literal, is_quad}
 use Rattle.nquads_text.specs.Printing.{EndsTerm, HasTermValues, IsTermValue}
+use Rattle.canonical_scan.specs.declared.term.TermPlaces.{TermPlaces}
+use Rattle.canonical_scan.specs.Parts.{HasObject}
 
 -- the canonical text of a term stands between two places, and what follows can't go on with it
 pub record IsTermThere (text : List ℕ) (at end : ℕ) (term : Term) : Type 0 where
@@ -16,6 +18,10 @@ pub record IsTermThere (text : List ℕ) (at end : ℕ) (term : Term) : Type 0 w
 
 abbrev pub HasTerm : List ℕ → ℕ → ℕ → Type 0
 HasTerm text at end = (term : Term) × IsTermThere text at end term
+
+-- a term and its string end at these places
+abbrev pub HasPlaces : List ℕ → ℕ → TermPlaces → Type 0
+HasPlaces text at p = HasTerm text at p.end × HasObject text at p.string p.end
 
 -- the term is an IRI or a blank node
 abbrev pub HasNode : List ℕ → ℕ → ℕ → Type 0

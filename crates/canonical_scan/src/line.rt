@@ -3,8 +3,23 @@
 ghost use Rattle.std.specs.Prelude.{◌≤◌, [], ◌∷◌, length, IfSome};
 ghost use Rattle.canonical_scan.specs.Found.{HasLine};
 ghost use Rattle.canonical_scan.specs.Parts.{Stands, HasGraph};
+ghost use Rattle.canonical_scan.specs.Places.{ArePlaces};
 
-use crate::term::{iri_end, node_end, term_end};
+use crate::term::{iri_end, node_end, term_places};
+
+/// Where the parts of a quad's canonical line end.
+#[derive(Clone, Copy)]
+pub struct LinePlaces {
+    pub subject: usize,
+    pub predicate: usize,
+    /// The place behind the object's string, where the object is a literal.
+    pub string: Option<usize>,
+    pub object: usize,
+    /// The place behind the graph, or behind the object where there is none.
+    pub graph: usize,
+    /// The place behind the line feed.
+    pub end: usize,
+}
 
 /// The place behind the space at a place.
 #[inline]
@@ -43,17 +58,34 @@ fn dot_end(text: &[u8], at: usize) -> Option<usize>
     Some(at + 3)
 }
 
-/// The place behind the canonical line of a quad that stands at a place, with its line feed.
-pub fn line_end(text: &[u8], at: usize) -> Option<usize>
+/// Where the parts of the canonical line of a quad end that stands at a place.
+#[inline]
+pub fn line_places(text: &[u8], at: usize) -> Option<LinePlaces>
     requires { at ≤ length text.now }
-    ensures { IfSome result (HasLine text.now at) }
+    ensures { IfSome result (ArePlaces text.now at) }
 {
     let subject = node_end(text, at)?;
     let second = space_end(text, subject)?;
     let predicate = iri_end(text, second)?;
     let third = space_end(text, predicate)?;
-    let object = term_end(text, third)?;
-    let graph = graph_end(text, object)?;
+    let object = term_places(text, third)?;
+    let graph = graph_end(text, object.end)?;
     let end = dot_end(text, graph)?;
-    Some(end)
+    Some(LinePlaces {
+        subject,
+        predicate,
+        string: object.string,
+        object: object.end,
+        graph,
+        end,
+    })
+}
+
+/// The place behind the canonical line of a quad that stands at a place, with its line feed.
+pub fn line_end(text: &[u8], at: usize) -> Option<usize>
+    requires { at ≤ length text.now }
+    ensures { IfSome result (HasLine text.now at) }
+{
+    let places = line_places(text, at)?;
+    Some(places.end)
 }
