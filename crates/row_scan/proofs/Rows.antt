@@ -5,14 +5,17 @@ use Rattle.rdf_terms.specs.Line.{line, term_text, graph_text}
 use Rattle.rdf_terms.specs.Quad.{Statement, is_quad}
 use Rattle.nquads_text.specs.Grammar.{StartsWith}
 use Rattle.nquads_text.specs.Printing.{HasTermValues}
-use Rattle.canonical_scan.specs.Found.{HasLine}
+use Rattle.canonical_scan.specs.declared.line.LinePlaces.{LinePlaces}
+use Rattle.canonical_scan.specs.Found.{IsLineThere}
+use Rattle.canonical_scan.specs.Places.{ArePlaces}
+use Rattle.canonical_scan.proofs.Lines.{line_there}
 use Rattle.patch_rows.specs.declared.row.Row.{Row}
 use Rattle.patch_rows.specs.declared.row.Row.TheVariants as row
 use Rattle.patch_rows.specs.Grammar.{begins_space, letters, row_limit, ShortRowAt, IsRowAt, IsDecidedRow}
 use Rattle.patch_rows.specs.Printing.{quad_text, row_text, IsRowValue, IsWritable}
 use Rattle.patch_rows.proofs.Printed.{printed_decided}
 use Rattle.row_scan.specs.declared.QuadRow.{QuadRow}
-use Rattle.row_scan.specs.Found.{change_by, code_by, IsQuadRow, HasQuadRow}
+use Rattle.row_scan.specs.Found.{change_by, code_by, IsQuadRow, HasQuadRow, IsRowOfLine}
 
 -- ---- the text of a quad's row
 
@@ -77,11 +80,9 @@ one_letter true = refl
 one_letter false = refl
 
 -- the code and a space stand at the place, and behind them the line
-pub found : (text : List ℕ) (at behind : ℕ) (adds : Bool) → drop at text ≡ letters (code_by adds) ++ 32 ∷ drop (at + 2) text → at + 2 ≤ length text → HasLine text (at + 2) behind
-    → behind - 1 - at ≤ row_limit → HasQuadRow text at (record { adds = adds; line = at + 2; end = behind - 1 })
-found text at behind adds begins within l short =
-    let q : Statement = l.0 in
-    let there = l.1 in
+found : (text : List ℕ) (at behind : ℕ) (adds : Bool) → drop at text ≡ letters (code_by adds) ++ 32 ∷ drop (at + 2) text → at + 2 ≤ length text
+    → behind - 1 - at ≤ row_limit → (q : Statement) → IsLineThere text (at + 2) behind q → IsQuadRow text at (record { adds = adds; line = at + 2; end = behind - 1 }) q
+found text at behind adds begins within short q there =
     let code : List ℕ = letters (code_by adds) in
     let r : Row = row.Change (change_by adds q) in
     let stands : drop at text ≡ (row_text r ++ 10 ∷ []) ++ drop behind text =
@@ -90,16 +91,22 @@ found text at behind adds begins within l short =
     let low = there.further in
     let high = there.within in
     let count : behind - 1 ≡ at + length (row_text r) = omega (arith, sizes, low, high, within, length-append (row_text r) (10 ∷ []), length-drop behind text) in
-    let next : behind - 1 + 1 ≡ behind = omega (arith, low) in (
-      q,
-      record {
-        quads = there.quads;
-        values = there.values;
-        begins = refl;
-        bytes = ap (slice_range text (at + 2)) next ∙ there.bytes;
-        row = decided text at (behind - 1) r (drop behind text) stands (omega (arith, within)) count (omega (arith, short, count)) (values adds q there.values) (writable adds q there.quads);
-        fresh = fresh adds (drop at text) (32 ∷ drop (at + 2) text) begins;
-        further = omega (arith, low);
-        within = omega (arith, low, high);
-      },
-    )
+    let next : behind - 1 + 1 ≡ behind = omega (arith, low) in
+    record {
+      quads = there.quads;
+      values = there.values;
+      begins = refl;
+      bytes = ap (slice_range text (at + 2)) next ∙ there.bytes;
+      row = decided text at (behind - 1) r (drop behind text) stands (omega (arith, within)) count (omega (arith, short, count)) (values adds q there.values) (writable adds q there.quads);
+      fresh = fresh adds (drop at text) (32 ∷ drop (at + 2) text) begins;
+      further = omega (arith, low);
+      within = omega (arith, low, high);
+    }
+
+pub places_found : (text : List ℕ) (at : ℕ) (adds : Bool) (places : LinePlaces) → drop at text ≡ letters (code_by adds) ++ 32 ∷ drop (at + 2) text → at + 2 ≤ length text
+    → ArePlaces text (at + 2) places → places.end - 1 - at ≤ row_limit → IsRowOfLine text at (record { adds = adds; line = at + 2; end = places.end - 1 }) places
+places_found text at adds places begins within are short = record { line = are; row = found text at places.end adds begins within short }
+
+-- such a row has a quad
+pub some_quad : (text : List ℕ) (at : ℕ) (r : QuadRow) (places : LinePlaces) → IsRowOfLine text at r places → HasQuadRow text at r
+some_quad text at r places is = let l = line_there text r.line places is.line in (l.0, is.row l.0 l.1)

@@ -11,6 +11,9 @@ use Rattle.patch_rows.specs.declared.codes.Code.{Code}
 use Rattle.patch_rows.specs.declared.codes.Code.TheVariants as code
 use Rattle.patch_rows.specs.declared.row.Row.TheVariants as row
 use Rattle.patch_rows.specs.Grammar.{begins_space, IsDecidedRow}
+use Rattle.canonical_scan.specs.declared.line.LinePlaces.{LinePlaces}
+use Rattle.canonical_scan.specs.Found.{IsLineThere}
+use Rattle.canonical_scan.specs.Places.{ArePlaces}
 use Rattle.row_scan.specs.declared.QuadRow.{QuadRow}
 
 -- the change that adds a quad, or the one that deletes it
@@ -35,3 +38,8 @@ pub record IsQuadRow (text : List ℕ) (at : ℕ) (r : QuadRow) (quad : Statemen
 
 abbrev pub HasQuadRow : List ℕ → ℕ → QuadRow → Type 0
 HasQuadRow text at r = (quad : Statement) × IsQuadRow text at r quad
+
+-- its line has these places, and any quad of that line makes the row one of that quad
+pub record IsRowOfLine (text : List ℕ) (at : ℕ) (r : QuadRow) (places : LinePlaces) : Type 0 where
+  pub line : ArePlaces text r.line places
+  pub row : (quad : Statement) → IsLineThere text r.line places.end quad → IsQuadRow text at r quad
