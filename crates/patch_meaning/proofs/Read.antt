@@ -23,14 +23,16 @@ use Rattle.patch_meaning.specs.Next.{IsNextRow, IsNextRead}
 use Rattle.patch_meaning.specs.PartRead.{LacksEnd, meaning_of}
 use Rattle.log_base.specs.declared.limits.TheConstants.{PATCH_LIMIT}
 use Rattle.patch_meaning.specs.Patch.{IsPatch, IsWell, AreTaken, IsPatchFault, rows_, no_row, refused, open_block, no_id, refusal, row_refused}
-use Rattle.patch_meaning.specs.Roles.{value_id, header_role, role, IsFoundRole, said, changes_of}
+use Rattle.patch_meaning.specs.Roles.{value_id, header_role, role, IsFoundRole, found_role, said, changes_of}
 use Rattle.patch_meaning.specs.Rows.{RowsTo}
 use Rattle.patch_reader.specs.declared.placed.PlacedRow.{PlacedRow}
 use Rattle.patch_reader.specs.Rows.{Gap}
 use Rattle.row_scan.specs.declared.row.Says.{Says}
 use Rattle.row_scan.specs.declared.row.Says.TheVariants as says
 use Rattle.row_scan.specs.declared.row.ScannedRow.{ScannedRow}
-use Rattle.row_scan.specs.Found.{change_by}
+use Rattle.rdf_terms.specs.Quad.{Statement}
+use Rattle.row_scan.specs.declared.QuadRow.{QuadRow}
+use Rattle.row_scan.specs.Found.{change_by, IsQuadRow}
 use Rattle.row_scan.specs.Rows.{id_row, IsSaid, HasRow}
 use Rattle.row_scan.proofs.Rows.{row_there, stands_alone}
 use Rattle.patch_meaning.proofs.Rowed.{rows_more, row_within}
@@ -79,6 +81,23 @@ pub next_found : (text : List ℕ) (from at : ℕ) (row : ScannedRow) → Gap te
 next_found text from at row gap is =
     let r = row_found text at row.end row.says is in
     (r.0, r.1, (r.2, gap, r.3, r.4))
+
+found_is : (s : Says) (r x : Role) → IsFoundRole s r → found_role s ≡ Some x → r ≡ x
+found_is (says.Quad adds line) r x is same = absurd cc
+found_is says.Begin r x is same = is ∙ cc
+found_is says.Commit r x is same = is ∙ cc
+found_is says.Abort r x is same = is ∙ cc
+found_is (says.Id id) r x is same = is ∙ cc
+found_is (says.Prev id) r x is same = is ∙ cc
+
+pub word_found : (text : List ℕ) (from at : ℕ) (row : ScannedRow) (x : Role) → Gap text from at → HasRow text at row → found_role row.says ≡ Some x → IsNextRow text from (record { role = x; at = at; end = row.end })
+word_found text from at row x gap is same =
+    let next = next_found text from at row gap is in
+    subst (λ (r : Role). IsNextRow text from (record { role = r; at = at; end = row.end })) (found_is row.says next.0 x next.1 same) next.2
+
+pub quad_made : (text : List ℕ) (from at : ℕ) (row : QuadRow) (quad : Statement) → Gap text from at → IsQuadRow text at row quad
+    → IsNextRow text from (record { role = roles.Change (change_by row.adds quad); at = at; end = row.end })
+quad_made text from at row quad gap is = (rows.Change (change_by row.adds quad), gap, row_there text at row quad is, refl)
 
 -- what is left gets less
 pub further : (text : List ℕ) (at : ℕ) (next : Next) → IsNextRow text at next → (at < next.end) × (next.end ≤ length text)

@@ -30,7 +30,7 @@ use Rattle.patch_meaning.specs.Stream.{StreamPart, Cut, AreStream, IsSplit, begi
 use Rattle.patch_meaning.proofs.Cuts.{cut_begun, cut_longer, stop_more, none_there, nothing_cut, taken_next}
 use Rattle.patch_meaning.proofs.StreamFaults.{refused_fault, no_row_fault, end_fault}
 use Rattle.patch_meaning.proofs.Pieces.{last_rows}
-use Rattle.patch_meaning.proofs.Read.{next_found}
+use Rattle.patch_meaning.proofs.Read.{next_found, word_found}
 use Rattle.patch_meaning.proofs.Rowed.{rows_more, row_within, rows_order, rows_up_to}
 
 -- ---- texts
@@ -125,18 +125,8 @@ taken_behind text at old new row done is h cuts taken links =
 
 -- ---- rows that a scan found
 
-found_is : (s : Says) (r x : Role) → IsFoundRole s r → found_role s ≡ Some x → r ≡ x
-found_is (says.Quad adds line) r x is same = absurd cc
-found_is says.Begin r x is same = is ∙ cc
-found_is says.Commit r x is same = is ∙ cc
-found_is says.Abort r x is same = is ∙ cc
-found_is (says.Id id) r x is same = is ∙ cc
-found_is (says.Prev id) r x is same = is ∙ cc
-
 pub found_next : (text : List ℕ) (at : ℕ) (found : ScannedRow) (k : Cutting) (x : Role) → IsFoundToCut text at found k → found_role found.says ≡ Some x → IsNextToCut text (record { role = x; at = at; end = found.end }) k
-found_next text at found k x is same =
-    let row = next_found text is.0 at found is.2 is.3 in
-    (is.0, is.1, subst (λ (r : Role). IsNextRow text is.0 (record { role = r; at = at; end = found.end })) (found_is found.says row.0 x row.1 same) row.2)
+found_next text at found k x is same = (is.0, is.1, word_found text is.0 at found x is.2 is.3 same)
 
 quad_found : (s : Says) (r : Role) → IsFoundRole s r → found_role s ≡ None → (adds : Bool) × (quad : Statement) × (r ≡ roles.Change (change_by adds quad))
 quad_found (says.Quad adds line) r is none = (adds, is.0, is.1)
