@@ -27,11 +27,13 @@ const FEW: usize = 16;
 // of the lines has half of what is left of it.
 const LEVELS: u32 = 64;
 
-// Of what texts have in common no more bytes are counted at once.
-const MOST_ALIKE: usize = 65_535;
-
-// Fewer bytes in common than this take one byte of a key to count, more take three.
+// Fewer bytes in common than this take one byte of a key to count.
 const FEW_ALIKE: usize = 126;
+
+// Fewer than this take three bytes, and up to the last five.
+const MANY_ALIKE: usize = 65_536;
+
+const MOST_ALIKE: usize = 4_294_967_295;
 
 // A line from a place on.
 #[inline]
@@ -63,6 +65,9 @@ fn alike(a: &[u8], b: &[u8]) -> usize
 {
     let most = a.len().min(b.len());
     let mut size = 0;
+    while most - size >= 256 && a[size..size + 256] == b[size..size + 256] {
+        size += 256;
+    }
     while most - size >= 8 {
         let unlike = first_bytes(&a[size..]) ^ first_bytes(&b[size..]);
         if unlike != 0 {
@@ -83,8 +88,10 @@ fn key_beside(text: &[u8], other: &[u8]) -> u64 {
     let size = alike(text, other).min(MOST_ALIKE);
     let (place, width) = if size < FEW_ALIKE {
         (size, 8)
-    } else {
+    } else if size < MANY_ALIKE {
         ((FEW_ALIKE << 16) | size, 24)
+    } else {
+        ((127 << 32) | size, 40)
     };
     let is_above = size < MOST_ALIKE && text.get(size) > other.get(size);
     let place = if is_above {
@@ -97,12 +104,15 @@ fn key_beside(text: &[u8], other: &[u8]) -> u64 {
 
 // How many bytes those are alike in that have this key.
 fn alike_by(key: u64) -> usize {
-    let place = key.min(!key);
-    let size = (place >> 56) as usize;
+    let place = key.min(!key) as usize;
+    let size = place >> 56;
     if size < FEW_ALIKE {
-        return size + 7;
+        size + 7
+    } else if size == FEW_ALIKE {
+        (place >> 40) % MANY_ALIKE + 5
+    } else {
+        (place >> 24) % (MOST_ALIKE + 1) + 3
     }
-    (place >> 40) as usize % 65_536 + 5
 }
 
 // Holds beside each line a key, by one in the middle of them.

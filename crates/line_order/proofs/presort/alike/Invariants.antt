@@ -12,3 +12,9 @@ invariant-loop-size-2 l = l.size ≤ l.most
 
 abbrev pub decreases-loop-size-2 : goal.decreases-loop-size-2
 decreases-loop-size-2 l = l.most - l.size
+
+abbrev pub invariant-loop-size-3 : goal.invariant-loop-size-3
+invariant-loop-size-3 l = l.size ≤ l.most
+
+abbrev pub decreases-loop-size-3 : goal.decreases-loop-size-3
+decreases-loop-size-3 l = l.most - l.size
