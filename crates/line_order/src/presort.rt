@@ -27,12 +27,13 @@ const FEW: usize = 16;
 // of the lines has half of what is left of it.
 const LEVELS: u32 = 64;
 
-// Fewer bytes in common than this take one byte of a key to count.
+// The number of bytes in common takes one byte of a key where it is below this.
 const FEW_ALIKE: usize = 126;
 
-// Fewer than this take three bytes, and up to the last five.
+// Below this it takes three bytes of the key, and from here on five.
 const MANY_ALIKE: usize = 65_536;
 
+// No more bytes in common are counted.
 const MOST_ALIKE: usize = 4_294_967_295;
 
 // A line from a place on.
