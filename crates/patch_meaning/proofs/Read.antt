@@ -4,7 +4,6 @@ use Rattle.std.proofs.lemmas.List.{map-append}
 use Rattle.patch_rows.specs.declared.row.Row.TheVariants as rows
 use Rattle.patch_rows.specs.declared.fault.RowFault.{RowFault}
 use Rattle.patch_rows.specs.declared.fault.RowFault.TheVariants as row
-use Rattle.patch_meaning.specs.declared.checked.ReadRows.{ReadRows}
 use Rattle.patch_meaning.specs.declared.draft.Draft.{Draft}
 use Rattle.log_base.specs.declared.chain_link.ChainLink.{ChainLink}
 use Rattle.delta_base.specs.declared.id.Id.{Id}
@@ -17,7 +16,7 @@ use Rattle.patch_meaning.specs.declared.fault.PatchFault.{PatchFault}
 use Rattle.patch_meaning.specs.declared.role.Role.{Role}
 use Rattle.patch_meaning.specs.declared.role.Role.TheVariants as roles
 use Rattle.patch_meaning.specs.declared.rows.Next.{Next}
-use Rattle.patch_meaning.specs.Checked.{AreRead, HasTakenRows, HasDrafted, Refuses, IsStopped}
+use Rattle.patch_meaning.specs.Checked.{HasTakenRows, HasDrafted, Refuses, IsStopped}
 use Rattle.patch_meaning.specs.Draft.{DraftStands}
 use Rattle.patch_meaning.specs.Next.{IsNextRow, IsNextRead}
 use Rattle.patch_meaning.specs.PartRead.{LacksEnd, meaning_of}
@@ -36,10 +35,6 @@ use Rattle.row_scan.specs.Found.{change_by, IsQuadRow}
 use Rattle.row_scan.specs.Rows.{id_row, IsSaid, HasRow}
 use Rattle.row_scan.proofs.Rows.{row_there, stands_alone}
 use Rattle.patch_meaning.proofs.Rowed.{rows_more, row_within}
-
--- what is known of rows that were taken and kept
-abbrev pub kept : ReadRows → List Role → Type 0
-kept d rs = AreRead rs d
 
 pub started : (text : List ℕ) (Known : List Role → Type 0) → Known [] → HasTakenRows text 0 Known
 started text Known s = record { rs = []; reads = refl; within = omega arith; known = s }

@@ -50,8 +50,8 @@ IsStopped rs next fault =
     ⊎ ((why : PatchKind) × (refusal rs next.role ≡ Some why) × (fault ≡ faults.At next.at why))
 
 -- these rows were taken, and their changes are kept
-abbrev pub AreRead : List Role → ReadRows → Type 0
-AreRead rs read = DraftStands rs read.draft × (changes_of rs ≡ read.changes.items)
+abbrev pub AreRead : ReadRows → List Role → Type 0
+AreRead read rs = DraftStands rs read.draft × (changes_of rs ≡ read.changes.items)
 
 -- these rows were taken, and no change is kept
 abbrev pub AreDrafted : Draft → List Role → Type 0
@@ -67,15 +67,16 @@ pub record HasTakenRows (text : List ℕ) (at : ℕ) (Known : List Role → Type
 -- all rows of the text were taken
 abbrev pub HasReadPatch : List ℕ → ReadRows → Type 0
 HasReadPatch text read =
-    (rs : List PlacedRow) × RowsTo text 0 rs (length text) × AreRead (said rs) read
+    (rs : List PlacedRow) × RowsTo text 0 rs (length text) × AreRead read (said rs)
 
 -- the same where no change is kept
 abbrev pub HasDrafted : List ℕ → Draft → Type 0
 HasDrafted text d = (rs : List PlacedRow) × RowsTo text 0 rs (length text) × AreDrafted d (said rs)
 
 -- The next row behind a place was taken, and this is the place behind it; or all were taken; or it
--- is the text's first fault.
-abbrev pub TakesNext : List ℕ → ℕ → Draft → Result (Option ℕ) PatchFault → Type 0
-TakesNext text at d (Ok (Some end)) = (at < end) × HasTakenRows text end (AreDrafted d)
-TakesNext text at d (Ok None) = HasDrafted text d
-TakesNext text at d (Err fault) = Refuses text fault
+-- is the text's first fault. Of the rows that were taken this is known.
+abbrev pub TakesNext : List ℕ → ℕ → (List Role → Type 0) → Result (Option ℕ) PatchFault → Type 0
+TakesNext text at Known (Ok (Some end)) = (at < end) × HasTakenRows text end Known
+TakesNext text at Known (Ok None) =
+    (rs : List PlacedRow) × RowsTo text 0 rs (length text) × Known (said rs)
+TakesNext text at Known (Err fault) = Refuses text fault

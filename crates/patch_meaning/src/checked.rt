@@ -2,20 +2,25 @@
 
 ghost use Rattle.std.specs.Prelude.{◌≡◌, ◌≤◌, ◌++◌, ◌∷◌, [], List, Err, length, IfOk, IfErr, OnOk};
 ghost use Rattle.patch_meaning.specs.declared.role.Role.{Role as Said};
-ghost use Rattle.patch_meaning.specs.Checked.{AreRead, HasReadPatch, Refuses, IsStopped};
+ghost use Rattle.patch_meaning.specs.declared.role.Role.TheVariants as roles;
+ghost use Rattle.patch_meaning.specs.Checked.{AreRead, HasReadPatch, HasTakenRows};
+ghost use Rattle.patch_meaning.specs.Checked.{Refuses, IsStopped, TakesNext};
 ghost use Rattle.patch_meaning.specs.Roles.{change_of};
 ghost use Rattle.patch_meaning.specs.PartRead.{meaning_of};
 ghost use Rattle.log_base.specs.declared.limits.TheConstants.{PATCH_LIMIT};
 ghost use Rattle.patch_meaning.specs.Patch.{IsPatch};
+ghost use Rattle.row_scan.specs.Found.{change_by};
 
 use crate::draft::Draft;
 use crate::fault::PatchFault;
 use crate::part::whole;
 use crate::role::Role;
-use crate::rows::{Next, next_row};
+use crate::rows::{Next, next_from};
 use delta_base::{Bytes, Id, Listing, OutOfMemory};
 use log_base::{ChainLink, PATCH_LIMIT, Sent};
-use rdf_terms::Changes;
+use patch_rows::skip_space;
+use rdf_terms::{Change, Changes, Quad};
+use row_scan::{MadeRow, made_row};
 use std::alloc::Global;
 use std::marker::Model;
 
@@ -166,19 +171,58 @@ fn read_rows(alloc: Global, text: &[u8]) -> Result<ReadRows, PatchFault>
         changes: Listing::new(alloc),
     };
     let mut at = 0;
-    while let Some(next) = next_row(alloc, text, at)? {
-        at = take(&mut read, next)?;
+    while let Some(end) = take_next(alloc, &mut read, text, at)? {
+        at = end;
     }
     Ok(read)
 }
 
+// Takes the next row behind a place, if there is one, and answers the place behind it. Where the
+// scan finds a quad, it is made with no reading.
+#[inline(always)]
+fn take_next(
+    alloc: Global,
+    read: &mut ReadRows,
+    text: &[u8],
+    from: usize,
+) -> Result<Option<usize>, PatchFault>
+    requires short { length text.now ≤ PATCH_LIMIT }
+    requires taken { HasTakenRows text.now from (AreRead read.old) }
+    ensures { TakesNext text.now from (AreRead read.new) result }
+{
+    let at = skip_space(text, from);
+    if let Some(MadeRow { row, quad }) = made_row(alloc, text, at)? {
+        take_quad(read, row.adds, quad)?;
+        return Ok(Some(row.end));
+    }
+    match next_from(alloc, text, at)? {
+        None => Ok(None),
+        Some(next) => Ok(Some(take(read, next)?)),
+    }
+}
+
+// Takes a row that adds or deletes a quad, which may stand behind any others.
+#[inline(always)]
+fn take_quad(read: &mut ReadRows, adds: bool, quad: Quad) -> Result<(), OutOfMemory>
+    ensures { OnOk result ((rs : List Said) → AreRead read.old rs
+        → AreRead read.new (rs ++ roles.Change (change_by adds quad) ∷ [])) }
+{
+    read.draft.take_quad();
+    if adds {
+        read.changes.push(Change::Add(quad))?;
+    } else {
+        read.changes.push(Change::Delete(quad))?;
+    }
+    Ok(())
+}
+
 // Takes a row, and answers the place behind it.
 fn take(read: &mut ReadRows, next: Next) -> Result<usize, PatchFault>
-    ensures ok { OnOk result ((rs : List Said) → AreRead rs read.old
-        → AreRead (rs ++ next.role ∷ []) read.new) }
+    ensures ok { OnOk result ((rs : List Said)
+        → AreRead read.old rs → AreRead read.new (rs ++ next.role ∷ [])) }
     ensures end { IfOk result (λ end. end ≡ next.end) }
-    ensures fault { IfErr result (λ fault. (rs : List Said) → AreRead rs read.old
-        → IsStopped rs next fault) }
+    ensures fault { IfErr result (λ fault. (rs : List Said)
+        → AreRead read.old rs → IsStopped rs next fault) }
 {
     let Next { role, at, end } = next;
     match read.draft.take(&role) {

@@ -63,7 +63,7 @@ fn take_next(
 ) -> Result<Option<usize>, PatchFault>
     requires short { length text.now ≤ PATCH_LIMIT }
     requires taken { HasTakenRows text.now from (AreDrafted draft.old) }
-    ensures { TakesNext text.now from draft.new result }
+    ensures { TakesNext text.now from (AreDrafted draft.new) result }
 {
     let at = skip_space(text, from);
     if let Some(row) = scan_row(text, at) {

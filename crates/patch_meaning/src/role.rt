@@ -21,7 +21,7 @@ pub enum Role {
     Change(Change),
 }
 
-/// What a row says. It is inlined for the same reason as `next_row`.
+/// What a row says. It is inlined for the same reason as `next_from`.
 #[inline(always)]
 pub fn role_of(row: Row) -> Role
     ensures { result ≡ role row }

@@ -1,18 +1,15 @@
 //! The next row of a text.
 
-ghost use Rattle.std.specs.Prelude.{◌≡◌, ◌≤◌, ℕ, drop, length, IfOk, IfSome};
+ghost use Rattle.std.specs.Prelude.{◌≤◌, ℕ, drop, length, IfSome};
 ghost use Rattle.nquads_text.specs.Grammar.{StartsWith};
 ghost use Rattle.patch_meaning.specs.Next.{IsNextRead, IsNextRow};
 ghost use Rattle.patch_reader.specs.Rows.{Gap};
 ghost use Rattle.patch_rows.specs.Grammar.{begins_space};
-ghost use Rattle.row_scan.specs.Found.{change_by};
 
 use crate::role::{Role, found_role, role_of};
-use delta_base::OutOfMemory;
 use patch_reader::read_row;
-use patch_rows::{RowFault, skip_space};
-use rdf_terms::{Change, Quad};
-use row_scan::{MadeRow, made_row, scan_row};
+use patch_rows::RowFault;
+use row_scan::scan_row;
 use std::alloc::Global;
 
 /// What a row says, its first byte, and the place behind its dot.
@@ -23,50 +20,19 @@ pub struct Next {
     pub end: usize,
 }
 
-/// The next row behind a place, if there is one. It is inlined, so that what a row says isn't moved
-/// on its way to who takes it.
+/// The row that begins at a place behind white space, unless the text ends there. One of an id or
+/// of a word of blocks is found by the scan. It is inlined, so that what a row says isn't moved on
+/// its way to who takes it.
 #[inline(always)]
-pub fn next_row(alloc: Global, text: &[u8], from: usize) -> Result<Option<Next>, RowFault>
-    requires { from ≤ length text.now }
-    ensures { IsNextRead text.now from result }
+pub fn next_from(alloc: Global, text: &[u8], at: usize) -> Result<Option<Next>, RowFault>
+    requires within { at ≤ length text.now }
+    requires begins { StartsWith begins_space (drop at text.now) → ⊥ }
+    ensures { (from : ℕ) → Gap text.now from at → IsNextRead text.now from result }
 {
-    let at = skip_space(text, from);
-    if let Some(next) = found_from(alloc, text, at)? {
+    if let Some(next) = word_from(text, at) {
         return Ok(Some(next));
     }
     row_from(alloc, text, at)
-}
-
-// The row that the scan finds at a place, where it finds one.
-#[inline(always)]
-fn found_from(alloc: Global, text: &[u8], at: usize) -> Result<Option<Next>, OutOfMemory>
-    requires { at ≤ length text.now }
-    ensures { IfOk result (λ found. IfSome found (λ next. (from : ℕ)
-        → Gap text.now from at → IsNextRow text.now from next)) }
-{
-    if at < text.len() && matches!(text[at], b'H' | b'T') {
-        return Ok(word_from(text, at));
-    }
-    match made_row(alloc, text, at)? {
-        Some(MadeRow { row, quad }) => Ok(Some(Next {
-            role: Role::Change(change_by(row.adds, quad)),
-            at,
-            end: row.end,
-        })),
-        None => Ok(None),
-    }
-}
-
-// The change that adds a quad, or the one that deletes it.
-#[inline(always)]
-fn change_by(adds: bool, quad: Quad) -> Change
-    ensures { result ≡ change_by adds quad }
-{
-    if adds {
-        Change::Add(quad)
-    } else {
-        Change::Delete(quad)
-    }
 }
 
 // The row of an id or of a word of blocks that the scan finds at a place.
@@ -75,6 +41,9 @@ fn word_from(text: &[u8], at: usize) -> Option<Next>
     ensures { IfSome result (λ next. (from : ℕ)
         → Gap text.now from at → IsNextRow text.now from next) }
 {
+    if at == text.len() || !matches!(text[at], b'H' | b'T') {
+        return None;
+    }
     let row = scan_row(text, at)?;
     Some(Next {
         role: found_role(row.says)?,
@@ -83,8 +52,8 @@ fn word_from(text: &[u8], at: usize) -> Option<Next>
     })
 }
 
-/// The row that begins at a place behind white space, unless the text ends there. It is inlined for
-/// the same reason.
+/// The row that begins at a place behind white space, unless the text ends there, by its reading.
+/// It is inlined for the same reason.
 #[inline(always)]
 pub fn row_from(alloc: Global, text: &[u8], at: usize) -> Result<Option<Next>, RowFault>
     requires within { at ≤ length text.now }
