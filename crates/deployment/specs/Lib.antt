@@ -1,0 +1,7 @@
+pub mod Calls
+pub mod History
+pub mod Promise
+pub mod Laws
+pub mod Moments
+pub mod Shown
+pub mod Followers

@@ -1,0 +1,85 @@
+-- What a deployment promises, by the chain that is found at its end.
+use Rattle.std.specs.Prelude.{◌≡◌, ◌⊎◌, ℕ, List, [], ◌∷◌, Some}
+use Rattle.delta_base.specs.declared.id.Id.{Id}
+use Rattle.log_base.specs.declared.limits.LogLimits.{LogLimits}
+use Rattle.chain_core.specs.declared.chain.Patch.{Patch}
+use Rattle.chain_core.specs.declared.answer.Decision.TheVariants.{Accept}
+use Rattle.chain_core.specs.declared.answer.LogAnswer.TheVariants.{Accepted, AcceptedRun}
+use Rattle.chain_core.specs.declared.answer.LogAnswer.TheVariants.{DiskFault, OutOfMemory}
+use Rattle.chain_core.specs.Links.{IsChain}
+use Rattle.chain_core.specs.Patches.{links_of, patch_at}
+use Rattle.chain_core.specs.Runs.{patches_in}
+use Rattle.chain_core.specs.Decision.{run_decision}
+use Rattle.chain_core.specs.Replies.{LogCall, append, append_run, fetch_version, fetch_id}
+use Rattle.chain_core.specs.Replies.{LogReply, answered, found, log_reply}
+use Rattle.patch_log.specs.State.{chain_of}
+use Rattle.turn_cell.specs.Turns.{IsIn}
+use Rattle.turn_cell.specs.Knowing.{seen_of, mine_of, failed_of}
+use Rattle.shared_log.specs.History.{patches_known}
+use Rattle.world_core.specs.World.{IsFrontOf, StandsAt}
+use Rattle.deployment.specs.Calls.{SeenCall}
+use Rattle.deployment.specs.History.{PassRun, Unanswered, ServerRun, IsFoundIn}
+
+-- the call appends this run; a patch is a run by itself
+abbrev pub IsToAppend : LogCall → List Patch → Type 0
+IsToAppend (append patch) run = run ≡ patch ∷ []
+IsToAppend (append_run more) run = run ≡ more
+IsToAppend call run = ⊥
+
+-- in the place of an acceptance, a fault of the disk or want of memory was told
+pub record IsExcused (limits : LogLimits) (call : LogCall) (reply : LogReply)
+    (point : List Patch) : Type 0 where
+  pub run : List Patch
+  pub version : ℕ
+  pub call_is : IsToAppend call run
+  pub could : run_decision point run limits ≡ Accept version
+  pub told : (reply ≡ answered DiskFault) ⊎ (reply ≡ answered OutOfMemory)
+
+-- the chain gives this reply at this point
+abbrev pub IsGivenAt : LogLimits → LogCall → LogReply → List Patch → Type 0
+IsGivenAt limits call reply point =
+    (reply ≡ log_reply limits call point) ⊎ IsExcused limits call reply point
+
+-- The reply is the one that the chain gives at a point, no earlier than all that the pass had seen;
+-- and what it told as accepted or served stands in the chain.
+pub record IsGiven (limits : LogLimits) (chain : List Patch) (seen : SeenCall) : Type 0 where
+  pub point : List Patch
+  pub of_chain : IsFrontOf point chain
+  pub had_seen : IsFrontOf (patches_known (seen_of seen.before)) point
+  pub gives : (reply : LogReply) → seen.reply ≡ Some reply
+      → IsGivenAt limits seen.call reply point
+  pub accepted : (patch : Patch) (version : ℕ) → seen.call ≡ append patch
+      → seen.reply ≡ Some (answered (Accepted version)) → patch_at chain version ≡ Some patch
+  pub accepted_run : (run : List Patch) (first last : ℕ) → seen.call ≡ append_run run
+      → seen.reply ≡ Some (answered (AcceptedRun first last)) → StandsAt chain run first last
+  pub served : (patch : Patch) (version : ℕ) → seen.call ≡ fetch_version version
+      → seen.reply ≡ Some (found patch) → patch_at chain version ≡ Some patch
+  pub served_by_id : (patch : Patch) (id : Id) → seen.call ≡ fetch_id id
+      → seen.reply ≡ Some (found patch)
+      → (version : ℕ) × (patch_at chain version ≡ Some patch)
+
+-- A patch that clients of a run brought: it stands at a place that a pass has as its own; or a pass
+-- left its run as a doubt; or the append of its run was under way at the stop.
+pub data WasBrought {D : Type 0} (run : ServerRun D) (patch : Patch) : Type 0 where
+  at_place : (pass : PassRun) → IsIn pass run.passes → (place : ℕ)
+      → IsIn place (mine_of pass.at_stop) → patch_at (chain_of run.log) place ≡ Some patch
+      → WasBrought run patch
+  in_doubt : (pass : PassRun) → IsIn pass run.passes → (doubt : List Patch)
+      → IsIn doubt (failed_of pass.at_stop) → IsIn patch doubt → WasBrought run patch
+  unanswered : (append : Unanswered D) → run.under_way ≡ Some append → IsIn patch append.run
+      → WasBrought run patch
+
+-- One chain, of which the chain of each run was a front, and each reply of each pass is given. No
+-- patch is in it but those that the first run found and those that were brought.
+pub record KeepsPromise {D : Type 0} (number : ℕ) (limits : LogLimits) (image : List ℕ)
+    (runs : List (ServerRun D)) (chain : List Patch) : Type 0 where
+  pub is_chain : IsChain (links_of chain)
+  pub runs_begin : (run : ServerRun D) → IsIn run runs → IsFrontOf (chain_of run.log) chain
+  pub images_begin : (run : ServerRun D) → IsIn run runs → (left : List (List Patch))
+      → IsFoundIn run.image number limits left → IsFrontOf (patches_in left) chain
+  pub replies : (run : ServerRun D) → IsIn run runs → (pass : PassRun) → IsIn pass run.passes
+      → (seen : SeenCall) → IsIn seen pass.calls → IsGiven limits chain seen
+  pub brought : (first : List (List Patch)) → IsFoundIn image number limits first
+      → (patch : Patch) → IsIn patch chain
+      → IsIn patch (patches_in first)
+      ⊎ ((run : ServerRun D) × IsIn run runs × WasBrought run patch)
