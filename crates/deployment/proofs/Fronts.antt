@@ -1,5 +1,5 @@
 -- Histories and their patches.
-use Rattle.std.proofs.Common.{◌≡◌, ⊎_elim, subst, List, [], ◌∷◌, map, sym, ◌∙◌, ap}
+use Rattle.std.proofs.Common.{◌≡◌, ◌⊎◌, inl, inr, ⊎_elim, subst, List, [], ◌∷◌, ◌++◌, map, sym, ◌∙◌, ap}
 use Rattle.std.proofs.lemmas.List.{map-append}
 use mathlib.Core.List.{IsPrefix}
 use Rattle.turn_cell.specs.declared.view.Known.{Known}
@@ -16,3 +16,8 @@ patches_go_on before after goes_on =
 pub one_of_mapped : {A B : Type 0} (P : B → Type 0) (f : A → B) (xs : List A) (x : A) → AllOf P (map f xs) → IsIn x xs → P (f x)
 one_of_mapped P f [] x all i = absurd i
 one_of_mapped {A} P f (y ∷ ys) x all i = ⊎_elim (λ (e : x ≡ y). subst (λ (z : A). P (f z)) (sym e) all.0) (λ (j : IsIn x ys). one_of_mapped P f ys x all.1 j) i
+
+pub in_either : {A : Type 0} (xs ys : List A) (x : A) → IsIn x (xs ++ ys) → IsIn x xs ⊎ IsIn x ys
+in_either [] ys x i = inr i
+in_either {A} (y ∷ xs) ys x i = ⊎_elim (λ (e : x ≡ y). inl (inl e))
+    (λ (j : IsIn x (xs ++ ys)). ⊎_elim (λ (k : IsIn x xs). inl (inr k)) (λ (k : IsIn x ys). inr k) (in_either xs ys x j)) i

@@ -1,6 +1,5 @@
 -- One call: its reply is one of a front of what the pass knew behind it.
 use Rattle.std.proofs.Common.{◌≡◌, ◌⊎◌, inl, inr, ⊎_elim, ℕ, ◌+◌, ◌-◌, List, [], ◌∷◌, ◌++◌, length, Option, Some, None, refl, sym, ◌∙◌, ap, subst, arith}
-use Rattle.std.proofs.lemmas.List.{map-append}
 use Rattle.log_base.specs.declared.limits.LogLimits.{LogLimits}
 use Rattle.chain_core.specs.declared.chain.Patch.{Patch}
 use Rattle.chain_core.specs.declared.answer.Decision.TheVariants.{Accept}
@@ -8,24 +7,20 @@ use Rattle.chain_core.specs.declared.answer.LogAnswer.{LogAnswer}
 use Rattle.chain_core.specs.declared.answer.LogAnswer.TheVariants.{Accepted, AcceptedRun, Known, Conflict, Full, DiskFault, OutOfMemory}
 use Rattle.chain_core.specs.Decision.{run_decision}
 use Rattle.chain_core.specs.Patches.{patch_at, patch_named, version_of}
-use Rattle.chain_core.specs.Runs.{entries_of}
 use Rattle.chain_core.specs.Stay.{answer_of}
 use Rattle.chain_core.specs.Replies.{LogCall, append, append_run, fetch_version, fetch_id, describe, version, LogReply, answered, found, fetched, as_run, log_reply}
 use Rattle.chain_core.proofs.Decided.{accepted as accepted_is}
-use Rattle.chain_core.proofs.Runs.{patches_of-run}
-use Rattle.turn_cell.specs.declared.view.Known.{Known as Told}
 use Rattle.turn_cell.specs.Calls.{IsReplied}
-use Rattle.turn_cell.specs.Knowing.{SeesOn, seen_of, pass_number}
-use Rattle.shared_log.specs.declared.value.Placed.{Placed}
-use Rattle.shared_log.specs.History.{LogSight, patches_known, history_of}
+use Rattle.turn_cell.specs.Knowing.{SeesOn, seen_of}
+use Rattle.shared_log.specs.History.{LogSight, patches_known}
 use Rattle.shared_log.specs.Calls.{MayWant}
 use Rattle.shared_log.specs.Legal.{LegalOnLog, IsAccepted, IsAppendAnswer, IsLogTold}
-use Rattle.shared_log.proofs.Histories.{known_chain}
 use Rattle.world_core.specs.World.{StandsAt}
 use Rattle.world_core.proofs.Growing.{GrowsTo, stays_same, grows_on, still_at, still_stands, stands_behind}
-use Rattle.deployment.specs.Calls.{SeenCall}
-use Rattle.deployment.specs.Promise.{IsGiven, IsToAppend}
+use Rattle.deployment.specs.Calls.{IsToAppend, SeenCall}
+use Rattle.deployment.specs.Promise.{IsGiven}
 use Rattle.deployment.proofs.Fronts.{patches_go_on}
+use Rattle.deployment.proofs.Calling.{brought_patches}
 
 module _ (limits : LogLimits) (chain : List Patch) where
   -- what is given is so in a chain that goes on
@@ -50,10 +45,7 @@ module _ (limits : LogLimits) (p q : LogSight) where
   Point run place is = patches_known is.0.before
 
   sees : (run : List Patch) (place : ℕ) (is : IsAccepted limits run place p q) → Seen ≡ Point run place is ++ run
-  sees run place is =
-      let entries = entries_of run (pass_number p) in
-      ap patches_known is.0.sees ∙ map-append (λ (known : Told Placed). known.content.patch) is.0.before (history_of entries)
-      ∙ ap (λ (patches : List Patch). Point run place is ++ patches) (known_chain entries ∙ patches_of-run run (pass_number p))
+  sees run place is = brought_patches p q run place is.0
 
   stands : (run : List Patch) (place : ℕ) (is : IsAccepted limits run place p q) → StandsAt Seen run (place - (length run - 1)) place
   stands run place is =

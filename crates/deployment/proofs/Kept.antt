@@ -1,51 +1,28 @@
 -- From runs to the promise.
-use Rattle.std.proofs.Common.{◌≡◌, ◌⊎◌, inl, inr, ⊎_elim, ℕ, List, [], ◌∷◌, ◌++◌, Option, Some, None, refl, sym, ◌∙◌, subst}
+use Rattle.std.proofs.Common.{◌≡◌, ◌⊎◌, inl, inr, ⊎_elim, ℕ, List, [], ◌∷◌, ◌++◌, refl, sym, ◌∙◌, subst}
 use mathlib.Core.List.{IsPrefix}
 use Rattle.disk_model.specs.declared.disk.Disk.{Ghosts}
 use Rattle.log_base.specs.declared.limits.LogLimits.{LogLimits}
 use Rattle.chain_core.specs.declared.chain.Patch.{Patch}
-use Rattle.chain_core.specs.Replies.{LogCall, LogReply}
 use Rattle.chain_core.specs.Runs.{patches_in}
 use Rattle.chain_core.proofs.Runs.{patches_in-push, patches_in-runs}
 use Rattle.patch_log.specs.State.{chain_of, runs_in}
 use Rattle.turn_cell.specs.Turns.{IsIn}
-use Rattle.turn_cell.specs.Calls.{IsReplied}
 use Rattle.turn_cell.specs.Sharing.{HasSeen}
-use Rattle.turn_cell.specs.Knowing.{SeesOn, seen_of}
-use Rattle.turn_cell.proofs.Views.{prefix_trans, prefix_refl}
+use Rattle.turn_cell.specs.Knowing.{seen_of}
+use Rattle.turn_cell.proofs.Views.{prefix_trans}
 use Rattle.turn_cell.proofs.Ends.{all_in}
-use Rattle.shared_log.specs.Calls.{MayWant}
-use Rattle.shared_log.specs.Legal.{LegalOnLog}
-use Rattle.shared_log.specs.History.{LogSight, history_of, patches_known, shared_log}
+use Rattle.shared_log.specs.History.{history_of, patches_known, shared_log}
 use Rattle.shared_log.proofs.Histories.{known_chain}
 use Rattle.world_core.proofs.Growing.{GrowsTo, stays_same, grows_on, patches_grow}
-use Rattle.deployment.specs.Calls.{SeenCall, IsLegalCall, AreSeenCalls}
+use Rattle.deployment.specs.Calls.{SeenCall, IsLegalCall}
 use Rattle.deployment.specs.History.{PassRun, IsFoundIn, ServerRun, HasCalled, IsServerRun, AreServerRuns, image_left}
 use Rattle.deployment.specs.Promise.{IsGiven, WasBrought, KeepsPromise}
-use Rattle.deployment.proofs.Fronts.{patches_go_on, one_of_mapped}
-use Rattle.deployment.proofs.Brought.{in_either, run_brings, behind_brought}
+use Rattle.deployment.proofs.Fronts.{in_either, patches_go_on, one_of_mapped}
+use Rattle.deployment.proofs.Calling.{one_call, amid_on}
+use Rattle.deployment.proofs.Brought.{run_brings, behind_brought}
 use Rattle.deployment.proofs.Left.{MayStandBehind, one_found, run_leaves, run_grows}
 use Rattle.deployment.proofs.Given.{given, given_on}
-
--- ---- the calls of a pass
-
-legal_sees : (limits : LogLimits) (p q : LogSight) (call : LogCall) (reply : Option LogReply) → IsReplied (LegalOnLog limits) MayWant p call reply q → SeesOn p q
-legal_sees limits p q call (Some reply) legal = legal.0
-legal_sees limits p q call None wants = wants.1.0
-
-calls_go_on : (limits : LogLimits) (p q : LogSight) (calls : List SeenCall) → AreSeenCalls limits p calls q → IsPrefix (seen_of p) (seen_of q)
-calls_go_on limits p q [] same = subst (λ (x : LogSight). IsPrefix (seen_of p) (seen_of x)) (sym same) (prefix_refl (seen_of p))
-calls_go_on limits p q (seen ∷ more) are =
-    let first : SeesOn seen.before seen.after = legal_sees limits seen.before seen.after seen.call seen.reply are.1 in
-    let here : IsPrefix (seen_of p) (seen_of seen.after) = subst (λ (x : LogSight). IsPrefix (seen_of x) (seen_of seen.after)) are.0 first.2 in
-    prefix_trans (seen_of p) (seen_of seen.after) (seen_of q) here (calls_go_on limits seen.after q more are.2)
-
--- each of them was legal, and what the pass then knew it knew on
-one_call : (limits : LogLimits) (p q : LogSight) (calls : List SeenCall) (seen : SeenCall) → AreSeenCalls limits p calls q → IsIn seen calls → IsLegalCall limits seen × IsPrefix (seen_of seen.after) (seen_of q)
-one_call limits p q [] seen are i = absurd i
-one_call limits p q (first ∷ more) seen are i = ⊎_elim
-    (λ (e : seen ≡ first). subst (λ (x : SeenCall). IsLegalCall limits x × IsPrefix (seen_of x.after) (seen_of q)) (sym e) (are.1, calls_go_on limits first.after q more are.2))
-    (λ (j : IsIn seen more). one_call limits first.after q more seen are.2 j) i
 
 module _ {D : Type 0} (disks : Ghosts D) (tells : disks.tells) (number : ℕ) (limits : LogLimits) where
   -- ---- the chain from run to run
@@ -131,7 +108,7 @@ module _ {D : Type 0} (disks : Ghosts D) (tells : disks.tells) (number : ℕ) (l
       let call = one_call server.made.origin.limits called.given called.behind pass.calls seen called.calls j in
       let has : HasSeen (shared_log disks) server.log pass.at_stop = one_of_mapped (HasSeen (shared_log disks) server.log) (λ (p : PassRun). p.at_stop) server.passes pass is.at_stop.seen i in
       let known : IsPrefix (seen_of seen.after) (history_of server.log.entries) =
-      prefix_trans (seen_of seen.after) (seen_of called.behind) (history_of server.log.entries) call.1 (prefix_trans (seen_of called.behind) (seen_of pass.at_stop) (history_of server.log.entries) called.goes_on has.0) in
+      prefix_trans (seen_of seen.after) (seen_of called.behind) (history_of server.log.entries) call.1 (prefix_trans (seen_of called.behind) (seen_of pass.at_stop) (history_of server.log.entries) (amid_on called.behind pass.at_stop pass.in_call called.amid) has.0) in
       let front : GrowsTo (patches_known (seen_of seen.after)) (chain_of server.log) = subst (λ (x : List Patch). GrowsTo (patches_known (seen_of seen.after)) x) (known_chain server.log.entries) (patches_go_on (seen_of seen.after) (history_of server.log.entries) known) in
       given_on limits (patches_known (seen_of seen.after)) chain seen (grows_on (patches_known (seen_of seen.after)) (chain_of server.log) chain front grows)
       (given limits seen.before seen.after seen.call seen.reply (subst (λ (l : LogLimits). IsLegalCall l seen) is.limits_is call.0))

@@ -17,9 +17,10 @@ use Rattle.patch_log.specs.Log.{IsSoundRun, IsSoundLog, StandsForLog, payloads_o
 use Rattle.patch_log.specs.State.{LogView, runs_in}
 use Rattle.patch_log.specs.Run.{AppendedRun, WritesRun, AsksNoDisk}
 use Rattle.patch_log.proofs.Sound.{one_list as one_log, texts_of-push, log-push}
+use Rattle.turn_cell.specs.Knowing.{pass_number}
 use Rattle.shared_log.specs.History.{StandsInTurn}
 use Rattle.world_core.proofs.Growing.{GrowsTo, stays_same}
-use Rattle.deployment.specs.History.{IsFoundIn, Unanswered, Leaves, ServerRun, IsServerRun}
+use Rattle.deployment.specs.History.{PassRun, IsFoundIn, Unanswered, Leaves, ServerRun, IsServerRun}
 
 -- a log in an image: these runs, or these and one more that has Q
 pub record LeavesMore (image : List ℕ) (number : ℕ) (limits : LogLimits) (runs : List (List Patch)) (Q : List Patch → Type 0) : Type 0 where
@@ -82,10 +83,10 @@ module _ {D : Type 0} (disks : Ghosts D) (tells : disks.tells) where
   abbrev pub MayStandBehind : ServerRun D → List Patch → Type 0
   MayStandBehind server run = (server.log.doubt ≡ Some run) ⊎ ((append : Unanswered D) × (server.under_way ≡ Some append) × (append.run ≡ run))
 
-  leaves_more : (Q : List Patch → Type 0) (log : LogView D) (under_way : Option (Unanswered D)) (image : List ℕ) → ((d : List Patch) → log.doubt ≡ Some d → Q d) → ((append : Unanswered D) → under_way ≡ Some append → Q append.run)
-      → StandsInTurn disks log → Leaves disks log under_way image → LeavesMore image log.number log.limits (runs_in log) Q
-  leaves_more Q log None image of_doubt q stands left = between Q log image of_doubt stands left
-  leaves_more Q log (Some append) image of_doubt q stands left = amid Q log append.left append.run append.by append.answer image of_doubt (q append refl) stands left.0 left.1 left.2
+  leaves_more : (Q : List Patch → Type 0) (passes : List PassRun) (log : LogView D) (under_way : Option (Unanswered D)) (image : List ℕ) → ((d : List Patch) → log.doubt ≡ Some d → Q d) → ((append : Unanswered D) → under_way ≡ Some append → Q append.run)
+      → StandsInTurn disks log → Leaves disks passes log under_way image → LeavesMore image log.number log.limits (runs_in log) Q
+  leaves_more Q passes log None image of_doubt q stands left = between Q log image of_doubt stands left
+  leaves_more Q passes log (Some append) image of_doubt q stands left = amid Q log append.left append.run (pass_number append.pass.at_stop) append.answer image of_doubt (q append refl) stands left.0.sound left.0.appended left.1
 
   -- a run leaves a log that goes on from that of its turns
   pub run_leaves : (number : ℕ) (limits : LogLimits) (image : List ℕ) (server : ServerRun D) → IsServerRun disks number limits image server → LeavesMore server.image number limits (runs_in server.log) (MayStandBehind server)
@@ -94,7 +95,7 @@ module _ {D : Type 0} (disks : Ghosts D) (tells : disks.tells) where
       let n : server.log.number ≡ number = ap (λ f. f.number) fixed ∙ is.number_is in
       let l : server.log.limits ≡ limits = ap (λ f. f.limits) fixed ∙ is.limits_is in
       subst (λ (x : ℕ × LogLimits). LeavesMore server.image x.0 x.1 (runs_in server.log) (MayStandBehind server)) (λ i. (n i, l i))
-      (leaves_more (MayStandBehind server) server.log server.under_way server.image (λ d e. inl e) (λ append e. inr (append, e, refl)) is.at_stop.stands is.leaves)
+      (leaves_more (MayStandBehind server) server.passes server.log server.under_way server.image (λ d e. inl e) (λ append e. inr (append, e, refl)) is.at_stop.stands is.leaves)
 
   pub run_grows : (number : ℕ) (limits : LogLimits) (image : List ℕ) (server : ServerRun D) (is : IsServerRun disks number limits image server) → GrowsTo (runs_in server.log) (run_leaves number limits image server is).left
   run_grows number limits image server is = let left = run_leaves number limits image server is in leaves_grown (runs_in server.log) left.left (MayStandBehind server) left.which

@@ -1,5 +1,5 @@
 -- What a deployment promises, by the chain that is found at its end.
-use Rattle.std.specs.Prelude.{◌≡◌, ◌⊎◌, ℕ, List, [], ◌∷◌, Some}
+use Rattle.std.specs.Prelude.{◌≡◌, ◌⊎◌, ℕ, List, Some}
 use Rattle.delta_base.specs.declared.id.Id.{Id}
 use Rattle.log_base.specs.declared.limits.LogLimits.{LogLimits}
 use Rattle.chain_core.specs.declared.chain.Patch.{Patch}
@@ -14,17 +14,11 @@ use Rattle.chain_core.specs.Replies.{LogCall, append, append_run, fetch_version,
 use Rattle.chain_core.specs.Replies.{LogReply, answered, found, log_reply}
 use Rattle.patch_log.specs.State.{chain_of}
 use Rattle.turn_cell.specs.Turns.{IsIn}
-use Rattle.turn_cell.specs.Knowing.{seen_of, mine_of, failed_of}
+use Rattle.turn_cell.specs.Knowing.{seen_of}
 use Rattle.shared_log.specs.History.{patches_known}
 use Rattle.world_core.specs.World.{IsFrontOf, StandsAt}
-use Rattle.deployment.specs.Calls.{SeenCall}
-use Rattle.deployment.specs.History.{PassRun, Unanswered, ServerRun, IsFoundIn}
-
--- the call appends this run; a patch is a run by itself
-abbrev pub IsToAppend : LogCall → List Patch → Type 0
-IsToAppend (append patch) run = run ≡ patch ∷ []
-IsToAppend (append_run more) run = run ≡ more
-IsToAppend call run = ⊥
+use Rattle.deployment.specs.Calls.{IsToAppend, TellsAccepted, SeenCall}
+use Rattle.deployment.specs.History.{PassRun, ServerRun, IsFoundIn}
 
 -- in the place of an acceptance, a fault of the disk or want of memory was told
 pub record IsExcused (limits : LogLimits) (call : LogCall) (reply : LogReply)
@@ -58,19 +52,24 @@ pub record IsGiven (limits : LogLimits) (chain : List Patch) (seen : SeenCall) :
       → seen.reply ≡ Some (found patch)
       → (version : ℕ) × (patch_at chain version ≡ Some patch)
 
--- A patch that clients of a run brought: it stands at a place that a pass has as its own; or a pass
--- left its run as a doubt; or the append of its run was under way at the stop.
+-- the patch is one of the run that the call appends
+abbrev pub IsHandedIn : LogCall → Patch → Type 0
+IsHandedIn call patch = (run : List Patch) × IsToAppend call run × IsIn patch run
+
+-- A patch that a call of a run handed in: one that was told as accepted, one that was told a fault
+-- of the disk, or one without an answer at the stop.
 pub data WasBrought {D : Type 0} (run : ServerRun D) (patch : Patch) : Type 0 where
-  at_place : (pass : PassRun) → IsIn pass run.passes → (place : ℕ)
-      → IsIn place (mine_of pass.at_stop) → patch_at (chain_of run.log) place ≡ Some patch
+  acknowledged : (pass : PassRun) → IsIn pass run.passes → (seen : SeenCall)
+      → IsIn seen pass.calls → IsHandedIn seen.call patch → TellsAccepted seen.reply
       → WasBrought run patch
-  in_doubt : (pass : PassRun) → IsIn pass run.passes → (doubt : List Patch)
-      → IsIn doubt (failed_of pass.at_stop) → IsIn patch doubt → WasBrought run patch
-  unanswered : (append : Unanswered D) → run.under_way ≡ Some append → IsIn patch append.run
+  in_doubt : (pass : PassRun) → IsIn pass run.passes → (seen : SeenCall) → IsIn seen pass.calls
+      → IsHandedIn seen.call patch → seen.reply ≡ Some (answered DiskFault)
       → WasBrought run patch
+  unanswered : (pass : PassRun) → IsIn pass run.passes → (call : LogCall)
+      → pass.in_call ≡ Some call → IsHandedIn call patch → WasBrought run patch
 
 -- One chain, of which the chain of each run was a front, and each reply of each pass is given. No
--- patch is in it but those that the first run found and those that were brought.
+-- patch is in it but those that the first run found and those that were handed in.
 pub record KeepsPromise {D : Type 0} (number : ℕ) (limits : LogLimits) (image : List ℕ)
     (runs : List (ServerRun D)) (chain : List Patch) : Type 0 where
   pub is_chain : IsChain (links_of chain)

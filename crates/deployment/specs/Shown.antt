@@ -27,6 +27,7 @@ module _ {D : Type 0} (disks : Ghosts D) where
     pub given : LogSight
     pub is_given : IsNewPassOf (shared_log disks) made number given
     pub calls : AreSeenCalls made.origin.limits given pass.calls pass.at_stop
+    pub in_none : pass.in_call ≡ None
 
   -- a run that was closed: by what the opening, the sharing, the calls and the close ensure
   abbrev pub ClosedRunsAreRuns : Type 0
@@ -35,7 +36,8 @@ module _ {D : Type 0} (disks : Ghosts D) where
       → IsBegun number limits image run → AllOf (HasReturned run.made) run.passes
       → AreAllPassesOf (shared_log disks) run.made (sights_of run)
       → IsClosedOf (shared_log disks) run.made (sights_of run) run.log
-      → Leaves disks run.log run.under_way run.image → IsServerRun disks number limits image run
+      → Leaves disks run.passes run.log run.under_way run.image
+      → IsServerRun disks number limits image run
 
   -- a run that was killed: by what the opening, the sharing and the calls ensure, and the rule of
   -- the log's cell
@@ -45,4 +47,5 @@ module _ {D : Type 0} (disks : Ghosts D) where
       → IsBegun number limits image run → AllOf (HasCalled disks run.made) run.passes
       → AreAll run.made.seats (sights_of run)
       → IsMoment disks run.made run.log (sights_of run) s
-      → Leaves disks run.log run.under_way run.image → IsServerRun disks number limits image run
+      → Leaves disks run.passes run.log run.under_way run.image
+      → IsServerRun disks number limits image run
