@@ -1,7 +1,7 @@
 -- Parts of terms in a text, by their places.
 use Rattle.std.specs.Prelude.{◌≡◌, ℕ, ◌+◌, ◌-◌, ◌<◌, ◌≤◌, Bool, false, ◌==◌, ◌||◌, ◌&&◌, not}
-use Rattle.std.specs.Prelude.{Option, Some, None, List, ◌∷◌, ◌++◌, length, drop, slice_range, slice_index}
-use Rattle.std.specs.Prelude.{IsTrue, IsUtf8, nat_le}
+use Rattle.std.specs.Prelude.{Option, Some, None, List, ◌∷◌, ◌++◌, length, drop}
+use Rattle.std.specs.Prelude.{slice_range, slice_index, IsTrue, IsUtf8, nat_le}
 use Rattle.std.specs.List.{list_all, flat_map}
 use Rattle.std.specs.Char.{is_ascii_alphanumeric, is_ascii_uppercase}
 use Rattle.rdf_terms.specs.Iri.{AllowedAll, IsIri}

@@ -78,7 +78,8 @@ fn kind_between(
 fn has_backslash(text: &[u8], at: usize, end: usize) -> bool
     requires order { at ≤ end }
     requires within { end ≤ length text.now }
-    ensures { result ≡ false → IsTrue (list_all (λ b. not (b == 92)) (slice_range text.now at end)) }
+    ensures { result ≡ false
+        → IsTrue (list_all (λ b. not (b == 92)) (slice_range text.now at end)) }
 {
     text[at..end].contains(&b'\\')
 }

@@ -21,5 +21,4 @@ pub use laws::{
 pub use link::check_link;
 pub use part::Part;
 pub use role::{Role, found_role, role_of};
-pub use rows::Next;
 pub use stream::{Linked, split_links};
