@@ -100,7 +100,7 @@ module _ {D : Type 0} (disks : Ghosts D) (tells : disks.tells) (number : ℕ) (l
       (λ (was : WasTaken pass.calls by.behind place).
       let one : was.patch ≡ patch = same was.patch (still_at (patches_known (seen_of by.behind)) (patches_known (seen_of pass.at_stop)) place was.patch before was.stands) in
       acknowledged pass i was.seen was.of_calls (subst (IsHandedIn was.seen.call) one was.handed_in) was.told)
-      (place_told server.made.origin.limits by.given by.behind pass.calls place by.calls j))
+      (place_told disks server.made.origin by.given by.behind pass.calls place by.calls j))
       (λ (z : (call : LogCall) × (pass.in_call ≡ Some call) × StandsHandedIn call pass.at_stop place).
       let there = z.2 in
       let one : there.0 ≡ patch = same there.0 there.2 in
@@ -116,7 +116,7 @@ module _ {D : Type 0} (disks : Ghosts D) (tells : disks.tells) (number : ℕ) (l
       ⊎_elim (λ (j : IsIn run (failed_of by.behind)). ⊎_elim
       (λ (k : IsIn run (failed_of by.given)). absurd (in_none run (failed_of by.given) by.is_given.6 k))
       (λ (was : WasFaulted pass.calls run). in_doubt pass i was.0 was.1 (run, was.2, in_run) was.3)
-      (fault_told server.made.origin.limits by.given by.behind pass.calls run by.calls j))
+      (fault_told disks server.made.origin by.given by.behind pass.calls run by.calls j))
       (λ (z : (call : LogCall) × (pass.in_call ≡ Some call) × IsToAppend call run). unanswered pass i z.0 z.1 (run, z.2, in_run)) (fault_amid by.behind pass.at_stop pass.in_call run by.amid failed)
 
   -- an entry behind those that were found is of a pass

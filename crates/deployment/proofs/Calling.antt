@@ -3,6 +3,7 @@ use Rattle.std.proofs.Common.{◌≡◌, ◌⊎◌, inl, inr, ⊎_elim, ℕ, zer
 use Rattle.std.specs.Prelude.{slice_get}
 use Rattle.std.proofs.lemmas.List.{map-append, length-map}
 use mathlib.Core.List.{IsPrefix}
+use Rattle.disk_model.specs.declared.disk.Disk.{Ghosts}
 use Rattle.log_base.specs.declared.limits.LogLimits.{LogLimits}
 use Rattle.chain_core.specs.declared.chain.Patch.{Patch}
 use Rattle.chain_core.specs.declared.answer.LogAnswer.{LogAnswer}
@@ -11,6 +12,7 @@ use Rattle.chain_core.specs.Patches.{patch_at}
 use Rattle.chain_core.specs.Runs.{entries_of}
 use Rattle.chain_core.specs.Replies.{LogCall, append, append_run, fetch_version, fetch_id, describe, version, LogReply, answered, as_run}
 use Rattle.chain_core.proofs.Runs.{patches_of-run}
+use Rattle.patch_log.specs.State.{LogView}
 use Rattle.turn_cell.specs.declared.view.Known.{Known as Told}
 use Rattle.turn_cell.specs.Calls.{IsReplied}
 use Rattle.turn_cell.specs.Turns.{IsIn}
@@ -19,7 +21,8 @@ use Rattle.turn_cell.proofs.Views.{prefix_trans, prefix_refl}
 use Rattle.shared_log.specs.declared.value.Placed.{Placed}
 use Rattle.shared_log.specs.History.{LogSight, patches_known, history_of}
 use Rattle.shared_log.specs.Calls.{MayWant}
-use Rattle.shared_log.specs.Legal.{LegalOnLog, BroughtRun, IsAppendAnswer, IsLogTold, MayLeaveRun, places_behind}
+use Rattle.shared_log.specs.Legal.{BroughtRun, IsAppendAnswer, IsLogTold, MayLeaveRun, places_behind}
+use Rattle.shared_log.specs.Stays.{CalledOnLog}
 use Rattle.shared_log.proofs.Histories.{known_chain}
 use Rattle.world_core.proofs.Growing.{still_at}
 use Rattle.deployment.specs.Calls.{IsToAppend, TellsAccepted, SeenCall, IsLegalCall, AreSeenCalls, HasDone, nothing, brought, doubted, IsAmid}
@@ -28,23 +31,24 @@ use Rattle.deployment.proofs.Fronts.{in_either, patches_go_on}
 
 -- ---- what a pass knows goes on
 
-legal_sees : (limits : LogLimits) (p q : LogSight) (call : LogCall) (reply : Option LogReply) → IsReplied (LegalOnLog limits) MayWant p call reply q → SeesOn p q
-legal_sees limits p q call (Some reply) legal = legal.0
-legal_sees limits p q call None wants = wants.1.0
+module _ {D : Type 0} (disks : Ghosts D) (origin : LogView D) where
+  legal_sees : (p q : LogSight) (call : LogCall) (reply : Option LogReply) → IsReplied (CalledOnLog disks origin) MayWant p call reply q → SeesOn p q
+  legal_sees p q call (Some reply) called = called.legal.0
+  legal_sees p q call None wants = wants.1.0
 
-calls_go_on : (limits : LogLimits) (p q : LogSight) (calls : List SeenCall) → AreSeenCalls limits p calls q → IsPrefix (seen_of p) (seen_of q)
-calls_go_on limits p q [] same = subst (λ (x : LogSight). IsPrefix (seen_of p) (seen_of x)) (sym same) (prefix_refl (seen_of p))
-calls_go_on limits p q (seen ∷ more) are =
-    let first : SeesOn seen.before seen.after = legal_sees limits seen.before seen.after seen.call seen.reply are.1 in
-    let here : IsPrefix (seen_of p) (seen_of seen.after) = subst (λ (x : LogSight). IsPrefix (seen_of x) (seen_of seen.after)) are.0 first.2 in
-    prefix_trans (seen_of p) (seen_of seen.after) (seen_of q) here (calls_go_on limits seen.after q more are.2)
+  pub calls_go_on : (p q : LogSight) (calls : List SeenCall) → AreSeenCalls disks origin p calls q → IsPrefix (seen_of p) (seen_of q)
+  calls_go_on p q [] same = subst (λ (x : LogSight). IsPrefix (seen_of p) (seen_of x)) (sym same) (prefix_refl (seen_of p))
+  calls_go_on p q (seen ∷ more) are =
+      let first : SeesOn seen.before seen.after = legal_sees seen.before seen.after seen.call seen.reply are.1.0 in
+      let here : IsPrefix (seen_of p) (seen_of seen.after) = subst (λ (x : LogSight). IsPrefix (seen_of x) (seen_of seen.after)) are.0 first.2 in
+      prefix_trans (seen_of p) (seen_of seen.after) (seen_of q) here (calls_go_on seen.after q more are.2)
 
--- each of them was legal, and what the pass then knew it knew on
-pub one_call : (limits : LogLimits) (p q : LogSight) (calls : List SeenCall) (seen : SeenCall) → AreSeenCalls limits p calls q → IsIn seen calls → IsLegalCall limits seen × IsPrefix (seen_of seen.after) (seen_of q)
-one_call limits p q [] seen are i = absurd i
-one_call limits p q (first ∷ more) seen are i = ⊎_elim
-    (λ (e : seen ≡ first). subst (λ (x : SeenCall). IsLegalCall limits x × IsPrefix (seen_of x.after) (seen_of q)) (sym e) (are.1, calls_go_on limits first.after q more are.2))
-    (λ (j : IsIn seen more). one_call limits first.after q more seen are.2 j) i
+  -- each of them was legal, and what the pass then knew it knew on
+  pub one_call : (p q : LogSight) (calls : List SeenCall) (seen : SeenCall) → AreSeenCalls disks origin p calls q → IsIn seen calls → IsLegalCall disks origin seen × IsPrefix (seen_of seen.after) (seen_of q)
+  one_call p q [] seen are i = absurd i
+  one_call p q (first ∷ more) seen are i = ⊎_elim
+      (λ (e : seen ≡ first). subst (λ (x : SeenCall). IsLegalCall disks origin x × IsPrefix (seen_of x.after) (seen_of q)) (sym e) (are.1, calls_go_on first.after q more are.2))
+      (λ (j : IsIn seen more). one_call first.after q more seen are.2 j) i
 
 pub amid_on : (p q : LogSight) (call : Option LogCall) → IsAmid p call q → IsPrefix (seen_of p) (seen_of q)
 amid_on p q None same = subst (λ (x : LogSight). IsPrefix (seen_of p) (seen_of x)) (sym same) (prefix_refl (seen_of p))
@@ -125,9 +129,9 @@ module _ (limits : LogLimits) (p q : LogSight) where
   does_told describe reply told = still describe (Some reply) told.1
   does_told version reply told = still version (Some reply) told.1
 
-  does : (call : LogCall) (reply : Option LogReply) → IsReplied (LegalOnLog limits) MayWant p call reply q → Does call reply p q
-  does call (Some reply) legal = does_told call reply legal.1
-  does call None wants = still call None wants.1.1
+does : {D : Type 0} (disks : Ghosts D) (origin : LogView D) (p q : LogSight) (call : LogCall) (reply : Option LogReply) → IsReplied (CalledOnLog disks origin) MayWant p call reply q → Does call reply p q
+does disks origin p q call (Some reply) called = does_told origin.limits p q call reply called.legal.1
+does disks origin p q call None wants = still origin.limits p q call None wants.1.1
 
 -- ---- what calls brought
 
@@ -144,17 +148,17 @@ pub record WasTaken (calls : List SeenCall) (q : LogSight) (place : ℕ) : Type 
 abbrev pub WasFaulted : List SeenCall → List Patch → Type 0
 WasFaulted calls run = (seen : SeenCall) × IsIn seen calls × IsToAppend seen.call run × (seen.reply ≡ Some (answered DiskFault))
 
-module _ (limits : LogLimits) where
+module _ {D : Type 0} (disks : Ghosts D) (origin : LogView D) where
   taken_on : (first : SeenCall) (more : List SeenCall) (q : LogSight) (place : ℕ) → WasTaken more q place → WasTaken (first ∷ more) q place
   taken_on first more q place was = record { seen = was.seen; of_calls = inr was.of_calls; told = was.told; patch = was.patch; handed_in = was.handed_in; stands = was.stands }
 
-  place_of_first : (first : SeenCall) (more : List SeenCall) (q : LogSight) (place : ℕ) → AreSeenCalls limits first.after more q → Does first.call first.reply first.before first.after → IsIn place (mine_of first.after) → IsIn place (mine_of first.before) ⊎ WasTaken (first ∷ more) q place
+  place_of_first : (first : SeenCall) (more : List SeenCall) (q : LogSight) (place : ℕ) → AreSeenCalls disks origin first.after more q → Does first.call first.reply first.before first.after → IsIn place (mine_of first.after) → IsIn place (mine_of first.before) ⊎ WasTaken (first ∷ more) q place
   place_of_first first more q place are (quiet mine failed) i = inl (subst (IsIn place) mine i)
   place_of_first first more q place are (faults run is_to told mine failed) i = inl (subst (IsIn place) mine i)
   place_of_first first more q place are (accepts run last is_to told b) i = ⊎_elim (λ (j : IsIn place (mine_of first.before)). inl j)
       (λ (j : IsIn place (places_behind (length b.before) (length run))).
       let there = stands_brought first.before first.after run last b place j in
-      let grows = patches_go_on (seen_of first.after) (seen_of q) (calls_go_on limits first.after q more are) in
+      let grows = patches_go_on (seen_of first.after) (seen_of q) (calls_go_on disks origin first.after q more are) in
       inr (record {
         seen = first;
         of_calls = inl refl;
@@ -165,12 +169,12 @@ module _ (limits : LogLimits) where
       })) (in_either (mine_of first.before) (places_behind (length b.before) (length run)) place (subst (IsIn place) b.mine i))
 
   -- a place of its own is one that it had, or one that was told as accepted
-  pub place_told : (p q : LogSight) (calls : List SeenCall) (place : ℕ) → AreSeenCalls limits p calls q → IsIn place (mine_of q) → IsIn place (mine_of p) ⊎ WasTaken calls q place
+  pub place_told : (p q : LogSight) (calls : List SeenCall) (place : ℕ) → AreSeenCalls disks origin p calls q → IsIn place (mine_of q) → IsIn place (mine_of p) ⊎ WasTaken calls q place
   place_told p q [] place same i = inl (subst (λ (x : LogSight). IsIn place (mine_of x)) same i)
   place_told p q (first ∷ more) place are i = ⊎_elim
       (λ (j : IsIn place (mine_of first.after)). ⊎_elim (λ (k : IsIn place (mine_of first.before)). inl (subst (λ (x : LogSight). IsIn place (mine_of x)) are.0 k))
       (λ (was : WasTaken (first ∷ more) q place). inr was)
-      (place_of_first first more q place are.2 (does limits first.before first.after first.call first.reply are.1) j))
+      (place_of_first first more q place are.2 (does disks origin first.before first.after first.call first.reply are.1.0) j))
       (λ (was : WasTaken more q place). inr (taken_on first more q place was)) (place_told first.after q more place are.2 i)
 
   fault_of_first : (first : SeenCall) (more : List SeenCall) (run : List Patch) → Does first.call first.reply first.before first.after → IsIn run (failed_of first.after) → IsIn run (failed_of first.before) ⊎ WasFaulted (first ∷ more) run
@@ -183,12 +187,12 @@ module _ (limits : LogLimits) where
       (in_either (failed_of first.before) (other ∷ []) run (subst (IsIn run) e i))) left
 
   -- a run that it left in doubt is one that it had left, or one that was told a fault
-  pub fault_told : (p q : LogSight) (calls : List SeenCall) (run : List Patch) → AreSeenCalls limits p calls q → IsIn run (failed_of q) → IsIn run (failed_of p) ⊎ WasFaulted calls run
+  pub fault_told : (p q : LogSight) (calls : List SeenCall) (run : List Patch) → AreSeenCalls disks origin p calls q → IsIn run (failed_of q) → IsIn run (failed_of p) ⊎ WasFaulted calls run
   fault_told p q [] run same i = inl (subst (λ (x : LogSight). IsIn run (failed_of x)) same i)
   fault_told p q (first ∷ more) run are i = ⊎_elim
       (λ (j : IsIn run (failed_of first.after)). ⊎_elim (λ (k : IsIn run (failed_of first.before)). inl (subst (λ (x : LogSight). IsIn run (failed_of x)) are.0 k))
       (λ (was : WasFaulted (first ∷ more) run). inr was)
-      (fault_of_first first more run (does limits first.before first.after first.call first.reply are.1) j))
+      (fault_of_first first more run (does disks origin first.before first.after first.call first.reply are.1.0) j))
       (λ (was : WasFaulted more run). inr (was.0, inr was.1, was.2, was.3)) (fault_told first.after q more run are.2 i)
 
 -- ---- amid a call

@@ -101,7 +101,7 @@ text_at whole (suc place) patch text is same =
     let count : suc place ≡ length there.before + 1 = omega (arith, there.place_is) in
     record { before = there.before; patch = there.here; behind = there.behind; chain_is = there.parts; version_is = count; text_is = ap (λ (p : Patch). p.text) there.patch_is ∙ same }
 
-module _ {D : Type 0} (number : ℕ) (limits : LogLimits) (image : List ℕ) (runs : List (ServerRun D)) (chain : List Patch) (keeps : KeepsPromise number limits image runs chain) (whole : List CheckedPatch) (checked : AreChecked whole) (bare_is : map bare whole ≡ chain) where
+module _ {D : Type 0} (number : ℕ) (limits : LogLimits) (image : List ℕ) (runs : List (ServerRun D)) (log : List (List Patch)) (keeps : KeepsPromise number limits image runs log) (whole : List CheckedPatch) (checked : AreChecked whole) (bare_is : map bare whole ≡ patches_in log) where
   -- ---- what was told stands in the chain
 
   told_is : (version : ℕ) (text : List ℕ) → WasTold runs version text → HasTextAt whole version text
@@ -199,25 +199,25 @@ module _ {D : Type 0} (number : ℕ) (limits : LogLimits) (image : List ℕ) (ru
     left_front file run held is =
         (leaves_fronts disks run.opened run.now whole run.had run.took run.name run.said run.end (is_told file run held is) tells).each run.image is.leaves
 
-    follows : (file : List ℕ) (run : ZoneRun Z) → HoldsFront whole file → IsZoneRun disks runs file run → FollowsOn chain run
+    follows : (file : List ℕ) (run : ZoneRun Z) → HoldsFront whole file → IsZoneRun disks runs file run → FollowsOn (patches_in log) run
     follows file run held is =
         let on = follows_on disks run.opened run.now whole run.had run.took run.name run.said run.end (is_told file run held is) in
-        let of_chain : (taken : List CheckedPatch) → IsPrefix taken whole → GrowsTo (map bare taken) chain = λ taken front. subst (λ (ps : List Patch). GrowsTo (map bare taken) ps) bare_is (front_bare taken whole front) in
+        let of_chain : (taken : List CheckedPatch) → IsPrefix taken whole → GrowsTo (map bare taken) (patches_in log) = λ taken front. subst (λ (ps : List Patch). GrowsTo (map bare taken) ps) bare_is (front_bare taken whole front) in
         record {
           front = of_chain (run.had ++ run.took) (without (run.had ++ run.took) run.now.doubt on.begins);
           replayed = on.replayed;
           images = λ kept are holds. of_chain kept (held_front run.image kept are holds (left_front file run held is));
         }
 
-    each_follows : (file : List ℕ) (zone_runs : List (ZoneRun Z)) (run : ZoneRun Z) → HoldsFront whole file → AreZoneRuns disks runs file zone_runs → IsIn run zone_runs → FollowsOn chain run
+    each_follows : (file : List ℕ) (zone_runs : List (ZoneRun Z)) (run : ZoneRun Z) → HoldsFront whole file → AreZoneRuns disks runs file zone_runs → IsIn run zone_runs → FollowsOn (patches_in log) run
     each_follows file [] run held are i = absurd i
     each_follows file (first ∷ more) run held are i = ⊎_elim
-        (λ (e : run ≡ first). subst (FollowsOn chain) (sym e) (follows file first held are.0))
+        (λ (e : run ≡ first). subst (FollowsOn (patches_in log)) (sym e) (follows file first held are.0))
         (λ (j : IsIn run more). each_follows first.image more run (left_front file first held are.0) are.1 j) i
 
 -- a zone that began with nothing
-pub all_follow : {D Z : Type 0} (number : ℕ) (limits : LogLimits) (image : List ℕ) (runs : List (ServerRun D)) (found : List (List Patch)) → KeepsPromise number limits image runs (patches_in found) → AllByRecursion IsSoundRun found
+pub all_follow : {D Z : Type 0} (number : ℕ) (limits : LogLimits) (image : List ℕ) (runs : List (ServerRun D)) (found : List (List Patch)) → KeepsPromise number limits image runs found → AllByRecursion IsSoundRun found
     → (disks : Ghosts Z) → disks.tells → (file : List ℕ) (zone_runs : List (ZoneRun Z)) (run : ZoneRun Z) → Holds file zone_number [] → AreZoneRuns disks runs file zone_runs → IsIn run zone_runs → FollowsOn (patches_in found) run
 all_follow number limits image runs found keeps sound disks tells file zone_runs run empty are i =
     let is_read = read_of found sound in
-    each_follows number limits image runs (patches_in found) keeps is_read.read is_read.are_checked is_read.bare_is disks tells file zone_runs run ([], (is_read.read, refl), empty) are i
+    each_follows number limits image runs found keeps is_read.read is_read.are_checked is_read.bare_is disks tells file zone_runs run ([], (is_read.read, refl), empty) are i

@@ -31,6 +31,7 @@ module _ {D : Type 0} (disks : Ghosts D) where
       number_is = begun.number_is;
       limits_is = begun.limits_is;
       opened = begun.opened;
+      whole = begun.whole;
       settled = begun.settled;
       called = called;
       all_there = there;

@@ -1,14 +1,16 @@
 -- Calls of one pass on one log, one after another, with what it showed before and behind each.
 use Rattle.std.specs.Prelude.{◌≡◌, ℕ, List, [], ◌∷◌, ◌++◌, Option, Some, None}
 use mathlib.Core.List.{IsPrefix}
-use Rattle.log_base.specs.declared.limits.LogLimits.{LogLimits}
+use Rattle.disk_model.specs.declared.disk.Disk.{Ghosts}
 use Rattle.chain_core.specs.declared.chain.Patch.{Patch}
 use Rattle.chain_core.specs.declared.answer.LogAnswer.TheVariants.{Accepted, AcceptedRun}
 use Rattle.chain_core.specs.Replies.{LogCall, append, append_run, LogReply, answered}
+use Rattle.patch_log.specs.State.{LogView}
 use Rattle.turn_cell.specs.Calls.{IsReplied}
 use Rattle.turn_cell.specs.Knowing.{seen_of, mine_of, failed_of}
-use Rattle.shared_log.specs.History.{LogSight}
-use Rattle.shared_log.specs.Legal.{LegalOnLog, BroughtRun}
+use Rattle.shared_log.specs.History.{LogSight, SeesWhole}
+use Rattle.shared_log.specs.Legal.{BroughtRun}
+use Rattle.shared_log.specs.Stays.{CalledOnLog}
 use Rattle.shared_log.specs.Calls.{MayWant}
 
 -- the call appends this run; a patch is a run by itself
@@ -30,16 +32,19 @@ pub record SeenCall : Type 0 where
   pub reply : Option LogReply
   pub after : LogSight
 
--- the call was legal; only a fetch goes without a reply
-abbrev pub IsLegalCall : LogLimits → SeenCall → Type 0
-IsLegalCall limits seen =
-    IsReplied (LegalOnLog limits) MayWant seen.before seen.call seen.reply seen.after
+module _ {D : Type 0} (disks : Ghosts D) (origin : LogView D) where
+  -- The call was legal, with its stay, and only a fetch went without a reply. In all that the pass
+  -- then saw each run stands whole.
+  abbrev pub IsLegalCall : SeenCall → Type 0
+  IsLegalCall seen =
+      IsReplied (CalledOnLog disks origin) MayWant seen.before seen.call seen.reply seen.after
+      × SeesWhole seen.after
 
--- legal calls, each by the pass as the one before it left it
-abbrev pub AreSeenCalls : LogLimits → LogSight → List SeenCall → LogSight → Type 0
-AreSeenCalls limits p [] q = q ≡ p
-AreSeenCalls limits p (seen ∷ more) q =
-    (seen.before ≡ p) × IsLegalCall limits seen × AreSeenCalls limits seen.after more q
+  -- legal calls, each by the pass as the one before it left it
+  abbrev pub AreSeenCalls : LogSight → List SeenCall → LogSight → Type 0
+  AreSeenCalls p [] q = q ≡ p
+  AreSeenCalls p (seen ∷ more) q =
+      (seen.before ≡ p) × IsLegalCall seen × AreSeenCalls seen.after more q
 
 -- what a pass has done so far in a call: nothing, or it brought the run that it is to append, or
 -- left it in doubt

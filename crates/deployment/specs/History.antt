@@ -7,6 +7,7 @@ use Rattle.log_journal.specs.File.{Holds}
 use Rattle.chain_core.specs.declared.chain.Patch.{Patch}
 use Rattle.chain_core.specs.declared.answer.LogAnswer.{LogAnswer}
 use Rattle.chain_core.specs.Replies.{LogCall}
+use Rattle.chain_core.specs.Runs.{AreWhole}
 use Rattle.patch_log.specs.Log.{IsSoundRun, IsSoundLog, payloads_of}
 use Rattle.patch_log.specs.State.{LogView, runs_in}
 use Rattle.patch_log.specs.Run.{AppendedRun}
@@ -58,7 +59,7 @@ module _ {D : Type 0} (disks : Ghosts D) where
     pub given : LogSight
     pub is_given : IsNewPassOf (shared_log disks) made number given
     pub behind : LogSight
-    pub calls : AreSeenCalls made.origin.limits given pass.calls behind
+    pub calls : AreSeenCalls disks made.origin given pass.calls behind
     pub amid : IsAmid behind pass.in_call pass.at_stop
 
   -- the append of a run that a pass is in a call to append, to this log
@@ -85,6 +86,7 @@ module _ {D : Type 0} (disks : Ghosts D) where
     pub number_is : run.made.origin.number ≡ number
     pub limits_is : run.made.origin.limits ≡ limits
     pub opened : IsFoundIn image number limits (runs_in run.made.origin)
+    pub whole : AreWhole run.made.origin.entries
     pub settled : run.made.origin.doubt ≡ None
     pub called : AllOf (HasCalled run.made) run.passes
     pub all_there : AreAll run.made.seats (sights_of run)

@@ -3,7 +3,6 @@ use Rattle.std.specs.Prelude.{ℕ, List}
 use Rattle.log_base.specs.declared.limits.LogLimits.{LogLimits}
 use Rattle.disk_model.specs.declared.disk.Disk.{Ghosts}
 use Rattle.chain_core.specs.declared.chain.Patch.{Patch}
-use Rattle.chain_core.specs.Runs.{patches_in}
 use Rattle.deployment.specs.History.{ServerRun, AreServerRuns, IsServerRun, IsFoundIn, image_left}
 use Rattle.deployment.specs.Promise.{KeepsPromise}
 
@@ -14,7 +13,7 @@ module _ {D : Type 0} (disks : Ghosts D) where
       (number : ℕ) (limits : LogLimits) (image : List ℕ) (runs : List (ServerRun D))
       (found : List (List Patch)) → disks.tells → AreServerRuns disks number limits image runs
       → IsFoundIn (image_left image runs) number limits found
-      → KeepsPromise number limits image runs (patches_in found)
+      → KeepsPromise number limits image runs found
 
   -- whatever a run leaves is a log
   abbrev pub StopsLeaveALog : Type 0

@@ -1,5 +1,5 @@
--- A twin at any moment: what its rule says of the work, of the list and of the passes. This is what
--- `close` tells once all passes are back, and it holds between any two steps.
+-- A twin at any moment: what its rule says of the work, of the list and of the passes. This is
+-- what `close` tells once all passes are back, and it holds between any two steps.
 use Rattle.std.specs.Prelude.{◌≡◌, ◌⊎◌, ℕ, ◌≤◌, List, [], map, Option, Some, None}
 use mathlib.Core.Option as home
 use lib.ListN.{get_elem?}

@@ -2,6 +2,7 @@
 use Rattle.std.specs.Prelude.{◌≡◌, ℕ, List, None}
 use Rattle.log_base.specs.declared.limits.LogLimits.{LogLimits}
 use Rattle.disk_model.specs.declared.disk.Disk.{Ghosts}
+use Rattle.chain_core.specs.Runs.{AreWhole}
 use Rattle.patch_log.specs.State.{LogView, runs_in}
 use Rattle.turn_cell.specs.Turns.{AllOf}
 use Rattle.turn_cell.specs.Sights.{Made, AreAll}
@@ -19,6 +20,7 @@ module _ {D : Type 0} (disks : Ghosts D) where
     pub number_is : run.made.origin.number ≡ number
     pub limits_is : run.made.origin.limits ≡ limits
     pub opened : IsFoundIn image number limits (runs_in run.made.origin)
+    pub whole : AreWhole run.made.origin.entries
     pub settled : run.made.origin.doubt ≡ None
 
   -- the pass was given by the sharing, and is as its last call left it
@@ -26,7 +28,7 @@ module _ {D : Type 0} (disks : Ghosts D) where
     pub number : ℕ
     pub given : LogSight
     pub is_given : IsNewPassOf (shared_log disks) made number given
-    pub calls : AreSeenCalls made.origin.limits given pass.calls pass.at_stop
+    pub calls : AreSeenCalls disks made.origin given pass.calls pass.at_stop
     pub in_none : pass.in_call ≡ None
 
   -- a run that was closed: by what the opening, the sharing, the calls and the close ensure
