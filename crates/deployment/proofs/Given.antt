@@ -28,7 +28,7 @@ use Rattle.shared_log.proofs.Stays.{stays_of}
 use Rattle.shared_log.proofs.Table.{Stays}
 use Rattle.shared_log.proofs.Turns.{known_entries}
 use Rattle.world_core.specs.World.{StandsAt}
-use Rattle.world_core.proofs.Growing.{GrowsTo, patches_grow, still_at, still_stands, stands_behind}
+use Rattle.world_core.proofs.Growing.{GrowsTo, stays_same, patches_grow, still_at, still_stands, stands_behind}
 use Rattle.deployment.specs.Calls.{IsToAppend, SeenCall}
 use Rattle.deployment.specs.Promise.{IsGiven}
 use Rattle.deployment.proofs.Fronts.{patches_go_on, runs_known, runs_patches, as_prefix}
@@ -42,6 +42,7 @@ module _ (limits : LogLimits) (log : List (List Patch)) where
         point = given.point;
         of_log = prefix_trans given.point log longer given.of_log (as_prefix log longer grows);
         had_seen = given.had_seen;
+        seen_then = given.seen_then;
         gives = given.gives;
         accepted = λ patch place is told. still_at (patches_in log) (patches_in longer) place patch patches (given.accepted patch place is told);
         accepted_run = λ run first last is told. still_stands (patches_in log) (patches_in longer) run first last patches (given.accepted_run run first last is told);
@@ -62,6 +63,9 @@ module _ {D : Type 0} (disks : Ghosts D) (origin : LogView D) (p q : LogSight) w
 
   same : patches_known (seen_of q) ≡ Seen
   same = runs_patches (seen_of q)
+
+  all_seen : GrowsTo Seen (patches_known (seen_of q))
+  all_seen = subst (GrowsTo Seen) (sym same) (stays_same Seen)
 
   fetched_is : (one : Option Patch) (count : ℕ) (patch : Patch) → fetched one count ≡ found patch → one ≡ Some patch
   fetched_is None count patch told = absurd (cc)
@@ -100,6 +104,9 @@ module _ {D : Type 0} (disks : Ghosts D) (origin : LogView D) (p q : LogSight) w
     point_had_seen : GrowsTo (patches_known (seen_of p)) (patches_in Point)
     point_had_seen = subst (GrowsTo (patches_known (seen_of p))) known (patches_go_on (seen_of p) (history_of stay.found.entries) stay.had_seen)
 
+    point_seen : GrowsTo (patches_in Point) (patches_known (seen_of q))
+    point_seen = (run, same ∙ ap patches_in of_log ∙ patches_in-push Point run)
+
     takes : run_decision (patches_in Point) run limits ≡ Accept place
     takes =
         let one : stay.found.limits ≡ limits = ap (λ f. f.limits) stay.found_fixed in
@@ -121,6 +128,7 @@ module _ {D : Type 0} (disks : Ghosts D) (origin : LogView D) (p q : LogSight) w
       point = Log;
       of_log = prefix_refl Log;
       had_seen = before;
+      seen_then = all_seen;
       gives = λ reply told. absurd (cc);
       accepted = λ patch place is told. absurd (cc);
       accepted_run = λ run first last is told. absurd (cc);
@@ -136,6 +144,7 @@ module _ {D : Type 0} (disks : Ghosts D) (origin : LogView D) (p q : LogSight) w
           point = Log;
           of_log = prefix_refl Log;
           had_seen = before;
+          seen_then = all_seen;
           gives = λ r told. inl (sym (some_is reply r told) ∙ is);
           accepted = λ patch place c told. absurd (none.0 patch place c (some_is reply (answered (Accepted place)) told));
           accepted_run = λ run first last c told. absurd (none.1 run first last c (some_is reply (answered (AcceptedRun first last)) told));
@@ -150,6 +159,7 @@ module _ {D : Type 0} (disks : Ghosts D) (origin : LogView D) (p q : LogSight) w
       point = Log;
       of_log = prefix_refl Log;
       had_seen = before;
+      seen_then = all_seen;
       gives = λ r told. let one = some_is (answered answer) r told in inr (record {
         run = run;
         version = place;
@@ -183,6 +193,7 @@ module _ {D : Type 0} (disks : Ghosts D) (origin : LogView D) (p q : LogSight) w
             point = Point stay run some place appended;
             of_log = (run ∷ [], sym (of_log stay run some place appended));
             had_seen = point_had_seen stay run some place appended;
+            seen_then = point_seen stay run some place appended;
             gives = λ r told. inl (sym (some_is (answered (Accepted place)) r told) ∙ ap (λ d. answered (answer_of d)) (sym (takes stay run some place appended)));
             accepted = λ other version c told. let is : patch ≡ other = cc in let to : place ≡ version = cc in ap (patch_at Seen) (sym to ∙ at) ∙ one ∙ ap Some is;
             accepted_run = λ more first last c told. absurd (cc);
@@ -196,6 +207,7 @@ module _ {D : Type 0} (disks : Ghosts D) (origin : LogView D) (p q : LogSight) w
         point = Point stay run some place appended;
         of_log = (run ∷ [], sym (of_log stay run some place appended));
         had_seen = point_had_seen stay run some place appended;
+        seen_then = point_seen stay run some place appended;
         gives = λ r told. inl (sym (some_is (answered (AcceptedRun (place - (length run - 1)) place)) r told) ∙ ap (λ d. answered (as_run (length run) (answer_of d))) (sym (takes stay run some place appended)));
         accepted = λ other version c told. absurd (cc);
         accepted_run = λ other first last c told.

@@ -36,11 +36,13 @@ IsGivenAt limits call reply point =
     (reply ≡ log_reply limits call point) ⊎ IsExcused limits call reply point
 
 -- The reply is the one that the chain gives at a point between runs, no earlier than all that the
--- pass had seen; and what it told as accepted or served stands in the chain.
+-- pass had seen, and no later than what it saw then. What it told as accepted or served stands in
+-- the chain.
 pub record IsGiven (limits : LogLimits) (log : List (List Patch)) (seen : SeenCall) : Type 0 where
   pub point : List (List Patch)
   pub of_log : IsPrefix point log
   pub had_seen : IsFrontOf (patches_known (seen_of seen.before)) (patches_in point)
+  pub seen_then : IsFrontOf (patches_in point) (patches_known (seen_of seen.after))
   pub gives : (reply : LogReply) → seen.reply ≡ Some reply
       → IsGivenAt limits seen.call reply (patches_in point)
   pub accepted : (patch : Patch) (version : ℕ) → seen.call ≡ append patch
