@@ -20,6 +20,7 @@ enum Command {
     Decided,
     Fronts,
     Scan,
+    Make,
     Places,
     Written,
     Pieces,
@@ -32,12 +33,13 @@ enum Command {
     Emitted,
 }
 
-const COMMANDS: [(&str, Command); 15] = [
+const COMMANDS: [(&str, Command); 16] = [
     ("space", Command::Space),
     ("row", Command::Row),
     ("decided", Command::Decided),
     ("fronts", Command::Fronts),
     ("scan", Command::Scan),
+    ("make", Command::Make),
     ("places", Command::Places),
     ("written", Command::Written),
     ("pieces", Command::Pieces),
@@ -67,6 +69,7 @@ impl Layer for Texts {
             Some(Command::Decided) => rows::decided(self.alloc, text, answer),
             Some(Command::Fronts) => rows::fronts(self.alloc, text, answer),
             Some(Command::Scan) => scans::scan(text, answer),
+            Some(Command::Make) => scans::make(self.alloc, text, answer),
             Some(Command::Places) => scans::places(self.alloc, words, answer),
             Some(Command::Written) => rows::written(self.alloc, text, answer),
             Some(Command::Pieces) => pieces::pieces(self.alloc, text, answer),

@@ -1,8 +1,9 @@
 //! The scans that spare a reading: that they find what they are for. No contract asks for that.
 use case_scripts::{Answer, Words};
 use patch_reader::RowWindow;
-use patch_rows::TextEnd;
-use row_scan::{Says, scan_row};
+use patch_rows::{Row, TextEnd, print_row};
+use rdf_terms::Change;
+use row_scan::{MadeRow, Says, made_row, scan_row};
 use std::alloc::Global;
 use std::fmt::Write;
 
@@ -21,6 +22,22 @@ pub(crate) fn scan(text: &[u8], answer: &mut Answer) {
         Says::Prev(_) => write!(answer, "names the id before"),
     };
     let _ = write!(answer, ", to {}", row.end);
+}
+
+/// `make TEXT`: the canonical text of the row at the front, of which the scan made the quad.
+pub(crate) fn make(alloc: Global, text: &[u8], answer: &mut Answer) {
+    let Ok(Some(MadeRow { row, quad })) = made_row(alloc, text, 0) else {
+        return answer.push(b"none");
+    };
+    let change = Row::Change(if row.adds {
+        Change::Add(quad)
+    } else {
+        Change::Delete(quad)
+    });
+    if let Ok(line) = print_row(alloc, &change) {
+        answer.push(line.as_bytes());
+    }
+    drop(change);
 }
 
 // Writes where the next row begins, where the window knows.
