@@ -3,7 +3,10 @@ use Rattle.std.proofs.Common.{◌≡◌, ℕ, List, [], ◌∷◌, Option, None,
 use Rattle.log_base.specs.declared.limits.LogLimits.{LogLimits}
 use Rattle.disk_model.specs.declared.disk.Disk.{Ghosts}
 use Rattle.chain_core.specs.Replies.{LogCall}
-use Rattle.patch_log.specs.State.{LogView}
+use Rattle.disk_model.specs.Past.{Past, reads}
+use Rattle.log_journal.specs.File.{Holds}
+use Rattle.patch_log.specs.Log.{payloads_of}
+use Rattle.patch_log.specs.State.{LogView, runs_in}
 use Rattle.turn_cell.specs.Turns.{AllOf}
 use Rattle.turn_cell.specs.Sights.{Made, AreAll}
 use Rattle.turn_cell.specs.Sharing.{AreAllPassesOf, IsClosedOf}
@@ -25,14 +28,14 @@ module _ {D : Type 0} (disks : Ghosts D) where
     returned made passes all.1,
   )
 
-  module _ (number : ℕ) (limits : LogLimits) (image : List ℕ) (run : ServerRun D) (begun : IsBegun disks number limits image run) where
+  module _ (number : ℕ) (limits : LogLimits) (image : List ℕ) (run : ServerRun D) (tells : disks.tells) (begun : IsBegun disks number limits image run) where
     pub a_run : AllOf (HasCalled disks run.made) run.passes → AreAll run.made.seats (sights_of run) → IsClosedOf (shared_log disks) run.made (sights_of run) run.log → Leaves disks run.passes run.log run.under_way run.image → IsServerRun disks number limits image run
     a_run called there was leaves = record {
-      number_is = begun.number_is;
-      limits_is = begun.limits_is;
-      opened = begun.opened;
+      number_is = begun.settled.1;
+      limits_is = begun.settled.2;
+      opened = record { holds = subst (λ (past : Past). Holds (reads past) number (payloads_of (runs_in run.made.origin))) begun.begins (begun.payloads tells); log = begun.log };
       whole = begun.whole;
-      settled = begun.settled;
+      settled = begun.settled.0;
       called = called;
       all_there = there;
       at_stop = was;

@@ -2,26 +2,32 @@
 use Rattle.std.specs.Prelude.{◌≡◌, ℕ, List, None}
 use Rattle.log_base.specs.declared.limits.LogLimits.{LogLimits}
 use Rattle.disk_model.specs.declared.disk.Disk.{Ghosts}
+use Rattle.disk_model.specs.Past.{began, reads}
+use Rattle.log_journal.specs.File.{Holds}
 use Rattle.chain_core.specs.Runs.{AreWhole}
+use Rattle.patch_log.specs.Log.{IsSoundLog, payloads_of}
 use Rattle.patch_log.specs.State.{LogView, runs_in}
 use Rattle.turn_cell.specs.Turns.{AllOf}
 use Rattle.turn_cell.specs.Sights.{Made, AreAll}
 use Rattle.turn_cell.specs.Sharing.{IsNewPassOf, AreAllPassesOf, IsClosedOf}
 use Rattle.shared_log.specs.History.{LogSight, shared_log}
 use Rattle.deployment.specs.Calls.{AreSeenCalls}
-use Rattle.deployment.specs.History.{PassRun, ServerRun, IsFoundIn, HasCalled, Leaves}
+use Rattle.deployment.specs.History.{PassRun, ServerRun, HasCalled, Leaves}
 use Rattle.deployment.specs.History.{IsServerRun, sights_of}
 use Rattle.deployment.specs.Moments.{LogCell, IsMoment}
 
 module _ {D : Type 0} (disks : Ghosts D) where
-  -- the log as it was opened on an image and shared
+  -- the log as it was opened, on a disk that began with the image
   pub record IsBegun (number : ℕ) (limits : LogLimits) (image : List ℕ)
       (run : ServerRun D) : Type 0 where
-    pub number_is : run.made.origin.number ≡ number
-    pub limits_is : run.made.origin.limits ≡ limits
-    pub opened : IsFoundIn image number limits (runs_in run.made.origin)
+    pub disk : D
+    pub begins : disks.past disk ≡ began image
+    pub payloads : disks.tells → Holds (reads (disks.past disk)) number
+        (payloads_of (runs_in run.made.origin))
+    pub log : IsSoundLog limits (runs_in run.made.origin)
     pub whole : AreWhole run.made.origin.entries
-    pub settled : run.made.origin.doubt ≡ None
+    pub settled : (run.made.origin.doubt ≡ None) × (run.made.origin.number ≡ number)
+        × (run.made.origin.limits ≡ limits)
 
   -- the pass was given by the sharing, and is as its last call left it
   pub record HasReturned (made : Made (LogView D)) (pass : PassRun) : Type 0 where
@@ -35,7 +41,8 @@ module _ {D : Type 0} (disks : Ghosts D) where
   abbrev pub ClosedRunsAreRuns : Type 0
   ClosedRunsAreRuns =
       (number : ℕ) (limits : LogLimits) (image : List ℕ) (run : ServerRun D)
-      → IsBegun number limits image run → AllOf (HasReturned run.made) run.passes
+      → disks.tells → IsBegun number limits image run
+      → AllOf (HasReturned run.made) run.passes
       → AreAllPassesOf (shared_log disks) run.made (sights_of run)
       → IsClosedOf (shared_log disks) run.made (sights_of run) run.log
       → Leaves disks run.passes run.log run.under_way run.image
@@ -46,7 +53,8 @@ module _ {D : Type 0} (disks : Ghosts D) where
   abbrev pub KilledRunsAreRuns : Type 0
   KilledRunsAreRuns =
       (number : ℕ) (limits : LogLimits) (image : List ℕ) (run : ServerRun D) (s : LogCell disks)
-      → IsBegun number limits image run → AllOf (HasCalled disks run.made) run.passes
+      → disks.tells → IsBegun number limits image run
+      → AllOf (HasCalled disks run.made) run.passes
       → AreAll run.made.seats (sights_of run)
       → IsMoment disks run.made run.log (sights_of run) s
       → Leaves disks run.passes run.log run.under_way run.image
