@@ -83,8 +83,11 @@ def shared(file: IO[bytes], path: Path, seconds: float = 0.0) -> Iterator[None]:
 @contextmanager
 def exclusive(
     path: Path, seconds: float = PATIENCE_SECONDS, tell: Callable[[str], None] | None = None
-) -> Iterator[None]:
-    """The lock file at a path, held alone; it is made where it isn't there, and stays."""
+) -> Iterator[int]:
+    """The lock file at a path, held alone; it is made where it isn't there, and stays.
+
+    A process that is given the descriptor holds the lock too, until it ends.
+    """
     with path.open("ab") as file:
         _take(file, path, fcntl.LOCK_EX, seconds, tell)
-        yield
+        yield file.fileno()

@@ -4,12 +4,13 @@ from __future__ import annotations
 import os
 import shutil
 import subprocess
-from collections.abc import Callable
+from collections.abc import Callable, Sequence
 from pathlib import Path
 
 from rdfdelta import errors
 
 VARIABLE = "RDFDELTA_PROGRAM"
+LOOK_SECONDS = 0.2
 
 
 class Program:
@@ -25,24 +26,25 @@ class Program:
             raise errors.RdfDeltaError(f"no program {path}; {VARIABLE} or --program may name it")
         return [found, *(str(word) for word in words)]
 
-    def run(self, *words: str | Path, source: bytes = b"") -> bytes:
-        """What a command prints, given an input."""
-        done = subprocess.run(self._words(words), input=source, capture_output=True)
+    def run(self, *words: str | Path, source: bytes = b"", given: Sequence[int] = ()) -> bytes:
+        """What a command prints, given an input; of the descriptors that are open it has the given ones."""
+        done = subprocess.run(self._words(words), input=source, capture_output=True, pass_fds=given)
         if done.returncode != 0:
             raise errors.ProgramFailed(done.returncode, _last_line(done.stderr))
         return done.stdout
 
-    def show(self, *words: str | Path) -> int:
+    def show(self, *words: str | Path, given: Sequence[int] = ()) -> int:
         """Runs a command that prints for itself; its status."""
-        return subprocess.run(self._words(words)).returncode
+        return subprocess.run(self._words(words), pass_fds=given).returncode
 
-    def watch(self, *words: str | Path, look: Callable[[], None], seconds: float = 0.2) -> None:
+    def watch(self, *words: str | Path, look: Callable[[], None], given: Sequence[int] = ()) -> None:
         """Runs a command to its end, and looks now and then while it runs."""
-        running = subprocess.Popen(self._words(words), stdout=subprocess.DEVNULL, stderr=subprocess.PIPE)
+        quiet, pipe = subprocess.DEVNULL, subprocess.PIPE
+        running = subprocess.Popen(self._words(words), stdout=quiet, stderr=pipe, pass_fds=given)
         try:
             while True:
                 try:
-                    _, said = running.communicate(timeout=seconds)
+                    _, said = running.communicate(timeout=LOOK_SECONDS)
                     break
                 except subprocess.TimeoutExpired:
                     look()

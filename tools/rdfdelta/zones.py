@@ -1,7 +1,8 @@
 """Zones: folders in which the program keeps a copy of a log with its dataset.
 
 The program locks a zone's file while it has it, and whoever comes meanwhile is told that the disk failed. So all that
-goes through here waits for a lock file of its own beside it first.
+goes through here waits for a lock file of its own beside it first. The program has that lock too: it goes on where
+whoever called it was killed.
 """
 from __future__ import annotations
 
@@ -33,19 +34,19 @@ class Zone:
         self._counter = Counter(self.file)
 
     @contextmanager
-    def alone(self) -> Iterator[None]:
-        """The zone's lock."""
+    def alone(self) -> Iterator[int]:
+        """The zone's lock, by its descriptor."""
         if not self.folder.is_dir():
             raise errors.RdfDeltaError(f"{self.folder}: no such folder")
-        with locks.exclusive(self.folder / LOCK_FILE, tell=self._tell):
-            yield
+        with locks.exclusive(self.folder / LOCK_FILE, tell=self._tell) as lock:
+            yield lock
 
     def make(self) -> None:
         """Makes the folder and the zone in it where there is none."""
         self.folder.mkdir(parents=True, exist_ok=True)
-        with self.alone():
+        with self.alone() as lock:
             if not self.file.exists() or self.file.stat().st_size == 0:
-                self.program.run("zone", self.folder)
+                self.program.run("zone", self.folder, given=[lock])
 
     def state(self) -> LogState:
         """The version of the zone and its newest patch, by its file."""
@@ -57,14 +58,14 @@ class Zone:
         """Has the program fetch and take what the log has behind the zone; the zone's version is told meanwhile."""
         address = log.server.direct_address()
         log.server.rest()
-        with self.alone():
+        with self.alone() as lock:
             words = ("sync", self.folder, address, log.name)
-            self.program.watch(*words, look=lambda: look(self._counter.look()))
+            self.program.watch(*words, look=lambda: look(self._counter.look()), given=[lock])
 
     def show(self, command: str, *words: str) -> int:
         """Has the program print what the zone has; its status."""
-        with self.alone():
-            return self.program.show(command, self.folder, *words)
+        with self.alone() as lock:
+            return self.program.show(command, self.folder, *words, given=[lock])
 
 
 def hint(zone: Path, failed: errors.ProgramFailed) -> str | None:

@@ -8,7 +8,8 @@ import time
 from pathlib import Path
 
 from calling import environment, rdfd, words_of
-from conftest import Running, Start, eventually, id_of, old_file, patch
+from conftest import PROGRAM, Running, Start, eventually, id_of, old_file, patch
+from rdfdelta import locks
 
 
 def lines(count: int) -> set[str]:
@@ -144,3 +145,18 @@ def test_a_zone_of_the_old_form(running: Running, tmp_path: Path) -> None:
     assert done.status == 9 and "file 1000: old format" in done.err and f"rdfd rewrite {zone} NEW" in done.err
     assert rdfd("rewrite", zone, new).status == 0
     assert rdfd("follow", new, "ABC", "--once", address=running.address).out == "ABC: version 3\n"
+
+
+def test_a_sync_that_outlives_its_caller_has_the_lock(running: Running, tmp_path: Path) -> None:
+    running.fill("ABC", 1)
+    zone = tmp_path / "zone"
+    slow = tmp_path / "slow"
+    slow.write_text(f'#!/bin/sh\n[ "$1" = zone ] || {{ touch "{tmp_path}/begun"; sleep 2; }}\nexec {PROGRAM} "$@"\n')
+    slow.chmod(0o755)
+    follower = following(running, zone, "--program", slow)
+    assert eventually((tmp_path / "begun").exists)
+    follower.kill()
+    follower.wait()
+    assert locks.is_held(zone / "rdfd.lock")
+    done = rdfd("follow", zone, "ABC", "--once", address=running.address)
+    assert (done.status, done.out) == (0, "ABC: version 1\n")
