@@ -88,9 +88,9 @@ class Page {
    */
   async reach(version) {
     this.fill();
-    const index = this.versions.indexOf(version);
-    await this.#puts[index];
-    return /** @type {HTMLElement | null} */ (this.element.children[index] ?? null);
+    await this.#puts[this.versions.indexOf(version)];
+    // Newer ones may have come meanwhile.
+    return /** @type {HTMLElement | null} */ (this.element.children[this.versions.indexOf(version)] ?? null);
   }
 
   /** Lets the patches go, and keeps their place. */
@@ -131,6 +131,12 @@ export class Feed {
   #pages = [];
   /** @type {Map<Element, Page>} */
   #byElement = new Map();
+  /** @type {Set<Page>} */
+  #near = new Set();
+  // The page of a version on the way to it. The pages above grow when they are filled, and push it away before it is
+  // reached, so it stays filled wherever it is.
+  /** @type {Page | undefined} */
+  #wanted;
   #reader;
   // A page is near where it is less than the window's height away.
   #observer = new IntersectionObserver((entries) => this.#look(entries), { rootMargin: '100% 0px' });
@@ -177,16 +183,36 @@ export class Feed {
   }
 
   /**
-   * The element of a version, once it is there.
+   * The element of a version, once it is there. It stays until it is released, or another one is reached for.
    * @param {number} version
    */
   async reach(version) {
-    return this.#pageOf(version)?.reach(version) ?? null;
+    const before = this.#wanted;
+    this.#wanted = this.#pageOf(version);
+    if (before) {
+      this.#fit(before);
+    }
+    return this.#wanted?.reach(version) ?? null;
+  }
+
+  /** Has what was reached, and scrolled to, be let go when it is far. */
+  release() {
+    const page = this.#wanted;
+    if (page) {
+      // What the observer told so far was before the scrolling. Where the page is now it tells anew.
+      this.#look(this.#observer.takeRecords());
+      this.#observer.unobserve(page.element);
+      this.#observer.observe(page.element);
+      this.#near.add(page);
+      this.#wanted = undefined;
+    }
   }
 
   close() {
     this.#observer.disconnect();
     this.#byElement.clear();
+    this.#near.clear();
+    this.#wanted = undefined;
     this.#pages.forEach((page) => page.empty());
     this.#pages = [];
   }
@@ -208,7 +234,15 @@ export class Feed {
   #look(entries) {
     for (const { target, isIntersecting } of entries) {
       const page = this.#byElement.get(target);
-      isIntersecting ? page?.fill() : page?.empty();
+      if (page) {
+        isIntersecting ? this.#near.add(page) : this.#near.delete(page);
+        this.#fit(page);
+      }
     }
+  }
+
+  /** @param {Page} page */
+  #fit(page) {
+    page === this.#wanted || this.#near.has(page) ? page.fill() : page.empty();
   }
 }

@@ -82,6 +82,7 @@ export class LogView {
       const article = await this.#feed.reach(wanted);
       if (article !== null && gone === this.#gone) {
         this.#choose(article);
+        this.#feed.release();
       }
     }
   }
