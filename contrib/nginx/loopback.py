@@ -4,6 +4,7 @@ Certificate, passwords and files are of its own, in a temporary folder, which go
 """
 import contextlib
 import os
+import re
 import shutil
 import socket
 import subprocess
@@ -18,6 +19,10 @@ HERE = Path(__file__).resolve().parent
 TOP = HERE.parent.parent
 WORKERS = 16
 READER, WRITER = ("reader", "read-only"), ("writer", "read-and-write")
+# The log whose location stands in rdfdelta.conf as a comment, by the name that it has here, and who may read it and
+# write to it.
+CLOSED, CLOSED_READER, CLOSED_WRITER = "closed", ("member", "read-closed"), ("keeper", "write-closed")
+OWN_LOCATION = re.compile(r"    # location ~ \^/ABC.*?\n    # \}\n", re.DOTALL)
 MAIN = """
 {user}
 daemon off;
@@ -89,6 +94,9 @@ def configure(stand: Stand, processes: int) -> None:
         if place not in text:
             sys.exit(f"rdfdelta.conf lacks {place}")
         text = text.replace(place, new)
+    text, count = OWN_LOCATION.subn(lambda found: found[0].replace("# ", "").replace("ABC", CLOSED), text)
+    if count != 1:
+        sys.exit("rdfdelta.conf lacks the location of a log")
     (stand.folder / "rdfdelta.conf").write_text(text)
     user = "user root;" if os.geteuid() == 0 else ""
     (stand.folder / "nginx.conf").write_text(MAIN.format(folder=stand.folder, user=user, processes=processes))
@@ -98,10 +106,12 @@ def make_secrets(folder: Path) -> None:
     subject = ["-subj", "/CN=localhost", "-addext", "subjectAltName=IP:127.0.0.1"]
     files = ["-keyout", folder / "rdfdelta.key", "-out", folder / "rdfdelta.crt"]
     run("openssl", "req", "-x509", "-newkey", "rsa:2048", "-nodes", "-days", "1", *subject, *files)
-    hashes = (run("openssl", "passwd", "-apr1", "-stdin", text=word) for _, word in (READER, WRITER))
-    reader, writer = (f"{name}:{hash}" for (name, _), hash in zip((READER, WRITER), hashes))
-    (folder / "rdfdelta.writers").write_text(writer)
-    (folder / "rdfdelta.readers").write_text(writer + reader)
+    lines = {who: f"{who[0]}:{run('openssl', 'passwd', '-apr1', '-stdin', text=who[1])}"
+             for who in (READER, WRITER, CLOSED_READER, CLOSED_WRITER)}
+    (folder / "rdfdelta.writers").write_text(lines[WRITER])
+    (folder / "rdfdelta.readers").write_text(lines[WRITER] + lines[READER])
+    (folder / f"{CLOSED}.writers").write_text(lines[CLOSED_WRITER])
+    (folder / f"{CLOSED}.readers").write_text(lines[CLOSED_WRITER] + lines[CLOSED_READER])
 
 
 def await_port(port: int, process: subprocess.Popen) -> None:
