@@ -80,26 +80,35 @@ def run(*words: object, text: str | None = None) -> str:
     return subprocess.run(command, input=text, capture_output=True, text=True, check=True).stdout
 
 
+def replaced(text: str, places: dict[str, str]) -> str:
+    """A configuration with places replaced, each of which is to be there."""
+    for place, new in places.items():
+        if place not in text:
+            sys.exit(f"rdfdelta.conf lacks {place}")
+        text = text.replace(place, new)
+    return text
+
+
+def write(folder: Path, text: str, processes: int) -> None:
+    """The configuration, and the one that includes it."""
+    (folder / "rdfdelta.conf").write_text(text)
+    user = "user root;" if os.geteuid() == 0 else ""
+    (folder / "nginx.conf").write_text(MAIN.format(folder=folder, user=user, processes=processes))
+
+
 def configure(stand: Stand, processes: int) -> None:
-    """The configuration with its places replaced, each of which is to be there."""
-    text = (HERE / "rdfdelta.conf").read_text()
-    places = {
+    """The configuration with its places replaced, and the location of a log in force."""
+    text = replaced((HERE / "rdfdelta.conf").read_text(), {
         "listen 443": f"listen 127.0.0.1:{stand.front}",
         "127.0.0.1:10660;": f"127.0.0.1:{stand.back};",
         "/etc/nginx/": f"{stand.folder}/",
         "/var/log/nginx/": f"{stand.folder}/",
         "/usr/local/share/rdfdelta/page": f"{TOP}/contrib/page/web",
-    }
-    for place, new in places.items():
-        if place not in text:
-            sys.exit(f"rdfdelta.conf lacks {place}")
-        text = text.replace(place, new)
+    })
     text, count = OWN_LOCATION.subn(lambda found: found[0].replace("# ", "").replace("ABC", CLOSED), text)
     if count != 1:
         sys.exit("rdfdelta.conf lacks the location of a log")
-    (stand.folder / "rdfdelta.conf").write_text(text)
-    user = "user root;" if os.geteuid() == 0 else ""
-    (stand.folder / "nginx.conf").write_text(MAIN.format(folder=stand.folder, user=user, processes=processes))
+    write(stand.folder, text, processes)
 
 
 def make_secrets(folder: Path) -> None:
@@ -152,8 +161,12 @@ def standing(
         run(program, "init", data, slots)
         prepare(data)
         stand.server = start([program, "serve", data, f"127.0.0.1:{stand.back}", WORKERS], stand.back, started)
-        start([nginx, "-p", name, "-c", f"{name}/nginx.conf", "-e", f"{name}/error.log"], stand.front, started)
+        start(words_of(nginx, stand.folder), stand.front, started)
         yield stand
+
+
+def words_of(nginx: str, folder: Path) -> list[object]:
+    return [nginx, "-p", folder, "-c", folder / "nginx.conf", "-e", folder / "error.log"]
 
 
 def start(words: list[object], port: int, started: contextlib.ExitStack) -> subprocess.Popen:
