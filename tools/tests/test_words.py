@@ -3,6 +3,7 @@ from __future__ import annotations
 
 import os
 import subprocess
+import sys
 import urllib.request
 from pathlib import Path
 from types import SimpleNamespace
@@ -207,6 +208,27 @@ def test_metrics_are_served(running: Running) -> None:
     exporter.terminate()
     exporter.communicate(timeout=20)
     assert "rdfdelta_up 1.0" in text and "rdfdelta_resident_bytes" in text
+
+
+def test_names_of_logs_are_completed(running: Running) -> None:
+    for name in ("books", "boats", "cars"):
+        running.client.create(name, f"http://e/{name}")
+
+    def completed(words: str, address: str) -> list[str]:
+        asked = {"_RDFD_COMPLETE": "bash_complete", "COMP_WORDS": words, "COMP_CWORD": str(len(words.split()) - 1)}
+        done = subprocess.run(
+            [sys.executable, "-c", 'from rdfdelta.commands import main; main(prog_name="rdfd")'],
+            env=environment(address) | asked, capture_output=True, text=True, timeout=60, check=True,
+        )
+        return [line.removeprefix("plain,") for line in done.stdout.split()]
+
+    nobody = f"127.0.0.1:{free_port()}"
+    assert completed("rdfd tail bo", running.address) == ["boats", "books"]
+    assert completed(f"rdfd put -s {running.address} ca", nobody) == ["cars"]
+    assert completed("rdfd follow zone bo", running.address) == ["boats", "books"]
+    assert completed("rdfd patches file --append bo", running.address) == ["boats", "books"]
+    assert completed(f"rdfd patches file -s {running.address} --append ca", nobody) == ["cars"]
+    assert completed("rdfd tail bo", nobody) == []
 
 
 def test_no_server() -> None:

@@ -4,13 +4,13 @@ from __future__ import annotations
 import click
 
 from rdfdelta import moves
-from rdfdelta.commands.options import bar, program_option, say, server_option
+from rdfdelta.commands.options import bar, log_argument, program_option, say, server_option
 from rdfdelta.program import Program
 from rdfdelta.server import Server
 
 
 @click.command("move-log")
-@click.argument("log")
+@log_argument
 @server_option
 @program_option
 @click.option("--anyway", is_flag=True, help="Move a log too that isn't half full.")

@@ -1,6 +1,7 @@
 """What the words of rdfd have in common: their options, what they print, and their statuses."""
 from __future__ import annotations
 
+import os
 import sys
 from collections.abc import Callable, Iterator
 from contextlib import contextmanager
@@ -15,7 +16,8 @@ from rdfdelta import errors
 from rdfdelta.program import VARIABLE, Program
 from rdfdelta.server import Server
 
-DEFAULT_ADDRESS = "127.0.0.1:10660"
+DEFAULT_ADDRESS, SERVER_VARIABLE = "127.0.0.1:10660", "RDFD_SERVER"
+COMPLETION_SECONDS = 1.0
 PLAIN_WIDTH = 120
 # The statuses of the program, where an error is one of its own.
 STATUSES: tuple[tuple[type[errors.RdfDeltaError], int], ...] = (
@@ -45,7 +47,7 @@ def server_option(command: Command) -> Command:
         "-s",
         "--server",
         metavar="ADDR",
-        envvar="RDFD_SERVER",
+        envvar=SERVER_VARIABLE,
         default=DEFAULT_ADDRESS,
         show_default=True,
         callback=lambda context, option, address: Server(address),
@@ -62,6 +64,23 @@ def program_option(command: Command) -> Command:
         callback=lambda context, option, path: Program(path),
         help=f"The program rdfdelta, or {VARIABLE}; else the one on the PATH.",
     )(command)
+
+
+def log_names(context: click.Context, parameter: click.Parameter, begin: str) -> list[str]:
+    """The names of logs that begin so, for the completion; none where no server tells them soon."""
+    server, address = context.params.get("server"), context.params.get("address")
+    address = server.address if isinstance(server, Server) else address
+    address = address or os.environ.get(SERVER_VARIABLE) or DEFAULT_ADDRESS
+    try:
+        with Server(address, seconds=COMPLETION_SECONDS) as asked:
+            return [source.name for source in asked.sources() if source.name.startswith(begin)]
+    except errors.RdfDeltaError:
+        return []
+
+
+def log_argument(command: Command) -> Command:
+    """The name of a log."""
+    return click.argument("log", shell_complete=log_names)(command)
 
 
 def visible(text: str) -> str:

@@ -9,7 +9,7 @@ import click
 
 from rdfdelta import errors
 from rdfdelta.answers import Appended
-from rdfdelta.commands.options import DEFAULT_ADDRESS, file_type, say, write
+from rdfdelta.commands.options import DEFAULT_ADDRESS, file_type, log_names, say, write
 from rdfdelta.journal import Journal
 from rdfdelta.runs import append_all
 from rdfdelta.server import Log, Server
@@ -18,7 +18,8 @@ from rdfdelta.server import Log, Server
 @click.command()
 @click.argument("file", type=file_type)
 @click.argument("start", type=click.IntRange(min=1), default=1, metavar="[FROM]")
-@click.option("--append", "log", metavar="LOG", help="Append them to a log as they are, instead of printing them.")
+@click.option("--append", "log", metavar="LOG", shell_complete=log_names,
+              help="Append them to a log as they are, instead of printing them.")
 @click.option("-s", "--server", "address", metavar="ADDR", envvar="RDFD_SERVER", default=DEFAULT_ADDRESS,
               show_default=True, help="The server of that log.")
 def patches(file: Path, start: int, log: str | None, address: str) -> None:

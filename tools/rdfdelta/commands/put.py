@@ -7,7 +7,7 @@ import uuid
 import click
 
 from rdfdelta import datasets, errors, puts
-from rdfdelta.commands.options import program_option, say, server_option, tell
+from rdfdelta.commands.options import log_argument, program_option, say, server_option, tell
 from rdfdelta.patches import PATCH_LIMIT
 from rdfdelta.program import Program
 from rdfdelta.server import Log, Server
@@ -16,7 +16,7 @@ INPUT_LIMIT = 268_435_456
 
 
 @click.command()
-@click.argument("log")
+@log_argument
 @server_option
 @program_option
 @click.option("--nquads", is_flag=True, help="The input is an N-Quads document; each quad is added.")

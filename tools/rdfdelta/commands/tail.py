@@ -8,7 +8,7 @@ import click
 from rich.text import Text
 
 from rdfdelta import errors
-from rdfdelta.commands.options import out, server_option, tell, visible, write
+from rdfdelta.commands.options import log_argument, out, server_option, tell, visible, write
 from rdfdelta.server import Log, Server
 
 LEAST_WAIT, MOST_WAIT = 0.5, 10.0
@@ -38,7 +38,7 @@ def show_new(log: Log, version: int) -> int:
 
 
 @click.command()
-@click.argument("log")
+@log_argument
 @server_option
 @click.option("-n", "--number", type=click.IntRange(min=0), default=10, show_default=True, help="How many patches.")
 @click.option("-f", "--follow", is_flag=True, help="Go on with those that come, until Ctrl-C.")

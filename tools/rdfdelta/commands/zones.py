@@ -10,7 +10,7 @@ import click
 
 from rdfdelta import errors, locks
 from rdfdelta import why as causes
-from rdfdelta.commands.options import bar, folder_type, line_of, program_option, say, server_option, tell
+from rdfdelta.commands.options import bar, folder_type, line_of, log_argument, program_option, say, server_option, tell
 from rdfdelta.program import Program
 from rdfdelta.server import Log, Server
 from rdfdelta.zones import DISK_FAILED, TRIED_AGAIN, Zone, hint
@@ -64,7 +64,7 @@ def run_command(command: str, log: str, zone: Path, version: int) -> None:
 
 @click.command()
 @click.argument("zone", type=folder_type)
-@click.argument("log")
+@log_argument
 @server_option
 @program_option
 @click.option("--every", type=click.FloatRange(min=0.1), default=5.0, show_default=True, metavar="SECONDS",
