@@ -153,6 +153,17 @@ def test_a_log_is_moved(running: Running, program: Program) -> None:
     assert "no source has the name XYZ" in rdfd("move-log", "XYZ", address=running.address).err
 
 
+def test_a_move_that_is_killed_goes_on(serve: Start, program: Program) -> None:
+    running = serve(slots=8)
+    running.fill("ABC", 30)
+    before = lines_of(running, program, "ABC")
+    kill_often(words_of("move-log", "ABC", "--anyway"), running.address, 5)
+    done = rdfd("move-log", "ABC", "--anyway", address=running.address)
+    assert done.status == 0, done.err
+    assert lines_of(running, program, "ABC") == before
+    assert versions(running)["ABC"] == 1 and versions(running)["ABC-1"] == 30 and "ABC.next" not in versions(running)
+
+
 class Stopped(Exception):
     """Stands for a kill at a call of the server."""
 
