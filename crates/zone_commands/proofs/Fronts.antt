@@ -13,7 +13,6 @@ use Rattle.follower.specs.Chains.{MayEndWell, ServesRest, TextsAreOf}
 use Rattle.follower.specs.declared.ends.SyncEnd.{SyncEnd}
 use Rattle.follower.proofs.Fronts.{began_by, checked_before, shorter_prefix}
 use Rattle.follower.proofs.Serving.{ends_well}
-use Rattle.zone_commands.specs.Files.{IsZoneFile}
 use Rattle.zone_commands.specs.Following.{Followed, IsFileOfFront, IsLeftFile, zone_of}
 
 checked_front : (first second : List CheckedPatch) → AreChecked (first ++ second) → AreChecked first

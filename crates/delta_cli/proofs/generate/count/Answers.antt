@@ -1,4 +1,4 @@
-use Rattle.std.proofs.Common.{◌≡◌, List, ℕ, Some, subst, inl, inr}
+use Rattle.std.proofs.Common.{List, ℕ, Some, subst, inl, inr}
 use Rattle.stream_replay.specs.Source.{EndsReplay, IsReplayed}
 use Rattle.patch_meaning.proofs.Cuts.{if_ok}
 use Rattle.delta_cli.proofs.Generated.{counts_are, only_memory}
