@@ -1,0 +1,7 @@
+pub mod Fronts
+pub mod Left
+pub mod Calling
+pub mod Given
+pub mod Brought
+pub mod Kept
+pub mod Shown
