@@ -12,7 +12,9 @@ use Rattle.turn_cell.specs.Sharing.{AreAllPassesOf, IsClosedOf}
 use Rattle.shared_registry.specs.History.{shared_registry}
 use Rattle.registry_deployment.specs.Calls.{IsAmidOnRegistry}
 use Rattle.registry_deployment.specs.History.{RegistryPassRun, RegistryRun, HasCalledOnRegistry, LeavesRegistry, IsRegistryRun, registry_sights}
+use Rattle.registry_deployment.specs.Moments.{RegistryCell, IsRegistryMoment}
 use Rattle.registry_deployment.specs.Shown.{IsRegistryBegun, HasReturnedFromRegistry}
+use Rattle.registry_deployment.proofs.Moments.{closed}
 
 module _ {D : Type 0} (disks : Ghosts D) where
   in_none : (pass : RegistryPassRun) → pass.in_call ≡ None → IsAmidOnRegistry pass.at_stop pass.in_call pass.at_stop
@@ -39,3 +41,7 @@ module _ {D : Type 0} (disks : Ghosts D) where
     pub closed_is : AllOf (HasReturnedFromRegistry disks run.made) run.passes → AreAllPassesOf (shared_registry disks) run.made (registry_sights run) → IsClosedOf (shared_registry disks) run.made (registry_sights run) run.registry
         → LeavesRegistry disks run.passes run.registry run.under_way run.image → IsRegistryRun disks image run
     closed_is all passes was leaves = a_run (returned run.made run.passes all) passes.1 was leaves
+
+    pub killed_is : (s : RegistryCell disks) → AllOf (HasCalledOnRegistry disks run.made) run.passes → AreAll run.made.seats (registry_sights run) → IsRegistryMoment disks run.made run.registry (registry_sights run) s
+        → LeavesRegistry disks run.passes run.registry run.under_way run.image → IsRegistryRun disks image run
+    killed_is s called there moment leaves = a_run called there (closed disks run.made run.registry (registry_sights run) s moment) leaves

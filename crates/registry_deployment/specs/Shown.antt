@@ -7,12 +7,13 @@ use Rattle.registry_core.specs.Events.{IsRegistry}
 use Rattle.registry_core.specs.Texts.{registry_payloads}
 use Rattle.log_registry.specs.State.{StateView, events_in}
 use Rattle.turn_cell.specs.Turns.{AllOf}
-use Rattle.turn_cell.specs.Sights.{Made}
+use Rattle.turn_cell.specs.Sights.{Made, AreAll}
 use Rattle.turn_cell.specs.Sharing.{IsNewPassOf, AreAllPassesOf, IsClosedOf}
 use Rattle.shared_registry.specs.History.{RegistrySight, shared_registry}
 use Rattle.registry_deployment.specs.Calls.{AreSeenOnRegistry}
 use Rattle.registry_deployment.specs.History.{RegistryPassRun, RegistryRun, LeavesRegistry}
-use Rattle.registry_deployment.specs.History.{IsRegistryRun, registry_sights}
+use Rattle.registry_deployment.specs.History.{HasCalledOnRegistry, IsRegistryRun, registry_sights}
+use Rattle.registry_deployment.specs.Moments.{RegistryCell, IsRegistryMoment}
 
 module _ {D : Type 0} (disks : Ghosts D) where
   -- the registry as it was opened, on a disk that began with the image
@@ -40,5 +41,17 @@ module _ {D : Type 0} (disks : Ghosts D) where
       → AllOf (HasReturnedFromRegistry run.made) run.passes
       → AreAllPassesOf (shared_registry disks) run.made (registry_sights run)
       → IsClosedOf (shared_registry disks) run.made (registry_sights run) run.registry
+      → LeavesRegistry disks run.passes run.registry run.under_way run.image
+      → IsRegistryRun disks image run
+
+  -- a run that was killed: by what the opening, the sharing and the calls ensure, and the rule of
+  -- the registry's cell
+  abbrev pub KilledRegistryRunsAreRuns : Type 0
+  KilledRegistryRunsAreRuns =
+      (image : List ℕ) (run : RegistryRun D) (s : RegistryCell disks)
+      → disks.tells → IsRegistryBegun image run
+      → AllOf (HasCalledOnRegistry disks run.made) run.passes
+      → AreAll run.made.seats (registry_sights run)
+      → IsRegistryMoment disks run.made run.registry (registry_sights run) s
       → LeavesRegistry disks run.passes run.registry run.under_way run.image
       → IsRegistryRun disks image run
