@@ -18,7 +18,7 @@ use Rattle.registry_deployment.specs.Calls.{HandsInEvent, EndsSo}
 use Rattle.registry_deployment.specs.History.{RegistryPassRun, UnansweredChange, RegistryRun, HasCalledOnRegistry, IsChangeUnderWay, LeavesRegistry, IsRegistryRun, registry_sights}
 use Rattle.registry_deployment.specs.Promise.{EventWasBrought, acknowledged, in_doubt, unanswered}
 use Rattle.registry_deployment.proofs.Fronts.{in_either, one_of_mapped, unmapped, all_got, in_none, got_in, got_behind, events_append, events_go_on, in_history, got_event, place_in}
-use Rattle.registry_deployment.proofs.Left.{MayStandNext, due_event}
+use Rattle.registry_deployment.proofs.Left.{MayStandNext, from_call}
 use Rattle.registry_deployment.proofs.Calling.{amid_on, WasMade, WasFaulted, place_told, fault_told, StandsAt, StandsHandedIn, place_amid, fault_amid}
 
 module _ {D : Type 0} (disks : Ghosts D) (tells : disks.tells) (on : List ℕ) (run : RegistryRun D) (is : IsRegistryRun disks on run) where
@@ -108,5 +108,5 @@ module _ {D : Type 0} (disks : Ghosts D) (tells : disks.tells) (on : List ℕ) (
       (subst (λ (d : Option Event). ComesFrom run.made.origin.doubt (registry_sights run) d) e is.at_stop.doubt))
       (λ (z : (change : UnansweredChange D) × (run.under_way ≡ Some change) × (change.event ≡ event)).
       let way = of_change run.under_way z.0 run.image z.1 is.leaves in
-      let from = (due_event run.registry.slots way.call (events_in run.registry) z.0.event way.due).0 in
+      let from = from_call run.registry.slots way.call (events_in run.registry) z.0.event way.due in
       unanswered z.0.pass way.of_pass way.call way.in_call (subst (HandsInEvent way.call) z.2 from)) may

@@ -19,7 +19,7 @@ use Rattle.shared_registry.specs.Lookups.{MayWantNames}
 use Rattle.shared_registry.specs.Stays.{CalledOnRegistry}
 use Rattle.registry_deployment.specs.Calls.{HandsInEvent, EndsSo, SeenOnRegistry, IsLegalOnRegistry, AreSeenOnRegistry, HasDoneOnRegistry, nothing, brought, doubted, IsAmidOnRegistry}
 use Rattle.registry_deployment.proofs.Fronts.{in_either, got_in, got_last, events_append, events_go_on}
-use Rattle.registry_deployment.proofs.Left.{due_event}
+use Rattle.registry_deployment.proofs.Left.{from_call}
 
 -- ---- what a pass knows goes on
 
@@ -75,9 +75,9 @@ data Does (call : RegistryCall) (reply : Option RegistryReply) (p q : RegistrySi
 does_told : (slots : ℕ) (p q : RegistrySight) (call : RegistryCall) (reply : RegistryReply) (end : Ending) → ending call reply ≡ end → IsRegistryTold end slots call reply p q → Does call (Some reply) p q
 does_told slots p q call reply (made event) is t =
     let due : event_by slots call (known_events t.1.before) ≡ Some event = ap (λ (r : RegistryReply). event_in (ending call r)) (sym t.2) ∙ ap event_in is in
-    makes event t.0 (due_event slots call (known_events t.1.before) event due).0 is t.1
+    makes event t.0 (from_call slots call (known_events t.1.before) event due) is t.1
 does_told slots p q call reply told is t = quiet t.1.0 t.1.2
-does_told slots p q call reply failed is t = faults t.0 (due_event slots call (events_seen q) t.0 t.1).0 is t.3 t.4
+does_told slots p q call reply failed is t = faults t.0 (from_call slots call (events_seen q) t.0 t.1) is t.3 t.4
 does_told slots p q call reply wanting is t = quiet t.1.0 t.1.2
 
 does : {D : Type 0} (disks : Ghosts D) (origin : StateView D) (p q : RegistrySight) (call : RegistryCall) (reply : Option RegistryReply) → IsReplied (CalledOnRegistry disks origin) MayWantNames p call reply q → Does call reply p q

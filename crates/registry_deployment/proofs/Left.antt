@@ -1,5 +1,5 @@
 -- What a run leaves at its stop, and what the next one finds.
-use Rattle.std.proofs.Common.{◌≡◌, ◌⊎◌, inl, inr, ⊎_elim, ℕ, List, [], ◌∷◌, ◌++◌, Option, Some, None, refl, sym, ap, subst}
+use Rattle.std.proofs.Common.{◌≡◌, ◌⊎◌, inl, inr, ⊎_elim, ℕ, List, [], ◌∷◌, ◌++◌, Option, Some, None, refl, sym, ◌∙◌, ap, subst, arith, append_assoc, append-nil}
 use mathlib.Core.List.{IsPrefix}
 use Rattle.disk_model.specs.declared.disk.Disk.{Ghosts}
 use Rattle.log_base.specs.OneMore.{with_one_more}
@@ -16,17 +16,20 @@ use Rattle.registry_core.specs.declared.answer.CreateAnswer.TheVariants.{Made, B
 use Rattle.registry_core.specs.declared.answer.ChangeAnswer.{ChangeAnswer}
 use Rattle.registry_core.specs.declared.answer.ChangeAnswer.TheVariants.{Done, NoSuchName, BadName as IsBadName, NameTaken as IsNameTaken, Full as IsFull, OutOfMemory as WantsMemory, DiskFault as Fails}
 use Rattle.registry_core.specs.Answers.{event_in, end_of_create, end_of_change}
-use Rattle.registry_core.specs.Events.{IsMade, IsRegistry}
+use Rattle.registry_core.specs.Events.{AreNext, IsNextEvent, IsRegistry}
 use Rattle.registry_core.specs.Replies.{RegistryCall, create, rename, remove, resolve, resolve_id, resolve_uri, list, event_by, create_reply, rename_reply, remove_reply, next_source, renaming, removal}
-use Rattle.registry_core.specs.Texts.{event_text, registry_payloads}
+use Rattle.std.proofs.lemmas.Fmt.{length-decimal-le_succ}
+use Rattle.registry_core.specs.Tables.{IsTable}
+use Rattle.registry_core.specs.Texts.{event_text, registry_payloads, registry_length}
+use Rattle.registry_core.proofs.Replied.{source_is, source_next, renaming_next, removal_next}
 use Rattle.registry_core.proofs.Openings.{one_registry}
-use Rattle.registry_core.proofs.Tables.{registry-push, can_be_made, can_be_named}
+use Rattle.registry_core.proofs.Tables.{registry-push, can_be_made, can_be_named, table-push, empty_table}
 use Rattle.log_registry.specs.Stands.{StandsForRegistry, MayHoldEvents, event_payload}
 use Rattle.log_registry.specs.State.{StateView, events_in}
 use Rattle.log_registry.proofs.States.{payloads-push}
 use Rattle.log_registry.proofs.Writes.{HoldsMeanwhile, any_moment}
 use Rattle.turn_cell.proofs.Views.{prefix_refl}
-use Rattle.registry_deployment.specs.Calls.{HandsInEvent}
+use Rattle.registry_deployment.specs.Calls.{HandsInEvent, HandsInTexts}
 use Rattle.registry_deployment.specs.History.{RegistryPassRun, IsRegistryIn, UnansweredChange, IsChangeUnderWay, LeavesRegistry, RegistryRun, IsRegistryRun}
 use Rattle.registry_deployment.proofs.Fronts.{one_more}
 
@@ -52,30 +55,71 @@ done_source of (IsFull what have limit) event is = absurd (cc)
 done_source of WantsMemory event is = absurd (cc)
 done_source of Fails event is = absurd (cc)
 
--- the event that a call makes is of what it hands in, and some call makes it
-abbrev IsDue : ℕ → RegistryCall → List Event → Event → Type 0
-IsDue slots call events event = HandsInEvent call event × IsMade slots events event
-
-pub due_event : (slots : ℕ) (call : RegistryCall) (events : List Event) (event : Event) → event_by slots call events ≡ Some event → IsDue slots call events event
-due_event slots (create name uri id) events event is =
+-- what a call makes is of what it hands in
+pub from_call : (slots : ℕ) (call : RegistryCall) (events : List Event) (event : Event) → event_by slots call events ≡ Some event → HandsInEvent call event
+from_call slots (create name uri id) events event is =
     let there = made_source (create_reply slots events name uri id) event is in
     let same : next_source events name uri id ≡ there.0 = (can_be_made slots events name uri id there.0 there.1).is in
-    let made : IsMade slots events (Created there.0) = subst (λ (s : SourceInfo). create_reply slots events s.name s.uri s.id ≡ Made there.0) same there.1 in
     let from : HandsInEvent (create name uri id) (Created there.0) = subst (λ (s : SourceInfo). HandsInEvent (create name uri id) (Created s)) same (refl, refl, refl) in
-    subst (IsDue slots (create name uri id) events) (sym there.2) (from, made)
-due_event slots (rename name new_name) events event is =
+    subst (HandsInEvent (create name uri id)) (sym there.2) from
+from_call slots (rename name new_name) events event is =
+    let there = done_source renaming (rename_reply slots events name new_name) event is in
+    let same : new_name ≡ there.0.name = ap (λ (s : SourceInfo). s.name) (can_be_named slots events name new_name there.0 there.1).is in
+    subst (HandsInEvent (rename name new_name)) (sym there.2) (sym same)
+from_call slots (remove name) events event is =
+    let there = done_source removal (remove_reply slots events name) event is in
+    subst (HandsInEvent (remove name)) (sym there.2) tt
+from_call slots (resolve name) events event is = absurd (cc)
+from_call slots (resolve_id id) events event is = absurd (cc)
+from_call slots (resolve_uri uri) events event is = absurd (cc)
+from_call slots list events event is = absurd (cc)
+
+-- what is kept of a registry's events
+record HasTable (slots : ℕ) (events : List Event) : Type 0 where
+  living : List SourceInfo
+  count : ℕ
+  bytes : ℕ
+  table : IsTable slots events living count bytes
+
+goes : (slots : ℕ) (before events : List Event) → HasTable slots before → AreNext slots before events → HasTable slots (before ++ events)
+goes slots before [] has next = subst (HasTable slots) (sym (append-nil before)) has
+goes slots before (event ∷ events) has next =
+    let more : HasTable slots (before ++ event ∷ []) = record { living = _; count = _; bytes = _; table = table-push slots before has.living has.count has.bytes event has.table next.0 } in
+    subst (HasTable slots) (append_assoc before (event ∷ []) events) (goes slots (before ++ event ∷ []) events more next.1)
+
+has_table : (slots : ℕ) (events : List Event) → IsRegistry slots events → HasTable slots events
+has_table slots events is =
+    let empty : HasTable slots [] = record {
+      living = [];
+      count = 0;
+      bytes = registry_length slots [];
+      table = empty_table slots [] [] (registry_length slots []) is.is_slot refl refl refl (let short = length-decimal-le_succ slots (omega (arith, is.is_slot.1)) in omega (arith, short, is.is_slot.1));
+    } in
+    goes slots [] events empty is.are_next
+
+-- what a call makes may stand behind the others
+due_next : (slots : ℕ) (call : RegistryCall) (events : List Event) (event : Event) → IsRegistry slots events → HandsInTexts call → event_by slots call events ≡ Some event → IsNextEvent slots events event
+due_next slots (create name uri id) events event registry texts is =
+    let has = has_table slots events registry in
+    let there = made_source (create_reply slots events name uri id) event is in
+    let same : next_source events name uri id ≡ there.0 = (can_be_made slots events name uri id there.0 there.1).is in
+    let next = source_next slots events has.living has.count has.bytes has.table name uri id texts.2 texts.0 texts.1 (there.1 ∙ ap (λ (s : SourceInfo). Made s) (sym same)) in
+    let one = source_is slots events has.living has.count has.bytes has.table name uri id ∙ same in
+    subst (IsNextEvent slots events) (sym there.2) (subst (λ (s : SourceInfo). IsNextEvent slots events (Created s)) one next)
+due_next slots (rename name new_name) events event registry texts is =
+    let has = has_table slots events registry in
     let there = done_source renaming (rename_reply slots events name new_name) event is in
     let can = can_be_named slots events name new_name there.0 there.1 in
-    let same : new_name ≡ there.0.name = ap (λ (s : SourceInfo). s.name) can.is in
-    let made : IsMade slots events (renaming there.0) = (name, there.0, subst (λ (n : List ℕ). rename_reply slots events name n ≡ Done there.0) same there.1, refl) in
-    subst (IsDue slots (rename name new_name) events) (sym there.2) (sym same, made)
-due_event slots (remove name) events event is =
+    let next = renaming_next slots events has.living has.count has.bytes has.table name new_name can.source texts (there.1 ∙ ap (λ (s : SourceInfo). Done s) (sym can.is)) in
+    subst (IsNextEvent slots events) (sym there.2) (subst (λ (s : SourceInfo). IsNextEvent slots events (renaming s)) can.is next)
+due_next slots (remove name) events event registry texts is =
+    let has = has_table slots events registry in
     let there = done_source removal (remove_reply slots events name) event is in
-    subst (IsDue slots (remove name) events) (sym there.2) (tt, (name, there.0, there.1, refl))
-due_event slots (resolve name) events event is = absurd (cc)
-due_event slots (resolve_id id) events event is = absurd (cc)
-due_event slots (resolve_uri uri) events event is = absurd (cc)
-due_event slots list events event is = absurd (cc)
+    subst (IsNextEvent slots events) (sym there.2) (removal_next slots events has.living has.count has.bytes has.table name there.0 there.1)
+due_next slots (resolve name) events event registry texts is = absurd (cc)
+due_next slots (resolve_id id) events event registry texts is = absurd (cc)
+due_next slots (resolve_uri uri) events event registry texts is = absurd (cc)
+due_next slots list events event registry texts is = absurd (cc)
 
 -- ---- an image
 
@@ -131,8 +175,7 @@ module _ {D : Type 0} (disks : Ghosts D) (tells : disks.tells) where
   leaves_more Q passes registry None image of_doubt q stands left = with_or_without registry.slots (events_in registry) image Q stands.without registry.doubt of_doubt stands.having (stands.each image left)
   leaves_more Q passes registry (Some change) image of_doubt q stands left =
       let way : IsChangeUnderWay disks passes registry change = left.0 in
-      let made = (due_event registry.slots way.call (events_in registry) change.event way.due).1 in
-      let longer = registry-push registry.slots (events_in registry) change.event stands.without (way.sound, made) in
+      let longer = registry-push registry.slots (events_in registry) change.event stands.without (due_next registry.slots way.call (events_in registry) change.event stands.without way.texts way.due) in
       let held = (any_moment disks registry change.left _ _ _ way.called.changed tells).each image left.1 in
       during registry.slots (events_in registry) image Q stands.without registry.doubt change.event of_doubt (q change refl) stands.having longer
       (subst (λ (due : Option Event). HoldsMeanwhile registry.slots (events_in registry) registry.doubt due image) way.due held)

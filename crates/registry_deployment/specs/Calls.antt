@@ -1,5 +1,5 @@
 -- Calls of one pass on one registry, one after another, with what it showed before and behind each.
-use Rattle.std.specs.Prelude.{◌≡◌, ℕ, List, [], ◌∷◌, ◌++◌, Option, Some, None}
+use Rattle.std.specs.Prelude.{◌≡◌, ℕ, ◌<◌, ◌^◌, IsUtf8, List, [], ◌∷◌, ◌++◌, Option, Some, None}
 use mathlib.Core.List.{IsPrefix}
 use Rattle.disk_model.specs.declared.disk.Disk.{Ghosts}
 use Rattle.registry_core.specs.declared.event.Event.{Event}
@@ -20,6 +20,12 @@ HandsInEvent (create name uri id) (Created source) =
 HandsInEvent (rename name new_name) (Renamed slot other_name) = other_name ≡ new_name
 HandsInEvent (remove name) (Removed slot) = Unit {0}
 HandsInEvent call event = ⊥
+
+-- what the call hands in are texts, and an id has 128 bits: so say the types of its arguments
+abbrev pub HandsInTexts : RegistryCall → Type 0
+HandsInTexts (create name uri id) = IsUtf8 name × IsUtf8 uri × (id.0 < 2 ^ 128)
+HandsInTexts (rename name new_name) = IsUtf8 new_name
+HandsInTexts call = Unit {0}
 
 -- the reply ends the call so
 abbrev pub EndsSo : RegistryCall → Option RegistryReply → Ending → Type 0

@@ -4,7 +4,7 @@ use Rattle.disk_model.specs.declared.disk.Disk.{Ghosts}
 use Rattle.disk_model.specs.Past.{MayLeave, MayHaveLeft}
 use Rattle.log_journal.specs.File.{Holds}
 use Rattle.registry_core.specs.declared.event.Event.{Event}
-use Rattle.registry_core.specs.Events.{IsSoundEvent, IsRegistry}
+use Rattle.registry_core.specs.Events.{IsRegistry}
 use Rattle.registry_core.specs.Replies.{RegistryCall, RegistryReply, event_by}
 use Rattle.registry_core.specs.Texts.{registry_payloads}
 use Rattle.log_registry.specs.Changes.{Called}
@@ -14,7 +14,8 @@ use Rattle.turn_cell.specs.Sights.{Made, AreAll}
 use Rattle.turn_cell.specs.Knowing.{pass_number}
 use Rattle.turn_cell.specs.Sharing.{IsNewPassOf, IsClosedOf}
 use Rattle.shared_registry.specs.History.{RegistrySight, shared_registry}
-use Rattle.registry_deployment.specs.Calls.{SeenOnRegistry, AreSeenOnRegistry, IsAmidOnRegistry}
+use Rattle.registry_deployment.specs.Calls.{HandsInTexts, SeenOnRegistry, AreSeenOnRegistry}
+use Rattle.registry_deployment.specs.Calls.{IsAmidOnRegistry}
 
 -- what a pass did in a run of the server: its calls that were answered, the one that it was in at
 -- the stop, and what it showed then
@@ -67,8 +68,8 @@ module _ {D : Type 0} (disks : Ghosts D) where
     pub of_pass : IsIn change.pass passes
     pub call : RegistryCall
     pub in_call : change.pass.in_call ≡ Some call
+    pub texts : HandsInTexts call
     pub due : event_by registry.slots call (events_in registry) ≡ Some change.event
-    pub sound : IsSoundEvent change.event
     pub called : Called disks registry change.left call (pass_number change.pass.at_stop)
         change.reply
 

@@ -31,8 +31,8 @@ pub data EventWasBrought {D : Type 0} (run : RegistryRun D) (event : Event) : Ty
       → IsIn seen pass.calls → HandsInEvent seen.call event
       → EndsSo seen.call seen.reply (made event) → EventWasBrought run event
   in_doubt : (pass : RegistryPassRun) → IsIn pass run.passes → (seen : SeenOnRegistry)
-      → IsIn seen pass.calls → HandsInEvent seen.call event → EndsSo seen.call seen.reply failed
-      → EventWasBrought run event
+      → IsIn seen pass.calls → HandsInEvent seen.call event
+      → EndsSo seen.call seen.reply failed → EventWasBrought run event
   unanswered : (pass : RegistryPassRun) → IsIn pass run.passes → (call : RegistryCall)
       → pass.in_call ≡ Some call → HandsInEvent call event → EventWasBrought run event
 
@@ -43,7 +43,8 @@ pub record KeepsRegistryPromise {D : Type 0} (image : List ℕ) (runs : List (Re
     (slots : ℕ) (events : List Event) : Type 0 where
   pub is_registry : IsRegistry slots events
   pub slots_stay : (run : RegistryRun D) → IsIn run runs → run.made.origin.slots ≡ slots
-  pub runs_begin : (run : RegistryRun D) → IsIn run runs → IsPrefix (events_in run.registry) events
+  pub runs_begin : (run : RegistryRun D) → IsIn run runs
+      → IsPrefix (events_in run.registry) events
   pub images_begin : (run : RegistryRun D) → IsIn run runs → (found_slots : ℕ)
       (left : List Event) → IsRegistryIn run.image found_slots left
       → (found_slots ≡ slots) × IsPrefix left events
