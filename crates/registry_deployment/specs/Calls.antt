@@ -1,11 +1,12 @@
--- Calls of one pass on one registry, one after another, with what it showed before and behind each.
+-- Calls of one pass on a registry, one after another, with what it showed before and behind each.
 use Rattle.std.specs.Prelude.{◌≡◌, ℕ, ◌<◌, ◌^◌, IsUtf8, List, [], ◌∷◌, ◌++◌, Option, Some, None}
 use mathlib.Core.List.{IsPrefix}
 use Rattle.disk_model.specs.declared.disk.Disk.{Ghosts}
 use Rattle.registry_core.specs.declared.event.Event.{Event}
 use Rattle.registry_core.specs.declared.event.Event.TheVariants.{Created, Renamed, Removed}
 use Rattle.registry_core.specs.Answers.{Ending}
-use Rattle.registry_core.specs.Replies.{RegistryCall, create, rename, remove, RegistryReply, ending}
+use Rattle.registry_core.specs.Replies.{RegistryCall, create, rename, remove}
+use Rattle.registry_core.specs.Replies.{RegistryReply, ending}
 use Rattle.log_registry.specs.State.{StateView}
 use Rattle.turn_cell.specs.Calls.{IsReplied}
 use Rattle.turn_cell.specs.Knowing.{Brought, seen_of, mine_of, failed_of}

@@ -11,8 +11,8 @@ use Rattle.shared_registry.specs.History.{events_seen}
 use Rattle.registry_deployment.specs.Calls.{HandsInEvent, EndsSo, SeenOnRegistry}
 use Rattle.registry_deployment.specs.History.{RegistryPassRun, RegistryRun, IsRegistryIn}
 
--- The reply is one that the events give at a point, no earlier than all that the pass had seen, and
--- no later than what it saw then. The event that it tells as made stands next behind that point.
+-- The reply is one that the events give at a point, no earlier than all that the pass had seen,
+-- and no later than what it saw then. The event that it tells as made stands next behind it.
 pub record IsGivenByEvents (slots : ℕ) (events : List Event)
     (seen : SeenOnRegistry) : Type 0 where
   pub point : List Event
@@ -36,9 +36,9 @@ pub data EventWasBrought {D : Type 0} (run : RegistryRun D) (event : Event) : Ty
   unanswered : (pass : RegistryPassRun) → IsIn pass run.passes → (call : RegistryCall)
       → pass.in_call ≡ Some call → HandsInEvent call event → EventWasBrought run event
 
--- One list of events, which is a registry's, and one number of slots. The events of each run of the
--- server, and whatever a stop left, begin it; each reply of each pass is given; and no event is in
--- it but those that the first run found and those that were handed in.
+-- One list of events, which is a registry's, and one number of slots. The events of each run of
+-- the server, and whatever a stop left, begin it; each reply of each pass is given; and no event
+-- is in it but those that the first run found and those that were handed in.
 pub record KeepsRegistryPromise {D : Type 0} (image : List ℕ) (runs : List (RegistryRun D))
     (slots : ℕ) (events : List Event) : Type 0 where
   pub is_registry : IsRegistry slots events
