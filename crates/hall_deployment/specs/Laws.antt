@@ -1,0 +1,50 @@
+-- The laws.
+use Rattle.std.specs.Prelude.{◌≡◌, ℕ, ◌+◌, List, map, Some, slice_get}
+use Rattle.disk_model.specs.declared.disk.Disk.{Ghosts}
+use Rattle.http_session.specs.Output.{Exchange}
+use Rattle.patch_log.specs.State.{LogView}
+use Rattle.turn_cell.specs.Sights.{Made}
+use Rattle.shared_log.specs.History.{LogSight}
+use Rattle.hall_logs.specs.Visits.{asked_at}
+use Rattle.delta_session.specs.Sessions.{ServedSession, AreSaid, all_of}
+use Rattle.delta_session.specs.Steps.{HallView, HallSight, Lists, Step, visits_of}
+use Rattle.deployment.specs.Calls.{AreSeenCalls}
+use Rattle.hall_deployment.specs.Seen.{SeenStep, AreSeenSteps, EachSawWhole, steps_in, calls_at}
+use Rattle.hall_deployment.specs.Seen.{exchange_seen, exchange_made}
+
+module _ {D : Type 0} (disks : Ghosts D) where
+  -- the steps by which the requests of a session were answered, with what its pass knew
+  pub record ShowsSteps (hall : HallView D) (before : HallSight) (exchanges : List Exchange)
+      (after : HallSight) : Type 0 where
+    pub steps : List (List Step)
+    pub said : AreSaid before.dice exchanges steps after.dice
+    pub seen : List SeenStep
+    pub are_those : steps_in seen ≡ all_of steps
+    pub taken : AreSeenSteps disks hall before.lists seen after.lists
+
+  -- so it is of each session that was served
+  abbrev pub SessionsShowSteps : Type 0
+  SessionsShowSteps =
+      (hall : HallView D) (before after : HallSight) (exchanges : List Exchange)
+      → ServedSession disks hall before exchanges after
+      → ShowsSteps hall before exchanges after
+
+  -- Of one log, the calls of these steps are legal ones, each by the pass as the one before it left
+  -- it. They are all calls on that log, with their replies.
+  pub record ShowsCalls (place : ℕ) (origin : LogView D) (part : LogSight)
+      (seen : List SeenStep) (after : Lists) : Type 0 where
+    pub left : LogSight
+    pub left_is : slice_get after.logs place ≡ Some left
+    pub calls : AreSeenCalls disks origin part (calls_at place seen) left
+    pub asked :
+        map exchange_seen (calls_at place seen)
+        ≡ map exchange_made (asked_at (place + 1) (visits_of (steps_in seen)))
+
+  -- so it is of each log of which the pass has a part
+  abbrev pub SessionsShowCalls : Type 0
+  SessionsShowCalls =
+      (hall : HallView D) (before after : Lists) (seen : List SeenStep)
+      → AreSeenSteps disks hall before seen after → EachSawWhole hall seen
+      → (place : ℕ) (log : Made (LogView D)) (part : LogSight)
+      → slice_get hall.logs.logs place ≡ Some log → slice_get before.logs place ≡ Some part
+      → ShowsCalls place log.origin part seen after

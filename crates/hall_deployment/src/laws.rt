@@ -1,0 +1,15 @@
+//! Laws of every hall. These functions do nothing: their contracts are theorems.
+ghost use Rattle.hall_deployment.specs.Laws.{SessionsShowSteps, SessionsShowCalls};
+
+use disk_model::Disk;
+
+/// What a session ensures has the steps of its pass, with what it knew before and behind each.
+pub fn sessions_show_steps<D: Disk>()
+    ensures { SessionsShowSteps D.Disk }
+{}
+
+/// Of these steps, those on the log of a slot are calls of the pass on that log, one after another,
+/// and the others leave what it showed of that log.
+pub fn sessions_show_calls<D: Disk>()
+    ensures { SessionsShowCalls D.Disk }
+{}

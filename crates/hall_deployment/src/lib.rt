@@ -1,0 +1,11 @@
+//! The promise of the whole, for all logs of a hall at once.
+//!
+//! `deployment` says it of one log, by runs of a server that are data: each pass's calls on that
+//! log, with what it showed before and behind each. This crate shows such runs: what a session
+//! ensures has these calls of the log of each slot (`specs/Seen.antt`), and a hall that was opened,
+//! served and closed has a run of each (`specs/Halls.antt`).
+#![tactic(auto)]
+
+mod laws;
+
+pub use laws::{sessions_show_calls, sessions_show_steps};
