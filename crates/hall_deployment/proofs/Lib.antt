@@ -1,1 +1,4 @@
 pub mod Seeing
+pub mod Slots
+pub mod Begun
+pub mod Runs

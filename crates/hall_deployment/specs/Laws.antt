@@ -1,6 +1,9 @@
 -- The laws.
 use Rattle.std.specs.Prelude.{◌≡◌, ℕ, ◌+◌, List, map, Some, slice_get}
+use Rattle.std.specs.List.{AllZip}
 use Rattle.disk_model.specs.declared.disk.Disk.{Ghosts}
+use Rattle.log_base.specs.declared.limits.TheConstants.{LOG_LIMITS}
+use Rattle.chain_core.specs.declared.chain.Patch.{Patch}
 use Rattle.http_session.specs.Output.{Exchange}
 use Rattle.patch_log.specs.State.{LogView}
 use Rattle.turn_cell.specs.Sights.{Made}
@@ -9,6 +12,9 @@ use Rattle.hall_logs.specs.Visits.{asked_at}
 use Rattle.delta_session.specs.Sessions.{ServedSession, AreSaid, all_of}
 use Rattle.delta_session.specs.Steps.{HallView, HallSight, Lists, Step, visits_of}
 use Rattle.deployment.specs.Calls.{AreSeenCalls}
+use Rattle.deployment.specs.History.{ServerRun, IsServerRun, IsFoundIn, image_left}
+use Rattle.deployment.specs.Promise.{KeepsPromise}
+use Rattle.hall_deployment.specs.Halls.{HallRun, IsHallRun, HoldsBelow, AreHallRuns, IsRunAt}
 use Rattle.hall_deployment.specs.Seen.{SeenStep, AreSeenSteps, EachSawWhole, steps_in, calls_at}
 use Rattle.hall_deployment.specs.Seen.{exchange_seen, exchange_made}
 
@@ -48,3 +54,24 @@ module _ {D : Type 0} (disks : Ghosts D) where
       → (place : ℕ) (log : Made (LogView D)) (part : LogSight)
       → slice_get hall.logs.logs place ≡ Some log → slice_get before.logs place ≡ Some part
       → ShowsCalls place log.origin part seen after
+
+  -- of the log of each file, the run of a hall is a run of its server
+  abbrev pub HallRunsAreRuns : Type 0
+  HallRunsAreRuns =
+      (images : List (List ℕ)) (run : HallRun D)
+      → disks.tells → IsHallRun disks images run → HoldsBelow run
+      → (place : ℕ) (image : List ℕ) → slice_get images (place + 1) ≡ Some image
+      → (log_run : ServerRun D) × IsRunAt place run log_run
+      × IsServerRun disks (place + 1) LOG_LIMITS image log_run
+
+  -- So each log of a hall keeps its promise, over all runs: whatever is found of it at their end,
+  -- the replies of all passes are given by that.
+  abbrev pub HallsKeepTheirPromise : Type 0
+  HallsKeepTheirPromise =
+      (images : List (List ℕ)) (runs : List (HallRun D))
+      → disks.tells → AreHallRuns disks images runs
+      → (place : ℕ) (image : List ℕ) → slice_get images (place + 1) ≡ Some image
+      → (log_runs : List (ServerRun D)) × AllZip (IsRunAt place) runs log_runs
+      × ((found : List (List Patch))
+      → IsFoundIn (image_left image log_runs) (place + 1) LOG_LIMITS found
+      → KeepsPromise (place + 1) LOG_LIMITS image log_runs found)

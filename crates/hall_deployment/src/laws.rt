@@ -1,5 +1,6 @@
 //! Laws of every hall. These functions do nothing: their contracts are theorems.
 ghost use Rattle.hall_deployment.specs.Laws.{SessionsShowSteps, SessionsShowCalls};
+ghost use Rattle.hall_deployment.specs.Laws.{HallRunsAreRuns, HallsKeepTheirPromise};
 
 use disk_model::Disk;
 
@@ -12,4 +13,15 @@ pub fn sessions_show_steps<D: Disk>()
 /// and the others leave what it showed of that log.
 pub fn sessions_show_calls<D: Disk>()
     ensures { SessionsShowCalls D.Disk }
+{}
+
+/// A run of a hall is a run of the server of each of its logs, by what its opening, its sessions
+/// and its close ensure.
+pub fn hall_runs_are_runs<D: Disk>()
+    ensures { HallRunsAreRuns D.Disk }
+{}
+
+/// So the log of each slot keeps its promise, over all runs of the hall.
+pub fn halls_keep_their_promise<D: Disk>()
+    ensures { HallsKeepTheirPromise D.Disk }
 {}

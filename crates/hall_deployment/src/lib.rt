@@ -8,4 +8,6 @@
 
 mod laws;
 
-pub use laws::{sessions_show_calls, sessions_show_steps};
+pub use laws::{
+    hall_runs_are_runs, halls_keep_their_promise, sessions_show_calls, sessions_show_steps,
+};
