@@ -2,3 +2,4 @@ pub mod Seeing
 pub mod Slots
 pub mod Begun
 pub mod Runs
+pub mod Servers

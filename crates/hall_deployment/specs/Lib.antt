@@ -1,3 +1,4 @@
 pub mod Seen
 pub mod Halls
 pub mod Laws
+pub mod Servers

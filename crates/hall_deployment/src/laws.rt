@@ -1,8 +1,11 @@
 //! Laws of every hall. These functions do nothing: their contracts are theorems.
 ghost use Rattle.hall_deployment.specs.Laws.{SessionsShowSteps, SessionsShowCalls};
 ghost use Rattle.hall_deployment.specs.Laws.{HallRunsAreRuns, HallsKeepTheirPromise};
+ghost use Rattle.hall_deployment.specs.Servers.{ServersShowRuns};
 
-use disk_model::Disk;
+use delta_base::Link;
+use disk_model::{Disk, Shelf};
+use worker_pool::Gate;
 
 /// What a session ensures has the steps of its pass, with what it knew before and behind each.
 pub fn sessions_show_steps<D: Disk>()
@@ -24,4 +27,11 @@ pub fn hall_runs_are_runs<D: Disk>()
 /// So the log of each slot keeps its promise, over all runs of the hall.
 pub fn halls_keep_their_promise<D: Disk>()
     ensures { HallsKeepTheirPromise D.Disk }
+{}
+
+/// What `run_server` ensures of a server that served is a run of its hall.
+pub fn servers_show_runs<H: Shelf, G: Gate>()
+where
+    G::L: Link,
+    ensures { ServersShowRuns H.D.Disk H.Shelf G.L.Link G.Gate }
 {}

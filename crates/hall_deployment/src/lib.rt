@@ -9,5 +9,6 @@
 mod laws;
 
 pub use laws::{
-    hall_runs_are_runs, halls_keep_their_promise, sessions_show_calls, sessions_show_steps,
+    hall_runs_are_runs, halls_keep_their_promise, servers_show_runs, sessions_show_calls,
+    sessions_show_steps,
 };
