@@ -6,3 +6,4 @@ pub mod Brought
 pub mod Kept
 pub mod Moments
 pub mod Shown
+pub mod Slots

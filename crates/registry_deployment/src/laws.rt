@@ -1,5 +1,6 @@
 //! Laws of every registry's life. These functions do nothing: their contracts are theorems.
 ghost use Rattle.registry_deployment.specs.Laws.{RegistriesKeepTheirPromise, StopsLeaveARegistry};
+ghost use Rattle.registry_deployment.specs.Laws.{SlotsAreNeverUsedAgain};
 ghost use Rattle.registry_deployment.specs.Moments.{RegistriesAreClosedAtEachMoment};
 ghost use Rattle.registry_deployment.specs.Moments.{TurnsStandAtEachMoment};
 ghost use Rattle.registry_deployment.specs.Shown.{ClosedRegistryRunsAreRuns};
@@ -18,6 +19,11 @@ pub fn registries_keep_their_promise<D: Disk>()
 /// Whatever a run leaves at its stop is a registry, so opening it has no fault.
 pub fn stops_leave_a_registry<D: Disk>()
     ensures { StopsLeaveARegistry D.Disk }
+{}
+
+/// So a slot, by which a log's file is named, is that of one source in all runs.
+pub fn slots_are_never_used_again()
+    ensures { SlotsAreNeverUsedAgain }
 {}
 
 /// Of a turn, what `close` tells holds at any moment.
