@@ -1,12 +1,11 @@
 -- A run of a hall is a run of the server of each of its logs.
-use Rattle.std.proofs.Common.{◌≡◌, ℕ, zero, suc, ◌+◌, ◌<◌, List, [], ◌∷◌, map, length, refl, sym, ap, ◌∙◌, subst, arith, Option, Some, None, slice_get}
+use Rattle.std.proofs.Common.{◌≡◌, ℕ, zero, suc, ◌+◌, ◌<◌, List, [], ◌∷◌, map, length, refl, sym, ap, ◌∙◌, subst, arith, Some, None, slice_get}
 use Rattle.std.specs.List.{AllZip}
 use Rattle.log_base.specs.declared.limits.TheConstants.{LOG_LIMITS}
 use Rattle.disk_model.specs.declared.disk.Disk.{Ghosts}
-use Rattle.disk_model.specs.Past.{Past, began, MayLeave}
+use Rattle.disk_model.specs.Past.{began, MayLeave}
 use Rattle.chain_core.specs.declared.chain.Patch.{Patch}
 use Rattle.patch_log.specs.State.{LogView}
-use Rattle.turn_cell.specs.Turns.{AllOf}
 use Rattle.turn_cell.specs.Sights.{Made}
 use Rattle.turn_cell.specs.Sharing.{AreAllPassesOf, IsClosedOf}
 use Rattle.shared_log.specs.History.{LogSight, shared_log}
@@ -14,18 +13,17 @@ use Rattle.hall_logs.specs.Ends.{parts_at}
 use Rattle.hall_logs.proofs.Columns.{column}
 use Rattle.delta_session.specs.Ends.{IsEnded}
 use Rattle.delta_session.specs.Opening.{IsOpenedHall}
-use Rattle.delta_session.specs.Halls.{AreHallPasses}
 use Rattle.delta_session.specs.Steps.{HallView, HallSight}
 use Rattle.delta_session.proofs.Opens.{logs_passes}
 use Rattle.delta_session.proofs.Passing.{passes_stay}
-use Rattle.deployment.specs.History.{ServerRun, IsServerRun, AreServerRuns, IsFoundIn, image_left, sights_of}
+use Rattle.deployment.specs.History.{ServerRun, IsServerRun, AreServerRuns, IsFoundIn, image_left}
 use Rattle.deployment.specs.Promise.{KeepsPromise}
 use Rattle.deployment.specs.Shown.{IsBegun}
 use Rattle.deployment.proofs.Kept.{promise}
 use Rattle.deployment.proofs.Shown.{closed_is}
-use Rattle.hall_deployment.specs.Halls.{HallPassRun, HallRun, IsHallRun, HoldsBelow, AreHallRuns, IsRunAt, given_in, back_in}
+use Rattle.hall_deployment.specs.Halls.{HallRun, IsHallRun, HoldsBelow, AreHallRuns, IsRunAt, given_in, back_in}
 use Rattle.hall_deployment.proofs.Begun.{OpenedAt, opened_at, EndedAt, ended_at, found_whole}
-use Rattle.hall_deployment.proofs.Slots.{in_first, in_second, have_asked, parts_back, AreParts, parts_of}
+use Rattle.hall_deployment.proofs.Slots.{in_first, in_second, have_asked, parts_back, parts_of}
 
 within : {A : Type 0} (xs : List A) (k : ℕ) (x : A) → slice_get xs k ≡ Some x → k < length xs
 within [] k x is = let c = is in cc
@@ -71,7 +69,7 @@ module _ {D : Type 0} (disks : Ghosts D) (tells : disks.tells) where
         let back = passes_stay disks run.hall (given_in run) (back_in run) (have_asked disks run.hall run.passes is.stepped) is.all in
         let all : AreAllPassesOf (shared_log disks) log (parts_back disks run.hall place run.passes) =
         column disks run.hall.logs.logs place log opened.log_is (within run.hall.logs.logs place log opened.log_is) run.hall.logs.seats (map (λ (pass : HallSight). pass.lists.logs) (back_in run)) below.seats
-            (logs_passes disks run.hall (back_in run) back) in
+        (logs_passes disks run.hall (back_in run) back) in
         let log_run : ServerRun D = record { made = log; passes = parts.parts; log = ended.0.ends.log; under_way = None; image = leaves.0 } in
         let begun : IsBegun disks (place + 1) LOG_LIMITS image log_run = record {
           disk = disk.0;
@@ -80,8 +78,7 @@ module _ {D : Type 0} (disks : Ghosts D) (tells : disks.tells) where
           log = opened.is.sound;
           whole = found_whole disks log (parts_back disks run.hall place run.passes) ended.0.ends.log opened.is.by_nobody closed;
           settled = opened.is.settled;
-        } in
-        (
+        } in (
           log_run,
           record { made = opened.log_is; passes = parts.are; under_way = refl; image = leaves.1 },
           closed_is disks (place + 1) LOG_LIMITS image log_run tells begun parts.returned

@@ -1,5 +1,5 @@
 -- What a server has done is a run of its hall.
-use Rattle.std.proofs.Common.{◌≡◌, ℕ, ◌≤◌, List, [], ◌∷◌, map, length, length-take, take, refl, sym, ap, ◌∙◌, subst, arith}
+use Rattle.std.proofs.Common.{◌≡◌, ℕ, ◌≤◌, List, [], ◌∷◌, map, length, length-take, take, refl, sym, ap, subst, arith}
 use Rattle.std.specs.List.{AllZip}
 use Rattle.delta_base.specs.declared.link.Link.{Ghosts as LinkGhosts}
 use Rattle.disk_model.specs.declared.disk.Disk.{Ghosts}
@@ -50,13 +50,17 @@ module _ {D H L G : Type 0} (disks : Ghosts D) (shelf : ShelfGhosts H D) (links 
       let same : length served.passes ≡ length (take workers gates) = omega (arith, served.over.all.count, served.over.seats, enough, length-take workers gates) in
       let asked = gates_asked disks links hall gate.tells gate.arrivals gate.back gate.faults served.passes (take workers gates) posts same served.worked.served in
       let runs = pass_runs disks hall served.passes (map (λ (post : Post G (WorkerView D)). post.worker.pass) posts) asked in
-      let run : HallRun D = record { disks = served.over.disks_are; hall = hall; passes = runs.passes; left = served.left; images = left } in
-      (run, refl, refl, record {
-        begins = begins;
-        opened = served.over.opened;
-        all = subst (AreHallPasses disks hall) (sym runs.given_is) served.over.all;
-        new = subst (AreNewPasses disks hall 1) (sym runs.given_is) served.over.new;
-        stepped = runs.stepped;
-        ended = subst (λ (back : List HallSight). IsEnded disks hall back served.left) (sym runs.back_is) served.worked.ended;
-        leaves = leaves;
-      })
+      let run : HallRun D = record { disks = served.over.disks_are; hall = hall; passes = runs.passes; left = served.left; images = left } in (
+        run,
+        refl,
+        refl,
+        record {
+          begins = begins;
+          opened = served.over.opened;
+          all = subst (AreHallPasses disks hall) (sym runs.given_is) served.over.all;
+          new = subst (AreNewPasses disks hall 1) (sym runs.given_is) served.over.new;
+          stepped = runs.stepped;
+          ended = subst (λ (back : List HallSight). IsEnded disks hall back served.left) (sym runs.back_is) served.worked.ended;
+          leaves = leaves;
+        },
+      )

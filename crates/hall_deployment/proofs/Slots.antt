@@ -10,12 +10,12 @@ use Rattle.shared_log.specs.History.{LogSight, shared_log}
 use Rattle.hall_logs.specs.Ends.{parts_at}
 use Rattle.delta_session.specs.Halls.{AreNewPasses}
 use Rattle.delta_session.specs.Sessions.{HasAsked}
-use Rattle.delta_session.specs.Steps.{HallView, HallSight, Lists, Step, IsStep, AreSteps}
+use Rattle.delta_session.specs.Steps.{HallView, HallSight, Lists, IsStep, AreSteps}
 use Rattle.deployment.specs.History.{PassRun}
 use Rattle.deployment.specs.Shown.{HasReturned}
 use Rattle.hall_deployment.specs.Seen.{SeenStep, steps_in, calls_at, AreSeenSteps, EachSawWhole}
 use Rattle.hall_deployment.specs.Halls.{HallPassRun, HasStepped, IsPassAt}
-use Rattle.hall_deployment.proofs.Seeing.{one_some, shows_calls}
+use Rattle.hall_deployment.proofs.Seeing.{shows_calls}
 
 module _ {A B : Type 0} (R : A → B → Type 0) where
   -- what stands at a place of the one list, of a place of the other
