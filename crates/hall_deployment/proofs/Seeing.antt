@@ -21,7 +21,7 @@ use Rattle.delta_session.specs.Sessions.{ServedSession}
 use Rattle.delta_session.specs.Steps.{HallView, HallSight, Lists, Step, of_registry, of_log, IsStep, AreSteps, visits_of}
 use Rattle.http_session.specs.Output.{Exchange}
 use Rattle.deployment.specs.Calls.{SeenCall, AreSeenCalls}
-use Rattle.hall_deployment.specs.Seen.{SeenStep, steps_in, shown, call_at, calls_at, exchange_seen, exchange_made, TellsNoStay, AreSeenSteps, SawWhole, EachSawWhole}
+use Rattle.hall_deployment.specs.Seen.{SeenStep, steps_in, seen_call, call_at, calls_at, exchange_seen, exchange_made, TellsNoStay, AreSeenSteps, SawWhole, EachSawWhole}
 use Rattle.hall_deployment.specs.Laws.{ShowsSteps, ShowsCalls}
 
 module _ {A : Type 0} where
@@ -83,9 +83,9 @@ module _ {D : Type 0} (disks : Ghosts D) (hall : HallView D) (place : ℕ) (log 
         let h = here disks hall.logs.logs place log at part before.logs after.logs visit is slot step in
         let whole : SeesWhole h.0 = saw_whole disks log.origin part h.0 visit.asked.call visit.asked.reply h.2.replied (λ none. whole_here before after visit h.0 slot h.1 (saw none)) in
         let one : SeenCall = record { before = part; call = visit.asked.call; reply = visit.asked.reply; after = h.0 } in
-        let shown_is : shown visit.asked (slice_get before.logs place) (slice_get after.logs place) ≡ one ∷ [] = λ i. shown visit.asked (is i) (h.1 i) in
+        let shown_is : seen_call visit.asked (slice_get before.logs place) (slice_get after.logs place) ≡ one ∷ [] = λ i. seen_call visit.asked (is i) (h.1 i) in
         let there : call_at place before (of_log visit) after ≡ one ∷ [] =
-        ap (λ b. if b then shown visit.asked (slice_get before.logs place) (slice_get after.logs place) else []) (eq-eqb visit.slot (place + 1) slot) ∙ shown_is in
+        ap (λ b. if b then seen_call visit.asked (slice_get before.logs place) (slice_get after.logs place) else []) (eq-eqb visit.slot (place + 1) slot) ∙ shown_is in
         let made : asked_at (place + 1) (visit ∷ []) ≡ visit.asked ∷ [] = ap (λ b. if b then visit.asked ∷ [] else []) (eq-eqb visit.slot (place + 1) slot) in
         record {
           left = h.0;
@@ -98,7 +98,7 @@ module _ {D : Type 0} (disks : Ghosts D) (hall : HallView D) (place : ℕ) (log 
     one_there apart =
         let r = asked_here disks hall.logs.logs place log at part before.logs after.logs (visit ∷ []) is (after.logs, step, refl) in
         let there : call_at place before (of_log visit) after ≡ [] =
-        ap (λ b. if b then shown visit.asked (slice_get before.logs place) (slice_get after.logs place) else []) (ne_eqb visit.slot (place + 1) apart) in
+        ap (λ b. if b then seen_call visit.asked (slice_get before.logs place) (slice_get after.logs place) else []) (ne_eqb visit.slot (place + 1) apart) in
         let made : asked_at (place + 1) (visit ∷ []) ≡ [] = ap (λ b. if b then visit.asked ∷ [] else []) (ne_eqb visit.slot (place + 1) apart) in
         let still : r.0 ≡ part = subst (λ (calls : List CallOnLog). AreCalledOnLog disks log.origin part calls r.0) made r.2 in
         record {

@@ -21,17 +21,17 @@ abbrev pub steps_in : List SeenStep → List Step
 steps_in seen = map (λ one. one.step) seen
 
 -- the call, with what the pass showed of its log before and behind it
-abbrev pub shown : CallOnLog → Option LogSight → Option LogSight → List SeenCall
-shown asked (Some p) (Some q) =
+abbrev pub seen_call : CallOnLog → Option LogSight → Option LogSight → List SeenCall
+seen_call asked (Some p) (Some q) =
     record { before = p; call = asked.call; reply = asked.reply; after = q } ∷ []
-shown asked _ _ = []
+seen_call asked _ _ = []
 
 -- the call of a step on the log at a place
 abbrev pub call_at : ℕ → Lists → Step → Lists → List SeenCall
 call_at place before (of_registry asked) after = []
 call_at place before (of_log visit) after =
     if visit.slot == place + 1
-    then shown visit.asked (slice_get before.logs place) (slice_get after.logs place) else []
+    then seen_call visit.asked (slice_get before.logs place) (slice_get after.logs place) else []
 
 -- those of all steps, in their order
 abbrev pub calls_at : ℕ → List SeenStep → List SeenCall

@@ -1,17 +1,61 @@
--- What a server has done is a run of its hall.
-use Rattle.std.specs.Prelude.{◌≡◌, ℕ, ◌≤◌, List, length}
+-- What a server has done is a run of its hall, whose steps are those of its sessions.
+use Rattle.std.specs.Prelude.{◌≡◌, ℕ, ◌≤◌, List, [], ◌∷◌, ◌++◌, length, take}
 use Rattle.std.specs.List.{AllZip}
 use Rattle.delta_base.specs.declared.link.Link.{Ghosts as LinkGhosts}
 use Rattle.disk_model.specs.declared.disk.Disk.{Ghosts}
 use Rattle.disk_model.specs.declared.shelf.Shelf.{Ghosts as ShelfGhosts}
 use Rattle.disk_model.specs.Past.{began, MayLeave}
+use Rattle.http_session.specs.Output.{Exchange}
 use Rattle.slot_files.specs.Files.{Files}
+use Rattle.worker_pool.specs.Works.{Works, Serves}
+use Rattle.worker_pool.specs.declared.gate.Arrival.{Arrival}
 use Rattle.worker_pool.specs.declared.gate.Gate.{Ghosts as GateGhosts}
+use Rattle.worker_pool.specs.declared.pool.Post.{Post}
+use Rattle.delta_session.specs.Sessions.{WorkerView, WorksSession, AreSaid, all_of}
+use Rattle.delta_session.specs.Steps.{HallView, Step}
 use Rattle.delta_server.specs.Serving.{HasServed}
-use Rattle.hall_deployment.specs.Halls.{HallRun, IsHallRun}
+use Rattle.hall_deployment.specs.Seen.{SeenStep, steps_in}
+use Rattle.hall_deployment.specs.Halls.{HallPassRun, HallRun, IsHallRun}
+
+-- the steps by which the requests of a session were answered
+abbrev pub AreSaidBy : ℕ → List Exchange → List SeenStep → ℕ → Type 0
+AreSaidBy dice exchanges seen last =
+    (steps : List (List Step)) × AreSaid dice exchanges steps last × (steps_in seen ≡ all_of steps)
+
+module _ {D L : Type 0} (disks : Ghosts D) (links : LinkGhosts L) where
+  -- of sessions one after another: the steps of each, one behind another
+  abbrev pub AreStepsOf : (first : WorkerView D) (arrivals : List (Arrival L))
+      (last : WorkerView D) (left : List L)
+      → Works (WorksSession disks links) first arrivals last left → List SeenStep → Type 0
+  AreStepsOf first [] last [] worked seen = seen ≡ []
+  AreStepsOf first (arrival ∷ arrivals) last (link ∷ left) worked seen =
+      (own : List SeenStep) × (rest : List SeenStep) × (seen ≡ own ++ rest)
+      × AreSaidBy arrival.dice worked.1.2.talks.4.exchanges own worked.0.pass.dice
+      × AreStepsOf worked.0 arrivals last left worked.2 rest
+  AreStepsOf first [] last (link ∷ left) worked seen = ⊥
+  AreStepsOf first (arrival ∷ arrivals) last [] worked seen = ⊥
 
 module _ {D H L G : Type 0} (disks : Ghosts D) (shelf : ShelfGhosts H D) (links : LinkGhosts L)
     (gate : GateGhosts G L) where
+  -- a pass at its gate took some connections, and its steps are those of their sessions
+  pub record IsWorkerRun (hall : HallView D) (door : G) (pass : HallPassRun)
+      (post : Post G (WorkerView D)) : Type 0 where
+    pub serves :
+        Serves gate.tells gate.arrivals gate.back gate.faults (WorksSession disks links)
+        (record { gate = door; worker = record { hall = hall; pass = pass.given } }) post
+    pub steps :
+        AreStepsOf disks links (record { hall = hall; pass = pass.given }) serves.taken
+        post.worker serves.links serves.worked pass.steps
+    pub back : pass.back ≡ post.worker.pass
+
+  -- each pass at the gate of its place
+  abbrev pub AreWorkerRuns :
+      HallView D → List G → List HallPassRun → List (Post G (WorkerView D)) → Type 0
+  AreWorkerRuns hall [] [] [] = Unit {0}
+  AreWorkerRuns hall (door ∷ doors) (pass ∷ passes) (post ∷ posts) =
+      IsWorkerRun hall door pass post × AreWorkerRuns hall doors passes posts
+  AreWorkerRuns hall _ _ _ = ⊥
+
   -- A server has served, with a gate for each worker. Its disks began with some images, and these
   -- are left of those that came back. Then that is a run of its hall, from those images to these.
   abbrev pub ServersShowRuns : Type 0
@@ -24,3 +68,4 @@ module _ {D H L G : Type 0} (disks : Ghosts D) (shelf : ShelfGhosts H D) (links 
       → AllZip (λ disk image. MayLeave (disks.past disk) image) served.left left
       → (run : HallRun D) × (run.hall ≡ served.hall) × (run.images ≡ left)
       × IsHallRun disks images run
+      × AreWorkerRuns served.hall (take workers gates) run.passes served.worked.posts

@@ -29,7 +29,8 @@ pub fn halls_keep_their_promise<D: Disk>()
     ensures { HallsKeepTheirPromise D.Disk }
 {}
 
-/// What `run_server` ensures of a server that served is a run of its hall.
+/// What `run_server` ensures of a server that served is a run of its hall, whose steps are those of
+/// the sessions of its connections.
 pub fn servers_show_runs<H: Shelf, G: Gate>()
 where
     G::L: Link,
