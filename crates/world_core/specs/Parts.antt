@@ -182,8 +182,8 @@ abbrev pub MayBeKept : ZonePart → Brief → Type 0
 MayBeKept (ZoneUp zone) brief = (brief ≡ zone.brief) ⊎ Reopens zone.disk brief
 MayBeKept (ZoneDown disk) brief = Reopens disk brief
 
--- whatever a zone keeps, or opening it keeps behind a crash now, are the ids and the replay of first
--- patches of the log, as many as its version says, checked again
+-- whatever a zone keeps, or opening it keeps behind a crash now, are the ids and the replay of
+-- first patches of the log, as many as its version says, checked again
 abbrev pub IsZoneReplayed : LogPoint (List Patch) → ZonePart → Type 0
 IsZoneReplayed log part = (brief : Brief) → MayBeKept part brief
     → (taken : List CheckedPatch) × AreChecked taken × BeginsLog log (map bare taken)
