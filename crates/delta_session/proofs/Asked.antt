@@ -12,16 +12,16 @@ use Rattle.registry_core.specs.Replies.{RegistryCall, RegistryReply, resolve, fo
 use Rattle.turn_cell.specs.Sights.{Made}
 use Rattle.turn_cell.specs.Knowing.{Wants}
 use Rattle.turn_cell.specs.Calls.{IsReplied}
-use Rattle.shared_log.specs.History.{LogSight}
+use Rattle.shared_log.specs.History.{LogSight, SeesWhole}
 use Rattle.shared_log.specs.Stays.{CalledOnLog}
-use Rattle.shared_log.specs.Calls.{CallOnLog, MayWant, place_told}
-use Rattle.shared_log.proofs.Adding.{each_is_made}
+use Rattle.shared_log.specs.Calls.{CallOnLog, MayWant, call_made}
 use Rattle.shared_registry.specs.History.{RegistrySight}
 use Rattle.shared_registry.specs.Stays.{CalledOnRegistry}
 use Rattle.shared_registry.specs.Lookups.{RegistryLookup, IsLookupReply, MayWantNames}
 use Rattle.shared_registry.proofs.Adding.{gives}
 use Rattle.hall_logs.specs.Slots.{OnSlot}
 use Rattle.hall_logs.specs.Visits.{IsVisit}
+use Rattle.hall_logs.proofs.Visiting.{each_is_visit}
 use Rattle.delta_session.specs.Answered.{BehindLookup, ByLog, ByRegistry, BySource, ByText, IsLookedUp, LooksUp, Says, SaysNone, SaysOf, TakesNoNumber, reply_found}
 use Rattle.delta_session.specs.Halls.{IsHallPass}
 use Rattle.delta_session.specs.Steps.{HallView, HallSight, Step, of_registry, of_log, AreSteps}
@@ -96,45 +96,44 @@ module _ {D : Type 0} (disks : Ghosts D) (hall : HallView D) (p : HallSight) whe
   -- ---- logs
 
   module _ (q : List LogSight) (slot : ℕ) where
+    -- in what the pass then sees of the log of the slot each run stands whole
+    abbrev Whole : Type 0
+    Whole = OnSlot slot (λ (log : Made (LogView D)) (a b : LogSight). SeesWhole b) hall.logs.logs p.lists.logs q
+
     -- the call on the log of the slot, as a visit
-    visited : (call : LogCall) (reply : LogReply) → OnSlot slot (λ (log : Made (LogView D)) (a b : LogSight). CalledOnLog disks log.origin a call reply b) hall.logs.logs p.lists.logs q
+    visited : (call : LogCall) (reply : LogReply) → OnSlot slot (λ (log : Made (LogView D)) (a b : LogSight). CalledOnLog disks log.origin a call reply b) hall.logs.logs p.lists.logs q → Whole
         → (made : CallOnLog) × (made.call ≡ call) × (made.reply ≡ Some reply) × IsVisit disks hall.logs.logs p.lists.logs (record { slot = slot; asked = made }) q
-    visited call reply o =
-        let e = (each_is_made disks o.log.origin o.old call o.new).replied reply o.so in (
-          record { call = call; reply = Some reply; brought = place_told (Some reply); doubted = e.0 },
-          refl,
-          refl,
-          record { place = o.place; log = o.log; old = o.old; new = o.new; slot_is = o.slot_is; log_is = o.log_is; old_is = o.old_is; others = o.others; so = e.2 },
-        )
+    visited call reply o whole =
+        let e = (each_is_visit disks hall.logs.logs slot call p.lists.logs q).replied reply o whole in (call_made call (Some reply) e.0, refl, refl, e.1)
 
     pub takes_visit : (call : LogCall) (reply : LogReply) (said : Said) → OnSlot slot (λ (log : Made (LogView D)) (a b : LogSight). CalledOnLog disks log.origin a call reply b) hall.logs.logs p.lists.logs q
-        → Says (log_answer reply) None said → TakesNoNumber disks hall (ByLog slot call) p said (knows_logs p q)
-    takes_visit call reply said called says =
-        let v = visited call reply called in
+        → Whole → Says (log_answer reply) None said → TakesNoNumber disks hall (ByLog slot call) p said (knows_logs p q)
+    takes_visit call reply said called whole says =
+        let v = visited call reply called whole in
         (of_log (record { slot = slot; asked = v.0 }) ∷ [], ((knows_logs p q).lists, (v.3, refl), refl), (v.0, v.1, refl, subst (λ (r : Option LogReply). SaysOf log_answer r said) (sym v.2) says), refl)
 
     -- of what a text is
     pub takes_text : {A F : Type 0} (Is : A → Type 0) (call : A → LogCall) (Has : F → Type 0) (answer : F → Answer) (read : A) (told : LogAnswer) (said : Said) → Is read
         → OnSlot slot (λ (log : Made (LogView D)) (a b : LogSight). CalledOnLog disks log.origin a (call read) (asked.answered told) b) hall.logs.logs p.lists.logs q
-        → Says (append_answer told) None said → TakesNoNumber disks hall (ByText Is call Has answer slot) p said (knows_logs p q)
-    takes_text Is call Has answer read told said is called says =
-        let one = takes_visit (call read) (asked.answered told) said called says in
+        → Whole → Says (append_answer told) None said → TakesNoNumber disks hall (ByText Is call Has answer slot) p said (knows_logs p q)
+    takes_text Is call Has answer read told said is called whole says =
+        let one = takes_visit (call read) (asked.answered told) said called whole says in
         (one.0, one.1, inl (read, is, one.2), one.3)
 
-    takes_want : (call : LogCall) → MayWant call → OnSlot slot (λ (log : Made (LogView D)) (a b : LogSight). Wants a b) hall.logs.logs p.lists.logs q → TakesNoNumber disks hall (ByLog slot call) p OutOfMemory (knows_logs p q)
-    takes_want call may o =
-        let made : CallOnLog = record { call = call; reply = None; brought = []; doubted = [] } in
-        let is : IsVisit disks hall.logs.logs p.lists.logs (record { slot = slot; asked = made }) q = record { place = o.place; log = o.log; old = o.old; new = o.new; slot_is = o.slot_is; log_is = o.log_is; old_is = o.old_is; others = o.others; so = (each_is_made disks o.log.origin o.old call o.new).wanted may o.so } in
+    takes_want : (call : LogCall) → MayWant call → OnSlot slot (λ (log : Made (LogView D)) (a b : LogSight). Wants a b) hall.logs.logs p.lists.logs q → Whole → TakesNoNumber disks hall (ByLog slot call) p OutOfMemory (knows_logs p q)
+    takes_want call may o whole =
+        let made : CallOnLog = call_made call None [] in
+        let is = (each_is_visit disks hall.logs.logs slot call p.lists.logs q).wanted may o whole in
         (of_log (record { slot = slot; asked = made }) ∷ [], ((knows_logs p q).lists, (is, refl), refl), (made, refl, refl, refl), refl)
 
     -- of a call that may find no memory
     pub takes_fetched : {A E : Type 0} (f : A → LogReply) (call : LogCall) (r : Result A E) (said : Said) → MayWant call
         → IfOk r (λ a. OnSlot slot (λ (log : Made (LogView D)) (x y : LogSight). CalledOnLog disks log.origin x call (f a) y) hall.logs.logs p.lists.logs q)
-        → OnErr r (OnSlot slot (λ (log : Made (LogView D)) (x y : LogSight). Wants x y) hall.logs.logs p.lists.logs q)
+        → OnErr r (OnSlot slot (λ (log : Made (LogView D)) (x y : LogSight). Wants x y) hall.logs.logs p.lists.logs q) → Whole
         → IfOk r (λ a. Says (log_answer (f a)) None said) → (IsErr r → said ≡ OutOfMemory) → TakesNoNumber disks hall (ByLog slot call) p said (knows_logs p q)
-    takes_fetched f call (Ok a) said may called want says none = takes_visit call (f a) said called says
-    takes_fetched f call (Err e) said may called want says none =
-        subst (λ (s : Said). TakesNoNumber disks hall (ByLog slot call) p s (knows_logs p q)) (sym (none refl)) (takes_want call may want)
+    takes_fetched f call (Ok a) said may called want whole says none = takes_visit call (f a) said called whole says
+    takes_fetched f call (Err e) said may called want whole says none =
+        subst (λ (s : Said). TakesNoNumber disks hall (ByLog slot call) p s (knows_logs p q)) (sym (none refl)) (takes_want call may want whole)
 
   -- ---- a name, and then its log
 

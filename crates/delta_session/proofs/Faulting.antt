@@ -209,7 +209,7 @@ module _ {D : Type 0} (disks : Ghosts D) (hall : HallView D) where
       (by_own (own_faults_of p.registry) (own_faults_of q.registry) (sum_by own p.logs) (faults_told is_registry_fault made.reply) added.faults)
   one_rose p q (of_log visit) is =
       let v = is.0 in
-      let added = (of_logs.add_up disks v.log.origin v.old v.new (visit.asked ∷ []) (v.new, v.so, refl)).adds in
+      let added = (of_logs.add_up disks v.log.origin v.old v.new (visit.asked ∷ []) (v.new, v.so.0, refl)).adds in
       subst (λ (z : RegistrySight × List LogSight). RoseBy (faults_told tells_fault visit.asked.reply) (all_hall_faults p) (min (own_faults_of z.0 + sum_by own z.1) last_count)) (λ i. (sym is.1 i, sym v.others i))
       (by_part (own_faults_of p.registry) (sum_by own p.logs) (sum_by own (slice_set p.logs v.place v.new)) (own v.old) (own v.new) (faults_told tells_fault visit.asked.reply) added.faults added.never_fall (part_within p.logs v.place v.old v.old_is) (sum_set p.logs v.place v.old v.new v.old_is))
 

@@ -8,7 +8,7 @@ use Rattle.patch_log.specs.State.{LogView}
 use Rattle.turn_cell.specs.Turns.{IsIn}
 use Rattle.turn_cell.specs.Sights.{Made}
 use Rattle.turn_cell.specs.Calls.{IsReplied}
-use Rattle.shared_log.specs.History.{LogSight}
+use Rattle.shared_log.specs.History.{LogSight, SeesWhole}
 use Rattle.shared_log.specs.Calls.{CallOnLog, IsCalledOnLog, MayWant}
 use Rattle.shared_log.specs.Stays.{CalledOnLog, IsOnDisk}
 use Rattle.shared_log.proofs.OnDisk.{told_on_disk, stays_in_sight}
@@ -43,7 +43,7 @@ module _ {D : Type 0} (disks : Ghosts D) (hall : HallView D) where
       }
 
   module _ (p next after : Lists) (more : List Step) (visit : Visit) (v : IsVisit disks hall.logs.logs p.logs visit next.logs) (are : AreSteps disks hall next more after) where
-    abbrev behind : (q : LogSight) × (slice_get next.logs v.place ≡ Some q) × IsCalledOnLog disks v.log.origin v.old visit.asked q
+    abbrev behind : (q : LogSight) × (slice_get next.logs v.place ≡ Some q) × IsCalledOnLog disks v.log.origin v.old visit.asked q × SeesWhole q
     behind = here disks hall.logs.logs v.place v.log v.log_is v.old p.logs next.logs visit v.old_is v.slot_is v
 
     called : (call : LogCall) (reply : LogReply) → visit.asked.call ≡ call → visit.asked.reply ≡ Some reply → CalledOnLog disks v.log.origin v.old call reply behind.0

@@ -1,6 +1,7 @@
 //! A hall over its files.
 ghost use Rattle.std.specs.Prelude.{◌≡◌, ◌<◌, ◌≤◌, ◌∷◌, IfOk, IfErr, vec_len, vec_capacity};
 ghost use Rattle.std.specs.List.{AllByRecursion};
+ghost use Rattle.hall_logs.specs.Slots.{EachHasItsSeats};
 ghost use Rattle.delta_session.specs.Ends.{HasHallRoom};
 ghost use Rattle.delta_session.specs.Halls.{AreHallPasses, AreNewPasses};
 ghost use Rattle.delta_session.specs.Opening.{IsOpenedRegistry, IsOpenedHall, IsRefusedHall};
@@ -65,6 +66,7 @@ fn open_logs<D: Disk>(
     ensures hall { (disk : D) → IsOpenedRegistry D.Disk disk registry
         → IfOk result (λ r. IsOpenedHall D.Disk (disk ∷ disks.items) r.0) }
     ensures seats { IfOk result (λ r. r.0.logs.seats ≡ workers) }
+    ensures each { IfOk result (λ r. EachHasItsSeats r.0.logs) }
     ensures passes { IfOk result (λ r. AreHallPasses D.Disk r.0 r.1.passes.items) }
     ensures new { IfOk result (λ r. AreNewPasses D.Disk r.0 1 r.1.passes.items) }
     ensures room { IfOk result (λ r. HasHallRoom r.0 r.1.room) }
@@ -97,6 +99,7 @@ pub fn open_hall<D: Disk>(
     requires workers { (0 < workers) × (workers ≤ 16) }
     ensures hall { IfOk result (λ r. IsOpenedHall D.Disk disks.items r.0) }
     ensures seats { IfOk result (λ r. r.0.logs.seats ≡ workers) }
+    ensures each { IfOk result (λ r. EachHasItsSeats r.0.logs) }
     ensures passes { IfOk result (λ r. AreHallPasses D.Disk r.0 r.1.passes.items) }
     ensures new { IfOk result (λ r. AreNewPasses D.Disk r.0 1 r.1.passes.items) }
     ensures room { IfOk result (λ r. HasHallRoom r.0 r.1.room) }

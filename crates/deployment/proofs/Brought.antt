@@ -14,6 +14,7 @@ use Rattle.turn_cell.specs.Sights.{ComesFrom}
 use Rattle.turn_cell.specs.Sharing.{HasSeen}
 use Rattle.turn_cell.specs.Knowing.{pass_number, seen_of, mine_of, failed_of}
 use Rattle.turn_cell.proofs.Ends.{all_in}
+use Rattle.turn_cell.proofs.Members.{in_either, one_of_mapped, unmapped, all_got, in_none, got_behind, place_in}
 use Rattle.shared_log.specs.declared.value.Placed.{Placed}
 use Rattle.shared_log.specs.History.{LogSight, history_of, patches_known, shared_log}
 use Rattle.shared_log.proofs.Histories.{known_chain}
@@ -21,21 +22,11 @@ use Rattle.world_core.proofs.Growing.{GrowsTo, still_at}
 use Rattle.deployment.specs.Calls.{IsToAppend}
 use Rattle.deployment.specs.History.{PassRun, Unanswered, ServerRun, HasCalled, IsUnderWay, Leaves, IsServerRun, sights_of}
 use Rattle.deployment.specs.Promise.{IsHandedIn, WasBrought, acknowledged, in_doubt, unanswered}
-use Rattle.deployment.proofs.Fronts.{one_of_mapped, in_either, patches_go_on}
+use Rattle.deployment.proofs.Fronts.{patches_go_on}
 use Rattle.deployment.proofs.Calling.{amid_on, WasTaken, WasFaulted, place_told, fault_told, StandsHandedIn, place_amid, fault_amid}
 use Rattle.deployment.proofs.Left.{MayStandBehind}
 
 -- ---- lists
-
-unmapped : {A B : Type 0} (f : A → B) (xs : List A) (b : B) → IsIn b (map f xs) → (a : A) × IsIn a xs × (b ≡ f a)
-unmapped f [] b i = absurd i
-unmapped {A} {B} f (x ∷ xs) b i = ⊎_elim (λ (e : b ≡ f x). (x, inl refl, e))
-    (λ (j : IsIn b (map f xs)). let there = unmapped f xs b j in (there.0, inr there.1, there.2)) i
-
-all_got : {A : Type 0} (P : A → Type 0) (xs : List A) (k : ℕ) (x : A) → AllOf P xs → slice_get xs k ≡ Some x → P x
-all_got P [] k x all is = absurd (cc)
-all_got P (y ∷ xs) zero x all is = let same : y ≡ x = cc in subst P same all.0
-all_got P (y ∷ xs) (suc k) x all is = all_got P xs k x all.1 is
 
 -- an entry of a history that has this patch
 in_history : (h : List (Known Placed)) (patch : Patch) → IsIn patch (patches_known h) → (k : ℕ) × (known : Known Placed) × (slice_get h k ≡ Some known) × (patch ≡ known.content.patch)
@@ -43,33 +34,10 @@ in_history [] patch i = absurd i
 in_history (first ∷ h) patch i = ⊎_elim (λ (e : patch ≡ first.content.patch). (zero, first, refl, e))
     (λ (j : IsIn patch (patches_known h)). let there = in_history h patch j in (suc there.0, there.1, there.2, there.3)) i
 
-none_more : (k : ℕ) → 0 + k ≡ k
-none_more k = omega arith
-
-behind : (front h : List (Known Placed)) (k : ℕ) (known : Known Placed) → slice_get h k ≡ Some known → slice_get (front ++ h) (length front + k) ≡ Some known
-behind [] h k known is = ap (slice_get h) (none_more k) ∙ is
-behind (first ∷ front) h k known is = let count : length (first ∷ front) + k ≡ suc (length front + k) = omega arith in ap (slice_get ((first ∷ front) ++ h)) count ∙ behind front h k known is
-
 got_patch : (h : List (Known Placed)) (k : ℕ) (known : Known Placed) → slice_get h k ≡ Some known → slice_get (patches_known h) k ≡ Some known.content.patch
 got_patch [] k known is = absurd (cc)
 got_patch (first ∷ h) zero known is = let same : first ≡ known = cc in ap (λ (x : Known Placed). Some x.content.patch) same
 got_patch (first ∷ h) (suc k) known is = got_patch h k known is
-
--- its place is one of its number's
-place_in : (place by : ℕ) (h : List (Known Placed)) (k : ℕ) (known : Known Placed) (at : ℕ) → slice_get h k ≡ Some known → known.by ≡ by → at ≡ place + k → IsIn at (places_from place by h)
-place_in place by [] k known at is same there = absurd (cc)
-place_in place by (first ∷ h) zero known at is same there =
-    let one : first ≡ known = cc in
-    let number : first.by ≡ by = ap (λ (x : Known Placed). x.by) one ∙ same in
-    let here : at ≡ place = omega (arith, there) in
-    rw (eq-eqb first.by by number) (inl here)
-place_in place by (first ∷ h) (suc k) known at is same there =
-    let further : at ≡ place + 1 + k = omega (arith, there) in
-    skip (eqb first.by by) (place_in (place + 1) by h k known at is same further)
-  where
-    skip : (b : Bool) → IsIn at (places_from (place + 1) by h) → IsIn at (cond b (place ∷ places_from (place + 1) by h) (places_from (place + 1) by h))
-    skip true i = inr i
-    skip false i = i
 
 -- ---- a run of the server
 
@@ -82,9 +50,6 @@ module _ {D : Type 0} (disks : Ghosts D) (tells : disks.tells) (number : ℕ) (l
 
   called : (pass : PassRun) → IsIn pass server.passes → HasCalled disks server.made pass
   called pass i = all_in (HasCalled disks server.made) server.passes pass is.called i
-
-  in_none : {A : Type 0} (x : A) (xs : List A) → xs ≡ [] → IsIn x xs → ⊥
-  in_none x xs none i = subst (IsIn x) none i
 
   -- what stands at a place of a pass's own is what a call of it handed in
   of_place : (pass : PassRun) → IsIn pass server.passes → (place : ℕ) (patch : Patch) → IsIn place (mine_of pass.at_stop) → patch_at (chain_of server.log) place ≡ Some patch → WasBrought server patch
@@ -124,7 +89,7 @@ module _ {D : Type 0} (disks : Ghosts D) (tells : disks.tells) (number : ℕ) (l
   later_brought later same by patch i =
       let there = in_history later patch i in
       let k = length Before + there.0 in
-      let got : slice_get Now k ≡ Some there.1 = ap (λ (h : List (Known Placed)). slice_get h k) same ∙ behind Before later there.0 there.1 there.2 in
+      let got : slice_get Now k ≡ Some there.1 = ap (λ (h : List (Known Placed)). slice_get h k) same ∙ got_behind Before later there.0 there.1 there.2 in
       let of = all_got (λ (e : Known Placed). (0 < e.by) × (e.by ≤ server.made.seats)) later there.0 there.1 by there.2 in
       let who = is.all_there there.1.by of.0 of.1 in
       let pass = unmapped (λ (p : PassRun). p.at_stop) server.passes who.0 who.1 in

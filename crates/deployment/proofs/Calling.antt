@@ -18,6 +18,7 @@ use Rattle.turn_cell.specs.Calls.{IsReplied}
 use Rattle.turn_cell.specs.Turns.{IsIn}
 use Rattle.turn_cell.specs.Knowing.{SeesOn, IsQuiet, pass_number, seen_of, mine_of, failed_of}
 use Rattle.turn_cell.proofs.Views.{prefix_trans, prefix_refl}
+use Rattle.turn_cell.proofs.Members.{in_either}
 use Rattle.shared_log.specs.declared.value.Placed.{Placed}
 use Rattle.shared_log.specs.History.{LogSight, patches_known, history_of}
 use Rattle.shared_log.specs.Calls.{MayWant}
@@ -27,7 +28,7 @@ use Rattle.shared_log.proofs.Histories.{known_chain}
 use Rattle.world_core.proofs.Growing.{still_at}
 use Rattle.deployment.specs.Calls.{IsToAppend, TellsAccepted, SeenCall, IsLegalCall, AreSeenCalls, HasDone, nothing, brought, doubted, IsAmid}
 use Rattle.deployment.specs.Promise.{IsHandedIn}
-use Rattle.deployment.proofs.Fronts.{in_either, patches_go_on}
+use Rattle.deployment.proofs.Fronts.{patches_go_on}
 
 -- ---- what a pass knows goes on
 

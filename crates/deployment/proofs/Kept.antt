@@ -12,6 +12,7 @@ use Rattle.turn_cell.specs.Sharing.{HasSeen}
 use Rattle.turn_cell.specs.Knowing.{seen_of}
 use Rattle.turn_cell.proofs.Views.{prefix_trans}
 use Rattle.turn_cell.proofs.Ends.{all_in}
+use Rattle.turn_cell.proofs.Members.{in_either, one_of_mapped}
 use Rattle.shared_log.specs.History.{history_of, shared_log}
 use Rattle.shared_log.proofs.Histories.{whole_known}
 use Rattle.shared_log.proofs.Turns.{known_entries}
@@ -19,7 +20,7 @@ use Rattle.world_core.proofs.Growing.{GrowsTo, stays_same, grows_on}
 use Rattle.deployment.specs.Calls.{SeenCall}
 use Rattle.deployment.specs.History.{PassRun, IsFoundIn, ServerRun, HasCalled, IsServerRun, AreServerRuns, image_left}
 use Rattle.deployment.specs.Promise.{IsGiven, WasBrought, KeepsPromise}
-use Rattle.deployment.proofs.Fronts.{in_either, one_of_mapped, runs_known, runs_grow, as_prefix}
+use Rattle.deployment.proofs.Fronts.{runs_known, runs_grow, as_prefix}
 use Rattle.deployment.proofs.Calling.{one_call, amid_on}
 use Rattle.deployment.proofs.Brought.{run_brings, behind_brought}
 use Rattle.deployment.proofs.Left.{MayStandBehind, one_found, run_leaves, run_grows}

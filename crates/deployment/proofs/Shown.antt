@@ -3,7 +3,6 @@ use Rattle.std.proofs.Common.{◌≡◌, ℕ, List, [], ◌∷◌, Option, None,
 use Rattle.log_base.specs.declared.limits.LogLimits.{LogLimits}
 use Rattle.disk_model.specs.declared.disk.Disk.{Ghosts}
 use Rattle.chain_core.specs.Replies.{LogCall}
-use Rattle.disk_model.specs.Past.{Past, reads}
 use Rattle.log_journal.specs.File.{Holds}
 use Rattle.patch_log.specs.Log.{payloads_of}
 use Rattle.patch_log.specs.State.{LogView, runs_in}
@@ -11,11 +10,11 @@ use Rattle.turn_cell.specs.Turns.{AllOf}
 use Rattle.turn_cell.specs.Sights.{Made, AreAll}
 use Rattle.turn_cell.specs.Sharing.{AreAllPassesOf, IsClosedOf}
 use Rattle.shared_log.specs.History.{shared_log}
+use Rattle.shared_log.specs.Moments.{LogCell, IsLogMoment}
+use Rattle.shared_log.proofs.Moments.{closed}
 use Rattle.deployment.specs.Calls.{IsAmid}
 use Rattle.deployment.specs.History.{PassRun, ServerRun, HasCalled, Leaves, IsServerRun, sights_of}
-use Rattle.deployment.specs.Moments.{LogCell, IsMoment}
 use Rattle.deployment.specs.Shown.{IsBegun, HasReturned}
-use Rattle.deployment.proofs.Moments.{closed}
 
 module _ {D : Type 0} (disks : Ghosts D) where
   in_none : (pass : PassRun) → pass.in_call ≡ None → IsAmid pass.at_stop pass.in_call pass.at_stop
@@ -33,7 +32,7 @@ module _ {D : Type 0} (disks : Ghosts D) where
     a_run called there was leaves = record {
       number_is = begun.settled.1;
       limits_is = begun.settled.2;
-      opened = record { holds = subst (λ (past : Past). Holds (reads past) number (payloads_of (runs_in run.made.origin))) begun.begins (begun.payloads tells); log = begun.log };
+      opened = record { holds = subst (λ (bytes : List ℕ). Holds bytes number (payloads_of (runs_in run.made.origin))) begun.begins.reads_same (begun.payloads tells); log = begun.log };
       whole = begun.whole;
       settled = begun.settled.0;
       called = called;
@@ -46,5 +45,5 @@ module _ {D : Type 0} (disks : Ghosts D) where
         → IsServerRun disks number limits image run
     closed_is all passes was leaves = a_run (returned run.made run.passes all) passes.1 was leaves
 
-    pub killed_is : (s : LogCell disks) → AllOf (HasCalled disks run.made) run.passes → AreAll run.made.seats (sights_of run) → IsMoment disks run.made run.log (sights_of run) s → Leaves disks run.passes run.log run.under_way run.image → IsServerRun disks number limits image run
+    pub killed_is : (s : LogCell disks) → AllOf (HasCalled disks run.made) run.passes → AreAll run.made.seats (sights_of run) → IsLogMoment disks run.made run.log (sights_of run) s → Leaves disks run.passes run.log run.under_way run.image → IsServerRun disks number limits image run
     killed_is s called there moment leaves = a_run called there (closed disks run.made run.log (sights_of run) s moment) leaves

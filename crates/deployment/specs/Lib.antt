@@ -2,6 +2,5 @@ pub mod Calls
 pub mod History
 pub mod Promise
 pub mod Laws
-pub mod Moments
 pub mod Shown
 pub mod Followers

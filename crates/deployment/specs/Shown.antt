@@ -2,7 +2,7 @@
 use Rattle.std.specs.Prelude.{◌≡◌, ℕ, List, None}
 use Rattle.log_base.specs.declared.limits.LogLimits.{LogLimits}
 use Rattle.disk_model.specs.declared.disk.Disk.{Ghosts}
-use Rattle.disk_model.specs.Past.{began, reads}
+use Rattle.disk_model.specs.Past.{began, reads, Keeps}
 use Rattle.log_journal.specs.File.{Holds}
 use Rattle.chain_core.specs.Runs.{AreWhole}
 use Rattle.patch_log.specs.Log.{IsSoundLog, payloads_of}
@@ -11,17 +11,18 @@ use Rattle.turn_cell.specs.Turns.{AllOf}
 use Rattle.turn_cell.specs.Sights.{Made, AreAll}
 use Rattle.turn_cell.specs.Sharing.{IsNewPassOf, AreAllPassesOf, IsClosedOf}
 use Rattle.shared_log.specs.History.{LogSight, shared_log}
+use Rattle.shared_log.specs.Moments.{LogCell, IsLogMoment}
 use Rattle.deployment.specs.Calls.{AreSeenCalls}
 use Rattle.deployment.specs.History.{PassRun, ServerRun, HasCalled, Leaves}
 use Rattle.deployment.specs.History.{IsServerRun, sights_of}
-use Rattle.deployment.specs.Moments.{LogCell, IsMoment}
 
 module _ {D : Type 0} (disks : Ghosts D) where
-  -- the log as it was opened, on a disk that began with the image
+  -- the log as it was opened, on a disk that began with the image and still reads it, as any crash
+  -- leaves it
   pub record IsBegun (number : ℕ) (limits : LogLimits) (image : List ℕ)
       (run : ServerRun D) : Type 0 where
     pub disk : D
-    pub begins : disks.past disk ≡ began image
+    pub begins : Keeps (began image) (disks.past disk)
     pub payloads : disks.tells → Holds (reads (disks.past disk)) number
         (payloads_of (runs_in run.made.origin))
     pub log : IsSoundLog limits (runs_in run.made.origin)
@@ -56,6 +57,6 @@ module _ {D : Type 0} (disks : Ghosts D) where
       → disks.tells → IsBegun number limits image run
       → AllOf (HasCalled disks run.made) run.passes
       → AreAll run.made.seats (sights_of run)
-      → IsMoment disks run.made run.log (sights_of run) s
+      → IsLogMoment disks run.made run.log (sights_of run) s
       → Leaves disks run.passes run.log run.under_way run.image
       → IsServerRun disks number limits image run

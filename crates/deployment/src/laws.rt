@@ -1,11 +1,9 @@
 //! Laws of every deployment. These functions do nothing: their contracts are theorems.
 ghost use Rattle.deployment.specs.Laws.{DeploymentsKeepTheirPromise, StopsLeaveALog};
 ghost use Rattle.deployment.specs.Followers.{FollowersFollow};
-ghost use Rattle.deployment.specs.Moments.{LogsAreClosedAtEachMoment, TwinsStandAtEachMoment};
 ghost use Rattle.deployment.specs.Shown.{ClosedRunsAreRuns, KilledRunsAreRuns};
 
 use disk_model::Disk;
-use twin_cell::{Backed, Listed};
 
 /// Whatever the runs, their calls, their interleaving and their stops: there is one chain of which
 /// every reply is the one that it gives at a point, no earlier than all that its pass had seen,
@@ -23,17 +21,6 @@ pub fn stops_leave_a_log<D: Disk>()
 /// patches begin that chain, and its dataset is their replay.
 pub fn followers_follow<D: Disk, Z: Disk>()
     ensures { FollowersFollow D.Disk Z.Disk }
-{}
-
-/// Of a twin, what `close` tells holds at any moment.
-pub fn twins_stand_at_each_moment<R: Listed, W: Backed<R>>()
-    ensures { TwinsStandAtEachMoment W.stands W.fault_count W.doubt W.fixed R.entries R.spare
-        R.fits }
-{}
-
-/// So a log and its passes at the moment of a stop are as `close` would have told.
-pub fn logs_are_closed_at_each_moment<D: Disk>()
-    ensures { LogsAreClosedAtEachMoment D.Disk }
 {}
 
 /// A run that was closed is one of a deployment's, by what its calls and the close ensure.

@@ -9,5 +9,5 @@ mod laws;
 
 pub use laws::{
     closed_runs_are_runs, deployments_keep_their_promise, followers_follow, killed_runs_are_runs,
-    logs_are_closed_at_each_moment, stops_leave_a_log, twins_stand_at_each_moment,
+    stops_leave_a_log,
 };

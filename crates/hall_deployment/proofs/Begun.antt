@@ -1,57 +1,12 @@
 -- The log of a slot as it was opened, and as it was closed.
-use Rattle.std.proofs.Common.{◌≡◌, ℕ, zero, suc, ◌+◌, ◌<◌, ◌≤◌, List, [], ◌∷◌, ◌++◌, map, refl, subst, arith, Some, slice_get}
-use Rattle.std.specs.List.{AllByRecursion}
+use Rattle.std.proofs.Common.{◌≡◌, ℕ, zero, suc, ◌+◌, List, [], ◌∷◌, map, refl, subst, arith, Some, slice_get}
 use Rattle.disk_model.specs.declared.disk.Disk.{Ghosts}
 use Rattle.log_base.specs.declared.limits.LogLimits.{LogLimits}
-use Rattle.chain_core.specs.declared.chain.Entry.{Entry}
-use Rattle.chain_core.specs.Runs.{AreWhole, GoesOn}
 use Rattle.patch_log.specs.State.{LogView}
-use Rattle.turn_cell.specs.declared.view.Known.{Known}
-use Rattle.turn_cell.specs.Turns.{AllOf}
 use Rattle.turn_cell.specs.Sights.{Made}
-use Rattle.turn_cell.specs.Sharing.{IsClosedOf}
-use Rattle.shared_log.specs.declared.value.Placed.{Placed}
-use Rattle.shared_log.specs.History.{LogSight, KnowsWhole, history_of, shared_log}
-use Rattle.shared_log.proofs.Histories.{whole_known}
-use Rattle.shared_log.proofs.Turns.{known_entries}
+use Rattle.shared_log.specs.History.{LogSight}
 use Rattle.hall_logs.specs.Ends.{parts_at, Ends, AreEnded}
 use Rattle.hall_logs.specs.Files.{IsOpened, AreOpened}
-use Rattle.deployment.proofs.Fronts.{whole_entries}
-
--- ---- a log that was found whole
-
-abbrev by_known : Known Placed → ℕ
-by_known known = known.by
-
-abbrev rest_known : Known Placed → ℕ
-rest_known known = known.content.rest
-
-abbrev ByPasses : List (Known Placed) → ℕ → Type 0
-ByPasses later seats = AllOf (λ (e : Known Placed). (0 < e.by) × (e.by ≤ seats)) later
-
-goes_front : (rest by seats : ℕ) (front later : List (Known Placed)) → by ≡ 0 → ByPasses later seats → GoesOn by_known rest_known rest by (front ++ later) → GoesOn by_known rest_known rest by front
-goes_front zero by seats front later none passes on = tt
-goes_front (suc rest) by seats [] [] none passes on = absurd on
-goes_front (suc rest) by seats [] (next ∷ later) none passes on = absurd (omega (arith, none, on.0, passes.0.0))
-goes_front (suc rest) by seats (next ∷ front) later none passes on = on
-
--- what nobody brought stands whole, where it does with what passes brought behind it
-whole_front : (seats : ℕ) (front later : List (Known Placed)) → AllOf (λ (e : Known Placed). e.by ≡ 0) front → ByPasses later seats → KnowsWhole (front ++ later) → KnowsWhole front
-whole_front seats [] later none passes whole = tt
-whole_front seats (known ∷ front) later none passes whole = (goes_front known.content.rest known.by seats front later none.0 passes whole.0, whole_front seats front later none.1 passes whole.1)
-
-by_nobody : (entries : List Entry) → AllByRecursion (λ (entry : Entry). entry.by ≡ 0) entries → AllOf (λ (e : Known Placed). e.by ≡ 0) (history_of entries)
-by_nobody [] all = tt
-by_nobody (entry ∷ entries) all = (all.0, by_nobody entries all.1)
-
-pub found_whole : {D : Type 0} (disks : Ghosts D) (made : Made (LogView D)) (parts : List LogSight) (log : LogView D) → AllByRecursion (λ (entry : Entry). entry.by ≡ 0) made.origin.entries → IsClosedOf (shared_log disks) made parts log → AreWhole made.origin.entries
-found_whole disks made parts log none closed =
-    let later = closed.history in
-    let all : KnowsWhole (history_of made.origin.entries ++ later.0) = subst KnowsWhole later.1 (whole_known log.entries closed.stands.whole) in
-    let front : KnowsWhole (history_of made.origin.entries) = whole_front made.seats (history_of made.origin.entries) later.0 (by_nobody made.origin.entries none) later.2 all in
-    subst AreWhole (known_entries made.origin.entries) (whole_entries (history_of made.origin.entries) front)
-
--- ---- by places
 
 module _ {D : Type 0} (disks : Ghosts D) where
   -- the log of a disk that was opened

@@ -1,29 +1,36 @@
 -- A run of a hall is a run of the server of each of its logs.
-use Rattle.std.proofs.Common.{◌≡◌, ℕ, zero, suc, ◌+◌, ◌<◌, List, [], ◌∷◌, map, length, refl, sym, ap, ◌∙◌, subst, arith, Some, None, slice_get}
+use Rattle.std.proofs.Common.{◌≡◌, ⊎_elim, ℕ, zero, suc, ◌+◌, ◌<◌, List, [], ◌∷◌, map, length, refl, sym, ap, ◌∙◌, subst, arith, Some, None, slice_get}
 use Rattle.std.specs.List.{AllZip}
+use Rattle.std.proofs.lemmas.List.{length-map}
+use Rattle.std.proofs.lemmas.Slice.Zip.{AllZip-long}
 use Rattle.log_base.specs.declared.limits.TheConstants.{LOG_LIMITS}
 use Rattle.disk_model.specs.declared.disk.Disk.{Ghosts}
-use Rattle.disk_model.specs.Past.{began, MayLeave}
+use Rattle.disk_model.specs.Past.{began, MayLeave, Keeps}
 use Rattle.chain_core.specs.declared.chain.Patch.{Patch}
 use Rattle.patch_log.specs.State.{LogView}
-use Rattle.turn_cell.specs.Sights.{Made}
+use Rattle.turn_cell.specs.Turns.{AllOf}
+use Rattle.turn_cell.specs.Sights.{Made, AreAll}
 use Rattle.turn_cell.specs.Sharing.{AreAllPassesOf, IsClosedOf}
+use Rattle.turn_cell.proofs.Members.{all_got}
 use Rattle.shared_log.specs.History.{LogSight, shared_log}
+use Rattle.shared_log.proofs.Moments.{all_at_moment}
 use Rattle.hall_logs.specs.Ends.{parts_at}
+use Rattle.hall_logs.specs.Files.{IsOpened}
 use Rattle.hall_logs.proofs.Columns.{column}
+use Rattle.hall_logs.proofs.Visiting.{same_some}
 use Rattle.delta_session.specs.Ends.{IsEnded}
 use Rattle.delta_session.specs.Opening.{IsOpenedHall}
 use Rattle.delta_session.specs.Steps.{HallView, HallSight}
 use Rattle.delta_session.proofs.Opens.{logs_passes}
 use Rattle.delta_session.proofs.Passing.{passes_stay}
-use Rattle.deployment.specs.History.{ServerRun, IsServerRun, AreServerRuns, IsFoundIn, image_left}
+use Rattle.deployment.specs.History.{PassRun, ServerRun, HasCalled, IsServerRun, AreServerRuns, IsFoundIn, image_left, sights_of}
 use Rattle.deployment.specs.Promise.{KeepsPromise}
 use Rattle.deployment.specs.Shown.{IsBegun}
 use Rattle.deployment.proofs.Kept.{promise}
-use Rattle.deployment.proofs.Shown.{closed_is}
-use Rattle.hall_deployment.specs.Halls.{HallRun, IsHallRun, HoldsBelow, AreHallRuns, IsRunAt, given_in, back_in}
-use Rattle.hall_deployment.proofs.Begun.{OpenedAt, opened_at, EndedAt, ended_at, found_whole}
-use Rattle.hall_deployment.proofs.Slots.{in_first, in_second, have_asked, parts_back, parts_of}
+use Rattle.deployment.proofs.Shown.{a_run, killed_is}
+use Rattle.hall_deployment.specs.Halls.{HallPassRun, HallRun, WasClosed, WasKilled, IsHallRun, AreHallRuns, IsPassAt, IsRunAt, given_in, stopped_in}
+use Rattle.hall_deployment.proofs.Begun.{OpenedAt, opened_at, EndedAt, ended_at}
+use Rattle.hall_deployment.proofs.Slots.{in_first, in_second, have_asked, have_called, parts_back, parts_of}
 
 within : {A : Type 0} (xs : List A) (k : ℕ) (x : A) → slice_get xs k ≡ Some x → k < length xs
 within [] k x is = let c = is in cc
@@ -55,37 +62,70 @@ module _ {D : Type 0} (disks : Ghosts D) (tells : disks.tells) where
       let next : place + 1 ≡ suc place = omega arith in
       (at, ap (λ (k : ℕ). slice_get (first ∷ more) k) next ∙ at.disk_is)
 
-  module _ (images : List (List ℕ)) (run : HallRun D) (is : IsHallRun disks images run) (below : HoldsBelow run) (place : ℕ) (image : List ℕ) (there : slice_get images (place + 1) ≡ Some image) where
-    pub slot_run : (log_run : ServerRun D) × IsRunAt place run log_run × IsServerRun disks (place + 1) LOG_LIMITS image log_run
-    slot_run =
-        let disk = in_first (λ (disk : D) (image : List ℕ). disks.past disk ≡ began image) run.disks images (place + 1) image is.begins there in
-        let opened = slot_opened run.disks run.hall place disk.0 is.opened disk.1 in
-        let log = opened.log in
-        let ended = slot_ended run.hall (back_in run) run.left place log is.ended opened.log_is in
-        let leaves = in_second (λ (disk : D) (image : List ℕ). MayLeave (disks.past disk) image) run.left run.images (place + 1) ended.0.disk is.leaves ended.1 in
-        let parts = parts_of disks run.hall place log opened.log_is 1 run.passes is.new is.stepped below.whole in
+  module _ (images : List (List ℕ)) (run : HallRun D) (is : IsHallRun disks images run) (place : ℕ) (image : List ℕ) (there : slice_get images (place + 1) ≡ Some image) where
+    abbrev Found : Type 0
+    Found = (log_run : ServerRun D) × IsRunAt place run log_run × IsServerRun disks (place + 1) LOG_LIMITS image log_run
+
+    abbrev Read : D → List ℕ → Type 0
+    Read disk image = Keeps (began image) (disks.past disk)
+
+    disk : (disk : D) × (slice_get run.disks (place + 1) ≡ Some disk) × Read disk image
+    disk = in_first Read run.disks images (place + 1) image is.begins there
+
+    opened : OpenedAt disks LOG_LIMITS (place + 1) disk.0 run.hall.logs.logs place
+    opened = slot_opened run.disks run.hall place disk.0 is.opened disk.1
+
+    abbrev log : Made (LogView D)
+    log = opened.log
+
+    begun : (log_run : ServerRun D) → log_run.made ≡ log → IsBegun disks (place + 1) LOG_LIMITS image log_run
+    begun log_run same =
+        let at : IsOpened disks LOG_LIMITS (place + 1) disk.0 log_run.made.origin = subst (λ (made : Made (LogView D)). IsOpened disks LOG_LIMITS (place + 1) disk.0 made.origin) (sym same) opened.is in
+        record { disk = disk.0; begins = disk.2; payloads = at.file; log = at.sound; whole = at.whole; settled = at.settled }
+
+    called : (made : Made (LogView D)) (parts : List PassRun) → made ≡ log → AllZip (IsPassAt place) run.passes parts → AllOf (HasCalled disks made) parts
+    called made parts same are = subst (λ (made : Made (LogView D)). AllOf (HasCalled disks made) parts) (sym same)
+        (have_called disks run.hall place log opened.log_is 1 run.passes parts are is.new is.stepped)
+
+    -- of a hall that was closed
+    closed_run : WasClosed disks run → Found
+    closed_run was =
+        let ended = slot_ended run.hall (stopped_in run) was.left place log was.ended opened.log_is in
+        let leaves = in_second (λ (disk : D) (image : List ℕ). MayLeave (disks.past disk) image) was.left run.images (place + 1) ended.0.disk was.leaves ended.1 in
+        let parts = parts_of disks run.hall place log opened.log_is 1 run.passes is.new is.stepped was.in_none in
         let closed : IsClosedOf (shared_log disks) log (parts_back disks run.hall place run.passes) ended.0.ends.log =
-        subst (λ (n : ℕ). IsClosedOf (shared_log disks) log (parts_at n (map (λ (pass : HallSight). pass.lists.logs) (back_in run))) ended.0.ends.log) (from_none place) ended.0.ends.closed in
-        let back = passes_stay disks run.hall (given_in run) (back_in run) (have_asked disks run.hall run.passes is.stepped) is.all in
+        subst (λ (n : ℕ). IsClosedOf (shared_log disks) log (parts_at n (map (λ (pass : HallSight). pass.lists.logs) (stopped_in run))) ended.0.ends.log) (from_none place) ended.0.ends.closed in
+        let back = passes_stay disks run.hall (given_in run) (stopped_in run) (have_asked disks run.hall run.passes is.stepped was.in_none) is.all in
         let all : AreAllPassesOf (shared_log disks) log (parts_back disks run.hall place run.passes) =
-        column disks run.hall.logs.logs place log opened.log_is (within run.hall.logs.logs place log opened.log_is) run.hall.logs.seats (map (λ (pass : HallSight). pass.lists.logs) (back_in run)) below.seats
-        (logs_passes disks run.hall (back_in run) back) in
-        let log_run : ServerRun D = record { made = log; passes = parts.parts; log = ended.0.ends.log; under_way = None; image = leaves.0 } in
-        let begun : IsBegun disks (place + 1) LOG_LIMITS image log_run = record {
-          disk = disk.0;
-          begins = disk.2;
-          payloads = opened.is.file;
-          log = opened.is.sound;
-          whole = found_whole disks log (parts_back disks run.hall place run.passes) ended.0.ends.log opened.is.by_nobody closed;
-          settled = opened.is.settled;
-        } in (
+        column disks run.hall.logs.logs place log opened.log_is (within run.hall.logs.logs place log opened.log_is) run.hall.logs.seats (map (λ (pass : HallSight). pass.lists.logs) (stopped_in run)) is.each
+        (logs_passes disks run.hall (stopped_in run) back) in
+        let log_run : ServerRun D = record { made = log; passes = parts.parts; log = ended.0.ends.log; under_way = None; image = leaves.0 } in (
           log_run,
-          record { made = opened.log_is; passes = parts.are; under_way = refl; image = leaves.1 },
-          closed_is disks (place + 1) LOG_LIMITS image log_run tells begun parts.returned
-              (subst (AreAllPassesOf (shared_log disks) log) (sym parts.sights) all)
+          record { made = opened.log_is; passes = parts.are; image = leaves.1 },
+          a_run disks (place + 1) LOG_LIMITS image log_run tells (begun log_run refl) (called log parts.parts refl parts.are)
+              (subst (λ (sights : List LogSight). AreAll log.seats sights) (sym parts.sights) all.1)
               (subst (λ (sights : List LogSight). IsClosedOf (shared_log disks) log sights ended.0.ends.log) (sym parts.sights) closed)
               (subst (λ (d : D). MayLeave (disks.past d) leaves.0) ended.0.ends.disk_is leaves.2),
         )
+
+    -- of one that was killed
+    killed_run : WasKilled disks run → Found
+    killed_run was =
+        let at = was place (within run.hall.logs.logs place log opened.log_is) in
+        let log_run = at.log_run in
+        let same : log_run.made ≡ log = same_some log_run.made log (sym at.at.made ∙ opened.log_is) in
+        let seats : log_run.made.seats ≡ run.hall.logs.seats = all_got (λ (log : Made (LogView D)). log.seats ≡ run.hall.logs.seats) run.hall.logs.logs place log_run.made is.each at.at.made in
+        let count : length (sights_of log_run) ≡ run.hall.logs.seats =
+        length-map log_run.passes (λ (pass : PassRun). pass.at_stop) ∙ AllZip-long (IsPassAt place) run.passes log_run.passes at.at.passes
+        ∙ sym (length-map run.passes (λ (pass : HallPassRun). pass.given)) ∙ is.all.count in (
+          log_run,
+          at.at,
+          killed_is disks (place + 1) LOG_LIMITS image log_run tells (begun log_run same) at.cell (called log_run.made log_run.passes same at.at.passes)
+              (all_at_moment disks log_run.made log_run.log (sights_of log_run) at.cell at.moment (omega (arith, seats, count))) at.moment at.leaves,
+        )
+
+    pub slot_run : Found
+    slot_run = ⊎_elim closed_run killed_run is.stopped
 
   -- the runs of one log
   record SlotRuns (place : ℕ) (image : List ℕ) (runs : List (HallRun D)) : Type 0 where
@@ -96,8 +136,8 @@ module _ {D : Type 0} (disks : Ghosts D) (tells : disks.tells) where
   slot_runs : (images : List (List ℕ)) (runs : List (HallRun D)) → AreHallRuns disks images runs → (place : ℕ) (image : List ℕ) → slice_get images (place + 1) ≡ Some image → SlotRuns place image runs
   slot_runs images [] are place image there = record { log_runs = []; are_at = tt; are = tt }
   slot_runs images (run ∷ more) are place image there =
-      let first = slot_run images run are.0 are.1 place image there in
-      let rest = slot_runs run.images more are.2 place first.0.image first.1.image in
+      let first = slot_run images run are.0 place image there in
+      let rest = slot_runs run.images more are.1 place first.0.image first.1.image in
       record { log_runs = first.0 ∷ rest.log_runs; are_at = (first.1, rest.are_at); are = (first.2, rest.are) }
 
   pub keep : (images : List (List ℕ)) (runs : List (HallRun D)) → AreHallRuns disks images runs → (place : ℕ) (image : List ℕ) → slice_get images (place + 1) ≡ Some image

@@ -21,38 +21,8 @@ use Rattle.delta_session.specs.Sessions.{ServedSession}
 use Rattle.delta_session.specs.Steps.{HallView, HallSight, Lists, Step, of_registry, of_log, IsStep, AreSteps, visits_of}
 use Rattle.http_session.specs.Output.{Exchange}
 use Rattle.deployment.specs.Calls.{SeenCall, AreSeenCalls}
-use Rattle.hall_deployment.specs.Seen.{SeenStep, steps_in, seen_call, call_at, calls_at, exchange_seen, exchange_made, TellsNoStay, AreSeenSteps, SawWhole, EachSawWhole}
+use Rattle.hall_deployment.specs.Seen.{SeenStep, steps_in, seen_call, call_at, calls_at, exchange_seen, exchange_made, AreSeenSteps}
 use Rattle.hall_deployment.specs.Laws.{ShowsSteps, ShowsCalls}
-
-module _ {A : Type 0} where
-  set_there : (xs : List A) (k : ℕ) (x y : A) → slice_get xs k ≡ Some x → slice_get (slice_set xs k y) k ≡ Some y
-  set_there [] k x y is = let c = is in cc
-  set_there (z ∷ xs) zero x y is = refl
-  set_there (z ∷ xs) (suc k) x y is = set_there xs k x y is
-
-  pub one_some : (x y : A) → Some x ≡ Some y → x ≡ y
-  one_some x y e = cc
-
--- ---- each run that a call saw stands whole
-
-module _ {D : Type 0} (disks : Ghosts D) (origin : LogView D) (p q : LogSight) where
-  -- what is left in a turn stands whole
-  stay_whole : (Did : LogView D → LogView D → Type 0) → InTurn (shared_log disks) Did origin p q → SeesWhole q
-  stay_whole Did stay = subst KnowsWhole (sym stay.sees) (whole_known stay.left.entries stay.left_stands.whole)
-
-  saw_whole : (call : LogCall) (reply : Option LogReply) → IsReplied (CalledOnLog disks origin) MayWant p call reply q → (TellsNoStay call reply → SeesWhole q) → SeesWhole q
-  saw_whole (append patch) (Some reply) is without = stay_whole _ is.stay
-  saw_whole (append_run run) (Some reply) is without = stay_whole _ is.stay
-  saw_whole (fetch_version place) (Some reply) is without = stay_whole _ is.stay
-  saw_whole (fetch_id id) (Some reply) is without = stay_whole _ is.stay
-  saw_whole describe (Some reply) is without = stay_whole _ is.stay
-  saw_whole version (Some reply) is without = without tt
-  saw_whole (append patch) None is without = without tt
-  saw_whole (append_run run) None is without = without tt
-  saw_whole (fetch_version place) None is without = without tt
-  saw_whole (fetch_id id) None is without = without tt
-  saw_whole describe None is without = without tt
-  saw_whole version None is without = without tt
 
 -- ---- the calls of steps
 
@@ -69,19 +39,10 @@ record ShowsOne {D : Type 0} (disks : Ghosts D) (place : ℕ) (origin : LogView 
   asked : map exchange_seen (call_at place before step after) ≡ map exchange_made (asked_at (place + 1) (visits_of (step ∷ [])))
 
 module _ {D : Type 0} (disks : Ghosts D) (hall : HallView D) (place : ℕ) (log : Made (LogView D)) (at : slice_get hall.logs.logs place ≡ Some log) where
-  -- of a visit of this log it was seen
-  whole_here : (before after : Lists) (visit : Visit) (q : LogSight) → visit.slot ≡ place + 1 → slice_get after.logs place ≡ Some q → OnSlot visit.slot (λ log part left. SeesWhole left) hall.logs.logs before.logs after.logs → SeesWhole q
-  whole_here before after visit q slot is on =
-      let same : on.place ≡ place = omega (arith, on.slot_is, slot) in
-      let got : slice_get after.logs on.place ≡ Some on.new = ap (λ l. slice_get l on.place) on.others ∙ set_there before.logs on.place on.old on.new on.old_is in
-      let new_is : on.new ≡ q = one_some on.new q (sym got ∙ ap (slice_get after.logs) same ∙ is) in
-      subst SeesWhole new_is on.so
-
   module _ (before after : Lists) (visit : Visit) (part : LogSight) (is : slice_get before.logs place ≡ Some part) (step : IsVisit disks hall.logs.logs before.logs visit after.logs) where
-    one_here : visit.slot ≡ place + 1 → (TellsNoStay visit.asked.call visit.asked.reply → OnSlot visit.slot (λ log part left. SeesWhole left) hall.logs.logs before.logs after.logs) → ShowsOne disks place log.origin part before (of_log visit) after
-    one_here slot saw =
+    one_here : visit.slot ≡ place + 1 → ShowsOne disks place log.origin part before (of_log visit) after
+    one_here slot =
         let h = here disks hall.logs.logs place log at part before.logs after.logs visit is slot step in
-        let whole : SeesWhole h.0 = saw_whole disks log.origin part h.0 visit.asked.call visit.asked.reply h.2.replied (λ none. whole_here before after visit h.0 slot h.1 (saw none)) in
         let one : SeenCall = record { before = part; call = visit.asked.call; reply = visit.asked.reply; after = h.0 } in
         let shown_is : seen_call visit.asked (slice_get before.logs place) (slice_get after.logs place) ≡ one ∷ [] = λ i. seen_call visit.asked (is i) (h.1 i) in
         let there : call_at place before (of_log visit) after ≡ one ∷ [] =
@@ -90,7 +51,7 @@ module _ {D : Type 0} (disks : Ghosts D) (hall : HallView D) (place : ℕ) (log 
         record {
           left = h.0;
           left_is = h.1;
-          calls = subst (λ (calls : List SeenCall). AreSeenCalls disks log.origin part calls h.0) (sym there) (refl, (h.2.replied, whole), refl);
+          calls = subst (λ (calls : List SeenCall). AreSeenCalls disks log.origin part calls h.0) (sym there) (refl, (h.2.replied, h.3), refl);
           asked = ap (map exchange_seen) there ∙ ap (map exchange_made) (sym made);
         }
 
@@ -108,9 +69,9 @@ module _ {D : Type 0} (disks : Ghosts D) (hall : HallView D) (place : ℕ) (log 
           asked = ap (map exchange_seen) there ∙ ap (map exchange_made) (sym made);
         }
 
-  one_shown : (before : Lists) (step : Step) (after : Lists) (part : LogSight) → slice_get before.logs place ≡ Some part → IsStep disks hall before step after → SawWhole hall before step after → ShowsOne disks place log.origin part before step after
-  one_shown before (of_registry asked) after part is step saw = record { left = part; left_is = ap (λ l. slice_get l place) step.1 ∙ is; calls = refl; asked = refl }
-  one_shown before (of_log visit) after part is step saw = dite (ℕ_discrete visit.slot (place + 1)) (λ slot. one_here before after visit part is step.0 slot saw) (λ apart. one_there before after visit part is step.0 apart)
+  one_shown : (before : Lists) (step : Step) (after : Lists) (part : LogSight) → slice_get before.logs place ≡ Some part → IsStep disks hall before step after → ShowsOne disks place log.origin part before step after
+  one_shown before (of_registry asked) after part is step = record { left = part; left_is = ap (λ l. slice_get l place) step.1 ∙ is; calls = refl; asked = refl }
+  one_shown before (of_log visit) after part is step = dite (ℕ_discrete visit.slot (place + 1)) (λ slot. one_here before after visit part is step.0 slot) (λ apart. one_there before after visit part is step.0 apart)
 
   asked_append : (step : Step) (more : List Step) → asked_at (place + 1) (visits_of (step ∷ more)) ≡ asked_at (place + 1) (visits_of (step ∷ [])) ++ asked_at (place + 1) (visits_of more)
   asked_append (of_registry asked) more = refl
@@ -118,11 +79,11 @@ module _ {D : Type 0} (disks : Ghosts D) (hall : HallView D) (place : ℕ) (log 
       (λ slot. rw (eq-eqb visit.slot (place + 1) slot) refl)
       (λ apart. rw (ne_eqb visit.slot (place + 1) apart) refl)
 
-  pub shows_calls : (before after : Lists) (seen : List SeenStep) (part : LogSight) → slice_get before.logs place ≡ Some part → AreSeenSteps disks hall before seen after → EachSawWhole hall seen → ShowsCalls disks place log.origin part seen after
-  shows_calls before after [] part is same saw = record { left = part; left_is = ap (λ (l : Lists). slice_get l.logs place) same ∙ is; calls = refl; asked = refl }
-  shows_calls before after (one ∷ more) part is are saw =
-      let first = one_shown one.before one.step one.after part (ap (λ (l : Lists). slice_get l.logs place) are.0 ∙ is) are.1 saw.0 in
-      let rest = shows_calls one.after after more first.left first.left_is are.2 saw.1 in
+  pub shows_calls : (before after : Lists) (seen : List SeenStep) (part : LogSight) → slice_get before.logs place ≡ Some part → AreSeenSteps disks hall before seen after → ShowsCalls disks place log.origin part seen after
+  shows_calls before after [] part is same = record { left = part; left_is = ap (λ (l : Lists). slice_get l.logs place) same ∙ is; calls = refl; asked = refl }
+  shows_calls before after (one ∷ more) part is are =
+      let first = one_shown one.before one.step one.after part (ap (λ (l : Lists). slice_get l.logs place) are.0 ∙ is) are.1 in
+      let rest = shows_calls one.after after more first.left first.left_is are.2 in
       let here_calls : List SeenCall = call_at place one.before one.step one.after in
       record {
         left = rest.left;

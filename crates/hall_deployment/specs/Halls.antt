@@ -1,77 +1,115 @@
 -- Runs of a hall, one after another, and the run that each is of the log of a slot.
-use Rattle.std.specs.Prelude.{◌≡◌, ℕ, ◌+◌, List, [], ◌∷◌, map, Some, None, slice_get}
+use Rattle.std.specs.Prelude.{◌≡◌, ◌⊎◌, ℕ, ◌+◌, ◌<◌, List, [], ◌∷◌, length, map, slice_get}
+use Rattle.std.specs.Prelude.{Option, Some, None, if◌then◌else◌, ◌==◌}
 use Rattle.std.specs.List.{AllZip}
 use Rattle.disk_model.specs.declared.disk.Disk.{Ghosts}
-use Rattle.disk_model.specs.Past.{began, MayLeave}
+use Rattle.disk_model.specs.Past.{began, MayLeave, Keeps}
+use Rattle.chain_core.specs.Replies.{LogCall}
 use Rattle.turn_cell.specs.Turns.{AllOf}
+use Rattle.shared_log.specs.Moments.{LogCell, IsLogMoment}
+use Rattle.hall_logs.specs.Slots.{EachHasItsSeats, OnSlot}
 use Rattle.delta_session.specs.Ends.{IsEnded}
 use Rattle.delta_session.specs.Halls.{AreHallPasses, AreNewPasses}
 use Rattle.delta_session.specs.Opening.{IsOpenedHall}
-use Rattle.delta_session.specs.Steps.{HallView, HallSight}
-use Rattle.deployment.specs.History.{PassRun, ServerRun}
-use Rattle.hall_deployment.specs.Seen.{SeenStep, AreSeenSteps, EachSawWhole, calls_at}
+use Rattle.delta_session.specs.Steps.{HallView, HallSight, Lists}
+use Rattle.deployment.specs.Calls.{IsAmid}
+use Rattle.deployment.specs.History.{PassRun, ServerRun, Leaves, sights_of}
+use Rattle.hall_deployment.specs.Seen.{SeenStep, AreSeenSteps, calls_at}
 
--- what a pass of a hall did: what it knew as it was given, its steps, and what it knew at the close
+-- a step that had no answer at the stop: on the registry, or a call on the log of a slot
+pub data StepUnderWay : Type 0 where
+  on_registry : StepUnderWay
+  on_log : ℕ → LogCall → StepUnderWay
+
+-- what a pass of a hall did: what it knew as it was given, its steps that were answered, the one
+-- that it was in at the stop, and what it knew then
 pub record HallPassRun : Type 0 where
   pub given : HallSight
   pub steps : List SeenStep
-  pub back : HallSight
+  pub in_step : Option StepUnderWay
+  pub at_stop : HallSight
 
 -- One run of a hall: the disks that it was opened on, of which the first is the registry's; the
--- hall; what its passes did; the disks that closing gave back; and an image that was left of each.
+-- hall; what its passes did; and an image that was left of each disk.
 pub record HallRun (D : Type 0) : Type 0 where
   pub disks : List D
   pub hall : HallView D
   pub passes : List HallPassRun
-  pub left : List D
   pub images : List (List ℕ)
 
--- its passes as they were given, and as they came back
+-- its passes as they were given, and as they were at the stop
 abbrev pub given_in : {D : Type 0} → HallRun D → List HallSight
 given_in run = map (λ pass. pass.given) run.passes
 
-abbrev pub back_in : {D : Type 0} → HallRun D → List HallSight
-back_in run = map (λ pass. pass.back) run.passes
+abbrev pub stopped_in : {D : Type 0} → HallRun D → List HallSight
+stopped_in run = map (λ pass. pass.at_stop) run.passes
 
-module _ {D : Type 0} (disks : Ghosts D) where
-  -- the pass made its steps, from the opening on
-  abbrev pub HasStepped : HallView D → HallPassRun → Type 0
-  HasStepped hall pass =
-      AreSeenSteps disks hall pass.given.lists pass.steps pass.back.lists
-
-  -- A run on these images, of disks that began with them: the hall was opened, its passes made
-  -- their steps, and it was closed with them.
-  pub record IsHallRun (images : List (List ℕ)) (run : HallRun D) : Type 0 where
-    pub begins : AllZip (λ disk image. disks.past disk ≡ began image) run.disks images
-    pub opened : IsOpenedHall disks run.disks run.hall
-    pub all : AreHallPasses disks run.hall (given_in run)
-    pub new : AreNewPasses disks run.hall 1 (given_in run)
-    pub stepped : AllOf (HasStepped run.hall) run.passes
-    pub ended : IsEnded disks run.hall (back_in run) run.left
-    pub leaves : AllZip (λ disk image. MayLeave (disks.past disk) image) run.left run.images
-
--- What the calls of a log ensure and those of a hall don't tell: each log is shared among as many
--- passes as the hall has, and each run that a call saw stands whole.
-pub record HoldsBelow {D : Type 0} (run : HallRun D) : Type 0 where
-  pub seats : AllOf (λ log. log.seats ≡ run.hall.logs.seats) run.hall.logs.logs
-  pub whole : AllOf (λ pass. EachSawWhole run.hall pass.steps) run.passes
-
--- runs one after another, each on the images that the one before left
-abbrev pub AreHallRuns : {D : Type 0} → Ghosts D → List (List ℕ) → List (HallRun D) → Type 0
-AreHallRuns disks images [] = Unit {0}
-AreHallRuns disks images (run ∷ more) =
-    IsHallRun disks images run × HoldsBelow run × AreHallRuns disks run.images more
+-- the call on the log at a place that a pass was in
+abbrev pub in_call_at : ℕ → Option StepUnderWay → Option LogCall
+in_call_at place None = None
+in_call_at place (Some on_registry) = None
+in_call_at place (Some (on_log slot call)) = if slot == place + 1 then Some call else None
 
 -- what a pass did on the log at a place
 pub record IsPassAt (place : ℕ) (pass : HallPassRun) (part : PassRun) : Type 0 where
   pub calls : part.calls ≡ calls_at place pass.steps
-  pub in_call : part.in_call ≡ None
-  pub at_stop : slice_get pass.back.lists.logs place ≡ Some part.at_stop
+  pub in_call : part.in_call ≡ in_call_at place pass.in_step
+  pub at_stop : slice_get pass.at_stop.lists.logs place ≡ Some part.at_stop
 
 -- the run of the log at a place, whose file is behind that of the registry
 pub record IsRunAt {D : Type 0} (place : ℕ) (run : HallRun D) (log_run : ServerRun D) :
     Type 0 where
   pub made : slice_get run.hall.logs.logs place ≡ Some log_run.made
   pub passes : AllZip (IsPassAt place) run.passes log_run.passes
-  pub under_way : log_run.under_way ≡ None
   pub image : slice_get run.images (place + 1) ≡ Some log_run.image
+
+-- the pass behind its last step that was answered, and then, amid one more or in none
+abbrev pub IsAmidStep : {D : Type 0} → HallView D → Lists → Option StepUnderWay → Lists → Type 0
+IsAmidStep hall p None q = q ≡ p
+IsAmidStep hall p (Some on_registry) q = q.logs ≡ p.logs
+IsAmidStep hall p (Some (on_log slot call)) q =
+    OnSlot slot (λ log part now. IsAmid part (Some call) now) hall.logs.logs p.logs q.logs
+
+module _ {D : Type 0} (disks : Ghosts D) where
+  -- the pass made its steps, from the opening on, and may have been in one more
+  pub record HasStepped (hall : HallView D) (pass : HallPassRun) : Type 0 where
+    pub behind : Lists
+    pub steps : AreSeenSteps disks hall pass.given.lists pass.steps behind
+    pub amid : IsAmidStep hall behind pass.in_step pass.at_stop.lists
+
+  -- The hall was closed with its passes, of which none was in a step, and a crash may leave these
+  -- images of the disks that came back.
+  pub record WasClosed (run : HallRun D) : Type 0 where
+    pub left : List D
+    pub in_none : AllOf (λ pass. pass.in_step ≡ None) run.passes
+    pub ended : IsEnded disks run.hall (stopped_in run) left
+    pub leaves : AllZip (λ disk image. MayLeave (disks.past disk) image) left run.images
+
+  -- The hall was killed. By the rule of each log's cell at that moment its passes had such parts of
+  -- the log, which lay in its turns or was with the append that was under way.
+  pub record WasKilledAt (run : HallRun D) (place : ℕ) : Type 0 where
+    pub log_run : ServerRun D
+    pub at : IsRunAt place run log_run
+    pub cell : LogCell disks
+    pub moment : IsLogMoment disks log_run.made log_run.log (sights_of log_run) cell
+    pub leaves : Leaves disks log_run.passes log_run.log log_run.under_way log_run.image
+
+  abbrev pub WasKilled : HallRun D → Type 0
+  WasKilled run = (place : ℕ) → place < length run.hall.logs.logs → WasKilledAt run place
+
+  -- A run on these images, of disks that began with them: the hall was opened, its passes made
+  -- their steps, and it was closed or killed.
+  pub record IsHallRun (images : List (List ℕ)) (run : HallRun D) : Type 0 where
+    pub begins : AllZip (λ disk image. Keeps (began image) (disks.past disk)) run.disks images
+    pub opened : IsOpenedHall disks run.disks run.hall
+    pub each : EachHasItsSeats run.hall.logs
+    pub all : AreHallPasses disks run.hall (given_in run)
+    pub new : AreNewPasses disks run.hall 1 (given_in run)
+    pub stepped : AllOf (HasStepped run.hall) run.passes
+    pub stopped : WasClosed run ⊎ WasKilled run
+
+-- runs one after another, each on the images that the one before left
+abbrev pub AreHallRuns : {D : Type 0} → Ghosts D → List (List ℕ) → List (HallRun D) → Type 0
+AreHallRuns disks images [] = Unit {0}
+AreHallRuns disks images (run ∷ more) =
+    IsHallRun disks images run × AreHallRuns disks run.images more

@@ -14,8 +14,8 @@ use Rattle.delta_session.specs.Steps.{HallView, HallSight, Lists, Step, visits_o
 use Rattle.deployment.specs.Calls.{AreSeenCalls}
 use Rattle.deployment.specs.History.{ServerRun, IsServerRun, IsFoundIn, image_left}
 use Rattle.deployment.specs.Promise.{KeepsPromise}
-use Rattle.hall_deployment.specs.Halls.{HallRun, IsHallRun, HoldsBelow, AreHallRuns, IsRunAt}
-use Rattle.hall_deployment.specs.Seen.{SeenStep, AreSeenSteps, EachSawWhole, steps_in, calls_at}
+use Rattle.hall_deployment.specs.Halls.{HallRun, IsHallRun, AreHallRuns, IsRunAt}
+use Rattle.hall_deployment.specs.Seen.{SeenStep, AreSeenSteps, steps_in, calls_at}
 use Rattle.hall_deployment.specs.Seen.{exchange_seen, exchange_made}
 
 module _ {D : Type 0} (disks : Ghosts D) where
@@ -50,7 +50,7 @@ module _ {D : Type 0} (disks : Ghosts D) where
   abbrev pub SessionsShowCalls : Type 0
   SessionsShowCalls =
       (hall : HallView D) (before after : Lists) (seen : List SeenStep)
-      → AreSeenSteps disks hall before seen after → EachSawWhole hall seen
+      → AreSeenSteps disks hall before seen after
       → (place : ℕ) (log : Made (LogView D)) (part : LogSight)
       → slice_get hall.logs.logs place ≡ Some log → slice_get before.logs place ≡ Some part
       → ShowsCalls place log.origin part seen after
@@ -59,7 +59,7 @@ module _ {D : Type 0} (disks : Ghosts D) where
   abbrev pub HallRunsAreRuns : Type 0
   HallRunsAreRuns =
       (images : List (List ℕ)) (run : HallRun D)
-      → disks.tells → IsHallRun disks images run → HoldsBelow run
+      → disks.tells → IsHallRun disks images run
       → (place : ℕ) (image : List ℕ) → slice_get images (place + 1) ≡ Some image
       → (log_run : ServerRun D) × IsRunAt place run log_run
       × IsServerRun disks (place + 1) LOG_LIMITS image log_run

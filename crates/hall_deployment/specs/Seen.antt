@@ -2,11 +2,9 @@
 use Rattle.std.specs.Prelude.{◌≡◌, ℕ, ◌+◌, List, [], ◌∷◌, ◌++◌, map, slice_get}
 use Rattle.std.specs.Prelude.{Option, Some, None, if◌then◌else◌, ◌==◌}
 use Rattle.disk_model.specs.declared.disk.Disk.{Ghosts}
-use Rattle.chain_core.specs.Replies.{LogCall, LogReply, version}
-use Rattle.turn_cell.specs.Turns.{AllOf}
-use Rattle.shared_log.specs.History.{LogSight, SeesWhole}
+use Rattle.chain_core.specs.Replies.{LogCall, LogReply}
+use Rattle.shared_log.specs.History.{LogSight}
 use Rattle.shared_log.specs.Calls.{CallOnLog}
-use Rattle.hall_logs.specs.Slots.{OnSlot}
 use Rattle.delta_session.specs.Steps.{HallView, Lists, Step, of_registry, of_log, IsStep}
 use Rattle.deployment.specs.Calls.{SeenCall}
 
@@ -46,12 +44,6 @@ exchange_seen seen = (seen.call, seen.reply)
 abbrev pub exchange_made : CallOnLog → LogCall × Option LogReply
 exchange_made made = (made.call, made.reply)
 
--- a call of which a session has no stay: it only counts, or memory ran out
-abbrev pub TellsNoStay : LogCall → Option LogReply → Type 0
-TellsNoStay version reply = Unit {0}
-TellsNoStay call None = Unit {0}
-TellsNoStay call (Some reply) = ⊥
-
 module _ {D : Type 0} (disks : Ghosts D) (hall : HallView D) where
   -- steps, each by the pass as the one before it left it
   abbrev pub AreSeenSteps : Lists → List SeenStep → Lists → Type 0
@@ -59,15 +51,3 @@ module _ {D : Type 0} (disks : Ghosts D) (hall : HallView D) where
   AreSeenSteps p (one ∷ more) q =
       (one.before ≡ p) × IsStep disks hall one.before one.step one.after
       × AreSeenSteps one.after more q
-
-module _ {D : Type 0} (hall : HallView D) where
-  -- Where a session has no stay of a call: in all that the pass then saw of the log each run stands
-  -- whole.
-  abbrev pub SawWhole : Lists → Step → Lists → Type 0
-  SawWhole p (of_registry asked) q = Unit {0}
-  SawWhole p (of_log visit) q =
-      TellsNoStay visit.asked.call visit.asked.reply
-      → OnSlot visit.slot (λ log part left. SeesWhole left) hall.logs.logs p.logs q.logs
-
-  abbrev pub EachSawWhole : List SeenStep → Type 0
-  EachSawWhole seen = AllOf (λ one. SawWhole one.before one.step one.after) seen

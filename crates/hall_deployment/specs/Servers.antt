@@ -1,21 +1,29 @@
 -- What a server has done is a run of its hall, whose steps are those of its sessions.
-use Rattle.std.specs.Prelude.{◌≡◌, ℕ, ◌≤◌, List, [], ◌∷◌, ◌++◌, length, take}
+use Rattle.std.specs.Prelude.{◌≡◌, ℕ, zero, suc, ◌+◌, List, [], ◌∷◌, ◌++◌, length, take, None}
 use Rattle.std.specs.List.{AllZip}
 use Rattle.delta_base.specs.declared.link.Link.{Ghosts as LinkGhosts}
 use Rattle.disk_model.specs.declared.disk.Disk.{Ghosts}
 use Rattle.disk_model.specs.declared.shelf.Shelf.{Ghosts as ShelfGhosts}
-use Rattle.disk_model.specs.Past.{began, MayLeave}
+use Rattle.disk_model.specs.Past.{MayLeave}
 use Rattle.http_session.specs.Output.{Exchange}
-use Rattle.slot_files.specs.Files.{Files}
+use Rattle.slot_files.specs.Files.{Files, bytes_at}
+use Rattle.turn_cell.specs.Turns.{AllOf}
 use Rattle.worker_pool.specs.Works.{Works, Serves}
 use Rattle.worker_pool.specs.declared.gate.Arrival.{Arrival}
 use Rattle.worker_pool.specs.declared.gate.Gate.{Ghosts as GateGhosts}
 use Rattle.worker_pool.specs.declared.pool.Post.{Post}
+use Rattle.delta_session.specs.Ends.{IsEnded}
 use Rattle.delta_session.specs.Sessions.{WorkerView, WorksSession, AreSaid, all_of}
-use Rattle.delta_session.specs.Steps.{HallView, Step}
-use Rattle.delta_server.specs.Serving.{HasServed}
+use Rattle.delta_session.specs.Steps.{HallView, HallSight, Step}
+use Rattle.delta_server.specs.Serving.{IsHallOver, HasServed}
 use Rattle.hall_deployment.specs.Seen.{SeenStep, steps_in}
 use Rattle.hall_deployment.specs.Halls.{HallPassRun, HallRun, IsHallRun}
+
+-- what so many files of a directory have, from a number on
+abbrev pub files_from : Files → List ℕ → ℕ → ℕ → List (List ℕ)
+files_from files dir number zero = []
+files_from files dir number (suc count) =
+    bytes_at files dir number ∷ files_from files dir (number + 1) count
 
 -- the steps by which the requests of a session were answered
 abbrev pub AreSaidBy : ℕ → List Exchange → List SeenStep → ℕ → Type 0
@@ -46,7 +54,8 @@ module _ {D H L G : Type 0} (disks : Ghosts D) (shelf : ShelfGhosts H D) (links 
     pub steps :
         AreStepsOf disks links (record { hall = hall; pass = pass.given }) serves.taken
         post.worker serves.links serves.worked pass.steps
-    pub back : pass.back ≡ post.worker.pass
+    pub in_none : pass.in_step ≡ None
+    pub at_stop : pass.at_stop ≡ post.worker.pass
 
   -- each pass at the gate of its place
   abbrev pub AreWorkerRuns :
@@ -56,16 +65,26 @@ module _ {D H L G : Type 0} (disks : Ghosts D) (shelf : ShelfGhosts H D) (links 
       IsWorkerRun hall door pass post × AreWorkerRuns hall doors passes posts
   AreWorkerRuns hall _ _ _ = ⊥
 
-  -- A server has served, with a gate for each worker. Its disks began with some images, and these
-  -- are left of those that came back. Then that is a run of its hall, from those images to these.
+  -- A server has served over the files of a directory, and a crash may leave these images of the
+  -- disks that came back. Then that is a run of its hall, from the bytes of those files to these.
   abbrev pub ServersShowRuns : Type 0
   ServersShowRuns =
       (dir : List ℕ) (workers : ℕ) (old new : Files) (gates after : List G)
-      (images left : List (List ℕ))
+      (left : List (List ℕ)) → shelf.tells
       → (served : HasServed disks shelf links gate dir workers old new gates after)
-      → workers ≤ length gates
-      → AllZip (λ disk image. disks.past disk ≡ began image) served.over.disks_are images
       → AllZip (λ disk image. MayLeave (disks.past disk) image) served.left left
       → (run : HallRun D) × (run.hall ≡ served.hall) × (run.images ≡ left)
-      × IsHallRun disks images run
+      × IsHallRun disks (files_from old dir 0 (length served.over.disks_are)) run
       × AreWorkerRuns served.hall (take workers gates) run.passes served.worked.posts
+
+-- So it is where memory for the workers ran out: a run of a hall whose passes made no step.
+abbrev pub IdleServersShowRuns : {D H : Type 0} → Ghosts D → ShelfGhosts H D → Type 0
+IdleServersShowRuns {D} disks shelf =
+    (dir : List ℕ) (workers : ℕ) (files : Files) (hall : HallView D) (passes : List HallSight)
+    (back : List D) (left : List (List ℕ)) → shelf.tells
+    → (over : IsHallOver disks shelf dir files workers hall passes)
+    → IsEnded disks hall passes back
+    → AllZip (λ disk image. MayLeave (disks.past disk) image) back left
+    → (run : HallRun D) × (run.hall ≡ hall) × (run.images ≡ left)
+    × IsHallRun disks (files_from files dir 0 (length over.disks_are)) run
+    × AllOf (λ pass. pass.steps ≡ []) run.passes

@@ -1,7 +1,7 @@
 //! Laws of every hall. These functions do nothing: their contracts are theorems.
 ghost use Rattle.hall_deployment.specs.Laws.{SessionsShowSteps, SessionsShowCalls};
 ghost use Rattle.hall_deployment.specs.Laws.{HallRunsAreRuns, HallsKeepTheirPromise};
-ghost use Rattle.hall_deployment.specs.Servers.{ServersShowRuns};
+ghost use Rattle.hall_deployment.specs.Servers.{IdleServersShowRuns, ServersShowRuns};
 
 use delta_base::Link;
 use disk_model::{Disk, Shelf};
@@ -18,8 +18,8 @@ pub fn sessions_show_calls<D: Disk>()
     ensures { SessionsShowCalls D.Disk }
 {}
 
-/// A run of a hall is a run of the server of each of its logs, by what its opening, its sessions
-/// and its close ensure.
+/// A run of a hall is a run of the server of each of its logs, by what its opening and its sessions
+/// ensure, and its close or, where it was killed, the rule of each log's cell.
 pub fn hall_runs_are_runs<D: Disk>()
     ensures { HallRunsAreRuns D.Disk }
 {}
@@ -35,4 +35,9 @@ pub fn servers_show_runs<H: Shelf, G: Gate>()
 where
     G::L: Link,
     ensures { ServersShowRuns H.D.Disk H.Shelf G.L.Link G.Gate }
+{}
+
+/// So is what it ensures where memory for the workers ran out: a run without a step.
+pub fn idle_servers_show_runs<H: Shelf>()
+    ensures { IdleServersShowRuns H.D.Disk H.Shelf }
 {}

@@ -11,31 +11,31 @@ use Rattle.turn_cell.specs.Turns.{IsIn, AllOf}
 use Rattle.turn_cell.specs.Sights.{Made}
 use Rattle.turn_cell.specs.Knowing.{SeesOn, pass_number}
 use Rattle.turn_cell.specs.Sharing.{IsPassOf}
-use Rattle.shared_log.specs.History.{LogSight, shared_log}
+use Rattle.shared_log.specs.History.{LogSight, SeesWhole, shared_log}
 use Rattle.chain_core.specs.Replies.{LogCall, LogReply}
 use Rattle.turn_cell.specs.Calls.{IsReplied}
 use Rattle.shared_log.specs.Stays.{CalledOnLog}
 use Rattle.shared_log.specs.Calls.{MayWant, IsCalledOnLog, AreCalledOnLog}
 use Rattle.shared_log.proofs.Adding.{each_is_made}
 use Rattle.hall_logs.specs.Laws.{EachIsVisit}
-use Rattle.hall_logs.specs.Slots.{ArePartsOf, AreAllHallPasses}
+use Rattle.hall_logs.specs.Slots.{OnSlot, ArePartsOf, AreAllHallPasses}
 use Rattle.hall_logs.specs.Visits.{Visit, asked_at, IsVisit, AreVisits, HasVisited}
 use Rattle.hall_logs.proofs.Parts.{zip_at, zip_set, still_pass}
 
 module _ {A : Type 0} where
-  get_set : (xs : List A) (k : ℕ) (x y : A) → slice_get xs k ≡ Some x → slice_get (slice_set xs k y) k ≡ Some y
+  pub get_set : (xs : List A) (k : ℕ) (x y : A) → slice_get xs k ≡ Some x → slice_get (slice_set xs k y) k ≡ Some y
   get_set [] k x y is = let c = is in cc
   get_set (z ∷ xs) zero x y is = refl
   get_set (z ∷ xs) (suc k) x y is = get_set xs k x y is
 
-  get_other : (xs : List A) (j k : ℕ) (y : A) → j ≢ k → slice_get (slice_set xs j y) k ≡ slice_get xs k
+  pub get_other : (xs : List A) (j k : ℕ) (y : A) → j ≢ k → slice_get (slice_set xs j y) k ≡ slice_get xs k
   get_other [] j k y apart = refl
   get_other (z ∷ xs) zero zero y apart = absurd (apart refl)
   get_other (z ∷ xs) zero (suc k) y apart = refl
   get_other (z ∷ xs) (suc j) zero y apart = refl
   get_other (z ∷ xs) (suc j) (suc k) y apart = get_other xs j k y (λ e. apart (ap suc e))
 
-  same_some : (x y : A) → Some x ≡ Some y → x ≡ y
+  pub same_some : (x y : A) → Some x ≡ Some y → x ≡ y
   same_some x y e = cc
 
   all_set : (P : A → Type 0) (xs : List A) (k : ℕ) (x y : A) → AllOf P xs → slice_get xs k ≡ Some x → (P x → P y) → AllOf P (slice_set xs k y)
@@ -46,13 +46,13 @@ module _ {A : Type 0} where
 module _ {D : Type 0} (disks : Ghosts D) (logs : List (Made (LogView D))) (place : ℕ) (log : Made (LogView D)) (at : slice_get logs place ≡ Some log) where
   -- a visit on this log
   pub here : (p : LogSight) (before next : List LogSight) (visit : Visit) → slice_get before place ≡ Some p → visit.slot ≡ place + 1 → IsVisit disks logs before visit next
-      → (q : LogSight) × (slice_get next place ≡ Some q) × IsCalledOnLog disks log.origin p visit.asked q
+      → (q : LogSight) × (slice_get next place ≡ Some q) × IsCalledOnLog disks log.origin p visit.asked q × SeesWhole q
   here p before next visit is slot v =
       let same : v.place ≡ place = omega (arith, v.slot_is, slot) in
       let log_is : v.log ≡ log = same_some v.log log (sym v.log_is ∙ ap (slice_get logs) same ∙ at) in
       let p_is : v.old ≡ p = same_some v.old p (sym v.old_is ∙ ap (slice_get before) same ∙ is) in
       let q_is : slice_get next place ≡ Some v.new = ap (λ l. slice_get l place) (v.others ∙ ap (λ k. slice_set before k v.new) same) ∙ get_set before place p v.new is in
-      (v.new, q_is, subst (λ (z : Made (LogView D) × LogSight). IsCalledOnLog disks z.0.origin z.1 visit.asked v.new) (λ i. (log_is i, p_is i)) v.so)
+      (v.new, q_is, subst (λ (z : Made (LogView D) × LogSight). IsCalledOnLog disks z.0.origin z.1 visit.asked v.new) (λ i. (log_is i, p_is i)) v.so.0, v.so.1)
 
   -- a visit on another log
   there : (p : LogSight) (before next : List LogSight) (visit : Visit) → slice_get before place ≡ Some p → visit.slot ≢ place + 1 → IsVisit disks logs before visit next → slice_get next place ≡ Some p
@@ -70,10 +70,18 @@ module _ {D : Type 0} (disks : Ghosts D) (logs : List (Made (LogView D))) (place
       let r = asked_here p vs.0 after more (there p before vs.0 visit is ne vs.1) vs.2 in
       (r.0, r.1, rw (ne_eqb visit.slot (place + 1) ne) r.2))
 
+-- what a pass then sees of the log of a slot stands whole, whatever else is said of that log
+seen_new : {D : Type 0} (logs : List (Made (LogView D))) (slot : ℕ) (before after : List LogSight) {R : Made (LogView D) → LogSight → LogSight → Type 0} (on : OnSlot slot R logs before after) → OnSlot slot (λ log p q. SeesWhole q) logs before after → SeesWhole on.new
+seen_new logs slot before after on whole =
+    let same : whole.place ≡ on.place = omega (arith, on.slot_is, whole.slot_is) in
+    let one = ap (λ l. slice_get l on.place) on.others ∙ get_set before on.place on.old on.new on.old_is in
+    let other = ap (λ l. slice_get l whole.place) whole.others ∙ get_set before whole.place whole.old whole.new whole.old_is in
+    subst SeesWhole (same_some whole.new on.new (sym other ∙ ap (slice_get after) same ∙ one)) whole.so
+
 pub each_is_visit : {D : Type 0} (disks : Ghosts D) (logs : List (Made (LogView D))) (slot : ℕ) (call : LogCall) (before after : List LogSight) → EachIsVisit disks logs slot call before after
 each_is_visit disks logs slot call before after = record {
-  replied = λ reply on. let one = (each_is_made disks on.log.origin on.old call on.new).replied reply on.so in (one.0, record { place = on.place; log = on.log; old = on.old; new = on.new; slot_is = on.slot_is; log_is = on.log_is; old_is = on.old_is; others = on.others; so = one.2 });
-  wanted = λ may on. record { place = on.place; log = on.log; old = on.old; new = on.new; slot_is = on.slot_is; log_is = on.log_is; old_is = on.old_is; others = on.others; so = (each_is_made disks on.log.origin on.old call on.new).wanted may on.so };
+  replied = λ reply on whole. let one = (each_is_made disks on.log.origin on.old call on.new).replied reply on.so in (one.0, record { place = on.place; log = on.log; old = on.old; new = on.new; slot_is = on.slot_is; log_is = on.log_is; old_is = on.old_is; others = on.others; so = (one.2, seen_new logs slot before after on whole) });
+  wanted = λ may on whole. record { place = on.place; log = on.log; old = on.old; new = on.new; slot_is = on.slot_is; log_is = on.log_is; old_is = on.old_is; others = on.others; so = ((each_is_made disks on.log.origin on.old call on.new).wanted may on.so, seen_new logs slot before after on whole) };
 }
 
 -- whether it found memory or not, the pass sees on
@@ -84,7 +92,7 @@ asked_sees disks origin p q call None is = is.1.0
 module _ {D : Type 0} (disks : Ghosts D) (logs : List (Made (LogView D))) where
   module _ (before after : List LogSight) (visit : Visit) (v : IsVisit disks logs before visit after) where
     sees : SeesOn v.old v.new
-    sees = asked_sees disks v.log.origin v.old v.new visit.asked.call visit.asked.reply v.so.replied
+    sees = asked_sees disks v.log.origin v.old v.new visit.asked.call visit.asked.reply v.so.0.replied
 
     one_parts : ArePartsOf disks logs before → ArePartsOf disks logs after
     one_parts of = subst (ArePartsOf disks logs) (sym v.others) (zip_set (IsPassOf (shared_log disks)) logs before v.place v.log v.new of v.log_is

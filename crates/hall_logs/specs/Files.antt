@@ -6,7 +6,7 @@ use Rattle.disk_model.specs.declared.disk.Disk.{Ghosts}
 use Rattle.disk_model.specs.Past.{reads, Keeps}
 use Rattle.log_journal.specs.File.{Holds}
 use Rattle.log_journal.specs.Written.{Reopened, RefusedOpening}
-use Rattle.chain_core.specs.Runs.{file_length}
+use Rattle.chain_core.specs.Runs.{AreWhole, file_length}
 use Rattle.patch_log.specs.declared.fault.LogFault.{LogFault}
 use Rattle.patch_log.specs.declared.fault.LogFault.TheVariants.{Failed}
 use Rattle.patch_log.specs.Fault.{HasLogFault}
@@ -20,11 +20,13 @@ module _ {D : Type 0} (disks : Ghosts D) where
     pub mark : disks.mark after ≡ disks.mark before
     pub kept : disks.tells → Keeps (disks.past before) (disks.past after)
 
-  -- the log of a file as it was opened: no pass brought its entries, and no run is in doubt
+  -- the log of a file as it was opened: no pass brought its entries, each of which belongs to a
+  -- whole run, and no run is in doubt
   pub record IsOpened (limits : LogLimits) (number : ℕ) (disk : D) (log : LogView D) : Type 0 where
     pub file : disks.tells → Holds (reads (disks.past disk)) number (payloads_of (runs_in log))
     pub sound : IsSoundLog limits (runs_in log)
     pub by_nobody : AllByRecursion (λ entry. entry.by ≡ 0) log.entries
+    pub whole : AreWhole log.entries
     pub settled : (log.doubt ≡ None) × (log.number ≡ number) × (log.limits ≡ limits)
     pub reopened : Reopened disks disk log.disk (file_length (runs_in log))
 

@@ -7,7 +7,7 @@ use Rattle.chain_core.specs.Replies.{LogCall, LogReply}
 use Rattle.patch_log.specs.State.{LogView}
 use Rattle.turn_cell.specs.Sights.{Made}
 use Rattle.turn_cell.specs.Knowing.{Wants}
-use Rattle.shared_log.specs.History.{LogSight}
+use Rattle.shared_log.specs.History.{LogSight, SeesWhole}
 use Rattle.shared_log.specs.Stays.{CalledOnLog}
 use Rattle.shared_log.specs.Calls.{call_made, MayWant, AreCalledOnLog}
 use Rattle.hall_logs.specs.Slots.{OnSlot, AreAllHallPasses}
@@ -19,11 +19,13 @@ module _ {D : Type 0} (disks : Ghosts D) (logs : List (Made (LogView D))) where
     pub replied :
         (reply : LogReply)
         → OnSlot slot (λ log p q. CalledOnLog disks log.origin p call reply q) logs before after
+        → OnSlot slot (λ log p q. SeesWhole q) logs before after
         → (doubted : List (List Patch))
         × IsVisit disks logs before
         (record { slot = slot; asked = call_made call (Some reply) doubted }) after
     pub wanted :
         MayWant call → OnSlot slot (λ log p q. Wants p q) logs before after
+        → OnSlot slot (λ log p q. SeesWhole q) logs before after
         → IsVisit disks logs before (record { slot = slot; asked = call_made call None [] }) after
 
   -- calls on many logs one after another and then others are all of them one after another

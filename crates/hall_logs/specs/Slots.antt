@@ -16,6 +16,10 @@ pub record LogsOfHall (D : Type 0) : Type 0 where
   pub logs : List (Made (LogView D))
   pub seats : ℕ
 
+-- each log is shared among as many passes as the hall has
+abbrev pub EachHasItsSeats : {D : Type 0} → LogsOfHall D → Type 0
+EachHasItsSeats hall = AllOf (λ log. log.seats ≡ hall.seats) hall.logs
+
 -- the own faults of all parts together, or the last value of u64 where the sum passes that
 abbrev pub all_faults : List LogSight → ℕ
 all_faults parts = min (sum_by (λ part. own_faults_of part) parts) last_count

@@ -3,7 +3,7 @@ use Rattle.std.specs.Prelude.{◌≡◌, ℕ, List, [], ◌∷◌, if◌then◌e
 use Rattle.disk_model.specs.declared.disk.Disk.{Ghosts}
 use Rattle.patch_log.specs.State.{LogView}
 use Rattle.turn_cell.specs.Sights.{Made}
-use Rattle.shared_log.specs.History.{LogSight}
+use Rattle.shared_log.specs.History.{LogSight, SeesWhole}
 use Rattle.shared_log.specs.Calls.{CallOnLog, IsCalledOnLog}
 use Rattle.hall_logs.specs.Slots.{OnSlot}
 
@@ -19,10 +19,11 @@ asked_at slot (visit ∷ more) =
     if visit.slot == slot then visit.asked ∷ asked_at slot more else asked_at slot more
 
 module _ {D : Type 0} (disks : Ghosts D) (logs : List (Made (LogView D))) where
-  -- one legal call of a pass on the log of its slot
+  -- One legal call of a pass on the log of its slot. In all that the pass then sees of that log
+  -- each run stands whole.
   abbrev pub IsVisit : List LogSight → Visit → List LogSight → Type 0
   IsVisit before visit after =
-      OnSlot visit.slot (λ log p q. IsCalledOnLog disks log.origin p visit.asked q)
+      OnSlot visit.slot (λ log p q. IsCalledOnLog disks log.origin p visit.asked q × SeesWhole q)
       logs before after
 
   -- legal calls of a pass one after another

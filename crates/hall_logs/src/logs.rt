@@ -7,7 +7,7 @@ ghost use Rattle.turn_cell.specs.Knowing.{Wants};
 ghost use Rattle.shared_log.specs.History.{SeesWhole};
 ghost use Rattle.shared_log.specs.Replies.{reply_fetched, reply_described};
 ghost use Rattle.shared_log.specs.Stays.{CalledOnLog};
-ghost use Rattle.hall_logs.specs.Slots.{ArePartsOf, HasPart, OnSlot};
+ghost use Rattle.hall_logs.specs.Slots.{ArePartsOf, EachHasItsSeats, HasPart, OnSlot};
 
 use crate::pass::LogsPass;
 use chain_core::LogAnswer;
@@ -28,18 +28,25 @@ pub struct HallLogs<D: Disk> {
 
 impl<D: Disk> Model for HallLogs<D> {
     ghost use Rattle.std.specs.Prelude.{◌≡◌, ◌<◌, ◌≤◌, vec_capacity};
-    ghost use Rattle.turn_cell.specs.Turns.{AllOf};
-    ghost use Rattle.hall_logs.specs.Slots.{LogsOfHall};
+    ghost use Rattle.hall_logs.specs.Slots.{EachHasItsSeats, LogsOfHall};
 
     ghost Value = { LogsOfHall D };
 
     ghost view = { λ h. record { logs = h.logs.items; seats = h.seats } };
 
-    ghost invariant = { λ h. AllOf (λ log. log.seats ≡ h.seats) h.logs.items
+    ghost invariant = { λ h. EachHasItsSeats (record { logs = h.logs.items; seats = h.seats })
         × (16 ≤ vec_capacity h.logs) × (0 < h.seats) × (h.seats ≤ 16) };
 }
 
 impl<D: Disk> HallLogs<D> {
+    /// Among how many passes each log is shared.
+    pub fn seats(&self) -> u32
+        ensures seats { result ≡ self.now.seats }
+        ensures each { EachHasItsSeats self.now }
+    {
+        self.seats
+    }
+
     // The log of a slot, of which the pass has a part.
     fn log_of(&self, pass: &LogsPass<D>, slot: u32) -> &SharedLog<D>
         requires of { ArePartsOf D.Disk self.now.logs pass.now }

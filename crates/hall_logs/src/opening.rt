@@ -20,7 +20,7 @@ ghost use Rattle.std.specs.Prelude.{
 ghost use Rattle.turn_cell.specs.Turns.{AllOf};
 ghost use Rattle.hall_logs.specs.Files.{AreOpened, AreRefusedAt, AreSameDisks};
 ghost use Rattle.hall_logs.specs.Rooms.{HasRoom};
-ghost use Rattle.hall_logs.specs.Slots.{AreAllHallPasses, AreNew};
+ghost use Rattle.hall_logs.specs.Slots.{AreAllHallPasses, AreNew, EachHasItsSeats};
 
 use crate::logs::HallLogs;
 use crate::pass::{LogsPass, MOST_LOGS};
@@ -75,7 +75,10 @@ fn open_files<D: Disk>(
     while let Some(disk) = disks.pop() {
         file += 1;
         match LogState::open_on(alloc, disk, file, limits) {
-            Ok(log) => opened.push_reserved(log),
+            Ok(log) => {
+                let _chain = log.chain();
+                opened.push_reserved(log);
+            }
             Err(LogRefusal { disk, fault }) => {
                 disks.push_reserved(disk);
                 put_back(opened, disks);
@@ -146,6 +149,7 @@ impl<D: Disk> HallLogs<D> {
         ensures logs { IfOk result (λ r. AreOpened D.Disk limits 1 disks.items
             (map (λ log. log.origin) r.0.logs)) }
         ensures seats { IfOk result (λ r. r.0.seats ≡ seats) }
+        ensures each { IfOk result (λ r. EachHasItsSeats r.0) }
         ensures passes { IfOk result (λ r. AreAllHallPasses D.Disk r.0.logs seats r.1.items) }
         ensures new { IfOk result (λ r. AreNew D.Disk r.0.logs 1 r.1.items) }
         ensures rooms { IfOk result (λ r. HasRoom r.0 r.2 × (r.2.disks ≡ vec_capacity disks)) }

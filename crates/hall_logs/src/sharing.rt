@@ -19,7 +19,7 @@ ghost use Rattle.std.specs.List.{AllZip};
 ghost use Rattle.turn_cell.specs.Turns.{AllOf};
 ghost use Rattle.hall_logs.specs.Files.{IsFresh, IsDiskOf};
 ghost use Rattle.hall_logs.specs.Rooms.{HasRoom};
-ghost use Rattle.hall_logs.specs.Slots.{AreNew, IsShared};
+ghost use Rattle.hall_logs.specs.Slots.{AreNew, EachHasItsSeats, IsShared};
 
 use crate::dealing::deal;
 use crate::logs::HallLogs;
@@ -113,6 +113,7 @@ impl<D: Disk> HallLogs<D> {
         ensures logs { IfOk result (λ r.
             map (λ log. log.origin) r.0.logs ≡ reverse opened.items) }
         ensures seats { IfOk result (λ r. r.0.seats ≡ self.seats) }
+        ensures each { IfOk result (λ r. EachHasItsSeats r.0) }
         ensures new { IfOk result (λ r. (vec_len r.1 ≡ self.seats)
             × AreNew D.Disk r.0.logs 1 r.1.items) }
         ensures rooms { IfOk result (λ r. HasRoom r.0 r.2 × (r.2.disks ≡ rooms.disks)) }
@@ -135,6 +136,7 @@ impl<D: Disk> HallLogs<D> {
             }
         }
         opened.destroy_empty();
+        let _seats = hall.seats();
         Ok((hall, passes, Rooms { lists, disks }))
     }
 }

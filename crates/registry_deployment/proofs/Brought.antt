@@ -12,12 +12,13 @@ use Rattle.turn_cell.specs.Sights.{ComesFrom}
 use Rattle.turn_cell.specs.Sharing.{HasSeen}
 use Rattle.turn_cell.specs.Knowing.{pass_number, seen_of, mine_of, failed_of}
 use Rattle.turn_cell.proofs.Ends.{all_in}
+use Rattle.turn_cell.proofs.Members.{in_either, one_of_mapped, unmapped, all_got, in_none, got_behind, place_in}
 use Rattle.shared_registry.specs.History.{RegistrySight, event_history, known_events, events_seen, shared_registry}
 use Rattle.shared_registry.proofs.Histories.{known_history}
 use Rattle.registry_deployment.specs.Calls.{HandsInEvent, EndsSo}
 use Rattle.registry_deployment.specs.History.{RegistryPassRun, UnansweredChange, RegistryRun, HasCalledOnRegistry, IsChangeUnderWay, LeavesRegistry, IsRegistryRun, registry_sights}
 use Rattle.registry_deployment.specs.Promise.{EventWasBrought, acknowledged, in_doubt, unanswered}
-use Rattle.registry_deployment.proofs.Fronts.{in_either, one_of_mapped, unmapped, all_got, in_none, got_in, got_behind, events_append, events_go_on, in_history, got_event, place_in}
+use Rattle.registry_deployment.proofs.Fronts.{got_in, events_append, events_go_on, in_history, got_event}
 use Rattle.registry_deployment.proofs.Left.{MayStandNext, from_call}
 use Rattle.registry_deployment.proofs.Calling.{amid_on, WasMade, WasFaulted, place_told, fault_told, StandsAt, StandsHandedIn, place_amid, fault_amid}
 

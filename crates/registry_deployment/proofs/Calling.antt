@@ -13,12 +13,13 @@ use Rattle.turn_cell.specs.Calls.{IsReplied}
 use Rattle.turn_cell.specs.Turns.{IsIn}
 use Rattle.turn_cell.specs.Knowing.{SeesOn, Brought, pass_number, seen_of, mine_of, failed_of}
 use Rattle.turn_cell.proofs.Views.{prefix_trans, prefix_refl}
+use Rattle.turn_cell.proofs.Members.{in_either}
 use Rattle.shared_registry.specs.History.{RegistrySight, event_entry, known_events, events_seen}
 use Rattle.shared_registry.specs.Legal.{IsRegistryTold}
 use Rattle.shared_registry.specs.Lookups.{MayWantNames}
 use Rattle.shared_registry.specs.Stays.{CalledOnRegistry}
 use Rattle.registry_deployment.specs.Calls.{HandsInEvent, EndsSo, SeenOnRegistry, IsLegalOnRegistry, AreSeenOnRegistry, HasDoneOnRegistry, nothing, brought, doubted, IsAmidOnRegistry}
-use Rattle.registry_deployment.proofs.Fronts.{in_either, got_in, got_last, events_append, events_go_on}
+use Rattle.registry_deployment.proofs.Fronts.{got_in, got_last, events_append, events_go_on}
 use Rattle.registry_deployment.proofs.Left.{from_call}
 
 -- ---- what a pass knows goes on

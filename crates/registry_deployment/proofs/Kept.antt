@@ -9,12 +9,13 @@ use Rattle.turn_cell.specs.Sharing.{HasSeen}
 use Rattle.turn_cell.specs.Knowing.{seen_of}
 use Rattle.turn_cell.proofs.Views.{prefix_trans, prefix_refl}
 use Rattle.turn_cell.proofs.Ends.{all_in}
+use Rattle.turn_cell.proofs.Members.{in_either, one_of_mapped}
 use Rattle.shared_registry.specs.History.{RegistrySight, event_history, known_events, events_seen, shared_registry}
 use Rattle.shared_registry.proofs.Histories.{known_history}
 use Rattle.registry_deployment.specs.Calls.{SeenOnRegistry}
 use Rattle.registry_deployment.specs.History.{RegistryPassRun, IsRegistryIn, RegistryRun, HasCalledOnRegistry, IsRegistryRun, AreRegistryRuns, registry_left}
 use Rattle.registry_deployment.specs.Promise.{IsGivenByEvents, EventWasBrought, KeepsRegistryPromise}
-use Rattle.registry_deployment.proofs.Fronts.{in_either, one_of_mapped, events_go_on}
+use Rattle.registry_deployment.proofs.Fronts.{events_go_on}
 use Rattle.registry_deployment.proofs.Left.{MayStandNext, one_found, run_leaves, run_begins}
 use Rattle.registry_deployment.proofs.Calling.{one_call, amid_on}
 use Rattle.registry_deployment.proofs.Brought.{run_brings, next_brought}

@@ -4,6 +4,5 @@ pub mod Calling
 pub mod Given
 pub mod Brought
 pub mod Kept
-pub mod Moments
 pub mod Shown
 pub mod Slots

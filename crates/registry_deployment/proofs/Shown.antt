@@ -1,7 +1,6 @@
 -- Who shows that a run of the server is one of a registry's life.
 use Rattle.std.proofs.Common.{◌≡◌, ℕ, List, [], ◌∷◌, Option, None, refl, sym, subst}
 use Rattle.disk_model.specs.declared.disk.Disk.{Ghosts}
-use Rattle.disk_model.specs.Past.{Past, reads}
 use Rattle.log_journal.specs.File.{Holds}
 use Rattle.registry_core.specs.Replies.{RegistryCall}
 use Rattle.registry_core.specs.Texts.{registry_payloads}
@@ -10,11 +9,11 @@ use Rattle.turn_cell.specs.Turns.{AllOf}
 use Rattle.turn_cell.specs.Sights.{Made, AreAll}
 use Rattle.turn_cell.specs.Sharing.{AreAllPassesOf, IsClosedOf}
 use Rattle.shared_registry.specs.History.{shared_registry}
+use Rattle.shared_registry.specs.Moments.{RegistryCell, IsRegistryMoment}
+use Rattle.shared_registry.proofs.Moments.{closed}
 use Rattle.registry_deployment.specs.Calls.{IsAmidOnRegistry}
 use Rattle.registry_deployment.specs.History.{RegistryPassRun, RegistryRun, HasCalledOnRegistry, LeavesRegistry, IsRegistryRun, registry_sights}
-use Rattle.registry_deployment.specs.Moments.{RegistryCell, IsRegistryMoment}
 use Rattle.registry_deployment.specs.Shown.{IsRegistryBegun, HasReturnedFromRegistry}
-use Rattle.registry_deployment.proofs.Moments.{closed}
 
 module _ {D : Type 0} (disks : Ghosts D) where
   in_none : (pass : RegistryPassRun) → pass.in_call ≡ None → IsAmidOnRegistry pass.at_stop pass.in_call pass.at_stop
@@ -30,7 +29,7 @@ module _ {D : Type 0} (disks : Ghosts D) where
   module _ (image : List ℕ) (run : RegistryRun D) (tells : disks.tells) (begun : IsRegistryBegun disks image run) where
     pub a_run : AllOf (HasCalledOnRegistry disks run.made) run.passes → AreAll run.made.seats (registry_sights run) → IsClosedOf (shared_registry disks) run.made (registry_sights run) run.registry → LeavesRegistry disks run.passes run.registry run.under_way run.image → IsRegistryRun disks image run
     a_run called there was leaves = record {
-      opened = record { holds = subst (λ (past : Past). Holds (reads past) 0 (registry_payloads run.made.origin.slots (events_in run.made.origin))) begun.begins (begun.payloads tells); registry = begun.registry };
+      opened = record { holds = subst (λ (bytes : List ℕ). Holds bytes 0 (registry_payloads run.made.origin.slots (events_in run.made.origin))) begun.begins.reads_same (begun.payloads tells); registry = begun.registry };
       settled = begun.settled;
       called = called;
       all_there = there;

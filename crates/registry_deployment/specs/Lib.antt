@@ -2,5 +2,4 @@ pub mod Calls
 pub mod History
 pub mod Promise
 pub mod Laws
-pub mod Moments
 pub mod Shown

@@ -1,7 +1,7 @@
 -- Who shows that a run of the server is one of a registry's life.
 use Rattle.std.specs.Prelude.{◌≡◌, ℕ, List, None}
 use Rattle.disk_model.specs.declared.disk.Disk.{Ghosts}
-use Rattle.disk_model.specs.Past.{began, reads}
+use Rattle.disk_model.specs.Past.{began, reads, Keeps}
 use Rattle.log_journal.specs.File.{Holds}
 use Rattle.registry_core.specs.Events.{IsRegistry}
 use Rattle.registry_core.specs.Texts.{registry_payloads}
@@ -10,16 +10,17 @@ use Rattle.turn_cell.specs.Turns.{AllOf}
 use Rattle.turn_cell.specs.Sights.{Made, AreAll}
 use Rattle.turn_cell.specs.Sharing.{IsNewPassOf, AreAllPassesOf, IsClosedOf}
 use Rattle.shared_registry.specs.History.{RegistrySight, shared_registry}
+use Rattle.shared_registry.specs.Moments.{RegistryCell, IsRegistryMoment}
 use Rattle.registry_deployment.specs.Calls.{AreSeenOnRegistry}
 use Rattle.registry_deployment.specs.History.{RegistryPassRun, RegistryRun, LeavesRegistry}
 use Rattle.registry_deployment.specs.History.{HasCalledOnRegistry, IsRegistryRun, registry_sights}
-use Rattle.registry_deployment.specs.Moments.{RegistryCell, IsRegistryMoment}
 
 module _ {D : Type 0} (disks : Ghosts D) where
-  -- the registry as it was opened, on a disk that began with the image
+  -- the registry as it was opened, on a disk that began with the image and still reads it, as any
+  -- crash leaves it
   pub record IsRegistryBegun (image : List ℕ) (run : RegistryRun D) : Type 0 where
     pub disk : D
-    pub begins : disks.past disk ≡ began image
+    pub begins : Keeps (began image) (disks.past disk)
     pub payloads : disks.tells → Holds (reads (disks.past disk)) 0
         (registry_payloads run.made.origin.slots (events_in run.made.origin))
     pub registry : IsRegistry run.made.origin.slots (events_in run.made.origin)

@@ -1,13 +1,10 @@
 //! Laws of every registry's life. These functions do nothing: their contracts are theorems.
 ghost use Rattle.registry_deployment.specs.Laws.{RegistriesKeepTheirPromise, StopsLeaveARegistry};
 ghost use Rattle.registry_deployment.specs.Laws.{SlotsAreNeverUsedAgain};
-ghost use Rattle.registry_deployment.specs.Moments.{RegistriesAreClosedAtEachMoment};
-ghost use Rattle.registry_deployment.specs.Moments.{TurnsStandAtEachMoment};
 ghost use Rattle.registry_deployment.specs.Shown.{ClosedRegistryRunsAreRuns};
 ghost use Rattle.registry_deployment.specs.Shown.{KilledRegistryRunsAreRuns};
 
 use disk_model::Disk;
-use turn_cell::Chained;
 
 /// Whatever the runs, their calls, their interleaving and their stops: there is one list of events
 /// of which every reply is one that it gives at a point, no earlier than all that its pass had
@@ -24,16 +21,6 @@ pub fn stops_leave_a_registry<D: Disk>()
 /// So a slot, by which a log's file is named, is that of one source in all runs.
 pub fn slots_are_never_used_again()
     ensures { SlotsAreNeverUsedAgain }
-{}
-
-/// Of a turn, what `close` tells holds at any moment.
-pub fn turns_stand_at_each_moment<V: Chained>()
-    ensures { TurnsStandAtEachMoment V.entries V.fault_count V.doubt V.fixed V.fits }
-{}
-
-/// So a registry and its passes at the moment of a stop are as `close` would have told.
-pub fn registries_are_closed_at_each_moment<D: Disk>()
-    ensures { RegistriesAreClosedAtEachMoment D.Disk }
 {}
 
 /// A run that was closed is one of a registry's life, by what its calls and the close ensure.

@@ -8,7 +8,6 @@
 mod laws;
 
 pub use laws::{
-    closed_registry_runs_are_runs, killed_registry_runs_are_runs,
-    registries_are_closed_at_each_moment, registries_keep_their_promise,
-    slots_are_never_used_again, stops_leave_a_registry, turns_stand_at_each_moment,
+    closed_registry_runs_are_runs, killed_registry_runs_are_runs, registries_keep_their_promise,
+    slots_are_never_used_again, stops_leave_a_registry,
 };

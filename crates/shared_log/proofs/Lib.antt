@@ -9,3 +9,4 @@ pub mod Asking
 pub mod Appending
 pub mod OnDisk
 pub mod Adding
+pub mod Moments

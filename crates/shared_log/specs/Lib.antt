@@ -6,3 +6,4 @@ pub mod Stays
 pub mod Legal
 pub mod Calls
 pub mod Laws
+pub mod Moments

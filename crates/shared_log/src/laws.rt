@@ -1,6 +1,7 @@
 //! Laws of calls on a log. These functions do nothing: their contracts are theorems.
 ghost use Rattle.shared_log.specs.Laws.{ToldIsOnDisk, StaysInSight, EachIsMade};
 ghost use Rattle.shared_log.specs.Laws.{CallsCompose, CallsAddUp};
+ghost use Rattle.shared_log.specs.Moments.{LogsAreClosedAtEachMoment};
 
 use disk_model::Disk;
 
@@ -27,4 +28,9 @@ pub fn calls_compose<D: Disk>()
 /// What many calls of a pass on one log come to together.
 pub fn calls_add_up<D: Disk>()
     ensures { (origin : _) → CallsAddUp D.Disk origin }
+{}
+
+/// A log and its passes are at any moment as `close` would tell.
+pub fn logs_are_closed_at_each_moment<D: Disk>()
+    ensures { LogsAreClosedAtEachMoment D.Disk }
 {}

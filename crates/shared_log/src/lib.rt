@@ -11,7 +11,10 @@ mod replies;
 mod shared;
 mod value;
 
-pub use laws::{calls_add_up, calls_are_made, calls_compose, stays_in_sight, told_is_on_disk};
+pub use laws::{
+    calls_add_up, calls_are_made, calls_compose, logs_are_closed_at_each_moment, stays_in_sight,
+    told_is_on_disk,
+};
 pub use replies::Fetched;
 pub use shared::{LogPass, SharedLog};
 pub use value::{LogFixed, LogList, LogWork};

@@ -3,3 +3,4 @@ mod Calling
 mod Asking
 pub mod Adding
 mod OnDisk
+pub mod Moments

@@ -4,3 +4,4 @@ pub mod Names
 pub mod Legal
 pub mod Stays
 pub mod Lookups
+pub mod Moments

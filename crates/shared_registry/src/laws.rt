@@ -8,6 +8,7 @@ ghost use Rattle.turn_cell.specs.Knowing.{Brought};
 ghost use Rattle.shared_registry.specs.History.{RegistrySight};
 ghost use Rattle.shared_registry.specs.Lookups.{RegistryLookup, IsLookupReply, AreLookups};
 ghost use Rattle.shared_registry.specs.Lookups.{RegistryAddsUp, GivesLookup};
+ghost use Rattle.shared_registry.specs.Moments.{RegistriesAreClosedAtEachMoment};
 ghost use Rattle.shared_registry.specs.Stays.{CalledOnRegistry, IsEventOnDisk};
 
 use disk_model::Disk;
@@ -39,4 +40,9 @@ pub fn lookups_compose()
 pub fn lookups_add_up()
     ensures { (slots : ℕ) (p q : RegistrySight) (asked : List RegistryLookup)
         → AreLookups slots p asked q → RegistryAddsUp p asked q }
+{}
+
+/// A registry and its passes are at any moment as `close` would tell.
+pub fn registries_are_closed_at_each_moment<D: Disk>()
+    ensures { RegistriesAreClosedAtEachMoment D.Disk }
 {}

@@ -9,7 +9,10 @@ mod names;
 mod shared;
 mod value;
 
-pub use laws::{calls_are_lookups, lookups_add_up, lookups_compose, made_is_on_disk};
+pub use laws::{
+    calls_are_lookups, lookups_add_up, lookups_compose, made_is_on_disk,
+    registries_are_closed_at_each_moment,
+};
 pub use names::{Names, RegistryPass};
 pub use shared::SharedRegistry;
 pub use value::{RegistryFixed, RegistryValue};

@@ -5,3 +5,4 @@ pub mod Sights
 pub mod Knowing
 pub mod Sharing
 pub mod Calls
+pub mod Moments

@@ -9,6 +9,7 @@ mod chained;
 mod door;
 mod give_back;
 mod held;
+mod laws;
 mod makes;
 mod plays;
 mod rule;
@@ -19,6 +20,7 @@ mod wait;
 
 pub use chained::Chained;
 pub use door::Door;
+pub use laws::turns_stand_at_each_moment;
 pub use rule::{Making, TurnRule};
 pub use turn::{Held, Pass, Turn};
 pub use view::{Known, Offered, Published, Role, Stage, TakenIn, View};

@@ -7,6 +7,7 @@
 
 mod ends;
 mod held;
+mod laws;
 mod makes;
 mod parts;
 mod plays;
@@ -15,6 +16,7 @@ mod steps;
 mod twin;
 mod waits;
 
+pub use laws::twins_stand_at_each_moment;
 pub use parts::{BackTwo, Backed, Kept, Listed};
 pub use rule::{Making, TwinRule};
 pub use twin::{HeldList, HeldWork, Twin, TwinPass};

@@ -1,6 +1,7 @@
-use Rattle.std.proofs.Common.{◌≡◌, ◌∙◌, ◌∷◌, List, length, refl, ap, arith}
-use Rattle.std.proofs.lemmas.Result.{IfErr-weaker}
+use Rattle.std.proofs.Common.{◌≡◌, ◌∙◌, ◌∷◌, List, length, refl, sym, ap, subst, arith}
+use Rattle.std.proofs.lemmas.Result.{IfErr-weaker, IfOk-weaker}
 use Rattle.log_base.specs.declared.limits.TheConstants.{LOG_LIMITS}
+use Rattle.hall_logs.specs.Slots.{EachHasItsSeats}
 use Rattle.hall_logs.proofs.Opens.{left_same, left_still}
 use Rattle.delta_session.specs.Opening.{WasOpened, wanting, hall_fault_of_log}
 use Rattle.delta_session.specs.declared.fault.HallFault.TheVariants as hall
@@ -28,6 +29,9 @@ refused-requires-in-Err g c =
     let e = c.in-Err.ensures in
     let after = c.in-Err.field-0.disks in
     omega (arith, after.ok.0, e.room, refused_count g.D.Disk LOG_LIMITS c.args.disks.items after.items c.in-Err.field-0.file c.in-Err.field-0.fault e.refused e.want, c.args.disks.ok.0, c.requires.room)
+
+pub returns-in-Ok-open_on-clause-each : goal.returns-in-Ok-open_on-clause-each
+returns-in-Ok-open_on-clause-each g c = IfOk-weaker c.share.result _ _ (λ r lists. subst EachHasItsSeats (sym lists.1) c.in-Ok-open_on.ensures.each) c.share.ensures.lists
 
 pub returns-in-Ok-open_on-clause-refused : goal.returns-in-Ok-open_on-clause-refused
 returns-in-Ok-open_on-clause-refused g c = λ disk opened.

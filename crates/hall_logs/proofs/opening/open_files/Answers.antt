@@ -15,6 +15,7 @@ loop-disk-preserved g c =
       file = e.payloads;
       sound = e.log;
       by_nobody = e.by_nobody;
+      whole = c.chain-chain.ensures.whole;
       settled = e.settled;
       reopened = e.reopened;
     } in

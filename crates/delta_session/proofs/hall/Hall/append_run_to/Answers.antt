@@ -1,7 +1,7 @@
 use Rattle.std.proofs.Common.{[], refl, subst, None}
 use Rattle.patch_log.specs.declared.run.RunFault.TheVariants as fault
 use Rattle.rpc_answers.specs.declared.answer.Answer.{Answer}
-use Rattle.chain_core.specs.Replies.{append_run, as_run}
+use Rattle.chain_core.specs.Replies.{append_run}
 use Rattle.patch_log.specs.Opening.{IsRunRead}
 use Rattle.delta_session.specs.Answered.{ByRun, IsRunFault, Says}
 use Rattle.delta_session.specs.Steps.{HallView, HallSight}
@@ -16,7 +16,7 @@ returns-in-Ok-clause-takes g c =
     let before : HallSight = record { lists = record { registry = c.pass.inside.registry; logs = c.pass.inside.logs }; dice = c.pass.inside.dice } in
     let after : HallSight = record { lists = record { registry = c.pass.inside.registry; logs = c.append-answer.new.pass }; dice = c.pass.inside.dice } in
     moved g.D.Disk c.args.self.now hall c.self.view_is c.args.pass.now before c.pass.view_is (ByRun c.args.text c.args.slot) c.say.result after
-    (takes_text g.D.Disk hall before c.append-answer.new.pass c.args.slot (IsRunRead c.args.text) append_run (IsRunFault c.args.text) run_answer c.in-Ok.run' c.as_run.result c.say.result c.in-Ok.ensures.ok (rw (c.as_run.ensures, c.count-count.ensures.count) c.append-answer.ensures.called)
+    (takes_text g.D.Disk hall before c.append-answer.new.pass c.args.slot (IsRunRead c.args.text) append_run (IsRunFault c.args.text) run_answer c.in-Ok.run' c.as_run.result c.say.result c.in-Ok.ensures.ok (rw (c.as_run.ensures, c.count-count.ensures.count) c.append-answer.ensures.called) c.append-answer.ensures.whole
     (subst (λ (a : Answer). Says a None c.say.result) c.append_answer.ensures c.say.ensures.says))
 
 pub returns-in-Ok-clause-ready : goal.returns-in-Ok-clause-ready

@@ -17,7 +17,7 @@ returns-in-Ok-clause-takes g c =
     let after : HallSight = record { lists = record { registry = c.pass.inside.registry; logs = c.append-answer.new.pass }; dice = c.pass.inside.dice } in
     let read = c.in-Ok.ensures.ok in
     moved g.D.Disk c.args.self.now hall c.self.view_is c.args.pass.now before c.pass.view_is (ByPatch c.args.text c.args.slot) c.say.result after
-    (takes_text g.D.Disk hall before c.append-answer.new.pass c.args.slot (IsPatchOf c.args.text) append_of (IsPatchFault c.args.text) patch_answer c.in-Ok.ensures.ok.patch c.append-answer.result c.say.result (read.text_is, read.is_patch) (c.append-answer.ensures.alone (bare c.in-Ok.ensures.ok.patch) c.in-Ok.ensures.ok.run_is)
+    (takes_text g.D.Disk hall before c.append-answer.new.pass c.args.slot (IsPatchOf c.args.text) append_of (IsPatchFault c.args.text) patch_answer c.in-Ok.ensures.ok.patch c.append-answer.result c.say.result (read.text_is, read.is_patch) (c.append-answer.ensures.alone (bare c.in-Ok.ensures.ok.patch) c.in-Ok.ensures.ok.run_is) c.append-answer.ensures.whole
     (subst (λ (a : Answer). Says a None c.say.result) c.append_answer.ensures c.say.ensures.says))
 
 pub returns-in-Ok-clause-ready : goal.returns-in-Ok-clause-ready

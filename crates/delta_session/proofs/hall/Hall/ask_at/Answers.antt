@@ -15,7 +15,7 @@ returns-in-Describe-clause-takes g c =
     let after : HallSight = record { lists = record { registry = c.pass.inside.registry; logs = c.describe-version.new.pass }; dice = c.pass.inside.dice } in
     subst (λ (call : SlotCall). TakesNoNumber g.D.Disk c.args.self.now (BySlot call c.args.slot) c.args.pass.now c.say.result after) (sym c.in-Describe.is)
     (moved g.D.Disk c.args.self.now hall c.self.view_is c.args.pass.now before c.pass.view_is (ByLog c.args.slot (log.describe)) c.say.result after
-    (takes_visit g.D.Disk hall before c.describe-version.new.pass c.args.slot log.describe (log.described c.describe-version.result.version c.describe-version.result.head) c.say.result c.describe-version.ensures.called c.say.ensures.says))
+    (takes_visit g.D.Disk hall before c.describe-version.new.pass c.args.slot log.describe (log.described c.describe-version.result.version c.describe-version.result.head) c.say.result c.describe-version.ensures.called c.describe-version.ensures.whole c.say.ensures.says))
 
 pub returns-in-Describe-clause-ready : goal.returns-in-Describe-clause-ready
 returns-in-Describe-clause-ready g c =
@@ -29,7 +29,7 @@ returns-in-Version-clause-takes g c =
     let after : HallSight = record { lists = record { registry = c.pass-in-Version.inside.registry; logs = c.version-version.new.pass }; dice = c.pass-in-Version.inside.dice } in
     subst (λ (call : SlotCall). TakesNoNumber g.D.Disk c.args.self.now (BySlot call c.args.slot) c.args.pass.now c.say-in-Version.result after) (sym c.in-Version.is)
     (moved g.D.Disk c.args.self.now hall c.self.view_is c.args.pass.now before c.pass-in-Version.view_is (ByLog c.args.slot (log.version)) c.say-in-Version.result after
-    (takes_visit g.D.Disk hall before c.version-version.new.pass c.args.slot log.version (log.counted c.version-version.result) c.say-in-Version.result c.version-version.ensures.called c.say-in-Version.ensures.says))
+    (takes_visit g.D.Disk hall before c.version-version.new.pass c.args.slot log.version (log.counted c.version-version.result) c.say-in-Version.result c.version-version.ensures.called c.version-version.ensures.whole c.say-in-Version.ensures.says))
 
 pub returns-in-Version-clause-ready : goal.returns-in-Version-clause-ready
 returns-in-Version-clause-ready g c =
@@ -44,7 +44,7 @@ returns-in-FetchVersion-clause-takes g c =
     subst (λ (call : SlotCall). TakesNoNumber g.D.Disk c.args.self.now (BySlot call c.args.slot) c.args.pass.now c.say_fetched.result after) (sym c.in-FetchVersion.is)
     (subst (λ (n : ℕ). TakesNoNumber g.D.Disk c.args.self.now (ByLog c.args.slot (log.fetch_version n)) c.args.pass.now c.say_fetched.result after) c.within.ensures
     (moved g.D.Disk c.args.self.now hall c.self.view_is c.args.pass.now before c.pass-in-FetchVersion.view_is (ByLog c.args.slot (log.fetch_version c.within.result)) c.say_fetched.result after
-    (takes_fetched g.D.Disk hall before c.fetch_version.new.pass c.args.slot (λ (reply : Fetched). reply_fetched reply) (log.fetch_version c.within.result) c.fetch_version.result c.say_fetched.result tt c.fetch_version.ensures.called c.fetch_version.ensures.want c.say_fetched.ensures.says c.say_fetched.ensures.want)))
+    (takes_fetched g.D.Disk hall before c.fetch_version.new.pass c.args.slot (λ (reply : Fetched). reply_fetched reply) (log.fetch_version c.within.result) c.fetch_version.result c.say_fetched.result tt c.fetch_version.ensures.called c.fetch_version.ensures.want c.fetch_version.ensures.whole c.say_fetched.ensures.says c.say_fetched.ensures.want)))
 
 pub returns-in-FetchVersion-clause-ready : goal.returns-in-FetchVersion-clause-ready
 returns-in-FetchVersion-clause-ready g c =
@@ -58,7 +58,7 @@ returns-in-FetchId-clause-takes g c =
     let after : HallSight = record { lists = record { registry = c.pass-in-FetchId.inside.registry; logs = c.fetch_id.new.pass }; dice = c.pass-in-FetchId.inside.dice } in
     subst (λ (call : SlotCall). TakesNoNumber g.D.Disk c.args.self.now (BySlot call c.args.slot) c.args.pass.now c.say_fetched-in-FetchId.result after) (sym c.in-FetchId.is)
     (moved g.D.Disk c.args.self.now hall c.self.view_is c.args.pass.now before c.pass-in-FetchId.view_is (ByLog c.args.slot (log.fetch_id c.in-FetchId.id)) c.say_fetched-in-FetchId.result after
-    (takes_fetched g.D.Disk hall before c.fetch_id.new.pass c.args.slot (λ (reply : Fetched). reply_fetched reply) (log.fetch_id c.in-FetchId.id) c.fetch_id.result c.say_fetched-in-FetchId.result tt c.fetch_id.ensures.called c.fetch_id.ensures.want c.say_fetched-in-FetchId.ensures.says c.say_fetched-in-FetchId.ensures.want))
+    (takes_fetched g.D.Disk hall before c.fetch_id.new.pass c.args.slot (λ (reply : Fetched). reply_fetched reply) (log.fetch_id c.in-FetchId.id) c.fetch_id.result c.say_fetched-in-FetchId.result tt c.fetch_id.ensures.called c.fetch_id.ensures.want c.fetch_id.ensures.whole c.say_fetched-in-FetchId.ensures.says c.say_fetched-in-FetchId.ensures.want))
 
 pub returns-in-FetchId-clause-ready : goal.returns-in-FetchId-clause-ready
 returns-in-FetchId-clause-ready g c =

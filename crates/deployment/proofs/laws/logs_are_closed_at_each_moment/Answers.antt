@@ -1,5 +1,0 @@
-use Rattle.deployment.proofs.Moments.{closed}
-use Rattle.deployment.proofs.laws.logs_are_closed_at_each_moment.Goals as goal
-
-pub returns : goal.returns
-returns g c = λ made log passes s moment. closed _ made log passes s moment

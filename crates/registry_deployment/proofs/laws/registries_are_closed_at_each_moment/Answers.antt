@@ -1,5 +1,0 @@
-use Rattle.registry_deployment.proofs.Moments.{closed}
-use Rattle.registry_deployment.proofs.laws.registries_are_closed_at_each_moment.Goals as goal
-
-pub returns : goal.returns
-returns g c = λ made registry passes s moment. closed _ made registry passes s moment

@@ -1,5 +1,0 @@
-use Rattle.registry_deployment.proofs.Moments.{at_moment}
-use Rattle.registry_deployment.proofs.laws.turns_stand_at_each_moment.Goals as goal
-
-pub returns : goal.returns
-returns g c = λ origin value seats s holds lies. at_moment _ _ _ _ _ origin seats s holds value lies
