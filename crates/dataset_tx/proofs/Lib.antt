@@ -10,3 +10,5 @@ pub mod Rowed
 pub mod Rows
 pub mod Settling
 pub mod Finding
+pub mod Containing
+pub mod Valued

@@ -1,9 +1,9 @@
 -- Prefixes at the bytes of their rows, over plain variables.
-use Rattle.std.proofs.Common.{◌≡◌, ℕ, Bool, false, cond, List, [], ◌∷◌, length, Option, None, Some, refl, sym, ap, subst, ◌∙◌}
+use Rattle.std.proofs.Common.{◌≡◌, ℕ, Bool, false, cond, ◌||◌, List, [], ◌∷◌, length, Option, None, Some, refl, sym, ap, subst, ◌∙◌}
 use mathlib.Core.Bool.{true≢false}
 use Rattle.std.specs.declared.cmp.Ordering.{Ordering}
 use Rattle.std.specs.declared.cmp.Ordering.TheVariants.{Less, Equal, Greater}
-use Rattle.std.specs.Option.{is_some}
+use Rattle.std.specs.Option.{is_some, unwrap_or}
 use Rattle.std.specs.Ordering.{nat_cmp, is_eq, match_ordering}
 use Rattle.std.specs.Cmp.Lexicographic.{slice_cmp, nat_list_cmp_total}
 use Rattle.std.specs.List.{AllByRecursion}
@@ -14,7 +14,7 @@ use Rattle.std.proofs.lemmas.Map.Keys.{sorted_head, sorted_tail}
 use Rattle.std.proofs.lemmas.Map.Lookups.{exact_bytes}
 use Rattle.rdf_terms.specs.Dataset.{PrefixKey, prefix_cmp}
 use Rattle.dataset_tx.specs.declared.prefixes.PrefixEntry.{PrefixEntry}
-use Rattle.dataset_tx.specs.Prefixes.{PrefixRow, RowBytes, bytes_cmp, row_cmp, at_bytes, has_row, row_bytes, StandsAt, setting, with_entry, settings_by, settings, set_to}
+use Rattle.dataset_tx.specs.Prefixes.{PrefixRow, RowBytes, bytes_cmp, row_cmp, at_bytes, has_row, row_bytes, StandsAt, AreRows, setting, with_entry, settings_by, settings, set_to, has_prefix}
 
 pub nothing_left : {X : Type 0} (l : List X) → length l ≡ 0 → l ≡ []
 nothing_left [] e = refl
@@ -24,7 +24,7 @@ nothing_left (x ∷ l) e = cc
 abbrev pub Stand : (PrefixRow → Option PrefixEntry) → List PrefixRow → Type 0
 Stand read rows = AllByRecursion (λ row. StandsAt row.0.items (read row)) rows
 
-abbrev AreAbove : PrefixKey → List (PrefixKey × List ℕ) → Type 0
+abbrev pub AreAbove : PrefixKey → List (PrefixKey × List ℕ) → Type 0
 AreAbove key settings = AllByRecursion (λ s. prefix_cmp key s.0 ≡ Less) settings
 
 -- no row has bytes that are below the first
@@ -37,9 +37,9 @@ none_above bytes row (x ∷ rows) e h =
 
 module _ (bytes : List ℕ) (key : PrefixKey) (is : bytes ≡ row_bytes key) where
   cmp_is : (row : PrefixRow) (entry : PrefixEntry) → StandsAt row.0.items (Some entry) → prefix_cmp key (setting entry).0 ≡ bytes_cmp bytes row.0
-  cmp_is row entry at = ap (λ (b : List ℕ). slice_cmp nat_cmp b (row_bytes (setting entry).0)) (sym is) ∙ ap (slice_cmp nat_cmp bytes) (sym at)
+  cmp_is row entry at = ap (λ (b : List ℕ). slice_cmp nat_cmp b (row_bytes (setting entry).0)) (sym is) ∙ ap (slice_cmp nat_cmp bytes) (sym at.0)
 
-  above : (read : PrefixRow → Option PrefixEntry) (rows : List PrefixRow) → Stand read rows → AllByRecursion (λ row. bytes_cmp bytes row ≡ Less) (keys_of rows) → AreAbove key (settings_by read rows)
+  pub above : (read : PrefixRow → Option PrefixEntry) (rows : List PrefixRow) → Stand read rows → AllByRecursion (λ row. bytes_cmp bytes row ≡ Less) (keys_of rows) → AreAbove key (settings_by read rows)
   above read [] st h = tt
   above read (row ∷ rows) st h = by (read row) st.0 (above read rows st.1 h.1)
     where
@@ -137,3 +137,30 @@ module _ (bytes : List ℕ) (read read' : PrefixRow → Option PrefixEntry) (agr
         by Equal e same =
             ap (λ (o : Option PrefixEntry). with_entry o (settings_by read' rows)) (here row e) ∙ same_above rows (above_equal row rows s e) ∙ gone_here (read row) e st.0
         by Greater e same = later Greater e refl same
+
+-- ---- whether a prefix is set
+
+module _ (bytes : List ℕ) (key : PrefixKey) (is : bytes ≡ row_bytes key) where
+  none_set : (l : List (PrefixKey × List ℕ)) → AreAbove key l → has_prefix l key ≡ false
+  none_set [] h = refl
+  none_set (s ∷ l) h = ap (λ (o : Ordering). is_eq o || has_prefix l key) h.0 ∙ none_set l h.1
+
+  -- it is where something stands at its row
+  pub set_there : (rows : List PrefixRow) → AreRows rows → IsStrictlySortedBy row_cmp (keys_of rows) → is_some (unwrap_or (at_bytes bytes rows) None) ≡ has_prefix (settings rows) key
+  set_there [] st s = refl
+  set_there (row ∷ rows) st s = by (bytes_cmp bytes row.0) refl (set_there rows st.1 (sorted_tail row_cmp row.0 (keys_of rows) s))
+    where
+      here : (o : Option PrefixEntry) → bytes_cmp bytes row.0 ≡ Equal → StandsAt row.0.items o → is_some o ≡ has_prefix (with_entry o (settings rows)) key
+      here None e at =
+          sym (none_set (settings rows) (above bytes key is (λ row. row.1) rows st.1 (above_equal bytes (λ row. row.1) (λ row. row.1) (λ row e. refl) row rows s e)))
+      here (Some entry) e at = sym (ap (λ (o : Ordering). is_eq o || has_prefix (settings rows) key) (cmp_is bytes key is row entry at ∙ e))
+
+      past : (found : Bool) (o : Option PrefixEntry) (r : Ordering) → bytes_cmp bytes row.0 ≡ r → is_eq r ≡ false → StandsAt row.0.items o → found ≡ has_prefix (settings rows) key → found ≡ has_prefix (with_entry o (settings rows)) key
+      past found None r e ne at same = same
+      past found (Some entry) r e ne at same = same ∙ sym (ap (λ (b : Bool). b || has_prefix (settings rows) key) (ap is_eq (cmp_is bytes key is row entry at ∙ e) ∙ ne))
+
+      by : (r : Ordering) → bytes_cmp bytes row.0 ≡ r → is_some (unwrap_or (at_bytes bytes rows) None) ≡ has_prefix (settings rows) key
+          → is_some (unwrap_or (cond (is_eq r) (Some row.1) (at_bytes bytes rows)) None) ≡ has_prefix (with_entry row.1 (settings rows)) key
+      by Less e same = past (is_some (unwrap_or (at_bytes bytes rows) None)) row.1 Less e refl st.0 same
+      by Equal e same = here row.1 e st.0
+      by Greater e same = past (is_some (unwrap_or (at_bytes bytes rows) None)) row.1 Greater e refl st.0 same

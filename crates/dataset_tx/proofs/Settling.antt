@@ -15,6 +15,7 @@ use Rattle.std.specs.Map.Iter.{deref}
 use Rattle.std.proofs.lemmas.List.{map-append}
 use Rattle.std.proofs.lemmas.Map.Keys.{sorted_head, sorted_tail}
 use Rattle.std.proofs.lemmas.Map.Lookups.{exact_bytes}
+use Rattle.net_changes.specs.Values.{IsPrefixValue}
 use Rattle.rdf_terms.specs.Dataset.{PrefixKey, prefix_cmp}
 use Rattle.dataset_tx.specs.declared.prefixes.PrefixEntry.{PrefixEntry}
 use Rattle.rdf_terms.specs.declared.change.Change.{Change}
@@ -169,9 +170,9 @@ pub stage_none : (rows staged : List PrefixRow) (bytes : List ℕ) (key : Prefix
 stage_none rows staged bytes key h is n = no_row bytes key is (becomes staged) rows (all_become staged rows h.staged_stand h.stand) n
 
 -- what is set has the bytes of its row
-pub set_stands : (key : PrefixKey) (iri bytes : List ℕ) (was : Option PrefixEntry) → bytes ≡ row_bytes key → StandsAt bytes was → StandsAt bytes (Some (set_to key iri was))
-set_stands key iri bytes None is at = is
-set_stands key iri bytes (Some entry) is at = at
+pub set_stands : (key : PrefixKey) (iri bytes : List ℕ) (was : Option PrefixEntry) → bytes ≡ row_bytes key → IsPrefixValue key → StandsAt bytes was → StandsAt bytes (Some (set_to key iri was))
+set_stands key iri bytes None is value at = (is, value)
+set_stands key iri bytes (Some entry) is value at = at
 
 found_stands : (bytes : List ℕ) (rows : List PrefixRow) (o : Option (Option PrefixEntry)) → AreRows rows → at_bytes bytes rows ≡ o → StandsAt bytes (unwrap_or o None)
 found_stands bytes [] None st e = tt

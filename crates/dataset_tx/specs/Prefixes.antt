@@ -5,11 +5,12 @@ use Rattle.std.specs.Option.{unwrap_or, is_some}
 use Rattle.std.specs.Ordering.{nat_cmp}
 use Rattle.std.specs.declared.cmp.Ordering.{Ordering}
 use Rattle.std.specs.Cmp.Lexicographic.{slice_cmp}
-use Rattle.std.specs.List.{AllByRecursion}
+use Rattle.std.specs.List.{AllByRecursion, list_any}
 use Rattle.std.specs.List.Sorted.{IsStrictlySortedBy}
 use Rattle.std.specs.BTreeMap.{is_at, insert_entry}
 use Rattle.std.specs.Map.{keys_of, lookup, remove_entry}
-use Rattle.rdf_terms.specs.Dataset.{PrefixKey}
+use Rattle.net_changes.specs.Values.{IsPrefixValue}
+use Rattle.rdf_terms.specs.Dataset.{PrefixKey, prefix_cmp}
 use Rattle.rdf_terms.specs.Line.{quoted, graph_text}
 use Rattle.rdf_terms.specs.declared.change.Change.{Change}
 use Rattle.rdf_terms.specs.declared.change.Change.TheVariants.{PrefixAdd}
@@ -23,6 +24,10 @@ pub record StagedPrefixes : Type 0 where
 -- the change that sets a prefix
 abbrev pub prefix_change : PrefixKey × List ℕ → Change
 prefix_change s = PrefixAdd s.0.1 s.1 s.0.0
+
+-- whether a prefix of a graph is set
+abbrev pub has_prefix : List (PrefixKey × List ℕ) → PrefixKey → Bool
+has_prefix settings key = list_any (λ s. is_at (prefix_cmp key) s.0) settings
 
 -- ---- rows
 
@@ -50,10 +55,11 @@ has_row rows bytes = is_some (at_bytes bytes rows)
 abbrev pub row_bytes : PrefixKey → List ℕ
 row_bytes key = quoted key.1 ++ graph_text key.0
 
--- something that stands at a row has its bytes
+-- something that stands at a row has its bytes, and is a prefix that a row can have
 abbrev pub StandsAt : List ℕ → Option PrefixEntry → Type 0
 StandsAt bytes None = Unit {0}
-StandsAt bytes (Some entry) = bytes ≡ row_bytes (entry.graph, entry.prefix)
+StandsAt bytes (Some entry) = (bytes ≡ row_bytes (entry.graph, entry.prefix))
+    × IsPrefixValue (entry.graph, entry.prefix)
 
 abbrev pub AreRows : List PrefixRow → Type 0
 AreRows rows = AllByRecursion (λ row. StandsAt row.0.items row.1) rows
@@ -92,6 +98,12 @@ becomes staged row = unwrap_or (at_bytes row.0.items staged) row.1
 
 abbrev pub next_settings : List PrefixRow → List PrefixRow → List (PrefixKey × List ℕ)
 next_settings staged rows = settings_by (becomes staged) rows
+
+-- the IRI of what stands at a row, if anything does
+abbrev pub iri_in : Option (Option PrefixEntry) → Option (List ℕ)
+iri_in None = None
+iri_in (Some None) = None
+iri_in (Some (Some entry)) = Some entry.iri
 
 -- what is to stand at some bytes
 abbrev pub standing : List PrefixRow → List PrefixRow → List ℕ → Option PrefixEntry

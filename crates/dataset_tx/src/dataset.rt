@@ -1,24 +1,26 @@
 //! The dataset as its callers see it.
 ghost use Rattle.std.specs.Prelude.{◌≡◌, ◌+◌, ◌≤◌, [], Some, None, length};
-ghost use Rattle.std.specs.Prelude.{map, IfOk, OnOk, OnErr, IsErrOf, IsSome};
+ghost use Rattle.std.specs.Prelude.{map, option_copied, IfOk, OnOk, OnErr, IsErrOf, IsSome};
 ghost use Rattle.std.specs.List.{filter};
 ghost use Rattle.std.specs.List.Sorted.{IsPermutation, IsSorted};
+ghost use Rattle.net_changes.specs.Keys.{has_quad, iri_of};
+ghost use Rattle.net_changes.specs.Values.{IsDatasetValue};
 ghost use Rattle.rdf_terms.specs.Dataset.{apply as applied, empty};
 ghost use Rattle.rdf_terms.specs.Line.{line};
 ghost use Rattle.term_table.specs.Table.{most};
 ghost use Rattle.dataset_tx.specs.declared.dataset.DataFault.TheVariants as fault;
 ghost use Rattle.dataset_tx.specs.Held.{AreMet, AreMore};
 ghost use Rattle.dataset_tx.specs.Pattern.{matches};
-ghost use Rattle.dataset_tx.specs.Prefixes.{prefix_change};
+ghost use Rattle.dataset_tx.specs.Prefixes.{has_prefix, prefix_change};
 ghost use Rattle.dataset_tx.specs.Rows.{change_cmp, rows_in_order};
 
 use crate::pattern::Pattern;
 use crate::store::Store;
-use delta_base::OutOfMemory;
+use delta_base::{OutOfMemory, Text};
 use line_log::MadeLines;
 use quad_index::Steps;
 use quad_keys::{in_line_order, lines};
-use rdf_terms::{Changes, Quads};
+use rdf_terms::{Changes, Iri, Quad, Quads, Term};
 use std::alloc::Global;
 use std::marker::Model;
 use std::sync::ledger::Ledger;
@@ -130,6 +132,31 @@ impl Dataset {
         self.is_staged = false;
     }
 
+    /// Each quad and each prefix of the contents is one that a row can have, and they rise. It only
+    /// says so.
+    pub fn contents_are_values(&self)
+        ensures { IsDatasetValue self.now.contents }
+    {
+        self.store.contents_are_values();
+    }
+
+    /// Whether a quad is there. Takes no memory.
+    pub fn contains(&self, quad: &Quad) -> bool
+        requires { self.now.staged ≡ None }
+        ensures { result ≡ has_quad self.now.contents quad.now }
+    {
+        self.store.contains(quad)
+    }
+
+    /// The IRI that a prefix has in a graph or in the default graph.
+    pub fn iri_of(&self, prefix: &Text, graph: &Option<Term>) -> Result<Option<&Iri>, OutOfMemory>
+        requires { self.now.staged ≡ None }
+        ensures { IfOk result (λ iri.
+            option_copied iri ≡ iri_of self.now.contents (graph.now, prefix.now)) }
+    {
+        self.store.prefixes.iri_of(prefix, graph)
+    }
+
     /// The quads, in the order of their lines.
     pub fn quads(&self) -> Result<Quads, OutOfMemory>
         requires { self.now.staged ≡ None }
@@ -152,6 +179,14 @@ impl Dataset {
             &self.store.terms,
             self.store.quads.index().all()?,
         )
+    }
+
+    /// Whether a prefix of a graph is set.
+    pub fn has_prefix(&self, prefix: &Text, graph: &Option<Term>) -> Result<bool, OutOfMemory>
+        ensures { IfOk result
+            (λ has. has ≡ has_prefix self.now.contents.prefixes (graph.now, prefix.now)) }
+    {
+        self.store.prefixes.has(prefix, graph)
     }
 
     /// The changes that set the prefixes, in the order of their rows.

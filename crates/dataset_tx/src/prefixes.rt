@@ -1,16 +1,19 @@
 //! The prefixes of a dataset.
 ghost use Rattle.std.specs.Prelude.{◌≡◌, ◌++◌, [], List, true, false, map};
-ghost use Rattle.std.specs.Prelude.{IfOk, OnOk, OnErr, option_copied};
+ghost use Rattle.std.specs.Prelude.{IfOk, OnOk, OnErr, None, option_copied};
+ghost use Rattle.std.specs.Option.{is_some, unwrap_or};
 ghost use Rattle.std.specs.BTreeMap.{is_at, insert_entry};
-ghost use Rattle.std.specs.Map.{keys_of, remove_entry};
+ghost use Rattle.std.specs.Map.{keys_of, lookup, remove_entry};
 ghost use Rattle.std.specs.Cmp.Lexicographic.{slice_cmp};
-ghost use Rattle.std.specs.List.{All};
+ghost use Rattle.std.specs.List.{All, AllByRecursion};
 ghost use Rattle.std.specs.List.Sorted.{IsPermutation, IsSorted, IsStrictlySortedBy};
 ghost use Rattle.std.specs.Ordering.{nat_cmp};
+ghost use Rattle.net_changes.specs.Values.{IsPrefixValue};
 ghost use Rattle.rdf_terms.specs.Dataset.{prefix_cmp};
 ghost use Rattle.dataset_tx.specs.Prefixes.{PrefixRow, RowBytes, prefix_change, row_bytes};
+ghost use Rattle.dataset_tx.specs.Prefixes.{has_prefix};
 ghost use Rattle.dataset_tx.specs.Prefixes.{row_cmp, has_row, at_bytes, AreRows};
-ghost use Rattle.dataset_tx.specs.Prefixes.{AreStagedRows, setting, with_entry, settings};
+ghost use Rattle.dataset_tx.specs.Prefixes.{AreStagedRows, iri_in, setting, with_entry, settings};
 ghost use Rattle.dataset_tx.specs.Prefixes.{next_settings, standing, set_to, settled};
 ghost use Rattle.dataset_tx.specs.Rows.{change_cmp, rows_added, rows_in_order, HasItsRow};
 
@@ -109,6 +112,32 @@ impl PrefixMap {
         give_back_all(&mut self.rows, &mut self.staged);
     }
 
+    /// Whether a prefix of a graph is set.
+    pub fn has(&self, prefix: &Text, graph: &Option<Term>) -> Result<bool, OutOfMemory>
+        ensures { IfOk result
+            (λ has. has ≡ has_prefix self.now.contents (graph.now, prefix.now)) }
+    {
+        let row = row_of(self.alloc, prefix, graph)?;
+        Ok(is_taken(&self.rows, row.as_slice()))
+    }
+
+    /// The IRI that a prefix of a graph has.
+    pub fn iri_of(&self, prefix: &Text, graph: &Option<Term>) -> Result<Option<&Iri>, OutOfMemory>
+        ensures { IfOk result (λ iri. option_copied iri
+            ≡ lookup (is_at (prefix_cmp (graph.now, prefix.now))) self.now.contents) }
+    {
+        let row = row_of(self.alloc, prefix, graph)?;
+        Ok(iri_at(&self.rows, row.as_slice()))
+    }
+
+    /// Each prefix of the contents is one that a row can have, and they rise. It only says so.
+    pub fn are_values(&self)
+        ensures each { AllByRecursion IsPrefixValue (keys_of self.now.contents) }
+        ensures rise { IsStrictlySortedBy prefix_cmp (keys_of self.now.contents) }
+    {
+        let _rows = &self.rows;
+    }
+
     // The changes that set the contents, each with its row.
     fn rows(&self) -> Result<Vec<(Text, Change)>, OutOfMemory>
         ensures changes { IfOk result (λ rows.
@@ -160,14 +189,38 @@ fn changes_of(alloc: Global, rows: Vec<(Text, Change)>) -> Result<Vec<Change>, O
     Ok(rows.into_iter().map(|(_, change)| change).collect(alloc)?)
 }
 
+// The IRI that stands at a row.
+fn iri_at<'a>(rows: &'a Rows, row: &[u8]) -> Option<&'a Iri>
+    ensures { option_copied result ≡ iri_in (at_bytes row.now rows.now.entries) }
+{
+    match rows.get(row) {
+        Some(entry) => match entry {
+            Some(entry) => Some(&entry.iri),
+            None => None,
+        },
+        None => None,
+    }
+}
+
 // The bytes of a prefix and its graph, as a row writes them.
 fn row_of(alloc: Global, prefix: &Text, graph: &Option<Term>) -> Result<Vec<u8>, OutOfMemory>
-    ensures { IfOk result (λ row. row.items ≡ row_bytes (graph.now, prefix.now)) }
+    ensures bytes { IfOk result (λ row. row.items ≡ row_bytes (graph.now, prefix.now)) }
+    ensures value { OnOk result (IsPrefixValue (graph.now, prefix.now)) }
 {
     let mut row = Vec::new(alloc);
     push_quoted(&mut row, prefix.as_bytes())?;
     push_graph(&mut row, graph)?;
     Ok(row)
+}
+
+// Whether something stands at a row.
+fn is_taken(rows: &Rows, row: &[u8]) -> bool
+    ensures { result ≡ is_some (unwrap_or (at_bytes row.now rows.now.entries) None) }
+{
+    match rows.get(row) {
+        Some(Some(_)) => true,
+        _ => false,
+    }
 }
 
 fn set_row(
@@ -180,6 +233,7 @@ fn set_row(
 ) -> Result<(), OutOfMemory>
     requires rows { AreStagedRows rows.old.entries staged.old.entries }
     requires row { row.items ≡ row_bytes (graph.now, prefix.now) }
+    requires value { IsPrefixValue (graph.now, prefix.now) }
     ensures rows { AreStagedRows rows.new.entries staged.new.entries }
     ensures contents { settings rows.new.entries ≡ settings rows.old.entries }
     ensures ok { OnOk result

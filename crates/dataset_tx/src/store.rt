@@ -1,6 +1,8 @@
 //! What a dataset keeps: its terms, their quads and its prefixes, with what is staged beside them.
 ghost use Rattle.std.specs.Prelude.{◌≡◌, ◌+◌, ◌≤◌, [], length, map, IfOk, OnOk, IsErrOf};
 ghost use Rattle.std.specs.List.{filter};
+ghost use Rattle.net_changes.specs.Keys.{has_quad};
+ghost use Rattle.net_changes.specs.Values.{IsDatasetValue};
 ghost use Rattle.rdf_terms.specs.Dataset.{effect, effects, empty, kept};
 ghost use Rattle.rdf_terms.specs.declared.change.Change.TheVariants.{Add, Delete};
 ghost use Rattle.rdf_terms.specs.Line.{line};
@@ -157,6 +159,28 @@ impl Store {
     {
         self.quads.give_up();
         self.prefixes.give_up();
+    }
+
+    /// Each quad and each prefix of the contents is one that a row can have, and they rise. It only
+    /// says so.
+    pub fn contents_are_values(&self)
+        requires { IsStore self.now }
+        ensures { IsDatasetValue (contents_of self.now) }
+    {
+        self.prefixes.are_values();
+    }
+
+    /// Whether a quad is there.
+    pub fn contains(&self, quad: &Quad) -> bool
+        requires store { IsStore self.now }
+        requires settled { IsSettled self.now }
+        ensures { result ≡ has_quad (contents_of self.now) quad.now }
+    {
+        quad_is_value(quad);
+        match find_quad(&self.terms, quad) {
+            Some(key) => self.quads.index().contains(&key),
+            None => false,
+        }
     }
 
     // The keys of the quads that match. A step is a key looked at.

@@ -20,8 +20,9 @@ use Rattle.patch_meaning.specs.Rows.{RowsTo}
 use Rattle.patch_meaning.specs.Stream.{StreamPart, Cut, begins, cut_with, cut, stop_of, ArePatches, AreStream, IsStream}
 use Rattle.stream_generator.specs.Generator.{patch_number, stream_text}
 use Rattle.generated_replay.specs.Meanings.{quad, patch_id, meanings_from, meanings_to}
-use Rattle.generated_replay.proofs.Rows.{line_of, lines_of, named, rows_behind, rows, rows_with, rows_from, patch_size, stream_lines, stream_printed, stream_within}
-use Rattle.generated_replay.proofs.Lines.{placed, placed-append, lines_read}
+use Rattle.printed_rows.specs.Printed.{printed_line, printed_lines, placed_from}
+use Rattle.generated_replay.proofs.Rows.{named, rows_behind, rows, rows_with, rows_from, patch_size, stream_lines, stream_printed, stream_within}
+use Rattle.printed_rows.proofs.Lines.{placed-append, lines_read}
 
 -- ---- the ids of headers
 
@@ -45,7 +46,7 @@ meaning_with first third k = record {
   changes = change.Begin ∷ change.Add (quad k) ∷ (cond third (change.Delete (quad (k / 3)) ∷ []) [] ++ change.Commit ∷ []);
 }
 
-well_with : (first third : Bool) (k at : ℕ) → k < 2 ^ 32 → IsWell (said (placed at (rows_with first third k))) (meaning_with first third k)
+well_with : (first third : Bool) (k at : ℕ) → k < 2 ^ 32 → IsWell (said (placed_from at (rows_with first third k))) (meaning_with first third k)
 unfolding header_role
 well_with true true k at small = record {
   parted = record { headers = roles.Id (value_id (term.Iri (codes "uuid:" ++ text_of (patch_number k)))) ∷ []; changes = (meaning_with true true k).changes; parts = refl; no_change = refl };
@@ -81,7 +82,7 @@ abbrev HasId : Cut → Type 0
 HasId c = has_some (ids_of (said c.last.rows_)) ≡ true
 
 abbrev part_at : ℕ → List Row → StreamPart
-part_at at rs = record { from = at; rows_ = placed at rs }
+part_at at rs = record { from = at; rows_ = placed_from at rs }
 
 abbrev with_part : Cut → StreamPart → Cut
 with_part c p = record { done = c.done ++ c.last ∷ []; last = p }
@@ -100,8 +101,8 @@ opens_patch k c has = ap (λ (t : Bool). t || has_some (changes_of (said c.last.
 
 -- the rows behind the first one belong to its patch
 cut_behind : (first third : Bool) (k at to : ℕ) (c : Cut)
-    → fold cut_with (with_part c (record { from = at; rows_ = first_row k at ∷ [] })) (placed to (rows_behind first third k))
-    ≡ with_part c (record { from = at; rows_ = first_row k at ∷ placed to (rows_behind first third k) })
+    → fold cut_with (with_part c (record { from = at; rows_ = first_row k at ∷ [] })) (placed_from to (rows_behind first third k))
+    ≡ with_part c (record { from = at; rows_ = first_row k at ∷ placed_from to (rows_behind first third k) })
 unfolding header_role
 cut_behind true true k at to c = refl
 cut_behind true false k at to c = refl
@@ -109,13 +110,13 @@ cut_behind false true k at to c = refl
 cut_behind false false k at to c = refl
 
 cut_patch : (first third : Bool) (k at : ℕ) (c : Cut) → HasId c
-    → fold cut_with c (placed at (rows_with first third k)) ≡ with_part c (part_at at (rows_with first third k))
+    → fold cut_with c (placed_from at (rows_with first third k)) ≡ with_part c (part_at at (rows_with first third k))
 cut_patch first third k at c has =
-    let to : ℕ = at + length (line_of (named k)) in
-    ap (λ (d : Cut). fold cut_with d (placed to (rows_behind first third k))) (begun_with c (first_row k at) (opens_patch k c has))
+    let to : ℕ = at + length (printed_line (named k)) in
+    ap (λ (d : Cut). fold cut_with d (placed_from to (rows_behind first third k))) (begun_with c (first_row k at) (opens_patch k c has))
     ∙ cut_behind first third k at to c
 
-has_id : (first third : Bool) (k at : ℕ) → has_some (ids_of (said (placed at (rows_with first third k)))) ≡ true
+has_id : (first third : Bool) (k at : ℕ) → has_some (ids_of (said (placed_from at (rows_with first third k)))) ≡ true
 unfolding header_role
 has_id first third k at = refl
 
@@ -127,47 +128,47 @@ parts_of c = c.done ++ c.last ∷ []
 -- so many patches, the first one at a place
 abbrev parts_from : ℕ → ℕ → ℕ → List StreamPart
 parts_from at k zero = []
-parts_from at k (suc count) = part_at at (rows k) ∷ parts_from (at + length (lines_of (rows k))) (k + 1) count
+parts_from at k (suc count) = part_at at (rows k) ∷ parts_from (at + length (printed_lines (rows k))) (k + 1) count
 
 cut_all : (count k at : ℕ) (c : Cut) → HasId c
-    → parts_of (fold cut_with c (placed at (rows_from k count))) ≡ parts_of c ++ parts_from at k count
+    → parts_of (fold cut_with c (placed_from at (rows_from k count))) ≡ parts_of c ++ parts_from at k count
 cut_all zero k at c has = sym (append-nil (parts_of c))
 cut_all (suc count) k at c has =
     let next : Cut = with_part c (part_at at (rows k)) in
-    let to : ℕ = at + length (lines_of (rows k)) in
-    let split : fold cut_with c (placed at (rows_from k (suc count))) ≡ fold cut_with next (placed to (rows_from (k + 1) count)) =
+    let to : ℕ = at + length (printed_lines (rows k)) in
+    let split : fold cut_with c (placed_from at (rows_from k (suc count))) ≡ fold cut_with next (placed_from to (rows_from (k + 1) count)) =
     ap (fold cut_with c) (placed-append at (rows k) (rows_from (k + 1) count))
-    ∙ fold-append cut_with c (placed at (rows k)) (placed to (rows_from (k + 1) count))
-    ∙ ap (λ (d : Cut). fold cut_with d (placed to (rows_from (k + 1) count))) (cut_patch (k == 1) (k % 3 == 0) k at c has) in
+    ∙ fold-append cut_with c (placed_from at (rows k)) (placed_from to (rows_from (k + 1) count))
+    ∙ ap (λ (d : Cut). fold cut_with d (placed_from to (rows_from (k + 1) count))) (cut_patch (k == 1) (k % 3 == 0) k at c has) in
     ap parts_of split ∙ cut_all count (k + 1) to next (has_id (k == 1) (k % 3 == 0) k at)
     ∙ append_assoc (parts_of c) (part_at at (rows k) ∷ []) (parts_from to (k + 1) count)
 
 abbrev nothing_cut : Cut
 nothing_cut = record { done = []; last = record { from = 0; rows_ = [] } }
 
-cut_first : (count : ℕ) → parts_of (cut (placed 0 (rows_from 1 (suc count)))) ≡ parts_from 0 1 (suc count)
+cut_first : (count : ℕ) → parts_of (cut (placed_from 0 (rows_from 1 (suc count)))) ≡ parts_from 0 1 (suc count)
 unfolding header_role
 cut_first count =
-    let to : ℕ = length (lines_of (rows 1)) in
+    let to : ℕ = length (printed_lines (rows 1)) in
     let first : Cut = record { done = []; last = part_at 0 (rows 1) } in
-    let split : cut (placed 0 (rows_from 1 (suc count))) ≡ fold cut_with first (placed to (rows_from 2 count)) =
-    ap cut (placed-append 0 (rows 1) (rows_from 2 count) ∙ ap (λ (n : ℕ). placed 0 (rows 1) ++ placed n (rows_from 2 count)) (omega arith))
-    ∙ fold-append cut_with nothing_cut (placed 0 (rows 1)) (placed to (rows_from 2 count)) in
+    let split : cut (placed_from 0 (rows_from 1 (suc count))) ≡ fold cut_with first (placed_from to (rows_from 2 count)) =
+    ap cut (placed-append 0 (rows 1) (rows_from 2 count) ∙ ap (λ (n : ℕ). placed_from 0 (rows 1) ++ placed_from n (rows_from 2 count)) (omega arith))
+    ∙ fold-append cut_with nothing_cut (placed_from 0 (rows 1)) (placed_from to (rows_from 2 count)) in
     ap parts_of split ∙ cut_all count 2 to first (has_id true false 1 0)
     ∙ ap (λ (n : ℕ). part_at 0 (rows 1) ∷ parts_from n 2 count) (omega arith)
 
 -- a part reaches to the next one, or to where all of them end
-stop_is : (count k at : ℕ) → stop_of (parts_from at k count) (at + length (lines_of (rows_from k count))) ≡ at
+stop_is : (count k at : ℕ) → stop_of (parts_from at k count) (at + length (printed_lines (rows_from k count))) ≡ at
 stop_is zero k at = omega arith
 stop_is (suc count) k at = refl
 
-patches_are : (count k at : ℕ) → k + count ≤ 2 ^ 32 → ArePatches (parts_from at k count) (at + length (lines_of (rows_from k count))) (meanings_from k count)
+patches_are : (count k at : ℕ) → k + count ≤ 2 ^ 32 → ArePatches (parts_from at k count) (at + length (printed_lines (rows_from k count))) (meanings_from k count)
 patches_are zero k at small = tt
 patches_are (suc count) k at small =
-    let to : ℕ = at + length (lines_of (rows k)) in
-    let whole : to + length (lines_of (rows_from (k + 1) count)) ≡ at + length (lines_of (rows_from k (suc count))) =
-    omega (arith, ap length (flat_map-append line_of (rows k) (rows_from (k + 1) count)), length-append (lines_of (rows k)) (lines_of (rows_from (k + 1) count))) in
-    let stop : ℕ = at + length (lines_of (rows_from k (suc count))) in
+    let to : ℕ = at + length (printed_lines (rows k)) in
+    let whole : to + length (printed_lines (rows_from (k + 1) count)) ≡ at + length (printed_lines (rows_from k (suc count))) =
+    omega (arith, ap length (flat_map-append printed_line (rows k) (rows_from (k + 1) count)), length-append (printed_lines (rows k)) (printed_lines (rows_from (k + 1) count))) in
+    let stop : ℕ = at + length (printed_lines (rows_from k (suc count))) in
     let next : stop_of (parts_from to (k + 1) count) stop ≡ to = ap (stop_of (parts_from to (k + 1) count)) (sym whole) ∙ stop_is count (k + 1) to in (
       well_with (k == 1) (k % 3 == 0) k at (omega arith),
       omega (arith, next, patch_size k (omega arith)),
@@ -176,22 +177,22 @@ patches_are (suc count) k at small =
 
 -- ---- the stream
 
-stream_read : (n : ℕ) → n ≤ 65536 → RowsTo (stream_text n) 0 (placed 0 (rows_from 1 n)) (length (stream_text n))
+stream_read : (n : ℕ) → n ≤ 65536 → RowsTo (stream_text n) 0 (placed_from 0 (rows_from 1 n)) (length (stream_text n))
 stream_read n small =
     let text = stream_lines n 1 (omega arith) in
-    subst (λ (t : List ℕ). RowsTo t 0 (placed 0 (rows_from 1 n)) (length t)) text
+    subst (λ (t : List ℕ). RowsTo t 0 (placed_from 0 (rows_from 1 n)) (length t)) text
     (lines_read (rows_from 1 n) (stream_printed n 1 (omega arith)) (stream_within row_limit n 1 (omega arith) (omega arith)))
 
-stream_cut : (n : ℕ) → n ≤ 65536 → AreStream (placed 0 (rows_from 1 n)) (length (lines_of (rows_from 1 n))) (meanings_to n)
+stream_cut : (n : ℕ) → n ≤ 65536 → AreStream (placed_from 0 (rows_from 1 n)) (length (printed_lines (rows_from 1 n))) (meanings_to n)
 stream_cut zero small = refl
 stream_cut (suc count) small =
-    let stop : 0 + length (lines_of (rows_from 1 (suc count))) ≡ length (lines_of (rows_from 1 (suc count))) = omega arith in
-    subst (λ (ps : List StreamPart). ArePatches ps (length (lines_of (rows_from 1 (suc count)))) (meanings_to (suc count))) (sym (cut_first count))
+    let stop : 0 + length (printed_lines (rows_from 1 (suc count))) ≡ length (printed_lines (rows_from 1 (suc count))) = omega arith in
+    subst (λ (ps : List StreamPart). ArePatches ps (length (printed_lines (rows_from 1 (suc count)))) (meanings_to (suc count))) (sym (cut_first count))
     (subst (λ (n : ℕ). ArePatches (parts_from 0 1 (suc count)) n (meanings_to (suc count))) stop (patches_are (suc count) 1 0 (omega arith)))
 
 pub stream_is : (n : ℕ) → n ≤ 65536 → IsStream (stream_text n) (meanings_to n)
 stream_is n small = record {
-  rows_ = placed 0 (rows_from 1 n);
+  rows_ = placed_from 0 (rows_from 1 n);
   reads = stream_read n small;
-  stream = subst (λ (k : ℕ). AreStream (placed 0 (rows_from 1 n)) k (meanings_to n)) (ap length (stream_lines n 1 (omega arith))) (stream_cut n small);
+  stream = subst (λ (k : ℕ). AreStream (placed_from 0 (rows_from 1 n)) k (meanings_to n)) (ap length (stream_lines n 1 (omega arith))) (stream_cut n small);
 }

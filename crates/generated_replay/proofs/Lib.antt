@@ -1,6 +1,5 @@
 mod Values
 pub mod Rows
-mod Lines
 pub mod Cutting
 pub mod Chained
 pub mod Counted

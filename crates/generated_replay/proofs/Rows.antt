@@ -14,26 +14,11 @@ use Rattle.patch_rows.specs.Grammar.{IsKey}
 use Rattle.patch_rows.specs.Printing.{row_text, quad_text as terms_text, IsRowValue, IsWritable}
 use Rattle.stream_generator.specs.Generator.{patch_number, id_line, quad_line, quad_row, patch_text, patches_from, stream_text}
 use Rattle.stream_generator.proofs.Appending.{patch_short}
-use Rattle.generated_replay.specs.Meanings.{quad}
-use Rattle.generated_replay.proofs.Values.{ascii_text, decimal_plain, id_value, quad_values}
-
--- ---- rows as lines
-
--- a row on its line
-abbrev pub line_of : Row → List ℕ
-line_of r = row_text r ++ 10 ∷ []
-
-abbrev pub lines_of : List Row → List ℕ
-lines_of rs = flat_map line_of rs
-
--- what its line takes to be read again
-pub record IsPrinted (r : Row) : Type 0 where
-  pub value : IsRowValue r
-  pub writable : IsWritable r
-
-abbrev pub ArePrinted : List Row → Type 0
-ArePrinted [] = Unit {0}
-ArePrinted (r ∷ rs) = IsPrinted r × ArePrinted rs
+use Rattle.printed_rows.proofs.Lines.{each_within}
+use Rattle.printed_rows.specs.Printed.{printed_line, printed_lines, IsPrintedRow, ArePrintedRows, AreWithin}
+use Rattle.generated_replay.specs.Meanings.{quad, patch_id}
+use Rattle.printed_rows.proofs.Ids.{ascii_text, header_line, id_printed}
+use Rattle.generated_replay.proofs.Values.{decimal_plain, quad_values}
 
 -- ---- the rows of a patch
 
@@ -72,21 +57,14 @@ rows_from k (suc count) = rows k ++ rows_from (k + 1) count
 
 -- ---- their lines are the text
 
-header_line : (key front text : List ℕ) → front ≡ codes "H " ++ (key ++ codes " <uuid:")
-    → front ++ (text ++ codes "> .\n") ≡ line_of (row.Header key (term.Iri (codes "uuid:" ++ text)))
-unfolding row_text
-header_line key front text is =
-    ap (λ (t : List ℕ). t ++ (text ++ codes "> .\n")) is
-    ∙ ap (λ (t : List ℕ). 72 ∷ 32 ∷ t) (simp append_assoc)
-
-named_line : (k : ℕ) → line_of (named k) ≡ id_line k
+named_line : (k : ℕ) → printed_line (named k) ≡ id_line k
 named_line k = sym (header_line (codes "id") (codes "H id <uuid:") (text_of (patch_number k)) refl)
 
 -- the row that names the patch before
 abbrev behind_row : ℕ → List ℕ
 behind_row k = codes "H prev <uuid:" ++ (text_of (patch_number (pred k)) ++ codes "> .\n")
 
-behind_line : (k : ℕ) → line_of (behind k) ≡ behind_row k
+behind_line : (k : ℕ) → printed_line (behind k) ≡ behind_row k
 behind_line k = sym (header_line (codes "prev") (codes "H prev <uuid:") (text_of (patch_number (pred k))) refl)
 
 -- the texts of three terms, each behind a space, and the row's end
@@ -99,25 +77,25 @@ quad_end : (k : ℕ) → k < 2 ^ 64 → (terms_text (quad k) ++ 32 ∷ 46 ∷ []
 quad_end k small =
     rw (decimal_plain k small) (terms_end (codes "http://g/s") (codes "http://g/p") (decimal (k % 100)) (decimal (k % 7)) (decimal k))
 
-added_line : (k : ℕ) → k < 2 ^ 64 → line_of (added k) ≡ quad_row (codes "A") k
+added_line : (k : ℕ) → k < 2 ^ 64 → printed_line (added k) ≡ quad_row (codes "A") k
 unfolding row_text
 added_line k small = ap (λ (t : List ℕ). 65 ∷ t) (quad_end k small)
 
-deleted_line : (k : ℕ) → k < 2 ^ 64 → line_of (deleted k) ≡ quad_row (codes "D") (k / 3)
+deleted_line : (k : ℕ) → k < 2 ^ 64 → printed_line (deleted k) ≡ quad_row (codes "D") (k / 3)
 unfolding row_text
 deleted_line k small = ap (λ (t : List ℕ). 68 ∷ t) (quad_end (k / 3) (omega arith))
 
-begun_line : line_of begun ≡ codes "TX .\n"
+begun_line : printed_line begun ≡ codes "TX .\n"
 unfolding row_text
 begun_line = refl
 
-committed_line : line_of committed ++ [] ≡ codes "TC .\n"
+committed_line : printed_line committed ++ [] ≡ codes "TC .\n"
 unfolding row_text
 committed_line = refl
 
 -- the rows behind the headers
 block_with : (third : Bool) (k : ℕ) → k < 2 ^ 64
-    → lines_of (begun ∷ added k ∷ (cond third (deleted k ∷ []) [] ++ committed ∷ []))
+    → printed_lines (begun ∷ added k ∷ (cond third (deleted k ∷ []) [] ++ committed ∷ []))
     ≡ codes "TX .\n" ++ (quad_row (codes "A") k ++ (cond third (quad_row (codes "D") (k / 3)) [] ++ codes "TC .\n"))
 block_with true k small =
     ap₂ (λ (a b : List ℕ). a ++ b) begun_line (ap₂ (λ (a b : List ℕ). a ++ b) (added_line k small)
@@ -126,24 +104,24 @@ block_with false k small =
     ap₂ (λ (a b : List ℕ). a ++ b) begun_line (ap₂ (λ (a b : List ℕ). a ++ b) (added_line k small) committed_line)
 
 lines_with : (first third : Bool) (k : ℕ) → k < 2 ^ 64
-    → lines_of (rows_with first third k)
+    → printed_lines (rows_with first third k)
     ≡ id_line k ++ (cond first [] (behind_row k) ++ (codes "TX .\n" ++ (quad_row (codes "A") k ++ (cond third (quad_row (codes "D") (k / 3)) [] ++ codes "TC .\n"))))
 lines_with true third k small = ap₂ (λ (a b : List ℕ). a ++ b) (named_line k) (block_with third k small)
 lines_with false third k small =
     ap₂ (λ (a b : List ℕ). a ++ b) (named_line k) (ap₂ (λ (a b : List ℕ). a ++ b) (behind_line k) (block_with third k small))
 
-pub patch_lines : (k : ℕ) → k < 2 ^ 64 → lines_of (rows k) ≡ patch_text k
+pub patch_lines : (k : ℕ) → k < 2 ^ 64 → printed_lines (rows k) ≡ patch_text k
 unfolding patch_text
 patch_lines k small = lines_with (k == 1) (k % 3 == 0) k small
 
 -- the rows of a patch take few bytes
-pub patch_size : (k : ℕ) → k < 2 ^ 32 → length (lines_of (rows k)) ≤ 256
+pub patch_size : (k : ℕ) → k < 2 ^ 32 → length (printed_lines (rows k)) ≤ 256
 patch_size k small = omega (arith, ap length (patch_lines k (omega arith)), patch_short k small)
 
-lines-append : (rs ss : List Row) → lines_of (rs ++ ss) ≡ lines_of rs ++ lines_of ss
-lines-append rs ss = flat_map-append line_of rs ss
+lines-append : (rs ss : List Row) → printed_lines (rs ++ ss) ≡ printed_lines rs ++ printed_lines ss
+lines-append rs ss = flat_map-append printed_line rs ss
 
-pub stream_lines : (count k : ℕ) → k + count < 2 ^ 64 → lines_of (rows_from k count) ≡ patches_from k count
+pub stream_lines : (count k : ℕ) → k + count < 2 ^ 64 → printed_lines (rows_from k count) ≡ patches_from k count
 stream_lines zero k small = refl
 stream_lines (suc count) k small =
     lines-append (rows k) (rows_from (k + 1) count)
@@ -151,43 +129,29 @@ stream_lines (suc count) k small =
 
 -- ---- they are printed
 
-plain : (r : Row) → IsRowValue r → IsWritable r → IsPrinted r
+plain : (r : Row) → IsRowValue r → IsWritable r → IsPrintedRow r
 plain r value writable = record { value = value; writable = writable }
 
-id_printed : (key : List ℕ) (number : ℕ) → IsUtf8 key → IsKey key → IsPrinted (row.Header key (term.Iri (codes "uuid:" ++ text_of number)))
-id_printed key number is_text is_key = record { value = (is_text, id_value number); writable = is_key }
-
-block_printed : (third : Bool) (k : ℕ) → k < 2 ^ 64 → ArePrinted (begun ∷ added k ∷ (cond third (deleted k ∷ []) [] ++ committed ∷ []))
+block_printed : (third : Bool) (k : ℕ) → k < 2 ^ 64 → ArePrintedRows (begun ∷ added k ∷ (cond third (deleted k ∷ []) [] ++ committed ∷ []))
 block_printed true k small =
     (plain begun tt tt, (plain (added k) (quad_values k small) refl, (plain (deleted k) (quad_values (k / 3) (omega arith)) refl, (plain committed tt tt, tt))))
 block_printed false k small = (plain begun tt tt, (plain (added k) (quad_values k small) refl, (plain committed tt tt, tt)))
 
-printed_with : (first third : Bool) (k : ℕ) → k < 2 ^ 64 → ArePrinted (rows_with first third k)
-printed_with true third k small = (id_printed (codes "id") (patch_number k) (ascii_text (codes "id") refl) (refl, refl), block_printed third k small)
+printed_with : (first third : Bool) (k : ℕ) → k < 2 ^ 64 → ArePrintedRows (rows_with first third k)
+printed_with true third k small = (id_printed (codes "id") (patch_id k) (ascii_text (codes "id") refl) (refl, refl), block_printed third k small)
 printed_with false third k small =
-    (id_printed (codes "id") (patch_number k) (ascii_text (codes "id") refl) (refl, refl), (id_printed (codes "prev") (patch_number (pred k)) (ascii_text (codes "prev") refl) (refl, refl), block_printed third k small))
+    (id_printed (codes "id") (patch_id k) (ascii_text (codes "id") refl) (refl, refl), (id_printed (codes "prev") (patch_id (pred k)) (ascii_text (codes "prev") refl) (refl, refl), block_printed third k small))
 
-printed-append : (rs ss : List Row) → ArePrinted rs → ArePrinted ss → ArePrinted (rs ++ ss)
+printed-append : (rs ss : List Row) → ArePrintedRows rs → ArePrintedRows ss → ArePrintedRows (rs ++ ss)
 printed-append [] ss first second = second
 printed-append (r ∷ rs) ss first second = (first.0, printed-append rs ss first.1 second)
 
-pub stream_printed : (count k : ℕ) → k + count < 2 ^ 64 → ArePrinted (rows_from k count)
+pub stream_printed : (count k : ℕ) → k + count < 2 ^ 64 → ArePrintedRows (rows_from k count)
 stream_printed zero k small = tt
 stream_printed (suc count) k small =
     printed-append (rows k) (rows_from (k + 1) count) (printed_with (k == 1) (k % 3 == 0) k (omega arith)) (stream_printed count (k + 1) (omega arith))
 
 -- ---- each line is short
-
--- each line within this many bytes
-abbrev pub AreWithin : ℕ → List Row → Type 0
-AreWithin most [] = Unit {0}
-AreWithin most (r ∷ rs) = (length (line_of r) ≤ most) × AreWithin most rs
-
-each_within : (most : ℕ) (rs : List Row) → length (lines_of rs) ≤ most → AreWithin most rs
-each_within most [] all = tt
-each_within most (r ∷ rs) all =
-    let size = length-append (line_of r) (lines_of rs) in
-    (omega (arith, all, size), each_within most rs (omega (arith, all, size)))
 
 within-append : (most : ℕ) (rs ss : List Row) → AreWithin most rs → AreWithin most ss → AreWithin most (rs ++ ss)
 within-append most [] ss first second = second

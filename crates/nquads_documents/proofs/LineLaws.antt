@@ -142,6 +142,10 @@ line_is : (q : Statement) (more : List ℕ) → line q ++ more ≡ statement_tex
 unfolding line
 line_is q more = simp append_assoc (ap (λ (t : List ℕ). term_text q.subject ++ 32 ∷ (term_text q.predicate ++ 32 ∷ (term_text q.object ++ t))) (tail_is q.graph (10 ∷ more)))
 
+-- up to its dot
+pub statement_read : (q : Statement) (more : List ℕ) → IsQuadValue q → statement_at (line q ++ more) ≡ Ok (q, 10 ∷ more)
+statement_read q more v = ap statement_at (line_is q more) ∙ statement_here q (10 ∷ more) v
+
 end_here : (more : List ℕ) → line_end_at (10 ∷ more) ≡ Ok (tt, 10 ∷ more)
 unfolding line_end_at skip_blanks
 end_here more = refl

@@ -17,4 +17,4 @@ pub use laws::{document_faults_are_met, documents_are_read, lines_are_read};
 pub use parts::read_document;
 pub use printing::{print_document, print_line, push_line};
 pub use pushing::{push_next_term, push_node, push_predicate};
-pub use values::quad_is_value;
+pub use values::{graph_is_value, quad_is_value};

@@ -35,7 +35,8 @@ fn term_is_value(term: &Term)
     }
 }
 
-fn graph_is_value(graph: &Option<Term>)
+/// A graph, if there is one, is a term that can be printed. It only says so.
+pub fn graph_is_value(graph: &Option<Term>)
     ensures { IsGraphValue graph.now }
 {
     if let Some(name) = graph {

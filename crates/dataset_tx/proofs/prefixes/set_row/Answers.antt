@@ -11,7 +11,7 @@ returns-clause-rows c =
     let placed = c.make_place.ensures.rows c.args.staged.now.entries c.requires.rows in
     let set = c.in_ok-entry.ensures ∙ ap (λ (b : List ℕ). set_to (c.args.graph.now, c.args.prefix.now) c.args.iri.now (standing c.args.staged.now.entries c.make_place.new.rows.entries b)) c.as_slice.ensures.value in
     let at = subst (λ (e : PrefixEntry). StandsAt c.args.row.items (Some e)) (sym set)
-    (set_stands (c.args.graph.now, c.args.prefix.now) c.args.iri.now c.args.row.items _ c.requires.row (standing_stands _ _ c.args.row.items placed)) in
+    (set_stands (c.args.graph.now, c.args.prefix.now) c.args.iri.now c.args.row.items _ c.requires.row c.requires.value (standing_stands _ _ c.args.row.items placed)) in
     stage_rows _ _ _ c.args.row (Some c.in_ok-entry.entry) placed c.in_ok-insert.ensures.entries c.insert.ensures.ordered c.in_ok-insert.ensures.updates.2 c.in_ok-insert.ensures.updates.1 at c.in_ok-make_place.ensures.ok
 
 pub returns-clause-ok : goal.returns-clause-ok

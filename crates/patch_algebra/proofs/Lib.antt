@@ -1,0 +1,7 @@
+pub mod Runs
+pub mod Values
+pub mod Patches
+pub mod Gathers
+pub mod Backwards
+pub mod Squashing
+pub mod Ends
