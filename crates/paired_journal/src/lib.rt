@@ -1,0 +1,12 @@
+//! A journal on two files, one of which is current: opened, appended to, and begun anew in the
+//! other file.
+//!
+//! Of each disk is said what its images hold at any moment, so that any two of them can be told
+//! together without a common clock of the two disks.
+#![tactic(auto)]
+
+mod appending;
+mod renewing;
+
+pub use appending::append;
+pub use renewing::renew;

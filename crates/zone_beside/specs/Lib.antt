@@ -1,0 +1,4 @@
+pub mod Beside
+pub mod StandsBehind
+pub mod Finding
+pub mod Found
