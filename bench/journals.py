@@ -16,6 +16,12 @@ def framed(number, payloads):
     return b"RDJ2" + number.to_bytes(4, "big") + body + b"\0"
 
 
+def framed_before(number, payloads):
+    """The same in the form before this one, which versions up to 0.2.0 write."""
+    body = b"".join(b"\1" + len(payload).to_bytes(4, "big") + payload for payload in payloads)
+    return b"RDJ1" + number.to_bytes(4, "big") + body + b"\0"
+
+
 def payloads_of(file):
     """How many payloads stand before the gate that is shut."""
     bytes, place, count = file.read_bytes(), 8, 0

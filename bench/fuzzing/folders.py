@@ -15,9 +15,24 @@ from pathlib import Path
 from fuzzing.grammar import BAD_TERMS, BLANKS, IRIS, LITERALS, PatchTexts
 from fuzzing.lanes import shown
 from fuzzing.mutations import mutated, shrunk
+from fuzzing.upgrades import Upgrade, aged
 from journals import framed
-from reading.files import ZONE, Outcome, canonical, checked, dataset_of, file_name, hall_of, matched, outcome, replayed
+from reading.files import (
+    MARKER,
+    ZONE,
+    ZONE_MARKER,
+    Outcome,
+    canonical,
+    checked,
+    dataset_of,
+    file_name,
+    hall_of,
+    matched,
+    outcome,
+    replayed,
+)
 from reading.hall import MOST_REGISTRY, Hall
+from reading.upgrades import SECOND
 from serving import WORKERS, free_port
 
 LONGEST_WAIT = 20
@@ -184,9 +199,16 @@ class Folders:
         files = {number: folder / file_name(number) for number in range(WORKERS + 1)}
         self.kept = {number: path.read_bytes() for number, path in files.items() if path.exists()} | {ZONE: zone}
 
+    def marked(self, marker: int) -> Files:
+        """Seldom the marker of an upgrade, which may not be whole."""
+        if self.draw.random() < 0.9:
+            return {}
+        marked = framed(marker, [b"U"])
+        return {marker: self.draw.choice((marked, mutated(marked, self.draw, self.others)))}
+
     def once(self) -> None:
         """One trial, of which a difference is told with as few bytes as can be found."""
-        kinds = {self.hall: 3, self.zone: 3, self.text: 2, self.written: 1}
+        kinds = {self.hall: 3, self.zone: 3, self.text: 2, self.written: 1, self.upgrade: 2}
         trial, data = self.draw.choices(list(kinds), list(kinds.values()))[0]()
         self.count += 1
         difference = trial.difference(data)
@@ -198,7 +220,7 @@ class Folders:
     def hall(self) -> tuple[Trial, bytes]:
         slots = self.draw.choice((1, 2, 3))
         journals = [registry_of(self.draw, slots), *(journal_of(self.texts, slot, True) for slot in range(1, slots + 1))]
-        files = {journal.number: journal.written() for journal in journals}
+        files = {journal.number: journal.written() for journal in journals} | self.marked(MARKER)
         target = self.draw.choice(journals)
         data = target.changed(self.draw, self.others)
         if self.draw.random() < 0.3:
@@ -219,13 +241,28 @@ class Folders:
     def zone(self) -> tuple[Trial, bytes]:
         journal = journal_of(self.texts, ZONE, False)
         data = journal.changed(self.draw, self.others)
-        word = self.draw.choice(("dump", "prefixes", "match"))
+        word, files = self.draw.choice(("dump", "prefixes", "match")), self.marked(ZONE_MARKER)
         if word == "match":
             pattern = [self.pattern_word(place) for place in range(4)]
             title = f"match {' '.join(map(repr, pattern))}"
-            return Trial(title, {}, ZONE, lambda folder: run([self.program, "match", folder, *pattern]),
+            return Trial(title, files, ZONE, lambda folder: run([self.program, "match", folder, *pattern]),
                          lambda folder: matched(folder, pattern)), data
-        return Trial(word, {}, ZONE, self.running(word), wanted_dump if word == "dump" else wanted_prefixes), data
+        return Trial(word, files, ZONE, self.running(word), wanted_dump if word == "dump" else wanted_prefixes), data
+
+    def upgrade(self) -> tuple[Upgrade, bytes]:
+        """Files of either form, of which an upgrade may have been stopped."""
+        if self.draw.random() < 0.3:
+            word, marker = "upgrade_zone", ZONE_MARKER
+            journals = [journal_of(self.texts, number, False) for number in self.draw.choice(((ZONE,), (ZONE, SECOND)))]
+        else:
+            word, marker, slots = "upgrade", MARKER, self.draw.choice((1, 2, 3))
+            journals = [registry_of(self.draw, slots), *(journal_of(self.texts, slot, True) for slot in range(1, slots + 1))]
+        payloads = {journal.number: journal.payloads for journal in journals}
+        files = aged(payloads, marker, self.draw, self.others)
+        target = self.draw.choice([number for number, data in files.items() if data])
+        data = files[target]
+        is_kept = self.draw.random() < 0.3
+        return Upgrade(word, files, target, marker, self.running(word)), data if is_kept else mutated(data, self.draw, self.others)
 
     def pattern_word(self, place: int) -> bytes:
         chance = self.draw.random()

@@ -21,6 +21,8 @@ from reading.texts import (
 )
 
 ZONE = 1000
+# A spare's number is so much higher than that of its file.
+SPARE, MARKER, ZONE_MARKER = 2000, 2099, 3099
 Outcome = tuple[int, bytes, str]
 
 
@@ -32,11 +34,12 @@ def file_name(number: int) -> str:
     return f"rdj-{number:04}"
 
 
-def payloads_of(data: bytes, number: int, limit: int) -> list[bytes]:
-    """The payloads of a file with this number and limit."""
+def payloads_of(data: bytes, number: int, limit: int, before: int | None = None) -> list[bytes]:
+    """The payloads of a file with this number and limit; also of the form before this one where that has a limit."""
     if len(data) < 8 or data[:4] not in (b"RDJ1", b"RDJ2"):
         raise Broken(f"file {number}: byte 0: damaged")
-    if data[:4] == b"RDJ1":
+    is_before = data[:4] == b"RDJ1"
+    if is_before and before is None:
         raise Broken(f"file {number}: old format")
     found, at = int.from_bytes(data[4:8], "big"), 8
     if found != number:
@@ -50,16 +53,34 @@ def payloads_of(data: bytes, number: int, limit: int) -> list[bytes]:
 
     while part(1) == b"\1":
         at += 1
-        if int.from_bytes(part(4), "big") != len(payloads) + 1:
-            raise Broken(f"file {number}: byte {at}: damaged")
-        at += 4
+        if not is_before:
+            if int.from_bytes(part(4), "big") != len(payloads) + 1:
+                raise Broken(f"file {number}: byte {at}: damaged")
+            at += 4
         length = int.from_bytes(part(4), "big")
         at += 4
         payloads.append(part(length))
         at += length
+    if before is not None and is_before:
+        limit = before
     if at + 1 > limit:
         raise Broken(f"file {number}: over limit: have {at + 1}, limit {limit}")
     return payloads
+
+
+def first_of(data: bytes, number: int) -> bytes | None:
+    """The first payload of a file, which is read no further; none where it has at most nine bytes or its gate is shut."""
+    if len(data) <= 9:
+        return None
+    end = 17 + int.from_bytes(data[13:17], "big") if data[8] == 1 else 8
+    front = data[:end] + b"\0" if len(data) >= end else data
+    return next(iter(payloads_of(front, number, len(front))), None)
+
+
+def require_no_upgrade(folder: Path, marker: int) -> None:
+    """Where a marker stands, nothing else is opened."""
+    if first_of(bytes_of(folder, marker), marker) is not None:
+        raise Broken(f"file {marker}: upgrade pending")
 
 
 def log_of(data: bytes, number: int, is_zone: bool = False) -> Log:
@@ -122,6 +143,7 @@ def took_event(hall: Hall, place: int, text: str) -> Hall:
 
 def hall_of(folder: Path) -> Hall:
     """What a server over a directory has. A file that isn't there is one without bytes."""
+    require_no_upgrade(folder, MARKER)
     hall = registry_of(bytes_of(folder, 0))
     for slot in hall.logs:
         hall.logs[slot] = log_of(bytes_of(folder, slot), slot)
@@ -150,6 +172,7 @@ def checked(hall: Hall) -> bytes:
 
 def dataset_of(folder: Path) -> Dataset:
     """The dataset of a directory's zone."""
+    require_no_upgrade(folder, ZONE_MARKER)
     dataset = Dataset()
     for patch in log_of(bytes_of(folder, ZONE), ZONE, is_zone=True).patches:
         dataset.apply(patch)

@@ -25,6 +25,7 @@ from rdfdelta.errors import (
     NotUnderstood,
     OldFormat,
     Parted,
+    Pending,
     ProgramFailed,
     RdfDeltaError,
     Refused,
@@ -40,8 +41,8 @@ __version__ = "0.3.0"
 __all__ = [
     "Appended", "AppendedRun", "BadAddress", "BadFile", "BadPatch", "BadRun", "Conflict", "Damaged", "Follower", "Full",
     "Held", "Journal", "Known", "Link", "LinkFailed", "Log", "LogState", "NoPatch", "NoRuns", "NoSource",
-    "NotUnderstood", "OldFormat", "Parted", "ProgramFailed", "RdfDeltaError", "Refused", "Registry", "Server", "Source",
-    "read_link",
+    "NotUnderstood", "OldFormat", "Parted", "Pending", "ProgramFailed", "RdfDeltaError", "Refused", "Registry",
+    "Server", "Source", "read_link",
 ]
 
 

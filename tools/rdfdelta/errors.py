@@ -104,10 +104,17 @@ class BadFile(RdfDeltaError):
 
 
 class OldFormat(BadFile):
-    """A file of the form that versions up to 0.2.0 write; `rdfd rewrite` writes it anew."""
+    """A file of the form that versions up to 0.2.0 write: `rdfdelta upgrade` writes it anew."""
 
     def __init__(self, path: Path) -> None:
         super().__init__(path, "old format")
+
+
+class Pending(BadFile):
+    """The marker of an upgrade that was stopped: the files may be written in part, and their spares are whole."""
+
+    def __init__(self, path: Path) -> None:
+        super().__init__(path, "upgrade pending")
 
 
 class Damaged(BadFile):

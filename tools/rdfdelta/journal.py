@@ -1,8 +1,8 @@
 """Journal files, read by docs/FORMATS.md: those of logs, zones and the registry.
 
 Damage is told with its byte and nothing behind it is guessed. A file is read only while no program writes it. One of
-the old form is refused, but where it is to be written anew. A payload of a log is a run, so it has one patch or more;
-one of a zone is a patch.
+the old form is refused, but where it is to be written anew, and so is one whose upgrade was stopped. A payload of a log
+is a run, so it has one patch or more; one of a zone is a patch.
 """
 from __future__ import annotations
 
@@ -25,6 +25,9 @@ FRAME = 1 + 2 * FIELD
 REGISTRY, ZONE = 0, 1000
 # The files that a folder may have: the registry's, the logs', a zone's.
 NUMBERS = (REGISTRY, *range(1, 17), ZONE)
+# An upgrade copies each file to its spare, whose number is so much higher. While its marker stands, the spares count.
+SPARE = 2000
+MARKERS = {REGISTRY: 2099, ZONE: 3099}
 OPEN, SHUT = b"\x01", b"\x00"
 _FILE_NAME = re.compile(r"rdj-([0-9]{4})")
 
@@ -42,9 +45,33 @@ def file_of(folder: Path, number: int) -> Path:
     return folder / f"rdj-{number:04d}"
 
 
+def kind_of(number: int) -> int:
+    """The number of a file, or of the one that a spare stands for."""
+    return number - SPARE if number >= SPARE else number
+
+
 def limit_of(number: int) -> int:
     """The most bytes of the file of a number."""
-    return REGISTRY_LIMIT if number == REGISTRY else LOG_LIMIT
+    return REGISTRY_LIMIT if kind_of(number) == REGISTRY else LOG_LIMIT
+
+
+def marker_of(folder: Path, number: int) -> Path:
+    """The marker of an upgrade of a server's files or of a zone, whichever has the file of a number."""
+    return file_of(folder, MARKERS[ZONE if number == ZONE else REGISTRY])
+
+
+def upgrade_of(folder: Path, number: int) -> str:
+    """The words that upgrade a server's files or a zone, whichever has the file of a number."""
+    return f"rdfdelta {'upgrade_zone' if number == ZONE else 'upgrade'} {folder}"
+
+
+def check_marker(folder: Path, number: int) -> None:
+    """Refuses a folder where an upgrade was stopped: the file of this number may be written in part."""
+    marker = marker_of(folder, number)
+    content = marker.read_bytes() if marker.exists() else b""
+    # One of no more bytes says nothing, whatever they are.
+    if len(content) > HEADER + 1 and Journal.parse(marker, content).payloads:
+        raise errors.Pending(marker)
 
 
 def pieces_of(number: int, payloads: Sequence[bytes]) -> Iterator[bytes]:
@@ -78,6 +105,9 @@ class Journal:
         path = file_of(path, ZONE) if path.is_dir() else path
         try:
             with path.open("rb") as file, locks.shared(file, path):
+                named = _FILE_NAME.fullmatch(path.name)
+                if named and int(named[1]) in NUMBERS:
+                    check_marker(path.parent, int(named[1]))
                 return cls.parse(path, file.read())
         except OSError as error:
             raise errors.BadFile(path, error.strerror or str(error)) from error
@@ -110,7 +140,7 @@ class Journal:
 
     def _chain(self) -> list[Patch]:
         """The patches, each payload's behind those of the payloads before it."""
-        if self.number == REGISTRY:
+        if kind_of(self.number) == REGISTRY:
             raise errors.BadFile(self.path, "the registry has no patches")
         chain: list[Patch] = []
         seen: set[str] = set()
@@ -136,7 +166,7 @@ def run_of(number: int, payload: bytes) -> list[Patch]:
         run = split(payload) if len(payload) <= PATCH_LIMIT else []
     except errors.BadPatch:
         return []
-    return run if number != ZONE or len(run) == 1 else []
+    return run if kind_of(number) != ZONE or len(run) == 1 else []
 
 
 def _payloads(path: Path, content: bytes, form: Form) -> tuple[tuple[bytes, ...], int]:
@@ -225,7 +255,7 @@ class Registry:
     @classmethod
     def of(cls, journal: Journal) -> Registry:
         """The registry that a journal's events make."""
-        if journal.number != REGISTRY:
+        if kind_of(journal.number) != REGISTRY:
             raise errors.BadFile(journal.path, "not the registry's file")
         first = journal.payloads[0] if journal.payloads else b""
         found = re.fullmatch(rb"S ([1-9][0-9]?)", first)

@@ -1,7 +1,8 @@
 """Files of a stopped server, or of a zone, written anew beside, in the form that the program reads.
 
 The old ones are only read, and locked meanwhile. All of them are checked before the first new one is written, and the
-registry's comes last: a folder of a run that was stopped is none that a server serves.
+registry's comes last: a folder of a run that was stopped is none that a server serves. Where an upgrade in place was
+stopped, that is to be ended first.
 """
 from __future__ import annotations
 
@@ -11,7 +12,7 @@ from pathlib import Path
 from typing import BinaryIO
 
 from rdfdelta import errors, files, locks
-from rdfdelta.journal import NUMBERS, REGISTRY, ZONE, Journal, Registry, file_of, limit_of, pieces_of
+from rdfdelta.journal import NUMBERS, REGISTRY, ZONE, Journal, Registry, check_marker, file_of, limit_of, pieces_of
 
 # What is done, how many files it is done with, and of how many.
 Look = Callable[[str, int, int], None]
@@ -53,6 +54,7 @@ def _opened(folder: Path) -> Iterator[_Old]:
         for number, path in paths.items():
             opened[number] = stack.enter_context(path.open("rb"))
             stack.enter_context(locks.shared(opened[number], path))
+            check_marker(folder, number)
         yield _Old(folder, opened)
 
 

@@ -12,7 +12,7 @@ from dataclasses import dataclass
 from pathlib import Path
 
 from rdfdelta import errors, locks, sockets
-from rdfdelta.journal import NUMBERS, REGISTRY, ZONE, Journal, Registry, file_of
+from rdfdelta.journal import MARKERS, NUMBERS, REGISTRY, ZONE, Journal, Registry, check_marker, file_of, upgrade_of
 from rdfdelta.server import Server
 
 ROOM = 4_194_304 + 4_096
@@ -99,27 +99,53 @@ def _of_files(folder: Path) -> list[Finding]:
     if not files:
         remedy = "rdfdelta init makes a server's files, rdfdelta zone a zone's"
         return [Finding(f"{folder}: no rdj- files", True, remedy)]
-    held = [path for path in files if locks.is_held(path)]
+    markers = {kind: path for kind, number in MARKERS.items() if (path := file_of(folder, number)).exists()}
+    held = [path for path in [*markers.values(), *files] if locks.is_held(path)]
     if held:
         remedy = "one process at a time has a folder: stop that one, ask it over HTTP, or use rdfd for a zone"
         return [Finding(f"{held[0]}: held by {locks.held_by(held[0])}", True, remedy)]
+    # Where a marker stands, what the files have says nothing.
+    findings = [finding for kind, path in markers.items() for finding in _of_marker(path, kind)]
+    if findings:
+        return findings
     findings = [finding for path in files for finding in _of_file(path)]
     if file_of(folder, ZONE) not in files:
         findings += _of_slots(folder, files)
     return findings
 
 
-def _of_file(path: Path) -> list[Finding]:
+def _of_use(path: Path) -> list[Finding]:
+    """Whether a path is a file that may be read and written."""
     found = path.stat()
-    if not stat.S_ISREG(found.st_mode):
-        return [Finding(f"{path}: not a file")]
-    rights = _of_rights(path, found)
-    if rights:
-        return rights
+    return _of_rights(path, found) if stat.S_ISREG(found.st_mode) else [Finding(f"{path}: not a file")]
+
+
+def _of_marker(path: Path, kind: int) -> list[Finding]:
+    findings = _of_use(path)
+    if findings:
+        return findings
+    try:
+        check_marker(path.parent, kind)
+    except errors.Pending as error:
+        return [_to_upgrade(error, kind)]
+    except errors.RdfDeltaError as error:
+        return [Finding(str(error), True, "see Restoring in OPERATING.md")]
+    return []
+
+
+def _to_upgrade(error: errors.BadFile, number: int) -> Finding:
+    """A file of this number whose folder is to be upgraded, or whose upgrade is to be ended."""
+    return Finding(str(error), True, f"{upgrade_of(error.path.parent, number)}; see A new version in OPERATING.md")
+
+
+def _of_file(path: Path) -> list[Finding]:
+    findings = _of_use(path)
+    if findings:
+        return findings
     try:
         Journal.read(path)
     except errors.OldFormat as error:
-        return [Finding(str(error), True, f"rdfd rewrite {path.parent} NEW; see A new version in OPERATING.md")]
+        return [_to_upgrade(error, int(path.name[-4:]))]
     except errors.RdfDeltaError as error:
         return [Finding(str(error), True, "see Restoring in OPERATING.md")]
     return []

@@ -12,7 +12,7 @@ from pathlib import Path
 
 from rdfdelta import errors, locks
 from rdfdelta.answers import LogState
-from rdfdelta.journal import ZONE, Counter, file_of
+from rdfdelta.journal import ZONE, Counter, file_of, upgrade_of
 from rdfdelta.patches import read_link
 from rdfdelta.program import Program
 from rdfdelta.server import Log
@@ -69,11 +69,13 @@ class Zone:
 
 
 def hint(zone: Path, failed: errors.ProgramFailed) -> str | None:
-    """What to do where the zone and the log have parted, nobody has that log, or the zone is of the old form."""
+    """What to do where the zone and the log have parted, nobody has that log, or the zone is to be upgraded."""
     if failed.status == 1 and "no_source" in failed.line:
         return "the source was renamed or removed, or the name is wrong: `rdfd logs` shows the names"
     if failed.status == DAMAGED and "old format" in failed.line:
-        return f"an older version made the zone: `rdfd rewrite {zone} NEW` writes it anew in another folder"
+        return f"an older version made the zone: `{upgrade_of(zone, ZONE)}` writes it anew"
+    if failed.status == DAMAGED and "upgrade pending" in failed.line:
+        return f"an upgrade of the zone was stopped: `{upgrade_of(zone, ZONE)}` ends it"
     if failed.status != OTHER_CHAIN:
         return None
     file = file_of(zone, ZONE)

@@ -11,9 +11,12 @@ from pathlib import Path
 import pytest
 
 from rdfdelta import Server
+from rdfdelta.journal import file_of, pieces_of
 from rdfdelta.program import Program
 
 TOP = Path(__file__).resolve().parents[2]
+# Files that version 0.2.0 wrote.
+AGED = TOP / "contrib/old-format"
 PROGRAM = subprocess.run([TOP / "bin/program"], capture_output=True, text=True, check=True).stdout.strip()
 # Whether it is one that takes runs of patches: those up to version 0.2.0 take none.
 TAKES_RUNS = "\n  append_run " in subprocess.run([PROGRAM, "--help"], capture_output=True, text=True, check=True).stdout
@@ -43,6 +46,11 @@ def old_file(number: int, payloads: list[bytes]) -> bytes:
     """The file of these payloads as versions up to 0.2.0 write it."""
     parts = (b"\1" + len(payload).to_bytes(4, "big") + payload for payload in payloads)
     return b"RDJ1" + number.to_bytes(4, "big") + b"".join(parts) + b"\0"
+
+
+def mark(folder: Path, number: int = 2099) -> None:
+    """Leaves in a folder the marker of an upgrade that was stopped."""
+    file_of(folder, number).write_bytes(b"".join(pieces_of(number, [b"U"])))
 
 
 @dataclass

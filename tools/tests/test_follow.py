@@ -8,8 +8,10 @@ import time
 from pathlib import Path
 
 from calling import environment, rdfd, words_of
-from conftest import PROGRAM, Running, Start, eventually, id_of, old_file, patch
-from rdfdelta import locks
+from conftest import PROGRAM, Running, Start, eventually, id_of, mark, old_file, patch
+from rdfdelta import ProgramFailed, locks
+from rdfdelta.journal import pieces_of
+from rdfdelta.zones import hint
 
 
 def lines(count: int) -> set[str]:
@@ -142,9 +144,20 @@ def test_a_zone_of_the_old_form(running: Running, tmp_path: Path) -> None:
     zone.mkdir()
     (zone / "rdj-1000").write_bytes(old_file(1000, [patch(1), patch(2)]))
     done = rdfd("follow", zone, "ABC", "--once", address=running.address)
-    assert done.status == 9 and "file 1000: old format" in done.err and f"rdfd rewrite {zone} NEW" in done.err
+    assert done.status == 9 and "file 1000: old format" in done.err and f"rdfdelta upgrade_zone {zone}" in done.err
     assert rdfd("rewrite", zone, new).status == 0
     assert rdfd("follow", new, "ABC", "--once", address=running.address).out == "ABC: version 3\n"
+
+
+def test_a_zone_whose_upgrade_was_stopped(tmp_path: Path) -> None:
+    zone = tmp_path / "zone"
+    zone.mkdir()
+    (zone / "rdj-1000").write_bytes(b"".join(pieces_of(1000, [patch(1)])))
+    mark(zone, 3099)
+    pending = ProgramFailed(9, "rdfdelta: file 3099: upgrade pending")
+    assert f"rdfdelta upgrade_zone {zone}" in (hint(zone, pending) or "")
+    done = rdfd("patches", zone)
+    assert done.status == 9 and done.err.endswith("rdj-3099: upgrade pending\n")
 
 
 def test_a_sync_that_outlives_its_caller_has_the_lock(running: Running, tmp_path: Path) -> None:

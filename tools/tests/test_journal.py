@@ -7,9 +7,9 @@ from pathlib import Path
 
 import pytest
 
-from conftest import PROGRAM, TAKES_RUNS, Running, id_of, old_file, patch
-from rdfdelta import BadFile, Damaged, Held, Journal, OldFormat, Registry, journal
-from rdfdelta.journal import Counter, pieces_of
+from conftest import PROGRAM, TAKES_RUNS, Running, id_of, mark, old_file, patch
+from rdfdelta import BadFile, Damaged, Held, Journal, OldFormat, Pending, Registry, journal
+from rdfdelta.journal import Counter, file_of, pieces_of
 
 
 # Where the running number of the second patch stands in the file of a log.
@@ -132,6 +132,27 @@ def test_a_zone_has_a_payload_for_each_patch(tmp_path: Path) -> None:
     (tmp_path / "rdj-1000").write_bytes(b"".join(pieces_of(1000, payloads)))
     done = subprocess.run([PROGRAM, "dump", tmp_path], capture_output=True, text=True)
     assert done.stderr == "rdfdelta: file 1000: broken chain at version 2\n"
+
+
+def test_a_stopped_upgrade(tmp_path: Path) -> None:
+    files = {0: [b"S 1"], 1: [patch(1) + patch(2)], 1000: [patch(1)]}
+    spares = {2000: [b"S 1"], 2001: [patch(1)], 3000: [patch(1)]}
+    for number, payloads in (files | spares).items():
+        file_of(tmp_path, number).write_bytes(b"".join(pieces_of(number, payloads)))
+    mark(tmp_path)
+    for number in (0, 1):
+        with pytest.raises(Pending, match="rdj-2099: upgrade pending"):
+            Journal.read(file_of(tmp_path, number))
+    # A zone has a marker of its own, and the spares are read as what they stand for.
+    assert len(Journal.read(tmp_path).links()) == 1
+    mark(tmp_path, 3099)
+    with pytest.raises(Pending, match="rdj-3099: upgrade pending"):
+        Journal.read(tmp_path)
+    assert Registry.of(Journal.read(tmp_path / "rdj-2000")).slots == 1
+    assert [len(Journal.read(file_of(tmp_path, number)).links()) for number in (2001, 3000)] == [1, 1]
+    file_of(tmp_path, 3000).write_bytes(b"".join(pieces_of(3000, [patch(1) + patch(2)])))
+    with pytest.raises(BadFile, match="broken chain at version 1"):
+        Journal.read(file_of(tmp_path, 3000)).links()
 
 
 def test_a_log(folder: Path) -> None:

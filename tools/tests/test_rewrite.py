@@ -10,8 +10,8 @@ from pathlib import Path
 import pytest
 
 from calling import rdfd
-from conftest import PROGRAM, Running, Start, id_of, old_file, patch
-from rdfdelta import Journal, rewriting
+from conftest import AGED, PROGRAM, Running, Start, id_of, mark, old_file, patch
+from rdfdelta import Journal, Registry, rewriting
 from rdfdelta.journal import pieces_of
 
 SOURCE_ID = "00000000-0000-4000-8000-000000000009"
@@ -125,6 +125,32 @@ def test_what_is_refused(old: Path, tmp_path: Path) -> None:
     file.touch()
     assert rdfd("rewrite", old, file).status == 2
     assert list(contents(new)) == ["other"] and contents(old) == before
+
+
+def test_the_files_of_an_older_version(tmp_path: Path) -> None:
+    done = rdfd("rewrite", AGED / "server", tmp_path / "new")
+    assert done.out == (
+        f"file 0 records 7\nfile 1 patches 2 head {id_of(2)}\nfile 2 patches 1 head {id_of(1)}\n"
+        f"file 3 patches 0 head none\nfile 4 patches 5 head {id_of(5)}\n"
+    )
+    checked = subprocess.run([PROGRAM, "check", tmp_path / "new"], capture_output=True, text=True)
+    assert (checked.stdout, checked.stderr) == (done.out, "")
+    registry = Registry.of(Journal.read(tmp_path / "new/rdj-0000"))
+    assert [(source.slot, source.name) for source in registry.sources] == [(1, "XYZ"), (3, "GHI"), (4, "ABC")]
+    # The third patch of the first log stood behind a gate that its stop had left shut.
+    assert b"000000000003> ." in (AGED / "server/rdj-0001").read_bytes()
+    assert rdfd("rewrite", AGED / "zone", tmp_path / "zone").out == f"file 1000 patches 2 head {id_of(2)}\n"
+
+
+def test_an_upgrade_that_was_stopped(old: Path, tmp_path: Path) -> None:
+    mark(old, 3099)
+    (old / "rdj-2001").write_bytes(b"a spare, filled in part")
+    assert rdfd("rewrite", old, tmp_path / "new").out == LINES
+    mark(old)
+    before = contents(old)
+    done = rdfd("rewrite", old, tmp_path / "newer")
+    assert done.status == 9 and done.err.endswith("rdj-2099: upgrade pending\n")
+    assert contents(old) == before and not (tmp_path / "newer").exists()
 
 
 def test_files_that_are_held(old: Path, tmp_path: Path) -> None:

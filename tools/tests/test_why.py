@@ -3,6 +3,7 @@ from __future__ import annotations
 
 import os
 import resource
+import shutil
 import socket
 import subprocess
 import sys
@@ -14,7 +15,7 @@ from pathlib import Path
 import pytest
 
 from calling import rdfd
-from conftest import PROGRAM, Running, Start, eventually, free_port, old_file
+from conftest import AGED, PROGRAM, Running, Start, eventually, free_port, mark, old_file
 from rdfdelta import sockets, why
 
 
@@ -44,7 +45,7 @@ def test_folders(files: Path, tmp_path: Path) -> None:
     (files / "rdj-0001").write_bytes(b"RDJ1")
     assert "rdj-0001: byte 0: damaged" in told(files)
     (files / "rdj-0001").write_bytes(old_file(1, []))
-    assert f"rdj-0001: old format: rdfd rewrite {files} NEW" in told(files)
+    assert f"rdj-0001: old format: rdfdelta upgrade {files}" in told(files)
     (files / "rdj-0001").unlink()
     assert "rdj-0001: not there" in told(files)
     (files / "rdj-0001").mkdir()
@@ -52,6 +53,25 @@ def test_folders(files: Path, tmp_path: Path) -> None:
     (files / "rdj-0000").unlink()
     assert "rdj-0000: not there" in told(files)
     assert rdfd("why", files).status == 1
+
+
+def test_upgrades(files: Path, tmp_path: Path) -> None:
+    mark(files)
+    (files / "rdj-0001").write_bytes(b"written in part")
+    remedy = f"rdfdelta upgrade {files}; see A new version in OPERATING.md"
+    assert told(files) == f"{files}/rdj-2099: upgrade pending: {remedy}"
+    # A gate that is shut, and a marker of nine bytes, say nothing.
+    marker = (files / "rdj-2099").read_bytes()
+    for content in (marker[:8] + b"\0" + marker[9:], b"", marker[:9]):
+        (files / "rdj-2099").write_bytes(content)
+        assert "rdj-0001: byte 0: damaged" in told(files) and "2099" not in told(files)
+    (files / "rdj-2099").write_bytes(marker[:12])
+    assert "rdj-2099: byte 9: damaged" in told(files) and "0001" not in told(files)
+    zone = tmp_path / "zone"
+    shutil.copytree(AGED / "zone", zone)
+    assert f"rdj-1000: old format: rdfdelta upgrade_zone {zone}" in told(zone)
+    mark(zone, 3099)
+    assert f"rdj-3099: upgrade pending: rdfdelta upgrade_zone {zone}" in told(zone)
 
 
 def test_who_holds_it(running: Running) -> None:
@@ -85,6 +105,12 @@ def test_rights(files: Path, tmp_path: Path) -> None:
     (files / "rdj-0002").chmod(0o444)
     with as_nobody():
         assert "rdj-0002: " in told(files) and "may not read and write it: -r--r--r--" in told(files)
+    # The program opens it before all others, so one that another user made keeps it away.
+    (files / "rdj-2099").touch()
+    (files / "rdj-2099").chmod(0o600)
+    with as_nobody():
+        assert os.geteuid() == os.getuid() or "rdj-2099: nobody may not read and write it: -rw-------" in told(files)
+    (files / "rdj-2099").unlink()
     tmp_path.chmod(0o700)
     with as_nobody():
         assert os.geteuid() == os.getuid() or "can't be searched" in told(files)

@@ -2,6 +2,7 @@ pub mod Addresses
 pub mod Channels
 pub mod Help
 pub mod Lines
+pub mod Markers
 pub mod Names
 pub mod Positions
 pub mod Refusals

@@ -16,12 +16,16 @@ pub enum Name {
     Emit,
     Init,
     Check,
+    /// The files of a registry and its logs are brought to the new form.
+    Upgrade,
     Zone,
     Dump,
     Prefixes,
     Match,
     /// A zone catches up with a log of a server.
     Sync,
+    /// The files of a zone are brought to the new form.
+    UpgradeZone,
     /// The command of the server, which this tool doesn't run.
     Serve,
     Ping,

@@ -81,6 +81,13 @@ pub const ROWS: &[StaticRow] = &[
         help: &["open the files of a directory, print a line for each"],
     },
     CommandRow {
+        name: Name::Upgrade,
+        word: "upgrade",
+        positions: &["DIR"],
+        group: Group::Files,
+        help: &["bring the files of a directory to the new form, print how many had the old"],
+    },
+    CommandRow {
         name: Name::Zone,
         word: "zone",
         positions: &["DIR"],
@@ -117,6 +124,13 @@ pub const ROWS: &[StaticRow] = &[
         positions: &["DIR", "ADDR", "NAME"],
         group: Group::Zone,
         help: &["have a zone catch up with a log of the server at an address"],
+    },
+    CommandRow {
+        name: Name::UpgradeZone,
+        word: "upgrade_zone",
+        positions: &["DIR"],
+        group: Group::Zone,
+        help: &["bring the files of a zone to the new form, print how many had the old"],
     },
     CommandRow {
         name: Name::Serve,

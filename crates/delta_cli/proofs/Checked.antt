@@ -26,3 +26,4 @@ module _ (dir : List ℕ) (tells : Type 0) (old new : ShelfView) where
   check_stops out result (checks.OverLimit file length limit) is stops cause = (stops, Keeps-refl out.bytes)
   check_stops out result (checks.BrokenChain file version) is stops cause = (stops, Keeps-refl out.bytes)
   check_stops out result (checks.BrokenEvent place) is stops cause = (stops, Keeps-refl out.bytes)
+  check_stops out result (checks.UpgradePending file) is stops cause = (stops, Keeps-refl out.bytes)

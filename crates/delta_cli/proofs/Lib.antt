@@ -6,4 +6,5 @@ mod Printed
 mod ShortStreams
 mod Shown
 mod Synced
+mod Upgrading
 pub mod Words

@@ -52,9 +52,11 @@ name_of (commands.Gen patches) = names.Gen
 name_of (commands.Emit patches) = names.Emit
 name_of (commands.Init dir slots) = names.Init
 name_of (commands.Check dir) = names.Check
+name_of (commands.Upgrade dir) = names.Upgrade
 name_of (commands.Zone dir) = names.Zone
 name_of (commands.Read dir reading) = name_of_reading reading
 name_of (commands.Sync dir address name) = names.Sync
+name_of (commands.UpgradeZone dir) = names.UpgradeZone
 name_of (commands.Ask address call) = name_of_call call
 name_of (commands.Describe address name) = names.Describe
 name_of (commands.Append what address name) = append_name what
@@ -106,9 +108,11 @@ asks_fit words dice (commands.Init dir slots) asks =
     subst (λ (ws : List (List ℕ)). FitsName ws names.Init) (sym asks.0)
     ((dir ∷ decimal slots ∷ [], refl), (All-cons IsPlainWord dir (decimal slots ∷ []) asks.1 (one_plain (decimal slots) (plain_number slots (omega (arith, asks.3)))), refl))
 asks_fit words dice (commands.Check dir) asks = subst (λ (ws : List (List ℕ)). FitsName ws names.Check) (sym asks.0) ((dir ∷ [], refl), (one_plain dir asks.1, refl))
+asks_fit words dice (commands.Upgrade dir) asks = subst (λ (ws : List (List ℕ)). FitsName ws names.Upgrade) (sym asks.0) ((dir ∷ [], refl), (one_plain dir asks.1, refl))
 asks_fit words dice (commands.Zone dir) asks = fits_words words names.Zone (dir ∷ []) asks refl
 asks_fit words dice (commands.Read dir reading) asks = reading_fits words dir reading asks
 asks_fit words dice (commands.Sync dir address name) asks = fits_words words names.Sync (dir ∷ address ∷ name ∷ []) asks.0 refl
+asks_fit words dice (commands.UpgradeZone dir) asks = fits_words words names.UpgradeZone (dir ∷ []) asks refl
 asks_fit words dice (commands.Ask address call) asks = call_fits words dice address call asks.0
 asks_fit words dice (commands.Describe address name) asks = fits_words words names.Describe (address ∷ name ∷ []) asks.0 refl
 asks_fit words dice (commands.Append appended.Patch address name) asks = fits_words words names.Append (address ∷ name ∷ []) asks.0 refl
@@ -150,9 +154,11 @@ of_tool (commands.Gen patches) = tt
 of_tool (commands.Emit patches) = tt
 of_tool (commands.Init dir slots) = tt
 of_tool (commands.Check dir) = tt
+of_tool (commands.Upgrade dir) = tt
 of_tool (commands.Zone dir) = tt
 of_tool (commands.Read dir reading) = reading_of_tool reading
 of_tool (commands.Sync dir address name) = tt
+of_tool (commands.UpgradeZone dir) = tt
 of_tool (commands.Ask address call) = call_of_tool call
 of_tool (commands.Describe address name) = tt
 of_tool (commands.Append appended.Patch address name) = tt
@@ -263,7 +269,9 @@ module _ (words : List (List ℕ)) (fits : FitsName words names.Match) where
       by (commands.Emit patches) is asked = cc
       by (commands.Init dir slots) is asked = cc
       by (commands.Check dir) is asked = cc
+      by (commands.Upgrade dir) is asked = cc
       by (commands.Zone dir) is asked = cc
+      by (commands.UpgradeZone dir) is asked = cc
       by commands.Help is asked = cc
       by commands.Version is asked = cc
 
@@ -295,6 +303,8 @@ module _ (words : List (List ℕ)) (fits : FitsName words names.Sync) where
       by (commands.Emit patches) is asked = cc
       by (commands.Init dir slots) is asked = cc
       by (commands.Check dir) is asked = cc
+      by (commands.Upgrade dir) is asked = cc
       by (commands.Zone dir) is asked = cc
+      by (commands.UpgradeZone dir) is asked = cc
       by commands.Help is asked = cc
       by commands.Version is asked = cc

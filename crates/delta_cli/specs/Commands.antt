@@ -77,10 +77,12 @@ Asks words dice (commands.Emit patches) =
 Asks words dice (commands.Init dir slots) =
     (words ≡ codes "init" ∷ dir ∷ decimal slots ∷ []) × IsPlainWord dir × (1 ≤ slots) × (slots ≤ 16)
 Asks words dice (commands.Check dir) = (words ≡ codes "check" ∷ dir ∷ []) × IsPlainWord dir
+Asks words dice (commands.Upgrade dir) = (words ≡ codes "upgrade" ∷ dir ∷ []) × IsPlainWord dir
 Asks words dice (commands.Zone dir) = AreCommandWords words (codes "zone") (dir ∷ [])
 Asks words dice (commands.Read dir reading) = AsksToRead words dir reading
 Asks words dice (commands.Sync dir address name) =
     AreCommandWords words (codes "sync") (dir ∷ address ∷ name ∷ []) × IsAddress address
+Asks words dice (commands.UpgradeZone dir) = AreCommandWords words (codes "upgrade_zone") (dir ∷ [])
 Asks words dice (commands.Ask address call) = AsksFor words dice address call × IsAddress address
 Asks words dice (commands.Describe address name) =
     AreCommandWords words (codes "describe") (address ∷ name ∷ []) × IsAddress address

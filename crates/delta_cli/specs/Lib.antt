@@ -7,3 +7,4 @@ pub mod Views
 pub mod Zones
 pub mod Syncs
 pub mod Tool
+pub mod Upgrades

@@ -1,5 +1,5 @@
 -- What the tool answers, and why.
-use Rattle.std.specs.Prelude.{◌≡◌, ℕ, ◌+◌, List, length}
+use Rattle.std.specs.Prelude.{◌≡◌, ◌⊎◌, ℕ, ◌+◌, List, length}
 use Rattle.delta_base.specs.Outside.{Rose}
 use Rattle.delta_base.specs.declared.link.Link.{Ghosts as LinkGhosts}
 use Rattle.disk_model.specs.declared.shelf.Shelf.{Ghosts as ShelfGhosts}
@@ -8,6 +8,9 @@ use Rattle.stream_generator.specs.Generator.{stream_text}
 use Rattle.slot_checks.specs.Checks.{AreKept, IsReport, CheckStops}
 use Rattle.slot_checks.specs.Lines.{lines_text}
 use Rattle.slot_checks.specs.declared.lines.FileLine.{FileLine}
+use Rattle.slot_checks.specs.declared.marker.TheConstants.{FILES_MARKER, ZONE_MARKER}
+use Rattle.directory_upgrade.specs.Directories.{IsUpgradedDirectory, StopsUpgrade}
+use Rattle.directory_upgrade.specs.Zones.{IsUpgradedZone, StopsZoneUpgrade}
 use Rattle.delta_client.specs.declared.dial.Dial.{Ghosts as DialGhosts}
 use Rattle.delta_cli.specs.Asked.{AppendsInput, Asked, Described}
 use Rattle.delta_cli.specs.Asked.{PrintsEnd, StopsAppend, StopsAsking}
@@ -20,9 +23,11 @@ use Rattle.delta_cli.specs.Results.{ReadsInput, Prints, HasReplayLines, IsGenera
 use Rattle.delta_cli.specs.Results.{StopsReplay, StopsNquads, StopsGenerating, StopsEmitting}
 use Rattle.delta_cli.specs.Results.{StopsWriting}
 use Rattle.delta_cli.specs.Frames.{LeavesBut, frame}
+use Rattle.command_tables.specs.Markers.{StopsAtMark, Unmarked}
 use Rattle.command_tables.specs.Views.{ShelfView}
 use Rattle.delta_cli.specs.Views.{OutsideView}
 use Rattle.delta_cli.specs.Syncs.{CatchesUp, StopsSync}
+use Rattle.delta_cli.specs.Upgrades.{StopsUpgrading, UpgradesFiles}
 use Rattle.delta_cli.specs.Zones.{IsNewZone, KeepsZone, ReadsZone, SparesZone}
 use Rattle.delta_cli.specs.Zones.{StopsMaking, StopsZone, bytes_of}
 use Rattle.delta_cli.specs.declared.command.Command.{Command}
@@ -79,21 +84,26 @@ module _ {H D N L : Type 0} (shelf : ShelfGhosts H D) (dial : DialGhosts N L)
   Does (commands.Gen patches) old new =
       (text : List ℕ) × IsGeneratedLine patches text × WritesText old.out new.out text
   Does (commands.Emit patches) old new = WritesText old.out new.out (stream_text patches)
-  Does (commands.Init dir slots) old new =
-      (shelf.tells → IsInitial dir slots old.shelf.files new.shelf.files)
-      × Spares dir slots shelf.tells old.shelf.files new.shelf.files
-  Does (commands.Check dir) old new = (report : List FileLine)
-      × Reported dir shelf.tells old.shelf.files new.shelf.files report
-      × WritesText old.out new.out (lines_text report)
-  Does (commands.Zone dir) old new =
-      (shelf.tells → IsNewZone dir old.shelf.files new.shelf.files)
-      × SparesZone dir shelf.tells old.shelf.files new.shelf.files
-  Does (commands.Read dir reading) old new =
-      ((lines : List (List ℕ)) × ReadsZone dir reading shelf.tells old.shelf.files lines
+  Does (commands.Init dir slots) old new = Unmarked dir FILES_MARKER shelf.tells (λ seen.
+      (shelf.tells → IsInitial dir slots seen.files new.shelf.files)
+      × Spares dir slots shelf.tells seen.files new.shelf.files) old.shelf
+  Does (commands.Check dir) old new = Unmarked dir FILES_MARKER shelf.tells (λ seen.
+      (report : List FileLine) × Reported dir shelf.tells seen.files new.shelf.files report
+      × WritesText old.out new.out (lines_text report)) old.shelf
+  Does (commands.Upgrade dir) old new =
+      UpgradesFiles shelf.tells (IsUpgradedDirectory dir) old.shelf new.shelf old.out new.out
+  Does (commands.Zone dir) old new = Unmarked dir ZONE_MARKER shelf.tells (λ seen.
+      (shelf.tells → IsNewZone dir seen.files new.shelf.files)
+      × SparesZone dir shelf.tells seen.files new.shelf.files) old.shelf
+  Does (commands.Read dir reading) old new = Unmarked dir ZONE_MARKER shelf.tells (λ seen.
+      ((lines : List (List ℕ)) × ReadsZone dir reading shelf.tells seen.files lines
       × WritesText old.out new.out (bytes_of lines))
-      × KeepsZone dir shelf.tells old.shelf.files new.shelf.files
-  Does (commands.Sync dir address name) old new = CatchesUp shelf dial links dir address name
-      old.shelf new.shelf old.net new.net old.out new.out
+      × KeepsZone dir shelf.tells seen.files new.shelf.files) old.shelf
+  Does (commands.Sync dir address name) old new = Unmarked dir ZONE_MARKER shelf.tells (λ seen.
+      CatchesUp shelf dial links dir address name
+      seen new.shelf old.net new.net old.out new.out) old.shelf
+  Does (commands.UpgradeZone dir) old new =
+      UpgradesFiles shelf.tells (IsUpgradedZone dir) old.shelf new.shelf old.out new.out
   Does (commands.Ask address call) old new =
       PrintsEnd (Asked dial links address call old.net new.net) old.out new.out
   Does (commands.Describe address name) old new =
@@ -114,18 +124,38 @@ module _ {H D N L : Type 0} (shelf : ShelfGhosts H D) (dial : DialGhosts N L)
   Stops (commands.Emit patches) old new refusal =
       StopsEmitting (stream_text patches) refusal old.out new.out
   Stops (commands.Init dir slots) old new refusal =
-      StopsInit dir slots shelf.tells old.shelf new.shelf refusal
-      × Spares dir slots shelf.tells old.shelf.files new.shelf.files
+      StopsAtMark dir FILES_MARKER shelf.tells old.shelf new.shelf refusal
+      ⊎ Unmarked dir FILES_MARKER shelf.tells (λ seen.
+      StopsInit dir slots shelf.tells seen new.shelf refusal
+      × Spares dir slots shelf.tells seen.files new.shelf.files) old.shelf
   Stops (commands.Check dir) old new refusal =
-      StopsCheck dir shelf.tells old.shelf new.shelf old.out new.out refusal
+      (StopsAtMark dir FILES_MARKER shelf.tells old.shelf new.shelf refusal
+      × IsSilent old.out new.out)
+      ⊎ Unmarked dir FILES_MARKER shelf.tells (λ seen.
+      StopsCheck dir shelf.tells seen new.shelf old.out new.out refusal) old.shelf
+  Stops (commands.Upgrade dir) old new refusal =
+      StopsUpgrading shelf.tells (IsUpgradedDirectory dir) (StopsUpgrade dir)
+      old.shelf new.shelf old.out new.out refusal
   Stops (commands.Zone dir) old new refusal =
-      StopsMaking dir shelf.tells old.shelf new.shelf refusal
-      × SparesZone dir shelf.tells old.shelf.files new.shelf.files
+      StopsAtMark dir ZONE_MARKER shelf.tells old.shelf new.shelf refusal
+      ⊎ Unmarked dir ZONE_MARKER shelf.tells (λ seen.
+      StopsMaking dir shelf.tells seen new.shelf refusal
+      × SparesZone dir shelf.tells seen.files new.shelf.files) old.shelf
   Stops (commands.Read dir reading) old new refusal =
-      StopsZone dir reading shelf.tells old.shelf new.shelf old.out new.out refusal
-      × KeepsZone dir shelf.tells old.shelf.files new.shelf.files
-  Stops (commands.Sync dir address name) old new refusal = StopsSync shelf dial links dir address
-      name old.shelf new.shelf old.net new.net old.out new.out refusal
+      (StopsAtMark dir ZONE_MARKER shelf.tells old.shelf new.shelf refusal
+      × IsSilent old.out new.out)
+      ⊎ Unmarked dir ZONE_MARKER shelf.tells (λ seen.
+      StopsZone dir reading shelf.tells seen new.shelf old.out new.out refusal
+      × KeepsZone dir shelf.tells seen.files new.shelf.files) old.shelf
+  Stops (commands.Sync dir address name) old new refusal =
+      (StopsAtMark dir ZONE_MARKER shelf.tells old.shelf new.shelf refusal
+      × (new.net ≡ old.net) × IsSilent old.out new.out)
+      ⊎ Unmarked dir ZONE_MARKER shelf.tells (λ seen.
+      StopsSync shelf dial links dir address
+      name seen new.shelf old.net new.net old.out new.out refusal) old.shelf
+  Stops (commands.UpgradeZone dir) old new refusal =
+      StopsUpgrading shelf.tells (IsUpgradedZone dir) (StopsZoneUpgrade dir)
+      old.shelf new.shelf old.out new.out refusal
   Stops (commands.Ask address call) old new refusal =
       StopsAsking (Asked dial links address call old.net new.net) old.out new.out refusal
   Stops (commands.Describe address name) old new refusal =

@@ -35,6 +35,10 @@ pub enum Command {
     Check {
         dir: Text,
     },
+    /// The files of a directory's registry and logs, which are to have the new form.
+    Upgrade {
+        dir: Text,
+    },
     /// The file of a directory's zone, which is to be made.
     Zone {
         dir: Text,
@@ -49,6 +53,10 @@ pub enum Command {
         dir: Text,
         address: Text,
         name: Text,
+    },
+    /// The files of a directory's zone, which are to have the new form.
+    UpgradeZone {
+        dir: Text,
     },
     /// A call to the server at an address.
     Ask {
@@ -165,6 +173,9 @@ fn make(alloc: Global, name: Name, words: &[String]) -> Result<Command, Refusal>
             None => Err(Refusal::Usage(name)),
         },
         (Name::Check, [_, dir]) => Ok(Command::Check {
+            dir: Text::from_str(alloc, dir.as_str())?,
+        }),
+        (Name::Upgrade, [_, dir]) => Ok(Command::Upgrade {
             dir: Text::from_str(alloc, dir.as_str())?,
         }),
         _ => unreachable!(),

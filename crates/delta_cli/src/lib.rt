@@ -10,10 +10,12 @@ mod generate;
 mod help;
 mod init;
 mod input;
+mod marker;
 mod nquads;
 mod replay;
 mod sync;
 mod tool;
+mod upgrade;
 mod zone;
 mod zone_words;
 

@@ -9,15 +9,15 @@ ghost use Rattle.delta_cli.specs.Views.{outside_of};
 
 use crate::append::append;
 use crate::ask::{ask, describe};
-use crate::check::check;
 use crate::command::{Command, read_command};
 use crate::generate::{emit, generate};
 use crate::help::{VERSION, print, write_help};
-use crate::init::init;
+use crate::marker::{
+    check_unmarked, init_unmarked, make_zone_unmarked, print_zone_unmarked, sync_zone_unmarked,
+};
 use crate::nquads::nquads;
 use crate::replay::replay;
-use crate::sync::sync_zone;
-use crate::zone::{make_zone, print_zone};
+use crate::upgrade::{upgrade, upgrade_zone_files};
 use command_tables::{Refusal, report};
 use delta_base::{Sink, Source};
 use delta_client::Dial;
@@ -79,13 +79,15 @@ fn run_command<S: Source, K: Sink, H: Shelf, N: Dial>(
         Command::Nquads => nquads(alloc, input, out),
         Command::Gen { patches } => generate(alloc, *patches, out),
         Command::Emit { patches } => emit(alloc, *patches, out),
-        Command::Init { dir, slots } => init(alloc, dir, *slots, shelf),
-        Command::Check { dir } => check(alloc, dir, shelf, out),
-        Command::Zone { dir } => make_zone(dir, shelf),
-        Command::Read { dir, reading } => print_zone(alloc, dir, reading, shelf, out),
+        Command::Init { dir, slots } => init_unmarked(alloc, dir, *slots, shelf),
+        Command::Check { dir } => check_unmarked(alloc, dir, shelf, out),
+        Command::Upgrade { dir } => upgrade(alloc, dir, shelf, out),
+        Command::Zone { dir } => make_zone_unmarked(alloc, dir, shelf),
+        Command::Read { dir, reading } => print_zone_unmarked(alloc, dir, reading, shelf, out),
         Command::Sync { dir, address, name } => {
-            sync_zone(alloc, dir, address, name, shelf, net, out)
+            sync_zone_unmarked(alloc, dir, address, name, shelf, net, out)
         }
+        Command::UpgradeZone { dir } => upgrade_zone_files(alloc, dir, shelf, out),
         Command::Ask { address, call } => ask(alloc, address, call, net, out),
         Command::Describe { address, name } => describe(alloc, address, name, net, out),
         Command::Append {

@@ -72,4 +72,4 @@ module _ {D H : Type 0} (disks : Ghosts D) (shelf : ShelfGhosts H D) (told : she
   counted dir files (disk ∷ more) fault [] are refused count found wrong = absurd refused
   counted dir files (disk ∷ more) fault (after ∷ left) are refused count found wrong =
       let said = are.said told in
-      counted_one dir files are.slots said.0 disk more fault after left (omega (arith, are.count)) (are.read told).0 said.1 refused count found (sym wrong)
+      counted_one dir files are.slots said.0 disk more fault after left (omega (arith, are.count)) (are.begun told).0.reads_same said.1 refused count found (sym wrong)

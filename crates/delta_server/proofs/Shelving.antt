@@ -3,14 +3,15 @@ use Rattle.std.proofs.Common.{◌≡◌, inl, inr, ⊎_elim, ℕ, ◌+◌, ◌<�
 use Rattle.std.specs.Prelude.{Option, Some, Result, Ok, Err, IfErr, OnOk}
 use Rattle.std.proofs.lemmas.Bool.{cases_lt}
 use Rattle.delta_base.specs.Outside.{Rose}
-use Rattle.disk_model.specs.Past.{began, reads}
+use Rattle.disk_model.specs.Past.{Past, began, reads, Keeps}
 use Rattle.disk_model.specs.Shelf.{SameOthers}
 use Rattle.disk_model.specs.declared.disk.Disk.{Ghosts}
+use Rattle.disk_model.proofs.Moments as moments
 use Rattle.slot_checks.proofs.Steps.{all_kept, opened_kept, visit_kept}
 use Rattle.slot_checks.specs.Checks.{AreKept}
 use Rattle.slot_files.proofs.Steps.{at_or_not, other_dir, other_number, visited}
 use Rattle.slot_files.specs.Files.{Files, IsKept, SameBut, bytes_at}
-use Rattle.delta_server.specs.Files.{AreMarked, AreFilesRead, ArePutBack, HaveRead}
+use Rattle.delta_server.specs.Files.{AreMarked, HaveBegun, ArePutBack, HaveRead}
 
 module _ {D : Type 0} (disks : Ghosts D) where
   -- ---- one disk more
@@ -21,11 +22,13 @@ module _ {D : Type 0} (disks : Ghosts D) where
   marked_more dir number (first ∷ taken) disk are is =
       (are.0, marked_more dir (number + 1) taken disk are.1 (subst (λ (n : ℕ). disks.mark disk ≡ Some (dir, n)) (omega arith) is))
 
-  pub read_more : (files : Files) (dir : List ℕ) (number : ℕ) (taken : List D) (disk : D) → AreFilesRead disks files dir number taken
-      → reads (disks.past disk) ≡ bytes_at files dir (number + length taken) → AreFilesRead disks files dir number (taken ++ disk ∷ [])
-  read_more files dir number [] disk are is = (subst (λ (n : ℕ). reads (disks.past disk) ≡ bytes_at files dir n) (omega arith) is, tt)
-  read_more files dir number (first ∷ taken) disk are is =
-      (are.0, read_more files dir (number + 1) taken disk are.1 (subst (λ (n : ℕ). reads (disks.past disk) ≡ bytes_at files dir n) (omega arith) is))
+  pub begun_more : (files : Files) (dir : List ℕ) (number : ℕ) (taken : List D) (disk : D) → HaveBegun disks files dir number taken
+      → disks.past disk ≡ began (bytes_at files dir (number + length taken)) → HaveBegun disks files dir number (taken ++ disk ∷ [])
+  begun_more files dir number [] disk are is =
+      let here : disks.past disk ≡ began (bytes_at files dir number) = subst (λ (n : ℕ). disks.past disk ≡ began (bytes_at files dir n)) (omega arith) is in
+      (subst (λ (p : Past). Keeps p (disks.past disk)) here (moments.kept (disks.past disk)), tt)
+  begun_more files dir number (first ∷ taken) disk are is =
+      (are.0, begun_more files dir (number + 1) taken disk are.1 (subst (λ (n : ℕ). disks.past disk ≡ began (bytes_at files dir n)) (omega arith) is))
 
   pub marked_split : (dir : List ℕ) (number : ℕ) (rest : List D) (last : D) (back : List D) → AreMarked disks dir number (rest ++ last ∷ back)
       → disks.mark last ≡ Some (dir, number + length rest)
@@ -83,22 +86,22 @@ module _ {D : Type 0} (disks : Ghosts D) where
     };
   }
 
-  kept_at : (dir : List ℕ) (from : ℕ) (left : List D) (old new : Files) → AreFilesRead disks old dir from left → HaveRead disks new dir from left
+  kept_at : (dir : List ℕ) (from : ℕ) (left : List D) (old new : Files) → HaveBegun disks old dir from left → HaveRead disks new dir from left
       → (n : ℕ) → from ≤ n → n < from + length left → IsKept (old dir n) (new dir n)
-  kept_at dir from [] old new read have n low high = absurd (omega (arith, low, high))
-  kept_at dir from (disk ∷ left) old new read have n low high =
+  kept_at dir from [] old new begun have n low high = absurd (omega (arith, low, high))
+  kept_at dir from (disk ∷ left) old new begun have n low high =
       at_or_not (λ k. from ≤ k → k < from + length (disk ∷ left) → IsKept (old dir k) (new dir k)) from
-      (λ at below. opened_kept (old dir from) (new dir from) (have.0 ∙ ap (λ (b : List ℕ). Some b) read.0))
-      (λ k differs at below. kept_at dir (from + 1) left old new read.1 have.1 k (omega (arith, at, differs)) (omega (arith, below)))
+      (λ at below. opened_kept (old dir from) (new dir from) (have.0 ∙ ap (λ (b : List ℕ). Some b) begun.0.reads_same))
+      (λ k differs at below. kept_at dir (from + 1) left old new begun.1 have.1 k (omega (arith, at, differs)) (omega (arith, below)))
       n low high
 
-  -- disks that read what the files had leave them
-  pub kept_over : (dir : List ℕ) (left : List D) (old mid new : Files) → AreKept dir (length left) old mid → AreFilesRead disks old dir 0 left
+  -- disks that began with what the files had leave them
+  pub kept_over : (dir : List ℕ) (left : List D) (old mid new : Files) → AreKept dir (length left) old mid → HaveBegun disks old dir 0 left
       → ArePutBack disks dir left mid new → AreKept dir (length left) old new
-  kept_over dir left old mid new kept read back = record {
+  kept_over dir left old mid new kept begun back = record {
     elsewhere = λ d n apart. back.others.elsewhere d n apart ∙ kept.elsewhere d n apart;
     here = λ n. ⊎_elim
-        (λ below. kept_at dir 0 left old new read back.files n (omega arith) (omega (arith, below)))
+        (λ below. kept_at dir 0 left old new begun back.files n (omega arith) (omega (arith, below)))
         (λ far. inl (back.others.here n (inr far) ∙ kept.beyond n far))
         (cases_lt n (length left));
     beyond = λ n far. back.others.here n (inr far) ∙ kept.beyond n far;
@@ -117,21 +120,22 @@ rose_behind a b c low rose high = ⊎_elim
 
 -- ---- the same bytes
 
-pub read_same : {D : Type 0} (disks : Ghosts D) (files other : Files) (dir : List ℕ) (number : ℕ) (taken : List D)
-    → ((n : ℕ) → bytes_at files dir n ≡ bytes_at other dir n) → AreFilesRead disks files dir number taken → AreFilesRead disks other dir number taken
-read_same disks files other dir number [] same are = tt
-read_same disks files other dir number (disk ∷ taken) same are = (are.0 ∙ same number, read_same disks files other dir (number + 1) taken same are.1)
+pub begun_same : {D : Type 0} (disks : Ghosts D) (files other : Files) (dir : List ℕ) (number : ℕ) (taken : List D)
+    → ((n : ℕ) → bytes_at files dir n ≡ bytes_at other dir n) → HaveBegun disks files dir number taken → HaveBegun disks other dir number taken
+begun_same disks files other dir number [] same are = tt
+begun_same disks files other dir number (disk ∷ taken) same are =
+    (subst (λ (b : List ℕ). Keeps (began b) (disks.past disk)) (same number) are.0, begun_same disks files other dir (number + 1) taken same are.1)
 
 -- ---- one file
 
 -- a disk that was opened, read and put back leaves its file
 pub put_at : {D : Type 0} (disks : Ghosts D) (dir : List ℕ) (old mid new : Files) (first after : D)
     → mid dir 0 ≡ Some (bytes_at old dir 0) → SameOthers (Some (dir, 0)) old mid → disks.past first ≡ began (bytes_at old dir 0)
-    → reads (disks.past after) ≡ reads (disks.past first) → disks.mark after ≡ Some (dir, 0)
+    → Keeps (disks.past first) (disks.past after) → disks.mark after ≡ Some (dir, 0)
     → new dir 0 ≡ Some (reads (disks.past after)) → SameOthers (disks.mark after) mid new → AreKept dir 1 old new
 put_at disks dir old mid new first after made others opened same marked back rest =
     visit_kept dir 0 old old new (all_kept dir 0 old)
-    (opened_kept (old dir 0) (new dir 0) (back ∙ ap (λ (b : List ℕ). Some b) (same ∙ ap reads opened)))
+    (opened_kept (old dir 0) (new dir 0) (back ∙ ap (λ (b : List ℕ). Some b) (same.reads_same ∙ ap reads opened)))
     (visited dir 0 (disks.mark after) old mid new others marked rest)
 
 -- ---- answers

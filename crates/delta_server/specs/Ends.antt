@@ -9,8 +9,10 @@ use Rattle.slot_checks.specs.Checks.{AreKept}
 use Rattle.slot_checks.specs.Faults.{HasRegistryFileFault}
 use Rattle.slot_checks.specs.declared.fault.CheckFault.{CheckFault}
 use Rattle.slot_checks.specs.declared.fault.CheckFault.TheVariants as checks
+use Rattle.slot_checks.specs.declared.marker.TheConstants.{FILES_MARKER}
 use Rattle.worker_pool.specs.declared.gate.Gate.{Ghosts as GateGhosts}
 use Rattle.command_tables.specs.Channels.{Channel, IsSilent}
+use Rattle.command_tables.specs.Markers.{SeesNoMark, StopsAtMark}
 use Rattle.command_tables.specs.Refusals.{ReportsRefusal}
 use Rattle.command_tables.specs.Refusals.{check_refusal}
 use Rattle.command_tables.specs.declared.refusal.Refusal.{Refusal}
@@ -92,14 +94,24 @@ module _ {D H L G : Type 0} (disks : Ghosts D) (shelf : ShelfGhosts H D) (links 
   pub data AnswersServe (words : List (List ℕ)) (old new : ShelfView) (gates after : List G)
       (err err' : Channel) : ℕ → Type 0 where
     -- no gate of a worker has failed
-    served : (dir address : List ℕ) (workers : ℕ) → AsksToServe words dir address workers
-        → HasServed disks shelf links gate dir workers old.files new.files gates after
+    served : (dir address : List ℕ) (workers : ℕ) (seen : ShelfView)
+        → AsksToServe words dir address workers
+        → SeesNoMark dir FILES_MARKER shelf.tells old seen
+        → HasServed disks shelf links gate dir workers seen.files new.files gates after
         → (HaveFailed gate.faults (take workers gates) (take workers after) → ⊥)
         → IsSilent err err'
         → AnswersServe words old new gates after err err' 0
     -- the gate of a worker has failed, or no connection was served
     failed : (dir address : List ℕ) (workers : ℕ) (refusal : Refusal) (status : ℕ)
-        → AsksToServe words dir address workers → FailsServe dir workers old new gates after refusal
+        (seen : ShelfView) → AsksToServe words dir address workers
+        → SeesNoMark dir FILES_MARKER shelf.tells old seen
+        → FailsServe dir workers seen new gates after refusal
+        → ReportsRefusal refusal err err' status
+        → AnswersServe words old new gates after err err' status
+    -- an upgrade of the files was broken off, or its marker couldn't be read
+    marked : (dir address : List ℕ) (workers : ℕ) (refusal : Refusal) (status : ℕ)
+        → AsksToServe words dir address workers
+        → StopsAtMark dir FILES_MARKER shelf.tells old new refusal → after ≡ gates
         → ReportsRefusal refusal err err' status
         → AnswersServe words old new gates after err err' status
     -- nothing was asked

@@ -1,7 +1,7 @@
 -- The files of a directory and their disks.
 use Rattle.std.specs.Prelude.{◌≡◌, ◌⊎◌, ℕ, ◌+◌, ◌≤◌, List, [], ◌∷◌, length, Some}
 use Rattle.disk_model.specs.declared.disk.Disk.{Ghosts}
-use Rattle.disk_model.specs.Past.{reads}
+use Rattle.disk_model.specs.Past.{began, reads, Keeps}
 use Rattle.slot_files.specs.Files.{Files, SameBut, bytes_at}
 use Rattle.slot_checks.specs.Sound.{HoldsRegistry}
 
@@ -19,12 +19,13 @@ module _ {D : Type 0} (disks : Ghosts D) where
   AreMarked dir number (disk ∷ more) =
       (disks.mark disk ≡ Some (dir, number)) × AreMarked dir (number + 1) more
 
-  -- each disk reads what the file of its number has, from this number on
-  abbrev pub AreFilesRead : Files → List ℕ → ℕ → List D → Type 0
-  AreFilesRead files dir number [] = Unit {0}
-  AreFilesRead files dir number (disk ∷ more) =
-      (reads (disks.past disk) ≡ bytes_at files dir number)
-      × AreFilesRead files dir (number + 1) more
+  -- each disk began with what the file of its number has, from this number on, and still reads
+  -- that, as any crash leaves it
+  abbrev pub HaveBegun : Files → List ℕ → ℕ → List D → Type 0
+  HaveBegun files dir number [] = Unit {0}
+  HaveBegun files dir number (disk ∷ more) =
+      Keeps (began (bytes_at files dir number)) (disks.past disk)
+      × HaveBegun files dir (number + 1) more
 
   -- each file has what its disk reads, from this number on
   abbrev pub HaveRead : Files → List ℕ → ℕ → List D → Type 0

@@ -8,7 +8,7 @@ ghost use Rattle.slot_checks.specs.Checks.{AreKept};
 ghost use Rattle.slot_checks.specs.Sound.{HoldsRegistry};
 ghost use Rattle.delta_session.specs.Ends.{HasHallRoom};
 ghost use Rattle.delta_server.specs.Ends.{HasNoDisks, StopsServe, hall_refusal};
-ghost use Rattle.delta_server.specs.Files.{AreMarked, AreFilesRead};
+ghost use Rattle.delta_server.specs.Files.{AreMarked, HaveBegun};
 ghost use Rattle.delta_server.specs.Serving.{AreDisksAsked, IsHallOver};
 ghost use Rattle.command_tables.specs.Views.{shelf_view};
 
@@ -63,8 +63,8 @@ fn take_registry<H: Shelf>(
     ensures few { IfOk result (λ slots. slots ≤ MOST_SLOTS) }
     ensures count { OnOk result (length disks.new.items ≡ 1) }
     ensures marked { H.tells → OnOk result (AreMarked H.D.Disk dir.now 0 disks.new.items) }
-    ensures read { H.tells
-        → OnOk result (AreFilesRead H.D.Disk (H.files shelf.old) dir.now 0 disks.new.items) }
+    ensures begun { H.tells
+        → OnOk result (HaveBegun H.D.Disk (H.files shelf.old) dir.now 0 disks.new.items) }
     ensures said { H.tells → IfOk result (λ slots. (records : ℕ)
         × HoldsRegistry (bytes_at (H.files shelf.old) dir.now 0) slots records) }
     ensures kept { H.tells → OnOk result
@@ -106,9 +106,9 @@ fn take_logs<H: Shelf>(
     ensures count { OnOk result (length disks.new.items ≡ slots + 1) }
     ensures marked { H.tells → AreMarked H.D.Disk dir.now 0 disks.old.items
         → AreMarked H.D.Disk dir.now 0 disks.new.items }
-    ensures read { H.tells
-        → AreFilesRead H.D.Disk (H.files shelf.old) dir.now 0 disks.old.items
-        → AreFilesRead H.D.Disk (H.files shelf.old) dir.now 0 disks.new.items }
+    ensures begun { H.tells
+        → HaveBegun H.D.Disk (H.files shelf.old) dir.now 0 disks.old.items
+        → HaveBegun H.D.Disk (H.files shelf.old) dir.now 0 disks.new.items }
     ensures kept { H.tells → AreKept dir.now (length disks.new.items)
         (H.files shelf.old) (H.files shelf.new) }
     ensures grown { 1 ≤ length disks.new.items }

@@ -1,5 +1,7 @@
 //! The top call of the server.
-ghost use Rattle.std.specs.Prelude.{◌≡◌, ◌≤◌, IfErr, IsErr, OnOk, length, take};
+ghost use Rattle.std.specs.Prelude.{◌≡◌, ◌⊎◌, ◌≤◌, IfErr, IsErr, OnOk, length, take};
+ghost use Rattle.slot_checks.specs.declared.marker.TheConstants.{FILES_MARKER};
+ghost use Rattle.command_tables.specs.Markers.{StopsAtMark, Unmarked};
 ghost use Rattle.command_tables.specs.Channels.{words_of};
 ghost use Rattle.delta_server.specs.Ends.{AnswersServe, FailsServe, StopsServe};
 ghost use Rattle.delta_server.specs.Gates.{HaveFailed};
@@ -14,6 +16,7 @@ use command_tables::{Refusal, report};
 use delta_base::{Link, Sink};
 use delta_session::serve_gates;
 use disk_model::Shelf;
+use slot_checks::{FILES_MARKER, check_marker};
 use std::alloc::Global;
 use std::sync::Wait;
 use std::thread::Threads;
@@ -52,12 +55,45 @@ where
             return Served { status, gates };
         }
     };
-    let (gates, answer) = serve_files(rt, alloc, &serve, shelf, gates);
+    let (gates, answer) = serve_unmarked(rt, alloc, &serve, shelf, gates);
     let status = match answer {
         Ok(()) => 0,
         Err(refusal) => report(alloc, refusal, err),
     };
     Served { status, gates }
+}
+
+// Serves the files of a directory where no upgrade of them was broken off.
+fn serve_unmarked<R: Threads + Wait + Sync, H: Shelf, G: Gate + Send>(
+    rt: &R,
+    alloc: Global,
+    serve: &Serve,
+    shelf: &mut H,
+    gates: Vec<G>,
+) -> (Vec<G>, Result<(), Refusal>)
+where
+    H::D: Send,
+    G::L: Link + Send,
+    requires gates { length gates.items ≡ 16 }
+    requires workers { (1 ≤ serve.now.workers) × (serve.now.workers ≤ 16) }
+    ensures served { OnOk result.1 (Unmarked serve.now.dir FILES_MARKER H.tells (λ seen.
+        HasServed H.D.Disk H.Shelf G.L.Link G.Gate serve.now.dir serve.now.workers seen.files
+        (H.files shelf.new) gates.items result.0.items) (shelf_view H.Shelf shelf.old)) }
+    ensures well { OnOk result.1 (HaveFailed G.faults (take serve.now.workers gates.items)
+        (take serve.now.workers result.0.items) → ⊥) }
+    ensures failed { IfErr result.1 (λ refusal.
+        (StopsAtMark serve.now.dir FILES_MARKER H.tells
+        (shelf_view H.Shelf shelf.old) (shelf_view H.Shelf shelf.new) refusal
+        × (result.0.items ≡ gates.items))
+        ⊎ Unmarked serve.now.dir FILES_MARKER H.tells (λ seen.
+        FailsServe H.D.Disk H.Shelf G.L.Link G.Gate serve.now.dir serve.now.workers seen
+        (shelf_view H.Shelf shelf.new) gates.items result.0.items refusal)
+        (shelf_view H.Shelf shelf.old)) }
+{
+    match check_marker(alloc, shelf, &serve.dir, FILES_MARKER) {
+        Ok(()) => serve_files(rt, alloc, serve, shelf, gates),
+        Err(fault) => (gates, Err(Refusal::of_check(fault))),
+    }
 }
 
 // Serves the files of a directory, and tells whether a gate of a worker has failed.

@@ -168,10 +168,10 @@ fn ends_failing<R: Abort + Threads + Wait + Sync>(
 fn a_shelf_that_fails_is_a_failed_disk(rt: HostRuntime) -> Result<(), Fail> {
     let alloc = rt.alloc();
     let line = "rdfdelta: disk failed\n";
-    for number in 0..3u64 {
+    for number in 0..4u64 {
         ends_failing(&rt, alloc, number, 5, line)?;
     }
-    ends_failing(&rt, alloc, 3, 0, "")
+    ends_failing(&rt, alloc, 4, 0, "")
 }
 
 // A file is made this.
@@ -226,6 +226,16 @@ const BROKEN: &[(u32, &[u8], &str)] = &[
         0,
         b"RDJ2\0\0\0\0\x01\0\0\0\x01\0\0\0\x03S 0\0",
         "rdfdelta: file 0: broken event at 0\n",
+    ),
+    (
+        2099,
+        b"RDJ2\0\0\x08\x33\x01\0\0\0\x01\0\0\0\x01U\0",
+        "rdfdelta: file 2099: upgrade pending\n",
+    ),
+    (
+        2099,
+        b"RDJ2\0\0\x08\x33\x01\0",
+        "rdfdelta: file 2099: byte 9: damaged\n",
     ),
 ];
 

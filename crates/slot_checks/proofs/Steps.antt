@@ -6,6 +6,7 @@ use Rattle.std.proofs.lemmas.List.{take_more}
 use Rattle.disk_model.specs.Shelf.{SameOthers}
 use Rattle.disk_model.specs.declared.shelf.ShelfFault.{ShelfFault}
 use Rattle.disk_model.specs.declared.shelf.ShelfFault.TheVariants as shelf
+use Rattle.log_journal.specs.declared.at_front.FrontFault.TheVariants as front
 use Rattle.log_registry.specs.declared.fault.RegistryFault.TheVariants as registry
 use Rattle.patch_log.specs.declared.fault.LogFault.TheVariants as log
 use Rattle.slot_files.specs.Files.{Files, IsKept, bytes_at}
@@ -14,7 +15,7 @@ use Rattle.slot_checks.specs.declared.fault.CheckFault.{CheckFault}
 use Rattle.slot_checks.specs.declared.lines.FileLine.{FileLine}
 use Rattle.slot_checks.specs.declared.lines.FileLine.TheVariants as line
 use Rattle.slot_checks.specs.Checks.{HasFileLines, StopsAtLog, StopsInLogs, CheckStops, at_log, AreKept}
-use Rattle.slot_checks.specs.Faults.{of_shelf, HasFileFault, HasRegistryFileFault}
+use Rattle.slot_checks.specs.Faults.{of_shelf, HasFileFault, HasMarkerFault, HasRegistryFileFault}
 use Rattle.slot_checks.specs.Lines.{line_text, lines_text}
 use Rattle.slot_checks.specs.Sound.{IsLogLine, HoldsRegistry, AreLogLines}
 
@@ -25,7 +26,7 @@ kept_bytes old new (inl same) = ap (λ (file : Option (List ℕ)). unwrap_or fil
 kept_bytes old new (inr made) = ap (λ (file : Option (List ℕ)). unwrap_or file []) (made.1 ∙ sym (ap (λ (file : Option (List ℕ)). Some (unwrap_or file [])) made.0))
 
 -- one visit behind another
-kept_twice : (old mid new : Option (List ℕ)) → IsKept old mid → IsKept mid new → IsKept old new
+pub kept_twice : (old mid new : Option (List ℕ)) → IsKept old mid → IsKept mid new → IsKept old new
 kept_twice old mid new (inl same) second = subst (λ (file : Option (List ℕ)). IsKept file new) same second
 kept_twice old mid new (inr made) (inl same) = inr (made.0, same ∙ made.1)
 kept_twice old mid new (inr made) (inr again) = inr (made.0, again.1)
@@ -131,6 +132,10 @@ log_failed file number shelf.OutOfMemory = (log.OutOfMemory, refl, tt)
 pub registry_failed : (file : List ℕ) (fault : ShelfFault) → HasRegistryFileFault file (of_shelf fault)
 registry_failed file shelf.Failed = (registry.Failed, refl, tt)
 registry_failed file shelf.OutOfMemory = (registry.OutOfMemory, refl, tt)
+
+pub marker_failed : (file : List ℕ) (number : ℕ) (fault : ShelfFault) → HasMarkerFault file number (of_shelf fault)
+marker_failed file number shelf.Failed = inr (front.Failed, refl, tt)
+marker_failed file number shelf.OutOfMemory = inr (front.OutOfMemory, refl, tt)
 
 -- a fault that is handed on
 pub told_err : {T : Type 0} (P : CheckFault → Type 0) (result : Result T CheckFault) (fault : CheckFault) → IsErrAnd result (λ e. e ≡ fault) → P fault → IfErr result P

@@ -1,8 +1,11 @@
 -- Why a file of a registry and its logs isn't in its form.
-use Rattle.std.specs.Prelude.{◌≡◌, ℕ, List}
+use Rattle.std.specs.Prelude.{◌≡◌, ◌⊎◌, ℕ, List, Err}
 use Rattle.log_base.specs.declared.limits.TheConstants.{LOG_LIMITS}
 use Rattle.disk_model.specs.declared.shelf.ShelfFault.{ShelfFault}
 use Rattle.disk_model.specs.declared.shelf.ShelfFault.TheVariants as shelf
+use Rattle.log_journal.specs.Front.{HasFirst, IsFront}
+use Rattle.log_journal.specs.declared.at_front.FrontFault.{FrontFault}
+use Rattle.log_journal.specs.declared.at_front.FrontFault.TheVariants as front
 use Rattle.log_registry.specs.Fault.{HasRegistryFault}
 use Rattle.log_registry.specs.declared.fault.RegistryFault.{RegistryFault}
 use Rattle.log_registry.specs.declared.fault.RegistryFault.TheVariants as registry
@@ -32,6 +35,14 @@ check_fault_of_log file (log.OverLimit length limit) = check.OverLimit file leng
 check_fault_of_log file log.OutOfMemory = check.OutOfMemory
 check_fault_of_log file (log.BrokenChain version) = check.BrokenChain file version
 
+-- a fault of the front of a journal, with its file
+abbrev pub check_fault_of_front : ℕ → FrontFault → CheckFault
+check_fault_of_front file front.Failed = check.Failed
+check_fault_of_front file (front.Damaged at) = check.Damaged file at
+check_fault_of_front file front.OldFormat = check.OldFormat file
+check_fault_of_front file (front.WrongNumber found) = check.WrongNumber file found
+check_fault_of_front file front.OutOfMemory = check.OutOfMemory
+
 -- a fault of a shelf
 abbrev pub of_shelf : ShelfFault → CheckFault
 of_shelf shelf.Failed = check.Failed
@@ -47,3 +58,11 @@ HasRegistryFileFault file fault = (why : RegistryFault)
 abbrev pub HasFileFault : List ℕ → ℕ → CheckFault → Type 0
 HasFileFault file number fault = (why : LogFault)
     × (fault ≡ check_fault_of_log number why) × HasLogFault file number LOG_LIMITS why
+
+-- A payload stands in the marker of an upgrade, or its front has this fault. That a call failed,
+-- and want of memory, are free.
+abbrev pub HasMarkerFault : List ℕ → ℕ → CheckFault → Type 0
+HasMarkerFault file number fault =
+    ((fault ≡ check.UpgradePending number) × ((payload : List ℕ) × HasFirst file number payload))
+    ⊎ ((why : FrontFault) × (fault ≡ check_fault_of_front number why)
+    × IsFront file number (Err why))

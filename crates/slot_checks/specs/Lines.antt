@@ -39,5 +39,7 @@ fault_line (check.BrokenChain file version) = codes "rdfdelta: file "
     ++ (decimal file ++ (codes ": broken chain at version " ++ (decimal version ++ 10 ∷ [])))
 fault_line (check.BrokenEvent place) =
     codes "rdfdelta: file 0: broken event at " ++ (decimal place ++ 10 ∷ [])
+fault_line (check.UpgradePending file) =
+    codes "rdfdelta: file " ++ (decimal file ++ (codes ": upgrade pending" ++ 10 ∷ []))
 fault_line check.Failed = codes "rdfdelta: disk failed" ++ 10 ∷ []
 fault_line check.OutOfMemory = codes "rdfdelta: out of memory" ++ 10 ∷ []

@@ -1,6 +1,7 @@
 //! Why a file isn't in its form.
 use delta_base::Back;
 use disk_model::ShelfFault;
+use log_journal::FrontFault;
 use log_registry::RegistryFault;
 use patch_log::LogFault;
 
@@ -18,6 +19,8 @@ pub enum CheckFault {
     BrokenChain { file: u32, version: u64 },
     /// The payload of the registry at this place, counted from 0, isn't one that may stand there.
     BrokenEvent { place: u64 },
+    /// The marker of an upgrade has a payload: the upgrade was broken off, and is to be finished.
+    UpgradePending { file: u32 },
     Failed,
     OutOfMemory,
 }
@@ -25,6 +28,7 @@ pub enum CheckFault {
 impl CheckFault {
     ghost use Rattle.std.specs.Prelude.{◌≡◌};
     ghost use Rattle.slot_checks.specs.Faults.{check_fault_of_registry, check_fault_of_log};
+    ghost use Rattle.slot_checks.specs.Faults.{check_fault_of_front};
 
     /// A fault of the registry, whose file has the number 0.
     pub fn of_registry(fault: RegistryFault) -> CheckFault
@@ -61,6 +65,19 @@ impl CheckFault {
             },
             LogFault::OutOfMemory => CheckFault::OutOfMemory,
             LogFault::BrokenChain { version } => CheckFault::BrokenChain { file, version },
+        }
+    }
+
+    /// A fault of the front of a journal, with its file.
+    pub fn of_front(file: u32, fault: FrontFault) -> CheckFault
+        ensures { result ≡ check_fault_of_front file fault }
+    {
+        match fault {
+            FrontFault::Failed => CheckFault::Failed,
+            FrontFault::Damaged { at } => CheckFault::Damaged { file, at },
+            FrontFault::OldFormat => CheckFault::OldFormat { file },
+            FrontFault::WrongNumber { found } => CheckFault::WrongNumber { file, found },
+            FrontFault::OutOfMemory => CheckFault::OutOfMemory,
         }
     }
 }

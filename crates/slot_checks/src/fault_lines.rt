@@ -51,6 +51,13 @@ fn broken_event(alloc: Global, place: u64) -> Result<Vec<u8>, OutOfMemory>
     Ok(text.into_bytes())
 }
 
+fn upgrade_pending(alloc: Global, file: u32) -> Result<Vec<u8>, OutOfMemory>
+    ensures { IfOk result (λ text. text.items ≡ fault_line (CheckFault.UpgradePending file)) }
+{
+    let text = format!(in alloc; "rdfdelta: file {file}: upgrade pending\n")?;
+    Ok(text.into_bytes())
+}
+
 fn fixed(alloc: Global, line: &str) -> Result<Vec<u8>, OutOfMemory>
     ensures { IfOk result (λ text. text.items ≡ line.now) }
 {
@@ -72,6 +79,7 @@ pub fn fault_text(alloc: Global, fault: CheckFault) -> Result<Vec<u8>, OutOfMemo
         } => over_limit(alloc, file, length, limit),
         CheckFault::BrokenChain { file, version } => broken_chain(alloc, file, version),
         CheckFault::BrokenEvent { place } => broken_event(alloc, place),
+        CheckFault::UpgradePending { file } => upgrade_pending(alloc, file),
         CheckFault::Failed => fixed(alloc, "rdfdelta: disk failed\n"),
         CheckFault::OutOfMemory => fixed(alloc, "rdfdelta: out of memory\n"),
     }

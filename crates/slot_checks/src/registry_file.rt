@@ -2,7 +2,7 @@
 ghost use Rattle.std.specs.Prelude.{◌≡◌, ℕ, ◌≤◌, IfOk, IfErr, IsErrOf};
 ghost use Rattle.delta_base.specs.Outside.{Rose};
 ghost use Rattle.log_base.specs.declared.limits.TheConstants.{MOST_SLOTS};
-ghost use Rattle.disk_model.specs.Past.{reads};
+ghost use Rattle.disk_model.specs.Past.{Keeps, reads};
 ghost use Rattle.slot_checks.specs.Sound.{HoldsRegistry};
 ghost use Rattle.slot_checks.specs.Faults.{HasRegistryFileFault};
 
@@ -25,7 +25,7 @@ pub fn read_registry_file<D: Disk>(alloc: Global, disk: D) -> (D, Result<Registr
         HoldsRegistry (reads (D.past disk)) found.slots found.records) }
     ensures few { IfOk result.1 (λ found. (1 ≤ found.slots) × (found.slots ≤ MOST_SLOTS)) }
     ensures fault { D.tells → IfErr result.1 (HasRegistryFileFault (reads (D.past disk))) }
-    ensures kept { D.tells → reads (D.past result.0) ≡ reads (D.past disk) }
+    ensures kept { D.tells → Keeps (D.past disk) (D.past result.0) }
     ensures cause { IsErrOf result.1 CheckFault.Failed → Rose (D.faults disk) (D.faults result.0) }
     ensures mark { D.mark result.0 ≡ D.mark disk }
 {

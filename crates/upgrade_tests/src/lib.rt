@@ -2,4 +2,8 @@
 #![tactic(auto)]
 
 #[cfg(test)]
+mod directories;
+#[cfg(test)]
+mod stopping;
+#[cfg(test)]
 mod upgrades;

@@ -3,7 +3,7 @@ use Rattle.slot_checks.proofs.Steps.{all_kept, all_twice, same_bytes}
 use Rattle.slot_checks.specs.Checks.{AreKept}
 use Rattle.command_tables.specs.declared.refusal.Refusal.TheVariants as refusals
 use Rattle.delta_server.specs.Ends.{at_shelf}
-use Rattle.delta_server.proofs.Shelving.{kept_over, read_same, rose_before, rose_behind}
+use Rattle.delta_server.proofs.Shelving.{kept_over, begun_same, rose_before, rose_behind}
 use Rattle.delta_server.proofs.opening.take_disks.Goals as goal
 
 pub returns-in_default-clause-stopped : goal.returns-in_default-clause-stopped
@@ -20,10 +20,10 @@ returns-in-Ok-take_logs-clause-asked g c =
       slots = c.in-Ok-take_registry.slots;
       count = c.in-Ok-take_logs.ensures.count;
       marked = λ told. c.take_logs.ensures.marked told (first.marked told);
-      read = λ told.
+      begun = λ told.
           let same = λ (n : ℕ). same_bytes dir 1 old mid n (first.kept told) in
-          read_same g.H.D.Disk mid old dir 0 c.take_logs.new.disks.items same
-          (c.take_logs.ensures.read told (read_same g.H.D.Disk old mid dir 0 c.take_registry.new.disks.items (λ (n : ℕ). sym (same n)) (first.read told)));
+          begun_same g.H.D.Disk mid old dir 0 c.take_logs.new.disks.items same
+          (c.take_logs.ensures.begun told (begun_same g.H.D.Disk old mid dir 0 c.take_registry.new.disks.items (λ (n : ℕ). sym (same n)) (first.begun told)));
       said = λ told. first.said told;
     }
 
@@ -50,7 +50,7 @@ returns-in-Err-take_logs-clause-stopped g c =
     (λ told. let said = first.said told in inr (c.in-Ok-take_registry.slots, said.0, said.1, c.take_logs.ensures.within))
     (λ told.
     let same = λ (n : ℕ). same_bytes dir 1 old mid n (first.kept told) in
-    let read = read_same g.H.D.Disk mid old dir 0 left same
-    (c.take_logs.ensures.read told (read_same g.H.D.Disk old mid dir 0 c.take_registry.new.disks.items (λ (n : ℕ). sym (same n)) (first.read told))) in
+    let begun = begun_same g.H.D.Disk mid old dir 0 left same
+    (c.take_logs.ensures.begun told (begun_same g.H.D.Disk old mid dir 0 c.take_registry.new.disks.items (λ (n : ℕ). sym (same n)) (first.begun told))) in
     let kept : AreKept dir (length left) old taken = all_twice dir 1 (length left) old mid taken c.take_logs.ensures.grown (first.kept told) (c.take_logs.ensures.kept told) in
-    kept_over g.H.D.Disk dir left old taken new kept read (c.put_back.ensures.put_back told dir (c.take_logs.ensures.marked told (first.marked told))))
+    kept_over g.H.D.Disk dir left old taken new kept begun (c.put_back.ensures.put_back told dir (c.take_logs.ensures.marked told (first.marked told))))

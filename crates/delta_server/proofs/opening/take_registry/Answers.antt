@@ -1,11 +1,13 @@
-use Rattle.std.proofs.Common.{List, ℕ, inl, inr, Err, refl, sym, ap, subst, ◌∙◌, arith}
-use Rattle.disk_model.specs.Past.{reads}
+use Rattle.std.proofs.Common.{List, [], ◌∷◌, ◌++◌, ℕ, inl, inr, Err, refl, sym, ap, subst, ◌∙◌, arith}
+use Rattle.disk_model.specs.Past.{Past, began, reads, Keeps}
 use Rattle.disk_model.specs.declared.shelf.ShelfFault.{ShelfFault}
+use Rattle.slot_files.specs.Files.{bytes_at}
 use Rattle.slot_checks.proofs.Steps.{all_kept, visit_kept}
 use Rattle.slot_checks.specs.Faults.{HasRegistryFileFault}
 use Rattle.slot_checks.specs.declared.fault.CheckFault.{CheckFault}
 use Rattle.command_tables.specs.declared.refusal.Refusal.TheVariants as refusals
 use Rattle.delta_server.specs.Ends.{HasNoDisks, at_registry, at_shelf}
+use Rattle.delta_server.specs.Files.{HaveBegun}
 use Rattle.command_tables.specs.Views.{shelf_view}
 use Rattle.delta_server.proofs.Shelving.{err_at, rose_before, put_at}
 use Rattle.delta_server.proofs.Halls.{risen}
@@ -45,3 +47,13 @@ returns-in-Err-clause-stopped g c =
     (λ told. put_at g.H.D.Disk dir old mid new c.in-Ok.first after (opened.made told) (c.disk.ensures.others told) (opened.opened told)
     (c.read_registry_file-first.ensures.kept (tell told)) (c.read_registry_file-first.ensures.mark ∙ opened.mark told)
     (c.put_back.ensures.kept told dir 0 (c.read_registry_file-first.ensures.mark ∙ opened.mark told)) (c.put_back.ensures.others told)))
+
+pub returns-in-Ok-answer-clause-begun : goal.returns-in-Ok-answer-clause-begun
+returns-in-Ok-answer-clause-begun g c told =
+    let old = g.H.Shelf.files c.args.shelf.now in
+    let dir = c.args.dir.now in
+    let after = c.read_registry_file-first.result.0 in
+    let pushed = c.push_reserved.ensures.items ∙ ap (λ (l : List g.row.H-D.Denot). l ++ after ∷ []) c.requires.none in
+    let kept : Keeps (began (bytes_at old dir 0)) (g.H.D.Disk.past after) =
+    subst (λ (p : Past). Keeps p (g.H.D.Disk.past after)) (c.in-Ok.ensures.opened told) (c.read_registry_file-first.ensures.kept (g.met.H.Shelf.disks_tell told)) in
+    subst (HaveBegun g.H.D.Disk old dir 0) (sym pushed) (kept, tt)

@@ -52,6 +52,7 @@ returns-in-Ok-serve_gates-clause-served g c =
       hall = hall;
       passes = passes;
       left = left;
+      enough = some;
       over = over;
       worked =
           subst (λ (l : List g.row.G.Denot). HasWorked g.H.D.Disk g.G.L.Link g.G.Gate.tells g.G.Gate.arrivals g.G.Gate.back g.G.Gate.faults hall passes (take workers gates) l left)

@@ -1,0 +1,12 @@
+pub mod Lists
+pub mod PutBack
+pub mod Ended
+pub mod Visits
+pub mod Fronts
+pub mod Told
+pub mod Numbers
+pub mod Sets
+pub mod Stops
+pub mod Same
+pub mod Directed
+pub mod Counted
