@@ -1,0 +1,1 @@
+"""What `bench/refused` refuses, asks and looks at."""
