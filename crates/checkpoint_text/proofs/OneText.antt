@@ -34,7 +34,7 @@ use Rattle.checkpoint_line.specs.declared.first.FirstLine.{FirstLine}
 use Rattle.checkpoint_line.specs.First.{first_line}
 use Rattle.checkpoint_line.proofs.Cuts.{one_first}
 use Rattle.checkpoint_text.specs.Brief.{Brief}
-use Rattle.checkpoint_text.specs.Text.{line_of_id, prefix_rows, first_line_of, IsSetting, IsCheckpoint}
+use Rattle.checkpoint_text.specs.Text.{line_of_id, IsIdValue, prefix_rows, first_line_of, Setting, setting_line, IsSetting, IsCheckpoint}
 use Rattle.checkpoint_text.proofs.Items.{once, itself, concat_flat, concat_mapped, All-from_contains}
 use Rattle.checkpoint_text.proofs.Ordered.{ordered_from, ordered_to}
 
@@ -55,22 +55,12 @@ one_id a b small_a small_b same =
     let numbers : a.0 ≡ b.0 = cc in
     ap (λ (n : ℕ). record { 0 = n }) numbers
 
-abbrev pub IsIdValue : Id → Type 0
-IsIdValue id = IsId id.0
-
 pub id_cut : (a b : Id) (x y : List ℕ) → IsIdValue a → IsIdValue b → line_of_id a ++ x ≡ line_of_id b ++ y → (a ≡ b) × (x ≡ y)
 id_cut a b x y small_a small_b same =
     let cut = front_cut (text_of a.0) (text_of b.0) (10 ∷ x) (10 ∷ y) (length-text_of a.0 ∙ sym (length-text_of b.0)) (sym (append_assoc (text_of a.0) (10 ∷ []) x) ∙ same ∙ append_assoc (text_of b.0) (10 ∷ []) y) in
     (one_id a b small_a small_b cut.0, ap (drop 1) cut.1)
 
 -- ---- rows
-
--- a prefix with its graph, and its IRI
-abbrev pub Setting : Type 0
-Setting = PrefixKey × List ℕ
-
-abbrev pub setting_line : Setting → List ℕ
-setting_line setting = change_row (prefix_change setting)
 
 one_setting : (a b : Setting) → prefix_change a ≡ prefix_change b → a ≡ b
 one_setting a b same =

@@ -9,7 +9,7 @@ use Rattle.rdf_terms.specs.Line.{line, line_cmp}
 use Rattle.patch_rows.specs.Printing.{IsChangeValue, IsWellPlaced}
 use Rattle.nquads_documents.specs.Laws.{IsQuadValue}
 use Rattle.dataset_tx.specs.Prefixes.{prefix_change}
-use Rattle.dataset_tx.specs.Rows.{rows_in_order}
+use Rattle.dataset_tx.specs.Rows.{change_row, rows_in_order}
 use Rattle.checkpoint_line.specs.declared.first.FirstLine.{FirstLine}
 use Rattle.checkpoint_line.specs.First.{first_line, AreCounts}
 use Rattle.checkpoint_text.specs.Brief.{Brief}
@@ -17,6 +17,10 @@ use Rattle.checkpoint_text.specs.Brief.{Brief}
 -- an id, hyphenated in lower case, and a line feed
 abbrev pub line_of_id : Id → List ℕ
 line_of_id id = text_of id.0 ++ 10 ∷ []
+
+-- it has 128 bits
+abbrev pub IsIdValue : Id → Type 0
+IsIdValue id = IsId id.0
 
 -- the rows that set the prefixes of a dataset, in the order of their bytes
 abbrev pub prefix_rows : Dataset → List (List ℕ)
@@ -42,12 +46,20 @@ abbrev pub checkpoint : ℕ → Brief → List ℕ
 checkpoint generation brief = text_of_parts (first_line_of generation brief) brief.ids
     (prefix_rows brief.contents) (map line brief.contents.quads)
 
--- a prefix with its graph and its IRI, which a row can set
-abbrev pub IsSetting : PrefixKey × List ℕ → Type 0
+-- a prefix with its graph, and its IRI
+abbrev pub Setting : Type 0
+Setting = PrefixKey × List ℕ
+
+-- the row that sets it
+abbrev pub setting_line : Setting → List ℕ
+setting_line setting = change_row (prefix_change setting)
+
+-- such that a row can set
+abbrev pub IsSetting : Setting → Type 0
 IsSetting setting = IsChangeValue (prefix_change setting) × IsWellPlaced (prefix_change setting)
 
 -- the prefixes are such in their order
-pub record ArePrefixes (prefixes : List (PrefixKey × List ℕ)) : Type 0 where
+pub record ArePrefixes (prefixes : List Setting) : Type 0 where
   pub in_order : IsStrictlySortedBy prefix_cmp (map (λ setting. setting.0) prefixes)
   pub are : All IsSetting prefixes
 
@@ -67,5 +79,5 @@ pub record IsCheckpoint (text : List ℕ) (generation : ℕ) (brief : Brief) : T
   pub text_is : text ≡ checkpoint generation brief
   pub counts : AreCounts (first_line_of generation brief)
   pub in_front : length (first_line (first_line_of generation brief)) ≤ most_of_first
-  pub ids_are : All (λ id. IsId id.0) brief.ids
+  pub ids_are : All IsIdValue brief.ids
   pub contents_are : IsDataset brief.contents

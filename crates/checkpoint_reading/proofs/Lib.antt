@@ -1,0 +1,10 @@
+pub mod Fronts
+pub mod Inserting
+pub mod Changes
+pub mod Settings
+pub mod Shown
+pub mod Twice
+pub mod Exits
+pub mod Whole
+pub mod ReadHere
+pub mod Stripped
