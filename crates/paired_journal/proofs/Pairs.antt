@@ -1,5 +1,5 @@
 -- What the disks of two files leave.
-use Rattle.std.proofs.Common.{◌≡◌, inl, ℕ, ◌+◌, Bool, true, false, List, Option, Some, None, Result, Ok, Err, refl, sym, subst}
+use Rattle.std.proofs.Common.{◌≡◌, inl, inr, arith, ℕ, ◌+◌, Bool, true, false, List, Option, Some, None, Result, Ok, Err, refl, sym, subst}
 use Rattle.std.specs.Prelude.{not, is_ok, if◌then◌else◌, OnOk, OnErr}
 use Rattle.disk_model.specs.declared.disk.Disk.{Ghosts}
 use Rattle.disk_model.specs.Past.{EveryImage, LeavesOnly}
@@ -14,7 +14,8 @@ use Rattle.zone_files.proofs.Together.{later_next, later_before}
 use Rattle.zone_beside.specs.declared.beside.Beside.{Beside}
 use Rattle.zone_beside.specs.Beside.{MayHoldBeside, MayHoldWriting}
 use Rattle.zone_beside.specs.StandsBehind.{StandsBehind}
-use Rattle.paired_journal.specs.Pair.{HoldsWith}
+use Rattle.log_journal.specs.Written.{DiskWent}
+use Rattle.paired_journal.specs.Pair.{HoldsWith, DisksWent}
 
 -- the generation that was current is earlier than the next one
 pub before_next : (second : Bool) (g : ℕ) → IsEarlier (not second) (g + 1) (Some g)
@@ -78,3 +79,36 @@ module _ {D : Type 0} {disks : Ghosts D} where
 pub err_from : {T E : Type 0} (result : Result T E) (Q R : Type 0) → (Q → R) → OnErr result Q → OnErr result R
 err_from (Ok done) Q R implies is = is
 err_from (Err fault) Q R implies is = implies is
+
+-- ---- both disks
+
+module _ {D : Type 0} (disks : Ghosts D) where
+  -- the one may have failed, and the other hasn't
+  pub one_went : (failed other : Type 0) (old new other_old other_new : D) → (other → ⊥) → DiskWent disks failed old new → DiskWent disks other other_old other_new → DisksWent disks failed old new other_old other_new
+  one_went failed other old new other_old other_new none went also = record {
+    cause = λ is. inl (went.cause is);
+    never_falls = (went.never_falls, also.never_falls);
+    well = λ not. (went.well not, also.well none);
+    mark = (went.mark, also.mark);
+  }
+
+  pub other_went : (failed one : Type 0) (old new other_old other_new : D) → (one → ⊥) → DiskWent disks one old new → DiskWent disks failed other_old other_new → DisksWent disks failed old new other_old other_new
+  other_went failed one old new other_old other_new none also went = record {
+    cause = λ is. inr (went.cause is);
+    never_falls = (also.never_falls, went.never_falls);
+    well = λ not. (also.well none, went.well not);
+    mark = (also.mark, went.mark);
+  }
+
+  -- a disk that wasn't asked
+  pub not_asked : (disk : D) → DiskWent disks ⊥ disk disk
+  not_asked disk = record { cause = λ none. absurd none; never_falls = omega arith; well = λ none. refl; stays_short = λ plans is. is; mark = refl }
+
+  -- another name for what failed
+  pub as_failed : (failed told : Type 0) (old new other_old other_new : D) → (failed → told) → (told → failed) → DisksWent disks failed old new other_old other_new → DisksWent disks told old new other_old other_new
+  as_failed failed told old new other_old other_new is was went = record {
+    cause = λ t. went.cause (was t);
+    never_falls = went.never_falls;
+    well = λ not. went.well (λ f. not (is f));
+    mark = went.mark;
+  }

@@ -1,16 +1,15 @@
 //! Appends to the current file of two.
-ghost use Rattle.std.specs.Prelude.{◌≡◌, ◌⊎◌, ℕ, ◌+◌, ◌-◌, ◌^◌, ◌<◌, ◌≤◌, List, Option, None};
+ghost use Rattle.std.specs.Prelude.{◌≡◌, ℕ, ◌+◌, ◌-◌, ◌^◌, ◌<◌, ◌≤◌, List, Option, None};
 ghost use Rattle.std.specs.Prelude.{length, IsErr, OnOk, OnErr};
 ghost use Rattle.log_base.specs.declared.limits.TheConstants.{PAYLOAD_FRAME};
 ghost use Rattle.disk_model.specs.Past.{LeavesOnly};
-ghost use Rattle.delta_base.specs.Outside.{Rose};
 ghost use Rattle.log_journal.specs.Payload.{payload_of};
 ghost use Rattle.log_journal.specs.StandsFor.{length_of, limit_of, count_of, disk_of};
 ghost use Rattle.log_journal.specs.Writing.{StandsWith, HoldsDuring, payloads_left};
 ghost use Rattle.log_journal.specs.Writing.{doubt_left, failing, longer_by};
 ghost use Rattle.zone_beside.specs.Beside.{MayHoldBeside};
 ghost use Rattle.zone_beside.specs.StandsBehind.{StandsBehind};
-ghost use Rattle.paired_journal.specs.Pair.{IsLeft};
+ghost use Rattle.paired_journal.specs.Pair.{IsLeft, DisksWent};
 
 use disk_model::Disk;
 use log_base::Phase;
@@ -52,11 +51,8 @@ pub fn append<D: Disk>(
         ((left : Option (List ℕ)) × IsLeft doubt left × StandsBehind result.0 left) }
     ensures second { result.0.on_second ≡ beside.on_second }
     ensures generation { result.0.generation ≡ beside.generation }
-    ensures cause { IsErr result.1
-        → Rose (D.faults (disk_of current.old)) (D.faults (disk_of current.new))
-        ⊎ Rose (D.faults beside.disk) (D.faults result.0.disk) }
-    ensures never_falls { (D.faults (disk_of current.old) ≤ D.faults (disk_of current.new))
-        × (D.faults beside.disk ≤ D.faults result.0.disk) }
+    ensures went { DisksWent D.Disk (IsErr result.1) (disk_of current.old) (disk_of current.new)
+        beside.disk result.0.disk }
     ensures length { (length_of current.new) ≡ (length_of current.old)
         + longer_by (failing result.1) (length (payload_of block.now)) }
     ensures limit { (limit_of current.new) ≡ (limit_of current.old) }

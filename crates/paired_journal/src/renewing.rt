@@ -1,16 +1,16 @@
 //! Begins the journal of two files anew in the other file.
-ghost use Rattle.std.specs.Prelude.{◌≡◌, ◌⊎◌, ℕ, ◌+◌, ◌-◌, ◌^◌, ◌<◌, ◌≤◌, List, Option, Some, None};
+ghost use Rattle.std.specs.Prelude.{◌≡◌, ℕ, ◌+◌, ◌-◌, ◌^◌, ◌<◌, ◌≤◌, List, Option, Some, None};
 ghost use Rattle.std.specs.Prelude.{length, is_ok, if◌then◌else◌, OnOk, OnErr, IsErrOf};
 ghost use Rattle.log_base.specs.declared.limits.TheConstants.{EMPTY_JOURNAL, PAYLOAD_FRAME};
 ghost use Rattle.log_base.specs.declared.limits.TheConstants.{ZONE_FILE_LIMIT};
 ghost use Rattle.disk_model.specs.Past.{LeavesOnly};
-ghost use Rattle.delta_base.specs.Outside.{Rose};
 ghost use Rattle.log_journal.specs.StandsFor.{StandsFor, length_of, limit_of, disk_of};
 ghost use Rattle.log_journal.specs.Writing.{StandsWith};
+ghost use Rattle.log_journal.specs.Written.{DiskWent};
 ghost use Rattle.zone_files.specs.Generation.{number_of, PayloadsShow};
 ghost use Rattle.zone_beside.specs.Beside.{MayHoldWriting, IsLeftBehind};
 ghost use Rattle.zone_beside.specs.StandsBehind.{StandsBehind};
-ghost use Rattle.paired_journal.specs.Pair.{HoldsWith, IsLeft, IsRenewed};
+ghost use Rattle.paired_journal.specs.Pair.{HoldsWith, IsLeft, IsRenewed, DisksWent};
 
 use disk_model::Disk;
 use log_journal::Journal;
@@ -59,9 +59,9 @@ pub fn renew<D: Disk>(
         → LeavesOnly (MayHoldWriting beside.on_second beside.generation doubt payload.now)
         (D.past beside.disk)
         (D.past (if is_ok result.1 then disk_of current.new else result.0.disk)) }
-    ensures cause { IsErrOf result.1 WriteFault.Failed
-        → Rose (D.faults (disk_of current.old)) (D.faults (disk_of current.new))
-        ⊎ Rose (D.faults beside.disk) (D.faults result.0.disk) }
+    ensures went { DisksWent D.Disk (IsErrOf result.1 WriteFault.Failed) (disk_of current.old)
+        (if is_ok result.1 then result.0.disk else disk_of current.new)
+        beside.disk (if is_ok result.1 then disk_of current.new else result.0.disk) }
 {
     match current.settle() {
         Ok(()) => begin_anew(current, beside, payload),
@@ -96,8 +96,8 @@ fn begin_anew<D: Disk>(
         → LeavesOnly (MayHoldWriting beside.on_second beside.generation doubt payload.now)
         (D.past beside.disk)
         (D.past (if is_ok result.1 then disk_of current.new else result.0.disk)) }
-    ensures cause { IsErrOf result.1 WriteFault.Failed
-        → Rose (D.faults beside.disk) (D.faults result.0.disk) }
+    ensures went { DiskWent D.Disk (IsErrOf result.1 WriteFault.Failed) beside.disk
+        (if is_ok result.1 then disk_of current.new else result.0.disk) }
 {
     let on_second = beside.on_second;
     let generation = beside.generation;

@@ -19,12 +19,6 @@ not_looked disks disk failed none = record {
   mark = refl;
 }
 
--- the current file is in its generation
-pub current_in : (on_second : Bool) (first second : List ℕ) (generation of_first : ℕ) (of_second : Option ℕ) → Some generation ≡ (if on_second then of_second else Some of_first)
-    → IsInGeneration first false (Some of_first) → IsInGeneration second true of_second → IsInGeneration (if on_second then second else first) on_second (Some generation)
-current_in true first second generation of_first of_second is in_first in_second = subst (λ (o : Option ℕ). IsInGeneration second true o) (sym is) in_second
-current_in false first second generation of_first of_second is in_first in_second = subst (λ (o : Option ℕ). IsInGeneration first false o) (sym is) in_first
-
 -- a file that was synced, in an earlier generation
 image_behind : (on_second : Bool) (generation : ℕ) (of : Option ℕ) (past before : Past) → past ≡ synced before → IsInGeneration (reads before) (not on_second) of → IsEarlier on_second generation of → EveryImage past (IsBehind on_second generation)
 image_behind on_second generation of past before is in_generation earlier = λ image left.

@@ -2,9 +2,9 @@
 ghost use Rattle.std.specs.Prelude.{◌≡◌, Some, None, true, false, IfOk, IfErr, if◌then◌else◌};
 ghost use Rattle.disk_model.specs.Past.{reads};
 ghost use Rattle.log_journal.specs.Written.{Reopened, RefusedOpening};
-ghost use Rattle.zone_files.specs.Generation.{IsInGeneration, is_later};
+ghost use Rattle.zone_files.specs.Generation.{is_later};
 ghost use Rattle.zone_files.specs.Pair.{IsEarlier};
-ghost use Rattle.zone_beside.specs.Finding.{HasFindFault};
+ghost use Rattle.zone_beside.specs.Finding.{HasFindFault, IsCurrent};
 ghost use Rattle.zone_beside.specs.Found.{first_of, second_of};
 ghost use Rattle.zone_beside.specs.StandsBehind.{StandsBehind};
 
@@ -33,9 +33,8 @@ pub struct FindRefusal<D: Disk> {
 /// Finds the current file: that in the later generation, and the first where both are in the same.
 /// No more than the fronts of both is read.
 pub fn find_current<D: Disk>(alloc: Global, first: D, second: D) -> Result<Found<D>, FindRefusal<D>>
-    ensures current { D.tells → IfOk result (λ found. IsInGeneration
-        (reads (D.past (if found.beside.on_second then second else first)))
-        found.beside.on_second (Some found.beside.generation)) }
+    ensures current { D.tells → IfOk result (λ found. IsCurrent (reads (D.past first))
+        (reads (D.past second)) found.beside.on_second found.beside.generation) }
     ensures beside { IfOk result (λ found. StandsBehind found.beside None) }
     ensures fault { D.tells → IfErr result (λ refusal.
         HasFindFault (reads (D.past first)) (reads (D.past second)) refusal.fault) }

@@ -23,7 +23,7 @@ one_checked p q is_p is_q same =
     let meanings : p.meaning ≡ q.meaning = one_meaning q.text p.meaning q.meaning (subst (λ (t : List ℕ). IsPatch t p.meaning) same is_p) is_q in
     ap (λ (t : List ℕ). record { text = t; meaning = p.meaning }) same ∙ ap (λ (m : Meaning). record { text = q.text; meaning = m }) meanings
 
-same_patches : (ps qs : List CheckedPatch) → AreChecked ps → AreChecked qs → checked_texts ps ≡ checked_texts qs → ps ≡ qs
+pub same_patches : (ps qs : List CheckedPatch) → AreChecked ps → AreChecked qs → checked_texts ps ≡ checked_texts qs → ps ≡ qs
 same_patches [] [] are_p are_q same = refl
 same_patches [] (q ∷ qs) are_p are_q same = absurd (cc)
 same_patches (p ∷ ps) [] are_p are_q same = absurd (cc)
@@ -32,7 +32,7 @@ same_patches (p ∷ ps) (q ∷ qs) are_p are_q same =
     let others = same_patches ps qs are_p.1 are_q.1 (other_texts p.text q.text (checked_texts ps) (checked_texts qs) same) in
     ap (λ (c : CheckedPatch). c ∷ ps) one ∙ ap (λ (cs : List CheckedPatch). q ∷ cs) others
 
-take_once : (before : Brief) (patches : List CheckedPatch) (a b : Brief) → TakeTo before patches a → TakeTo before patches b → a ≡ b
+pub take_once : (before : Brief) (patches : List CheckedPatch) (a b : Brief) → TakeTo before patches a → TakeTo before patches b → a ≡ b
 take_once before [] a b to_a to_b = to_a ∙ sym to_b
 take_once before (patch ∷ patches) a b to_a to_b = take_once (with_patch before patch) patches a b to_a.1 to_b.1
 

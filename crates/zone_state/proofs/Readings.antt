@@ -1,25 +1,28 @@
 -- Reading a zone goes on from payload to payload.
-use Rattle.std.proofs.Common.{◌≡◌, inl, inr, ⊎_elim, ℕ, ◌+◌, Bool, true, false, List, [], ◌∷◌, ◌++◌, map, length, None, refl, sym, ◌∙◌, ap, subst, arith, length-append}
+use Rattle.std.proofs.Common.{◌≡◌, inl, inr, ⊎_elim, ℕ, ◌+◌, ◌-◌, ◌*◌, ◌^◌, ◌≤◌, Bool, true, false, List, [], ◌∷◌, ◌++◌, map, length, None, refl, sym, ◌∙◌, ap, subst, arith, length-append}
 use Rattle.std.specs.List.{Contains, flat_map}
 use Rattle.std.proofs.lemmas.List.{map-append, length-map, append-nil}
+use Rattle.std.proofs.Math.Nat.{min-eq_left}
 use Rattle.std.proofs.lemmas.Grind.{flat_map-append}
+use Rattle.std.proofs.lemmas.List.Sums.{sum_by-cons}
 use Rattle.std.proofs.lemmas.List.Elements.{Contains-append_left, Contains-append_right}
 use Rattle.delta_base.specs.declared.id.Id.{Id}
+use Rattle.log_base.specs.declared.limits.TheConstants.{PATCH_LIMIT}
 use Rattle.rdf_terms.specs.declared.term.Term.{Term}
 use Rattle.rdf_terms.specs.declared.change.Change.{Change}
 use Rattle.rdf_terms.specs.Dataset.{Dataset, empty}
 use Rattle.term_table.specs.Table.{most}
 use Rattle.dataset_tx.specs.Held.{terms_of, AreMet, AreMore}
-use Rattle.patch_meaning.specs.Checked.{CheckedPatch}
+use Rattle.patch_meaning.specs.Checked.{CheckedPatch, AreChecked}
 use Rattle.patch_meaning.specs.Patch.{Meaning, IsPatch}
 use Rattle.patch_meaning.proofs.Settled.{one_meaning}
 use Rattle.chain_core.specs.Breaks.{BreaksAt}
 use Rattle.zone_state.specs.declared.opening.Reading.{Reading}
 use Rattle.chain_core.specs.Ids.{last_of, version_among}
 use Rattle.zone_state.specs.Log.{AreChained}
-use Rattle.zone_state.specs.Brief.{Brief, with_patch, id_taken, changes_taken}
+use Rattle.zone_state.specs.Brief.{Brief, brief_of, with_patch, id_taken, changes_taken}
 use Rattle.zone_state.specs.Next.{IsNextPatch, AreFoundPatches}
-use Rattle.zone_state.specs.Opening.{HasReadZone, MeetsMore, HasReceived}
+use Rattle.zone_state.specs.Opening.{HasReadZone, AddsPatch, MeetsMore, HasReceived}
 use Rattle.zone_state.specs.State.{brief_in}
 use Rattle.zone_state.proofs.Broken.{breaks}
 use Rattle.zone_state.proofs.Growing.{brief-push, texts-push, checked-push, chain-push}
@@ -76,34 +79,50 @@ not_full : (old new : Bool) → (old ≡ true → new ≡ true) → new ≡ fals
 not_full false new stays is = refl
 not_full true new stays is = absurd (true_and_false new (stays refl) is)
 
-module _ (old mid new : Reading) (patch : CheckedPatch) (meets : MeetsMore old mid patch.meaning.changes) (ids : new.kept.ids.items ≡ old.kept.ids.items ++ patch.meaning.id ∷ [])
-    (bytes : new.kept.bytes ≡ old.kept.bytes + length patch.text) (contents : new.kept.contents ≡ mid.kept.contents) (full : new.full ≡ mid.full) where
+-- the texts of patches are short
+pub texts_short : (taken : List CheckedPatch) → AreChecked taken → (brief_of taken).bytes ≤ PATCH_LIMIT * length taken
+texts_short [] are = omega arith
+texts_short (patch ∷ taken) are = omega (arith, texts_short taken are.1, are.0.short, sum_by-cons (λ (p : CheckedPatch). length p.text) patch taken)
+
+module _ (old new : Reading) (patch : CheckedPatch) (adds : AddsPatch old new patch) (short : length patch.text ≤ PATCH_LIMIT) (taken : List CheckedPatch) (are : AreChecked taken) (read : HasReadZone old taken) where
+  abbrev meets : MeetsMore old new patch.meaning.changes
+  meets = adds.meets
+
   was_not_full : new.full ≡ false → old.full ≡ false
-  was_not_full is = not_full old.full mid.full meets.stays_full (sym full ∙ is)
+  was_not_full is = not_full old.full new.full meets.stays_full is
+
+  -- the number of bytes doesn't stop
+  small : old.kept.bytes + length patch.text ≤ 2 ^ 64 - 1
+  small = omega (arith, texts_short taken are, read.bytes_are, short, adds.few, ap length adds.ids_are, ap length read.ids_are, length-map taken id_taken, length-append old.kept.ids.items (patch.meaning.id ∷ []))
+
+  bytes_more : new.kept.bytes ≡ old.kept.bytes + length patch.text
+  bytes_more = adds.bytes_are ∙ min-eq_left small
 
   brief_more : new.full ≡ false → brief_in new.kept ≡ with_patch (brief_in old.kept) patch
   brief_more is =
-      let applied = (meets.applied (sym full ∙ is)).0 in
-      ap (λ (is : List Id). record { ids = is; bytes = new.kept.bytes; contents = new.kept.contents.contents }) ids
-      ∙ ap (λ (n : ℕ). record { ids = old.kept.ids.items ++ patch.meaning.id ∷ []; bytes = n; contents = new.kept.contents.contents }) bytes
-      ∙ ap (λ (d : Dataset). record { ids = old.kept.ids.items ++ patch.meaning.id ∷ []; bytes = old.kept.bytes + length patch.text; contents = d }) (ap (λ v. v.contents) contents ∙ applied)
+      let applied = (meets.applied is).0 in
+      ap (λ (is : List Id). record { ids = is; bytes = new.kept.bytes; contents = new.kept.contents.contents }) adds.ids_are
+      ∙ ap (λ (n : ℕ). record { ids = old.kept.ids.items ++ patch.meaning.id ∷ []; bytes = n; contents = new.kept.contents.contents }) bytes_more
+      ∙ ap (λ (d : Dataset). record { ids = old.kept.ids.items ++ patch.meaning.id ∷ []; bytes = old.kept.bytes + length patch.text; contents = d }) applied
 
-  overflow_more : (taken : List CheckedPatch) → HasReadZone old taken → (was : Bool) → old.full ≡ was → new.full ≡ true → AreMore most (changes_taken taken ++ patch.meaning.changes) []
-  overflow_more taken read true was is = overflows_still (changes_taken taken) patch.meaning.changes (read.overflow was)
-  overflow_more taken read false was is = overflows_now (changes_taken taken) patch.meaning.changes old.kept.contents.terms (read.met was) (meets.overflow was (sym full ∙ is))
+  overflow_more : (was : Bool) → old.full ≡ was → new.full ≡ true → AreMore most (changes_taken taken ++ patch.meaning.changes) []
+  overflow_more true was is = overflows_still (changes_taken taken) patch.meaning.changes (read.overflow was)
+  overflow_more false was is = overflows_now (changes_taken taken) patch.meaning.changes old.kept.contents.terms (read.met was) (meets.overflow was is)
 
-  pub has_read_more : (taken : List CheckedPatch) → HasReadZone old taken → HasReadZone new (taken ++ patch ∷ [])
-  has_read_more taken read = record {
-    ids_are = ids ∙ ap (λ (is : List Id). is ++ patch.meaning.id ∷ []) read.ids_are ∙ sym (map-append id_taken taken (patch ∷ []));
+  pub has_read_more : HasReadZone new (taken ++ patch ∷ [])
+  has_read_more = record {
+    ids_are = adds.ids_are ∙ ap (λ (is : List Id). is ++ patch.meaning.id ∷ []) read.ids_are ∙ sym (map-append id_taken taken (patch ∷ []));
+    bytes_are = bytes_more ∙ ap (λ (n : ℕ). n + length patch.text) read.bytes_are ∙ sym (ap (λ (brief : Brief). brief.bytes) (brief-push taken patch));
     whole = λ is. brief_more is ∙ ap (λ (brief : Brief). with_patch brief patch) (read.whole (was_not_full is)) ∙ sym (brief-push taken patch);
     met = λ is. subst (λ (cs : List Change). AreMet cs [] new.kept.contents.terms) (sym (changes-push taken patch))
-        (rw (ap (λ v. v.terms) contents) (meets_both (changes_taken taken) patch.meaning.changes [] old.kept.contents.terms mid.kept.contents.terms (read.met (was_not_full is)) (meets.applied (sym full ∙ is)).1));
-    overflow = λ is. subst (λ (cs : List Change). AreMore most cs []) (sym (changes-push taken patch)) (overflow_more taken read old.full refl is);
+        (meets_both (changes_taken taken) patch.meaning.changes [] old.kept.contents.terms new.kept.contents.terms (read.met (was_not_full is)) (meets.applied is).1);
+    overflow = λ is. subst (λ (cs : List Change). AreMore most cs []) (sym (changes-push taken patch)) (overflow_more old.full refl is);
   }
 
 pub has_read_none : (reading : Reading) → reading.kept.ids.items ≡ [] → reading.kept.bytes ≡ 0 → reading.kept.contents ≡ record { contents = empty; staged = None; terms = [] } → reading.full ≡ false → HasReadZone reading []
 has_read_none reading ids bytes contents full = record {
   ids_are = ids;
+  bytes_are = bytes;
   whole = λ is.
       ap (λ (is : List Id). record { ids = is; bytes = reading.kept.bytes; contents = reading.kept.contents.contents }) ids
       ∙ ap (λ (n : ℕ). record { ids = []; bytes = n; contents = reading.kept.contents.contents }) bytes
@@ -130,7 +149,7 @@ found_more found text most taken patch are next = record {
 module _ (first old new : Reading) (payloads : List (List ℕ)) (text : List ℕ) (has : HasReceived first payloads old) where
   -- a payload that is the next patch
   pub received_more : old.broken ≡ false → new.broken ≡ old.broken → new.most ≡ old.most
-      → ((patch : CheckedPatch) × IsNextPatch old.kept.ids.items text old.most patch × ((taken : List CheckedPatch) → HasReadZone old taken → HasReadZone new (taken ++ patch ∷ [])))
+      → ((patch : CheckedPatch) × IsNextPatch old.kept.ids.items text old.most patch × AddsPatch old new patch)
       → HasReceived first (payloads ++ text ∷ []) new
   received_more whole still same added =
       let found = has.found whole in
@@ -138,7 +157,7 @@ module _ (first old new : Reading) (payloads : List (List ℕ)) (text : List ℕ
       let next = subst (λ (n : ℕ). IsNextPatch (map id_taken found.0) text n added.0) has.most_is (subst (λ (ids : List Id). IsNextPatch ids text old.most added.0) read.ids_are added.1) in
       record {
         most_is = same ∙ has.most_is;
-        found = λ is. (found.0 ++ added.0 ∷ [], found_more payloads text first.most found.0 added.0 found.1 next, added.2 found.0 read);
+        found = λ is. (found.0 ++ added.0 ∷ [], found_more payloads text first.most found.0 added.0 found.1 next, has_read_more old new added.0 added.2 next.checked.short found.0 found.1.checked read);
         breaks = λ is. absurd (true_and_false new.broken is (still ∙ whole));
       }
 

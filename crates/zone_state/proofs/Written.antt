@@ -1,6 +1,7 @@
 -- What a zone stands for behind the write of its next patch.
 use Rattle.std.proofs.Common.{◌≡◌, inl, inr, ℕ, ◌+◌, ◌-◌, ◌≤◌, ◌<◌, ◌^◌, false, List, [], ◌∷◌, ◌++◌, map, length, Option, Some, None, refl, sym, ◌∙◌, ap, subst, arith, length-append}
 use Rattle.std.specs.Prelude.{is_none}
+use Rattle.std.proofs.lemmas.List.{length-map}
 use Rattle.disk_model.specs.declared.disk.Disk.{Ghosts}
 use Rattle.log_base.specs.declared.phase.Phase.{Phase}
 use Rattle.log_base.specs.declared.phase.Phase.TheVariants.{Settling}
@@ -26,6 +27,7 @@ use Rattle.zone_state.specs.State.{brief_in, view_of, IsZoneKept}
 use Rattle.zone_state.specs.Stay.{decided, answer_by, TookOne}
 use Rattle.zone_state.proofs.Decisions.{CanBeTaken, can_be_taken, IsRefused}
 use Rattle.zone_state.proofs.Growing.{brief-push, taken-push}
+use Rattle.zone_state.proofs.Readings.{texts_short}
 use Rattle.zone_state.proofs.Standing.{taken_after, outcome_is, without_after, having_after, counted_by, journal_stands, zone_stands, stands_after}
 use Rattle.delta_base.specs.declared.id.Id.{Id}
 use Rattle.rdf_terms.specs.Dataset.{apply}
@@ -51,6 +53,13 @@ module _ {D : Type 0} {disks : Ghosts D} (journal : Journal D disks) (kept : Kep
   -- before a write
   pub journal_is : (taken : List CheckedPatch) (doubt : Option CheckedPatch) → StandsForZone disks.tells (disks.past (disk_of journal)) (view_of journal kept limits doubtful) taken doubt → StandsWith journal zone_number (checked_texts taken) (text_in doubt)
   journal_is taken doubt stands = journal_stands journal (view_of journal kept limits doubtful) taken doubt is.settled_is is.counted is.length_is stands
+
+  -- the bytes of the texts are a number that is far from the last one
+  pub small : kept.bytes < 2 ^ 63
+  small =
+      let taken = is.stands.0 in
+      let stands = is.stands.1 in
+      omega (arith, texts_short taken stands.without.checked, ap (λ (b : Brief). b.bytes) stands.brief_is, stands.without.log.few, length-map taken bare, is.countable)
 
   -- another journal that stands for the same
   module _ (new : Journal D disks) (stands : (number : ℕ) (payloads : List (List ℕ)) (doubt : Option (List ℕ)) → StandsWith journal number payloads doubt → StandsWith new number payloads doubt) (length_is : length_of new ≡ length_of journal)

@@ -1,5 +1,6 @@
 -- What is kept while the payloads of a zone's journal are read.
-use Rattle.std.specs.Prelude.{◌≡◌, ℕ, ◌+◌, true, false, List, [], length, map}
+use Rattle.std.specs.Prelude.{◌≡◌, ℕ, ◌+◌, ◌-◌, ◌^◌, ◌<◌, min, true, false, List, [], ◌∷◌, ◌++◌}
+use Rattle.std.specs.Prelude.{length, map}
 use Rattle.rdf_terms.specs.declared.change.Change.{Change}
 use Rattle.rdf_terms.specs.Dataset.{apply}
 use Rattle.term_table.specs.Table.{most}
@@ -15,6 +16,7 @@ use Rattle.zone_state.specs.State.{brief_in}
 -- these patches were read; the dataset is theirs unless they have too many terms
 pub record HasReadZone (reading : Reading) (taken : List CheckedPatch) : Type 0 where
   pub ids_are : reading.kept.ids.items ≡ map id_taken taken
+  pub bytes_are : reading.kept.bytes ≡ (brief_of taken).bytes
   pub whole : reading.full ≡ false → brief_in reading.kept ≡ brief_of taken
   pub met : reading.full ≡ false → AreMet (changes_taken taken) [] reading.kept.contents.terms
   pub overflow : reading.full ≡ true → AreMore most (changes_taken taken) []
@@ -27,6 +29,14 @@ pub record MeetsMore (old new : Reading) (changes : List Change) : Type 0 where
       × AreMet changes old.kept.contents.terms new.kept.contents.terms
   pub overflow : old.full ≡ false → new.full ≡ true
       → AreMore most changes old.kept.contents.terms
+
+-- The patch is counted, and its changes are made unless there are too many terms. The number of
+-- bytes stops at the last one of 64 bits.
+pub record AddsPatch (old new : Reading) (patch : CheckedPatch) : Type 0 where
+  pub ids_are : new.kept.ids.items ≡ old.kept.ids.items ++ patch.meaning.id ∷ []
+  pub few : length new.kept.ids.items < 2 ^ 32
+  pub bytes_are : new.kept.bytes ≡ min (old.kept.bytes + length patch.text) (2 ^ 64 - 1)
+  pub meets : MeetsMore old new patch.meaning.changes
 
 -- the payloads are those of patches that were read, or break off behind these
 pub record HasReceived (first : Reading) (payloads : List (List ℕ))

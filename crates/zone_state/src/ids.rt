@@ -1,5 +1,7 @@
 //! Ids in the order in which their patches were taken, found without a walk along them.
 ghost use Rattle.std.specs.Prelude.{◌≡◌, ◌+◌, ◌^◌, ◌<◌, ◌≤◌, [], ◌∷◌, ◌++◌, length, OnOk, None};
+ghost use Rattle.std.specs.List.{All};
+ghost use Rattle.delta_base.specs.Ids.{IsId};
 ghost use Rattle.chain_core.specs.Ids.{last_of, version_among};
 
 use chain_core::IdIndex;
@@ -16,7 +18,9 @@ pub struct Ids {
 
 impl Model for Ids {
     ghost use Rattle.std.specs.Prelude.{◌<◌, ◌≤◌, ◌^◌, length};
+    ghost use Rattle.std.specs.List.{All};
     ghost use Rattle.delta_base.specs.declared.id.Id.{Id as TheId};
+    ghost use Rattle.delta_base.specs.Ids.{IsId};
     ghost use Rattle.delta_base.specs.Listed.{Listed};
     ghost use Rattle.chain_core.specs.Index.{IsIndexOf};
 
@@ -25,7 +29,7 @@ impl Model for Ids {
     ghost view = { λ s. record { items = s.list.items; spare = s.index.places } };
 
     ghost invariant = { λ s. (length s.list.items < 2 ^ 32) × IsIndexOf s.index s.list.items
-        × (s.index.places ≤ s.list.spare) };
+        × (s.index.places ≤ s.list.spare) × All (λ id. IsId id.0) s.list.items };
 }
 
 impl Ids {
@@ -50,6 +54,14 @@ impl Ids {
         ensures { result ≡ last_of self.now.items }
     {
         self.list.as_slice().last().copied()
+    }
+
+    /// All of them.
+    pub fn as_slice(&self) -> &[Id]
+        ensures items { result.now ≡ self.now.items }
+        ensures are { All (λ id. IsId id.0) self.now.items }
+    {
+        self.list.as_slice()
     }
 
     /// The version of the patch with an id.

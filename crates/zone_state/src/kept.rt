@@ -1,7 +1,6 @@
 //! What is kept of the patches that were taken.
-ghost use Rattle.std.specs.Prelude.{◌≡◌, ◌+◌, ◌*◌, ◌^◌, ◌<◌, ◌≤◌, [], ◌∷◌, ◌++◌, length};
+ghost use Rattle.std.specs.Prelude.{◌≡◌, ◌+◌, ◌-◌, ◌^◌, ◌<◌, ◌≤◌, min, [], ◌∷◌, ◌++◌, length};
 ghost use Rattle.std.specs.Prelude.{IfOk, OnOk, OnErr, IsErrOf, IsSome, None, Some};
-ghost use Rattle.log_base.specs.declared.limits.TheConstants.{PATCH_LIMIT};
 ghost use Rattle.rdf_terms.specs.Dataset.{apply, empty};
 ghost use Rattle.term_table.specs.Table.{most};
 ghost use Rattle.dataset_tx.specs.Held.{AreMet, AreMore};
@@ -9,6 +8,7 @@ ghost use Rattle.log_journal.specs.Payload.{payload_of};
 ghost use Rattle.patch_log.specs.Log.{bare};
 ghost use Rattle.patch_meaning.specs.Patch.{IsPatch};
 ghost use Rattle.chain_core.specs.Ids.{version_among};
+ghost use Rattle.zone_state.specs.Brief.{file_length};
 ghost use Rattle.zone_state.specs.Taking.{taking, within_limits};
 
 use crate::answer::TakeAnswer;
@@ -26,7 +26,6 @@ pub struct Kept {
     pub ids: Ids,
     pub bytes: u64,
     pub contents: Dataset,
-    ghost short: { bytes ≤ PATCH_LIMIT * length ids.items },
 }
 
 impl Kept {
@@ -46,6 +45,7 @@ impl Kept {
 
     /// What is made of a patch.
     pub fn taking(&self, patch: &Checked, limits: &LogLimits) -> TakeAnswer
+        requires small { self.now.bytes < 2 ^ 63 }
         ensures { result ≡ taking self.now.ids.items self.now.bytes (bare patch.now) limits.now }
     {
         let last = self.ids.last();
@@ -61,6 +61,7 @@ impl Kept {
 
     // Whether a text more is within the limits.
     fn within(&self, patch: &Checked, limits: &LogLimits) -> TakeAnswer
+        requires small { self.now.bytes < 2 ^ 63 }
         ensures { result
             ≡ within_limits self.now.ids.items self.now.bytes (bare patch.now) limits.now }
     {
@@ -130,7 +131,7 @@ impl Kept {
         requires ready { 1 ≤ self.old.ids.spare }
         requires new { version_among self.old.ids.items id ≡ None }
         requires few { length self.old.ids.items + 1 < 2 ^ 32 }
-        requires short { size ≤ PATCH_LIMIT }
+        requires small { self.old.bytes + size < 2 ^ 64 }
         ensures ids { self.new.ids.items ≡ self.old.ids.items ++ id ∷ [] }
         ensures bytes { self.new.bytes ≡ self.old.bytes + size }
         ensures contents { Some self.new.contents.contents ≡ self.old.contents.staged }
@@ -141,17 +142,25 @@ impl Kept {
         self.count(id, size);
     }
 
-    /// Counts a patch that was applied, in a place that is ready. Takes no memory.
+    /// Counts a patch that was applied, in a place that is ready. The number of bytes stops at the
+    /// last one of 64 bits. Takes no memory.
     pub fn count(&mut self, id: Id, size: u64)
         requires ready { 1 ≤ self.old.ids.spare }
         requires new { version_among self.old.ids.items id ≡ None }
         requires few { length self.old.ids.items + 1 < 2 ^ 32 }
-        requires short { size ≤ PATCH_LIMIT }
         ensures ids { self.new.ids.items ≡ self.old.ids.items ++ id ∷ [] }
-        ensures bytes { self.new.bytes ≡ self.old.bytes + size }
+        ensures bytes { self.new.bytes ≡ min (self.old.bytes + size) (2 ^ 64 - 1) }
         ensures contents { self.new.contents ≡ self.old.contents }
     {
         self.ids.push(id);
-        self.bytes += size;
+        self.bytes = self.bytes.saturating_add(size);
+    }
+
+    /// How long a journal of the patches is, or the last number of 64 bits where that is less.
+    pub fn journal_length(&self) -> u64
+        ensures { result ≡ min (file_length self.now.ids.items self.now.bytes) (2 ^ 64 - 1) }
+    {
+        let count = u64::from(self.ids.len());
+        (EMPTY_JOURNAL + PAYLOAD_FRAME * count).saturating_add(self.bytes)
     }
 }

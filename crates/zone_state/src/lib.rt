@@ -16,7 +16,11 @@ mod opening;
 mod zone;
 
 pub use answer::TakeAnswer;
+pub use doubt::Doubtful;
 pub use fault::{ZoneFault, ZoneRefusal};
 pub use file::ZONE_NUMBER;
+pub use ids::Ids;
+pub use kept::Kept;
 pub use laws::{zones_are_found_again, zones_decide_as_logs, zones_stand_as_logs};
+pub use opening::Reading;
 pub use zone::Zone;

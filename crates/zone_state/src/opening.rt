@@ -28,10 +28,10 @@ use std::alloc::Global;
 #[derive(Drop)]
 pub struct Reading {
     alloc: Global,
-    most: u32,
+    pub most: u32,
     pub kept: Kept,
-    full: bool,
-    broken: bool,
+    pub full: bool,
+    pub broken: bool,
     ghost unstaged: { kept.contents.staged ≡ None },
 }
 
@@ -79,7 +79,7 @@ fn next_patch(alloc: Global, ids: &Ids, text: &[u8], most: u32) -> Result<Checke
 }
 
 impl Reading {
-    ghost use Rattle.zone_state.specs.Opening.{HasReadZone, MeetsMore, HasReceived};
+    ghost use Rattle.zone_state.specs.Opening.{AddsPatch, MeetsMore, HasReceived};
 
     /// Of no payloads. There may be so many patches.
     pub fn new(alloc: Global, most: u32) -> Reading
@@ -121,8 +121,7 @@ impl Reading {
     fn add(&mut self, patch: &Checked) -> Result<(), OutOfMemory>
         requires new { version_among self.old.kept.ids.items patch.now.meaning.id ≡ None }
         requires few { length self.old.kept.ids.items + 1 < 2 ^ 32 }
-        ensures ok { OnOk result ((taken : List CheckedPatch) → HasReadZone self.old taken
-            → HasReadZone self.new (taken ++ patch.now ∷ [])) }
+        ensures ok { OnOk result (AddsPatch self.old self.new patch.now) }
         ensures most { self.new.most ≡ self.old.most }
         ensures broken { self.new.broken ≡ self.old.broken }
     {
@@ -132,12 +131,11 @@ impl Reading {
         Ok(())
     }
 
-    // Adds the patch of a payload, if it goes behind those that were read.
-    fn add_next(&mut self, text: &Bytes) -> Result<(), NextFault>
+    /// Adds the patch of a payload, if it goes behind those that were read.
+    pub fn add_next(&mut self, text: &Bytes) -> Result<(), NextFault>
         ensures ok { OnOk result ((patch : CheckedPatch)
             × IsNextPatch self.old.kept.ids.items text.now self.old.most patch
-            × ((taken : List CheckedPatch) → HasReadZone self.old taken
-            → HasReadZone self.new (taken ++ patch ∷ []))) }
+            × AddsPatch self.old self.new patch) }
         ensures none { IsErrOf result NextFault.Broken → (patch : CheckedPatch)
             → IsNextPatch self.old.kept.ids.items text.now self.old.most patch → ⊥ }
         ensures same { IsErrOf result NextFault.Broken → self.new ≡ self.old }

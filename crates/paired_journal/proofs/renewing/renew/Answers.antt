@@ -1,10 +1,12 @@
-use Rattle.std.proofs.Common.{◌≡◌, inl, inr, ℕ, List, Option, None, refl, sym, ◌∙◌, ap, subst}
+use Rattle.std.specs.Prelude.{IsErr, IsErrOf, is_ok}
+use Rattle.std.proofs.Common.{true≢false, ◌≡◌, cond, inl, inr, ℕ, List, Option, None, refl, sym, ◌∙◌, ap, subst}
 use Rattle.disk_model.specs.Past.{LeavesOnly}
-use Rattle.log_journal.specs.StandsFor.{StandsFor, length_of, limit_of}
+use Rattle.log_journal.specs.StandsFor.{StandsFor, length_of, limit_of, disk_of}
 use Rattle.log_journal.specs.Writing.{StandsWith}
 use Rattle.zone_files.specs.Generation.{number_of}
-use Rattle.paired_journal.specs.Pair.{HoldsWith, IsLeft}
-use Rattle.paired_journal.proofs.Pairs.{settling, settled, unsettled, other_kept, same_disk, err_from}
+use Rattle.zone_beside.specs.declared.fault.WriteFault.TheVariants as WriteFault
+use Rattle.paired_journal.specs.Pair.{HoldsWith, IsLeft, DisksWent}
+use Rattle.paired_journal.proofs.Pairs.{as_failed, one_went, other_went, not_asked, settling, settled, unsettled, other_kept, same_disk, err_from}
 use Rattle.paired_journal.proofs.renewing.renew.Goals as goal
 
 -- ---- the current file is settled
@@ -38,8 +40,11 @@ returns-in-Ok-clause-on_current g c = λ told number payloads doubt stands.
 pub returns-in-Ok-clause-on_other : goal.returns-in-Ok-clause-on_other
 returns-in-Ok-clause-on_other g c = c.begin_anew.ensures.on_other
 
-pub returns-in-Ok-clause-cause : goal.returns-in-Ok-clause-cause
-returns-in-Ok-clause-cause g c = λ failed. inr (c.begin_anew.ensures.cause failed)
+pub returns-in-Ok-clause-went : goal.returns-in-Ok-clause-went
+returns-in-Ok-clause-went g c =
+    same_disk (λ disk. DisksWent g.D.Disk (IsErrOf c.begin_anew.result.1 WriteFault.Failed) (disk_of c.args.current.now) disk c.args.beside.disk (cond (is_ok c.begin_anew.result.1) (disk_of c.begin_anew.new.current) c.begin_anew.result.0.disk))
+    c.begin_anew.result.1 c.begin_anew.result.0.disk c.settle.new.self c.begin_anew.new.current c.begin_anew.ensures.old_disk c.begin_anew.ensures.same
+    (other_went g.D.Disk _ (IsErr c.settle.result) _ _ _ _ (λ err. true≢false (sym (subst IsErr c.in-Ok.is err))) c.settle.ensures.went c.begin_anew.ensures.went)
 
 -- ---- it isn't
 
@@ -56,3 +61,8 @@ returns-in-Err-clause-on_current g c = λ told number payloads doubt stands.
 
 pub returns-in-Err-clause-on_other : goal.returns-in-Err-clause-on_other
 returns-in-Err-clause-on_other g c = λ told doubt stands. other_kept c.args.beside doubt c.args.payload.now told stands
+
+pub returns-in-Err-clause-went : goal.returns-in-Err-clause-went
+returns-in-Err-clause-went g c =
+    as_failed g.D.Disk (IsErr c.settle.result) _ _ _ _ _ (λ err. refl) (λ told. subst IsErr (sym c.in-Err.is) refl)
+    (one_went g.D.Disk (IsErr c.settle.result) ⊥ _ _ _ _ (λ none. none) c.settle.ensures.went (not_asked g.D.Disk c.args.beside.disk))

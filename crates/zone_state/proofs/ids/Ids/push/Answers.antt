@@ -1,4 +1,6 @@
 use Rattle.std.proofs.Common.{◌≡◌, ◌+◌, ◌<◌, ◌≤◌, ◌^◌, ◌∷◌, [], length, None, sym, ap, subst, arith, length-append}
+use Rattle.std.proofs.lemmas.List.Elements.{All-push}
+use Rattle.delta_base.specs.Ids.{IsId}
 use Rattle.delta_base.specs.Listed.{Listed}
 use Rattle.delta_base.specs.declared.id.Id.{Id}
 use Rattle.chain_core.specs.Ids.{version_among}
@@ -15,4 +17,5 @@ invariant_of-self c =
       omega (arith, few, length-append ids (c.args.id ∷ [])),
       c.in-Ok.ensures.more ids c.self.invariant.1 new count,
       omega (arith, c.push.ensures.spare (omega (arith, ready, c.self.invariant.2)), c.in-Ok.ensures.places, c.self.invariant.2),
+      All-push (λ (id : Id). IsId id.0) ids c.args.id c.self.invariant.3 (omega arith),
     )

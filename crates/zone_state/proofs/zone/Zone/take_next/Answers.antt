@@ -17,8 +17,18 @@ use Rattle.zone_state.specs.Stay.{answer_by}
 use Rattle.zone_state.specs.Takes.{TakesPatch}
 use Rattle.zone_state.proofs.Decisions.{IsDecided, decided, is_refused}
 use Rattle.zone_state.proofs.Takes.{failed_in, takes_refused, takes_wanting, takes_written}
-use Rattle.zone_state.proofs.Written.{brief_after, brief_counted, brief_same, terms_known, room, numbered, is_new, countable_more, journal_is, kept_written, took_written}
+use Rattle.zone_state.proofs.Written.{small, brief_after, brief_counted, brief_same, terms_known, room, numbered, is_new, countable_more, journal_is, kept_written, took_written}
 use Rattle.zone_state.proofs.zone.Zone.take_next.Goals as goal
+
+pub taking-decided-requires : goal.taking-decided-requires
+taking-decided-requires g c =
+    let zone = c.self.inside in
+    record { small = small zone.journal zone.kept zone.limits zone.doubt.patch c.self.invariant }
+
+pub commit_staged-requires-clause-small : goal.commit_staged-requires-clause-small
+commit_staged-requires-clause-small g c =
+    let zone = c.self.inside in
+    omega (arith, c.prepare.ensures.bytes, c.len-size.ensures, ap length c.text.ensures.text, c.prepare.ensures.checked.short, small zone.journal zone.kept zone.limits zone.doubt.patch c.self.invariant)
 
 pub write-written-requires : goal.write-written-requires
 write-written-requires g c =
