@@ -6,7 +6,9 @@
 #![tactic(auto)]
 
 mod appending;
+mod files;
 mod renewing;
 
 pub use appending::append;
+pub use files::{Files, in_order};
 pub use renewing::renew;

@@ -52,16 +52,16 @@ meets_none changes terms t has = inl has
 meets_further : (changes more : List Change) (before after : List Term) → AreMet changes before after → AreMet (changes ++ more) before after
 meets_further changes more before after met t has = ⊎_elim (λ (old : Contains before t). inl old) (λ (new : Contains (flat_map terms_of changes) t). inr (terms-left changes more t new)) (met t has)
 
-meets_both : (changes more : List Change) (before mid after : List Term) → AreMet changes before mid → AreMet more mid after → AreMet (changes ++ more) before after
+pub meets_both : (changes more : List Change) (before mid after : List Term) → AreMet changes before mid → AreMet more mid after → AreMet (changes ++ more) before after
 meets_both changes more before mid after one other t has = ⊎_elim
     (λ (old : Contains mid t). meets_further changes more before mid one t old)
     (λ (new : Contains (flat_map terms_of more) t). inr (terms-right changes more t new))
     (other t has)
 
-overflows_still : (changes more : List Change) → AreMore most changes [] → AreMore most (changes ++ more) []
+pub overflows_still : (changes more : List Change) → AreMore most changes [] → AreMore most (changes ++ more) []
 overflows_still changes more are = record { terms = are.terms; met = meets_further changes more [] are.terms are.met; each_once = are.each_once; many = are.many }
 
-overflows_now : (changes more : List Change) (known : List Term) → AreMet changes [] known → AreMore most more known → AreMore most (changes ++ more) []
+pub overflows_now : (changes more : List Change) (known : List Term) → AreMet changes [] known → AreMore most more known → AreMore most (changes ++ more) []
 overflows_now changes more known met are = record { terms = are.terms; met = meets_both changes more [] known are.terms met are.met; each_once = are.each_once; many = are.many }
 
 -- ---- one patch more
@@ -75,7 +75,7 @@ true_or_false same = cc
 pub true_and_false : (b : Bool) → b ≡ true → b ≡ false → ⊥
 true_and_false b t f = true_or_false (sym t ∙ f)
 
-not_full : (old new : Bool) → (old ≡ true → new ≡ true) → new ≡ false → old ≡ false
+pub not_full : (old new : Bool) → (old ≡ true → new ≡ true) → new ≡ false → old ≡ false
 not_full false new stays is = refl
 not_full true new stays is = absurd (true_and_false new (stays refl) is)
 

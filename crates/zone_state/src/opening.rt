@@ -1,6 +1,7 @@
 //! Reads the patches of a zone's journal, payload by payload.
 ghost use Rattle.std.specs.Prelude.{◌≡◌, ◌⊎◌, ℕ, ◌+◌, ◌^◌, ◌<◌, ◌≤◌, ◌↔◌, ◌++◌, [], ◌∷◌, List};
 ghost use Rattle.std.specs.Prelude.{length, false, None, IfOk, IfErr, OnOk, IsErrOf, IsTrue};
+ghost use Rattle.rdf_terms.specs.Dataset.{empty};
 ghost use Rattle.term_table.specs.Table.{most};
 ghost use Rattle.dataset_tx.specs.Held.{AreMet, AreMore};
 ghost use Rattle.chain_core.specs.Breaks.{BreaksAt};
@@ -86,6 +87,12 @@ impl Reading {
         ensures received { HasReceived result [] result }
         ensures most { result.most ≡ most }
         ensures countable { most < 2 ^ 32 }
+        ensures whole { result.broken ≡ false }
+        ensures room { result.full ≡ false }
+        ensures ids { result.kept.ids.items ≡ [] }
+        ensures bytes { result.kept.bytes ≡ 0 }
+        ensures contents { result.kept.contents
+            ≡ record { contents = empty; staged = None; terms = [] } }
     {
         Reading {
             alloc,

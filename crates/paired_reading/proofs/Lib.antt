@@ -1,0 +1,3 @@
+pub mod Differing
+pub mod Breaking
+pub mod Going

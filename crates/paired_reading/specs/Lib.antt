@@ -1,0 +1,4 @@
+pub mod Payloads
+pub mod Fault
+pub mod Unread
+pub mod Received
