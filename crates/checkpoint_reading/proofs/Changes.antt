@@ -16,7 +16,7 @@ use Rattle.net_changes.proofs.Datasets.{line_total}
 use Rattle.dataset_tx.specs.Held.{Held, AreMet, terms_of}
 use Rattle.dataset_tx.specs.Prefixes.{prefix_change, has_prefix}
 use Rattle.checkpoint_text.specs.Text.{Setting}
-use Rattle.checkpoint_reading.specs.Reading.{HasSet, HasAdded, IsMade}
+use Rattle.checkpoint_reading.specs.Reading.{HasSet, HasNewQuads, IsOfChanges}
 use Rattle.checkpoint_reading.proofs.Fronts.{all_before}
 use Rattle.checkpoint_reading.proofs.Inserting.{came, comes, stays, put_last}
 use Rattle.rdf_terms.specs.Line.{line}
@@ -78,7 +78,7 @@ set_more before after settings s set unstaged made met new =
 
 -- ---- quads
 
-pub added_none : (before : Held) → before.staged ≡ None → before.contents.quads ≡ [] → HasAdded before before []
+pub added_none : (before : Held) → before.staged ≡ None → before.contents.quads ≡ [] → HasNewQuads before before []
 added_none before unstaged none = record {
   staged = unstaged;
   contents = refl;
@@ -87,7 +87,7 @@ added_none before unstaged none = record {
   met = met_none before.terms;
 }
 
-pub added_more : (before held after : Held) (quads : List Statement) (q : Statement) → HasAdded before held quads → after.staged ≡ None → after.contents ≡ effect (Add q) held.contents → AreMet (Add q ∷ []) held.terms after.terms → IsStrictlySortedBy line_cmp (quads ++ q ∷ []) → HasAdded before after (quads ++ q ∷ [])
+pub added_more : (before held after : Held) (quads : List Statement) (q : Statement) → HasNewQuads before held quads → after.staged ≡ None → after.contents ≡ effect (Add q) held.contents → AreMet (Add q ∷ []) held.terms after.terms → IsStrictlySortedBy line_cmp (quads ++ q ∷ []) → HasNewQuads before after (quads ++ q ∷ [])
 added_more before held after quads q added unstaged made met rising =
     let changes : map Add (quads ++ q ∷ []) ≡ map Add quads ++ Add q ∷ [] = map-append Add quads (q ∷ []) in
     record {
@@ -104,7 +104,7 @@ added_more before held after quads q added unstaged made met rising =
     }
 
 -- both make the contents
-pub made_of : (middle after : Held) (settings : List Setting) (quads : List Statement) → HasSet middle settings → HasAdded middle after quads → IsMade after
+pub made_of : (middle after : Held) (settings : List Setting) (quads : List Statement) → HasSet middle settings → HasNewQuads middle after quads → IsOfChanges after
 made_of middle after settings quads set added = (
   map prefix_change settings ++ map Add quads,
   record {

@@ -11,7 +11,7 @@ use Rattle.std.proofs.lemmas.List.Elements.{All-nil, All-push}
 use Rattle.std.proofs.lemmas.Grind.{flat_map-append}
 use Rattle.checkpoint_text.proofs.Items.{Following, following}
 use Rattle.checkpoint_text.proofs.Ordered.{cases}
-use Rattle.checkpoint_reading.specs.Front.{IsInFront, NoneInFront, AreInFront, RiseInFront, IsBehind, text_cmp}
+use Rattle.checkpoint_reading.specs.Front.{IsInFront, NoneInFront, AreInFront, RiseInFront, IsPast, shown_cmp}
 
 -- what was read of a text is its front
 pub front_taken : (text front rest : List ℕ) → text ≡ front ++ rest → take (length text - length rest) text ≡ front
@@ -24,7 +24,7 @@ true_false : true ≡ false → ⊥
 true_false e = absurd cc
 
 -- what doesn't come behind the last isn't the next
-pub not_behind : {X : Type 0} (show : X → List ℕ) (Is : X → Type 0) (cut : (a b : X) (x y : List ℕ) → Is a → Is b → show a ++ x ≡ show b ++ y → (a ≡ b) × (x ≡ y)) (text last front : List ℕ) (item : X) (rest : List ℕ) (r : Ordering) → IsInFront show Is text item rest → front ≡ show item → r ≡ slice_cmp nat_cmp last front → is_lt r ≡ false → NoneInFront show (IsBehind show Is last) text
+pub not_behind : {X : Type 0} (show : X → List ℕ) (Is : X → Type 0) (cut : (a b : X) (x y : List ℕ) → Is a → Is b → show a ++ x ≡ show b ++ y → (a ≡ b) × (x ≡ y)) (text last front : List ℕ) (item : X) (rest : List ℕ) (r : Ordering) → IsInFront show Is text item rest → front ≡ show item → r ≡ slice_cmp nat_cmp last front → is_lt r ≡ false → NoneInFront show (IsPast show Is last) text
 not_behind show Is cut text last front item rest r here shown is not other more at =
     let one = cut other item more rest at.is.0 here.is (sym at.parts ∙ here.parts) in
     let less : r ≡ Less = is ∙ ap (slice_cmp nat_cmp last) (shown ∙ ap show (sym one.0)) ∙ at.is.1 in
@@ -42,7 +42,7 @@ abbrev mutual
 
 module _ {X : Type 0} (show : X → List ℕ) where
   abbrev R : X → X → Ordering
-  R a b = text_cmp show a b
+  R a b = shown_cmp show a b
 
   behind_push : (y : X) (ys : List X) (x : X) → last_behind show y (ys ++ x ∷ []) ≡ show x
   behind_push y [] x = refl
@@ -114,7 +114,7 @@ module _ {X : Type 0} (show : X → List ℕ) (Is : X → Type 0) where
   unfolding IsStrictlySortedBy
   none_rise text = record { front = none_yet text; rising = tt }
 
-  pub rise_more : (n : ℕ) (text rest behind : List ℕ) (xs : List X) (x : X) → RiseInFront show Is n text xs rest → IsInFront show (IsBehind show Is (last_text show xs)) rest x behind → RiseInFront show Is (n + 1) text (xs ++ x ∷ []) behind
+  pub rise_more : (n : ℕ) (text rest behind : List ℕ) (xs : List X) (x : X) → RiseInFront show Is n text xs rest → IsInFront show (IsPast show Is (last_text show xs)) rest x behind → RiseInFront show Is (n + 1) text (xs ++ x ∷ []) behind
   rise_more n text rest behind xs x front next = record {
     front = one_more n text rest behind xs x front.front (record { is = next.is.0; parts = next.parts });
     rising = sorted_push show xs x front.rising next.is.1;
@@ -138,8 +138,8 @@ module _ {X : Type 0} (show : X → List ℕ) (Is : X → Type 0) where
         none more.item (flat_map show more.others ++ r) (record { is = more.is; parts = more.there })
 
     -- the same of rising ones, none of which has no text
-    pub rise_stops : (i n : ℕ) (text rest : List ℕ) (xs : List X) → ((x : X) → slice_cmp nat_cmp [] (show x) ≡ Less) → RiseInFront show Is i text xs rest → i < n → NoneInFront show (IsBehind show Is (last_text show xs)) rest → (ys : List X) (r : List ℕ) → RiseInFront show Is n text ys r → ⊥
+    pub rise_stops : (i n : ℕ) (text rest : List ℕ) (xs : List X) → ((x : X) → slice_cmp nat_cmp [] (show x) ≡ Less) → RiseInFront show Is i text xs rest → i < n → NoneInFront show (IsPast show Is (last_text show xs)) rest → (ys : List X) (r : List ℕ) → RiseInFront show Is n text ys r → ⊥
     rise_stops i n text rest xs shown some less none ys r all =
         let more = next_one i n text rest r xs ys some.front all.front less in
-        let rising : IsStrictlySortedBy (text_cmp show) (xs ++ more.item ∷ more.others) = subst (IsStrictlySortedBy (text_cmp show)) more.goes_on all.rising in
+        let rising : IsStrictlySortedBy (shown_cmp show) (xs ++ more.item ∷ more.others) = subst (IsStrictlySortedBy (shown_cmp show)) more.goes_on all.rising in
         none more.item (flat_map show more.others ++ r) (record { is = (more.is, last_before show xs more.item more.others (shown more.item) rising); parts = more.there })

@@ -16,25 +16,25 @@ use Rattle.dataset_tx.specs.Rows.{rows_in_order}
 use Rattle.checkpoint_text.specs.Text.{Setting, setting_line, IsSetting, ArePrefixes}
 use Rattle.checkpoint_text.proofs.OneText.{row_from, row_of, setting_cmp, setting_total, sorted_settings}
 use Rattle.checkpoint_text.proofs.Ordered.{cases, begins, behind, ordered_rises}
-use Rattle.checkpoint_reading.specs.Front.{text_cmp}
+use Rattle.checkpoint_reading.specs.Front.{shown_cmp}
 use Rattle.checkpoint_reading.specs.Reading.{HaveOneEach}
 
 -- ---- items in the order of their texts, and the texts in theirs
 
-less_mapped : {X : Type 0} (show : X → List ℕ) (x : X) (xs : List X) → AllByRecursion (λ y. text_cmp show x y ≡ Less) xs → AllByRecursion (λ t. slice_cmp nat_cmp (show x) t ≡ Less) (map show xs)
+less_mapped : {X : Type 0} (show : X → List ℕ) (x : X) (xs : List X) → AllByRecursion (λ y. shown_cmp show x y ≡ Less) xs → AllByRecursion (λ t. slice_cmp nat_cmp (show x) t ≡ Less) (map show xs)
 less_mapped show x [] a = tt
 less_mapped show x (y ∷ xs) a = (a.0, less_mapped show x xs a.1)
 
-pub sorted_texts : {X : Type 0} (show : X → List ℕ) (xs : List X) → IsStrictlySortedBy (text_cmp show) xs → IsStrictlySortedBy (slice_cmp nat_cmp) (map show xs)
+pub sorted_texts : {X : Type 0} (show : X → List ℕ) (xs : List X) → IsStrictlySortedBy (shown_cmp show) xs → IsStrictlySortedBy (slice_cmp nat_cmp) (map show xs)
 unfolding IsStrictlySortedBy
 sorted_texts show [] s = tt
 sorted_texts show (x ∷ xs) s = (less_mapped show x xs s.0, sorted_texts show xs s.1)
 
-less_items : {X : Type 0} (show : X → List ℕ) (x : X) (xs : List X) → AllByRecursion (λ t. slice_cmp nat_cmp (show x) t ≡ Less) (map show xs) → AllByRecursion (λ y. text_cmp show x y ≡ Less) xs
+less_items : {X : Type 0} (show : X → List ℕ) (x : X) (xs : List X) → AllByRecursion (λ t. slice_cmp nat_cmp (show x) t ≡ Less) (map show xs) → AllByRecursion (λ y. shown_cmp show x y ≡ Less) xs
 less_items show x [] a = tt
 less_items show x (y ∷ xs) a = (a.0, less_items show x xs a.1)
 
-pub sorted_items : {X : Type 0} (show : X → List ℕ) (xs : List X) → IsStrictlySortedBy (slice_cmp nat_cmp) (map show xs) → IsStrictlySortedBy (text_cmp show) xs
+pub sorted_items : {X : Type 0} (show : X → List ℕ) (xs : List X) → IsStrictlySortedBy (slice_cmp nat_cmp) (map show xs) → IsStrictlySortedBy (shown_cmp show) xs
 unfolding IsStrictlySortedBy
 sorted_items show [] s = tt
 sorted_items show (x ∷ xs) s = (less_items show x xs s.0, sorted_items show xs s.1)
@@ -71,7 +71,7 @@ items_of show P (t ∷ ts) each =
 pub record HasRows (prefixes settings : List Setting) : Type 0 where
   pub are : All IsSetting settings
   pub rows : map setting_line settings ≡ rows_in_order (map prefix_change prefixes)
-  pub rising : IsStrictlySortedBy (text_cmp setting_line) settings
+  pub rising : IsStrictlySortedBy (shown_cmp setting_line) settings
   pub one_each : HaveOneEach settings
 
 pub settings_of : (prefixes : List Setting) → ArePrefixes prefixes → (settings : List Setting) × HasRows prefixes settings
@@ -87,7 +87,7 @@ settings_of prefixes are =
     )
 
 -- prefixes that are these settings have these rows
-pub rows_of : (prefixes settings : List Setting) → ((s : Setting) → Contains prefixes s ↔ Contains settings s) → IsStrictlySortedBy (text_cmp setting_line) settings → rows_in_order (map prefix_change prefixes) ≡ map setting_line settings
+pub rows_of : (prefixes settings : List Setting) → ((s : Setting) → Contains prefixes s ↔ Contains settings s) → IsStrictlySortedBy (shown_cmp setting_line) settings → rows_in_order (map prefix_change prefixes) ≡ map setting_line settings
 rows_of prefixes settings same rising =
     same_rising (slice_cmp nat_cmp) nat_list_cmp_total (rows_in_order (map prefix_change prefixes)) (map setting_line settings) (ordered_rises (map prefix_change prefixes)) (sorted_texts setting_line settings rising)
     (λ t c. let found = row_from prefixes t c in subst (Contains (map setting_line settings)) found.2 (contains_map setting_line settings found.0 ((same found.0).0 found.1)))

@@ -18,12 +18,12 @@ use Rattle.checkpoint_text.specs.Text.{line_of_id, IsIdValue, prefix_rows, first
 use Rattle.checkpoint_text.proofs.Items.{once, concat_mapped, All-from_contains}
 use Rattle.checkpoint_text.proofs.OneText.{id_cut, setting_cut, quad_cut}
 use Rattle.checkpoint_reading.specs.Front.{AreInFront, RiseInFront}
-use Rattle.checkpoint_reading.specs.Reading.{HasSet, HasAdded, HaveOneEach, IsContentsOf}
+use Rattle.checkpoint_reading.specs.Reading.{HasSet, HasNewQuads, HaveOneEach, IsContentsOf}
 use Rattle.checkpoint_reading.proofs.Settings.{settings_of, rows_of}
 
 -- ---- what was read is the contents
 
-pub contents_read : (first : FirstLine) (text middle rest : List ℕ) (before held : Held) (settings : List Setting) (quads : List Statement) → RiseInFront setting_line IsSetting first.prefixes text settings middle → HasSet before settings → RiseInFront line IsQuadValue first.quads middle quads rest → HasAdded before held quads → rest ≡ [] → IsDatasetValue held.contents → IsContentsOf first text held.contents
+pub contents_read : (first : FirstLine) (text middle rest : List ℕ) (before held : Held) (settings : List Setting) (quads : List Statement) → RiseInFront setting_line IsSetting first.prefixes text settings middle → HasSet before settings → RiseInFront line IsQuadValue first.quads middle quads rest → HasNewQuads before held quads → rest ≡ [] → IsDatasetValue held.contents → IsContentsOf first text held.contents
 contents_read first text middle rest before held settings quads rows set lines added end value =
     let same : (s : Setting) → Contains held.contents.prefixes s ↔ Contains settings s = λ s. subst (λ (l : List Setting). Contains l s ↔ Contains settings s) (sym added.prefixes_are) (set.same s) in
     let shown : prefix_rows held.contents ≡ map setting_line settings = rows_of held.contents.prefixes settings same rows.rising in

@@ -30,15 +30,15 @@ pub record AreInFront {X : Type 0} (show : X → List ℕ) (Is : X → Type 0) (
   pub parts : text ≡ flat_map show items ++ rest
 
 -- items by the bytes of their texts
-abbrev pub text_cmp : {X : Type 0} → (X → List ℕ) → X → X → Ordering
-text_cmp show a b = slice_cmp nat_cmp (show a) (show b)
+abbrev pub shown_cmp : {X : Type 0} → (X → List ℕ) → X → X → Ordering
+shown_cmp show a b = slice_cmp nat_cmp (show a) (show b)
 
 -- such an item, whose text comes behind this one in the order of bytes
-abbrev pub IsBehind : {X : Type 0} → (X → List ℕ) → (X → Type 0) → List ℕ → X → Type 0
-IsBehind show Is last item = Is item × (slice_cmp nat_cmp last (show item) ≡ Less)
+abbrev pub IsPast : {X : Type 0} → (X → List ℕ) → (X → Type 0) → List ℕ → X → Type 0
+IsPast show Is last item = Is item × (slice_cmp nat_cmp last (show item) ≡ Less)
 
 -- they stand there in the order of their bytes, each once
 pub record RiseInFront {X : Type 0} (show : X → List ℕ) (Is : X → Type 0) (count : ℕ)
     (text : List ℕ) (items : List X) (rest : List ℕ) : Type 0 where
   pub front : AreInFront show Is count text items rest
-  pub rising : IsStrictlySortedBy (text_cmp show) items
+  pub rising : IsStrictlySortedBy (shown_cmp show) items

@@ -32,19 +32,19 @@ ReadsCheckpoint text (Err Broken) =
     (generation : ℕ) (brief : Brief) → IsCheckpoint text generation brief → ⊥
 ReadsCheckpoint text (Err OutOfMemory) = Unit {0}
 
--- changes that make the contents of nothing, to which all terms belong that were met
+-- changes that make the contents out of nothing, and have all terms that were met
 pub record IsMadeBy (held : Held) (changes : List Change) : Type 0 where
   pub make : apply changes empty ≡ held.contents
   pub met : AreMet changes [] held.terms
 
-abbrev pub IsMade : Held → Type 0
-IsMade held = (changes : List Change) × IsMadeBy held changes
+abbrev pub IsOfChanges : Held → Type 0
+IsOfChanges held = (changes : List Change) × IsMadeBy held changes
 
 -- ---- prefixes
 
 -- a prefix with its graph, and its IRI
-abbrev pub setting : PrefixSetting → Setting
-setting s = ((s.graph, s.prefix), s.iri)
+abbrev pub set_by : PrefixSetting → Setting
+set_by s = ((s.graph, s.prefix), s.iri)
 
 -- no two of them set one prefix of one graph
 abbrev pub HaveOneEach : List Setting → Type 0
@@ -62,7 +62,7 @@ pub record HasSet (held : Held) (settings : List Setting) : Type 0 where
 -- ---- quads
 
 -- these quads were added, and there was none before
-pub record HasAdded (before after : Held) (quads : List Statement) : Type 0 where
+pub record HasNewQuads (before after : Held) (quads : List Statement) : Type 0 where
   pub staged : after.staged ≡ None
   pub contents : after.contents ≡ effects (map Add quads) before.contents
   pub quads_are : after.contents.quads ≡ quads

@@ -1,7 +1,7 @@
 //! A whole checkpoint.
 ghost use Rattle.std.specs.Prelude.{◌≡◌, ℕ, List, [], None, OnOk, IfOk, IsErrOf};
 ghost use Rattle.rdf_terms.specs.Dataset.{Dataset as Contents, empty};
-ghost use Rattle.checkpoint_reading.specs.Reading.{IsContentsOf, IsMade, ReadsCheckpoint};
+ghost use Rattle.checkpoint_reading.specs.Reading.{IsContentsOf, IsOfChanges, ReadsCheckpoint};
 
 use crate::fault::CheckpointFault;
 use crate::ids::read_ids;
@@ -34,7 +34,7 @@ fn read_contents(
     requires { contents.old ≡ record { contents = empty; staged = None; terms = [] } }
     ensures contents { OnOk result (IsContentsOf first.now text.now contents.new.contents) }
     ensures unstaged { OnOk result (contents.new.staged ≡ None) }
-    ensures made { OnOk result (IsMade contents.new) }
+    ensures made { OnOk result (IsOfChanges contents.new) }
     ensures broken { IsErrOf result CheckpointFault.Broken
         → (dataset : Contents) → IsContentsOf first.now text.now dataset → ⊥ }
 {
@@ -52,7 +52,7 @@ fn read_contents(
 pub fn read_checkpoint(alloc: Global, text: &[u8]) -> Result<Checkpoint, CheckpointFault>
     ensures checkpoint { ReadsCheckpoint text.now result }
     ensures unstaged { IfOk result (λ read. read.contents.staged ≡ None) }
-    ensures made { IfOk result (λ read. IsMade read.contents) }
+    ensures made { IfOk result (λ read. IsOfChanges read.contents) }
 {
     let Some((first, at)) = read_first_line(text) else {
         return Err(CheckpointFault::Broken);

@@ -7,8 +7,8 @@ ghost use Rattle.patch_rows.specs.Printing.{row_text, IsChangeValue, IsWritable}
 ghost use Rattle.dataset_tx.specs.Held.{AreMet};
 ghost use Rattle.dataset_tx.specs.Prefixes.{has_prefix, prefix_change};
 ghost use Rattle.checkpoint_text.specs.Text.{Setting, IsSetting, setting_line};
-ghost use Rattle.checkpoint_reading.specs.Front.{IsBehind, IsInFront, NoneInFront, RiseInFront};
-ghost use Rattle.checkpoint_reading.specs.Reading.{HasSet, HaveOneEach, setting};
+ghost use Rattle.checkpoint_reading.specs.Front.{IsPast, IsInFront, NoneInFront, RiseInFront};
+ghost use Rattle.checkpoint_reading.specs.Reading.{HasSet, HaveOneEach, set_by};
 
 use crate::applying::apply;
 use crate::fault::CheckpointFault;
@@ -58,8 +58,8 @@ fn behind_row<'t>(alloc: Global, text: &'t [u8], row: &Row) -> Result<Option<&'t
 
 // What a row sets, if it sets a prefix.
 fn setting_of(row: Row) -> Option<PrefixSetting>
-    ensures some { IfSome result (λ found. (row ≡ rows.Change (prefix_change (setting found)))
-        × IsChangeValue (prefix_change (setting found))) }
+    ensures some { IfSome result (λ found. (row ≡ rows.Change (prefix_change (set_by found)))
+        × IsChangeValue (prefix_change (set_by found))) }
     ensures none { IfNone result ((s : Setting) → row ≡ rows.Change (prefix_change s) → ⊥) }
 {
     match row {
@@ -82,7 +82,7 @@ fn read_setting<'t>(
     text: &'t [u8],
 ) -> Result<(PrefixSetting, &'t [u8]), CheckpointFault>
     ensures ok { IfOk result (λ found.
-        IsInFront setting_line IsSetting text.now (setting found.0) found.1.now) }
+        IsInFront setting_line IsSetting text.now (set_by found.0) found.1.now) }
     ensures broken { IsErrOf result CheckpointFault.Broken
         → NoneInFront setting_line IsSetting text.now }
 {
@@ -110,9 +110,9 @@ fn next_setting<'t>(
     last: &[u8],
 ) -> Result<(PrefixSetting, &'t [u8]), CheckpointFault>
     ensures ok { IfOk result (λ found. IsInFront setting_line
-        (IsBehind setting_line IsSetting last.now) text.now (setting found.0) found.1.now) }
+        (IsPast setting_line IsSetting last.now) text.now (set_by found.0) found.1.now) }
     ensures broken { IsErrOf result CheckpointFault.Broken
-        → NoneInFront setting_line (IsBehind setting_line IsSetting last.now) text.now }
+        → NoneInFront setting_line (IsPast setting_line IsSetting last.now) text.now }
 {
     let (setting, rest) = read_setting(alloc, text)?;
     if last.cmp(front_of(text, rest)).is_lt() {
@@ -132,10 +132,10 @@ fn set_prefix(
     requires unstaged { contents.old.staged ≡ None }
     requires none { changes.old.items ≡ [] }
     ensures contents { OnOk result (contents.new.contents
-        ≡ effect (prefix_change (setting given)) contents.old.contents) }
+        ≡ effect (prefix_change (set_by given)) contents.old.contents) }
     ensures unstaged { contents.new.staged ≡ None }
     ensures none { OnOk result (changes.new.items ≡ []) }
-    ensures met { AreMet (prefix_change (setting given) ∷ []) contents.old.terms
+    ensures met { AreMet (prefix_change (set_by given) ∷ []) contents.old.terms
         contents.new.terms }
     ensures fresh { OnOk result
         (has_prefix contents.old.contents.prefixes (given.graph, given.prefix) ≡ false) }
@@ -158,8 +158,8 @@ fn set_prefix(
     }
 }
 
-/// Sets so many prefixes, whose rows stand in front in the order of their bytes. Answers what stands
-/// behind them.
+/// Sets so many prefixes, whose rows stand in front in the order of their bytes. Answers what
+/// stands behind them.
 pub fn read_prefixes<'t>(
     alloc: Global,
     text: &'t [u8],

@@ -7,8 +7,9 @@ ghost use Rattle.rdf_terms.specs.Line.{line};
 ghost use Rattle.rdf_terms.specs.Quad.{Statement};
 ghost use Rattle.nquads_documents.specs.Laws.{IsQuadValue};
 ghost use Rattle.dataset_tx.specs.Held.{AreMet};
-ghost use Rattle.checkpoint_reading.specs.Front.{IsBehind, IsInFront, NoneInFront, OnlyInFront, RiseInFront};
-ghost use Rattle.checkpoint_reading.specs.Reading.{HasAdded};
+ghost use Rattle.checkpoint_reading.specs.Front.{IsPast, IsInFront, NoneInFront, OnlyInFront};
+ghost use Rattle.checkpoint_reading.specs.Front.{RiseInFront};
+ghost use Rattle.checkpoint_reading.specs.Reading.{HasNewQuads};
 
 use crate::applying::apply;
 use crate::fault::CheckpointFault;
@@ -112,9 +113,9 @@ fn next_quad<'t>(
     room: &mut Vec<u8>,
 ) -> Result<(Quad, &'t [u8]), CheckpointFault>
     ensures ok { IfOk result (λ found. IsInFront line
-        (IsBehind line IsQuadValue last.now) text.now found.0 found.1.now) }
+        (IsPast line IsQuadValue last.now) text.now found.0 found.1.now) }
     ensures broken { IsErrOf result CheckpointFault.Broken
-        → NoneInFront line (IsBehind line IsQuadValue last.now) text.now }
+        → NoneInFront line (IsPast line IsQuadValue last.now) text.now }
 {
     let (quad, rest) = read_quad(alloc, text, room)?;
     if last.cmp(front_of(text, rest)).is_lt() {
@@ -125,8 +126,8 @@ fn next_quad<'t>(
     }
 }
 
-/// Adds so many quads, whose lines stand in front in the order of their bytes. Answers what stands
-/// behind them.
+/// Adds so many quads, whose lines stand in front in the order of their bytes. Answers what
+/// stands behind them.
 pub fn read_quads<'t>(
     alloc: Global,
     text: &'t [u8],
@@ -137,7 +138,7 @@ pub fn read_quads<'t>(
     requires none { contents.old.contents.quads ≡ [] }
     ensures ok { IfOk result (λ rest. (quads : List Statement)
         × RiseInFront line IsQuadValue count text.now quads rest.now
-        × HasAdded contents.old contents.new quads) }
+        × HasNewQuads contents.old contents.new quads) }
     ensures broken { IsErrOf result CheckpointFault.Broken
         → (quads : List Statement) (rest : List ℕ)
         → RiseInFront line IsQuadValue count text.now quads rest → ⊥ }
