@@ -507,6 +507,63 @@ fn what_was_acknowledged_is_found_again(rt: HostRuntime) -> Result<(), Fail> {
     found
 }
 
+// What a run is answered, which is appended again where the disk failed.
+fn append_again(log: &mut LogState<MemDisk>, run: &Run) -> Result<LogAnswer, Fail> {
+    let answer = append(log, run.copy()?, 1);
+    if answer == LogAnswer::DiskFault {
+        return Ok(append(log, run.copy()?, 1));
+    }
+    Ok(answer)
+}
+
+// Each of these is accepted, at the second time at the latest.
+fn takes_each(rt: &impl Abort, log: &mut LogState<MemDisk>, runs: &[Run]) -> Result<(), Fail> {
+    let mut version = 0u32;
+    for run in runs {
+        version = version.saturating_add(1);
+        let answer = append_again(log, run)?;
+        assert!(rt;
+            answer == LogAnswer::Accepted { version },
+            "version {version}"
+        );
+    }
+    Ok(())
+}
+
+// A log takes them so where a call of its disk fails, and each crash leaves them all. How often a call failed.
+fn takes_all(rt: &impl Abort, alloc: Global, failing: u64, runs: &[Run]) -> Result<u64, Fail> {
+    let mut log = open(alloc, disk_of(alloc, EMPTY, &[failing])?, LOG_LIMITS)?;
+    let taken = takes_each(rt, &mut log, runs);
+    let faults = log.faults();
+    let disk = log.close();
+    let count = runs.len() as u32;
+    let kept = taken.and_then(|()| keeps_acknowledged(rt, alloc, failing, runs, (count, &disk)));
+    drop(disk);
+    kept?;
+    Ok(faults)
+}
+
+// The same of each call behind the opening's four, up to the one that isn't made.
+fn takes_all_at_each(rt: &impl Abort, alloc: Global, runs: &[Run]) -> Result<u64, Fail> {
+    for failing in 4..100u64 {
+        if takes_all(rt, alloc, failing, runs)? == 0 {
+            return Ok(failing);
+        }
+    }
+    Err(Fail::from("it never ended"))
+}
+
+// An append makes five calls.
+#[test]
+fn what_a_disk_refused_once_is_accepted_again(rt: HostRuntime) -> Result<(), Fail> {
+    let alloc = rt.alloc();
+    let runs = chained(alloc, 21)?;
+    let end = takes_all_at_each(&rt, alloc, &runs);
+    drop(runs);
+    assert!(rt; end? == 54);
+    Ok(())
+}
+
 // A log that may have a hundred patches takes so many of these, and refuses the last one.
 fn takes_a_hundred(rt: &impl Abort, log: &mut LogState<MemDisk>, runs: &[Run]) -> Result<(), Fail> {
     let Some(last) = runs.last() else {
