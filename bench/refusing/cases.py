@@ -1,5 +1,6 @@
 """What is asked while memory is refused."""
 import json
+import subprocess
 from collections.abc import Iterator
 from pathlib import Path
 
@@ -61,6 +62,26 @@ def texts(built: Path) -> Iterator[Command]:
         yield Command(built, title, folders.empty, Words(words, says, given))
 
 
+def knows(built: Path, word: str) -> bool:
+    """Whether the program has a command, by its help."""
+    done = subprocess.run([built, "--help"], capture_output=True, text=True, check=True)
+    return f"\n  {word} " in done.stdout
+
+
+def net(built: Path) -> Iterator[Command]:
+    """Commands that make one patch of several, where the program has them."""
+    if not knows(built, "squash"):
+        return
+    head, two = f"H id <uuid:{ID(9)}> .\nH prev <uuid:{ID(2)}> .\n", P1 + P2
+    one = f"H id <uuid:{ID(2)}> .\nTX .\nA {LINES[0]}A {LINES[-1]}TC .\n"
+    for title, words, says in [
+        ("squash", "squash 1 2", (0, one, "")),
+        ("squash of a patch that isn't there", "squash 1 3", fault(3, "input: no patch 3")),
+        ("invert", f"invert {ID(9)}", (0, f"{head}TX .\nD {LINES[0]}TC .\n", "")),
+    ]:
+        yield Command(built, title, folders.empty, Words(words, says, two))
+
+
 def directories(built: Path) -> Iterator[Command]:
     """Commands over the files of a registry and of logs."""
     yield Command(built, "init", folders.empty, Words("init DIR 2", (0, "", "")),
@@ -89,8 +110,8 @@ def zones(built: Path) -> Iterator[Command]:
         ("match of none", "_:g * * *", ""),
     ]:
         yield Command(built, title, folders.zone, Words(f"match DIR {pattern}", (0, lines, "")))
-    yield Command(built, "upgrade of a zone", folders.old_zone, Words("upgrade_zone DIR", (0, "upgraded 2 files\n", "")),
-                  [UPGRADED_NONE, UPGRADE_FINISHED], [DUMPED])
+    upgrade = Words("upgrade_zone DIR", (0, "upgraded 2 files\n", ""))
+    yield Command(built, "upgrade of a zone", folders.old_zone, upgrade, [UPGRADED_NONE, UPGRADE_FINISHED], [DUMPED])
 
 
 CAUGHT_UP = Words("sync DIR ADDR ABC", (0, "caught up at version 5\n", ""))
@@ -204,7 +225,8 @@ def naming(built: Path) -> Iterator[Requests]:
     for title, begin, sent, told, done, stands in [
         ("a creation", folders.slots, operation("create", name="ABC", uri="http://e/abc", id=ID(9)), SOURCE,
          answer(409, {"error": "name_taken", "id": ID(9)}), [SOURCE]),
-        ("a renaming", folders.two, operation("rename", name="ABC", new_name="DEF"), other, answer(404, NO_SOURCE), [other]),
+        ("a renaming", folders.two, operation("rename", name="ABC", new_name="DEF"), other, answer(404, NO_SOURCE),
+         [other]),
         ("a removal", folders.two, operation("remove", name="ABC"), SOURCE, answer(404, NO_SOURCE), []),
     ]:
         look = operation("list"), answer(200, {"sources": stands})
@@ -216,5 +238,5 @@ def starting(built: Path) -> Iterator[Start]:
 
 
 def cases(built: Path) -> list[Case]:
-    kinds = texts, directories, zones, clients, reading, appending, naming, starting
+    kinds = texts, net, directories, zones, clients, reading, appending, naming, starting
     return [case for kind in kinds for case in kind(built)]

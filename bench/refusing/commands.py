@@ -81,4 +81,5 @@ class Ran:
 
     def left(self, end: str) -> object:
         half = [] if end == USUAL else self.command.half
-        return [(look.words, said) for look in self.command.looks if (said := self.said(look)) not in (look.says, *half)]
+        found = [(look, self.said(look)) for look in self.command.looks]
+        return [(look.words, said) for look, said in found if said not in (look.says, *half)]

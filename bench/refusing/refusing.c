@@ -12,8 +12,8 @@
 void *__libc_malloc(size_t size);
 void *__libc_realloc(void *block, size_t size);
 
-// The first and the last allocation that is refused, counted from 1, or each of that number; and how many were asked for
-// and refused.
+// The first and the last allocation that is refused, counted from 1, and each multiple of a number; and how many were
+// asked for and refused.
 struct orders {
     _Atomic uint64_t first, last, each, asked, refused;
 };

@@ -66,7 +66,8 @@ class Served:
                 link.shutdown(socket.SHUT_WR)
                 while piece := link.recv(65_536):
                     came += piece
-            except (ConnectionResetError, BrokenPipeError):
-                # It was let go with bytes that nobody read.
-                pass
+            except OSError as fault:
+                # It was let go, maybe with bytes that nobody read.
+                if isinstance(fault, TimeoutError):
+                    raise
             return came

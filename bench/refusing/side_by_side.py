@@ -61,7 +61,7 @@ class Appending:
 
 
 def verified(program: Path, folder: Path, served: Served, logs: list[Log]) -> None:
-    """Each patch that was acknowledged stands at its version, each run whole or not at all, and the files say so too."""
+    """Each patch that was acknowledged stands at its version, each run whole or not at all; so `check` says too."""
     connection = served.connect()
     versions = [operation(connection, operation="log", name=log.name)[1]["version"] for log in logs]
     connection.close()

@@ -22,7 +22,8 @@ def written(content: bytes, writes: list[Write]) -> bytes:
 def subsets(writes: list[Write]) -> list[list[Write]]:
     """Which of the writes that aren't synced may be on the disk: none, all, each alone, all but each, and the halves of
     the last one behind the others."""
-    kept = [[], writes, *([write] for write in writes), *(writes[:place] + writes[place + 1:] for place in range(len(writes)))]
+    kept = [[], writes, *([write] for write in writes)]
+    kept += [writes[:place] + writes[place + 1:] for place in range(len(writes))]
     if writes and len(writes[-1][1]) > 1:
         at, content = writes[-1]
         half = len(content) // 2
@@ -58,8 +59,8 @@ class Disk:
                 file.is_named = True
 
     def images(self) -> list[Image]:
-        """The images that a power cut may leave: all of what isn't synced, nothing of it, and of one file at a time some.
-        A file that isn't surely named may be gone."""
+        """The images that a power cut may leave: all of what isn't synced, nothing of it, and of one file at a time
+        some. A file that isn't surely named may be gone."""
         found = [{number: file.synced for number, file in self.files.items() if file.is_named}]
         others = {number: written(file.synced, file.writes) for number, file in self.files.items()}
         for number, file in self.files.items():
@@ -75,8 +76,8 @@ def image_of(folder: Path) -> Image:
 
 
 def cuts(before: Image, calls: list[Call], step: int) -> Iterator[tuple[list[Call], Image]]:
-    """Each image that a power cut may leave behind each front of the calls, or each step-th one and all of them, with that
-    front."""
+    """Each image that a power cut may leave behind a front of the calls, with that front: behind each step-th one and
+    all of them."""
     disk = Disk(before)
     for count in range(len(calls) + 1):
         if count:

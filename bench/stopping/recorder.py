@@ -10,7 +10,7 @@ from pathlib import Path
 from measure import want
 
 SOURCE = Path(__file__).with_name("recording.c")
-CALL, NUMBERS = struct.Struct("<BIQQ"), struct.Struct("4Q")
+CALL, NUMBERS = struct.Struct("<BIQQ"), struct.Struct("10Q")
 MADE, WRITTEN, SYNCED, FOLDER_SYNCED, SENT = range(5)
 
 
@@ -43,13 +43,22 @@ class Recorder:
         return {**os.environ, **{name: str(value) for name, value in names.items()}}
 
     def fail(self, first: int, last: int) -> None:
-        """From now on has the writes and syncs of these numbers fail, counted anew from 1."""
-        self.shared[:] = NUMBERS.pack(first, last, 0, 0)
+        """From now on has the calls on files of these numbers fail, counted anew from 1."""
+        self.shared[:] = NUMBERS.pack(first, last, *[0] * 8)
+
+    def fail_links(self, first: int, last: int) -> None:
+        """The same of reads and writes of connections."""
+        self.shared[:] = NUMBERS.pack(*[0] * 5, first, last, *[0] * 3)
 
     def failed(self) -> int:
         """How many failed since."""
-        number: int = NUMBERS.unpack(self.shared[:])[3]
-        return number
+        numbers = NUMBERS.unpack(self.shared[:])
+        return int(numbers[3] + numbers[8])
+
+    def is_one_read(self) -> bool:
+        """Whether one call failed, and that a read of a file."""
+        numbers = NUMBERS.unpack(self.shared[:])
+        return bool(numbers[3] == numbers[4] == 1)
 
     def calls(self) -> list[Call]:
         return list(read_calls(self.record.read_bytes()))

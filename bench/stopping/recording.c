@@ -19,9 +19,14 @@ enum { MADE, WRITTEN, SYNCED, FOLDER_SYNCED, SENT };
 // What a descriptor is of; a number of a file is one less than what stands here.
 enum { MOST = 1024, NONE = 0, FOLDER = 1 << 30 };
 
-// The first and the last call that fails, counted from 1, and how many were made and failed. Only writes and syncs count.
+// The first and the last call that fails, counted from 1, and how many were made, failed, and failed as reads of files.
+struct calls {
+    _Atomic uint64_t first, last, made, failed, reads;
+};
+
+// Those on files, which are openings, reads, writes and syncs, and those on connections.
 struct orders {
-    _Atomic uint64_t first, last, made, failed;
+    struct calls disk, link;
 };
 
 static struct orders nobody, *orders = &nobody;
@@ -56,11 +61,11 @@ static int file_of(int descriptor) {
     return 0 <= descriptor && descriptor < MOST ? files[descriptor] : NONE;
 }
 
-static int fails(void) {
-    uint64_t number = atomic_fetch_add(&orders->made, 1) + 1;
-    if (number < orders->first || number > orders->last) return 0;
-    atomic_fetch_add(&orders->failed, 1);
-    errno = EIO;
+static int fails(struct calls *calls, int fault) {
+    uint64_t number = atomic_fetch_add(&calls->made, 1) + 1;
+    if (number < calls->first || number > calls->last) return 0;
+    atomic_fetch_add(&calls->failed, 1);
+    errno = fault;
     return 1;
 }
 
@@ -72,6 +77,7 @@ int open(const char *path, int flags, ...) {
     size_t length = strlen(folder);
     unsigned number = 0;
     int is_file = strncmp(path, folder, length) == 0 && sscanf(path + length, "/rdj-%4u", &number) == 1;
+    if (is_file && fails(&orders->disk, EIO)) return -1;
     int is_new = is_file && access(path, F_OK) != 0;
     int descriptor = syscall(SYS_openat, AT_FDCWD, path, flags, mode);
     if (0 <= descriptor && descriptor < MOST)
@@ -87,15 +93,23 @@ int close(int descriptor) {
 
 ssize_t pwrite(int descriptor, const void *bytes, size_t length, off_t at) {
     int file = file_of(descriptor);
-    if (file != NONE && fails()) return -1;
+    if (file != NONE && fails(&orders->disk, EIO)) return -1;
     ssize_t written = syscall(SYS_pwrite64, descriptor, bytes, length, at);
     if (file != NONE && written > 0) note(WRITTEN, file - 1, at, bytes, written);
     return written;
 }
 
+ssize_t pread(int descriptor, void *bytes, size_t length, off_t at) {
+    if (file_of(descriptor) != NONE && fails(&orders->disk, EIO)) {
+        atomic_fetch_add(&orders->disk.reads, 1);
+        return -1;
+    }
+    return syscall(SYS_pread64, descriptor, bytes, length, at);
+}
+
 static int sync_by(long call, int descriptor) {
     int file = file_of(descriptor);
-    if (file != NONE && fails()) return -1;
+    if (file != NONE && fails(&orders->disk, EIO)) return -1;
     int synced = syscall(call, descriptor);
     if (file != NONE && synced == 0) note(file == FOLDER ? FOLDER_SYNCED : SYNCED, file - 1, 0, NULL, 0);
     return synced;
@@ -111,6 +125,12 @@ int ftruncate(int descriptor, off_t length) {
 }
 
 ssize_t send(int descriptor, const void *bytes, size_t length, int flags) {
+    if (fails(&orders->link, ECONNRESET)) return -1;
     note(SENT, descriptor, 0, bytes, length);
     return syscall(SYS_sendto, descriptor, bytes, length, flags, NULL, 0);
+}
+
+ssize_t recv(int descriptor, void *bytes, size_t length, int flags) {
+    if (fails(&orders->link, ECONNRESET)) return -1;
+    return syscall(SYS_recvfrom, descriptor, bytes, length, flags, NULL, NULL);
 }

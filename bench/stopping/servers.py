@@ -1,5 +1,6 @@
 """Servers that stop at any call on a disk, or of which calls fail."""
 from collections.abc import Iterator
+from contextlib import contextmanager
 from dataclasses import dataclass, field
 from pathlib import Path
 
@@ -37,9 +38,16 @@ class Server:
             number: framed(number, payloads) + self.stale.get(number, b"") for number, payloads in EMPTY.items()
         }
 
+    @contextmanager
+    def served(self, recorder: Recorder, within: Path) -> Iterator[Served]:
+        """A server over the files, whose calls are recorded."""
+        with laid_out(self.before, within) as folder:
+            with Served(self.program, folder, recorder.environment(folder)) as served:
+                yield served
+
     def stop(self, recorder: Recorder, within: Path, step: int) -> Found:
         """Looks at each image that a stop may leave, and goes on from it."""
-        with laid_out(self.before, within) as folder, Served(self.program, folder, recorder.environment(folder)) as served:
+        with self.served(recorder, within) as served:
             # What is called up to then makes no change.
             begun = len(recorder.calls())
             answered = [status_of(served, effect) for effect in self.effects]
@@ -69,17 +77,17 @@ class Server:
 
     def fail(self, recorder: Recorder, within: Path, step: int) -> Found:
         """Has each write and sync fail by itself, and then each with all behind it."""
-        number, images = 1, 0
+        number, failed, images = 1, 0, 0
         while left := [pair for last in (number, END) for pair in self.left_by(recorder, within, number, last)]:
             for answered, image in left:
                 self.go_on(image, within, answered, len(self.effects), f"{self.title}: call {number} failed")
-            number, images = number + step, images + len(left)
-        return number - 1, images
+            number, failed, images = number + step, failed + 1, images + len(left)
+        return failed, images
 
     def left_by(self, recorder: Recorder, within: Path, first: int, last: int) -> Iterator[tuple[int, Image]]:
-        """Sends each request again where the disk fails, until one is refused twice; how many were accepted, and the images
-        that a stop may leave then. There are none where no call failed."""
-        with laid_out(self.before, within) as folder, Served(self.program, folder, recorder.environment(folder)) as served:
+        """Sends each request again where the disk fails, until one is refused twice; how many were accepted, and the
+        images that a stop may leave then. There are none where no call failed."""
+        with self.served(recorder, within) as served:
             begun = len(recorder.calls())
             recorder.fail(first, last)
             answered = self.answered_by(served)
