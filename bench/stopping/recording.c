@@ -134,3 +134,8 @@ ssize_t recv(int descriptor, void *bytes, size_t length, int flags) {
     if (fails(&orders->link, ECONNRESET)) return -1;
     return syscall(SYS_recvfrom, descriptor, bytes, length, flags, NULL, NULL);
 }
+
+int connect(int descriptor, const struct sockaddr *address, socklen_t length) {
+    if (fails(&orders->link, ECONNREFUSED)) return -1;
+    return syscall(SYS_connect, descriptor, address, length);
+}
