@@ -29,6 +29,10 @@ class Appending:
     answers: Counter[str] = field(default_factory=Counter)
     others: list[object] = field(default_factory=list)
 
+    def connected(self, log: Log) -> http.client.HTTPConnection:
+        """A connection of a client of this log."""
+        return self.served.connect()
+
     def work(self, log: Log) -> None:
         """Appends runs behind the head that was told last; a connection that ends is made anew."""
         head, connection = None, None
@@ -36,7 +40,7 @@ class Appending:
             texts, last = run(head, random.randint(1, MOST))
             log.unanswered.append(texts)
             try:
-                connection = connection or self.served.connect()
+                connection = connection or self.connected(log)
                 status, body = ask(connection, "POST", f"/{log.name}/run", b"".join(texts))
             except (OSError, http.client.HTTPException):
                 self.answers[ENDED] += 1
