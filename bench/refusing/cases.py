@@ -6,7 +6,7 @@ from pathlib import Path
 
 from refusing import folders
 from refusing.commands import Command, Told, Words
-from refusing.folders import FIVE, ID, LINES, SOURCE
+from refusing.folders import FIVE, ID, LINES, LONGEST, SOURCE
 from refusing.requests import GO_ON, Requests, Start, reply, request
 from refusing.tries import Case
 
@@ -210,6 +210,9 @@ def appending(built: Path) -> Iterator[Requests]:
         ("an append as an operation", operation("append", name="ABC", patch=P1.decode()), accepted, answer(409, KNOWN)),
     ]:
         yield Requests(built, title, folders.source, [sent], [usual], [done], at_one)
+    yield Requests(built, "an append of the most bytes", folders.source, [request("POST", "/ABC", LONGEST)], [accepted],
+                   [answer(409, KNOWN)], [(request("GET", "/ABC/1"), text(LONGEST))])
+    yield Requests(built, "a fetch of the most bytes", folders.longest, [request("GET", "/ABC/1")], [text(LONGEST)])
     yield Requests(built, "an append and a ping", folders.source, [first, request("GET", "/$/ping")],
                    [accepted, answer(200, {"ping": "ok"})], [answer(409, KNOWN), answer(200, {"ping": "ok"})], at_one)
     run = [(request("GET", f"/ABC/{version}"), text(FIVE[version - 1])) for version in (3, 4, 5)]

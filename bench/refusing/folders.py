@@ -16,6 +16,8 @@ def patch(number: int, before: int | None = None) -> bytes:
 
 
 FIVE = [patch(1), *(patch(number, number - 1) for number in range(2, 6))]
+# The first one with a comment that makes it as long as a patch may be.
+LONGEST = FIVE[0] + b"#" + b"x" * (4_194_304 - len(FIVE[0]) - 1)
 # Their quads in canonical form.
 LINES = sorted(f"<http://e/s> <http://e/p> <http://e/o{number if number > 1 else ''}> .\n" for number in range(1, 6))
 
@@ -48,6 +50,11 @@ def five(folder: Path) -> None:
     """A source whose log has five patches, of which three came as a run, beside a zone that has two of them."""
     runs = [FIVE[0], b"".join(FIVE[1:4]), FIVE[4]]
     write(folder, {0: framed(0, EVENTS), 1: framed(1, runs), 2: framed(2, []), 1000: framed(1000, FIVE[:2])})
+
+
+def longest(folder: Path) -> None:
+    """A source whose log has the longest patch."""
+    write(folder, {0: framed(0, EVENTS), 1: framed(1, [LONGEST]), 2: framed(2, [])})
 
 
 def broken(folder: Path) -> None:
