@@ -72,9 +72,12 @@ module _ (old new : Reading) (start : Option Brief) (patches : List CheckedPatch
       let more = kept.overflow was in
       (more.0, more.1, subst (λ (cs : List Change). AreMore most_terms cs []) (all_on more.0 patches patch) (overflows_still (more.0 ++ changes_taken patches) patch.meaning.changes more.2))
   overflow_more false was is =
-      let met = kept.met was in
-      (met.0, met.1, subst (λ (cs : List Change). AreMore most_terms cs []) (all_on met.0 patches patch)
-      (overflows_now (met.0 ++ changes_taken patches) patch.meaning.changes old.kept.contents.terms met.2 (adds.meets.overflow was is)))
+      let met = kept.met was in (
+        met.0,
+        met.1,
+        subst (λ (cs : List Change). AreMore most_terms cs []) (all_on met.0 patches patch)
+            (overflows_now (met.0 ++ changes_taken patches) patch.meaning.changes old.kept.contents.terms met.2 (adds.meets.overflow was is)),
+      )
 
   pub kept_more : IsKeptOf new start (patches ++ patch ∷ []) (with_patch brief patch)
   kept_more = record {
