@@ -132,7 +132,7 @@ class Begun:
         while served.process.poll() is None and time.monotonic() < until:
             try:
                 found = served.say(self.start.sent)
-            except ConnectionRefusedError:
+            except ConnectionError:
                 time.sleep(0.001)
                 continue
             if found == self.start.wanted:

@@ -53,7 +53,7 @@ class Served:
             try:
                 if self.say(PING).endswith(b'{"ping":"ok"}'):
                     return
-            except ConnectionRefusedError:
+            except ConnectionError:
                 time.sleep(0.001)
         raise NotServed(f"status {self.process.poll()}: {self.end()!r}")
 
