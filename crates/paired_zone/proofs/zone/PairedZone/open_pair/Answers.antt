@@ -1,0 +1,42 @@
+use Rattle.std.proofs.Common.{◌≡◌, sym, subst, ap}
+use Rattle.disk_model.specs.Past.{reads}
+use Rattle.zone_files.specs.Generation.{number_of}
+use Rattle.std.proofs.Common.{true, false, cond}
+use Rattle.paired_zone.specs.Fault.{HasPairFault, none_current}
+use Rattle.paired_zone.specs.Opening.{RefusedDisk}
+use Rattle.paired_zone.specs.declared.fault.PairFault.TheVariants.{Failed}
+use Rattle.paired_zone.proofs.Opened.{here_in, is_opened, has_fault, both_refused, in_order_so}
+use Rattle.paired_zone.proofs.zone.PairedZone.open_pair.Goals as goal
+
+pub open_current-requires-clause-in_generation : goal.open_current-requires-clause-in_generation
+open_current-requires-clause-in_generation g c =
+    let f = c.in-Ok.field-0 in
+    here_in g.D.Disk f.beside.on_second c.args.first c.args.second f.current f.beside.disk c.in-Ok.ensures.first c.in-Ok.ensures.second f.beside.generation c.in-Ok.ensures.current
+
+pub returns-in-Ok-open_current-clause-opened : goal.returns-in-Ok-open_current-clause-opened
+returns-in-Ok-open_current-clause-opened g c =
+    let f = c.in-Ok.field-0 in
+    is_opened g.D.Disk f.beside.on_second c.args.first c.args.second f.current f.beside.disk c.in-Ok.ensures.first c.in-Ok.ensures.second f.beside.generation c.args.limits c.in-Ok-open_current.zone c.in-Ok-open_current.ensures.opened
+
+pub returns-in-Err-open_current-clause-fault : goal.returns-in-Err-open_current-clause-fault
+returns-in-Err-open_current-clause-fault g c =
+    let f = c.in-Ok.field-0 in
+    let r = c.in-Err-open_current.field-0 in
+    has_fault g.D.Disk f.beside.on_second c.args.first c.args.second f.current f.beside.disk c.in-Ok.ensures.first c.in-Ok.ensures.second c.args.limits r.fault r.current c.in-Err-open_current.ensures.refused f.beside.generation c.in-Ok.ensures.current
+
+pub returns-in-Err-open_current-clause-first_refused : goal.returns-in-Err-open_current-clause-first_refused
+returns-in-Err-open_current-clause-first_refused g c =
+    let f = c.in-Ok.field-0 in
+    let r = c.in-Err-open_current.field-0 in
+    let both = both_refused g.D.Disk f.beside.on_second c.args.first c.args.second f.current f.beside.disk c.in-Ok.ensures.first c.in-Ok.ensures.second c.args.limits r.fault r.current c.in-Err-open_current.ensures.refused in
+    subst (λ d. RefusedDisk g.D.Disk (r.fault ≡ Failed (number_of false)) c.args.first d) (sym (in_order_so f.beside r.beside r.current c.in_order-first.result c.in-Err-open_current.ensures.beside c.in_order-first.ensures).0) both.0
+
+pub returns-in-Err-open_current-clause-second_refused : goal.returns-in-Err-open_current-clause-second_refused
+returns-in-Err-open_current-clause-second_refused g c =
+    let f = c.in-Ok.field-0 in
+    let r = c.in-Err-open_current.field-0 in
+    let both = both_refused g.D.Disk f.beside.on_second c.args.first c.args.second f.current f.beside.disk c.in-Ok.ensures.first c.in-Ok.ensures.second c.args.limits r.fault r.current c.in-Err-open_current.ensures.refused in
+    subst (λ d. RefusedDisk g.D.Disk (r.fault ≡ Failed (number_of true)) c.args.second d) (sym (in_order_so f.beside r.beside r.current c.in_order-first.result c.in-Err-open_current.ensures.beside c.in_order-first.ensures).1) both.1
+
+pub returns-in-Err-clause-fault : goal.returns-in-Err-clause-fault
+returns-in-Err-clause-fault g c told = none_current c.in-Err.field-0.fault c.of_finding.ensures (c.in-Err.ensures.fault told)
