@@ -8,7 +8,7 @@ use Rattle.patch_log.specs.State.{LogView}
 use Rattle.turn_cell.specs.Turns.{AllOf}
 use Rattle.turn_cell.specs.Sights.{Made}
 use Rattle.chain_core.specs.Replies.{LogCall, LogReply}
-use Rattle.shared_log.specs.History.{LogSight}
+use Rattle.shared_log.specs.History.{LogSight, SeesWhole}
 use Rattle.shared_log.specs.Stays.{CalledOnLog}
 use Rattle.hall_logs.specs.Slots.{ArePartsOf, AreAllHallPasses, OnSlot}
 use Rattle.hall_logs.specs.Visits.{HasVisited}
@@ -30,8 +30,8 @@ module _ {D : Type 0} (disks : Ghosts D) (logs : List (Made (LogView D))) where
   set_one (x ∷ passes) (suc k) pass after low is visited = (([], refl), set_one passes k pass after (omega (arith, low)) is visited)
 
   -- a call is a visit
-  pub called : {slot : ℕ} {call : LogCall} {reply : LogReply} {before after : List LogSight} → OnSlot slot (λ log p q. CalledOnLog disks log.origin p call reply q) logs before after → HasVisited disks logs before after
-  called {slot} {call} {reply} {before} {after} on = let one = (each_is_visit disks logs slot call before after).replied reply on in (_ ∷ [], (after, one.1, refl))
+  pub called : {slot : ℕ} {call : LogCall} {reply : LogReply} {before after : List LogSight} → OnSlot slot (λ log p q. CalledOnLog disks log.origin p call reply q) logs before after → OnSlot slot (λ log p q. SeesWhole q) logs before after → HasVisited disks logs before after
+  called {slot} {call} {reply} {before} {after} on whole = let one = (each_is_visit disks logs slot call before after).replied reply on whole in (_ ∷ [], (after, one.1, refl))
 
   module _ {seats : ℕ} {passes : List (List LogSight)} {pass : List LogSight} where
     -- one of them has a part of each log
@@ -40,8 +40,8 @@ module _ {D : Type 0} (disks : Ghosts D) (logs : List (Made (LogView D))) where
 
     -- one of them made a call
     pub one_called : {slot : ℕ} {call : LogCall} {reply : LogReply} {after : List LogSight} (k : ℕ) → AreAllHallPasses disks logs seats passes → k < seats → pass ≡ slice_index_or passes k pass → OnSlot slot (λ log p q. CalledOnLog disks log.origin p call reply q) logs pass after
-        → AreAllHallPasses disks logs seats (slice_set passes k after)
-    one_called {after = after} k all low is on = passes_stay disks logs seats passes (slice_set passes k after) (set_one passes k pass after (omega (arith, low, all.count)) is (called on)) all
+        → OnSlot slot (λ log p q. SeesWhole q) logs pass after → AreAllHallPasses disks logs seats (slice_set passes k after)
+    one_called {after = after} k all low is on whole = passes_stay disks logs seats passes (slice_set passes k after) (set_one passes k pass after (omega (arith, low, all.count)) is (called on whole)) all
 
   pub each_visits : (before after : List (List LogSight)) → length after ≡ length before
       → ((k : ℕ) (d : List LogSight) → k < length before → HasVisited disks logs (slice_index_or before k d) (slice_index_or after k d)) → AllZip (HasVisited disks logs) before after

@@ -5,4 +5,4 @@ pub version-requires-clause-of : goal.version-requires-clause-of
 version-requires-clause-of g c = has_parts g.D.Disk c.args.hall.now.logs c.args.place c.requires.all c.requires.place c.index_mut.ensures.value
 
 pub returns : goal.returns
-returns g c = one_called g.D.Disk c.args.hall.now.logs c.args.place c.requires.all c.requires.place c.index_mut.ensures.value c.version.ensures.called
+returns g c = one_called g.D.Disk c.args.hall.now.logs c.args.place c.requires.all c.requires.place c.index_mut.ensures.value c.version.ensures.called c.version.ensures.whole
