@@ -21,6 +21,16 @@ place_line line at kind = codes "rdfdelta: input: line "
 abbrev pub limit_line : ℕ → List ℕ
 limit_line limit = codes "rdfdelta: input: too long: limit " ++ (decimal limit ++ 10 ∷ [])
 
+-- a stream of fewer patches
+abbrev pub few_patches_line : ℕ → List ℕ
+few_patches_line version = codes "rdfdelta: input: no patch " ++ (decimal version ++ 10 ∷ [])
+
+-- a patch that was to be made, and is too long
+abbrev pub net_too_long_line : ℕ → ℕ → List ℕ
+net_too_long_line have limit =
+    codes "rdfdelta: refused: net patch too long: have "
+    ++ (decimal have ++ (codes ", limit " ++ (decimal limit ++ 10 ∷ [])))
+
 abbrev pub out_of_memory_line : List ℕ
 out_of_memory_line = codes "rdfdelta: out of memory\n"
 
@@ -76,6 +86,8 @@ refusal_line (refusals.LongPatch size limit) = limit_line limit
 refusal_line (refusals.Document line at kind) = place_line line at (text_kind_name kind)
 refusal_line refusals.BadRun = place_line 1 0 (codes "BadRun")
 refusal_line (refusals.TooLong limit) = limit_line limit
+refusal_line (refusals.FewPatches version) = few_patches_line version
+refusal_line (refusals.NetTooLong have limit) = net_too_long_line have limit
 refusal_line refusals.InputFailed = codes "rdfdelta: input failed\n"
 refusal_line refusals.OutputFailed = codes "rdfdelta: output failed\n"
 refusal_line (refusals.NotEmpty file length) = codes "rdfdelta: refused: file "
@@ -120,6 +132,8 @@ exit_status (refusals.LongPatch size limit) = 3
 exit_status (refusals.Document line at kind) = 3
 exit_status refusals.BadRun = 3
 exit_status (refusals.TooLong limit) = 3
+exit_status (refusals.FewPatches version) = 3
+exit_status (refusals.NetTooLong have limit) = 1
 exit_status refusals.InputFailed = 4
 exit_status refusals.OutputFailed = 4
 exit_status (refusals.NotEmpty file length) = 1

@@ -6,6 +6,7 @@ ghost use Rattle.command_tables.specs.Lines.{bad_patch_line, chain_line, fault_a
 ghost use Rattle.command_tables.specs.Lines.{limit_line, refusal_line, no_patch_line};
 ghost use Rattle.command_tables.specs.Lines.{not_understood_line, peer_behind_line, place_line};
 ghost use Rattle.command_tables.specs.Names.{usage_text};
+ghost use Rattle.command_tables.specs.Lines.{few_patches_line, net_too_long_line};
 ghost use Rattle.command_tables.specs.Lines.{refused_line, zone_full_line};
 
 use crate::name::Name;
@@ -52,6 +53,8 @@ pub fn made_line(alloc: Global, refusal: &Refusal) -> Result<Vec<u8>, OutOfMemor
             place_line(alloc, *line as u64, *at as u64, kind.name().as_bytes())
         }
         Refusal::TooLong { limit } => limit_line(alloc, *limit),
+        Refusal::FewPatches { version } => few_patches_line(alloc, *version),
+        Refusal::NetTooLong { length, limit } => net_too_long_line(alloc, *length, *limit),
         Refusal::NotEmpty { file, length } => not_empty_line(alloc, *file, *length),
         Refusal::ZoneFull { have, limit } => zone_full_line(alloc, *have, *limit),
         Refusal::File(fault) => fault_text(alloc, *fault),
@@ -74,6 +77,22 @@ fn usage_line(alloc: Global, name: Name) -> Result<Vec<u8>, OutOfMemory>
     name.push_usage(&mut text)?;
     text.push(b'\n')?;
     Ok(text)
+}
+
+fn few_patches_line(alloc: Global, version: u32) -> Result<Vec<u8>, OutOfMemory>
+    ensures { IfOk result (λ text. text.items ≡ few_patches_line version) }
+{
+    let text = format!(in alloc; "rdfdelta: input: no patch {version}\n")?;
+    Ok(text.into_bytes())
+}
+
+fn net_too_long_line(alloc: Global, have: u64, limit: u64) -> Result<Vec<u8>, OutOfMemory>
+    ensures { IfOk result (λ text. text.items ≡ net_too_long_line have limit) }
+{
+    let text = format!(in alloc;
+        "rdfdelta: refused: net patch too long: have {have}, limit {limit}\n"
+    )?;
+    Ok(text.into_bytes())
 }
 
 fn not_empty_line(alloc: Global, file: u32, length: u64) -> Result<Vec<u8>, OutOfMemory>

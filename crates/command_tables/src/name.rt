@@ -11,6 +11,10 @@ use delta_base::OutOfMemory;
 #[derive(Clone, Copy, Debug, PartialEq, Eq)]
 pub enum Name {
     Replay,
+    /// One patch stands in the place of some of a stream.
+    Squash,
+    /// The patch that undoes the last one of a stream.
+    Invert,
     Nquads,
     Gen,
     Emit,

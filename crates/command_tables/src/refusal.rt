@@ -46,6 +46,15 @@ pub enum Refusal {
     TooLong {
         limit: u64,
     },
+    /// The input is a stream of fewer patches than this version.
+    FewPatches {
+        version: u32,
+    },
+    /// The patch that was to be made has more bytes than a patch may have.
+    NetTooLong {
+        length: u64,
+        limit: u64,
+    },
     InputFailed,
     OutputFailed,
     /// A file that was to be made has bytes.
@@ -197,12 +206,13 @@ fn status_of(refusal: &Refusal) -> u8
 {
     match refusal {
         Refusal::NotEmpty { .. } | Refusal::ZoneTermsFull | Refusal::ZoneFull { .. } => 1,
-        Refusal::Refused { .. } => 1,
+        Refusal::NetTooLong { .. } | Refusal::Refused { .. } => 1,
         Refusal::UnknownCommand | Refusal::Usage(_) => 2,
         Refusal::Stream { .. }
         | Refusal::LongPatch { .. }
         | Refusal::Document { .. }
         | Refusal::BadRun
+        | Refusal::FewPatches { .. }
         | Refusal::TooLong { .. } => 3,
         Refusal::InputFailed | Refusal::OutputFailed => 4,
         Refusal::DiskFailed => 5,

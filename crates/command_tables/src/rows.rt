@@ -46,6 +46,20 @@ pub const ROWS: &[StaticRow] = &[
         help: &["read a stream of patches, print the canonical lines of its dataset"],
     },
     CommandRow {
+        name: Name::Squash,
+        word: "squash",
+        positions: &["V", "W"],
+        group: Group::Texts,
+        help: &["read a stream of patches, print it with those from V to W as one"],
+    },
+    CommandRow {
+        name: Name::Invert,
+        word: "invert",
+        positions: &["ID"],
+        group: Group::Texts,
+        help: &["read a stream of patches, print the patch that undoes the last one"],
+    },
+    CommandRow {
         name: Name::Nquads,
         word: "nquads",
         positions: &[],

@@ -11,6 +11,7 @@ use Rattle.dataset_tx.specs.declared.pattern.Pattern.{Pattern}
 use Rattle.zone_commands.specs.Words.{IsPatternOf}
 use Rattle.zone_commands.specs.declared.reading.Reading.{Reading}
 use Rattle.zone_commands.specs.declared.reading.Reading.TheVariants as readings
+use Rattle.delta_base.specs.Ids.{number_of}
 use Rattle.delta_cli.specs.declared.append.Appended.{Appended}
 use Rattle.delta_cli.specs.declared.append.Appended.TheVariants as appended
 use Rattle.delta_cli.specs.declared.command.Command.{Command}
@@ -19,7 +20,7 @@ use Rattle.command_tables.specs.declared.name.Name.{Name}
 use Rattle.command_tables.specs.declared.name.Name.TheVariants as names
 use Rattle.command_tables.specs.Addresses.{IsAddress}
 use Rattle.command_tables.specs.Names.{BeginsWith, FitsName, IsNamed, asks_server, positions_of}
-use Rattle.delta_cli.specs.Commands.{AreCommandWords, Asks, AsksFor, AsksNothing, AsksToRead, IsOfTool}
+use Rattle.delta_cli.specs.Commands.{AreCommandWords, Asks, AsksFor, AsksNothing, AsksToRead, IsOfTool, IsSpan}
 use Rattle.command_tables.specs.Names.{name_text}
 use Rattle.command_tables.proofs.Words.{plain_number, same_name, first_is}
 
@@ -47,6 +48,8 @@ append_name appended.Run = names.AppendRun
 
 abbrev name_of : Command → Name
 name_of commands.Replay = names.Replay
+name_of (commands.Squash from to) = names.Squash
+name_of (commands.Invert id) = names.Invert
 name_of commands.Nquads = names.Nquads
 name_of (commands.Gen patches) = names.Gen
 name_of (commands.Emit patches) = names.Emit
@@ -99,6 +102,10 @@ reading_fits words dir (readings.Match pattern) asks = fits_words words names.Ma
 -- the words of a command fit its name
 asks_fit : (words : List (List ℕ)) (dice : ℕ) (c : Command) → Asks words dice c → FitsName words (name_of c)
 asks_fit words dice commands.Replay is = alone words names.Replay refl is
+asks_fit words dice (commands.Squash from to) asks =
+    subst (λ (ws : List (List ℕ)). FitsName ws names.Squash) (sym asks.0)
+    ((decimal from ∷ decimal to ∷ [], refl), (All-cons IsPlainWord (decimal from) (decimal to ∷ []) (plain_number from (omega (arith, asks.1.1, asks.1.2))) (one_plain (decimal to) (plain_number to (omega (arith, asks.1.2)))), refl))
+asks_fit words dice (commands.Invert id) asks = fits_words words names.Invert (asks.0 ∷ []) asks.1 refl
 asks_fit words dice commands.Nquads is = alone words names.Nquads refl is
 asks_fit words dice (commands.Gen patches) asks =
     subst (λ (ws : List (List ℕ)). FitsName ws names.Gen) (sym asks.0) ((decimal patches ∷ [], refl), (one_plain (decimal patches) (plain_number patches (omega (arith, asks.1))), refl))
@@ -149,6 +156,8 @@ reading_of_tool (readings.Match pattern) = tt
 
 of_tool : (c : Command) → IsOfTool (name_of c)
 of_tool commands.Replay = tt
+of_tool (commands.Squash from to) = tt
+of_tool (commands.Invert id) = tt
 of_tool commands.Nquads = tt
 of_tool (commands.Gen patches) = tt
 of_tool (commands.Emit patches) = tt
@@ -264,6 +273,8 @@ module _ (words : List (List ℕ)) (fits : FitsName words names.Match) where
       by (commands.Append appended.Patch address name) is asked = cc
       by (commands.Append appended.Run address name) is asked = cc
       by commands.Replay is asked = cc
+      by (commands.Squash from to) is asked = cc
+      by (commands.Invert id) is asked = cc
       by commands.Nquads is asked = cc
       by (commands.Gen patches) is asked = cc
       by (commands.Emit patches) is asked = cc
@@ -294,6 +305,91 @@ module _ (words : List (List ℕ)) (fits : FitsName words names.Sync) where
       by (commands.Read dir readings.Prefixes) is asked = cc
       by (commands.Read dir (readings.Match pattern)) is asked = cc
       by (commands.Ask address call) is asked = no_call call names.Sync refl is
+      by (commands.Describe address name) is asked = cc
+      by (commands.Append appended.Patch address name) is asked = cc
+      by (commands.Append appended.Run address name) is asked = cc
+      by commands.Replay is asked = cc
+      by (commands.Squash from to) is asked = cc
+      by (commands.Invert id) is asked = cc
+      by commands.Nquads is asked = cc
+      by (commands.Gen patches) is asked = cc
+      by (commands.Emit patches) is asked = cc
+      by (commands.Init dir slots) is asked = cc
+      by (commands.Check dir) is asked = cc
+      by (commands.Upgrade dir) is asked = cc
+      by (commands.Zone dir) is asked = cc
+      by (commands.UpgradeZone dir) is asked = cc
+      by commands.Help is asked = cc
+      by commands.Version is asked = cc
+
+-- ---- words that are versions
+
+cut_two : (words rest : List (List ℕ)) (x : List ℕ) → words ≡ x ∷ rest → length words ≡ 3 → words ≡ x ∷ get_or words 1 [] ∷ get_or words 2 [] ∷ []
+cut_two words [] x is long = absurd (omega (arith, long, ap length is))
+cut_two words (a ∷ []) x is long = absurd (omega (arith, long, ap length is))
+cut_two words (a ∷ (b ∷ [])) x is long = subst (λ (ws : List (List ℕ)). ws ≡ x ∷ get_or ws 1 [] ∷ get_or ws 2 [] ∷ []) (sym is) refl
+cut_two words (a ∷ (b ∷ (d ∷ rest))) x is long = absurd (omega (arith, long, ap length is))
+
+module _ (words : List (List ℕ)) (fits : FitsName words names.Squash) where
+  -- the words behind the name, each of which is a number
+  pub span_are : (v w : ℕ) → get_or words 1 [] ≡ decimal v → get_or words 2 [] ≡ decimal w → words ≡ codes "squash" ∷ decimal v ∷ decimal w ∷ []
+  span_are v w first last =
+      cut_two words fits.0.0 (codes "squash") fits.0.1 (omega (arith, fits.1.1))
+      ∙ ap (λ (t : List ℕ). codes "squash" ∷ t ∷ get_or words 2 [] ∷ []) first ∙ ap (λ (t : List ℕ). codes "squash" ∷ decimal v ∷ t ∷ []) last
+
+  -- words that are no span of versions ask for nothing
+  pub spanless : ((v w : ℕ) → get_or words 1 [] ≡ decimal v → get_or words 2 [] ≡ decimal w → IsSpan v w → ⊥) → AsksNothing words
+  spanless none dice c asks = by c (same_name words (name_of c) names.Squash (asks_fit words dice c asks).0 fits.0) asks
+    where
+      by : (command : Command) → name_of command ≡ names.Squash → Asks words dice command → ⊥
+      by (commands.Squash from to) is asked = none from to (ap (λ (ws : List (List ℕ)). get_or ws 1 []) asked.0) (ap (λ (ws : List (List ℕ)). get_or ws 2 []) asked.0) asked.1
+      by (commands.Invert id) is asked = cc
+      by (commands.Read dir readings.Dump) is asked = cc
+      by (commands.Read dir readings.Prefixes) is asked = cc
+      by (commands.Read dir (readings.Match pattern)) is asked = cc
+      by (commands.Sync dir address name) is asked = cc
+      by (commands.Ask address call) is asked = no_call call names.Squash refl is
+      by (commands.Describe address name) is asked = cc
+      by (commands.Append appended.Patch address name) is asked = cc
+      by (commands.Append appended.Run address name) is asked = cc
+      by commands.Replay is asked = cc
+      by commands.Nquads is asked = cc
+      by (commands.Gen patches) is asked = cc
+      by (commands.Emit patches) is asked = cc
+      by (commands.Init dir slots) is asked = cc
+      by (commands.Check dir) is asked = cc
+      by (commands.Upgrade dir) is asked = cc
+      by (commands.Zone dir) is asked = cc
+      by (commands.UpgradeZone dir) is asked = cc
+      by commands.Help is asked = cc
+      by commands.Version is asked = cc
+
+-- ---- a word that is an id
+
+cut_one : (words rest : List (List ℕ)) (x : List ℕ) → words ≡ x ∷ rest → length words ≡ 2 → ArePlain (drop 1 words) → AreCommandWords words x (get_or words 1 [] ∷ [])
+cut_one words [] x is long plain = absurd (omega (arith, long, ap length is))
+cut_one words (a ∷ []) x is long plain = subst (λ (ws : List (List ℕ)). ArePlain (drop 1 ws) → AreCommandWords ws x (get_or ws 1 [] ∷ [])) (sym is) (λ p. (refl, p)) plain
+cut_one words (a ∷ (b ∷ rest)) x is long plain = absurd (omega (arith, long, ap length is))
+
+module _ (words : List (List ℕ)) (fits : FitsName words names.Invert) where
+  -- the word behind the name, which was taken
+  pub id_is : (text : List ℕ) → text ≡ get_or words 1 [] → AreCommandWords words (codes "invert") (text ∷ [])
+  id_is text is =
+      subst (λ (t : List ℕ). AreCommandWords words (codes "invert") (t ∷ [])) (sym is) (cut_one words fits.0.0 (codes "invert") fits.0.1 (omega (arith, fits.1.1)) fits.1.0)
+
+  -- a word that is no id asks for nothing
+  pub idless : (number_of (get_or words 1 []) ≡ None) → AsksNothing words
+  idless none dice c asks = by c (same_name words (name_of c) names.Invert (asks_fit words dice c asks).0 fits.0) asks
+    where
+      by : (command : Command) → name_of command ≡ names.Invert → Asks words dice command → ⊥
+      by (commands.Invert id) is asked =
+          let named : number_of (get_or words 1 []) ≡ Some id.0 = subst (λ (ws : List (List ℕ)). number_of (get_or ws 1 []) ≡ Some id.0) (sym asked.1.0) asked.2 in absurd cc
+      by (commands.Squash from to) is asked = cc
+      by (commands.Read dir readings.Dump) is asked = cc
+      by (commands.Read dir readings.Prefixes) is asked = cc
+      by (commands.Read dir (readings.Match pattern)) is asked = cc
+      by (commands.Sync dir address name) is asked = cc
+      by (commands.Ask address call) is asked = no_call call names.Invert refl is
       by (commands.Describe address name) is asked = cc
       by (commands.Append appended.Patch address name) is asked = cc
       by (commands.Append appended.Run address name) is asked = cc

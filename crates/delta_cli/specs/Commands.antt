@@ -65,10 +65,18 @@ abbrev pub append_word : Appended → List ℕ
 append_word appended.Patch = codes "append"
 append_word appended.Run = codes "append_run"
 
+-- the versions from the one to the other, of the first 65,536
+abbrev pub IsSpan : ℕ → ℕ → Type 0
+IsSpan from to = (1 ≤ from) × (from ≤ to) × (to ≤ 65536)
+
 -- The words ask for this command, with these dice. Numbers are decimal, without sign and leading
 -- zeros; a directory doesn't begin with `-`.
 abbrev pub Asks : List (List ℕ) → ℕ → Command → Type 0
 Asks words dice commands.Replay = words ≡ codes "replay" ∷ []
+Asks words dice (commands.Squash from to) =
+    (words ≡ codes "squash" ∷ decimal from ∷ decimal to ∷ []) × IsSpan from to
+Asks words dice (commands.Invert id) =
+    (text : List ℕ) × AreCommandWords words (codes "invert") (text ∷ []) × NamesId text id
 Asks words dice commands.Nquads = words ≡ codes "nquads" ∷ []
 Asks words dice (commands.Gen patches) =
     (words ≡ codes "gen" ∷ decimal patches ∷ []) × (patches ≤ 65536)
@@ -93,6 +101,7 @@ Asks words dice commands.Version = words ≡ codes "--version" ∷ []
 
 -- the numbers of a command are within their bounds, and the server that it asks has an address
 abbrev pub Fits : Command → Type 0
+Fits (commands.Squash from to) = IsSpan from to
 Fits (commands.Gen patches) = patches ≤ 65536
 Fits (commands.Emit patches) = patches ≤ 65536
 Fits (commands.Init dir slots) = (1 ≤ slots) × (slots ≤ 16)

@@ -35,6 +35,8 @@ LeavesBut touched old new =
 -- those of each command, also where it stops
 abbrev pub frame : Command → Frame
 frame commands.Replay = with_input only_out
+frame (commands.Squash from to) = with_input only_out
+frame (commands.Invert id) = with_input only_out
 frame commands.Nquads = with_input only_out
 frame (commands.Gen patches) = only_out
 frame (commands.Emit patches) = only_out

@@ -3,6 +3,7 @@ pub mod Commands
 pub mod Document
 pub mod Frames
 pub mod Results
+pub mod Squashes
 pub mod Views
 pub mod Zones
 pub mod Syncs

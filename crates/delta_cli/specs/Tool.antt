@@ -5,6 +5,7 @@ use Rattle.delta_base.specs.declared.link.Link.{Ghosts as LinkGhosts}
 use Rattle.disk_model.specs.declared.shelf.Shelf.{Ghosts as ShelfGhosts}
 use Rattle.slot_files.specs.Files.{Files, IsInitial, StopsAt, SameBut, KeepsFull}
 use Rattle.stream_generator.specs.Generator.{stream_text}
+use Rattle.stream_squash.specs.Squashes.{HasSquashed}
 use Rattle.slot_checks.specs.Checks.{AreKept, IsReport, CheckStops}
 use Rattle.slot_checks.specs.Lines.{lines_text}
 use Rattle.slot_checks.specs.declared.lines.FileLine.{FileLine}
@@ -22,6 +23,7 @@ use Rattle.command_tables.specs.Refusals.{ReportsRefusal}
 use Rattle.delta_cli.specs.Results.{ReadsInput, Prints, HasReplayLines, IsGeneratedLine}
 use Rattle.delta_cli.specs.Results.{StopsReplay, StopsNquads, StopsGenerating, StopsEmitting}
 use Rattle.delta_cli.specs.Results.{StopsWriting}
+use Rattle.delta_cli.specs.Squashes.{HasInverted, StopsInverting, StopsSquashing}
 use Rattle.delta_cli.specs.Frames.{LeavesBut, frame}
 use Rattle.command_tables.specs.Markers.{StopsAtMark, Unmarked}
 use Rattle.command_tables.specs.Views.{ShelfView}
@@ -80,6 +82,10 @@ module _ {H D N L : Type 0} (shelf : ShelfGhosts H D) (dial : DialGhosts N L)
   abbrev pub Does : Command → OutsideView L → OutsideView L → Type 0
   Does commands.Replay old new =
       ReadsInput old.input new.input (Prints HasReplayLines old.out new.out)
+  Does (commands.Squash from to) old new =
+      ReadsInput old.input new.input (Prints (HasSquashed from to) old.out new.out)
+  Does (commands.Invert id) old new =
+      ReadsInput old.input new.input (Prints (HasInverted id) old.out new.out)
   Does commands.Nquads old new = ReadsInput old.input new.input (Prints IsShown old.out new.out)
   Does (commands.Gen patches) old new =
       (text : List ℕ) × IsGeneratedLine patches text × WritesText old.out new.out text
@@ -117,6 +123,10 @@ module _ {H D N L : Type 0} (shelf : ShelfGhosts H D) (dial : DialGhosts N L)
   abbrev pub Stops : Command → OutsideView L → OutsideView L → Refusal → Type 0
   Stops commands.Replay old new refusal =
       StopsReplay refusal old.input new.input old.out new.out
+  Stops (commands.Squash from to) old new refusal =
+      StopsSquashing from to refusal old.input new.input old.out new.out
+  Stops (commands.Invert id) old new refusal =
+      StopsInverting id refusal old.input new.input old.out new.out
   Stops commands.Nquads old new refusal =
       StopsNquads refusal old.input new.input old.out new.out
   Stops (commands.Gen patches) old new refusal =

@@ -4,13 +4,14 @@ ghost use Rattle.command_tables.specs.Channels.{words_of};
 ghost use Rattle.command_tables.specs.Positions.{FitPositions};
 ghost use Rattle.command_tables.specs.Names.{BeginsWith, FitsName, HasFirst};
 ghost use Rattle.command_tables.specs.Names.{asks_server, is_of_zone, positions_of};
+ghost use Rattle.command_tables.specs.declared.name.Name.TheVariants as names;
 ghost use Rattle.delta_cli.specs.Commands.{Asks, IsOfTool, RefusesWords};
 
 use crate::append::Appended;
-use crate::calls::make_asking;
+use crate::calls::{make_asking, text_at};
 use crate::zone_words::make_of_zone;
 use command_tables::{Name, Refusal, WordsFault, number_in, read_words};
-use delta_base::Text;
+use delta_base::{Id, Text, read_id};
 use rpc_calls::Call;
 use std::alloc::Global;
 use zone_commands::Reading;
@@ -19,6 +20,15 @@ use zone_commands::Reading;
 #[derive(Drop)]
 pub enum Command {
     Replay,
+    /// The input's stream, with the net patch of those from one version to another in their place.
+    Squash {
+        from: u32,
+        to: u32,
+    },
+    /// The patch of an id that undoes the last one of the input's stream.
+    Invert {
+        id: Id,
+    },
     Nquads,
     /// So many patches of the generator, replayed.
     Gen {
@@ -78,7 +88,7 @@ pub enum Command {
     Version,
 }
 
-/// The most patches of the generator.
+/// The most patches of the generator, and the last version that is squashed.
 const MOST_PATCHES: u32 = 65_536;
 
 /// The most slots of a directory.
@@ -154,6 +164,8 @@ fn make(alloc: Global, name: Name, words: &[String]) -> Result<Command, Refusal>
 {
     match (name, words) {
         (Name::Replay, _) => Ok(Command::Replay),
+        (Name::Squash, _) => make_squash(alloc, words),
+        (Name::Invert, _) => make_invert(alloc, words),
         (Name::Nquads, _) => Ok(Command::Nquads),
         (Name::Help, _) => Ok(Command::Help),
         (Name::Version, _) => Ok(Command::Version),
@@ -179,5 +191,35 @@ fn make(alloc: Global, name: Name, words: &[String]) -> Result<Command, Refusal>
             dir: Text::from_str(alloc, dir.as_str())?,
         }),
         _ => unreachable!(),
+    }
+}
+
+// The squash of the versions that the words behind the name are.
+fn make_squash(alloc: Global, words: &[String]) -> Result<Command, Refusal>
+    requires { FitsName (words_of words.now) names.Squash }
+    ensures asks { IfOk result (λ command. (dice : ℕ) → Asks (words_of words.now) dice command) }
+    ensures refused { IfErr result (RefusesWords (words_of words.now)) }
+{
+    let first = text_at(alloc, words, 1)?;
+    let last = text_at(alloc, words, 2)?;
+    let Some(from) = number_in(alloc, 1, MOST_PATCHES, first.as_str())? else {
+        return Err(Refusal::Usage(Name::Squash));
+    };
+    match number_in(alloc, from, MOST_PATCHES, last.as_str())? {
+        Some(to) => Ok(Command::Squash { from, to }),
+        None => Err(Refusal::Usage(Name::Squash)),
+    }
+}
+
+// The inverse of the id that the word behind the name is.
+fn make_invert(alloc: Global, words: &[String]) -> Result<Command, Refusal>
+    requires { FitsName (words_of words.now) names.Invert }
+    ensures asks { IfOk result (λ command. (dice : ℕ) → Asks (words_of words.now) dice command) }
+    ensures refused { IfErr result (RefusesWords (words_of words.now)) }
+{
+    let id = text_at(alloc, words, 1)?;
+    match read_id(id.as_bytes()) {
+        Some(id) => Ok(Command::Invert { id }),
+        None => Err(Refusal::Usage(Name::Invert)),
     }
 }

@@ -13,6 +13,7 @@ mod input;
 mod marker;
 mod nquads;
 mod replay;
+mod squash;
 mod sync;
 mod tool;
 mod upgrade;

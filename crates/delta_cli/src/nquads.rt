@@ -1,11 +1,12 @@
 //! The command `nquads`: a document in canonical form.
-ghost use Rattle.std.specs.Prelude.{◌≡◌, IfOk, IfErr, OnOk};
+ghost use Rattle.std.specs.Prelude.{◌≡◌, ◌≤◌, IfOk, IfErr, OnOk, length};
 ghost use Rattle.sink_writing.specs.Writing.{joined};
 ghost use Rattle.command_tables.specs.Channels.{WritesText};
 ghost use Rattle.delta_cli.specs.Document.{IsShown};
 ghost use Rattle.delta_cli.specs.Results.{AreShown, Prints, ReadsInput, StopsDocument};
 ghost use Rattle.delta_cli.specs.Results.{StopsNquads, StopsPrinting, StopsReading};
 ghost use Rattle.command_tables.specs.Views.{input_view, output_view};
+ghost use Rattle.stream_replay.specs.Source.{stream_limit};
 
 use crate::input::{InputFault, read_all};
 use command_tables::Refusal;
@@ -35,8 +36,12 @@ pub fn nquads<S: Source, K: Sink>(alloc: Global, input: &mut S, out: &mut K) -> 
     }
 }
 
-// Writes the texts.
-fn print_texts<K: Sink>(alloc: Global, texts: &[&[u8]], out: &mut K) -> Result<(), Refusal>
+/// Writes the texts.
+pub(crate) fn print_texts<K: Sink>(
+    alloc: Global,
+    texts: &[&[u8]],
+    out: &mut K,
+) -> Result<(), Refusal>
     ensures done { OnOk result (WritesText
         (output_view K.Sink out.old) (output_view K.Sink out.new) (joined texts.now)) }
     ensures stopped { IfErr result (StopsPrinting (joined texts.now)
@@ -46,11 +51,12 @@ fn print_texts<K: Sink>(alloc: Global, texts: &[&[u8]], out: &mut K) -> Result<(
     write_texts(out, texts, room).map_err(|_| Refusal::OutputFailed)
 }
 
-// The input to its end.
-fn read_text<S: Source>(alloc: Global, input: &mut S) -> Result<Vec<u8>, Refusal>
+/// The input to its end.
+pub(crate) fn read_text<S: Source>(alloc: Global, input: &mut S) -> Result<Vec<u8>, Refusal>
     ensures ok { IfOk result (λ text. ReadsInput
         (input_view S.Source input.old) (input_view S.Source input.new)
         (λ bytes. bytes ≡ text.items)) }
+    ensures within { IfOk result (λ text. length text.items ≤ stream_limit) }
     ensures stopped { IfErr result (StopsReading
         (input_view S.Source input.old) (input_view S.Source input.new)) }
 {

@@ -17,6 +17,7 @@ use crate::marker::{
 };
 use crate::nquads::nquads;
 use crate::replay::replay;
+use crate::squash::{invert, squash};
 use crate::upgrade::{upgrade, upgrade_zone_files};
 use command_tables::{Refusal, report};
 use delta_base::{Sink, Source};
@@ -76,6 +77,8 @@ fn run_command<S: Source, K: Sink, H: Shelf, N: Dial>(
 {
     match command {
         Command::Replay => replay(alloc, input, out),
+        Command::Squash { from, to } => squash(alloc, *from, *to, input, out),
+        Command::Invert { id } => invert(alloc, *id, input, out),
         Command::Nquads => nquads(alloc, input, out),
         Command::Gen { patches } => generate(alloc, *patches, out),
         Command::Emit { patches } => emit(alloc, *patches, out),
