@@ -532,11 +532,11 @@ fn takes_each(rt: &impl Abort, log: &mut LogState<MemDisk>, runs: &[Run]) -> Res
 
 // A log takes them so where a call of its disk fails, and each crash leaves them all. How often a call failed.
 fn takes_all(rt: &impl Abort, alloc: Global, failing: u64, runs: &[Run]) -> Result<u64, Fail> {
+    let count = u32::try_from(runs.len())?;
     let mut log = open(alloc, disk_of(alloc, EMPTY, &[failing])?, LOG_LIMITS)?;
     let taken = takes_each(rt, &mut log, runs);
     let faults = log.faults();
     let disk = log.close();
-    let count = runs.len() as u32;
     let kept = taken.and_then(|()| keeps_acknowledged(rt, alloc, failing, runs, (count, &disk)));
     drop(disk);
     kept?;
