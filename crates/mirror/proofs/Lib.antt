@@ -1,0 +1,5 @@
+mod Answered
+mod Ended
+mod Running
+mod Bringing
+mod Beginning
