@@ -16,7 +16,7 @@ use Rattle.patch_meaning.specs.Checked.{CheckedPatch, AreChecked, checked_texts}
 use Rattle.log_base.specs.declared.limits.TheConstants.{LOG_BYTES}
 use Rattle.checkpoint_text.specs.Brief.{Brief, empty_brief, file_length}
 use Rattle.checkpoint_text.specs.Text.{checkpoint, IsCheckpoint}
-use Rattle.checkpoint_reading.specs.Reading.{brief_read, IsMade}
+use Rattle.checkpoint_reading.specs.Reading.{brief_read, IsOfChanges}
 use Rattle.checkpoint_reading.specs.declared.checkpoint.Checkpoint.{Checkpoint}
 use Rattle.zone_files.specs.Generation.{IsMarked}
 use Rattle.zone_pairs.specs.Briefs.{with_patch, changes_taken}
@@ -254,7 +254,7 @@ received_no_checkpoint first new payload most_is begun isnt marked none = record
 }
 
 -- a checkpoint
-module _ (first new : PairReading) (payload : List ℕ) (checkpoint_ : Checkpoint) (is : IsCheckpoint payload checkpoint_.generation (brief_read checkpoint_)) (fits : alone_length payload ≤ CHECKPOINT_FILE_LIMIT) (made : IsMade checkpoint_.contents)
+module _ (first new : PairReading) (payload : List ℕ) (checkpoint_ : Checkpoint) (is : IsCheckpoint payload checkpoint_.generation (brief_read checkpoint_)) (fits : alone_length payload ≤ CHECKPOINT_FILE_LIMIT) (made : IsOfChanges checkpoint_.contents)
     (most_is : new.reading.most ≡ first.reading.most) (begun : new.begins ≡ false) (may : new.no_checkpoint ≡ false) (full : new.reading.full ≡ false) (bytes : new.reading.kept.bytes ≡ checkpoint_.bytes) (contents : new.reading.kept.contents ≡ checkpoint_.contents) (generation : new.generation ≡ Some checkpoint_.generation) where
   begins_so : BeginWith checkpoint_.generation (Some (brief_read checkpoint_)) [] (payload ∷ [])
   begins_so = (
