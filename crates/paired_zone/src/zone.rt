@@ -14,7 +14,7 @@ ghost use Rattle.zone_files.specs.Generation.{number_of, IsInGeneration};
 ghost use Rattle.zone_beside.specs.StandsBehind.{StandsBehind};
 ghost use Rattle.zone_pairs.specs.Pair.{PairPoint, ZoneHolds};
 ghost use Rattle.paired_zone.specs.Fault.{HasPairFault};
-ghost use Rattle.paired_zone.specs.Opening.{IsInFile, IsOpened, RefusedDisk};
+ghost use Rattle.paired_zone.specs.Opening.{FailsAtOne, IsInFile, IsOpened, RefusedDisk};
 ghost use Rattle.paired_zone.specs.Opening.{OpensCurrent, RefusesCurrent};
 ghost use Rattle.paired_zone.specs.Takes.{TakesPatch};
 ghost use Rattle.paired_zone.specs.Zone.{StandsAt, first_in, second_in};
@@ -91,6 +91,7 @@ impl<D: Disk> PairedZone<D> {
             HasPairFault (reads (D.past first)) (reads (D.past second)) limits refusal.fault) }
 
         // What becomes of the disks that are handed back.
+        ensures failed { IfErr result (λ refusal. FailsAtOne refusal.fault) }
         ensures first_refused { IfErr result (λ refusal. RefusedDisk D.Disk
             (refusal.fault ≡ PairFault.Failed (number_of false)) first refusal.first) }
         ensures second_refused { IfErr result (λ refusal. RefusedDisk D.Disk

@@ -3,9 +3,9 @@ use Rattle.disk_model.specs.Past.{reads}
 use Rattle.zone_files.specs.Generation.{number_of}
 use Rattle.std.proofs.Common.{true, false, cond}
 use Rattle.paired_zone.specs.Fault.{HasPairFault, none_current}
-use Rattle.paired_zone.specs.Opening.{RefusedDisk}
+use Rattle.paired_zone.specs.Opening.{FailsAtOne, RefusedDisk}
 use Rattle.paired_zone.specs.declared.fault.PairFault.TheVariants.{Failed}
-use Rattle.paired_zone.proofs.Opened.{here_in, is_opened, has_fault, both_refused, in_order_so}
+use Rattle.paired_zone.proofs.Opened.{here_in, is_opened, has_fault, both_refused, in_order_so, finding_failed}
 use Rattle.paired_zone.proofs.zone.PairedZone.open_pair.Goals as goal
 
 pub open_current-requires-clause-in_generation : goal.open_current-requires-clause-in_generation
@@ -40,3 +40,9 @@ returns-in-Err-open_current-clause-second_refused g c =
 
 pub returns-in-Err-clause-fault : goal.returns-in-Err-clause-fault
 returns-in-Err-clause-fault g c told = none_current c.in-Err.field-0.fault c.of_finding.ensures (c.in-Err.ensures.fault told)
+
+pub returns-in-Err-open_current-clause-failed : goal.returns-in-Err-open_current-clause-failed
+returns-in-Err-open_current-clause-failed g c file is = (c.in-Ok.field-0.beside.on_second, c.in-Err-open_current.ensures.refused.in_current file is)
+
+pub returns-in-Err-clause-failed : goal.returns-in-Err-clause-failed
+returns-in-Err-clause-failed g c = subst FailsAtOne (sym c.of_finding.ensures) (finding_failed c.in-Err.field-0.fault)
