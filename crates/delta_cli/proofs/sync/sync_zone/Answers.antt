@@ -33,5 +33,5 @@ returns-in-Err-clause-stopped g c =
     let old = shelf_view g.H.Shelf c.args.shelf.now in
     let new = shelf_view g.H.Shelf c.follow_zone.new.shelf in
     opening_stopped g.H.Shelf g.N.Dial g.N.L.Link c.args.dir.now c.args.address.now c.args.name.now old new (dial_view g.N.Dial c.args.net.now) (dial_view g.N.Dial c.follow_zone.new.net)
-    c.follow_zone.result c.in-Err.fault c.of_zone.result (output_view g.K.Sink c.args.out.now) c.in-Err.is c.of_zone.ensures c.in-Err.ensures.fault
+    c.follow_zone.result c.in-Err.fault c.of_pair.result (output_view g.K.Sink c.args.out.now) c.in-Err.is c.of_pair.ensures c.in-Err.ensures.fault
     c.follow_zone.ensures.cause (λ yes. (c.in-Err.ensures.kept yes, c.follow_zone.ensures.others yes)) (ap (dial_view g.N.Dial) c.in-Err.ensures.unopened)
