@@ -1,4 +1,4 @@
-mod Disks
+mod Taken
 mod Opened
 mod Held
 mod Checkpoints
