@@ -113,8 +113,8 @@ one_images disks zone taken (Some one) told stands =
 
 -- nothing was taken
 pub amid_none : (on : Footing) (zone : ZoneView (DisksOf on)) (point : Point on) → ZoneStands on zone point → LeavesBehind on point [] zone zone
-amid_none (one_file disks) zone taken stands told = one_images disks zone taken zone.doubt told stands
-amid_none (two_files disks) zone point stands told =
+amid_none (one_file disks) zone taken stands = λ told. one_images disks zone taken zone.doubt told stands
+amid_none (two_files disks) zone point stands = λ told.
     let number = number_of point.second in
     (
       starts (HoldsAmid number (payloads_at point) zone.doubt []) (disks.past zone.disk.current) (λ image left.
@@ -127,13 +127,13 @@ amid_none (two_files disks) zone point stands told =
 -- these were taken, nothing was left in doubt, and then those
 pub amid_both : (on : Footing) (old mid new : ZoneView (DisksOf on)) (point : Point on) (more tried : List CheckedPatch) → mid.brief ≡ with_patches old.brief more → mid.doubt ≡ None
     → LeavesBehind on point more old mid → LeavesBehind on (further on point more mid.doubt) tried mid new → LeavesBehind on point (more ++ tried) old new
-amid_both (one_file disks) old mid new taken more tried brief settled first second told =
+amid_both (one_file disks) old mid new taken more tried brief settled first second = λ told.
     let texts = checked_texts taken in
     then_other (HoldsAmid zone_number texts old.doubt more) (HoldsAmid zone_number (checked_texts (taken ++ more)) mid.doubt tried) (HoldsAmid zone_number texts old.doubt (more ++ tried)) (disks.past old.disk) (disks.past mid.disk) (disks.past new.disk)
     (λ image holds. amid_more zone_number texts image old.doubt more tried holds)
     (λ image holds. amid_behind zone_number texts image old.doubt mid.doubt more tried settled (subst (λ (ts : List (List ℕ)). HoldsAmid zone_number ts mid.doubt tried image) (texts_both taken more) holds))
     (first told) (second told)
-amid_both (two_files disks) old mid new point more tried brief settled first second told =
+amid_both (two_files disks) old mid new point more tried brief settled first second = λ told.
     let number = number_of point.second in
     let texts = payloads_at point in
     let behind = start_texts point.generation point.start ++ checked_texts (point.patches ++ more) in

@@ -45,7 +45,7 @@ module _ {D : Type 0} (disks : Ghosts D) (old new : ZoneView D) (next : CheckedP
       subst (λ (zone : ZoneView D). ZoneStands (one_file disks) zone taken) (sym is) here)
 
   took : (answer : TakeAnswer) → TakesPatch disks old new next answer → (taken : List CheckedPatch) → ZoneStands (one_file disks) old taken → ZoneStands (one_file disks) new (taken ++ taken_then answer [] next)
-  took (take.Applied version) so taken stands = (so.stay taken old.doubt stands (λ same. cc) (λ same. cc)).stands
+  took (take.Applied version) so = λ taken stands. (so.stay taken old.doubt stands (λ same. cc) (λ same. cc)).stands
   took (take.Diverged have prev) so = took_same (λ taken stands. (so.stay taken old.doubt stands (λ same. cc) (λ same. cc)).stands)
   took (take.Repeated version) so = took_same (λ taken stands. (so.stay taken old.doubt stands (λ same. cc) (λ same. cc)).stands)
   took (take.Full what have limit) so = took_same (λ taken stands. (so.stay taken old.doubt stands (λ same. cc) (λ same. cc)).stands)

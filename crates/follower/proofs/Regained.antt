@@ -1,5 +1,5 @@
 -- A run of a zone that nobody shares is what `sync` promises.
-use Rattle.std.proofs.Common.{◌≡◌, ◌≢◌, ◌⊎◌, inl, inr, ℕ, ◌+◌, ◌<◌, ◌≤◌, List, [], ◌∷◌, ◌++◌, length, Option, None, Ok, Err, refl, sym, ◌∙◌, ap, subst, arith}
+use Rattle.std.proofs.Common.{◌≡◌, ◌≢◌, ◌⊎◌, inl, inr, ℕ, ◌+◌, ◌<◌, ◌≤◌, List, [], ◌∷◌, ◌++◌, length, Option, None, Result, Ok, Err, refl, sym, ◌∙◌, ap, subst, arith}
 use Rattle.std.specs.Prelude.{map}
 use Rattle.std.proofs.lemmas.List.{append-nil, length_push}
 use Rattle.delta_base.specs.declared.id.Id.{Id}
@@ -425,7 +425,7 @@ module _ {S : Type 0} (on : Footing) (zone : S → ZoneView (DisksOf on)) where
   rest_is : (theirs from : ℕ) (before : S) (steps : List TakenText) (last : List WasSaid) (end : RunEnd TextRefusal) (after : S) → runs.RestIs Takes theirs from before steps last end after → runs.RestIs (TakesOwn on) theirs from (zone before) steps last end (zone after)
   rest_is theirs from before steps last end after (runs.stopped reached between all less ends) =
       runs.stopped reached (zone between) (takes_all theirs from before steps reached between all) less (fetch_ends (reached + 1) between last end after ends)
-  rest_is theirs from before steps last end after (runs.caught_up reached all most none ends) = runs.caught_up reached (takes_all theirs from before steps reached after all) most none ends
+  rest_is theirs from before steps last end after (runs.caught_up reached all done no_more ends) = runs.caught_up reached (takes_all theirs from before steps reached after all) done no_more ends
 
   pub run_of_zone : (old new : S) (it : Run) (end : RunEnd TextRefusal) → IsRunTo Takes Shows old it end new → IsRunTo (TakesOwn on) ShowsOwn (zone old) it end (zone new)
   run_of_zone old new it end (runs.unanswered shown steps last ends) = runs.unanswered shown steps last ends

@@ -41,7 +41,7 @@ no_patch generation start patch texts behind is same =
 
 -- the ids of a brief are those of the first and of the patches
 ids_counted : (before : Brief) (patches : List CheckedPatch) (after : Brief) → TakeTo before patches after → length after.ids ≡ length before.ids + length patches
-ids_counted before [] after take = ap (λ (b : Brief). length b.ids) take
+ids_counted before [] after take = omega (arith, ap (λ (b : Brief). length b.ids) take)
 ids_counted before (patch ∷ patches) after take = omega (arith, ids_counted (with_patch before patch) patches after take.1, length-append before.ids (patch.meaning.id ∷ []))
 
 texts_counted : (patches : List CheckedPatch) → length (checked_texts patches) ≡ length patches
