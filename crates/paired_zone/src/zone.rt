@@ -11,6 +11,7 @@ ghost use Rattle.dataset_tx.specs.Prefixes.{prefix_change};
 ghost use Rattle.dataset_tx.specs.Rows.{change_cmp, rows_in_order};
 ghost use Rattle.chain_core.specs.Ids.{last_of};
 ghost use Rattle.zone_files.specs.Generation.{number_of, IsInGeneration};
+ghost use Rattle.zone_beside.specs.Finding.{IsCurrent};
 ghost use Rattle.zone_beside.specs.StandsBehind.{StandsBehind};
 ghost use Rattle.zone_pairs.specs.Pair.{PairPoint, ZoneHolds};
 ghost use Rattle.paired_zone.specs.Fault.{HasPairFault};
@@ -86,6 +87,8 @@ impl<D: Disk> PairedZone<D> {
         // It is the zone that the two files hold together.
         ensures held { D.tells → IfOk result (λ zone.
             ZoneHolds (reads (D.past first)) (reads (D.past second)) zone.brief) }
+        ensures current { D.tells → IfOk result (λ zone. IsCurrent
+            (reads (D.past first)) (reads (D.past second)) zone.second zone.generation) }
         ensures limits { IfOk result (λ zone. zone.limits ≡ limits) }
         ensures fault { D.tells → IfErr result (λ refusal.
             HasPairFault (reads (D.past first)) (reads (D.past second)) limits refusal.fault) }

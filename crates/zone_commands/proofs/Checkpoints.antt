@@ -1,5 +1,5 @@
 -- From what a checkpoint comes to on a zone's disks to what it comes to for its files.
-use Rattle.std.proofs.Common.{◌≡◌, ◌×◌, ◌⊎◌, inl, inr, ⊎_elim, ℕ, ◌+◌, ◌≤◌, Bool, true, false, List, [], ◌∷◌, Option, None, Some, Result, Ok, Err, IfOk, refl, sym, ap, subst, ◌∙◌, arith}
+use Rattle.std.proofs.Common.{◌≡◌, ◌⊎◌, inl, inr, ⊎_elim, ℕ, ◌+◌, ◌≤◌, Bool, true, false, List, [], ◌∷◌, Option, None, Some, Result, Ok, Err, IfOk, refl, sym, ap, subst, ◌∙◌, arith}
 use Rattle.std.specs.Prelude.{not, if◌then◌else◌}
 use Rattle.delta_base.specs.Outside.{Rose}
 use Rattle.log_base.specs.declared.limits.TheConstants.{LOG_LIMITS}
@@ -50,6 +50,21 @@ module _ {D : Type 0} (disks : Ghosts D) where
   read_in : (b : Bool) (first second : D) → (if b then what second else what first) ≡ what (if b then second else first)
   read_in true first second = refl
   read_in false first second = refl
+
+  current_in : (b : Bool) (new : PairedView D) → new.second ≡ b → disk_in new b ≡ new.current
+  current_in true new is = ap (λ (s : Bool). if s then new.current else new.other) is
+  current_in false new is = ap (λ (s : Bool). if s then new.other else new.current) is
+
+  other_in : (b : Bool) (new : PairedView D) → new.second ≡ b → disk_in new (not b) ≡ new.other
+  other_in true new is = ap (λ (s : Bool). if s then new.other else new.current) is
+  other_in false new is = ap (λ (s : Bool). if s then new.current else new.other) is
+
+  -- where the same file is current
+  pub went_still : (old new : PairedView D) (failed : Type 0) → new.second ≡ old.second → DisksWent disks failed old.current new.current old.other new.other
+      → DisksWent disks failed old.current (disk_in new old.second) old.other (disk_in new (not old.second))
+  went_still old new failed same went =
+      subst (λ d. DisksWent disks failed old.current d old.other (disk_in new (not old.second))) (sym (current_in old.second new same))
+      (subst (λ d. DisksWent disks failed old.current new.current old.other d) (sym (other_in old.second new same)) went)
 
   -- ---- what became of the files
 

@@ -1,5 +1,5 @@
 -- Disks of the two files of a zone, taken and put back.
-use Rattle.std.proofs.Common.{◌≡◌, inl, inr, ⊎_elim, ℕ, ◌+◌, ◌<◌, ◌≤◌, List, [], Option, Some, None, refl, sym, ap, subst, ◌∙◌, arith}
+use Rattle.std.proofs.Common.{◌≡◌, inl, inr, ⊎_elim, ℕ, ◌+◌, ◌<◌, ◌≤◌, List, [], Option, Some, None, Result, Ok, Err, IfOk, IfErr, refl, sym, ap, subst, ◌∙◌, arith}
 use Rattle.std.specs.Prelude.{unwrap_or}
 use Rattle.delta_base.specs.Outside.{Rose}
 use Rattle.disk_model.specs.declared.disk.Disk.{Ghosts}
@@ -7,6 +7,8 @@ use Rattle.disk_model.specs.Past.{Past, began, reads}
 use Rattle.disk_model.specs.Shelf.{SameOthers}
 use Rattle.slot_files.specs.Files.{Files, IsKept}
 use Rattle.slot_files.proofs.Steps.{other_dir, other_number}
+use Rattle.paired_journal.specs.Pair.{DisksWent}
+use Rattle.paired_zone.specs.Opening.{RefusedDisk}
 use Rattle.zone_commands.specs.Disks.{AreFreshDisks, AreZoneDisks, KeepsZoneFiles, SameButZone, ZoneFilesHave, first_bytes, second_bytes}
 
 -- ---- a file
@@ -117,3 +119,9 @@ module _ {D : Type 0} (disks : Ghosts D) (dir : List ℕ) (files : Files) (first
   -- the disks that come back are theirs too
   pub still_theirs : (first' second' : D) → disks.mark first' ≡ disks.mark first → disks.mark second' ≡ disks.mark second → AreZoneDisks disks dir first' second'
   still_theirs first' second' one two = record { first_mark = one ∙ fresh.are_theirs.first_mark; second_mark = two ∙ fresh.are_theirs.second_mark }
+
+  -- and so are those that come back from a call that may have failed or not been made
+  pub theirs_behind : {T E : Type 0} (Failed : T → Type 0) (First Second : E → Type 0) (first' second' : D) (result : Result T E) → IfOk result (λ end. DisksWent disks (Failed end) first first' second second')
+      → IfErr result (λ fault. RefusedDisk disks (First fault) first first') → IfErr result (λ fault. RefusedDisk disks (Second fault) second second') → AreZoneDisks disks dir first' second'
+  theirs_behind Failed First Second first' second' (Ok end) went one two = still_theirs first' second' went.mark.0 went.mark.1
+  theirs_behind Failed First Second first' second' (Err fault) went one two = still_theirs first' second' one.mark two.mark
