@@ -1,6 +1,6 @@
 -- What becomes of the disks of a zone's two files that is opened and only read.
-use Rattle.std.proofs.Common.{◌≡◌, ℕ, ◌+◌, Bool, true, false, sym, subst, ◌∙◌, arith, refl}
-use Rattle.std.specs.Prelude.{if◌then◌else◌}
+use Rattle.std.proofs.Common.{◌≡◌, ℕ, Bool, true, false, Err, sym, subst, ap, arith}
+use Rattle.std.specs.Prelude.{IsErrOf, if◌then◌else◌}
 use Rattle.log_base.specs.declared.limits.LogLimits.{LogLimits}
 use Rattle.log_base.specs.declared.limits.TheConstants.{LOG_LIMITS}
 use Rattle.disk_model.specs.declared.disk.Disk.{Ghosts}
@@ -8,6 +8,7 @@ use Rattle.log_journal.specs.Written.{Reopened}
 use Rattle.zone_pairs.specs.Pair.{IsWithin}
 use Rattle.paired_zone.specs.Opening.{IsOpened, RefusedDisk}
 use Rattle.paired_zone.specs.Zone.{PairedView, first_in, second_in}
+use Rattle.paired_zone.specs.declared.fault.PairFault.{PairFault}
 
 module _ {D : Type 0} (disks : Ghosts D) where
   -- a disk that was read without a fault
@@ -19,6 +20,19 @@ module _ {D : Type 0} (disks : Ghosts D) where
     well = λ not. reopened.faults;
     mark = reopened.mark;
   }
+
+  -- the failure is told as the answer's
+  pub told_so : {T : Type 0} (fault failure : PairFault) (before after : D) → RefusedDisk disks (fault ≡ failure) before after → RefusedDisk disks (IsErrOf {T = T} (Err fault) failure) before after
+  told_so fault failure before after refused = record {
+    kept = refused.kept;
+    cause = λ is. refused.cause (one_fault is);
+    never_falls = refused.never_falls;
+    well = λ not. refused.well (λ is. not (ap (λ (f : PairFault). Err f) is));
+    mark = refused.mark;
+  }
+    where
+      one_fault : {T : Type 0} → IsErrOf {T = T} (Err fault) failure → fault ≡ failure
+      one_fault is = cc
 
   -- each disk in its role
   abbrev BothReopened : D → D → D → D → Type 0
