@@ -115,13 +115,12 @@ one_images disks zone taken (Some one) told stands =
 pub amid_none : (on : Footing) (zone : ZoneView (DisksOf on)) (point : Point on) → ZoneStands on zone point → LeavesBehind on point [] zone zone
 amid_none (one_file disks) zone taken stands = λ told. one_images disks zone taken zone.doubt told stands
 amid_none (two_files disks) zone point stands = λ told.
-    let number = number_of point.second in
-    (
+    let number = number_of point.second in (
       starts (HoldsAmid number (payloads_at point) zone.doubt []) (disks.past zone.disk.current) (λ image left.
-      subst (λ (doubt : Option CheckedPatch). HoldsAmid number (payloads_at point) doubt [] image) stands.doubt_is
-      (amid_doubt number (payloads_at point) image point.doubt [] (file_images (disks.past zone.disk.current) number (payloads_at point) point.doubt (stands.stands.on_current told) image left))),
+          subst (λ (doubt : Option CheckedPatch). HoldsAmid number (payloads_at point) doubt [] image) stands.doubt_is
+          (amid_doubt number (payloads_at point) image point.doubt [] (file_images (disks.past zone.disk.current) number (payloads_at point) point.doubt (stands.stands.on_current told) image left))),
       starts (IsBesideAmid point.second point.generation zone.brief []) (disks.past zone.disk.other) (λ image left.
-      beside_before point.second point.generation zone.brief image [] (stands.stands.on_other told image left)),
+          beside_before point.second point.generation zone.brief image [] (stands.stands.on_other told image left)),
     )
 
 -- these were taken, nothing was left in doubt, and then those
@@ -136,16 +135,15 @@ amid_both (one_file disks) old mid new taken more tried brief settled first seco
 amid_both (two_files disks) old mid new point more tried brief settled first second = λ told.
     let number = number_of point.second in
     let texts = payloads_at point in
-    let behind = start_texts point.generation point.start ++ checked_texts (point.patches ++ more) in
-    (
+    let behind = start_texts point.generation point.start ++ checked_texts (point.patches ++ more) in (
       then_other (HoldsAmid number texts old.doubt more) (HoldsAmid number behind mid.doubt tried) (HoldsAmid number texts old.doubt (more ++ tried)) (disks.past old.disk.current) (disks.past mid.disk.current) (disks.past new.disk.current)
-      (λ image holds. amid_more number texts image old.doubt more tried holds)
-      (λ image holds. amid_behind number texts image old.doubt mid.doubt more tried settled (subst (λ (ts : List (List ℕ)). HoldsAmid number ts mid.doubt tried image) (further_payloads point more) holds))
-      (first told).0 (second told).0,
+          (λ image holds. amid_more number texts image old.doubt more tried holds)
+          (λ image holds. amid_behind number texts image old.doubt mid.doubt more tried settled (subst (λ (ts : List (List ℕ)). HoldsAmid number ts mid.doubt tried image) (further_payloads point more) holds))
+          (first told).0 (second told).0,
       then_other (IsBesideAmid point.second point.generation old.brief more) (IsBesideAmid point.second point.generation mid.brief tried) (IsBesideAmid point.second point.generation old.brief (more ++ tried)) (disks.past old.disk.other) (disks.past mid.disk.other) (disks.past new.disk.other)
-      (λ image is. beside_more point.second point.generation old.brief image more tried is)
-      (λ image is. beside_behind point.second point.generation old.brief image mid.brief more tried brief is)
-      (first told).1 (second told).1,
+          (λ image is. beside_more point.second point.generation old.brief image more tried is)
+          (λ image is. beside_behind point.second point.generation old.brief image mid.brief more tried brief is)
+          (first told).1 (second told).1,
     )
 
 -- ---- calls
@@ -167,14 +165,17 @@ went_both (one_file disks) failed old mid new first second = record {
 went_both (two_files disks) failed old mid new first second =
     let one = first.2 in
     let other = second.2 in
-    let well = one.well (λ no. no) in
-    (second.0 ∙ first.0, second.1 ∙ first.1, record {
-      cause = λ is. ⊎_elim (λ (rose : Rose (disks.faults mid.current) (disks.faults new.current)). inl (subst (λ (n : ℕ). Rose n (disks.faults new.current)) well.0 rose))
-          (λ (rose : Rose (disks.faults mid.other) (disks.faults new.other)). inr (subst (λ (n : ℕ). Rose n (disks.faults new.other)) well.1 rose)) (other.cause is);
-      never_falls = (omega (arith, one.never_falls.0, other.never_falls.0), omega (arith, one.never_falls.1, other.never_falls.1));
-      well = λ no. ((other.well no).0 ∙ well.0, (other.well no).1 ∙ well.1);
-      mark = (other.mark.0 ∙ one.mark.0, other.mark.1 ∙ one.mark.1);
-    })
+    let well = one.well (λ no. no) in (
+      second.0 ∙ first.0,
+      second.1 ∙ first.1,
+      record {
+        cause = λ is. ⊎_elim (λ (rose : Rose (disks.faults mid.current) (disks.faults new.current)). inl (subst (λ (n : ℕ). Rose n (disks.faults new.current)) well.0 rose))
+            (λ (rose : Rose (disks.faults mid.other) (disks.faults new.other)). inr (subst (λ (n : ℕ). Rose n (disks.faults new.other)) well.1 rose)) (other.cause is);
+        never_falls = (omega (arith, one.never_falls.0, other.never_falls.0), omega (arith, one.never_falls.1, other.never_falls.1));
+        well = λ no. ((other.well no).0 ∙ well.0, (other.well no).1 ∙ well.1);
+        mark = (other.mark.0 ∙ one.mark.0, other.mark.1 ∙ one.mark.1);
+      },
+    )
 
 -- the same failure in other words
 pub went_as : (on : Footing) (failed other : Type 0) (old new : DisksOf on) → (other → failed) → (failed → other) → ZoneWent on failed old new → ZoneWent on other old new

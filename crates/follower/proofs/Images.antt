@@ -86,8 +86,7 @@ tried_taken new before more said tried brief are take (was_next next is fetched 
     let one : TakeTo new.brief (next ∷ []) (with_patch new.brief next) = (record { follows = so.follows; new = so.new }, refl) in
     let both = take_both before new.brief (with_patch new.brief next) more (next ∷ []) take one in
     let listed : more ++ next ∷ [] ≡ more ++ tried = ap (λ (ps : List CheckedPatch). more ++ ps) (sym is) in
-    let after : with_patch new.brief next ≡ with_patches before (more ++ next ∷ []) = ap (λ (b : Brief). with_patch b next) brief ∙ sym (with_both more (next ∷ []) before) in
-    (
+    let after : with_patch new.brief next ≡ with_patches before (more ++ next ∷ []) = ap (λ (b : Brief). with_patch b next) brief ∙ sym (with_both more (next ∷ []) before) in (
       subst AreChecked listed (checked_both more (next ∷ []) are (fetched.1, tt)),
       subst (λ (ps : List CheckedPatch). TakeTo before ps (with_patches before ps)) listed (subst (λ (b : Brief). TakeTo before (more ++ next ∷ []) b) after both),
     )

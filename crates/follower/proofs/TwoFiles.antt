@@ -154,8 +154,7 @@ module _ {D : Type 0} (disks : Ghosts D) (read : (disk : D) → disks.tells → 
         (subst (λ (b : Bool). LeavesOnly (MayHoldTaking (number_of b) (payloads_at found) found.doubt next) (disks.past old.current) (disks.past new.current)) second (so.beside.on_current told))) in
         let there : LeavesOnly (MayBeBeside point.second point.generation old.brief) (disks.past old.other) (disks.past new.other) =
         subst (λ (g : ℕ). LeavesOnly (MayBeBeside point.second g old.brief) (disks.past old.other) (disks.past new.other)) generation
-        (subst (λ (b : Bool). LeavesOnly (MayBeBeside b found.generation old.brief) (disks.past old.other) (disks.past new.other)) second (so.beside.on_other told)) in
-        (
+        (subst (λ (b : Bool). LeavesOnly (MayBeBeside b found.generation old.brief) (disks.past old.other) (disks.past new.other)) second (so.beside.on_other told)) in (
           weaker (MayHoldTaking (number_of point.second) (payloads_at point) old.doubt next) (HoldsAmid (number_of point.second) (payloads_at point) old.doubt (next ∷ [])) (λ image holds. during image holds) (disks.past old.current) (disks.past new.current) here,
           weaker (MayBeBeside point.second point.generation old.brief) (IsBesideAmid point.second point.generation old.brief (next ∷ [])) (λ image is. beside_before point.second point.generation old.brief image (next ∷ []) is) (disks.past old.other) (disks.past new.other) there,
         )

@@ -12,46 +12,57 @@ use std::test::Fail;
 type Pair = PairedZone<MemDisk>;
 
 /// Which calls fail of the disks of a new zone, the first file's and the second's; how it ends
-/// catching up with a log of five patches then, and its version; and what it is answered when it
-/// catches up again, with how often its disks failed at last.
+/// catching up with a log of five patches then, its version, and whether no patch is in doubt; and
+/// what it is answered when it catches up again.
 struct Row {
     shows: &'static str,
     failing: (&'static [u64], &'static [u64]),
     end: (&'static str, u64, u64),
     version: u32,
+    settled: bool,
     again: &'static [Reply],
-    faults: u64,
 }
 
-static ROWS: [Row; 3] = [
+/// The answers of that log to a zone at version 2.
+const LATER: &[Reply] = &[
+    Reply::Log(5),
+    Reply::Patch(3),
+    Reply::Patch(4),
+    Reply::Patch(5),
+];
+
+static ROWS: [Row; 4] = [
     Row {
         shows: "no disk fails",
         failing: (&[], &[]),
         end: ("CaughtUp", 5, 0),
         version: 5,
+        settled: true,
         again: &[Reply::Log(5)],
-        faults: 0,
     },
     Row {
-        shows: "the current file fails in mid-stream",
-        failing: (&[12], &[]),
+        shows: "the current file fails before the gate of the third patch",
+        failing: (&[16], &[]),
         end: ("DiskFault", 0, 0),
         version: 2,
-        again: &[
-            Reply::Log(5),
-            Reply::Patch(3),
-            Reply::Patch(4),
-            Reply::Patch(5),
-        ],
-        faults: 1,
+        settled: true,
+        again: LATER,
+    },
+    Row {
+        shows: "the current file fails at that gate",
+        failing: (&[20], &[]),
+        end: ("DiskFault", 0, 0),
+        version: 2,
+        settled: false,
+        again: LATER,
     },
     Row {
         shows: "the other file isn't asked meanwhile",
-        failing: (&[], &[8]),
+        failing: (&[], &[2]),
         end: ("CaughtUp", 5, 0),
         version: 5,
+        settled: true,
         again: &[Reply::Log(5)],
-        faults: 0,
     },
 ];
 
@@ -76,18 +87,30 @@ fn has_all(rt: &impl Abort, alloc: Global, zone: &Pair, row: &Row) -> Result<(),
     Ok(())
 }
 
+/// It ends as the row says, and leaves the zone so.
+fn ends_so(rt: &impl Abort, alloc: Global, zone: &mut Pair, row: &Row) -> Result<(), Fail> {
+    let end = caught_up(alloc, zone, &ALL)?;
+    assert!(rt; end == row.end, "{}: {}", row.shows, end.0);
+    assert!(rt;
+        zone.version() == row.version,
+        "{}: {}",
+        row.shows,
+        zone.version()
+    );
+    assert!(rt; zone.is_settled() == row.settled, "{}", row.shows);
+    Ok(())
+}
+
 fn catches_up_again(
     rt: &impl Abort,
     alloc: Global,
     zone: &mut Pair,
     row: &Row,
 ) -> Result<(), Fail> {
-    let end = caught_up(alloc, zone, &ALL)?;
-    assert!(rt; end == row.end, "{}: {}", row.shows, end.0);
-    assert!(rt; zone.version() == row.version, "{}: {}", row.shows, zone.version());
+    ends_so(rt, alloc, zone, row)?;
     let end = caught_up(alloc, zone, row.again)?;
     assert!(rt; end == ("CaughtUp", 5, 0), "{}: {}", row.shows, end.0);
-    assert!(rt; zone.is_settled() && zone.faults() == row.faults, "{}", row.shows);
+    assert!(rt; zone.is_settled(), "{}", row.shows);
     has_all(rt, alloc, zone, row)
 }
 
