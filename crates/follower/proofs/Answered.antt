@@ -26,6 +26,7 @@ use Rattle.zone_state.specs.Brief.{Brief, file_length}
 use Rattle.zone_state.specs.Taking.{taking, unless_repeated}
 use Rattle.zone_state.specs.Stay.{decided}
 use Rattle.zone_state.specs.Zone.{ZoneView}
+use Rattle.follower.specs.declared.ends.TextRefusal.{TextRefusal}
 use Rattle.follower.specs.declared.ends.TextRefusal.TheVariants.{BadPatch, DiskFault}
 use Rattle.follower.specs.Footing.{Footing, DisksOf, Point, ZoneStands, ZoneWent}
 use Rattle.follower.specs.Taking.{TakesNext}
@@ -226,3 +227,12 @@ module _ {D : Type 0} (zone : ZoneView D) (text : List ℕ) (version : ℕ) (is 
   no_patch_ends faults.OutOfMemory refuses = tt
   no_patch_ends (faults.At at kind) refuses = bad (faults.At at kind) (λ same. cc) refuses
   no_patch_ends (faults.TooLong length limit) refuses = bad (faults.TooLong length limit) (λ same. cc) refuses
+
+  -- and no disk was asked
+  no_disk_at : (fault : PatchFault) → no_patch_at version fault ≡ DiskFault → ⊥
+  no_disk_at faults.OutOfMemory same = cc
+  no_disk_at (faults.At at kind) same = cc
+  no_disk_at (faults.TooLong length limit) same = cc
+
+  pub no_disk_told : (fault : PatchFault) (why : TextRefusal) → why ≡ no_patch_at version fault → IsErrOf {T = Unit {0}} (Err why) DiskFault → ⊥
+  no_disk_told fault why is told = let same : why ≡ DiskFault = cc in no_disk_at fault (sym is ∙ same)

@@ -48,8 +48,8 @@ TextsAreOf chain calls said = AllSaid (TextIsOf chain) calls said
 -- ---- a zone that follows a chain
 
 module _ (on : Footing) (chain : List CheckedPatch) where
-  -- the zone took patches that begin the chain, also with the one in doubt, and its dataset is their
-  -- replay
+  -- the zone took patches that begin the chain, also with the one in doubt, and its dataset is
+  -- their replay
   pub record FollowsChain (zone : ZoneView (DisksOf on)) (taken : List CheckedPatch)
       : Type 0 where
     pub stands : HasTaken on zone taken

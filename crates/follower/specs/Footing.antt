@@ -15,8 +15,8 @@ use Rattle.paired_zone.specs.Zone.{PairedView, StandsAt}
 
 -- ---- the files
 
--- the disks of a zone on two files: whether the second file is current, in which generation, and the
--- disk of the current file and of the other
+-- the disks of a zone on two files: whether the second file is current, in which generation, and
+-- the disk of the current file and of the other
 pub record PairDisks (D : Type 0) : Type 0 where
   pub second : Bool
   pub generation : ℕ
@@ -103,8 +103,8 @@ with_patches brief (patch ∷ more) = with_patches (with_patch brief patch) more
 
 -- ---- what a crash leaves
 
--- while patches are taken behind payloads, an image holds these and a front of the patches, or these
--- and the patch that was in doubt
+-- while patches are taken behind payloads, an image holds these and a front of the patches, or
+-- these and the patch that was in doubt
 abbrev pub HoldsAmid : ℕ → List (List ℕ) → Option CheckedPatch → List CheckedPatch → List ℕ → Type 0
 HoldsAmid number payloads doubt more image =
     ((front : List CheckedPatch) × (behind : List CheckedPatch) × (more ≡ front ++ behind)
@@ -112,15 +112,15 @@ HoldsAmid number payloads doubt more image =
     ⊎ ((one : CheckedPatch) × (doubt ≡ Some one)
     × Holds image number (payloads ++ one.text ∷ []))
 
--- and an image of the other file leaves the current one as it is, or holds alone the checkpoint that
--- is next behind a front of the patches
+-- and an image of the other file leaves the current one as it is, or holds alone the checkpoint
+-- that is next behind a front of the patches
 abbrev pub IsBesideAmid : Bool → ℕ → Brief → List CheckedPatch → List ℕ → Type 0
 IsBesideAmid second generation brief more image =
     (front : List CheckedPatch) × (behind : List CheckedPatch) × (more ≡ front ++ behind)
     × MayBeBeside second generation (with_patches brief front) image
 
--- where a zone stood for the point, a crash at any moment leaves it with these patches behind it, or
--- with a front of them, or with the one that was in doubt
+-- where a zone stood for the point, a crash at any moment leaves that with a front of these patches
+-- behind it, or with the one that was in doubt
 abbrev pub LeavesBehind : (on : Footing) → Point on → List CheckedPatch → ZoneView (DisksOf on)
     → ZoneView (DisksOf on) → Type 0
 LeavesBehind (one_file disks) taken more old new = disks.tells

@@ -8,7 +8,7 @@ use Rattle.follower.specs.Footing.{DisksOf, ZoneWent}
 use Rattle.follower.specs.Grown.{IsText, Stayed, Took}
 use Rattle.follower.specs.Syncing.{RefusesText, taken_or_refused}
 use Rattle.follower.specs.Taking.{TakesNext}
-use Rattle.follower.proofs.Answered.{no_patch_ends, took_ok, took_err, took_stayed, took_untouched, took_went, on_ok}
+use Rattle.follower.proofs.Answered.{no_patch_ends, took_ok, took_err, took_stayed, took_untouched, took_went, no_disk_told, on_ok}
 use Rattle.follower.proofs.Amid.{stayed_none}
 use Rattle.follower.proofs.Footings.{went_none}
 use Rattle.follower.proofs.taking.take_text.Goals as goal
@@ -21,6 +21,11 @@ returns-in-Err-clause-err g c =
 
 pub returns-in-Err-clause-stayed : goal.returns-in-Err-clause-stayed
 returns-in-Err-clause-stayed g c = stayed_none g.Z.Follower.footing (g.Z.Follower.zone c.args.zone.now) c.args.text.now
+
+pub returns-in-Err-clause-went : goal.returns-in-Err-clause-went
+returns-in-Err-clause-went g c =
+    let old : ZoneView (DisksOf g.Z.Follower.footing) = g.Z.Follower.zone c.args.zone.now in
+    went_none g.Z.Follower.footing _ old.disk (no_disk_told old c.args.text.now c.args.version c.requires c.in-Err.fault c.no_patch.result c.no_patch.ensures)
 
 pub returns : goal.returns
 returns g c =
